@@ -8,7 +8,7 @@ use Rattle.lwkt_report.specs.declared.streams.RunFault.{RunFault}
 use Rattle.lwkt_report.specs.declared.streams.RunFault.TheVariants.{Fault, Stream}
 use Rattle.lwkt_report.specs.Stream.{BlamesFailed}
 use Rattle.lwkt_run.proofs.RunLemmas.{tells_unread}
-use Rattle.lwkt_run.specs.Run.{AreRead, HasRun, SaysAfterRun, status_of}
+use Rattle.lwkt_run.specs.Run.{AreRead, HasRun, SaysAfterRun, exit_status}
 use Rattle.lwkt_run.specs.Threaded.{HasThreadedRun, lets_all}
 use Rattle.lwkt_text.specs.Beginning.{is_text, ByForm}
 use Rattle.lwkt.specs.declared.modes.Mode.{Mode}
@@ -64,13 +64,13 @@ blames_as : {A : Type 0} (source sink : Bool) (fault : RunFault) → (fault ≡ 
 blames_as source sink fault blames = λ is. blames (ap fault_of is)
 
 json_unread : (mode : Mode) (bytes : List ℕ) (source sink : Bool) (old new : Option (List ℕ)) (fault : RunFault) (status : ℕ) → (fault ≡ Stream) ⊎ (fault ≡ Fault no_memory) → (fault ≡ Stream → IsTrue source ⊎ IsTrue sink)
-    → SaysAfterRun sink old new (Err fault) → status ≡ status_of (Err fault) → RunsJsonAs mode source sink (Some bytes) old new status
+    → SaysAfterRun sink old new (Err fault) → status ≡ exit_status (Err fault) → RunsJsonAs mode source sink (Some bytes) old new status
 json_unread Turns bytes source sink old new fault status why blames says is = (Err fault, (old, (tells_unread HasRun (Some bytes) old fault why, (says, (blames_as source sink fault blames, is)))))
 json_unread Threads bytes source sink old new fault status why blames says is = (Err fault, (old, (tells_unread (HasThreadedRun lets_all) (Some bytes) old fault why, (says, (blames_as source sink fault blames, is)))))
 
 -- where reading failed, or memory was refused
 pub runs_unread : (mode : Mode) (bytes : List ℕ) (source sink : Bool) (old new : Option (List ℕ)) (fault : RunFault) (status : ℕ) → (fault ≡ Stream) ⊎ (fault ≡ Fault no_memory) → (fault ≡ Stream → IsTrue source ⊎ IsTrue sink)
-    → SaysAfterRun sink old new (Err fault) → status ≡ status_of (Err fault) → RunsBytesAs mode bytes source sink old new status
+    → SaysAfterRun sink old new (Err fault) → status ≡ exit_status (Err fault) → RunsBytesAs mode bytes source sink old new status
 runs_unread mode bytes source sink old new fault status why blames says is =
     by_form (is_text bytes) (RunsTextAs mode bytes source sink old new status) (RunsJsonAs mode source sink (Some bytes) old new status)
     (Err fault, (old, (text_unread mode bytes old fault why, (says, (blames_as source sink fault blames, is)))))

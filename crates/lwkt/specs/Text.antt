@@ -5,13 +5,13 @@ use Rattle.std.specs.Io.KnownBytes.{Appends, Keeps}
 use Rattle.lwkt_base.specs.declared.faults.Fault.{Fault as Refusal}
 use Rattle.lwkt_base.specs.declared.faults.Fault.TheVariants.{Script as ScriptFault, Memory, Limits, LawBroken}
 use Rattle.lwkt_litmus.specs.declared.judgements.Judgement.{Judgement}
-use Rattle.lwkt_litmus.specs.Judgements.{judgement_of, status_of as status_judged}
+use Rattle.lwkt_litmus.specs.Judgements.{judgement_of, status_of_judgement}
 use Rattle.lwkt_report.specs.declared.closings.Closing.{Closing}
 use Rattle.lwkt_report.specs.declared.streams.RunFault.{RunFault}
 use Rattle.lwkt_report.specs.declared.streams.RunFault.TheVariants.{Fault, Stream}
 use Rattle.lwkt_report.specs.Report.{report_text}
 use Rattle.lwkt_report.specs.Stream.{AppendsFront, BlamesFailed}
-use Rattle.lwkt_run.specs.Run.{MayClose, RunsAs, AsksTurns, AreRead, Declines, SaysAfterRun, status_of}
+use Rattle.lwkt_run.specs.Run.{MayClose, RunsAs, AsksTurns, AreRead, Declines, SaysAfterRun, exit_status}
 use Rattle.lwkt_run.specs.Threaded.{MayCloseOnThreads, RunsOnThreadsAs, AsksThreads, lets_all}
 use Rattle.lwkt_script.specs.declared.scripts.Script.{Script}
 use Rattle.lwkt_verdict.specs.declared.turns.Pace.TheVariants.{Rounds}
@@ -63,8 +63,8 @@ SaysAfterText failed old new (Err fault) = SaysAfterRun failed old new (Err faul
 
 -- the exit status: what the run came to, or as of a script in JSON
 abbrev pub status_told : Result Judgement RunFault → ℕ
-status_told (Ok judgement) = status_judged judgement
-status_told (Err fault) = status_of (Err fault)
+status_told (Ok judgement) = status_of_judgement judgement
+status_told (Err fault) = exit_status (Err fault)
 
 -- what the program does with a text
 abbrev pub RunsTextAs : Mode → List ℕ → Bool → Bool → Option (List ℕ) → Option (List ℕ) → ℕ → Type 0

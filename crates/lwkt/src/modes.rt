@@ -1,6 +1,6 @@
 ghost use Rattle.std.specs.Prelude.{◌≡◌, ◌↔◌, None, Some};
 ghost use Rattle.lwkt_run.specs.Run.{AsksTurns};
-ghost use Rattle.lwkt_run.specs.Threaded.{AsksThreads, IsMisused};
+ghost use Rattle.lwkt_run.specs.Threaded.{AsksThreads, AsksNoRun};
 
 use lwkt_run::{asks_threads, asks_turns};
 
@@ -19,7 +19,7 @@ pub fn mode_of(words: &[String]) -> Option<Mode>
     ensures threads { AsksThreads words.now → result ≡ Some Mode.Threads }
     ensures asked { result ≡ Some Mode.Turns → AsksTurns words.now }
     ensures threaded { result ≡ Some Mode.Threads → AsksThreads words.now }
-    ensures none { result ≡ None ↔ IsMisused words.now }
+    ensures none { result ≡ None ↔ AsksNoRun words.now }
 {
     if asks_turns(words) {
         return Some(Mode::Turns);

@@ -1,7 +1,7 @@
 ghost use Rattle.std.specs.Prelude.{◌≡◌, false, Err, IsTrue, Some};
 ghost use Rattle.lwkt_report.specs.Complaint.{fault_line, IsSaid};
 ghost use Rattle.lwkt_run.specs.Run.{AsksTurns};
-ghost use Rattle.lwkt_run.specs.Threaded.{AsksThreads, IsMisused};
+ghost use Rattle.lwkt_run.specs.Threaded.{AsksThreads, AsksNoRun};
 ghost use Rattle.lwkt.specs.Text.{Asks, RunsTextAs, RunsJsonAs, RunsBytesAs, RunsReadAs, SaysAfterText, status_told};
 
 use crate::modes::{Mode, mode_of};
@@ -150,8 +150,8 @@ pub fn run_told<R: Threads + Sync, I: Read, O: Write, E: Sink>(
 ) -> u8
     ensures turns { AsksTurns words.now → RunsReadAs Mode.Turns source.new.failed sink.new.failed (I.remaining source.old.reader.reader) (O.contents sink.old.writer.writer) (O.contents sink.new.writer.writer) result }
     ensures threads { AsksThreads words.now → RunsReadAs Mode.Threads source.new.failed sink.new.failed (I.remaining source.old.reader.reader) (O.contents sink.old.writer.writer) (O.contents sink.new.writer.writer) result }
-    ensures usage { IsMisused words.now → (result ≡ 1) × IsSaid sink.new.failed (O.contents sink.old.writer.writer) (O.contents sink.new.writer.writer) (fault_line Program.Run Complaint.Usage) }
-    ensures unread { IsMisused words.now → source.new ≡ source.old }
+    ensures usage { AsksNoRun words.now → (result ≡ 1) × IsSaid sink.new.failed (O.contents sink.old.writer.writer) (O.contents sink.new.writer.writer) (fault_line Program.Run Complaint.Usage) }
+    ensures unread { AsksNoRun words.now → source.new ≡ source.old }
 {
     let Some(mode) = mode_of(words) else {
         Speaker::Run.say_usage(errors);

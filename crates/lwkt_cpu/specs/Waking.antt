@@ -9,7 +9,7 @@ use Rattle.lwkt_base.specs.declared.records.Rec.{Rec}
 use Rattle.lwkt_core.specs.declared.events.Event.{Event}
 use Rattle.lwkt_msg.specs.Desks.{cpu_of}
 use Rattle.lwkt_port.specs.Chains.{Chain}
-use Rattle.lwkt_port.specs.Mails.{mail_at}
+use Rattle.lwkt_port.specs.Mails.{kept_mail_at}
 use Rattle.lwkt_port.specs.Posts.{Post, IsSamePost}
 use Rattle.lwkt_port.specs.Servings.{PostGets}
 use Rattle.lwkt_port.specs.Intakes.{PostTakesIn}
@@ -33,13 +33,13 @@ replied_by msg None t = t
 
 -- the ports after the reply to a synchronous send was given
 abbrev pub given : MsgId → Post → Post
-given msg p = record p { mails = slice_set p.mails msg.0 (record (mail_at p.mails msg.0) { done = None }) }
+given msg p = record p { mails = slice_set p.mails msg.0 (record (kept_mail_at p.mails msg.0) { done = None }) }
 
 -- a thread is woken, by what it waits for; one that doesn't wait stays as it is (own)
 abbrev pub Wakes : Phase → ℕ → Post → Post → Vec Event Global → Vec Event Global → Thread → Thread → Type 0
 Wakes Live number p q t u old new = (q ≡ p) × (u ≡ t) × (new ≡ old)
 Wakes AwaitsItem number p q t u old new = (told : Result (Option Item) Fault) × (PostGets number p q t u told × (new ≡ woken_by told old))
-Wakes (AwaitsReply msg) number p q t u old new = (q ≡ given msg p) × (u ≡ t) × (new ≡ replied_by msg (mail_at p.mails msg.0).done old)
+Wakes (AwaitsReply msg) number p q t u old new = (q ≡ given msg p) × (u ≡ t) × (new ≡ replied_by msg (kept_mail_at p.mails msg.0).done old)
 Wakes Exited number p q t u old new = (q ≡ p) × (u ≡ t) × (new ≡ old)
 Wakes (Faulted fault) number p q t u old new = (q ≡ p) × (u ≡ t) × (new ≡ old)
 

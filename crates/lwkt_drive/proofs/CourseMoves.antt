@@ -25,7 +25,7 @@ use Rattle.lwkt_drive.specs.declared.driven.Driven.{Driven}
 use Rattle.lwkt_drive.specs.declared.driven.Limits.{Limits}
 use Rattle.lwkt_drive.specs.declared.driven.Said.{Said}
 use Rattle.lwkt_drive.specs.declared.driven.Ending.{Ending}
-use Rattle.lwkt_drive.specs.Course.{IsAt, IsWithin, GoesOn, EndsBy, WasSilent, EndsSilent, agreed, heard, noted, MakesOne, Stays, IsDriven, EndedSilently, IsUnderWay, IsSo, ComesTo, GoesTo, DrivesOn, DrivesOut, begun, counts}
+use Rattle.lwkt_drive.specs.Course.{IsAt, IsWithin, GoesOn, EndsBy, WasSilent, EndsSilent, agreed, heard, said_at_end, MakesOne, Stays, IsDriven, EndedSilently, IsUnderWay, IsSo, ComesTo, GoesTo, DrivesOn, DrivesOut, drive_begun, counts}
 
 -- a turn more, after others
 pub made_more : {B : Type 0} (polled : B → Answer → Ask → B → Type 0) (bank : BankId) (old mid new : Processor B) (t v u : Vec Event Global) (turns : List Turned) (turned : Turned) → Made polled bank old mid t v turns → MakesTurn polled bank mid new v u turned → Made polled bank old new t u (turns ++ turned ∷ [])
@@ -111,7 +111,7 @@ heard_more turns turned said =
     ap F (mod-add-mod (length turns) (2 ^ 64) 1 ∙ ap (λ n. n % 2 ^ 64) (sym (length-append turns (turned ∷ []))))
 
 -- no turn was made yet
-pub under_none : {B : Type 0} (polled : B → Answer → Ask → B → Type 0) (answers : CpuId → ℕ → Bool → Type 0) (bank : BankId) (limits : Limits) (d : Driven B) → IsUnderWay polled answers bank limits d (begun d)
+pub under_none : {B : Type 0} (polled : B → Answer → Ask → B → Type 0) (answers : CpuId → ℕ → Bool → Type 0) (bank : BankId) (limits : Limits) (d : Driven B) → IsUnderWay polled answers bank limits d (drive_begun d)
 under_none polled answers bank limits d = record {
   turns = [];
   made = (refl, refl);
@@ -203,7 +203,7 @@ driven_by {B} polled answers bank limits old mid new ending turn total u s same 
       going = u.going;
       drove = s.drove ∙ u.drove;
       silent = made.1;
-      said = s.said ∙ ap (noted ending) u.said;
+      said = s.said ∙ ap (said_at_end ending) u.said;
       ends = subst Q (sym s.silent) (subst D (sym s.drove) (subst N (sym long) (subst I u.same s.ends)));
       same = same ∙ u.same;
       seat = ap (λ p. p.seat.cpu) s.cpu ∙ u.seat;
@@ -373,33 +373,33 @@ pub are_out : {B : Type 0} (polled : B → Answer → Ask → B → Type 0) (ans
 are_out polled answers bank book limits first now least many g = zip_with (Went polled answers bank limits least) (DrivesOut polled answers bank limits) (λ d. IsWithin limits d.drove) (λ x y w within. out_left polled answers bank limits least x y many w within) first now g.went g.within
 
 -- from before their first turns to their ends
-driven_whole : {B : Type 0} (polled : B → Answer → Ask → B → Type 0) (answers : CpuId → ℕ → Bool → Type 0) (bank : BankId) (limits : Limits) (old mid new : Driven B) → mid ≡ begun old → DrivesOut polled answers bank limits mid new → IsDriven polled answers bank limits old new new.ending
+driven_whole : {B : Type 0} (polled : B → Answer → Ask → B → Type 0) (answers : CpuId → ℕ → Bool → Type 0) (bank : BankId) (limits : Limits) (old mid new : Driven B) → mid ≡ drive_begun old → DrivesOut polled answers bank limits mid new → IsDriven polled answers bank limits old new new.ending
 driven_whole {B} polled answers bank limits old mid new is out =
     let F : Driven B → Type 0 = λ d. DrivesOut polled answers bank limits d new in
     subst F is out old (inl (refl, under_none polled answers bank limits old))
 
-pub are_driven : {B : Type 0} (polled : B → Answer → Ask → B → Type 0) (answers : CpuId → ℕ → Bool → Type 0) (bank : BankId) (limits : Limits) (olds mids news : List (Driven B)) → AllZip (λ old new. new ≡ begun old) olds mids → AllZip (DrivesOut polled answers bank limits) mids news → AllZip (λ old new. IsDriven polled answers bank limits old new new.ending) olds news
-are_driven polled answers bank limits olds mids news begins out = zip_then (λ old new. new ≡ begun old) (DrivesOut polled answers bank limits) (λ old new. IsDriven polled answers bank limits old new new.ending) (driven_whole polled answers bank limits) olds mids news begins out
+pub are_driven : {B : Type 0} (polled : B → Answer → Ask → B → Type 0) (answers : CpuId → ℕ → Bool → Type 0) (bank : BankId) (limits : Limits) (olds mids news : List (Driven B)) → AllZip (λ old new. new ≡ drive_begun old) olds mids → AllZip (DrivesOut polled answers bank limits) mids news → AllZip (λ old new. IsDriven polled answers bank limits old new new.ending) olds news
+are_driven polled answers bank limits olds mids news begins out = zip_then (λ old new. new ≡ drive_begun old) (DrivesOut polled answers bank limits) (λ old new. IsDriven polled answers bank limits old new new.ending) (driven_whole polled answers bank limits) olds mids news begins out
 
-at_begun : {B : Type 0} (bank : BankId) (book : TableId) (old new : Driven B) → new ≡ begun old → IsAt bank book old → IsAt bank book new
+at_begun : {B : Type 0} (bank : BankId) (book : TableId) (old new : Driven B) → new ≡ drive_begun old → IsAt bank book old → IsAt bank book new
 at_begun {B} bank book old new is at =
     let F : Driven B → Type 0 = λ d. IsAt bank book d in
     subst F (sym is) (record { bank_is = at.bank_is; book_is = at.book_is })
 
-pub all_at : {B : Type 0} (bank : BankId) (book : TableId) (olds news : List (Driven B)) → AllZip (λ old new. new ≡ begun old) olds news → All (IsAt bank book) olds → All (IsAt bank book) news
+pub all_at : {B : Type 0} (bank : BankId) (book : TableId) (olds news : List (Driven B)) → AllZip (λ old new. new ≡ drive_begun old) olds news → All (IsAt bank book) olds → All (IsAt bank book) news
 all_at bank book olds news zip at k d less =
-    let less' : k < length olds = omega (arith, less, length_all_zip (λ old new. new ≡ begun old) olds news zip) in
-    at_begun bank book (slice_index_or olds k d) (slice_index_or news k d) (AllZip-get_or (λ old new. new ≡ begun old) olds news k d d zip less') (at k d less')
+    let less' : k < length olds = omega (arith, less, length_all_zip (λ old new. new ≡ drive_begun old) olds news zip) in
+    at_begun bank book (slice_index_or olds k d) (slice_index_or news k d) (AllZip-get_or (λ old new. new ≡ drive_begun old) olds news k d d zip less') (at k d less')
 
-within_begun : {B : Type 0} (limits : Limits) (old new : Driven B) → new ≡ begun old → IsWithin limits new.drove
+within_begun : {B : Type 0} (limits : Limits) (old new : Driven B) → new ≡ drive_begun old → IsWithin limits new.drove
 within_begun {B} limits old new is =
     let F : Driven B → Type 0 = λ d. IsWithin limits d.drove in
     subst F (sym is) (record { ran = omega arith; idle = omega arith })
 
-pub all_within : {B : Type 0} (limits : Limits) (olds news : List (Driven B)) → AllZip (λ old new. new ≡ begun old) olds news → All (λ d. IsWithin limits d.drove) news
+pub all_within : {B : Type 0} (limits : Limits) (olds news : List (Driven B)) → AllZip (λ old new. new ≡ drive_begun old) olds news → All (λ d. IsWithin limits d.drove) news
 all_within limits olds news zip k d less =
-    let less' : k < length olds = omega (arith, less, length_all_zip (λ old new. new ≡ begun old) olds news zip) in
-    within_begun limits (slice_index_or olds k d) (slice_index_or news k d) (AllZip-get_or (λ old new. new ≡ begun old) olds news k d d zip less')
+    let less' : k < length olds = omega (arith, less, length_all_zip (λ old new. new ≡ drive_begun old) olds news zip) in
+    within_begun limits (slice_index_or olds k d) (slice_index_or news k d) (AllZip-get_or (λ old new. new ≡ drive_begun old) olds news k d d zip less')
 
 -- a fact of the elements at each place of two lists that are as long
 pub zip_each : {A : Type 0} (R : A → A → Type 0) (xs ys : List A) → length ys ≡ length xs → ((i : ℕ) (d : A) → i < length xs → R (slice_index_or xs i d) (slice_index_or ys i d)) → AllZip R xs ys

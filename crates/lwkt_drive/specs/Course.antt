@@ -39,8 +39,8 @@ pub record GoesOn (answers : CpuId → ℕ → Bool → Type 0) (limits : Limits
   pub passed : answers cpu turns true
 
 -- what the gate has said to a processor as its drive begins: nothing yet, and one drive more has begun
-abbrev pub opened : Said → Said
-opened said = record { drives = (said.drives + 1) % 2 ^ 64; yeses = 0; no = false }
+abbrev pub said_at_start : Said → Said
+said_at_start said = record { drives = (said.drives + 1) % 2 ^ 64; yeses = 0; no = false }
 
 -- what it has said with one yes more
 abbrev pub agreed : Said → Said
@@ -48,19 +48,19 @@ agreed said = record said { yeses = (said.yeses + 1) % 2 ^ 64 }
 
 -- what it has said after so many turns of a drive that began so: one yes to each
 abbrev pub heard : ℕ → Said → Said
-heard turns said = record (opened said) { yeses = turns % 2 ^ 64 }
+heard turns said = record (said_at_start said) { yeses = turns % 2 ^ 64 }
 
 -- what the gate has said to a processor as its drive ends so: no where it ends by that; yes once more where it ends for want of memory,
 -- to the turn that wasn't made; and otherwise what it had said
-abbrev pub noted : Ending → Said → Said
-noted NotDriven said = said
-noted Stopped said = record said { no = true }
-noted TurnsOut said = said
-noted IdleOut said = said
-noted AllExited said = said
-noted (NoMemory refused) said = agreed said
-noted (CalledOff refused) said = said
-noted Quiet said = said
+abbrev pub said_at_end : Ending → Said → Said
+said_at_end NotDriven said = said
+said_at_end Stopped said = record said { no = true }
+said_at_end TurnsOut said = said
+said_at_end IdleOut said = said
+said_at_end AllExited said = said
+said_at_end (NoMemory refused) said = agreed said
+said_at_end (CalledOff refused) said = said
+said_at_end Quiet said = said
 
 -- after so many turns, counted so, a processor with this trace makes no other, and why; one that ends for want of memory was to make
 -- another, for which its trace had no room. Nothing is claimed of the others: neither that their threads have ended, nor that they were
@@ -106,7 +106,7 @@ pub record Stays {B : Type 0} (answers : CpuId → ℕ → Bool → Type 0) (lim
   pub trace : new.trace.items ≡ old.trace.items
   pub drove : new.drove ≡ old.drove
   pub silent : new.silent ≡ old.silent
-  pub said : new.said ≡ noted ending old.said
+  pub said : new.said ≡ said_at_end ending old.said
   pub ends : EndsBy answers limits old.id turn old.drove old.silent new.trace ending
 
 -- a processor was driven: it made these turns one after the other, each where it went on, until there was a reason to end, which is the
@@ -120,7 +120,7 @@ pub record IsDriven {B : Type 0} (polled : B → Answer → Ask → B → Type 0
   pub going : (k : ℕ) → k < length turns → GoesOn answers limits old.id k (counts (take k turns))
   pub drove : new.drove ≡ counts turns
   pub silent : new.silent ≡ true → EndsSilent polled bank old.cpu new.cpu old.trace v turns made
-  pub said : new.said ≡ noted ending (heard (length turns) old.said)
+  pub said : new.said ≡ said_at_end ending (heard (length turns) old.said)
   pub ends : EndsBy answers limits old.id (length turns) new.drove new.silent new.trace ending
   pub same : new.id ≡ old.id
   pub seat : new.cpu.seat.cpu ≡ old.cpu.seat.cpu
@@ -145,8 +145,8 @@ abbrev pub QuietEndsAreSilent : {B G : Type 0} → (B → Answer → Ask → B �
 QuietEndsAreSilent {B} {G} polled answers = (gate : G) (bank : BankId) (limits : Limits) (old new : Driven B) → IsDriven polled (answers gate) bank limits old new Quiet → EndedSilently polled bank old new
 
 -- a processor before its first turn of a drive
-abbrev pub begun : {B : Type 0} → Driven B → Driven B
-begun d = record d { said = opened d.said; drove = none_driven; silent = false; ending = NotDriven }
+abbrev pub drive_begun : {B : Type 0} → Driven B → Driven B
+drive_begun d = record d { said = said_at_start d.said; drove = none_driven; silent = false; ending = NotDriven }
 
 -- a processor is being driven: so far it has made these turns one after the other, each where it went on, and the gate has said yes
 -- once to each, and not no, since this drive began; the trace grew by theirs; where the last one is marked as silent, it was (own)

@@ -115,11 +115,11 @@ impl<B> Driven<B> {
         }
     }
 
-    ghost use Rattle.lwkt_drive.specs.Course.{agreed, begun, noted};
+    ghost use Rattle.lwkt_drive.specs.Course.{agreed, drive_begun, said_at_end};
 
     /// Has made no turn, and hasn't ended.
     pub(crate) fn begin(&mut self)
-        ensures { self.new ≡ begun self.old }
+        ensures { self.new ≡ drive_begun self.old }
     {
         self.said = Said {
             drives: self.said.drives.wrapping_add(1),
@@ -139,7 +139,7 @@ impl<B> Driven<B> {
     pub(crate) fn ask<G: Gate>(&mut self, door: &Door<'_, G>, turn: u64) -> bool
         ensures answers { G.answers door.now.gate.now self.old.id turn result }
         ensures yes { result ≡ true → self.new ≡ record self.old { said = agreed self.old.said } }
-        ensures no { result ≡ false → self.new ≡ record self.old { said = noted Ending.Stopped self.old.said } }
+        ensures no { result ≡ false → self.new ≡ record self.old { said = said_at_end Ending.Stopped self.old.said } }
     {
         if door.gate.pass(self.id, turn) {
             self.said.yeses = self.said.yeses.wrapping_add(1);

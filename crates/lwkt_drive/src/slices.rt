@@ -3,7 +3,7 @@
 ghost use Rattle.std.specs.Prelude.{◌≡◌, ◌≢◌, false, All};
 ghost use Rattle.std.specs.List.{AllZip};
 ghost use Rattle.lwkt_bank.specs.Seats.{id_of};
-ghost use Rattle.lwkt_drive.specs.Course.{IsAt, IsWithin, DrivesOn, DrivesOut, begun};
+ghost use Rattle.lwkt_drive.specs.Course.{IsAt, IsWithin, DrivesOn, DrivesOut, drive_begun};
 
 use crate::boards::Board;
 use crate::driven::{Door, Driven, Ending, Limits};
@@ -40,7 +40,7 @@ fn waits<R: Threads>(rt: &R, number: u64) -> u32 {
 
 /// None of the processors has made a turn, and none has ended.
 pub(crate) fn begin_all<R: Threads + Sync, B: Body + Send>(rt: &R, all: &mut [Driven<B>])
-    ensures { AllZip (λ old new. new ≡ begun old) all.old all.new }
+    ensures { AllZip (λ old new. new ≡ drive_begun old) all.old all.new }
 {
     thread::for_each_mut(rt, all, 1, &|_number, driven| { driven.begin() });
 }

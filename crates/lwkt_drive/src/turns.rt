@@ -3,7 +3,7 @@ ghost use Rattle.std.specs.Prelude.{◌≡◌, true, ◌+◌, ◌<◌, ◌≤◌
 ghost use Rattle.lwkt_bank.specs.Seats.{id_of};
 ghost use Rattle.lwkt_cpu.specs.Driving.{counted};
 ghost use Rattle.lwkt_cpu.specs.Turning.{LacksRoom, MakesTurn};
-ghost use Rattle.lwkt_drive.specs.Course.{IsAt, IsWithin, GoesOn, EndsBy, RanNone, WasSilent, agreed, noted};
+ghost use Rattle.lwkt_drive.specs.Course.{IsAt, IsWithin, GoesOn, EndsBy, RanNone, WasSilent, agreed, said_at_end};
 
 use crate::driven::{Door, Driven, Ending, Limits};
 use crate::gates::Gate;
@@ -34,7 +34,7 @@ impl<B> Driven<B> {
         turn: u64,
     ) -> Option<Ending>
         requires { IsWithin limits.now self.old.drove }
-        ensures some { IfSome result (λ ending. (self.new ≡ record self.old { said = noted ending self.old.said }) × EndsBy (G.answers door.now.gate.now) limits.now self.old.id turn self.old.drove self.old.silent self.old.trace ending) }
+        ensures some { IfSome result (λ ending. (self.new ≡ record self.old { said = said_at_end ending self.old.said }) × EndsBy (G.answers door.now.gate.now) limits.now self.old.id turn self.old.drove self.old.silent self.old.trace ending) }
         ensures none { result ≡ None → (self.new ≡ record self.old { said = agreed self.old.said }) × GoesOn (G.answers door.now.gate.now) limits.now self.old.id turn self.old.drove }
         ensures few { result ≡ None → self.new.drove.ran + self.new.drove.idle + 1 < 2 ^ 64 }
     {

@@ -9,13 +9,13 @@ use Rattle.lwkt_explore.specs.declared.outcomes.Kind.{Kind}
 use Rattle.lwkt_explore.specs.declared.outcomes.Kind.TheVariants.{Ended, Stuck, Cut}
 use Rattle.lwkt_explore.specs.declared.outcomes.Outcome.{Outcome}
 use Rattle.lwkt_explore.specs.declared.searches.Found.{Found}
-use Rattle.lwkt_explore.specs.Statuses.{status_of}
+use Rattle.lwkt_explore.specs.Statuses.{status_of_found}
 
 -- whether an outcome stands where no turn changes anything: only such ones are judged
-abbrev pub is_whole : Kind → Bool
-is_whole Ended = true
-is_whole Stuck = true
-is_whole Cut = false
+abbrev pub is_final : Kind → Bool
+is_final Ended = true
+is_final Stuck = true
+is_final Cut = false
 
 -- whether a claim that holds decides an expectation, or one that doesn't
 abbrev pub decides_by : When → Bool → Bool
@@ -25,7 +25,7 @@ decides_by Never so = so
 
 -- whether an outcome decides an expectation: it breaks what is said of each one or of none, or it is one that shows what is said of one
 abbrev pub decides : Expectation → Outcome → Bool
-decides e outcome = is_whole outcome.kind && decides_by e.when (holds outcome.closing e.claim)
+decides e outcome = is_final outcome.kind && decides_by e.when (holds outcome.closing e.claim)
 
 -- whether an expectation is met, where it is known whether an outcome decides it
 abbrev pub met_by : When → Bool → Bool
@@ -33,11 +33,11 @@ met_by Always decided = not decided
 met_by Sometimes decided = decided
 met_by Never decided = not decided
 
-abbrev pub is_met : Expectation → List Outcome → Bool
-is_met e outcomes = met_by e.when (list_any (decides e) outcomes)
+abbrev pub is_met_over_orders : Expectation → List Outcome → Bool
+is_met_over_orders e outcomes = met_by e.when (list_any (decides e) outcomes)
 
 -- the status of what was found of a text: of one without expectations that of a script; else 0 where every order was tried and each
 -- expectation is met, and 5 where not
 abbrev pub status_of_text : List Expectation → Found → ℕ
 status_of_text expectations found =
-    if length expectations == 0 then status_of found else (if found.is_complete && list_all (λ e. is_met e found.outcomes.all.items) expectations then 0 else 5)
+    if length expectations == 0 then status_of_found found else (if found.is_complete && list_all (λ e. is_met_over_orders e found.outcomes.all.items) expectations then 0 else 5)

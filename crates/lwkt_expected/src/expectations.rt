@@ -2,15 +2,15 @@
 ghost use Rattle.std.specs.Prelude.{◌≡◌};
 ghost use Rattle.std.specs.List.{list_all, list_any, find};
 ghost use Rattle.std.specs.Option.{option_copied};
-ghost use Rattle.lwkt_expected.specs.Expectations.{is_whole, decides_by, decides, met_by, is_met, status_of_text};
+ghost use Rattle.lwkt_expected.specs.Expectations.{is_final, decides_by, decides, met_by, is_met_over_orders, status_of_text};
 
-use lwkt_explore::{Found, Kind, Outcome, status_of};
+use lwkt_explore::{Found, Kind, Outcome, status_of_found};
 use lwkt_litmus::holds;
 use lwkt_text::claims::{Expectation, When};
 
 // Whether an outcome stands where no turn changes anything.
-fn is_whole(kind: Kind) -> bool
-    ensures { result ≡ is_whole kind }
+fn is_final(kind: Kind) -> bool
+    ensures { result ≡ is_final kind }
 {
     match kind {
         Kind::Ended | Kind::Stuck => true,
@@ -32,7 +32,7 @@ fn decides_by(when: When, so: bool) -> bool
 fn decides(expectation: &Expectation, outcome: &Outcome) -> bool
     ensures { result ≡ decides expectation.now outcome.now }
 {
-    is_whole(outcome.kind)
+    is_final(outcome.kind)
         && decides_by(
             expectation.when,
             holds(&outcome.closing, &expectation.claim),
@@ -59,8 +59,8 @@ pub fn deciding<'a>(expectation: &Expectation, outcomes: &'a [Outcome]) -> Optio
 
 /// Whether an expectation of a text holds of the outcomes that were found, but for those that were cut: an `always` or a `never` if
 /// none decides it, a `sometimes` if one does.
-pub fn is_met(expectation: &Expectation, outcomes: &[Outcome]) -> bool
-    ensures { result ≡ is_met expectation.now outcomes.now }
+pub fn is_met_over_orders(expectation: &Expectation, outcomes: &[Outcome]) -> bool
+    ensures { result ≡ is_met_over_orders expectation.now outcomes.now }
 {
     let decided = is_decided(expectation, outcomes);
     match expectation.when {
@@ -71,20 +71,20 @@ pub fn is_met(expectation: &Expectation, outcomes: &[Outcome]) -> bool
 
 // Whether all that a text says is so.
 fn are_met(expectations: &[Expectation], outcomes: &[Outcome]) -> bool
-    ensures { result ≡ list_all (λ e. is_met e outcomes.now) expectations.now }
+    ensures { result ≡ list_all (λ e. is_met_over_orders e outcomes.now) expectations.now }
 {
     expectations
         .iter()
-        .all(|expectation| is_met(expectation, outcomes))
+        .all(|expectation| is_met_over_orders(expectation, outcomes))
 }
 
-/// The exit status of what was found of a text: of one that expects nothing that of a script, by `status_of`; else 0 if every order
+/// The exit status of what was found of a text: of one that expects nothing that of a script, by `status_of_found`; else 0 if every order
 /// was tried and all that it expects holds, and 5 if not.
 pub fn status_of_text(expectations: &[Expectation], found: &Found) -> u8
     ensures { result ≡ status_of_text expectations.now found.now }
 {
     if expectations.is_empty() {
-        return status_of(found);
+        return status_of_found(found);
     }
     if found.is_complete && are_met(expectations, found.outcomes.all.as_slice()) {
         0

@@ -4,5 +4,5 @@
 mod expectations;
 mod verdicts;
 
-pub use expectations::{deciding, is_met, status_of_text};
+pub use expectations::{deciding, is_met_over_orders, status_of_text};
 pub use verdicts::verdicts_of;

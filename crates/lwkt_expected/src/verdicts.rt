@@ -1,5 +1,5 @@
 //! What is told of expectations over all orders.
-use crate::expectations::{deciding, is_met};
+use crate::expectations::{deciding, is_met_over_orders};
 use lwkt_explore::{Found, Outcome, order_text};
 use lwkt_text::claims::Expectation;
 use std::alloc::{AllocError, Global};
@@ -37,7 +37,7 @@ fn add_line(
     let decided = deciding(expectation, outcomes);
     let is_known = found.is_complete || decided.is_some();
     let line = line_at(bytes, expectation.at);
-    let words = words_of(is_met(expectation, outcomes), is_known);
+    let words = words_of(is_met_over_orders(expectation, outcomes), is_known);
     write!(out, "{line}: {words}")?;
     if let Some(outcome) = decided {
         add_witness(alloc, out, outcome)?;

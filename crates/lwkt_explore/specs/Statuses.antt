@@ -16,6 +16,6 @@ abbrev pub is_stuck : Outcome → Bool
 is_stuck outcome = is_stuck_kind outcome.kind
 
 -- the status: 5 where not every order was tried; else 2 where a state was lost, or an outcome is stuck; else 0
-abbrev pub status_of : Found → ℕ
-status_of found =
+abbrev pub status_of_found : Found → ℕ
+status_of_found found =
     if found.is_complete then (if is_some found.lost then 2 else (if list_any is_stuck found.outcomes.all.items then 2 else 0)) else 5

@@ -31,5 +31,5 @@ pub use losses::Lost;
 pub use outcomes::{Kind, Outcome, Outcomes};
 pub use samples::sample;
 pub use searches::{Bounds, Found, Method, Tried, explore};
-pub use statuses::status_of;
+pub use statuses::status_of_found;
 pub use watches::{Seen, Unwatched, Watch};

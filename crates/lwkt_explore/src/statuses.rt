@@ -1,7 +1,7 @@
 //! The exit status of what was found.
 ghost use Rattle.std.specs.Prelude.{◌≡◌, is_some};
 ghost use Rattle.std.specs.List.{list_any};
-ghost use Rattle.lwkt_explore.specs.Statuses.{is_stuck, status_of};
+ghost use Rattle.lwkt_explore.specs.Statuses.{is_stuck, status_of_found};
 
 use crate::outcomes::{Kind, Outcome, Outcomes};
 use crate::searches::Found;
@@ -22,8 +22,8 @@ fn has_stuck(outcomes: &Outcomes) -> bool
 
 /// The exit status of what was found in a script: 5 if not every order was tried; else 2 if an outcome is stuck, or there is a
 /// state from which no end can be reached; else 0.
-pub fn status_of(found: &Found) -> u8
-    ensures { result ≡ status_of found.now }
+pub fn status_of_found(found: &Found) -> u8
+    ensures { result ≡ status_of_found found.now }
 {
     if !found.is_complete {
         return 5;

@@ -3,7 +3,7 @@ use crate::texts::{Told, read_told};
 use crate::tickers::Ticker;
 use lwkt_base::Fault;
 use lwkt_expected::{status_of_text, verdicts_of};
-use lwkt_explore::{Found, explore, sample, status_of, text_of};
+use lwkt_explore::{Found, explore, sample, status_of_found, text_of};
 use lwkt_refusals::Speaker;
 use lwkt_remarks::opening_said;
 use lwkt_report::{
@@ -120,7 +120,7 @@ fn explore_json<R: Clock + Files, K: Sink, E: Sink>(
     errors: &mut E,
 ) -> u8 {
     match found_of(rt, alloc, options, bytes, errors) {
-        Ok(found) if is_written(alloc, &found, sink, errors) => status_of(&found),
+        Ok(found) if is_written(alloc, &found, sink, errors) => status_of_found(&found),
         Ok(_) => 3,
         Err(fault) => refused(alloc, errors, bytes, false, fault),
     }

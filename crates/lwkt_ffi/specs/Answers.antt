@@ -21,18 +21,18 @@ use Rattle.lwkt_ffi.specs.declared.shows.Showing.{Showing}
 use Rattle.lwkt_ffi.specs.declared.shows.Showing.TheVariants.{Shown, Past, Misused}
 
 -- a buffer after a text was put into it: the text, or as much of its front as there is room for, and what stood behind that
-abbrev pub filled : List ℕ → List ℕ → List ℕ
-filled buffer whole = take (length buffer) whole ++ drop (length whole) buffer
+abbrev pub buffer_with_text : List ℕ → List ℕ → List ℕ
+buffer_with_text buffer whole = take (length buffer) whole ++ drop (length whole) buffer
 
 -- the place that a fault tells
-abbrev pub place_of : Fault → ℕ
-place_of (Script place) = place
-place_of _ = 0
+abbrev pub place_of_fault : Fault → ℕ
+place_of_fault (Script place) = place
+place_of_fault _ = 0
 
 -- the answer of a call with a text of this length that was refused for this fault, if it was
-abbrev pub answer_of : ℕ → Option Fault → LwktAnswer
-answer_of whole None = record { length = whole; fault = 0; place = 0 }
-answer_of whole (Some fault) = record { length = whole; fault = number_of fault; place = place_of fault }
+abbrev pub call_answer : ℕ → Option Fault → LwktAnswer
+call_answer whole None = record { length = whole; fault = 0; place = 0 }
+call_answer whole (Some fault) = record { length = whole; fault = number_of fault; place = place_of_fault fault }
 
 -- the status of a run that ended so
 abbrev pub status_of_end : End → ℕ
@@ -47,17 +47,17 @@ status_of_fault _ = 1
 
 -- what stands in the caller's buffer and answer after a call with this text that was refused for this fault, if it was
 pub record Fills (old new : List ℕ) (answer : LwktAnswer) (whole : List ℕ) (fault : Option Fault) : Type 0 where
-  pub is_text : new ≡ filled old whole
-  pub is_answer : answer ≡ answer_of (length whole) fault
+  pub is_text : new ≡ buffer_with_text old whole
+  pub is_answer : answer ≡ call_answer (length whole) fault
 
 -- the front of what was given that is read
-abbrev pub read_of : List ℕ → List ℕ
-read_of given = take READ_LIMIT given
+abbrev pub read_front : List ℕ → List ℕ
+read_front given = take READ_LIMIT given
 
 -- what came of a script: a run of it may end so, with this report; or it is refused for this fault
 abbrev pub TellsRun : List ℕ → Result End Fault → List ℕ → Type 0
-TellsRun script (Ok end) whole = HasRun (read_of script) end whole
-TellsRun script (Err fault) whole = Refuses (read_of script) fault
+TellsRun script (Ok end) whole = HasRun (read_front script) end whole
+TellsRun script (Err fault) whole = Refuses (read_front script) fault
 
 abbrev pub status_of_run : Result End Fault → ℕ
 status_of_run (Ok end) = status_of_end end
@@ -104,23 +104,23 @@ abbrev pub AskNothing : List (List ℕ) → Type 0
 AskNothing words = ((options : Options) → ¬ AreOptions words options) × ((options : Options) (order : List ℕ) → ¬ AreAlong words options order)
 
 -- the arguments do neither
-abbrev pub AreMisused : List ℕ → Type 0
-AreMisused arguments = IsUtf8 arguments → AskNothing (words_in arguments)
+abbrev pub AskForNoRun : List ℕ → Type 0
+AskForNoRun arguments = IsUtf8 arguments → AskNothing (words_in arguments)
 
 -- what came of a script that was to be shown with these options: a run of it ended so, and the text shows it; or it ended before the
 -- first turn that was chosen; or it is refused for this fault
 abbrev pub Displays : Options → List ℕ → Result Showing Fault → List ℕ → Type 0
-Displays options script (Ok (Shown end)) whole = IsShown options (read_of script) end whole
-Displays options script (Ok Past) whole = IsPastIn options (read_of script)
+Displays options script (Ok (Shown end)) whole = IsShown options (read_front script) end whole
+Displays options script (Ok Past) whole = IsPastIn options (read_front script)
 Displays options script (Ok Misused) whole = ⊥
-Displays options script (Err fault) whole = Refuses (read_of script) fault
+Displays options script (Err fault) whole = Refuses (read_front script) fault
 
 -- the same of a script that was to be run along this order; it is also refused where the order names a processor that isn't there
 abbrev pub DisplaysAlong : List ℕ → Options → List ℕ → Result Showing Fault → List ℕ → Type 0
-DisplaysAlong order options script (Ok (Shown end)) whole = IsShownAlong order options (read_of script) end whole
-DisplaysAlong order options script (Ok Past) whole = IsPastAlong order options (read_of script)
+DisplaysAlong order options script (Ok (Shown end)) whole = IsShownAlong order options (read_front script) end whole
+DisplaysAlong order options script (Ok Past) whole = IsPastAlong order options (read_front script)
 DisplaysAlong order options script (Ok Misused) whole = ⊥
-DisplaysAlong order options script (Err fault) whole = RefusesAlong (read_of script) order fault
+DisplaysAlong order options script (Err fault) whole = RefusesAlong (read_front script) order fault
 
 abbrev pub status_of_show : Result Showing Fault → ℕ
 status_of_show (Ok (Shown end)) = status_of_end end
@@ -135,6 +135,6 @@ pub record AnswersShow (script arguments old new : List ℕ) (answer : LwktAnswe
   pub whole : List ℕ
   pub shows : IsUtf8 arguments → (options : Options) → AreOptions (words_in arguments) options → Displays options script outcome whole
   pub along : IsUtf8 arguments → (options : Options) (order : List ℕ) → AreAlong (words_in arguments) options order → DisplaysAlong order options script outcome whole
-  pub misused : AreMisused arguments → (outcome ≡ Ok Misused) ⊎ (outcome ≡ Err no_memory)
+  pub misused : AskForNoRun arguments → (outcome ≡ Ok Misused) ⊎ (outcome ≡ Err no_memory)
   pub fills : Fills old new answer whole (result_err outcome)
   pub is_status : status ≡ status_of_show outcome

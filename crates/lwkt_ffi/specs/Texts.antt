@@ -6,9 +6,9 @@ use Rattle.lwkt_base.specs.declared.faults.Fault.TheVariants.{Script as ScriptFa
 use Rattle.lwkt_base.specs.Fault.{no_memory}
 use Rattle.lwkt_expected.specs.Expectations.{status_of_text as status_of_text_search}
 use Rattle.lwkt_explore.specs.Outcomes.{AreOutcomes}
-use Rattle.lwkt_explore.specs.Statuses.{status_of as status_of_search}
+use Rattle.lwkt_explore.specs.Statuses.{status_of_found}
 use Rattle.lwkt_litmus.specs.declared.judgements.Judgement.{Judgement}
-use Rattle.lwkt_litmus.specs.Judgements.{judgement_of, status_of as status_judged}
+use Rattle.lwkt_litmus.specs.Judgements.{judgement_of, status_of_judgement}
 use Rattle.lwkt_report.specs.declared.closings.Closing.{Closing}
 use Rattle.lwkt_report.specs.Report.{report_text}
 use Rattle.lwkt_run.specs.Run.{MayClose, Declines}
@@ -66,30 +66,30 @@ pub record HasTextRun (text : List ℕ) (judgement : Judgement) (report : List �
   pub is_judgement : judgement ≡ judgement_of reading.expectations closing
 
 -- why a run of a text is refused: it isn't read; or it is, and its machine isn't opened
-abbrev pub RefusesText : List ℕ → Fault → Type 0
-RefusesText text fault = RefusesReading text fault ⊎ ((reading : Reading) × ((reading_of text ≡ Ok reading) × Declines reading.script fault))
+abbrev pub RefusesTextRun : List ℕ → Fault → Type 0
+RefusesTextRun text fault = RefusesReading text fault ⊎ ((reading : Reading) × ((reading_of text ≡ Ok reading) × Declines reading.script fault))
 
 -- what came of a text that was run: its report, with more behind it; or why there is none
-abbrev pub TellsText : List ℕ → Result Judgement Fault → List ℕ → Type 0
-TellsText text (Ok judgement) whole = (report : List ℕ) × ((verdicts : List ℕ) × (HasTextRun text judgement report × (whole ≡ report ++ verdicts)))
-TellsText text (Err fault) whole = RefusesText text fault
+abbrev pub TellsTextRun : List ℕ → Result Judgement Fault → List ℕ → Type 0
+TellsTextRun text (Ok judgement) whole = (report : List ℕ) × ((verdicts : List ℕ) × (HasTextRun text judgement report × (whole ≡ report ++ verdicts)))
+TellsTextRun text (Err fault) whole = RefusesTextRun text fault
 
-abbrev pub status_of_text : Result Judgement Fault → ℕ
-status_of_text (Ok judgement) = status_judged judgement
-status_of_text (Err fault) = status_of_fault fault
+abbrev pub status_of_text_run : Result Judgement Fault → ℕ
+status_of_text_run (Ok judgement) = status_of_judgement judgement
+status_of_text_run (Err fault) = status_of_fault fault
 
 -- what `lwkt_run_text` answers
 pub record AnswersText (text old new : List ℕ) (answer : LwktAnswer) (status : ℕ) : Type 0 where
   pub outcome : Result Judgement Fault
   pub whole : List ℕ
-  pub tells : TellsText text outcome whole
+  pub tells : TellsTextRun text outcome whole
   pub fills : Fills old new answer whole (result_err outcome)
-  pub is_status : status ≡ status_of_text outcome
+  pub is_status : status ≡ status_of_text_run outcome
 
 -- what was found of a script in JSON: outcomes of it, and the status by them
 pub record IsSearchOfJson (script : List ℕ) (search : Search) : Type 0 where
   pub are : AreOutcomes script search.found.outcomes
-  pub is_status : search.status ≡ status_of_search search.found
+  pub is_status : search.status ≡ status_of_found search.found
 
 -- what was found of a text: outcomes of its script, and the status by what the text says of them
 pub record IsSearchOfText (text : List ℕ) (search : Search) : Type 0 where

@@ -1,5 +1,5 @@
 ghost use Rattle.std.specs.Prelude.{◌≡◌};
-ghost use Rattle.lwkt_ffi.specs.Answers.{answer_of, status_of_end, status_of_fault};
+ghost use Rattle.lwkt_ffi.specs.Answers.{call_answer, status_of_end, status_of_fault};
 
 use lwkt_base::Fault;
 use lwkt_run::End;
@@ -19,7 +19,7 @@ pub struct LwktAnswer {
 impl LwktAnswer {
     /// The answer of a call with a text of this length that was refused for this fault, if it was.
     pub fn new(length: usize, fault: Option<Fault>) -> LwktAnswer
-        ensures { result ≡ answer_of length fault }
+        ensures { result ≡ call_answer length fault }
     {
         let (fault, place) = match fault {
             None => (0, 0),

@@ -1,6 +1,6 @@
 //! Texts and the buffers that they are put into.
 ghost use Rattle.std.specs.Prelude.{◌≡◌, ◌++◌, [], OnOk, IsTrue, is_some, vec_len, length};
-ghost use Rattle.lwkt_ffi.specs.Answers.{filled};
+ghost use Rattle.lwkt_ffi.specs.Answers.{buffer_with_text};
 
 use lwkt_report::Page;
 use std::alloc::{AllocError, Global};
@@ -24,7 +24,7 @@ pub fn page_refusal(page: &Page) -> AllocError
 
 /// Puts a text into a buffer, as far as this has room.
 pub fn fill(buffer: &mut [u8], whole: &[u8])
-    ensures { buffer.new ≡ filled buffer.old whole.now }
+    ensures { buffer.new ≡ buffer_with_text buffer.old whole.now }
 {
     let count = whole.len().min(buffer.len());
     buffer[..count].copy_from_slice(&whole[..count]);

@@ -10,9 +10,7 @@ use crate::fronts::{blank, fill, put_both};
 use crate::readings::{put_said, read_onto};
 use lwkt_base::Fault;
 use lwkt_expected::{status_of_text, verdicts_of};
-use lwkt_explore::{
-    Bounds, Found, Method, Unwatched, explore, status_of as status_of_found, text_of,
-};
+use lwkt_explore::{Bounds, Found, Method, Unwatched, explore, status_of_found, text_of};
 use lwkt_refusals::Speaker;
 use lwkt_remarks::opening_said;
 use lwkt_report::{Page, write_whole};

@@ -3,7 +3,7 @@ ghost use Rattle.std.specs.Str.{IsUtf8};
 ghost use Rattle.lwkt_show.specs.Arguments.{AreOptions};
 ghost use Rattle.lwkt_show.specs.Orders.{AreAlong};
 ghost use Rattle.lwkt_show.specs.declared.options.Options.{Options};
-ghost use Rattle.lwkt_ffi.specs.Answers.{words_in, AskNothing, AreMisused, Displays, DisplaysAlong, AnswersShow, status_of_show};
+ghost use Rattle.lwkt_ffi.specs.Answers.{words_in, AskNothing, AskForNoRun, Displays, DisplaysAlong, AnswersShow, status_of_show};
 ghost use Rattle.lwkt_base.specs.Fault.{no_memory};
 
 use crate::answers::{LwktAnswer, status_of_end, status_of_fault};
@@ -184,7 +184,7 @@ fn show_onto(
     requires { page.old.text.items ≡ [] }
     ensures shows { IsUtf8 arguments.now → (options : Options) → AreOptions (words_in arguments.now) options → Displays options script.now result page.new.text.items }
     ensures along { IsUtf8 arguments.now → (options : Options) (order : List ℕ) → AreAlong (words_in arguments.now) options order → DisplaysAlong order options script.now result page.new.text.items }
-    ensures misused { AreMisused arguments.now → (result ≡ Ok Showing.Misused) ⊎ (result ≡ Err no_memory) }
+    ensures misused { AskForNoRun arguments.now → (result ≡ Ok Showing.Misused) ⊎ (result ≡ Err no_memory) }
 {
     match words_read(alloc, arguments) {
         Ok(Some(words)) => show_words(alloc, script, &words, page),

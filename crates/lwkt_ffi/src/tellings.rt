@@ -2,7 +2,7 @@
 ghost use Rattle.std.specs.Prelude.{◌≡◌, [], IfOk, IfErr, string_bytes};
 ghost use Rattle.lwkt_run.specs.Run.{MayClose, Declines};
 ghost use Rattle.lwkt_verdict.specs.declared.turns.Pace.{Pace};
-ghost use Rattle.lwkt_ffi.specs.Texts.{HasTextRun, RefusesText, TellsText, AnswersText, status_of_text};
+ghost use Rattle.lwkt_ffi.specs.Texts.{HasTextRun, RefusesTextRun, TellsTextRun, AnswersText, status_of_text_run};
 
 use crate::answers::{LwktAnswer, status_of_fault};
 use crate::fronts::{blank, fill, put_both};
@@ -43,7 +43,7 @@ fn closing_of(alloc: Global, script: Script) -> Result<Closing, Fault>
 // Runs a text, to all that is told of its run; why it is refused is put on a page.
 fn account_onto(alloc: Global, text: &[u8], page: &mut Page) -> Result<Account, Fault>
     ensures ok { IfOk result (λ account. HasTextRun text.now account.judgement (string_bytes account.report)) }
-    ensures refused { IfErr result (λ fault. RefusesText text.now fault) }
+    ensures refused { IfErr result (λ fault. RefusesTextRun text.now fault) }
 {
     let Reading {
         script,
@@ -72,7 +72,7 @@ fn account_onto(alloc: Global, text: &[u8], page: &mut Page) -> Result<Account, 
 // Runs a text, with its report and the lines of its expectations behind that on an empty page, or why there are none.
 fn told_onto(alloc: Global, text: &[u8], page: &mut Page) -> Result<Judgement, Fault>
     requires { page.old.text.items ≡ [] }
-    ensures { TellsText text.now result page.new.text.items }
+    ensures { TellsTextRun text.now result page.new.text.items }
 {
     let mut errors = blank(alloc);
     let Account {
@@ -97,7 +97,7 @@ fn told_onto(alloc: Global, text: &[u8], page: &mut Page) -> Result<Judgement, F
 
 // The status of a text that was run.
 fn status_of(outcome: &Result<Judgement, Fault>) -> u32
-    ensures { result ≡ status_of_text outcome.now }
+    ensures { result ≡ status_of_text_run outcome.now }
 {
     match *outcome {
         Ok(judgement) => u32::from(judgement.status()),

@@ -124,13 +124,13 @@ abbrev pub lies : Closing → MsgId → MsgState → Bool
 lies o msg place = unwrap_or (option_map (λ line. is_place place line.state) (slice_get o.messages.items msg.0)) false
 
 -- whether all threads of an outcome have ended
-abbrev pub ended : Closing → Bool
-ended o = list_all (λ line. has_ended line.state) o.threads.items
+abbrev pub all_ended : Closing → Bool
+all_ended o = list_all (λ line. has_ended line.state) o.threads.items
 
 -- whether what is said of an outcome is so
 abbrev pub holds : Closing → Claim → Bool
-holds o claims.Ended = ended o
-holds o claims.Stuck = not (ended o)
+holds o claims.Ended = all_ended o
+holds o claims.Stuck = not (all_ended o)
 holds o (claims.Faulted n) = any_faulted n o.threads.items
 holds o (claims.Logged id entry) = any_logged id entry o.threads.items
 holds o (claims.Stands id standing) = any_stood id standing o.threads.items

@@ -7,7 +7,7 @@ use Rattle.lwkt_report.specs.declared.closings.Verdict.TheVariants as verdicts
 use Rattle.lwkt_text.specs.declared.claims.Expectation.{Expectation}
 use Rattle.lwkt_litmus.specs.declared.judgements.Judgement.{Judgement}
 use Rattle.lwkt_litmus.specs.declared.judgements.Judgement.TheVariants.{Met, TurnsOut, Unlawful, Unmet}
-use Rattle.lwkt_litmus.specs.Claims.{ended}
+use Rattle.lwkt_litmus.specs.Claims.{all_ended}
 use Rattle.lwkt_litmus.specs.Judging.{is_met}
 
 abbrev pub is_unlawful : Verdict → Bool
@@ -20,11 +20,11 @@ abbrev pub judgement_of : List Expectation → Closing → Judgement
 judgement_of expectations outcome =
     if is_unlawful outcome.verdict then Unlawful else (
     if not (list_all (λ e. is_met e (outcome ∷ [])) expectations) then Unmet else (
-    if length expectations == 0 && not (ended outcome) then TurnsOut else Met))
+    if length expectations == 0 && not (all_ended outcome) then TurnsOut else Met))
 
 -- the exit status of a program that ran the script
-abbrev pub status_of : Judgement → ℕ
-status_of Met = 0
-status_of TurnsOut = 2
-status_of Unlawful = 4
-status_of Unmet = 5
+abbrev pub status_of_judgement : Judgement → ℕ
+status_of_judgement Met = 0
+status_of_judgement TurnsOut = 2
+status_of_judgement Unlawful = 4
+status_of_judgement Unmet = 5

@@ -5,30 +5,30 @@ use Rattle.lwkt_text.specs.declared.claims.Quantity.{Quantity}
 use Rattle.lwkt_text.specs.declared.claims.Quantity.TheVariants as quantities
 
 -- what a processor has added to a token, as its line shows it
-abbrev pub tally_of : Option (List ℕ) → ℕ → Option ℕ
-tally_of (Some tallies) cpu = slice_get tallies cpu
-tally_of None cpu = None
+abbrev pub shown_tally : Option (List ℕ) → ℕ → Option ℕ
+shown_tally (Some tallies) cpu = slice_get tallies cpu
+shown_tally None cpu = None
 
 -- the number of a quantity, if the outcome has it
 abbrev pub reading : Closing → Quantity → Option ℕ
 reading o (quantities.Number n) = Some n
 reading o (quantities.Cell tok cell) = option_and_then (λ line. slice_get line.cells cell) (slice_get o.tokens.items tok.0)
 reading o (quantities.Generation tok) = option_map (λ line. line.generation) (slice_get o.tokens.items tok.0)
-reading o (quantities.Tally tok cpu) = option_and_then (λ line. tally_of line.tallies cpu.0) (slice_get o.tokens.items tok.0)
+reading o (quantities.Tally tok cpu) = option_and_then (λ line. shown_tally line.tallies cpu.0) (slice_get o.tokens.items tok.0)
 reading o (quantities.Round msg) = option_map (λ line. line.round) (slice_get o.messages.items msg.0)
 
 -- a sum, if 64 bits have room for it
-abbrev pub added : ℕ → ℕ → Option ℕ
-added total n = if nat_lt (total + n) 18446744073709551616 then Some (total + n) else None
+abbrev pub sum_if_room : ℕ → ℕ → Option ℕ
+sum_if_room total n = if nat_lt (total + n) 18446744073709551616 then Some (total + n) else None
 
 -- a total with one more quantity
-abbrev pub one_more : Closing → ℕ → Quantity → Option ℕ
-one_more o total q = option_and_then (added total) (reading o q)
+abbrev pub total_with : Closing → ℕ → Quantity → Option ℕ
+total_with o total q = option_and_then (sum_if_room total) (reading o q)
 
 -- a total with more quantities
 abbrev pub sum_on : Closing → ℕ → List Quantity → Option ℕ
 sum_on o total [] = Some total
-sum_on o total (q ∷ qs) = option_and_then (λ next. sum_on o next qs) (one_more o total q)
+sum_on o total (q ∷ qs) = option_and_then (λ next. sum_on o next qs) (total_with o total q)
 
 -- the sum of quantities, if the outcome has them all and 64 bits have room for it
 abbrev pub sum_of : Closing → List Quantity → Option ℕ

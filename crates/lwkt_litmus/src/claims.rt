@@ -1,5 +1,5 @@
 ghost use Rattle.std.specs.Prelude.{◌≡◌};
-ghost use Rattle.lwkt_litmus.specs.Claims.{is_standing, is_place, has_ended, has_faulted, same_call, same_entry, same_thread, has_entry, has_logged, has_stood, any_faulted, any_logged, any_stood, related, compared, lies, ended, holds};
+ghost use Rattle.lwkt_litmus.specs.Claims.{is_standing, is_place, has_ended, has_faulted, same_call, same_entry, same_thread, has_entry, has_logged, has_stood, any_faulted, any_logged, any_stood, related, compared, lies, all_ended, holds};
 
 use crate::readings::sum_of;
 use lwkt_base::blobs::same_bytes;
@@ -174,8 +174,8 @@ fn lies(outcome: &Closing, msg: MsgId, place: MsgState) -> bool
 }
 
 /// Whether all threads of an outcome have ended.
-pub(crate) fn ended(outcome: &Closing) -> bool
-    ensures { result ≡ ended outcome.now }
+pub(crate) fn all_ended(outcome: &Closing) -> bool
+    ensures { result ≡ all_ended outcome.now }
 {
     outcome.threads.iter().all(|line| has_ended(line.state))
 }
@@ -187,8 +187,8 @@ pub fn holds(outcome: &Closing, claim: &Claim) -> bool
 {
     let threads = outcome.threads.as_slice();
     match claim {
-        Claim::Ended => ended(outcome),
-        Claim::Stuck => !ended(outcome),
+        Claim::Ended => all_ended(outcome),
+        Claim::Stuck => !all_ended(outcome),
         Claim::Faulted(n) => any_faulted(*n, threads),
         Claim::Logged(id, entry) => any_logged(*id, entry, threads),
         Claim::Stands(id, standing) => any_stood(*id, *standing, threads),

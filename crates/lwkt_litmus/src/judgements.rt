@@ -1,9 +1,9 @@
 ghost use Rattle.std.specs.Prelude.{◌≡◌};
 ghost use Rattle.std.specs.List.{list_all};
 ghost use Rattle.lwkt_litmus.specs.Judging.{is_met};
-ghost use Rattle.lwkt_litmus.specs.Judgements.{is_unlawful, judgement_of, status_of};
+ghost use Rattle.lwkt_litmus.specs.Judgements.{is_unlawful, judgement_of, status_of_judgement};
 
-use crate::claims::ended;
+use crate::claims::all_ended;
 use crate::judging::is_met;
 use lwkt_report::{Closing, Verdict};
 use lwkt_text::claims::Expectation;
@@ -24,7 +24,7 @@ pub enum Judgement {
 impl Judgement {
     /// The exit status of a program that ran the script.
     pub fn status(self) -> u8
-        ensures { result ≡ status_of self }
+        ensures { result ≡ status_of_judgement self }
     {
         match self {
             Judgement::Met => 0,
@@ -61,7 +61,7 @@ pub fn judgement_of(expectations: &[Expectation], outcome: &Closing) -> Judgemen
     if !are_met(expectations, std::slice::from_ref(outcome)) {
         return Judgement::Unmet;
     }
-    if expectations.is_empty() && !ended(outcome) {
+    if expectations.is_empty() && !all_ended(outcome) {
         return Judgement::TurnsOut;
     }
     Judgement::Met

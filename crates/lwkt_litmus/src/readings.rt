@@ -1,13 +1,13 @@
 ghost use Rattle.std.specs.Prelude.{◌≡◌};
-ghost use Rattle.lwkt_litmus.specs.Readings.{tally_of, reading, one_more, sum_of};
+ghost use Rattle.lwkt_litmus.specs.Readings.{shown_tally, reading, total_with, sum_of};
 
 use lwkt_base::Cells;
 use lwkt_report::Closing;
 use lwkt_text::claims::Quantity;
 
 // What a processor has added to a token, as its line shows it.
-fn tally_of(tallies: &Option<Cells>, cpu: u8) -> Option<u64>
-    ensures { result ≡ tally_of tallies.now cpu }
+fn shown_tally(tallies: &Option<Cells>, cpu: u8) -> Option<u64>
+    ensures { result ≡ shown_tally tallies.now cpu }
 {
     match tallies {
         Some(tallies) => tallies.as_slice().get(cpu as usize).copied(),
@@ -31,7 +31,7 @@ pub fn reading(outcome: &Closing, quantity: Quantity) -> Option<u64>
         }
         Quantity::Tally(tok, cpu) => {
             let line = outcome.tokens.as_slice().get(tok.0 as usize)?;
-            tally_of(&line.tallies, cpu.0)
+            shown_tally(&line.tallies, cpu.0)
         }
         Quantity::Round(msg) => {
             let line = outcome.messages.as_slice().get(msg.0 as usize)?;
@@ -41,8 +41,8 @@ pub fn reading(outcome: &Closing, quantity: Quantity) -> Option<u64>
 }
 
 // A total with one more quantity.
-fn one_more(outcome: &Closing, total: u64, quantity: Quantity) -> Option<u64>
-    ensures { result ≡ one_more outcome.now total quantity }
+fn total_with(outcome: &Closing, total: u64, quantity: Quantity) -> Option<u64>
+    ensures { result ≡ total_with outcome.now total quantity }
 {
     total.checked_add(reading(outcome, quantity)?)
 }
@@ -53,7 +53,7 @@ pub fn sum_of(outcome: &Closing, quantities: &[Quantity]) -> Option<u64>
 {
     let mut total = 0u64;
     for quantity in quantities {
-        total = one_more(outcome, total, *quantity)?;
+        total = total_with(outcome, total, *quantity)?;
     }
     Some(total)
 }

@@ -15,7 +15,7 @@ use Rattle.lwkt_msg.specs.Views.{seat_cpu, no_spec, spec_at, first_entry, handed
 use Rattle.lwkt_port.specs.declared.lines.Lane.{Lane}
 use Rattle.lwkt_port.specs.declared.mails.Mail.{Mail}
 use Rattle.lwkt_port.specs.declared.queues.Port.{Port}
-use Rattle.lwkt_port.specs.Mails.{no_mail, mail_at, IsMail}
+use Rattle.lwkt_port.specs.Mails.{no_kept_mail, kept_mail_at, IsMail}
 use Rattle.lwkt_port.specs.Openings.{new_mail, IsNewPort, AreNew, AreNewPorts, new_line, ArePaired, AreWithin, IsFresh, AreOrigins}
 use Rattle.lwkt_port.specs.Posts.{Post, IsPost, KeepsNamed}
 use Rattle.lwkt_port.proofs.Classing.{named_empty}
@@ -87,7 +87,7 @@ opened cpu p outs ins origins seat fresh are within paired ports mails =
             let exists : m < messages_of p.seat = omega (arith, within.origins_are) in
             let F : Mail → Type 0 = IsMail p.seat m in
             let o : ThreadId = get_or origins m no_thread in
-            let at : mail_at p.mails m ≡ new_mail cpu o = ap (λ l. mail_at l m) mails ∙ get_or-map (new_mail cpu) origins m no_thread no_mail inside in
+            let at : kept_mail_at p.mails m ≡ new_mail cpu o = ap (λ l. kept_mail_at l m) mails ∙ get_or-map (new_mail cpu) origins m no_thread no_kept_mail inside in
             let origin : o ≡ (spec_at p.seat.view.specs m).origin = ap (λ l. get_or l m no_thread) (are within.origins_are) ∙ get_or-map (λ (spec : MsgSpec). spec.origin) p.seat.view.specs m no_spec no_thread exists in
             subst F (sym at) (new_fits cpu p.seat m o seat fresh exists origin);
       };

@@ -9,7 +9,7 @@ use Rattle.lwkt_port.specs.declared.mailrooms.Mailroom.{Mailroom}
 use Rattle.lwkt_port.specs.declared.queues.Port.{Port}
 use Rattle.lwkt_port.specs.Intakes.{Clears, ClearsAll, ClearsQueue, ClearsClosed, ClearsPort}
 use Rattle.lwkt_port.specs.Queues.{queue_of, HasNamed, LeavesInOrder, HasLeft}
-use Rattle.lwkt_port.specs.Works.{Work, work, Stands}
+use Rattle.lwkt_port.specs.Works.{Work, work, MailroomStands}
 use Rattle.lwkt_port.proofs.Classing.{leaves_none, leaving_chains}
 use Rattle.lwkt_port.proofs.Growing.{stands_none, stands_then}
 use Rattle.lwkt_port.proofs.Serving.{named_tail}
@@ -25,7 +25,7 @@ pub record IsClearing (turn : ℕ) (r : Mailroom) (trace : Vec Event Global) (po
   pub as_many : length notes ≡ turn
   pub queue_is : queue_of port ≡ notes ++ queue_of port'
   pub clears : ClearsAll notes (work r trace) (work r' trace')
-  pub stands : Stands turn r trace r' trace'
+  pub stands : MailroomStands turn r trace r' trace'
   pub named : HasNamed (vec_len r'.mails) port'
   pub closed : port'.closed ≡ port.closed
   pub order : LeavesInOrder port port'
@@ -43,7 +43,7 @@ clearing_none r t p named = record {
 }
 
 pub clearing_more : (turn : ℕ) (r : Mailroom) (t : Vec Event Global) (p : Port) (r1 : Mailroom) (t1 : Vec Event Global) (p1 : Port) (r2 : Mailroom) (t2 : Vec Event Global) (p2 : Port) (note : Note) (rest : List Note)
-    → IsClearing turn r t p r1 t1 p1 → queue_of p1 ≡ note ∷ rest → HasLeft rest p1 p2 → Clears note (work r1 t1) (work r2 t2) false → Stands 1 r1 t1 r2 t2 → IsClearing (turn + 1) r t p r2 t2 p2
+    → IsClearing turn r t p r1 t1 p1 → queue_of p1 ≡ note ∷ rest → HasLeft rest p1 p2 → Clears note (work r1 t1) (work r2 t2) false → MailroomStands 1 r1 t1 r2 t2 → IsClearing (turn + 1) r t p r2 t2 p2
 clearing_more turn r t p r1 t1 p1 r2 t2 p2 note rest s is left clears stands = record {
   notes = s.notes ++ note ∷ [];
   as_many = omega (arith, length-append s.notes (note ∷ []), s.as_many);

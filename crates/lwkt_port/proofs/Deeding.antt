@@ -20,7 +20,7 @@ use Rattle.lwkt_msg.specs.Calls.{TakeMeans, ReapMeans, HasSent, IsUnsent, HasRep
 use Rattle.lwkt_port.specs.declared.mails.Mail.{Mail}
 use Rattle.lwkt_port.specs.declared.deeds.Claim.{Claim}
 use Rattle.lwkt_port.specs.declared.deeds.Claim.TheVariants as claim
-use Rattle.lwkt_port.specs.Mails.{mail_at, IsMail, AreMails}
+use Rattle.lwkt_port.specs.Mails.{kept_mail_at, IsMail, AreMails}
 use Rattle.lwkt_port.specs.Works.{away_count}
 use Rattle.lwkt_port.specs.Deeds.{taken_mail, mails_taken, reaped_mail, mails_reaped, reap_events, sent_mail, replied_mail}
 use Rattle.lwkt_port.proofs.Keeping.{own_still, own_before, there_still, all_still, all_put, away_less}
@@ -50,7 +50,7 @@ fits_taken d d' m mail mail' same away is_taken origin home k = record {
 pub taken_keeps : (who : Claim) (note : Note) (d d' : Desk) (mails mails' : List Mail) (answer : Taken) → IsSameDesk d d' → TakeMeans (cpu_of d) d.view d'.view note.msg.0 note.round answer → mails' ≡ mails_taken who note answer mails → note.msg.0 < length mails → AreMails d mails → AreMails d' mails'
 taken_keeps who note d d' mails mails' (taken.Took rec aborted priority) same means is there are =
     let m : ℕ = note.msg.0 in
-    let mail : Mail = mail_at mails m in
+    let mail : Mail = kept_mail_at mails m in
     let F : List Mail → Type 0 = AreMails d' in
     subst F (sym is) (all_put d d' m mails (taken_mail who aborted priority note.round mail) same means.does.else_same there
     (fits_taken d d' m mail (taken_mail who aborted priority note.round mail) same (ap (λ e. e.away) means.does.here) (ap (λ e. e.taken) means.does.here) (taken_origin who aborted priority note.round mail) (taken_home who aborted priority note.round mail) (are.each m there)) are)
@@ -86,7 +86,7 @@ reaped_shown false rec mail = refl
 pub reaped_keeps : (keep : Bool) (note : Note) (d d' : Desk) (mails mails' : List Mail) (answer : Reaped) → IsSameDesk d d' → ReapMeans (cpu_of d) d.view d'.view note.msg.0 note.round answer → mails' ≡ mails_reaped keep note answer mails → note.msg.0 < length mails → AreMails d mails → AreMails d' mails'
 reaped_keeps keep note d d' mails mails' (reaped_.Done rec) same means is there are =
     let m : ℕ = note.msg.0 in
-    let mail : Mail = mail_at mails m in
+    let mail : Mail = kept_mail_at mails m in
     let mail' : Mail = reaped_mail keep rec mail in
     let F : List Mail → Type 0 = AreMails d' in
     let k : IsMail d m mail = are.each m there in
@@ -109,15 +109,15 @@ reaped_keeps keep note d d' mails mails' reaped_.Stale same means is there are =
 pub reaped_away : (keep : Bool) (note : Note) (cpu : CpuId) (d d' : Desk) (mails mails' : List Mail) (answer : Reaped) → ReapMeans (cpu_of d) d.view d'.view note.msg.0 note.round answer → mails' ≡ mails_reaped keep note answer mails → note.msg.0 < length mails → AreMails d mails → away_count mails' + length (reap_events cpu note answer) ≡ away_count mails
 reaped_away keep note cpu d d' mails mails' (reaped_.Done rec) means is there are =
     let m : ℕ = note.msg.0 in
-    let mail : Mail = mail_at mails m in
+    let mail : Mail = kept_mail_at mails m in
     ap (λ l. away_count l + 1) is ∙ away_less mails m (reaped_mail keep rec mail) there (reaped_home keep rec mail) (not_home d m mail mail.home refl means.was_away (are.each m there))
 reaped_away keep note cpu d d' mails mails' reaped_.Stale means is there are = ap (λ l. away_count l + 0) is ∙ let e : away_count mails + 0 ≡ away_count mails = omega arith in e
 
 -- a message that is sent is away
-pub sent_keeps : (msg : MsgId) (to : CpuId) (call : Call) (flags : Flags) (sync : Bool) (round : ℕ) (d d' : Desk) (mails mails' : List Mail) → IsSameDesk d d' → HasSent (cpu_of d) d.view d'.view msg.0 to call flags sync round → mails' ≡ set mails msg.0 (sent_mail sync (mail_at mails msg.0)) → msg.0 < length mails → AreMails d mails → AreMails d' mails'
+pub sent_keeps : (msg : MsgId) (to : CpuId) (call : Call) (flags : Flags) (sync : Bool) (round : ℕ) (d d' : Desk) (mails mails' : List Mail) → IsSameDesk d d' → HasSent (cpu_of d) d.view d'.view msg.0 to call flags sync round → mails' ≡ set mails msg.0 (sent_mail sync (kept_mail_at mails msg.0)) → msg.0 < length mails → AreMails d mails → AreMails d' mails'
 sent_keeps msg to call flags sync round d d' mails mails' same means is there are =
     let m : ℕ = msg.0 in
-    let mail : Mail = mail_at mails m in
+    let mail : Mail = kept_mail_at mails m in
     let F : List Mail → Type 0 = AreMails d' in
     let k : IsMail d m mail = are.each m there in
     let still : (entry d' m).taken ≡ (entry d m).taken = ap (λ e. e.taken) means.does.here in
@@ -134,10 +134,10 @@ none_some : IsSome {T = ℕ} None → ⊥
 none_some h = true≢false (sym h)
 
 -- a message that was replied to is shown to nobody, and nothing is owed
-pub replied_keeps : (msg : MsgId) (error outcome : ℕ) (d d' : Desk) (mails mails' : List Mail) → IsSameDesk d d' → HasReplied d.view d'.view msg.0 error outcome → mails' ≡ set mails msg.0 (replied_mail (mail_at mails msg.0)) → msg.0 < length mails → AreMails d mails → AreMails d' mails'
+pub replied_keeps : (msg : MsgId) (error outcome : ℕ) (d d' : Desk) (mails mails' : List Mail) → IsSameDesk d d' → HasReplied d.view d'.view msg.0 error outcome → mails' ≡ set mails msg.0 (replied_mail (kept_mail_at mails msg.0)) → msg.0 < length mails → AreMails d mails → AreMails d' mails'
 replied_keeps msg error outcome d d' mails mails' same means is there are =
     let m : ℕ = msg.0 in
-    let mail : Mail = mail_at mails m in
+    let mail : Mail = kept_mail_at mails m in
     let F : List Mail → Type 0 = AreMails d' in
     let k : IsMail d m mail = are.each m there in
     let away : (entry d' m).away ≡ (entry d m).away = ap (λ e. e.away) means.does.here in
@@ -170,7 +170,7 @@ taken_many who note answer mails mails' is =
     new ∙ ap length is ∙ many answer ∙ sym old
   where
     many : (t : Taken) → length (mails_taken who note t mails.items) ≡ length mails.items
-    many (taken.Took rec aborted priority) = length-set mails.items note.msg.0 (taken_mail who aborted priority note.round (mail_at mails.items note.msg.0))
+    many (taken.Took rec aborted priority) = length-set mails.items note.msg.0 (taken_mail who aborted priority note.round (kept_mail_at mails.items note.msg.0))
     many taken.Stale = refl
     many taken.Again = refl
 
@@ -181,7 +181,7 @@ reaped_many keep note answer mails mails' is =
     new ∙ ap length is ∙ many answer ∙ sym old
   where
     many : (t : Reaped) → length (mails_reaped keep note t mails.items) ≡ length mails.items
-    many (reaped_.Done rec) = length-set mails.items note.msg.0 (reaped_mail keep rec (mail_at mails.items note.msg.0))
+    many (reaped_.Done rec) = length-set mails.items note.msg.0 (reaped_mail keep rec (kept_mail_at mails.items note.msg.0))
     many reaped_.Stale = refl
 
 pub put_many : (m : ℕ) (mail : Mail) (mails mails' : Vec Mail Global) → mails'.items ≡ set mails.items m mail → vec_len mails' ≡ vec_len mails

@@ -16,7 +16,7 @@ use Rattle.lwkt_port.specs.Chains.{Chain}
 use Rattle.lwkt_port.specs.Intakes.{Payer, PaysOwed, Pays, Desks, desks_of, Handles, Pops, EmptiesKept, Intake, EmptiesFrom}
 use Rattle.lwkt_port.specs.Laws.{TakesSeen, SeenAreTakenIn}
 use Rattle.lwkt_port.specs.Lines.{IsRoomed}
-use Rattle.lwkt_port.specs.Mails.{mail_at}
+use Rattle.lwkt_port.specs.Mails.{kept_mail_at}
 use Rattle.lwkt_port.specs.Posts.{Changes}
 use Rattle.lwkt_port.specs.Sendings.{ReplyMeans}
 use Rattle.lwkt_port.specs.Works.{Work}
@@ -60,10 +60,10 @@ owed_ends : (owed : Option ℕ) (m : ℕ) (x y : Payer) → PaysOwed owed m x y 
 owed_ends None m x y p = ends_is x.lanes x.lanes y.lanes (ap (λ (z : Payer). z.lanes) p) (ends_none x.lanes)
 owed_ends (Some error) m x y p =
     let msg : MsgId = record { 0 = m } in
-    ends_change (λ a b. ReplyMeans msg error 0 a b x.work y.work p.0) (mail_at x.work.mails m).origin.cpu.0 x.lanes y.lanes p.1 (reply_ends msg error 0 p.1.old p.1.new x.work y.work p.0 p.1.does)
+    ends_change (λ a b. ReplyMeans msg error 0 a b x.work y.work p.0) (kept_mail_at x.work.mails m).origin.cpu.0 x.lanes y.lanes p.1 (reply_ends msg error 0 p.1.old p.1.new x.work y.work p.0 p.1.does)
 
 pay_ends : (k : ℕ) (x y : Payer) → Chain Payer Pays k x y → SameEnds x.lanes y.lanes
-pay_ends k x y chain = chain_keeps Payer Pays (λ z. SameEnds x.lanes z.lanes) (λ m a b p q. ends_then x.lanes a.lanes b.lanes q (owed_ends (mail_at a.work.mails m).owed m a b p)) k x y chain (ends_none x.lanes)
+pay_ends k x y chain = chain_keeps Payer Pays (λ z. SameEnds x.lanes z.lanes) (λ m a b p q. ends_then x.lanes a.lanes b.lanes q (owed_ends (kept_mail_at a.work.mails m).owed m a b p)) k x y chain (ends_none x.lanes)
 
 -- a lane was emptied, after so many notes were popped from others
 popped_seen : (kept : Option Note) (limit had k : ℕ) (line line' : Lane) (x y : Desks) → line'.kept ≡ kept → (p : Pops (limit - had) k line line' x y) → IsPrefix (seen line.into) p.popped ⊎ (IsSome line'.kept ⊎ (limit ≤ had + k))

@@ -7,8 +7,8 @@ use native.Mathlib.Decide.{ℕ_discrete}
 use Rattle.lwkt_msg.specs.Desks.{Desk}
 use Rattle.lwkt_port.specs.declared.mails.Mail.{Mail}
 use Rattle.lwkt_port.specs.declared.queues.Port.{Port}
-use Rattle.lwkt_port.specs.Closings.{gone, left_by, gone_mail, OwesGone, IsClosedPort}
-use Rattle.lwkt_port.specs.Mails.{no_mail, mail_at, IsMail, AreMails}
+use Rattle.lwkt_port.specs.Closings.{gone, mail_after_end, gone_mail, OwesGone, IsClosedPort}
+use Rattle.lwkt_port.specs.Mails.{no_kept_mail, kept_mail_at, IsMail, AreMails}
 use Rattle.lwkt_port.specs.Queues.{HasNamed}
 
 none_some : IsSome {T = ℕ} None → ⊥
@@ -26,7 +26,7 @@ left_fits_if true d m mail shown k = record {
 }
 left_fits_if false d m mail shown k = k
 
-left_fits : (o : Option ℕ) (d : Desk) (m thread : ℕ) (mail : Mail) → mail.shown ≡ o → IsMail d m mail → IsMail d m (left_by o thread mail)
+left_fits : (o : Option ℕ) (d : Desk) (m thread : ℕ) (mail : Mail) → mail.shown ≡ o → IsMail d m mail → IsMail d m (mail_after_end o thread mail)
 left_fits None d m thread mail is k = k
 left_fits (Some other) d m thread mail is k = left_fits_if (other == thread) d m mail (ap is_some is) k
 
@@ -37,20 +37,20 @@ gone_are d thread mails mails' o are = record {
   each = λ m there.
       let below : m < length mails = (let e : length mails' ≡ length mails = o.as_many in omega arith) in
       let F : Mail → Type 0 = λ x. IsMail d m x in
-      subst F (sym (o.done m below)) (left_fits (mail_at mails m).shown d m thread (mail_at mails m) refl (are.each m below));
+      subst F (sym (o.done m below)) (left_fits (kept_mail_at mails m).shown d m thread (kept_mail_at mails m) refl (are.each m below));
 }
 
 -- none was looked at yet, and one more
 pub owes_none : (thread : ℕ) (mails : List Mail) → OwesGone thread 0 mails mails
 owes_none thread mails = record { as_many = refl; done = λ m below. absurd (omega (arith, below)); rest = λ m above. refl }
 
-pub owes_more : (thread k : ℕ) (old mails : List Mail) (mail : Mail) → k < length mails → mail ≡ gone_mail thread (mail_at mails k) → OwesGone thread k old mails → OwesGone thread (k + 1) old (set mails k mail)
+pub owes_more : (thread k : ℕ) (old mails : List Mail) (mail : Mail) → k < length mails → mail ≡ gone_mail thread (kept_mail_at mails k) → OwesGone thread k old mails → OwesGone thread (k + 1) old (set mails k mail)
 owes_more thread k old mails mail there is o = record {
   as_many = length-set mails k mail ∙ o.as_many;
   done = λ m below. dite (ℕ_discrete m k)
-      (λ same. ap (λ n. mail_at (set mails k mail) n) same ∙ get_or-set_same mails k mail no_mail there ∙ is ∙ ap (gone_mail thread) (o.rest k (omega arith)) ∙ ap (λ n. gone_mail thread (mail_at old n)) (sym same))
-      (λ apart. get_or-set_other mails k m mail no_mail apart ∙ o.done m (omega (arith, below, apart)));
-  rest = λ m above. get_or-set_other mails k m mail no_mail (λ same. omega (arith, above, same)) ∙ o.rest m (omega (arith, above));
+      (λ same. ap (λ n. kept_mail_at (set mails k mail) n) same ∙ get_or-set_same mails k mail no_kept_mail there ∙ is ∙ ap (gone_mail thread) (o.rest k (omega arith)) ∙ ap (λ n. gone_mail thread (kept_mail_at old n)) (sym same))
+      (λ apart. get_or-set_other mails k m mail no_kept_mail apart ∙ o.done m (omega (arith, below, apart)));
+  rest = λ m above. get_or-set_other mails k m mail no_kept_mail (λ same. omega (arith, above, same)) ∙ o.rest m (omega (arith, above));
 }
 
 -- the ports after one was closed

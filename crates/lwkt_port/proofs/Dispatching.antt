@@ -6,7 +6,7 @@ use Rattle.lwkt_base.specs.declared.faults.Fault.TheVariants.{LaneFull, RoundsOu
 use Rattle.lwkt_base.specs.declared.names.MsgId.{MsgId}
 use Rattle.lwkt_msg.specs.Desks.{Desk, cpus_of, entry}
 use Rattle.lwkt_port.specs.declared.mails.Mail.{Mail}
-use Rattle.lwkt_port.specs.Mails.{mail_at, AreMails}
+use Rattle.lwkt_port.specs.Mails.{kept_mail_at, AreMails}
 use Rattle.lwkt_port.specs.declared.deeds.Sending.{Sending}
 use Rattle.lwkt_port.specs.declared.lines.Lane.{Lane}
 use Rattle.lwkt_port.specs.declared.queues.Port.{Port}
@@ -38,8 +38,8 @@ not_dispatched (Ok x) s lanes old new w w' j may there was is does = tt
 not_dispatched (Err e) s lanes old new w w' j may there was is does = refused e s lanes old new w w' j may there was is does
 
 -- a reply was made over one line of the lanes, or that line is full
-pub answered_over : (b : Bool) (msg : MsgId) (error outcome : ℕ) (lanes : List Lane) (old new : Lane) (w w' : Work) (j : ℕ) → j < length lanes → old ≡ slice_index_or lanes j old → j ≡ (mail_at w.mails msg.0).origin.cpu.0 → ReplyMeans msg error outcome old new w w' b → Answers msg error outcome lanes (slice_set lanes j new) w w' b
-answered_over b msg error outcome lanes old new w w' j there was is does = changed Lane (λ x y. ReplyMeans msg error outcome x y w w' b) (mail_at w.mails msg.0).origin.cpu.0 j lanes old new there was is does
+pub answered_over : (b : Bool) (msg : MsgId) (error outcome : ℕ) (lanes : List Lane) (old new : Lane) (w w' : Work) (j : ℕ) → j < length lanes → old ≡ slice_index_or lanes j old → j ≡ (kept_mail_at w.mails msg.0).origin.cpu.0 → ReplyMeans msg error outcome old new w w' b → Answers msg error outcome lanes (slice_set lanes j new) w w' b
+answered_over b msg error outcome lanes old new w w' j there was is does = changed Lane (λ x y. ReplyMeans msg error outcome x y w w' b) (kept_mail_at w.mails msg.0).origin.cpu.0 j lanes old new there was is does
 
 -- a line keeps what it kept, whether a reply went over it or not
 pub reply_kept : (made : Bool) (msg : MsgId) (error outcome : ℕ) (line line' : Lane) (w w' : Work) → ReplyMeans msg error outcome line line' w w' made → line'.kept ≡ line.kept
@@ -51,14 +51,14 @@ pub port_named : (n : ℕ) (ports : List Port) (j : ℕ) (old : Port) → j < le
 port_named n ports j old there was all = let F : Port → Type 0 = HasNamed n in subst F (sym was) (All-get_or (HasNamed n) ports j old there all)
 
 -- a shown message is taken
-pub shown_is_taken : (d : Desk) (mails : List Mail) (m thread : ℕ) → AreMails d mails → m < length mails → (mail_at mails m).shown ≡ Some thread → (entry d m).taken ≡ true
+pub shown_is_taken : (d : Desk) (mails : List Mail) (m thread : ℕ) → AreMails d mails → m < length mails → (kept_mail_at mails m).shown ≡ Some thread → (entry d m).taken ≡ true
 shown_is_taken d mails m thread are there shown = (are.each m there).shown_taken (ap is_some shown)
 
-pub owed_is_taken : (d : Desk) (mails : List Mail) (m error : ℕ) → AreMails d mails → m < length mails → (mail_at mails m).owed ≡ Some error → (entry d m).taken ≡ true
+pub owed_is_taken : (d : Desk) (mails : List Mail) (m error : ℕ) → AreMails d mails → m < length mails → (kept_mail_at mails m).owed ≡ Some error → (entry d m).taken ≡ true
 owed_is_taken d mails m error are there owed = (are.each m there).owed_taken (ap is_some owed)
 
 -- the line to the processor of a message's origin is there
-pub line_is_there : (d : Desk) (mails : List Mail) (m : ℕ) → AreMails d mails → m < length mails → (mail_at mails m).origin.cpu.0 < cpus_of d
+pub line_is_there : (d : Desk) (mails : List Mail) (m : ℕ) → AreMails d mails → m < length mails → (kept_mail_at mails m).origin.cpu.0 < cpus_of d
 line_is_there d mails m are there = (are.each m there).there
 
 -- the notes that lines keep name messages and ports, after one line was changed

@@ -14,7 +14,7 @@ use Rattle.lwkt_port.specs.Chains.{Chain}
 use Rattle.lwkt_port.specs.Intakes.{Payer, PaysOwed, Pays, Desks, Handles, Pops, EmptiesKept, Intake, EmptiesFrom}
 use Rattle.lwkt_port.specs.Laws.{HandsWaitForRoom, PaidHandsWaitForRoom}
 use Rattle.lwkt_port.specs.Lines.{WaitsForRoom, IsRoomed}
-use Rattle.lwkt_port.specs.Mails.{mail_at}
+use Rattle.lwkt_port.specs.Mails.{kept_mail_at}
 use Rattle.lwkt_port.specs.Posts.{Changes, work_of}
 use Rattle.lwkt_port.specs.Sendings.{ReplyMeans, Answers}
 use Rattle.lwkt_port.specs.Works.{Work}
@@ -68,14 +68,14 @@ reply_waits msg error outcome line line' w w' true r = r.posted.full
 reply_waits msg error outcome line line' w w' false r = r.0.roomed.full
 
 answers_wait : (msg : MsgId) (error outcome : ℕ) (lanes lanes' : List Lane) (w w' : Work) (made : Bool) → Answers msg error outcome lanes lanes' w w' made → All WaitsForRoom lanes → All WaitsForRoom lanes'
-answers_wait msg error outcome lanes lanes' w w' made a all = change_waits (λ x y. ReplyMeans msg error outcome x y w w' made) (mail_at w.mails msg.0).origin.cpu.0 lanes lanes' a (λ _. reply_waits msg error outcome a.old a.new w w' made a.does) all
+answers_wait msg error outcome lanes lanes' w w' made a all = change_waits (λ x y. ReplyMeans msg error outcome x y w w' made) (kept_mail_at w.mails msg.0).origin.cpu.0 lanes lanes' a (λ _. reply_waits msg error outcome a.old a.new w w' made a.does) all
 
 owed_waits : (owed : Option ℕ) (m : ℕ) (x y : Payer) → PaysOwed owed m x y → All WaitsForRoom x.lanes → All WaitsForRoom y.lanes
 owed_waits None m x y p all = let F : Payer → Type 0 = λ z. All WaitsForRoom z.lanes in subst F (sym p) all
 owed_waits (Some error) m x y p all = answers_wait (record { 0 = m }) error 0 x.lanes y.lanes x.work y.work p.0 p.1 all
 
 pays_wait : (m : ℕ) (x y : Payer) → Pays m x y → All WaitsForRoom x.lanes → All WaitsForRoom y.lanes
-pays_wait m x y p all = owed_waits (mail_at x.work.mails m).owed m x y p all
+pays_wait m x y p all = owed_waits (kept_mail_at x.work.mails m).owed m x y p all
 
 all_pay_wait : (k : ℕ) (x y : Payer) → Chain Payer Pays k x y → All WaitsForRoom x.lanes → All WaitsForRoom y.lanes
 all_pay_wait k x y chain all = chain_keeps Payer Pays (λ z. All WaitsForRoom z.lanes) pays_wait k x y chain all

@@ -32,28 +32,28 @@ use Rattle.lwkt_port.specs.Chains.{Chain}
 use Rattle.lwkt_port.specs.Deeds.{Takes, Reaps, reaped_mail}
 use Rattle.lwkt_port.specs.Hints.{IsUnowed, OwesNone, IsClear, AreClear}
 use Rattle.lwkt_port.specs.Intakes.{Payer, PaysOwed, Pays, Desks, Handles, HandlesAll, Pops, EmptiesKept, Intake, EmptiesFrom, ClearsClosed, Clearing, ClearsAt}
-use Rattle.lwkt_port.specs.Mails.{no_mail, mail_at}
+use Rattle.lwkt_port.specs.Mails.{no_kept_mail, kept_mail_at}
 use Rattle.lwkt_port.specs.Openings.{new_mail, AreNew}
 use Rattle.lwkt_port.specs.Queues.{queue_of}
 use Rattle.lwkt_port.proofs.Classing.{leaves_none}
 use Rattle.lwkt_port.specs.Sendings.{WhyUnsent, HasSentNote, ReplyMeans, Answers}
 use Rattle.lwkt_port.specs.Servings.{served_request, ServesAs, Serves, GetMeans}
-use Rattle.lwkt_port.specs.Withdrawals.{MayDrop, Drops, IsUntouched}
+use Rattle.lwkt_port.specs.Withdrawals.{MayRefuseDrop, Drops, IsUntouched}
 use Rattle.lwkt_port.specs.Works.{Work}
 
 -- where no reply is owed, none is owed to the message of any number
-pub owed_at : (mails : List Mail) (m : ℕ) → OwesNone mails → (mail_at mails m).owed ≡ None
+pub owed_at : (mails : List Mail) (m : ℕ) → OwesNone mails → (kept_mail_at mails m).owed ≡ None
 owed_at mails m none = ⊎_elim
-    (λ (there : m < length mails). All-get_or IsUnowed mails m no_mail there none)
-    (λ (past : length mails ≤ m). ap (λ (mail : Mail). mail.owed) (get_or_past mails m no_mail past))
+    (λ (there : m < length mails). All-get_or IsUnowed mails m no_kept_mail there none)
+    (λ (past : length mails ≤ m). ap (λ (mail : Mail). mail.owed) (get_or_past mails m no_kept_mail past))
     (cases_lt m (length mails))
 
 -- something else is kept of one message, which is owed what it was owed before
-pub owes_put : (mails : List Mail) (m : ℕ) (mail : Mail) → mail.owed ≡ (mail_at mails m).owed → OwesNone mails → OwesNone (set mails m mail)
+pub owes_put : (mails : List Mail) (m : ℕ) (mail : Mail) → mail.owed ≡ (kept_mail_at mails m).owed → OwesNone mails → OwesNone (set mails m mail)
 owes_put mails m mail same none = All-set IsUnowed mails m mail (same ∙ owed_at mails m none) none
 
 -- the same, in place of a list that is equal to it
-owes_is : (mails mails' : List Mail) (m : ℕ) (mail : Mail) → mail.owed ≡ (mail_at mails m).owed → mails' ≡ set mails m mail → OwesNone mails → OwesNone mails'
+owes_is : (mails mails' : List Mail) (m : ℕ) (mail : Mail) → mail.owed ≡ (kept_mail_at mails m).owed → mails' ≡ set mails m mail → OwesNone mails → OwesNone mails'
 owes_is mails mails' m mail same is none = let F : List Mail → Type 0 = OwesNone in subst F (sym is) (owes_put mails m mail same none)
 
 owes_same : (mails mails' : List Mail) → mails' ≡ mails → OwesNone mails → OwesNone mails'
@@ -83,7 +83,7 @@ reaped_owed true rec mail = refl
 reaped_owed false rec mail = refl
 
 reaps_owe : (keep : Bool) (note : Note) (w w' : Work) (answer : Reaped) → Reaps keep note w w' answer → OwesNone w.mails → OwesNone w'.mails
-reaps_owe keep note w w' (reaped_.Done rec) r none = owes_is w.mails w'.mails note.msg.0 (reaped_mail keep rec (mail_at w.mails note.msg.0)) (reaped_owed keep rec (mail_at w.mails note.msg.0)) r.mails_are none
+reaps_owe keep note w w' (reaped_.Done rec) r none = owes_is w.mails w'.mails note.msg.0 (reaped_mail keep rec (kept_mail_at w.mails note.msg.0)) (reaped_owed keep rec (kept_mail_at w.mails note.msg.0)) r.mails_are none
 reaps_owe keep note w w' reaped_.Stale r none = owes_same w.mails w'.mails r.mails_are none
 
 takes_owe : (thread : ℕ) (note : Note) (w w' : Work) (answer : Taken) → served_request note.msg answer ≢ served.Passed → Takes (claim.Thread thread) note w w' answer → OwesNone w.mails → OwesNone w'.mails
@@ -119,7 +119,7 @@ pub dispatch_owes : (s : Sending) (lanes lanes' : List Lane) (w w' : Work) (answ
 dispatch_owes s lanes lanes' w w' (Ok x) sent refused none = owes_is w.mails w'.mails s.msg.0 _ refl sent.over.does.sends.mails_are none
 dispatch_owes s lanes lanes' w w' (Err fault) sent refused none = unsent_owes s lanes lanes' w w' fault refused none
 
-pub withdraw_owes : (msg : MsgId) (w w' : Work) (answer : Result Rec Fault) → IfOk answer (λ rec. Drops msg w w' rec) → IfErr answer (λ fault. MayDrop fault × IsUntouched msg w w' fault) → OwesNone w.mails → OwesNone w'.mails
+pub withdraw_owes : (msg : MsgId) (w w' : Work) (answer : Result Rec Fault) → IfOk answer (λ rec. Drops msg w w' rec) → IfErr answer (λ fault. MayRefuseDrop fault × IsUntouched msg w w' fault) → OwesNone w.mails → OwesNone w'.mails
 withdraw_owes msg w w' (Ok rec) made refused none = owes_is w.mails w'.mails msg.0 _ refl made.mails_are none
 withdraw_owes msg w w' (Err fault) made refused none = owes_same w.mails w'.mails refused.1.mails_same none
 
@@ -134,7 +134,7 @@ unowed_pays : (owed : Option ℕ) (m : ℕ) (x y : Payer) → owed ≡ None → 
 unowed_pays owed m x y none p = let F : Option ℕ → Type 0 = λ o. PaysOwed o m x y in let q : PaysOwed None m x y = subst F none p in q
 
 pays_owe : (m : ℕ) (x y : Payer) → Pays m x y → OwesNone x.work.mails → OwesNone y.work.mails
-pays_owe m x y p none = owes_same x.work.mails y.work.mails (ap (λ (z : Payer). z.work.mails) (unowed_pays (mail_at x.work.mails m).owed m x y (owed_at x.work.mails m none) p)) none
+pays_owe m x y p none = owes_same x.work.mails y.work.mails (ap (λ (z : Payer). z.work.mails) (unowed_pays (kept_mail_at x.work.mails m).owed m x y (owed_at x.work.mails m none) p)) none
 
 pub pays_none : (k : ℕ) (x : Payer) → OwesNone x.work.mails → Chain Payer Pays k x x
 unfolding Chain

@@ -9,19 +9,19 @@ use Rattle.lwkt_msg.specs.Desks.{Desk, cpu_of}
 use Rattle.lwkt_port.specs.declared.mailrooms.Mailroom.{Mailroom}
 use Rattle.lwkt_port.specs.declared.mails.Mail.{Mail}
 use Rattle.lwkt_port.specs.Mails.{AreMails}
-use Rattle.lwkt_port.specs.Works.{away_count, Grew, Stands, Standing, Keeps}
+use Rattle.lwkt_port.specs.Works.{away_count, Grew, MailroomStands, Standing, Keeps}
 use Rattle.lwkt_port.proofs.Growing.{grew_few, stands_then, stands_is}
 
 -- no more messages are away than there are
 pub away_few : (d : Desk) (mails : List Mail) → AreMails d mails → away_count mails ≤ 64
 away_few d mails are = omega (arith, count_by-le-length (λ (mail : Mail). not mail.home) mails, are.few)
 
-pub stands_in_all : (r0 : Mailroom) (t0 : Vec Event Global) (s1 s2 : Standing) (r3 : Mailroom) (t3 : Vec Event Global) → Stands 64 r0 t0 s1.counters.room s1.trace → Keeps s1 s2 → Stands 32 s2.counters.room s2.trace r3 t3 → Stands 256 r0 t0 r3 t3
+pub stands_in_all : (r0 : Mailroom) (t0 : Vec Event Global) (s1 s2 : Standing) (r3 : Mailroom) (t3 : Vec Event Global) → MailroomStands 64 r0 t0 s1.counters.room s1.trace → Keeps s1 s2 → MailroomStands 32 s2.counters.room s2.trace r3 t3 → MailroomStands 256 r0 t0 r3 t3
 stands_in_all r0 t0 s1 s2 r3 t3 paid keeps cleared =
     let r1 : Mailroom = s1.counters.room in
     let r2 : Mailroom = s2.counters.room in
     let few : away_count r1.mails.items ≤ 64 = away_few r1.seat r1.mails.items r1.kept in
     let grew : Grew (cpu_of r1.seat) 64 s1.trace s2.trace = grew_few (cpu_of r1.seat) keeps.grown.0 64 s1.trace s2.trace keeps.grown.1 (omega (arith, few, keeps.away)) in
-    let stands : Stands 64 r1 s1.trace r2 s2.trace = record { same = keeps.same; len = keeps.len; grew = grew } in
-    let both : Stands (64 + 64) r0 t0 r2 s2.trace = stands_then 64 64 r0 r1 r2 t0 s1.trace s2.trace paid stands in
+    let stands : MailroomStands 64 r1 s1.trace r2 s2.trace = record { same = keeps.same; len = keeps.len; grew = grew } in
+    let both : MailroomStands (64 + 64) r0 t0 r2 s2.trace = stands_then 64 64 r0 r1 r2 t0 s1.trace s2.trace paid stands in
     stands_is (64 + 64 + 32) 256 r0 r3 t0 t3 (omega arith) (stands_then (64 + 64) 32 r0 r2 r3 t0 s2.trace t3 both cleared)

@@ -8,7 +8,7 @@ use Rattle.lwkt_msg.specs.Desks.{Desk, cpu_of, cpus_of, entry, IsSameDesk}
 use Rattle.lwkt_msg.specs.Views.{seat_cpu, spec_at}
 use Rattle.lwkt_msg.specs.Hands.{IsOwn}
 use Rattle.lwkt_port.specs.declared.mails.Mail.{Mail}
-use Rattle.lwkt_port.specs.Mails.{no_mail, mail_at, IsMail, AreMails}
+use Rattle.lwkt_port.specs.Mails.{no_kept_mail, kept_mail_at, IsMail, AreMails}
 use Rattle.lwkt_port.specs.Works.{away_count}
 
 -- a message belongs to the processor of a seat as long as that is the same one
@@ -41,8 +41,8 @@ all_still d d' m mails same others away taken are = record {
   as_many = are.as_many ∙ ap length (sym same.specs);
   few = are.few;
   each = λ k within. dite (ℕ_discrete k m)
-      (λ is. fits_still d d' k (mail_at mails k) same (ap (λ n. (entry d' n).away) is ∙ away ∙ ap (λ n. (entry d n).away) (sym is)) (ap (λ n. (entry d' n).taken) is ∙ taken ∙ ap (λ n. (entry d n).taken) (sym is)) (are.each k within))
-      (λ apart. fits_still d d' k (mail_at mails k) same (ap (λ e. e.away) (others k apart)) (ap (λ e. e.taken) (others k apart)) (are.each k within));
+      (λ is. fits_still d d' k (kept_mail_at mails k) same (ap (λ n. (entry d' n).away) is ∙ away ∙ ap (λ n. (entry d n).away) (sym is)) (ap (λ n. (entry d' n).taken) is ∙ taken ∙ ap (λ n. (entry d n).taken) (sym is)) (are.each k within))
+      (λ apart. fits_still d d' k (kept_mail_at mails k) same (ap (λ e. e.away) (others k apart)) (ap (λ e. e.taken) (others k apart)) (are.each k within));
 }
 
 -- after a step on one message, of which something else is kept then
@@ -51,17 +51,17 @@ all_put d d' m mails mail same others there fits are = record {
   as_many = length-set mails m mail ∙ are.as_many ∙ ap length (sym same.specs);
   few = let e : length (set mails m mail) ≡ length mails = length-set mails m mail in omega (arith, are.few);
   each = λ k within. dite (ℕ_discrete k m)
-      (λ is. let F : ℕ × Mail → Type 0 = λ x. IsMail d' x.0 x.1 in subst F (λ i. (sym is i, (sym (get_or-set_same mails m mail no_mail there) ∙ ap (λ n. mail_at (set mails m mail) n) (sym is)) i)) fits)
+      (λ is. let F : ℕ × Mail → Type 0 = λ x. IsMail d' x.0 x.1 in subst F (λ i. (sym is i, (sym (get_or-set_same mails m mail no_kept_mail there) ∙ ap (λ n. kept_mail_at (set mails m mail) n) (sym is)) i)) fits)
       (λ apart.
-      let old : IsMail d k (mail_at mails k) = are.each k (let e : length (set mails m mail) ≡ length mails = length-set mails m mail in omega arith) in
+      let old : IsMail d k (kept_mail_at mails k) = are.each k (let e : length (set mails m mail) ≡ length mails = length-set mails m mail in omega arith) in
       let F : Mail → Type 0 = λ x. IsMail d' k x in
-      subst F (sym (get_or-set_other mails m k mail no_mail apart)) (fits_still d d' k (mail_at mails k) same (ap (λ e. e.away) (others k apart)) (ap (λ e. e.taken) (others k apart)) old));
+      subst F (sym (get_or-set_other mails m k mail no_kept_mail apart)) (fits_still d d' k (kept_mail_at mails k) same (ap (λ e. e.away) (others k apart)) (ap (λ e. e.taken) (others k apart)) old));
 }
 
 -- how many messages are away, after one has come home
-pub away_less : (mails : List Mail) (m : ℕ) (mail : Mail) → m < length mails → mail.home ≡ true → (mail_at mails m).home ≡ false → away_count (set mails m mail) + 1 ≡ away_count mails
+pub away_less : (mails : List Mail) (m : ℕ) (mail : Mail) → m < length mails → mail.home ≡ true → (kept_mail_at mails m).home ≡ false → away_count (set mails m mail) + 1 ≡ away_count mails
 away_less mails m mail there home was =
     let f : Mail → ℕ = λ x. cond (not x.home) 1 0 in
     let e : f mail ≡ 0 = ap (λ b. cond (not b) 1 0) home in
-    let o : f (mail_at mails m) ≡ 1 = ap (λ b. cond (not b) 1 0) was in
-    omega (arith, sum_by-set f mails m mail no_mail there)
+    let o : f (kept_mail_at mails m) ≡ 1 = ap (λ b. cond (not b) 1 0) was in
+    omega (arith, sum_by-set f mails m mail no_kept_mail there)

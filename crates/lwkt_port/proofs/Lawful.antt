@@ -31,7 +31,7 @@ use Rattle.lwkt_port.specs.Deeds.{Takes, taken_mail, replied_mail}
 use Rattle.lwkt_port.specs.Intakes.{Payer, PaysOwed, Desks, Handles, EmptiesKept, Pops}
 use Rattle.lwkt_port.specs.Sendings.{Answers}
 use Rattle.lwkt_port.specs.Laws.{IsPaid, OwedIsMadeOnce, UnowedIsNotMade, EintrIfAborted, LosesNone, LanesLoseNone, AllLeave, NotesLeaveServed, UrgentLeaveFirst, IsShownOnce, RequestsAreShownOnce}
-use Rattle.lwkt_port.specs.Mails.{no_mail, mail_at, AreMails}
+use Rattle.lwkt_port.specs.Mails.{no_kept_mail, kept_mail_at, AreMails}
 use Rattle.lwkt_port.specs.Queues.{queue_of}
 use Rattle.lwkt_port.proofs.Classing.{gone_is}
 use Rattle.lwkt_port.specs.Servings.{served_request, served_answer, ServesAs, Serves, PassesAll}
@@ -150,11 +150,11 @@ shown_request cpu thread note w w' msg call (taken.Took rec false priority) kind
     let means = takes.means in
     let F : SeatKind → Type 0 = λ k. Stands k cpu.0 in
     let free : (entry w.seat m).taken ≡ false = means.loaded.sees.as_target cpu.0 (subst F (sym of) refl) ∙ free_to_take cpu.0 means.found.state means.found.target means.allowed.0 in
-    let mail : Mail = mail_at w.mails m in record {
+    let mail : Mail = kept_mail_at w.mails m in record {
       is_request = kind;
       message_is = same;
-      to_nobody = ap (λ (k : MsgId). (mail_at w.mails k.0).shown) same ∙ nobody mail.shown (λ h. true≢false (sym ((are.each m there).shown_taken h) ∙ free));
-      to_thread = ap (λ (k : MsgId). (mail_at w'.mails k.0).shown) same ∙ ap (λ l. (mail_at l m).shown) takes.mails_are ∙ ap (λ x. x.shown) (get_or-set_same w.mails m (taken_mail (claim.Thread thread) false priority note.round mail) no_mail there);
+      to_nobody = ap (λ (k : MsgId). (kept_mail_at w.mails k.0).shown) same ∙ nobody mail.shown (λ h. true≢false (sym ((are.each m there).shown_taken h) ∙ free));
+      to_thread = ap (λ (k : MsgId). (kept_mail_at w'.mails k.0).shown) same ∙ ap (λ l. (kept_mail_at l m).shown) takes.mails_are ∙ ap (λ x. x.shown) (get_or-set_same w.mails m (taken_mail (claim.Thread thread) false priority note.round mail) no_kept_mail there);
     }
 shown_request cpu thread note w w' msg call taken.Stale kind of are there takes e = absurd (let no : served.Shown (item.Request msg call) ≡ served.Passed = e in cc)
 shown_request cpu thread note w w' msg call taken.Again kind of are there takes e = absurd (let no : served.Shown (item.Request msg call) ≡ served.Lost = e in cc)
@@ -175,10 +175,10 @@ requests_are_shown_once cpu thread note w w' msg call of are there s = shown_as 
 paid_if : (m error : ℕ) (x y : Payer) (made : Bool) → m < length x.work.mails → Answers (record { 0 = m }) error 0 x.lanes y.lanes x.work y.work made → IsPaid m x y ⊎ (y.work ≡ x.work)
 paid_if m error x y true there a =
     let r = a.does.replies in
-    let mail : Mail = mail_at x.work.mails m in
+    let mail : Mail = kept_mail_at x.work.mails m in
     let paid : IsPaid m x y = record {
       replied = r.trace_is;
-      owes_none = ap (λ l. (mail_at l m).owed) r.mails_are ∙ ap (λ z. z.owed) (get_or-set_same x.work.mails m (replied_mail mail) no_mail there);
+      owes_none = ap (λ l. (kept_mail_at l m).owed) r.mails_are ∙ ap (λ z. z.owed) (get_or-set_same x.work.mails m (replied_mail mail) no_kept_mail there);
       not_taken = ap (λ e. e.taken) r.means.does.here;
     } in inl paid
 paid_if m error x y false there a = inr a.does.1
@@ -193,15 +193,15 @@ pub unowed_not : UnowedIsNotMade
 unowed_not m x y is pays = let F : Option ℕ → Type 0 = λ o. PaysOwed o m x y in let p : PaysOwed None m x y = subst F is pays in p
 
 -- a request that was taken
-kept_of : (w w' : Work) (m : ℕ) (mail : Mail) → m < length w.mails → w'.mails ≡ set w.mails m mail → mail_at w'.mails m ≡ mail
-kept_of w w' m mail there is = ap (λ l. mail_at l m) is ∙ get_or-set_same w.mails m mail no_mail there
+kept_of : (w w' : Work) (m : ℕ) (mail : Mail) → m < length w.mails → w'.mails ≡ set w.mails m mail → kept_mail_at w'.mails m ≡ mail
+kept_of w w' m mail there is = ap (λ l. kept_mail_at l m) is ∙ get_or-set_same w.mails m mail no_kept_mail there
 
 pub eintr_if_aborted : EintrIfAborted
 eintr_if_aborted thread note w w' rec true priority there t =
     let m : ℕ = note.msg.0 in
-    let is = kept_of w w' m (taken_mail (claim.Thread thread) true priority note.round (mail_at w.mails m)) there t.mails_are in
+    let is = kept_of w w' m (taken_mail (claim.Thread thread) true priority note.round (kept_mail_at w.mails m)) there t.mails_are in
     (record { owed = λ _. (ap (λ z. z.owed) is, ap (λ z. z.shown) is); shown = λ h. absurd (true≢false h) }, refl)
 eintr_if_aborted thread note w w' rec false priority there t =
     let m : ℕ = note.msg.0 in
-    let is = kept_of w w' m (taken_mail (claim.Thread thread) false priority note.round (mail_at w.mails m)) there t.mails_are in
+    let is = kept_of w w' m (taken_mail (claim.Thread thread) false priority note.round (kept_mail_at w.mails m)) there t.mails_are in
     (record { owed = λ h. absurd (true≢false (sym h)); shown = λ _. (ap (λ z. z.owed) is, ap (λ z. z.shown) is) }, refl)

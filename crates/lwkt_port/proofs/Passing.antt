@@ -13,7 +13,7 @@ use Rattle.lwkt_port.specs.declared.queues.Port.{Port}
 use Rattle.lwkt_port.specs.Chains.{Chain}
 use Rattle.lwkt_port.specs.Hints.{OwesNone}
 use Rattle.lwkt_port.specs.Intakes.{Desks, desks_of, Handles, Pops, EmptiesKept, Empties, Intake, EmptiesFrom, untaken, IsFronted, Clearing, ClearsAt, Hall, TakesIn}
-use Rattle.lwkt_port.specs.Lines.{HasNoneInHand, IsRoomed, HasNone, IsLooked, IsFound}
+use Rattle.lwkt_port.specs.Lines.{HasNoneInHand, IsRoomed, HasNone, IsLooked, HasFoundNote}
 use Rattle.lwkt_port.specs.Posts.{Changes}
 use Rattle.lwkt_port.specs.Works.{Work}
 use Rattle.lwkt_port.proofs.Chaining.{chain_more}
@@ -70,11 +70,11 @@ passes_more limit sender w ports before lanes old new there was none chain =
     chain_more Intake (EmptiesFrom limit) sender (untaken w ports before) x y chain (0, changes, refl)
 
 -- a lane has a note
-pub fronted : (limit sender : ℕ) (w : Work) (ports : List Port) (before lanes : List Lane) (old new : Lane) → sender < length lanes → old ≡ slice_index_or lanes sender old → IsFound old new → length lanes ≡ length before → Chain Intake (EmptiesFrom limit) sender (untaken w ports before) (untaken w ports lanes) → IsFronted limit sender w ports before (slice_set lanes sender new)
+pub fronted : (limit sender : ℕ) (w : Work) (ports : List Port) (before lanes : List Lane) (old new : Lane) → sender < length lanes → old ≡ slice_index_or lanes sender old → HasFoundNote old new → length lanes ≡ length before → Chain Intake (EmptiesFrom limit) sender (untaken w ports before) (untaken w ports lanes) → IsFronted limit sender w ports before (slice_set lanes sender new)
 fronted limit sender w ports before lanes old new there was found same chain = record {
   passed = lanes;
   passes = chain;
-  found = changed Lane IsFound sender sender lanes old new there was refl found;
+  found = changed Lane HasFoundNote sender sender lanes old new there was refl found;
   as_many = omega (arith, length-set lanes sender new, same);
 }
 
@@ -104,7 +104,7 @@ looked_empties most count line0 line1 line2 x y l e =
     } in
     subst G (sym l.none) pops
 
-found_empties : (most count : ℕ) (line0 line1 line2 : Lane) (x y : Desks) → IsFound line0 line1 → Empties most count line1 line2 x y → Empties most count line0 line2 x y
+found_empties : (most count : ℕ) (line0 line1 line2 : Lane) (x y : Desks) → HasFoundNote line0 line1 → Empties most count line1 line2 x y → Empties most count line0 line2 x y
 found_empties most count line0 line1 line2 x y found e = ⊎_elim
     (λ (same : line1 ≡ line0). let F : Lane → Type 0 = λ l. Empties most count l line2 x y in subst F same e)
     (λ (l : IsLooked line0 line1). looked_empties most count line0 line1 line2 x y l e)
@@ -128,7 +128,7 @@ takes_within limit count x y t =
     let within : t.emptied.count ≤ limit = chain_keeps Intake (EmptiesFrom limit) (λ z. z.count ≤ limit) (from_within limit) (length t.paid.lanes) start t.emptied t.notes (omega arith) in omega (arith, within, t.count_is)
 
 -- a line that was found with a note keeps what it kept
-pub found_kept : (line line' : Lane) → IsFound line line' → line'.kept ≡ line.kept
+pub found_kept : (line line' : Lane) → HasFoundNote line line' → line'.kept ≡ line.kept
 found_kept line line' found = ⊎_elim
     (λ (same : line' ≡ line). ap (λ (l : Lane). l.kept) same)
     (λ (l : IsLooked line line'). l.kept_same)
@@ -139,8 +139,8 @@ pub front_emptied : (limit k first : ℕ) (w w' : Work) (ports ports' : List Por
 front_emptied limit k first w w' ports ports' before now line new f was does =
     let c = f.found in
     let at : line ≡ c.new = was ∙ ap (λ l. slice_index_or l first line) c.now ∙ get_or-set_same f.passed first c.new line c.there in
-    let E : Lane → Type 0 = IsFound c.old in
-    let found : IsFound c.old line = subst E (sym at) c.does in
+    let E : Lane → Type 0 = HasFoundNote c.old in
+    let found : HasFoundNote c.old line = subst E (sym at) c.does in
     let x : Intake = untaken w ports f.passed in
     let y : Intake = record { work = w'; lanes = slice_set now first new; ports = ports'; count = k } in
     let R : Lane → Lane → Type 0 = λ a b. Empties (limit - 0) k a b (desks_of x) (desks_of y) in

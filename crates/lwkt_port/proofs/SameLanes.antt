@@ -12,7 +12,7 @@ use Rattle.lwkt_port.specs.declared.lines.Lane.{Lane}
 use Rattle.lwkt_port.specs.Chains.{Chain}
 use Rattle.lwkt_port.specs.Intakes.{Payer, PaysOwed, Pays, Desks, desks_of, Handles, Pops, EmptiesKept, Intake, EmptiesFrom, Hall, TakesIn}
 use Rattle.lwkt_port.specs.Lines.{IsRoomed}
-use Rattle.lwkt_port.specs.Mails.{mail_at}
+use Rattle.lwkt_port.specs.Mails.{kept_mail_at}
 use Rattle.lwkt_port.specs.Posts.{Changes, AreSameLanes}
 use Rattle.lwkt_port.specs.Sendings.{ReplyMeans, Answers, RefusesOver, HasSentNote, WhyUnsent}
 use Rattle.lwkt_port.specs.Works.{Work}
@@ -49,14 +49,14 @@ reply_into msg error outcome line line' w w' true r = ap (λ i. in_lane i) r.pos
 reply_into msg error outcome line line' w w' false r = ap (λ i. in_lane i) r.0.roomed.into_same
 
 pub answer_lanes : (msg : MsgId) (error outcome : ℕ) (lanes lanes' : List Lane) (w w' : Work) (made : Bool) → Answers msg error outcome lanes lanes' w w' made → AreSameLanes lanes lanes'
-answer_lanes msg error outcome lanes lanes' w w' made a = lanes_change (λ x y. ReplyMeans msg error outcome x y w w' made) (mail_at w.mails msg.0).origin.cpu.0 lanes lanes' a (reply_out msg error outcome a.old a.new w w' made a.does) (reply_into msg error outcome a.old a.new w w' made a.does)
+answer_lanes msg error outcome lanes lanes' w w' made a = lanes_change (λ x y. ReplyMeans msg error outcome x y w w' made) (kept_mail_at w.mails msg.0).origin.cpu.0 lanes lanes' a (reply_out msg error outcome a.old a.new w w' made a.does) (reply_into msg error outcome a.old a.new w w' made a.does)
 
 owed_lanes : (owed : Option ℕ) (m : ℕ) (x y : Payer) → PaysOwed owed m x y → AreSameLanes x.lanes y.lanes
 owed_lanes None m x y p = lanes_is x.lanes y.lanes (ap (λ (z : Payer). z.lanes) p)
 owed_lanes (Some error) m x y p = answer_lanes (record { 0 = m }) error 0 x.lanes y.lanes x.work y.work p.0 p.1
 
 pay_lanes : (k : ℕ) (x y : Payer) → Chain Payer Pays k x y → AreSameLanes x.lanes y.lanes
-pay_lanes k x y chain = chain_keeps Payer Pays (λ z. AreSameLanes x.lanes z.lanes) (λ m a b p q. lanes_then x.lanes a.lanes b.lanes q (owed_lanes (mail_at a.work.mails m).owed m a b p)) k x y chain (lanes_none x.lanes)
+pay_lanes k x y chain = chain_keeps Payer Pays (λ z. AreSameLanes x.lanes z.lanes) (λ m a b p q. lanes_then x.lanes a.lanes b.lanes q (owed_lanes (kept_mail_at a.work.mails m).owed m a b p)) k x y chain (lanes_none x.lanes)
 
 -- the notes in hand moved on, and what is owed was paid
 pub paid_lanes : (n k : ℕ) (x roomed : List Lane) (w : Work) (y : Payer) → Chain (List Lane) (λ i a b. Changes IsRoomed i a b) n x roomed → Chain Payer Pays k (record { work = w; lanes = roomed }) y → AreSameLanes x y.lanes

@@ -11,7 +11,7 @@ use Rattle.lwkt_port.specs.declared.queues.Port.{Port}
 use Rattle.lwkt_port.specs.Queues.{NamesMessage, HasNamed}
 use Rattle.lwkt_port.specs.Queues.{queue_of, LeavesInOrder, HasLeft}
 use Rattle.lwkt_port.specs.Servings.{Serves, PassesAll}
-use Rattle.lwkt_port.specs.Works.{Work, work, Stands}
+use Rattle.lwkt_port.specs.Works.{Work, work, MailroomStands}
 use Rattle.lwkt_port.proofs.Classing.{named_each, named_left, leaving_chains}
 use Rattle.lwkt_port.proofs.Growing.{stands_then}
 
@@ -36,13 +36,13 @@ pub record IsServing (thread turn : ℕ) (r : Mailroom) (trace : Vec Event Globa
   pub as_many : length passed ≡ turn
   pub queue_is : queue_of port ≡ passed ++ queue_of port'
   pub passes : PassesAll thread passed (work r trace) (work r' trace')
-  pub stands : Stands turn r trace r' trace'
+  pub stands : MailroomStands turn r trace r' trace'
   pub named : HasNamed (vec_len r'.mails) port'
   pub closed : port'.closed ≡ port.closed
   pub order : LeavesInOrder port port'
 
 pub serving_more : (thread turn : ℕ) (r : Mailroom) (t : Vec Event Global) (p : Port) (r1 : Mailroom) (t1 : Vec Event Global) (p1 : Port) (r2 : Mailroom) (t2 : Vec Event Global) (p2 : Port) (note : Note) (rest : List Note)
-    → IsServing thread turn r t p r1 t1 p1 → queue_of p1 ≡ note ∷ rest → HasLeft rest p1 p2 → Serves thread note (work r1 t1) (work r2 t2) served.Passed → Stands 1 r1 t1 r2 t2 → IsServing thread (turn + 1) r t p r2 t2 p2
+    → IsServing thread turn r t p r1 t1 p1 → queue_of p1 ≡ note ∷ rest → HasLeft rest p1 p2 → Serves thread note (work r1 t1) (work r2 t2) served.Passed → MailroomStands 1 r1 t1 r2 t2 → IsServing thread (turn + 1) r t p r2 t2 p2
 serving_more thread turn r t p r1 t1 p1 r2 t2 p2 note rest s is left serves stands = record {
   passed = s.passed ++ note ∷ [];
   as_many = omega (arith, length-append s.passed (note ∷ []), s.as_many);

@@ -13,10 +13,10 @@ use Rattle.lwkt_msg.specs.Desks.{Desk, cpu_of, messages_of, entry, IsSameDesk}
 use Rattle.lwkt_msg.specs.Hands.{IsOwn}
 use Rattle.lwkt_msg.specs.Views.{spec_at}
 use Rattle.lwkt_port.specs.declared.mails.Mail.{Mail}
-use Rattle.lwkt_port.specs.Mails.{mail_at, IsMail, AreMails}
+use Rattle.lwkt_port.specs.Mails.{kept_mail_at, IsMail, AreMails}
 use Rattle.lwkt_port.specs.Posts.{Post}
 use Rattle.lwkt_port.specs.Sendings.{IsShownTo}
-use Rattle.lwkt_port.specs.Withdrawals.{IsOwnOf, MayAsk, MayDrop, dropped_mail, IsHeard, PostHears, PostUnasked, PostRefusesAbort, PostUntouched, PostRefusesDrop}
+use Rattle.lwkt_port.specs.Withdrawals.{IsOwnOf, MayRefuseAbort, MayRefuseDrop, dropped_mail, IsHeard, PostHears, PostUnasked, PostRefusesAbort, PostUntouched, PostRefusesDrop}
 use Rattle.lwkt_port.proofs.Keeping.{own_still, there_still, all_still, all_put}
 
 -- a thread's own message is its processor's
@@ -28,13 +28,13 @@ own_origin : (d : Desk) (m : ℕ) (w : MsgWord) → IsLoaded d.view m w → IsOw
 own_origin d m w loaded own = loaded.sees.origin_is ∙ (λ i. record { 0 = own i })
 
 -- why an own message wasn't asked for
-may_ask : (d : Desk) (m : ℕ) (w : MsgWord) (fault : Fault) → IsLoaded d.view m w → IsOwn d.view (cpu_of d).0 m → ForbidsAbort (cpu_of d) w fault → MayAsk fault
+may_ask : (d : Desk) (m : ℕ) (w : MsgWord) (fault : Fault) → IsLoaded d.view m w → IsOwn d.view (cpu_of d).0 m → ForbidsAbort (cpu_of d) w fault → MayRefuseAbort fault
 may_ask d m w fault loaded own why = elim why [
   | inl other ↦ absurd (other.1 (own_origin d m w loaded own))
   | inr rest ↦ elim rest [ inl out ↦ inl out.0 | inr leave ↦ inr leave.0 ]
 ]
 
-may_drop : (d : Desk) (m : ℕ) (w : MsgWord) (fault : Fault) → IsLoaded d.view m w → IsOwn d.view (cpu_of d).0 m → ForbidsDrop (cpu_of d) w fault → MayDrop fault
+may_drop : (d : Desk) (m : ℕ) (w : MsgWord) (fault : Fault) → IsLoaded d.view m w → IsOwn d.view (cpu_of d).0 m → ForbidsDrop (cpu_of d) w fault → MayRefuseDrop fault
 may_drop d m w fault loaded own why = elim why [
   | inl other ↦ absurd (other.1 (own_origin d m w loaded own))
   | inr rest ↦ elim rest [ inl out ↦ inl out.0 | inr leave ↦ inr leave.0 ]
@@ -49,14 +49,14 @@ unrequested_keeps d d' mails msg fault same why are =
     let does = why.looked_at.does in
     all_still d d' msg.0 mails same does.else_same (ap (λ e. e.away) does.here) (ap (λ e. e.taken) does.here) are
 
-pub unrequested_for : (d d' : Desk) (msg : MsgId) (fault : Fault) → IsOwn d.view (cpu_of d).0 msg.0 → IsUnrequested (cpu_of d) d.view d'.view msg.0 fault → MayAsk fault
+pub unrequested_for : (d d' : Desk) (msg : MsgId) (fault : Fault) → IsOwn d.view (cpu_of d).0 msg.0 → IsUnrequested (cpu_of d) d.view d'.view msg.0 fault → MayRefuseAbort fault
 unrequested_for d d' msg fault own why = may_ask d msg.0 why.found fault why.looked_at.loaded own why.why
 
 -- after a drop, made or refused
-pub dropped_keeps : (d d' : Desk) (mails mails' : List Mail) (msg : MsgId) (rec : Rec) → IsSameDesk d d' → HasDropped (cpu_of d) d.view d'.view msg.0 rec → mails' ≡ set mails msg.0 (dropped_mail (mail_at mails msg.0)) → msg.0 < length mails → AreMails d mails → AreMails d' mails'
+pub dropped_keeps : (d d' : Desk) (mails mails' : List Mail) (msg : MsgId) (rec : Rec) → IsSameDesk d d' → HasDropped (cpu_of d) d.view d'.view msg.0 rec → mails' ≡ set mails msg.0 (dropped_mail (kept_mail_at mails msg.0)) → msg.0 < length mails → AreMails d mails → AreMails d' mails'
 dropped_keeps d d' mails mails' msg rec same means is there are =
     let m : ℕ = msg.0 in
-    let mail : Mail = mail_at mails m in
+    let mail : Mail = kept_mail_at mails m in
     let F : List Mail → Type 0 = AreMails d' in
     let k : IsMail d m mail = are.each m there in
     let still : (entry d' m).taken ≡ (entry d m).taken = ap (λ e. e.taken) means.does.here in
@@ -75,7 +75,7 @@ untouched_keeps d d' mails msg fault same why are = elim why [
   | inr lost ↦ all_still d d' msg.0 mails same lost.does.else_same (ap (λ e. e.away) lost.does.here) (ap (λ e. e.taken) lost.does.here) are
 ]
 
-pub untouched_for : (d d' : Desk) (msg : MsgId) (fault : Fault) → IsOwn d.view (cpu_of d).0 msg.0 → IsUndropped (cpu_of d) d.view d'.view msg.0 fault ⊎ HasLostDrop (cpu_of d) d.view d'.view msg.0 fault → MayDrop fault
+pub untouched_for : (d d' : Desk) (msg : MsgId) (fault : Fault) → IsOwn d.view (cpu_of d).0 msg.0 → IsUndropped (cpu_of d) d.view d'.view msg.0 fault ⊎ HasLostDrop (cpu_of d) d.view d'.view msg.0 fault → MayRefuseDrop fault
 untouched_for d d' msg fault own why = elim why [
   | inl looked ↦ may_drop d msg.0 looked.found fault looked.looked_at.loaded own looked.why
   | inr lost ↦ inl lost.is
@@ -88,13 +88,13 @@ heard_keeps d d' mails msg aborted same means are =
     all_still d d' msg.0 mails same does.else_same (ap (λ e. e.away) does.here) (ap (λ e. e.taken) does.here) are
 
 -- why a thread's call was refused
-pub refuses_abort : (thread : ℕ) (msg : MsgId) (p p' : Post) (t t' : Vec Event Global) (fault : Fault) → MayAsk fault → PostUnasked thread msg p p' t t' fault → PostRefusesAbort thread msg p p' t t' fault
+pub refuses_abort : (thread : ℕ) (msg : MsgId) (p p' : Post) (t t' : Vec Event Global) (fault : Fault) → MayRefuseAbort fault → PostUnasked thread msg p p' t t' fault → PostRefusesAbort thread msg p p' t t' fault
 refuses_abort thread msg p p' t t' fault may un =
     let F : Fault → Type 0 = λ f. PostUnasked thread msg p p' t t' f in
     let G : Fault → Type 0 = λ f. PostRefusesAbort thread msg p p' t t' f in
     elim may [ inl is ↦ subst G (sym is) (subst F is un) | inr is ↦ subst G (sym is) (subst F is un) ]
 
-pub refuses_drop : (thread : ℕ) (msg : MsgId) (p p' : Post) (t t' : Vec Event Global) (fault : Fault) → MayDrop fault → PostUntouched thread msg p p' t t' fault → PostRefusesDrop thread msg p p' t t' fault
+pub refuses_drop : (thread : ℕ) (msg : MsgId) (p p' : Post) (t t' : Vec Event Global) (fault : Fault) → MayRefuseDrop fault → PostUntouched thread msg p p' t t' fault → PostRefusesDrop thread msg p p' t t' fault
 refuses_drop thread msg p p' t t' fault may un =
     let F : Fault → Type 0 = λ f. PostUntouched thread msg p p' t t' f in
     let G : Fault → Type 0 = λ f. PostRefusesDrop thread msg p p' t t' f in

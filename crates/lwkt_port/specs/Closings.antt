@@ -5,7 +5,7 @@ use Rattle.lwkt_core.specs.declared.events.Event.{Event}
 use Rattle.lwkt_port.specs.declared.lines.Lane.{Lane}
 use Rattle.lwkt_port.specs.declared.mails.Mail.{Mail}
 use Rattle.lwkt_port.specs.declared.queues.Port.{Port}
-use Rattle.lwkt_port.specs.Mails.{mail_at}
+use Rattle.lwkt_port.specs.Mails.{kept_mail_at}
 use Rattle.lwkt_port.specs.Chains.{Chain}
 use Rattle.lwkt_port.specs.Intakes.{Payer, Pays}
 use Rattle.lwkt_port.specs.Lines.{IsRoomed}
@@ -18,18 +18,18 @@ gone = 41
 
 -- what is kept of a message that was shown to so and so, after a thread has ended: if it was shown to this one, which hasn't replied,
 -- it is owed a reply; any other stays
-abbrev pub left_by : Option ℕ → ℕ → Mail → Mail
-left_by None thread mail = mail
-left_by (Some other) thread mail = if other == thread then record mail { owed = Some gone; shown = None } else mail
+abbrev pub mail_after_end : Option ℕ → ℕ → Mail → Mail
+mail_after_end None thread mail = mail
+mail_after_end (Some other) thread mail = if other == thread then record mail { owed = Some gone; shown = None } else mail
 
 abbrev pub gone_mail : ℕ → Mail → Mail
-gone_mail thread mail = left_by mail.shown thread mail
+gone_mail thread mail = mail_after_end mail.shown thread mail
 
 -- of so many messages those that were shown to a thread are owed a reply, and every other is kept as it was
 pub record OwesGone (thread upto : ℕ) (mails mails' : List Mail) : Type 0 where
   pub as_many : length mails' ≡ length mails
-  pub done : (m : ℕ) → m < upto → mail_at mails' m ≡ gone_mail thread (mail_at mails m)
-  pub rest : (m : ℕ) → upto ≤ m → mail_at mails' m ≡ mail_at mails m
+  pub done : (m : ℕ) → m < upto → kept_mail_at mails' m ≡ gone_mail thread (kept_mail_at mails m)
+  pub rest : (m : ℕ) → upto ≤ m → kept_mail_at mails' m ≡ kept_mail_at mails m
 
 -- a port is closed, with the notes that it has
 abbrev pub IsClosedPort : Port → Port → Type 0

@@ -18,7 +18,7 @@ use Rattle.lwkt_msg.specs.Calls.{TakeMeans, ReapMeans, HasSent, IsUnsent, HasRep
 use Rattle.lwkt_port.specs.declared.mails.Mail.{Mail}
 use Rattle.lwkt_port.specs.declared.deeds.Claim.{Claim}
 use Rattle.lwkt_port.specs.declared.deeds.Claim.TheVariants as claim
-use Rattle.lwkt_port.specs.Mails.{mail_at}
+use Rattle.lwkt_port.specs.Mails.{kept_mail_at}
 use Rattle.lwkt_port.specs.Works.{Work}
 
 -- the errors that the ports reply themselves: to a request that was aborted before a thread saw it, and to one at a closed port
@@ -36,7 +36,7 @@ taken_mail (claim.Thread thread) false priority round mail = record mail { round
 taken_mail claim.Closed aborted priority round mail = record mail { round = round; urgent = priority; owed = Some no_port }
 
 abbrev pub mails_taken : Claim → Note → Taken → List Mail → List Mail
-mails_taken who note (taken.Took rec aborted priority) mails = slice_set mails note.msg.0 (taken_mail who aborted priority note.round (mail_at mails note.msg.0))
+mails_taken who note (taken.Took rec aborted priority) mails = slice_set mails note.msg.0 (taken_mail who aborted priority note.round (kept_mail_at mails note.msg.0))
 mails_taken who note taken.Stale mails = mails
 mails_taken who note taken.Again mails = mails
 
@@ -58,7 +58,7 @@ reaped_mail true rec mail = record mail { home = true; done = Some rec }
 reaped_mail false rec mail = record mail { home = true }
 
 abbrev pub mails_reaped : Bool → Note → Reaped → List Mail → List Mail
-mails_reaped keep note (reaped_.Done rec) mails = slice_set mails note.msg.0 (reaped_mail keep rec (mail_at mails note.msg.0))
+mails_reaped keep note (reaped_.Done rec) mails = slice_set mails note.msg.0 (reaped_mail keep rec (kept_mail_at mails note.msg.0))
 mails_reaped keep note reaped_.Stale mails = mails
 
 abbrev pub reap_events : CpuId → Note → Reaped → List Event
@@ -80,7 +80,7 @@ sent_mail sync mail = record mail { home = false; sync = sync; done = None }
 pub record Sends (msg : MsgId) (target : CpuId) (call : Call) (flags : Flags) (sync : Bool) (w w' : Work) (round : ℕ) : Type 0 where
   pub same : IsSameDesk w.seat w'.seat
   pub means : HasSent (cpu_of w.seat) w.seat.view w'.seat.view msg.0 target call flags sync round
-  pub mails_are : w'.mails ≡ slice_set w.mails msg.0 (sent_mail sync (mail_at w.mails msg.0))
+  pub mails_are : w'.mails ≡ slice_set w.mails msg.0 (sent_mail sync (kept_mail_at w.mails msg.0))
   pub trace_is : w'.trace ≡ w.trace ++ Send (cpu_of w.seat) msg target round ∷ []
 
 -- what is kept of a message that was replied to: no thread has it, and nothing is owed
@@ -91,7 +91,7 @@ replied_mail mail = record mail { owed = None; shown = None }
 pub record Replies (msg : MsgId) (error outcome : ℕ) (w w' : Work) : Type 0 where
   pub same : IsSameDesk w.seat w'.seat
   pub means : HasReplied w.seat.view w'.seat.view msg.0 error outcome
-  pub mails_are : w'.mails ≡ slice_set w.mails msg.0 (replied_mail (mail_at w.mails msg.0))
+  pub mails_are : w'.mails ≡ slice_set w.mails msg.0 (replied_mail (kept_mail_at w.mails msg.0))
   pub trace_is : w'.trace ≡ w.trace ++ Reply (cpu_of w.seat) msg ∷ []
 
 -- the message was not sent, since it is at its last round: the seat has looked at its word, and nothing else changed

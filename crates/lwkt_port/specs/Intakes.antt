@@ -23,12 +23,12 @@ use Rattle.lwkt_port.specs.declared.offices.Office.{Office}
 use Rattle.lwkt_port.specs.declared.queues.Port.{Port}
 use Rattle.lwkt_port.specs.Chains.{Chain}
 use Rattle.lwkt_port.specs.Deeds.{Takes, Reaps}
-use Rattle.lwkt_port.specs.Lines.{IsRoomed, IsFound}
-use Rattle.lwkt_port.specs.Mails.{mail_at}
+use Rattle.lwkt_port.specs.Lines.{IsRoomed, HasFoundNote}
+use Rattle.lwkt_port.specs.Mails.{kept_mail_at}
 use Rattle.lwkt_port.specs.Posts.{Post, Changes, work_of}
 use Rattle.lwkt_port.specs.Queues.{NamesBoth, queue_of, IsQueued, LeavesInOrder}
 use Rattle.lwkt_port.specs.Sendings.{Answers}
-use Rattle.lwkt_port.specs.Works.{Work, work, Stands}
+use Rattle.lwkt_port.specs.Works.{Work, work, MailroomStands}
 
 -- what paying an owed reply changes
 pub record Payer : Type 0 where
@@ -44,13 +44,13 @@ PaysOwed None m x y = y ≡ x
 PaysOwed (Some error) m x y = (made : Bool) × Answers (record { 0 = m }) error 0 x.lanes y.lanes x.work y.work made
 
 abbrev pub Pays : ℕ → Payer → Payer → Type 0
-Pays m x y = PaysOwed (mail_at x.work.mails m).owed m x y
+Pays m x y = PaysOwed (kept_mail_at x.work.mails m).owed m x y
 
 -- so many messages were gone over, by number, and the replies that are owed to them made as lanes have room, by at most so many
 -- events; no port changed
 pub record PaysFirst (count most : ℕ) (o : Office) (trace : Vec Event Global) (o' : Office) (trace' : Vec Event Global) : Type 0 where
   pub pays : Chain Payer Pays count (payer o trace) (payer o' trace')
-  pub stands : Stands most o.counters.room trace o'.counters.room trace'
+  pub stands : MailroomStands most o.counters.room trace o'.counters.room trace'
   pub ports_same : o'.counters.ports ≡ o.counters.ports
 
 -- what handling a note changes
@@ -63,7 +63,7 @@ desks c trace = record { work = work c.room trace; ports = c.ports.items }
 
 -- a note is the answer to this processor's last send of its message, which was synchronous
 abbrev pub IsSyncAnswer : Note → List Mail → Type 0
-IsSyncAnswer note mails = (note.kind ≡ Answer) × ((mail_at mails note.msg.0).sync ≡ true)
+IsSyncAnswer note mails = (note.kind ≡ Answer) × ((kept_mail_at mails note.msg.0).sync ≡ true)
 
 -- what became of a note that came over a lane: it names no message or port, and nothing is done; a synchronous answer is reaped, or
 -- is stale; any other is put into its port's queue, or finds that full
@@ -130,7 +130,7 @@ untaken w ports lanes = record { work = w; lanes = lanes; ports = ports; count =
 pub record IsFronted (limit first : ℕ) (w : Work) (ports : List Port) (before now : List Lane) : Type 0 where
   pub passed : List Lane
   pub passes : Chain Intake (EmptiesFrom limit) first (untaken w ports before) (untaken w ports passed)
-  pub found : Changes IsFound first passed now
+  pub found : Changes HasFoundNote first passed now
   pub as_many : length now ≡ length before
 
 -- a note of a closed port: a request is taken and owed a reply, an answer is reaped; a request whose take was lost stays

@@ -29,7 +29,7 @@ use Rattle.lwkt_port.specs.declared.queues.Port.{Port}
 use Rattle.lwkt_port.specs.Closings.{PostPays}
 use Rattle.lwkt_port.specs.Intakes.{Desks, Handles, HandlesAll, Empties, Payer, Pays, Hall, TakesIn}
 use Rattle.lwkt_port.specs.Lines.{WaitsForRoom}
-use Rattle.lwkt_port.specs.Mails.{mail_at, AreMails}
+use Rattle.lwkt_port.specs.Mails.{kept_mail_at, AreMails}
 use Rattle.lwkt_port.specs.Posts.{Post}
 use Rattle.lwkt_port.specs.Queues.{urgent_of, ordinary_of, queue_of, IsQueued, LeavesInOrder}
 use Rattle.lwkt_port.specs.Servings.{served_request, Serves, GetMeans, ServesPort}
@@ -96,8 +96,8 @@ NotesComeLast = (note : Note) (port port' : Port) → IsQueued note port port' t
 pub record IsShownOnce (thread : ℕ) (note : Note) (w w' : Work) (msg : MsgId) : Type 0 where
   pub is_request : note.kind ≡ Request
   pub message_is : msg ≡ note.msg
-  pub to_nobody : (mail_at w.mails msg.0).shown ≡ None
-  pub to_thread : (mail_at w'.mails msg.0).shown ≡ Some thread
+  pub to_nobody : (kept_mail_at w.mails msg.0).shown ≡ None
+  pub to_thread : (kept_mail_at w'.mails msg.0).shown ≡ Some thread
 
 abbrev pub RequestsAreShownOnce : Type 0
 RequestsAreShownOnce = (cpu : CpuId) (thread : ℕ) (note : Note) (w w' : Work) (msg : MsgId) (call : Call) → w.seat.view.kind ≡ Of cpu → AreMails w.seat w.mails → note.msg.0 < length w.mails → Serves thread note w w' (served.Shown (item.Request msg call)) → IsShownOnce thread note w w' msg
@@ -112,15 +112,15 @@ TellsChain = (a b c : Desk) (t u v : List Event) → Tells a b t u → Tells b c
 -- a reply that was owed is made: the trace has it, nothing is owed then, and the seat has the message no more
 pub record IsPaid (m : ℕ) (x y : Payer) : Type 0 where
   pub replied : y.work.trace ≡ x.work.trace ++ Reply (cpu_of x.work.seat) (record { 0 = m }) ∷ []
-  pub owes_none : (mail_at y.work.mails m).owed ≡ None
+  pub owes_none : (kept_mail_at y.work.mails m).owed ≡ None
   pub not_taken : (entry y.work.seat m).taken ≡ false
 
 -- an owed reply is made once, or its lane was full and it is owed as before; and where none is owed none is made
 abbrev pub OwedIsMadeOnce : Type 0
-OwedIsMadeOnce = (m error : ℕ) (x y : Payer) → m < length x.work.mails → (mail_at x.work.mails m).owed ≡ Some error → Pays m x y → IsPaid m x y ⊎ (y.work ≡ x.work)
+OwedIsMadeOnce = (m error : ℕ) (x y : Payer) → m < length x.work.mails → (kept_mail_at x.work.mails m).owed ≡ Some error → Pays m x y → IsPaid m x y ⊎ (y.work ≡ x.work)
 
 abbrev pub UnowedIsNotMade : Type 0
-UnowedIsNotMade = (m : ℕ) (x y : Payer) → (mail_at x.work.mails m).owed ≡ None → Pays m x y → y ≡ x
+UnowedIsNotMade = (m : ℕ) (x y : Payer) → (kept_mail_at x.work.mails m).owed ≡ None → Pays m x y → y ≡ x
 
 -- a request that a thread's port takes is owed EINTR exactly if it was asked to be aborted, and is shown to nobody then; else it is
 -- shown to the thread, and nothing is owed that wasn't
@@ -130,7 +130,7 @@ pub record IsClaimed (thread : ℕ) (aborted : Bool) (old new : Mail) : Type 0 w
 
 abbrev pub EintrIfAborted : Type 0
 EintrIfAborted = (thread : ℕ) (note : Note) (w w' : Work) (rec : Rec) (aborted priority : Bool) → note.msg.0 < length w.mails → Takes (claim.Thread thread) note w w' (taken.Took rec aborted priority)
-    → IsClaimed thread aborted (mail_at w.mails note.msg.0) (mail_at w'.mails note.msg.0) × (served_request note.msg (taken.Took rec aborted priority) ≡ (if aborted then served.Passed else served.Shown (item.Request note.msg (call_of rec))))
+    → IsClaimed thread aborted (kept_mail_at w.mails note.msg.0) (kept_mail_at w'.mails note.msg.0) × (served_request note.msg (taken.Took rec aborted priority) ≡ (if aborted then served.Passed else served.Shown (item.Request note.msg (call_of rec))))
 
 -- where notes were taken in, and where the replies that are owed went out alone, a note is in hand at a sending end only if no place
 -- of its queue is known to be free

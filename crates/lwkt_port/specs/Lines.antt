@@ -71,5 +71,5 @@ pub record IsLooked (line line' : Lane) : Type 0 where
   pub kept_same : line'.kept ≡ line.kept
 
 -- a line was found with a note: it keeps one, or its lane was looked at
-abbrev pub IsFound : Lane → Lane → Type 0
-IsFound line line' = (line' ≡ line) ⊎ IsLooked line line'
+abbrev pub HasFoundNote : Lane → Lane → Type 0
+HasFoundNote line line' = (line' ≡ line) ⊎ IsLooked line line'

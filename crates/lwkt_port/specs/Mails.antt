@@ -6,11 +6,11 @@ use Rattle.lwkt_msg.specs.Calls.{IsHome}
 use Rattle.lwkt_port.specs.declared.mails.Mail.{Mail}
 
 -- no message, and what is kept of the message of a number
-abbrev pub no_mail : Mail
-no_mail = record { origin = record { cpu = record { 0 = 0 }; thread = 0 }; round = 0; urgent = false; done = None; owed = None; shown = None; home = false; sync = false }
+abbrev pub no_kept_mail : Mail
+no_kept_mail = record { origin = record { cpu = record { 0 = 0 }; thread = 0 }; round = 0; urgent = false; done = None; owed = None; shown = None; home = false; sync = false }
 
-abbrev pub mail_at : List Mail → ℕ → Mail
-mail_at mails m = slice_index_or mails m no_mail
+abbrev pub kept_mail_at : List Mail → ℕ → Mail
+kept_mail_at mails m = slice_index_or mails m no_kept_mail
 
 -- what is kept of a message fits what the seat knows of it: its origin is that of the book; it is at home exactly if the seat has it at rest, and only a message
 -- that the seat has taken is shown to a thread or owed a reply (msgport(9); owed replies are own)
@@ -26,4 +26,4 @@ pub record IsMail (d : Desk) (m : ℕ) (mail : Mail) : Type 0 where
 pub record AreMails (d : Desk) (mails : List Mail) : Type 0 where
   pub as_many : length mails ≡ messages_of d
   pub few : length mails ≤ 64
-  pub each : (m : ℕ) → m < length mails → IsMail d m (mail_at mails m)
+  pub each : (m : ℕ) → m < length mails → IsMail d m (kept_mail_at mails m)

@@ -15,7 +15,7 @@ use Rattle.lwkt_port.specs.declared.lines.Lane.{Lane}
 use Rattle.lwkt_port.specs.declared.mails.Mail.{Mail}
 use Rattle.lwkt_port.specs.Deeds.{Sends, IsRefused, Replies}
 use Rattle.lwkt_port.specs.Lines.{IsRoomed, HasPosted}
-use Rattle.lwkt_port.specs.Mails.{mail_at}
+use Rattle.lwkt_port.specs.Mails.{kept_mail_at}
 use Rattle.lwkt_port.specs.Posts.{Post, Changes, work_of}
 use Rattle.lwkt_port.specs.Works.{Work}
 
@@ -33,7 +33,7 @@ IsPortName cpus to = (to.cpu.0 < cpus) × (to.thread < 16)
 
 -- the thread may send the message: it is its own, and at rest
 abbrev pub MaySend : Sending → List Mail → Type 0
-MaySend s mails = (s.msg.0 < length mails) × ((mail_at mails s.msg.0).home ≡ true) × ((mail_at mails s.msg.0).origin.thread ≡ s.thread)
+MaySend s mails = (s.msg.0 < length mails) × ((kept_mail_at mails s.msg.0).home ≡ true) × ((kept_mail_at mails s.msg.0).origin.thread ≡ s.thread)
 
 -- no note can be sent over a line, whose note in hand found no room
 pub record IsFull (line line' : Lane) : Type 0 where
@@ -100,7 +100,7 @@ PostRefuses s p p' trace trace' _ = ⊥
 -- a message was replied to over a line: the book's event, and one note to the thread that sent it
 pub record RepliesOver (msg : MsgId) (error outcome : ℕ) (line line' : Lane) (w w' : Work) : Type 0 where
   pub replies : Replies msg error outcome w w'
-  pub posted : HasPosted (answer_note msg (mail_at w.mails msg.0)) line line'
+  pub posted : HasPosted (answer_note msg (kept_mail_at w.mails msg.0)) line line'
 
 -- a reply was made over a line, or the line is full
 abbrev pub ReplyMeans : MsgId → ℕ → ℕ → Lane → Lane → Work → Work → Bool → Type 0
@@ -109,11 +109,11 @@ ReplyMeans msg error outcome line line' w w' false = IsFull line line' × (w' �
 
 -- the thread was shown the message as a request, and hasn't replied yet
 abbrev pub IsShownTo : ℕ → MsgId → List Mail → Type 0
-IsShownTo thread msg mails = (msg.0 < length mails) × ((mail_at mails msg.0).shown ≡ Some thread)
+IsShownTo thread msg mails = (msg.0 < length mails) × ((kept_mail_at mails msg.0).shown ≡ Some thread)
 
 -- a reply over the line to the processor of the message's origin
 abbrev pub Answers : MsgId → ℕ → ℕ → List Lane → List Lane → Work → Work → Bool → Type 0
-Answers msg error outcome lanes lanes' w w' answer = Changes (λ a b. ReplyMeans msg error outcome a b w w' answer) (mail_at w.mails msg.0).origin.cpu.0 lanes lanes'
+Answers msg error outcome lanes lanes' w w' answer = Changes (λ a b. ReplyMeans msg error outcome a b w w' answer) (kept_mail_at w.mails msg.0).origin.cpu.0 lanes lanes'
 
 -- a thread's call to reply did so
 pub record PostReplies (thread : ℕ) (msg : MsgId) (error outcome : ℕ) (p p' : Post) (trace trace' : Vec Event Global) : Type 0 where

@@ -16,5 +16,5 @@ pub record Tells (seat seat' : Desk) (before now : List Event) : Type 0 where
   pub trace_is : now ≡ before ++ events_in deeds
 
 -- the same of a step on messages
-abbrev pub IsTold : Work → Work → Type 0
-IsTold w w' = Tells w.seat w'.seat w.trace w'.trace
+abbrev pub IsWorkTold : Work → Work → Type 0
+IsWorkTold w w' = Tells w.seat w'.seat w.trace w'.trace

@@ -11,14 +11,14 @@ use Rattle.lwkt_core.specs.declared.events.Event.TheVariants.{Abort, DropMsg}
 use Rattle.lwkt_msg.specs.Calls.{HasRequested, IsUnrequested, HasDropped, IsUndropped, HasLostDrop, IsToldRequest}
 use Rattle.lwkt_msg.specs.Desks.{Desk, cpu_of, IsSameDesk}
 use Rattle.lwkt_port.specs.declared.mails.Mail.{Mail}
-use Rattle.lwkt_port.specs.Mails.{mail_at}
+use Rattle.lwkt_port.specs.Mails.{kept_mail_at}
 use Rattle.lwkt_port.specs.Posts.{Post, work_of}
 use Rattle.lwkt_port.specs.Sendings.{IsShownTo, IsElseSame}
 use Rattle.lwkt_port.specs.Works.{Work}
 
 -- a message is a thread's own: it is there, and the thread of this processor is its origin
 abbrev pub IsOwnOf : ℕ → MsgId → Desk → List Mail → Type 0
-IsOwnOf thread msg seat mails = (msg.0 < length mails) × ((mail_at mails msg.0).origin ≡ record { cpu = cpu_of seat; thread = thread })
+IsOwnOf thread msg seat mails = (msg.0 < length mails) × ((kept_mail_at mails msg.0).origin ≡ record { cpu = cpu_of seat; thread = thread })
 
 -- the message's origin has asked for it to be aborted
 pub record Requests (msg : MsgId) (w w' : Work) : Type 0 where
@@ -28,11 +28,11 @@ pub record Requests (msg : MsgId) (w w' : Work) : Type 0 where
   pub trace_is : w'.trace ≡ w.trace ++ Abort (cpu_of w.seat) msg ∷ []
 
 -- for what an own message is not asked to be aborted, and for what it is not dropped
-abbrev pub MayAsk : Fault → Type 0
-MayAsk fault = (fault ≡ NotOut) ⊎ (fault ≡ NotAbortable)
+abbrev pub MayRefuseAbort : Fault → Type 0
+MayRefuseAbort fault = (fault ≡ NotOut) ⊎ (fault ≡ NotAbortable)
 
-abbrev pub MayDrop : Fault → Type 0
-MayDrop fault = (fault ≡ NotOut) ⊎ (fault ≡ NotDropable)
+abbrev pub MayRefuseDrop : Fault → Type 0
+MayRefuseDrop fault = (fault ≡ NotOut) ⊎ (fault ≡ NotDropable)
 
 -- the message's origin has not asked, since its word forbade it: the seat has looked at it, and nothing else changed
 pub record IsUnasked (msg : MsgId) (w w' : Work) (fault : Fault) : Type 0 where
@@ -49,7 +49,7 @@ dropped_mail mail = record mail { home = true }
 pub record Drops (msg : MsgId) (w w' : Work) (rec : Rec) : Type 0 where
   pub same : IsSameDesk w.seat w'.seat
   pub means : HasDropped (cpu_of w.seat) w.seat.view w'.seat.view msg.0 rec
-  pub mails_are : w'.mails ≡ slice_set w.mails msg.0 (dropped_mail (mail_at w.mails msg.0))
+  pub mails_are : w'.mails ≡ slice_set w.mails msg.0 (dropped_mail (kept_mail_at w.mails msg.0))
   pub trace_is : w'.trace ≡ w.trace ++ DropMsg (cpu_of w.seat) msg ∷ []
 
 -- the message was not dropped, since its word forbade it, or its target took it just before: the seat has looked at it, or lost an

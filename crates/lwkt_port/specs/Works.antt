@@ -91,8 +91,8 @@ pub record StandsSo (most : ℕ) (seat : Desk) (mails : Vec Mail Global) (trace 
   pub grew : Grew (cpu_of seat) most trace trace'
 
 -- the same of a mailroom
-abbrev pub Stands : ℕ → Mailroom → Vec Event Global → Mailroom → Vec Event Global → Type 0
-Stands most r trace r' trace' = StandsSo most r.seat r.mails trace r'.seat r'.mails trace'
+abbrev pub MailroomStands : ℕ → Mailroom → Vec Event Global → Mailroom → Vec Event Global → Type 0
+MailroomStands most r trace r' trace' = StandsSo most r.seat r.mails trace r'.seat r'.mails trace'
 
 -- beside ports that are the same a mailroom stands
 pub record StandsBeside (most : ℕ) (ports : Vec Port Global) (seat : Desk) (mails : Vec Mail Global) (trace : Vec Event Global) (ports' : Vec Port Global) (seat' : Desk) (mails' : Vec Mail Global) (trace' : Vec Event Global) : Type 0 where

@@ -1,7 +1,7 @@
 //! The steps on one message: each with what is kept of the message then, and its event.
 ghost use Rattle.std.specs.Prelude.{◌≡◌, ◌+◌, ◌<◌, ◌≤◌, true, vec_len, vec_capacity, ◌++◌, length, MatchOption};
 ghost use Rattle.lwkt_msg.specs.Desks.{cpu_of, cpus_of};
-ghost use Rattle.lwkt_port.specs.Works.{work, away_count, HasToldThese, IsReady, Stands, HasTaken};
+ghost use Rattle.lwkt_port.specs.Works.{work, away_count, HasToldThese, IsReady, MailroomStands, HasTaken};
 ghost use Rattle.lwkt_port.specs.Sendings.{MaySend};
 ghost use Rattle.lwkt_port.specs.Deeds.{taken_mail, mails_taken, take_events, Takes, reaped_mail, mails_reaped, reap_events, Reaps, replied_mail, Replies, sent_mail, Sends, IsRefused};
 
@@ -88,7 +88,7 @@ impl Mailroom {
         requires ready { IsReady 1 self.old book.now trace.old }
         requires exists { note.msg.0 < vec_len self.old.mails }
         ensures takes { Takes who note (work self.old trace.old) (work self.new trace.new) result }
-        ensures stands { Stands 1 self.old trace.old self.new trace.new }
+        ensures stands { MailroomStands 1 self.old trace.old self.new trace.new }
     {
         let cpu = self.seat.cpu();
         let answer = self.seat.take(book, note.msg, note.round);
@@ -149,7 +149,7 @@ impl Mailroom {
         requires ready { IsReady 1 self.old book.now trace.old }
         requires exists { note.msg.0 < vec_len self.old.mails }
         ensures reaps { Reaps keep note (work self.old trace.old) (work self.new trace.new) result }
-        ensures stands { Stands 1 self.old trace.old self.new trace.new }
+        ensures stands { MailroomStands 1 self.old trace.old self.new trace.new }
         ensures away { away_count self.new.mails.items + vec_len trace.new ≡ away_count self.old.mails.items + vec_len trace.old }
     {
         let cpu = self.seat.cpu();
@@ -183,7 +183,7 @@ impl Mailroom {
         requires ready { IsReady 1 self.old book.now trace.old }
         requires taken { HasTaken msg self.old }
         ensures replies { Replies msg error outcome (work self.old trace.old) (work self.new trace.new) }
-        ensures stands { Stands 1 self.old trace.old self.new trace.new }
+        ensures stands { MailroomStands 1 self.old trace.old self.new trace.new }
     {
         let cpu = self.seat.cpu();
         let m = usize::from(msg.0);
@@ -238,7 +238,7 @@ impl Mailroom {
         requires may { MaySend sending.now self.old.mails.items }
         requires target { sending.now.to.cpu.0 < cpus_of self.old.seat }
         ensures sends { MatchOption result (IsRefused sending.now.msg (work self.old trace.old) (work self.new trace.new)) (λ round. Sends sending.now.msg sending.now.to.cpu sending.now.call sending.now.flags sending.now.sync (work self.old trace.old) (work self.new trace.new) round) }
-        ensures stands { Stands 1 self.old trace.old self.new trace.new }
+        ensures stands { MailroomStands 1 self.old trace.old self.new trace.new }
     {
         let cpu = self.seat.cpu();
         let Sending {

@@ -4,7 +4,7 @@ ghost use Rattle.lwkt_lane.specs.declared.notes.Note.{Note};
 ghost use Rattle.lwkt_msg.specs.Desks.{cpu_of};
 ghost use Rattle.lwkt_port.specs.Posts.{IsSamePost};
 ghost use Rattle.lwkt_port.specs.Queues.{HasNamed};
-ghost use Rattle.lwkt_port.specs.Works.{work, Grew, IsReady, Stands};
+ghost use Rattle.lwkt_port.specs.Works.{work, Grew, IsReady, MailroomStands};
 ghost use Rattle.lwkt_port.specs.Servings.{served_request, served_answer, Serves, ServesPort, PostGets};
 ghost use Rattle.lwkt_port.specs.Tellings.{Tells};
 ghost use Rattle.lwkt_port.specs.Hints.{OwesNone};
@@ -71,7 +71,7 @@ impl Mailroom {
         requires ready { IsReady 1 self.old book.now trace.old }
         requires exists { note.msg.0 < vec_len self.old.mails }
         ensures serves { Serves thread note (work self.old trace.old) (work self.new trace.new) result }
-        ensures stands { Stands 1 self.old trace.old self.new trace.new }
+        ensures stands { MailroomStands 1 self.old trace.old self.new trace.new }
     {
         match note.kind {
             NoteKind::Request => {
@@ -98,7 +98,7 @@ impl Mailroom {
         requires named { HasNamed (vec_len self.old.mails) port.old }
         requires hint { owing.old ≡ false → OwesNone self.old.mails.items }
         ensures serves { ServesPort thread port.old port.new (work self.old trace.old) (work self.new trace.new) result }
-        ensures stands { Stands 128 self.old trace.old self.new trace.new }
+        ensures stands { MailroomStands 128 self.old trace.old self.new trace.new }
         ensures hint { owing.new ≡ false → OwesNone self.new.mails.items }
     {
         let notes = count(port);

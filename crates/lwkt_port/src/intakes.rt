@@ -7,7 +7,7 @@ ghost use Rattle.lwkt_port.specs.Chains.{Chain};
 ghost use Rattle.lwkt_port.specs.Hints.{OwesNone};
 ghost use Rattle.lwkt_port.specs.Lines.{IsRoomed, HasNoneInHand};
 ghost use Rattle.lwkt_port.specs.Posts.{Changes, AreStillLines, IsSamePost};
-ghost use Rattle.lwkt_port.specs.Works.{Work, work, Grew, away_count, IsReady, Stands, standing, Keeps};
+ghost use Rattle.lwkt_port.specs.Works.{Work, work, Grew, away_count, IsReady, MailroomStands, standing, Keeps};
 ghost use Rattle.lwkt_port.specs.Intakes.{PaysFirst, Intake, intake, EmptiesFrom, untaken, IsFronted, hall, TakesIn, PostTakesIn};
 ghost use Rattle.lwkt_port.specs.Closings.{PostPays};
 ghost use Rattle.lwkt_port.specs.Tellings.{Tells};
@@ -118,7 +118,7 @@ impl Office {
         requires owing { OwesNone self.old.counters.room.mails.items }
         requires front { (before : List Lane) × IsFronted limit first (work self.old.counters.room trace.old) self.old.counters.ports.items before self.old.lanes.items }
         ensures takes { (before : List Lane) → IsFronted limit first (work self.old.counters.room trace.old) self.old.counters.ports.items before self.old.lanes.items → All HasNoneInHand before → TakesIn limit (record { work = work self.old.counters.room trace.old; lanes = before; ports = self.old.counters.ports.items }) (hall self.new trace.new) result }
-        ensures stands { Stands 256 self.old.counters.room trace.old self.new.counters.room trace.new }
+        ensures stands { MailroomStands 256 self.old.counters.room trace.old self.new.counters.room trace.new }
     {
         let taken = self
             .counters
@@ -138,7 +138,7 @@ impl Office {
     fn take_all(&mut self, book: &MsgBook, limit: usize, trace: &mut Vec<Event>) -> usize
         requires ready { IsReady 256 self.old.counters.room book.now trace.old }
         ensures takes { TakesIn limit (hall self.old trace.old) (hall self.new trace.new) result }
-        ensures stands { Stands 256 self.old.counters.room trace.old self.new.counters.room trace.new }
+        ensures stands { MailroomStands 256 self.old.counters.room trace.old self.new.counters.room trace.new }
     {
         make_room(&mut self.lanes);
         self.pay_owed(book, trace);
@@ -164,7 +164,7 @@ impl Office {
     fn take_in(&mut self, book: &MsgBook, limit: usize, trace: &mut Vec<Event>) -> usize
         requires ready { IsReady 256 self.old.counters.room book.now trace.old }
         ensures takes { TakesIn limit (hall self.old trace.old) (hall self.new trace.new) result }
-        ensures stands { Stands 256 self.old.counters.room trace.old self.new.counters.room trace.new }
+        ensures stands { MailroomStands 256 self.old.counters.room trace.old self.new.counters.room trace.new }
     {
         if self.owing || self.counters.uncleared || !have_none_in_hand(&self.lanes) {
             return self.take_all(book, limit, trace);

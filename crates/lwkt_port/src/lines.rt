@@ -1,7 +1,7 @@
 //! The two lanes that join a processor with another one, or with itself.
 ghost use Rattle.std.specs.Prelude.{◌≡◌, ◌++◌, ◌∷◌, [], ◌↔◌, None, IsTrue, IsSome, IfSome, Some, true, false, MatchOption};
 ghost use Rattle.lwkt_lane.specs.Lane.{in_hand};
-ghost use Rattle.lwkt_port.specs.Lines.{IsRoomed, HasPosted, IsDrained, HasPopped, HasNone, IsFound};
+ghost use Rattle.lwkt_port.specs.Lines.{IsRoomed, HasPosted, IsDrained, HasPopped, HasNone, HasFoundNote};
 
 use lwkt_lane::{LaneIn, LaneOut, Note};
 
@@ -51,7 +51,7 @@ pub(crate) fn pop(line: &mut Lane) -> Option<Note>
 #[inline(always)]
 pub(crate) fn has_note(line: &mut Lane) -> bool
     ensures none { result ≡ false → HasNone line.old line.new }
-    ensures found { result ≡ true → IsFound line.old line.new }
+    ensures found { result ≡ true → HasFoundNote line.old line.new }
 {
     if line.kept.is_some() {
         return true;

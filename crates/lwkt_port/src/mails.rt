@@ -1,6 +1,6 @@
 //! What the ports of a processor keep of each message.
 ghost use Rattle.std.specs.Prelude.{◌≡◌, ◌<◌, vec_len, vec_capacity};
-ghost use Rattle.lwkt_port.specs.Mails.{mail_at};
+ghost use Rattle.lwkt_port.specs.Mails.{kept_mail_at};
 
 use lwkt_base::{Rec, ThreadId};
 
@@ -28,7 +28,7 @@ pub struct Mail {
 /// What is kept of the message of this number.
 pub(crate) fn mail_of(mails: &Vec<Mail>, m: usize) -> Mail
     requires { m < vec_len mails.now }
-    ensures { result ≡ mail_at mails.now.items m }
+    ensures { result ≡ kept_mail_at mails.now.items m }
 {
     mails[m]
 }

@@ -2,7 +2,7 @@
 ghost use Rattle.std.specs.Prelude.{◌≡◌, ◌⊎◌, ℕ, ◌<◌, ◌≤◌, [], false, length, All, IfOk, MatchResult, ◌↔◌, IsTrue, vec_len, map};
 ghost use Rattle.lwkt_base.specs.declared.faults.Fault.TheVariants.{Limits};
 ghost use Rattle.lwkt_msg.specs.Desks.{cpu_of, cpus_of, messages_of};
-ghost use Rattle.lwkt_port.specs.Mails.{mail_at, AreMails};
+ghost use Rattle.lwkt_port.specs.Mails.{kept_mail_at, AreMails};
 ghost use Rattle.lwkt_port.specs.Openings.{new_mail, AreNewPorts, new_line, ArePaired, AreWithin, IsFresh, AreOrigins, IsOpenedPost};
 
 use crate::counters::Counters;

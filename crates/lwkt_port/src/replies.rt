@@ -1,8 +1,8 @@
 //! A thread replies to a message, and is given the reply that it waited for.
 ghost use Rattle.std.specs.Prelude.{◌≡◌, ◌↔◌, ◌+◌, ◌<◌, ◌≤◌, true, length, slice_set, All, vec_len, vec_capacity, None, IsTrue, OnOk, IfErr};
 ghost use Rattle.lwkt_msg.specs.Desks.{cpu_of, messages_of};
-ghost use Rattle.lwkt_port.specs.Mails.{mail_at};
-ghost use Rattle.lwkt_port.specs.Works.{work, Grew, IsReady, Stands, KeepsPorts, HasTaken};
+ghost use Rattle.lwkt_port.specs.Mails.{kept_mail_at};
+ghost use Rattle.lwkt_port.specs.Works.{work, Grew, IsReady, MailroomStands, KeepsPorts, HasTaken};
 ghost use Rattle.lwkt_port.specs.Posts.{IsSamePost};
 ghost use Rattle.lwkt_port.specs.Sendings.{answer_note, ReplyMeans, Answers, IsShownTo, PostReplies, PostRefusesReply};
 ghost use Rattle.lwkt_port.specs.Tellings.{Tells};
@@ -45,7 +45,7 @@ impl Mailroom {
         requires ready { IsReady 1 self.old book.now trace.old }
         requires taken { HasTaken msg self.old }
         ensures means { ReplyMeans msg error outcome line.old line.new (work self.old trace.old) (work self.new trace.new) result }
-        ensures stands { Stands 1 self.old trace.old self.new trace.new }
+        ensures stands { MailroomStands 1 self.old trace.old self.new trace.new }
     {
         if !has_room(line) {
             return false;
@@ -132,9 +132,9 @@ impl Ports {
     /// lwkt_waitmsg. That there is such a message is the caller's condition.
     pub fn done(&mut self, msg: MsgId) -> Option<Rec>
         requires { msg.0 < messages_of self.old.seat }
-        ensures reply { result ≡ (mail_at self.old.mails msg.0).done }
+        ensures reply { result ≡ (kept_mail_at self.old.mails msg.0).done }
         ensures same { IsSamePost self.old self.new }
-        ensures given { self.new ≡ record self.old { mails = slice_set self.old.mails msg.0 (record (mail_at self.old.mails msg.0) { done = None }) } }
+        ensures given { self.new ≡ record self.old { mails = slice_set self.old.mails msg.0 (record (kept_mail_at self.old.mails msg.0) { done = None }) } }
     {
         let m = usize::from(msg.0);
         let done = self.office.counters.room.mails[m].done;

@@ -3,8 +3,8 @@ ghost use Rattle.std.specs.Prelude.{◌≡◌, ◌↔◌, ◌+◌, ◌<◌, ◌�
 ghost use Rattle.lwkt_msg.specs.Desks.{cpu_of, cpus_of};
 ghost use Rattle.lwkt_msg.specs.Views.{no_flags};
 ghost use Rattle.lwkt_port.specs.Lines.{IsRoomed};
-ghost use Rattle.lwkt_port.specs.Mails.{mail_at};
-ghost use Rattle.lwkt_port.specs.Works.{work, Grew, IsReady, Stands, KeepsPorts};
+ghost use Rattle.lwkt_port.specs.Mails.{kept_mail_at};
+ghost use Rattle.lwkt_port.specs.Works.{work, Grew, IsReady, MailroomStands, KeepsPorts};
 ghost use Rattle.lwkt_port.specs.Sendings.{IsPortName, MaySend, SendsOver, RefusesOver, HasSentNote, WhyUnsent, PostSends, PostRefuses};
 ghost use Rattle.lwkt_port.specs.Posts.{IsSamePost};
 ghost use Rattle.lwkt_port.specs.Tellings.{Tells};
@@ -53,7 +53,7 @@ impl Mailroom {
         requires may { MaySend sending.now self.old.mails.items }
         requires target { sending.now.to.cpu.0 < cpus_of self.old.seat }
         ensures means { MatchResult result (λ _. SendsOver sending.now line.old line.new (work self.old trace.old) (work self.new trace.new)) (λ fault. RefusesOver sending.now line.old line.new (work self.old trace.old) (work self.new trace.new) fault) }
-        ensures stands { Stands 1 self.old trace.old self.new trace.new }
+        ensures stands { MailroomStands 1 self.old trace.old self.new trace.new }
         ensures line { line.new.kept ≡ line.old.kept }
     {
         if !has_room(line) {

@@ -5,8 +5,8 @@ ghost use Rattle.lwkt_msg.specs.Desks.{cpu_of, IsSameDesk};
 ghost use Rattle.lwkt_port.specs.Posts.{IsSamePost};
 ghost use Rattle.lwkt_port.specs.Sendings.{IsShownTo};
 ghost use Rattle.lwkt_port.specs.Tellings.{Tells};
-ghost use Rattle.lwkt_port.specs.Works.{work, Grew, IsReady, Stands, HasTaken, HasOwn};
-ghost use Rattle.lwkt_port.specs.Withdrawals.{IsOwnOf, Requests, IsUnasked, Drops, IsUntouched, MayAsk, MayDrop, IsHeard, PostAborts, PostRefusesAbort, PostDrops, PostRefusesDrop, PostHears, PostRefusesHearing};
+ghost use Rattle.lwkt_port.specs.Works.{work, Grew, IsReady, MailroomStands, HasTaken, HasOwn};
+ghost use Rattle.lwkt_port.specs.Withdrawals.{IsOwnOf, Requests, IsUnasked, Drops, IsUntouched, MayRefuseAbort, MayRefuseDrop, IsHeard, PostAborts, PostRefusesAbort, PostDrops, PostRefusesDrop, PostHears, PostRefusesHearing};
 
 use crate::mailrooms::Mailroom;
 use crate::mails::mail_of;
@@ -40,8 +40,8 @@ impl Mailroom {
         requires ready { IsReady 1 self.old book.now trace.old }
         requires own { HasOwn msg self.old }
         ensures requests { OnOk result (Requests msg (work self.old trace.old) (work self.new trace.new)) }
-        ensures refused { IfErr result (λ fault. MayAsk fault × IsUnasked msg (work self.old trace.old) (work self.new trace.new) fault) }
-        ensures stands { Stands 1 self.old trace.old self.new trace.new }
+        ensures refused { IfErr result (λ fault. MayRefuseAbort fault × IsUnasked msg (work self.old trace.old) (work self.new trace.new) fault) }
+        ensures stands { MailroomStands 1 self.old trace.old self.new trace.new }
     {
         let cpu = self.seat.cpu();
         match self.seat.abort(book, msg) {
@@ -60,8 +60,8 @@ impl Mailroom {
         requires ready { IsReady 1 self.old book.now trace.old }
         requires own { HasOwn msg self.old }
         ensures drops { IfOk result (λ rec. Drops msg (work self.old trace.old) (work self.new trace.new) rec) }
-        ensures refused { IfErr result (λ fault. MayDrop fault × IsUntouched msg (work self.old trace.old) (work self.new trace.new) fault) }
-        ensures stands { Stands 1 self.old trace.old self.new trace.new }
+        ensures refused { IfErr result (λ fault. MayRefuseDrop fault × IsUntouched msg (work self.old trace.old) (work self.new trace.new) fault) }
+        ensures stands { MailroomStands 1 self.old trace.old self.new trace.new }
     {
         let cpu = self.seat.cpu();
         let m = usize::from(msg.0);

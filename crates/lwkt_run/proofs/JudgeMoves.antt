@@ -15,11 +15,11 @@ use Rattle.lwkt_verdict.specs.declared.turns.Turn.{Turn}
 use Rattle.lwkt_verdict.specs.declared.turns.Pace.{Pace}
 use Rattle.lwkt_run.proofs.ChainMoves.{trace_chains}
 use Rattle.lwkt_run.specs.Keeping.{kept_as}
-use Rattle.lwkt_run.specs.Judging.{ArePlansOf, AreEndsOf, Judges}
-use Rattle.lwkt_run.specs.Run.{opening_of, ShowsClosing, RunsAt, IsJudgedBy}
+use Rattle.lwkt_run.specs.Judging.{ArePlansOf, AreEndsOf, IsVerdict}
+use Rattle.lwkt_run.specs.Run.{opening_of_script, ShowsClosing, RunsAt, IsJudgedBy}
 
 -- what was kept of a run is judged, whatever it is
-pub judged : (script : Script) (closing : Closing) (m : Machine) (pace : Pace) (order : List ℕ) (plans : List ThreadPlan) (ends : List ThreadEnd) (last : Final) (trace : List Event) (polls : List Poll) (turns : List Turn) → m ≡ opening_of script → ArePlansOf script.threads plans → AreEndsOf closing.threads.items ends → ShowsClosing closing last → RunsAt pace script order closing.threads.items (kept_as order turns polls) trace last → Judges closing.verdict m pace order plans ends last trace polls turns → AreWithin script.cpus script.tokens script.messages → AllOpenLawfully script.tokens → IsJudgedBy pace script closing order trace polls turns
+pub judged : (script : Script) (closing : Closing) (m : Machine) (pace : Pace) (order : List ℕ) (plans : List ThreadPlan) (ends : List ThreadEnd) (last : Final) (trace : List Event) (polls : List Poll) (turns : List Turn) → m ≡ opening_of_script script → ArePlansOf script.threads plans → AreEndsOf closing.threads.items ends → ShowsClosing closing last → RunsAt pace script order closing.threads.items (kept_as order turns polls) trace last → IsVerdict closing.verdict m pace order plans ends last trace polls turns → AreWithin script.cpus script.tokens script.messages → AllOpenLawfully script.tokens → IsJudgedBy pace script closing order trace polls turns
 judged script closing m pace order plans ends last trace polls turns same planned ended shown runs by within lawful = record {
   plans = plans;
   ends = ends;
@@ -29,11 +29,11 @@ judged script closing m pace order plans ends last trace polls turns same planne
   shows = shown;
   runs = runs;
   by = judges;
-  chains = λ good. trace_chains script.cpus script.tokens script.messages trace last within lawful (subst (λ (verdict : Verdict). Judges verdict (opening_of script) pace order plans ends last trace polls turns) good judges).0;
+  chains = λ good. trace_chains script.cpus script.tokens script.messages trace last within lawful (subst (λ (verdict : Verdict). IsVerdict verdict (opening_of_script script) pace order plans ends last trace polls turns) good judges).0;
 }
   where
-    judges : Judges closing.verdict (opening_of script) pace order plans ends last trace polls turns
-    judges = subst (λ x. Judges closing.verdict x pace order plans ends last trace polls turns) same by
+    judges : IsVerdict closing.verdict (opening_of_script script) pace order plans ends last trace polls turns
+    judges = subst (λ x. IsVerdict closing.verdict x pace order plans ends last trace polls turns) same by
 
 -- the same plans of the same threads
 pub plans_again : (specs threads : List ThreadSpec) (plans others : List ThreadPlan) → specs ≡ threads → others ≡ plans → ArePlansOf specs plans → ArePlansOf threads others

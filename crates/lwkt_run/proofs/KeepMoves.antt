@@ -13,7 +13,7 @@ use Rattle.lwkt_core.proofs.MachineMoves.{changed_at}
 use Rattle.lwkt_lane.proofs.PlaceMoves.{get_set_same, get_set_other}
 use Rattle.lwkt_verdict.specs.declared.turns.Poll.{Poll}
 use Rattle.lwkt_verdict.specs.Threads.{slot_of}
-use Rattle.lwkt_run.specs.Keeping.{last_place, with_answer, answered}
+use Rattle.lwkt_run.specs.Keeping.{last_place, with_answer, polls_answered}
 
 -- one poll more in front: its place, by that of the last one behind it
 abbrev in_front : Bool → Option ℕ → Option ℕ
@@ -48,17 +48,17 @@ place_set slot (x ∷ polls) (suc k) q r at same =
     ap F (place_set slot polls k q r at same)
 
 -- the last poll of a thread gets its answer, if there is one
-pub some_answered : (slot : ℕ) (told : Answer) (polls : List Poll) (place : ℕ) → last_place slot polls ≡ Some place → answered slot told polls ≡ changed (with_answer told) polls place
+pub some_answered : (slot : ℕ) (told : Answer) (polls : List Poll) (place : ℕ) → last_place slot polls ≡ Some place → polls_answered slot told polls ≡ changed (with_answer told) polls place
 some_answered slot told polls place is = ap (λ o. option_map_or (λ k. changed (with_answer told) polls k) o polls) is
 
-pub none_answered : (slot : ℕ) (told : Answer) (polls : List Poll) → last_place slot polls ≡ None → answered slot told polls ≡ polls
+pub none_answered : (slot : ℕ) (told : Answer) (polls : List Poll) → last_place slot polls ≡ None → polls_answered slot told polls ≡ polls
 none_answered slot told polls is = ap (λ o. option_map_or (λ k. changed (with_answer told) polls k) o polls) is
 
 changed_long : (told : Answer) (polls : List Poll) (k : ℕ) (o : Option Poll) → slice_get polls k ≡ o → length (changed (with_answer told) polls k) ≡ length polls
 changed_long told polls k None at = ap (λ o. length (option_map_or (λ x. slice_set polls k (with_answer told x)) o polls)) at
 changed_long told polls k (Some q) at = ap length (changed_at (with_answer told) polls k q at) ∙ length-set polls k (with_answer told q)
 
-pub answered_long : (slot : ℕ) (told : Answer) (polls : List Poll) → length (answered slot told polls) ≡ length polls
+pub answered_long : (slot : ℕ) (told : Answer) (polls : List Poll) → length (polls_answered slot told polls) ≡ length polls
 answered_long slot told polls = go (last_place slot polls)
   where
     go : (o : Option ℕ) → length (option_map_or (λ place. changed (with_answer told) polls place) o polls) ≡ length polls

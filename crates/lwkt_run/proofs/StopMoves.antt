@@ -19,10 +19,6 @@ use Rattle.lwkt_machine.specs.Opened.{IsOpenedMachine}
 use Rattle.lwkt_script.specs.declared.scripts.Script.{Script}
 use Rattle.lwkt_threads.specs.Driven.{IsDrivenMachine}
 
--- processors are at their numbers
-AreNumbered : List (Processor Scripted) → Type 0
-AreNumbered cpus = (k : ℕ) (p : Processor Scripted) → slice_get cpus k ≡ Some p → p.seat.cpu.0 ≡ k
-
 -- so many processors are at their numbers, and each event is of one of them
 record IsOfThem (n : ℕ) (x : Stage) : Type 0 where
   as_many : length x.cpus ≡ n

@@ -22,7 +22,7 @@ use Rattle.lwkt_machine.specs.Opened.{IsOpenedMachine}
 use Rattle.lwkt_report.specs.declared.closings.ThreadLine.{ThreadLine}
 use Rattle.lwkt_script.specs.declared.scripts.Script.{Script}
 use Rattle.lwkt_threads.specs.Driven.{IsDrivenMachine}
-use Rattle.lwkt_threads.specs.Parts.{parts_of}
+use Rattle.lwkt_threads.specs.Parts.{parts_from}
 use Rattle.lwkt_threads.proofs.PartMoves.{threads_tell}
 use Rattle.lwkt_run.specs.Leaving.{Leaves}
 use Rattle.lwkt_run.specs.Running.{HasThreads, ShowThreads}
@@ -73,7 +73,7 @@ ended answers script lines last opened driven traces none stops told sections op
         tells = tells;
         tokens_from = tokens;
         messages_from = messages;
-        one = one_run script.cpus script.tokens script.messages opened leaves.closed last (parts_of 0 traces stops.items) tells tokens messages leaves.rows leaves.gens leaves.tallies leaves.blobs leaves.messages;
+        one = one_run script.cpus script.tokens script.messages opened leaves.closed last (parts_from 0 traces stops.items) tells tokens messages leaves.rows leaves.gens leaves.tallies leaves.blobs leaves.messages;
       };
       told = subst (λ (events : List Event). IsPermutation (sections_of_all traces events) sections) are same;
       sorted = sorted;

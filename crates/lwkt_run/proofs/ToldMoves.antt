@@ -14,7 +14,7 @@ use Rattle.lwkt_core.specs.History.{events_by}
 use Rattle.lwkt_core.specs.RunSections.{section_in, sections_told, sections_by}
 use Rattle.lwkt_core.proofs.PartLemmas.{permutation_same, flat_map-kept, flat_map-parted}
 use Rattle.lwkt_hold.specs.Steps.{may_be_untold, is_of_token, Tells}
-use Rattle.lwkt_threads.specs.Parts.{of_cpu, parts_of}
+use Rattle.lwkt_threads.specs.Parts.{of_cpu, parts_from}
 use Rattle.lwkt_run.specs.Telling.{sections_of_all}
 
 -- an event that may be untold, or is of no token, tells no section
@@ -63,17 +63,17 @@ four {B} a b c d =
 
 -- the parts of processors tell what their traces tell, and what the stops of each tell
 parts_apart : (n : ℕ) (traces : List (Vec Event Global)) (stops : List Event)
-    → IsPermutation (flat_map sections_told (parts_of n traces stops)) (flat_map (λ t. sections_told t.items) traces ++ flat_map (λ k. sections_told (of_cpu k stops)) (range_with_len n (length traces)))
+    → IsPermutation (flat_map sections_told (parts_from n traces stops)) (flat_map (λ t. sections_told t.items) traces ++ flat_map (λ k. sections_told (of_cpu k stops)) (range_with_len n (length traces)))
 parts_apart n [] stops = IsPermutation-refl []
 parts_apart n (trace ∷ traces) stops =
     let own : List Section = sections_told trace.items in
     let end : List Section = sections_told (of_cpu n stops) in
     let others : List Section = flat_map (λ (t : Vec Event Global). sections_told t.items) traces in
     let ends : List Section = flat_map (λ k. sections_told (of_cpu k stops)) (range_with_len (n + 1) (length traces)) in
-    IsPermutation-trans _ _ _ (permutation_same _ _ (ap (λ l. l ++ flat_map sections_told (parts_of (n + 1) traces stops)) (flat_map-append section_in trace.items (of_cpu n stops))))
+    IsPermutation-trans _ _ _ (permutation_same _ _ (ap (λ l. l ++ flat_map sections_told (parts_from (n + 1) traces stops)) (flat_map-append section_in trace.items (of_cpu n stops))))
     (IsPermutation-trans _ _ _ (IsPermutation-append_right (own ++ end) _ _ (parts_apart (n + 1) traces stops)) (four own end others ends))
 
-parts_long : (n : ℕ) (traces : List (Vec Event Global)) (stops : List Event) → length (parts_of n traces stops) ≡ length traces
+parts_long : (n : ℕ) (traces : List (Vec Event Global)) (stops : List Event) → length (parts_from n traces stops) ≡ length traces
 parts_long n [] stops = refl
 parts_long n (trace ∷ traces) stops = let rest = parts_long (n + 1) traces stops in omega arith
 
@@ -86,10 +86,10 @@ stops_apart cpus stops own =
 
 -- where each processor's part of a run is told by its trace and by its events of the stops, what the processors tell of the run and
 -- what is told are the same sections
-pub told_by_all : (history : List Deed) (traces : List (Vec Event Global)) (stops : List Event) → ((cpu : ℕ) (part : List Event) → slice_get (parts_of 0 traces stops) cpu ≡ Some part → Tells (events_by cpu history) (filter is_of_token part)) → All (λ e. cpu_of e < length traces) stops
+pub told_by_all : (history : List Deed) (traces : List (Vec Event Global)) (stops : List Event) → ((cpu : ℕ) (part : List Event) → slice_get (parts_from 0 traces stops) cpu ≡ Some part → Tells (events_by cpu history) (filter is_of_token part)) → All (λ e. cpu_of e < length traces) stops
     → IsPermutation (sections_by (length traces) history) (sections_of_all traces stops)
 told_by_all history traces stops told own =
-    let parts = parts_of 0 traces stops in
+    let parts = parts_from 0 traces stops in
     let each : (k : ℕ) (part : List Event) → slice_get parts k ≡ Some part → sections_told (events_by (0 + k) history) ≡ sections_told part = λ k part at.
     let z : 0 + k ≡ k = omega arith in
     ap (λ (j : ℕ). sections_told (events_by j history)) z ∙ sym (tells_sections (events_by k history) (filter is_of_token part) (told k part at)) ∙ token_sections part in

@@ -16,7 +16,7 @@ use Rattle.lwkt_machine.specs.Ended.{stage}
 use Rattle.lwkt_machine.specs.Machines.{Rig}
 use Rattle.lwkt_machine.specs.Opened.{IsOpenedMachine}
 use Rattle.lwkt_script.specs.declared.scripts.Script.{Script}
-use Rattle.lwkt_threads.specs.Parts.{of_cpu, parts_of, TellTheRuns}
+use Rattle.lwkt_threads.specs.Parts.{of_cpu, parts_from, TellTheRuns}
 use Rattle.lwkt_threads.proofs.PartMoves.{IsToldAt, AreTold, told_opened, told_moved, rest_tells}
 use Rattle.lwkt_run.specs.Keeping.{Kept, none_kept}
 use Rattle.lwkt_run.specs.Leaving.{Leaves}
@@ -75,14 +75,14 @@ stands_opened script opened first opens none = record {
 }
 
 -- one trace of all, and so many empty ones
-parts_same : (k n : ℕ) (none : Vec Event Global) (events : List Event) → none.items ≡ [] → parts_of k (replicate n none) events ≡ map (λ cpu. of_cpu cpu events) (range_with_len k n)
+parts_same : (k n : ℕ) (none : Vec Event Global) (events : List Event) → none.items ≡ [] → parts_from k (replicate n none) events ≡ map (λ cpu. of_cpu cpu events) (range_with_len k n)
 parts_same k zero none events is = refl
 parts_same k (suc n) none events is =
-    ap (λ (es : List Event). (es ++ of_cpu k events) ∷ parts_of (k + 1) (replicate n none) events) is ∙ ap (λ (l : List (List Event)). of_cpu k events ∷ l) (parts_same (k + 1) n none events is)
+    ap (λ (es : List Event). (es ++ of_cpu k events) ∷ parts_from (k + 1) (replicate n none) events) is ∙ ap (λ (l : List (List Event)). of_cpu k events ∷ l) (parts_same (k + 1) n none events is)
 
 stands_tells : (script : Script) (opened : Rig) (first : Vec Event Global) (z : Scene) (whole : Vec Event Global) (last : Final) (leaves : Leaves z.machine z.trace whole last) → IsOpenedMachine script opened → AreWithin script.cpus script.tokens script.messages → first.items ≡ [] → Stands (replicate (length opened.cpus) first) opened z → TellsOneRun script opened leaves.closed last whole.items
 stands_tells script opened first z whole last leaves opens within none s =
-    let parts : parts_of 0 (replicate (length opened.cpus) first) whole.items ≡ parts_in script.cpus whole.items = parts_same 0 (length opened.cpus) first whole.items none ∙ ap (λ (n : ℕ). parts_in n whole.items) opens.as_many in
+    let parts : parts_from 0 (replicate (length opened.cpus) first) whole.items ≡ parts_in script.cpus whole.items = parts_same 0 (length opened.cpus) first whole.items none ∙ ap (λ (n : ℕ). parts_in n whole.items) opens.as_many in
     let tells : TellTheRuns opened leaves.closed (parts_in script.cpus whole.items) = subst (λ ps. TellTheRuns opened leaves.closed ps) parts
     (rest_tells opened z.machine leaves.stopped (replicate (length opened.cpus) first) z.trace whole leaves.closed (length-replicate (length opened.cpus) first) s.bank s.book s.told leaves.stops leaves.closes) in
     record {

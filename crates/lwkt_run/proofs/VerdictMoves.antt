@@ -13,7 +13,7 @@ use Rattle.lwkt_verdict.specs.declared.turns.Poll.{Poll}
 use Rattle.lwkt_verdict.specs.declared.turns.Turn.{Turn}
 use Rattle.lwkt_verdict.specs.declared.turns.Pace.{Pace}
 use Rattle.lwkt_verdict.specs.Run.{IsScriptRun}
-use Rattle.lwkt_run.specs.Judging.{Judges}
+use Rattle.lwkt_run.specs.Judging.{IsVerdict}
 
 -- behind the last event nothing stands
 nothing_behind : (es : List Event) → slice_get es (length es) ≡ None
@@ -35,7 +35,7 @@ fails_at_end m n es last run not = record {
 
 module _ (opening : Machine) (pace : Pace) (order : List ℕ) (plans : List ThreadPlan) (ends : List ThreadEnd) (last : Final) (trace : List Event) (polls : List Poll) (turns : List Turn) where
   abbrev Judged : Verdict → Type 0
-  Judged verdict = Judges verdict opening pace order plans ends last trace polls turns
+  Judged verdict = IsVerdict verdict opening pace order plans ends last trace polls turns
 
   -- the turns are a run, whose trace led to a machine: its close decides
   pub judged_by_close : (verdict : Verdict) (n : Machine) → IsScriptRun plans pace order opening polls turns trace ends → Run opening trace n → (Closes n last × (verdict ≡ Lawful)) ⊎ ((Closes n last → ⊥) × (verdict ≡ Unlawful (length trace))) → Judged verdict

@@ -42,8 +42,8 @@ pub record AreEndsOf (lines : List ThreadLine) (ends : List ThreadEnd) : Type 0 
 -- the verdict on a trace and the turns of an order that made it: lawful if the trace leads from the opening to the closing values
 -- and the turns are a run of the script along the order, at this pace, over it; else the first event that can't happen, or the number of events, if the close or the
 -- run alone isn't so
-abbrev pub Judges : Verdict → Machine → Pace → List ℕ → List ThreadPlan → List ThreadEnd → Final → List Event → List Poll → List Turn → Type 0
-Judges Closed opening pace order plans ends last trace polls turns = ⊥
-Judges Lawful opening pace order plans ends last trace polls turns = IsLawfulTrace opening trace last × IsScriptRun plans pace order opening polls turns trace ends
-Judges (Unlawful index) opening pace order plans ends last trace polls turns =
+abbrev pub IsVerdict : Verdict → Machine → Pace → List ℕ → List ThreadPlan → List ThreadEnd → Final → List Event → List Poll → List Turn → Type 0
+IsVerdict Closed opening pace order plans ends last trace polls turns = ⊥
+IsVerdict Lawful opening pace order plans ends last trace polls turns = IsLawfulTrace opening trace last × IsScriptRun plans pace order opening polls turns trace ends
+IsVerdict (Unlawful index) opening pace order plans ends last trace polls turns =
     FailsAt opening trace last index ⊎ (IsLawfulTrace opening trace last × ((index ≡ length trace) × ¬ IsScriptRun plans pace order opening polls turns trace ends))

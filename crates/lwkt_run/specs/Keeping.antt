@@ -35,14 +35,14 @@ abbrev pub with_answer : Answer → Poll → Poll
 with_answer told q = record q { answer = Some told }
 
 -- polls, of which the last one of a thread, if it has one, gets its answer
-abbrev pub answered : ℕ → Answer → List Poll → List Poll
-answered slot told polls = option_map_or (λ place. changed (with_answer told) polls place) (last_place slot polls) polls
+abbrev pub polls_answered : ℕ → Answer → List Poll → List Poll
+polls_answered slot told polls = option_map_or (λ place. changed (with_answer told) polls place) (last_place slot polls) polls
 
 -- the polls after a turn, by what it asked: where it polled a thread, that thread's last poll before has the answer that it was given
 -- now, and behind all stands the new one, without an answer
 abbrev pub polls_after : Option Polled → List Poll → List Poll
 polls_after None polls = polls
-polls_after (Some p) polls = answered (slot_of p.thread) p.told polls ++ record { answer = None; ask = p.asked; thread = p.thread } ∷ []
+polls_after (Some p) polls = polls_answered (slot_of p.thread) p.told polls ++ record { answer = None; ask = p.asked; thread = p.thread } ∷ []
 
 -- a turn of so many events, by what it asked, where there were so many polls before: the place of its poll, as far as 32 bits go
 abbrev pub turn_of : Option Polled → ℕ → ℕ → Turn

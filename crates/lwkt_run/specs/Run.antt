@@ -39,15 +39,15 @@ use Rattle.lwkt_run.specs.Keeping.{Kept, kept_as, none_kept}
 use Rattle.lwkt_run.specs.Values.{is_tally}
 use Rattle.lwkt_run.specs.Leaving.{Leaves}
 use Rattle.lwkt_run.specs.Running.{ShowThreads, scene, HasMadeRounds, MakesTurns}
-use Rattle.lwkt_run.specs.Judging.{ids_of, ArePlansOf, AreEndsOf, Judges}
+use Rattle.lwkt_run.specs.Judging.{ids_of, ArePlansOf, AreEndsOf, IsVerdict}
 use Rattle.lwkt_run.specs.declared.reports.Done.{Done}
 use Rattle.lwkt_run.specs.declared.runs.End.{End}
 use Rattle.lwkt_run.specs.declared.runs.TurnsRun.{TurnsRun}
 use Rattle.lwkt_run.specs.declared.runs.End.TheVariants.{Ended, TurnsOut, Unlawful as UnlawfulEnd}
 
 -- the machine at the opening of a script
-abbrev pub opening_of : Script → Machine
-opening_of script = opening script.cpus script.tokens script.messages
+abbrev pub opening_of_script : Script → Machine
+opening_of_script script = opening script.cpus script.tokens script.messages
 
 -- the token and message lines of a report show these closing values
 pub record ShowsClosing (closing : Closing) (last : Final) : Type 0 where
@@ -119,8 +119,8 @@ pub record IsJudgedBy (pace : Pace) (script : Script) (closing : Closing) (order
   pub are_ends : AreEndsOf closing.threads.items ends
   pub shows : ShowsClosing closing last
   pub runs : RunsAt pace script order closing.threads.items (kept_as order turns polls) trace last
-  pub by : Judges closing.verdict (opening_of script) pace order plans ends last trace polls turns
-  pub chains : closing.verdict ≡ Lawful → WritesChains (opening_of script) trace last
+  pub by : IsVerdict closing.verdict (opening_of_script script) pace order plans ends last trace polls turns
+  pub chains : closing.verdict ≡ Lawful → WritesChains (opening_of_script script) trace last
 
 -- there are a trace and turns of an order with their polls on which the report gives its verdict
 pub record IsJudged (pace : Pace) (script : Script) (closing : Closing) : Type 0 where
@@ -227,13 +227,13 @@ Concludes old new (Err refusal) (Err (Fault fault)) = (fault ≡ refusal) × Kee
 Concludes old new _ _ = ⊥
 
 -- the exit status of the program (own)
-abbrev pub status_of : Result End RunFault → ℕ
-status_of (Ok Ended) = 0
-status_of (Ok TurnsOut) = 2
-status_of (Ok UnlawfulEnd) = 4
-status_of (Err (Fault (Memory refused))) = 3
-status_of (Err (Fault _)) = 1
-status_of (Err Stream) = 3
+abbrev pub exit_status : Result End RunFault → ℕ
+exit_status (Ok Ended) = 0
+exit_status (Ok TurnsOut) = 2
+exit_status (Ok UnlawfulEnd) = 4
+exit_status (Err (Fault (Memory refused))) = 3
+exit_status (Err (Fault _)) = 1
+exit_status (Err Stream) = 3
 
 -- what the program writes after a run: nothing more after a whole report, else the fault line
 abbrev pub SaysAfterRun : Bool → Option (List ℕ) → Option (List ℕ) → Result End RunFault → Type 0
@@ -243,7 +243,7 @@ SaysAfterRun failed old new (Err fault) = IsSaid failed old new (fault_line RunP
 -- what the program does where its one argument is right: it runs, answers the status and writes the line; it blames a stream only
 -- where one has failed
 abbrev pub RunsAs : Bool → Bool → Option (List ℕ) → Option (List ℕ) → Option (List ℕ) → ℕ → Type 0
-RunsAs source_failed sink_failed left old new status = (outcome : Result End RunFault) × ((mid : Option (List ℕ)) × (Tells left old mid outcome × (SaysAfterRun sink_failed mid new outcome × (BlamesFailed source_failed sink_failed outcome × (status ≡ status_of outcome)))))
+RunsAs source_failed sink_failed left old new status = (outcome : Result End RunFault) × ((mid : Option (List ℕ)) × (Tells left old mid outcome × (SaysAfterRun sink_failed mid new outcome × (BlamesFailed source_failed sink_failed outcome × (status ≡ exit_status outcome)))))
 
 -- the arguments are the one word `turns`
 abbrev pub AsksTurns : List (String Global) → Type 0

@@ -77,8 +77,8 @@ abbrev pub scene : Rig → Vec Event Global → Kept → Scene
 scene machine trace kept = record { machine = machine; trace = trace; kept = kept }
 
 -- what a record keeps
-abbrev pub kept_of : Record → Kept
-kept_of r = kept_as r.order.items r.turns.items r.polls
+abbrev pub kept_in_record : Record → Kept
+kept_in_record r = kept_as r.order.items r.turns.items r.polls
 
 -- the processor of this number makes a turn, which says this; and it is kept as it was: with its processor, the number of events by
 -- which the trace grew, and what it asked

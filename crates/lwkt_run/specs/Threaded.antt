@@ -14,7 +14,7 @@ use Rattle.lwkt_msg.specs.Told.{first_mails}
 use Rattle.lwkt_machine.specs.Machines.{Rig}
 use Rattle.lwkt_machine.specs.Opened.{IsOpenedMachine}
 use Rattle.lwkt_threads.specs.Driven.{IsDrivenMachine}
-use Rattle.lwkt_threads.specs.Parts.{parts_of, TellTheRuns}
+use Rattle.lwkt_threads.specs.Parts.{parts_from, TellTheRuns}
 use Rattle.lwkt_report.specs.declared.closings.Closing.{Closing}
 use Rattle.lwkt_report.specs.declared.closings.ThreadLine.{ThreadLine}
 use Rattle.lwkt_report.specs.declared.closings.Verdict.TheVariants.{Closed}
@@ -32,7 +32,7 @@ use Rattle.lwkt_run.specs.Judging.{ids_of}
 use Rattle.lwkt_run.specs.Leaving.{Leaves}
 use Rattle.lwkt_run.specs.Running.{ShowThreads}
 use Rattle.lwkt_run.specs.Values.{is_tally}
-use Rattle.lwkt_run.specs.Run.{ShowsClosing, end_told, TellsBy, SaysAfterRun, status_of, AsksTurns}
+use Rattle.lwkt_run.specs.Run.{ShowsClosing, end_told, TellsBy, SaysAfterRun, exit_status, AsksTurns}
 
 -- the closing values and lines of threads of a run on threads: the script's machine was opened, and its processors were driven, each
 -- making turns where the gate may have said so, until a limit of the script was reached, the gate said no, every thread of its own
@@ -50,10 +50,10 @@ pub record RunsOnThreads (answers : CpuId → ℕ → Bool → Type 0) (script :
   pub empty : none.items ≡ []
   pub shown : ShowThreads lines driven
   pub leaves : Leaves driven none stops last
-  pub tells : TellTheRuns opened leaves.closed (parts_of 0 traces stops.items)
+  pub tells : TellTheRuns opened leaves.closed (parts_from 0 traces stops.items)
   pub tokens_from : first_machine opened.bank.plans (length opened.cpus) ≡ opening script.cpus script.tokens []
   pub messages_from : machine_of opened.book.cpus (first_mails opened.book.specs) ≡ opening script.cpus [] script.messages
-  pub one : AreOneRun script.cpus script.tokens script.messages last (parts_of 0 traces stops.items)
+  pub one : AreOneRun script.cpus script.tokens script.messages last (parts_from 0 traces stops.items)
 
 -- what stands of a run on threads at its end: its closing values, the lines of its threads, and the written sections that its traces
 -- and its stop tell, by token and generation
@@ -106,12 +106,12 @@ lets_all cpu turn answer = answer ≡ true
 -- what the program does where its one argument is `threads`: it runs, answers the status and writes the line; it blames a stream
 -- only where one has failed
 abbrev pub RunsOnThreadsAs : Bool → Bool → Option (List ℕ) → Option (List ℕ) → Option (List ℕ) → ℕ → Type 0
-RunsOnThreadsAs source_failed sink_failed left old new status = (outcome : Result End RunFault) × ((mid : Option (List ℕ)) × (TellsOnThreads lets_all left old mid outcome × (SaysAfterRun sink_failed mid new outcome × (BlamesFailed source_failed sink_failed outcome × (status ≡ status_of outcome)))))
+RunsOnThreadsAs source_failed sink_failed left old new status = (outcome : Result End RunFault) × ((mid : Option (List ℕ)) × (TellsOnThreads lets_all left old mid outcome × (SaysAfterRun sink_failed mid new outcome × (BlamesFailed source_failed sink_failed outcome × (status ≡ exit_status outcome)))))
 
 -- the arguments are the one word `threads`
 abbrev pub AsksThreads : List (String Global) → Type 0
 AsksThreads words = (length words ≡ 1) × All (λ word. string_bytes word ≡ codes "threads") words
 
 -- the arguments ask for no run
-abbrev pub IsMisused : List (String Global) → Type 0
-IsMisused words = (¬ AsksTurns words) × (¬ AsksThreads words)
+abbrev pub AsksNoRun : List (String Global) → Type 0
+AsksNoRun words = (¬ AsksTurns words) × (¬ AsksThreads words)

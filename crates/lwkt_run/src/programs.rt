@@ -1,7 +1,7 @@
 ghost use Rattle.std.specs.Prelude.{◌≡◌, ◌↔◌, IsTrue};
 ghost use Rattle.lwkt_report.specs.Complaint.{fault_line, IsSaid};
-ghost use Rattle.lwkt_run.specs.Run.{RunsAs, AsksTurns, status_of, SaysAfterRun};
-ghost use Rattle.lwkt_run.specs.Threaded.{RunsOnThreadsAs, AsksThreads, IsMisused};
+ghost use Rattle.lwkt_run.specs.Run.{RunsAs, AsksTurns, exit_status, SaysAfterRun};
+ghost use Rattle.lwkt_run.specs.Threaded.{RunsOnThreadsAs, AsksThreads, AsksNoRun};
 
 use crate::runs::{End, run_turns};
 use crate::threaded::run_threads;
@@ -11,8 +11,8 @@ use std::alloc::Global;
 use std::thread::Threads;
 
 // The exit status of an outcome.
-fn status_of(outcome: &Result<End, RunFault>) -> u8
-    ensures { result ≡ status_of outcome.now }
+fn exit_status(outcome: &Result<End, RunFault>) -> u8
+    ensures { result ≡ exit_status outcome.now }
 {
     match outcome {
         Ok(End::Ended) => 0,
@@ -29,13 +29,13 @@ fn status_of(outcome: &Result<End, RunFault>) -> u8
 pub fn finish<K: Sink>(sink: &mut K, outcome: &Result<End, RunFault>) -> u8
     ensures line { SaysAfterRun (K.has_failed sink.new) (K.contents sink.old) (K.contents sink.new) outcome.now }
     ensures failed { IsTrue (K.has_failed sink.old) → IsTrue (K.has_failed sink.new) }
-    ensures status { result ≡ status_of outcome.now }
+    ensures status { result ≡ exit_status outcome.now }
 {
     match *outcome {
         Ok(_) => {}
         Err(fault) => complain(sink, Program::Run, complaint_of(fault)),
     }
-    status_of(outcome)
+    exit_status(outcome)
 }
 
 /// Whether the arguments are the one word `turns`.
@@ -67,8 +67,8 @@ pub fn run_program<R: Threads + Sync, S: Source, K: Sink>(
 ) -> u8
     ensures turns { AsksTurns words.now → RunsAs (S.has_failed source.new) (K.has_failed sink.new) (S.left source.old) (K.contents sink.old) (K.contents sink.new) result }
     ensures threads { AsksThreads words.now → RunsOnThreadsAs (S.has_failed source.new) (K.has_failed sink.new) (S.left source.old) (K.contents sink.old) (K.contents sink.new) result }
-    ensures usage { IsMisused words.now → (result ≡ 1) × IsSaid (K.has_failed sink.new) (K.contents sink.old) (K.contents sink.new) (fault_line Program.Run Complaint.Usage) }
-    ensures unread { IsMisused words.now → source.new ≡ source.old }
+    ensures usage { AsksNoRun words.now → (result ≡ 1) × IsSaid (K.has_failed sink.new) (K.contents sink.old) (K.contents sink.new) (fault_line Program.Run Complaint.Usage) }
+    ensures unread { AsksNoRun words.now → source.new ≡ source.old }
 {
     if asks_turns(words) {
         let outcome = run_turns(alloc, source, sink);

@@ -34,7 +34,7 @@ fn place_behind(before: usize) -> u32
 impl Record {
     ghost use Rattle.std.specs.Prelude.{IfSome, OnOk, option_map};
     ghost use Rattle.lwkt_verdict.specs.Threads.{slot_of};
-    ghost use Rattle.lwkt_run.specs.Keeping.{polled_of, none_kept, kept_as, answered, polls_after, Keeps};
+    ghost use Rattle.lwkt_run.specs.Keeping.{polled_of, none_kept, kept_as, polls_answered, polls_after, Keeps};
 
     /// Nothing kept yet. Takes no memory.
     pub fn new(alloc: Global) -> Self
@@ -51,7 +51,7 @@ impl Record {
     // The last poll of a thread, if it was polled before, gets its answer.
     fn answer(&mut self, slot: usize, told: &Answer) -> Result<(), AllocError>
         requires { slot < 128 }
-        ensures polls { OnOk result (self.new.polls ≡ answered slot told.now self.old.polls) }
+        ensures polls { OnOk result (self.new.polls ≡ polls_answered slot told.now self.old.polls) }
         ensures turns { self.new.turns ≡ self.old.turns }
         ensures order { self.new.order ≡ self.old.order }
     {

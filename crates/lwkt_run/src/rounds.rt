@@ -3,7 +3,7 @@ ghost use Rattle.std.specs.Prelude.{◌≡◌, ◌<◌, ◌≤◌, ◌++◌, All
 ghost use Rattle.lwkt_cpu.specs.declared.answers.Turned.{Turned};
 ghost use Rattle.lwkt_verdict.specs.Threads.{slot_of};
 ghost use Rattle.lwkt_run.specs.Keeping.{polled_of};
-ghost use Rattle.lwkt_run.specs.Running.{WasPolled, HasPolled, IsPolledAt, HasAsked, MakesKeptTurn, kept_of, scene, says_over, both as both_so, RoundTold, HasMadeRounds, MakesTurns};
+ghost use Rattle.lwkt_run.specs.Running.{WasPolled, HasPolled, IsPolledAt, HasAsked, MakesKeptTurn, kept_in_record, scene, says_over, both as both_so, RoundTold, HasMadeRounds, MakesTurns};
 ghost use Rattle.lwkt_base.specs.Fault.{no_memory};
 
 use crate::polled::PolledRef;
@@ -67,7 +67,7 @@ fn make_turn(
 ) -> Result<bool, Fault>
     requires there { cpu < length machine.old.cpus }
     requires few { length machine.old.cpus ≤ 8 }
-    ensures ok { IfOk result (λ over. (turned : Turned) × (MakesKeptTurn cpu turned (scene machine.old trace.old (kept_of kept.old)) (scene machine.new trace.new (kept_of kept.new)) × (over ≡ says_over turned))) }
+    ensures ok { IfOk result (λ over. (turned : Turned) × (MakesKeptTurn cpu turned (scene machine.old trace.old (kept_in_record kept.old)) (scene machine.new trace.new (kept_in_record kept.new)) × (over ≡ says_over turned))) }
     ensures as_many { length machine.new.cpus ≡ length machine.old.cpus }
     ensures only { OnErr result (result ≡ Err no_memory) }
 {
@@ -87,7 +87,7 @@ fn make_round(
     trace: &mut Vec<Event>,
     kept: &mut Record,
 ) -> Result<bool, Fault>
-    ensures ok { IfOk result (λ over. RoundTold (scene machine.old trace.old (kept_of kept.old)) (scene machine.new trace.new (kept_of kept.new)) over) }
+    ensures ok { IfOk result (λ over. RoundTold (scene machine.old trace.old (kept_in_record kept.old)) (scene machine.new trace.new (kept_in_record kept.new)) over) }
     ensures only { OnErr result (result ≡ Err no_memory) }
 {
     let mut over = true;
@@ -111,7 +111,7 @@ pub fn make_turns(
 ) -> Result<(), Fault>
     requires processors { All (λ x. x < length machine.old.cpus) order.now }
     requires few { length machine.old.cpus ≤ 8 }
-    ensures ok { OnOk result (MakesTurns order.now (scene machine.old trace.old (kept_of kept.old)) (scene machine.new trace.new (kept_of kept.new))) }
+    ensures ok { OnOk result (MakesTurns order.now (scene machine.old trace.old (kept_in_record kept.old)) (scene machine.new trace.new (kept_in_record kept.new))) }
     ensures order { OnOk result (kept.new.order.items ≡ kept.old.order.items ++ order.now) }
     ensures only { OnErr result (result ≡ Err no_memory) }
 {
@@ -131,7 +131,7 @@ pub fn make_rounds(
     trace: &mut Vec<Event>,
     kept: &mut Record,
 ) -> Result<(), Fault>
-    ensures ok { OnOk result (HasMadeRounds limit (scene machine.old trace.old (kept_of kept.old)) (scene machine.new trace.new (kept_of kept.new))) }
+    ensures ok { OnOk result (HasMadeRounds limit (scene machine.old trace.old (kept_in_record kept.old)) (scene machine.new trace.new (kept_in_record kept.new))) }
     ensures only { OnErr result (result ≡ Err no_memory) }
 {
     for _round in 0..limit {

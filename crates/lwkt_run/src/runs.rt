@@ -3,9 +3,9 @@ ghost use Rattle.std.specs.List.{list_all};
 ghost use Rattle.lwkt_core.specs.Opening.{AreWithin, AllOpenLawfully};
 ghost use Rattle.lwkt_machine.specs.Opened.{AreFew};
 ghost use Rattle.lwkt_run.specs.Judging.{ids_of};
-ghost use Rattle.lwkt_run.specs.Running.{kept_of};
+ghost use Rattle.lwkt_run.specs.Running.{kept_in_record};
 ghost use Rattle.lwkt_run.specs.Values.{is_tally, AreValuesOf};
-ghost use Rattle.lwkt_run.specs.Run.{opening_of, RunsInRounds, RunsAlong, RunsAt, IsJudgedBy, MayClose, IsTurnsRun, IsOrderRun, DeclinesAlong, RefusesAlong, has_ended, end_told, HasRun, Declines, Refuses, Tells};
+ghost use Rattle.lwkt_run.specs.Run.{opening_of_script, RunsInRounds, RunsAlong, RunsAt, IsJudgedBy, MayClose, IsTurnsRun, IsOrderRun, DeclinesAlong, RefusesAlong, has_ended, end_told, HasRun, Declines, Refuses, Tells};
 
 use crate::endings::{Left, left_by};
 use crate::lines::token_lines;
@@ -63,13 +63,13 @@ fn closing_of(
     trace: &[Event],
     kept: &Record,
 ) -> Result<Closing, AllocError>
-    requires opening { opening ≡ opening_of script.now }
-    requires again { again ≡ opening_of script.now }
+    requires opening { opening ≡ opening_of_script script.now }
+    requires again { again ≡ opening_of_script script.now }
     requires within { AreWithin script.now.cpus script.now.tokens script.now.messages }
     requires lawful { AllOpenLawfully script.now.tokens }
     requires values { AreValuesOf script.now.tokens left.last }
     requires threads { map (λ line. line.id) left.threads.items ≡ ids_of script.now.cpus script.now.threads }
-    requires runs { RunsAt pace script.now kept.now.order.items left.threads.items (kept_of kept.now) trace.now left.last }
+    requires runs { RunsAt pace script.now kept.now.order.items left.threads.items (kept_in_record kept.now) trace.now left.last }
     ensures kinds { IfOk result (λ closing. map (λ line. is_some line.tallies) closing.tokens.items ≡ map (λ spec. is_tally spec.law) script.now.tokens) }
     ensures threads { IfOk result (λ closing. map (λ line. line.id) closing.threads.items ≡ ids_of script.now.cpus script.now.threads) }
     ensures judged { IfOk result (λ closing. IsJudgedBy pace script.now closing kept.now.order.items trace.now kept.now.polls kept.now.turns.items) }
@@ -101,7 +101,7 @@ fn closing_of(
 // The opening state of a script.
 fn opened(alloc: Global, script: &Script) -> Result<State, Fault>
     requires few { AreFew script.now.cpus script.now.threads }
-    ensures ok { IfOk result (λ state. state ≡ opening_of script.now) }
+    ensures ok { IfOk result (λ state. state ≡ opening_of_script script.now) }
     ensures within { OnOk result (AreWithin script.now.cpus script.now.tokens script.now.messages) }
     ensures lawful { OnOk result (AllOpenLawfully script.now.tokens) }
     ensures refused { IfErr result (λ fault. Declines script.now fault) }
@@ -125,7 +125,7 @@ struct Made {
 // Makes the rounds of a script.
 fn run_of(alloc: Global, script: &Script) -> Result<Made, Fault>
     ensures values { IfOk result (λ made. AreValuesOf script.now.tokens made.left.last) }
-    ensures runs { IfOk result (λ made. RunsInRounds script.now made.left.threads.items (kept_of made.kept) made.trace.items made.left.last) }
+    ensures runs { IfOk result (λ made. RunsInRounds script.now made.left.threads.items (kept_in_record made.kept) made.trace.items made.left.last) }
     ensures threads { IfOk result (λ made. map (λ line. line.id) made.left.threads.items ≡ ids_of script.now.cpus script.now.threads) }
     ensures few { OnOk result (AreFew script.now.cpus script.now.threads) }
     ensures refused { IfErr result (λ fault. Declines script.now fault) }
@@ -143,7 +143,7 @@ fn run_along(alloc: Global, script: &Script, order: &[u8]) -> Result<Made, Fault
     requires processors { All (λ x. x < script.now.cpus) order.now }
     ensures values { IfOk result (λ made. AreValuesOf script.now.tokens made.left.last) }
     ensures order { IfOk result (λ made. made.kept.order.items ≡ order.now) }
-    ensures runs { IfOk result (λ made. RunsAlong script.now made.kept.order.items made.left.threads.items (kept_of made.kept) made.trace.items made.left.last) }
+    ensures runs { IfOk result (λ made. RunsAlong script.now made.kept.order.items made.left.threads.items (kept_in_record made.kept) made.trace.items made.left.last) }
     ensures threads { IfOk result (λ made. map (λ line. line.id) made.left.threads.items ≡ ids_of script.now.cpus script.now.threads) }
     ensures few { OnOk result (AreFew script.now.cpus script.now.threads) }
     ensures refused { IfErr result (λ fault. Declines script.now fault) }
@@ -160,7 +160,7 @@ fn run_along(alloc: Global, script: &Script, order: &[u8]) -> Result<Made, Fault
 fn judged_run(alloc: Global, pace: Pace, script: Script, made: Made) -> Result<TurnsRun, Fault>
     requires values { AreValuesOf script.tokens made.left.last }
     requires threads { map (λ line. line.id) made.left.threads.items ≡ ids_of script.cpus script.threads }
-    requires runs { RunsAt pace script made.kept.order.items made.left.threads.items (kept_of made.kept) made.trace.items made.left.last }
+    requires runs { RunsAt pace script made.kept.order.items made.left.threads.items (kept_in_record made.kept) made.trace.items made.left.last }
     requires few { AreFew script.cpus script.threads }
     ensures script { IfOk result (λ run. run.script ≡ script) }
     ensures order { IfOk result (λ run. run.order ≡ made.kept.order) }

@@ -1,6 +1,6 @@
 ghost use Rattle.std.specs.Prelude.{◌≡◌, ◌⊎◌, ℕ, length, IfOk};
 ghost use Rattle.lwkt_core.specs.Trace.{Closes, IsLawfulTrace, FailsAt};
-ghost use Rattle.lwkt_run.specs.Judging.{ArePlansOf, AreEndsOf, Judges};
+ghost use Rattle.lwkt_run.specs.Judging.{ArePlansOf, AreEndsOf, IsVerdict};
 
 use crate::records::Record;
 use lwkt_base::Fault;
@@ -101,7 +101,7 @@ pub fn verdict_of(
     kept: &Record,
 ) -> Verdict
     requires { again ≡ opening }
-    ensures { Judges result opening pace order.now plans.now ends.now last.now trace.now kept.now.polls kept.now.turns.items }
+    ensures { IsVerdict result opening pace order.now plans.now ends.now last.now trace.now kept.now.polls kept.now.turns.items }
 {
     let mut state = opening;
     if is_script_run(

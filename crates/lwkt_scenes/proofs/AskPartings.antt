@@ -8,7 +8,7 @@ use Rattle.lwkt_base.specs.declared.asks.Ask.TheVariants.{Get, GetShared, TryGet
 use Rattle.lwkt_base.specs.declared.names.ThreadId.{ThreadId}
 use Rattle.lwkt_base.specs.declared.records.Flags.{Flags}
 use Rattle.lwkt_trace.specs.Written.{comma}
-use Rattle.lwkt_scenes.specs.Apart.{numbers_of, AreAllWords, writes_record, TextsTellAsks}
+use Rattle.lwkt_scenes.specs.Apart.{numbers_of, AreAllWords, ask_writes_record, TextsTellAsks}
 use Rattle.lwkt_scenes.specs.Words.{ask_text, ask_word, flags_number, token_parts, message_parts}
 use Rattle.lwkt_scenes.proofs.AskTexts.{Unquoted, word_unquoted}
 use Rattle.lwkt_scenes.proofs.Splits.{IsDigit, same_split, same_number}
@@ -34,7 +34,7 @@ row_of_six : (a b c d e f : List ℕ) → a ++ b ++ c ++ d ++ e ++ f ≡ a ++ (b
 row_of_six a b c d e f = simp (append_assoc, append-nil)
 
 -- the parts of an ask that writes no record are its numbers
-parts_are : (ask : Ask) → writes_record ask ≡ false → token_parts ask ++ message_parts ask ≡ flat_map comma (numbers_of ask)
+parts_are : (ask : Ask) → ask_writes_record ask ≡ false → token_parts ask ++ message_parts ask ≡ flat_map comma (numbers_of ask)
 parts_are (Get tok) never = refl
 parts_are (GetShared tok) never = refl
 parts_are (TryGet tok) never = refl
@@ -99,7 +99,7 @@ ask_of word ns =
     if bytes_eq word (codes "wait") then WaitPort else (
     if bytes_eq word (codes "yield") then Yield else Exit)))))))))))))))))
 
-ask_kept : (ask : Ask) → writes_record ask ≡ false → ask_of (ask_word ask) (numbers_of ask) ≡ ask
+ask_kept : (ask : Ask) → ask_writes_record ask ≡ false → ask_of (ask_word ask) (numbers_of ask) ≡ ask
 ask_kept (Get tok) never = refl
 ask_kept (GetShared tok) never = refl
 ask_kept (TryGet tok) never = refl
@@ -121,7 +121,7 @@ ask_kept WaitPort never = refl
 ask_kept Yield never = refl
 ask_kept Exit never = refl
 
-other_word : (ask : Ask) → writes_record ask ≡ false → bytes_eq (ask_word ask) (codes "wrec") ≡ false
+other_word : (ask : Ask) → ask_writes_record ask ≡ false → bytes_eq (ask_word ask) (codes "wrec") ≡ false
 other_word (Get tok) never = refl
 other_word (GetShared tok) never = refl
 other_word (TryGet tok) never = refl
@@ -144,7 +144,7 @@ other_word Yield never = refl
 other_word Exit never = refl
 
 -- an ask whose word is that of one that writes no record writes none
-no_record : (one other : Ask) → writes_record one ≡ false → ask_word one ≡ ask_word other → writes_record other ≡ false
+no_record : (one other : Ask) → ask_writes_record one ≡ false → ask_word one ≡ ask_word other → ask_writes_record other ≡ false
 no_record one (Get tok) never same = refl
 no_record one (GetShared tok) never same = refl
 no_record one (TryGet tok) never same = refl

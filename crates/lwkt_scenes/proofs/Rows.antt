@@ -10,7 +10,7 @@ use Rattle.lwkt_verdict.specs.Run.{poll_of}
 use Rattle.lwkt_report.specs.declared.closings.Closing.{Closing}
 use Rattle.lwkt_report.specs.Report.{report_text}
 use Rattle.lwkt_scenes.specs.declared.reels.Chosen.{Chosen}
-use Rattle.lwkt_scenes.specs.Lines.{is_shown, round_of, processor_of, IsTextOf, first_of, last_of, round_length, choice_text, AreLines, AreShown, Adds, Begins, IsTold}
+use Rattle.lwkt_scenes.specs.Lines.{is_shown, round_of, processor_of_turn, IsLineIfShown, range_first, range_last, round_length, choice_text, AreLines, AreShown, Adds, Begins, IsTold}
 
 -- no lines
 pub no_lines : (first last : ℕ) (order : Option (List ℕ)) (cpus : ℕ) (polls : List Poll) (n : ℕ) (page : Page) → Adds (AreLines first last order cpus polls n []) page page
@@ -18,7 +18,7 @@ no_lines first last order cpus polls n page = record { words = []; holds = refl;
 
 -- the lines of some turns behind what stands for one before them
 pub one_before : (first last : ℕ) (order : Option (List ℕ)) (cpus : ℕ) (polls : List Poll) (n : ℕ) (turn : Turn) (turns : List Turn) (old mid new : Page)
-    → Adds (IsTextOf (is_shown first last n) n (round_of order cpus n) (processor_of order cpus n) (poll_of polls turn)) old mid
+    → Adds (IsLineIfShown (is_shown first last n) n (round_of order cpus n) (processor_of_turn order cpus n) (poll_of polls turn)) old mid
     → Adds (AreLines first last order cpus polls (n + 1) turns) mid new
     → Adds (AreLines first last order cpus polls n (turn ∷ turns)) old new
 one_before first last order cpus polls n turn turns old mid new a b = record {
@@ -30,7 +30,7 @@ one_before first last order cpus polls n turn turns old mid new a b = record {
 -- the lines from a turn of a list on
 pub one_more : (first last : ℕ) (order : Option (List ℕ)) (cpus : ℕ) (polls : List Poll) (n : ℕ) (turn : Turn) (turns : List Turn) (old mid new : Page)
     → n < length turns
-    → Adds (IsTextOf (is_shown first last n) n (round_of order cpus n) (processor_of order cpus n) (poll_of polls (get_or turns n turn))) old mid
+    → Adds (IsLineIfShown (is_shown first last n) n (round_of order cpus n) (processor_of_turn order cpus n) (poll_of polls (get_or turns n turn))) old mid
     → Adds (AreLines first last order cpus polls (n + 1) (drop (n + 1) turns)) mid new
     → Adds (AreLines first last order cpus polls n (drop n turns)) old new
 one_more first last order cpus polls n turn turns old mid new inside a b =
@@ -39,7 +39,7 @@ one_more first last order cpus polls n turn turns old mid new inside a b =
 
 -- the lines that are chosen, with which turns are left out behind them
 pub shown_with : (chosen : Chosen) (order : Option (List ℕ)) (cpus : ℕ) (polls : List Poll) (turns : List Turn) (first last : ℕ) (old mid new : Page)
-    → first ≡ first_of chosen.counted chosen.first (round_length cpus) → last ≡ last_of chosen.counted chosen.last (round_length cpus)
+    → first ≡ range_first chosen.counted chosen.first (round_length cpus) → last ≡ range_last chosen.counted chosen.last (round_length cpus)
     → Adds (AreLines first last order cpus polls 0 turns) old mid → Grows mid new (choice_text first last (length turns)) → Adds (AreShown chosen order cpus polls turns) old new
 shown_with chosen order cpus polls turns first last old mid new is_first is_last a more = record {
   words = a.words ++ choice_text first last (length turns);
@@ -69,11 +69,11 @@ told_whole chosen order cpus polls turns closing front report text b is_report i
 -- what stands for a turn, where it is told by other names
 pub told_as : (shown shown' : Bool) (number number' round round' cpu cpu' : ℕ) (poll poll' : Option Poll) (old new : Page)
     → shown ≡ shown' → number ≡ number' → round ≡ round' → cpu ≡ cpu' → poll ≡ poll'
-    → Adds (IsTextOf shown number round cpu poll) old new → Adds (IsTextOf shown' number' round' cpu' poll') old new
+    → Adds (IsLineIfShown shown number round cpu poll) old new → Adds (IsLineIfShown shown' number' round' cpu' poll') old new
 told_as shown shown' number number' round round' cpu cpu' poll poll' old new is_shown' is_number is_round is_cpu is_poll a =
-    let Shown : Bool → Type 0 = λ s. Adds (IsTextOf s number round cpu poll) old new in
-    let Number : ℕ → Type 0 = λ n. Adds (IsTextOf shown' n round cpu poll) old new in
-    let Round : ℕ → Type 0 = λ r. Adds (IsTextOf shown' number' r cpu poll) old new in
-    let Cpu : ℕ → Type 0 = λ c. Adds (IsTextOf shown' number' round' c poll) old new in
-    let Polled : Option Poll → Type 0 = λ p. Adds (IsTextOf shown' number' round' cpu' p) old new in
+    let Shown : Bool → Type 0 = λ s. Adds (IsLineIfShown s number round cpu poll) old new in
+    let Number : ℕ → Type 0 = λ n. Adds (IsLineIfShown shown' n round cpu poll) old new in
+    let Round : ℕ → Type 0 = λ r. Adds (IsLineIfShown shown' number' r cpu poll) old new in
+    let Cpu : ℕ → Type 0 = λ c. Adds (IsLineIfShown shown' number' round' c poll) old new in
+    let Polled : Option Poll → Type 0 = λ p. Adds (IsLineIfShown shown' number' round' cpu' p) old new in
     subst Polled is_poll (subst Cpu is_cpu (subst Round is_round (subst Number is_number (subst Shown is_shown' a))))

@@ -77,10 +77,10 @@ AreAllWords [] = Unit {0}
 AreAllWords (n ∷ ns) = (n < 2 ^ 64) × AreAllWords ns
 
 -- whether an ask writes a record, of which its text may not tell all
-abbrev pub writes_record : Ask → Bool
-writes_record (WriteBlob tok blob) = true
-writes_record _ = false
+abbrev pub ask_writes_record : Ask → Bool
+ask_writes_record (WriteBlob tok blob) = true
+ask_writes_record _ = false
 
 -- asks with the same text are the same, but for writes of records
 abbrev pub TextsTellAsks : Type 0
-TextsTellAsks = (one other : Ask) → writes_record one ≡ false → AreAllWords (numbers_of one) → AreAllWords (numbers_of other) → ask_text one ≡ ask_text other → one ≡ other
+TextsTellAsks = (one other : Ask) → ask_writes_record one ≡ false → AreAllWords (numbers_of one) → AreAllWords (numbers_of other) → ask_text one ≡ ask_text other → one ≡ other

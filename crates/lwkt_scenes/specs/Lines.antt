@@ -90,22 +90,22 @@ round_of None cpus number = number / round_length cpus
 round_of (Some order) cpus number = number
 
 -- the processor of a turn
-abbrev pub processor_of : Option (List ℕ) → ℕ → ℕ → ℕ
-processor_of None cpus number = number % round_length cpus
-processor_of (Some order) cpus number = get_or order number 0
+abbrev pub processor_of_turn : Option (List ℕ) → ℕ → ℕ → ℕ
+processor_of_turn None cpus number = number % round_length cpus
+processor_of_turn (Some order) cpus number = get_or order number 0
 
 -- the greatest number by which a turn can be named
 abbrev pub most : ℕ
 most = 18446744073709551615
 
 -- the first turn of a range, and the last one, where a round has so many turns
-abbrev pub first_of : Counted → ℕ → ℕ → ℕ
-first_of Turns first turns = first
-first_of Rounds first turns = min (first * turns) most
+abbrev pub range_first : Counted → ℕ → ℕ → ℕ
+range_first Turns first turns = first
+range_first Rounds first turns = min (first * turns) most
 
-abbrev pub last_of : Counted → ℕ → ℕ → ℕ
-last_of Turns last turns = last
-last_of Rounds last turns = min (min (last + 1) most * turns) most - 1
+abbrev pub range_last : Counted → ℕ → ℕ → ℕ
+range_last Turns last turns = last
+range_last Rounds last turns = min (min (last + 1) most * turns) most - 1
 
 -- the last turn that is shown of those from the first to the last: at most the first 10000 of these are
 abbrev pub last_shown : ℕ → ℕ → ℕ
@@ -129,15 +129,15 @@ abbrev pub choice_text : ℕ → ℕ → ℕ → List ℕ
 choice_text first last turns = before_text first ++ after_text (last_shown first last) turns
 
 -- what stands for a turn: its line if it is shown, else nothing
-abbrev pub IsTextOf : Bool → ℕ → ℕ → ℕ → Option Poll → List ℕ → Type 0
-IsTextOf true number round cpu poll text = IsLine number round cpu poll text
-IsTextOf false number round cpu poll text = text ≡ []
+abbrev pub IsLineIfShown : Bool → ℕ → ℕ → ℕ → Option Poll → List ℕ → Type 0
+IsLineIfShown true number round cpu poll text = IsLine number round cpu poll text
+IsLineIfShown false number round cpu poll text = text ≡ []
 
 -- the lines of those turns that are shown from the first to the last, in order, numbered from n
 abbrev pub AreLines : ℕ → ℕ → Option (List ℕ) → ℕ → List Poll → ℕ → List Turn → List ℕ → Type 0
 AreLines first last order cpus polls n [] text = text ≡ []
 AreLines first last order cpus polls n (turn ∷ turns) text =
-    (line : List ℕ) × (rest : List ℕ) × (text ≡ line ++ rest) × IsTextOf (is_shown first last n) n (round_of order cpus n) (processor_of order cpus n) (poll_of polls turn) line × AreLines first last order cpus polls (n + 1) turns rest
+    (line : List ℕ) × (rest : List ℕ) × (text ≡ line ++ rest) × IsLineIfShown (is_shown first last n) n (round_of order cpus n) (processor_of_turn order cpus n) (poll_of polls turn) line × AreLines first last order cpus polls (n + 1) turns rest
 
 -- some words of which this holds stand on a page behind what stood on it, unless memory was refused for a piece of it
 pub record Adds (Holds : List ℕ → Type 0) (old new : Page) : Type 0 where
@@ -157,8 +157,8 @@ pub record AreShown (chosen : Chosen) (order : Option (List ℕ)) (cpus : ℕ) (
   pub first : ℕ
   pub last : ℕ
   pub lines : List ℕ
-  pub is_first : first ≡ first_of chosen.counted chosen.first (round_length cpus)
-  pub is_last : last ≡ last_of chosen.counted chosen.last (round_length cpus)
+  pub is_first : first ≡ range_first chosen.counted chosen.first (round_length cpus)
+  pub is_last : last ≡ range_last chosen.counted chosen.last (round_length cpus)
   pub are : AreLines first last order cpus polls 0 turns lines
   pub parts : text ≡ lines ++ choice_text first last (length turns)
 

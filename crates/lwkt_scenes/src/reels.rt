@@ -44,12 +44,12 @@ pub struct Chosen {
 impl Chosen {
     ghost use Rattle.std.specs.Prelude.{◌≡◌, ◌↔◌, ◌≤◌, IsTrue};
     ghost use Rattle.lwkt_scenes.specs.Shown.{first_turn};
-    ghost use Rattle.lwkt_scenes.specs.Lines.{first_of, last_of, round_length};
+    ghost use Rattle.lwkt_scenes.specs.Lines.{range_first, range_last, round_length};
 
     /// The same as turns of so many processors.
     pub(crate) fn in_turns(&self, cpus: u8) -> Chosen
-        ensures first { result.first ≡ first_of self.now.counted self.now.first (round_length cpus) }
-        ensures last { result.last ≡ last_of self.now.counted self.now.last (round_length cpus) }
+        ensures first { result.first ≡ range_first self.now.counted self.now.first (round_length cpus) }
+        ensures last { result.last ≡ range_last self.now.counted self.now.last (round_length cpus) }
     {
         let cpus = round_length(cpus);
         match self.counted {

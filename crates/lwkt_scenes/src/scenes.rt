@@ -1,7 +1,7 @@
 ghost use Rattle.std.specs.Prelude.{◌≡◌};
 ghost use Rattle.std.specs.Option.{option_copied};
 ghost use Rattle.lwkt_verdict.specs.Run.{poll_of};
-ghost use Rattle.lwkt_scenes.specs.Lines.{round_length, round_of, processor_of};
+ghost use Rattle.lwkt_scenes.specs.Lines.{round_length, round_of, processor_of_turn};
 
 use crate::reels::Reel;
 use lwkt_core::Event;
@@ -53,8 +53,8 @@ fn round_of(run: &Reel, number: usize) -> usize
 }
 
 // The processor of the turn of a number.
-fn processor_of(run: &Reel, number: usize) -> u8
-    ensures { result ≡ processor_of (option_copied run.now.order) run.now.script.now.cpus number }
+fn processor_of_turn(run: &Reel, number: usize) -> u8
+    ensures { result ≡ processor_of_turn (option_copied run.now.order) run.now.script.now.cpus number }
 {
     match run.order {
         Some(order) => {
@@ -72,13 +72,13 @@ fn processor_of(run: &Reel, number: usize) -> u8
 pub(crate) fn scene_of<'a>(run: &Reel<'a>, number: usize, turn: &Turn, from: usize) -> Scene<'a>
     ensures number { result.number ≡ number }
     ensures round { result.round ≡ round_of (option_copied run.now.order) run.now.script.now.cpus number }
-    ensures cpu { result.cpu ≡ processor_of (option_copied run.now.order) run.now.script.now.cpus number }
+    ensures cpu { result.cpu ≡ processor_of_turn (option_copied run.now.order) run.now.script.now.cpus number }
     ensures poll { result.poll ≡ poll_of run.now.polls.now turn.now }
 {
     Scene {
         number,
         round: round_of(run, number),
-        cpu: processor_of(run, number),
+        cpu: processor_of_turn(run, number),
         poll: poll_of(run.polls, turn),
         part: part_of(run.trace, from, usize::from(turn.events)),
     }

@@ -1,7 +1,7 @@
 ghost use Rattle.std.specs.Prelude.{◌≡◌, IfErr, IfOk, string_bytes};
 ghost use Rattle.std.specs.Option.{option_copied};
 ghost use Rattle.lwkt_refusals.specs.Pages.{Grows};
-ghost use Rattle.lwkt_scenes.specs.Lines.{last_shown, before_text, after_text, choice_text, is_shown, IsTextOf, AreLines, Adds, BeginsWithLines, IsTold};
+ghost use Rattle.lwkt_scenes.specs.Lines.{last_shown, before_text, after_text, choice_text, is_shown, IsLineIfShown, AreLines, Adds, BeginsWithLines, IsTold};
 ghost use Rattle.lwkt_scenes.specs.Shown.{EndsInReport, MayBeRefused};
 
 use crate::ends::show_ends;
@@ -67,7 +67,7 @@ fn is_shown(chosen: Chosen, number: usize) -> bool
 
 // Makes a turn happen, and appends its line if it is shown.
 fn show_one(alloc: Global, out: &mut Page, replay: &mut Replay, scene: &Scene, shown: bool)
-    ensures { Adds (IsTextOf shown scene.now.number scene.now.round scene.now.cpu scene.now.poll) out.old out.new }
+    ensures { Adds (IsLineIfShown shown scene.now.number scene.now.round scene.now.cpu scene.now.poll) out.old out.new }
 {
     if shown {
         show_turn(alloc, replay, out, scene)

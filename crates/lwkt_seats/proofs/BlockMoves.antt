@@ -21,9 +21,9 @@ use Rattle.lwkt_bank.specs.Views.{RecordOf}
 use Rattle.lwkt_bank.specs.Seats.{BankId, bank_of, tokens_of, plan_of, entry, holding, IsCleanIn, Knowing, Restored, Gave}
 use Rattle.lwkt_bank.proofs.HoldMoves.{giving_removes}
 use Rattle.lwkt_bank.proofs.ChangeMoves.{same_holding}
-use Rattle.lwkt_seats.specs.Asks.{IsLawful, GivesOne}
+use Rattle.lwkt_seats.specs.Asks.{ObeysItsLaw, GivesReference}
 use Rattle.lwkt_seats.specs.Cells.{IsMine}
-use Rattle.lwkt_seats.specs.Lists.{EndsOne, Ends, EndsEach, IsBroken, AreLawfulBelow, IsFirstBroken, first_of}
+use Rattle.lwkt_seats.specs.Lists.{EndsOne, EndsPair, EndsEach, IsBroken, AreLawfulBelow, IsFirstBroken, first_restored}
 use Rattle.lwkt_seats.proofs.ListMoves.{chain_more, chain_after, not_held}
 
 -- nothing was given back; one reference more is, and several more are
@@ -31,16 +31,16 @@ pub ends_none : (s : CpuSeat) → EndsEach s s
 ends_none s = ([], refl)
 
 pub ends_more : (a b c : CpuSeat) (tok : TokId) (restored : Bool) → EndsEach a b → EndsOne tok.0 b c restored → EndsEach a c
-ends_more a b c tok restored each one = (each.0 ++ (tok, restored) ∷ [], chain_more Ends each.0 (tok, restored) a b c each.1 one)
+ends_more a b c tok restored each one = (each.0 ++ (tok, restored) ∷ [], chain_more EndsPair each.0 (tok, restored) a b c each.1 one)
 
 pub ends_after : (a b c : CpuSeat) → EndsEach a b → EndsEach b c → EndsEach a c
-ends_after a b c each rest = (each.0 ++ rest.0, chain_after Ends each.0 rest.0 a b c each.1 rest.1)
+ends_after a b c each rest = (each.0 ++ rest.0, chain_after EndsPair each.0 rest.0 a b c each.1 rest.1)
 
 -- a question for the law leaves what is held
 pub knowing_holding : (s s' : CpuSeat) (tok : ℕ) (deeds : List Deed) → Knowing s s' tok (entry s tok) deeds → holding s' ≡ holding s
 knowing_holding s s' tok deeds k = same_holding s s' tok _ deeds k.changes refl
 
-pub gives_one_holding : (s s' : CpuSeat) (tok : ℕ) → GivesOne tok s s' → holding s' ≡ removed (holding s) tok
+pub gives_one_holding : (s s' : CpuSeat) (tok : ℕ) → GivesReference tok s s' → holding s' ≡ removed (holding s) tok
 gives_one_holding s s' tok gives = elim gives [
   | inl g ↦ giving_removes s s' tok g.1.0 g.1.1
   | inr g ↦
@@ -54,7 +54,7 @@ gave_others s s' tok One gave = gave.1.changes.else_
 gave_others s s' tok Clean gave = gave.2.changes.else_
 gave_others s s' tok (Written section) gave = gave.2.changes.else_
 
-pub gives_one_others : (s s' : CpuSeat) (tok : ℕ) → GivesOne tok s s' → (other : ℕ) → other ≢ tok → entry s' other ≡ entry s other
+pub gives_one_others : (s s' : CpuSeat) (tok : ℕ) → GivesReference tok s s' → (other : ℕ) → other ≢ tok → entry s' other ≡ entry s other
 gives_one_others s s' tok gives other away = elim gives [
   | inl g ↦ gave_others s s' tok g.1.0 g.1.1 other away
   | inr g ↦ let asked = g.2.0 in gave_others asked s' tok g.2.1.1.0 g.2.1.1.1 other away ∙ g.2.1.0.changes.else_ other away
@@ -64,7 +64,7 @@ gives_one_others s s' tok gives other away = elim gives [
 lawful_tally : (law : Law) (param : ℕ) (row : List ℕ) (bytes : RecordOf) → law ≡ Tally → Obeys law param row (length_of bytes)
 lawful_tally law param row bytes is = let F : Law → Type 0 = λ l. Obeys l param row (length_of bytes) in subst F (sym is) tt
 
-pub broken_untallied : (s : CpuSeat) (tok : ℕ) → (¬ IsLawful s tok) → (plan_of (bank_of s) tok).law ≢ Tally
+pub broken_untallied : (s : CpuSeat) (tok : ℕ) → (¬ ObeysItsLaw s tok) → (plan_of (bank_of s) tok).law ≢ Tally
 broken_untallied s tok broken is = broken (lawful_tally (plan_of (bank_of s) tok).law (plan_of (bank_of s) tok).param (entry s tok).row (entry s tok).blob is)
 
 -- after a restore row and record are the first ones, and the same is held
@@ -144,7 +144,7 @@ pub section_entry : (a b : CpuSeat) (tok : ℕ) → entry b tok ≡ entry a tok 
 section_entry a b tok same = (ap (λ (e : TokenEntry). e.row) same, ap (λ (e : TokenEntry). e.blob) same, ap (λ (e : TokenEntry). is_exclusive e.held) same)
 
 -- so it obeys its law or breaks it as before
-pub section_lawful : (a b : CpuSeat) (tok : ℕ) → bank_of b ≡ bank_of a → IsSameSection a b tok → IsLawful b tok → IsLawful a tok
+pub section_lawful : (a b : CpuSeat) (tok : ℕ) → bank_of b ≡ bank_of a → IsSameSection a b tok → ObeysItsLaw b tok → ObeysItsLaw a tok
 section_lawful a b tok bank same lawful =
     let F : BankId → Type 0 = λ x. Obeys (plan_of x tok).law (plan_of x tok).param (entry b tok).row (length_of (entry b tok).blob) in
     let G : List ℕ → Type 0 = λ row. Obeys (plan_of (bank_of a) tok).law (plan_of (bank_of a) tok).param row (length_of (entry b tok).blob) in
@@ -183,7 +183,7 @@ pub ends_broken : (s s' : CpuSeat) (tok : ℕ) (restored : Bool) → EndsOne tok
 ends_broken s s' tok true ends is = (ap is_exclusive ends.0, ends.1)
 ends_broken s s' tok false ends is = absurd (false≢true is)
 
-pub ends_lawful : (s s' : CpuSeat) (tok : ℕ) (restored : Bool) → EndsOne tok s s' restored → holding s' ≡ removed (holding s) tok → restored ≡ false → is_held (holding s' tok) ≡ false → IsMine s tok → IsLawful s tok
+pub ends_lawful : (s s' : CpuSeat) (tok : ℕ) (restored : Bool) → EndsOne tok s s' restored → holding s' ≡ removed (holding s) tok → restored ≡ false → is_held (holding s' tok) ≡ false → IsMine s tok → ObeysItsLaw s tok
 ends_lawful s s' tok true ends given is gone mine = absurd (false≢true (sym is))
 ends_lawful s s' tok false ends given is gone mine = elim ends [
   | inl g ↦
@@ -193,14 +193,14 @@ ends_lawful s s' tok false ends given is gone mine = elim ends [
 ]
 
 -- the first token that breaks its law, with one token more
-pub first_more : (s : CpuSeat) (n : ℕ) (first : Option TokId) (restored : Bool) (tok : TokId) → tok.0 ≡ n → IsFirstBroken s n first → (restored ≡ true → IsBroken s n) → (restored ≡ false → IsMine s n → IsLawful s n) → IsFirstBroken s (n + 1) (first_of first restored tok)
+pub first_more : (s : CpuSeat) (n : ℕ) (first : Option TokId) (restored : Bool) (tok : TokId) → tok.0 ≡ n → IsFirstBroken s n first → (restored ≡ true → IsBroken s n) → (restored ≡ false → IsMine s n → ObeysItsLaw s n) → IsFirstBroken s (n + 1) (first_restored first restored tok)
 first_more s n (Some f) restored tok is so broken lawful = let below : f.0 < n = so.0 in (omega (arith, below), so.1, so.2)
 first_more s n None true tok is so broken lawful =
     let F : ℕ → Type 0 = λ k. IsBroken s k × AreLawfulBelow s k in
     let both : IsBroken s tok.0 × AreLawfulBelow s tok.0 = subst F (sym is) (broken refl, so) in
     (omega (arith, is), both.0, both.1)
 first_more s n None false tok is so broken lawful = λ t below mine. ⊎_elim
-    (λ (same : t ≡ n). let F : ℕ → Type 0 = λ k. IsMine s k → IsLawful s k in subst F (sym same) (lawful refl) mine)
+    (λ (same : t ≡ n). let F : ℕ → Type 0 = λ k. IsMine s k → ObeysItsLaw s k in subst F (sym same) (lawful refl) mine)
     (λ away. so t (omega (arith, below, away)) mine)
     (cases_eq t n)
 

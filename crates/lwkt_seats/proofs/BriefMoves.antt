@@ -45,13 +45,13 @@ use Rattle.lwkt_seats.specs.declared.list_answers.Resumed.{Resumed}
 use Rattle.lwkt_seats.specs.declared.list_answers.Resumed.TheVariants as resumed
 use Rattle.lwkt_seats.specs.declared.spots.Spot.{Spot}
 use Rattle.lwkt_seats.specs.declared.spots.Sitter.{Sitter}
-use Rattle.lwkt_seats.specs.Asks.{Asks, Furthers, Marks, Gives, GivesOne}
-use Rattle.lwkt_seats.specs.Cells.{Loads, Stores, Adds, Judges, RestoresRow, Restores}
+use Rattle.lwkt_seats.specs.Asks.{AsksFor, Furthers, MarksToken, GivesToken, GivesReference}
+use Rattle.lwkt_seats.specs.Cells.{Loads, Stores, Adds, JudgesToken, RestoresRow, Restores}
 use Rattle.lwkt_seats.specs.Records.{ReadsBytes, WritesBytes}
-use Rattle.lwkt_seats.specs.Lists.{Chain, TakesOne, MissesOne, GivesUnwritten, Resumes, EndsRestored, EndsOne, Ends, Blocks, refs_of}
+use Rattle.lwkt_seats.specs.Lists.{Chain, TakesOne, MissesOne, GivesUnwritten, ResumesSeat, EndsRestored, EndsOne, EndsPair, BlocksSeat, refs_of}
 use Rattle.lwkt_seats.specs.Calls.{TellsRecord}
 use Rattle.lwkt_seats.specs.Numbers.{record_read_number}
-use Rattle.lwkt_seats.specs.Seated.{IsBrief, AreBrief, IsSeated, IsSameSeat}
+use Rattle.lwkt_seats.specs.Seated.{IsBrief, AreBrief, IsSeated, KeepsBankAndCpu}
 
 -- what a call leaves short, if it was
 abbrev pub Keeps : CpuSeat → CpuSeat → Type 0
@@ -96,7 +96,7 @@ gives_back s s' tok One g = changed s s' tok _ _ g.1.changes (λ brief. brief)
 gives_back s s' tok Clean g = changed s s' tok _ _ g.2.changes (λ brief. brief)
 gives_back s s' tok (Written section) g = changed s s' tok _ _ g.2.changes (λ brief. (brief.0, brief.0))
 
-pub asks : (mode : Mode) (tok : ℕ) (s s' : CpuSeat) (answer : Asked) → Asks mode tok s s' answer → Keeps s s'
+pub asks : (mode : Mode) (tok : ℕ) (s s' : CpuSeat) (answer : Asked) → AsksFor mode tok s s' answer → Keeps s s'
 asks mode tok s s' asked.Taken does = takes s s' tok mode _ does.1.0 does.1.1
 asks mode tok s s' asked.Further does = changed s s' tok _ _ does.4.changes (λ brief. brief)
 asks mode tok s s' asked.NoToken does = same s s' does.1
@@ -112,17 +112,17 @@ furthers tok s s' furthered.NoToken does = same s s' does.1
 furthers tok s s' furthered.NotHeld does = same s s' does.2
 furthers tok s s' furthered.ListFull does = same s s' does.3
 
-pub marks : (tok : ℕ) (s s' : CpuSeat) (answer : Marked) → Marks tok s s' answer → Keeps s s'
+pub marks : (tok : ℕ) (s s' : CpuSeat) (answer : Marked) → MarksToken tok s s' answer → Keeps s s'
 marks tok s s' marked.Set does = changed s s' tok _ _ does.1.changes (λ brief. brief)
 marks tok s s' marked.NoToken does = same s s' does.1
 
-gives_one : (tok : ℕ) (s s' : CpuSeat) → GivesOne tok s s' → Keeps s s'
+gives_one : (tok : ℕ) (s s' : CpuSeat) → GivesReference tok s s' → Keeps s s'
 gives_one tok s s' does = elim does [
   | inl one ↦ gives_back s s' tok one.1.0 one.1.1
   | inr last ↦ λ brief. gives_back last.2.0 s' tok last.2.1.1.0 last.2.1.1.1 (knows s last.2.0 tok _ _ last.2.1.0 (λ here. here) brief)
 ]
 
-pub gives : (tok : ℕ) (s s' : CpuSeat) (answer : GaveBack) → Gives tok s s' answer → Keeps s s'
+pub gives : (tok : ℕ) (s s' : CpuSeat) (answer : GaveBack) → GivesToken tok s s' answer → Keeps s s'
 gives tok s s' gave.Given does = gives_one tok s s' does.2
 gives tok s s' gave.NoToken does = same s s' does.1
 gives tok s s' gave.NotHeld does = same s s' does.2
@@ -150,7 +150,7 @@ adds tok amount s s' added.SharedWrite does = same s s' does.2
 adds tok amount s s' added.TallyOnly does = unchanged s s' does.3
 adds tok amount s s' added.Overflow does = knows s s' tok _ _ does.4 (λ here. here)
 
-pub judges : (tok : ℕ) (s s' : CpuSeat) (answer : Judged) → Judges tok s s' answer → Keeps s s'
+pub judges : (tok : ℕ) (s s' : CpuSeat) (answer : Judged) → JudgesToken tok s s' answer → Keeps s s'
 judges tok s s' judged.Lawful does = knows s s' tok _ _ does.3 (λ here. here)
 judges tok s s' judged.Broken does = knows s s' tok _ _ does.3 (λ here. here)
 judges tok s s' judged.NoToken does = same s s' does.1
@@ -214,7 +214,7 @@ missed_at : (refs : List Ref) (x : Option Ref) (front : List Ref) (why : Missed)
 missed_at refs (Some r) front why s s' does brief = misses_one refs r does.0 s' why does.1.1 (chain (TakesOne refs) (takes_one refs) front s does.0 does.1.0 brief)
 missed_at refs None front why s s' does brief = absurd does
 
-pub resumes : (refs : List LwktReference) (s s' : CpuSeat) (answer : Resumed) → Resumes refs s s' answer → Keeps s s'
+pub resumes : (refs : List LwktReference) (s s' : CpuSeat) (answer : Resumed) → ResumesSeat refs s s' answer → Keeps s s'
 resumes refs s s' resumed.All does = chain (TakesOne (refs_of refs)) (takes_one (refs_of refs)) (refs_of refs) s s' does.2.0
 resumes refs s s' resumed.Holds does = same s s' does.1
 resumes refs s s' (resumed.Unlisted at why) does = same s s' does.2
@@ -228,8 +228,8 @@ ends_one : (tok : ℕ) (s s' : CpuSeat) (restored : Bool) → EndsOne tok s s' r
 ends_one tok s s' false does = gives_one tok s s' does
 ends_one tok s s' true does = λ brief. ends_restored tok does.2.0 s' does.2.1.1 (knows s does.2.0 tok _ _ does.2.1.0 (λ here. here) brief)
 
-pub blocks : (s s' : CpuSeat) (first : Option TokId) → Blocks s s' first → Keeps s s'
-blocks s s' first does = chain Ends (λ x a b ends. ends_one x.0.0 a b x.1 ends) does.2.0 s s' does.2.1
+pub blocks : (s s' : CpuSeat) (first : Option TokId) → BlocksSeat s s' first → Keeps s s'
+blocks s s' first does = chain EndsPair (λ x a b ends. ends_one x.0.0 a b x.1 ends) does.2.0 s s' does.2.1
 
 -- a record that is read has at most 64 bytes
 pub read_short : (tok : ℕ) (s s' : CpuSeat) (answer : RecordRead) (before now : List ℕ) (before_length now_length number : ℕ) → AreBrief s → ReadsBytes tok s s' answer → TellsRecord answer before now before_length now_length → number ≡ record_read_number answer → number ≡ 0 → now_length ≤ 64
@@ -242,7 +242,7 @@ read_short tok s s' read.NotHeld before now before_length now_length number brie
 read_short tok s s' read.SharedRecord before now before_length now_length number brief does tells is none = absurd (omega (arith, is, none))
 
 -- a seat that is taken from its place, and stays the same with short records, may be put back there
-pub seated-at : (spot : Spot) (sitter held : Sitter) (new : CpuSeat) → held ≡ sitter → IsSeated spot sitter → IsSameSeat held.seat new → Keeps held.seat new → IsSeated spot (record { seat = new; bank = held.bank })
+pub seated-at : (spot : Spot) (sitter held : Sitter) (new : CpuSeat) → held ≡ sitter → IsSeated spot sitter → KeepsBankAndCpu held.seat new → Keeps held.seat new → IsSeated spot (record { seat = new; bank = held.bank })
 seated-at spot sitter held new is seated kept keeps =
     let there = subst (IsSeated spot) (sym is) seated in
     record { bank = there.bank; of = kept.0 ∙ there.of; cpu = kept.1 ∙ there.cpu; brief = keeps there.brief }

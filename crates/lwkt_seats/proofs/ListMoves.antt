@@ -31,7 +31,7 @@ use Rattle.lwkt_seats.specs.declared.list_answers.Resumed.{Resumed}
 use Rattle.lwkt_seats.specs.declared.list_answers.Resumed.TheVariants as resumed
 use Rattle.lwkt_seats.specs.ListNumbers.{unlisted_number, missed_number, resumed_number, NamesNoPlace}
 use Rattle.lwkt_seats.specs.Calls.{TellsPlace}
-use Rattle.lwkt_seats.specs.Lists.{Chain, has_only, TakesOne, MissesOne, IsUnwritten, GivesUnwritten, TakesAll, TakesUpTo}
+use Rattle.lwkt_seats.specs.Lists.{Chain, has_only, TakesOne, MissesOne, HoldsClean, GivesUnwritten, TakesAll, TakesUpTo}
 
 -- one thing more is done, and several more
 pub chain_more : {A : Type 0} (Does : A → CpuSeat → CpuSeat → Type 0) (xs : List A) (x : A) (a b c : CpuSeat) → Chain Does xs a b → Does x b c → Chain Does (xs ++ x ∷ []) a c
@@ -66,7 +66,7 @@ takes_counted refs r s s' takes there bank =
     ap (λ (b : BankId). count_from 0 (tokens_of b) (holding s')) bank ∙ ap (λ (h : Holding). count_from 0 (tokens_of (bank_of s)) h) (takes_holding refs r s s' takes) ∙ added_counts (tokens_of (bank_of s)) r.tok.0 (holding s) r.mode there
 
 -- a call that changes one token, whose row and record are the first ones if it is held then
-clean_changed : (s s' : CpuSeat) (tok : ℕ) (e : TokenEntry) (deeds : List Deed) → Changes s s' tok e deeds → (is_held e.held ≡ true → IsCleanIn e) → IsUnwritten s → IsUnwritten s'
+clean_changed : (s s' : CpuSeat) (tok : ℕ) (e : TokenEntry) (deeds : List Deed) → Changes s s' tok e deeds → (is_held e.held ≡ true → IsCleanIn e) → HoldsClean s → HoldsClean s'
 clean_changed s s' tok e deeds c here clean other held = elim (cases_Bool (eqb other tok)) [
   | inl is ↦
       let F : ℕ → Type 0 = λ t. is_held (holding s' t) ≡ true → IsCleanIn (entry s' t) in
@@ -77,7 +77,7 @@ clean_changed s s' tok e deeds c here clean other held = elim (cases_Bool (eqb o
       subst G (sym (c.else_ other (eqb-false other tok is))) (clean other) held
 ]
 
-pub takes_clean : (refs : List Ref) (r : Ref) (s s' : CpuSeat) → TakesOne refs r s s' → IsUnwritten s → IsUnwritten s'
+pub takes_clean : (refs : List Ref) (r : Ref) (s s' : CpuSeat) → TakesOne refs r s s' → HoldsClean s → HoldsClean s'
 takes_clean refs r s s' takes clean = elim takes [
   | inl further ↦ clean_changed s s' r.tok.0 _ _ further.1.changes (λ held. clean r.tok.0 further.0) clean
   | inr first ↦ clean_changed s s' r.tok.0 _ _ first.1.1.changes (λ held. (refl, refl)) clean
@@ -93,7 +93,7 @@ looked_held e word = seen_held (eqb e.generation (generation_in word)) e (genera
 
 -- a missed reference changes nothing that is held
 module _ (s s' : CpuSeat) (tok : ℕ) (free : holding s tok ≡ Nothing) where
-  free_clean : (e : TokenEntry) (deeds : List Deed) → Changes s s' tok e deeds → e.held ≡ holding s tok → IsUnwritten s → IsUnwritten s'
+  free_clean : (e : TokenEntry) (deeds : List Deed) → Changes s s' tok e deeds → e.held ≡ holding s tok → HoldsClean s → HoldsClean s'
   free_clean e deeds c same clean = clean_changed s s' tok e deeds c (λ held. absurd (false≢true (sym (ap is_held (same ∙ free)) ∙ held))) clean
 
 pub misses_holding : (refs : List Ref) (r : Ref) (s s' : CpuSeat) (why : Missed) → MissesOne refs r s s' why → holding s' ≡ holding s
@@ -101,7 +101,7 @@ misses_holding refs r s s' missed.Busy misses = same_holding s s' r.tok.0 _ _ mi
 misses_holding refs r s s' missed.Again misses = same_holding s s' r.tok.0 _ _ misses.1.changes (looked_held (looked (entry s r.tok.0) misses.1.word) misses.1.found ∙ looked_held (entry s r.tok.0) misses.1.word)
 misses_holding refs r s s' missed.Worn misses = same_holding s s' r.tok.0 _ _ misses.1.1.1.changes (looked_held (entry s r.tok.0) misses.1.0)
 
-pub misses_clean : (refs : List Ref) (r : Ref) (s s' : CpuSeat) (why : Missed) → MissesOne refs r s s' why → IsUnwritten s → IsUnwritten s'
+pub misses_clean : (refs : List Ref) (r : Ref) (s s' : CpuSeat) (why : Missed) → MissesOne refs r s s' why → HoldsClean s → HoldsClean s'
 misses_clean refs r s s' missed.Busy misses clean = free_clean s s' r.tok.0 misses.0 _ _ misses.1.1.1.changes (looked_held (entry s r.tok.0) misses.1.0) clean
 misses_clean refs r s s' missed.Again misses clean =
     free_clean s s' r.tok.0 misses.0 _ _ misses.1.changes (looked_held (looked (entry s r.tok.0) misses.1.word) misses.1.found ∙ looked_held (entry s r.tok.0) misses.1.word) clean
@@ -116,7 +116,7 @@ gave_unwritten s s' tok (Written section) clean gave = absurd (gave.1 clean)
 pub gives_holding : (s s' : CpuSeat) (tok : ℕ) → GivesUnwritten tok s s' → holding s' ≡ removed (holding s) tok
 gives_holding s s' tok gives = elim gives [ inl one ↦ giving_removes s s' tok One one | inr ended ↦ giving_removes s s' tok Clean ended ]
 
-pub gives_clean : (s s' : CpuSeat) (tok : ℕ) → is_held (holding s tok) ≡ true → GivesUnwritten tok s s' → IsUnwritten s → IsUnwritten s'
+pub gives_clean : (s s' : CpuSeat) (tok : ℕ) → is_held (holding s tok) ≡ true → GivesUnwritten tok s s' → HoldsClean s → HoldsClean s'
 gives_clean s s' tok held gives clean = elim gives [
   | inl one ↦ clean_changed s s' tok _ _ one.1.changes (λ still. clean tok held) clean
   | inr ended ↦ clean_changed s s' tok _ _ ended.2.changes (λ still. clean tok held) clean
@@ -164,7 +164,7 @@ module _ (s : CpuSeat) (refs : List Ref) (count given : ℕ) (more : given < cou
 pub idle_counts : (s : CpuSeat) → holding s ≡ holds_nothing → references s ≡ 0
 idle_counts s idle = ap (λ (h : Holding). count_from 0 (tokens_of (bank_of s)) h) idle ∙ nothing_counts (tokens_of (bank_of s))
 
-pub idle_clean : (s : CpuSeat) → holding s ≡ holds_nothing → IsUnwritten s
+pub idle_clean : (s : CpuSeat) → holding s ≡ holds_nothing → HoldsClean s
 idle_clean s idle tok held = absurd (false≢true (sym (ap (λ (h : Holding). is_held (h tok)) idle) ∙ held))
 
 -- one reference more of a list is taken, all of it is, and one of it is missed

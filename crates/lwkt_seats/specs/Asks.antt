@@ -36,22 +36,22 @@ is_upgrade Shared Nothing = false
 is_upgrade Shared (Holds mode further) = false
 
 -- whether the seat has no reference
-abbrev pub is_alone : CpuSeat → Bool
-is_alone s = references s == 0
+abbrev pub has_no_reference : CpuSeat → Bool
+has_no_reference s = references s == 0
 
 -- a first reference may be asked for
-abbrev pub IsFree : CpuSeat → ℕ → Type 0
-IsFree s tok = IsThere s tok × (references s < 32) × (holding s tok ≡ Nothing)
+abbrev pub MayAskFirst : CpuSeat → ℕ → Type 0
+MayAskFirst s tok = IsThere s tok × (references s < 32) × (holding s tok ≡ Nothing)
 
-abbrev pub Asks : Mode → ℕ → CpuSeat → CpuSeat → Asked → Type 0
-Asks mode tok old new asked.Taken = IsFree old tok × ((generation : ℕ) × Took old new tok mode (is_alone old) generation)
-Asks mode tok old new asked.Further = IsThere old tok × (references old < 32) × (is_held (holding old tok) ≡ true) × (is_upgrade mode (holding old tok) ≡ false) × Stepped old new tok (more (entry old tok)) adds_one
-Asks mode tok old new asked.NoToken = IsMissing old tok × (new ≡ old)
-Asks mode tok old new asked.ListFull = IsThere old tok × (32 ≤ references old) × (new ≡ old)
-Asks mode tok old new asked.Upgrade = IsThere old tok × (references old < 32) × (is_upgrade mode (holding old tok) ≡ true) × (new ≡ old)
-Asks mode tok old new asked.Busy = IsFree old tok × ((word : ℕ) × ((Decides word mode (is_alone old) IsHeld ⊎ Decides word mode (is_alone old) IsMarked) × Looked old new tok word))
-Asks mode tok old new asked.Again = IsFree old tok × Lost old new tok mode (is_alone old)
-Asks mode tok old new asked.Worn = IsFree old tok × ((word : ℕ) × (Decides word mode (is_alone old) IsWorn × Looked old new tok word))
+abbrev pub AsksFor : Mode → ℕ → CpuSeat → CpuSeat → Asked → Type 0
+AsksFor mode tok old new asked.Taken = MayAskFirst old tok × ((generation : ℕ) × Took old new tok mode (has_no_reference old) generation)
+AsksFor mode tok old new asked.Further = IsThere old tok × (references old < 32) × (is_held (holding old tok) ≡ true) × (is_upgrade mode (holding old tok) ≡ false) × Stepped old new tok (more (entry old tok)) adds_one
+AsksFor mode tok old new asked.NoToken = IsMissing old tok × (new ≡ old)
+AsksFor mode tok old new asked.ListFull = IsThere old tok × (32 ≤ references old) × (new ≡ old)
+AsksFor mode tok old new asked.Upgrade = IsThere old tok × (references old < 32) × (is_upgrade mode (holding old tok) ≡ true) × (new ≡ old)
+AsksFor mode tok old new asked.Busy = MayAskFirst old tok × ((word : ℕ) × ((Decides word mode (has_no_reference old) IsHeld ⊎ Decides word mode (has_no_reference old) IsMarked) × Looked old new tok word))
+AsksFor mode tok old new asked.Again = MayAskFirst old tok × Lost old new tok mode (has_no_reference old)
+AsksFor mode tok old new asked.Worn = MayAskFirst old tok × ((word : ℕ) × (Decides word mode (has_no_reference old) IsWorn × Looked old new tok word))
 
 abbrev pub Furthers : ℕ → CpuSeat → CpuSeat → Furthered → Type 0
 Furthers tok old new furthered.Further = IsThere old tok × (is_held (holding old tok) ≡ true) × (references old < 32) × Stepped old new tok (more (entry old tok)) adds_one
@@ -59,26 +59,26 @@ Furthers tok old new furthered.NoToken = IsMissing old tok × (new ≡ old)
 Furthers tok old new furthered.NotHeld = IsThere old tok × (is_held (holding old tok) ≡ false) × (new ≡ old)
 Furthers tok old new furthered.ListFull = IsThere old tok × (is_held (holding old tok) ≡ true) × (32 ≤ references old) × (new ≡ old)
 
-abbrev pub Marks : ℕ → CpuSeat → CpuSeat → Marked → Type 0
-Marks tok old new marked.Set = IsThere old tok × Stepped old new tok (entry old tok) marks
-Marks tok old new marked.NoToken = IsMissing old tok × (new ≡ old)
+abbrev pub MarksToken : ℕ → CpuSeat → CpuSeat → Marked → Type 0
+MarksToken tok old new marked.Set = IsThere old tok × Stepped old new tok (entry old tok) marks
+MarksToken tok old new marked.NoToken = IsMissing old tok × (new ≡ old)
 
 -- row and record of a token obey its law
-abbrev pub IsLawful : CpuSeat → ℕ → Type 0
-IsLawful s tok = IsLawfulIn (plan_of (bank_of s) tok) (entry s tok)
+abbrev pub ObeysItsLaw : CpuSeat → ℕ → Type 0
+ObeysItsLaw s tok = IsLawfulIn (plan_of (bank_of s) tok) (entry s tok)
 
 -- a question for the law of a token: the row is loaded, if the law asks something of it, and the record read, if it asks for its length
 abbrev pub Asked_for : CpuSeat → CpuSeat → ℕ → Type 0
 Asked_for old new tok = Knowing old new tok (entry old tok) (lawful_loads (plan_of (bank_of old) tok).law (reads_all old.cpu tok 0 (entry old tok).row ++ asked_record (plan_of (bank_of old) tok).law old.cpu tok (entry old tok).blob))
 
 -- a reference given back: where a section ends, its law was asked for before
-abbrev pub GivesOne : ℕ → CpuSeat → CpuSeat → Type 0
-GivesOne tok old new =
+abbrev pub GivesReference : ℕ → CpuSeat → CpuSeat → Type 0
+GivesReference tok old new =
     ((holding old tok ≢ Holds Exclusive 0) × ((given : Given) × Gave old new tok given))
-    ⊎ ((holding old tok ≡ Holds Exclusive 0) × IsLawful old tok × ((asked : CpuSeat) × (Asked_for old asked tok × ((given : Given) × Gave asked new tok given))))
+    ⊎ ((holding old tok ≡ Holds Exclusive 0) × ObeysItsLaw old tok × ((asked : CpuSeat) × (Asked_for old asked tok × ((given : Given) × Gave asked new tok given))))
 
-abbrev pub Gives : ℕ → CpuSeat → CpuSeat → GaveBack → Type 0
-Gives tok old new gave.Given = IsThere old tok × (is_held (holding old tok) ≡ true) × GivesOne tok old new
-Gives tok old new gave.NoToken = IsMissing old tok × (new ≡ old)
-Gives tok old new gave.NotHeld = IsThere old tok × (is_held (holding old tok) ≡ false) × (new ≡ old)
-Gives tok old new gave.Broken = IsThere old tok × (holding old tok ≡ Holds Exclusive 0) × (¬ IsLawful old tok) × Asked_for old new tok
+abbrev pub GivesToken : ℕ → CpuSeat → CpuSeat → GaveBack → Type 0
+GivesToken tok old new gave.Given = IsThere old tok × (is_held (holding old tok) ≡ true) × GivesReference tok old new
+GivesToken tok old new gave.NoToken = IsMissing old tok × (new ≡ old)
+GivesToken tok old new gave.NotHeld = IsThere old tok × (is_held (holding old tok) ≡ false) × (new ≡ old)
+GivesToken tok old new gave.Broken = IsThere old tok × (holding old tok ≡ Holds Exclusive 0) × (¬ ObeysItsLaw old tok) × Asked_for old new tok

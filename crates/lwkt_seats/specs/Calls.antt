@@ -17,14 +17,14 @@ use Rattle.lwkt_seats.specs.declared.answers.RecordRead.{RecordRead}
 use Rattle.lwkt_seats.specs.declared.answers.RecordRead.TheVariants as read
 use Rattle.lwkt_seats.specs.declared.answers.RecordWritten.{RecordWritten}
 use Rattle.lwkt_seats.specs.Numbers.{asked_number, furthered_number, marked_number, gave_number, loaded_number, stored_number, added_number, judged_number, restored_number, record_read_number, record_written_number}
-use Rattle.lwkt_seats.specs.Asks.{Asks, Furthers, Marks, Gives}
-use Rattle.lwkt_seats.specs.Cells.{Loads, Stores, Adds, Judges, Restores}
-use Rattle.lwkt_seats.specs.Records.{ReadsBytes, WritesBytes, filled}
+use Rattle.lwkt_seats.specs.Asks.{AsksFor, Furthers, MarksToken, GivesToken}
+use Rattle.lwkt_seats.specs.Cells.{Loads, Stores, Adds, JudgesToken, Restores}
+use Rattle.lwkt_seats.specs.Records.{ReadsBytes, WritesBytes, buffer_with_bytes}
 use Rattle.lwkt_base.specs.declared.names.TokId.{TokId}
 use Rattle.lwkt_seats.specs.declared.references.LwktReference.{LwktReference}
 use Rattle.lwkt_seats.specs.declared.list_answers.Resumed.{Resumed}
 use Rattle.lwkt_seats.specs.declared.list_answers.Resumed.TheVariants as resumed
-use Rattle.lwkt_seats.specs.Lists.{Resumes, Blocks}
+use Rattle.lwkt_seats.specs.Lists.{ResumesSeat, BlocksSeat}
 use Rattle.lwkt_seats.specs.ListNumbers.{resumed_number, blocked_number}
 
 -- the value that is stored for the caller: with no value it stays as it was
@@ -45,7 +45,7 @@ TellsAdded added.Overflow before now = now ≡ before
 -- what is stored for the caller of a record: its bytes, of which there are at most 64, as far as there is room, and their number; with
 -- no record all stays as it was
 abbrev pub TellsRecord : RecordRead → List ℕ → List ℕ → ℕ → ℕ → Type 0
-TellsRecord (read.Bytes bytes) before now before_length now_length = (now ≡ filled before (take 64 bytes)) × (now_length ≡ length bytes)
+TellsRecord (read.Bytes bytes) before now before_length now_length = (now ≡ buffer_with_bytes before (take 64 bytes)) × (now_length ≡ length bytes)
 TellsRecord read.NoToken before now before_length now_length = (now ≡ before) × (now_length ≡ before_length)
 TellsRecord read.NoRecord before now before_length now_length = (now ≡ before) × (now_length ≡ before_length)
 TellsRecord read.NotHeld before now before_length now_length = (now ≡ before) × (now_length ≡ before_length)
@@ -63,28 +63,28 @@ TellsFirst None before now = now ≡ before
 TellsFirst (Some tok) before now = now ≡ tok.0
 
 abbrev pub Takes : Mode → ℕ → CpuSeat → CpuSeat → ℕ → Type 0
-Takes mode tok old new answer = (asked : Asked) × ((answer ≡ asked_number asked) × Asks mode tok old new asked)
+Takes mode tok old new answer = (asked : Asked) × ((answer ≡ asked_number asked) × AsksFor mode tok old new asked)
 
 abbrev pub GainsOne : ℕ → CpuSeat → CpuSeat → ℕ → Type 0
 GainsOne tok old new answer = (furthered : Furthered) × ((answer ≡ furthered_number furthered) × Furthers tok old new furthered)
 
 abbrev pub SetsMark : ℕ → CpuSeat → CpuSeat → ℕ → Type 0
-SetsMark tok old new answer = (marked : Marked) × ((answer ≡ marked_number marked) × Marks tok old new marked)
+SetsMark tok old new answer = (marked : Marked) × ((answer ≡ marked_number marked) × MarksToken tok old new marked)
 
 abbrev pub GivesBack : ℕ → CpuSeat → CpuSeat → ℕ → Type 0
-GivesBack tok old new answer = (gave : GaveBack) × ((answer ≡ gave_number gave) × Gives tok old new gave)
+GivesBack tok old new answer = (gave : GaveBack) × ((answer ≡ gave_number gave) × GivesToken tok old new gave)
 
 abbrev pub LoadsCell : ℕ → ℕ → ℕ → ℕ → CpuSeat → CpuSeat → ℕ → Type 0
 LoadsCell tok cell before now old new answer = (loaded : Loaded) × ((answer ≡ loaded_number loaded) × Loads tok cell old new loaded × TellsLoaded loaded before now)
 
-abbrev pub StoresCell : ℕ → ℕ → ℕ → CpuSeat → CpuSeat → ℕ → Type 0
-StoresCell tok cell value old new answer = (stored : Stored) × ((answer ≡ stored_number stored) × Stores tok cell value old new stored)
+abbrev pub StoresValue : ℕ → ℕ → ℕ → CpuSeat → CpuSeat → ℕ → Type 0
+StoresValue tok cell value old new answer = (stored : Stored) × ((answer ≡ stored_number stored) × Stores tok cell value old new stored)
 
 abbrev pub AddsTo : ℕ → ℕ → ℕ → ℕ → CpuSeat → CpuSeat → ℕ → Type 0
 AddsTo tok amount before now old new answer = (added : Added) × ((answer ≡ added_number added) × Adds tok amount old new added × TellsAdded added before now)
 
 abbrev pub JudgesRow : ℕ → CpuSeat → CpuSeat → ℕ → Type 0
-JudgesRow tok old new answer = (judged : Judged) × ((answer ≡ judged_number judged) × Judges tok old new judged)
+JudgesRow tok old new answer = (judged : Judged) × ((answer ≡ judged_number judged) × JudgesToken tok old new judged)
 
 abbrev pub RestoresFirst : ℕ → CpuSeat → CpuSeat → ℕ → Type 0
 RestoresFirst tok old new answer = (restored : RowRestored) × ((answer ≡ restored_number restored) × Restores tok old new restored)
@@ -96,7 +96,7 @@ abbrev pub WritesRecord : ℕ → List ℕ → CpuSeat → CpuSeat → ℕ → T
 WritesRecord tok bytes old new answer = (written : RecordWritten) × ((answer ≡ record_written_number written) × WritesBytes tok bytes old new written)
 
 abbrev pub ResumesList : List LwktReference → ℕ → ℕ → CpuSeat → CpuSeat → ℕ → Type 0
-ResumesList refs before now old new answer = (came : Resumed) × ((answer ≡ resumed_number came) × Resumes refs old new came × TellsPlace came before now)
+ResumesList refs before now old new answer = (came : Resumed) × ((answer ≡ resumed_number came) × ResumesSeat refs old new came × TellsPlace came before now)
 
 abbrev pub GivesUpAll : ℕ → ℕ → CpuSeat → CpuSeat → ℕ → Type 0
-GivesUpAll before now old new answer = (first : Option TokId) × ((answer ≡ blocked_number first) × Blocks old new first × TellsFirst first before now)
+GivesUpAll before now old new answer = (first : Option TokId) × ((answer ≡ blocked_number first) × BlocksSeat old new first × TellsFirst first before now)

@@ -6,7 +6,7 @@ use Rattle.lwkt_bank.specs.declared.seats.CpuSeat.{CpuSeat}
 use Rattle.lwkt_bank.specs.Views.{RecordOf, read, stored, raised}
 use Rattle.lwkt_bank.specs.Deeds.{reads, writes}
 use Rattle.lwkt_bank.specs.Seats.{bank_of, plan_of, entry, holding, Changes, Knowing, IsUnchanged, Restored, first_load}
-use Rattle.lwkt_seats.specs.Asks.{IsThere, IsMissing, IsLawful, Asked_for}
+use Rattle.lwkt_seats.specs.Asks.{IsThere, IsMissing, ObeysItsLaw, Asked_for}
 use Rattle.lwkt_seats.specs.declared.answers.Loaded.{Loaded}
 use Rattle.lwkt_seats.specs.declared.answers.Loaded.TheVariants as loaded
 use Rattle.lwkt_seats.specs.declared.answers.Stored.{Stored}
@@ -58,12 +58,12 @@ Adds tok amount old new added.TallyOnly = IsThere old tok × IsMine old tok × (
 Adds tok amount old new added.Overflow = IsThere old tok × IsMine old tok × ((plan_of (bank_of old) tok).law ≡ Tally) × (2 ^ 64 ≤ slice_index (entry old tok).row 0 + amount)
     × Knowing old new tok (entry old tok) (first_load old.cpu tok (entry old tok) 0)
 
-abbrev pub Judges : ℕ → CpuSeat → CpuSeat → Judged → Type 0
-Judges tok old new judged.Lawful = IsThere old tok × IsMine old tok × IsLawful old tok × Asked_for old new tok
-Judges tok old new judged.Broken = IsThere old tok × IsMine old tok × (¬ IsLawful old tok) × Asked_for old new tok
-Judges tok old new judged.NoToken = IsMissing old tok × (new ≡ old)
-Judges tok old new judged.NotHeld = IsThere old tok × IsUnheld old tok × (new ≡ old)
-Judges tok old new judged.SharedWrite = IsThere old tok × IsShared old tok × (new ≡ old)
+abbrev pub JudgesToken : ℕ → CpuSeat → CpuSeat → Judged → Type 0
+JudgesToken tok old new judged.Lawful = IsThere old tok × IsMine old tok × ObeysItsLaw old tok × Asked_for old new tok
+JudgesToken tok old new judged.Broken = IsThere old tok × IsMine old tok × (¬ ObeysItsLaw old tok) × Asked_for old new tok
+JudgesToken tok old new judged.NoToken = IsMissing old tok × (new ≡ old)
+JudgesToken tok old new judged.NotHeld = IsThere old tok × IsUnheld old tok × (new ≡ old)
+JudgesToken tok old new judged.SharedWrite = IsThere old tok × IsShared old tok × (new ≡ old)
 
 -- the first row is stored again, and the first record: each cell that was stored to gets its first value; a Tally token stays as it is
 abbrev pub RestoresRow : ℕ → CpuSeat → CpuSeat → Type 0

@@ -41,8 +41,8 @@ abbrev pub IsSized : Closed → Type 0
 IsSized closed = (tok : ℕ) → (length (slice_index_or closed.rows.items tok []) ≤ 4) × (length (slice_index_or closed.tallies.items tok []) ≤ 8) × IsShort (slice_index_or closed.blobs.items tok None)
 
 -- each row, with its record, obeys the law of its token
-abbrev pub AreLawful : Bank → Closed → Type 0
-AreLawful bank closed = (tok : ℕ) → tok < tokens_of (id_of bank) → Obeys (plan_of (id_of bank) tok).law (plan_of (id_of bank) tok).param (slice_index_or closed.rows.items tok []) (length_of (slice_index_or closed.blobs.items tok None))
+abbrev pub RowsObeyLaws : Bank → Closed → Type 0
+RowsObeyLaws bank closed = (tok : ℕ) → tok < tokens_of (id_of bank) → Obeys (plan_of (id_of bank) tok).law (plan_of (id_of bank) tok).param (slice_index_or closed.rows.items tok []) (length_of (slice_index_or closed.blobs.items tok None))
 
 -- the closing values of the desk's bank with its seats, one of each place, which held nothing; there is room for them
 pub record Ends (desk : Desk) (room : ℕ) (closed : Closed) : Type 0 where
@@ -53,6 +53,6 @@ pub record Ends (desk : Desk) (room : ℕ) (closed : Closed) : Type 0 where
   pub seated : (number : ℕ) (s : CpuSeat) → slice_get seats number ≡ Some s → IsSeatOf desk number s
   pub ready : All (IsReady (id_of bank)) seats
   pub is_closed : IsClosed (id_of bank) (cpus_of bank) seats closed
-  pub lawful : AreLawful bank closed
+  pub lawful : RowsObeyLaws bank closed
   pub sized : IsSized closed
   pub fits : tokens_of (id_of bank) ≤ room

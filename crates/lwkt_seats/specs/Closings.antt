@@ -5,8 +5,8 @@ use Rattle.lwkt_bank.specs.Views.{RecordOf}
 use Rattle.lwkt_seats.specs.declared.closings.LwktClosing.{LwktClosing}
 
 -- values with as many of 0 behind them as there is room for
-abbrev pub padded : ℕ → List ℕ → List ℕ
-padded room values = values ++ replicate (room - length values) 0
+abbrev pub zero_padded : ℕ → List ℕ → List ℕ
+zero_padded room values = values ++ replicate (room - length values) 0
 
 -- the bytes of a record, and how many records it is
 abbrev pub bytes_in : RecordOf → List ℕ
@@ -20,12 +20,12 @@ count_in (Some bytes) = 1
 -- what a token came to at a close: cells, tallies and record are told with their numbers
 abbrev pub closing_of : Closed → ℕ → LwktClosing
 closing_of closed tok = record {
-  row = padded 4 (slice_index_or closed.rows.items tok []);
+  row = zero_padded 4 (slice_index_or closed.rows.items tok []);
   generation = slice_index closed.gens.items tok;
-  tallies = padded 8 (slice_index_or closed.tallies.items tok []);
+  tallies = zero_padded 8 (slice_index_or closed.tallies.items tok []);
   cells = length (slice_index_or closed.rows.items tok []);
   seats = length (slice_index_or closed.tallies.items tok []);
-  bytes = padded 64 (bytes_in (slice_index_or closed.blobs.items tok None));
+  bytes = zero_padded 64 (bytes_in (slice_index_or closed.blobs.items tok None));
   length = length (bytes_in (slice_index_or closed.blobs.items tok None));
   records = count_in (slice_index_or closed.blobs.items tok None);
 }

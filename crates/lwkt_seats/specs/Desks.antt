@@ -16,8 +16,8 @@ IsSeatOf desk number s = (spot : Spot) × (IsPlaced desk number spot × (bank_of
 
 -- there is no seat of this number; or another call has it, 50, or the bank is closed, 52; or the seat was so when the call came, and
 -- is so when it is over, and the answer tells what came of it
-abbrev pub Answers : Desk → ℕ → (CpuSeat → CpuSeat → ℕ → Type 0) → ℕ → Type 0
-Answers desk number Does answer =
+abbrev pub IsDeskAnswer : Desk → ℕ → (CpuSeat → CpuSeat → ℕ → Type 0) → ℕ → Type 0
+IsDeskAnswer desk number Does answer =
     ((answer ≡ 30) × (length desk.places.items ≤ number))
     ⊎ (((answer ≡ 50) ⊎ (answer ≡ 52)) × (number < length desk.places.items))
     ⊎ ((old : CpuSeat) × ((new : CpuSeat) × (IsSeatOf desk number old × IsSeatOf desk number new × Does old new answer)))

@@ -21,7 +21,7 @@ use Rattle.lwkt_seats.specs.declared.list_answers.Missed.{Missed}
 use Rattle.lwkt_seats.specs.declared.list_answers.Missed.TheVariants as missed
 use Rattle.lwkt_seats.specs.declared.list_answers.Resumed.{Resumed}
 use Rattle.lwkt_seats.specs.declared.list_answers.Resumed.TheVariants as resumed
-use Rattle.lwkt_seats.specs.Asks.{IsLawful, Asked_for, GivesOne}
+use Rattle.lwkt_seats.specs.Asks.{ObeysItsLaw, Asked_for, GivesReference}
 use Rattle.lwkt_seats.specs.Cells.{IsMine, RestoresRow}
 
 -- one thing after another is done, from the first seat to the last
@@ -79,8 +79,8 @@ MissesOne refs r old new missed.Again = (holding old r.tok.0 ≡ Nothing) × Los
 MissesOne refs r old new missed.Worn = (holding old r.tok.0 ≡ Nothing) × ((word : ℕ) × (Decides word r.mode (has_only refs r.tok.0) IsWorn × Looked old new r.tok.0 word))
 
 -- row and record of each token that a seat holds are its section's first ones
-abbrev pub IsUnwritten : CpuSeat → Type 0
-IsUnwritten s = (tok : ℕ) → is_held (holding s tok) ≡ true → IsCleanIn (entry s tok)
+abbrev pub HoldsClean : CpuSeat → Type 0
+HoldsClean s = (tok : ℕ) → is_held (holding s tok) ≡ true → IsCleanIn (entry s tok)
 
 -- a reference is given back, and no section is written
 abbrev pub GivesUnwritten : ℕ → CpuSeat → CpuSeat → Type 0
@@ -100,11 +100,11 @@ GivesBackAll old new = (holding new ≡ holds_nothing) × ((done : List ℕ) × 
 abbrev pub TakesNone : List Ref → ℕ → Missed → CpuSeat → CpuSeat → Type 0
 TakesNone refs at why old new = (tried : CpuSeat) × (TakesUpTo refs at why old tried × GivesBackAll tried new)
 
-abbrev pub Resumes : List LwktReference → CpuSeat → CpuSeat → Resumed → Type 0
-Resumes refs old new resumed.All = (holding old ≡ holds_nothing) × IsList (bank_of old) refs × TakesAll (refs_of refs) old new
-Resumes refs old new resumed.Holds = (holding old ≢ holds_nothing) × (new ≡ old)
-Resumes refs old new (resumed.Unlisted at why) = (holding old ≡ holds_nothing) × IsUnlisted (bank_of old) refs at why × (new ≡ old)
-Resumes refs old new (resumed.Missed at why) = (holding old ≡ holds_nothing) × IsList (bank_of old) refs × TakesNone (refs_of refs) at why old new
+abbrev pub ResumesSeat : List LwktReference → CpuSeat → CpuSeat → Resumed → Type 0
+ResumesSeat refs old new resumed.All = (holding old ≡ holds_nothing) × IsList (bank_of old) refs × TakesAll (refs_of refs) old new
+ResumesSeat refs old new resumed.Holds = (holding old ≢ holds_nothing) × (new ≡ old)
+ResumesSeat refs old new (resumed.Unlisted at why) = (holding old ≡ holds_nothing) × IsUnlisted (bank_of old) refs at why × (new ≡ old)
+ResumesSeat refs old new (resumed.Missed at why) = (holding old ≡ holds_nothing) × IsList (bank_of old) refs × TakesNone (refs_of refs) at why old new
 
 -- a section's first row and record are stored again, and its last reference is given back
 abbrev pub EndsRestored : ℕ → CpuSeat → CpuSeat → Type 0
@@ -112,24 +112,24 @@ EndsRestored tok old new = (mended : CpuSeat) × (RestoresRow tok old mended × 
 
 -- a reference is given back; where that ends a section that has broken its law, row and record are restored before
 abbrev pub EndsOne : ℕ → CpuSeat → CpuSeat → Bool → Type 0
-EndsOne tok old new false = GivesOne tok old new
-EndsOne tok old new true = (holding old tok ≡ Holds Exclusive 0) × (¬ IsLawful old tok) × ((asked : CpuSeat) × (Asked_for old asked tok × EndsRestored tok asked new))
+EndsOne tok old new false = GivesReference tok old new
+EndsOne tok old new true = (holding old tok ≡ Holds Exclusive 0) × (¬ ObeysItsLaw old tok) × ((asked : CpuSeat) × (Asked_for old asked tok × EndsRestored tok asked new))
 
 -- the same of a token and whether it was restored
-abbrev pub Ends : TokId × Bool → CpuSeat → CpuSeat → Type 0
-Ends x old new = EndsOne x.0.0 old new x.1
+abbrev pub EndsPair : TokId × Bool → CpuSeat → CpuSeat → Type 0
+EndsPair x old new = EndsOne x.0.0 old new x.1
 
 -- references are given back, one after another
 abbrev pub EndsEach : CpuSeat → CpuSeat → Type 0
-EndsEach old new = (done : List (TokId × Bool)) × Chain Ends done old new
+EndsEach old new = (done : List (TokId × Bool)) × Chain EndsPair done old new
 
 -- the seat holds the token exclusively, and row and record break its law
 abbrev pub IsBroken : CpuSeat → ℕ → Type 0
-IsBroken s tok = IsMine s tok × (¬ IsLawful s tok)
+IsBroken s tok = IsMine s tok × (¬ ObeysItsLaw s tok)
 
 -- each token below a number that the seat holds exclusively obeys its law
 abbrev pub AreLawfulBelow : CpuSeat → ℕ → Type 0
-AreLawfulBelow s n = (tok : ℕ) → tok < n → IsMine s tok → IsLawful s tok
+AreLawfulBelow s n = (tok : ℕ) → tok < n → IsMine s tok → ObeysItsLaw s tok
 
 -- the first token below a number that breaks its law, if there is one
 abbrev pub IsFirstBroken : CpuSeat → ℕ → Option TokId → Type 0
@@ -137,11 +137,11 @@ IsFirstBroken s n None = AreLawfulBelow s n
 IsFirstBroken s n (Some tok) = (tok.0 < n) × IsBroken s tok.0 × AreLawfulBelow s tok.0
 
 -- the first token that was restored so far, if any was, after one token more
-abbrev pub first_of : Option TokId → Bool → TokId → Option TokId
-first_of (Some first) restored tok = Some first
-first_of None true tok = Some tok
-first_of None false tok = None
+abbrev pub first_restored : Option TokId → Bool → TokId → Option TokId
+first_restored (Some first) restored tok = Some first
+first_restored None true tok = Some tok
+first_restored None false tok = None
 
 -- all that a seat holds is given up; the first token that broke its law, if there is one, is named
-abbrev pub Blocks : CpuSeat → CpuSeat → Option TokId → Type 0
-Blocks old new first = (holding new ≡ holds_nothing) × IsFirstBroken old (tokens_of (bank_of old)) first × EndsEach old new
+abbrev pub BlocksSeat : CpuSeat → CpuSeat → Option TokId → Type 0
+BlocksSeat old new first = (holding new ≡ holds_nothing) × IsFirstBroken old (tokens_of (bank_of old)) first × EndsEach old new

@@ -14,8 +14,8 @@ abbrev pub AreTokens : List LwktToken → Type 0
 AreTokens tokens = All IsToken tokens
 
 -- the law of a number
-abbrev pub law_of : ℕ → Law
-law_of number = if number == 0 then Any else if number == 1 then Sum else if number == 2 then Order else if number == 3 then Cap else if number == 4 then Tally else Len
+abbrev pub law_of_number : ℕ → Law
+law_of_number number = if number == 0 then Any else if number == 1 then Sum else if number == 2 then Order else if number == 3 then Cap else if number == 4 then Tally else Len
 
 -- the record that a token guards, if it guards one: its first bytes
 abbrev pub record_of : LwktToken → RecordOf
@@ -23,7 +23,7 @@ record_of token = if token.records == 0 then None else Some (take token.length t
 
 -- what is declared of a token: its first cells, and its record
 abbrev pub spec_of : LwktToken → TokSpec
-spec_of token = record { cells = take token.cells (token.first ∷ token.second ∷ token.third ∷ token.fourth ∷ []); law = law_of token.law; param = token.param; generation = token.generation; blob = record_of token }
+spec_of token = record { cells = take token.cells (token.first ∷ token.second ∷ token.third ∷ token.fourth ∷ []); law = law_of_number token.law; param = token.param; generation = token.generation; blob = record_of token }
 
 abbrev pub specs_of : List LwktToken → List TokSpec
 specs_of tokens = map spec_of tokens

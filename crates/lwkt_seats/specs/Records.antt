@@ -12,29 +12,29 @@ use Rattle.lwkt_seats.specs.declared.answers.RecordWritten.{RecordWritten}
 use Rattle.lwkt_seats.specs.declared.answers.RecordWritten.TheVariants as wrote
 
 -- the token guards a record, and it doesn't
-abbrev pub HasRecord : CpuSeat → ℕ → Type 0
-HasRecord s tok = IsThere s tok × (is_some (plan_of (bank_of s) tok).blob ≡ true)
+abbrev pub GuardsRecord : CpuSeat → ℕ → Type 0
+GuardsRecord s tok = IsThere s tok × (is_some (plan_of (bank_of s) tok).blob ≡ true)
 
 abbrev pub IsBare : CpuSeat → ℕ → Type 0
 IsBare s tok = IsThere s tok × (is_some (plan_of (bank_of s) tok).blob ≡ false)
 
 abbrev pub ReadsBytes : ℕ → CpuSeat → CpuSeat → RecordRead → Type 0
-ReadsBytes tok old new (read.Bytes bytes) = HasRecord old tok × IsMine old tok × ((entry old tok).blob ≡ Some bytes)
+ReadsBytes tok old new (read.Bytes bytes) = GuardsRecord old tok × IsMine old tok × ((entry old tok).blob ≡ Some bytes)
     × Changes old new tok (entry old tok) (reads_blob old.cpu tok bytes ∷ [])
 ReadsBytes tok old new read.NoToken = IsMissing old tok × (new ≡ old)
 ReadsBytes tok old new read.NoRecord = IsBare old tok × (new ≡ old)
-ReadsBytes tok old new read.NotHeld = HasRecord old tok × IsUnheld old tok × (new ≡ old)
-ReadsBytes tok old new read.SharedRecord = HasRecord old tok × IsShared old tok × (new ≡ old)
+ReadsBytes tok old new read.NotHeld = GuardsRecord old tok × IsUnheld old tok × (new ≡ old)
+ReadsBytes tok old new read.SharedRecord = GuardsRecord old tok × IsShared old tok × (new ≡ old)
 
 abbrev pub WritesBytes : ℕ → List ℕ → CpuSeat → CpuSeat → RecordWritten → Type 0
-WritesBytes tok bytes old new wrote.Written = HasRecord old tok × IsMine old tok × (length bytes ≤ 64)
+WritesBytes tok bytes old new wrote.Written = GuardsRecord old tok × IsMine old tok × (length bytes ≤ 64)
     × Changes old new tok (wrote_record (entry old tok) bytes) (writes_blob old.cpu tok bytes ∷ [])
 WritesBytes tok bytes old new wrote.NoToken = IsMissing old tok × (new ≡ old)
 WritesBytes tok bytes old new wrote.NoRecord = IsBare old tok × (new ≡ old)
-WritesBytes tok bytes old new wrote.NotHeld = HasRecord old tok × IsUnheld old tok × (new ≡ old)
-WritesBytes tok bytes old new wrote.SharedRecord = HasRecord old tok × IsShared old tok × (new ≡ old)
-WritesBytes tok bytes old new wrote.RecordLong = HasRecord old tok × IsMine old tok × (64 < length bytes) × (new ≡ old)
+WritesBytes tok bytes old new wrote.NotHeld = GuardsRecord old tok × IsUnheld old tok × (new ≡ old)
+WritesBytes tok bytes old new wrote.SharedRecord = GuardsRecord old tok × IsShared old tok × (new ≡ old)
+WritesBytes tok bytes old new wrote.RecordLong = GuardsRecord old tok × IsMine old tok × (64 < length bytes) × (new ≡ old)
 
 -- a buffer after bytes were put into it: all of them, or as much of their front as there is room for, and what stood behind that
-abbrev pub filled : List ℕ → List ℕ → List ℕ
-filled buffer whole = take (length buffer) whole ++ drop (length whole) buffer
+abbrev pub buffer_with_bytes : List ℕ → List ℕ → List ℕ
+buffer_with_bytes buffer whole = take (length buffer) whole ++ drop (length whole) buffer

@@ -22,5 +22,5 @@ pub record IsSeated (spot : Spot) (s : Sitter) : Type 0 where
   pub brief : AreBrief s.seat
 
 -- a call leaves a seat that of its bank and of its processor
-abbrev pub IsSameSeat : CpuSeat → CpuSeat → Type 0
-IsSameSeat old new = (bank_of new ≡ bank_of old) × (new.cpu ≡ old.cpu)
+abbrev pub KeepsBankAndCpu : CpuSeat → CpuSeat → Type 0
+KeepsBankAndCpu old new = (bank_of new ≡ bank_of old) × (new.cpu ≡ old.cpu)

@@ -3,8 +3,8 @@ ghost use Rattle.std.specs.Prelude.{◌≡◌, ℕ, ◌+◌, ◌-◌, ◌*◌, �
 ghost use Rattle.lwkt_base.specs.Holding.{references_in};
 ghost use Rattle.lwkt_bank.specs.Seats.{id_of, bank_of, tokens_of, holding, references};
 ghost use Rattle.lwkt_bank.specs.Views.{count_from};
-ghost use Rattle.lwkt_seats.specs.Asks.{is_upgrade, is_alone, Asks, Furthers, Marks, Gives};
-ghost use Rattle.lwkt_seats.specs.Seated.{IsSameSeat};
+ghost use Rattle.lwkt_seats.specs.Asks.{is_upgrade, has_no_reference, AsksFor, Furthers, MarksToken, GivesToken};
+ghost use Rattle.lwkt_seats.specs.Seated.{KeepsBankAndCpu};
 
 use crate::answers::{Asked, Furthered, GaveBack, Marked};
 use lwkt_bank::{Bank, CpuSeat, Try};
@@ -52,9 +52,9 @@ fn take_first(seat: &mut CpuSeat, bank: &Bank, tok: TokId, mode: Mode, alone: bo
     requires there { tok.0 < tokens_of (bank_of seat.old) }
     requires few { references seat.old < 32 }
     requires free { holding seat.old tok.0 ≡ Held.Nothing }
-    requires alone { alone ≡ is_alone seat.old }
-    ensures does { Asks mode tok.0 seat.old seat.new result }
-    ensures same { IsSameSeat seat.old seat.new }
+    requires alone { alone ≡ has_no_reference seat.old }
+    ensures does { AsksFor mode tok.0 seat.old seat.new result }
+    ensures same { KeepsBankAndCpu seat.old seat.new }
 {
     match seat.try_take(bank, tok, mode, alone) {
         Try::Got { .. } => Asked::Taken,
@@ -67,8 +67,8 @@ fn take_first(seat: &mut CpuSeat, bank: &Bank, tok: TokId, mode: Mode, alone: bo
 /// Asks for a reference in this mode: a first one, or a further one where the seat holds the token.
 pub(crate) fn ask(seat: &mut CpuSeat, bank: &Bank, token: u32, mode: Mode) -> Asked
     requires of { bank_of seat.old ≡ id_of bank.now }
-    ensures does { Asks mode token seat.old seat.new result }
-    ensures same { IsSameSeat seat.old seat.new }
+    ensures does { AsksFor mode token seat.old seat.new result }
+    ensures same { KeepsBankAndCpu seat.old seat.new }
 {
     if token as usize >= bank.tokens() {
         return Asked::NoToken;
@@ -93,7 +93,7 @@ pub(crate) fn ask(seat: &mut CpuSeat, bank: &Bank, token: u32, mode: Mode) -> As
 pub(crate) fn further(seat: &mut CpuSeat, bank: &Bank, token: u32) -> Furthered
     requires of { bank_of seat.old ≡ id_of bank.now }
     ensures does { Furthers token seat.old seat.new result }
-    ensures same { IsSameSeat seat.old seat.new }
+    ensures same { KeepsBankAndCpu seat.old seat.new }
 {
     if token as usize >= bank.tokens() {
         return Furthered::NoToken;
@@ -112,8 +112,8 @@ pub(crate) fn further(seat: &mut CpuSeat, bank: &Bank, token: u32) -> Furthered
 /// Marks a token for an exclusive request.
 pub(crate) fn mark(seat: &mut CpuSeat, bank: &Bank, token: u32) -> Marked
     requires of { bank_of seat.old ≡ id_of bank.now }
-    ensures does { Marks token seat.old seat.new result }
-    ensures same { IsSameSeat seat.old seat.new }
+    ensures does { MarksToken token seat.old seat.new result }
+    ensures same { KeepsBankAndCpu seat.old seat.new }
 {
     if token as usize >= bank.tokens() {
         return Marked::NoToken;
@@ -135,8 +135,8 @@ fn end(seat: &mut CpuSeat, bank: &Bank, tok: TokId) -> GaveBack
     requires of { bank_of seat.old ≡ id_of bank.now }
     requires there { tok.0 < tokens_of (bank_of seat.old) }
     requires last { holding seat.old tok.0 ≡ Held.Holds Mode.Exclusive 0 }
-    ensures does { Gives tok.0 seat.old seat.new result }
-    ensures same { IsSameSeat seat.old seat.new }
+    ensures does { GivesToken tok.0 seat.old seat.new result }
+    ensures same { KeepsBankAndCpu seat.old seat.new }
 {
     if !seat.lawful(bank, tok) {
         return GaveBack::Broken;
@@ -148,8 +148,8 @@ fn end(seat: &mut CpuSeat, bank: &Bank, tok: TokId) -> GaveBack
 /// Gives a reference back. A section that would end and has broken its law goes on.
 pub(crate) fn give(seat: &mut CpuSeat, bank: &Bank, token: u32) -> GaveBack
     requires of { bank_of seat.old ≡ id_of bank.now }
-    ensures does { Gives token seat.old seat.new result }
-    ensures same { IsSameSeat seat.old seat.new }
+    ensures does { GivesToken token seat.old seat.new result }
+    ensures same { KeepsBankAndCpu seat.old seat.new }
 {
     if token as usize >= bank.tokens() {
         return GaveBack::NoToken;

@@ -1,8 +1,8 @@
 //! The cells of a token that a seat holds.
 ghost use Rattle.std.specs.Prelude.{◌≡◌, ◌<◌};
 ghost use Rattle.lwkt_bank.specs.Seats.{id_of, bank_of, tokens_of};
-ghost use Rattle.lwkt_seats.specs.Cells.{Loads, Stores, Adds, Judges, Restores};
-ghost use Rattle.lwkt_seats.specs.Seated.{IsSameSeat};
+ghost use Rattle.lwkt_seats.specs.Cells.{Loads, Stores, Adds, JudgesToken, Restores};
+ghost use Rattle.lwkt_seats.specs.Seated.{KeepsBankAndCpu};
 
 use crate::answers::{Added, Judged, Loaded, RowRestored, Stored};
 use lwkt_bank::{Bank, CpuSeat};
@@ -12,7 +12,7 @@ use lwkt_base::{Fault, TokId};
 pub(crate) fn load(seat: &mut CpuSeat, bank: &Bank, token: u32, cell: u32) -> Loaded
     requires of { bank_of seat.old ≡ id_of bank.now }
     ensures does { Loads token cell seat.old seat.new result }
-    ensures same { IsSameSeat seat.old seat.new }
+    ensures same { KeepsBankAndCpu seat.old seat.new }
 {
     if token as usize >= bank.tokens() {
         return Loaded::NoToken;
@@ -31,7 +31,7 @@ pub(crate) fn load(seat: &mut CpuSeat, bank: &Bank, token: u32, cell: u32) -> Lo
 pub(crate) fn store(seat: &mut CpuSeat, bank: &Bank, token: u32, cell: u32, value: u64) -> Stored
     requires of { bank_of seat.old ≡ id_of bank.now }
     ensures does { Stores token cell value seat.old seat.new result }
-    ensures same { IsSameSeat seat.old seat.new }
+    ensures same { KeepsBankAndCpu seat.old seat.new }
 {
     if token as usize >= bank.tokens() {
         return Stored::NoToken;
@@ -57,7 +57,7 @@ pub(crate) fn store(seat: &mut CpuSeat, bank: &Bank, token: u32, cell: u32, valu
 pub(crate) fn add(seat: &mut CpuSeat, bank: &Bank, token: u32, amount: u64) -> Added
     requires of { bank_of seat.old ≡ id_of bank.now }
     ensures does { Adds token amount seat.old seat.new result }
-    ensures same { IsSameSeat seat.old seat.new }
+    ensures same { KeepsBankAndCpu seat.old seat.new }
 {
     if token as usize >= bank.tokens() {
         return Added::NoToken;
@@ -80,8 +80,8 @@ pub(crate) fn add(seat: &mut CpuSeat, bank: &Bank, token: u32, amount: u64) -> A
 /// Whether row and record obey the law.
 pub(crate) fn judge(seat: &mut CpuSeat, bank: &Bank, token: u32) -> Judged
     requires of { bank_of seat.old ≡ id_of bank.now }
-    ensures does { Judges token seat.old seat.new result }
-    ensures same { IsSameSeat seat.old seat.new }
+    ensures does { JudgesToken token seat.old seat.new result }
+    ensures same { KeepsBankAndCpu seat.old seat.new }
 {
     if token as usize >= bank.tokens() {
         return Judged::NoToken;
@@ -104,7 +104,7 @@ pub(crate) fn judge(seat: &mut CpuSeat, bank: &Bank, token: u32) -> Judged
 pub(crate) fn restore(seat: &mut CpuSeat, bank: &Bank, token: u32) -> RowRestored
     requires of { bank_of seat.old ≡ id_of bank.now }
     ensures does { Restores token seat.old seat.new result }
-    ensures same { IsSameSeat seat.old seat.new }
+    ensures same { KeepsBankAndCpu seat.old seat.new }
 {
     if token as usize >= bank.tokens() {
         return RowRestored::NoToken;

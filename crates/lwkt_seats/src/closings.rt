@@ -2,7 +2,7 @@
 ghost use Rattle.std.specs.Prelude.{◌≡◌, ◌≤◌, [], None, length, slice_index, slice_index_or};
 ghost use Rattle.lwkt_core.specs.Tokens.{IsShort};
 ghost use Rattle.lwkt_seats.specs.Closes.{IsSized};
-ghost use Rattle.lwkt_seats.specs.Closings.{padded, bytes_in, count_in, closing_of, TellsClosing};
+ghost use Rattle.lwkt_seats.specs.Closings.{zero_padded, bytes_in, count_in, closing_of, TellsClosing};
 
 use lwkt_bank::Closed;
 use lwkt_base::Blob;
@@ -68,7 +68,7 @@ fn blob_of(closed: &Closed, tok: usize) -> Option<Blob>
 
 fn four(values: &[u64]) -> [u64; 4]
     requires { length values.now ≤ 4 }
-    ensures { result ≡ padded 4 values.now }
+    ensures { result ≡ zero_padded 4 values.now }
 {
     let mut all = [0; 4];
     all[..values.len()].copy_from_slice(values);
@@ -77,7 +77,7 @@ fn four(values: &[u64]) -> [u64; 4]
 
 fn eight(values: &[u64]) -> [u64; 8]
     requires { length values.now ≤ 8 }
-    ensures { result ≡ padded 8 values.now }
+    ensures { result ≡ zero_padded 8 values.now }
 {
     let mut all = [0; 8];
     all[..values.len()].copy_from_slice(values);
@@ -86,7 +86,7 @@ fn eight(values: &[u64]) -> [u64; 8]
 
 fn sixty_four(bytes: &[u8]) -> [u8; 64]
     requires { length bytes.now ≤ 64 }
-    ensures { result ≡ padded 64 bytes.now }
+    ensures { result ≡ zero_padded 64 bytes.now }
 {
     let mut all = [0; 64];
     all[..bytes.len()].copy_from_slice(bytes);
@@ -96,7 +96,7 @@ fn sixty_four(bytes: &[u8]) -> [u8; 64]
 // The bytes of a record; none where there is no record.
 fn bytes_in(blob: &Option<Blob>) -> [u8; 64]
     requires { IsShort blob.now }
-    ensures { result ≡ padded 64 (bytes_in blob.now) }
+    ensures { result ≡ zero_padded 64 (bytes_in blob.now) }
 {
     match blob {
         Some(blob) => sixty_four(blob.as_slice()),

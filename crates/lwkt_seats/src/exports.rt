@@ -1,8 +1,8 @@
 //! The calls on a seat, for C; include/lwkt.h declares them.
 ghost use Rattle.std.specs.Prelude.{◌≡◌, ◌≢◌, ℕ};
 ghost use Rattle.lwkt_base.specs.declared.names.Mode.TheVariants.{Exclusive, Shared};
-ghost use Rattle.lwkt_seats.specs.Desks.{Answers};
-ghost use Rattle.lwkt_seats.specs.Calls.{Takes, GainsOne, SetsMark, GivesBack, LoadsCell, StoresCell, AddsTo, JudgesRow, RestoresFirst, TellsLoaded, TellsAdded};
+ghost use Rattle.lwkt_seats.specs.Desks.{IsDeskAnswer};
+ghost use Rattle.lwkt_seats.specs.Calls.{Takes, GainsOne, SetsMark, GivesBack, LoadsCell, StoresValue, AddsTo, JudgesRow, RestoresFirst, TellsLoaded, TellsAdded};
 ghost use Rattle.lwkt_seats.specs.Numbers.{loaded_number, added_number};
 
 use crate::answers::{Added, Loaded};
@@ -41,7 +41,7 @@ fn tell_added(added: Added, value: &mut u64) -> u32
 /// where it doesn't hold it, 20 at the last generation, 23 where another seat holds it, 34 where another seat's step came between. 30 where there is no seat of this number, 50 while another call has it, 52 where the bank is closed.
 #[unsafe(no_mangle)]
 pub extern "C" fn lwkt_take(bank: LwktBank, seat: u32, token: u32) -> u32
-    ensures { Answers bank.desk seat (Takes Exclusive token) result }
+    ensures { IsDeskAnswer bank.desk seat (Takes Exclusive token) result }
 {
     let (place, mut sitter) = match bank.desk().seat(seat) {
         Ok(found) => found,
@@ -58,7 +58,7 @@ pub extern "C" fn lwkt_take(bank: LwktBank, seat: u32, token: u32) -> u32
 /// 0; or 16, 10, 23 and 34 as `lwkt_take`; 23 also where the mark of an exclusive request holds off a seat that has no reference. 30 where there is no seat of this number, 50 while another call has it, 52 where the bank is closed.
 #[unsafe(no_mangle)]
 pub extern "C" fn lwkt_share(bank: LwktBank, seat: u32, token: u32) -> u32
-    ensures { Answers bank.desk seat (Takes Shared token) result }
+    ensures { IsDeskAnswer bank.desk seat (Takes Shared token) result }
 {
     let (place, mut sitter) = match bank.desk().seat(seat) {
         Ok(found) => found,
@@ -75,7 +75,7 @@ pub extern "C" fn lwkt_share(bank: LwktBank, seat: u32, token: u32) -> u32
 /// 0; or 16 where there is no such token, else 13 where the seat doesn't hold it, else 10 where it has 32 references. 30 where there is no seat of this number, 50 while another call has it, 52 where the bank is closed.
 #[unsafe(no_mangle)]
 pub extern "C" fn lwkt_again(bank: LwktBank, seat: u32, token: u32) -> u32
-    ensures { Answers bank.desk seat (GainsOne token) result }
+    ensures { IsDeskAnswer bank.desk seat (GainsOne token) result }
 {
     let (place, mut sitter) = match bank.desk().seat(seat) {
         Ok(found) => found,
@@ -92,7 +92,7 @@ pub extern "C" fn lwkt_again(bank: LwktBank, seat: u32, token: u32) -> u32
 /// 0; or 16 where there is no such token. 30 where there is no seat of this number, 50 while another call has it, 52 where the bank is closed.
 #[unsafe(no_mangle)]
 pub extern "C" fn lwkt_mark(bank: LwktBank, seat: u32, token: u32) -> u32
-    ensures { Answers bank.desk seat (SetsMark token) result }
+    ensures { IsDeskAnswer bank.desk seat (SetsMark token) result }
 {
     let (place, mut sitter) = match bank.desk().seat(seat) {
         Ok(found) => found,
@@ -110,7 +110,7 @@ pub extern "C" fn lwkt_mark(bank: LwktBank, seat: u32, token: u32) -> u32
 /// exclusive holder, and row and record don't obey the law: the token stays held. 30 where there is no seat of this number, 50 while another call has it, 52 where the bank is closed.
 #[unsafe(no_mangle)]
 pub extern "C" fn lwkt_give(bank: LwktBank, seat: u32, token: u32) -> u32
-    ensures { Answers bank.desk seat (GivesBack token) result }
+    ensures { IsDeskAnswer bank.desk seat (GivesBack token) result }
 {
     let (place, mut sitter) = match bank.desk().seat(seat) {
         Ok(found) => found,
@@ -128,7 +128,7 @@ pub extern "C" fn lwkt_give(bank: LwktBank, seat: u32, token: u32) -> u32
 /// it holds it shared, else 22 for a Tally token. 30 where there is no seat of this number, 50 while another call has it, 52 where the bank is closed.
 #[unsafe(no_mangle)]
 pub extern "C" fn lwkt_store(bank: LwktBank, seat: u32, token: u32, cell: u32, value: u64) -> u32
-    ensures { Answers bank.desk seat (StoresCell token cell value) result }
+    ensures { IsDeskAnswer bank.desk seat (StoresValue token cell value) result }
 {
     let (place, mut sitter) = match bank.desk().seat(seat) {
         Ok(found) => found,
@@ -146,7 +146,7 @@ pub extern "C" fn lwkt_store(bank: LwktBank, seat: u32, token: u32, cell: u32, v
 /// where it holds it shared. 30 where there is no seat of this number, 50 while another call has it, 52 where the bank is closed.
 #[unsafe(no_mangle)]
 pub extern "C" fn lwkt_lawful(bank: LwktBank, seat: u32, token: u32) -> u32
-    ensures { Answers bank.desk seat (JudgesRow token) result }
+    ensures { IsDeskAnswer bank.desk seat (JudgesRow token) result }
 {
     let (place, mut sitter) = match bank.desk().seat(seat) {
         Ok(found) => found,
@@ -164,7 +164,7 @@ pub extern "C" fn lwkt_lawful(bank: LwktBank, seat: u32, token: u32) -> u32
 /// 0; or 16, 13 and 18 as `lwkt_lawful`. 30 where there is no seat of this number, 50 while another call has it, 52 where the bank is closed.
 #[unsafe(no_mangle)]
 pub extern "C" fn lwkt_restore(bank: LwktBank, seat: u32, token: u32) -> u32
-    ensures { Answers bank.desk seat (RestoresFirst token) result }
+    ensures { IsDeskAnswer bank.desk seat (RestoresFirst token) result }
 {
     let (place, mut sitter) = match bank.desk().seat(seat) {
         Ok(found) => found,
@@ -187,7 +187,7 @@ pub extern "C" fn lwkt_load(
     cell: u32,
     value: &mut u64,
 ) -> u32
-    ensures does { Answers bank.desk seat (LoadsCell token cell value.old value.new) result }
+    ensures does { IsDeskAnswer bank.desk seat (LoadsCell token cell value.old value.new) result }
     ensures kept { result ≢ 0 → value.new ≡ value.old }
 {
     let (place, mut sitter) = match bank.desk().seat(seat) {
@@ -212,7 +212,7 @@ pub extern "C" fn lwkt_add(
     amount: u64,
     value: &mut u64,
 ) -> u32
-    ensures does { Answers bank.desk seat (AddsTo token amount value.old value.new) result }
+    ensures does { IsDeskAnswer bank.desk seat (AddsTo token amount value.old value.new) result }
     ensures kept { result ≢ 0 → value.new ≡ value.old }
 {
     let (place, mut sitter) = match bank.desk().seat(seat) {

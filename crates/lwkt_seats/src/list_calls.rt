@@ -1,6 +1,6 @@
 //! The calls on lists of references, for C; include/lwkt.h declares them.
 ghost use Rattle.std.specs.Prelude.{◌≡◌, ◌≢◌};
-ghost use Rattle.lwkt_seats.specs.Desks.{Answers};
+ghost use Rattle.lwkt_seats.specs.Desks.{IsDeskAnswer};
 ghost use Rattle.lwkt_seats.specs.Calls.{ResumesList, GivesUpAll, TellsPlace, TellsFirst};
 ghost use Rattle.lwkt_seats.specs.ListNumbers.{resumed_number, blocked_number, NamesNoPlace};
 
@@ -52,7 +52,7 @@ pub extern "C" fn lwkt_resume(
     list: &[LwktReference],
     missed: &mut usize,
 ) -> u32
-    ensures does { Answers bank.desk seat (ResumesList list.now missed.old missed.new) result }
+    ensures does { IsDeskAnswer bank.desk seat (ResumesList list.now missed.old missed.new) result }
     ensures kept { NamesNoPlace result → missed.new ≡ missed.old }
 {
     let (place, mut sitter) = match bank.desk().seat(seat) {
@@ -72,7 +72,7 @@ pub extern "C" fn lwkt_resume(
 /// seat of this number, 50 while another call has it, 52 where the bank is closed. `restored` stays as it was but with 19.
 #[unsafe(no_mangle)]
 pub extern "C" fn lwkt_block(bank: LwktBank, seat: u32, restored: &mut u32) -> u32
-    ensures does { Answers bank.desk seat (GivesUpAll restored.old restored.new) result }
+    ensures does { IsDeskAnswer bank.desk seat (GivesUpAll restored.old restored.new) result }
     ensures kept { result ≢ 19 → restored.new ≡ restored.old }
 {
     let (place, mut sitter) = match bank.desk().seat(seat) {

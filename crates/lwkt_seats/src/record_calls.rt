@@ -1,9 +1,9 @@
 //! The calls on a token's record, for C; include/lwkt.h declares them.
 ghost use Rattle.std.specs.Prelude.{◌≡◌, ◌≢◌, ◌≤◌};
-ghost use Rattle.lwkt_seats.specs.Desks.{Answers};
+ghost use Rattle.lwkt_seats.specs.Desks.{IsDeskAnswer};
 ghost use Rattle.lwkt_seats.specs.Calls.{ReadsRecord, WritesRecord, TellsRecord};
 ghost use Rattle.lwkt_seats.specs.Numbers.{record_read_number};
-ghost use Rattle.lwkt_seats.specs.Records.{filled};
+ghost use Rattle.lwkt_seats.specs.Records.{buffer_with_bytes};
 
 use crate::answers::RecordRead;
 use crate::desks::put_back;
@@ -12,7 +12,7 @@ use crate::records;
 
 // Puts bytes into a buffer, as far as this has room.
 fn fill(buffer: &mut [u8], whole: &[u8])
-    ensures { buffer.new ≡ filled buffer.old whole.now }
+    ensures { buffer.new ≡ buffer_with_bytes buffer.old whole.now }
 {
     let count = whole.len().min(buffer.len());
     buffer[..count].copy_from_slice(&whole[..count]);
@@ -45,7 +45,7 @@ pub extern "C" fn lwkt_read_record(
     buffer: &mut [u8],
     length: &mut usize,
 ) -> u32
-    ensures does { Answers bank.desk seat (ReadsRecord token buffer.old buffer.new length.old length.new) result }
+    ensures does { IsDeskAnswer bank.desk seat (ReadsRecord token buffer.old buffer.new length.old length.new) result }
     ensures short { result ≡ 0 → length.new ≤ 64 }
     ensures kept { result ≢ 0 → (buffer.new ≡ buffer.old) × (length.new ≡ length.old) }
 {
@@ -66,7 +66,7 @@ pub extern "C" fn lwkt_read_record(
 /// the bank is closed.
 #[unsafe(no_mangle)]
 pub extern "C" fn lwkt_write_record(bank: LwktBank, seat: u32, token: u32, bytes: &[u8]) -> u32
-    ensures { Answers bank.desk seat (WritesRecord token bytes.now) result }
+    ensures { IsDeskAnswer bank.desk seat (WritesRecord token bytes.now) result }
 {
     let (place, mut sitter) = match bank.desk().seat(seat) {
         Ok(found) => found,

@@ -2,7 +2,7 @@
 ghost use Rattle.std.specs.Prelude.{◌≡◌, ◌<◌};
 ghost use Rattle.lwkt_bank.specs.Seats.{id_of, bank_of, tokens_of};
 ghost use Rattle.lwkt_seats.specs.Records.{ReadsBytes, WritesBytes};
-ghost use Rattle.lwkt_seats.specs.Seated.{IsSameSeat};
+ghost use Rattle.lwkt_seats.specs.Seated.{KeepsBankAndCpu};
 
 use crate::answers::{RecordRead, RecordWritten};
 use lwkt_bank::{Bank, CpuSeat};
@@ -12,7 +12,7 @@ use lwkt_base::{Blob, TokId};
 pub(crate) fn read(seat: &mut CpuSeat, bank: &Bank, token: u32) -> RecordRead
     requires of { bank_of seat.old ≡ id_of bank.now }
     ensures does { ReadsBytes token seat.old seat.new result }
-    ensures same { IsSameSeat seat.old seat.new }
+    ensures same { KeepsBankAndCpu seat.old seat.new }
 {
     if token as usize >= bank.tokens() {
         return RecordRead::NoToken;
@@ -35,7 +35,7 @@ pub(crate) fn read(seat: &mut CpuSeat, bank: &Bank, token: u32) -> RecordRead
 pub(crate) fn write(seat: &mut CpuSeat, bank: &Bank, token: u32, bytes: &[u8]) -> RecordWritten
     requires of { bank_of seat.old ≡ id_of bank.now }
     ensures does { WritesBytes token bytes.now seat.old seat.new result }
-    ensures same { IsSameSeat seat.old seat.new }
+    ensures same { KeepsBankAndCpu seat.old seat.new }
 {
     if token as usize >= bank.tokens() {
         return RecordWritten::NoToken;

@@ -2,8 +2,8 @@
 ghost use Rattle.std.specs.Prelude.{◌≡◌, ◌≢◌, ◌<◌, ◌≤◌, true, false, length, take, All, OnOk, IfErr};
 ghost use Rattle.lwkt_base.specs.Holding.{is_held, holding_of, holds_nothing};
 ghost use Rattle.lwkt_bank.specs.Seats.{id_of, bank_of, tokens_of, holding, references};
-ghost use Rattle.lwkt_seats.specs.Lists.{has_only, TakesOne, MissesOne, IsUnwritten, GivesUnwritten, TakesAll, TakesUpTo, GivesBackAll, TakesNone, Resumes};
-ghost use Rattle.lwkt_seats.specs.Seated.{IsSameSeat};
+ghost use Rattle.lwkt_seats.specs.Lists.{has_only, TakesOne, MissesOne, HoldsClean, GivesUnwritten, TakesAll, TakesUpTo, GivesBackAll, TakesNone, ResumesSeat};
+ghost use Rattle.lwkt_seats.specs.Seated.{KeepsBankAndCpu};
 
 use crate::asks::count;
 use crate::list_answers::{Missed, Resumed};
@@ -25,7 +25,7 @@ fn take_one(seat: &mut CpuSeat, bank: &Bank, refs: &[Ref], new: Ref) -> Result<(
     requires few { references seat.old < 32 }
     ensures ok { OnOk result (TakesOne refs.now new seat.old seat.new) }
     ensures err { IfErr result (λ why. MissesOne refs.now new seat.old seat.new why) }
-    ensures same { IsSameSeat seat.old seat.new }
+    ensures same { KeepsBankAndCpu seat.old seat.new }
 {
     if seat.held(bank, new.tok).is_held() {
         seat.again(bank, new.tok);
@@ -49,8 +49,8 @@ fn take_each(seat: &mut CpuSeat, bank: &Bank, refs: &[Ref]) -> Result<(), (usize
     ensures all { OnOk result (TakesAll refs.now seat.old seat.new) }
     ensures missed { IfErr result (λ no. TakesUpTo refs.now no.0 no.1 seat.old seat.new) }
     ensures front { IfErr result (λ no. (no.0 ≤ length refs.now) × (holding seat.new ≡ holding_of (take no.0 refs.now))) }
-    ensures clean { IsUnwritten seat.new }
-    ensures same { IsSameSeat seat.old seat.new }
+    ensures clean { HoldsClean seat.new }
+    ensures same { KeepsBankAndCpu seat.old seat.new }
 {
     for at in 0..refs.len() {
         if let Err(why) = take_one(seat, bank, refs, refs[at]) {
@@ -65,9 +65,9 @@ fn give_one(seat: &mut CpuSeat, bank: &Bank, tok: TokId)
     requires of { bank_of seat.old ≡ id_of bank.now }
     requires there { tok.0 < tokens_of (bank_of seat.old) }
     requires held { is_held (holding seat.old tok.0) ≡ true }
-    requires clean { IsUnwritten seat.old }
+    requires clean { HoldsClean seat.old }
     ensures gives { GivesUnwritten tok.0 seat.old seat.new }
-    ensures same { IsSameSeat seat.old seat.new }
+    ensures same { KeepsBankAndCpu seat.old seat.new }
 {
     seat.give(bank, tok);
 }
@@ -78,9 +78,9 @@ fn give_front(seat: &mut CpuSeat, bank: &Bank, refs: &[Ref], count: usize)
     requires there { All (λ r. r.tok.0 < tokens_of (bank_of seat.old)) refs.now }
     requires within { count ≤ length refs.now }
     requires front { holding seat.old ≡ holding_of (take count refs.now) }
-    requires clean { IsUnwritten seat.old }
+    requires clean { HoldsClean seat.old }
     ensures gives { GivesBackAll seat.old seat.new }
-    ensures same { IsSameSeat seat.old seat.new }
+    ensures same { KeepsBankAndCpu seat.old seat.new }
 {
     for given in 0..count {
         give_one(seat, bank, refs[count - 1 - given].tok);
@@ -95,7 +95,7 @@ fn take_all(seat: &mut CpuSeat, bank: &Bank, refs: &[Ref]) -> Result<(), (usize,
     requires idle { holding seat.old ≡ holds_nothing }
     ensures all { OnOk result (TakesAll refs.now seat.old seat.new) }
     ensures none { IfErr result (λ no. TakesNone refs.now no.0 no.1 seat.old seat.new) }
-    ensures same { IsSameSeat seat.old seat.new }
+    ensures same { KeepsBankAndCpu seat.old seat.new }
 {
     match take_each(seat, bank, refs) {
         Ok(()) => Ok(()),
@@ -120,8 +120,8 @@ pub(crate) fn is_idle(seat: &CpuSeat, bank: &Bank) -> bool
 /// Takes a list of references for a seat that holds nothing.
 pub(crate) fn resume(seat: &mut CpuSeat, bank: &Bank, refs: &[LwktReference]) -> Resumed
     requires of { bank_of seat.old ≡ id_of bank.now }
-    ensures does { Resumes refs.now seat.old seat.new result }
-    ensures same { IsSameSeat seat.old seat.new }
+    ensures does { ResumesSeat refs.now seat.old seat.new result }
+    ensures same { KeepsBankAndCpu seat.old seat.new }
 {
     if !is_idle(seat, bank) {
         return Resumed::Holds;

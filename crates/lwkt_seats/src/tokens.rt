@@ -36,7 +36,7 @@ pub struct LwktToken {
 }
 
 impl LwktToken {
-    ghost use Rattle.lwkt_seats.specs.Openings.{IsToken, law_of, record_of, spec_of};
+    ghost use Rattle.lwkt_seats.specs.Openings.{IsToken, law_of_number, record_of, spec_of};
 
     /// Whether it has at most four cells, one of the six laws, at most 64 bytes and at most one record.
     pub fn is_token(&self) -> bool
@@ -46,7 +46,7 @@ impl LwktToken {
     }
 
     fn law(&self) -> Law
-        ensures { result ≡ law_of self.now.law }
+        ensures { result ≡ law_of_number self.now.law }
     {
         match self.law {
             0 => Law::Any,

@@ -14,12 +14,12 @@ abbrev pub is_part : ℕ → Bool
 is_part byte = is_digit byte || byte == 32 || byte == 44 || byte == 45
 
 -- the turn that a byte of a text names, if it is a digit: that of the processor of this number
-abbrev pub turn_of : ℕ → List ℕ
-turn_of byte = if is_digit byte then (byte - 48) ∷ [] else []
+abbrev pub turn_of_byte : ℕ → List ℕ
+turn_of_byte byte = if is_digit byte then (byte - 48) ∷ [] else []
 
 -- the order that a text is
 abbrev pub turns_of : List ℕ → List ℕ
-turns_of text = flat_map turn_of text
+turns_of text = flat_map turn_of_byte text
 
 -- the arguments are `turns`, `--order` and a text that is this order, and what is said of its turns by these options: anything that
 -- may stand behind `turns`, but no rounds

@@ -5,7 +5,7 @@ use Rattle.lwkt_report.specs.declared.streams.RunFault.{RunFault}
 use Rattle.lwkt_report.specs.declared.streams.RunFault.TheVariants.{Fault, Stream}
 use Rattle.lwkt_report.specs.Complaint.{IsSaid}
 use Rattle.lwkt_report.specs.Stream.{BlamesFailed}
-use Rattle.lwkt_run.specs.Run.{AreRead, IsTurnsRun, IsOrderRun, RefusesAlong, end_told, TellsBy, status_of}
+use Rattle.lwkt_run.specs.Run.{AreRead, IsTurnsRun, IsOrderRun, RefusesAlong, end_told, TellsBy, exit_status}
 use Rattle.lwkt_run.specs.Threaded.{IsThreadRecord, lets_all}
 use Rattle.lwkt_run.specs.declared.runs.End.{End}
 use Rattle.lwkt_run.specs.declared.runs.TurnsRun.{TurnsRun}
@@ -69,9 +69,9 @@ TellsShown options left old new (Err fault) = TellsBy (IsShown options) left old
 
 -- the status of an outcome: that of a run, and 1 where nothing is shown
 abbrev pub status_shown : Result Outcome RunFault → ℕ
-status_shown (Ok (Shown end)) = status_of (Ok end)
+status_shown (Ok (Shown end)) = exit_status (Ok end)
 status_shown (Ok Past) = 1
-status_shown (Err fault) = status_of (Err fault)
+status_shown (Err fault) = exit_status (Err fault)
 
 -- what the program does where its arguments are these options: the run is shown as they say or refused, and the status is that of its
 -- outcome; a stream is blamed only where one has failed
@@ -90,7 +90,7 @@ pub record IsShownOnThreads (bytes : List ℕ) (end : End) (text : List ℕ) : T
 -- what the program does where its arguments ask for the chains of a run on threads: they are shown or the script is refused, and the
 -- status is that of its outcome; a stream is blamed only where one has failed
 abbrev pub IsShowingThreads : Bool → Bool → Option (List ℕ) → Option (List ℕ) → Option (List ℕ) → ℕ → Type 0
-IsShowingThreads source_failed sink_failed left old new status = (outcome : Result End RunFault) × (TellsBy IsShownOnThreads left old new outcome × (BlamesFailed source_failed sink_failed outcome × (status ≡ status_of outcome)))
+IsShowingThreads source_failed sink_failed left old new status = (outcome : Result End RunFault) × (TellsBy IsShownOnThreads left old new outcome × (BlamesFailed source_failed sink_failed outcome × (status ≡ exit_status outcome)))
 
 -- there is a run along this order of the script that these bytes are, with all that was kept of it, that ends so, and the text shows it
 -- as the options say

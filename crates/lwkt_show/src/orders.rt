@@ -4,7 +4,7 @@ ghost use Rattle.std.specs.List.{list_all, flat_map};
 ghost use Rattle.lwkt_scenes.specs.declared.reels.Counted.TheVariants.{Turns};
 ghost use Rattle.lwkt_show.specs.declared.options.Options.{Options};
 ghost use Rattle.lwkt_show.specs.Arguments.{Say, has_range, no_end};
-ghost use Rattle.lwkt_show.specs.Orders.{is_digit, is_part, turn_of, turns_of, AreAlong, AreMisused};
+ghost use Rattle.lwkt_show.specs.Orders.{is_digit, is_part, turn_of_byte, turns_of, AreAlong, AreMisused};
 
 use crate::options::{Options, read_options};
 use lwkt_scenes::Counted;
@@ -42,7 +42,7 @@ fn are_parts(bytes: &[u8]) -> bool
 
 // Appends the turn that a byte names, if it names one.
 fn add_turn(order: &mut Vec<u8>, byte: u8) -> Result<(), AllocError>
-    ensures { OnOk result (order.new.items ≡ order.old.items ++ turn_of byte) }
+    ensures { OnOk result (order.new.items ≡ order.old.items ++ turn_of_byte byte) }
 {
     if is_digit(byte) {
         order.push(byte - 48)?;

@@ -17,9 +17,9 @@ use Rattle.lwkt_text.specs.declared.sayings.Said.TheVariants as saids
 use Rattle.lwkt_text.specs.declared.words.Word.{Word}
 use Rattle.lwkt_text.specs.declared.wrongs.Wrong.{Wrong}
 use Rattle.lwkt_text.specs.declared.wrongs.What.TheVariants as whats
-use Rattle.lwkt_text.specs.Drafting.{no_draft, blamed, crowded, closed_by, closed, opened, put}
+use Rattle.lwkt_text.specs.Drafting.{no_draft, blamed, crowded, closed_by, closed, thread_begun, put}
 use Rattle.lwkt_text.specs.Looking.{wrong_at}
-use Rattle.lwkt_text.specs.Within.{IsHead, IsSaid, HasRoom, IsDraft}
+use Rattle.lwkt_text.specs.Within.{IsHead, MayBeSaid, HasRoom, IsDraft}
 
 -- nothing was told
 pub none_within : (cpus : ℕ) (faults : List Wrong) → IsDraft cpus (no_draft faults)
@@ -187,7 +187,7 @@ opened_cases cpus ws h d is i true e = record {
 }
 opened_cases cpus ws h d is i false e = crowded_within cpus ws d i
 
-opened_within : (cpus : ℕ) (ws : List Word) (h : Head) (d : Draft) → IsHead cpus h → IsDraft cpus d → IsDraft cpus (opened h ws d)
+opened_within : (cpus : ℕ) (ws : List Word) (h : Head) (d : Draft) → IsHead cpus h → IsDraft cpus d → IsDraft cpus (thread_begun h ws d)
 opened_within cpus ws h d is i = opened_cases cpus ws h d is i (nat_lt (threads_on h.cpu.0 d.threads) 16) refl
 
 step_put : (cpus : ℕ) (ws : List Word) (a : Ask) (d : Draft) → IsDraft cpus d → (b : Bool) → nat_lt (length d.steps) 256 ≡ b
@@ -218,7 +218,7 @@ stepped_cases cpus ws a d i true = step_put cpus ws a d i (nat_lt (length d.step
 stepped_cases cpus ws a d i false = lost_put cpus (wrong_at ws 0 whats.NoThread) d i (length d.faults == 0)
 
 -- what is told keeps the limits where it keeps its own
-pub put_within : (cpus : ℕ) (ws : List Word) (s : Said) (d : Draft) → IsSaid cpus s → IsDraft cpus d → IsDraft cpus (put ws s d)
+pub put_within : (cpus : ℕ) (ws : List Word) (s : Said) (d : Draft) → MayBeSaid cpus s → IsDraft cpus d → IsDraft cpus (put ws s d)
 put_within cpus ws (saids.Turns n) d is i = turned cpus n d is.0 is.1 i
 put_within cpus ws (saids.Idle n) d is i = idled cpus n d is.0 is.1 i
 put_within cpus ws saids.Cpus d is i = i

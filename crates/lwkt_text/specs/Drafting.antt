@@ -14,25 +14,25 @@ use Rattle.lwkt_text.specs.declared.words.Word.{Word}
 use Rattle.lwkt_text.specs.declared.wrongs.What.TheVariants as whats
 use Rattle.lwkt_text.specs.declared.wrongs.Wrong.{Wrong}
 use Rattle.lwkt_text.specs.Claiming.{claim_of}
-use Rattle.lwkt_text.specs.Looking.{is_at, place_at, wrong_at, demand, ended, number_at}
+use Rattle.lwkt_text.specs.Looking.{is_at, place_of_word, wrong_at, demand_at, ends_at, number_at}
 use Rattle.lwkt_text.specs.Outcome.{◌>>=◌, ◌>>◌}
 use Rattle.lwkt_text.specs.Parting.{token_of, message_of, head_of}
-use Rattle.lwkt_text.specs.Stepping.{ask_of}
+use Rattle.lwkt_text.specs.Stepping.{step_ask}
 
 -- `KEY N`
 abbrev pub setting : List Word → ℕ → Result ℕ Wrong
-setting ws high = number_at ws 1 1 high >>= λ n. ended ws 2 >> Ok n
+setting ws high = number_at ws 1 1 high >>= λ n. ends_at ws 2 >> Ok n
 
 -- `always CLAIM`, or another word before it
 abbrev pub expected : Names → List Word → When → Result Said Wrong
-expected names ws when = claim_of names ws >>= λ claim. Ok (saids.Expect (record { when = when; claim = claim; at = place_at ws 0 }))
+expected names ws when = claim_of names ws >>= λ claim. Ok (saids.Expect (record { when = when; claim = claim; at = place_of_word ws 0 }))
 
 -- an expectation, or a step
 abbrev pub claim_said : Names → List Word → Result Said Wrong
 claim_said names ws =
     if is_at ws 0 (codes "always") then expected names ws whens.Always else (
     if is_at ws 0 (codes "sometimes") then expected names ws whens.Sometimes else (
-    if is_at ws 0 (codes "never") then expected names ws whens.Never else (ask_of names ws >>= λ ask. Ok (saids.Step ask))))
+    if is_at ws 0 (codes "never") then expected names ws whens.Never else (step_ask names ws >>= λ ask. Ok (saids.Step ask))))
 
 -- a token, a message, a thread, or else
 abbrev pub part_said : Names → List Word → Result Said Wrong
@@ -43,7 +43,7 @@ part_said names ws =
 
 -- what a sentence tells
 unfoldable pub said : Names → List Word → Result Said Wrong
-said names ws = demand ws 1000 whats.Long (nat_le (length ws) 1000) >> (
+said names ws = demand_at ws 1000 whats.Long (nat_le (length ws) 1000) >> (
     if is_at ws 0 (codes "turns") then (setting ws 1000000 >>= λ n. Ok (saids.Turns n)) else (
     if is_at ws 0 (codes "idle") then (setting ws 100000000 >>= λ n. Ok (saids.Idle n)) else (
     if is_at ws 0 (codes "cpus") then (setting ws 8 >>= λ n. Ok saids.Cpus) else part_said names ws)))
@@ -69,8 +69,8 @@ abbrev pub closed : Draft → Draft
 closed d = closed_by d.head d
 
 -- a thread begins, if its processor has fewer than 16
-abbrev pub opened : Head → List Word → Draft → Draft
-opened h ws d = if nat_lt (threads_on h.cpu.0 d.threads) 16 then record d { head = Some h } else crowded ws d
+abbrev pub thread_begun : Head → List Word → Draft → Draft
+thread_begun h ws d = if nat_lt (threads_on h.cpu.0 d.threads) 16 then record d { head = Some h } else crowded ws d
 
 -- a step of the thread, if there is one; only the first step without a thread is told
 abbrev pub stepped : Ask → List Word → Draft → Draft
@@ -85,18 +85,18 @@ put ws (saids.Idle n) d = record d { idle = n }
 put ws saids.Cpus d = d
 put ws (saids.Token t) d = if nat_lt (length d.tokens) 64 then record d { tokens = d.tokens ++ t ∷ [] } else crowded ws d
 put ws (saids.Message m) d = if nat_lt (length d.messages) 64 then record d { messages = d.messages ++ m ∷ [] } else crowded ws d
-put ws (saids.Thread h) d = opened h ws (closed d)
+put ws (saids.Thread h) d = thread_begun h ws (closed d)
 put ws (saids.Step a) d = stepped a ws d
 put ws (saids.Expect e) d = record d { expectations = d.expectations ++ e ∷ [] }
 
-abbrev pub told_by : Result Said Wrong → List Word → Draft → Draft
-told_by (Ok s) ws d = put ws s d
-told_by (Err wrong) ws d = blamed wrong d
+abbrev pub put_or_blamed : Result Said Wrong → List Word → Draft → Draft
+put_or_blamed (Ok s) ws d = put ws s d
+put_or_blamed (Err wrong) ws d = blamed wrong d
 
 -- a sentence, told
-abbrev pub told : Names → List Word → Draft → Draft
-told names ws d = told_by (said names ws) ws d
+abbrev pub sentence_told : Names → List Word → Draft → Draft
+sentence_told names ws d = put_or_blamed (said names ws) ws d
 
 abbrev pub all_told : Names → List Sentence → Draft → Draft
 all_told names [] d = d
-all_told names (s ∷ ss) d = all_told names ss (told names s.words d)
+all_told names (s ∷ ss) d = all_told names ss (sentence_told names s.words d)

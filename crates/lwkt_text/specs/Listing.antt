@@ -8,7 +8,7 @@ use Rattle.lwkt_text.specs.declared.words.Sentence.{Sentence}
 use Rattle.lwkt_text.specs.declared.words.Word.{Word}
 use Rattle.lwkt_text.specs.declared.wrongs.What.TheVariants as whats
 use Rattle.lwkt_text.specs.declared.wrongs.Wrong.{Wrong}
-use Rattle.lwkt_text.specs.Looking.{text_at, is_at, demand, name_at, number_at}
+use Rattle.lwkt_text.specs.Looking.{text_at, is_at, demand_at, name_at, number_at}
 use Rattle.lwkt_text.specs.Naming.{position}
 use Rattle.lwkt_text.specs.Outcome.{◌>>◌}
 use Rattle.lwkt_text.specs.Parting.{cells_in}
@@ -26,8 +26,8 @@ abbrev pub HasCpus : Listing → Type 0
 HasCpus l = (0 < l.names.cpus) × (l.names.cpus ≤ 8)
 
 -- word 1 is a name that none of these is
-abbrev pub fresh : List (List ℕ) → List Word → Result ⊤ Wrong
-fresh names ws = name_at ws 1 >> demand ws 1 whats.Twice (not (is_some (position names (text_at ws 1))))
+abbrev pub new_name : List (List ℕ) → List Word → Result ⊤ Wrong
+new_name names ws = name_at ws 1 >> demand_at ws 1 whats.Twice (not (is_some (position names (text_at ws 1))))
 
 -- the names of cells that were read
 abbrev pub names_read : Result CellList Wrong → List (List ℕ)
@@ -35,8 +35,8 @@ names_read (Ok cells) = cells.names
 names_read (Err wrong) = []
 
 -- one more fault
-abbrev pub noted : Wrong → Listing → Listing
-noted wrong l = record l { faults = l.faults ++ wrong ∷ [] }
+abbrev pub wrong_noted : Wrong → Listing → Listing
+wrong_noted wrong l = record l { faults = l.faults ++ wrong ∷ [] }
 
 abbrev pub token_added : List Word → Names → Names
 token_added ws n = record n { tokens = n.tokens ++ (text_at ws 1) ∷ []; cells = n.cells ++ (names_read (cells_in ws)) ∷ [] }
@@ -69,15 +69,15 @@ thread_used ws cpu l = cpu_used cpu (record l { names = thread_added ws cpu l.na
 
 abbrev pub token_listed : Result ⊤ Wrong → List Word → Listing → Listing
 token_listed (Ok ok) ws l = record l { names = token_added ws l.names }
-token_listed (Err wrong) ws l = noted wrong l
+token_listed (Err wrong) ws l = wrong_noted wrong l
 
 abbrev pub message_listed : Result ⊤ Wrong → List Word → Listing → Listing
 message_listed (Ok ok) ws l = record l { names = message_added ws l.names }
-message_listed (Err wrong) ws l = noted wrong l
+message_listed (Err wrong) ws l = wrong_noted wrong l
 
 abbrev pub thread_listed : Result ⊤ Wrong → List Word → Listing → Listing
 thread_listed (Ok ok) ws l = thread_used ws (cpu_named ws) l
-thread_listed (Err wrong) ws l = noted wrong l
+thread_listed (Err wrong) ws l = wrong_noted wrong l
 
 -- `cpus N`; what is wrong with it is told where settings are read
 abbrev pub cpus_listed : Result ℕ Wrong → Listing → Listing
@@ -85,16 +85,16 @@ cpus_listed (Ok cpus) l = record l { names = record l.names { cpus = cpus }; is_
 cpus_listed (Err wrong) l = l
 
 -- what a sentence adds
-unfoldable pub listed : List Word → Listing → Listing
-listed ws l =
-    if is_at ws 0 (codes "token") then token_listed (fresh l.names.tokens ws) ws l else (
-    if is_at ws 0 (codes "message") then message_listed (fresh l.names.messages ws) ws l else (
-    if is_at ws 0 (codes "thread") then thread_listed (fresh l.names.threads ws) ws l else (
+unfoldable pub sentence_listed : List Word → Listing → Listing
+sentence_listed ws l =
+    if is_at ws 0 (codes "token") then token_listed (new_name l.names.tokens ws) ws l else (
+    if is_at ws 0 (codes "message") then message_listed (new_name l.names.messages ws) ws l else (
+    if is_at ws 0 (codes "thread") then thread_listed (new_name l.names.threads ws) ws l else (
     if is_at ws 0 (codes "cpus") then cpus_listed (number_at ws 1 1 8) l else l)))
 
 abbrev pub all_listed : List Sentence → Listing → Listing
 all_listed [] l = l
-all_listed (s ∷ ss) l = all_listed ss (listed s.words l)
+all_listed (s ∷ ss) l = all_listed ss (sentence_listed s.words l)
 
 -- the names that a text gives
 abbrev pub names_of : List ℕ → Names

@@ -3,13 +3,14 @@ use Rattle.std.specs.Prelude.{ℕ, ◌+◌, List, [], ◌∷◌, slice_get, byte
 use Rattle.lwkt_base.specs.declared.names.MsgId.{MsgId}
 use Rattle.lwkt_base.specs.declared.names.ThreadId.{ThreadId}
 use Rattle.lwkt_base.specs.declared.names.TokId.{TokId}
+use Rattle.lwkt_script.specs.Field.{within}
 use Rattle.lwkt_text.specs.declared.tables.CellPlace.{CellPlace}
 use Rattle.lwkt_text.specs.declared.tables.Names.{Names}
 use Rattle.lwkt_text.specs.declared.words.Word.{Word}
 use Rattle.lwkt_text.specs.declared.wrongs.Wanted.TheVariants.{Point}
 use Rattle.lwkt_text.specs.declared.wrongs.What.TheVariants as whats
 use Rattle.lwkt_text.specs.declared.wrongs.Wrong.{Wrong}
-use Rattle.lwkt_text.specs.Looking.{text_at, is_at, part, demand, number_of, number_at, within}
+use Rattle.lwkt_text.specs.Looking.{text_at, is_at, part_at, demand_at, decimal_number, number_at}
 use Rattle.lwkt_text.specs.Outcome.{◌>>=◌, ◌>>◌}
 
 -- the place of a name in a list whose first item has a place
@@ -28,15 +29,15 @@ either None other = other
 
 -- the number that a word is, or whose name it is, at most 255
 abbrev pub reference : List (List ℕ) → List ℕ → Option ℕ
-reference names text = option_and_then (within 0 255) (either (number_of text) (position names text))
+reference names text = option_and_then (within 0 255) (either (decimal_number text) (position names text))
 
 -- word i, a token
-abbrev pub token_at : Names → List Word → ℕ → Result TokId Wrong
-token_at names ws i = part ws i whats.Token (option_map (λ n. record { 0 = n }) (reference names.tokens (text_at ws i)))
+abbrev pub token_id_at : Names → List Word → ℕ → Result TokId Wrong
+token_id_at names ws i = part_at ws i whats.Token (option_map (λ n. record { 0 = n }) (reference names.tokens (text_at ws i)))
 
 -- word i, a message
-abbrev pub message_at : Names → List Word → ℕ → Result MsgId Wrong
-message_at names ws i = part ws i whats.Message (option_map (λ n. record { 0 = n }) (reference names.messages (text_at ws i)))
+abbrev pub message_id_at : Names → List Word → ℕ → Result MsgId Wrong
+message_id_at names ws i = part_at ws i whats.Message (option_map (λ n. record { 0 = n }) (reference names.messages (text_at ws i)))
 
 -- the names of a token's cells
 abbrev pub cells_of : Names → TokId → List (List ℕ)
@@ -45,9 +46,9 @@ cells_of names tok = unwrap_or (slice_get names.cells tok.0) []
 -- words i to i + 2, a token and a cell of it
 unfoldable pub cell_at : Names → List Word → ℕ → Result CellPlace Wrong
 cell_at names ws i = do
-  tok ← token_at names ws i
-  demand ws (i + 1) (whats.Word Point) (is_at ws (i + 1) (codes "."))
-  cell ← part ws (i + 2) whats.Cell (reference (cells_of names tok) (text_at ws (i + 2)))
+  tok ← token_id_at names ws i
+  demand_at ws (i + 1) (whats.Word Point) (is_at ws (i + 1) (codes "."))
+  cell ← part_at ws (i + 2) whats.Cell (reference (cells_of names tok) (text_at ws (i + 2)))
   Ok (record { tok = tok; cell = cell })
 
 -- how many words name the thread that word i begins
@@ -63,5 +64,5 @@ abbrev pub named_thread : Names → List ℕ → Option ThreadId
 named_thread names text = option_and_then (λ i. slice_get names.ids i) (position names.threads text)
 
 -- the thread that word i begins
-abbrev pub thread_at : Names → List Word → ℕ → Result ThreadId Wrong
-thread_at names ws i = if is_at ws (i + 1) (codes ".") then numbered_thread ws i else part ws i whats.Thread (named_thread names (text_at ws i))
+abbrev pub thread_id_at : Names → List Word → ℕ → Result ThreadId Wrong
+thread_id_at names ws i = if is_at ws (i + 1) (codes ".") then numbered_thread ws i else part_at ws i whats.Thread (named_thread names (text_at ws i))

@@ -20,11 +20,11 @@ abbrev pub out_of_memory : Slip
 out_of_memory = slips.Memory (record {})
 
 -- what is wrong; of a want of memory nothing is said
-abbrev pub Fails : {A : Type 0} → Slip → Result A Wrong → Type 0
-Fails (slips.Memory refused) read = Unit {0}
-Fails (slips.Wrong wrong) read = read ≡ Err wrong
+abbrev pub IsSlipAsRead : {A : Type 0} → Slip → Result A Wrong → Type 0
+IsSlipAsRead (slips.Memory refused) read = Unit {0}
+IsSlipAsRead (slips.Wrong wrong) read = read ≡ Err wrong
 
 -- what a reader returned is what reading gives
-abbrev pub Gives : {A : Type 0} → Result A Slip → Result A Wrong → Type 0
-Gives (Ok x) read = read ≡ Ok x
-Gives (Err slip) read = Fails slip read
+abbrev pub IsAsRead : {A : Type 0} → Result A Slip → Result A Wrong → Type 0
+IsAsRead (Ok x) read = read ≡ Ok x
+IsAsRead (Err slip) read = IsSlipAsRead slip read

@@ -13,8 +13,8 @@ use Rattle.lwkt_text.specs.declared.words.Word.{Word}
 use Rattle.lwkt_text.specs.declared.wrongs.Wanted.TheVariants as wanted
 use Rattle.lwkt_text.specs.declared.wrongs.What.TheVariants as whats
 use Rattle.lwkt_text.specs.declared.wrongs.Wrong.{Wrong}
-use Rattle.lwkt_text.specs.Looking.{text_at, is_at, demand, ended, number_of, number_at, bytes_at, optional, after, is_name}
-use Rattle.lwkt_text.specs.Naming.{thread_at, thread_length}
+use Rattle.lwkt_text.specs.Looking.{text_at, is_at, demand_at, ends_at, decimal_number, number_at, bytes_at, optional, past_key, is_name}
+use Rattle.lwkt_text.specs.Naming.{thread_id_at, thread_length}
 use Rattle.lwkt_text.specs.Outcome.{◌>>=◌, ◌>>◌}
 
 -- no cells
@@ -37,7 +37,7 @@ cell_by None w s = cell_named w s
 
 -- one more word of a list of cells
 abbrev pub cell_told : Word → CellList → Result CellList Wrong
-cell_told w s = cell_by (number_of w.text) w s
+cell_told w s = cell_by (decimal_number w.text) w s
 
 abbrev pub cells_told : CellList → List Word → Result CellList Wrong
 cells_told s [] = Ok s
@@ -45,7 +45,7 @@ cells_told s (w ∷ ws) = cell_told w s >>= λ t. cells_told t ws
 
 -- the cells from word i on: numbers, each with a name and `=` before it or without
 abbrev pub cells_at : List Word → ℕ → Result CellList Wrong
-cells_at ws i = cells_told no_cells (drop i ws) >>= λ s. demand ws (length ws) (whats.Number 0 18446744073709551615) (length s.pending == 0) >> Ok s
+cells_at ws i = cells_told no_cells (drop i ws) >>= λ s. demand_at ws (length ws) (whats.Number 0 18446744073709551615) (length s.pending == 0) >> Ok s
 
 -- the law that word 2 may be
 abbrev pub law_said : List Word → Option Law
@@ -56,7 +56,7 @@ law_end ws = if is_some (law_said ws) then 3 else 2
 
 -- whether a number stands behind the law
 abbrev pub has_param : List Word → Bool
-has_param ws = is_some (law_said ws) && is_some (number_of (text_at ws 3))
+has_param ws = is_some (law_said ws) && is_some (decimal_number (text_at ws 3))
 
 abbrev pub param_end : List Word → ℕ
 param_end ws = if has_param ws then 4 else law_end ws
@@ -74,11 +74,11 @@ abbrev pub law_at : List Word → Law
 law_at ws = unwrap_or (law_said ws) Any
 
 abbrev pub param_of : List Word → Result ℕ Wrong
-param_of ws = if has_param ws then number_at ws 3 0 18446744073709551615 else (demand ws (law_end ws) (whats.Number 0 18446744073709551615) (asks_nothing (law_at ws)) >> Ok 0)
+param_of ws = if has_param ws then number_at ws 3 0 18446744073709551615 else (demand_at ws (law_end ws) (whats.Number 0 18446744073709551615) (asks_nothing (law_at ws)) >> Ok 0)
 
 -- where `record` may stand
 abbrev pub guard_place : List Word → ℕ
-guard_place ws = after ws (param_end ws) (codes "gen")
+guard_place ws = past_key ws (param_end ws) (codes "gen")
 
 -- the record that a token's sentence tells, if it tells one
 abbrev pub guard_of : List Word → Result (Option (List ℕ)) Wrong
@@ -86,11 +86,11 @@ guard_of ws = if is_at ws (guard_place ws) (codes "record") then (bytes_at ws (g
 
 -- where `cells` may stand
 abbrev pub cells_place : List Word → ℕ
-cells_place ws = after ws (guard_place ws) (codes "record")
+cells_place ws = past_key ws (guard_place ws) (codes "record")
 
 -- the cells that a token's sentence tells
 abbrev pub cells_in : List Word → Result CellList Wrong
-cells_in ws = if is_at ws (cells_place ws) (codes "cells") then cells_at ws (cells_place ws + 1) else (ended ws (cells_place ws) >> Ok no_cells)
+cells_in ws = if is_at ws (cells_place ws) (codes "cells") then cells_at ws (cells_place ws + 1) else (ends_at ws (cells_place ws) >> Ok no_cells)
 
 -- `token NAME LAW N gen N record BYTES cells ..`: the law is any where it is left out, the generation 0, and there are no cells and no
 -- record
@@ -100,25 +100,25 @@ token_of ws = do
   generation ← optional ws (param_end ws) (codes "gen") 0 70368744177663 0
   blob ← guard_of ws
   cells ← cells_in ws
-  demand ws (length ws) whats.CellCount (allows (law_at ws) (length cells.values))
-  demand ws (length ws) whats.Guard (may_guard (law_at ws) blob)
+  demand_at ws (length ws) whats.CellCount (allows (law_at ws) (length cells.values))
+  demand_at ws (length ws) whats.Guard (may_guard (law_at ws) blob)
   Ok (record { cells = cells.values; law = law_at ws; param = param; generation = generation; blob = blob })
 
 -- `message NAME of THREAD round N`: the round is 0 where it is left out
 unfoldable pub message_of : Names → List Word → Result MsgSpec Wrong
 message_of names ws = do
-  demand ws 2 (whats.Word wanted.Of) (is_at ws 2 (codes "of"))
-  origin ← thread_at names ws 3
-  demand ws 3 whats.Origin (nat_lt origin.cpu.0 names.cpus && nat_le origin.thread 15)
+  demand_at ws 2 (whats.Word wanted.Of) (is_at ws 2 (codes "of"))
+  origin ← thread_id_at names ws 3
+  demand_at ws 3 whats.Origin (nat_lt origin.cpu.0 names.cpus && nat_le origin.thread 15)
   round ← optional ws (3 + thread_length ws 3) (codes "round") 0 2251799813685247 0
-  ended ws (after ws (3 + thread_length ws 3) (codes "round"))
+  ends_at ws (past_key ws (3 + thread_length ws 3) (codes "round"))
   Ok (record { round = round; origin = origin })
 
 -- `thread NAME on N repeat N`: the thread makes its steps once where `repeat` is left out
 unfoldable pub head_of : Names → List Word → Result Head Wrong
 head_of names ws = do
-  demand ws 2 (whats.Word wanted.On) (is_at ws 2 (codes "on"))
+  demand_at ws 2 (whats.Word wanted.On) (is_at ws 2 (codes "on"))
   cpu ← number_at ws 3 0 (names.cpus - 1)
   repeat ← optional ws 4 (codes "repeat") 1 1000000 1
-  ended ws (after ws 4 (codes "repeat"))
+  ends_at ws (past_key ws 4 (codes "repeat"))
   Ok (record { cpu = record { 0 = cpu }; repeat = repeat })

@@ -6,6 +6,6 @@ use Rattle.lwkt_text.specs.declared.readers.Refusal.TheVariants.{Memory, Wrongs}
 use Rattle.lwkt_text.specs.declared.wrongs.Wrong.{Wrong}
 
 -- all that is wrong, and there is some; of a want of memory nothing is said
-abbrev pub Refuses : Refusal → Result Reading (List Wrong) → Type 0
-Refuses (Memory refused) read = Unit {0}
-Refuses (Wrongs wrongs) read = (read ≡ Err wrongs) × (0 < length wrongs)
+abbrev pub IsRefusalOf : Refusal → Result Reading (List Wrong) → Type 0
+IsRefusalOf (Memory refused) read = Unit {0}
+IsRefusalOf (Wrongs wrongs) read = (read ≡ Err wrongs) × (0 < length wrongs)

@@ -27,8 +27,8 @@ abbrev pub shown : ℕ → ℕ
 shown b = if nat_lt b 128 then b else 63
 
 -- before the first byte
-abbrev pub opening : Scan
-opening = record { sentences = []; words = []; text = []; at = 0; kind = Blank; remark = false }
+abbrev pub no_scan : Scan
+no_scan = record { sentences = []; words = []; text = []; at = 0; kind = Blank; remark = false }
 
 -- whether a byte of a kind goes on with the word
 abbrev pub same_kind : Kind → Kind → Bool
@@ -53,14 +53,14 @@ abbrev pub sentence_ended : ℕ → Scan → Scan
 sentence_ended end s = gathered (word_ended end s)
 
 -- where a byte goes to: on with the word, or into one that begins with it
-abbrev pub begun : ℕ → Kind → Scan → Scan
-begun at kind s = if joins kind s then s else record (word_ended at s) { at = at; kind = kind }
+abbrev pub word_begun : ℕ → Kind → Scan → Scan
+word_begun at kind s = if joins kind s then s else record (word_ended at s) { at = at; kind = kind }
 
 abbrev pub written : ℕ → Scan → Scan
 written byte s = record s { text = s.text ++ (shown byte) ∷ [] }
 
 abbrev pub put : ℕ → Kind → ℕ → Scan → Scan
-put at kind byte s = written byte (begun at kind s)
+put at kind byte s = written byte (word_begun at kind s)
 
 -- what a byte of a kind does
 abbrev pub fed_kind : ℕ → ℕ → Kind → Scan → Scan
@@ -82,4 +82,4 @@ fed_all at (b ∷ bs) s = fed_all (at + 1) bs (fed at b s)
 
 -- the sentences of a text
 unfoldable pub sentences_of : List ℕ → List Sentence
-sentences_of bytes = (sentence_ended (length bytes) (fed_all 0 bytes opening)).sentences
+sentences_of bytes = (sentence_ended (length bytes) (fed_all 0 bytes no_scan)).sentences

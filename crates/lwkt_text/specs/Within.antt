@@ -15,15 +15,15 @@ pub record IsHead (cpus : ℕ) (h : Head) : Type 0 where
   pub few_repeats : h.repeat ≤ 1000000
 
 -- a sentence that a script of so many processors may have
-abbrev pub IsSaid : ℕ → Said → Type 0
-IsSaid cpus (saids.Turns n) = (1 ≤ n) × (n ≤ 1000000)
-IsSaid cpus (saids.Idle n) = (1 ≤ n) × (n ≤ 100000000)
-IsSaid cpus saids.Cpus = Unit {0}
-IsSaid cpus (saids.Token t) = IsToken t
-IsSaid cpus (saids.Message m) = IsMessage cpus m
-IsSaid cpus (saids.Thread h) = IsHead cpus h
-IsSaid cpus (saids.Step a) = Unit {0}
-IsSaid cpus (saids.Expect e) = Unit {0}
+abbrev pub MayBeSaid : ℕ → Said → Type 0
+MayBeSaid cpus (saids.Turns n) = (1 ≤ n) × (n ≤ 1000000)
+MayBeSaid cpus (saids.Idle n) = (1 ≤ n) × (n ≤ 100000000)
+MayBeSaid cpus saids.Cpus = Unit {0}
+MayBeSaid cpus (saids.Token t) = IsToken t
+MayBeSaid cpus (saids.Message m) = IsMessage cpus m
+MayBeSaid cpus (saids.Thread h) = IsHead cpus h
+MayBeSaid cpus (saids.Step a) = Unit {0}
+MayBeSaid cpus (saids.Expect e) = Unit {0}
 
 -- the thread whose steps are told has room behind the others
 abbrev pub HasRoom : ℕ → List ThreadSpec → Option Head → Type 0

@@ -1,7 +1,7 @@
 ghost use Rattle.std.specs.Prelude.{◌≡◌, ◌<◌, OnOk, OnErr, Err, IfOk};
 ghost use Rattle.lwkt_script.specs.Format.{threads_on};
 ghost use Rattle.lwkt_text.specs.Within.{IsDraft};
-ghost use Rattle.lwkt_text.specs.Drafting.{no_draft, blamed, crowded, closed, opened, stepped, put, told, all_told};
+ghost use Rattle.lwkt_text.specs.Drafting.{no_draft, blamed, crowded, closed, thread_begun, stepped, put, sentence_told, all_told};
 ghost use Rattle.lwkt_text.specs.Outcome.{out_of_memory};
 
 use crate::claims::Expectation;
@@ -99,7 +99,7 @@ impl Draft {
     }
 
     fn open(&mut self, words: &[Word], head: Head) -> Result<(), Slip>
-        ensures ok { OnOk result (self.new ≡ opened head words.now self.old) }
+        ensures ok { OnOk result (self.new ≡ thread_begun head words.now self.old) }
         ensures only { OnErr result (result ≡ Err out_of_memory) }
     {
         if threads_on(head.cpu.0, self.threads.as_slice()) >= THREAD_LIMIT {
@@ -170,7 +170,7 @@ impl Draft {
     #[tactic(auto, using(crate::proofs::Keeping::put_within, crate::proofs::Keeping::blamed_within))]
     fn tell(&mut self, alloc: Global, names: &Names, words: &[Word]) -> Result<(), Slip>
         requires { 0 < names.now.cpus }
-        ensures ok { OnOk result (self.new ≡ told names.now words.now self.old) }
+        ensures ok { OnOk result (self.new ≡ sentence_told names.now words.now self.old) }
         ensures only { OnErr result (result ≡ Err out_of_memory) }
         ensures keeps { OnOk result (IsDraft names.now.cpus self.old → IsDraft names.now.cpus self.new) }
     {

@@ -1,13 +1,15 @@
 ghost use Rattle.std.specs.Prelude.{◌≡◌, ◌≤◌, ◌+◌, length, IfOk, Ok};
-ghost use Rattle.lwkt_text.specs.Outcome.{Gives};
-ghost use Rattle.lwkt_text.specs.Claiming.{tally_at, generation_at, round_at, plain_at, cell_term_at, named_term, term_at, sum_at, relation_of, relation_at, compared, standing_of, place_of, standing_at, state_at, subject, saw, found, refused, aborted, empty, took, lost, answered, logged, stands, lies, other_claim, about, faulted, alone, claim_of};
+ghost use Rattle.lwkt_text.specs.Outcome.{IsAsRead};
+ghost use Rattle.lwkt_text.specs.Claiming.{tally_term_at, generation_term_at, round_term_at, plain_at, cell_term_at, named_term, term_at, sum_at, named_relation, relation_at, compared_claim, named_standing, named_place, standing_at, state_at, subject, saw_entry, found_entry, refused_entry, aborted_entry, empty_entry, took_entry, lost_entry, answered_entry, logged_claim, stands_claim, lies_claim, other_claim, about, faulted_claim, alone_claim, claim_of};
 
 use crate::claims::{Claim, Comparison, Quantity, Relation, Standing};
-use crate::looks::{bytes_at, demand, ended, is_at, number_at, number_of, text_at, wrong_at};
+use crate::looks::{
+    bytes_at, decimal_number, demand_at, ends_at, is_at, number_at, text_at, wrong_at,
+};
 use crate::many::Many;
 use crate::slips::checked;
 use crate::steps::{call_at, call_end, last_number};
-use crate::tables::{Names, cell_at, message_at, named_thread, token_at};
+use crate::tables::{Names, cell_at, message_id_at, named_thread, token_id_at};
 use crate::words::Word;
 use crate::wrongs::{Slip, Wanted, What, Wrong};
 use lwkt_base::{CpuId, Entry, MsgState, ThreadId};
@@ -34,15 +36,15 @@ pub struct Sum {
 const MOST_CODE: u64 = 4_294_967_295;
 
 // `tally T . P` from word i on.
-#[tactic(auto, unfolding(crate::specs::Claiming::tally_at))]
-fn tally_at(names: &Names, words: &[Word], i: usize) -> Result<Term, Wrong>
+#[tactic(auto, unfolding(crate::specs::Claiming::tally_term_at))]
+fn tally_term_at(names: &Names, words: &[Word], i: usize) -> Result<Term, Wrong>
     requires { i ≤ 10000 }
-    ensures exact { result ≡ tally_at names.now words.now i }
+    ensures exact { result ≡ tally_term_at names.now words.now i }
     ensures most { IfOk result (λ t. t.end ≤ i + 4) }
 {
-    let tok = token_at(names, words, i + 1)?;
+    let tok = token_id_at(names, words, i + 1)?;
     let is_point = is_at(words, i + 2, ".");
-    demand(words, i + 2, What::Word(Wanted::Point), is_point)?;
+    demand_at(words, i + 2, What::Word(Wanted::Point), is_point)?;
     let cpu = number_at(words, i + 3, 0, 7)? as u8;
     Ok(Term {
         quantity: Quantity::Tally(tok, CpuId(cpu)),
@@ -51,12 +53,12 @@ fn tally_at(names: &Names, words: &[Word], i: usize) -> Result<Term, Wrong>
 }
 
 // `gen T` from word i on.
-fn generation_at(names: &Names, words: &[Word], i: usize) -> Result<Term, Wrong>
+fn generation_term_at(names: &Names, words: &[Word], i: usize) -> Result<Term, Wrong>
     requires { i ≤ 10000 }
-    ensures exact { result ≡ generation_at names.now words.now i }
+    ensures exact { result ≡ generation_term_at names.now words.now i }
     ensures most { IfOk result (λ t. t.end ≤ i + 4) }
 {
-    let tok = token_at(names, words, i + 1)?;
+    let tok = token_id_at(names, words, i + 1)?;
     Ok(Term {
         quantity: Quantity::Generation(tok),
         end: i + 2,
@@ -64,12 +66,12 @@ fn generation_at(names: &Names, words: &[Word], i: usize) -> Result<Term, Wrong>
 }
 
 // `round M` from word i on.
-fn round_at(names: &Names, words: &[Word], i: usize) -> Result<Term, Wrong>
+fn round_term_at(names: &Names, words: &[Word], i: usize) -> Result<Term, Wrong>
     requires { i ≤ 10000 }
-    ensures exact { result ≡ round_at names.now words.now i }
+    ensures exact { result ≡ round_term_at names.now words.now i }
     ensures most { IfOk result (λ t. t.end ≤ i + 4) }
 {
-    let msg = message_at(names, words, i + 1)?;
+    let msg = message_id_at(names, words, i + 1)?;
     Ok(Term {
         quantity: Quantity::Round(msg),
         end: i + 2,
@@ -82,7 +84,7 @@ fn plain_at(words: &[Word], i: usize) -> Result<Term, Wrong>
     ensures exact { result ≡ plain_at words.now i }
     ensures most { IfOk result (λ t. t.end ≤ i + 4) }
 {
-    match number_of(text_at(words, i)) {
+    match decimal_number(text_at(words, i)) {
         Some(n) => Ok(Term {
             quantity: Quantity::Number(n),
             end: i + 1,
@@ -111,9 +113,9 @@ fn named_term(names: &Names, words: &[Word], i: usize) -> Result<Term, Wrong>
     ensures most { IfOk result (λ t. t.end ≤ i + 4) }
 {
     match text_at(words, i) {
-        "gen" => generation_at(names, words, i),
-        "round" => round_at(names, words, i),
-        "tally" => tally_at(names, words, i),
+        "gen" => generation_term_at(names, words, i),
+        "round" => round_term_at(names, words, i),
+        "tally" => tally_term_at(names, words, i),
         _ => plain_at(words, i),
     }
 }
@@ -135,7 +137,7 @@ fn term_at(names: &Names, words: &[Word], i: usize) -> Result<Term, Wrong>
 fn sum_at(alloc: Global, names: &Names, words: &[Word], i: usize) -> Result<Sum, Slip>
     requires start { i ≤ 5002 }
     requires few { length words.now ≤ 1000 }
-    ensures exact { Gives result (sum_at names.now words.now i) }
+    ensures exact { IsAsRead result (sum_at names.now words.now i) }
     ensures most { IfOk result (λ s. s.end ≤ i + 5000) }
 {
     let mut terms = Many::new(alloc);
@@ -155,8 +157,8 @@ fn sum_at(alloc: Global, names: &Names, words: &[Word], i: usize) -> Result<Sum,
 }
 
 // The relation of a word.
-fn relation_of(text: &str) -> Option<Relation>
-    ensures { result ≡ relation_of text.now }
+fn named_relation(text: &str) -> Option<Relation>
+    ensures { result ≡ named_relation text.now }
 {
     match text {
         "=" => Some(Relation::Equal),
@@ -173,22 +175,22 @@ fn relation_of(text: &str) -> Option<Relation>
 fn relation_at(words: &[Word], i: usize) -> Result<Relation, Wrong>
     ensures { result ≡ relation_at words.now i }
 {
-    match relation_of(text_at(words, i)) {
+    match named_relation(text_at(words, i)) {
         Some(relation) => Ok(relation),
         None => Err(wrong_at(words, i, What::Relation)),
     }
 }
 
 // `SUM RELATION SUM` from word 1 on.
-#[tactic(auto, unfolding(crate::specs::Claiming::compared))]
-fn compared(alloc: Global, names: &Names, words: &[Word]) -> Result<Claim, Slip>
+#[tactic(auto, unfolding(crate::specs::Claiming::compared_claim))]
+fn compared_claim(alloc: Global, names: &Names, words: &[Word]) -> Result<Claim, Slip>
     requires { length words.now ≤ 1000 }
-    ensures { Gives result (compared names.now words.now) }
+    ensures { IsAsRead result (compared_claim names.now words.now) }
 {
     let left = sum_at(alloc, names, words, 1)?;
     let relation = checked(relation_at(words, left.end))?;
     let right = sum_at(alloc, names, words, left.end + 1)?;
-    checked(ended(words, right.end))?;
+    checked(ends_at(words, right.end))?;
     Ok(Claim::Compares(Comparison {
         left: left.terms,
         relation,
@@ -197,8 +199,8 @@ fn compared(alloc: Global, names: &Names, words: &[Word]) -> Result<Claim, Slip>
 }
 
 // The state of a word.
-fn standing_of(text: &str) -> Option<Standing>
-    ensures { result ≡ standing_of text.now }
+fn named_standing(text: &str) -> Option<Standing>
+    ensures { result ≡ named_standing text.now }
 {
     match text {
         "ready" => Some(Standing::Ready),
@@ -211,8 +213,8 @@ fn standing_of(text: &str) -> Option<Standing>
 }
 
 // The place of a word.
-fn place_of(text: &str) -> Option<MsgState>
-    ensures { result ≡ place_of text.now }
+fn named_place(text: &str) -> Option<MsgState>
+    ensures { result ≡ named_place text.now }
 {
     match text {
         "rest" => Some(MsgState::Rest),
@@ -227,7 +229,7 @@ fn place_of(text: &str) -> Option<MsgState>
 fn standing_at(words: &[Word]) -> Result<Standing, Wrong>
     ensures { result ≡ standing_at words.now }
 {
-    match standing_of(text_at(words, 3)) {
+    match named_standing(text_at(words, 3)) {
         Some(standing) => Ok(standing),
         None => Err(wrong_at(words, 3, What::State)),
     }
@@ -237,7 +239,7 @@ fn standing_at(words: &[Word]) -> Result<Standing, Wrong>
 fn state_at(words: &[Word]) -> Result<MsgState, Wrong>
     ensures { result ≡ state_at words.now }
 {
-    match place_of(text_at(words, 3)) {
+    match named_place(text_at(words, 3)) {
         Some(state) => Ok(state),
         None => Err(wrong_at(words, 3, What::State)),
     }
@@ -254,164 +256,164 @@ fn subject(names: &Names, words: &[Word]) -> Result<ThreadId, Wrong>
 }
 
 // `saw N`
-fn saw(words: &[Word]) -> Result<Entry, Wrong>
-    ensures { result ≡ saw words.now }
+fn saw_entry(words: &[Word]) -> Result<Entry, Wrong>
+    ensures { result ≡ saw_entry words.now }
 {
     let n = number_at(words, 3, 0, u64::MAX)?;
-    ended(words, 4)?;
+    ends_at(words, 4)?;
     Ok(Entry::Value(n))
 }
 
 // `found BYTES`
-fn found(words: &[Word]) -> Result<Entry, Wrong>
-    ensures { result ≡ found words.now }
+fn found_entry(words: &[Word]) -> Result<Entry, Wrong>
+    ensures { result ≡ found_entry words.now }
 {
     let blob = bytes_at(words, 3, 64)?;
-    ended(words, 4)?;
+    ends_at(words, 4)?;
     Ok(Entry::Bytes(blob))
 }
 
 // `refused N`
-fn refused(words: &[Word]) -> Result<Entry, Wrong>
-    ensures { result ≡ refused words.now }
+fn refused_entry(words: &[Word]) -> Result<Entry, Wrong>
+    ensures { result ≡ refused_entry words.now }
 {
     let n = number_at(words, 3, 0, 255)? as u8;
-    ended(words, 4)?;
+    ends_at(words, 4)?;
     Ok(Entry::Refused(n))
 }
 
 // `aborted N`, 0 or 1
-fn aborted(words: &[Word]) -> Result<Entry, Wrong>
-    ensures { result ≡ aborted words.now }
+fn aborted_entry(words: &[Word]) -> Result<Entry, Wrong>
+    ensures { result ≡ aborted_entry words.now }
 {
     let n = number_at(words, 3, 0, 1)?;
-    ended(words, 4)?;
+    ends_at(words, 4)?;
     Ok(Entry::Aborted(n == 1))
 }
 
 // `empty`
-fn empty(words: &[Word]) -> Result<Entry, Wrong>
-    ensures { result ≡ empty words.now }
+fn empty_entry(words: &[Word]) -> Result<Entry, Wrong>
+    ensures { result ≡ empty_entry words.now }
 {
-    ended(words, 3)?;
+    ends_at(words, 3)?;
     Ok(Entry::NoMessage)
 }
 
 // `took M op N arg N`
-fn took(names: &Names, words: &[Word]) -> Result<Entry, Wrong>
-    ensures { result ≡ took names.now words.now }
+fn took_entry(names: &Names, words: &[Word]) -> Result<Entry, Wrong>
+    ensures { result ≡ took_entry names.now words.now }
 {
-    let msg = message_at(names, words, 3)?;
+    let msg = message_id_at(names, words, 3)?;
     let call = call_at(words, 4)?;
-    ended(words, call_end(words, 4))?;
+    ends_at(words, call_end(words, 4))?;
     Ok(Entry::Request(msg, call))
 }
 
 // `lost M op N arg N`
-fn lost(names: &Names, words: &[Word]) -> Result<Entry, Wrong>
-    ensures { result ≡ lost names.now words.now }
+fn lost_entry(names: &Names, words: &[Word]) -> Result<Entry, Wrong>
+    ensures { result ≡ lost_entry names.now words.now }
 {
-    let msg = message_at(names, words, 3)?;
+    let msg = message_id_at(names, words, 3)?;
     let call = call_at(words, 4)?;
-    ended(words, call_end(words, 4))?;
+    ends_at(words, call_end(words, 4))?;
     Ok(Entry::Dropped(msg, call))
 }
 
 // `answered M ERROR RESULT`
-fn answered(names: &Names, words: &[Word]) -> Result<Entry, Wrong>
-    ensures { result ≡ answered names.now words.now }
+fn answered_entry(names: &Names, words: &[Word]) -> Result<Entry, Wrong>
+    ensures { result ≡ answered_entry names.now words.now }
 {
-    let msg = message_at(names, words, 3)?;
+    let msg = message_id_at(names, words, 3)?;
     let error = last_number(words, 4, MOST_CODE)? as u32;
     let outcome = last_number(words, 5, u64::MAX)?;
-    ended(words, 6)?;
+    ends_at(words, 6)?;
     Ok(Entry::Reply(msg, error, outcome))
 }
 
 // `THREAD ENTRY`
-fn logged(names: &Names, words: &[Word], entry: Result<Entry, Wrong>) -> Result<Claim, Wrong>
-    ensures { result ≡ logged names.now words.now entry }
+fn logged_claim(names: &Names, words: &[Word], entry: Result<Entry, Wrong>) -> Result<Claim, Wrong>
+    ensures { result ≡ logged_claim names.now words.now entry }
 {
     let id = subject(names, words)?;
     Ok(Claim::Logged(id, entry?))
 }
 
 // `THREAD is STATE`
-fn stands(names: &Names, words: &[Word]) -> Result<Claim, Wrong>
-    ensures { result ≡ stands names.now words.now }
+fn stands_claim(names: &Names, words: &[Word]) -> Result<Claim, Wrong>
+    ensures { result ≡ stands_claim names.now words.now }
 {
     let id = subject(names, words)?;
     let standing = standing_at(words)?;
-    ended(words, 4)?;
+    ends_at(words, 4)?;
     Ok(Claim::Stands(id, standing))
 }
 
 // `MESSAGE at PLACE`
-fn lies(names: &Names, words: &[Word]) -> Result<Claim, Wrong>
-    ensures { result ≡ lies names.now words.now }
+fn lies_claim(names: &Names, words: &[Word]) -> Result<Claim, Wrong>
+    ensures { result ≡ lies_claim names.now words.now }
 {
-    let msg = message_at(names, words, 1)?;
+    let msg = message_id_at(names, words, 1)?;
     let state = state_at(words)?;
-    ended(words, 4)?;
+    ends_at(words, 4)?;
     Ok(Claim::Lies(msg, state))
 }
 
 // What is said of messages, states and sums, or of a record that was read.
 fn other_claim(alloc: Global, names: &Names, words: &[Word]) -> Result<Claim, Slip>
     requires { length words.now ≤ 1000 }
-    ensures { Gives result (other_claim names.now words.now) }
+    ensures { IsAsRead result (other_claim names.now words.now) }
 {
     match text_at(words, 2) {
-        "found" => checked(logged(names, words, found(words))),
-        "is" => checked(stands(names, words)),
-        "at" => checked(lies(names, words)),
-        _ => compared(alloc, names, words),
+        "found" => checked(logged_claim(names, words, found_entry(words))),
+        "is" => checked(stands_claim(names, words)),
+        "at" => checked(lies_claim(names, words)),
+        _ => compared_claim(alloc, names, words),
     }
 }
 
 // What is said of a thread's log, or else.
 fn about(alloc: Global, names: &Names, words: &[Word]) -> Result<Claim, Slip>
     requires { length words.now ≤ 1000 }
-    ensures { Gives result (about names.now words.now) }
+    ensures { IsAsRead result (about names.now words.now) }
 {
     match text_at(words, 2) {
-        "saw" => checked(logged(names, words, saw(words))),
-        "refused" => checked(logged(names, words, refused(words))),
-        "aborted" => checked(logged(names, words, aborted(words))),
-        "empty" => checked(logged(names, words, empty(words))),
-        "took" => checked(logged(names, words, took(names, words))),
-        "lost" => checked(logged(names, words, lost(names, words))),
-        "answered" => checked(logged(names, words, answered(names, words))),
+        "saw" => checked(logged_claim(names, words, saw_entry(words))),
+        "refused" => checked(logged_claim(names, words, refused_entry(words))),
+        "aborted" => checked(logged_claim(names, words, aborted_entry(words))),
+        "empty" => checked(logged_claim(names, words, empty_entry(words))),
+        "took" => checked(logged_claim(names, words, took_entry(names, words))),
+        "lost" => checked(logged_claim(names, words, lost_entry(names, words))),
+        "answered" => checked(logged_claim(names, words, answered_entry(names, words))),
         _ => other_claim(alloc, names, words),
     }
 }
 
 // Some thread was ended by this fault.
-fn faulted(words: &[Word]) -> Result<Claim, Wrong>
-    ensures { result ≡ faulted words.now }
+fn faulted_claim(words: &[Word]) -> Result<Claim, Wrong>
+    ensures { result ≡ faulted_claim words.now }
 {
     let n = number_at(words, 2, 0, 255)? as u8;
-    ended(words, 3)?;
+    ends_at(words, 3)?;
     Ok(Claim::Faulted(n))
 }
 
 // One word alone says it all.
-fn alone(words: &[Word], claim: Claim) -> Result<Claim, Wrong>
-    ensures { result ≡ alone words.now claim }
+fn alone_claim(words: &[Word], claim: Claim) -> Result<Claim, Wrong>
+    ensures { result ≡ alone_claim words.now claim }
 {
-    ended(words, 2)?;
+    ends_at(words, 2)?;
     Ok(claim)
 }
 
 /// What is said from word 1 on.
 pub fn claim_of(alloc: Global, names: &Names, words: &[Word]) -> Result<Claim, Slip>
     requires { length words.now ≤ 1000 }
-    ensures { Gives result (claim_of names.now words.now) }
+    ensures { IsAsRead result (claim_of names.now words.now) }
 {
     match text_at(words, 1) {
-        "ended" => checked(alone(words, Claim::Ended)),
-        "stuck" => checked(alone(words, Claim::Stuck)),
-        "fault" => checked(faulted(words)),
+        "ended" => checked(alone_claim(words, Claim::Ended)),
+        "stuck" => checked(alone_claim(words, Claim::Stuck)),
+        "fault" => checked(faulted_claim(words)),
         _ => about(alloc, names, words),
     }
 }

@@ -1,10 +1,10 @@
 ghost use Rattle.std.specs.Prelude.{◌≡◌, ◌≤◌, ◌<◌, OnOk, OnErr, Err, IfOk};
-ghost use Rattle.lwkt_text.specs.Listing.{no_names, no_listing, fresh, names_read, noted, token_added, message_added, next_thread, thread_added, cpu_named, cpu_used, thread_used, HasCpus, token_listed, message_listed, thread_listed, cpus_listed, listed, all_listed, names_of};
+ghost use Rattle.lwkt_text.specs.Listing.{no_names, no_listing, new_name, names_read, wrong_noted, token_added, message_added, next_thread, thread_added, cpu_named, cpu_used, thread_used, HasCpus, token_listed, message_listed, thread_listed, cpus_listed, sentence_listed, all_listed, names_of};
 ghost use Rattle.lwkt_text.specs.Looking.{number_at};
 ghost use Rattle.lwkt_text.specs.Parting.{cells_in};
 ghost use Rattle.lwkt_text.specs.Outcome.{out_of_memory};
 
-use crate::looks::{demand, name_at, number_at, text_at};
+use crate::looks::{demand_at, name_at, number_at, text_at};
 use crate::many::Many;
 use crate::names::Name;
 use crate::parts::cells_in;
@@ -27,12 +27,12 @@ pub struct Listing {
 }
 
 // Word 1 is a name that none of these is.
-fn fresh(names: &[Name], words: &[Word]) -> Result<(), Wrong>
-    ensures { result ≡ fresh names.now words.now }
+fn new_name(names: &[Name], words: &[Word]) -> Result<(), Wrong>
+    ensures { result ≡ new_name names.now words.now }
 {
     name_at(words, 1)?;
     let is_new = position(names, text_at(words, 1)).is_none();
-    demand(words, 1, What::Twice, is_new)
+    demand_at(words, 1, What::Twice, is_new)
 }
 
 // The names of the cells of a token's sentence, none where they are wrong.
@@ -125,22 +125,22 @@ impl Listing {
     }
 
     fn list_token(&mut self, alloc: Global, words: &[Word]) -> Result<(), Slip>
-        ensures ok { OnOk result (self.new ≡ token_listed (fresh self.old.names.tokens words.now) words.now self.old) }
+        ensures ok { OnOk result (self.new ≡ token_listed (new_name self.old.names.tokens words.now) words.now self.old) }
         ensures only { OnErr result (result ≡ Err out_of_memory) }
         ensures cpus { OnOk result (HasCpus self.old → HasCpus self.new) }
     {
-        match fresh(self.names.tokens.as_slice(), words) {
+        match new_name(self.names.tokens.as_slice(), words) {
             Ok(()) => self.names.add_token(alloc, words),
             Err(wrong) => self.faults.push(wrong),
         }
     }
 
     fn list_message(&mut self, alloc: Global, words: &[Word]) -> Result<(), Slip>
-        ensures ok { OnOk result (self.new ≡ message_listed (fresh self.old.names.messages words.now) words.now self.old) }
+        ensures ok { OnOk result (self.new ≡ message_listed (new_name self.old.names.messages words.now) words.now self.old) }
         ensures only { OnErr result (result ≡ Err out_of_memory) }
         ensures cpus { OnOk result (HasCpus self.old → HasCpus self.new) }
     {
-        match fresh(self.names.messages.as_slice(), words) {
+        match new_name(self.names.messages.as_slice(), words) {
             Ok(()) => self.names.add_message(alloc, words),
             Err(wrong) => self.faults.push(wrong),
         }
@@ -170,11 +170,11 @@ impl Listing {
     }
 
     fn list_thread(&mut self, alloc: Global, words: &[Word]) -> Result<(), Slip>
-        ensures ok { OnOk result (self.new ≡ thread_listed (fresh self.old.names.threads words.now) words.now self.old) }
+        ensures ok { OnOk result (self.new ≡ thread_listed (new_name self.old.names.threads words.now) words.now self.old) }
         ensures only { OnErr result (result ≡ Err out_of_memory) }
         ensures cpus { OnOk result (HasCpus self.old → HasCpus self.new) }
     {
-        match fresh(self.names.threads.as_slice(), words) {
+        match new_name(self.names.threads.as_slice(), words) {
             Ok(()) => self.use_thread(alloc, words, cpu_named(words)),
             Err(wrong) => self.faults.push(wrong),
         }
@@ -191,9 +191,9 @@ impl Listing {
     }
 
     // What a sentence adds.
-    #[tactic(auto, unfolding(crate::specs::Listing::listed))]
+    #[tactic(auto, unfolding(crate::specs::Listing::sentence_listed))]
     fn list(&mut self, alloc: Global, words: &[Word]) -> Result<(), Slip>
-        ensures ok { OnOk result (self.new ≡ listed words.now self.old) }
+        ensures ok { OnOk result (self.new ≡ sentence_listed words.now self.old) }
         ensures only { OnErr result (result ≡ Err out_of_memory) }
         ensures cpus { OnOk result (HasCpus self.old → HasCpus self.new) }
     {

@@ -1,6 +1,7 @@
 // What the words of a sentence say, by their places.
 ghost use Rattle.std.specs.Prelude.{◌≡◌, ◌≤◌, ◌+◌, length, option_and_then, IfSome, IfOk};
-ghost use Rattle.lwkt_text.specs.Looking.{text_at, is_at, end_of, place_at, wrong_at, part, demand, ended, digit_added, digits, number_of, within, number_at, bytes_of, bytes_at, after, optional, is_name, name_at};
+ghost use Rattle.lwkt_script.specs.Field.{within};
+ghost use Rattle.lwkt_text.specs.Looking.{text_at, is_at, sentence_end, place_of_word, wrong_at, part_at, demand_at, ends_at, digit_added, digits, decimal_number, number_at, bytes_of, bytes_at, past_key, optional, is_name, name_at};
 
 use crate::words::Word;
 use crate::wrongs::{What, Wrong};
@@ -25,8 +26,8 @@ pub fn is_at(words: &[Word], i: usize, text: &str) -> bool
 }
 
 // Where the last word ends.
-fn end_of(words: &[Word]) -> usize
-    ensures { result ≡ end_of words.now }
+fn sentence_end(words: &[Word]) -> usize
+    ensures { result ≡ sentence_end words.now }
 {
     match words.last() {
         Some(word) => word.end,
@@ -35,12 +36,12 @@ fn end_of(words: &[Word]) -> usize
 }
 
 /// Where word i begins, or where it is missing.
-pub fn place_at(words: &[Word], i: usize) -> usize
-    ensures { result ≡ place_at words.now i }
+pub fn place_of_word(words: &[Word], i: usize) -> usize
+    ensures { result ≡ place_of_word words.now i }
 {
     match words.get(i) {
         Some(word) => word.at,
-        None => end_of(words),
+        None => sentence_end(words),
     }
 }
 
@@ -49,14 +50,14 @@ pub fn wrong_at(words: &[Word], i: usize, what: What) -> Wrong
     ensures { result ≡ wrong_at words.now i what }
 {
     Wrong {
-        at: place_at(words, i),
+        at: place_of_word(words, i),
         what,
     }
 }
 
 /// Asks that word i passes a test.
-pub fn demand(words: &[Word], i: usize, what: What, ok: bool) -> Result<(), Wrong>
-    ensures { result ≡ demand words.now i what ok }
+pub fn demand_at(words: &[Word], i: usize, what: What, ok: bool) -> Result<(), Wrong>
+    ensures { result ≡ demand_at words.now i what ok }
 {
     if ok {
         Ok(())
@@ -66,10 +67,10 @@ pub fn demand(words: &[Word], i: usize, what: What, ok: bool) -> Result<(), Wron
 }
 
 /// Asks that nothing stands behind word i.
-pub fn ended(words: &[Word], i: usize) -> Result<(), Wrong>
-    ensures { result ≡ ended words.now i }
+pub fn ends_at(words: &[Word], i: usize) -> Result<(), Wrong>
+    ensures { result ≡ ends_at words.now i }
 {
-    demand(words, i, What::Further, words.len() <= i)
+    demand_at(words, i, What::Further, words.len() <= i)
 }
 
 // A number with one more digit.
@@ -83,8 +84,8 @@ fn digit_added(n: u64, byte: u8) -> Option<u64>
 }
 
 /// The number that decimal digits are.
-pub fn number_of(text: &str) -> Option<u64>
-    ensures { result ≡ number_of text.now }
+pub fn decimal_number(text: &str) -> Option<u64>
+    ensures { result ≡ decimal_number text.now }
 {
     if text.is_empty() {
         return None;
@@ -98,10 +99,10 @@ pub fn number_of(text: &str) -> Option<u64>
 
 /// The number that decimal digits are, if it is within these limits.
 pub fn number_within(text: &str, low: u64, high: u64) -> Option<u64>
-    ensures exact { result ≡ option_and_then (within low high) (number_of text.now) }
+    ensures exact { result ≡ option_and_then (within low high) (decimal_number text.now) }
     ensures limits { IfSome result (λ n. (low ≤ n) × (n ≤ high)) }
 {
-    match number_of(text) {
+    match decimal_number(text) {
         Some(n) if low <= n && n <= high => Some(n),
         _ => None,
     }
@@ -146,9 +147,9 @@ pub fn bytes_at(words: &[Word], i: usize, most: usize) -> Result<Blob, Wrong>
 }
 
 /// The place behind a key and its value, where word i is this key, and else i.
-pub fn after(words: &[Word], i: usize, key: &str) -> usize
+pub fn past_key(words: &[Word], i: usize, key: &str) -> usize
     requires { i ≤ 100000 }
-    ensures exact { result ≡ after words.now i key.now }
+    ensures exact { result ≡ past_key words.now i key.now }
     ensures most { result ≤ i + 2 }
 {
     if is_at(words, i, key) { i + 2 } else { i }
@@ -190,5 +191,5 @@ pub fn is_name(text: &str) -> bool
 pub fn name_at(words: &[Word], i: usize) -> Result<(), Wrong>
     ensures { result ≡ name_at words.now i }
 {
-    demand(words, i, What::Name, is_name(text_at(words, i)))
+    demand_at(words, i, What::Name, is_name(text_at(words, i)))
 }

@@ -1,16 +1,17 @@
 ghost use Rattle.std.specs.Prelude.{◌≡◌, ◌≤◌, ◌<◌, ◌+◌, length, drop, IfSome, IfOk, IfErr, OnOk, OnErr, Ok, Err};
 ghost use Rattle.lwkt_script.specs.Limits.{IsToken, IsMessage};
 ghost use Rattle.lwkt_script.specs.Member.{law_of, allows};
-ghost use Rattle.lwkt_text.specs.Outcome.{Gives, Fails};
+ghost use Rattle.lwkt_text.specs.Outcome.{IsAsRead, IsSlipAsRead};
 ghost use Rattle.lwkt_text.specs.Parting.{no_cells, cell_added, cell_named, cell_told, cells_told, cells_at, law_said, law_end, has_param, param_end, asks_nothing, law_at, param_of, guard_place, guard_of, cells_place, cells_in, token_of, message_of, head_of};
 
 use crate::looks::{
-    after, bytes_at, demand, ended, is_at, is_name, number_at, number_of, optional, text_at,
+    bytes_at, decimal_number, demand_at, ends_at, is_at, is_name, number_at, optional, past_key,
+    text_at,
 };
 use crate::many::Many;
 use crate::names::Name;
 use crate::slips::checked;
-use crate::tables::{Names, thread_at, thread_length};
+use crate::tables::{Names, thread_id_at, thread_length};
 use crate::words::Word;
 use crate::wrongs::{Slip, Wanted, What, Wrong};
 use lwkt_base::{Blob, Cells, CpuId, Law, MsgSpec, TokSpec};
@@ -68,7 +69,7 @@ impl CellList {
     // A word that is no number.
     fn name(&mut self, alloc: Global, word: &Word) -> Result<(), Slip>
         ensures ok { OnOk result (cell_named word.now self.old ≡ Ok self.new) }
-        ensures err { IfErr result (λ slip. Fails slip (cell_named word.now self.old)) }
+        ensures err { IfErr result (λ slip. IsSlipAsRead slip (cell_named word.now self.old)) }
     {
         let text = word.text.as_str();
         let is_empty = self.pending.as_str().is_empty();
@@ -88,9 +89,9 @@ impl CellList {
     // One more word.
     fn tell(&mut self, alloc: Global, word: &Word) -> Result<(), Slip>
         ensures ok { OnOk result (cell_told word.now self.old ≡ Ok self.new) }
-        ensures err { IfErr result (λ slip. Fails slip (cell_told word.now self.old)) }
+        ensures err { IfErr result (λ slip. IsSlipAsRead slip (cell_told word.now self.old)) }
     {
-        match number_of(word.text.as_str()) {
+        match decimal_number(word.text.as_str()) {
             Some(n) => self.add(alloc, n),
             None => self.name(alloc, word),
         }
@@ -106,7 +107,7 @@ fn rest_of(words: &[Word], i: usize) -> &[Word]
 
 // Cells that are told by these words.
 fn cells_told(alloc: Global, words: &[Word]) -> Result<CellList, Slip>
-    ensures { Gives result (cells_told no_cells words.now) }
+    ensures { IsAsRead result (cells_told no_cells words.now) }
 {
     let mut cells = CellList::new(alloc);
     for word in words {
@@ -117,7 +118,7 @@ fn cells_told(alloc: Global, words: &[Word]) -> Result<CellList, Slip>
 
 // The cells from word i on.
 fn cells_at(alloc: Global, words: &[Word], i: usize) -> Result<CellList, Slip>
-    ensures { Gives result (cells_at words.now i) }
+    ensures { IsAsRead result (cells_at words.now i) }
 {
     let cells = cells_told(alloc, rest_of(words, i))?;
     let what = What::Number {
@@ -125,7 +126,7 @@ fn cells_at(alloc: Global, words: &[Word], i: usize) -> Result<CellList, Slip>
         high: u64::MAX,
     };
     let is_whole = cells.pending.as_str().is_empty();
-    checked(demand(words, words.len(), what, is_whole))?;
+    checked(demand_at(words, words.len(), what, is_whole))?;
     Ok(cells)
 }
 
@@ -162,7 +163,7 @@ fn law_end(words: &[Word]) -> usize
 fn has_param(words: &[Word]) -> bool
     ensures { result ≡ has_param words.now }
 {
-    law_said(words).is_some() && number_of(text_at(words, 3)).is_some()
+    law_said(words).is_some() && decimal_number(text_at(words, 3)).is_some()
 }
 
 fn param_end(words: &[Word]) -> usize
@@ -198,7 +199,7 @@ fn param_of(words: &[Word]) -> Result<u64, Wrong>
         low: 0,
         high: u64::MAX,
     };
-    demand(words, law_end(words), what, asks_nothing(law_at(words)))?;
+    demand_at(words, law_end(words), what, asks_nothing(law_at(words)))?;
     Ok(0)
 }
 
@@ -207,7 +208,7 @@ fn guard_place(words: &[Word]) -> usize
     ensures exact { result ≡ guard_place words.now }
     ensures most { result ≤ 6 }
 {
-    after(words, param_end(words), "gen")
+    past_key(words, param_end(words), "gen")
 }
 
 // The record that a token's sentence tells, if it tells one.
@@ -228,18 +229,18 @@ fn cells_place(words: &[Word]) -> usize
     ensures exact { result ≡ cells_place words.now }
     ensures most { result ≤ 8 }
 {
-    after(words, guard_place(words), "record")
+    past_key(words, guard_place(words), "record")
 }
 
 /// The cells that a token's sentence tells.
 pub fn cells_in(alloc: Global, words: &[Word]) -> Result<CellList, Slip>
-    ensures { Gives result (cells_in words.now) }
+    ensures { IsAsRead result (cells_in words.now) }
 {
     let place = cells_place(words);
     if is_at(words, place, "cells") {
         return cells_at(alloc, words, place + 1);
     }
-    checked(ended(words, place))?;
+    checked(ends_at(words, place))?;
     Ok(CellList::new(alloc))
 }
 
@@ -257,7 +258,7 @@ fn allows(law: Law, count: usize) -> bool
 /// A token, by its sentence.
 #[tactic(auto, unfolding(crate::specs::Parting::token_of))]
 pub fn token_of(alloc: Global, words: &[Word]) -> Result<TokSpec, Slip>
-    ensures exact { Gives result (token_of words.now) }
+    ensures exact { IsAsRead result (token_of words.now) }
     ensures limits { IfOk result IsToken }
 {
     let param = checked(param_of(words))?;
@@ -267,9 +268,9 @@ pub fn token_of(alloc: Global, words: &[Word]) -> Result<TokSpec, Slip>
     let cells = cells_in(alloc, words)?;
     let law = law_at(words);
     let is_allowed = allows(law, cells.values.len());
-    checked(demand(words, words.len(), What::CellCount, is_allowed))?;
+    checked(demand_at(words, words.len(), What::CellCount, is_allowed))?;
     let is_guarded = may_guard(law, &blob);
-    checked(demand(words, words.len(), What::Guard, is_guarded))?;
+    checked(demand_at(words, words.len(), What::Guard, is_guarded))?;
     Ok(TokSpec {
         cells: Cells::from_vec(cells.values.into_vec()),
         law,
@@ -285,13 +286,13 @@ pub fn message_of(names: &Names, words: &[Word]) -> Result<MsgSpec, Wrong>
     ensures exact { result ≡ message_of names.now words.now }
     ensures limits { IfOk result (IsMessage names.now.cpus) }
 {
-    demand(words, 2, What::Word(Wanted::Of), is_at(words, 2, "of"))?;
-    let origin = thread_at(names, words, 3)?;
+    demand_at(words, 2, What::Word(Wanted::Of), is_at(words, 2, "of"))?;
+    let origin = thread_id_at(names, words, 3)?;
     let is_there = origin.cpu.0 < names.cpus && origin.thread <= 15;
-    demand(words, 3, What::Origin, is_there)?;
+    demand_at(words, 3, What::Origin, is_there)?;
     let end = 3 + thread_length(words, 3);
     let round = optional(words, end, "round", 0, LAST_ROUND, 0)?;
-    ended(words, after(words, end, "round"))?;
+    ends_at(words, past_key(words, end, "round"))?;
     Ok(MsgSpec { round, origin })
 }
 
@@ -303,10 +304,10 @@ pub fn head_of(names: &Names, words: &[Word]) -> Result<Head, Wrong>
     ensures cpu { IfOk result (λ h. h.cpu.0 < names.now.cpus) }
     ensures repeats { IfOk result (λ h. (1 ≤ h.repeat) × (h.repeat ≤ 1000000)) }
 {
-    demand(words, 2, What::Word(Wanted::On), is_at(words, 2, "on"))?;
+    demand_at(words, 2, What::Word(Wanted::On), is_at(words, 2, "on"))?;
     let cpu = number_at(words, 3, 0, names.cpus as u64 - 1)? as u8;
     let repeat = optional(words, 4, "repeat", 1, MOST_REPEATS, 1)? as u32;
-    ended(words, after(words, 4, "repeat"))?;
+    ends_at(words, past_key(words, 4, "repeat"))?;
     Ok(Head {
         cpu: CpuId(cpu),
         repeat,

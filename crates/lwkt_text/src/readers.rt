@@ -2,7 +2,7 @@ ghost use Rattle.std.specs.Prelude.{◌≡◌, ◌<◌, ◌≤◌, length, Ok, E
 ghost use Rattle.lwkt_script.specs.Limits.{IsWithinLimits};
 ghost use Rattle.lwkt_text.specs.Within.{IsDraft};
 ghost use Rattle.lwkt_text.specs.Reading.{sealed, reading_of};
-ghost use Rattle.lwkt_text.specs.Refusing.{Refuses};
+ghost use Rattle.lwkt_text.specs.Refusing.{IsRefusalOf};
 
 use crate::claims::Expectation;
 use crate::drafts::{Draft, draft_of};
@@ -37,7 +37,7 @@ pub enum Refusal {
 // What was told, if nothing of it is wrong.
 fn sealed(names: Names, draft: Draft) -> Result<Reading, Refusal>
     ensures ok { IfOk result (λ reading. sealed names draft ≡ Ok reading) }
-    ensures err { IfErr result (λ refusal. Refuses refusal (sealed names draft)) }
+    ensures err { IfErr result (λ refusal. IsRefusalOf refusal (sealed names draft)) }
     ensures limits { IsDraft names.cpus draft → 1 ≤ names.cpus → names.cpus ≤ 8 → IfOk result (λ reading. IsWithinLimits reading.script) }
 {
     if draft.faults.len() != 0 {
@@ -70,7 +70,7 @@ pub fn read_text(alloc: Global, bytes: &[u8]) -> Result<Reading, Refusal>
     ensures limits { IfOk result (λ reading. IsWithinLimits reading.script) }
 
     // All that is wrong with them, and that is something.
-    ensures err { IfErr result (λ refusal. Refuses refusal (reading_of bytes.now)) }
+    ensures err { IfErr result (λ refusal. IsRefusalOf refusal (reading_of bytes.now)) }
 {
     let sentences = match sentences_of(alloc, bytes) {
         Ok(sentences) => sentences,

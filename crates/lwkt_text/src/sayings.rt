@@ -1,14 +1,14 @@
 ghost use Rattle.std.specs.Prelude.{◌≡◌, ◌<◌, ◌≤◌, length, IfOk};
 ghost use Rattle.lwkt_text.specs.Drafting.{setting, expected, claim_said, part_said, said};
-ghost use Rattle.lwkt_text.specs.Outcome.{Gives};
-ghost use Rattle.lwkt_text.specs.Within.{IsSaid};
+ghost use Rattle.lwkt_text.specs.Outcome.{IsAsRead};
+ghost use Rattle.lwkt_text.specs.Within.{MayBeSaid};
 
 use crate::claims::{Expectation, When};
 use crate::expecting::claim_of;
-use crate::looks::{demand, ended, number_at, place_at, text_at};
+use crate::looks::{demand_at, ends_at, number_at, place_of_word, text_at};
 use crate::parts::{Head, head_of, message_of, token_of};
 use crate::slips::checked;
-use crate::steps::ask_of;
+use crate::steps::step_ask;
 use crate::tables::Names;
 use crate::words::Word;
 use crate::wrongs::{Slip, What, Wrong};
@@ -42,35 +42,35 @@ fn setting(words: &[Word], high: u64) -> Result<u64, Wrong>
     ensures limits { IfOk result (λ n. (1 ≤ n) × (n ≤ high)) }
 {
     let n = number_at(words, 1, 1, high)?;
-    ended(words, 2)?;
+    ends_at(words, 2)?;
     Ok(n)
 }
 
 // `always CLAIM`, or another word before it.
 fn expected(alloc: Global, names: &Names, words: &[Word], when: When) -> Result<Said, Slip>
     requires { length words.now ≤ 1000 }
-    ensures exact { Gives result (expected names.now words.now when) }
-    ensures limits { IfOk result (IsSaid names.now.cpus) }
+    ensures exact { IsAsRead result (expected names.now words.now when) }
+    ensures limits { IfOk result (MayBeSaid names.now.cpus) }
 {
     let claim = claim_of(alloc, names, words)?;
     Ok(Said::Expect(Expectation {
         when,
         claim,
-        at: place_at(words, 0),
+        at: place_of_word(words, 0),
     }))
 }
 
 // An expectation, or a step.
 fn claim_said(alloc: Global, names: &Names, words: &[Word]) -> Result<Said, Slip>
     requires { length words.now ≤ 1000 }
-    ensures exact { Gives result (claim_said names.now words.now) }
-    ensures limits { IfOk result (IsSaid names.now.cpus) }
+    ensures exact { IsAsRead result (claim_said names.now words.now) }
+    ensures limits { IfOk result (MayBeSaid names.now.cpus) }
 {
     match text_at(words, 0) {
         "always" => expected(alloc, names, words, When::Always),
         "sometimes" => expected(alloc, names, words, When::Sometimes),
         "never" => expected(alloc, names, words, When::Never),
-        _ => Ok(Said::Step(checked(ask_of(names, words))?)),
+        _ => Ok(Said::Step(checked(step_ask(names, words))?)),
     }
 }
 
@@ -78,8 +78,8 @@ fn claim_said(alloc: Global, names: &Names, words: &[Word]) -> Result<Said, Slip
 fn part_said(alloc: Global, names: &Names, words: &[Word]) -> Result<Said, Slip>
     requires some { 0 < names.now.cpus }
     requires few { length words.now ≤ 1000 }
-    ensures exact { Gives result (part_said names.now words.now) }
-    ensures limits { IfOk result (IsSaid names.now.cpus) }
+    ensures exact { IsAsRead result (part_said names.now words.now) }
+    ensures limits { IfOk result (MayBeSaid names.now.cpus) }
 {
     match text_at(words, 0) {
         "token" => Ok(Said::Token(token_of(alloc, words)?)),
@@ -93,10 +93,10 @@ fn part_said(alloc: Global, names: &Names, words: &[Word]) -> Result<Said, Slip>
 #[tactic(auto, unfolding(crate::specs::Drafting::said))]
 pub fn told_by(alloc: Global, names: &Names, words: &[Word]) -> Result<Said, Slip>
     requires { 0 < names.now.cpus }
-    ensures exact { Gives result (said names.now words.now) }
-    ensures limits { IfOk result (IsSaid names.now.cpus) }
+    ensures exact { IsAsRead result (said names.now words.now) }
+    ensures limits { IfOk result (MayBeSaid names.now.cpus) }
 {
-    checked(demand(words, 1000, What::Long, words.len() <= 1000))?;
+    checked(demand_at(words, 1000, What::Long, words.len() <= 1000))?;
     match text_at(words, 0) {
         "turns" => Ok(Said::Turns(checked(setting(words, MOST_TURNS))? as u32)),
         "idle" => Ok(Said::Idle(checked(setting(words, MOST_IDLE))? as u32)),

@@ -1,5 +1,5 @@
 ghost use Rattle.std.specs.Prelude.{◌≡◌, ◌<◌, [], OnOk, OnErr, Err, IfOk};
-ghost use Rattle.lwkt_text.specs.Scanning.{kind_of, shown, joins, opening, word_ended, sentence_ended, put, fed, sentences_of, fed_all};
+ghost use Rattle.lwkt_text.specs.Scanning.{kind_of, shown, joins, no_scan, word_ended, sentence_ended, put, fed, sentences_of, fed_all};
 ghost use Rattle.lwkt_text.specs.Outcome.{out_of_memory};
 
 use crate::many::Many;
@@ -68,7 +68,7 @@ impl Scan {
     ghost use Rattle.lwkt_text.specs.Outcome.{out_of_memory};
 
     fn new(alloc: Global) -> Self
-        ensures { result ≡ opening }
+        ensures { result ≡ no_scan }
     {
         Scan {
             sentences: Many::new(alloc),
@@ -155,7 +155,7 @@ impl Scan {
 
 // All bytes, read.
 fn scanned(alloc: Global, bytes: &[u8]) -> Result<Scan, Slip>
-    ensures ok { IfOk result (λ scan. scan ≡ fed_all 0 bytes.now opening) }
+    ensures ok { IfOk result (λ scan. scan ≡ fed_all 0 bytes.now no_scan) }
     ensures only { OnErr result (result ≡ Err out_of_memory) }
 {
     let mut scan = Scan::new(alloc);

@@ -1,10 +1,10 @@
-ghost use Rattle.lwkt_text.specs.Outcome.{Gives};
+ghost use Rattle.lwkt_text.specs.Outcome.{IsAsRead};
 
 use crate::wrongs::{Slip, Wrong};
 
 /// What was read, or what is wrong.
 pub fn checked<T: Drop>(read: Result<T, Wrong>) -> Result<T, Slip>
-    ensures { Gives result read }
+    ensures { IsAsRead result read }
 {
     match read {
         Ok(value) => Ok(value),

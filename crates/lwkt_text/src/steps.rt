@@ -1,8 +1,10 @@
 ghost use Rattle.std.specs.Prelude.{◌≡◌, ◌≤◌, ◌+◌, IfOk};
-ghost use Rattle.lwkt_text.specs.Stepping.{only_token, only_message, alone, call_at, call_end, sending_of, past, past_dropable, past_abortable, flags_at, flags_end, do_of, send_of, last_number, reply_of, read_of, write_of, add_of, rrec_of, wrec_of, plain_ask, message_ask, cell_ask, record_ask, ask_of};
+ghost use Rattle.lwkt_text.specs.Stepping.{only_token, only_message, alone_ask, call_at, call_end, sending_of, past, past_dropable, past_abortable, flags_at, flags_end, do_of, send_of, last_number, reply_of, read_of, write_of, add_of, rrec_of, wrec_of, plain_ask, message_ask, cell_ask, record_ask, step_ask};
 
-use crate::looks::{after, bytes_at, demand, ended, is_at, number_at, optional, text_at, wrong_at};
-use crate::tables::{Names, cell_at, message_at, thread_at, thread_length, token_at};
+use crate::looks::{
+    bytes_at, demand_at, ends_at, is_at, number_at, optional, past_key, text_at, wrong_at,
+};
+use crate::tables::{Names, cell_at, message_id_at, thread_id_at, thread_length, token_id_at};
 use crate::words::Word;
 use crate::wrongs::{Wanted, What, Wrong};
 use lwkt_base::{Ask, Call, Flags, MsgId, ThreadId, TokId};
@@ -22,8 +24,8 @@ const MOST_CODE: u64 = 4_294_967_295;
 fn only_token(names: &Names, words: &[Word]) -> Result<TokId, Wrong>
     ensures { result ≡ only_token names.now words.now }
 {
-    let tok = token_at(names, words, 1)?;
-    ended(words, 2)?;
+    let tok = token_id_at(names, words, 1)?;
+    ends_at(words, 2)?;
     Ok(tok)
 }
 
@@ -31,16 +33,16 @@ fn only_token(names: &Names, words: &[Word]) -> Result<TokId, Wrong>
 fn only_message(names: &Names, words: &[Word]) -> Result<MsgId, Wrong>
     ensures { result ≡ only_message names.now words.now }
 {
-    let msg = message_at(names, words, 1)?;
-    ended(words, 2)?;
+    let msg = message_id_at(names, words, 1)?;
+    ends_at(words, 2)?;
     Ok(msg)
 }
 
 // A word that stands alone.
-fn alone(ask: Ask, words: &[Word]) -> Result<Ask, Wrong>
-    ensures { result ≡ alone ask words.now }
+fn alone_ask(ask: Ask, words: &[Word]) -> Result<Ask, Wrong>
+    ensures { result ≡ alone_ask ask words.now }
 {
-    ended(words, 1)?;
+    ends_at(words, 1)?;
     Ok(ask)
 }
 
@@ -51,7 +53,7 @@ pub fn call_at(words: &[Word], i: usize) -> Result<Call, Wrong>
     ensures { result ≡ call_at words.now i }
 {
     let op = optional(words, i, "op", 0, MOST_CODE, 0)? as u32;
-    let arg = optional(words, after(words, i, "op"), "arg", 0, u64::MAX, 0)?;
+    let arg = optional(words, past_key(words, i, "op"), "arg", 0, u64::MAX, 0)?;
     Ok(Call { arg, op })
 }
 
@@ -61,7 +63,7 @@ pub fn call_end(words: &[Word], i: usize) -> usize
     ensures exact { result ≡ call_end words.now i }
     ensures most { result ≤ i + 4 }
 {
-    after(words, after(words, i, "op"), "arg")
+    past_key(words, past_key(words, i, "op"), "arg")
 }
 
 // What a step sends.
@@ -70,9 +72,9 @@ fn sending_of(names: &Names, words: &[Word]) -> Result<Sending, Wrong>
     ensures exact { result ≡ sending_of names.now words.now }
     ensures most { IfOk result (λ s. s.end ≤ 10) }
 {
-    let msg = message_at(names, words, 1)?;
-    demand(words, 2, What::Word(Wanted::Arrow), is_at(words, 2, "->"))?;
-    let to = thread_at(names, words, 3)?;
+    let msg = message_id_at(names, words, 1)?;
+    demand_at(words, 2, What::Word(Wanted::Arrow), is_at(words, 2, "->"))?;
+    let to = thread_id_at(names, words, 3)?;
     let from = 3 + thread_length(words, 3);
     let call = call_at(words, from)?;
     Ok(Sending {
@@ -134,7 +136,7 @@ fn do_of(names: &Names, words: &[Word]) -> Result<Ask, Wrong>
     ensures { result ≡ do_of names.now words.now }
 {
     let sending = sending_of(names, words)?;
-    ended(words, sending.end)?;
+    ends_at(words, sending.end)?;
     Ok(Ask::Do(sending.msg, sending.to, sending.call))
 }
 
@@ -142,7 +144,7 @@ fn send_of(names: &Names, words: &[Word]) -> Result<Ask, Wrong>
     ensures { result ≡ send_of names.now words.now }
 {
     let sending = sending_of(names, words)?;
-    ended(words, flags_end(words, sending.end))?;
+    ends_at(words, flags_end(words, sending.end))?;
     let flags = flags_at(words, sending.end);
     Ok(Ask::Send(sending.msg, sending.to, sending.call, flags))
 }
@@ -162,10 +164,10 @@ pub fn last_number(words: &[Word], i: usize, high: u64) -> Result<u64, Wrong>
 fn reply_of(names: &Names, words: &[Word]) -> Result<Ask, Wrong>
     ensures { result ≡ reply_of names.now words.now }
 {
-    let msg = message_at(names, words, 1)?;
+    let msg = message_id_at(names, words, 1)?;
     let error = last_number(words, 2, MOST_CODE)? as u32;
     let outcome = last_number(words, 3, u64::MAX)?;
-    ended(words, 4)?;
+    ends_at(words, 4)?;
     Ok(Ask::Reply(msg, error, outcome))
 }
 
@@ -173,7 +175,7 @@ fn read_of(names: &Names, words: &[Word]) -> Result<Ask, Wrong>
     ensures { result ≡ read_of names.now words.now }
 {
     let place = cell_at(names, words, 1)?;
-    ended(words, 4)?;
+    ends_at(words, 4)?;
     Ok(Ask::Read(place.tok, place.cell))
 }
 
@@ -182,16 +184,16 @@ fn write_of(names: &Names, words: &[Word]) -> Result<Ask, Wrong>
 {
     let place = cell_at(names, words, 1)?;
     let value = number_at(words, 4, 0, u64::MAX)?;
-    ended(words, 5)?;
+    ends_at(words, 5)?;
     Ok(Ask::Write(place.tok, place.cell, value))
 }
 
 fn add_of(names: &Names, words: &[Word]) -> Result<Ask, Wrong>
     ensures { result ≡ add_of names.now words.now }
 {
-    let tok = token_at(names, words, 1)?;
+    let tok = token_id_at(names, words, 1)?;
     let more = number_at(words, 2, 0, u64::MAX)?;
-    ended(words, 3)?;
+    ends_at(words, 3)?;
     Ok(Ask::Add(tok, more))
 }
 
@@ -204,9 +206,9 @@ fn rrec_of(names: &Names, words: &[Word]) -> Result<Ask, Wrong>
 fn wrec_of(names: &Names, words: &[Word]) -> Result<Ask, Wrong>
     ensures { result ≡ wrec_of names.now words.now }
 {
-    let tok = token_at(names, words, 1)?;
+    let tok = token_id_at(names, words, 1)?;
     let blob = bytes_at(words, 2, 65)?;
-    ended(words, 3)?;
+    ends_at(words, 3)?;
     Ok(Ask::WriteBlob(tok, blob))
 }
 
@@ -215,11 +217,11 @@ fn plain_ask(words: &[Word]) -> Result<Ask, Wrong>
     ensures { result ≡ plain_ask words.now }
 {
     match text_at(words, 0) {
-        "swap" => alone(Ask::Swap, words),
-        "getport" => alone(Ask::GetPort, words),
-        "wait" => alone(Ask::WaitPort, words),
-        "yield" => alone(Ask::Yield, words),
-        "exit" => alone(Ask::Exit, words),
+        "swap" => alone_ask(Ask::Swap, words),
+        "getport" => alone_ask(Ask::GetPort, words),
+        "wait" => alone_ask(Ask::WaitPort, words),
+        "yield" => alone_ask(Ask::Yield, words),
+        "exit" => alone_ask(Ask::Exit, words),
         _ => Err(wrong_at(words, 0, What::Keyword)),
     }
 }
@@ -263,8 +265,8 @@ fn record_ask(names: &Names, words: &[Word]) -> Result<Ask, Wrong>
 }
 
 /// The ask of a step.
-pub fn ask_of(names: &Names, words: &[Word]) -> Result<Ask, Wrong>
-    ensures { result ≡ ask_of names.now words.now }
+pub fn step_ask(names: &Names, words: &[Word]) -> Result<Ask, Wrong>
+    ensures { result ≡ step_ask names.now words.now }
 {
     match text_at(words, 0) {
         "get" => Ok(Ask::Get(only_token(names, words)?)),

@@ -1,7 +1,7 @@
 ghost use Rattle.std.specs.Prelude.{◌≡◌, ◌≤◌};
-ghost use Rattle.lwkt_text.specs.Naming.{position, reference, token_at, message_at, cells_of, cell_at, thread_length, numbered_thread, named_thread, thread_at};
+ghost use Rattle.lwkt_text.specs.Naming.{position, reference, token_id_at, message_id_at, cells_of, cell_at, thread_length, numbered_thread, named_thread, thread_id_at};
 
-use crate::looks::{demand, is_at, number_at, number_of, text_at, wrong_at};
+use crate::looks::{decimal_number, demand_at, is_at, number_at, text_at, wrong_at};
 use crate::many::Many;
 use crate::names::Name;
 use crate::words::Word;
@@ -50,7 +50,7 @@ pub fn position(names: &[Name], text: &str) -> Option<usize>
 fn reference(names: &[Name], text: &str) -> Option<u8>
     ensures { result ≡ reference names.now text.now }
 {
-    let n = match number_of(text) {
+    let n = match decimal_number(text) {
         Some(n) => n,
         None => position(names, text)? as u64,
     };
@@ -58,8 +58,8 @@ fn reference(names: &[Name], text: &str) -> Option<u8>
 }
 
 /// Word i, a token: its name, or a number up to 255.
-pub fn token_at(names: &Names, words: &[Word], i: usize) -> Result<TokId, Wrong>
-    ensures { result ≡ token_at names.now words.now i }
+pub fn token_id_at(names: &Names, words: &[Word], i: usize) -> Result<TokId, Wrong>
+    ensures { result ≡ token_id_at names.now words.now i }
 {
     match reference(names.tokens.as_slice(), text_at(words, i)) {
         Some(n) => Ok(TokId(n)),
@@ -68,8 +68,8 @@ pub fn token_at(names: &Names, words: &[Word], i: usize) -> Result<TokId, Wrong>
 }
 
 /// Word i, a message: its name, or a number up to 255.
-pub fn message_at(names: &Names, words: &[Word], i: usize) -> Result<MsgId, Wrong>
-    ensures { result ≡ message_at names.now words.now i }
+pub fn message_id_at(names: &Names, words: &[Word], i: usize) -> Result<MsgId, Wrong>
+    ensures { result ≡ message_id_at names.now words.now i }
 {
     match reference(names.messages.as_slice(), text_at(words, i)) {
         Some(n) => Ok(MsgId(n)),
@@ -93,8 +93,8 @@ pub fn cell_at(names: &Names, words: &[Word], i: usize) -> Result<CellPlace, Wro
     requires { i ≤ 100000 }
     ensures { result ≡ cell_at names.now words.now i }
 {
-    let tok = token_at(names, words, i)?;
-    demand(
+    let tok = token_id_at(names, words, i)?;
+    demand_at(
         words,
         i + 1,
         What::Word(Wanted::Point),
@@ -137,9 +137,9 @@ pub fn named_thread(names: &Names, text: &str) -> Option<ThreadId>
 }
 
 /// The thread that word i begins.
-pub fn thread_at(names: &Names, words: &[Word], i: usize) -> Result<ThreadId, Wrong>
+pub fn thread_id_at(names: &Names, words: &[Word], i: usize) -> Result<ThreadId, Wrong>
     requires { i ≤ 100000 }
-    ensures { result ≡ thread_at names.now words.now i }
+    ensures { result ≡ thread_id_at names.now words.now i }
 {
     if is_at(words, i + 1, ".") {
         return numbered_thread(words, i);

@@ -32,7 +32,7 @@ use Rattle.lwkt_machine.specs.Ended.{Stage, stage, StopsAt, StopsAll}
 use Rattle.lwkt_machine.specs.Machines.{Rig}
 use Rattle.lwkt_machine.specs.Opened.{IsOpenedCpu, IsOpenedMachine}
 use Rattle.lwkt_threads.specs.Driven.{WasDriven, IsDrivenMachine}
-use Rattle.lwkt_threads.specs.Parts.{of_cpu, parts_of, TellTheRuns}
+use Rattle.lwkt_threads.specs.Parts.{of_cpu, parts_from, TellTheRuns}
 
 -- the events of a processor among its own, and among another's
 of_cpu_own : (cpu : ℕ) (es : List Event) → All (λ (e : Event). cpu_of e ≡ cpu) es → of_cpu cpu es ≡ es
@@ -52,7 +52,7 @@ none_part : (part : List Event) → ◌≡◌ {A = Option (List Event)} None (So
 none_part part is = cc
 
 -- the part of a processor
-parts_at : (n : ℕ) (traces : List (Vec Event Global)) (stops : List Event) (k : ℕ) (part : List Event) → slice_get (parts_of n traces stops) k ≡ Some part → (trace : Vec Event Global) × ((slice_get traces k ≡ Some trace) × (part ≡ trace.items ++ of_cpu (n + k) stops))
+parts_at : (n : ℕ) (traces : List (Vec Event Global)) (stops : List Event) (k : ℕ) (part : List Event) → slice_get (parts_from n traces stops) k ≡ Some part → (trace : Vec Event Global) × ((slice_get traces k ≡ Some trace) × (part ≡ trace.items ++ of_cpu (n + k) stops))
 parts_at n [] stops k part at = absurd (none_part part at)
 parts_at n (trace ∷ traces) stops zero part at =
     let e : trace.items ++ of_cpu n stops ≡ part = cc in
@@ -185,13 +185,13 @@ seat_at : {A : Type 0} (f : Processor Scripted → A) (cpus : List (Processor Sc
 seat_at f cpus k p at = slice_get-map f cpus k ∙ ap (option_map f) at
 
 -- what was told of processors when none of them had stopped, and what they did as they stopped, are the parts of such runs
-pub rest_tells : (opened made stopped : Rig) (traces : List (Vec Event Global)) (before after : Vec Event Global) (closed : Closed) → length traces ≡ length opened.cpus → made.bank ≡ opened.bank → made.book ≡ opened.book → AreTold traces (stage made.cpus before) → StopsAll made stopped before after → IsClosedMachine stopped closed → TellTheRuns opened closed (parts_of 0 traces after.items)
+pub rest_tells : (opened made stopped : Rig) (traces : List (Vec Event Global)) (before after : Vec Event Global) (closed : Closed) → length traces ≡ length opened.cpus → made.bank ≡ opened.bank → made.book ≡ opened.book → AreTold traces (stage made.cpus before) → StopsAll made stopped before after → IsClosedMachine stopped closed → TellTheRuns opened closed (parts_from 0 traces after.items)
 rest_tells opened made stopped traces before after closed as_many banks books first stops closes =
     let told : AreTold traces (stage stopped.cpus after) = told_chain traces (length made.cpus) (stage made.cpus before) (stage stopped.cpus after) stops.stopped first in
     let bank : stopped.bank ≡ opened.bank = stops.bank ∙ banks in
     let book : stopped.book ≡ opened.book = stops.book ∙ books in
     let many : length stopped.cpus ≡ length opened.cpus = told.as_many ∙ as_many in
-    let parts = parts_of 0 traces after.items in
+    let parts = parts_from 0 traces after.items in
     let found : (cpu : ℕ) (part : List Event) → slice_get parts cpu ≡ Some part → (p : Processor Scripted) × ((slice_get stopped.cpus cpu ≡ Some p) × IsToldAt cpu p part) = λ cpu part at.
     let x = parts_at 0 traces after.items cpu part at in
     let z : 0 + cpu ≡ cpu = omega arith in
@@ -210,6 +210,6 @@ rest_tells opened made stopped traces before after closed as_many banks books fi
           (f.0.post.seat, (seat_at (λ (p : Processor Scripted). p.post.seat) stopped.cpus cpu f.0 f.1.0, f.1.1.desk, f.1.1.mails))));
     }
 
-pub threads_tell : (answers : CpuId → ℕ → Bool → Type 0) (limits : Limits) (script : Script) (opened driven stopped : Rig) (traces : List (Vec Event Global)) (before after : Vec Event Global) (closed : Closed) → IsOpenedMachine script opened → IsDrivenMachine answers limits opened driven traces → before.items ≡ [] → StopsAll driven stopped before after → IsClosedMachine stopped closed → TellTheRuns opened closed (parts_of 0 traces after.items)
+pub threads_tell : (answers : CpuId → ℕ → Bool → Type 0) (limits : Limits) (script : Script) (opened driven stopped : Rig) (traces : List (Vec Event Global)) (before after : Vec Event Global) (closed : Closed) → IsOpenedMachine script opened → IsDrivenMachine answers limits opened driven traces → before.items ≡ [] → StopsAll driven stopped before after → IsClosedMachine stopped closed → TellTheRuns opened closed (parts_from 0 traces after.items)
 threads_tell answers limits script opened driven stopped traces before after closed opens drives none stops closes =
     rest_tells opened driven stopped traces before after closed drives.cpus.traces_are drives.bank drives.book (told_all answers limits script opened driven traces before opens drives none) stops closes

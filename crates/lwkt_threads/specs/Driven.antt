@@ -19,10 +19,6 @@ pub record IsFresh (p : Processor Scripted) (d : Driven Scripted) : Type 0 where
   pub trace : d.trace.items ≡ []
   pub id : d.id.0 ≡ p.seat.cpu.0
 
--- each processor of a list is at its number
-abbrev pub AreNumbered : List (Processor Scripted) → Type 0
-AreNumbered cpus = (k : ℕ) (p : Processor Scripted) → slice_get cpus k ≡ Some p → p.seat.cpu.0 ≡ k
-
 -- an end that isn't for want of memory, its own or another processor's
 abbrev pub IsAmple : Ending → Type 0
 IsAmple (NoMemory refused) = ⊥

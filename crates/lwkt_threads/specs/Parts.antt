@@ -19,9 +19,9 @@ abbrev pub of_cpu : ℕ → List Event → List Event
 of_cpu cpu events = filter (λ e. cpu_of e == cpu) events
 
 -- what each processor from this number on did: the events of its turns, by its own trace, and then those of its stop
-abbrev pub parts_of : ℕ → List (Vec Event Global) → List Event → List (List Event)
-parts_of cpu [] stops = []
-parts_of cpu (trace ∷ traces) stops = (trace.items ++ of_cpu cpu stops) ∷ parts_of (cpu + 1) traces stops
+abbrev pub parts_from : ℕ → List (Vec Event Global) → List Event → List (List Event)
+parts_from cpu [] stops = []
+parts_from cpu (trace ∷ traces) stops = (trace.items ++ of_cpu cpu stops) ∷ parts_from (cpu + 1) traces stops
 
 -- these are, by processor, the parts of one run of the model on tokens and of one on messages, from what a machine's bank and book
 -- were opened with to these closing values; no order is claimed between an event of the one and one of the other
@@ -34,4 +34,4 @@ pub record TellTheRuns (m : Rig) (closed : Closed) (parts : List (List Event)) :
 abbrev pub ThreadsTellTheRuns : {G : Type 0} → (G → CpuId → ℕ → Bool → Type 0) → Type 0
 ThreadsTellTheRuns {G} answers = (gate : G) (limits : Limits) (script : Script) (opened driven stopped : Rig) (traces : List (Vec Event Global)) (before after : Vec Event Global) (closed : Closed)
     → IsOpenedMachine script opened → IsDrivenMachine (answers gate) limits opened driven traces → before.items ≡ [] → StopsAll driven stopped before after → IsClosedMachine stopped closed
-    → TellTheRuns opened closed (parts_of 0 traces after.items)
+    → TellTheRuns opened closed (parts_from 0 traces after.items)

@@ -2,8 +2,8 @@
 ghost use Rattle.std.specs.Prelude.{◌≡◌, ◌≤◌, ◌↔◌, None, length, All, IfOk, OnErr, Err, map};
 ghost use Rattle.std.specs.List.{AllZip};
 ghost use Rattle.lwkt_bank.specs.Seats.{id_of};
-ghost use Rattle.lwkt_machine.specs.Machines.{IsOf};
-ghost use Rattle.lwkt_threads.specs.Driven.{IsFresh, AreNumbered, IsAmple, AreDriven, IsDrivenMachine};
+ghost use Rattle.lwkt_machine.specs.Machines.{IsOf, AreNumbered};
+ghost use Rattle.lwkt_threads.specs.Driven.{IsFresh, IsAmple, AreDriven, IsDrivenMachine};
 ghost use Rattle.lwkt_base.specs.Fault.{no_memory};
 
 use lwkt_bank::Bank;

@@ -1,7 +1,7 @@
 use Rattle.std.proofs.Common.{◌∙◌, ap, refl, subst}
 use Rattle.lwkt_bank.specs.Seats.{BankId}
 use Rattle.lwkt_run.specs.Keeping.{Kept}
-use Rattle.lwkt_run.specs.Running.{kept_of, scene, HasMadeRounds}
+use Rattle.lwkt_run.specs.Running.{kept_in_record, scene, HasMadeRounds}
 use Rattle.lwkt_run.proofs.IdMoves.{opened_has}
 use Rattle.lwkt_run.proofs.RoundMoves.{has_rounds, rounds_bank}
 use Rattle.lwkt_run.proofs.TurnMoves.{rounds_tell}
@@ -12,14 +12,14 @@ left_by-requires-clause-bank c =
     let s = c.args.script.now in
     let m = c.in_ok-machine.machine in
     let r = c.in_ok-make_rounds.ensures.ok in
-    ap (λ (bank : BankId). bank.plans) (rounds_bank s.turns (scene m c.new-trace.result (kept_of c.new-kept.result)) (scene c.make_rounds.new.machine c.make_rounds.new.trace (kept_of c.make_rounds.new.kept)) r) ∙ c.in_ok-machine.ensures.ok.plans
+    ap (λ (bank : BankId). bank.plans) (rounds_bank s.turns (scene m c.new-trace.result (kept_in_record c.new-kept.result)) (scene c.make_rounds.new.machine c.make_rounds.new.trace (kept_in_record c.make_rounds.new.kept)) r) ∙ c.in_ok-machine.ensures.ok.plans
 
 pub left_by-requires-clause-threads : goal.left_by-requires-clause-threads
 left_by-requires-clause-threads c =
     let s = c.args.script.now in
     let m = c.in_ok-machine.machine in
     let r = c.in_ok-make_rounds.ensures.ok in
-    has_rounds s.cpus s.threads s.turns (scene m c.new-trace.result (kept_of c.new-kept.result)) (scene c.make_rounds.new.machine c.make_rounds.new.trace (kept_of c.make_rounds.new.kept)) r (opened_has s m c.in_ok-machine.ensures.ok)
+    has_rounds s.cpus s.threads s.turns (scene m c.new-trace.result (kept_in_record c.new-kept.result)) (scene c.make_rounds.new.machine c.make_rounds.new.trace (kept_in_record c.make_rounds.new.kept)) r (opened_has s m c.in_ok-machine.ensures.ok)
 
 pub returns-clause-runs : goal.returns-clause-runs
 returns-clause-runs c =
@@ -27,7 +27,7 @@ returns-clause-runs c =
     let opened = c.in_ok-machine in
     let made = c.make_rounds.new in
     let left = c.in_ok-left in
-    let kept : Kept = kept_of made.kept in
+    let kept : Kept = kept_in_record made.kept in
     let F : Kept → Type 0 = λ k. HasMadeRounds s.turns (scene opened.machine c.new-trace.result k) (scene made.machine made.trace kept) in
     let rounds = subst F c.new-kept.ensures c.in_ok-make_rounds.ensures.ok in
     record {

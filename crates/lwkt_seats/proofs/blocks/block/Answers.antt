@@ -29,7 +29,7 @@ loop-tok-preserved c =
     record {
       each = ends_after a l.seat s' l.invariant.each g.ensures.does;
       free = free_more l.seat s' (tokens_of (bank_of a)) l.tok l.invariant.free g.ensures.gone (λ t away. ap (λ (e : TokenEntry). e.held) (g.ensures.others t away));
-      named = subst F (sym c.first_of-first.ensures) (first_more a l.tok l.first g.result tok refl l.invariant.named
+      named = subst F (sym c.first_restored-first.ensures) (first_more a l.tok l.first g.result tok refl l.invariant.named
           (λ yes. section_broken a l.seat l.tok bank here (g.ensures.broken yes))
           (λ no mine. section_lawful a l.seat l.tok bank here (g.ensures.lawful no (here.2 ∙ mine))));
       rest = λ t after. g.ensures.others t (λ is. absurd (omega (arith, after, is))) ∙ l.invariant.rest t (omega (arith, after));

@@ -1,4 +1,4 @@
-use Rattle.lwkt_seats.specs.Calls.{StoresCell}
+use Rattle.lwkt_seats.specs.Calls.{StoresValue}
 use Rattle.lwkt_seats.proofs.Answering.{answered-at}
 use Rattle.lwkt_seats.proofs.BriefMoves.{stores, seated-at}
 use Rattle.lwkt_seats.proofs.exports.lwkt_store.Goals as goal
@@ -10,5 +10,5 @@ put_back-requires c =
 
 pub returns : goal.returns
 returns c =
-    answered-at c.desk.result.now c.args.bank.desk c.args.seat c.in-Ok.found.0.now c.in-Ok.found.1.value c.deref_mut-held.result.now c.store-answer.new.seat (StoresCell c.args.token c.args.cell c.args.value) c.number.result c.desk.ensures c.deref_mut-held.ensures.value
+    answered-at c.desk.result.now c.args.bank.desk c.args.seat c.in-Ok.found.0.now c.in-Ok.found.1.value c.deref_mut-held.result.now c.store-answer.new.seat (StoresValue c.args.token c.args.cell c.args.value) c.number.result c.desk.ensures c.deref_mut-held.ensures.value
     c.in-Ok.ensures.ok c.store-answer.ensures.same (c.store-answer.result, (c.number.ensures, c.store-answer.ensures.does))

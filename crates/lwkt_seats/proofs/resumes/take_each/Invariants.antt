@@ -1,8 +1,8 @@
 use Rattle.std.proofs.Common.{◌≡◌, take}
 use Rattle.lwkt_base.specs.Holding.{holding_of}
 use Rattle.lwkt_bank.specs.Seats.{holding, references}
-use Rattle.lwkt_seats.specs.Lists.{Chain, TakesOne, IsUnwritten}
-use Rattle.lwkt_seats.specs.Seated.{IsSameSeat}
+use Rattle.lwkt_seats.specs.Lists.{Chain, TakesOne, HoldsClean}
+use Rattle.lwkt_seats.specs.Seated.{KeepsBankAndCpu}
 use Rattle.lwkt_seats.proofs.resumes.take_each.Given as goal
 
 abbrev pub invariant-loop-at : goal.invariant-loop-at
@@ -10,6 +10,6 @@ invariant-loop-at l = record {
   chain : Chain (TakesOne l.refs) (take l.at l.refs) l.initial.seat l.seat;
   front : holding l.seat ≡ holding_of (take l.at l.refs);
   counted : references l.seat ≡ l.at;
-  clean : IsUnwritten l.seat;
-  same : IsSameSeat l.initial.seat l.seat;
+  clean : HoldsClean l.seat;
+  same : KeepsBankAndCpu l.initial.seat l.seat;
 }

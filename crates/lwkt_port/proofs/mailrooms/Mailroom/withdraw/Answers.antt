@@ -3,17 +3,17 @@ use Rattle.std.proofs.lemmas.List.{get_or_default}
 use Rattle.std.specs.Prelude.{slice_index_or}
 use Rattle.lwkt_msg.specs.Desks.{cpu_of}
 use Rattle.lwkt_port.specs.declared.mails.Mail.{Mail}
-use Rattle.lwkt_port.specs.Mails.{no_mail, mail_at}
+use Rattle.lwkt_port.specs.Mails.{no_kept_mail, kept_mail_at}
 use Rattle.lwkt_port.specs.Withdrawals.{dropped_mail}
 use Rattle.lwkt_port.proofs.Withdrawing.{dropped_keeps, untouched_keeps, untouched_for, there_of}
 use Rattle.lwkt_port.proofs.Growing.{grew_none, grew_few}
 use Rattle.lwkt_port.proofs.mailrooms.Mailroom.withdraw.Goals as goal
 
 -- what is kept of a message was changed at its place, which has its number
-dropped_at : (mails : List Mail) (j m : ℕ) (mail : Mail) → j < length mails → mail ≡ slice_index_or mails j mail → j ≡ m → set mails j (dropped_mail mail) ≡ set mails m (dropped_mail (mail_at mails m))
+dropped_at : (mails : List Mail) (j m : ℕ) (mail : Mail) → j < length mails → mail ≡ slice_index_or mails j mail → j ≡ m → set mails j (dropped_mail mail) ≡ set mails m (dropped_mail (kept_mail_at mails m))
 dropped_at mails j m mail there was same =
-    let is : mail ≡ mail_at mails j = was ∙ sym (get_or_default mails j no_mail mail there) in
-    ap (λ x. set mails j (dropped_mail x)) is ∙ ap (λ k. set mails k (dropped_mail (mail_at mails k))) same
+    let is : mail ≡ kept_mail_at mails j = was ∙ sym (get_or_default mails j no_kept_mail mail there) in
+    ap (λ x. set mails j (dropped_mail x)) is ∙ ap (λ k. set mails k (dropped_mail (kept_mail_at mails k))) same
 
 pub invariant_of-self : goal.invariant_of-self
 invariant_of-self c =

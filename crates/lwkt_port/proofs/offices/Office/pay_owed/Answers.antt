@@ -1,6 +1,6 @@
 use Rattle.std.proofs.Common.{◌≡◌, ◌+◌, ◌∙◌, ℕ, Option, Some, None, refl, sym, subst, rules, arith, vec_len}
 use Rattle.lwkt_port.specs.Intakes.{Payer, payer, PaysOwed, Pays}
-use Rattle.lwkt_port.specs.Mails.{mail_at}
+use Rattle.lwkt_port.specs.Mails.{kept_mail_at}
 use Rattle.lwkt_port.proofs.Chaining.{chain_none, chain_more}
 use Rattle.lwkt_port.proofs.Growing.{stands_none, stands_then, stands_is}
 use Rattle.lwkt_port.proofs.Hinting.{pays_none}
@@ -29,7 +29,7 @@ loop-m-preserved-in_default c =
     let o = c.args.self.now in
     let l = c.loop-m in
     let x : Payer = payer l.self l.trace in
-    let none : (mail_at l.self.counters.room.mails.items l.m).owed ≡ None = search rules in
+    let none : (kept_mail_at l.self.counters.room.mails.items l.m).owed ≡ None = search rules in
     let F : Option ℕ → Type 0 = λ owed. PaysOwed owed l.m x x in
     let same : PaysOwed None l.m x x = refl in
     record {
@@ -46,7 +46,7 @@ loop-m-preserved c =
     let n = c.answer.new in
     let x : Payer = payer l.self l.trace in
     let y : Payer = payer n.self n.trace in
-    let owed : (mail_at l.self.counters.room.mails.items l.m).owed ≡ Some c.in-Some.error = search rules in
+    let owed : (kept_mail_at l.self.counters.room.mails.items l.m).owed ≡ Some c.in-Some.error = search rules in
     let F : Option ℕ → Type 0 = λ owed. PaysOwed owed l.m x y in
     let made : PaysOwed (Some c.in-Some.error) l.m x y = (c.answer.result, e.means) in
     record {
