@@ -5,7 +5,6 @@ use Rattle.std.specs.Global.{Global}
 use Rattle.std.proofs.Math.Seq.{take-append_seam, get_or-append_seam}
 use Rattle.std.proofs.lemmas.List.{take-append-le, get_or_append_left}
 use Rattle.std.proofs.lemmas.Option.{slice_get-get_or, slice_get_past, MatchOption-at_some}
-use Rattle.lwkt_base.specs.declared.faults.Fault.{Fault as Refusal}
 use Rattle.lwkt_base.specs.declared.faults.Fault.TheVariants.{Memory, Limits, LawBroken}
 use Rattle.lwkt_core.specs.declared.events.Event.{Event}
 use Rattle.lwkt_core.specs.declared.finals.Final.{Final}
@@ -22,7 +21,8 @@ use Rattle.lwkt_checker.specs.declared.judges.Finding.TheVariants.{Lawful, Unlaw
 use Rattle.lwkt_checker.proofs.ToldRuns.{length-events_told, ran_whole}
 use Rattle.lwkt_lines.specs.Format.{with_told, with_last}
 use Rattle.lwkt_lines.specs.Judged.{ClosesSo, StandsSo}
-use Rattle.lwkt_lines.specs.declared.standings.Standing.TheVariants.{Plays, Fails, Declined}
+use Rattle.lwkt_lines.specs.declared.standings.Standing.{Standing}
+use Rattle.lwkt_lines.specs.declared.standings.Standing.TheVariants.{Awaits, Plays, Fails, Declined}
 
 -- the events of one that is told behind others are theirs and its own
 events_told-more : (m : Machine) (told : List Told) (x : Told) (mid : Machine) → Run m (events_told m told) mid → events_told m (told ++ x ∷ []) ≡ events_told m told ++ event_told mid x ∷ []
@@ -175,16 +175,19 @@ fails_more trace x mid index why open_still counted so fails reason =
     found_alone (with_told trace x) index why open_still s
 
 -- one before it couldn't
-pub failed_more : (trace : Trace) (x : Told) (index : ℕ) (why : String Global) → trace.last ≡ None → StandsSo trace (Fails index why) → StandsSo (with_told trace x) (Fails index why)
+failed_more : (trace : Trace) (x : Told) (index : ℕ) (why : String Global) → trace.last ≡ None → StandsSo trace (Fails index why) → StandsSo (with_told trace x) (Fails index why)
 failed_more trace x index why open_still found =
     found_alone (with_told trace x) index why open_still (stopped_more (opening_of trace) trace.events (x ∷ []) index (string_bytes why) (stopped_of trace index why open_still found))
 
--- the opening is refused
-pub declined_more : (trace : Trace) (x : Told) (fault : Refusal) → StandsSo trace (Declined fault) → StandsSo (with_told trace x) (Declined fault)
-declined_more trace x (Memory why) declines = tt
-declined_more trace x Limits declines = declines
-declined_more trace x LawBroken declines = declines
-declined_more trace x _ declines = absurd declines
+-- no events are played any more
+pub stays_more : (trace : Trace) (x : Told) (s : Standing) → ((mid : Machine) → s ≡ Plays mid → ⊥) → trace.last ≡ None → StandsSo trace s → StandsSo (with_told trace x) s
+stays_more trace x Awaits ended open_still so = so
+stays_more trace x (Plays mid) ended open_still so = absurd (ended mid refl)
+stays_more trace x (Fails index why) ended open_still so = failed_more trace x index why open_still so
+stays_more trace x (Declined (Memory why)) ended open_still so = tt
+stays_more trace x (Declined Limits) ended open_still so = so
+stays_more trace x (Declined LawBroken) ended open_still so = so
+stays_more trace x (Declined _) ended open_still so = absurd so
 
 -- where it stands with closing values: the machine closes so
 pub plays_last : (trace : Trace) (closing : Closing) (last : Final) (mid : Machine) → AreValues closing last → StandsSo trace (Plays mid) → Closes mid last → StandsSo (with_last trace closing) (Plays mid)
@@ -202,16 +205,19 @@ fails_last trace closing last mid count why counted values so differs difference
     (Some last, (values, (subst (λ (n : ℕ). FailsAt m es last n) same (FailsAt-close m es last mid so.0 differs), (mid, (ran, subst (λ (o : Option Told). MatchOption o (IsDifferenceOf mid (Some last) (string_bytes why)) (λ t. IsReason mid count t (string_bytes why))) (sym none) difference)))))
 
 -- an event before them couldn't happen
-pub failed_last : (trace : Trace) (closing : Closing) (last : Final) (index : ℕ) (why : String Global) → trace.last ≡ None → AreValues closing last → StandsSo trace (Fails index why) → StandsSo (with_last trace closing) (Fails index why)
+failed_last : (trace : Trace) (closing : Closing) (last : Final) (index : ℕ) (why : String Global) → trace.last ≡ None → AreValues closing last → StandsSo trace (Fails index why) → StandsSo (with_last trace closing) (Fails index why)
 failed_last trace closing last index why open_still values found =
     found_closed trace closing last index why values (stopped_of trace index why open_still found)
 
--- the opening is refused
-pub declined_last : (trace : Trace) (closing : Closing) (fault : Refusal) → StandsSo trace (Declined fault) → StandsSo (with_last trace closing) (Declined fault)
-declined_last trace closing (Memory why) declines = tt
-declined_last trace closing Limits declines = declines
-declined_last trace closing LawBroken declines = declines
-declined_last trace closing _ declines = absurd declines
+-- no events are played any more
+pub stays_last : (trace : Trace) (closing : Closing) (last : Final) (s : Standing) → ((mid : Machine) → s ≡ Plays mid → ⊥) → trace.last ≡ None → AreValues closing last → StandsSo trace s → StandsSo (with_last trace closing) s
+stays_last trace closing last Awaits ended open_still values so = so
+stays_last trace closing last (Plays mid) ended open_still values so = absurd (ended mid refl)
+stays_last trace closing last (Fails index why) ended open_still values so = failed_last trace closing last index why open_still values so
+stays_last trace closing last (Declined (Memory why)) ended open_still values so = tt
+stays_last trace closing last (Declined Limits) ended open_still values so = so
+stays_last trace closing last (Declined LawBroken) ended open_still values so = so
+stays_last trace closing last (Declined _) ended open_still values so = absurd so
 
 -- all events could happen, and the machine closes as the closing values say, where they are given
 lawful_so : (trace : Trace) (o : Option Closing) (mid : Machine) → trace.last ≡ o → Run (opening_of trace) (events_told (opening_of trace) trace.events) mid → ClosesSo o mid → IsFound trace Lawful

@@ -20,7 +20,7 @@ use Rattle.lwkt_lines.specs.Line.{lines_of, value_of}
 use Rattle.lwkt_lines.specs.Format.{opened, event_place, with_value, with_line, next, told, lined_trace_of}
 use Rattle.lwkt_lines.specs.Reading.{IsNext}
 use Rattle.lwkt_lines.specs.Judged.{IsJudged, Judges}
-use Rattle.lwkt_lines.specs.Output.{AreAll, Refuses, Finds, Declares, DeclaresIn}
+use Rattle.lwkt_lines.specs.Output.{AreAll, KnowsAll, Refuses, Finds, Declares, DeclaresIn}
 use Rattle.lwkt_lines.specs.declared.judges.Judge.{Judge}
 use Rattle.lwkt_lines.proofs.LineLemmas.{lines-fed, lines-bare, begins_with, value-long}
 
@@ -163,10 +163,6 @@ declares_unread left why is =
       | inr memory ↦ subst (λ (w : RunFault). DeclaresIn left w) (sym memory) ((some_all left).0, ((some_all left).1, tt))
     ]
 
-pub declares_memory : (left : Option (List ℕ)) (fault : Refusal) → fault ≡ Memory (record {}) → Declares left fault
-declares_memory left fault is =
-    subst (λ (f : Refusal). Declares left f) (sym is) ((some_all left).0, ((some_all left).1, tt))
-
 -- a line that is refused refuses all
 fault_declared : (left old new : Option (List ℕ)) (before : Option Trace) (line : List ℕ) (ended : Bool) (fault : Refusal) → SoFar left old before → IsNext old new line ended → (ended ≡ true) ⊎ (0 < length line) → IsRefused fault (next before line)
     → Declares left fault
@@ -178,21 +174,13 @@ pub declares_line : (left old new : Option (List ℕ)) (judge : Judge) (line : L
 declares_line left old new judge line ended fault so is some refuses =
     fault_declared left old new so.trace line ended fault so.so_far is some (refuses so.trace so.judged)
 
--- all that was left was told to a judge
-pub record Told (left : Option (List ℕ)) (judge : Judge) : Type 0 where
-  pub bytes : List ℕ
-  pub all : AreAll left bytes
-  pub trace : Option Trace
-  pub reads : told None (lines_of bytes) ≡ Ok trace
-  pub judged : Judges judge trace
-
 at_end : (left old new : Option (List ℕ)) (taken line : List ℕ) → Consumes left old taken → Consumes old new line → IsAtEnd new → AreAll left (taken ++ line)
 at_end left old new taken line first second end =
     subst (λ (b : List ℕ). AreAll left b) (ap (λ (rest : List ℕ). (taken ++ line) ++ rest) (none_known new end) ∙ append-nil (taken ++ line))
     (all_known left new (taken ++ line) (Consumes-trans left old new taken line first second))
 
 -- nothing is left behind the last line feed
-pub told_ended : (left old new : Option (List ℕ)) (judge : Judge) (line : List ℕ) → Stands left old judge → IsNext old new line false → length line ≡ 0 → Told left judge
+pub told_ended : (left old new : Option (List ℕ)) (judge : Judge) (line : List ℕ) → Stands left old judge → IsNext old new line false → length line ≡ 0 → KnowsAll left judge
 told_ended left old new judge [] so is none =
     elim (is.last refl) [
       | inl end ↦ record {
@@ -207,7 +195,7 @@ told_ended left old new judge [] so is none =
 told_ended left old new judge (b ∷ line) so is none = absurd (omega arith)
 
 -- a last line without a line feed
-pub told_last : (left old new : Option (List ℕ)) (judge after : Judge) (line : List ℕ) → Stands left old judge → IsNext old new line false → 0 < length line → Takes judge line after → Told left after
+pub told_last : (left old new : Option (List ℕ)) (judge after : Judge) (line : List ℕ) → Stands left old judge → IsNext old new line false → 0 < length line → Takes judge line after → KnowsAll left after
 told_last left old new judge after line so is some takes =
     let took = takes so.trace so.judged in
     elim (is.last refl) [
@@ -233,7 +221,7 @@ found_of : (left : Option (List ℕ)) (bytes : List ℕ) (told_trace : Option Tr
 found_of left bytes None finding all reads found = absurd found
 found_of left bytes (Some trace) finding all reads found = (bytes, (all, record { trace = trace; read = lined_read bytes trace reads; judged = found }))
 
-pub finds : (left : Option (List ℕ)) (judge : Judge) (finding : Finding) → Told left judge → ((trace : Option Trace) → Judges judge trace → MatchOption trace ⊥ (λ t. IsJudged t finding)) → Finds left finding
+pub finds : (left : Option (List ℕ)) (judge : Judge) (finding : Finding) → KnowsAll left judge → ((trace : Option Trace) → Judges judge trace → MatchOption trace ⊥ (λ t. IsJudged t finding)) → Finds left finding
 finds left judge finding is found = found_of left is.bytes is.trace finding is.all is.reads (found is.trace is.judged)
 
 declined : (bytes : List ℕ) (trace : Trace) (fault : Refusal) → lined_trace_of bytes ≡ Ok trace → Declines trace fault → Refuses bytes fault
@@ -246,5 +234,5 @@ refused_of : (left : Option (List ℕ)) (bytes : List ℕ) (told_trace : Option 
 refused_of left bytes None fault all reads is = (bytes, (all, subst (λ (f : Refusal). Refuses bytes f) (sym is) (lined_none bytes reads)))
 refused_of left bytes (Some trace) fault all reads declines = (bytes, (all, declined bytes trace fault (lined_read bytes trace reads) declines))
 
-pub declares : (left : Option (List ℕ)) (judge : Judge) (fault : Refusal) → Told left judge → ((trace : Option Trace) → Judges judge trace → MatchOption trace (fault ≡ ScriptFault 0) (λ t. Declines t fault)) → Declares left fault
+pub declares : (left : Option (List ℕ)) (judge : Judge) (fault : Refusal) → KnowsAll left judge → ((trace : Option Trace) → Judges judge trace → MatchOption trace (fault ≡ ScriptFault 0) (λ t. Declines t fault)) → Declares left fault
 declares left judge fault is refused = refused_of left is.bytes is.trace fault is.all is.reads (refused is.trace is.judged)

@@ -1,5 +1,5 @@
 -- What is read, written and answered (own).
-use Rattle.std.specs.Prelude.{◌≡◌, ◌⊎◌, ℕ, List, Bool, Option, IfSome, Result, Ok, Err}
+use Rattle.std.specs.Prelude.{◌≡◌, ◌⊎◌, ℕ, List, Bool, Option, None, IfSome, Result, Ok, Err}
 use Rattle.std.specs.Io.KnownBytes.{Appends, Keeps}
 use Rattle.lwkt_base.specs.declared.faults.Fault.{Fault as Refusal}
 use Rattle.lwkt_base.specs.declared.faults.Fault.TheVariants.{Script as ScriptFault, Memory, Limits, LawBroken}
@@ -9,12 +9,22 @@ use Rattle.lwkt_report.specs.Stream.{AppendsFront}
 use Rattle.lwkt_trace.specs.declared.traces.Trace.{Trace}
 use Rattle.lwkt_checker.specs.Judgement.{Declines, finding_text, is_lawful}
 use Rattle.lwkt_checker.specs.declared.judges.Finding.{Finding}
-use Rattle.lwkt_lines.specs.Format.{lined_trace_of}
-use Rattle.lwkt_lines.specs.Judged.{IsJudged}
+use Rattle.lwkt_lines.specs.Line.{lines_of}
+use Rattle.lwkt_lines.specs.Format.{told, lined_trace_of}
+use Rattle.lwkt_lines.specs.Judged.{IsJudged, Judges}
+use Rattle.lwkt_lines.specs.declared.judges.Judge.{Judge}
 
 -- these bytes are all that was left of a source, where that is known
 abbrev pub AreAll : Option (List ℕ) → List ℕ → Type 0
 AreAll left bytes = IfSome left (λ all. bytes ≡ all)
+
+-- all that was left of a source was told to a judge
+pub record KnowsAll (left : Option (List ℕ)) (judge : Judge) : Type 0 where
+  pub bytes : List ℕ
+  pub all : AreAll left bytes
+  pub trace : Option Trace
+  pub reads : told None (lines_of bytes) ≡ Ok trace
+  pub judged : Judges judge trace
 
 -- why bytes are refused: for their first bad part, wherever it stands; or for their opening, where they are a whole trace
 abbrev pub Refuses : List ℕ → Refusal → Type 0

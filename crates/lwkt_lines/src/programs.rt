@@ -1,6 +1,6 @@
 ghost use Rattle.std.specs.Prelude.{◌≡◌, ◌⊎◌, Err, IsTrue, IfOk, IfErr};
 ghost use Rattle.lwkt_lines.specs.Reading.{left_of};
-ghost use Rattle.lwkt_lines.specs.Output.{Finds, DeclaresIn, Tells};
+ghost use Rattle.lwkt_lines.specs.Output.{KnowsAll, Finds, DeclaresIn, Tells};
 
 use crate::judges::Judge;
 use crate::lines::Lines;
@@ -8,6 +8,35 @@ use lwkt_base::Fault;
 use lwkt_checker::{Finding, finding_text};
 use lwkt_report::{RunFault, Sink, Source, write_whole};
 use std::alloc::Global;
+
+// Tells a judge each line of a source, up to its end or to the line with the first bad part.
+fn tell_lines<S: Source>(
+    alloc: Global,
+    lines: &mut Lines,
+    source: &mut S,
+) -> Result<Judge, RunFault>
+    ensures told { IfOk result (λ judge. KnowsAll (left_of lines.old (S.left source.old)) judge) }
+    ensures refused { IfErr result (λ why. DeclaresIn (left_of lines.old (S.left source.old)) why) }
+    ensures stream { result ≡ Err RunFault.Stream → IsTrue (S.has_failed source.new) }
+{
+    let mut judge = Judge::new();
+    loop {
+        let is_ended = match lines.read_line(source) {
+            Ok(is_ended) => is_ended,
+            Err(why) => return Err(why),
+        };
+        if !is_ended && lines.line.is_empty() {
+            return Ok(judge);
+        }
+        judge = match judge.tell(alloc, lines.line.as_slice()) {
+            Ok(after) => after,
+            Err(fault) => return Err(RunFault::Fault(fault)),
+        };
+        if !is_ended {
+            return Ok(judge);
+        }
+    }
+}
 
 /// Reads a trace in lines to its end, or to the line with its first bad part, and judges it. The line that is refused is then
 /// the one that was read last.
@@ -23,27 +52,7 @@ pub fn judge_lines<S: Source>(
     ensures refused { IfErr result (λ why. DeclaresIn (left_of lines.old (S.left source.old)) why) }
     ensures stream { result ≡ Err RunFault.Stream → IsTrue (S.has_failed source.new) }
 {
-    let mut judge = Judge::new();
-    loop {
-        let is_ended = match lines.read_line(source) {
-            Ok(is_ended) => is_ended,
-            Err(why) => return Err(why),
-        };
-        if !is_ended {
-            break;
-        }
-        judge = match judge.tell(alloc, lines.line.as_slice()) {
-            Ok(after) => after,
-            Err(fault) => return Err(RunFault::Fault(fault)),
-        };
-    }
-    if !lines.line.is_empty() {
-        judge = match judge.tell(alloc, lines.line.as_slice()) {
-            Ok(after) => after,
-            Err(fault) => return Err(RunFault::Fault(fault)),
-        };
-    }
-    match judge.finding() {
+    match tell_lines(alloc, lines, source)?.finding() {
         Ok(finding) => Ok(finding),
         Err(fault) => Err(RunFault::Fault(fault)),
     }

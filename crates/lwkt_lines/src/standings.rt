@@ -36,10 +36,8 @@ impl Standing {
         ensures opens { IfOk result (λ after. (trace : Trace) → OpensSo trace self → OpensSo trace after) }
     {
         match self {
-            Standing::Awaits => Ok(Standing::Awaits),
             Standing::Plays(state) => played(alloc, state, index, told),
-            Standing::Fails { index, why } => Ok(Standing::Fails { index, why }),
-            Standing::Declined(fault) => Ok(Standing::Declined(fault)),
+            other => Ok(other),
         }
     }
 
@@ -57,10 +55,8 @@ impl Standing {
         ensures opens { IfOk result (λ after. (trace : Trace) → OpensSo trace self → OpensSo trace after) }
     {
         match self {
-            Standing::Awaits => Ok(Standing::Awaits),
             Standing::Plays(state) => closed(alloc, state, count, last),
-            Standing::Fails { index, why } => Ok(Standing::Fails { index, why }),
-            Standing::Declined(fault) => Ok(Standing::Declined(fault)),
+            other => Ok(other),
         }
     }
 }

@@ -1,7 +1,7 @@
 use Rattle.lwkt_lines.specs.Reading.{left_of}
 use Rattle.lwkt_lines.specs.Judged.{lines_left}
 use Rattle.lwkt_lines.proofs.ToldLines.{Stands}
-use Rattle.lwkt_lines.proofs.programs.judge_lines.Given as goal
+use Rattle.lwkt_lines.proofs.programs.tell_lines.Given as goal
 
 -- the judge was told each line so far
 abbrev pub invariant-loop-is_ended : goal.invariant-loop-is_ended
