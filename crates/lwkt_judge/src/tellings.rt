@@ -1,9 +1,10 @@
 ghost use Rattle.std.specs.Prelude.{◌≡◌, ◌↔◌, ◌⊎◌, [], IsTrue};
 ghost use Rattle.std.specs.Io.KnownBytes.{Keeps};
-ghost use Rattle.lwkt_checker.specs.Output.{status_of};
+ghost use Rattle.lwkt_checker.specs.Output.{Tells, status_of};
+ghost use Rattle.lwkt_lines.specs.Output.{Tells as TellsOfLines};
 ghost use Rattle.lwkt_report.specs.Complaint.{fault_line};
 ghost use Rattle.lwkt_refusals.specs.Sayings.{Adds};
-ghost use Rattle.lwkt_judge.specs.Told.{IsSaidFirst, ComplainsFirst, IsUnread, ChecksAloud, AsksLines, IsMisused, ChecksLinesAloud};
+ghost use Rattle.lwkt_judge.specs.Told.{IsSaidFirst, ComplainsFirst, IsUnread, ChecksAloud, AsksLines, IsMisused};
 
 use lwkt_base::Fault;
 use lwkt_checker::{check_stream, say_outcome, status_of};
@@ -13,28 +14,28 @@ use lwkt_report::{
     Complaint, NotedReader, NotedWriter, Program, ReaderSource, RunFault, Sink, WriterSink,
     complain,
 };
-use lwkt_trace::read_trace;
 use std::alloc::Global;
 use std::io::{Read, Write};
 
-// Says why the trace that was given is refused.
-fn say_refusal<E: Sink>(alloc: Global, errors: &mut E, given: &Option<Vec<u8>>)
+// Says why the trace is refused with this fault: of a trace in lines by the line that is, or by its opening; else by what the
+// reader kept.
+fn say_refusal<E: Sink>(
+    alloc: Global,
+    errors: &mut E,
+    fault: Fault,
+    lines: Option<&Lines>,
+    given: &Option<Vec<u8>>,
+)
     ensures { Adds (E.has_failed errors.old) (E.has_failed errors.new) (E.contents errors.old) (E.contents errors.new) }
 {
-    let Some(bytes) = given else {
-        return Speaker::Check.say_no_words(errors);
+    let Some(lines) = lines else {
+        return Speaker::Check.say_refusal(
+            alloc,
+            errors,
+            given.as_ref().map(|bytes| bytes.as_slice()),
+            fault,
+        );
     };
-    let fault = match read_trace(alloc, bytes.as_slice()) {
-        Ok(_) => Fault::LawBroken,
-        Err(fault) => fault,
-    };
-    Speaker::Check.say_refusal(alloc, errors, Some(bytes.as_slice()), fault);
-}
-
-// Says why the trace in lines that was given is refused.
-fn say_line_refusal<E: Sink>(alloc: Global, errors: &mut E, fault: Fault, lines: &Lines)
-    ensures { Adds (E.has_failed errors.old) (E.has_failed errors.new) (E.contents errors.old) (E.contents errors.new) }
-{
     match fault {
         Fault::Script { place } => Speaker::Check.say_line_refusal(
             alloc,
@@ -47,7 +48,7 @@ fn say_line_refusal<E: Sink>(alloc: Global, errors: &mut E, fault: Fault, lines:
     }
 }
 
-// Says why nothing was found, behind the line: of a trace in lines by those, else by what the reader kept.
+// Says why nothing was found, behind the line.
 fn say_why<I, O, E: Sink>(
     alloc: Global,
     errors: &mut E,
@@ -60,10 +61,7 @@ fn say_why<I, O, E: Sink>(
 {
     match fault {
         RunFault::Fault(Fault::Memory(_)) => Speaker::Check.say_memory(errors),
-        RunFault::Fault(fault) => match lines {
-            Some(lines) => say_line_refusal(alloc, errors, fault, lines),
-            None => say_refusal(alloc, errors, &source.reader.given),
-        },
+        RunFault::Fault(fault) => { say_refusal(alloc, errors, fault, lines, &source.reader.given) }
         RunFault::Stream if source.failed => {
             Speaker::Check.say_unread(alloc, errors, &source.reader.error)
         }
@@ -113,33 +111,6 @@ fn conclude<I, O, E: Sink>(
     status_of(outcome)
 }
 
-// Checks a trace in lines, and says where errors go why nothing was found, where it is so.
-fn check_lines_told<I: Read, O: Write, E: Sink>(
-    alloc: Global,
-    source: &mut ReaderSource<NotedReader<I>>,
-    sink: &mut WriterSink<NotedWriter<O>>,
-    errors: &mut E,
-) -> u8
-    ensures { ChecksLinesAloud source.new.failed sink.new.failed (I.remaining source.old.reader.reader) (O.contents sink.old.writer.writer) (O.contents sink.new.writer.writer) (IsUnread sink.new.failed sink.new.writer.error) (E.has_failed errors.new) (E.contents errors.old) (E.contents errors.new) result }
-{
-    let mut lines = Lines::new(alloc);
-    let outcome = check_lines(alloc, &mut lines, source, sink);
-    conclude(alloc, errors, &outcome, Some(&lines), source, sink)
-}
-
-// Checks a trace that is one text, and says where errors go why nothing was found, where it is so.
-fn check_whole_told<I: Read, O: Write, E: Sink>(
-    alloc: Global,
-    source: &mut ReaderSource<NotedReader<I>>,
-    sink: &mut WriterSink<NotedWriter<O>>,
-    errors: &mut E,
-) -> u8
-    ensures { ChecksAloud source.new.failed sink.new.failed (I.remaining source.old.reader.reader) (O.contents sink.old.writer.writer) (O.contents sink.new.writer.writer) (IsUnread sink.new.failed sink.new.writer.error) (E.has_failed errors.new) (E.contents errors.old) (E.contents errors.new) result }
-{
-    let outcome = check_stream(alloc, source, sink);
-    conclude(alloc, errors, &outcome, None, source, sink)
-}
-
 /// Whether the arguments are the one word `lines`: a trace in lines is then read.
 pub fn asks_lines(words: &[String]) -> bool
     ensures { IsTrue result ↔ AsksLines words.now }
@@ -160,19 +131,22 @@ pub fn check_told<I: Read, O: Write, E: Sink>(
     sink: &mut WriterSink<NotedWriter<O>>,
     errors: &mut E,
 ) -> u8
-    ensures checks { words.now ≡ [] → ChecksAloud source.new.failed sink.new.failed (I.remaining source.old.reader.reader) (O.contents sink.old.writer.writer) (O.contents sink.new.writer.writer) (IsUnread sink.new.failed sink.new.writer.error) (E.has_failed errors.new) (E.contents errors.old) (E.contents errors.new) result }
-    ensures lines { AsksLines words.now → ChecksLinesAloud source.new.failed sink.new.failed (I.remaining source.old.reader.reader) (O.contents sink.old.writer.writer) (O.contents sink.new.writer.writer) (IsUnread sink.new.failed sink.new.writer.error) (E.has_failed errors.new) (E.contents errors.old) (E.contents errors.new) result }
+    ensures checks { words.now ≡ [] → ChecksAloud Tells source.new.failed sink.new.failed (I.remaining source.old.reader.reader) (O.contents sink.old.writer.writer) (O.contents sink.new.writer.writer) (IsUnread sink.new.failed sink.new.writer.error) (E.has_failed errors.new) (E.contents errors.old) (E.contents errors.new) result }
+    ensures lines { AsksLines words.now → ChecksAloud TellsOfLines source.new.failed sink.new.failed (I.remaining source.old.reader.reader) (O.contents sink.old.writer.writer) (O.contents sink.new.writer.writer) (IsUnread sink.new.failed sink.new.writer.error) (E.has_failed errors.new) (E.contents errors.old) (E.contents errors.new) result }
     ensures usage { IsMisused words.now → (result ≡ 1) × IsSaidFirst (E.has_failed errors.new) (E.contents errors.old) (E.contents errors.new) (fault_line Program.Check Complaint.Usage) }
     ensures unread { IsMisused words.now → source.new ≡ source.old }
     ensures unwritten { IsMisused words.now → sink.new ≡ sink.old }
 {
     if asks_lines(words) {
-        return check_lines_told(alloc, source, sink, errors);
+        let mut lines = Lines::new(alloc);
+        let outcome = check_lines(alloc, &mut lines, source, sink);
+        return conclude(alloc, errors, &outcome, Some(&lines), source, sink);
     }
     if !words.is_empty() {
         complain(errors, Program::Check, Complaint::Usage);
         Speaker::Check.say_usage(errors);
         return 1;
     }
-    check_whole_told(alloc, source, sink, errors)
+    let outcome = check_stream(alloc, source, sink);
+    conclude(alloc, errors, &outcome, None, source, sink)
 }
