@@ -51,6 +51,72 @@ const EVENTS: [&[&str]; 14] = [
     &["\"take\""],
 ];
 
+// Lines from the opening on, with what is said of them.
+const PLACES: [(&str, &str); 11] = [
+    ("", "lwkt_check: fault 33 at 0\n"),
+    ("\n", "lwkt_check: fault 33 at 0\n"),
+    ("{\n}\n", "lwkt_check: fault 33 at 0\n"),
+    ("[]\n", "lwkt_check: fault 33 at 1\n"),
+    (
+        "{\"version\":1,\"cpus\":1,\"tokens\":[],\"messages\":[],\"last\":null}\n",
+        "lwkt_check: fault 33 at 1\n",
+    ),
+    (
+        "{\"version\":2,\"cpus\":9,\"tokens\":[],\"messages\":[]}",
+        "lwkt_check: fault 33 at 2\n",
+    ),
+    (
+        "{\"version\":1,\"cpus\":9,\"tokens\":[],\"messages\":[]}",
+        "lwkt_check: fault 33 at 3\n",
+    ),
+    (
+        "{\"version\":1,\"cpus\":1,\"tokens\":[{}],\"messages\":[]}",
+        "lwkt_check: fault 33 at 1000\n",
+    ),
+    (
+        "{\"version\":1,\"cpus\":1,\"tokens\":[],\"messages\":[{\"of\":[1,0],\"round\":0}]}",
+        "lwkt_check: fault 33 at 2000\n",
+    ),
+    (
+        "{\"version\":1,\"cpus\":1,\"tokens\":[{\"cells\":[5,6],\"law\":\"sum\",\"param\":10,\"gen\":0}],\"messages\":[]}\n",
+        "lwkt_check: fault 40\n",
+    ),
+    (
+        "{\"version\":1,\"cpus\":1,\"tokens\":[{\"cells\":[5,6],\"law\":\"sum\",\"param\":10,\"gen\":0}],\"messages\":[]}\n[\"load\",0,0]\n[]\n",
+        "lwkt_check: fault 33 at 1000001\n",
+    ),
+];
+
+// What stands behind an opening, with what is said of both.
+const PLACES_BEHIND: [(&str, &str); 11] = [
+    ("", "lawful\n"),
+    ("\n", "lawful\n"),
+    ("\n\n", "lwkt_check: fault 33 at 1000000\n"),
+    ("\r\n", "lawful\n"),
+    ("\n[\"load\",0,0]\n\n", "lwkt_check: fault 33 at 1000001\n"),
+    (
+        "\n[\"load\",0,0] [\"load\",0,0]",
+        "lwkt_check: fault 33 at 1000000\n",
+    ),
+    ("\n{}", "lwkt_check: fault 33 at 4\n"),
+    (
+        "\n{\"rows\":[],\"gens\":[],\"tallies\":[],\"messages\":[]}",
+        "lawful\n",
+    ),
+    (
+        "\n{\"rows\":[],\"gens\":[],\"tallies\":[],\"messages\":[]}\n\n",
+        "lwkt_check: fault 33 at 6\n",
+    ),
+    (
+        "\n{\"rows\":[],\"gens\":[],\"tallies\":[],\"messages\":[]}\n[\"load\",0,0]",
+        "lwkt_check: fault 33 at 6\n",
+    ),
+    (
+        "\n[\"load\",1,0]\n[\"load\",0]",
+        "lwkt_check: fault 33 at 1000001\n",
+    ),
+];
+
 // What is found of lines, or why nothing is, in words.
 fn found<S: Source>(alloc: Global, source: &mut S) -> Result<String, AllocError> {
     let mut page = Page::with_room(alloc, 0)?;
@@ -150,86 +216,36 @@ fn expect_lines(
     expect(rt, alloc, text.as_str().trim_end().as_bytes(), want)
 }
 
+// Fails unless what is found of these events in lines is what is found of the whole, whatever closing values follow.
+fn expect_same(rt: &impl Abort, alloc: Global, events: &[&str]) -> Result<(), Fail> {
+    for last in ["null", CLOSE, OTHER_CLOSE, "{\"rows\":[7]}"] {
+        let whole = whole_of(alloc, events, last)?;
+        let said = said(alloc, whole.as_bytes(), 0)?;
+        expect_lines(rt, alloc, events, last, said_of(&said))?;
+    }
+    Ok(())
+}
+
 #[test]
 fn lines_are_found_to_be_what_the_whole_is(rt: HostRuntime) -> Result<(), Fail> {
-    let alloc = rt.alloc();
     for events in EVENTS {
-        for last in ["null", CLOSE, OTHER_CLOSE, "{\"rows\":[7]}"] {
-            let whole = whole_of(alloc, events, last)?;
-            let said = said(alloc, whole.as_bytes(), 0)?;
-            expect_lines(&rt, alloc, events, last, said_of(&said))?;
-        }
+        expect_same(&rt, rt.alloc(), events)?;
     }
     Ok(())
 }
 
 #[test]
 fn places_of_lines(rt: HostRuntime) -> Result<(), Fail> {
-    let opening = "{\"version\":1,\"cpus\":1,\"tokens\":[],\"messages\":[]}";
-    for (lines, want) in [
-        ("", "lwkt_check: fault 33 at 0\n"),
-        ("\n", "lwkt_check: fault 33 at 0\n"),
-        ("{\n}\n", "lwkt_check: fault 33 at 0\n"),
-        ("[]\n", "lwkt_check: fault 33 at 1\n"),
-        (
-            "{\"version\":1,\"cpus\":1,\"tokens\":[],\"messages\":[],\"last\":null}\n",
-            "lwkt_check: fault 33 at 1\n",
-        ),
-        (
-            "{\"version\":2,\"cpus\":9,\"tokens\":[],\"messages\":[]}",
-            "lwkt_check: fault 33 at 2\n",
-        ),
-        (
-            "{\"version\":1,\"cpus\":9,\"tokens\":[],\"messages\":[]}",
-            "lwkt_check: fault 33 at 3\n",
-        ),
-        (
-            "{\"version\":1,\"cpus\":1,\"tokens\":[{}],\"messages\":[]}",
-            "lwkt_check: fault 33 at 1000\n",
-        ),
-        (
-            "{\"version\":1,\"cpus\":1,\"tokens\":[],\"messages\":[{\"of\":[1,0],\"round\":0}]}",
-            "lwkt_check: fault 33 at 2000\n",
-        ),
-        (
-            "{\"version\":1,\"cpus\":1,\"tokens\":[{\"cells\":[5,6],\"law\":\"sum\",\"param\":10,\"gen\":0}],\"messages\":[]}\n",
-            "lwkt_check: fault 40\n",
-        ),
-        (
-            "{\"version\":1,\"cpus\":1,\"tokens\":[{\"cells\":[5,6],\"law\":\"sum\",\"param\":10,\"gen\":0}],\"messages\":[]}\n[\"load\",0,0]\n[]\n",
-            "lwkt_check: fault 33 at 1000001\n",
-        ),
-    ] {
+    for (lines, want) in PLACES {
         expect(&rt, rt.alloc(), lines.as_bytes(), want.as_bytes())?;
     }
-    for (behind, want) in [
-        ("", "lawful\n"),
-        ("\n", "lawful\n"),
-        ("\n\n", "lwkt_check: fault 33 at 1000000\n"),
-        ("\r\n", "lawful\n"),
-        ("\n[\"load\",0,0]\n\n", "lwkt_check: fault 33 at 1000001\n"),
-        (
-            "\n[\"load\",0,0] [\"load\",0,0]",
-            "lwkt_check: fault 33 at 1000000\n",
-        ),
-        ("\n{}", "lwkt_check: fault 33 at 4\n"),
-        (
-            "\n{\"rows\":[],\"gens\":[],\"tallies\":[],\"messages\":[]}",
-            "lawful\n",
-        ),
-        (
-            "\n{\"rows\":[],\"gens\":[],\"tallies\":[],\"messages\":[]}\n\n",
-            "lwkt_check: fault 33 at 6\n",
-        ),
-        (
-            "\n{\"rows\":[],\"gens\":[],\"tallies\":[],\"messages\":[]}\n[\"load\",0,0]",
-            "lwkt_check: fault 33 at 6\n",
-        ),
-        (
-            "\n[\"load\",1,0]\n[\"load\",0]",
-            "lwkt_check: fault 33 at 1000001\n",
-        ),
-    ] {
+    Ok(())
+}
+
+#[test]
+fn places_behind_an_opening(rt: HostRuntime) -> Result<(), Fail> {
+    let opening = "{\"version\":1,\"cpus\":1,\"tokens\":[],\"messages\":[]}";
+    for (behind, want) in PLACES_BEHIND {
         let text = format!(in rt.alloc(); "{opening}{behind}")?;
         expect(&rt, rt.alloc(), text.as_bytes(), want.as_bytes())?;
     }

@@ -75,27 +75,39 @@ fn answers(alloc: Global) -> Result<Vec<Option<Answer>>, AllocError> {
     )
 }
 
+// Appends an ask with each answer.
+fn add_polls(alloc: Global, polls: &mut Vec<Poll>, ask: Ask) -> Result<(), AllocError> {
+    for answer in &answers(alloc)? {
+        polls.push(Poll {
+            answer: *answer,
+            ask,
+            thread: TO,
+        })?;
+    }
+    Ok(())
+}
+
 // Each ask with each answer.
 fn polls(alloc: Global) -> Result<Vec<Poll>, AllocError> {
     let mut polls = Vec::new(alloc);
     for ask in &asks(alloc)? {
-        for answer in &answers(alloc)? {
-            polls.push(Poll {
-                answer: *answer,
-                ask: *ask,
-                thread: TO,
-            })?;
-        }
+        add_polls(alloc, &mut polls, *ask)?;
     }
     Ok(polls)
 }
 
-// These polls, packed.
-fn packed(alloc: Global, polls: &[Poll]) -> Result<PollList, AllocError> {
+// These polls, packed, without their answers.
+fn unanswered(alloc: Global, polls: &[Poll]) -> Result<PollList, AllocError> {
     let mut list = PollList::new(alloc);
     for poll in polls {
         list.push(poll.thread, &poll.ask)?;
     }
+    Ok(list)
+}
+
+// These polls, packed.
+fn packed(alloc: Global, polls: &[Poll]) -> Result<PollList, AllocError> {
+    let mut list = unanswered(alloc, polls)?;
     for (place, poll) in polls.iter().enumerate() {
         if let Some(answer) = &poll.answer {
             list.set_answer(place, answer)?;

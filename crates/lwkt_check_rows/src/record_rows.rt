@@ -21,59 +21,62 @@ fn expect(rt: &impl Abort, alloc: Global, bytes: &[u8], want: &str) -> Result<()
     Ok(())
 }
 
+// Events on records, with what is found of them.
+const EVENTS: [(&str, &str); 12] = [
+    (
+        "[\"take\",0,0],[\"write_record\",0,0,\"68656c6c6f\"],[\"write\",0,0,0,5],[\"give_written\",0,0],[\"take\",1,0],[\"read_record\",1,0,\"68656c6c6f\"]",
+        "lawful\n",
+    ),
+    (
+        "[\"take\",0,2],[\"write_record\",0,2,\"\"],[\"give_written\",0,2,0,[7],[7]]",
+        "lawful\n",
+    ),
+    (
+        "[\"take\",0,2],[\"write_record\",0,2,\"62\"],[\"write_record\",0,2,\"61\"],[\"give_clean\",0,2]",
+        "lawful\n",
+    ),
+    (
+        "[\"take\",0,0],[\"write_record\",0,0,\"646566\"],[\"give_clean\",0,0]",
+        "unlawful 2\nevent 2: give_clean by 0 of token 0: it has record 646566 and had at the beginning of the section record 616263\n",
+    ),
+    (
+        "[\"take\",0,0],[\"give_written\",0,0]",
+        "unlawful 1\nevent 1: give_written by 0 of token 0: the row is 3 and was at the beginning of the section 3, and it has record 616263 and had at the beginning of the section record 616263\n",
+    ),
+    (
+        "[\"take\",0,0],[\"write_record\",0,0,\"68656c6c6f\"],[\"give_written\",0,0]",
+        "unlawful 2\nevent 2: give_written by 0 of token 0: the row 3 breaks the law len 0, the record has 5 bytes\n",
+    ),
+    (
+        "[\"take\",0,1],[\"read_record\",0,1,\"\"]",
+        "unlawful 1\nevent 1: read_record by 0 of token 1, record -: it has no record\n",
+    ),
+    (
+        "[\"take\",0,1],[\"write_record\",0,1,\"61\"]",
+        "unlawful 1\nevent 1: write_record by 0 of token 1, record 61: it has no record\n",
+    ),
+    (
+        "[\"share\",0,0],[\"read_record\",0,0,\"616263\"]",
+        "unlawful 1\nevent 1: read_record by 0 of token 0, record 616263: held shared by 0\n",
+    ),
+    (
+        "[\"write_record\",1,2,\"61\"]",
+        "unlawful 0\nevent 0: write_record by 1 of token 2, record 61: held by nobody\n",
+    ),
+    (
+        "[\"take\",0,2],[\"write_record\",0,2,\"0000000000000000000000000000000000000000000000000000000000000000000000000000000000000000000000000000000000000000000000000000000000\"]",
+        "unlawful 1\nevent 1: write_record by 0 of token 2, a record of 65 bytes: a record has at most 64 bytes\n",
+    ),
+    (
+        "[\"take\",0,2],[\"read_record\",0,2,\"62\"]",
+        "unlawful 1\nevent 1: read_record by 0 of token 2, record 62: it has record 61\n",
+    ),
+];
+
 #[test]
 fn records_in_events(rt: HostRuntime) -> Result<(), Fail> {
     let alloc = rt.alloc();
-    for (events, want) in [
-        (
-            "[\"take\",0,0],[\"write_record\",0,0,\"68656c6c6f\"],[\"write\",0,0,0,5],[\"give_written\",0,0],[\"take\",1,0],[\"read_record\",1,0,\"68656c6c6f\"]",
-            "lawful\n",
-        ),
-        (
-            "[\"take\",0,2],[\"write_record\",0,2,\"\"],[\"give_written\",0,2,0,[7],[7]]",
-            "lawful\n",
-        ),
-        (
-            "[\"take\",0,2],[\"write_record\",0,2,\"62\"],[\"write_record\",0,2,\"61\"],[\"give_clean\",0,2]",
-            "lawful\n",
-        ),
-        (
-            "[\"take\",0,0],[\"write_record\",0,0,\"646566\"],[\"give_clean\",0,0]",
-            "unlawful 2\nevent 2: give_clean by 0 of token 0: it has record 646566 and had at the beginning of the section record 616263\n",
-        ),
-        (
-            "[\"take\",0,0],[\"give_written\",0,0]",
-            "unlawful 1\nevent 1: give_written by 0 of token 0: the row is 3 and was at the beginning of the section 3, and it has record 616263 and had at the beginning of the section record 616263\n",
-        ),
-        (
-            "[\"take\",0,0],[\"write_record\",0,0,\"68656c6c6f\"],[\"give_written\",0,0]",
-            "unlawful 2\nevent 2: give_written by 0 of token 0: the row 3 breaks the law len 0, the record has 5 bytes\n",
-        ),
-        (
-            "[\"take\",0,1],[\"read_record\",0,1,\"\"]",
-            "unlawful 1\nevent 1: read_record by 0 of token 1, record -: it has no record\n",
-        ),
-        (
-            "[\"take\",0,1],[\"write_record\",0,1,\"61\"]",
-            "unlawful 1\nevent 1: write_record by 0 of token 1, record 61: it has no record\n",
-        ),
-        (
-            "[\"share\",0,0],[\"read_record\",0,0,\"616263\"]",
-            "unlawful 1\nevent 1: read_record by 0 of token 0, record 616263: held shared by 0\n",
-        ),
-        (
-            "[\"write_record\",1,2,\"61\"]",
-            "unlawful 0\nevent 0: write_record by 1 of token 2, record 61: held by nobody\n",
-        ),
-        (
-            "[\"take\",0,2],[\"write_record\",0,2,\"0000000000000000000000000000000000000000000000000000000000000000000000000000000000000000000000000000000000000000000000000000000000\"]",
-            "unlawful 1\nevent 1: write_record by 0 of token 2, a record of 65 bytes: a record has at most 64 bytes\n",
-        ),
-        (
-            "[\"take\",0,2],[\"read_record\",0,2,\"62\"]",
-            "unlawful 1\nevent 1: read_record by 0 of token 2, record 62: it has record 61\n",
-        ),
-    ] {
+    for (events, want) in EVENTS {
         let text = format!(in alloc; "{OPENING}{events}],\"last\":null}}")?;
         expect(&rt, alloc, text.as_bytes(), want)?;
     }
@@ -110,55 +113,58 @@ fn records_at_the_close(rt: HostRuntime) -> Result<(), Fail> {
     )
 }
 
+// Traces with a record that is none, each with its place.
+const REFUSED: [(&str, u32); 11] = [
+    (
+        "{\"version\":1,\"cpus\":1,\"tokens\":[{\"cells\":[],\"law\":\"any\",\"param\":0,\"gen\":0,\"record\":\"0000000000000000000000000000000000000000000000000000000000000000000000000000000000000000000000000000000000000000000000000000000000\"}],\"messages\":[],\"events\":[],\"last\":null}",
+        1000,
+    ),
+    (
+        "{\"version\":1,\"cpus\":1,\"tokens\":[{\"cells\":[],\"law\":\"any\",\"param\":0,\"gen\":0,\"record\":\"6A\"}],\"messages\":[],\"events\":[],\"last\":null}",
+        1000,
+    ),
+    (
+        "{\"version\":1,\"cpus\":1,\"tokens\":[{\"cells\":[],\"law\":\"any\",\"param\":0,\"gen\":0,\"record\":\"616\"}],\"messages\":[],\"events\":[],\"last\":null}",
+        1000,
+    ),
+    (
+        "{\"version\":1,\"cpus\":1,\"tokens\":[{\"cells\":[],\"law\":\"any\",\"param\":0,\"gen\":0,\"record\":61}],\"messages\":[],\"events\":[],\"last\":null}",
+        1000,
+    ),
+    (
+        "{\"version\":1,\"cpus\":1,\"tokens\":[{\"cells\":[0],\"law\":\"len\",\"param\":0,\"gen\":0}],\"messages\":[],\"events\":[],\"last\":null}",
+        1000,
+    ),
+    (
+        "{\"version\":1,\"cpus\":1,\"tokens\":[{\"cells\":[],\"law\":\"len\",\"param\":0,\"gen\":0,\"record\":\"\"}],\"messages\":[],\"events\":[],\"last\":null}",
+        1000,
+    ),
+    (
+        "{\"version\":1,\"cpus\":1,\"tokens\":[{\"cells\":[0],\"law\":\"tally\",\"param\":0,\"gen\":0,\"record\":\"\"}],\"messages\":[],\"events\":[],\"last\":null}",
+        1000,
+    ),
+    (
+        "{\"version\":1,\"cpus\":1,\"tokens\":[{\"cells\":[],\"law\":\"any\",\"param\":0,\"gen\":0,\"record\":\"61\"}],\"messages\":[],\"events\":[[\"write_record\",0,0,\"000000000000000000000000000000000000000000000000000000000000000000000000000000000000000000000000000000000000000000000000000000000000\"]],\"last\":null}",
+        1000000,
+    ),
+    (
+        "{\"version\":1,\"cpus\":1,\"tokens\":[{\"cells\":[],\"law\":\"any\",\"param\":0,\"gen\":0,\"record\":\"61\"}],\"messages\":[],\"events\":[[\"write_record\",0,0,\"6g\"]],\"last\":null}",
+        1000000,
+    ),
+    (
+        "{\"version\":1,\"cpus\":1,\"tokens\":[{\"cells\":[],\"law\":\"any\",\"param\":0,\"gen\":0,\"record\":\"61\"}],\"messages\":[],\"events\":[],\"last\":{\"rows\":[[]],\"gens\":[0],\"tallies\":[[]],\"messages\":[],\"records\":{}}}",
+        4,
+    ),
+    (
+        "{\"version\":1,\"cpus\":1,\"tokens\":[{\"cells\":[],\"law\":\"any\",\"param\":0,\"gen\":0,\"record\":\"61\"}],\"messages\":[],\"events\":[],\"last\":{\"rows\":[[]],\"gens\":[0],\"tallies\":[[]],\"messages\":[],\"records\":[\"61\",\"6\"]}}",
+        6001,
+    ),
+];
+
 #[test]
 fn refused_records(rt: HostRuntime) -> Result<(), Fail> {
     let alloc = rt.alloc();
-    for (text, place) in [
-        (
-            "{\"version\":1,\"cpus\":1,\"tokens\":[{\"cells\":[],\"law\":\"any\",\"param\":0,\"gen\":0,\"record\":\"0000000000000000000000000000000000000000000000000000000000000000000000000000000000000000000000000000000000000000000000000000000000\"}],\"messages\":[],\"events\":[],\"last\":null}",
-            1000,
-        ),
-        (
-            "{\"version\":1,\"cpus\":1,\"tokens\":[{\"cells\":[],\"law\":\"any\",\"param\":0,\"gen\":0,\"record\":\"6A\"}],\"messages\":[],\"events\":[],\"last\":null}",
-            1000,
-        ),
-        (
-            "{\"version\":1,\"cpus\":1,\"tokens\":[{\"cells\":[],\"law\":\"any\",\"param\":0,\"gen\":0,\"record\":\"616\"}],\"messages\":[],\"events\":[],\"last\":null}",
-            1000,
-        ),
-        (
-            "{\"version\":1,\"cpus\":1,\"tokens\":[{\"cells\":[],\"law\":\"any\",\"param\":0,\"gen\":0,\"record\":61}],\"messages\":[],\"events\":[],\"last\":null}",
-            1000,
-        ),
-        (
-            "{\"version\":1,\"cpus\":1,\"tokens\":[{\"cells\":[0],\"law\":\"len\",\"param\":0,\"gen\":0}],\"messages\":[],\"events\":[],\"last\":null}",
-            1000,
-        ),
-        (
-            "{\"version\":1,\"cpus\":1,\"tokens\":[{\"cells\":[],\"law\":\"len\",\"param\":0,\"gen\":0,\"record\":\"\"}],\"messages\":[],\"events\":[],\"last\":null}",
-            1000,
-        ),
-        (
-            "{\"version\":1,\"cpus\":1,\"tokens\":[{\"cells\":[0],\"law\":\"tally\",\"param\":0,\"gen\":0,\"record\":\"\"}],\"messages\":[],\"events\":[],\"last\":null}",
-            1000,
-        ),
-        (
-            "{\"version\":1,\"cpus\":1,\"tokens\":[{\"cells\":[],\"law\":\"any\",\"param\":0,\"gen\":0,\"record\":\"61\"}],\"messages\":[],\"events\":[[\"write_record\",0,0,\"000000000000000000000000000000000000000000000000000000000000000000000000000000000000000000000000000000000000000000000000000000000000\"]],\"last\":null}",
-            1000000,
-        ),
-        (
-            "{\"version\":1,\"cpus\":1,\"tokens\":[{\"cells\":[],\"law\":\"any\",\"param\":0,\"gen\":0,\"record\":\"61\"}],\"messages\":[],\"events\":[[\"write_record\",0,0,\"6g\"]],\"last\":null}",
-            1000000,
-        ),
-        (
-            "{\"version\":1,\"cpus\":1,\"tokens\":[{\"cells\":[],\"law\":\"any\",\"param\":0,\"gen\":0,\"record\":\"61\"}],\"messages\":[],\"events\":[],\"last\":{\"rows\":[[]],\"gens\":[0],\"tallies\":[[]],\"messages\":[],\"records\":{}}}",
-            4,
-        ),
-        (
-            "{\"version\":1,\"cpus\":1,\"tokens\":[{\"cells\":[],\"law\":\"any\",\"param\":0,\"gen\":0,\"record\":\"61\"}],\"messages\":[],\"events\":[],\"last\":{\"rows\":[[]],\"gens\":[0],\"tallies\":[[]],\"messages\":[],\"records\":[\"61\",\"6\"]}}",
-            6001,
-        ),
-    ] {
+    for (text, place) in REFUSED {
         let said = said(alloc, text.as_bytes(), 0)?;
         let want = format!(in alloc; "lwkt_check: fault 33 at {place}\n")?;
         assert_eq!(&rt; said.errors.as_slice(), want.as_bytes(), "{text}");

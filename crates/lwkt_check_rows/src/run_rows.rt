@@ -210,8 +210,8 @@ fn crossed_lists(alloc: Global) -> Result<Sheet, AllocError> {
     Ok(sheet)
 }
 
-// A thread of processor 0 calls one of processor 1, which replies.
-fn call_and_reply(alloc: Global) -> Result<Sheet, AllocError> {
+// A thread of processor 0 that calls one of processor 1, and that one, which replies.
+fn caller_and_called(alloc: Global) -> Result<Sheet, AllocError> {
     let mut sheet = Sheet::new(alloc, 2, 50);
     sheet.messages.push(MsgSpec {
         round: 0,
@@ -228,6 +228,12 @@ fn call_and_reply(alloc: Global) -> Result<Sheet, AllocError> {
     let log = [Entry::Request(MESSAGE, CALL)];
     let steps = [Ask::WaitPort, REPLY];
     sheet.thread(alloc, first_of(1), &steps, ThreadState::Exited, &log)?;
+    Ok(sheet)
+}
+
+// These two call and reply.
+fn call_and_reply(alloc: Global) -> Result<Sheet, AllocError> {
+    let mut sheet = caller_and_called(alloc)?;
     let (cpu, msg) = (CpuId(0), MESSAGE);
     let (to, round) = (CpuId(1), 1);
     let sent = Event::Send {
