@@ -25,10 +25,10 @@ use Rattle.lwkt_hold.specs.declared.answers.Acquired.TheVariants.{Got, MustSwitc
 use Rattle.lwkt_hold.specs.Fronts.{names}
 use Rattle.lwkt_hold.specs.Givings.{gives, gives_all, Releases, ReleasesAll, ReleasesLast}
 use Rattle.lwkt_bank.specs.Views.{RecordOf}
-use Rattle.lwkt_hold.specs.Rows.{section_now, writes, writes_record}
+use Rattle.lwkt_hold.specs.Rows.{section_now, write_events, record_write_events}
 use Rattle.lwkt_hold.specs.Steps.{taking}
-use Rattle.lwkt_hold.specs.Takings.{takes, takes_all}
-use Rattle.lwkt_msg.specs.Desks.{Desk, cpu_of, past_of}
+use Rattle.lwkt_hold.specs.Takings.{taking_event, takes_all}
+use Rattle.lwkt_msg.specs.Desks.{Desk, desk_cpu, past_of}
 use Rattle.lwkt_msg.specs.Views.{seat_cpu}
 use Rattle.lwkt_port.specs.Tellings.{Tells}
 use Rattle.lwkt_port.specs.Works.{IsOfMessages, Grew}
@@ -60,17 +60,17 @@ quiet_one t u e is plain = record { done = e ∷ []; trace_is = is; quiet = plai
 
 -- what was told of messages: nothing, one call after another, and a call on the ports
 pub mail_none : (d : Desk) (t u : List Event) → IsQuiet t u → TellsMail d d t u
-mail_none d t u q = record { same = same_none d; deeds = []; grows = refl; mine = own-nil (cpu_of d).0; done = q.done; trace_is = q.trace_is; told = q.quiet }
+mail_none d t u q = record { same = same_none d; deeds = []; grows = refl; mine = own-nil (desk_cpu d).0; done = q.done; trace_is = q.trace_is; told = q.quiet }
 
 pub mail_then : (a b c : Desk) (t u v : List Event) → TellsMail a b t u → TellsMail b c u v → TellsMail a c t v
 mail_then a b c t u v first second =
-    let same : cpu_of b ≡ cpu_of a = ap seat_cpu first.same.kind in
+    let same : desk_cpu b ≡ desk_cpu a = ap seat_cpu first.same.kind in
     let F : CpuId → Type 0 = λ k. Grows k.0 (past_of b) second.deeds (past_of c) in
     let G : CpuId → Type 0 = λ k. AreOwn k.0 second.deeds in record {
       same = same_then a b c first.same second.same;
       deeds = first.deeds ++ second.deeds;
-      grows = Grows-append (cpu_of a).0 (past_of a) first.deeds (past_of b) second.deeds (past_of c) first.grows (subst F same second.grows);
-      mine = own-append (cpu_of a).0 first.deeds second.deeds first.mine (subst G same second.mine);
+      grows = Grows-append (desk_cpu a).0 (past_of a) first.deeds (past_of b) second.deeds (past_of c) first.grows (subst F same second.grows);
+      mine = own-append (desk_cpu a).0 first.deeds second.deeds first.mine (subst G same second.mine);
       done = first.done ++ second.done;
       trace_is = second.trace_is ∙ ap (λ l. l ++ second.done) first.trace_is ∙ append_assoc t first.done second.done;
       told = filter-append is_of_message first.done second.done ∙ ap (λ l. l ++ filter is_of_message second.done) first.told ∙ ap (λ l. events_in first.deeds ++ l) second.told ∙ sym (events_in-append first.deeds second.deeds);
@@ -139,15 +139,15 @@ plain_if : (b : Bool) (x y : Event) → filter is_of_message (x ∷ []) ≡ [] �
 plain_if true x y first second = first
 plain_if false x y first second = second
 
-plain_takes : (cpu : CpuId) (front : List Ref) (r : Ref) → filter is_of_message (takes cpu front r ∷ []) ≡ []
+plain_takes : (cpu : CpuId) (front : List Ref) (r : Ref) → filter is_of_message (taking_event cpu front r ∷ []) ≡ []
 plain_takes cpu front r = plain_if (names front r.tok.0) (Again cpu r.tok) (taking cpu r.tok r.mode) refl (plain_taking cpu r.tok r.mode)
 
-plain_writes : (cpu : CpuId) (tok : TokId) (cell : ℕ) (values : List (Option ℕ)) → filter is_of_message (writes cpu tok cell values) ≡ []
+plain_writes : (cpu : CpuId) (tok : TokId) (cell : ℕ) (values : List (Option ℕ)) → filter is_of_message (write_events cpu tok cell values) ≡ []
 plain_writes cpu tok cell [] = refl
 plain_writes cpu tok cell (None ∷ values) = plain_writes cpu tok (suc cell) values
 plain_writes cpu tok cell (Some value ∷ values) = plain_writes cpu tok (suc cell) values
 
-plain_record : (cpu : CpuId) (tok : TokId) (bytes : RecordOf) → filter is_of_message (writes_record cpu tok bytes) ≡ []
+plain_record : (cpu : CpuId) (tok : TokId) (bytes : RecordOf) → filter is_of_message (record_write_events cpu tok bytes) ≡ []
 plain_record cpu tok None = refl
 plain_record cpu tok (Some bytes) = refl
 
@@ -166,8 +166,8 @@ plain_releases s held tok events r = elim r [
       | inl written ↦ plain_is events (GiveWritten s.cpu tok (section_now s tok) ∷ []) written.3 refl
       | inr broken ↦
           let stores = broken.2 in
-          let first = writes s.cpu tok 0 stores.0 in
-          let last = writes_record s.cpu tok stores.1.0 in
+          let first = write_events s.cpu tok 0 stores.0 in
+          let last = record_write_events s.cpu tok stores.1.0 in
           let clean = GiveClean s.cpu tok ∷ [] in
           plain_is events (first ++ (last ++ clean)) stores.1.1.2 (plain_append first (last ++ clean) (plain_writes s.cpu tok 0 stores.0) (plain_append last clean (plain_record s.cpu tok stores.1.0) refl))
     ]
@@ -180,7 +180,7 @@ plain_releases_all s front (x ∷ refs) events r = plain_is events (r.0 ++ r.1.0
 
 pub plain_takes_all : (cpu : CpuId) (front refs : List Ref) → filter is_of_message (takes_all cpu front refs) ≡ []
 plain_takes_all cpu front [] = refl
-plain_takes_all cpu front (r ∷ refs) = plain_append (takes cpu front r ∷ []) (takes_all cpu (front ++ r ∷ []) refs) (plain_takes cpu front r) (plain_takes_all cpu (front ++ r ∷ []) refs)
+plain_takes_all cpu front (r ∷ refs) = plain_append (taking_event cpu front r ∷ []) (takes_all cpu (front ++ r ∷ []) refs) (plain_takes cpu front r) (plain_takes_all cpu (front ++ r ∷ []) refs)
 
 plain_gives : (cpu : CpuId) (tok : TokId) (held : Held) → filter is_of_message (gives cpu tok held ∷ []) ≡ []
 plain_gives cpu tok Nothing = refl
@@ -200,7 +200,7 @@ marked_quiet Exclusive cpu tok t v marked unmarked = quiet_one t.items v.items (
 marked_quiet Shared cpu tok t v marked unmarked = quiet_same t v (unmarked refl)
 
 acquired_quiet : (bank : BankId) (a b : CpuSeat) (refs now : List Ref) (new : Ref) (t v : Vec Event Global) (result : Result Acquired Fault) → Acquires bank a b refs now new t v result → IsQuiet t.items v.items
-acquired_quiet bank a b refs now new t v (Ok Got) acquires = quiet_one t.items v.items (takes a.cpu refs new) (acquires.got refl).1 (plain_takes a.cpu refs new)
+acquired_quiet bank a b refs now new t v (Ok Got) acquires = quiet_one t.items v.items (taking_event a.cpu refs new) (acquires.got refl).1 (plain_takes a.cpu refs new)
 acquired_quiet bank a b refs now new t v (Ok (MustSwitch why)) acquires = marked_quiet new.mode a.cpu new.tok t v (acquires.marked why refl) (acquires.unmarked why refl)
 acquired_quiet bank a b refs now new t v (Err fault) acquires = quiet_same t v acquires.err.1
 
@@ -213,7 +213,7 @@ pub got_quiet : (bank : BankId) (a b : CpuSeat) (refs now : List Ref) (new : Ref
 got_quiet bank a b refs now new t u next g = quiet_then t.items g.v.items u.items (acquired_quiet bank a g.mid refs now new t g.v g.result g.acquires) (went_on_quiet g.mid b refs now g.v u next g.result g.goes_on)
 
 pub tried_quiet : (bank : BankId) (a b : CpuSeat) (refs now : List Ref) (tok : TokId) (t u : Vec Event Global) (result : Result (Unit {0}) Fault) → Tries bank a b refs now tok t u result → IsQuiet t.items u.items
-tried_quiet bank a b refs now tok t u (Ok x) g = quiet_one t.items u.items (takes a.cpu refs (exclusive tok)) g.got.1 (plain_takes a.cpu refs (exclusive tok))
+tried_quiet bank a b refs now tok t u (Ok x) g = quiet_one t.items u.items (taking_event a.cpu refs (exclusive tok)) g.got.1 (plain_takes a.cpu refs (exclusive tok))
 tried_quiet bank a b refs now tok t u (Err fault) g = quiet_same t u g.err.1
 
 released_quiet : (a b : CpuSeat) (refs now : List Ref) (tok : TokId) (restored : Bool) (t u : List Event) → ReleasesLast a b refs now tok restored t u → IsQuiet t u

@@ -17,12 +17,12 @@ use Rattle.lwkt_hold.specs.declared.answers.Missed.{Missed}
 use Rattle.lwkt_hold.specs.declared.answers.Missed.TheVariants.{Worn}
 use Rattle.lwkt_hold.specs.Misses.{Misses, fault_of, exclusive}
 use Rattle.lwkt_hold.specs.Rows.{row, blob, OnlyRow, OnlyRecord}
-use Rattle.lwkt_hold.specs.Takings.{takes, TakesRows}
+use Rattle.lwkt_hold.specs.Takings.{taking_event, TakesRows}
 use Rattle.lwkt_hold.specs.Givings.{ReleasesLast}
 
 -- what asking for a reference tells, from one seat, list and trace to the next: `Hold::get`
 pub record Acquires (bank : BankId) (a b : CpuSeat) (refs now : List Ref) (new : Ref) (t u : Vec Event Global) (result : Result Acquired Fault) : Type 0 where
-  pub got : result ≡ Ok Got → (now ≡ refs ++ new ∷ []) × (u.items ≡ t.items ++ takes a.cpu refs new ∷ [])
+  pub got : result ≡ Ok Got → (now ≡ refs ++ new ∷ []) × (u.items ≡ t.items ++ taking_event a.cpu refs new ∷ [])
   pub must_switch : (why : Missed) → result ≡ Ok (MustSwitch why) → (now ≡ refs ++ new ∷ []) × Misses a b now (length refs) why
   pub not_worn : (why : Missed) → result ≡ Ok (MustSwitch why) → why ≢ Worn
   pub marked : (why : Missed) → result ≡ Ok (MustSwitch why) → new.mode ≡ Exclusive → u.items ≡ t.items ++ Mark a.cpu new.tok ∷ []
@@ -37,7 +37,7 @@ pub record Acquires (bank : BankId) (a b : CpuSeat) (refs now : List Ref) (new :
 
 -- what asking for an exclusive reference without blocking tells: `Hold::try_get`
 pub record Tries (bank : BankId) (a b : CpuSeat) (refs now : List Ref) (tok : TokId) (t u : Vec Event Global) (result : Result (Unit {0}) Fault) : Type 0 where
-  pub got : OnOk result ((now ≡ refs ++ exclusive tok ∷ []) × (u.items ≡ t.items ++ takes a.cpu refs (exclusive tok) ∷ []))
+  pub got : OnOk result ((now ≡ refs ++ exclusive tok ∷ []) × (u.items ≡ t.items ++ taking_event a.cpu refs (exclusive tok) ∷ []))
   pub rows : TakesRows a b
   pub err : OnErr result ((now ≡ refs) × (u ≡ t))
   pub no_token : (result ≡ Err NoToken) ↔ (tokens_of bank ≤ tok.0)

@@ -4,7 +4,7 @@ use Rattle.lwkt_core.specs.declared.events.Event.{Event}
 use Rattle.lwkt_core.specs.declared.seats.Deed.{Deed}
 use Rattle.lwkt_core.specs.History.{AreOwn, Grows, events_in}
 use Rattle.lwkt_hold.specs.Steps.{is_of_token}
-use Rattle.lwkt_msg.specs.Desks.{Desk, cpu_of, past_of, IsSameDesk}
+use Rattle.lwkt_msg.specs.Desks.{Desk, desk_cpu, past_of, IsSameDesk}
 
 -- whether an event is one of a message
 abbrev pub is_of_message : Event → Bool
@@ -15,8 +15,8 @@ is_of_message e = not (is_of_token e)
 pub record TellsMail (seat seat' : Desk) (before now : List Event) : Type 0 where
   pub same : IsSameDesk seat seat'
   pub deeds : List Deed
-  pub grows : Grows (cpu_of seat).0 (past_of seat) deeds (past_of seat')
-  pub mine : AreOwn (cpu_of seat).0 deeds
+  pub grows : Grows (desk_cpu seat).0 (past_of seat) deeds (past_of seat')
+  pub mine : AreOwn (desk_cpu seat).0 deeds
   pub done : List Event
   pub trace_is : now ≡ before ++ done
   pub told : filter is_of_message done ≡ events_in deeds

@@ -10,7 +10,7 @@ ghost use Rattle.lwkt_bank.specs.Seats.{id_of, bank_of, holding};
 ghost use Rattle.lwkt_hold.specs.Holds.{seat_of};
 ghost use Rattle.lwkt_hold.specs.Fronts.{IsFront};
 ghost use Rattle.lwkt_hold.specs.Runs.{Ran};
-ghost use Rattle.lwkt_msg.specs.Desks.{cpu_of, messages_of};
+ghost use Rattle.lwkt_msg.specs.Desks.{desk_cpu, messages_of};
 ghost use Rattle.lwkt_port.specs.Posts.{IsSamePost};
 ghost use Rattle.lwkt_port.specs.Works.{Grew};
 ghost use Rattle.lwkt_port.specs.Servings.{PostGets};
@@ -83,7 +83,7 @@ pub(crate) fn send(
     requires room { vec_len trace.old + 512 ≤ vec_capacity trace.old }
     ensures sends { (told : Result (Unit {0}) Fault) × (SendsMail (sending thread msg to call flags false) ports.old ports.new trace.old trace.new told × (last.new ≡ done_or told)) }
     ensures same { IsSamePost ports.old ports.new }
-    ensures grew { Grew (cpu_of ports.old.seat) 1 trace.old trace.new }
+    ensures grew { Grew (desk_cpu ports.old.seat) 1 trace.old trace.new }
     ensures told { TellsMail ports.old.seat ports.new.seat trace.old.items trace.new.items }
 {
     let told = ports.send(book, thread, msg, to, call, flags, trace);
@@ -107,7 +107,7 @@ pub(crate) fn send_and_wait(
 ) -> Next<AnswerKept>
     requires of { bank_of (seat_of hold.old) ≡ id_of bank.now }
     requires table { ports.old.seat.table ≡ book.now.table }
-    requires mine { cpu_of ports.old.seat ≡ (seat_of hold.old).cpu }
+    requires mine { desk_cpu ports.old.seat ≡ (seat_of hold.old).cpu }
     requires held { holding (seat_of hold.old) ≡ holding_of list.now }
     requires room { vec_len trace.old + 512 ≤ vec_capacity trace.old }
     ensures does { Does (sending thread msg to call plain_flags true) ports.old ports.new (seat_of hold.old) (seat_of hold.new) list.now trace.old trace.new (next_with result last.new) }
@@ -141,7 +141,7 @@ pub(crate) fn reply(
     requires room { vec_len trace.old + 512 ≤ vec_capacity trace.old }
     ensures replies { (told : Result (Unit {0}) Fault) × (RepliesMail thread msg error outcome ports.old ports.new trace.old trace.new told × (last.new ≡ done_or told)) }
     ensures same { IsSamePost ports.old ports.new }
-    ensures grew { Grew (cpu_of ports.old.seat) 1 trace.old trace.new }
+    ensures grew { Grew (desk_cpu ports.old.seat) 1 trace.old trace.new }
     ensures told { TellsMail ports.old.seat ports.new.seat trace.old.items trace.new.items }
 {
     let told = ports.reply(book, thread, msg, error, outcome, trace);
@@ -162,7 +162,7 @@ pub(crate) fn abort(
     requires room { vec_len trace.old + 512 ≤ vec_capacity trace.old }
     ensures aborts { (told : Result (Unit {0}) Fault) × (AbortsMail thread msg ports.old ports.new trace.old trace.new told × (last.new ≡ done_or told)) }
     ensures same { IsSamePost ports.old ports.new }
-    ensures grew { Grew (cpu_of ports.old.seat) 1 trace.old trace.new }
+    ensures grew { Grew (desk_cpu ports.old.seat) 1 trace.old trace.new }
     ensures told { TellsMail ports.old.seat ports.new.seat trace.old.items trace.new.items }
 {
     let told = ports.abort(book, thread, msg, trace);
@@ -201,7 +201,7 @@ pub(crate) fn drop_msg(
     requires room { vec_len trace.old + 512 ≤ vec_capacity trace.old }
     ensures drops { (told : Result Rec Fault) × (DropsMail thread msg ports.old ports.new trace.old trace.new told × (last.new ≡ dropped_or msg told)) }
     ensures same { IsSamePost ports.old ports.new }
-    ensures grew { Grew (cpu_of ports.old.seat) 1 trace.old trace.new }
+    ensures grew { Grew (desk_cpu ports.old.seat) 1 trace.old trace.new }
     ensures told { TellsMail ports.old.seat ports.new.seat trace.old.items trace.new.items }
 {
     let told = ports.drop_msg(book, thread, msg, trace);
@@ -222,7 +222,7 @@ pub(crate) fn get_port(
     requires room { vec_len trace.old + 512 ≤ vec_capacity trace.old }
     ensures gets { (told : Result (Option Item) Fault) × (PostGets thread ports.old ports.new trace.old trace.new told × (last.new ≡ item_or told)) }
     ensures same { IsSamePost ports.old ports.new }
-    ensures grew { Grew (cpu_of ports.old.seat) 128 trace.old trace.new }
+    ensures grew { Grew (desk_cpu ports.old.seat) 128 trace.old trace.new }
     ensures told { TellsMail ports.old.seat ports.new.seat trace.old.items trace.new.items }
 {
     let told = ports.get(book, thread, trace);
@@ -244,7 +244,7 @@ pub(crate) fn wait_port(
     requires of { bank_of (seat_of hold.old) ≡ id_of bank.now }
     requires table { ports.old.seat.table ≡ book.now.table }
     requires exists { thread < ports.old.threads }
-    requires mine { cpu_of ports.old.seat ≡ (seat_of hold.old).cpu }
+    requires mine { desk_cpu ports.old.seat ≡ (seat_of hold.old).cpu }
     requires held { holding (seat_of hold.old) ≡ holding_of list.now }
     requires room { vec_len trace.old + 512 ≤ vec_capacity trace.old }
     ensures waits { WaitsPort thread ports.old ports.new (seat_of hold.old) (seat_of hold.new) list.now trace.old trace.new (next_with result last.new) }

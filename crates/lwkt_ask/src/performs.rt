@@ -6,7 +6,7 @@ ghost use Rattle.lwkt_hold.specs.Holds.{seat_of};
 ghost use Rattle.lwkt_hold.specs.Fronts.{IsBetween};
 ghost use Rattle.lwkt_hold.specs.Runs.{Ran};
 ghost use Rattle.lwkt_base.specs.declared.names.MsgId.{MsgId};
-ghost use Rattle.lwkt_msg.specs.Desks.{cpu_of, messages_of};
+ghost use Rattle.lwkt_msg.specs.Desks.{desk_cpu, messages_of};
 ghost use Rattle.lwkt_port.specs.Posts.{IsSamePost};
 ghost use Rattle.lwkt_ask.specs.Nexts.{kept_list, HoldsAfter, next_with, KeepsAnswer};
 ghost use Rattle.lwkt_ask.specs.Table.{Performs};
@@ -64,7 +64,7 @@ pub fn perform(
     requires of { bank_of (seat_of hold.old) ≡ id_of bank.now }
     requires table { ports.old.seat.table ≡ book.now.table }
     requires exists { thread < ports.old.threads }
-    requires mine { cpu_of ports.old.seat ≡ (seat_of hold.old).cpu }
+    requires mine { desk_cpu ports.old.seat ≡ (seat_of hold.old).cpu }
     requires held { holding (seat_of hold.old) ≡ holding_of list.old }
     requires room { vec_len trace.old + 512 ≤ vec_capacity trace.old }
     ensures ran { Ran (IsBetween list.old (kept_list (next_with result last.new) list.new)) 320 (seat_of hold.old) (seat_of hold.new) trace.old trace.new }

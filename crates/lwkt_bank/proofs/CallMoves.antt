@@ -20,7 +20,7 @@ use Rattle.lwkt_bank.specs.declared.views.Plan.{Plan}
 use Rattle.lwkt_bank.specs.declared.views.View.{View}
 use Rattle.lwkt_bank.specs.declared.rules.Key.{Key}
 use Rattle.lwkt_bank.specs.declared.banks.Bank.{Bank}
-use Rattle.lwkt_bank.specs.Views.{at, count_from, held_of, who, named, section_of, exchange, one_section}
+use Rattle.lwkt_bank.specs.Views.{at, count_from, held_of, who, named, ended_section, exchange, one_section}
 use Rattle.lwkt_bank.specs.Deeds.{deed_by, loads, adds_one, marks, gives_one, gives_clean, gives_written, reads, writes, reads_blob, writes_blob}
 use Rattle.lwkt_bank.specs.Hands.{Has, AreHands, IsInHand}
 use Rattle.lwkt_bank.specs.Told.{Told, stays, given_home, Deeds}
@@ -155,7 +155,7 @@ module _ (bank : Bank) (seat : Seat (List ℕ) View) (tok : ℕ) (of : IsOf bank
     pub give_written_asks : AreHands v seat.me.1 → (at v.tokens tok).held ≡ Holds Exclusive 0 → (¬ IsCleanIn (at v.tokens tok)) → IsLawfulIn (plan_at bank.key.plans.items tok) (at v.tokens tok) → Asks word (λ n. (n + one_section) % 2 ^ 64) (puts_back GivesWritten (step slots word one_section 0 none) seat.me)
     give_written_asks hands last written lawful =
         let F : Plan → Type 0 = λ p. IsLawfulIn p (at v.tokens tok) in
-        asks_give hands last (λ n. (n + one_section) % 2 ^ 64) (λ n. gives_written (section_of tok (at v.tokens tok)) cpu tok n) GivesWritten one_section (give_written_deeds key.plans.items key.cpus seat.id v of.named tok there' last written (subst F (sym plan_there) lawful))
+        asks_give hands last (λ n. (n + one_section) % 2 ^ 64) (λ n. gives_written (ended_section tok (at v.tokens tok)) cpu tok n) GivesWritten one_section (give_written_deeds key.plans.items key.cpus seat.id v of.named tok there' last written (subst F (sym plan_there) lawful))
 
   module _ (word cell : ℕ) (is : word ≡ cell_word tok cell) where
     few_cells' : cell < (plan_at bank.key.plans.items tok).cells → cell < 4

@@ -5,7 +5,7 @@ use Rattle.lwkt_base.specs.declared.sections.Section.{Section}
 use Rattle.lwkt_core.specs.declared.seats.Deed.{Deed}
 use Rattle.lwkt_bank.specs.declared.seats.CpuSeat.{CpuSeat}
 use Rattle.lwkt_bank.specs.declared.views.TokenEntry.{TokenEntry}
-use Rattle.lwkt_bank.specs.Views.{is_touched, read, stored, raised, ended, section_of}
+use Rattle.lwkt_bank.specs.Views.{is_touched, read, stored, raised, ended, ended_section}
 use Rattle.lwkt_bank.specs.Deeds.{reads, writes, reads_all, writes_all, gives_written}
 use Rattle.lwkt_bank.specs.Seats.{bank_of, plan_of, entry, Changes, Knowing, Stepped, first_load, last_loads, SectionEnded}
 use Rattle.lwkt_bank.proofs.ChangeMoves.{changed_twice, knowing_none, knowing_read, knowing_then, knowing_more, knowing_both}
@@ -72,19 +72,19 @@ loads_more s mid s' tok cell first second =
     subst G one (knowing_both s mid s' tok (last_loads s.cpu tok (entry s tok) cell) (first_load s.cpu tok (entry s tok) cell) first loaded)
 
 -- a section by its parts
-pub section_told : (tok : ℕ) (e : TokenEntry) (section : Section) → section.before ≡ e.first → section.after ≡ e.row → section.generation ≡ e.generation → section.tok.0 ≡ tok → section ≡ section_of tok e
+pub section_told : (tok : ℕ) (e : TokenEntry) (section : Section) → section.before ≡ e.first → section.after ≡ e.row → section.generation ≡ e.generation → section.tok.0 ≡ tok → section ≡ ended_section tok e
 section_told tok e section before after generation is = λ i. record { before = before i; after = after i; generation = generation i; tok = record { 0 = is i } }
 
 -- the end of a written section after its loads
-pub section_ended : (s mid s' : CpuSeat) (tok : ℕ) (section : Section) → section ≡ section_of tok (entry s tok) → Knowing s mid tok (entry s tok) (last_loads s.cpu tok (entry s tok) (plan_of (bank_of s) tok).cells) → Stepped mid s' tok (ended (entry mid tok)) (gives_written (section_of tok (entry mid tok))) → SectionEnded s s' tok section
+pub section_ended : (s mid s' : CpuSeat) (tok : ℕ) (section : Section) → section ≡ ended_section tok (entry s tok) → Knowing s mid tok (entry s tok) (last_loads s.cpu tok (entry s tok) (plan_of (bank_of s) tok).cells) → Stepped mid s' tok (ended (entry mid tok)) (gives_written (ended_section tok (entry mid tok))) → SectionEnded s s' tok section
 section_ended s mid s' tok section told first second =
-    let F : CpuId → TokenEntry → Type 0 = λ c e. Changes mid s' tok (ended e) (gives_written (section_of tok e) c tok second.found ∷ []) in
+    let F : CpuId → TokenEntry → Type 0 = λ c e. Changes mid s' tok (ended e) (gives_written (ended_section tok e) c tok second.found ∷ []) in
     let gave = subst (λ (e : TokenEntry). F s.cpu e) first.changes.here (subst (λ (c : CpuId). F c (entry mid tok)) first.changes.cpu second.changes) in
     let G : Section → Type 0 = λ x. Changes s s' tok (ended (entry s tok)) (last_loads s.cpu tok (entry s tok) (plan_of (bank_of s) tok).cells ++ gives_written x s.cpu tok second.found ∷ []) in
     record {
       told = told;
       found = second.found;
-      changes = subst G (sym told) (changed_twice s mid s' tok (record (entry s tok) { known = first.known }) (ended (entry s tok)) (last_loads s.cpu tok (entry s tok) (plan_of (bank_of s) tok).cells) (gives_written (section_of tok (entry s tok)) s.cpu tok second.found ∷ []) first.changes gave);
+      changes = subst G (sym told) (changed_twice s mid s' tok (record (entry s tok) { known = first.known }) (ended (entry s tok)) (last_loads s.cpu tok (entry s tok) (plan_of (bank_of s) tok).cells) (gives_written (ended_section tok (entry s tok)) s.cpu tok second.found ∷ []) first.changes gave);
     }
 
 -- an empty list of values is no store, and one value more is one store more

@@ -25,7 +25,7 @@ use Rattle.lwkt_core.proofs.ViewLemmas.{Views-between, Views-noted}
 use Rattle.lwkt_bank.specs.declared.views.Plan.{Plan}
 use Rattle.lwkt_bank.specs.declared.views.TokenEntry.{TokenEntry}
 use Rattle.lwkt_bank.specs.declared.views.View.{View}
-use Rattle.lwkt_bank.specs.Views.{at, count_from, held_of, who, noted, page_of, named, section_of, one_section}
+use Rattle.lwkt_bank.specs.Views.{at, count_from, held_of, who, noted, page_of, named, ended_section, one_section}
 use Rattle.lwkt_bank.specs.Deeds.{deed_by, loads, adds_one, marks, gives_one, gives_clean, gives_written, reads, writes, reads_blob, writes_blob}
 use Rattle.lwkt_bank.specs.Hands.{IsInHand}
 use Rattle.lwkt_bank.specs.Rule.{Bench, Homes, moved, Rule, token_word, cell_word, plan_at}
@@ -148,8 +148,8 @@ module _ (plans : List Plan) (cpus id : ℕ) (v : View) (kind : v.kind ≡ Of (w
     pub give_clean_deeds : e.held ≡ Holds Exclusive 0 → IsCleanIn e → Deeds plans cpus id v (token_word tok) (λ n. (n + (2 ^ 64 - 1)) % 2 ^ 64) (λ n. gives_clean cpu tok n) (given_home e.blob tok) (λ _ n w. Amid v (λ between. GivesClean between tok v n w))
     give_clean_deeds last clean = word_deeds (Sub 1) (λ _. GiveClean cpu t) (given_home e.blob tok) (λ _ between n w. GivesClean between tok v n w) (λ n. refl) (λ n. (refl, refl)) (λ n. refl) (give_clean_steps plans cpus id v tok kind there last clean)
 
-    pub give_written_deeds : e.held ≡ Holds Exclusive 0 → (¬ IsCleanIn e) → IsLawfulIn (plan_at plans tok) e → Deeds plans cpus id v (token_word tok) (λ n. (n + one_section) % 2 ^ 64) (λ n. gives_written (section_of tok e) cpu tok n) (given_home e.blob tok) (λ _ n w. Amid v (λ between. GivesWritten between tok v n w))
-    give_written_deeds last written lawful = word_deeds (Add one_section) (λ _. GiveWritten cpu t (section_of tok e)) (given_home e.blob tok) (λ _ between n w. GivesWritten between tok v n w) (λ n. refl) (λ n. (refl, refl)) (λ n. refl) (give_written_steps plans cpus id v tok kind there last written lawful)
+    pub give_written_deeds : e.held ≡ Holds Exclusive 0 → (¬ IsCleanIn e) → IsLawfulIn (plan_at plans tok) e → Deeds plans cpus id v (token_word tok) (λ n. (n + one_section) % 2 ^ 64) (λ n. gives_written (ended_section tok e) cpu tok n) (given_home e.blob tok) (λ _ n w. Amid v (λ between. GivesWritten between tok v n w))
+    give_written_deeds last written lawful = word_deeds (Add one_section) (λ _. GiveWritten cpu t (ended_section tok e)) (given_home e.blob tok) (λ _ between n w. GivesWritten between tok v n w) (λ n. refl) (λ n. (refl, refl)) (λ n. refl) (give_written_steps plans cpus id v tok kind there last written lawful)
 
     pub read_deeds : is_held e.held ≡ true → (cell : ℕ) → cell < (plan_at plans tok).cells → Deeds plans cpus id v (cell_word tok cell) (λ n. n) (λ n. reads cpu tok cell n) stays (λ _ n w. Amid v (λ between. ReadsCell between tok cell v n w))
     read_deeds held cell within = cell_deeds (cell_word tok cell) (λ n. n) (λ n. Read cpu t cell n) (λ _ between n w. ReadsCell between tok cell v n w) (λ n. (tt, refl)) (read_steps plans cpus id v tok kind there held cell within)

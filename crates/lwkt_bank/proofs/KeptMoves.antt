@@ -49,13 +49,13 @@ use Rattle.lwkt_bank.specs.Seats.{BankId, id_of_desk, entry, past_of, events_of,
 use Rattle.lwkt_bank.specs.Gathered.{written_by, added_by, IsStill, IsClosedToken, Ends, IsHistory, IsClosed}
 use Rattle.lwkt_bank.specs.declared.clerks.ClerkDesk.{ClerkDesk}
 use Rattle.lwkt_bank.specs.declared.rules.Key.{Key}
-use Rattle.lwkt_bank.specs.Closing.{shown_blob, IsReady, IsChapter, kept_of, kept_by, Recalls, Gathering, IsRead, AreRead, Left}
+use Rattle.lwkt_bank.specs.Closing.{shown_blob, IsReady, IsChapter, kept_tally, kept_by, Recalls, Gathering, IsRead, AreRead, Left}
 use Rattle.lwkt_bank.specs.declared.closed.Closed.{Closed}
 use Rattle.lwkt_bank.proofs.ViewMoves.{at-merged}
 use Rattle.lwkt_bank.proofs.GatherMoves.{known_same, known_blob_same}
 
 -- what a seat had kept is what its view says was added
-kept_is : (s : CpuSeat) (k : Kept) (tok cpu : ℕ) → tok < length s.seat.me.0.plans → k.notes ≡ s.notes → k.cpu ≡ s.cpu → kept_of tok cpu k ≡ amount cpu (entry s tok).added
+kept_is : (s : CpuSeat) (k : Kept) (tok cpu : ℕ) → tok < length s.seat.me.0.plans → k.notes ≡ s.notes → k.cpu ≡ s.cpu → kept_tally tok cpu k ≡ amount cpu (entry s tok).added
 kept_is s k tok cpu there notes named =
     let noted = s.kept.each tok there in
     let tally : (note_at k.notes tok).tally ≡ amount s.cpu.0 (entry s tok).added = ap (λ ns. (note_at ns tok).tally) notes ∙ noted.tally in
@@ -150,7 +150,7 @@ gathering_more bank v w all rest front s kept k back so_far last is notes named 
           let split = ap (λ (xs : List CpuSeat). added_by xs tok cpu) last ∙ total-snoc (λ (x : CpuSeat). amount cpu (entry x tok).added) front s in
           omega arith;
       told = λ tok cpu there.
-          let grown = total-snoc (kept_of tok cpu) kept k in
+          let grown = total-snoc (kept_tally tok cpu) kept k in
           let its = kept_is s k tok cpu (omega arith) notes named in
           let before = so_far.told tok cpu there in
           let split = ap (λ (xs : List CpuSeat). added_by xs tok cpu) last ∙ total-snoc (λ (x : CpuSeat). amount cpu (entry x tok).added) front s in

@@ -36,7 +36,7 @@ use Rattle.lwkt_core.proofs.MachineMoves.{references_le}
 use Rattle.lwkt_bank.specs.declared.views.Plan.{Plan}
 use Rattle.lwkt_bank.specs.declared.views.TokenEntry.{TokenEntry}
 use Rattle.lwkt_bank.specs.declared.views.View.{View}
-use Rattle.lwkt_bank.specs.Views.{RecordOf, wrote_record, at, amount, generation_in, count_from, held_of, looked, taken, more, less, ended, section_of, read, stored, raised, who, noted, load, exchange, add, sub, or, one_section}
+use Rattle.lwkt_bank.specs.Views.{RecordOf, wrote_record, at, amount, generation_in, count_from, held_of, looked, taken, more, less, ended, ended_section, read, stored, raised, who, noted, load, exchange, add, sub, or, one_section}
 use Rattle.lwkt_bank.specs.Deeds.{deed_by, writes}
 use Rattle.lwkt_bank.specs.Rule.{IsOpeningRow, Bench, Homes, moved, lies_in, in_slot, without, with_back, Rule, Seen, seen_by, column, token_word, cell_word, plan_at, token_at}
 use Rattle.lwkt_bank.specs.Plays.{Looks, IsTakenRow, Exchanges, AddsOne, Marks, GivesOne, GivesClean, GivesWritten, ReadsCell, StoresCell, RaisesCell, ReadsBlob, WritesBlob}
@@ -113,7 +113,7 @@ Steps plans cpus id v i f event steps home holds = (s : Bench) (r : Rule plans c
     × (Happens r.model (event (slice_index s.words i)) q.model × holds s.homes between (slice_index s.words i) (noted between v e (deed_by (who v) (event (slice_index s.words i)) (steps (slice_index s.words i))))))
 
 -- what a holder knows of its section is the token's
-section_known : (t : TokId) (e : TokenEntry) (tk : Token) → e.generation ≡ tk.generation → e.first ≡ tk.first → e.row ≡ tk.row → section_of t.0 e ≡ section_at t tk
+section_known : (t : TokId) (e : TokenEntry) (tk : Token) → e.generation ≡ tk.generation → e.first ≡ tk.first → e.row ≡ tk.row → ended_section t.0 e ≡ section_at t tk
 section_known t e tk generation first row = λ i. record { before = first i; after = row i; generation = generation i; tok = t }
 
 module _ (plans : List Plan) (cpus id : ℕ) (v : View) (tok : ℕ) (kind : v.kind ≡ Of (who v)) (exists' : tok < length plans) where
@@ -373,7 +373,7 @@ module _ (plans : List Plan) (cpus id : ℕ) (v : View) (tok : ℕ) (kind : v.ki
       (less e, (b.0, (b.1, refl)))
 
   -- and with another row or record
-  pub give_written_steps : e.held ≡ Holds Exclusive 0 → (¬ IsCleanIn e) → IsLawfulIn (plan_at plans tok) e → Steps plans cpus id v (token_word tok) (λ x. (x + one_section) % 2 ^ 64) (λ _. GiveWritten cpu t (section_of tok e)) (λ x. add tok one_section x ∷ []) (given_home e.blob tok) (λ _ between x w. GivesWritten between tok v x w)
+  pub give_written_steps : e.held ≡ Holds Exclusive 0 → (¬ IsCleanIn e) → IsLawfulIn (plan_at plans tok) e → Steps plans cpus id v (token_word tok) (λ x. (x + one_section) % 2 ^ 64) (λ _. GiveWritten cpu t (ended_section tok e)) (λ x. add tok one_section x ∷ []) (given_home e.blob tok) (λ _ between x w. GivesWritten between tok v x w)
   give_written_steps last written lawful s r between here fits =
       let m = sight s r here in
       let x = found s r here in
@@ -386,9 +386,9 @@ module _ (plans : List Plan) (cpus id : ℕ) (v : View) (tok : ℕ) (kind : v.ki
       let H : List ℕ → Type 0 = λ row. Obeys (plan_at plans tok).law (plan_at plans tok).param row (length_of tk.blob) in
       let K : RecordOf → Type 0 = λ b. Obeys (plan_at plans tok).law (plan_at plans tok).param e.row (length_of b) in
       let obeys : IsLawful tk = subst F (sym m.law) (subst G (sym m.param) (subst H own.2 (subst K own.4 lawful))) in
-      let a = word_moves s r here (ended e) between notes (x + one_section) (GiveWritten cpu t (section_of tok e)) (with_back e.blob tok s.homes) (lies_in (token_at r.model tok).blob false) (put s r here last) (with_else e.blob tok s.homes) (at-tok v.tokens tok) refl refl (sym m.held ∙ last, (λ (unchanged : IsClean tk). written (own.2 ∙ unchanged.0 ∙ sym own.1, own.4 ∙ unchanged.1 ∙ sym own.3)), obeys, section_known t e tk own.0 own.1 own.2) (λ adds. absurd (false≢true adds))
-      (turns_give_written r.model.cpus (plan_at plans tok) (token_at r.model tok) cpu e x (cells s r here) m last t (section_of tok e)) in
-      let b = put_as s r here last (noted between v (ended e) (deed_by cpu (GiveWritten cpu t (section_of tok e)) notes)) (GiveWritten cpu t (section_of tok e)) (x + one_section) ((x + one_section) % 2 ^ 64) (omega arith) a in
+      let a = word_moves s r here (ended e) between notes (x + one_section) (GiveWritten cpu t (ended_section tok e)) (with_back e.blob tok s.homes) (lies_in (token_at r.model tok).blob false) (put s r here last) (with_else e.blob tok s.homes) (at-tok v.tokens tok) refl refl (sym m.held ∙ last, (λ (unchanged : IsClean tk). written (own.2 ∙ unchanged.0 ∙ sym own.1, own.4 ∙ unchanged.1 ∙ sym own.3)), obeys, section_known t e tk own.0 own.1 own.2) (λ adds. absurd (false≢true adds))
+      (turns_give_written r.model.cpus (plan_at plans tok) (token_at r.model tok) cpu e x (cells s r here) m last t (ended_section tok e)) in
+      let b = put_as s r here last (noted between v (ended e) (deed_by cpu (GiveWritten cpu t (ended_section tok e)) notes)) (GiveWritten cpu t (ended_section tok e)) (x + one_section) ((x + one_section) % 2 ^ 64) (omega arith) a in
       (ended e, (b.0, (b.1, (generation_is r.model.cpus (plan_at plans tok) tk cpu e x (cells s r here) m ∙ sym own.0, refl))))
 
   -- a cell that is read

@@ -26,13 +26,13 @@ use Rattle.lwkt_core.specs.declared.tokens.Token.{Token}
 use Rattle.lwkt_core.specs.declared.tokens.TheConstants.{CPU_LIMIT}
 use Rattle.lwkt_core.specs.declared.events.Event.TheVariants.{Take, Share, Again, Mark, GiveOne, GiveClean, GiveWritten, Write, WriteBlob}
 use Rattle.lwkt_core.specs.Tokens.{held_by, length_of, tally_of, IsFree, IsOpen, IsNotLastExclusive, IsSafeToken, token_after, tallies_after}
-use Rattle.lwkt_core.specs.Picture.{counted, picture_of}
+use Rattle.lwkt_core.specs.Picture.{count_of_held, picture_of}
 use Rattle.lwkt_bank.specs.declared.views.Plan.{Plan}
 use Rattle.lwkt_bank.specs.declared.views.Added.{Added}
 use Rattle.lwkt_bank.specs.declared.views.TokenEntry.{TokenEntry}
 use Rattle.lwkt_bank.specs.Views.{RecordOf, listed, wrote_record, amount, generation_in, seen, looked, taken, more, less, numbered, ended, read, stored, raised, one_section, one_generation}
 use Rattle.lwkt_bank.specs.Rule.{Knows, IsOpeningRow, lies_in, in_slot}
-use Rattle.lwkt_bank.proofs.WordMoves.{counted-more, exclusive-more, counted-less, exclusive-less, IsOpen-from_picture, picture-open, IsFree-from_picture, count-le, count-set, exclusive-set, exclusive-here, word-room, word-room-written, generation-word, or-marked, decided-exclusive, decided-shared}
+use Rattle.lwkt_bank.proofs.WordMoves.{count_of_held-more, exclusive-more, count_of_held-less, exclusive-less, IsOpen-from_picture, picture-open, IsFree-from_picture, count-le, count-set, exclusive-set, exclusive-here, word-room, word-room-written, generation-word, or-marked, decided-exclusive, decided-shared}
 use Rattle.lwkt_bank.proofs.ShowMoves.{IsOthers, Turns}
 
 -- what a seat's processor sees of a token that it may step on
@@ -207,8 +207,8 @@ module _ (cpus : ℕ) (plan : Plan) (tok : Token) (cpu : CpuId) (e : TokenEntry)
       let more_is : one_more (held_by tok cpu.0) Exclusive ≡ Holds Exclusive 0 = ap (λ h. one_more h Exclusive) (free cpu.0) in
       let kept = seen-keeps e (generation_in n) in
       let counts = count-set tok cpu.0 (one_more (held_by tok cpu.0) Exclusive) inside in
-      let new_counted : counted (one_more (held_by tok cpu.0) Exclusive) ≡ 0 = ap counted more_is in
-      let old_counted : counted (held_by tok cpu.0) ≡ 0 = ap counted (free cpu.0) in
+      let new_counted : count_of_held (one_more (held_by tok cpu.0) Exclusive) ≡ 0 = ap count_of_held more_is in
+      let old_counted : count_of_held (held_by tok cpu.0) ≡ 0 = ap count_of_held (free cpu.0) in
       let bits = exclusive-here tok cpu.0 (one_more (held_by tok cpu.0) Exclusive) inside (ap is_exclusive more_is) in
       let same_bit = ap bit bits in
       let word : next ≡ word_of (picture_of (record tok { holders = set tok.holders cpu.0 (one_more (held_by tok cpu.0) Exclusive); mark = false })) = (let whole = d.3 in omega arith) in
@@ -225,8 +225,8 @@ module _ (cpus : ℕ) (plan : Plan) (tok : Token) (cpu : CpuId) (e : TokenEntry)
       let more_is : one_more (held_by tok cpu.0) Shared ≡ Holds Shared 0 = ap (λ h. one_more h Shared) nothing in
       let kept = seen-keeps e (generation_in n) in
       let counts = count-set tok cpu.0 (one_more (held_by tok cpu.0) Shared) inside in
-      let new_counted : counted (one_more (held_by tok cpu.0) Shared) ≡ 1 = ap counted more_is in
-      let old_counted : counted (held_by tok cpu.0) ≡ 0 = ap counted nothing in
+      let new_counted : count_of_held (one_more (held_by tok cpu.0) Shared) ≡ 1 = ap count_of_held more_is in
+      let old_counted : count_of_held (held_by tok cpu.0) ≡ 0 = ap count_of_held nothing in
       let bits = exclusive-set tok cpu.0 (one_more (held_by tok cpu.0) Shared) inside (ap is_exclusive more_is ∙ sym (ap is_exclusive nothing)) in
       let same_bit = ap bit bits in
       let word : next ≡ word_of (picture_of (record tok { holders = set tok.holders cpu.0 (one_more (held_by tok cpu.0) Shared) })) = (let whole = d.1 in omega arith) in
@@ -241,7 +241,7 @@ module _ (cpus : ℕ) (plan : Plan) (tok : Token) (cpu : CpuId) (e : TokenEntry)
   turns_again is t =
       let h = one_more (held_by tok cpu.0) Shared in
       let counts = count-set tok cpu.0 h inside in
-      let one = counted-more (held_by tok cpu.0) (holds_it is) in
+      let one = count_of_held-more (held_by tok cpu.0) (holds_it is) in
       let bits = exclusive-set tok cpu.0 h inside (exclusive-more (held_by tok cpu.0) (holds_it is)) in
       let same_bit = ap bit bits in
       let word : n + 4 ≡ word_of (picture_of (record tok { holders = set tok.holders cpu.0 h })) = (let whole = sight.count_word in omega arith) in
@@ -254,7 +254,7 @@ module _ (cpus : ℕ) (plan : Plan) (tok : Token) (cpu : CpuId) (e : TokenEntry)
       let h = one_less (held_by tok cpu.0) in
       let may' : IsNotLastExclusive (held_by tok cpu.0) = subst IsNotLastExclusive sight.held may in
       let counts = count-set tok cpu.0 h inside in
-      let one = counted-less (held_by tok cpu.0) may' in
+      let one = count_of_held-less (held_by tok cpu.0) may' in
       let bits = exclusive-set tok cpu.0 h inside (exclusive-less (held_by tok cpu.0) may') in
       let same_bit = ap bit bits in
       let shown : word ≡ word_of (picture_of (record tok { holders = set tok.holders cpu.0 h })) = (let whole = sight.count_word in omega arith) in
@@ -265,8 +265,8 @@ module _ (cpus : ℕ) (plan : Plan) (tok : Token) (cpu : CpuId) (e : TokenEntry)
   pub room_less : IsNotLastExclusive e.held → 4 ≤ n
   room_less may =
       let may' : IsNotLastExclusive (held_by tok cpu.0) = subst IsNotLastExclusive sight.held may in
-      let one = counted-less (held_by tok cpu.0) may' in
-      let most = get_or-le-sum_by counted tok.holders cpu.0 Nothing inside in
+      let one = count_of_held-less (held_by tok cpu.0) may' in
+      let most = get_or-le-sum_by count_of_held tok.holders cpu.0 Nothing inside in
       let whole = sight.count_word in omega arith
 
   pub room_more : n + 4 < 18446744073709551616
@@ -301,8 +301,8 @@ module _ (cpus : ℕ) (plan : Plan) (tok : Token) (cpu : CpuId) (e : TokenEntry)
     word_freed =
         let h = one_less (held_by tok cpu.0) in
         let counts = count-set tok cpu.0 h inside in
-        let new_counted : counted h ≡ 0 = ap counted gone in
-        let old_counted : counted (held_by tok cpu.0) ≡ 0 = ap counted held_last in
+        let new_counted : count_of_held h ≡ 0 = ap count_of_held gone in
+        let old_counted : count_of_held (held_by tok cpu.0) ≡ 0 = ap count_of_held held_last in
         let off = ap bit (picture-open (record tok { holders = set tok.holders cpu.0 h }) nobody) in
         let on = ap bit (list_any_at is_exclusive tok.holders cpu.0 Nothing inside (ap is_exclusive held_last)) in
         let whole = sight.count_word in omega arith

@@ -20,7 +20,7 @@ use Rattle.lwkt_base.specs.Holding.{references_in, is_exclusive, is_held, one_mo
 use Rattle.lwkt_base.specs.TokenWord.{bit, word_of, Fits, decision}
 use Rattle.lwkt_core.specs.declared.tokens.Token.{Token}
 use Rattle.lwkt_core.specs.Tokens.{held_by, IsFree, IsOpen, IsSafeToken, IsNotLastExclusive}
-use Rattle.lwkt_core.specs.Picture.{counted, picture_of}
+use Rattle.lwkt_core.specs.Picture.{count_of_held, picture_of}
 
 -- a bit is 0 or 1
 pub bit-le : (b : Bool) → bit b ≤ 1
@@ -28,22 +28,22 @@ bit-le true = omega arith
 bit-le false = omega arith
 
 -- a holding counts at most its references
-pub counted-le : (held : Held) → counted held ≤ references_in held
-counted-le Nothing = omega arith
-counted-le (Holds Shared further) = omega arith
-counted-le (Holds Exclusive further) = omega arith
+pub count_of_held-le : (held : Held) → count_of_held held ≤ references_in held
+count_of_held-le Nothing = omega arith
+count_of_held-le (Holds Shared further) = omega arith
+count_of_held-le (Holds Exclusive further) = omega arith
 
 -- what isn't held exclusively and doesn't count isn't held
-pub nothing_of : (held : Held) → is_exclusive held ≡ false → counted held ≡ 0 → held ≡ Nothing
+pub nothing_of : (held : Held) → is_exclusive held ≡ false → count_of_held held ≡ 0 → held ≡ Nothing
 nothing_of Nothing shared none = refl
 nothing_of (Holds Shared further) shared none = absurd (omega arith)
 nothing_of (Holds Exclusive further) shared none = absurd (false≢true (sym shared))
 
 -- one reference more counts one more, where something is held already, and where the first is shared
-pub counted-more : (held : Held) → is_held held ≡ true → counted (one_more held Shared) ≡ counted held + 1
-counted-more Nothing is = absurd (false≢true is)
-counted-more (Holds Shared further) is = refl
-counted-more (Holds Exclusive further) is = refl
+pub count_of_held-more : (held : Held) → is_held held ≡ true → count_of_held (one_more held Shared) ≡ count_of_held held + 1
+count_of_held-more Nothing is = absurd (false≢true is)
+count_of_held-more (Holds Shared further) is = refl
+count_of_held-more (Holds Exclusive further) is = refl
 
 pub exclusive-more : (held : Held) → is_held held ≡ true → is_exclusive (one_more held Shared) ≡ is_exclusive held
 exclusive-more Nothing is = absurd (false≢true is)
@@ -51,16 +51,16 @@ exclusive-more (Holds Shared further) is = refl
 exclusive-more (Holds Exclusive further) is = refl
 
 -- one reference less counts one less, where it doesn't end an exclusive holding
-pub counted-less : (held : Held) → IsNotLastExclusive held → counted (one_less held) + 1 ≡ counted held
-counted-less Nothing may = absurd may
-counted-less (Holds Shared further) may = less further (eqb further 0) refl
+pub count_of_held-less : (held : Held) → IsNotLastExclusive held → count_of_held (one_less held) + 1 ≡ count_of_held held
+count_of_held-less Nothing may = absurd may
+count_of_held-less (Holds Shared further) may = less further (eqb further 0) refl
   where
-    less : (n : ℕ) (b : Bool) → eqb n 0 ≡ b → counted (cond b Nothing (Holds Shared (n - 1))) + 1 ≡ n + 1
+    less : (n : ℕ) (b : Bool) → eqb n 0 ≡ b → count_of_held (cond b Nothing (Holds Shared (n - 1))) + 1 ≡ n + 1
     less n true e = let z = eqb-true n 0 e in omega arith
     less n false e = let z = eqb-false n 0 e in omega arith
-counted-less (Holds Exclusive further) may = less further (eqb further 0) refl may
+count_of_held-less (Holds Exclusive further) may = less further (eqb further 0) refl may
   where
-    less : (n : ℕ) (b : Bool) → eqb n 0 ≡ b → 0 < n → counted (cond b Nothing (Holds Exclusive (n - 1))) + 1 ≡ n
+    less : (n : ℕ) (b : Bool) → eqb n 0 ≡ b → 0 < n → count_of_held (cond b Nothing (Holds Exclusive (n - 1))) + 1 ≡ n
     less n true e h = absurd (let z = eqb-true n 0 e in omega arith)
     less n false e h = omega arith
 
@@ -101,15 +101,15 @@ module _ (tok : Token) where
   -- nobody holds the token where its picture has neither an exclusive bit nor a count
   pub IsFree-from_picture : (picture_of tok).exclusive ≡ false → (picture_of tok).count ≡ 0 → IsFree tok
   IsFree-from_picture none zero_count cpu = ⊎_elim
-      (λ (inside : cpu < length tok.holders). let most = get_or-le-sum_by counted tok.holders cpu Nothing inside in nothing_of (held_by tok cpu) (IsOpen-from_picture none cpu) (omega arith))
+      (λ (inside : cpu < length tok.holders). let most = get_or-le-sum_by count_of_held tok.holders cpu Nothing inside in nothing_of (held_by tok cpu) (IsOpen-from_picture none cpu) (omega arith))
       (λ (beyond : length tok.holders ≤ cpu). get_or-eq_default tok.holders Nothing beyond)
       (cases_lt cpu (length tok.holders))
 
   -- the count has room in its bits
   pub count-le : (cpus : ℕ) → IsSafeToken cpus tok → ((cpu : ℕ) → references_in (held_by tok cpu) ≤ 32) → (picture_of tok).count ≤ 256
   count-le cpus safe few =
-      let most : All (λ h. counted h ≤ 32) tok.holders = (λ k d inside. let c = counted-le (get_or tok.holders k Nothing) in let f = few k in let e = ap counted (get_or_default tok.holders k d Nothing inside) in omega arith) in
-      let le = sum_by-le counted 32 tok.holders most in
+      let most : All (λ h. count_of_held h ≤ 32) tok.holders = (λ k d inside. let c = count_of_held-le (get_or tok.holders k Nothing) in let f = few k in let e = ap count_of_held (get_or_default tok.holders k d Nothing inside) in omega arith) in
+      let le = sum_by-le count_of_held 32 tok.holders most in
       let eight = safe.eight_holders in omega arith
 
   pub Fits-safe : (cpus : ℕ) → IsSafeToken cpus tok → ((cpu : ℕ) → references_in (held_by tok cpu) ≤ 32) → Fits (picture_of tok)
@@ -132,8 +132,8 @@ module _ (tok : Token) where
 
   -- the picture after a change of one processor's holding that keeps whether it is exclusive
   module _ (cpu : ℕ) (held : Held) (inside : cpu < length tok.holders) where
-    pub count-set : sum_by counted (set tok.holders cpu held) + counted (held_by tok cpu) ≡ sum_by counted tok.holders + counted held
-    count-set = sum_by-set counted tok.holders cpu held Nothing inside
+    pub count-set : sum_by count_of_held (set tok.holders cpu held) + count_of_held (held_by tok cpu) ≡ sum_by count_of_held tok.holders + count_of_held held
+    count-set = sum_by-set count_of_held tok.holders cpu held Nothing inside
 
     pub exclusive-set : is_exclusive held ≡ is_exclusive (held_by tok cpu) → list_any is_exclusive (set tok.holders cpu held) ≡ list_any is_exclusive tok.holders
     exclusive-set same = list_any-set is_exclusive tok.holders cpu held Nothing inside same

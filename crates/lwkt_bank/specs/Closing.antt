@@ -24,11 +24,11 @@ pub record IsReady (bank : BankId) (s : CpuSeat) : Type 0 where
   pub empty : (tok : ℕ) → tok < length bank.plans → holding s tok ≡ Nothing
 
 -- what a processor has added to a token, by what one seat had kept, and by all
-abbrev pub kept_of : ℕ → ℕ → Kept → ℕ
-kept_of tok cpu k = if k.cpu.0 == cpu then (note_at k.notes tok).tally else 0
+abbrev pub kept_tally : ℕ → ℕ → Kept → ℕ
+kept_tally tok cpu k = if k.cpu.0 == cpu then (note_at k.notes tok).tally else 0
 
 abbrev pub kept_by : List Kept → ℕ → ℕ → ℕ
-kept_by kept tok cpu = total (kept_of tok cpu) kept
+kept_by kept tok cpu = total (kept_tally tok cpu) kept
 
 -- one entry of a token says at least what another says: no earlier generation, and at an equal one each cell known there
 pub record Recalls (d e : TokenEntry) : Type 0 where

@@ -23,7 +23,7 @@ use Rattle.lwkt_core.specs.History.{IsStepOver, AreOthers, IsPastOf, Passes, eve
 use Rattle.lwkt_bank.specs.declared.views.Plan.{Plan}
 use Rattle.lwkt_bank.specs.declared.views.View.{View}
 use Rattle.lwkt_bank.specs.declared.seats.CpuSeat.{CpuSeat}
-use Rattle.lwkt_bank.specs.Views.{one_section, section_of, at, who, page_of, named, count_from, held_of, exchange, first_view, clerk_after, new_seat, joined, spent}
+use Rattle.lwkt_bank.specs.Views.{one_section, ended_section, at, who, page_of, named, count_from, held_of, exchange, first_view, clerk_after, new_seat, joined, spent}
 use Rattle.lwkt_bank.specs.Deeds.{deed_by, loads, adds_one, marks, gives_one, gives_clean, gives_written, reads, writes, reads_blob, writes_blob}
 use Rattle.lwkt_bank.specs.Rule.{Bench, Homes, moved, token_word, cell_word, plan_at, token_at, Knows, Pictures}
 use Rattle.lwkt_bank.specs.Opened.{plans_of, opening_words, opening_slots}
@@ -153,7 +153,7 @@ SubIsGiveClean = AtSeat (λ plans cpus id v tok. (at v.tokens tok).held ≡ Hold
 
 abbrev pub AddIsGiveWritten : Type 0
 AddIsGiveWritten = AtSeat (λ plans cpus id v tok. (at v.tokens tok).held ≡ Holds Exclusive 0 → ¬ IsCleanIn (at v.tokens tok) → IsLawfulIn (plan_at plans tok) (at v.tokens tok)
-    → Deeds plans cpus id v (token_word tok) (λ n. (n + one_section) % 2 ^ 64) (λ n. gives_written (section_of tok (at v.tokens tok)) (who v) tok n) (given_home (at v.tokens tok).blob tok) (λ _ n w. Amid v (λ between. GivesWritten between tok v n w)))
+    → Deeds plans cpus id v (token_word tok) (λ n. (n + one_section) % 2 ^ 64) (λ n. gives_written (ended_section tok (at v.tokens tok)) (who v) tok n) (given_home (at v.tokens tok).blob tok) (λ _ n w. Amid v (λ between. GivesWritten between tok v n w)))
 
 abbrev pub CellLoadIsRead : Type 0
 CellLoadIsRead = AtSeat (λ plans cpus id v tok. is_held (at v.tokens tok).held ≡ true → (cell : ℕ) → cell < (plan_at plans tok).cells → Deeds plans cpus id v (cell_word tok cell) (λ n. n) (λ n. reads (who v) tok cell n) stays (λ _ n w. Amid v (λ between. ReadsCell between tok cell v n w)))

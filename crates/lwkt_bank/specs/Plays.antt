@@ -11,7 +11,7 @@ use Rattle.lwkt_core.specs.History.{AreOthers}
 use Rattle.lwkt_bank.specs.declared.views.Plan.{Plan}
 use Rattle.lwkt_bank.specs.declared.views.TokenEntry.{TokenEntry}
 use Rattle.lwkt_bank.specs.declared.views.View.{View}
-use Rattle.lwkt_bank.specs.Views.{RecordOf, at, amount, generation_in, looked, taken, more, less, ended, section_of, read, wrote_record, stored, raised, who, noted}
+use Rattle.lwkt_bank.specs.Views.{RecordOf, at, amount, generation_in, looked, taken, more, less, ended, ended_section, read, wrote_record, stored, raised, who, noted}
 use Rattle.lwkt_bank.specs.Deeds.{loads, takes, loses, adds_one, marks, gives_one, gives_clean, gives_written, reads, writes, reads_blob, writes_blob}
 use Rattle.lwkt_bank.specs.Rule.{token_word, cell_word, IsOpeningRow, plan_at}
 
@@ -73,7 +73,7 @@ abbrev pub GivesClean : List Deed → ℕ → View → ℕ → View → Type 0
 GivesClean between tok v n w = w ≡ noted between v (less (at v.tokens tok)) (gives_clean (who v) tok n)
 
 abbrev pub GivesWritten : List Deed → ℕ → View → ℕ → View → Type 0
-GivesWritten between tok v n w = (generation_in n ≡ (at v.tokens tok).generation) × (w ≡ noted between v (ended (at v.tokens tok)) (gives_written (section_of tok (at v.tokens tok)) (who v) tok n))
+GivesWritten between tok v n w = (generation_in n ≡ (at v.tokens tok).generation) × (w ≡ noted between v (ended (at v.tokens tok)) (gives_written (ended_section tok (at v.tokens tok)) (who v) tok n))
 
 -- what a step tells that ends a section: it puts the token's record back, if it has one
 abbrev pub puts_back : (List Deed → ℕ → View → ℕ → View → Type 0) → Step (List ℕ) → Me (List ℕ) View → ℕ → Me (List ℕ) View → Type 0

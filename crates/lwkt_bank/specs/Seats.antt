@@ -31,7 +31,7 @@ use Rattle.lwkt_bank.specs.declared.answers.Given.TheVariants.{One, Clean, Writt
 use Rattle.lwkt_core.specs.declared.seats.Deed.{Deed}
 use Rattle.lwkt_core.specs.declared.events.Event.{Event}
 use Rattle.lwkt_core.specs.History.{steps_by, events_by, AreOwn, Grows}
-use Rattle.lwkt_bank.specs.Views.{RecordOf, at, count_from, held_of, generation_in, is_touched, looked, taken, less, ended, section_of, who}
+use Rattle.lwkt_bank.specs.Views.{RecordOf, at, count_from, held_of, generation_in, is_touched, looked, taken, less, ended, ended_section, who}
 use Rattle.lwkt_bank.specs.Deeds.{loads, takes, loses, gives_one, gives_clean, gives_written, reads, writes_all, reads_blob, writes_blob_if}
 use Rattle.lwkt_bank.specs.Plays.{IsTakenRow}
 use Rattle.lwkt_bank.specs.Rule.{plan_at}
@@ -183,7 +183,7 @@ last_loads cpu tok e (suc cells) = last_loads cpu tok e cells ++ first_load cpu 
 
 -- the end of a written section, which is told: each cell that wasn't stored to in it was loaded once before, and no other
 pub record SectionEnded (s s' : CpuSeat) (tok : ℕ) (section : Section) : Type 0 where
-  pub told : section ≡ section_of tok (entry s tok)
+  pub told : section ≡ ended_section tok (entry s tok)
   pub found : ℕ
   pub changes : Changes s s' tok (ended (entry s tok)) (last_loads s.cpu tok (entry s tok) (plan_of (bank_of s) tok).cells ++ gives_written section s.cpu tok found ∷ [])
 

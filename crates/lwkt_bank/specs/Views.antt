@@ -137,8 +137,8 @@ abbrev pub named : ℕ → TokId
 named tok = record { 0 = tok }
 
 -- the section that a holder ends: its first row, its row, and the generation at which it began
-abbrev pub section_of : ℕ → TokenEntry → Section
-section_of tok e = record { before = e.first; after = e.row; generation = e.generation; tok = named tok }
+abbrev pub ended_section : ℕ → TokenEntry → Section
+ended_section tok e = record { before = e.first; after = e.row; generation = e.generation; tok = named tok }
 
 -- the view of the clerk at the opening
 abbrev pub first_view : List Plan → View

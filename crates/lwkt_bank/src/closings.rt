@@ -7,7 +7,7 @@ ghost use Rattle.lwkt_base.specs.declared.laws.Law.TheVariants.{Tally};
 ghost use Rattle.lwkt_bank.specs.Rule.{Bench, Rule, cell_word, plan_at, table_words};
 ghost use Rattle.lwkt_bank.specs.Notes.{note_at};
 ghost use Rattle.lwkt_bank.specs.Views.{RecordOf};
-ghost use Rattle.lwkt_bank.specs.Closing.{shown_blob, kept_of, kept_by, IsRead, AreRead, Left, IsReady, HasRoom, IsEmptyRoom};
+ghost use Rattle.lwkt_bank.specs.Closing.{shown_blob, kept_tally, kept_by, IsRead, AreRead, Left, IsReady, HasRoom, IsEmptyRoom};
 ghost use Rattle.lwkt_bank.specs.Seats.{id_of, id_of_desk, cpus_of};
 ghost use Rattle.lwkt_bank.specs.Gathered.{IsClosed};
 
@@ -79,7 +79,7 @@ pub(crate) fn last_words(
 
 fn added_of(kept: &Kept, tok: usize, cpu: usize) -> u64
     requires { tok < 64 }
-    ensures { result ≡ kept_of tok cpu kept.now }
+    ensures { result ≡ kept_tally tok cpu kept.now }
 {
     if kept.cpu.0 as usize == cpu {
         kept.notes[tok].tally
@@ -91,8 +91,8 @@ fn added_of(kept: &Kept, tok: usize, cpu: usize) -> u64
 // What a processor has added to a token, over all that was kept.
 fn added(kept: &[Kept], tok: usize, cpu: usize) -> u64
     requires room { tok < 64 }
-    requires fits { sum_by (kept_of tok cpu) kept.now < 2 ^ 64 }
-    ensures { result ≡ sum_by (kept_of tok cpu) kept.now }
+    requires fits { sum_by (kept_tally tok cpu) kept.now < 2 ^ 64 }
+    ensures { result ≡ sum_by (kept_tally tok cpu) kept.now }
 {
     let mut sum = 0u64;
     for one in kept {

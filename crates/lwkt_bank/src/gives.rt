@@ -2,7 +2,7 @@
 ghost use Rattle.std.specs.Prelude.{◌≡◌, ◌≢◌, ◌⊎◌, ◌+◌, ◌<◌, ◌≤◌, length, true, false};
 ghost use Rattle.std.specs.List.{list_any};
 ghost use Rattle.lwkt_base.specs.Holding.{is_held, is_exclusive};
-ghost use Rattle.lwkt_bank.specs.Views.{less, ended, section_of};
+ghost use Rattle.lwkt_bank.specs.Views.{less, ended, ended_section};
 ghost use Rattle.lwkt_bank.specs.Deeds.{gives_one, gives_clean, gives_written};
 ghost use Rattle.lwkt_core.specs.Tokens.{IsNotLastExclusive};
 ghost use Rattle.lwkt_bank.specs.Notes.{is_other};
@@ -118,7 +118,7 @@ impl CpuSeat {
         requires last { holding self.old tok.0 ≡ Held.Holds Mode.Exclusive 0 }
         requires written { ¬ IsCleanIn (entry self.old tok.0) }
         requires lawful { IsLawfulIn (plan_of (bank_of self.old) tok.0) (entry self.old tok.0) }
-        ensures stepped { Stepped self.old self.new tok.0 (ended (entry self.old tok.0)) (gives_written (section_of tok.0 (entry self.old tok.0))) }
+        ensures stepped { Stepped self.old self.new tok.0 (ended (entry self.old tok.0)) (gives_written (ended_section tok.0 (entry self.old tok.0))) }
         ensures generation { result ≡ (entry self.old tok.0).generation }
     {
         let note = &mut self.notes[tok.0 as usize];

@@ -12,7 +12,7 @@ use Rattle.std.proofs.Math.Path.{fun_ext}
 use Rattle.lwkt_base.specs.declared.names.Mode.{Mode}
 use Rattle.lwkt_base.specs.declared.names.Mode.TheVariants.{Exclusive, Shared}
 use Rattle.lwkt_base.specs.declared.names.Ref.{Ref}
-use Rattle.lwkt_base.specs.Refs.{is_to, first_mode, IsLawful, IsLastTo, EndsInOneToken, AreExchanged}
+use Rattle.lwkt_base.specs.Refs.{is_to, first_mode, IsLawfulList, IsLastTo, EndsInOneToken, AreExchanged}
 use Rattle.lwkt_base.specs.Holding.{Holding, added, holding_of, holds_nothing}
 
 -- a reference to the token is shared
@@ -33,8 +33,8 @@ first_mode-push : (refs : List Ref) (r : Ref) (tok : ℕ) → first_mode (refs +
 first_mode-push refs r tok = ap (option_map (λ q. q.mode)) (find-append (is_to tok) refs (r ∷ []))
 
 -- a lawful list stays lawful under a push that upgrades nothing
-pub IsLawful-push : (refs : List Ref) (r : Ref) → IsLawful refs → (r.mode ≡ Exclusive → first_mode refs r.tok.0 ≡ Some Shared → ⊥) → IsLawful (refs ++ r ∷ [])
-IsLawful-push refs r lawful fits = λ tok shared. go tok (find (is_to tok) refs) refl (rw first_mode-push at shared)
+pub IsLawfulList-push : (refs : List Ref) (r : Ref) → IsLawfulList refs → (r.mode ≡ Exclusive → first_mode refs r.tok.0 ≡ Some Shared → ⊥) → IsLawfulList (refs ++ r ∷ [])
+IsLawfulList-push refs r lawful fits = λ tok shared. go tok (find (is_to tok) refs) refl (rw first_mode-push at shared)
   where
     last_shared : (tok : ℕ) → first_mode refs tok ≡ Some Shared → r.tok.0 ≡ tok → (m : Mode) → r.mode ≡ m → r.mode ≡ Shared
     last_shared tok shared to Shared is = is
@@ -49,8 +49,8 @@ IsLawful-push refs r lawful fits = λ tok shared. go tok (find (is_to tok) refs)
         (λ to. let hit : is_to tok r ≡ true = eq-eqb r.tok.0 tok to in let e : Some r.mode ≡ Some Shared = rw hit at shared in cc)
 
 -- a front of a lawful list is lawful
-pub IsLawful-front : (refs : List Ref) (r : Ref) → IsLawful (refs ++ r ∷ []) → IsLawful refs
-IsLawful-front refs r lawful = λ tok shared. go tok (find (is_to tok) refs) refl shared
+pub IsLawfulList-front : (refs : List Ref) (r : Ref) → IsLawfulList (refs ++ r ∷ []) → IsLawfulList refs
+IsLawfulList-front refs r lawful = λ tok shared. go tok (find (is_to tok) refs) refl shared
   where
     go : (tok : ℕ) (found : Option Ref) → find (is_to tok) refs ≡ found → option_map (λ q. q.mode) found ≡ Some Shared → All (SharedTo tok) refs
     go tok (Some q) is shared =
@@ -73,8 +73,8 @@ find-exchanged tok before last apart =
     ]
 
 -- an exchange of the two last keeps a list lawful
-pub IsLawful-exchanged : (front : List Ref) (before last : Ref) → before.tok.0 ≢ last.tok.0 → IsLawful (front ++ (before ∷ last ∷ [])) → IsLawful (front ++ (last ∷ before ∷ []))
-IsLawful-exchanged front before last apart lawful = λ tok shared.
+pub IsLawfulList-exchanged : (front : List Ref) (before last : Ref) → before.tok.0 ≢ last.tok.0 → IsLawfulList (front ++ (before ∷ last ∷ [])) → IsLawfulList (front ++ (last ∷ before ∷ []))
+IsLawfulList-exchanged front before last apart lawful = λ tok shared.
     let P = SharedTo tok in
     let same : first_mode (front ++ (before ∷ last ∷ [])) tok ≡ Some Shared =
     ap (option_map (λ (q : Ref). q.mode)) (find-append (is_to tok) front (before ∷ last ∷ []) ∙ ap (option_or (find (is_to tok) front)) (find-exchanged tok before last apart) ∙ sym (find-append (is_to tok) front (last ∷ before ∷ []))) ∙ shared in
@@ -114,26 +114,26 @@ pub take_two-set : (refs : List Ref) (n : ℕ) (a b : Ref) → 2 ≤ n → n ≤
 take_two-set refs n a b two within = grind (arith, common_steps)
 
 -- what a push into the array leaves is lawful
-pub IsLawful_pushed : (items : List Ref) (n : ℕ) (r : Ref) → n < length items → IsLawful (take n items) → (r.mode ≡ Exclusive → first_mode (take n items) r.tok.0 ≡ Some Shared → ⊥) → IsLawful (take (n + 1) (set items n r))
+pub IsLawful_pushed : (items : List Ref) (n : ℕ) (r : Ref) → n < length items → IsLawfulList (take n items) → (r.mode ≡ Exclusive → first_mode (take n items) r.tok.0 ≡ Some Shared → ⊥) → IsLawfulList (take (n + 1) (set items n r))
 IsLawful_pushed items n r room lawful fits =
-    let F : List Ref → Type 0 = λ refs. IsLawful refs in
-    subst F (sym (take_more_set items n r room)) (IsLawful-push (take n items) r lawful fits)
+    let F : List Ref → Type 0 = λ refs. IsLawfulList refs in
+    subst F (sym (take_more_set items n r room)) (IsLawfulList-push (take n items) r lawful fits)
 
 -- what a pop leaves is lawful
-pub IsLawful_popped : (items : List Ref) (n : ℕ) (d : Ref) → 0 < n → n ≤ length items → IsLawful (take n items) → IsLawful (take (n - 1) items)
+pub IsLawful_popped : (items : List Ref) (n : ℕ) (d : Ref) → 0 < n → n ≤ length items → IsLawfulList (take n items) → IsLawfulList (take (n - 1) items)
 IsLawful_popped items n d some within lawful =
-    let F : List Ref → Type 0 = λ refs. IsLawful refs in
+    let F : List Ref → Type 0 = λ refs. IsLawfulList refs in
     let e : take n items ≡ take (n - 1) items ++ get_or items (n - 1) d ∷ [] = grind (arith, common_steps) in
-    IsLawful-front (take (n - 1) items) (get_or items (n - 1) d) (subst F e lawful)
+    IsLawfulList-front (take (n - 1) items) (get_or items (n - 1) d) (subst F e lawful)
 
 -- what an exchange leaves is lawful
-pub IsLawful_swapped : (items : List Ref) (n : ℕ) (d : Ref) → 2 ≤ n → n ≤ length items → (get_or items (n - 1) d).tok.0 ≢ (get_or items (n - 2) d).tok.0 → IsLawful (take n items) → IsLawful (take n (set (set items (n - 2) (get_or items (n - 1) d)) (n - 1) (get_or items (n - 2) d)))
+pub IsLawful_swapped : (items : List Ref) (n : ℕ) (d : Ref) → 2 ≤ n → n ≤ length items → (get_or items (n - 1) d).tok.0 ≢ (get_or items (n - 2) d).tok.0 → IsLawfulList (take n items) → IsLawfulList (take n (set (set items (n - 2) (get_or items (n - 1) d)) (n - 1) (get_or items (n - 2) d)))
 IsLawful_swapped items n d two within apart lawful =
-    let F : List Ref → Type 0 = λ refs. IsLawful refs in
+    let F : List Ref → Type 0 = λ refs. IsLawfulList refs in
     let before = get_or items (n - 2) d in
     let last = get_or items (n - 1) d in
     subst F (sym (take_two-set items n last before two within))
-    (IsLawful-exchanged (take (n - 2) items) before last (λ e. apart (sym e)) (subst F (take_two items n d two within) lawful))
+    (IsLawfulList-exchanged (take (n - 2) items) before last (λ e. apart (sym e)) (subst F (take_two items n d two within) lawful))
 
 -- the last reference of what the array has
 last_of : (items : List Ref) (n : ℕ) (d : Ref) → 0 < n → n ≤ length items → take n items ≡ take (n - 1) items ++ (get_or items (n - 1) d ∷ [])

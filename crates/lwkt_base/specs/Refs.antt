@@ -16,8 +16,8 @@ abbrev pub references_to : List Ref → ℕ → ℕ
 references_to refs tok = count_by (is_to tok) refs
 
 -- a token whose first reference is shared has only shared references (own)
-abbrev pub IsLawful : List Ref → Type 0
-IsLawful refs = (tok : ℕ) → first_mode refs tok ≡ Some Shared → All (λ r. r.tok.0 ≡ tok → r.mode ≡ Shared) refs
+abbrev pub IsLawfulList : List Ref → Type 0
+IsLawfulList refs = (tok : ℕ) → first_mode refs tok ≡ Some Shared → All (λ r. r.tok.0 ≡ tok → r.mode ≡ Shared) refs
 
 -- the last reference is to the token
 abbrev pub IsLastTo : List Ref → ℕ → Type 0

@@ -18,13 +18,13 @@ pub struct TokList {
 impl Model for TokList {
     ghost use Rattle.std.specs.Prelude.{List, take, ◌≤◌};
     ghost use Rattle.lwkt_base.specs.declared.names.Ref.{Ref};
-    ghost use Rattle.lwkt_base.specs.Refs.{IsLawful};
+    ghost use Rattle.lwkt_base.specs.Refs.{IsLawfulList};
 
     ghost Value = { List Ref };
 
     ghost view = { λ l. take l.count l.items };
 
-    ghost invariant = { λ l. (l.count ≤ 32) × IsLawful (take l.count l.items) };
+    ghost invariant = { λ l. (l.count ≤ 32) × IsLawfulList (take l.count l.items) };
 }
 
 const UNUSED: Ref = Ref {
@@ -33,7 +33,7 @@ const UNUSED: Ref = Ref {
 };
 
 impl TokList {
-    ghost use Rattle.lwkt_base.specs.Refs.{first_mode, IsLastTo, IsLawful, EndsInOneToken, AreExchanged};
+    ghost use Rattle.lwkt_base.specs.Refs.{first_mode, IsLastTo, IsLawfulList, EndsInOneToken, AreExchanged};
     ghost use Rattle.lwkt_base.specs.Holding.{holding_of};
 
     /// The empty list.
@@ -50,7 +50,7 @@ impl TokList {
     pub fn refs(&self) -> &[Ref]
         ensures value { result.now ≡ self.now }
         ensures within { length self.now ≤ 32 }
-        ensures lawful { IsLawful self.now }
+        ensures lawful { IsLawfulList self.now }
     {
         &self.items[..self.count]
     }

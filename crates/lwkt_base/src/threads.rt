@@ -1,3 +1,6 @@
+ghost use Rattle.std.specs.Prelude.{◌≡◌};
+ghost use Rattle.lwkt_base.specs.Threads.{has_ended};
+
 use crate::faults::Fault;
 
 /// What a thread is doing between two turns of its processor.
@@ -13,4 +16,13 @@ pub enum ThreadState {
     Exited,
     /// It was ended by a fault.
     Faulted(Fault),
+}
+
+impl ThreadState {
+    /// Whether the thread has ended: it exited, or a fault ended it.
+    pub fn has_ended(self) -> bool
+        ensures { result ≡ has_ended self }
+    {
+        matches!(self, ThreadState::Exited | ThreadState::Faulted(_))
+    }
 }

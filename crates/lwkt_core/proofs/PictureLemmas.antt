@@ -20,7 +20,7 @@ use Rattle.lwkt_base.specs.TokenWord.{bit, word_of, decision}
 use Rattle.lwkt_core.specs.declared.tokens.Token.{Token}
 use Rattle.lwkt_core.specs.declared.events.Event.TheVariants.{Take, Share}
 use Rattle.lwkt_core.specs.Tokens.{held_by, IsFree, IsOpen, IsSafeToken, token_after}
-use Rattle.lwkt_core.specs.Picture.{counted, picture_of, DecisionsAreEvents, PicturesFit}
+use Rattle.lwkt_core.specs.Picture.{count_of_held, picture_of, DecisionsAreEvents, PicturesFit}
 use Rattle.lwkt_core.proofs.MachineMoves.{references_le}
 
 -- a bit is 0 or 1
@@ -29,13 +29,13 @@ bit-le true = omega arith
 bit-le false = omega arith
 
 -- a holding counts at most its references
-counted-le : (held : Held) → counted held ≤ references_in held
-counted-le Nothing = omega arith
-counted-le (Holds Shared further) = omega arith
-counted-le (Holds Exclusive further) = omega arith
+count_of_held-le : (held : Held) → count_of_held held ≤ references_in held
+count_of_held-le Nothing = omega arith
+count_of_held-le (Holds Shared further) = omega arith
+count_of_held-le (Holds Exclusive further) = omega arith
 
 -- what isn't held exclusively and doesn't count isn't held
-nothing_of : (held : Held) → is_exclusive held ≡ false → counted held ≡ 0 → held ≡ Nothing
+nothing_of : (held : Held) → is_exclusive held ≡ false → count_of_held held ≡ 0 → held ≡ Nothing
 nothing_of Nothing shared none = refl
 nothing_of (Holds Shared further) shared none = absurd (omega arith)
 nothing_of (Holds Exclusive further) shared none = absurd (false≢true (sym shared))
@@ -63,35 +63,35 @@ picture-open tok opened = list_any_none is_exclusive tok.holders (λ k d inside.
 -- nobody holds the token where its picture has neither an exclusive bit nor a count
 pub IsFree-from_picture : (tok : Token) → (picture_of tok).exclusive ≡ false → (picture_of tok).count ≡ 0 → IsFree tok
 IsFree-from_picture tok none no_count cpu = ⊎_elim
-    (λ (inside : cpu < length tok.holders). let most = get_or-le-sum_by counted tok.holders cpu Nothing inside in nothing_of (held_by tok cpu) (IsOpen-from_picture tok none cpu) (omega arith))
+    (λ (inside : cpu < length tok.holders). let most = get_or-le-sum_by count_of_held tok.holders cpu Nothing inside in nothing_of (held_by tok cpu) (IsOpen-from_picture tok none cpu) (omega arith))
     (λ (beyond : length tok.holders ≤ cpu). get_or-eq_default tok.holders Nothing beyond)
     (cases_lt cpu (length tok.holders))
 
 -- the picture of a token that nobody holds has no count
 pub picture-free : (tok : Token) → IsFree tok → (picture_of tok).count ≡ 0
 picture-free tok free =
-    let none : All (λ held. counted held ≤ 0) tok.holders = (λ k d inside. let e = ap counted (get_or_default tok.holders k d Nothing inside ∙ free k) in omega arith) in
-    let le = sum_by-le counted 0 tok.holders none in omega arith
+    let none : All (λ held. count_of_held held ≤ 0) tok.holders = (λ k d inside. let e = ap count_of_held (get_or_default tok.holders k d Nothing inside ∙ free k) in omega arith) in
+    let le = sum_by-le count_of_held 0 tok.holders none in omega arith
 
 -- where a processor that holds nothing takes a first reference, the picture gains what that holding counts
-pub count-first : (tok : Token) (cpu : ℕ) (held : Held) → cpu < length tok.holders → held_by tok cpu ≡ Nothing → sum_by counted (set tok.holders cpu held) ≡ sum_by counted tok.holders + counted held
+pub count-first : (tok : Token) (cpu : ℕ) (held : Held) → cpu < length tok.holders → held_by tok cpu ≡ Nothing → sum_by count_of_held (set tok.holders cpu held) ≡ sum_by count_of_held tok.holders + count_of_held held
 count-first tok cpu held inside nothing =
-    let grown = sum_by-set counted tok.holders cpu held Nothing inside in
-    let none = ap counted nothing in omega (arith, grown, none)
+    let grown = sum_by-set count_of_held tok.holders cpu held Nothing inside in
+    let none = ap count_of_held nothing in omega (arith, grown, none)
 
 -- the picture after Take has the exclusive bit, no mark, and the same count
 pub picture-taken : (tok : Token) (cpu : CpuId) (t : TokId) → cpu.0 < length tok.holders → held_by tok cpu.0 ≡ Nothing → picture_of (token_after tok (Take cpu t)) ≡ record (picture_of tok) { exclusive = true; mark = false }
 picture-taken tok cpu t inside nothing = rw nothing (
     let l = length-set tok.holders cpu.0 (Holds Exclusive 0) in
     let bits = list_any_at is_exclusive (set tok.holders cpu.0 (Holds Exclusive 0)) cpu.0 Nothing (omega arith) (ap is_exclusive (get_or-set_same tok.holders cpu.0 (Holds Exclusive 0) Nothing inside)) in
-    let same : sum_by counted (set tok.holders cpu.0 (Holds Exclusive 0)) ≡ sum_by counted tok.holders = (let g = count-first tok cpu.0 (Holds Exclusive 0) inside nothing in omega (arith, g)) in
+    let same : sum_by count_of_held (set tok.holders cpu.0 (Holds Exclusive 0)) ≡ sum_by count_of_held tok.holders = (let g = count-first tok cpu.0 (Holds Exclusive 0) inside nothing in omega (arith, g)) in
     rw (bits, same) refl)
 
 -- the picture after Share has one more in its count
 pub picture-shared : (tok : Token) (cpu : CpuId) (t : TokId) → cpu.0 < length tok.holders → held_by tok cpu.0 ≡ Nothing → picture_of (token_after tok (Share cpu t)) ≡ record (picture_of tok) { count = (picture_of tok).count + 1 }
 picture-shared tok cpu t inside nothing = rw nothing (
     let bits = list_any-set is_exclusive tok.holders cpu.0 (Holds Shared 0) Nothing inside (sym (ap is_exclusive nothing)) in
-    let more : sum_by counted (set tok.holders cpu.0 (Holds Shared 0)) ≡ sum_by counted tok.holders + 1 = (let g = count-first tok cpu.0 (Holds Shared 0) inside nothing in omega (arith, g)) in
+    let more : sum_by count_of_held (set tok.holders cpu.0 (Holds Shared 0)) ≡ sum_by count_of_held tok.holders + 1 = (let g = count-first tok cpu.0 (Holds Shared 0) inside nothing in omega (arith, g)) in
     rw (bits, more) refl)
 
 -- what an exclusive request finds where it takes the token
@@ -141,8 +141,8 @@ decides cpus tok cpu t alone few safe here nothing = record {
 -- the count has room in its bits
 pub count-le : (cpus : ℕ) (tok : Token) → IsSafeToken cpus tok → ((cpu : ℕ) → references_in (held_by tok cpu) ≤ 32) → (picture_of tok).count ≤ 256
 count-le cpus tok safe few =
-    let most : All (λ held. counted held ≤ 32) tok.holders = (λ k d inside. let c = counted-le (get_or tok.holders k Nothing) in let f = few k in let e = ap counted (get_or_default tok.holders k d Nothing inside) in omega arith) in
-    let le = sum_by-le counted 32 tok.holders most in
+    let most : All (λ held. count_of_held held ≤ 32) tok.holders = (λ k d inside. let c = count_of_held-le (get_or tok.holders k Nothing) in let f = few k in let e = ap count_of_held (get_or_default tok.holders k d Nothing inside) in omega arith) in
+    let le = sum_by-le count_of_held 32 tok.holders most in
     let eight = safe.eight_holders in omega arith
 
 -- the word has room for another reference

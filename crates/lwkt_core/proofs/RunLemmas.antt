@@ -23,7 +23,7 @@ use Rattle.lwkt_core.specs.Tokens.{tally_of, tallies_after, length_of, IsClean, 
 use Rattle.lwkt_core.specs.Messages.{MessageNeeds, message_after, in_out, in_with, owner_taken, owner_replied, IsOutTo, IsOutFrom, IsWith}
 use Rattle.lwkt_core.specs.Machine.{Machine, IsSafe, Needs, PlaceNeeds, Happens, after, after_at}
 use Rattle.lwkt_core.specs.Trace.{Run}
-use Rattle.lwkt_core.specs.Headline.{sends, takes, drops, replies, reaps, takes_or_drops, reaps_or_drops, LiesBetween, MessagesGoRound, EachSendIsAnsweredOnce, AnswersAreOfTheirSend, Section, section_of, ends_written, sections_of, IsChain, SectionsAreChain, RowsStandBetweenSections, IsRecordChain, RecordsAreChain, RecordsStandBetweenSections, blob_after, blob_after_all, blobs_left, RecordsAreLastWritten, RunsAreCompatible, RunsKeepLaws, raise_of, raised_by, TalliesAreRaises, CountsAreEvents}
+use Rattle.lwkt_core.specs.Headline.{sends_message, takes_message, drops_message, replies_to_message, reaps_message, takes_or_drops, reaps_or_drops, LiesBetween, MessagesGoRound, EachSendIsAnsweredOnce, AnswersAreOfTheirSend, Section, section_of, ends_written, sections_of, IsChain, SectionsAreChain, RowsStandBetweenSections, IsRecordChain, RecordsAreChain, RecordsStandBetweenSections, blob_after, blob_after_all, blobs_left, RecordsAreLastWritten, RunsAreCompatible, RunsKeepLaws, raise_of, raised_by, TalliesAreRaises, CountsAreEvents}
 use Rattle.lwkt_core.proofs.MachineMoves.{changed_at, IsSafe_left}
 use Rattle.lwkt_core.proofs.SafetyLemmas.{stays, compatible, unwritten}
 
@@ -107,44 +107,44 @@ message_found : (m n : Machine) (e : Event) (i : ℕ) → place_of e ≡ AtMessa
 message_found m n e i at happens = there_is (slice_get m.messages i) (λ x. MessageNeeds m.cpus x e) (subst (PlaceNeeds m e) at happens.0.place)
 
 -- what an event does with a message, it does at it
-at_sends : (i : ℕ) (e : Event) → sends i e ≡ true → place_of e ≡ AtMessage i
+at_sends : (i : ℕ) (e : Event) → sends_message i e ≡ true → place_of e ≡ AtMessage i
 at_sends i (Send cpu msg to round) is = ap (λ (j : ℕ). AtMessage j) (eqb-true msg.0 i is)
 at_sends i e is = absurd (false≢true is)
 
-at_takes : (i : ℕ) (e : Event) → takes i e ≡ true → place_of e ≡ AtMessage i
+at_takes : (i : ℕ) (e : Event) → takes_message i e ≡ true → place_of e ≡ AtMessage i
 at_takes i (TakeMsg cpu msg round) is = ap (λ (j : ℕ). AtMessage j) (eqb-true msg.0 i is)
 at_takes i e is = absurd (false≢true is)
 
-at_drops : (i : ℕ) (e : Event) → drops i e ≡ true → place_of e ≡ AtMessage i
+at_drops : (i : ℕ) (e : Event) → drops_message i e ≡ true → place_of e ≡ AtMessage i
 at_drops i (DropMsg cpu msg) is = ap (λ (j : ℕ). AtMessage j) (eqb-true msg.0 i is)
 at_drops i e is = absurd (false≢true is)
 
-at_replies : (i : ℕ) (e : Event) → replies i e ≡ true → place_of e ≡ AtMessage i
+at_replies : (i : ℕ) (e : Event) → replies_to_message i e ≡ true → place_of e ≡ AtMessage i
 at_replies i (Reply cpu msg) is = ap (λ (j : ℕ). AtMessage j) (eqb-true msg.0 i is)
 at_replies i e is = absurd (false≢true is)
 
-at_reaps : (i : ℕ) (e : Event) → reaps i e ≡ true → place_of e ≡ AtMessage i
+at_reaps : (i : ℕ) (e : Event) → reaps_message i e ≡ true → place_of e ≡ AtMessage i
 at_reaps i (Reap cpu msg) is = ap (λ (j : ℕ). AtMessage j) (eqb-true msg.0 i is)
 at_reaps i e is = absurd (false≢true is)
 
 at_takes_or_drops : (i : ℕ) (e : Event) → takes_or_drops i e ≡ true → place_of e ≡ AtMessage i
-at_takes_or_drops i e is = ⊎_elim (λ t. at_takes i e t) (λ d. at_drops i e d) (or_cases (takes i e) (drops i e) is)
+at_takes_or_drops i e is = ⊎_elim (λ t. at_takes i e t) (λ d. at_drops i e d) (or_cases (takes_message i e) (drops_message i e) is)
 
 -- what does the one thing doesn't do the other
-take_no_send : (i : ℕ) (e : Event) → takes_or_drops i e ≡ true → sends i e ≡ false
+take_no_send : (i : ℕ) (e : Event) → takes_or_drops i e ≡ true → sends_message i e ≡ false
 take_no_send i (TakeMsg cpu msg round) is = refl
 take_no_send i (DropMsg cpu msg) is = refl
 take_no_send i e is = absurd (false≢true is)
 
-reply_no_take : (i : ℕ) (e : Event) → replies i e ≡ true → takes i e ≡ false
+reply_no_take : (i : ℕ) (e : Event) → replies_to_message i e ≡ true → takes_message i e ≡ false
 reply_no_take i (Reply cpu msg) is = refl
 reply_no_take i e is = absurd (false≢true is)
 
-reply_no_send : (i : ℕ) (e : Event) → replies i e ≡ true → sends i e ≡ false
+reply_no_send : (i : ℕ) (e : Event) → replies_to_message i e ≡ true → sends_message i e ≡ false
 reply_no_send i (Reply cpu msg) is = refl
 reply_no_send i e is = absurd (false≢true is)
 
-send_no_reap : (i : ℕ) (e : Event) → sends i e ≡ true → reaps_or_drops i e ≡ false
+send_no_reap : (i : ℕ) (e : Event) → sends_message i e ≡ true → reaps_or_drops i e ≡ false
 send_no_reap i (Send cpu msg to round) is = refl
 send_no_reap i e is = absurd (false≢true is)
 
@@ -235,7 +235,7 @@ hope_le (With origin target) = omega arith
 hope_le (Back origin target) = omega arith
 
 -- what an event at a message uses up: a take or drop the state of being out, which only a send gives
-use_out : (i cpus : ℕ) (msg : Message) (e : Event) → place_of e ≡ AtMessage i → MessageNeeds cpus msg e → sends i e ≡ false → one_if (takes_or_drops i e) + in_out (message_after msg e).owner ≤ in_out msg.owner
+use_out : (i cpus : ℕ) (msg : Message) (e : Event) → place_of e ≡ AtMessage i → MessageNeeds cpus msg e → sends_message i e ≡ false → one_if (takes_or_drops i e) + in_out (message_after msg e).owner ≤ in_out msg.owner
 use_out i cpus msg (Send cpu m to round) at needs none = absurd (not_at i m.0 at none)
 use_out i cpus msg (TakeMsg cpu m round) at needs none = let one = out_to cpu msg.owner needs.0 in let most = one_or_none (m.0 == i || false) in omega arith
 use_out i cpus msg (DropMsg cpu m) at needs none = let one = out_from cpu msg.owner needs in let most = one_or_none (m.0 == i) in omega arith
@@ -245,7 +245,7 @@ use_out i cpus msg (Abort cpu m) at needs none = omega arith
 use_out i cpus msg e at needs none = absurd needs
 
 -- a reply the state of being with its target, which only a take gives
-use_with : (i cpus : ℕ) (msg : Message) (e : Event) → place_of e ≡ AtMessage i → MessageNeeds cpus msg e → takes i e ≡ false → one_if (replies i e) + in_with (message_after msg e).owner ≤ in_with msg.owner
+use_with : (i cpus : ℕ) (msg : Message) (e : Event) → place_of e ≡ AtMessage i → MessageNeeds cpus msg e → takes_message i e ≡ false → one_if (replies_to_message i e) + in_with (message_after msg e).owner ≤ in_with msg.owner
 use_with i cpus msg (TakeMsg cpu m round) at needs none = absurd (not_at i m.0 at none)
 use_with i cpus msg (Reply cpu m) at needs none = let one = with_of cpu msg.owner needs in let most = one_or_none (m.0 == i) in omega arith
 use_with i cpus msg (Send cpu m to round) at needs none = omega arith
@@ -255,7 +255,7 @@ use_with i cpus msg (Abort cpu m) at needs none = omega arith
 use_with i cpus msg e at needs none = absurd needs
 
 -- a send the state of rest, which only a reap or a drop gives
-use_rest : (i cpus : ℕ) (msg : Message) (e : Event) → place_of e ≡ AtMessage i → MessageNeeds cpus msg e → reaps_or_drops i e ≡ false → one_if (sends i e) + in_rest (message_after msg e).owner ≤ in_rest msg.owner
+use_rest : (i cpus : ℕ) (msg : Message) (e : Event) → place_of e ≡ AtMessage i → MessageNeeds cpus msg e → reaps_or_drops i e ≡ false → one_if (sends_message i e) + in_rest (message_after msg e).owner ≤ in_rest msg.owner
 unfolding in_rest
 use_rest i cpus msg (Send cpu m to round) at needs none = let one : in_rest msg.owner ≡ 1 = ap (λ (o : Owner). in_rest o) needs.0 in let most = one_or_none (m.0 == i) in omega arith
 use_rest i cpus msg (Reap cpu m) at needs none = absurd (not_at i m.0 at (none_of (m.0 == i) none))
@@ -270,7 +270,7 @@ use_rest i cpus msg (Abort cpu m) at needs none = omega arith
 use_rest i cpus msg e at needs none = absurd needs
 
 -- and a reply the state in which one may come, which only a send gives
-use_hope : (i cpus : ℕ) (msg : Message) (e : Event) → place_of e ≡ AtMessage i → MessageNeeds cpus msg e → sends i e ≡ false → one_if (replies i e) + in_hope (message_after msg e).owner ≤ in_hope msg.owner
+use_hope : (i cpus : ℕ) (msg : Message) (e : Event) → place_of e ≡ AtMessage i → MessageNeeds cpus msg e → sends_message i e ≡ false → one_if (replies_to_message i e) + in_hope (message_after msg e).owner ≤ in_hope msg.owner
 unfolding in_hope
 use_hope i cpus msg (Send cpu m to round) at needs none = absurd (not_at i m.0 at none)
 use_hope i cpus msg (TakeMsg cpu m round) at needs none = let one = hope_out msg.owner (out_to cpu msg.owner needs.0) in omega arith
@@ -341,9 +341,9 @@ module _ (i : ℕ) (φ : Owner → ℕ) (p q : Event → Bool) (uses : (cpus : �
 
 pub go_round : MessagesGoRound
 go_round m events n i run = (
-  lies_between i in_out (takes_or_drops i) (sends i) (use_out i) (at_takes_or_drops i) out_le (take_no_send i) m events n run,
-  lies_between i in_with (replies i) (takes i) (use_with i) (at_replies i) with_le (reply_no_take i) m events n run,
-  lies_between i in_rest (sends i) (reaps_or_drops i) (use_rest i) (at_sends i) rest_le (send_no_reap i) m events n run,
+  lies_between i in_out (takes_or_drops i) (sends_message i) (use_out i) (at_takes_or_drops i) out_le (take_no_send i) m events n run,
+  lies_between i in_with (replies_to_message i) (takes_message i) (use_with i) (at_replies i) with_le (reply_no_take i) m events n run,
+  lies_between i in_rest (sends_message i) (reaps_or_drops i) (use_rest i) (at_sends i) rest_le (send_no_reap i) m events n run,
 )
 
 pub answered_once : EachSendIsAnsweredOnce
@@ -353,8 +353,8 @@ answered_once m events n i front part rest e run is send none =
     let found = message_found parts.0 later.0 e i (at_sends i e send) later.1.0 in
     let left = message_left parts.0 later.0 e i found.0 found.1.0 later.1.0 in
     let run_part = Run-split later.0 part rest n later.1.1 in
-    let taken = counted i in_out (takes_or_drops i) (sends i) (use_out i) (at_takes_or_drops i) out_le part later.0 run_part.0 left.0 left.1.0 run_part.1.0 none in
-    let replied = counted i in_hope (replies i) (sends i) (use_hope i) (at_replies i) hope_le part later.0 run_part.0 left.0 left.1.0 run_part.1.0 none in
+    let taken = counted i in_out (takes_or_drops i) (sends_message i) (use_out i) (at_takes_or_drops i) out_le part later.0 run_part.0 left.0 left.1.0 run_part.1.0 none in
+    let replied = counted i in_hope (replies_to_message i) (sends_message i) (use_hope i) (at_replies i) hope_le part later.0 run_part.0 left.0 left.1.0 run_part.1.0 none in
     let a = out_le left.0.owner in
     let b = hope_le left.0.owner in
     (omega arith, omega arith)
@@ -381,7 +381,7 @@ replied_target cpu to (Rest origin) is sent = absurd is
 replied_target cpu to (Out origin target) is sent = absurd is
 replied_target cpu to (Back origin target) is sent = absurd is
 
-sent_stays : (i : ℕ) (to : CpuId) (round cpus : ℕ) (msg : Message) (e : Event) → place_of e ≡ AtMessage i → MessageNeeds cpus msg e → sends i e ≡ false → IsSentTo to round msg → IsSentTo to round (message_after msg e)
+sent_stays : (i : ℕ) (to : CpuId) (round cpus : ℕ) (msg : Message) (e : Event) → place_of e ≡ AtMessage i → MessageNeeds cpus msg e → sends_message i e ≡ false → IsSentTo to round msg → IsSentTo to round (message_after msg e)
 sent_stays i to round cpus msg (Send cpu m to' r) at needs none sent = absurd (not_at i m.0 at none)
 sent_stays i to round cpus msg (TakeMsg cpu m r) at needs none sent = (sent.0, (taken_target cpu to msg.owner needs.0 sent.1).0)
 sent_stays i to round cpus msg (Reply cpu m) at needs none sent = (sent.0, (replied_target cpu to msg.owner needs sent.1).0)
@@ -391,12 +391,12 @@ sent_stays i to round cpus msg (Abort cpu m) at needs none sent = sent
 sent_stays i to round cpus msg e at needs none sent = absurd needs
 
 -- what was sent stays so until the next send
-sent_along : (i : ℕ) (to : CpuId) (round : ℕ) (part : List Event) (m n : Machine) (msg : Message) → slice_get m.messages i ≡ Some msg → Run m part n → All (λ f. sends i f ≡ false) part → IsSentTo to round msg → (msg' : Message) × ((slice_get n.messages i ≡ Some msg') × IsSentTo to round msg')
+sent_along : (i : ℕ) (to : CpuId) (round : ℕ) (part : List Event) (m n : Machine) (msg : Message) → slice_get m.messages i ≡ Some msg → Run m part n → All (λ f. sends_message i f ≡ false) part → IsSentTo to round msg → (msg' : Message) × ((slice_get n.messages i ≡ Some msg') × IsSentTo to round msg')
 sent_along i to round [] m n msg there run none sent = (msg, (ap (λ (x : Machine). slice_get x.messages i) run ∙ there, sent))
 sent_along i to round (e ∷ part) m n msg there run none sent =
     let left = message_left m run.0 e i msg there run.1.0 in
-    let not_send = All-head (λ f. sends i f ≡ false) e part none in
-    sent_along i to round part run.0 n left.0 left.1.0 run.1.1 (All-tail (λ f. sends i f ≡ false) e part none)
+    let not_send = All-head (λ f. sends_message i f ≡ false) e part none in
+    sent_along i to round part run.0 n left.0 left.1.0 run.1.1 (All-tail (λ f. sends_message i f ≡ false) e part none)
     (⊎_elim
     (λ turned. subst (λ (x : Message). IsSentTo to round x) (sym turned.1.1) (sent_stays i to round m.cpus msg e turned.0 turned.1.0 not_send sent))
     (λ stays'. subst (λ (x : Message). IsSentTo to round x) (sym stays'.1) sent)
@@ -758,11 +758,11 @@ are_raises m (e ∷ events) n t tok last safe run here there tally cpu =
 
 -- an event at a message raises by 1 how often that was done with it, and leaves the rest
 record HasGrown (i : ℕ) (msg msg' : Message) (e : Event) : Type 0 where
-  sent : msg'.sends ≡ msg.sends + one_if (sends i e)
-  taken : msg'.takes ≡ msg.takes + one_if (takes i e)
-  dropped : msg'.drops ≡ msg.drops + one_if (drops i e)
-  replied : msg'.replies ≡ msg.replies + one_if (replies i e)
-  reaped : msg'.reaps ≡ msg.reaps + one_if (reaps i e)
+  sent : msg'.sends ≡ msg.sends + one_if (sends_message i e)
+  taken : msg'.takes ≡ msg.takes + one_if (takes_message i e)
+  dropped : msg'.drops ≡ msg.drops + one_if (drops_message i e)
+  replied : msg'.replies ≡ msg.replies + one_if (replies_to_message i e)
+  reaped : msg'.reaps ≡ msg.reaps + one_if (reaps_message i e)
 
 one_more : (i m n : ℕ) → AtMessage m ≡ AtMessage i → n + 1 ≡ n + one_if (m == i)
 one_more i m n at = ap (λ (b : Bool). n + one_if b) (sym (is_at i m at))
@@ -812,9 +812,9 @@ module _ (i : ℕ) (f : Message → ℕ) (p : Event → Bool) (grows : (cpus : �
 
 pub are_events : CountsAreEvents
 are_events m events n i msg last run here there = (
-  grows_along i (λ x. x.sends) (sends i) (λ cpus msg e at needs. (counts_grow i cpus msg e at needs).sent) (at_sends i) events m n msg last here there run,
-  grows_along i (λ x. x.takes) (takes i) (λ cpus msg e at needs. (counts_grow i cpus msg e at needs).taken) (at_takes i) events m n msg last here there run,
-  grows_along i (λ x. x.drops) (drops i) (λ cpus msg e at needs. (counts_grow i cpus msg e at needs).dropped) (at_drops i) events m n msg last here there run,
-  grows_along i (λ x. x.replies) (replies i) (λ cpus msg e at needs. (counts_grow i cpus msg e at needs).replied) (at_replies i) events m n msg last here there run,
-  grows_along i (λ x. x.reaps) (reaps i) (λ cpus msg e at needs. (counts_grow i cpus msg e at needs).reaped) (at_reaps i) events m n msg last here there run,
+  grows_along i (λ x. x.sends) (sends_message i) (λ cpus msg e at needs. (counts_grow i cpus msg e at needs).sent) (at_sends i) events m n msg last here there run,
+  grows_along i (λ x. x.takes) (takes_message i) (λ cpus msg e at needs. (counts_grow i cpus msg e at needs).taken) (at_takes i) events m n msg last here there run,
+  grows_along i (λ x. x.drops) (drops_message i) (λ cpus msg e at needs. (counts_grow i cpus msg e at needs).dropped) (at_drops i) events m n msg last here there run,
+  grows_along i (λ x. x.replies) (replies_to_message i) (λ cpus msg e at needs. (counts_grow i cpus msg e at needs).replied) (at_replies i) events m n msg last here there run,
+  grows_along i (λ x. x.reaps) (reaps_message i) (λ cpus msg e at needs. (counts_grow i cpus msg e at needs).reaped) (at_reaps i) events m n msg last here there run,
 )

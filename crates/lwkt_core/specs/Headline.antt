@@ -40,40 +40,40 @@ TalliesAreRaises = (m : Machine) (events : List Event) (n : Machine) (t : ℕ) (
     → (cpu : ℕ) → tally_of last cpu ≡ tally_of tok cpu + raised_by t cpu m events
 
 -- what an event does with a message: sends it, takes it, drops it, replies to it, reaps it
-abbrev pub sends : ℕ → Event → Bool
-sends i (Send cpu msg to round) = msg.0 == i
-sends i e = false
+abbrev pub sends_message : ℕ → Event → Bool
+sends_message i (Send cpu msg to round) = msg.0 == i
+sends_message i e = false
 
-abbrev pub takes : ℕ → Event → Bool
-takes i (TakeMsg cpu msg round) = msg.0 == i
-takes i e = false
+abbrev pub takes_message : ℕ → Event → Bool
+takes_message i (TakeMsg cpu msg round) = msg.0 == i
+takes_message i e = false
 
-abbrev pub drops : ℕ → Event → Bool
-drops i (DropMsg cpu msg) = msg.0 == i
-drops i e = false
+abbrev pub drops_message : ℕ → Event → Bool
+drops_message i (DropMsg cpu msg) = msg.0 == i
+drops_message i e = false
 
-abbrev pub replies : ℕ → Event → Bool
-replies i (Reply cpu msg) = msg.0 == i
-replies i e = false
+abbrev pub replies_to_message : ℕ → Event → Bool
+replies_to_message i (Reply cpu msg) = msg.0 == i
+replies_to_message i e = false
 
-abbrev pub reaps : ℕ → Event → Bool
-reaps i (Reap cpu msg) = msg.0 == i
-reaps i e = false
+abbrev pub reaps_message : ℕ → Event → Bool
+reaps_message i (Reap cpu msg) = msg.0 == i
+reaps_message i e = false
 
 abbrev pub takes_or_drops : ℕ → Event → Bool
-takes_or_drops i e = takes i e || drops i e
+takes_or_drops i e = takes_message i e || drops_message i e
 
 abbrev pub reaps_or_drops : ℕ → Event → Bool
-reaps_or_drops i e = reaps i e || drops i e
+reaps_or_drops i e = reaps_message i e || drops_message i e
 
 -- a law: how often each thing was done with a message grows in a run by the events that did it
 abbrev pub CountsAreEvents : Type 0
 CountsAreEvents = (m : Machine) (events : List Event) (n : Machine) (i : ℕ) (msg last : Message) → Run m events n → slice_get m.messages i ≡ Some msg → slice_get n.messages i ≡ Some last
-    → (last.sends ≡ msg.sends + count_by (sends i) events)
-    × (last.takes ≡ msg.takes + count_by (takes i) events)
-    × (last.drops ≡ msg.drops + count_by (drops i) events)
-    × (last.replies ≡ msg.replies + count_by (replies i) events)
-    × (last.reaps ≡ msg.reaps + count_by (reaps i) events)
+    → (last.sends ≡ msg.sends + count_by (sends_message i) events)
+    × (last.takes ≡ msg.takes + count_by (takes_message i) events)
+    × (last.drops ≡ msg.drops + count_by (drops_message i) events)
+    × (last.replies ≡ msg.replies + count_by (replies_to_message i) events)
+    × (last.reaps ≡ msg.reaps + count_by (reaps_message i) events)
 
 -- between any two events of one kind lies one of another
 abbrev pub LiesBetween : (Event → Bool) → (Event → Bool) → List Event → Type 0
@@ -83,17 +83,17 @@ LiesBetween q p events = (front between rest : List Event) (e d : Event) → eve
 -- reap or drop between any two of its sends (msgport(9); the drop is own)
 abbrev pub MessagesGoRound : Type 0
 MessagesGoRound = (m : Machine) (events : List Event) (n : Machine) (i : ℕ) → Run m events n
-    → LiesBetween (sends i) (takes_or_drops i) events × LiesBetween (takes i) (replies i) events × LiesBetween (reaps_or_drops i) (sends i) events
+    → LiesBetween (sends_message i) (takes_or_drops i) events × LiesBetween (takes_message i) (replies_to_message i) events × LiesBetween (reaps_or_drops i) (sends_message i) events
 
 -- a law: from one send of a message to the next it is taken or dropped at most once, and replied to at most once
 abbrev pub EachSendIsAnsweredOnce : Type 0
-EachSendIsAnsweredOnce = (m : Machine) (events : List Event) (n : Machine) (i : ℕ) (front part rest : List Event) (e : Event) → Run m events n → events ≡ front ++ (e ∷ (part ++ rest)) → sends i e ≡ true → All (λ f. sends i f ≡ false) part
-    → (count_by (takes_or_drops i) part ≤ 1) × (count_by (replies i) part ≤ 1)
+EachSendIsAnsweredOnce = (m : Machine) (events : List Event) (n : Machine) (i : ℕ) (front part rest : List Event) (e : Event) → Run m events n → events ≡ front ++ (e ∷ (part ++ rest)) → sends_message i e ≡ true → All (λ f. sends_message i f ≡ false) part
+    → (count_by (takes_or_drops i) part ≤ 1) × (count_by (replies_to_message i) part ≤ 1)
 
 -- a law: a message is taken in the round in which it was last sent, by the processor that it was sent to, and that one replies
 abbrev pub AnswersAreOfTheirSend : Type 0
 AnswersAreOfTheirSend = (m : Machine) (events : List Event) (n : Machine) (front part rest : List Event) (origin to cpu : CpuId) (msg : MsgId) (round other : ℕ) (e : Event)
-    → Run m events n → events ≡ front ++ (Send origin msg to round ∷ (part ++ e ∷ rest)) → All (λ f. sends msg.0 f ≡ false) part
+    → Run m events n → events ≡ front ++ (Send origin msg to round ∷ (part ++ e ∷ rest)) → All (λ f. sends_message msg.0 f ≡ false) part
     → (e ≡ TakeMsg cpu msg other → (cpu ≡ to) × (other ≡ round)) × (e ≡ Reply cpu msg → cpu ≡ to)
 
 -- a written section of a token: the generation in which it was made, the row that it began with, the row that it left, and the

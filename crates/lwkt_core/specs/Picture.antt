@@ -17,14 +17,14 @@ use Rattle.lwkt_core.specs.Machine.{Machine, IsSafe}
 
 -- what a processor's holding adds to the count of the token's word: each shared reference, and each exclusive one but the
 -- first (lwkt_token.c)
-abbrev pub counted : Held → ℕ
-counted Nothing = 0
-counted (Holds Shared further) = further + 1
-counted (Holds Exclusive further) = further
+abbrev pub count_of_held : Held → ℕ
+count_of_held Nothing = 0
+count_of_held (Holds Shared further) = further + 1
+count_of_held (Holds Exclusive further) = further
 
 -- the parts of the word that shows a token (lwkt_token.c; the generation is own)
 abbrev pub picture_of : Token → TokWord
-picture_of tok = record { generation = tok.generation; count = sum_by counted tok.holders; exclusive = list_any is_exclusive tok.holders; mark = tok.mark }
+picture_of tok = record { generation = tok.generation; count = sum_by count_of_held tok.holders; exclusive = list_any is_exclusive tok.holders; mark = tok.mark }
 
 -- a processor that decides by the word of a token takes it exclusively exactly where Take can happen, and shared exactly
 -- where Share can happen and the mark doesn't stop a lone request; the next word is then that of the token after the

@@ -19,7 +19,7 @@ use Rattle.lwkt_cpu.specs.declared.threads.Thread.{Thread}
 use Rattle.lwkt_cpu.specs.Processors.{Processor}
 use Rattle.lwkt_cpu.specs.Searches.{IsOfOne}
 use Rattle.lwkt_cpu.specs.Turning.{IsOfThread, HasSameEvents, LacksRoom, MakesTurn}
-use Rattle.lwkt_cpu.specs.Driving.{Made, stood, IsOfSome, counted, none_driven, Drives, DrivesShort}
+use Rattle.lwkt_cpu.specs.Driving.{Made, stood, IsOfSome, with_turn, none_driven, Drives, DrivesShort}
 
 -- a turn more, after others
 pub made_more : {B : Type 0} (polled : B → Answer → Ask → B → Type 0) (bank : BankId) (old mid new : Processor B) (t v u : Vec Event Global) (turns : List Turned) (turned : Turned) → Made polled bank old mid t v turns → MakesTurn polled bank mid new v u turned → Made polled bank old new t u (turns ++ turned ∷ [])
@@ -70,7 +70,7 @@ ran_with_more P n a b t v u same ran =
 pub record IsDriven {B : Type 0} (polled : B → Answer → Ask → B → Type 0) (bank : BankId) (old new : Processor B) (t u : Vec Event Global) (drove : Drove) (count : ℕ) : Type 0 where
   pub turns : List Turned
   pub made : Made polled bank old new t u turns
-  pub counts : drove ≡ fold counted none_driven turns
+  pub counts : drove ≡ fold with_turn none_driven turns
   pub going : All (λ turned. turned ≢ AllExited) turns
   pub long : length turns ≡ count
   pub few : drove.ran + drove.idle ≤ count
@@ -80,15 +80,15 @@ pub record IsDriven {B : Type 0} (polled : B → Answer → Ask → B → Type 0
 pub driven_none : {B : Type 0} (polled : B → Answer → Ask → B → Type 0) (bank : BankId) (old : Processor B) (t : Vec Event Global) → IsDriven polled bank old old t t none_driven 0
 driven_none polled bank old t = record { turns = []; made = (refl, refl); counts = refl; going = All-nil (λ turned. turned ≢ AllExited); long = refl; few = omega arith; bank_same = refl; table_same = refl }
 
-one_more : (drove : Drove) (turned : Turned) → (counted drove turned).ran + (counted drove turned).idle ≡ drove.ran + drove.idle + 1
+one_more : (drove : Drove) (turned : Turned) → (with_turn drove turned).ran + (with_turn drove turned).idle ≡ drove.ran + drove.idle + 1
 one_more drove (Ran thread) = omega arith
 one_more drove Idle = omega arith
 one_more drove AllExited = omega arith
 
-counts_more : (drove : Drove) (turns : List Turned) (turned : Turned) → drove ≡ fold counted none_driven turns → counted drove turned ≡ fold counted none_driven (turns ++ turned ∷ [])
-counts_more drove turns turned is = ap (λ d. counted d turned) is ∙ sym (fold-append counted none_driven turns (turned ∷ []))
+counts_more : (drove : Drove) (turns : List Turned) (turned : Turned) → drove ≡ fold with_turn none_driven turns → with_turn drove turned ≡ fold with_turn none_driven (turns ++ turned ∷ [])
+counts_more drove turns turned is = ap (λ d. with_turn d turned) is ∙ sym (fold-append with_turn none_driven turns (turned ∷ []))
 
-pub driven_more : {B : Type 0} (polled : B → Answer → Ask → B → Type 0) (bank : BankId) (old mid new : Processor B) (t v u : Vec Event Global) (drove next : Drove) (turned : Turned) (count : ℕ) → IsDriven polled bank old mid t v drove count → MakesTurn polled bank mid new v u turned → turned ≢ AllExited → bank_of new.seat ≡ bank_of mid.seat → new.post.seat.table ≡ mid.post.seat.table → next ≡ counted drove turned → IsDriven polled bank old new t u next (count + 1)
+pub driven_more : {B : Type 0} (polled : B → Answer → Ask → B → Type 0) (bank : BankId) (old mid new : Processor B) (t v u : Vec Event Global) (drove next : Drove) (turned : Turned) (count : ℕ) → IsDriven polled bank old mid t v drove count → MakesTurn polled bank mid new v u turned → turned ≢ AllExited → bank_of new.seat ≡ bank_of mid.seat → new.post.seat.table ≡ mid.post.seat.table → next ≡ with_turn drove turned → IsDriven polled bank old new t u next (count + 1)
 driven_more polled bank old mid new t v u drove next turned count d last on same table is = record {
   turns = d.turns ++ turned ∷ [];
   made = made_more polled bank old mid new t v u d.turns turned d.made last;
@@ -111,7 +111,7 @@ drives_all polled bank old new t u drove count limit is d = record {
 }
 
 -- the last turn said that every thread has ended
-pub drives_over : {B : Type 0} (polled : B → Answer → Ask → B → Type 0) (bank : BankId) (old mid new : Processor B) (t v u : Vec Event Global) (drove next : Drove) (turned : Turned) (count limit : ℕ) → count < limit → turned ≡ AllExited → next ≡ counted drove turned → IsDriven polled bank old mid t v drove count → MakesTurn polled bank mid new v u turned → Drives polled bank old new t u limit next
+pub drives_over : {B : Type 0} (polled : B → Answer → Ask → B → Type 0) (bank : BankId) (old mid new : Processor B) (t v u : Vec Event Global) (drove next : Drove) (turned : Turned) (count limit : ℕ) → count < limit → turned ≡ AllExited → next ≡ with_turn drove turned → IsDriven polled bank old mid t v drove count → MakesTurn polled bank mid new v u turned → Drives polled bank old new t u limit next
 drives_over polled bank old mid new t v u drove next turned count limit less last is d turn =
     let made = made_more polled bank old mid new t v u d.turns turned d.made turn in
     record {

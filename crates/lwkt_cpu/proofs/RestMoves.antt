@@ -7,7 +7,7 @@ use Rattle.std.proofs.lemmas.List.Elements.{All-nil}
 use Rattle.std.proofs.lemmas.Option.{slice_get-get_or, slice_get_within}
 use Rattle.lwkt_msg.specs.Views.{seat_cpu}
 use Rattle.lwkt_base.specs.declared.names.Ref.{Ref}
-use Rattle.lwkt_base.specs.Refs.{IsLawful}
+use Rattle.lwkt_base.specs.Refs.{IsLawfulList}
 use Rattle.lwkt_base.specs.Holding.{Holding, holding_of}
 use Rattle.lwkt_core.specs.declared.events.Event.{Event}
 use Rattle.lwkt_bank.specs.declared.seats.CpuSeat.{CpuSeat}
@@ -23,7 +23,7 @@ use Rattle.lwkt_cpu.specs.declared.phases.Phase.{Phase}
 use Rattle.lwkt_cpu.specs.declared.phases.Phase.TheVariants.{Live, AwaitsReply, Faulted}
 use Rattle.lwkt_cpu.specs.declared.threads.BusyAt.{BusyAt}
 use Rattle.lwkt_cpu.specs.declared.threads.Thread.{Thread}
-use Rattle.lwkt_cpu.specs.Processors.{IsSettled, HoldsFor, IsAtRest, Awaits, AllAwait, Processor, processor_of, has_ended}
+use Rattle.lwkt_cpu.specs.Processors.{IsSettled, HoldsFor, IsAtRest, Awaits, AllAwait, Processor, processor_of, is_over}
 use Rattle.lwkt_cpu.specs.Searches.{Point, point, Finds, IsOfOne}
 use Rattle.lwkt_cpu.specs.Turning.{cursor_after, Chooses, IsMailed, IsOfThread}
 use Rattle.lwkt_cpu.specs.Waking.{AreWoken}
@@ -44,12 +44,12 @@ settled_later a b t same s = record {
 }
 
 -- an empty list
-pub lawful_none : IsLawful []
+pub lawful_none : IsLawfulList []
 lawful_none = λ tok is. cc
 
 pub settled_none : (s : CpuSeat) (t : Thread) → t.list ≡ [] → t.busy ≡ None → IsSettled s t
 settled_none s t none free = record {
-  lawful = let F : List Ref → Type 0 = λ xs. IsLawful xs in subst F (sym none) lawful_none;
+  lawful = let F : List Ref → Type 0 = λ xs. IsLawfulList xs in subst F (sym none) lawful_none;
   there = let F : List Ref → Type 0 = λ xs. All (λ r. r.tok.0 < tokens_of (bank_of s)) xs in subst F (sym none) (All-nil (λ (r : Ref). r.tok.0 < tokens_of (bank_of s)));
   ended = λ is. none;
   busy = let F : Option BusyAt → Type 0 = λ o. IfSome o (λ r. IsRefusing t.list r.at r.word) in subst F (sym free) tt;
@@ -63,10 +63,10 @@ kept_settled : (a b : CpuSeat) (olds news : List Thread) → bank_of b ≡ bank_
 kept_settled a b olds news same keeps settled k t at =
     let x = keeps k t at in
     let old = settled_later a b x.0 same (settled k x.0 x.1.0) in
-    let F : List Ref → Type 0 = λ refs. IsLawful refs in
+    let F : List Ref → Type 0 = λ refs. IsLawfulList refs in
     let G : List Ref → Type 0 = λ refs. All (λ r. r.tok.0 < tokens_of (bank_of b)) refs in
     elim x.1.1.0 [
-      | inl still ↦ record { lawful = subst F (sym still.0) old.lawful; there = subst G (sym still.0) old.there; ended = λ is. still.0 ∙ old.ended (ap has_ended (sym still.1) ∙ is); busy = x.1.1.1 old.busy }
+      | inl still ↦ record { lawful = subst F (sym still.0) old.lawful; there = subst G (sym still.0) old.there; ended = λ is. still.0 ∙ old.ended (ap is_over (sym still.1) ∙ is); busy = x.1.1.1 old.busy }
       | inr ended ↦ record { lawful = subst F (sym ended.0) lawful_none; there = subst G (sym ended.0) (All-nil (λ (r : Ref). r.tok.0 < tokens_of (bank_of b))); ended = λ is. ended.0; busy = x.1.1.1 old.busy }
     ]
 
@@ -81,8 +81,8 @@ held_after cursor x y (Some place) f =
 held_after cursor x y None f = f.1
 
 -- a thread that has ended waits for nothing
-pub ended_awaits : (n : ℕ) (t : Thread) (p : Phase) → has_ended p ≡ true → t.phase ≡ p → Awaits n t
-ended_awaits n t p over is = λ msg waits. absurd (false≢true (ap has_ended (sym waits ∙ is) ∙ over))
+pub ended_awaits : (n : ℕ) (t : Thread) (p : Phase) → is_over p ≡ true → t.phase ≡ p → Awaits n t
+ended_awaits n t p over is = λ msg waits. absurd (false≢true (ap is_over (sym waits ∙ is) ∙ over))
 
 -- a thread that can run waits for nothing
 pub live_awaits : (n : ℕ) (t : Thread) → t.phase ≡ Live → Awaits n t

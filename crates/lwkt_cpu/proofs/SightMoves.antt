@@ -5,7 +5,7 @@ use mathlib.Core.Logic.{dite}
 use native.Mathlib.Decide.{ℕ_discrete}
 use Rattle.lwkt_base.specs.declared.names.CpuId.{CpuId}
 use Rattle.lwkt_lane.specs.Lane.{queued, in_lane}
-use Rattle.lwkt_msg.specs.Desks.{Desk, cpu_of, IsSameDesk}
+use Rattle.lwkt_msg.specs.Desks.{Desk, desk_cpu, IsSameDesk}
 use Rattle.lwkt_port.specs.declared.lines.Lane.{Lane}
 use Rattle.lwkt_port.specs.Posts.{Post, Changes, AreSameLanes, IsSamePost}
 use Rattle.lwkt_port.specs.Sights.{AreEnds, LooksBeside, PostSees, PostSeesOwn, Sees as LanesSee, SeesOwn as LineSeesOwn}
@@ -18,13 +18,13 @@ use Rattle.lwkt_cpu.specs.Processors.{Processor}
 use Rattle.lwkt_cpu.specs.Sights.{AreJoined, Sees, SeesOwn}
 
 -- the ports of joined processors are joined
-pub joined_posts : {B : Type 0} (s p : Processor B) → cpu_of s.post.seat ≡ s.seat.cpu → cpu_of p.post.seat ≡ p.seat.cpu → AreJoined s p → port.AreJoined s.post p.post
+pub joined_posts : {B : Type 0} (s p : Processor B) → desk_cpu s.post.seat ≡ s.seat.cpu → desk_cpu p.post.seat ≡ p.seat.cpu → AreJoined s p → port.AreJoined s.post p.post
 joined_posts {B} s p one two joined =
     let F : CpuId × CpuId → Type 0 = λ k. AreEnds k.0.0 k.1.0 s.post.lanes p.post.lanes in
     subst F (λ k. (sym one k, sym two k)) joined
 
 -- what their ports see they see
-pub see_posts : {B : Type 0} (s p : Processor B) (q r : Post) → cpu_of s.post.seat ≡ s.seat.cpu → cpu_of p.post.seat ≡ p.seat.cpu → PostSees s.post q p.post r → Sees s (record s { post = q }) p (record p { post = r })
+pub see_posts : {B : Type 0} (s p : Processor B) (q r : Post) → desk_cpu s.post.seat ≡ s.seat.cpu → desk_cpu p.post.seat ≡ p.seat.cpu → PostSees s.post q p.post r → Sees s (record s { post = q }) p (record p { post = r })
 see_posts {B} s p q r one two sees =
     let F : CpuId × CpuId → Type 0 = λ k. LanesSee k.0.0 k.1.0 s.post.lanes q.lanes p.post.lanes r.lanes in
     record {
@@ -34,7 +34,7 @@ see_posts {B} s p q r one two sees =
     }
 
 -- so it is with what they see of what they have sent to themselves
-pub see_own_post : {B : Type 0} (p : Processor B) (r : Post) → cpu_of p.post.seat ≡ p.seat.cpu → PostSeesOwn p.post r → SeesOwn p (record p { post = r })
+pub see_own_post : {B : Type 0} (p : Processor B) (r : Post) → desk_cpu p.post.seat ≡ p.seat.cpu → PostSeesOwn p.post r → SeesOwn p (record p { post = r })
 see_own_post {B} p r mine sees =
     let F : CpuId → Type 0 = λ k. Changes LineSeesOwn k.0 p.post.lanes r.lanes in
     record {

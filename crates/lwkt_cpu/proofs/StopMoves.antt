@@ -23,7 +23,7 @@ use Rattle.lwkt_ask.specs.Nexts.{kept_list, HoldsAfter, unless_broken}
 use Rattle.lwkt_cpu.specs.declared.phases.Phase.{Phase}
 use Rattle.lwkt_cpu.specs.declared.phases.Phase.TheVariants.{Live, Exited}
 use Rattle.lwkt_cpu.specs.declared.threads.Thread.{Thread}
-use Rattle.lwkt_cpu.specs.Processors.{has_ended, IsSettled, HoldsFor, IsAtRest, AllOver, processor_of}
+use Rattle.lwkt_cpu.specs.Processors.{is_over, IsSettled, HoldsFor, IsAtRest, AllOver, processor_of}
 use Rattle.lwkt_cpu.specs.Searches.{IsOfOne, ended_by}
 use Rattle.lwkt_cpu.specs.Polling.{became}
 use Rattle.lwkt_cpu.specs.Stopping.{stopped, AreStopped}
@@ -60,12 +60,12 @@ stopped_all olds news at past below = λ k. elim (cases_lt k at) [
 ]
 
 -- a stopped thread has ended
-ended_stopped_if : (b : Bool) (t : Thread) → has_ended t.phase ≡ b → has_ended (stopped t).phase ≡ true
+ended_stopped_if : (b : Bool) (t : Thread) → is_over t.phase ≡ b → is_over (stopped t).phase ≡ true
 ended_stopped_if true t is = rw is is
 ended_stopped_if false t is = rw is refl
 
-pub ended_stopped : (t : Thread) → has_ended (stopped t).phase ≡ true
-ended_stopped t = ended_stopped_if (has_ended t.phase) t refl
+pub ended_stopped : (t : Thread) → is_over (stopped t).phase ≡ true
+ended_stopped t = ended_stopped_if (is_over t.phase) t refl
 
 from_map : (o : Option Thread) (t : Thread) → option_map stopped o ≡ Some t → (old : Thread) × ((o ≡ Some old) × (t ≡ stopped old))
 from_map None t is = cc
@@ -74,10 +74,10 @@ from_map (Some old) t is = (old, (refl, some_same t (stopped old) (Some t) refl 
 pub over_stopped : (olds news : List Thread) → AreStopped olds news → AllOver news
 over_stopped olds news all = λ k t at.
     let x = from_map (slice_get olds k) t (sym (all k) ∙ at) in
-    ap (λ (y : Thread). has_ended y.phase) x.1.1 ∙ ended_stopped x.0
+    ap (λ (y : Thread). is_over y.phase) x.1.1 ∙ ended_stopped x.0
 
 -- a stopped thread is settled
-stopped_settled_if : (s : CpuSeat) (b : Bool) (t : Thread) → has_ended t.phase ≡ b → IsSettled s t → IsSettled s (stopped t)
+stopped_settled_if : (s : CpuSeat) (b : Bool) (t : Thread) → is_over t.phase ≡ b → IsSettled s t → IsSettled s (stopped t)
 stopped_settled_if s true t is settled = rw is settled
 stopped_settled_if s false t is settled = rw is (settled_none s (ended_by Exited t) refl refl)
 
@@ -98,7 +98,7 @@ rest_stopped s post bodies olds news running cursor none all rest = record {
   settled = λ k t at.
       let x = from_map (slice_get olds k) t (sym (all k) ∙ at) in
       let F : Thread → Type 0 = λ y. IsSettled s y in
-      subst F (sym x.1.1) (stopped_settled_if s (has_ended x.0.phase) x.0 refl (rest.settled k x.0 x.1.0));
+      subst F (sym x.1.1) (stopped_settled_if s (is_over x.0.phase) x.0 refl (rest.settled k x.0 x.1.0));
   held =
       let F : Option ℕ → Type 0 = λ o. HoldsFor s olds o in
       let G : Option ℕ → Type 0 = λ o. HoldsFor s news o in
@@ -111,9 +111,9 @@ pub exit_empty : (next : Next Answer) (blocked : Blocked) (h : Holding) (refs : 
 exit_empty next Clean h refs is held = let F : Next Answer → Type 0 = λ n. HoldsAfter n h refs in subst F is held
 exit_empty next (Restored tok) h refs is held = let F : Next Answer → Type 0 = λ n. HoldsAfter n h refs in subst F is held
 
-pub became_over : (t : Thread) (next : Next Answer) (blocked : Blocked) → next ≡ unless_broken Exits blocked → has_ended (became t next).phase ≡ true
-became_over t next Clean is = ap (λ n. has_ended (became t n).phase) is
-became_over t next (Restored tok) is = ap (λ n. has_ended (became t n).phase) is
+pub became_over : (t : Thread) (next : Next Answer) (blocked : Blocked) → next ≡ unless_broken Exits blocked → is_over (became t next).phase ≡ true
+became_over t next Clean is = ap (λ n. is_over (became t n).phase) is
+became_over t next (Restored tok) is = ap (λ n. is_over (became t n).phase) is
 
 pub became_empty : (t : Thread) (next : Next Answer) (blocked : Blocked) → next ≡ unless_broken Exits blocked → (became t next).list ≡ []
 became_empty t next Clean is = ap (λ n. (became t n).list) is
@@ -127,7 +127,7 @@ kept_empty : (next : Next Answer) (blocked : Blocked) (refs : List Ref) → next
 kept_empty next Clean refs is = ap (λ n. kept_list n refs) is
 kept_empty next (Restored tok) refs is = ap (λ n. kept_list n refs) is
 
-pub rest_halted : {B : Type 0} (a b : CpuSeat) (post : Post) (bodies : List B) (threads : List Thread) (running : Option ℕ) (cursor place : ℕ) (now : Thread) → IsAtRest (processor_of a post bodies threads running cursor) → place < length threads → bank_of b ≡ bank_of a → b.cpu ≡ a.cpu → has_ended now.phase ≡ true → now.list ≡ [] → now.busy ≡ None → holding b ≡ holds_nothing → IsAtRest (processor_of b post bodies (set threads place now) None cursor)
+pub rest_halted : {B : Type 0} (a b : CpuSeat) (post : Post) (bodies : List B) (threads : List Thread) (running : Option ℕ) (cursor place : ℕ) (now : Thread) → IsAtRest (processor_of a post bodies threads running cursor) → place < length threads → bank_of b ≡ bank_of a → b.cpu ≡ a.cpu → is_over now.phase ≡ true → now.list ≡ [] → now.busy ≡ None → holding b ≡ holds_nothing → IsAtRest (processor_of b post bodies (set threads place now) None cursor)
 rest_halted a b post bodies threads running cursor place now rest within same cpu over none free empty = record {
   few = omega (arith, rest.few, length-set threads place now);
   as_many = rest.as_many ∙ sym (length-set threads place now);
@@ -143,8 +143,8 @@ pub ran_halted : (a b : CpuSeat) (t u : Vec Event Global) (threads : List Thread
 ran_halted a b t u threads place before at ran = ran_weaker (IsFront before.list) (IsOfOne threads) 192 194 a b t u (λ h front. front_of_one threads place before h at front) (omega arith) ran
 
 -- where every thread has ended nothing is held
-live_ended : (p : Phase) → p ≡ Live → has_ended p ≡ true → ⊥
-live_ended p is ended = false≢true (sym (ap has_ended is) ∙ ended)
+live_ended : (p : Phase) → p ≡ Live → is_over p ≡ true → ⊥
+live_ended p is ended = false≢true (sym (ap is_over is) ∙ ended)
 
 one_there : (o : Option Thread) (P : Thread → Type 0) → IsSomeAnd o P → (t : Thread) × ((o ≡ Some t) × P t)
 one_there None P is = absurd is

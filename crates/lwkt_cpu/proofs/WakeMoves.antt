@@ -8,21 +8,21 @@ use Rattle.std.proofs.lemmas.List.{length-set}
 use Rattle.std.proofs.lemmas.Option.{slice_get_within}
 use Rattle.lwkt_base.specs.declared.names.CpuId.{CpuId}
 use Rattle.lwkt_base.specs.declared.names.Ref.{Ref}
-use Rattle.lwkt_base.specs.Refs.{IsLawful}
+use Rattle.lwkt_base.specs.Refs.{IsLawfulList}
 use Rattle.lwkt_base.specs.Holding.{holding_of, holds_nothing}
 use Rattle.lwkt_core.specs.declared.events.Event.{Event}
 use Rattle.lwkt_bank.specs.declared.seats.CpuSeat.{CpuSeat}
 use Rattle.lwkt_bank.specs.Seats.{bank_of, tokens_of, holding}
 use Rattle.lwkt_hold.specs.Misses.{IsRefusing}
 use Rattle.lwkt_hold.proofs.ReadMoves.{whole_front}
-use Rattle.lwkt_msg.specs.Desks.{cpu_of, messages_of}
+use Rattle.lwkt_msg.specs.Desks.{desk_cpu, messages_of}
 use Rattle.lwkt_port.specs.Posts.{Post, IsSamePost}
 use Rattle.lwkt_port.specs.Works.{Grew}
 use Rattle.lwkt_port.proofs.Growing.{grew_then, same_none, same_then}
 use Rattle.lwkt_cpu.specs.declared.phases.Phase.TheVariants.{Live}
 use Rattle.lwkt_cpu.specs.declared.threads.BusyAt.{BusyAt}
 use Rattle.lwkt_cpu.specs.declared.threads.Thread.{Thread}
-use Rattle.lwkt_cpu.specs.Processors.{has_ended, Awaits, AllAwait, IsSettled, HoldsFor, IsAtRest, processor_of}
+use Rattle.lwkt_cpu.specs.Processors.{is_over, Awaits, AllAwait, IsSettled, HoldsFor, IsAtRest, processor_of}
 use Rattle.lwkt_cpu.specs.Turning.{IsMailed}
 use Rattle.lwkt_cpu.specs.Waking.{IsWoken, AreWoken}
 use Rattle.lwkt_lane.proofs.PlaceMoves.{get_set_same, get_set_other, get_there, some_same}
@@ -40,10 +40,10 @@ pub grew_wider : (cpu : CpuId) (m n : ℕ) (t u : Vec Event Global) → m ≤ n 
 grew_wider cpu m n t u wide g = record { made = g.made; trace_is = g.trace_is; own = g.own; few = omega (arith, g.few, wide); grown = g.grown; room = g.room }
 
 -- one call more on the same ports
-pub grew_more : (p q : Post) (m n k : ℕ) (t u v : Vec Event Global) → m + n ≤ k → IsSamePost p q → Grew (cpu_of p.seat) m t u → Grew (cpu_of q.seat) n u v → Grew (cpu_of p.seat) k t v
+pub grew_more : (p q : Post) (m n k : ℕ) (t u v : Vec Event Global) → m + n ≤ k → IsSamePost p q → Grew (desk_cpu p.seat) m t u → Grew (desk_cpu q.seat) n u v → Grew (desk_cpu p.seat) k t v
 grew_more p q m n k t u v wide same one two =
     let F : CpuId → Type 0 = λ c. Grew c n u v in
-    grew_wider (cpu_of p.seat) (m + n) k t v wide (grew_then (cpu_of p.seat) m n t u v one (subst F (ap seat_cpu same.seat.kind) two))
+    grew_wider (desk_cpu p.seat) (m + n) k t v wide (grew_then (desk_cpu p.seat) m n t u v one (subst F (ap seat_cpu same.seat.kind) two))
 
 -- nothing was woken yet, and one thread more was looked after
 pub woken_none : (threads : List Thread) → AreWoken threads threads
@@ -89,9 +89,9 @@ settled_woken : (s : CpuSeat) (old new : Thread) → IsWoken old new → IsSettl
 settled_woken s old new woken settled = elim woken [
   | inl still ↦ let F : Thread → Type 0 = λ t. IsSettled s t in subst F (sym still) settled
   | inr ready ↦ record {
-    lawful = let F : List Ref → Type 0 = λ xs. IsLawful xs in subst F (sym ready.1) settled.lawful;
+    lawful = let F : List Ref → Type 0 = λ xs. IsLawfulList xs in subst F (sym ready.1) settled.lawful;
     there = let F : List Ref → Type 0 = λ xs. All (λ r. r.tok.0 < tokens_of (bank_of s)) xs in subst F (sym ready.1) settled.there;
-    ended = λ is. absurd (false≢true (sym (ap has_ended ready.0) ∙ is));
+    ended = λ is. absurd (false≢true (sym (ap is_over ready.0) ∙ is));
     busy =
         let F : List Ref → Type 0 = λ xs. IfSome new.busy (λ r. IsRefusing xs r.at r.word) in
         let G : Option BusyAt → Type 0 = λ o. IfSome o (λ r. IsRefusing old.list r.at r.word) in
@@ -149,7 +149,7 @@ each_fresh zero k t is = let e : ◌≡◌ {A = Option Thread} None (Some t) = i
 each_fresh (suc n) zero t is = some_same t fresh (Some t) refl (sym is)
 each_fresh (suc n) (suc k) t is = each_fresh n k t is
 
-pub rest_new : {B : Type 0} (s : CpuSeat) (p : Post) (bodies : List B) (threads : List Thread) (n : ℕ) → threads ≡ replicate n fresh → n ≡ length bodies → n ≤ 16 → p.threads ≡ n → cpu_of p.seat ≡ s.cpu → holding s ≡ holds_nothing → IsAtRest (processor_of s p bodies threads None 0)
+pub rest_new : {B : Type 0} (s : CpuSeat) (p : Post) (bodies : List B) (threads : List Thread) (n : ℕ) → threads ≡ replicate n fresh → n ≡ length bodies → n ≤ 16 → p.threads ≡ n → desk_cpu p.seat ≡ s.cpu → holding s ≡ holds_nothing → IsAtRest (processor_of s p bodies threads None 0)
 rest_new {B} s p bodies threads n are many few ports mine empty =
     let long : length threads ≡ n = ap length are ∙ long_fresh n in
     let each : (k : ℕ) (t : Thread) → slice_get threads k ≡ Some t → t ≡ fresh = λ k t at. each_fresh n k t (ap (λ (xs : List Thread). slice_get xs k) (sym are) ∙ at) in

@@ -29,10 +29,10 @@ abbrev pub IsOfSome : List (List Thread) → Holding → Type 0
 IsOfSome points h = (h ≡ holds_nothing) ⊎ ((k : ℕ) × IsSomeAnd (slice_get points k) (λ threads. IsOfOne threads h))
 
 -- one turn more, counted by its answer
-abbrev pub counted : Drove → Turned → Drove
-counted drove (Ran thread) = record drove { ran = drove.ran + 1 }
-counted drove Idle = record drove { idle = drove.idle + 1 }
-counted drove AllExited = record drove { idle = drove.idle + 1; all_exited = true }
+abbrev pub with_turn : Drove → Turned → Drove
+with_turn drove (Ran thread) = record drove { ran = drove.ran + 1 }
+with_turn drove Idle = record drove { idle = drove.idle + 1 }
+with_turn drove AllExited = record drove { idle = drove.idle + 1; all_exited = true }
 
 abbrev pub none_driven : Drove
 none_driven = record { ran = 0; idle = 0; all_exited = false }
@@ -43,7 +43,7 @@ pub record Drives {B : Type 0} (polled : B → Answer → Ask → B → Type 0) 
   pub turns : List Turned
   pub made : Made polled bank old new t u turns
   pub ran : Runs (IsOfSome (stood polled bank old new t u turns made)) (4096 * length turns) old.seat new.seat t u
-  pub counts : drove ≡ fold counted none_driven turns
+  pub counts : drove ≡ fold with_turn none_driven turns
   pub stops : (All (λ turned. turned ≢ AllExited) turns × (length turns ≡ limit))
       ⊎ ((earlier : List Turned) × (All (λ turned. turned ≢ AllExited) earlier × (turns ≡ earlier ++ AllExited ∷ []) × (length turns ≤ limit)))
 

@@ -9,7 +9,7 @@ use Rattle.lwkt_cpu.specs.declared.phases.ToClose.TheVariants.{Worn, Others}
 use Rattle.lwkt_cpu.specs.declared.phases.Phase.{Phase}
 use Rattle.lwkt_cpu.specs.declared.phases.Phase.TheVariants.{Faulted}
 use Rattle.lwkt_cpu.specs.declared.threads.Thread.{Thread}
-use Rattle.lwkt_cpu.specs.Processors.{has_ended}
+use Rattle.lwkt_cpu.specs.Processors.{is_over}
 
 -- the port of a thread is closed, if it is to be; else the ports stay as they are
 abbrev pub ClosesIf : Bool → ℕ → Post → Post → Type 0
@@ -31,7 +31,7 @@ is_worn _ = false
 
 -- whether a thread hasn't ended
 abbrev pub has_not_ended : Phase → Bool
-has_not_ended phase = not (has_ended phase)
+has_not_ended phase = not (is_over phase)
 
 -- whether the ports of threads that do so are among those that are closed
 abbrev pub includes : ToClose → Phase → Bool

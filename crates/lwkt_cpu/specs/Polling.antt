@@ -12,7 +12,7 @@ use Rattle.lwkt_ask.specs.declared.nexts.Next.TheVariants.{Runs, Readies, Awaits
 use Rattle.lwkt_ask.specs.Table.{Performs}
 use Rattle.lwkt_cpu.specs.declared.phases.Phase.TheVariants.{AwaitsItem as Awaits, AwaitsReply as AwaitsFor, Exited, Faulted}
 use Rattle.lwkt_cpu.specs.declared.threads.Thread.{Thread}
-use Rattle.lwkt_cpu.specs.Processors.{has_ended}
+use Rattle.lwkt_cpu.specs.Processors.{is_over}
 use Rattle.lwkt_cpu.specs.Searches.{ended_by}
 use Rattle.lwkt_cpu.specs.Ending.{ClosesIf}
 
@@ -44,4 +44,4 @@ pub record Polls {B : Type 0} (polled : B → Answer → Ask → B → Type 0) (
   pub performs : Performs bank number a b p mid old.list list t u ask next
   pub becomes : new ≡ became (record old { list = list; busy = None }) next
   pub runs_on : runs ≡ goes_on next
-  pub closes : ClosesIf (has_ended new.phase) number mid q
+  pub closes : ClosesIf (is_over new.phase) number mid q

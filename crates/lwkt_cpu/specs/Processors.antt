@@ -1,13 +1,13 @@
 use Rattle.std.specs.Prelude.{◌≡◌, ℕ, ◌<◌, ◌≤◌, ◌==◌, if◌then◌else◌, Bool, true, false, List, [], length, All, IfSome, IsSomeAnd, Option, Some, None, slice_get}
 use Rattle.lwkt_base.specs.declared.threads.ThreadState.{ThreadState}
 use Rattle.lwkt_base.specs.declared.threads.ThreadState.TheVariants.{Ready, Waiting, Running, Exited as HasExited, Faulted as WasFaulted}
-use Rattle.lwkt_base.specs.Refs.{IsLawful}
+use Rattle.lwkt_base.specs.Refs.{IsLawfulList}
 use Rattle.lwkt_base.specs.Holding.{holding_of, holds_nothing}
 use Rattle.lwkt_bank.specs.declared.seats.CpuSeat.{CpuSeat}
 use Rattle.lwkt_bank.specs.Seats.{bank_of, tokens_of, holding}
 use Rattle.lwkt_hold.specs.Misses.{IsRefusing}
 use Rattle.lwkt_base.specs.declared.names.MsgId.{MsgId}
-use Rattle.lwkt_msg.specs.Desks.{cpu_of, messages_of}
+use Rattle.lwkt_msg.specs.Desks.{desk_cpu, messages_of}
 use Rattle.lwkt_port.specs.Posts.{Post}
 use Rattle.lwkt_cpu.specs.declared.phases.Phase.{Phase}
 use Rattle.lwkt_cpu.specs.declared.phases.Phase.TheVariants.{Live, AwaitsItem, AwaitsReply, Exited, Faulted}
@@ -24,12 +24,12 @@ pub record Processor (B : Type 0) : Type 0 where
   pub cursor : ℕ
 
 -- whether a thread has ended
-abbrev pub has_ended : Phase → Bool
-has_ended Live = false
-has_ended AwaitsItem = false
-has_ended (AwaitsReply msg) = false
-has_ended Exited = true
-has_ended (Faulted fault) = true
+abbrev pub is_over : Phase → Bool
+is_over Live = false
+is_over AwaitsItem = false
+is_over (AwaitsReply msg) = false
+is_over Exited = true
+is_over (Faulted fault) = true
 
 -- what a thread is doing, by whether it runs
 abbrev pub state_of : Bool → Phase → ThreadState
@@ -50,9 +50,9 @@ KeepsBusyWord t = IfSome t.busy (λ r. IsRefusing t.list r.at r.word)
 -- a thread between two turns: its list is lawful, its list's tokens exist, one that has ended has an empty list, and a word that
 -- is kept of a refusal refuses its list
 pub record IsSettled (s : CpuSeat) (t : Thread) : Type 0 where
-  pub lawful : IsLawful t.list
+  pub lawful : IsLawfulList t.list
   pub there : All (λ r. r.tok.0 < tokens_of (bank_of s)) t.list
-  pub ended : has_ended t.phase ≡ true → t.list ≡ []
+  pub ended : is_over t.phase ≡ true → t.list ≡ []
   pub busy : KeepsBusyWord t
 
 -- a seat holds the list of the thread that runs, in its modes, or nothing if none runs
@@ -72,7 +72,7 @@ AllAwait messages threads = (k : ℕ) (t : Thread) → slice_get threads k ≡ S
 pub record IsAtRest {B : Type 0} (p : Processor B) : Type 0 where
   pub few : length p.threads ≤ 16
   pub as_many : length p.bodies ≡ length p.threads
-  pub mine : cpu_of p.post.seat ≡ p.seat.cpu
+  pub mine : desk_cpu p.post.seat ≡ p.seat.cpu
   pub ported : p.post.threads ≡ length p.threads
   pub awaits : AllAwait (messages_of p.post.seat) p.threads
   pub within : p.cursor ≤ length p.threads
@@ -81,7 +81,7 @@ pub record IsAtRest {B : Type 0} (p : Processor B) : Type 0 where
 
 -- every thread has ended
 abbrev pub AllOver : List Thread → Type 0
-AllOver threads = (k : ℕ) (t : Thread) → slice_get threads k ≡ Some t → has_ended t.phase ≡ true
+AllOver threads = (k : ℕ) (t : Thread) → slice_get threads k ≡ Some t → is_over t.phase ≡ true
 
 -- the tokens of each thread's list exist
 abbrev pub AreThere : CpuSeat → List Thread → Type 0

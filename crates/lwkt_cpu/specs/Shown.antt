@@ -1,5 +1,5 @@
 use Rattle.std.specs.Prelude.{◌≡◌, ℕ, ◌≤◌, List, replicate, length, IsSomeAnd, Option, Some, None, slice_get}
-use Rattle.lwkt_base.specs.Refs.{IsLawful}
+use Rattle.lwkt_base.specs.Refs.{IsLawfulList}
 use Rattle.lwkt_bank.specs.declared.seats.CpuSeat.{CpuSeat}
 use Rattle.lwkt_port.specs.Posts.{Post}
 use Rattle.lwkt_cpu.specs.declared.answers.Status.{Status}
@@ -18,4 +18,4 @@ pub record IsNew {B : Type 0} (seat : CpuSeat) (post : Post) (bodies : List B) (
 -- what is told of a thread, if there is one: what it is doing, and its list, which is a lawful one
 abbrev pub ShowsThread : {B : Type 0} → Processor B → ℕ → Option Status → Type 0
 ShowsThread p i None = length p.threads ≤ i
-ShowsThread p i (Some status) = IsSomeAnd (slice_get p.threads i) (λ t. (status.state ≡ state_of (is_running p.running i) t.phase) × (status.list.now ≡ t.list) × IsLawful t.list)
+ShowsThread p i (Some status) = IsSomeAnd (slice_get p.threads i) (λ t. (status.state ≡ state_of (is_running p.running i) t.phase) × (status.list.now ≡ t.list) × IsLawfulList t.list)

@@ -11,14 +11,14 @@ use Rattle.lwkt_ask.specs.declared.nexts.Next.TheVariants.{Exits}
 use Rattle.lwkt_ask.specs.Leaving.{GivesUp}
 use Rattle.lwkt_cpu.specs.declared.phases.Phase.TheVariants.{Exited}
 use Rattle.lwkt_cpu.specs.declared.threads.Thread.{Thread}
-use Rattle.lwkt_cpu.specs.Processors.{Processor, has_ended, AllOver}
+use Rattle.lwkt_cpu.specs.Processors.{Processor, is_over, AllOver}
 use Rattle.lwkt_cpu.specs.Searches.{ended_by}
 use Rattle.lwkt_cpu.specs.Ending.{has_not_ended, Closes}
 use Rattle.lwkt_cpu.specs.Polling.{became}
 
 -- a thread after a stop: one that has ended stays as it is, and any other exits
 abbrev pub stopped : Thread → Thread
-stopped t = if has_ended t.phase then t else ended_by Exited t
+stopped t = if is_over t.phase then t else ended_by Exited t
 
 -- each thread is stopped
 abbrev pub AreStopped : List Thread → List Thread → Type 0

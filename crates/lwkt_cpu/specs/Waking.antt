@@ -7,7 +7,7 @@ use Rattle.lwkt_base.specs.declared.faults.Fault.{Fault}
 use Rattle.lwkt_base.specs.declared.names.MsgId.{MsgId}
 use Rattle.lwkt_base.specs.declared.records.Rec.{Rec}
 use Rattle.lwkt_core.specs.declared.events.Event.{Event}
-use Rattle.lwkt_msg.specs.Desks.{cpu_of}
+use Rattle.lwkt_msg.specs.Desks.{desk_cpu}
 use Rattle.lwkt_port.specs.Chains.{Chain}
 use Rattle.lwkt_port.specs.Mails.{kept_mail_at}
 use Rattle.lwkt_port.specs.Posts.{Post, IsSamePost}
@@ -85,5 +85,5 @@ pub record LooksAfter (number : ℕ) (p q : Post) (t u : Vec Event Global) (old 
   pub woken : IsWoken old new
   pub live : old.phase ≡ Live → new ≡ old
   pub same : IsSamePost p q
-  pub grew : Grew (cpu_of p.seat) 128 t u
+  pub grew : Grew (desk_cpu p.seat) 128 t u
   pub told : Tells p.seat q.seat t.items u.items

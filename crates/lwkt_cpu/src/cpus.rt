@@ -1,9 +1,9 @@
 //! A processor: its seat under a hold, and its threads.
 ghost use Rattle.std.specs.Prelude.{◌≡◌, ◌≢◌, ◌⊎◌, ◌<◌, ◌≤◌, true, false, Bool, List, [], length, replicate, IfOk, IfSome, IsSomeAnd, OnErr, Err, Some, None, option_map, slice_get, vec_len};
 ghost use Rattle.lwkt_base.specs.Holding.{holds_nothing};
-ghost use Rattle.lwkt_base.specs.Refs.{IsLawful};
+ghost use Rattle.lwkt_base.specs.Refs.{IsLawfulList};
 ghost use Rattle.lwkt_bank.specs.Seats.{holding};
-ghost use Rattle.lwkt_msg.specs.Desks.{cpu_of};
+ghost use Rattle.lwkt_msg.specs.Desks.{desk_cpu};
 ghost use Rattle.lwkt_cpu.specs.Fresh.{fresh};
 ghost use Rattle.lwkt_base.specs.Fault.{no_memory};
 
@@ -89,7 +89,7 @@ impl<B> Cpu<B> {
     pub fn new(alloc: Global, seat: CpuSeat, ports: Ports, bodies: Vec<B>) -> Result<Self, Fault>
     where
         B: Drop,
-        requires mine { cpu_of ports.seat ≡ seat.cpu }
+        requires mine { desk_cpu ports.seat ≡ seat.cpu }
         requires empty { holding seat ≡ holds_nothing }
         ensures ok { IfOk result (λ cpu. IsNew seat ports bodies.items cpu) }
         ensures only { OnErr result ((result ≡ Err no_memory) ⊎ ((result ≡ Err Fault.Limits) × ((16 < vec_len bodies) ⊎ (ports.threads ≢ vec_len bodies)))) }

@@ -2,7 +2,7 @@
 ghost use Rattle.std.specs.Prelude.{◌≡◌, ◌≢◌, true, false, ◌+◌, ◌<◌, ◌^◌, IfOk, OnErr, Err};
 ghost use Rattle.lwkt_bank.specs.Seats.{id_of, bank_of};
 ghost use Rattle.lwkt_ask.specs.Telling.{TellsMail};
-ghost use Rattle.lwkt_cpu.specs.Driving.{counted, Drives, DrivesShort};
+ghost use Rattle.lwkt_cpu.specs.Driving.{with_turn, Drives, DrivesShort};
 
 use crate::answers::{Drove, Turned};
 use crate::cpus::Cpu;
@@ -16,7 +16,7 @@ use lwkt_msg::MsgBook;
 /// stay below 2^64 is the caller's condition.
 pub fn count(drove: Drove, turned: Turned) -> Drove
     requires { drove.ran + drove.idle + 1 < 2 ^ 64 }
-    ensures { result ≡ counted drove turned }
+    ensures { result ≡ with_turn drove turned }
 {
     let Drove {
         ran,

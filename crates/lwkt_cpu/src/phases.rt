@@ -19,7 +19,7 @@ pub enum Phase {
 }
 
 impl Phase {
-    ghost use Rattle.lwkt_cpu.specs.Processors.{has_ended};
+    ghost use Rattle.lwkt_cpu.specs.Processors.{is_over};
     ghost use Rattle.lwkt_cpu.specs.Ending.{is_worn};
 
     /// Whether it runs, or can run.
@@ -34,7 +34,7 @@ impl Phase {
     /// Whether the thread has ended, by itself or by a fault.
     #[inline]
     pub fn has_ended(self) -> bool
-        ensures { result ≡ has_ended self }
+        ensures { result ≡ is_over self }
     {
         matches!(self, Phase::Exited | Phase::Faulted(_))
     }

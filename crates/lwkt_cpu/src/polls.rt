@@ -1,14 +1,14 @@
 //! A running thread polled: once, with the answer that is kept for it.
 ghost use Rattle.std.specs.Prelude.{◌≡◌, ◌+◌, ◌<◌, ◌≤◌, true, false, None, vec_len, vec_capacity};
 ghost use Rattle.lwkt_base.specs.Holding.{holding_of, holds_nothing};
-ghost use Rattle.lwkt_base.specs.Refs.{IsLawful};
+ghost use Rattle.lwkt_base.specs.Refs.{IsLawfulList};
 ghost use Rattle.lwkt_bank.specs.Seats.{id_of, bank_of, holding};
 ghost use Rattle.lwkt_hold.specs.Holds.{seat_of};
 ghost use Rattle.lwkt_hold.specs.Fronts.{IsBetween};
 ghost use Rattle.lwkt_hold.specs.Runs.{Ran};
-ghost use Rattle.lwkt_cpu.specs.Processors.{IsSettled, Awaits, has_ended};
+ghost use Rattle.lwkt_cpu.specs.Processors.{IsSettled, Awaits, is_over};
 ghost use Rattle.lwkt_cpu.specs.Ending.{ClosesIf};
-ghost use Rattle.lwkt_msg.specs.Desks.{cpu_of, messages_of};
+ghost use Rattle.lwkt_msg.specs.Desks.{desk_cpu, messages_of};
 ghost use Rattle.lwkt_port.specs.Posts.{IsSamePost};
 ghost use Rattle.lwkt_ask.specs.Telling.{TellsMail};
 ghost use Rattle.lwkt_cpu.specs.Polling.{Polls};
@@ -27,7 +27,7 @@ use lwkt_port::Ports;
 // A list of references is always a lawful one.
 #[inline]
 fn is_lawful(list: &TokList)
-    ensures { IsLawful list.now }
+    ensures { IsLawfulList list.now }
 {
     let _ = list.refs();
 }
@@ -47,7 +47,7 @@ fn forget_refusal(thread: &mut Thread)
 fn close_ended(ports: &mut Ports, number: u8, thread: &Thread, runs: bool)
     requires exists { number < ports.old.threads }
     requires live { runs ≡ true → thread.now.phase ≡ Phase.Live }
-    ensures closes { ClosesIf (has_ended thread.now.phase) number ports.old ports.new }
+    ensures closes { ClosesIf (is_over thread.now.phase) number ports.old ports.new }
     ensures same { IsSamePost ports.old ports.new }
     ensures seat { ports.new.seat ≡ ports.old.seat }
 {
@@ -73,7 +73,7 @@ pub(crate) fn poll_one<B: Body>(
     requires of { bank_of (seat_of hold.old) ≡ id_of bank.now }
     requires table { ports.old.seat.table ≡ book.now.table }
     requires exists { number < ports.old.threads }
-    requires mine { cpu_of ports.old.seat ≡ (seat_of hold.old).cpu }
+    requires mine { desk_cpu ports.old.seat ≡ (seat_of hold.old).cpu }
     requires settled { IsSettled (seat_of hold.old) thread.old }
     requires live { thread.old.phase ≡ Phase.Live }
     requires held { holding (seat_of hold.old) ≡ holding_of thread.old.list }

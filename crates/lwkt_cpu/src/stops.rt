@@ -7,7 +7,7 @@ ghost use Rattle.lwkt_hold.specs.Runs.{Ran};
 ghost use Rattle.lwkt_cpu.specs.Processors.{AllOver};
 ghost use Rattle.lwkt_cpu.specs.Searches.{IsOfOne};
 ghost use Rattle.lwkt_cpu.specs.Turning.{IsMailed, HasSameEvents};
-ghost use Rattle.lwkt_msg.specs.Desks.{cpu_of};
+ghost use Rattle.lwkt_msg.specs.Desks.{desk_cpu};
 ghost use Rattle.lwkt_port.specs.Closings.{PostPays};
 ghost use Rattle.lwkt_port.specs.Posts.{IsSamePost};
 ghost use Rattle.lwkt_port.specs.Tellings.{Tells};
@@ -109,8 +109,8 @@ impl<B> Cpu<B> {
         ensures bodies { self.new.bodies ≡ self.old.bodies }
         ensures threads { self.new.threads ≡ self.old.threads }
         ensures running { self.new.running ≡ self.old.running }
-        ensures grew { Grew (cpu_of self.old.post.seat) 64 trace.old trace.new }
-        ensures mine { cpu_of self.old.post.seat ≡ self.old.seat.cpu }
+        ensures grew { Grew (desk_cpu self.old.post.seat) 64 trace.old trace.new }
+        ensures mine { desk_cpu self.old.post.seat ≡ self.old.seat.cpu }
         ensures told { Tells self.old.post.seat self.new.post.seat trace.old.items trace.new.items }
         ensures same { IsSamePost self.old.post self.new.post }
     {

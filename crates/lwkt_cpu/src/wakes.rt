@@ -1,6 +1,6 @@
 //! Threads that wait are woken by what they wait for.
 ghost use Rattle.std.specs.Prelude.{◌≡◌, ◌⊎◌, ℕ, ◌+◌, ◌*◌, ◌<◌, ◌≤◌, length, Some, slice_get, vec_len, vec_capacity};
-ghost use Rattle.lwkt_msg.specs.Desks.{cpu_of, messages_of};
+ghost use Rattle.lwkt_msg.specs.Desks.{desk_cpu, messages_of};
 ghost use Rattle.lwkt_port.specs.Posts.{IsSamePost};
 ghost use Rattle.lwkt_port.specs.Tellings.{Tells};
 ghost use Rattle.lwkt_port.specs.Works.{Grew};
@@ -99,7 +99,7 @@ pub(crate) fn wake_all(
     ensures wakes { WakesAll (ward ports.old threads.old trace.old) (ward ports.new threads.new trace.new) }
     ensures woken { AreWoken threads.old threads.new }
     ensures same { IsSamePost ports.old ports.new }
-    ensures grew { Grew (cpu_of ports.old.seat) (128 * length threads.old) trace.old trace.new }
+    ensures grew { Grew (desk_cpu ports.old.seat) (128 * length threads.old) trace.old trace.new }
     ensures told { Tells ports.old.seat ports.new.seat trace.old.items trace.new.items }
 {
     for at in 0..threads.len() {

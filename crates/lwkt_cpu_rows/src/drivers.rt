@@ -2,7 +2,7 @@
 ghost use Rattle.std.specs.Prelude.{◌≡◌, map, All, IfOk};
 ghost use Rattle.lwkt_base.specs.declared.openings.MsgSpec.{MsgSpec};
 ghost use Rattle.lwkt_bank.specs.Seats.{id_of, bank_of, cpus_of};
-ghost use Rattle.lwkt_msg.specs.Desks.{cpu_of};
+ghost use Rattle.lwkt_msg.specs.Desks.{desk_cpu};
 ghost use Rattle.lwkt_cpu_rows.specs.Free.{IsFree, IsGiven, SitsAt};
 
 use lwkt_bank::{Bank, CpuSeat};
@@ -198,7 +198,7 @@ fn open_ports(
 ) -> Result<Ports, Fault>
     requires { IsGiven board.now.book mail }
     ensures table { IfOk result (λ ports. ports.seat.table ≡ board.now.book.table) }
-    ensures cpu { IfOk result (λ ports. cpu_of ports.seat ≡ id) }
+    ensures cpu { IfOk result (λ ports. desk_cpu ports.seat ≡ id) }
 {
     let cpu = mail.cpu();
     if cpu != id {
@@ -220,7 +220,7 @@ fn next_ports(
     ensures seats { All (IsFree (id_of board.now.bank)) seats.new.seats.items }
     ensures mails { All (IsGiven board.now.book) seats.new.mails.items }
     ensures table { IfOk result (λ ports. ports.seat.table ≡ board.now.book.table) }
-    ensures cpu { IfOk result (λ ports. cpu_of ports.seat ≡ id) }
+    ensures cpu { IfOk result (λ ports. desk_cpu ports.seat ≡ id) }
 {
     let Some(mail) = seats.mails.pop() else {
         return Err(Fault::Limits);

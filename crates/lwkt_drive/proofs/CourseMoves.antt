@@ -20,7 +20,7 @@ use Rattle.lwkt_cpu.specs.declared.answers.Turned.TheVariants.{Ran, Idle, AllExi
 use Rattle.lwkt_cpu.specs.declared.answers.Drove.{Drove}
 use Rattle.lwkt_cpu.specs.Processors.{Processor}
 use Rattle.lwkt_cpu.specs.Turning.{MakesTurn}
-use Rattle.lwkt_cpu.specs.Driving.{Made, counted, none_driven}
+use Rattle.lwkt_cpu.specs.Driving.{Made, with_turn, none_driven}
 use Rattle.lwkt_drive.specs.declared.driven.Driven.{Driven}
 use Rattle.lwkt_drive.specs.declared.driven.Limits.{Limits}
 use Rattle.lwkt_drive.specs.declared.driven.Said.{Said}
@@ -124,17 +124,17 @@ under_none polled answers bank limits d = record {
   seat = refl;
 }
 
-counted_ran : (drove : Drove) (turned : Turned) → (counted drove turned).ran ≤ drove.ran + 1
+counted_ran : (drove : Drove) (turned : Turned) → (with_turn drove turned).ran ≤ drove.ran + 1
 counted_ran drove (Ran thread) = omega arith
 counted_ran drove Idle = omega arith
 counted_ran drove AllExited = omega arith
 
-counted_idle : (drove : Drove) (turned : Turned) → (counted drove turned).idle ≤ drove.idle + 1
+counted_idle : (drove : Drove) (turned : Turned) → (with_turn drove turned).idle ≤ drove.idle + 1
 counted_idle drove (Ran thread) = omega arith
 counted_idle drove Idle = omega arith
 counted_idle drove AllExited = omega arith
 
-counted_all : (drove : Drove) (turned : Turned) → (counted drove turned).ran + (counted drove turned).idle ≡ drove.ran + drove.idle + 1
+counted_all : (drove : Drove) (turned : Turned) → (with_turn drove turned).ran + (with_turn drove turned).idle ≡ drove.ran + drove.idle + 1
 counted_all drove (Ran thread) = omega arith
 counted_all drove Idle = omega arith
 counted_all drove AllExited = omega arith
@@ -164,7 +164,7 @@ under_more {B} polled answers bank limits old mid new turn total u m same =
       turns = u.turns ++ m.turned ∷ [];
       made = made_more polled bank old.cpu mid.cpu new.cpu old.trace mid.trace new.trace u.turns m.turned u.made m.makes;
       going = going_more answers limits old.id u.turns m.turned u.going last;
-      drove = m.drove ∙ (ap (λ d. counted d m.turned) u.drove ∙ sym (fold-append counted none_driven u.turns (m.turned ∷ [])));
+      drove = m.drove ∙ (ap (λ d. with_turn d m.turned) u.drove ∙ sym (fold-append with_turn none_driven u.turns (m.turned ∷ [])));
       all = subst T (sym m.drove) (omega (arith, counted_all mid.drove m.turned, u.all, length-append u.turns (m.turned ∷ [])));
       silent = λ is. ends_silent polled bank old.cpu mid.cpu new.cpu old.trace mid.trace new.trace u.turns m.turned u.made m.makes (m.silent is);
       said = m.said ∙ (ap agreed u.said ∙ heard_more u.turns m.turned old.said);

@@ -22,7 +22,7 @@ use Rattle.lwkt_hold.specs.Steps.{is_of_token, Tells}
 use Rattle.lwkt_hold.proofs.RunMoves.{Tells-append}
 use Rattle.lwkt_core.specs.Trace.{end_of}
 use Rattle.lwkt_msg.specs.Book.{mail_at}
-use Rattle.lwkt_msg.specs.Desks.{Desk, Shelf, cpu_of as desk_cpu, past_of as mail_past, events_of as mail_of, IsOpened as IsOpenedDesk, AreClosed}
+use Rattle.lwkt_msg.specs.Desks.{Desk, Shelf, desk_cpu, past_of as mail_past, events_of as mail_of, IsOpened as IsOpenedDesk, AreClosed}
 use Rattle.lwkt_msg.specs.Views.{seat_cpu}
 use Rattle.lwkt_cpu.specs.declared.answers.Turned.{Turned}
 use Rattle.lwkt_cpu.specs.Processors.{Processor}

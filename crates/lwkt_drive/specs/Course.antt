@@ -11,7 +11,7 @@ use Rattle.lwkt_cpu.specs.declared.answers.Turned.TheVariants.{Ran, Idle, AllExi
 use Rattle.lwkt_cpu.specs.declared.answers.Drove.{Drove}
 use Rattle.lwkt_cpu.specs.Processors.{Processor}
 use Rattle.lwkt_cpu.specs.Turning.{LacksRoom, MakesTurn}
-use Rattle.lwkt_cpu.specs.Driving.{Made, counted, none_driven}
+use Rattle.lwkt_cpu.specs.Driving.{Made, with_turn, none_driven}
 use Rattle.lwkt_drive.specs.declared.driven.Driven.{Driven}
 use Rattle.lwkt_drive.specs.declared.driven.Limits.{Limits}
 use Rattle.lwkt_drive.specs.declared.driven.Said.{Said}
@@ -25,7 +25,7 @@ pub record IsAt {B : Type 0} (bank : BankId) (book : TableId) (d : Driven B) : T
 
 -- how many of these turns ran a thread, how many ran none, and whether one said that every thread had ended
 abbrev pub counts : List Turned → Drove
-counts turns = fold counted none_driven turns
+counts turns = fold with_turn none_driven turns
 
 -- neither limit is passed
 pub record IsWithin (limits : Limits) (drove : Drove) : Type 0 where
@@ -96,7 +96,7 @@ pub record MakesOne {B : Type 0} (polled : B → Answer → Ask → B → Type 0
   pub turned : Turned
   pub goes : GoesOn answers limits old.id turn old.drove
   pub makes : MakesTurn polled bank old.cpu new.cpu old.trace new.trace turned
-  pub drove : new.drove ≡ counted old.drove turned
+  pub drove : new.drove ≡ with_turn old.drove turned
   pub silent : new.silent ≡ true → WasSilent turned old.trace new.trace
   pub said : new.said ≡ agreed old.said
 

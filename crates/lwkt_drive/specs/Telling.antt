@@ -19,7 +19,7 @@ use Rattle.lwkt_bank.specs.Told.{IsDone, first_machine}
 use Rattle.lwkt_hold.specs.Runs.{Ran}
 use Rattle.lwkt_hold.specs.Steps.{is_of_token, Tells}
 use Rattle.lwkt_msg.specs.Book.{Mail, mail_at}
-use Rattle.lwkt_msg.specs.Desks.{Desk, Shelf, cpu_of as desk_cpu, events_of as mail_of, IsOpened as IsOpenedDesk, AreClosed}
+use Rattle.lwkt_msg.specs.Desks.{Desk, Shelf, desk_cpu, events_of as mail_of, IsOpened as IsOpenedDesk, AreClosed}
 use Rattle.lwkt_msg.specs.Steps.{machine_of}
 use Rattle.lwkt_msg.specs.Told.{IsDone as IsMailDone, first_mails}
 use Rattle.lwkt_cpu.specs.declared.threads.Thread.{Thread}

@@ -1,7 +1,7 @@
 //! One turn of a processor that is driven, and whether it makes another.
 ghost use Rattle.std.specs.Prelude.{◌≡◌, true, ◌+◌, ◌<◌, ◌≤◌, ◌^◌, IfOk, IfSome, OnErr, None};
 ghost use Rattle.lwkt_bank.specs.Seats.{id_of};
-ghost use Rattle.lwkt_cpu.specs.Driving.{counted};
+ghost use Rattle.lwkt_cpu.specs.Driving.{with_turn};
 ghost use Rattle.lwkt_cpu.specs.Turning.{LacksRoom, MakesTurn};
 ghost use Rattle.lwkt_drive.specs.Course.{IsAt, IsWithin, GoesOn, EndsBy, RanNone, WasSilent, agreed, said_at_end};
 
@@ -63,7 +63,7 @@ impl<B> Driven<B> {
     // Counts a turn that was made. The first one that says that every thread has ended is told to all.
     fn note(&mut self, watch: &Watch<'_>, turned: Turned)
         requires { self.old.drove.ran + self.old.drove.idle + 1 < 2 ^ 64 }
-        ensures { self.new ≡ record self.old { drove = counted self.old.drove turned } }
+        ensures { self.new ≡ record self.old { drove = with_turn self.old.drove turned } }
     {
         match turned {
             Turned::Ran { .. } => self.drove.ran += 1,
@@ -114,7 +114,7 @@ impl<B: Body> Driven<B> {
     ) -> Result<Turned, AllocError>
         requires at { IsAt (id_of bank.now) book.now.table self.old }
         requires few { self.old.drove.ran + self.old.drove.idle + 1 < 2 ^ 64 }
-        ensures ok { IfOk result (λ turned. MakesTurn B.polled (id_of bank.now) self.old.cpu self.new.cpu self.old.trace self.new.trace turned × (self.new.drove ≡ counted self.old.drove turned) × (self.new.silent ≡ true → WasSilent turned self.old.trace self.new.trace)) }
+        ensures ok { IfOk result (λ turned. MakesTurn B.polled (id_of bank.now) self.old.cpu self.new.cpu self.old.trace self.new.trace turned × (self.new.drove ≡ with_turn self.old.drove turned) × (self.new.silent ≡ true → WasSilent turned self.old.trace self.new.trace)) }
         ensures err { OnErr result ((self.new.cpu ≡ self.old.cpu) × (self.new.trace.items ≡ self.old.trace.items) × (self.new.drove ≡ self.old.drove) × (self.new.silent ≡ self.old.silent) × LacksRoom self.new.trace) }
         ensures said { self.new.said ≡ self.old.said }
         ensures at { IsAt (id_of bank.now) book.now.table self.new }

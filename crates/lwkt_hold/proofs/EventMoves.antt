@@ -22,7 +22,7 @@ use Rattle.lwkt_hold.specs.declared.answers.Resumed.TheVariants.{All, Passed}
 use Rattle.lwkt_hold.specs.Fronts.{names}
 use Rattle.lwkt_hold.specs.Steps.{taking}
 use Rattle.lwkt_hold.specs.Rows.{IsUnwritten, section_now, MeetsItsLaw, SameSection, Mends}
-use Rattle.lwkt_hold.specs.Takings.{takes, takes_all}
+use Rattle.lwkt_hold.specs.Takings.{taking_event, takes_all}
 use Rattle.lwkt_hold.proofs.GiveMoves.{same_law, section_same, restores_same, restores_before}
 use Rattle.lwkt_hold.specs.Givings.{gives, gives_all, GivesBy, RestoresBy, Releases, ReleasesAll}
 
@@ -39,38 +39,38 @@ choice_false true x y is = cc
 choice_false false x y is = refl
 
 -- a further reference, and a first one, are taken by their event
-pub again_told : (refs : List Ref) (at : ℕ) (d : Ref) (cpu mine : CpuId) (t u : Vec Event Global) → at < length refs → names (take at refs) (get_or refs at d).tok.0 ≡ true → mine ≡ cpu → u.items ≡ t.items ++ Again mine (get_or refs at d).tok ∷ [] → IsSomeAnd (slice_get refs at) (λ r. u.items ≡ t.items ++ takes cpu (take at refs) r ∷ [])
+pub again_told : (refs : List Ref) (at : ℕ) (d : Ref) (cpu mine : CpuId) (t u : Vec Event Global) → at < length refs → names (take at refs) (get_or refs at d).tok.0 ≡ true → mine ≡ cpu → u.items ≡ t.items ++ Again mine (get_or refs at d).tok ∷ [] → IsSomeAnd (slice_get refs at) (λ r. u.items ≡ t.items ++ taking_event cpu (take at refs) r ∷ [])
 again_told refs at d cpu mine t u within named same pushed =
     let r = get_or refs at d in
-    let F : Option Ref → Type 0 = λ o. IsSomeAnd o (λ x. u.items ≡ t.items ++ takes cpu (take at refs) x ∷ []) in
+    let F : Option Ref → Type 0 = λ o. IsSomeAnd o (λ x. u.items ≡ t.items ++ taking_event cpu (take at refs) x ∷ []) in
     subst F (sym (slice_get-get_or refs at d within)) (pushed ∙ ap (λ c. t.items ++ Again c r.tok ∷ []) same ∙ ap (λ e. t.items ++ e ∷ []) (choice_true (names (take at refs) r.tok.0) (Again cpu r.tok) (taking cpu r.tok r.mode) named))
 
-pub first_told : (refs : List Ref) (at : ℕ) (d : Ref) (cpu mine : CpuId) (event : Event) (t u : Vec Event Global) → at < length refs → names (take at refs) (get_or refs at d).tok.0 ≡ false → mine ≡ cpu → event ≡ taking mine (get_or refs at d).tok (get_or refs at d).mode → u.items ≡ t.items ++ event ∷ [] → IsSomeAnd (slice_get refs at) (λ r. u.items ≡ t.items ++ takes cpu (take at refs) r ∷ [])
+pub first_told : (refs : List Ref) (at : ℕ) (d : Ref) (cpu mine : CpuId) (event : Event) (t u : Vec Event Global) → at < length refs → names (take at refs) (get_or refs at d).tok.0 ≡ false → mine ≡ cpu → event ≡ taking mine (get_or refs at d).tok (get_or refs at d).mode → u.items ≡ t.items ++ event ∷ [] → IsSomeAnd (slice_get refs at) (λ r. u.items ≡ t.items ++ taking_event cpu (take at refs) r ∷ [])
 first_told refs at d cpu mine event t u within free same is pushed =
     let r = get_or refs at d in
-    let F : Option Ref → Type 0 = λ o. IsSomeAnd o (λ x. u.items ≡ t.items ++ takes cpu (take at refs) x ∷ []) in
+    let F : Option Ref → Type 0 = λ o. IsSomeAnd o (λ x. u.items ≡ t.items ++ taking_event cpu (take at refs) x ∷ []) in
     subst F (sym (slice_get-get_or refs at d within)) (pushed ∙ ap (λ e. t.items ++ e ∷ []) (is ∙ ap (λ c. taking c r.tok r.mode) same ∙ choice_false (names (take at refs) r.tok.0) (Again cpu r.tok) (taking cpu r.tok r.mode) free))
 
 -- what the event of a place says, at that place's reference
-pub told_at : (refs : List Ref) (at : ℕ) (d : Ref) (cpu : CpuId) (xs ys : List Event) → at < length refs → IsSomeAnd (slice_get refs at) (λ r. ys ≡ xs ++ takes cpu (take at refs) r ∷ []) → ys ≡ xs ++ takes cpu (take at refs) (get_or refs at d) ∷ []
+pub told_at : (refs : List Ref) (at : ℕ) (d : Ref) (cpu : CpuId) (xs ys : List Event) → at < length refs → IsSomeAnd (slice_get refs at) (λ r. ys ≡ xs ++ taking_event cpu (take at refs) r ∷ []) → ys ≡ xs ++ taking_event cpu (take at refs) (get_or refs at d) ∷ []
 told_at refs at d cpu xs ys within told =
-    let F : Option Ref → Type 0 = λ o. IsSomeAnd o (λ x. ys ≡ xs ++ takes cpu (take at refs) x ∷ []) in
+    let F : Option Ref → Type 0 = λ o. IsSomeAnd o (λ x. ys ≡ xs ++ taking_event cpu (take at refs) x ∷ []) in
     subst F (slice_get-get_or refs at d within) told
 
 -- one reference more is taken last
-takes_snoc : (cpu : CpuId) (front refs : List Ref) (r : Ref) → takes_all cpu front (refs ++ r ∷ []) ≡ takes_all cpu front refs ++ takes cpu (front ++ refs) r ∷ []
-takes_snoc cpu front [] r = ap (λ (xs : List Ref). takes cpu xs r ∷ []) (sym (append-nil front))
+takes_snoc : (cpu : CpuId) (front refs : List Ref) (r : Ref) → takes_all cpu front (refs ++ r ∷ []) ≡ takes_all cpu front refs ++ taking_event cpu (front ++ refs) r ∷ []
+takes_snoc cpu front [] r = ap (λ (xs : List Ref). taking_event cpu xs r ∷ []) (sym (append-nil front))
 takes_snoc cpu front (x ∷ refs) r =
-    ap (λ es. takes cpu front x ∷ es) (takes_snoc cpu (front ++ x ∷ []) refs r ∙ ap (λ (xs : List Ref). takes_all cpu (front ++ x ∷ []) refs ++ takes cpu xs r ∷ []) (append_assoc front (x ∷ []) refs))
+    ap (λ es. taking_event cpu front x ∷ es) (takes_snoc cpu (front ++ x ∷ []) refs r ∙ ap (λ (xs : List Ref). takes_all cpu (front ++ x ∷ []) refs ++ taking_event cpu xs r ∷ []) (append_assoc front (x ∷ []) refs))
 
 -- the events so far, and that of one reference more
-pub takes_more : (refs : List Ref) (at : ℕ) (d : Ref) (cpu same : CpuId) (t u v : List Event) → at < length refs → same ≡ cpu → u ≡ t ++ takes_all cpu [] (take at refs) → IsSomeAnd (slice_get refs at) (λ r. v ≡ u ++ takes same (take at refs) r ∷ []) → v ≡ t ++ takes_all cpu [] (take (at + 1) refs)
+pub takes_more : (refs : List Ref) (at : ℕ) (d : Ref) (cpu same : CpuId) (t u v : List Event) → at < length refs → same ≡ cpu → u ≡ t ++ takes_all cpu [] (take at refs) → IsSomeAnd (slice_get refs at) (λ r. v ≡ u ++ taking_event same (take at refs) r ∷ []) → v ≡ t ++ takes_all cpu [] (take (at + 1) refs)
 takes_more refs at d cpu same t u v within mine before told =
     let r = get_or refs at d in
     told_at refs at d same u v within told
-    ∙ ap (λ c. u ++ takes c (take at refs) r ∷ []) mine
-    ∙ ap (λ xs. xs ++ takes cpu (take at refs) r ∷ []) before
-    ∙ append_assoc t (takes_all cpu [] (take at refs)) (takes cpu (take at refs) r ∷ [])
+    ∙ ap (λ c. u ++ taking_event c (take at refs) r ∷ []) mine
+    ∙ ap (λ xs. xs ++ taking_event cpu (take at refs) r ∷ []) before
+    ∙ append_assoc t (takes_all cpu [] (take at refs)) (taking_event cpu (take at refs) r ∷ [])
     ∙ ap (λ xs. t ++ xs) (sym (takes_snoc cpu [] (take at refs) r))
     ∙ ap (λ xs. t ++ takes_all cpu [] xs) (sym (take_one_more refs at d within))
 

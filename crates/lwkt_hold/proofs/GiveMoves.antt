@@ -32,34 +32,34 @@ use Rattle.lwkt_bank.specs.Deeds.{reads, reads_all, writes_all, writes_blob_if}
 use Rattle.lwkt_bank.specs.Seats.{BankId, bank_of, plan_of, entry, holding, Changes, Knowing, PutsFirst, Restored, first_load, last_loads, lawful_loads, asked_record, written_over}
 use Rattle.lwkt_hold.specs.Steps.{is_counted, is_of_token, is_on_word, ShowsEvent, Tells}
 use Rattle.lwkt_hold.specs.Runs.{Moves, Ran}
-use Rattle.lwkt_hold.specs.Rows.{row, first_row, blob, first_blob, is_stored_to, IsUnwritten, MeetsItsLaw, IsBroken, SameRow, SameSection, section_now, writes, writes_record, GivesBack, Mends}
+use Rattle.lwkt_hold.specs.Rows.{row, first_row, blob, first_blob, is_stored_to, IsUnwritten, MeetsItsLaw, IsBroken, SameRow, SameSection, section_now, write_events, record_write_events, GivesBack, Mends}
 use Rattle.lwkt_hold.specs.Givings.{StoresFirst, RestoresBy}
 use Rattle.lwkt_hold.proofs.HoldingMoves.{holding_of_more}
 use Rattle.lwkt_hold.proofs.RunMoves.{Moves-append, Tells-append, ran_quiet, ran_weaker, holding_kept}
 
 -- stores are no steps on a token word, are by their processor, and keep every holding
-writes_off : (cpu : CpuId) (tok : TokId) (cell : ℕ) (values : List (Option ℕ)) → filter is_on_word (writes cpu tok cell values) ≡ []
+writes_off : (cpu : CpuId) (tok : TokId) (cell : ℕ) (values : List (Option ℕ)) → filter is_on_word (write_events cpu tok cell values) ≡ []
 writes_off cpu tok cell [] = refl
 writes_off cpu tok cell (None ∷ values) = writes_off cpu tok (suc cell) values
 writes_off cpu tok cell (Some value ∷ values) = writes_off cpu tok (suc cell) values
 
-writes_own : (cpu : CpuId) (tok : TokId) (cell : ℕ) (values : List (Option ℕ)) → All (λ e. cpu_of e ≡ cpu.0) (writes cpu tok cell values)
+writes_own : (cpu : CpuId) (tok : TokId) (cell : ℕ) (values : List (Option ℕ)) → All (λ e. cpu_of e ≡ cpu.0) (write_events cpu tok cell values)
 writes_own cpu tok cell [] = All-from_recursion (λ (e : Event). cpu_of e ≡ cpu.0) [] tt
 writes_own cpu tok cell (None ∷ values) = writes_own cpu tok (suc cell) values
-writes_own cpu tok cell (Some value ∷ values) = All-cons (λ (e : Event). cpu_of e ≡ cpu.0) (Write cpu tok cell value) (writes cpu tok (suc cell) values) refl (writes_own cpu tok (suc cell) values)
+writes_own cpu tok cell (Some value ∷ values) = All-cons (λ (e : Event). cpu_of e ≡ cpu.0) (Write cpu tok cell value) (write_events cpu tok (suc cell) values) refl (writes_own cpu tok (suc cell) values)
 
-writes_move : (P : Holding → Type 0) (h : Holding) (cpu : CpuId) (tok : TokId) (cell : ℕ) (values : List (Option ℕ)) → P h → Moves P h (writes cpu tok cell values) h
+writes_move : (P : Holding → Type 0) (h : Holding) (cpu : CpuId) (tok : TokId) (cell : ℕ) (values : List (Option ℕ)) → P h → Moves P h (write_events cpu tok cell values) h
 writes_move P h cpu tok cell [] at_front = refl
 writes_move P h cpu tok cell (None ∷ values) at_front = writes_move P h cpu tok (suc cell) values at_front
 writes_move P h cpu tok cell (Some value ∷ values) at_front = (at_front, writes_move P h cpu tok (suc cell) values at_front)
 
 -- the stores of a restore are told, and are no steps on a token word
-tells_writes : (cpu : CpuId) (tok : TokId) (cell : ℕ) (values : List (Option ℕ)) → Tells (events_in (writes_all cpu tok.0 cell values)) (writes cpu tok cell values)
+tells_writes : (cpu : CpuId) (tok : TokId) (cell : ℕ) (values : List (Option ℕ)) → Tells (events_in (writes_all cpu tok.0 cell values)) (write_events cpu tok cell values)
 tells_writes cpu tok cell [] = refl
 tells_writes cpu tok cell (None ∷ values) = tells_writes cpu tok (suc cell) values
-tells_writes cpu tok cell (Some value ∷ values) = inr (refl, (writes cpu tok (suc cell) values, (refl, tells_writes cpu tok (suc cell) values)))
+tells_writes cpu tok cell (Some value ∷ values) = inr (refl, (write_events cpu tok (suc cell) values, (refl, tells_writes cpu tok (suc cell) values)))
 
-writes_of_token : (cpu : CpuId) (tok : TokId) (cell : ℕ) (values : List (Option ℕ)) → filter is_of_token (writes cpu tok cell values) ≡ writes cpu tok cell values
+writes_of_token : (cpu : CpuId) (tok : TokId) (cell : ℕ) (values : List (Option ℕ)) → filter is_of_token (write_events cpu tok cell values) ≡ write_events cpu tok cell values
 writes_of_token cpu tok cell [] = refl
 writes_of_token cpu tok cell (None ∷ values) = writes_of_token cpu tok (suc cell) values
 writes_of_token cpu tok cell (Some value ∷ values) = ap (λ (es : List Event). Write cpu tok cell value ∷ es) (writes_of_token cpu tok (suc cell) values)
@@ -70,23 +70,23 @@ no_steps cpu tok cell (None ∷ values) = no_steps cpu tok (suc cell) values
 no_steps cpu tok cell (Some value ∷ values) = no_steps cpu tok (suc cell) values
 
 -- the same of the store of a record, if one is stored
-record_off : (cpu : CpuId) (tok : TokId) (bytes : RecordOf) → filter is_on_word (writes_record cpu tok bytes) ≡ []
+record_off : (cpu : CpuId) (tok : TokId) (bytes : RecordOf) → filter is_on_word (record_write_events cpu tok bytes) ≡ []
 record_off cpu tok None = refl
 record_off cpu tok (Some bytes) = refl
 
-record_own : (cpu : CpuId) (tok : TokId) (bytes : RecordOf) → All (λ e. cpu_of e ≡ cpu.0) (writes_record cpu tok bytes)
+record_own : (cpu : CpuId) (tok : TokId) (bytes : RecordOf) → All (λ e. cpu_of e ≡ cpu.0) (record_write_events cpu tok bytes)
 record_own cpu tok None = All-from_recursion (λ (e : Event). cpu_of e ≡ cpu.0) [] tt
 record_own cpu tok (Some bytes) = All-from_recursion (λ (e : Event). cpu_of e ≡ cpu.0) (WriteBlob cpu tok bytes ∷ []) (refl, tt)
 
-record_moves : (P : Holding → Type 0) (h : Holding) (cpu : CpuId) (tok : TokId) (bytes : RecordOf) → P h → Moves P h (writes_record cpu tok bytes) h
+record_moves : (P : Holding → Type 0) (h : Holding) (cpu : CpuId) (tok : TokId) (bytes : RecordOf) → P h → Moves P h (record_write_events cpu tok bytes) h
 record_moves P h cpu tok None at_front = refl
 record_moves P h cpu tok (Some bytes) at_front = (at_front, refl)
 
-tells_record : (cpu : CpuId) (tok : TokId) (bytes : RecordOf) → Tells (events_in (writes_blob_if cpu tok.0 bytes)) (writes_record cpu tok bytes)
+tells_record : (cpu : CpuId) (tok : TokId) (bytes : RecordOf) → Tells (events_in (writes_blob_if cpu tok.0 bytes)) (record_write_events cpu tok bytes)
 tells_record cpu tok None = refl
 tells_record cpu tok (Some bytes) = inr (refl, ([], (refl, refl)))
 
-record_of_token : (cpu : CpuId) (tok : TokId) (bytes : RecordOf) → filter is_of_token (writes_record cpu tok bytes) ≡ writes_record cpu tok bytes
+record_of_token : (cpu : CpuId) (tok : TokId) (bytes : RecordOf) → filter is_of_token (record_write_events cpu tok bytes) ≡ record_write_events cpu tok bytes
 record_of_token cpu tok None = refl
 record_of_token cpu tok (Some bytes) = refl
 
@@ -96,25 +96,25 @@ no_record_steps cpu tok (Some bytes) = refl
 
 -- the events and the deeds of a restore
 abbrev pub stores : CpuId → TokId → List (Option ℕ) → RecordOf → List Event
-stores cpu tok values bytes = writes cpu tok 0 values ++ writes_record cpu tok bytes
+stores cpu tok values bytes = write_events cpu tok 0 values ++ record_write_events cpu tok bytes
 
 abbrev pub store_deeds : CpuId → ℕ → List (Option ℕ) → RecordOf → List Deed
 store_deeds cpu tok values bytes = writes_all cpu tok 0 values ++ writes_blob_if cpu tok bytes
 
 stores_off : (cpu : CpuId) (tok : TokId) (values : List (Option ℕ)) (bytes : RecordOf) → filter is_on_word (stores cpu tok values bytes) ≡ []
-stores_off cpu tok values bytes = filter-append is_on_word (writes cpu tok 0 values) (writes_record cpu tok bytes) ∙ ap (λ (es : List Event). es ++ filter is_on_word (writes_record cpu tok bytes)) (writes_off cpu tok 0 values) ∙ record_off cpu tok bytes
+stores_off cpu tok values bytes = filter-append is_on_word (write_events cpu tok 0 values) (record_write_events cpu tok bytes) ∙ ap (λ (es : List Event). es ++ filter is_on_word (record_write_events cpu tok bytes)) (writes_off cpu tok 0 values) ∙ record_off cpu tok bytes
 
 stores_of_token : (cpu : CpuId) (tok : TokId) (values : List (Option ℕ)) (bytes : RecordOf) → filter is_of_token (stores cpu tok values bytes) ≡ stores cpu tok values bytes
 stores_of_token cpu tok values bytes =
-    filter-append is_of_token (writes cpu tok 0 values) (writes_record cpu tok bytes)
-    ∙ ap (λ (es : List Event). es ++ filter is_of_token (writes_record cpu tok bytes)) (writes_of_token cpu tok 0 values)
-    ∙ ap (λ (es : List Event). writes cpu tok 0 values ++ es) (record_of_token cpu tok bytes)
+    filter-append is_of_token (write_events cpu tok 0 values) (record_write_events cpu tok bytes)
+    ∙ ap (λ (es : List Event). es ++ filter is_of_token (record_write_events cpu tok bytes)) (writes_of_token cpu tok 0 values)
+    ∙ ap (λ (es : List Event). write_events cpu tok 0 values ++ es) (record_of_token cpu tok bytes)
 
 tells_stores : (cpu : CpuId) (tok : TokId) (values : List (Option ℕ)) (bytes : RecordOf) → Tells (events_in (store_deeds cpu tok.0 values bytes)) (stores cpu tok values bytes)
 tells_stores cpu tok values bytes =
     let F : List Event → Type 0 = λ es. Tells es (stores cpu tok values bytes) in
     subst F (sym (events_in-append (writes_all cpu tok.0 0 values) (writes_blob_if cpu tok.0 bytes)))
-    (Tells-append (events_in (writes_all cpu tok.0 0 values)) (events_in (writes_blob_if cpu tok.0 bytes)) (writes cpu tok 0 values) (writes_record cpu tok bytes) (tells_writes cpu tok 0 values) (tells_record cpu tok bytes))
+    (Tells-append (events_in (writes_all cpu tok.0 0 values)) (events_in (writes_blob_if cpu tok.0 bytes)) (write_events cpu tok 0 values) (record_write_events cpu tok bytes) (tells_writes cpu tok 0 values) (tells_record cpu tok bytes))
 
 no_store_steps : (cpu : CpuId) (tok : ℕ) (values : List (Option ℕ)) (bytes : RecordOf) → steps_in (store_deeds cpu tok values bytes) ≡ []
 no_store_steps cpu tok values bytes =
@@ -141,7 +141,7 @@ stored_ran P s s' tok cpu values bytes t u r at_front mine pushed longer few roo
   trace = pushed;
   own =
       let F : ℕ → Type 0 = λ k. All (λ (e : Event). cpu_of e ≡ k) (stores cpu tok values bytes) in
-      subst F (ap (λ (x : CpuId). x.0) mine) (All-append (λ (e : Event). cpu_of e ≡ cpu.0) (writes cpu tok 0 values) (writes_record cpu tok bytes) (writes_own cpu tok 0 values) (record_own cpu tok bytes));
+      subst F (ap (λ (x : CpuId). x.0) mine) (All-append (λ (e : Event). cpu_of e ≡ cpu.0) (write_events cpu tok 0 values) (record_write_events cpu tok bytes) (writes_own cpu tok 0 values) (record_own cpu tok bytes));
   told =
       let F : List Event → Type 0 = λ ys. AllZip ShowsEvent [] ys in
       let G : List WordStep → Type 0 = λ xs. AllZip ShowsEvent (filter is_counted xs) (filter is_on_word (stores cpu tok values bytes)) in
@@ -149,7 +149,7 @@ stored_ran P s s' tok cpu values bytes t u r at_front mine pushed longer few roo
   moves =
       let h = holding s in
       let F : Holding → Type 0 = λ x. Moves P h (stores cpu tok values bytes) x in
-      subst F (sym (stored_kept s s' tok.0 values bytes r)) (Moves-append P (writes cpu tok 0 values) (writes_record cpu tok bytes) h h h (writes_move P h cpu tok 0 values at_front) (record_moves P h cpu tok bytes at_front));
+      subst F (sym (stored_kept s s' tok.0 values bytes r)) (Moves-append P (write_events cpu tok 0 values) (record_write_events cpu tok bytes) h h h (writes_move P h cpu tok 0 values at_front) (record_moves P h cpu tok bytes at_front));
   few = few;
   grown = longer;
   room = room;
@@ -458,7 +458,7 @@ restores_same a s tok behind done bank mine same r = (
     (
       first_same a s tok.0 r.0 bank same r.1.1.0,
       puts_same a s tok.0 r.1.0 same r.1.1.1,
-      r.1.1.2 ∙ ap (λ (c : CpuId). writes c tok 0 r.0 ++ (writes_record c tok r.1.0 ++ behind)) mine,
+      r.1.1.2 ∙ ap (λ (c : CpuId). write_events c tok 0 r.0 ++ (record_write_events c tok r.1.0 ++ behind)) mine,
     ),
   ),
 )
@@ -466,8 +466,8 @@ restores_same a s tok behind done bank mine same r = (
 -- the same with more events behind them
 pub restores_before : (s : CpuSeat) (tok : TokId) (more done : List Event) → RestoresBy s tok [] done → RestoresBy s tok more (done ++ more)
 restores_before s tok more done r =
-    let first = writes s.cpu tok 0 r.0 in
-    let last = writes_record s.cpu tok r.1.0 in (
+    let first = write_events s.cpu tok 0 r.0 in
+    let last = record_write_events s.cpu tok r.1.0 in (
       r.0,
       (
         r.1.0,

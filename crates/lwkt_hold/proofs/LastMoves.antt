@@ -20,7 +20,7 @@ use Rattle.lwkt_hold.specs.declared.answers.Acquired.{Acquired}
 use Rattle.lwkt_hold.specs.declared.answers.Acquired.TheVariants.{MustSwitch}
 use Rattle.lwkt_base.specs.declared.names.CpuId.{CpuId}
 use Rattle.lwkt_hold.specs.Fronts.{IsFront}
-use Rattle.lwkt_hold.specs.Takings.{takes}
+use Rattle.lwkt_hold.specs.Takings.{taking_event}
 use Rattle.lwkt_core.specs.History.{events_in, steps_in}
 use Rattle.lwkt_hold.specs.Steps.{is_counted, is_of_token, is_on_word, ShowsEvent, Tells}
 use Rattle.lwkt_hold.specs.Runs.{Moves, Ran}
@@ -58,15 +58,15 @@ last_there refs front last at n is here below =
     subst F (sym e) below
 
 -- the event of the last reference of a list
-pub pushed_told : (refs front : List Ref) (last : Ref) (at : ℕ) (cpu : CpuId) (xs ys : List Event) → refs ≡ front ++ last ∷ [] → at ≡ length front → IsSomeAnd (slice_get refs at) (λ r. ys ≡ xs ++ takes cpu (take at refs) r ∷ []) → ys ≡ xs ++ takes cpu front last ∷ []
+pub pushed_told : (refs front : List Ref) (last : Ref) (at : ℕ) (cpu : CpuId) (xs ys : List Event) → refs ≡ front ++ last ∷ [] → at ≡ length front → IsSomeAnd (slice_get refs at) (λ r. ys ≡ xs ++ taking_event cpu (take at refs) r ∷ []) → ys ≡ xs ++ taking_event cpu front last ∷ []
 pushed_told refs front last at cpu xs ys is here told =
     let e : slice_get refs at ≡ Some last = ap (λ k. slice_get k at) is ∙ ap (λ k. slice_get (front ++ last ∷ []) k) here ∙ got_last front last in
     let f : take at refs ≡ front = ap (λ k. take at k) is ∙ ap (λ k. take k (front ++ last ∷ [])) here ∙ take_at front (last ∷ []) (length front) refl in
-    let F : Option Ref → Type 0 = λ o. IsSomeAnd o (λ r. ys ≡ xs ++ takes cpu (take at refs) r ∷ []) in
-    subst F e told ∙ ap (λ k. xs ++ takes cpu k last ∷ []) f
+    let F : Option Ref → Type 0 = λ o. IsSomeAnd o (λ r. ys ≡ xs ++ taking_event cpu (take at refs) r ∷ []) in
+    subst F e told ∙ ap (λ k. xs ++ taking_event cpu k last ∷ []) f
 
 -- a reference that was put on the list and taken
-pub got_as : (result : Result (Unit {0}) Missed) (refs list front : List Ref) (last : Ref) (at : ℕ) (cpu : CpuId) (h : Holding) (xs ys : List Event) → refs ≡ list → list ≡ front ++ last ∷ [] → at ≡ length front → OnOk result (h ≡ holding_of (take (at + 1) refs)) → OnOk result (IsSomeAnd (slice_get refs at) (λ r. ys ≡ xs ++ takes cpu (take at refs) r ∷ [])) → ◌≡◌ {A = Result (Result (Unit {0}) Missed) Fault} (Ok result) (Ok (Ok tt)) → (h ≡ holding_of list) × (ys ≡ xs ++ takes cpu front last ∷ [])
+pub got_as : (result : Result (Unit {0}) Missed) (refs list front : List Ref) (last : Ref) (at : ℕ) (cpu : CpuId) (h : Holding) (xs ys : List Event) → refs ≡ list → list ≡ front ++ last ∷ [] → at ≡ length front → OnOk result (h ≡ holding_of (take (at + 1) refs)) → OnOk result (IsSomeAnd (slice_get refs at) (λ r. ys ≡ xs ++ taking_event cpu (take at refs) r ∷ [])) → ◌≡◌ {A = Result (Result (Unit {0}) Missed) Fault} (Ok result) (Ok (Ok tt)) → (h ≡ holding_of list) × (ys ≡ xs ++ taking_event cpu front last ∷ [])
 got_as (Ok u) refs list front last at cpu h xs ys same is here taken told answer =
     let long : length list ≡ at + 1 = ap length is ∙ length-append front (last ∷ []) ∙ ap (λ n. n + 1) (sym here) in
     let whole : take (at + 1) refs ≡ list = ap (λ k. take (at + 1) k) same ∙ take_all (at + 1) list (omega (arith, long)) in

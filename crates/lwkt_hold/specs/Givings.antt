@@ -11,7 +11,7 @@ use Rattle.lwkt_core.specs.declared.events.Event.TheVariants.{GiveOne, GiveClean
 use Rattle.lwkt_bank.specs.declared.seats.CpuSeat.{CpuSeat}
 use Rattle.lwkt_bank.specs.Views.{RecordOf}
 use Rattle.lwkt_bank.specs.Seats.{bank_of, plan_of, entry, holding, written_over, PutsFirst}
-use Rattle.lwkt_hold.specs.Rows.{row, first_row, is_stored_to, section_now, IsUnwritten, MeetsItsLaw, GivesBack, writes, writes_record}
+use Rattle.lwkt_hold.specs.Rows.{row, first_row, is_stored_to, section_now, IsUnwritten, MeetsItsLaw, GivesBack, write_events, record_write_events}
 
 -- the event of giving a reference to a token back of which so much is held, and whose row and record are its first ones
 abbrev pub gives : CpuId → TokId → Held → Event
@@ -43,7 +43,7 @@ pub record StoresFirst (s : CpuSeat) (tok : ℕ) (values : List (Option ℕ)) : 
 -- the events of a restore, and behind them these: the stores of the first values of exactly the cells that were stored to, rising, and
 -- of the first record exactly if the record was another
 abbrev pub RestoresBy : CpuSeat → TokId → List Event → List Event → Type 0
-RestoresBy s tok behind events = (values : List (Option ℕ)) × ((bytes : RecordOf) × (StoresFirst s tok.0 values × PutsFirst (entry s tok.0) bytes × (events ≡ writes s.cpu tok 0 values ++ (writes_record s.cpu tok bytes ++ behind))))
+RestoresBy s tok behind events = (values : List (Option ℕ)) × ((bytes : RecordOf) × (StoresFirst s tok.0 values × PutsFirst (entry s tok.0) bytes × (events ≡ write_events s.cpu tok 0 values ++ (record_write_events s.cpu tok bytes ++ behind))))
 
 -- the events of giving a reference back to a token of which so much is held: one reference less; or the end of a section, which
 -- is clean or written, and where the law is broken the events of a restore and then a clean end (own)

@@ -14,7 +14,7 @@ use Rattle.lwkt_hold.specs.declared.answers.Blocked.TheVariants.{Clean, Restored
 use Rattle.lwkt_hold.specs.Fronts.{names}
 use Rattle.lwkt_bank.specs.declared.seats.CpuSeat.{CpuSeat}
 use Rattle.lwkt_base.specs.declared.sections.Section.{Section}
-use Rattle.lwkt_bank.specs.Views.{RecordOf, is_touched, section_of}
+use Rattle.lwkt_bank.specs.Views.{RecordOf, is_touched, ended_section}
 use Rattle.lwkt_bank.specs.Seats.{bank_of, plan_of, entry, holding, IsCleanIn}
 
 -- the row of a token that a seat holds, and the first row of its section
@@ -67,18 +67,18 @@ pub record SameSection (old new : CpuSeat) (tok : ℕ) : Type 0 where
 
 -- the section of a token that would end now
 abbrev pub section_now : CpuSeat → TokId → Section
-section_now s tok = section_of tok.0 (entry s tok.0)
+section_now s tok = ended_section tok.0 (entry s tok.0)
 
 -- the events of storing these values in the cells of a token, from a cell on
-abbrev pub writes : CpuId → TokId → ℕ → List (Option ℕ) → List Event
-writes cpu tok cell [] = []
-writes cpu tok cell (None ∷ values) = writes cpu tok (suc cell) values
-writes cpu tok cell (Some value ∷ values) = Write cpu tok cell value ∷ writes cpu tok (suc cell) values
+abbrev pub write_events : CpuId → TokId → ℕ → List (Option ℕ) → List Event
+write_events cpu tok cell [] = []
+write_events cpu tok cell (None ∷ values) = write_events cpu tok (suc cell) values
+write_events cpu tok cell (Some value ∷ values) = Write cpu tok cell value ∷ write_events cpu tok (suc cell) values
 
 -- the event of storing a record, if one is stored
-abbrev pub writes_record : CpuId → TokId → RecordOf → List Event
-writes_record cpu tok None = []
-writes_record cpu tok (Some bytes) = WriteBlob cpu tok bytes ∷ []
+abbrev pub record_write_events : CpuId → TokId → RecordOf → List Event
+record_write_events cpu tok None = []
+record_write_events cpu tok (Some bytes) = WriteBlob cpu tok bytes ∷ []
 
 -- what is done to the row and record of a token when a reference to it is given back: a section that ends and has broken its law
 -- gets its first row and first record back, and no other row or record changes

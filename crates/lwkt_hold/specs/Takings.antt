@@ -11,13 +11,13 @@ use Rattle.lwkt_hold.specs.Rows.{row, first_row, blob, first_blob, SameRow}
 use Rattle.lwkt_hold.specs.Steps.{taking}
 
 -- the event of taking a reference, those in front of it being held: a further one, or a first one in its mode (token(9))
-abbrev pub takes : CpuId → List Ref → Ref → Event
-takes cpu front r = if names front r.tok.0 then Again cpu r.tok else taking cpu r.tok r.mode
+abbrev pub taking_event : CpuId → List Ref → Ref → Event
+taking_event cpu front r = if names front r.tok.0 then Again cpu r.tok else taking cpu r.tok r.mode
 
 -- the events of taking references in order, those in front of them being held
 abbrev pub takes_all : CpuId → List Ref → List Ref → List Event
 takes_all cpu front [] = []
-takes_all cpu front (r ∷ refs) = takes cpu front r ∷ takes_all cpu (front ++ r ∷ []) refs
+takes_all cpu front (r ∷ refs) = taking_event cpu front r ∷ takes_all cpu (front ++ r ∷ []) refs
 
 -- what taking references does to rows and records: a token that was held keeps its own, and of one that is held from now on
 -- they are the first ones

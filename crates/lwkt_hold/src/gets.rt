@@ -7,7 +7,7 @@ ghost use Rattle.lwkt_hold.specs.Fronts.{IsFront};
 ghost use Rattle.lwkt_hold.specs.Runs.{Ran};
 ghost use Rattle.lwkt_hold.specs.Misses.{Misses};
 ghost use Rattle.lwkt_hold.specs.Rows.{SameRow};
-ghost use Rattle.lwkt_hold.specs.Takings.{takes, TakesRows};
+ghost use Rattle.lwkt_hold.specs.Takings.{taking_event, TakesRows};
 ghost use Rattle.lwkt_hold.specs.declared.answers.Missed.{Missed};
 ghost use Rattle.lwkt_hold.specs.Misses.{fault_of, exclusive};
 ghost use Rattle.lwkt_base.specs.declared.names.Ref.{Ref};
@@ -53,7 +53,7 @@ fn push_and_take(
     requires room { vec_len trace.old < vec_capacity trace.old }
     ensures ran { Ran (IsFront list.new) 1 seat.old seat.new trace.old trace.new }
     ensures pushed { OnOk result ((list.new ≡ list.old ++ new ∷ []) × (new.tok.0 < tokens_of (bank_of seat.old))) }
-    ensures got { result ≡ Ok (Ok tt) → (holding seat.new ≡ holding_of list.new) × (trace.new.items ≡ trace.old.items ++ takes seat.old.cpu list.old new ∷ []) }
+    ensures got { result ≡ Ok (Ok tt) → (holding seat.new ≡ holding_of list.new) × (trace.new.items ≡ trace.old.items ++ taking_event seat.old.cpu list.old new ∷ []) }
     ensures rows { TakesRows seat.old seat.new }
     ensures missed { (why : Missed) → result ≡ Ok (Err why) → (holding seat.new ≡ holding_of list.old) × (trace.new ≡ trace.old) × Misses seat.old seat.new list.new (length list.old) why }
     ensures err { OnErr result ((list.new ≡ list.old) × (seat.new ≡ seat.old) × (trace.new ≡ trace.old)) }
@@ -112,7 +112,7 @@ impl Hold {
         ensures ran { Ran (IsFront list.new) 2 (seat_of self.old) (seat_of self.new) trace.old trace.new }
         ensures there { OnOk result (new.tok.0 < tokens_of (bank_of (seat_of self.old))) }
         ensures got { result ≡ Ok Acquired.Got → (list.new ≡ list.old ++ new ∷ []) × (holding (seat_of self.new) ≡ holding_of list.new)
-            × (trace.new.items ≡ trace.old.items ++ takes (seat_of self.old).cpu list.old new ∷ []) }
+            × (trace.new.items ≡ trace.old.items ++ taking_event (seat_of self.old).cpu list.old new ∷ []) }
         ensures rows { TakesRows (seat_of self.old) (seat_of self.new) }
         ensures must_switch { (why : Missed) → result ≡ Ok (Acquired.MustSwitch why)
             → (list.new ≡ list.old ++ new ∷ []) × (holding (seat_of self.new) ≡ holding_of list.old) × Misses (seat_of self.old) (seat_of self.new) list.new (length list.old) why }
@@ -159,7 +159,7 @@ impl Hold {
         ensures ran { Ran (IsFront list.new) 1 (seat_of self.old) (seat_of self.new) trace.old trace.new }
         ensures there { OnOk result (tok.0 < tokens_of (bank_of (seat_of self.old))) }
         ensures got { OnOk result ((list.new ≡ list.old ++ exclusive tok ∷ []) × (holding (seat_of self.new) ≡ holding_of list.new)
-            × (trace.new.items ≡ trace.old.items ++ takes (seat_of self.old).cpu list.old (exclusive tok) ∷ [])) }
+            × (trace.new.items ≡ trace.old.items ++ taking_event (seat_of self.old).cpu list.old (exclusive tok) ∷ [])) }
         ensures rows { TakesRows (seat_of self.old) (seat_of self.new) }
         ensures err { OnErr result ((list.new ≡ list.old) × (holding (seat_of self.new) ≡ holding_of list.old) × (trace.new ≡ trace.old)) }
         ensures no_token { (result ≡ Err Fault.NoToken) ↔ (tokens_of (id_of bank.now) ≤ tok.0) }

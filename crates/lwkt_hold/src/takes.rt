@@ -4,7 +4,7 @@ ghost use Rattle.lwkt_base.specs.Holding.{holding_of};
 ghost use Rattle.lwkt_bank.specs.Seats.{id_of, bank_of, tokens_of, holding};
 ghost use Rattle.lwkt_hold.specs.Fronts.{IsFront, is_alone};
 ghost use Rattle.lwkt_hold.specs.Runs.{Ran};
-ghost use Rattle.lwkt_hold.specs.Takings.{takes, TakesRows};
+ghost use Rattle.lwkt_hold.specs.Takings.{taking_event, TakesRows};
 ghost use Rattle.lwkt_hold.specs.Misses.{Misses};
 
 use crate::answers::Missed;
@@ -40,7 +40,7 @@ pub(crate) fn take_one(
     ensures taken { OnOk result (holding seat.new ≡ holding_of (take (at + 1) refs.now)) }
     ensures kept { OnErr result (holding seat.new ≡ holding seat.old) }
     ensures silent { OnErr result (trace.new ≡ trace.old) }
-    ensures told { OnOk result (IsSomeAnd (slice_get refs.now at) (λ r. trace.new.items ≡ trace.old.items ++ takes seat.old.cpu (take at refs.now) r ∷ [])) }
+    ensures told { OnOk result (IsSomeAnd (slice_get refs.now at) (λ r. trace.new.items ≡ trace.old.items ++ taking_event seat.old.cpu (take at refs.now) r ∷ [])) }
     ensures rows { TakesRows seat.old seat.new }
     ensures missed { IfErr result (λ why. Misses seat.old seat.new refs.now at why) }
 {

@@ -1,7 +1,7 @@
 //! Events at the end of a trace that has room. Each kind is made in a function of its own: an event has room for a section or a
 //! record, which is set to 0 at the start of the function that makes it, so only then when there is such an event.
 ghost use Rattle.std.specs.Prelude.{◌≡◌, ◌+◌, ◌<◌, ◌≤◌, [], ◌∷◌, ◌++◌, length, vec_len, vec_capacity};
-ghost use Rattle.lwkt_hold.specs.Rows.{writes, writes_record};
+ghost use Rattle.lwkt_hold.specs.Rows.{write_events, record_write_events};
 ghost use Rattle.lwkt_hold.specs.Steps.{taking};
 
 use lwkt_base::{Blob, CpuId, Mode, Ref, Section, TokId};
@@ -186,9 +186,9 @@ pub(crate) fn note_record_written(trace: &mut Vec<Event>, cpu: CpuId, tok: TokId
 
 fn note_cell(trace: &mut Vec<Event>, cpu: CpuId, tok: TokId, cell: u8, value: Option<u64>)
     requires { vec_len trace.old < vec_capacity trace.old }
-    ensures items { trace.new.items ≡ trace.old.items ++ writes cpu tok cell (value ∷ []) }
-    ensures longer { vec_len trace.new ≡ vec_len trace.old + length (writes cpu tok cell (value ∷ [])) }
-    ensures few { length (writes cpu tok cell (value ∷ [])) ≤ 1 }
+    ensures items { trace.new.items ≡ trace.old.items ++ write_events cpu tok cell (value ∷ []) }
+    ensures longer { vec_len trace.new ≡ vec_len trace.old + length (write_events cpu tok cell (value ∷ [])) }
+    ensures few { length (write_events cpu tok cell (value ∷ [])) ≤ 1 }
     ensures room { vec_capacity trace.old ≤ vec_capacity trace.new }
 {
     if let Some(value) = value {
@@ -200,9 +200,9 @@ fn note_cell(trace: &mut Vec<Event>, cpu: CpuId, tok: TokId, cell: u8, value: Op
 pub(crate) fn note_cells(trace: &mut Vec<Event>, cpu: CpuId, tok: TokId, values: &[Option<u64>; 4])
     requires four { length values.now ≡ 4 }
     requires room { vec_len trace.old + 4 ≤ vec_capacity trace.old }
-    ensures items { trace.new.items ≡ trace.old.items ++ writes cpu tok 0 values.now }
-    ensures longer { vec_len trace.new ≡ vec_len trace.old + length (writes cpu tok 0 values.now) }
-    ensures few { length (writes cpu tok 0 values.now) ≤ 4 }
+    ensures items { trace.new.items ≡ trace.old.items ++ write_events cpu tok 0 values.now }
+    ensures longer { vec_len trace.new ≡ vec_len trace.old + length (write_events cpu tok 0 values.now) }
+    ensures few { length (write_events cpu tok 0 values.now) ≤ 4 }
     ensures room { vec_capacity trace.old ≤ vec_capacity trace.new }
 {
     note_cell(trace, cpu, tok, 0, values[0]);
@@ -214,9 +214,9 @@ pub(crate) fn note_cells(trace: &mut Vec<Event>, cpu: CpuId, tok: TokId, values:
 /// The store of this record of a token, if one was stored.
 pub(crate) fn note_record(trace: &mut Vec<Event>, cpu: CpuId, tok: TokId, stored: Option<Blob>)
     requires { vec_len trace.old < vec_capacity trace.old }
-    ensures items { trace.new.items ≡ trace.old.items ++ writes_record cpu tok stored }
-    ensures longer { vec_len trace.new ≡ vec_len trace.old + length (writes_record cpu tok stored) }
-    ensures few { length (writes_record cpu tok stored) ≤ 1 }
+    ensures items { trace.new.items ≡ trace.old.items ++ record_write_events cpu tok stored }
+    ensures longer { vec_len trace.new ≡ vec_len trace.old + length (record_write_events cpu tok stored) }
+    ensures few { length (record_write_events cpu tok stored) ≤ 1 }
     ensures room { vec_capacity trace.old ≤ vec_capacity trace.new }
 {
     if let Some(blob) = stored {

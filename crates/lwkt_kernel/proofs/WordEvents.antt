@@ -22,7 +22,7 @@ use Rattle.lwkt_base.specs.TokenWord.{word_of}
 use Rattle.lwkt_core.specs.declared.events.Event.TheVariants.{Again, GiveOne, GiveClean, GiveWritten}
 use Rattle.lwkt_core.specs.declared.tokens.Token.{Token}
 use Rattle.lwkt_core.specs.Tokens.{held_by, IsFree, IsNotLastExclusive, IsSafeToken, TokenNeeds, with_less}
-use Rattle.lwkt_core.specs.Picture.{counted, picture_of}
+use Rattle.lwkt_core.specs.Picture.{count_of_held, picture_of}
 use Rattle.lwkt_core.proofs.MachineMoves.{references_le}
 use Rattle.lwkt_core.proofs.PictureLemmas.{IsOpen-from_picture, IsFree-from_picture, picture-open, picture-free, picture-taken, picture-shared, count-le, fit}
 use Rattle.lwkt_kernel.specs.Steps.{taken, shared, gained, one_given, ended, clean_given, written_given}
@@ -46,10 +46,10 @@ or_left : (b c : Bool) → b ≡ true → (b || c) ≡ true
 or_left b c e = ap (λ x. x || c) e
 
 -- a further reference counts one more, in the mode of the first
-counted-more : (held : Held) → is_held held ≡ true → counted (one_more held Shared) ≡ counted held + 1
-counted-more Nothing yes' = absurd (false≢true yes')
-counted-more (Holds Shared further) yes' = omega arith
-counted-more (Holds Exclusive further) yes' = omega arith
+count_of_held-more : (held : Held) → is_held held ≡ true → count_of_held (one_more held Shared) ≡ count_of_held held + 1
+count_of_held-more Nothing yes' = absurd (false≢true yes')
+count_of_held-more (Holds Shared further) yes' = omega arith
+count_of_held-more (Holds Exclusive further) yes' = omega arith
 
 exclusive-more : (held : Held) → is_held held ≡ true → is_exclusive (one_more held Shared) ≡ is_exclusive held
 exclusive-more Nothing yes' = absurd (false≢true yes')
@@ -57,22 +57,22 @@ exclusive-more (Holds Shared further) yes' = refl
 exclusive-more (Holds Exclusive further) yes' = refl
 
 -- what is held is exclusive, or counts
-exclusive_or_counted : (held : Held) → is_held held ≡ true → (is_exclusive held ≡ true) ⊎ (0 < counted held)
+exclusive_or_counted : (held : Held) → is_held held ≡ true → (is_exclusive held ≡ true) ⊎ (0 < count_of_held held)
 exclusive_or_counted Nothing yes' = absurd (false≢true yes')
 exclusive_or_counted (Holds Shared further) yes' = inr (omega arith)
 exclusive_or_counted (Holds Exclusive further) yes' = inl refl
 
 -- a reference back that doesn't end an exclusive holding counts one less, in the same mode
-counted-less : (held : Held) → IsNotLastExclusive held → counted (one_less held) + 1 ≡ counted held
-counted-less Nothing may = absurd may
-counted-less (Holds Shared further) may = less further (eqb further 0) refl
+count_of_held-less : (held : Held) → IsNotLastExclusive held → count_of_held (one_less held) + 1 ≡ count_of_held held
+count_of_held-less Nothing may = absurd may
+count_of_held-less (Holds Shared further) may = less further (eqb further 0) refl
   where
-    less : (n : ℕ) (b : Bool) → eqb n 0 ≡ b → counted (cond b Nothing (Holds Shared (n - 1))) + 1 ≡ n + 1
+    less : (n : ℕ) (b : Bool) → eqb n 0 ≡ b → count_of_held (cond b Nothing (Holds Shared (n - 1))) + 1 ≡ n + 1
     less n true e = let z = eqb-true n 0 e in omega arith
     less n false e = let z = eqb-false n 0 e in omega arith
-counted-less (Holds Exclusive further) may = less further (eqb further 0) refl may
+count_of_held-less (Holds Exclusive further) may = less further (eqb further 0) refl may
   where
-    less : (n : ℕ) (b : Bool) → eqb n 0 ≡ b → 0 < n → counted (cond b Nothing (Holds Exclusive (n - 1))) + 1 ≡ n
+    less : (n : ℕ) (b : Bool) → eqb n 0 ≡ b → 0 < n → count_of_held (cond b Nothing (Holds Exclusive (n - 1))) + 1 ≡ n
     less n true e h = absurd (let z = eqb-true n 0 e in omega arith)
     less n false e h = omega arith
 
@@ -90,11 +90,11 @@ exclusive-less (Holds Exclusive further) may = less further (eqb further 0) refl
     less n false e h = refl
 
 -- the picture of a token of which one processor's holding has changed within its mode
-picture-set : (tok : Token) (cpu n : ℕ) (held : Held) → cpu < length tok.holders → is_exclusive held ≡ is_exclusive (held_by tok cpu) → n + counted (held_by tok cpu) ≡ (picture_of tok).count + counted held → picture_of (record tok { holders = set tok.holders cpu held }) ≡ record (picture_of tok) { count = n }
+picture-set : (tok : Token) (cpu n : ℕ) (held : Held) → cpu < length tok.holders → is_exclusive held ≡ is_exclusive (held_by tok cpu) → n + count_of_held (held_by tok cpu) ≡ (picture_of tok).count + count_of_held held → picture_of (record tok { holders = set tok.holders cpu held }) ≡ record (picture_of tok) { count = n }
 picture-set tok cpu n held inside same counts =
     let bits = list_any-set is_exclusive tok.holders cpu held Nothing inside same in
-    let grown = sum_by-set counted tok.holders cpu held Nothing inside in
-    let sums : sum_by counted (set tok.holders cpu held) ≡ n = omega (arith, grown, counts) in
+    let grown = sum_by-set count_of_held tok.holders cpu held Nothing inside in
+    let sums : sum_by count_of_held (set tok.holders cpu held) ≡ n = omega (arith, grown, counts) in
     rw (bits, sums) refl
 
 -- a refused step gives no word
@@ -153,16 +153,16 @@ module _ (cpus : ℕ) (tok : Token) (cpu : CpuId) (t : TokId) (safe : IsSafeToke
   gains_at holds =
       let held : (ltb 0 (picture_of tok).count || (picture_of tok).exclusive) ≡ true = ⊎_elim
       (λ (yes' : is_exclusive (held_by tok cpu.0) ≡ true). or_right (ltb 0 (picture_of tok).count) (picture_of tok).exclusive (list_any_at is_exclusive tok.holders cpu.0 Nothing inside yes'))
-      (λ (some : 0 < counted (held_by tok cpu.0)). or_left (ltb 0 (picture_of tok).count) (picture_of tok).exclusive (lt-ltb 0 (picture_of tok).count (let most = get_or-le-sum_by counted tok.holders cpu.0 Nothing inside in omega arith)))
+      (λ (some : 0 < count_of_held (held_by tok cpu.0)). or_left (ltb 0 (picture_of tok).count) (picture_of tok).exclusive (lt-ltb 0 (picture_of tok).count (let most = get_or-le-sum_by count_of_held tok.holders cpu.0 Nothing inside in omega arith)))
       (exclusive_or_counted (held_by tok cpu.0) holds) in
-      let more = counted-more (held_by tok cpu.0) holds in
+      let more = count_of_held-more (held_by tok cpu.0) holds in
       let shown = picture-set tok cpu.0 ((picture_of tok).count + 1) (one_more (held_by tok cpu.0) Shared) inside (exclusive-more (held_by tok cpu.0) holds) (omega (arith, more)) in
       gained_at (picture_of tok) few held ∙ ap (λ w. Ok (word_of w)) (sym shown)
 
   gives_one_at : TokenNeeds tok (GiveOne cpu t) → one_given (picture_of tok) ≡ Ok (word_after tok (GiveOne cpu t))
   gives_one_at may =
-      let less = counted-less (held_by tok cpu.0) may in
-      let most = get_or-le-sum_by counted tok.holders cpu.0 Nothing inside in
+      let less = count_of_held-less (held_by tok cpu.0) may in
+      let most = get_or-le-sum_by count_of_held tok.holders cpu.0 Nothing inside in
       let some : 0 < (picture_of tok).count = omega (arith, less, most) in
       let shown = picture-set tok cpu.0 ((picture_of tok).count - 1) (one_less (held_by tok cpu.0)) inside (exclusive-less (held_by tok cpu.0) may) (omega (arith, less, some)) in
       one_given_at (picture_of tok) some ∙ ap (λ w. Ok (word_of w)) (sym shown)
@@ -178,9 +178,9 @@ module _ (cpus : ℕ) (tok : Token) (cpu : CpuId) (t : TokId) (safe : IsSafeToke
   uncounted : held_by tok cpu.0 ≡ Holds Exclusive 0 → (picture_of tok).count ≡ 0
   uncounted holds =
       let after = picture-free (with_less tok cpu.0) (freed holds) in
-      let grown = sum_by-set counted tok.holders cpu.0 (one_less (held_by tok cpu.0)) Nothing inside in
-      let before = ap counted holds in
-      let behind = ap (λ h. counted (one_less h)) holds in
+      let grown = sum_by-set count_of_held tok.holders cpu.0 (one_less (held_by tok cpu.0)) Nothing inside in
+      let before = ap count_of_held holds in
+      let behind = ap (λ h. count_of_held (one_less h)) holds in
       omega (arith, after, grown, before, behind)
 
   shown_free : held_by tok cpu.0 ≡ Holds Exclusive 0 → picture_of (with_less tok cpu.0) ≡ record (picture_of tok) { exclusive = false }

@@ -3,13 +3,13 @@ use Rattle.std.specs.Global.{Global}
 use Rattle.std.specs.Prelude.{◌≡◌, ℕ, ◌+◌, List, [], ◌∷◌, ◌++◌, length, Vec, Some, None, slice_get}
 use Rattle.lwkt_lane.specs.declared.ins.LaneIn.{LaneIn}
 use Rattle.lwkt_lane.specs.declared.outs.LaneOut.{LaneOut}
-use Rattle.lwkt_lane.specs.Lane.{IsLane, out_lane, lane_capacity, sent, in_hand, received}
+use Rattle.lwkt_lane.specs.Lane.{IsLane, out_lane, lane_capacity, sent_notes, in_hand, received}
 
 -- the ends of one lane that was just made, for 32 notes: nothing was sent, none is in hand, and nothing was received
 pub record IsNewLane (out : LaneOut) (into : LaneIn) : Type 0 where
   pub one : IsLane out into
   pub notes : lane_capacity (out_lane out) ≡ 32
-  pub unsent : sent out ≡ []
+  pub unsent : sent_notes out ≡ []
   pub none_in_hand : in_hand out ≡ None
   pub unreceived : received into ≡ []
 

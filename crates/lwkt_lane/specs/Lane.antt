@@ -18,8 +18,8 @@ abbrev pub queued : LaneOut → List Note
 queued out = ring.sent out.ring
 
 -- every note pushed so far, the oldest first; a note in hand counts as sent
-abbrev pub sent : LaneOut → List Note
-sent out = queued out ++ option_to_list (in_hand out)
+abbrev pub sent_notes : LaneOut → List Note
+sent_notes out = queued out ++ option_to_list (in_hand out)
 
 -- how many places of the queue the sending end knows to be free
 abbrev pub free : LaneOut → ℕ
@@ -34,8 +34,8 @@ abbrev pub received : LaneIn → List Note
 received into = ring.received into.ring
 
 -- the notes that the receiving end has seen in the queue, which the next pops give, the oldest first
-abbrev pub seen : LaneIn → List Note
-seen into = known_items into.ring
+abbrev pub seen_notes : LaneIn → List Note
+seen_notes into = known_items into.ring
 
 -- a pop gives the oldest note that was seen, if one was, and forgets none
 abbrev pub IsSeenGone : Option Note → List Note → List Note → Type 0

@@ -12,7 +12,7 @@ pub struct LaneIn {
 }
 
 impl LaneIn {
-    ghost use Rattle.lwkt_lane.specs.Lane.{received, seen, queued, IsSeenGone, IsLane, IsBeside, in_lane};
+    ghost use Rattle.lwkt_lane.specs.Lane.{received, seen_notes, queued, IsSeenGone, IsLane, IsBeside, in_lane};
 
     /// The oldest note of the queue, or None if the queue was empty at one moment of the call. It is never None while a
     /// note is left that this end has seen there. Of notes that it hasn't seen yet no clause says when they are found,
@@ -21,8 +21,8 @@ impl LaneIn {
     pub fn pop(&mut self) -> Option<Note>
         ensures received { MatchOption result (received self.new ≡ received self.old)
             (λ note. received self.new ≡ received self.old ++ note ∷ []) }
-        ensures none { result ≡ None → (seen self.old ≡ []) × (seen self.new ≡ []) }
-        ensures some { IsSeenGone result (seen self.old) (seen self.new) }
+        ensures none { result ≡ None → (seen_notes self.old ≡ []) × (seen_notes self.new ≡ []) }
+        ensures some { IsSeenGone result (seen_notes self.old) (seen_notes self.new) }
         ensures lane { in_lane self.new ≡ in_lane self.old }
     {
         if self.ring.is_empty() {
@@ -35,9 +35,9 @@ impl LaneIn {
     /// found.
     #[inline(always)]
     pub fn is_empty(&mut self) -> bool
-        ensures value { IsTrue result ↔ (length (seen self.new) ≡ 0) }
-        ensures none { result ≡ true → seen self.new ≡ [] }
-        ensures keeps { IsPrefix (seen self.old) (seen self.new) }
+        ensures value { IsTrue result ↔ (length (seen_notes self.new) ≡ 0) }
+        ensures none { result ≡ true → seen_notes self.new ≡ [] }
+        ensures keeps { IsPrefix (seen_notes self.old) (seen_notes self.new) }
         ensures received { received self.new ≡ received self.old }
         ensures lane { in_lane self.new ≡ in_lane self.old }
     {
@@ -50,11 +50,11 @@ impl LaneIn {
     /// That `out` is the sending end of this lane is the caller's condition.
     pub fn see_all(&mut self, out: &mut LaneOut) -> usize
         requires { IsLane out.old self.old }
-        ensures left { received self.new ++ seen self.new ≡ queued out.old }
-        ensures keeps { IsPrefix (seen self.old) (seen self.new) }
+        ensures left { received self.new ++ seen_notes self.new ≡ queued out.old }
+        ensures keeps { IsPrefix (seen_notes self.old) (seen_notes self.new) }
         ensures beside { IsBeside out.old out.new }
         ensures lane { in_lane self.new ≡ in_lane self.old }
-        ensures count { result ≡ length (seen self.new) }
+        ensures count { result ≡ length (seen_notes self.new) }
         ensures most { result ≤ (in_lane self.old).room }
         ensures received { received self.new ≡ received self.old }
     {

@@ -1,5 +1,5 @@
 ghost use Rattle.std.specs.Prelude.{◌≡◌, ◌≤◌, [], ◌++◌, length, None, IfOk, IsOkUnless, vec_len, vec_capacity};
-ghost use Rattle.lwkt_lane.specs.Lane.{sent, in_hand, received, seen, out_lane, IsLane, lane_capacity};
+ghost use Rattle.lwkt_lane.specs.Lane.{sent_notes, in_hand, received, seen_notes, out_lane, IsLane, lane_capacity};
 ghost use Rattle.lwkt_base.specs.Fault.{no_memory};
 
 use crate::ins::LaneIn;
@@ -17,7 +17,7 @@ pub fn lane(alloc: Global, capacity: usize) -> Result<(LaneOut, LaneIn), Fault>
     requires least { 2 ≤ capacity }
     requires most { capacity ≤ 32 }
     ensures ends { IfOk result (λ ends. IsLane ends.0 ends.1) }
-    ensures sent { IfOk result (λ ends. (sent ends.0 ≡ []) × (in_hand ends.0 ≡ None)) }
+    ensures sent { IfOk result (λ ends. (sent_notes ends.0 ≡ []) × (in_hand ends.0 ≡ None)) }
     ensures received { IfOk result (λ ends. received ends.1 ≡ []) }
     ensures capacity { IfOk result (λ ends. lane_capacity (out_lane ends.0) ≡ capacity) }
     ensures only { IsOkUnless result no_memory }
@@ -36,7 +36,7 @@ pub fn lane(alloc: Global, capacity: usize) -> Result<(LaneOut, LaneIn), Fault>
 /// `Memory` if an allocation was refused; the lane is given up then too.
 pub fn settle(alloc: Global, out: LaneOut, into: LaneIn) -> Result<Vec<Note>, Fault>
     requires { IsLane out into }
-    ensures rest { IfOk result (λ notes. received into ++ notes.items ≡ sent out) }
+    ensures rest { IfOk result (λ notes. received into ++ notes.items ≡ sent_notes out) }
     ensures within { IfOk result (λ notes. vec_len notes ≤ lane_capacity (out_lane out)) }
     ensures only { IsOkUnless result no_memory }
 {
@@ -54,10 +54,10 @@ pub fn settle(alloc: Global, out: LaneOut, into: LaneIn) -> Result<Vec<Note>, Fa
 
 // Receives every note that the end has seen in the queue.
 fn receive_all(into: &mut LaneIn, count: usize, notes: &mut Vec<Note>)
-    requires seen { count ≡ length (seen into.old) }
+    requires seen { count ≡ length (seen_notes into.old) }
     requires empty { notes.old.items ≡ [] }
     requires room { count ≤ vec_capacity notes.old }
-    ensures all { notes.new.items ≡ seen into.old }
+    ensures all { notes.new.items ≡ seen_notes into.old }
     ensures within { vec_len notes.new ≤ count }
     ensures capacity { vec_capacity notes.old ≤ vec_capacity notes.new }
 {

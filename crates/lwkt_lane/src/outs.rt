@@ -14,13 +14,13 @@ pub struct LaneOut {
 }
 
 impl LaneOut {
-    ghost use Rattle.lwkt_lane.specs.Lane.{sent, in_hand, waiting, free, out_lane};
+    ghost use Rattle.lwkt_lane.specs.Lane.{sent_notes, in_hand, waiting, free, out_lane};
 
     /// Moves the note in hand into the queue if that has room, and says whether none is in hand. If so the next `push`
     /// succeeds. The note stays in hand only if the queue was full at one moment of the call.
     #[inline]
     pub fn room(&mut self) -> bool
-        ensures sent { sent self.new ≡ sent self.old }
+        ensures sent { sent_notes self.new ≡ sent_notes self.old }
         ensures value { IsTrue result ↔ (in_hand self.new ≡ None) }
         ensures full { IsSome (in_hand self.new) → free self.new ≡ 0 }
         ensures kept { IfSome (in_hand self.new) (λ note. in_hand self.old ≡ Some note) }
@@ -57,8 +57,8 @@ impl LaneOut {
     /// Refused with `LaneFull` exactly if a note is in hand and finds no room in the queue.
     #[inline(always)]
     pub fn push(&mut self, note: Note) -> Result<(), Fault>
-        ensures ok { OnOk result (sent self.new ≡ sent self.old ++ note ∷ []) }
-        ensures full { OnErr result ((sent self.new ≡ sent self.old) × IsSome (in_hand self.old)
+        ensures ok { OnOk result (sent_notes self.new ≡ sent_notes self.old ++ note ∷ []) }
+        ensures full { OnErr result ((sent_notes self.new ≡ sent_notes self.old) × IsSome (in_hand self.old)
             × (in_hand self.new ≡ in_hand self.old)) }
         ensures only { IfErr result (λ fault. fault ≡ Fault.LaneFull) }
         ensures hand { IsSome (in_hand self.new) → free self.new ≡ 0 }
@@ -77,7 +77,7 @@ impl LaneOut {
     #[inline(always)]
     pub fn put(&mut self, note: Note)
         requires { in_hand self.old ≡ None }
-        ensures sent { sent self.new ≡ sent self.old ++ note ∷ [] }
+        ensures sent { sent_notes self.new ≡ sent_notes self.old ++ note ∷ [] }
         ensures hand { IsSome (in_hand self.new) → free self.new ≡ 0 }
         ensures moves { 0 < free self.old → in_hand self.new ≡ None }
         ensures lane { out_lane self.new ≡ out_lane self.old }

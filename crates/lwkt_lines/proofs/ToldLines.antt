@@ -11,7 +11,7 @@ use Rattle.lwkt_base.specs.declared.faults.Fault.TheVariants.{Script as ScriptFa
 use Rattle.lwkt_base.specs.Fault.{no_memory}
 use Rattle.lwkt_report.specs.declared.streams.RunFault.{RunFault}
 use Rattle.lwkt_report.specs.declared.streams.RunFault.TheVariants.{Fault as FaultOfRun, Stream}
-use Rattle.lwkt_script.specs.Outcome.{◌>>=◌, ◌>>◌, part, demand, Fails as IsRefused}
+use Rattle.lwkt_script.specs.Outcome.{◌>>=◌, ◌>>◌, part, demand, IsFaultOf as IsRefused}
 use Rattle.lwkt_trace.specs.declared.traces.Trace.{Trace}
 use Rattle.lwkt_trace.specs.Format.{there}
 use Rattle.lwkt_checker.specs.Judgement.{Declines}

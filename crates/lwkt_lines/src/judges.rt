@@ -1,5 +1,5 @@
 ghost use Rattle.std.specs.Prelude.{◌≡◌, ◌+◌, ◌<◌, ℕ, [], false, Option, Some, None, Result, Ok, IfOk, IfErr, MatchOption};
-ghost use Rattle.lwkt_script.specs.Outcome.{Gives, Fails as IsRefused, part};
+ghost use Rattle.lwkt_script.specs.Outcome.{Gives, IsFaultOf as IsRefused, part};
 ghost use Rattle.lwkt_trace.specs.declared.traces.Trace.{Trace};
 ghost use Rattle.lwkt_checker.specs.Judgement.{Declines};
 ghost use Rattle.lwkt_lines.specs.Line.{value_of};

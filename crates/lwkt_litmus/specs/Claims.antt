@@ -13,6 +13,7 @@ use Rattle.lwkt_base.specs.declared.owners.Owner.TheVariants as owners
 use Rattle.lwkt_base.specs.declared.threads.ThreadState.{ThreadState}
 use Rattle.lwkt_base.specs.declared.threads.ThreadState.TheVariants as states
 use Rattle.lwkt_base.specs.Fault.{number_of}
+use Rattle.lwkt_base.specs.Threads.{has_ended}
 use Rattle.lwkt_report.specs.declared.closings.Closing.{Closing}
 use Rattle.lwkt_report.specs.declared.closings.ThreadLine.{ThreadLine}
 use Rattle.lwkt_text.specs.declared.claims.Claim.{Claim}
@@ -39,14 +40,6 @@ is_place places.Out (owners.Out origin target) = true
 is_place places.With (owners.With origin target) = true
 is_place places.Back (owners.Back origin target) = true
 is_place _ _ = false
-
--- exited or faulted
-abbrev pub has_ended : ThreadState → Bool
-has_ended states.Ready = false
-has_ended states.Waiting = false
-has_ended states.Running = false
-has_ended states.Exited = true
-has_ended (states.Faulted fault) = true
 
 -- ended by the fault of this number
 abbrev pub has_faulted : ℕ → ThreadState → Bool

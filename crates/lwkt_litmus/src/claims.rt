@@ -1,5 +1,6 @@
 ghost use Rattle.std.specs.Prelude.{◌≡◌};
-ghost use Rattle.lwkt_litmus.specs.Claims.{is_standing, is_place, has_ended, has_faulted, same_call, same_entry, same_thread, has_entry, has_logged, has_stood, any_faulted, any_logged, any_stood, related, compared, lies, all_ended, holds};
+ghost use Rattle.lwkt_base.specs.Threads.{has_ended};
+ghost use Rattle.lwkt_litmus.specs.Claims.{is_standing, is_place, has_faulted, same_call, same_entry, same_thread, has_entry, has_logged, has_stood, any_faulted, any_logged, any_stood, related, compared, lies, all_ended, holds};
 
 use crate::readings::sum_of;
 use lwkt_base::blobs::same_bytes;
@@ -30,12 +31,6 @@ fn is_place(place: MsgState, owner: Owner) -> bool
         MsgState::With => matches!(owner, Owner::With { .. }),
         MsgState::Back => matches!(owner, Owner::Back { .. }),
     }
-}
-
-fn has_ended(state: ThreadState) -> bool
-    ensures { result ≡ has_ended state }
-{
-    matches!(state, ThreadState::Exited | ThreadState::Faulted(_))
 }
 
 // Whether a thread was ended by the fault of this number.
@@ -177,7 +172,7 @@ fn lies(outcome: &Closing, msg: MsgId, place: MsgState) -> bool
 pub(crate) fn all_ended(outcome: &Closing) -> bool
     ensures { result ≡ all_ended outcome.now }
 {
-    outcome.threads.iter().all(|line| has_ended(line.state))
+    outcome.threads.iter().all(|line| line.state.has_ended())
 }
 
 /// Whether what is said of an outcome is so. A quantity that the outcome doesn't have, or a sum that 64 bits have no room for,

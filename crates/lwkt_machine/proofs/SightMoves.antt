@@ -14,7 +14,7 @@ use Rattle.lwkt_bank.specs.Seats.{bank_of}
 use Rattle.lwkt_hold.proofs.RunMoves.{AllZip-append}
 use Rattle.lwkt_lane.specs.declared.notes.Note.{Note}
 use Rattle.lwkt_lane.specs.declared.outs.LaneOut.{LaneOut}
-use Rattle.lwkt_lane.specs.Lane.{queued, received, seen, out_lane, in_lane}
+use Rattle.lwkt_lane.specs.Lane.{queued, received, seen_notes, out_lane, in_lane}
 use Rattle.lwkt_port.specs.declared.lines.Lane.{Lane}
 use Rattle.lwkt_port.specs.Intakes.{PostTakesIn}
 use Rattle.lwkt_port.specs.Laws.{TakesSeen}
@@ -297,27 +297,27 @@ sees_low : (cpu : ℕ) (olds news : List (Processor Scripted)) (o : Looks cpu ol
 sees_low cpu olds news o numbered k s d e less at =
     let within : k < length o.lower = omega (arith, less, o.number) in
     let here : slice_get o.lower k ≡ Some s = sym (ap (λ l. slice_get l k) o.were ∙ get_front o.lower (o.before ∷ o.upper) k within) ∙ at in
-    let seen : SeesLine o.one.seat.cpu.0 s o.one o.two s.seat.cpu.0 d e = each_sees 0 o.one o.two o.lower o.lower' (low_numbered cpu olds news o numbered) o.from_lower k s d e here in
+    let seen_notes : SeesLine o.one.seat.cpu.0 s o.one o.two s.seat.cpu.0 d e = each_sees 0 o.one o.two o.lower o.lower' (low_numbered cpu olds news o numbered) o.from_lower k s d e here in
     let F : ℕ × ℕ → Type 0 = λ i. SeesLine i.0 s o.one o.two i.1 d e in
     let to_is = cpu_same o.before o.one (one_looked cpu olds news o) ∙ cpu_before cpu olds news o numbered in
     let from_is = numbered k s at in
     let G : Lane × Lane → Type 0 = λ l. SeesAll (get_or s.post.lanes cpu d).out l.0 l.1 in
     let was = own_apart cpu olds news o numbered k e (λ same. omega (arith, same, less)) in
     let now = up_apart cpu olds news o numbered k e (inl (omega (arith, less))) in
-    subst G (λ i. (was i, sym now i)) (subst F (λ i. (to_is i, from_is i)) seen)
+    subst G (λ i. (was i, sym now i)) (subst F (λ i. (to_is i, from_is i)) seen_notes)
 
 sees_high : (cpu : ℕ) (olds news : List (Processor Scripted)) (o : Looks cpu olds news) → AreNumbered olds → (k : ℕ) (s : Processor Scripted) (d e : Lane) → cpu < k → slice_get olds k ≡ Some s → SeesLine cpu s o.before o.after k d e
 sees_high cpu olds news o numbered k s d e less at =
     let j : ℕ = k - (cpu + 1) in
     let n : suc (length o.lower + j) ≡ k = omega (arith, less, o.number) in
     let here : slice_get o.upper j ≡ Some s = sym (ap (λ l. slice_get l (suc (length o.lower + j))) o.were ∙ get_later o.lower o.upper o.before j) ∙ ap (λ i. slice_get olds i) n ∙ at in
-    let seen : SeesLine o.two.seat.cpu.0 s o.two o.after s.seat.cpu.0 d e = each_sees (cpu + 1) o.two o.after o.upper o.upper' (up_numbered cpu olds news o numbered) o.from_upper j s d e here in
+    let seen_notes : SeesLine o.two.seat.cpu.0 s o.two o.after s.seat.cpu.0 d e = each_sees (cpu + 1) o.two o.after o.upper o.upper' (up_numbered cpu olds news o numbered) o.from_upper j s d e here in
     let F : ℕ × ℕ → Type 0 = λ i. SeesLine i.0 s o.two o.after i.1 d e in
     let to_is = cpu_same o.before o.two (two_looked cpu olds news o) ∙ cpu_before cpu olds news o numbered in
     let from_is = numbered k s at in
     let G : Lane → Type 0 = λ l. SeesAll (get_or s.post.lanes cpu d).out l (get_or o.after.post.lanes k e) in
     let was = low_apart cpu olds news o numbered k e (omega (arith, less)) ∙ own_apart cpu olds news o numbered k e (λ same. omega (arith, same, less)) in
-    subst G was (subst F (λ i. (to_is i, from_is i)) seen)
+    subst G was (subst F (λ i. (to_is i, from_is i)) seen_notes)
 
 sees_own : (cpu : ℕ) (olds news : List (Processor Scripted)) (o : Looks cpu olds news) → AreNumbered olds → (d : Lane) → LineSeesOwn (get_or o.before.post.lanes cpu d) (get_or o.after.post.lanes cpu d)
 sees_own cpu olds news o numbered d =
@@ -363,21 +363,21 @@ front : (a b c : List Note) → IsPrefix a b → IsPrefix (c ++ a) (c ++ b)
 front a b c p = (p.0, append_assoc c a p.0 ∙ ap (λ l. c ++ l) p.1)
 
 -- what a line has seen is received, where notes are taken in
-pub seen_delivered : (k limit count : ℕ) (out : LaneOut) (q r : Post) (t u : Vec Event Global) (e : Lane) → k < length q.lanes → received (slice_index_or q.lanes k e).into ++ seen (slice_index_or q.lanes k e).into ≡ queued out → PostTakesIn limit q r t u count → IsDelivered limit count out (slice_index_or r.lanes k e)
+pub seen_delivered : (k limit count : ℕ) (out : LaneOut) (q r : Post) (t u : Vec Event Global) (e : Lane) → k < length q.lanes → received (slice_index_or q.lanes k e).into ++ seen_notes (slice_index_or q.lanes k e).into ≡ queued out → PostTakesIn limit q r t u count → IsDelivered limit count out (slice_index_or r.lanes k e)
 seen_delivered k limit count out q r t u e there all takes =
     let line : Lane = slice_index_or r.lanes k e in
     let into = (slice_index_or q.lanes k e).into in
     let got : TakesSeen limit count into line = seen_taken limit count _ _ takes.takes k e there in
     let G : List Note → Type 0 = λ l. IsPrefix l (received line.into) in
-    let H : List Note → Type 0 = λ l. IsPrefix (received into ++ seen into) l in
+    let H : List Note → Type 0 = λ l. IsPrefix (received into ++ seen_notes into) l in
     ⊎_elim
-    (λ (first : IsPrefix (seen into) got.popped). inl (subst G all (subst H (sym got.received_is) (front (seen into) got.popped (received into) first))))
+    (λ (first : IsPrefix (seen_notes into) got.popped). inl (subst G all (subst H (sym got.received_is) (front (seen_notes into) got.popped (received into) first))))
     (λ (held : IsSome line.kept ⊎ (limit ≤ count)). inr held)
     got.rest
 
 -- of the look each line's part: it is there, and saw all that was put into the queue of its lane
 pub sent_seen : (cpu : ℕ) (olds news : List (Processor Scripted)) → SeesSent cpu olds news → AreNumbered olds → AreAllJoined olds → (p : Processor Scripted) → slice_get news cpu ≡ Some p → (k : ℕ) (s : Processor Scripted) (d e : Lane) → slice_get olds k ≡ Some s
-    → (k < length p.post.lanes) × (received (get_or p.post.lanes k e).into ++ seen (get_or p.post.lanes k e).into ≡ queued (get_or s.post.lanes cpu d).out)
+    → (k < length p.post.lanes) × (received (get_or p.post.lanes k e).into ++ seen_notes (get_or p.post.lanes k e).into ≡ queued (get_or s.post.lanes cpu d).out)
 sent_seen cpu olds news o numbered joined p here k s d e at =
     let was = get_there olds cpu (omega (arith, o.as_many, slice_get_within news cpu p here)) in
     let sees : SeesFrom cpu olds was.0 p = o.sees was.0 p was.1 here in
@@ -387,7 +387,7 @@ sent_seen cpu olds news o numbered joined p here k s d e at =
     dite (ℕ_discrete k cpu)
     (λ same.
     let is : was.0 ≡ s = some_same was.0 s (slice_get olds cpu) was.1 (ap (λ i. slice_get olds i) (sym same) ∙ at) in
-    let own_at : (x : Lane) → received (get_or p.post.lanes k x).into ++ seen (get_or p.post.lanes k x).into ≡ queued (get_or was.0.post.lanes cpu x).out = λ x. ap (λ i. received (get_or p.post.lanes i x).into ++ seen (get_or p.post.lanes i x).into) same ∙ (sees.own x).into.all in
+    let own_at : (x : Lane) → received (get_or p.post.lanes k x).into ++ seen_notes (get_or p.post.lanes k x).into ≡ queued (get_or was.0.post.lanes cpu x).out = λ x. ap (λ i. received (get_or p.post.lanes i x).into ++ seen_notes (get_or p.post.lanes i x).into) same ∙ (sees.own x).into.all in
     let d_is : get_or was.0.post.lanes cpu d ≡ get_or was.0.post.lanes cpu e = get_or_default was.0.post.lanes cpu d e (let h : cpu < length was.0.post.lanes = omega (arith, back, same) in h) in
     (there, own_at e ∙ ap (λ (l : Lane). queued l.out) (sym d_is) ∙ ap (λ (x : Processor Scripted). queued (get_or x.post.lanes cpu d).out) is))
     (λ apart. (there, (sees.others k s d e apart at).into.all))

@@ -12,7 +12,7 @@ use Rattle.lwkt_bank.specs.declared.seats.CpuSeat.{CpuSeat}
 use Rattle.lwkt_bank.specs.Opened.{plans_of}
 use Rattle.lwkt_bank.specs.Seats.{BankId, bank_of}
 use Rattle.lwkt_bank.specs.Gathered.{IsNew}
-use Rattle.lwkt_msg.specs.Desks.{Shelf, cpu_of, IsOpened}
+use Rattle.lwkt_msg.specs.Desks.{Shelf, desk_cpu, IsOpened}
 use Rattle.lwkt_port.specs.Openings.{new_mail, AreNewPorts}
 use Rattle.lwkt_cpu.specs.Fresh.{fresh}
 use Rattle.lwkt_cpu.specs.Processors.{Processor}
@@ -41,7 +41,7 @@ pub record IsOpenedCpu (bank : BankId) (book : Shelf) (threads : List ThreadSpec
   pub seat : IsSeat bank cpu p.seat
   pub desk : IsOpened cpu book p.post.seat
   pub ports : AreNewPorts (length p.bodies) p.post.ports
-  pub mails : p.post.mails ≡ map (new_mail (cpu_of p.post.seat)) (map (λ (spec : MsgSpec). spec.origin) book.specs)
+  pub mails : p.post.mails ≡ map (new_mail (desk_cpu p.post.seat)) (map (λ (spec : MsgSpec). spec.origin) book.specs)
   pub bodies : p.bodies ≡ bodies_on cpu threads
   pub threads_are : p.threads ≡ replicate (length p.bodies) fresh
   pub none_runs : p.running ≡ None

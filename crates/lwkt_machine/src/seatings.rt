@@ -2,7 +2,7 @@
 ghost use Rattle.std.specs.Prelude.{◌≡◌, ℕ, ◌+◌, ◌<◌, ◌≤◌, length, map, IfOk, OnErr, Err};
 ghost use Rattle.lwkt_base.specs.declared.openings.MsgSpec.{MsgSpec};
 ghost use Rattle.lwkt_bank.specs.Seats.{id_of};
-ghost use Rattle.lwkt_msg.specs.Desks.{cpu_of, IsOpened};
+ghost use Rattle.lwkt_msg.specs.Desks.{desk_cpu, IsOpened};
 ghost use Rattle.lwkt_port.specs.Openings.{new_mail, AreNewPorts, ArePaired, AreWithin};
 ghost use Rattle.lwkt_script.specs.Format.{threads_on};
 ghost use Rattle.lwkt_cpu.specs.Wiring.{HasLines, HaveLines};
@@ -73,7 +73,7 @@ fn open_ports(
     requires within { AreWithin mail outs.items ins.items origins.now threads }
     ensures desk { IfOk result (λ ports. IsOpened number book.now ports.seat) }
     ensures new { IfOk result (λ ports. AreNewPorts threads ports.ports) }
-    ensures mails { IfOk result (λ ports. ports.mails ≡ map (new_mail (cpu_of ports.seat)) (map (λ (spec : MsgSpec). spec.origin) book.now.specs)) }
+    ensures mails { IfOk result (λ ports. ports.mails ≡ map (new_mail (desk_cpu ports.seat)) (map (λ (spec : MsgSpec). spec.origin) book.now.specs)) }
     ensures lines { IfOk result (λ ports. ArePaired outs.items ins.items ports.lanes) }
     ensures threads { IfOk result (λ ports. ports.threads ≡ threads) }
     ensures only { OnErr result (result ≡ Err no_memory) }
@@ -96,7 +96,7 @@ fn seat_one(
     requires seat { IsSeat (id_of bank.now) number seat }
     requires desk { IsOpened number book.now ports.seat }
     requires new { AreNewPorts (length bodies.items) ports.ports }
-    requires mails { ports.mails ≡ map (new_mail (cpu_of ports.seat)) (map (λ (spec : MsgSpec). spec.origin) book.now.specs) }
+    requires mails { ports.mails ≡ map (new_mail (desk_cpu ports.seat)) (map (λ (spec : MsgSpec). spec.origin) book.now.specs) }
     requires bodies { bodies.items ≡ bodies_on number threads.now }
     requires few { length bodies.items ≤ 16 }
     requires threads { ports.threads ≡ length bodies.items }

@@ -1,6 +1,6 @@
 //! How the threads of a machine stand.
 ghost use Rattle.std.specs.Prelude.{◌≡◌, ◌<◌, ◌≤◌, ◌++◌, length, IfOk, OnOk, IsSomeAnd, slice_get};
-ghost use Rattle.lwkt_base.specs.Refs.{IsLawful};
+ghost use Rattle.lwkt_base.specs.Refs.{IsLawfulList};
 ghost use Rattle.lwkt_cpu.specs.Processors.{is_running};
 
 use crate::bodies::ScriptBody;
@@ -22,7 +22,7 @@ pub struct Standing {
 
 // The list of these references.
 fn list_of(refs: &[Ref]) -> TokList
-    requires lawful { IsLawful refs.now }
+    requires lawful { IsLawfulList refs.now }
     requires few { length refs.now ≤ 32 }
     ensures { result ≡ refs.now }
 {

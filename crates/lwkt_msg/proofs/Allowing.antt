@@ -30,7 +30,7 @@ use Rattle.lwkt_msg.specs.Steps.{sent_word, rest_word}
 use Rattle.lwkt_msg.specs.Deeds as deed
 use Rattle.lwkt_msg.specs.Told.{Told, Tells}
 use Rattle.lwkt_msg.specs.Records.{WasSent, WasAnswered, IsPosted, IsAskedSo}
-use Rattle.lwkt_msg.specs.Plays.{IsAfter, IsAskedBy, Looked, looks, sends, Took, takes_it, replies, HasFetched, reaps, hands_out}
+use Rattle.lwkt_msg.specs.Plays.{IsAfter, IsAskedBy, Looked, looks, send_is_told, Took, takes_it, reply_is_told, HasFetched, reap_is_told, hands_out}
 use Rattle.lwkt_msg.proofs.WordFacts.{message_word-injective}
 use Rattle.lwkt_msg.proofs.Bringing.{AreSame-refl, find_slot, bring}
 use Rattle.lwkt_msg.proofs.Moves.{never, look_mine}
@@ -238,7 +238,7 @@ module _ (key : Key) (id : ℕ) (me : Me Rec View) (cpu : CpuId) (m : ℕ) (is_s
   pub send_allowed : (slots : ℕ) (to : CpuId) (sync : Bool) (flags : Flags) (rec : Rec) (others : List (ℕ × Rec)) → me.1 ≡ (slot_at m, rec) ∷ others → IsOwn me.0 cpu.0 m → (at me.0 m).away ≡ false
       → cpu.0 < 8 → to.0 < 8 → to.0 < me.0.cpus → (at me.0 m).round < LAST_ROUND → rec.error ≡ 0 → rec.result ≡ 0
       → Allows (Told key) slots id me (word_at m) (λ _. message_word (sent_word cpu to ((at me.0 m).round + 1) sync flags))
-      (λ _. sends (step slots (word_at m) (message_word (sent_word cpu to ((at me.0 m).round + 1) sync flags)) 0 none) me (message_word (sent_word cpu to ((at me.0 m).round + 1) sync flags)))
+      (λ _. send_is_told (step slots (word_at m) (message_word (sent_word cpu to ((at me.0 m).round + 1) sync flags)) 0 none) me (message_word (sent_word cpu to ((at me.0 m).round + 1) sync flags)))
   send_allowed slots to sync flags rec others front own home few_cpu few_to to_there room no_error no_result s told deep at_id small =
       let w : MsgWord = sent_word cpu to ((at me.0 m).round + 1) sync flags in
       let n : ℕ = message_word w in
@@ -320,7 +320,7 @@ module _ (key : Key) (id : ℕ) (me : Me Rec View) (cpu : CpuId) (m : ℕ) (is_s
 
   -- the addition of a reply
   pub reply_allowed : (slots : ℕ) (rec : Rec) (others : List (ℕ × Rec)) → me.1 ≡ (slot_at m, rec) ∷ others → (at me.0 m).taken ≡ true → call_of rec ≡ (at me.0 m).got
-      → Allows (Told key) slots id me (word_at m) (λ n. (n + 1) % 2 ^ 64) (replies (step slots (word_at m) 1 0 none) me)
+      → Allows (Told key) slots id me (word_at m) (λ n. (n + 1) % 2 ^ 64) (reply_is_told (step slots (word_at m) 1 0 none) me)
   reply_allowed slots rec others front taken same_call s told deep at_id small =
       let n : ℕ = get_or s.words (word_at m) 0 in
       let e' : MessageEntry = replied rec (at me.0 m) in
@@ -341,7 +341,7 @@ module _ (key : Key) (id : ℕ) (me : Me Rec View) (cpu : CpuId) (m : ℕ) (is_s
 
   -- the store of a reap
   pub reap_allowed : (slots : ℕ) → IsOwn me.0 cpu.0 m → (at me.0 m).had ≡ true → (at me.0 m).back ≡ true
-      → Allows (Told key) slots id me (word_at m) (λ _. message_word (rest_word cpu (at me.0 m).round)) (λ _. reaps (step slots (word_at m) (message_word (rest_word cpu (at me.0 m).round)) 0 none) me (message_word (rest_word cpu (at me.0 m).round)))
+      → Allows (Told key) slots id me (word_at m) (λ _. message_word (rest_word cpu (at me.0 m).round)) (λ _. reap_is_told (step slots (word_at m) (message_word (rest_word cpu (at me.0 m).round)) 0 none) me (message_word (rest_word cpu (at me.0 m).round)))
   reap_allowed slots own had seen s told deep at_id small =
       let n : ℕ = message_word (rest_word cpu (at me.0 m).round) in
       let mail : Mail = mail_at told.rule.mails m in

@@ -29,7 +29,7 @@ use Rattle.lwkt_core.proofs.ShareLemmas.{seats_for, seats_for-some, seats_for-on
 use Rattle.lwkt_msg.proofs.Running.{done_runs}
 use Rattle.lwkt_msg.proofs.Recalling.{recalled-same}
 use Rattle.lwkt_msg.specs.Book.{Mail, parts_of, state_of, shown_target, Knows, mail_at, Rule}
-use Rattle.lwkt_msg.specs.Desks.{Desk, Shelf, cpu_of, past_of, events_of, events_like, chapters_of, AreGathered, IsHistory, IsClosed, AreClosed, AreShown, HasTakenBack, shown_by, shown_end}
+use Rattle.lwkt_msg.specs.Desks.{Desk, Shelf, desk_cpu, past_of, events_of, events_like, chapters_of, AreGathered, IsHistory, IsClosed, AreClosed, AreShown, HasTakenBack, shown_by, shown_end}
 use Rattle.lwkt_msg.proofs.Leading.{fits_of}
 use Rattle.lwkt_msg.proofs.Counting.{counted_by}
 
@@ -54,7 +54,7 @@ get_there (x ∷ xs) (suc i) d h = get_there xs i d (omega arith)
 
 -- what each seat had seen that the clerk has taken back has all of its processor's part
 part_of : (book : Shelf) (key : Key) (seats : List Desk) (v w : View) (id : ℕ) (s : State Rec View) → book.cpus ≡ key.cpus → length seats ≡ book.cpus → HasTakenBack book.cpus v seats w
-    → (told : Told key s) → get_elem? s.views id ≡ some w → (j : ℕ) (d : Desk) → get_elem? seats j ≡ some d → IsPastOf told.chronicle.history (cpu_of d).0 (past_of d)
+    → (told : Told key s) → get_elem? s.views id ≡ some w → (j : ℕ) (d : Desk) → get_elem? seats j ≡ some d → IsPastOf told.chronicle.history (desk_cpu d).0 (past_of d)
 part_of book key seats v w id s cpus_is all taken told at_id j d at_j =
     let chapter : get_elem? w.chapters j ≡ some (chapter_of d.view) = ap (λ (cs : List Chapter). get_elem? cs j) taken.chapters ∙ at_map (λ (x : Desk). chapter_of x.view) seats j d at_j in
     Views-part (IsDone key.cpus) page_of (first_mails key.specs.items) told.rule.mails s.views told.chronicle id w at_id key.cpus told.rule.book.seated book.cpus (length seats) taken.kind (omega arith) j (chapter_of d.view) chapter
@@ -66,8 +66,8 @@ is_history book key seats v w id s cpus_is specs_is all taken told at_id = recor
   passes = passes;
   run = Passes-run (IsDone book.cpus) (λ (ms : List Mail). machine_of book.cpus ms) (done_runs book.cpus) (first_mails book.specs) told.chronicle.history told.rule.mails passes;
   parts = λ k d low. part k d low;
-  events = λ k d low. sym (events_by-past told.chronicle.history (cpu_of (slice_index_or seats k d)).0 (past_of (slice_index_or seats k d)) (part k d low));
-  steps = λ k d low. sym (steps_by-past told.chronicle.history (cpu_of (slice_index_or seats k d)).0 (past_of (slice_index_or seats k d)) (part k d low));
+  events = λ k d low. sym (events_by-past told.chronicle.history (desk_cpu (slice_index_or seats k d)).0 (past_of (slice_index_or seats k d)) (part k d low));
+  steps = λ k d low. sym (steps_by-past told.chronicle.history (desk_cpu (slice_index_or seats k d)).0 (past_of (slice_index_or seats k d)) (part k d low));
   no_others = λ cpu high. Views-others (IsDone key.cpus) page_of (first_mails key.specs.items) told.rule.mails s.views told.chronicle id w at_id key.cpus told.rule.book.seated book.cpus (length seats) taken.kind (omega arith) cpu (omega arith);
 }
   where
@@ -77,14 +77,14 @@ is_history book key seats v w id s cpus_is specs_is all taken told at_id = recor
         let G : List MsgSpec → Type 0 = λ xs. Passes (IsDone key.cpus) (first_mails xs) told.chronicle.history told.rule.mails in
         subst F (sym cpus_is) (subst G (sym specs_is) told.chronicle.passes)
 
-    part : (k : ℕ) (d : Desk) → k < length seats → IsPastOf told.chronicle.history (cpu_of (slice_index_or seats k d)).0 (past_of (slice_index_or seats k d))
+    part : (k : ℕ) (d : Desk) → k < length seats → IsPastOf told.chronicle.history (desk_cpu (slice_index_or seats k d)).0 (past_of (slice_index_or seats k d))
     part k d low = part_of book key seats v w id s cpus_is all taken told at_id k (slice_index_or seats k d) (at_within seats k d low)
 
 -- what is so of the seats that the clerk has taken back
 module _ (book : Shelf) (key : Key) (seats : List Desk) (v w : View) (id : ℕ) (s : State Rec View) (cpus_is : book.cpus ≡ key.cpus) (specs_is : book.specs ≡ key.specs.items) (all : length seats ≡ book.cpus) (taken : HasTakenBack book.cpus v seats w)
     (told : Told key s) (at_id : get_elem? s.views id ≡ some w) where
   processor : Desk → ℕ
-  processor d = (cpu_of d).0
+  processor d = (desk_cpu d).0
 
   -- each processor has one
   has_seat : (cpu : ℕ) → cpu < book.cpus → 1 ≤ seats_for processor seats cpu
@@ -105,8 +105,8 @@ module _ (book : Shelf) (key : Key) (seats : List Desk) (v w : View) (id : ℕ) 
       let one : (cpu : ℕ) → cpu < book.cpus → seats_for processor seats cpu ≡ 1 = seats_for-one processor book.cpus seats all has_seat in
       let ones : All (λ (d : Deed). seats_for processor seats d.cpu.0 ≡ 1) history
       = Passes-each (IsDone book.cpus) (λ (d : Deed). seats_for processor seats d.cpu.0 ≡ 1) (λ m d n done. one d.cpu.0 done.processor) (first_mails book.specs) history told.rule.mails is.passes in
-      total-like (λ (d : Desk). count_by which (events_by (cpu_of d).0 history)) (λ (d : Desk). count_by which (events_of d)) seats
-      (λ j d at_j. ap (λ (es : List Event). count_by which es) (sym (events_by-past history (cpu_of d).0 (past_of d) (part_of book key seats v w id s cpus_is all taken told at_id j d at_j))))
+      total-like (λ (d : Desk). count_by which (events_by (desk_cpu d).0 history)) (λ (d : Desk). count_by which (events_of d)) seats
+      (λ j d at_j. ap (λ (es : List Event). count_by which es) (sym (events_by-past history (desk_cpu d).0 (past_of d) (part_of book key seats v w id s cpus_is all taken told at_id j d at_j))))
       ∙ shares processor which seats history ones
 
   -- so what was done with a message is what they did
@@ -132,7 +132,7 @@ closes book key seats v w id words ends s cpus_is specs_is all taken told at_id 
   known = λ k d low m within.
       let seat : Desk = slice_index_or seats k d in
       let i = taken.recalled k d low in
-      let F : MessageEntry → Type 0 = λ x. Knows (mail_at told.rule.mails m) (Of (cpu_of seat)) x in
+      let F : MessageEntry → Type 0 = λ x. Knows (mail_at told.rule.mails m) (Of (desk_cpu seat)) x in
       subst F (recalled-same seat.view m) (told.recalls.knows id i.0 w (recalled_of seat.view) m at_id i.1 (subst (λ (xs : List MsgSpec). m < length xs) specs_is within));
   is_history = is_history book key seats v w id s cpus_is specs_is all taken told at_id;
   each = λ m d within. each m (get_or ends m d) (get_there ends m d (let a = shown.as_many in let b = ap (λ (xs : List MsgSpec). length xs) specs_is in omega arith));

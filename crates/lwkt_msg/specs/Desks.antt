@@ -70,8 +70,8 @@ pub record IsMsgBook (cpus messages : ℕ) (table : TableId) (key : Key) (clerk 
   pub no_chapters : clerk.me.0.chapters ≡ []
 
 -- the processor of a seat
-abbrev pub cpu_of : Desk → CpuId
-cpu_of d = who d.view
+abbrev pub desk_cpu : Desk → CpuId
+desk_cpu d = who d.view
 
 -- what a seat knows of a message, how many messages and processors there are
 abbrev pub entry : Desk → ℕ → MessageEntry
@@ -104,10 +104,10 @@ abbrev pub past_of : Desk → List Deed
 past_of d = d.view.past
 
 abbrev pub steps_of : Desk → List WordStep
-steps_of d = steps_by (cpu_of d).0 (past_of d)
+steps_of d = steps_by (desk_cpu d).0 (past_of d)
 
 abbrev pub events_of : Desk → List Event
-events_of d = events_by (cpu_of d).0 (past_of d)
+events_of d = events_by (desk_cpu d).0 (past_of d)
 
 -- the steps of a processor's seat at the opening: of each of its own messages below this one, in order, a load that found it at rest
 -- in its opening round
@@ -163,15 +163,15 @@ pub record IsClosed (book : Shelf) (seats : List Desk) (m : ℕ) (msg : Message)
 pub record IsHistory (book : Shelf) (seats : List Desk) (mails : List Mail) (history : List Deed) : Type 0 where
   pub passes : Passes (IsDone book.cpus) (first_mails book.specs) history mails
   pub run : Run (machine_of book.cpus (first_mails book.specs)) (events_in history) (machine_of book.cpus mails)
-  pub parts : All (λ d. IsPastOf history (cpu_of d).0 (past_of d)) seats
-  pub events : All (λ d. events_of d ≡ events_by (cpu_of d).0 history) seats
-  pub steps : All (λ d. steps_of d ≡ steps_by (cpu_of d).0 history) seats
+  pub parts : All (λ d. IsPastOf history (desk_cpu d).0 (past_of d)) seats
+  pub events : All (λ d. events_of d ≡ events_by (desk_cpu d).0 history) seats
+  pub steps : All (λ d. steps_of d ≡ steps_by (desk_cpu d).0 history) seats
   pub no_others : (cpu : ℕ) → book.cpus ≤ cpu → AreOthers cpu history
 
 -- what a seat knew of so many messages is so of these: as origin the round, whether the message is away and whom it was sent to, how,
 -- and with which call, and as target whether the seat had taken it, with which call, and what it replied
 abbrev pub KnewSo : List Mail → ℕ → Desk → Type 0
-KnewSo mails count d = (m : ℕ) → m < count → Knows (mail_at mails m) (Of (cpu_of d)) (entry d m)
+KnewSo mails count d = (m : ℕ) → m < count → Knows (mail_at mails m) (Of (desk_cpu d)) (entry d m)
 
 -- the closing values are those of the messages to which the history of all seats leads, and what each seat knew stands
 pub record AreClosed (book : Shelf) (seats : List Desk) (ends : List MsgEnd) : Type 0 where

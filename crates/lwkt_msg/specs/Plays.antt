@@ -55,8 +55,8 @@ abbrev pub looks : Step Rec → Me Rec View → ℕ → Me Rec View → Type 0
 looks st me found then = (m : ℕ) → st.word ≡ word_at m → Looked m me found then
 
 -- what the store of a send tells: the record in front is given away, and its call is known
-abbrev pub sends : Step Rec → Me Rec View → ℕ → Me Rec View → Type 0
-sends st me found then = (m : ℕ) → st.word ≡ word_at m → (w : MsgWord) → MessageFits w → found ≡ message_word w → (rec : Rec) (others : List (ℕ × Rec)) → me.1 ≡ (slot_at m, rec) ∷ others
+abbrev pub send_is_told : Step Rec → Me Rec View → ℕ → Me Rec View → Type 0
+send_is_told st me found then = (m : ℕ) → st.word ≡ word_at m → (w : MsgWord) → MessageFits w → found ≡ message_word w → (rec : Rec) (others : List (ℕ × Rec)) → me.1 ≡ (slot_at m, rec) ∷ others
     → IsAfter me.0 m (sent w (call_of rec) (at me.0 m)) (deed.sends (who me.0) m w.target w.round found rec) then.0 × (then.1 ≡ others)
 
 -- a take by an exchange of the word of these parts, which found this record: it is the one that the last send of the message put
@@ -77,8 +77,8 @@ abbrev pub takes_it : Step Rec → Me Rec View → ℕ → Me Rec View → Type 
 takes_it st me found then = (m : ℕ) → st.word ≡ word_at m → (w : MsgWord) → MessageFits w → st.first ≡ message_word w → Took m w st.first st.second me found then
 
 -- what the addition of a reply tells: the record in front is given away
-abbrev pub replies : Step Rec → Me Rec View → ℕ → Me Rec View → Type 0
-replies st me found then = (m : ℕ) → st.word ≡ word_at m → (rec : Rec) (others : List (ℕ × Rec)) → me.1 ≡ (slot_at m, rec) ∷ others
+abbrev pub reply_is_told : Step Rec → Me Rec View → ℕ → Me Rec View → Type 0
+reply_is_told st me found then = (m : ℕ) → st.word ≡ word_at m → (rec : Rec) (others : List (ℕ × Rec)) → me.1 ≡ (slot_at m, rec) ∷ others
     → IsAfter me.0 m (replied rec (at me.0 m)) (deed.replies (who me.0) m found rec) then.0 × (then.1 ≡ others)
 
 -- a reap, by the store of this word, which found this record: it has the call that was sent, and the error and result that the one
@@ -91,8 +91,8 @@ pub record HasFetched (m word : ℕ) (v : View) (rec : Rec) (w : View) : Type 0 
   pub answered_ : WasAnswered (v.past ++ between) m rec
 
 -- what the store of a reap tells: the record is in hand
-abbrev pub reaps : Step Rec → Me Rec View → ℕ → Me Rec View → Type 0
-reaps st me found then = (m : ℕ) → st.word ≡ word_at m → (rec : Rec) × HasFetched m found me.0 rec then.0 × (then.1 ≡ (slot_at m, rec) ∷ me.1)
+abbrev pub reap_is_told : Step Rec → Me Rec View → ℕ → Me Rec View → Type 0
+reap_is_told st me found then = (m : ℕ) → st.word ≡ word_at m → (rec : Rec) × HasFetched m found me.0 rec then.0 × (then.1 ≡ (slot_at m, rec) ∷ me.1)
 
 -- a drop by an exchange of the word of these parts for this one, which found this record: it is the one that the last send of the
 -- message put there, with its call

@@ -1,5 +1,5 @@
 //! What each step on the book's table tells, and how views are cut and put together.
-ghost use Rattle.lwkt_msg.specs.Plays.{looks, sends, takes_it, replies, reaps, drops_it, requests, hands_out};
+ghost use Rattle.lwkt_msg.specs.Plays.{looks, send_is_told, takes_it, reply_is_told, reap_is_told, drops_it, requests, hands_out};
 ghost use Rattle.lwkt_msg.specs.Views.{clerk_after, new_seat, spent_left, whole_right, joined, spent_view};
 
 use crate::views::View;
@@ -23,7 +23,7 @@ impl Play<Rec, View> for HandOut {
 pub(crate) struct Send;
 
 impl Play<Rec, View> for Send {
-    ghost then = { sends };
+    ghost then = { send_is_told };
 }
 
 pub(crate) struct Take;
@@ -35,13 +35,13 @@ impl Play<Rec, View> for Take {
 pub(crate) struct Reply;
 
 impl Play<Rec, View> for Reply {
-    ghost then = { replies };
+    ghost then = { reply_is_told };
 }
 
 pub(crate) struct Reap;
 
 impl Play<Rec, View> for Reap {
-    ghost then = { reaps };
+    ghost then = { reap_is_told };
 }
 
 pub(crate) struct DropMsg;

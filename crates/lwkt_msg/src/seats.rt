@@ -32,7 +32,7 @@ impl Model for MsgSeat {
 impl MsgSeat {
     ghost use Rattle.lwkt_base.specs.declared.faults.Fault.TheVariants.{NotOwner, NotOut, NotDropable, NotTaken};
     ghost use Rattle.lwkt_base.specs.declared.names.CpuId.{CpuId};
-    ghost use Rattle.lwkt_msg.specs.Desks.{desk, cpu_of, cpus_of, messages_of, IsMsgSeat, IsSeatOf, IsSameDesk};
+    ghost use Rattle.lwkt_msg.specs.Desks.{desk, desk_cpu, cpus_of, messages_of, IsMsgSeat, IsSeatOf, IsSameDesk};
     ghost use Rattle.lwkt_msg.specs.Plays.{IsSat};
     ghost use Rattle.lwkt_msg.specs.Calls.{HasSent, IsUnsent, TakeMeans, HasReplied, IsUnreplied, ReapMeans, HasDropped, IsUndropped, HasLostDrop, HasRequested, IsUnrequested, IsToldRequest};
 
@@ -65,7 +65,7 @@ impl MsgSeat {
 
     /// Whose seat it is.
     pub fn cpu(&self) -> CpuId
-        ensures is { result ≡ cpu_of self.now }
+        ensures is { result ≡ desk_cpu self.now }
         ensures seat { IsSeatOf result self.now }
     {
         self.cpu
@@ -103,8 +103,8 @@ impl MsgSeat {
         requires target { target.0 < cpus_of self.old }
         ensures seat { IsSameDesk self.old self.new }
         ensures answer { MatchResult result
-            (λ round. (msg.0 < messages_of self.old) × HasSent (cpu_of self.old) self.old.view self.new.view msg.0 target call flags sync round)
-            (λ fault. ((messages_of self.old ≤ msg.0) × (fault ≡ NotOwner) × (self.new ≡ self.old)) ⊎ ((msg.0 < messages_of self.old) × IsUnsent (cpu_of self.old) self.old.view self.new.view msg.0 fault)) }
+            (λ round. (msg.0 < messages_of self.old) × HasSent (desk_cpu self.old) self.old.view self.new.view msg.0 target call flags sync round)
+            (λ fault. ((messages_of self.old ≤ msg.0) × (fault ≡ NotOwner) × (self.new ≡ self.old)) ⊎ ((msg.0 < messages_of self.old) × IsUnsent (desk_cpu self.old) self.old.view self.new.view msg.0 fault)) }
     {
         let m = usize::from(msg.0);
         if m >= self.messages {
@@ -125,7 +125,7 @@ impl MsgSeat {
         requires table { self.old.table ≡ book.now.table }
         requires exists { msg.0 < messages_of self.old }
         ensures seat { IsSameDesk self.old self.new }
-        ensures answer { TakeMeans (cpu_of self.old) self.old.view self.new.view msg.0 round result }
+        ensures answer { TakeMeans (desk_cpu self.old) self.old.view self.new.view msg.0 round result }
     {
         let top = book.top();
         calls::take(top, &mut self.place, self.cpu, usize::from(msg.0), round)
@@ -158,7 +158,7 @@ impl MsgSeat {
         requires table { self.old.table ≡ book.now.table }
         requires exists { msg.0 < messages_of self.old }
         ensures seat { IsSameDesk self.old self.new }
-        ensures answer { ReapMeans (cpu_of self.old) self.old.view self.new.view msg.0 round result }
+        ensures answer { ReapMeans (desk_cpu self.old) self.old.view self.new.view msg.0 round result }
     {
         let top = book.top();
         calls::reap(top, &mut self.place, self.cpu, usize::from(msg.0), round)
@@ -177,8 +177,8 @@ impl MsgSeat {
         ensures seat { IsSameDesk self.old self.new }
         ensures never_again { IfErr result (λ fault. (fault ≡ NotOwner) ⊎ (fault ≡ NotOut) ⊎ (fault ≡ NotDropable)) }
         ensures answer { MatchResult result
-            (λ rec. (msg.0 < messages_of self.old) × HasDropped (cpu_of self.old) self.old.view self.new.view msg.0 rec)
-            (λ fault. ((messages_of self.old ≤ msg.0) × (fault ≡ NotOwner) × (self.new ≡ self.old)) ⊎ ((msg.0 < messages_of self.old) × (IsUndropped (cpu_of self.old) self.old.view self.new.view msg.0 fault ⊎ HasLostDrop (cpu_of self.old) self.old.view self.new.view msg.0 fault))) }
+            (λ rec. (msg.0 < messages_of self.old) × HasDropped (desk_cpu self.old) self.old.view self.new.view msg.0 rec)
+            (λ fault. ((messages_of self.old ≤ msg.0) × (fault ≡ NotOwner) × (self.new ≡ self.old)) ⊎ ((msg.0 < messages_of self.old) × (IsUndropped (desk_cpu self.old) self.old.view self.new.view msg.0 fault ⊎ HasLostDrop (desk_cpu self.old) self.old.view self.new.view msg.0 fault))) }
     {
         let m = usize::from(msg.0);
         if m >= self.messages {
@@ -196,8 +196,8 @@ impl MsgSeat {
         requires table { self.old.table ≡ book.now.table }
         ensures seat { IsSameDesk self.old self.new }
         ensures answer { MatchResult result
-            (λ _. (msg.0 < messages_of self.old) × HasRequested (cpu_of self.old) self.old.view self.new.view msg.0)
-            (λ fault. ((messages_of self.old ≤ msg.0) × (fault ≡ NotOwner) × (self.new ≡ self.old)) ⊎ ((msg.0 < messages_of self.old) × IsUnrequested (cpu_of self.old) self.old.view self.new.view msg.0 fault)) }
+            (λ _. (msg.0 < messages_of self.old) × HasRequested (desk_cpu self.old) self.old.view self.new.view msg.0)
+            (λ fault. ((messages_of self.old ≤ msg.0) × (fault ≡ NotOwner) × (self.new ≡ self.old)) ⊎ ((msg.0 < messages_of self.old) × IsUnrequested (desk_cpu self.old) self.old.view self.new.view msg.0 fault)) }
     {
         let m = usize::from(msg.0);
         if m >= self.messages {
@@ -227,14 +227,14 @@ impl MsgSeat {
 
 impl MsgSeat {
     ghost use Rattle.lwkt_core.specs.declared.seats.SeatKind.TheVariants.{Of};
-    ghost use Rattle.lwkt_msg.specs.Desks.{desk, cpu_of};
+    ghost use Rattle.lwkt_msg.specs.Desks.{desk, desk_cpu};
     ghost use Rattle.lwkt_msg.specs.Hands.{AreHands};
 
     /// The seat at the book's table that the calls step with.
     pub fn seat(&self) -> &Seat<Rec, View>
         ensures is { desk result.now ≡ self.now }
-        ensures kind { result.now.me.0.kind ≡ Of (cpu_of self.now) }
-        ensures hands { AreHands result.now.me.0 (cpu_of self.now).0 result.now.me.1 }
+        ensures kind { result.now.me.0.kind ≡ Of (desk_cpu self.now) }
+        ensures hands { AreHands result.now.me.0 (desk_cpu self.now).0 result.now.me.1 }
     {
         &self.place
     }
@@ -242,8 +242,8 @@ impl MsgSeat {
     /// Gives up the calls, and keeps the seat at the book's table. The book can't be closed then.
     pub fn into_seat(self) -> Seat<Rec, View>
         ensures is { desk result ≡ self }
-        ensures kind { result.me.0.kind ≡ Of (cpu_of self) }
-        ensures hands { AreHands result.me.0 (cpu_of self).0 result.me.1 }
+        ensures kind { result.me.0.kind ≡ Of (desk_cpu self) }
+        ensures hands { AreHands result.me.0 (desk_cpu self).0 result.me.1 }
     {
         self.into_place()
     }

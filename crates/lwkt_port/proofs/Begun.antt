@@ -9,7 +9,7 @@ use Rattle.lwkt_base.specs.declared.names.CpuId.{CpuId}
 use Rattle.lwkt_base.specs.declared.names.ThreadId.{ThreadId}
 use Rattle.lwkt_lane.specs.declared.ins.LaneIn.{LaneIn}
 use Rattle.lwkt_lane.specs.declared.outs.LaneOut.{LaneOut}
-use Rattle.lwkt_msg.specs.Desks.{Desk, cpu_of, cpus_of, messages_of, entry, IsSeatOf}
+use Rattle.lwkt_msg.specs.Desks.{Desk, desk_cpu, cpus_of, messages_of, entry, IsSeatOf}
 use Rattle.lwkt_base.specs.declared.openings.MsgSpec.{MsgSpec}
 use Rattle.lwkt_msg.specs.Views.{seat_cpu, no_spec, spec_at, first_entry, handed}
 use Rattle.lwkt_port.specs.declared.lines.Lane.{Lane}
@@ -58,11 +58,11 @@ home_first spec false = refl
 -- what is kept of a message at the opening fits the seat
 new_fits : (cpu : CpuId) (d : Desk) (m : ℕ) (o : ThreadId) → IsSeatOf cpu d → IsFresh d → m < messages_of d → o ≡ (spec_at d.view.specs m).origin → IsMail d m (new_mail cpu o)
 new_fits cpu d m o seat fresh within is =
-    let mine : (cpu_of d).0 ≡ cpu.0 = ap (λ k. (seat_cpu k).0) seat.kind in
+    let mine : (desk_cpu d).0 ≡ cpu.0 = ap (λ k. (seat_cpu k).0) seat.kind in
     let at : o.cpu.0 ≡ (spec_at d.view.specs m).origin.cpu.0 = ap (λ t. t.cpu.0) is in
     let there : (spec_at d.view.specs m).origin.cpu.0 < cpus_of d = seat.origins m within in
     let spec : MsgSpec = spec_at d.view.specs m in
-    let home : (entry d m).away ≡ false = ap (λ e. e.away) (fresh m within) ∙ home_first spec (spec.origin.cpu.0 == (cpu_of d).0) in record {
+    let home : (entry d m).away ≡ false = ap (λ e. e.away) (fresh m within) ∙ home_first spec (spec.origin.cpu.0 == (desk_cpu d).0) in record {
       origin_is = is;
       there = omega arith;
       at_home = λ h. (sym at ∙ eqb-true o.cpu.0 cpu.0 h ∙ sym mine, home);

@@ -15,7 +15,7 @@ use Rattle.lwkt_msg.specs.declared.answers.Taken.{Taken}
 use Rattle.lwkt_msg.specs.declared.answers.Taken.TheVariants as taken
 use Rattle.lwkt_msg.specs.declared.answers.Reaped.{Reaped}
 use Rattle.lwkt_msg.specs.declared.answers.Reaped.TheVariants as reaped_
-use Rattle.lwkt_msg.specs.Desks.{Desk, cpu_of, messages_of, entry, IsSameDesk}
+use Rattle.lwkt_msg.specs.Desks.{Desk, desk_cpu, messages_of, entry, IsSameDesk}
 use Rattle.lwkt_msg.specs.Calls.{TakeMeans, ReapMeans, HasSent, IsUnsent, HasReplied}
 use Rattle.lwkt_port.specs.declared.mails.Mail.{Mail}
 use Rattle.lwkt_port.specs.declared.deeds.Claim.{Claim}
@@ -47,7 +47,7 @@ fits_taken d d' m mail mail' same away is_taken origin home k = record {
   shown_taken = λ _. is_taken;
 }
 
-pub taken_keeps : (who : Claim) (note : Note) (d d' : Desk) (mails mails' : List Mail) (answer : Taken) → IsSameDesk d d' → TakeMeans (cpu_of d) d.view d'.view note.msg.0 note.round answer → mails' ≡ mails_taken who note answer mails → note.msg.0 < length mails → AreMails d mails → AreMails d' mails'
+pub taken_keeps : (who : Claim) (note : Note) (d d' : Desk) (mails mails' : List Mail) (answer : Taken) → IsSameDesk d d' → TakeMeans (desk_cpu d) d.view d'.view note.msg.0 note.round answer → mails' ≡ mails_taken who note answer mails → note.msg.0 < length mails → AreMails d mails → AreMails d' mails'
 taken_keeps who note d d' mails mails' (taken.Took rec aborted priority) same means is there are =
     let m : ℕ = note.msg.0 in
     let mail : Mail = kept_mail_at mails m in
@@ -83,7 +83,7 @@ reaped_shown : (keep : Bool) (rec : Rec) (mail : Mail) → (reaped_mail keep rec
 reaped_shown true rec mail = refl
 reaped_shown false rec mail = refl
 
-pub reaped_keeps : (keep : Bool) (note : Note) (d d' : Desk) (mails mails' : List Mail) (answer : Reaped) → IsSameDesk d d' → ReapMeans (cpu_of d) d.view d'.view note.msg.0 note.round answer → mails' ≡ mails_reaped keep note answer mails → note.msg.0 < length mails → AreMails d mails → AreMails d' mails'
+pub reaped_keeps : (keep : Bool) (note : Note) (d d' : Desk) (mails mails' : List Mail) (answer : Reaped) → IsSameDesk d d' → ReapMeans (desk_cpu d) d.view d'.view note.msg.0 note.round answer → mails' ≡ mails_reaped keep note answer mails → note.msg.0 < length mails → AreMails d mails → AreMails d' mails'
 reaped_keeps keep note d d' mails mails' (reaped_.Done rec) same means is there are =
     let m : ℕ = note.msg.0 in
     let mail : Mail = kept_mail_at mails m in
@@ -106,7 +106,7 @@ reaped_keeps keep note d d' mails mails' reaped_.Stale same means is there are =
     subst F (sym is) (all_still d d' note.msg.0 mails same does.else_same (ap (λ e. e.away) does.here) (ap (λ e. e.taken) does.here) are)
 
 -- each message that is reaped is away no more
-pub reaped_away : (keep : Bool) (note : Note) (cpu : CpuId) (d d' : Desk) (mails mails' : List Mail) (answer : Reaped) → ReapMeans (cpu_of d) d.view d'.view note.msg.0 note.round answer → mails' ≡ mails_reaped keep note answer mails → note.msg.0 < length mails → AreMails d mails → away_count mails' + length (reap_events cpu note answer) ≡ away_count mails
+pub reaped_away : (keep : Bool) (note : Note) (cpu : CpuId) (d d' : Desk) (mails mails' : List Mail) (answer : Reaped) → ReapMeans (desk_cpu d) d.view d'.view note.msg.0 note.round answer → mails' ≡ mails_reaped keep note answer mails → note.msg.0 < length mails → AreMails d mails → away_count mails' + length (reap_events cpu note answer) ≡ away_count mails
 reaped_away keep note cpu d d' mails mails' (reaped_.Done rec) means is there are =
     let m : ℕ = note.msg.0 in
     let mail : Mail = kept_mail_at mails m in
@@ -114,7 +114,7 @@ reaped_away keep note cpu d d' mails mails' (reaped_.Done rec) means is there ar
 reaped_away keep note cpu d d' mails mails' reaped_.Stale means is there are = ap (λ l. away_count l + 0) is ∙ let e : away_count mails + 0 ≡ away_count mails = omega arith in e
 
 -- a message that is sent is away
-pub sent_keeps : (msg : MsgId) (to : CpuId) (call : Call) (flags : Flags) (sync : Bool) (round : ℕ) (d d' : Desk) (mails mails' : List Mail) → IsSameDesk d d' → HasSent (cpu_of d) d.view d'.view msg.0 to call flags sync round → mails' ≡ set mails msg.0 (sent_mail sync (kept_mail_at mails msg.0)) → msg.0 < length mails → AreMails d mails → AreMails d' mails'
+pub sent_keeps : (msg : MsgId) (to : CpuId) (call : Call) (flags : Flags) (sync : Bool) (round : ℕ) (d d' : Desk) (mails mails' : List Mail) → IsSameDesk d d' → HasSent (desk_cpu d) d.view d'.view msg.0 to call flags sync round → mails' ≡ set mails msg.0 (sent_mail sync (kept_mail_at mails msg.0)) → msg.0 < length mails → AreMails d mails → AreMails d' mails'
 sent_keeps msg to call flags sync round d d' mails mails' same means is there are =
     let m : ℕ = msg.0 in
     let mail : Mail = kept_mail_at mails m in
@@ -151,15 +151,15 @@ replied_keeps msg error outcome d d' mails mails' same means is there are =
     } are)
 
 -- a message that was not sent is looked at
-pub unsent_keeps : (msg : MsgId) (d d' : Desk) (mails : List Mail) (fault : Fault) → IsSameDesk d d' → IsUnsent (cpu_of d) d.view d'.view msg.0 fault → AreMails d mails → AreMails d' mails
+pub unsent_keeps : (msg : MsgId) (d d' : Desk) (mails : List Mail) (fault : Fault) → IsSameDesk d d' → IsUnsent (desk_cpu d) d.view d'.view msg.0 fault → AreMails d mails → AreMails d' mails
 unsent_keeps msg d d' mails fault same why are =
     let does = why.looked_at.does in
     all_still d d' msg.0 mails same does.else_same (ap (λ e. e.away) does.here) (ap (λ e. e.taken) does.here) are
 
-pub refused_keeps : (msg : MsgId) (d d' : Desk) (mails : List Mail) (fault : Fault) → IsSameDesk d d' → ((messages_of d ≤ msg.0) × (fault ≡ NotOwner) × (d' ≡ d)) ⊎ ((msg.0 < messages_of d) × IsUnsent (cpu_of d) d.view d'.view msg.0 fault) → AreMails d mails → AreMails d' mails
+pub refused_keeps : (msg : MsgId) (d d' : Desk) (mails : List Mail) (fault : Fault) → IsSameDesk d d' → ((messages_of d ≤ msg.0) × (fault ≡ NotOwner) × (d' ≡ d)) ⊎ ((msg.0 < messages_of d) × IsUnsent (desk_cpu d) d.view d'.view msg.0 fault) → AreMails d mails → AreMails d' mails
 refused_keeps msg d d' mails fault same why are = ⊎_elim
     (λ (s : (messages_of d ≤ msg.0) × (fault ≡ NotOwner) × (d' ≡ d)). let F : Desk → Type 0 = λ x. AreMails x mails in subst F (sym s.2) are)
-    (λ (s : (msg.0 < messages_of d) × IsUnsent (cpu_of d) d.view d'.view msg.0 fault). unsent_keeps msg d d' mails fault same s.1 are)
+    (λ (s : (msg.0 < messages_of d) × IsUnsent (desk_cpu d) d.view d'.view msg.0 fault). unsent_keeps msg d d' mails fault same s.1 are)
     why
 
 -- of as many messages something is kept

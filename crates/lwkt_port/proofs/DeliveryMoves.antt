@@ -9,7 +9,7 @@ use Rattle.std.specs.Prelude.{◌⊎◌, Option, Some, None, IsSome, is_some}
 use Rattle.lwkt_base.specs.declared.names.MsgId.{MsgId}
 use Rattle.lwkt_lane.specs.declared.ins.LaneIn.{LaneIn}
 use Rattle.lwkt_lane.specs.declared.notes.Note.{Note}
-use Rattle.lwkt_lane.specs.Lane.{received, seen}
+use Rattle.lwkt_lane.specs.Lane.{received, seen_notes}
 use Rattle.lwkt_port.specs.declared.handlings.Fate.{Fate}
 use Rattle.lwkt_port.specs.declared.lines.Lane.{Lane}
 use Rattle.lwkt_port.specs.Chains.{Chain}
@@ -66,10 +66,10 @@ pay_ends : (k : ℕ) (x y : Payer) → Chain Payer Pays k x y → SameEnds x.lan
 pay_ends k x y chain = chain_keeps Payer Pays (λ z. SameEnds x.lanes z.lanes) (λ m a b p q. ends_then x.lanes a.lanes b.lanes q (owed_ends (kept_mail_at a.work.mails m).owed m a b p)) k x y chain (ends_none x.lanes)
 
 -- a lane was emptied, after so many notes were popped from others
-popped_seen : (kept : Option Note) (limit had k : ℕ) (line line' : Lane) (x y : Desks) → line'.kept ≡ kept → (p : Pops (limit - had) k line line' x y) → IsPrefix (seen line.into) p.popped ⊎ (IsSome line'.kept ⊎ (limit ≤ had + k))
+popped_seen : (kept : Option Note) (limit had k : ℕ) (line line' : Lane) (x y : Desks) → line'.kept ≡ kept → (p : Pops (limit - had) k line line' x y) → IsPrefix (seen_notes line.into) p.popped ⊎ (IsSome line'.kept ⊎ (limit ≤ had + k))
 popped_seen (Some note) limit had k line line' x y is p = inr (inl (ap is_some is))
 popped_seen None limit had k line line' x y is p = ⊎_elim
-    (λ (fewer : k < limit - had). let F : List Note → Type 0 = λ l. IsPrefix (seen line.into) l in inl (subst F (ap (λ l. p.popped ++ l) (p.emptied fewer is) ∙ append-nil p.popped) p.first))
+    (λ (fewer : k < limit - had). let F : List Note → Type 0 = λ l. IsPrefix (seen_notes line.into) l in inl (subst F (ap (λ l. p.popped ++ l) (p.emptied fewer is) ∙ append-nil p.popped) p.first))
     (λ (most : limit - had ≤ k). inr (inr (omega (arith, most))))
     (cases_lt k (limit - had))
 
@@ -88,8 +88,8 @@ seen_is : (limit count count' : ℕ) (into into' : LaneIn) (line line' : Lane) �
 seen_is limit count count' into into' line line' more ends lines t =
     let F : LaneIn → Type 0 = λ i. TakesSeen limit count' i line' in
     let G : Lane → Type 0 = λ l. TakesSeen limit count' into l in
-    let rest : IsPrefix (seen into) t.popped ⊎ (IsSome line.kept ⊎ (limit ≤ count')) = ⊎_elim
-    (λ (first : IsPrefix (seen into) t.popped). inl first)
+    let rest : IsPrefix (seen_notes into) t.popped ⊎ (IsSome line.kept ⊎ (limit ≤ count')) = ⊎_elim
+    (λ (first : IsPrefix (seen_notes into) t.popped). inl first)
     (λ (held : IsSome line.kept ⊎ (limit ≤ count)). inr (⊎_elim (λ (kept : IsSome line.kept). inl kept) (λ (most : limit ≤ count). inr (omega (arith, most, more))) held))
     t.rest in
     let then : TakesSeen limit count' into line = record { popped = t.popped; received_is = t.received_is; rest = rest } in

@@ -7,9 +7,9 @@ use Rattle.lwkt_base.specs.declared.names.CpuId.{CpuId}
 use Rattle.lwkt_core.specs.declared.events.Event.{Event}
 use Rattle.lwkt_lane.specs.declared.notes.Note.{Note}
 use mathlib.Core.List.{IsPrefix}
-use Rattle.lwkt_lane.specs.Lane.{received, seen, IsSeenGone, in_lane}
+use Rattle.lwkt_lane.specs.Lane.{received, seen_notes, IsSeenGone, in_lane}
 use Rattle.lwkt_msg.specs.Views.{seat_cpu}
-use Rattle.lwkt_msg.specs.Desks.{Desk, cpu_of}
+use Rattle.lwkt_msg.specs.Desks.{Desk, desk_cpu}
 use Rattle.lwkt_port.specs.declared.handlings.Fate.{Fate}
 use Rattle.lwkt_lane.specs.declared.ins.LaneIn.{LaneIn}
 use Rattle.lwkt_port.specs.declared.lines.Lane.{Lane}
@@ -23,11 +23,11 @@ abbrev pub desks_at : Standing → Desks
 desks_at s = desks s.counters s.trace
 
 pub keeps_none : (s : Standing) → Keeps s s
-keeps_none s = record { same = same_none s.counters.room.seat; len = refl; grown = (0, grew_none (cpu_of s.counters.room.seat) s.trace); room = omega arith; away = refl }
+keeps_none s = record { same = same_none s.counters.room.seat; len = refl; grown = (0, grew_none (desk_cpu s.counters.room.seat) s.trace); room = omega arith; away = refl }
 
 pub keeps_then : (s s' s'' : Standing) → Keeps s s' → Keeps s' s'' → Keeps s s''
 keeps_then s s' s'' k l =
-    let cpu : CpuId = cpu_of s.counters.room.seat in
+    let cpu : CpuId = desk_cpu s.counters.room.seat in
     let F : CpuId → Type 0 = λ c. Grew c l.grown.0 s'.trace s''.trace in
     let g : Grew cpu l.grown.0 s'.trace s''.trace = subst F (ap seat_cpu k.same.kind) l.grown.1 in record {
       same = same_then s.counters.room.seat s'.counters.room.seat s''.counters.room.seat k.same l.same;
@@ -38,7 +38,7 @@ keeps_then s s' s'' k l =
     }
 
 pub keeps_nothing : (seat : Desk) (mails : Vec Mail Global) (trace : Vec Event Global) → KeepsSo seat mails trace seat mails trace
-keeps_nothing seat mails trace = record { same = same_none seat; len = refl; grown = (0, grew_none (cpu_of seat) trace); room = omega arith; away = refl }
+keeps_nothing seat mails trace = record { same = same_none seat; len = refl; grown = (0, grew_none (desk_cpu seat) trace); room = omega arith; away = refl }
 
 pub keeps_step : (seat : Desk) (mails : Vec Mail Global) (trace : Vec Event Global) (seat' : Desk) (mails' : Vec Mail Global) (trace' : Vec Event Global) → StandsSo 1 seat mails trace seat' mails' trace' → away_count mails'.items + vec_len trace' ≡ away_count mails.items + vec_len trace → KeepsSo seat mails trace seat' mails' trace'
 keeps_step seat mails trace seat' mails' trace' stands away = record { same = stands.same; len = stands.len; grown = (1, stands.grew); room = stands.grew.room; away = away }
@@ -68,7 +68,7 @@ pub record IsPopping (turn : ℕ) (line : Lane) (s : Standing) (line' : Lane) (s
   pub popped : List Note
   pub as_many : length popped ≡ turn
   pub received_is : received line'.into ≡ received line.into ++ popped
-  pub first : IsPrefix (seen line.into) (popped ++ seen line'.into)
+  pub first : IsPrefix (seen_notes line.into) (popped ++ seen_notes line'.into)
   pub handles : HandlesAll popped (desks_at s) (desks_at s')
   pub none : line'.kept ≡ None
   pub out_same : line'.out ≡ line.out
@@ -76,14 +76,14 @@ pub record IsPopping (turn : ℕ) (line : Lane) (s : Standing) (line' : Lane) (s
   pub keeps : Keeps s s'
 
 pub popping_none : (line : Lane) (s : Standing) → line.kept ≡ None → Keeps s s → IsPopping 0 line s line s
-popping_none line s none keeps = record { popped = []; as_many = refl; received_is = sym (append-nil (received line.into)); first = front_itself (seen line.into); handles = refl; none = none; out_same = refl; lane_same = refl; keeps = keeps }
+popping_none line s none keeps = record { popped = []; as_many = refl; received_is = sym (append-nil (received line.into)); first = front_itself (seen_notes line.into); handles = refl; none = none; out_same = refl; lane_same = refl; keeps = keeps }
 
 pub popping_more : (turn : ℕ) (line : Lane) (s : Standing) (line1 : Lane) (s1 : Standing) (line2 : Lane) (s2 : Standing) (note : Note) (how : Fate) → IsPopping turn line s line1 s1 → HasPopped note line1 line2 → Handles note (desks_at s1) (desks_at s2) (Some how) → Keeps s1 s2 → IsPopping (turn + 1) line s line2 s2
 popping_more turn line s line1 s1 line2 s2 note how i pop handles keeps = record {
   popped = i.popped ++ note ∷ [];
   as_many = omega (arith, length-append i.popped (note ∷ []), i.as_many);
   received_is = pop.received_is ∙ ap (λ l. l ++ note ∷ []) i.received_is ∙ append_assoc (received line.into) i.popped (note ∷ []);
-  first = first_more (seen line.into) i.popped (seen line1.into) (seen line2.into) note i.first pop.first;
+  first = first_more (seen_notes line.into) i.popped (seen_notes line1.into) (seen_notes line2.into) note i.first pop.first;
   handles = handles_more i.popped note how (desks_at s) (desks_at s1) (desks_at s2) i.handles handles;
   none = pop.kept_same ∙ i.none;
   out_same = pop.out_same ∙ i.out_same;
@@ -98,7 +98,7 @@ pub flow_nothing : (popped : List Note) (o : Option Note) → o ≡ None → pop
 flow_nothing popped o is = sym (append-nil popped) ∙ ap (λ p. popped ++ option_to_list p) (sym is)
 
 -- what a pop leaves of a line
-pub popped_so : (o : Option Note) (line : Lane) (into : LaneIn) → MatchOption o (received into ≡ received line.into) (λ note. received into ≡ received line.into ++ note ∷ []) → (o ≡ None → (seen line.into ≡ []) × (seen into ≡ [])) → IsSeenGone o (seen line.into) (seen into) → in_lane into ≡ in_lane line.into → MatchOption o (IsDrained line (record line { into = into })) (λ note. HasPopped note line (record line { into = into }))
+pub popped_so : (o : Option Note) (line : Lane) (into : LaneIn) → MatchOption o (received into ≡ received line.into) (λ note. received into ≡ received line.into ++ note ∷ []) → (o ≡ None → (seen_notes line.into ≡ []) × (seen_notes into ≡ [])) → IsSeenGone o (seen_notes line.into) (seen_notes into) → in_lane into ≡ in_lane line.into → MatchOption o (IsDrained line (record line { into = into })) (λ note. HasPopped note line (record line { into = into }))
 popped_so None line into same none gone lane = record { received_same = same; seen_same = gone; empty = (none refl).1; lane_same = lane; out_same = refl; kept_same = refl }
 popped_so (Some note) line into more none gone lane = record { received_is = more; first = gone; lane_same = lane; out_same = refl; kept_same = refl }
 
@@ -109,7 +109,7 @@ popped_empty most turn line s line1 s1 line2 within i d = record {
   done = i.popped;
   between = desks_at s1;
   received_is = d.received_same ∙ i.received_is;
-  first = first_same (seen line.into) i.popped (seen line1.into) (seen line2.into) i.first d.seen_same;
+  first = first_same (seen_notes line.into) i.popped (seen_notes line1.into) (seen_notes line2.into) i.first d.seen_same;
   as_many = i.as_many;
   within = omega arith;
   flow = flow_nothing i.popped line2.kept (d.kept_same ∙ i.none);
@@ -147,7 +147,7 @@ popped_full most turn line s line1 s1 line2 line3 s2 note within i pop handles i
       done = i.popped;
       between = desks_at s1;
       received_is = pop.received_is ∙ ap (λ l. l ++ note ∷ []) i.received_is ∙ append_assoc (received line.into) i.popped (note ∷ []);
-      first = first_more (seen line.into) i.popped (seen line1.into) (seen line2.into) note i.first pop.first;
+      first = first_more (seen_notes line.into) i.popped (seen_notes line1.into) (seen_notes line2.into) note i.first pop.first;
       as_many = omega (arith, length-append i.popped (note ∷ []), i.as_many);
       within = omega arith;
       flow = refl;

@@ -7,7 +7,7 @@ use Rattle.std.specs.declared.alloc.Global.{Global}
 use Rattle.lwkt_base.specs.declared.names.CpuId.{CpuId}
 use Rattle.lwkt_core.specs.declared.events.Event.{Event}
 use Rattle.lwkt_msg.specs.Views.{seat_cpu}
-use Rattle.lwkt_msg.specs.Desks.{Desk, cpu_of, IsSameDesk}
+use Rattle.lwkt_msg.specs.Desks.{Desk, desk_cpu, IsSameDesk}
 use Rattle.lwkt_port.specs.declared.mailrooms.Mailroom.{Mailroom}
 use Rattle.lwkt_port.specs.Works.{IsOfMessages, Grew, MailroomStands}
 
@@ -36,16 +36,16 @@ pub same_none : (a : Desk) → IsSameDesk a a
 same_none a = record { table = refl; kind = refl; cpus = refl; specs = refl }
 
 pub stands_none : (r : Mailroom) (t : Vec Event Global) → MailroomStands 0 r t r t
-stands_none r t = record { same = same_none r.seat; len = refl; grew = grew_none (cpu_of r.seat) t }
+stands_none r t = record { same = same_none r.seat; len = refl; grew = grew_none (desk_cpu r.seat) t }
 
 pub stands_then : (a b : ℕ) (r r' r'' : Mailroom) (t t' t'' : Vec Event Global) → MailroomStands a r t r' t' → MailroomStands b r' t' r'' t'' → MailroomStands (a + b) r t r'' t''
 stands_then a b r r' r'' t t' t'' s s' =
     let F : CpuId → Type 0 = λ c. Grew c b t' t'' in
-    let g : Grew (cpu_of r.seat) b t' t'' = subst F (ap seat_cpu s.same.kind) s'.grew in record {
+    let g : Grew (desk_cpu r.seat) b t' t'' = subst F (ap seat_cpu s.same.kind) s'.grew in record {
       same = same_then r.seat r'.seat r''.seat s.same s'.same;
       len = s'.len ∙ s.len;
-      grew = grew_then (cpu_of r.seat) a b t t' t'' s.grew g;
+      grew = grew_then (desk_cpu r.seat) a b t t' t'' s.grew g;
     }
 
 pub stands_is : (a b : ℕ) (r r' : Mailroom) (t t' : Vec Event Global) → a ≤ b → MailroomStands a r t r' t' → MailroomStands b r t r' t'
-stands_is a b r r' t t' fewer s = record { same = s.same; len = s.len; grew = grew_few (cpu_of r.seat) a b t t' s.grew (omega (arith, s.grew.grown, s.grew.few)) }
+stands_is a b r r' t t' fewer s = record { same = s.same; len = s.len; grew = grew_few (desk_cpu r.seat) a b t t' s.grew (omega (arith, s.grew.grown, s.grew.few)) }

@@ -5,7 +5,7 @@ use Rattle.std.proofs.lemmas.List.Sums.{count_by-le-length}
 use Rattle.std.specs.Prelude.{Vec, not}
 use Rattle.std.specs.declared.alloc.Global.{Global}
 use Rattle.lwkt_core.specs.declared.events.Event.{Event}
-use Rattle.lwkt_msg.specs.Desks.{Desk, cpu_of}
+use Rattle.lwkt_msg.specs.Desks.{Desk, desk_cpu}
 use Rattle.lwkt_port.specs.declared.mailrooms.Mailroom.{Mailroom}
 use Rattle.lwkt_port.specs.declared.mails.Mail.{Mail}
 use Rattle.lwkt_port.specs.Mails.{AreMails}
@@ -21,7 +21,7 @@ stands_in_all r0 t0 s1 s2 r3 t3 paid keeps cleared =
     let r1 : Mailroom = s1.counters.room in
     let r2 : Mailroom = s2.counters.room in
     let few : away_count r1.mails.items ≤ 64 = away_few r1.seat r1.mails.items r1.kept in
-    let grew : Grew (cpu_of r1.seat) 64 s1.trace s2.trace = grew_few (cpu_of r1.seat) keeps.grown.0 64 s1.trace s2.trace keeps.grown.1 (omega (arith, few, keeps.away)) in
+    let grew : Grew (desk_cpu r1.seat) 64 s1.trace s2.trace = grew_few (desk_cpu r1.seat) keeps.grown.0 64 s1.trace s2.trace keeps.grown.1 (omega (arith, few, keeps.away)) in
     let stands : MailroomStands 64 r1 s1.trace r2 s2.trace = record { same = keeps.same; len = keeps.len; grew = grew } in
     let both : MailroomStands (64 + 64) r0 t0 r2 s2.trace = stands_then 64 64 r0 r1 r2 t0 s1.trace s2.trace paid stands in
     stands_is (64 + 64 + 32) 256 r0 r3 t0 t3 (omega arith) (stands_then (64 + 64) 32 r0 r2 r3 t0 s2.trace t3 both cleared)

@@ -6,7 +6,7 @@ use Rattle.lwkt_base.specs.declared.names.CpuId.{CpuId}
 use Rattle.lwkt_lane.specs.declared.ins.LaneIn.{LaneIn}
 use Rattle.lwkt_lane.specs.declared.outs.LaneOut.{LaneOut}
 use Rattle.lwkt_lane.specs.Lane.{LaneId, out_lane, in_lane}
-use Rattle.lwkt_msg.specs.Desks.{cpu_of}
+use Rattle.lwkt_msg.specs.Desks.{desk_cpu}
 use Rattle.lwkt_msg.specs.Views.{seat_cpu}
 use Rattle.lwkt_port.specs.declared.lines.Lane.{Lane}
 use Rattle.lwkt_port.specs.Openings.{new_line}
@@ -46,7 +46,7 @@ same_ends from to sender sender' lanes lanes' ends s p = record {
 pub stay_joined : StayJoined
 stay_joined s s' p p' ends one two =
     let F : CpuId × CpuId → Type 0 = λ k. AreEnds k.0.0 k.1.0 s'.lanes p'.lanes in
-    subst F (λ k. (sym (ap seat_cpu one.seat.kind) k, sym (ap seat_cpu two.seat.kind) k)) (same_ends (cpu_of s.seat).0 (cpu_of p.seat).0 s.lanes s'.lanes p.lanes p'.lanes ends one.lanes two.lanes)
+    subst F (λ k. (sym (ap seat_cpu one.seat.kind) k, sym (ap seat_cpu two.seat.kind) k)) (same_ends (desk_cpu s.seat).0 (desk_cpu p.seat).0 s.lanes s'.lanes p.lanes p'.lanes ends one.lanes two.lanes)
 
 -- the line of two ends
 lines_long : (outs : List LaneOut) (ins : List LaneIn) (i : ℕ) → i < length outs → i < length ins → i < length (map new_line (zip outs ins))
@@ -76,5 +76,5 @@ wired_ends from to outs outs' ins ins' w = record {
 
 pub opened_joined : OpenedAreJoined
 opened_joined s p outs outs' ins ins' a b w =
-    let F : List Lane × List Lane → Type 0 = λ l. AreEnds (cpu_of s.seat).0 (cpu_of p.seat).0 l.0 l.1 in
-    subst F (λ k. (sym a k, sym b k)) (wired_ends (cpu_of s.seat).0 (cpu_of p.seat).0 outs outs' ins ins' w)
+    let F : List Lane × List Lane → Type 0 = λ l. AreEnds (desk_cpu s.seat).0 (desk_cpu p.seat).0 l.0 l.1 in
+    subst F (λ k. (sym a k, sym b k)) (wired_ends (desk_cpu s.seat).0 (desk_cpu p.seat).0 outs outs' ins ins' w)

@@ -4,7 +4,7 @@ use Rattle.std.specs.Prelude.{not}
 use Rattle.std.proofs.lemmas.List.Sums.{sum_by-set}
 use mathlib.Core.Logic.{dite}
 use native.Mathlib.Decide.{ℕ_discrete}
-use Rattle.lwkt_msg.specs.Desks.{Desk, cpu_of, cpus_of, entry, IsSameDesk}
+use Rattle.lwkt_msg.specs.Desks.{Desk, desk_cpu, cpus_of, entry, IsSameDesk}
 use Rattle.lwkt_msg.specs.Views.{seat_cpu, spec_at}
 use Rattle.lwkt_msg.specs.Hands.{IsOwn}
 use Rattle.lwkt_port.specs.declared.mails.Mail.{Mail}
@@ -12,10 +12,10 @@ use Rattle.lwkt_port.specs.Mails.{no_kept_mail, kept_mail_at, IsMail, AreMails}
 use Rattle.lwkt_port.specs.Works.{away_count}
 
 -- a message belongs to the processor of a seat as long as that is the same one
-pub own_still : (d d' : Desk) (m : ℕ) → IsSameDesk d d' → IsOwn d.view (cpu_of d).0 m → IsOwn d'.view (cpu_of d').0 m
+pub own_still : (d d' : Desk) (m : ℕ) → IsSameDesk d d' → IsOwn d.view (desk_cpu d).0 m → IsOwn d'.view (desk_cpu d').0 m
 own_still d d' m same own = ap (λ s. (spec_at s m).origin.cpu.0) same.specs ∙ own ∙ ap (λ k. (seat_cpu k).0) (sym same.kind)
 
-pub own_before : (d d' : Desk) (m : ℕ) → IsSameDesk d d' → IsOwn d'.view (cpu_of d').0 m → IsOwn d.view (cpu_of d).0 m
+pub own_before : (d d' : Desk) (m : ℕ) → IsSameDesk d d' → IsOwn d'.view (desk_cpu d').0 m → IsOwn d.view (desk_cpu d).0 m
 own_before d d' m same own = ap (λ s. (spec_at s m).origin.cpu.0) (sym same.specs) ∙ own ∙ ap (λ k. (seat_cpu k).0) same.kind
 
 -- the processor of an origin is there as long as the seat is the same one

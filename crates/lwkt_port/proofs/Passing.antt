@@ -6,7 +6,7 @@ use Rattle.std.proofs.lemmas.List.{append-nil, set-get_or, get_or_default, get_o
 use Rattle.std.proofs.lemmas.List.Elements.{All-get_or}
 use Rattle.std.specs.Prelude.{All, Option, Some, None, slice_index_or, slice_set}
 use Rattle.lwkt_lane.specs.declared.notes.Note.{Note}
-use Rattle.lwkt_lane.specs.Lane.{received, seen}
+use Rattle.lwkt_lane.specs.Lane.{received, seen_notes}
 use Rattle.lwkt_port.specs.declared.handlings.Fate.{Fate}
 use Rattle.lwkt_port.specs.declared.lines.Lane.{Lane}
 use Rattle.lwkt_port.specs.declared.queues.Port.{Port}
@@ -92,7 +92,7 @@ looked_empties most count line0 line1 line2 x y l e =
       done = p.done;
       between = p.between;
       received_is = p.received_is ∙ ap (λ r. r ++ p.popped) l.received_same;
-      first = front_then (seen line0.into) (seen line1.into) (p.popped ++ seen line2.into) l.first p.first;
+      first = front_then (seen_notes line0.into) (seen_notes line1.into) (p.popped ++ seen_notes line2.into) l.first p.first;
       as_many = p.as_many;
       within = p.within;
       flow = p.flow;

@@ -8,8 +8,8 @@ use Rattle.lwkt_core.specs.declared.events.Event.{Event}
 use Rattle.lwkt_lane.specs.declared.ins.LaneIn.{LaneIn}
 use Rattle.lwkt_lane.specs.declared.notes.Note.{Note}
 use Rattle.lwkt_lane.specs.declared.outs.LaneOut.{LaneOut}
-use Rattle.lwkt_lane.specs.Lane.{received, seen, out_lane, in_lane, IsLane}
-use Rattle.lwkt_msg.specs.Desks.{cpu_of}
+use Rattle.lwkt_lane.specs.Lane.{received, seen_notes, out_lane, in_lane, IsLane}
+use Rattle.lwkt_msg.specs.Desks.{desk_cpu}
 use Rattle.lwkt_port.specs.declared.lines.Lane.{Lane}
 use Rattle.lwkt_port.specs.Intakes.{PostTakesIn}
 use Rattle.lwkt_port.specs.Laws.{TakesSeen}
@@ -53,16 +53,16 @@ line_delivered at limit count out into line q r t u e there is sees takes =
     let got : TakesSeen limit count line.into (slice_index_or r.lanes at e) = subst F is taken in
     let after : Lane = slice_index_or r.lanes at e in
     let G : List Note → Type 0 = λ l. IsPrefix l (received after.into) in
-    let H : List Note → Type 0 = λ l. IsPrefix (received line.into ++ seen line.into) l in
+    let H : List Note → Type 0 = λ l. IsPrefix (received line.into ++ seen_notes line.into) l in
     ⊎_elim
-    (λ (first : IsPrefix (seen line.into) got.popped). inl (subst G sees.all (subst H (sym got.received_is) (front (seen line.into) got.popped (received line.into) first))))
+    (λ (first : IsPrefix (seen_notes line.into) got.popped). inl (subst G sees.all (subst H (sym got.received_is) (front (seen_notes line.into) got.popped (received line.into) first))))
     (λ (held : IsSome after.kept ⊎ (limit ≤ count)). inr held)
     got.rest
 
 pub sent_delivered : SentAreDelivered
 sent_delivered s s' p q r limit count t u d e ends sight takes =
-    let from : ℕ = (cpu_of s.seat).0 in
-    let to : ℕ = (cpu_of p.seat).0 in
+    let from : ℕ = (desk_cpu s.seat).0 in
+    let to : ℕ = (desk_cpu p.seat).0 in
     let b = sight.sees.beside in
     let c = sight.sees.sees in
     let many : length q.lanes ≡ length p.lanes = ap length c.now ∙ length-set p.lanes from c.new in
@@ -74,7 +74,7 @@ sent_delivered s s' p q r limit count t u d e ends sight takes =
 
 pub own_delivered : OwnAreDelivered
 own_delivered p q r limit count t u d e sight takes =
-    let own : ℕ = (cpu_of p.seat).0 in
+    let own : ℕ = (desk_cpu p.seat).0 in
     let c = sight.sees in
     let many : length q.lanes ≡ length p.lanes = ap length c.now ∙ length-set p.lanes own c.new in
     let out_is : slice_index_or p.lanes own d ≡ c.old = get_or_default p.lanes own d c.old c.there ∙ c.was in

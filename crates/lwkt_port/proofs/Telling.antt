@@ -23,7 +23,7 @@ use Rattle.lwkt_msg.specs.declared.answers.Reaped.{Reaped}
 use Rattle.lwkt_msg.specs.declared.answers.Reaped.TheVariants as reaped_
 use Rattle.lwkt_msg.specs.declared.views.MessageEntry.{MessageEntry}
 use Rattle.lwkt_msg.specs.Calls.{Does, IsUndropped, HasLostDrop}
-use Rattle.lwkt_msg.specs.Desks.{Desk, cpu_of, past_of, IsSameDesk}
+use Rattle.lwkt_msg.specs.Desks.{Desk, desk_cpu, past_of, IsSameDesk}
 use Rattle.lwkt_msg.specs.Views.{seat_cpu}
 use Rattle.lwkt_port.specs.declared.deeds.Claim.{Claim}
 use Rattle.lwkt_port.specs.declared.deeds.Claim.TheVariants as claim
@@ -47,18 +47,18 @@ use Rattle.lwkt_port.proofs.Growing.{same_none, same_then}
 
 -- nothing was done
 pub tells_none : (d : Desk) (t : List Event) → Tells d d t t
-tells_none d t = record { same = same_none d; deeds = []; grows = refl; mine = own-nil (cpu_of d).0; trace_is = sym (append-nil t) }
+tells_none d t = record { same = same_none d; deeds = []; grows = refl; mine = own-nil (desk_cpu d).0; trace_is = sym (append-nil t) }
 
 -- one call after another
 pub tells_then : (a b c : Desk) (t u v : List Event) → Tells a b t u → Tells b c u v → Tells a c t v
 tells_then a b c t u v first second =
-    let same : cpu_of b ≡ cpu_of a = ap seat_cpu first.same.kind in
+    let same : desk_cpu b ≡ desk_cpu a = ap seat_cpu first.same.kind in
     let F : CpuId → Type 0 = λ k. Grows k.0 (past_of b) second.deeds (past_of c) in
     let G : CpuId → Type 0 = λ k. AreOwn k.0 second.deeds in record {
       same = same_then a b c first.same second.same;
       deeds = first.deeds ++ second.deeds;
-      grows = Grows-append (cpu_of a).0 (past_of a) first.deeds (past_of b) second.deeds (past_of c) first.grows (subst F same second.grows);
-      mine = own-append (cpu_of a).0 first.deeds second.deeds first.mine (subst G same second.mine);
+      grows = Grows-append (desk_cpu a).0 (past_of a) first.deeds (past_of b) second.deeds (past_of c) first.grows (subst F same second.grows);
+      mine = own-append (desk_cpu a).0 first.deeds second.deeds first.mine (subst G same second.mine);
       trace_is = second.trace_is ∙ ap (λ l. l ++ events_in second.deeds) first.trace_is ∙ append_assoc t (events_in first.deeds) (events_in second.deeds) ∙ ap (λ l. t ++ l) (sym (events_in-append first.deeds second.deeds));
     }
 
@@ -69,7 +69,7 @@ told_then : (w v u : Work) → IsWorkTold w v → IsWorkTold v u → IsWorkTold 
 told_then w v u first second = tells_then w.seat v.seat u.seat w.trace v.trace u.trace first second
 
 -- a step on one message, by these deeds
-told_by : (w w' : Work) (m : ℕ) (e : MessageEntry) (deeds : List Deed) → IsSameDesk w.seat w'.seat → Does w.seat.view w'.seat.view m e deeds → AreOwn (cpu_of w.seat).0 deeds → w'.trace ≡ w.trace ++ events_in deeds → IsWorkTold w w'
+told_by : (w w' : Work) (m : ℕ) (e : MessageEntry) (deeds : List Deed) → IsSameDesk w.seat w'.seat → Does w.seat.view w'.seat.view m e deeds → AreOwn (desk_cpu w.seat).0 deeds → w'.trace ≡ w.trace ++ events_in deeds → IsWorkTold w w'
 told_by w w' m e deeds same does mine is = record { same = same; deeds = deeds; grows = does.grows; mine = mine; trace_is = is }
 
 one_own : (cpu : ℕ) (d : Deed) → d.cpu.0 ≡ cpu → AreOwn cpu (d ∷ [])
@@ -79,22 +79,22 @@ two_own : (cpu : ℕ) (c d : Deed) → c.cpu.0 ≡ cpu → d.cpu.0 ≡ cpu → A
 two_own cpu c d first second = own-cons cpu c (d ∷ []) first (one_own cpu d second)
 
 pub taken_told : (who : Claim) (note : Note) (w w' : Work) (answer : Taken) → Takes who note w w' answer → IsWorkTold w w'
-taken_told who note w w' (taken.Took rec aborted priority) t = told_by w w' _ _ _ t.same t.means.does (two_own (cpu_of w.seat).0 _ _ refl refl) t.trace_is
-taken_told who note w w' taken.Stale t = told_by w w' _ _ _ t.same t.means.looked_at.does (one_own (cpu_of w.seat).0 _ refl) t.trace_is
-taken_told who note w w' taken.Again t = told_by w w' _ _ _ t.same t.means.does (two_own (cpu_of w.seat).0 _ _ refl refl) t.trace_is
+taken_told who note w w' (taken.Took rec aborted priority) t = told_by w w' _ _ _ t.same t.means.does (two_own (desk_cpu w.seat).0 _ _ refl refl) t.trace_is
+taken_told who note w w' taken.Stale t = told_by w w' _ _ _ t.same t.means.looked_at.does (one_own (desk_cpu w.seat).0 _ refl) t.trace_is
+taken_told who note w w' taken.Again t = told_by w w' _ _ _ t.same t.means.does (two_own (desk_cpu w.seat).0 _ _ refl refl) t.trace_is
 
 pub reaped_told : (keep : Bool) (note : Note) (w w' : Work) (answer : Reaped) → Reaps keep note w w' answer → IsWorkTold w w'
-reaped_told keep note w w' (reaped_.Done rec) t = told_by w w' _ _ _ t.same t.means.does (two_own (cpu_of w.seat).0 _ _ refl refl) t.trace_is
-reaped_told keep note w w' reaped_.Stale t = told_by w w' _ _ _ t.same t.means.looked_at.does (one_own (cpu_of w.seat).0 _ refl) t.trace_is
+reaped_told keep note w w' (reaped_.Done rec) t = told_by w w' _ _ _ t.same t.means.does (two_own (desk_cpu w.seat).0 _ _ refl refl) t.trace_is
+reaped_told keep note w w' reaped_.Stale t = told_by w w' _ _ _ t.same t.means.looked_at.does (one_own (desk_cpu w.seat).0 _ refl) t.trace_is
 
 pub sent_told : (msg : MsgId) (to : CpuId) (call : Call) (flags : Flags) (sync : Bool) (w w' : Work) (round : ℕ) → Sends msg to call flags sync w w' round → IsWorkTold w w'
-sent_told msg to call flags sync w w' round t = told_by w w' _ _ _ t.same t.means.does (two_own (cpu_of w.seat).0 _ _ refl refl) t.trace_is
+sent_told msg to call flags sync w w' round t = told_by w w' _ _ _ t.same t.means.does (two_own (desk_cpu w.seat).0 _ _ refl refl) t.trace_is
 
 pub replied_told : (msg : MsgId) (error outcome : ℕ) (w w' : Work) → Replies msg error outcome w w' → IsWorkTold w w'
-replied_told msg error outcome w w' t = told_by w w' _ _ _ t.same t.means.does (two_own (cpu_of w.seat).0 _ _ refl refl) t.trace_is
+replied_told msg error outcome w w' t = told_by w w' _ _ _ t.same t.means.does (two_own (desk_cpu w.seat).0 _ _ refl refl) t.trace_is
 
 pub refused_told : (msg : MsgId) (w w' : Work) → IsRefused msg w w' → IsWorkTold w w'
-refused_told msg w w' t = told_by w w' _ _ _ t.same t.why.looked_at.does (one_own (cpu_of w.seat).0 _ refl) (t.trace_same ∙ sym (append-nil w.trace))
+refused_told msg w w' t = told_by w w' _ _ _ t.same t.why.looked_at.does (one_own (desk_cpu w.seat).0 _ refl) (t.trace_same ∙ sym (append-nil w.trace))
 
 -- a chain of steps
 chain_told : (A : Type 0) (Step : ℕ → A → A → Type 0) (work : A → Work) → ((k : ℕ) (x y : A) → Step k x y → IsWorkTold (work x) (work y)) → (k : ℕ) (x y : A) → Chain A Step k x y → IsWorkTold (work x) (work y)
@@ -213,22 +213,22 @@ dispatch_told s lanes lanes' w w' (Err fault) sent refused = unsent_told s lanes
 
 -- a request to abort, a drop, and a look for a request, made or refused
 pub requested_told : (msg : MsgId) (w w' : Work) → Requests msg w w' → IsWorkTold w w'
-requested_told msg w w' t = told_by w w' _ _ _ t.same t.means.does (two_own (cpu_of w.seat).0 _ _ refl refl) t.trace_is
+requested_told msg w w' t = told_by w w' _ _ _ t.same t.means.does (two_own (desk_cpu w.seat).0 _ _ refl refl) t.trace_is
 
 pub unasked_told : (msg : MsgId) (w w' : Work) (fault : Fault) → IsUnasked msg w w' fault → IsWorkTold w w'
-unasked_told msg w w' fault t = told_by w w' _ _ _ t.same t.why.looked_at.does (one_own (cpu_of w.seat).0 _ refl) (t.trace_same ∙ sym (append-nil w.trace))
+unasked_told msg w w' fault t = told_by w w' _ _ _ t.same t.why.looked_at.does (one_own (desk_cpu w.seat).0 _ refl) (t.trace_same ∙ sym (append-nil w.trace))
 
 pub dropped_told : (msg : MsgId) (w w' : Work) (rec : Rec) → Drops msg w w' rec → IsWorkTold w w'
-dropped_told msg w w' rec t = told_by w w' _ _ _ t.same t.means.does (two_own (cpu_of w.seat).0 _ _ refl refl) t.trace_is
+dropped_told msg w w' rec t = told_by w w' _ _ _ t.same t.means.does (two_own (desk_cpu w.seat).0 _ _ refl refl) t.trace_is
 
 pub untouched_told : (msg : MsgId) (w w' : Work) (fault : Fault) → IsUntouched msg w w' fault → IsWorkTold w w'
 untouched_told msg w w' fault t = ⊎_elim
-    (λ (looked : IsUndropped (cpu_of w.seat) w.seat.view w'.seat.view msg.0 fault). told_by w w' _ _ _ t.same looked.looked_at.does (one_own (cpu_of w.seat).0 _ refl) (t.trace_same ∙ sym (append-nil w.trace)))
-    (λ (lost : HasLostDrop (cpu_of w.seat) w.seat.view w'.seat.view msg.0 fault). told_by w w' _ _ _ t.same lost.does (two_own (cpu_of w.seat).0 _ _ refl refl) (t.trace_same ∙ sym (append-nil w.trace)))
+    (λ (looked : IsUndropped (desk_cpu w.seat) w.seat.view w'.seat.view msg.0 fault). told_by w w' _ _ _ t.same looked.looked_at.does (one_own (desk_cpu w.seat).0 _ refl) (t.trace_same ∙ sym (append-nil w.trace)))
+    (λ (lost : HasLostDrop (desk_cpu w.seat) w.seat.view w'.seat.view msg.0 fault). told_by w w' _ _ _ t.same lost.does (two_own (desk_cpu w.seat).0 _ _ refl refl) (t.trace_same ∙ sym (append-nil w.trace)))
     t.why
 
 pub heard_told : (msg : MsgId) (w w' : Work) (aborted : Bool) → IsHeard msg w w' aborted → IsWorkTold w w'
-heard_told msg w w' aborted t = told_by w w' _ _ _ t.same t.means.looked_at.does (one_own (cpu_of w.seat).0 _ refl) (t.trace_same ∙ sym (append-nil w.trace))
+heard_told msg w w' aborted t = told_by w w' _ _ _ t.same t.means.looked_at.does (one_own (desk_cpu w.seat).0 _ refl) (t.trace_same ∙ sym (append-nil w.trace))
 
 pub request_told : (msg : MsgId) (w w' : Work) (answer : Result (Unit {0}) Fault) → OnOk answer (Requests msg w w') → IfErr answer (λ fault. MayRefuseAbort fault × IsUnasked msg w w' fault) → IsWorkTold w w'
 request_told msg w w' (Ok x) made refused = requested_told msg w w' made

@@ -9,7 +9,7 @@ use Rattle.lwkt_base.specs.declared.names.MsgId.{MsgId}
 use Rattle.lwkt_base.specs.declared.records.Rec.{Rec}
 use Rattle.lwkt_core.specs.declared.events.Event.{Event}
 use Rattle.lwkt_msg.specs.Calls.{IsLoaded, ForbidsAbort, ForbidsDrop, HasRequested, IsUnrequested, HasDropped, IsUndropped, HasLostDrop, IsToldRequest}
-use Rattle.lwkt_msg.specs.Desks.{Desk, cpu_of, messages_of, entry, IsSameDesk}
+use Rattle.lwkt_msg.specs.Desks.{Desk, desk_cpu, messages_of, entry, IsSameDesk}
 use Rattle.lwkt_msg.specs.Hands.{IsOwn}
 use Rattle.lwkt_msg.specs.Views.{spec_at}
 use Rattle.lwkt_port.specs.declared.mails.Mail.{Mail}
@@ -20,40 +20,40 @@ use Rattle.lwkt_port.specs.Withdrawals.{IsOwnOf, MayRefuseAbort, MayRefuseDrop, 
 use Rattle.lwkt_port.proofs.Keeping.{own_still, there_still, all_still, all_put}
 
 -- a thread's own message is its processor's
-pub own_message : (d : Desk) (mails : List Mail) (thread : ℕ) (msg : MsgId) → AreMails d mails → IsOwnOf thread msg d mails → IsOwn d.view (cpu_of d).0 msg.0
+pub own_message : (d : Desk) (mails : List Mail) (thread : ℕ) (msg : MsgId) → AreMails d mails → IsOwnOf thread msg d mails → IsOwn d.view (desk_cpu d).0 msg.0
 own_message d mails thread msg are own = ap (λ o. o.cpu.0) (sym (are.each msg.0 own.0).origin_is ∙ own.1)
 
 -- the word of an own message shows this processor as its origin
-own_origin : (d : Desk) (m : ℕ) (w : MsgWord) → IsLoaded d.view m w → IsOwn d.view (cpu_of d).0 m → w.origin ≡ cpu_of d
+own_origin : (d : Desk) (m : ℕ) (w : MsgWord) → IsLoaded d.view m w → IsOwn d.view (desk_cpu d).0 m → w.origin ≡ desk_cpu d
 own_origin d m w loaded own = loaded.sees.origin_is ∙ (λ i. record { 0 = own i })
 
 -- why an own message wasn't asked for
-may_ask : (d : Desk) (m : ℕ) (w : MsgWord) (fault : Fault) → IsLoaded d.view m w → IsOwn d.view (cpu_of d).0 m → ForbidsAbort (cpu_of d) w fault → MayRefuseAbort fault
+may_ask : (d : Desk) (m : ℕ) (w : MsgWord) (fault : Fault) → IsLoaded d.view m w → IsOwn d.view (desk_cpu d).0 m → ForbidsAbort (desk_cpu d) w fault → MayRefuseAbort fault
 may_ask d m w fault loaded own why = elim why [
   | inl other ↦ absurd (other.1 (own_origin d m w loaded own))
   | inr rest ↦ elim rest [ inl out ↦ inl out.0 | inr leave ↦ inr leave.0 ]
 ]
 
-may_drop : (d : Desk) (m : ℕ) (w : MsgWord) (fault : Fault) → IsLoaded d.view m w → IsOwn d.view (cpu_of d).0 m → ForbidsDrop (cpu_of d) w fault → MayRefuseDrop fault
+may_drop : (d : Desk) (m : ℕ) (w : MsgWord) (fault : Fault) → IsLoaded d.view m w → IsOwn d.view (desk_cpu d).0 m → ForbidsDrop (desk_cpu d) w fault → MayRefuseDrop fault
 may_drop d m w fault loaded own why = elim why [
   | inl other ↦ absurd (other.1 (own_origin d m w loaded own))
   | inr rest ↦ elim rest [ inl out ↦ inl out.0 | inr leave ↦ inr leave.0 ]
 ]
 
 -- after a request, made or refused
-pub requested_keeps : (d d' : Desk) (mails : List Mail) (msg : MsgId) → IsSameDesk d d' → HasRequested (cpu_of d) d.view d'.view msg.0 → AreMails d mails → AreMails d' mails
+pub requested_keeps : (d d' : Desk) (mails : List Mail) (msg : MsgId) → IsSameDesk d d' → HasRequested (desk_cpu d) d.view d'.view msg.0 → AreMails d mails → AreMails d' mails
 requested_keeps d d' mails msg same means are = all_still d d' msg.0 mails same means.does.else_same (ap (λ e. e.away) means.does.here) (ap (λ e. e.taken) means.does.here) are
 
-pub unrequested_keeps : (d d' : Desk) (mails : List Mail) (msg : MsgId) (fault : Fault) → IsSameDesk d d' → IsUnrequested (cpu_of d) d.view d'.view msg.0 fault → AreMails d mails → AreMails d' mails
+pub unrequested_keeps : (d d' : Desk) (mails : List Mail) (msg : MsgId) (fault : Fault) → IsSameDesk d d' → IsUnrequested (desk_cpu d) d.view d'.view msg.0 fault → AreMails d mails → AreMails d' mails
 unrequested_keeps d d' mails msg fault same why are =
     let does = why.looked_at.does in
     all_still d d' msg.0 mails same does.else_same (ap (λ e. e.away) does.here) (ap (λ e. e.taken) does.here) are
 
-pub unrequested_for : (d d' : Desk) (msg : MsgId) (fault : Fault) → IsOwn d.view (cpu_of d).0 msg.0 → IsUnrequested (cpu_of d) d.view d'.view msg.0 fault → MayRefuseAbort fault
+pub unrequested_for : (d d' : Desk) (msg : MsgId) (fault : Fault) → IsOwn d.view (desk_cpu d).0 msg.0 → IsUnrequested (desk_cpu d) d.view d'.view msg.0 fault → MayRefuseAbort fault
 unrequested_for d d' msg fault own why = may_ask d msg.0 why.found fault why.looked_at.loaded own why.why
 
 -- after a drop, made or refused
-pub dropped_keeps : (d d' : Desk) (mails mails' : List Mail) (msg : MsgId) (rec : Rec) → IsSameDesk d d' → HasDropped (cpu_of d) d.view d'.view msg.0 rec → mails' ≡ set mails msg.0 (dropped_mail (kept_mail_at mails msg.0)) → msg.0 < length mails → AreMails d mails → AreMails d' mails'
+pub dropped_keeps : (d d' : Desk) (mails mails' : List Mail) (msg : MsgId) (rec : Rec) → IsSameDesk d d' → HasDropped (desk_cpu d) d.view d'.view msg.0 rec → mails' ≡ set mails msg.0 (dropped_mail (kept_mail_at mails msg.0)) → msg.0 < length mails → AreMails d mails → AreMails d' mails'
 dropped_keeps d d' mails mails' msg rec same means is there are =
     let m : ℕ = msg.0 in
     let mail : Mail = kept_mail_at mails m in
@@ -69,13 +69,13 @@ dropped_keeps d d' mails mails' msg rec same means is there are =
       shown_taken = λ h. still ∙ k.shown_taken h;
     } are)
 
-pub untouched_keeps : (d d' : Desk) (mails : List Mail) (msg : MsgId) (fault : Fault) → IsSameDesk d d' → IsUndropped (cpu_of d) d.view d'.view msg.0 fault ⊎ HasLostDrop (cpu_of d) d.view d'.view msg.0 fault → AreMails d mails → AreMails d' mails
+pub untouched_keeps : (d d' : Desk) (mails : List Mail) (msg : MsgId) (fault : Fault) → IsSameDesk d d' → IsUndropped (desk_cpu d) d.view d'.view msg.0 fault ⊎ HasLostDrop (desk_cpu d) d.view d'.view msg.0 fault → AreMails d mails → AreMails d' mails
 untouched_keeps d d' mails msg fault same why are = elim why [
   | inl looked ↦ all_still d d' msg.0 mails same looked.looked_at.does.else_same (ap (λ e. e.away) looked.looked_at.does.here) (ap (λ e. e.taken) looked.looked_at.does.here) are
   | inr lost ↦ all_still d d' msg.0 mails same lost.does.else_same (ap (λ e. e.away) lost.does.here) (ap (λ e. e.taken) lost.does.here) are
 ]
 
-pub untouched_for : (d d' : Desk) (msg : MsgId) (fault : Fault) → IsOwn d.view (cpu_of d).0 msg.0 → IsUndropped (cpu_of d) d.view d'.view msg.0 fault ⊎ HasLostDrop (cpu_of d) d.view d'.view msg.0 fault → MayRefuseDrop fault
+pub untouched_for : (d d' : Desk) (msg : MsgId) (fault : Fault) → IsOwn d.view (desk_cpu d).0 msg.0 → IsUndropped (desk_cpu d) d.view d'.view msg.0 fault ⊎ HasLostDrop (desk_cpu d) d.view d'.view msg.0 fault → MayRefuseDrop fault
 untouched_for d d' msg fault own why = elim why [
   | inl looked ↦ may_drop d msg.0 looked.found fault looked.looked_at.loaded own looked.why
   | inr lost ↦ inl lost.is
@@ -108,7 +108,7 @@ there_of {B} fault d d' mails m are there why = elim why [
 ]
 
 -- after a request, whatever the book answered
-pub asked_keeps : (answer : Result (Unit {0}) Fault) (d d' : Desk) (mails : List Mail) (msg : MsgId) → IsSameDesk d d' → MatchResult answer (λ _. (msg.0 < messages_of d) × HasRequested (cpu_of d) d.view d'.view msg.0) (λ fault. ((messages_of d ≤ msg.0) × (fault ≡ NotOwner) × (d' ≡ d)) ⊎ ((msg.0 < messages_of d) × IsUnrequested (cpu_of d) d.view d'.view msg.0 fault)) → msg.0 < length mails → AreMails d mails → AreMails d' mails
+pub asked_keeps : (answer : Result (Unit {0}) Fault) (d d' : Desk) (mails : List Mail) (msg : MsgId) → IsSameDesk d d' → MatchResult answer (λ _. (msg.0 < messages_of d) × HasRequested (desk_cpu d) d.view d'.view msg.0) (λ fault. ((messages_of d ≤ msg.0) × (fault ≡ NotOwner) × (d' ≡ d)) ⊎ ((msg.0 < messages_of d) × IsUnrequested (desk_cpu d) d.view d'.view msg.0 fault)) → msg.0 < length mails → AreMails d mails → AreMails d' mails
 asked_keeps (Ok x) d d' mails msg same means there are = requested_keeps d d' mails msg same means.1 are
 asked_keeps (Err fault) d d' mails msg same means there are = unrequested_keeps d d' mails msg fault same (there_of fault d d' mails msg.0 are there means) are
 

@@ -13,7 +13,7 @@ use Rattle.lwkt_msg.specs.declared.answers.Taken.{Taken}
 use Rattle.lwkt_msg.specs.declared.answers.Taken.TheVariants as taken
 use Rattle.lwkt_msg.specs.declared.answers.Reaped.{Reaped}
 use Rattle.lwkt_msg.specs.declared.answers.Reaped.TheVariants as reaped_
-use Rattle.lwkt_msg.specs.Desks.{cpu_of, IsSameDesk}
+use Rattle.lwkt_msg.specs.Desks.{desk_cpu, IsSameDesk}
 use Rattle.lwkt_msg.specs.Calls.{TakeMeans, ReapMeans, HasSent, IsUnsent, HasReplied}
 use Rattle.lwkt_port.specs.declared.mails.Mail.{Mail}
 use Rattle.lwkt_port.specs.declared.deeds.Claim.{Claim}
@@ -48,9 +48,9 @@ take_events cpu note taken.Again = []
 -- the message of a note was tried to be taken in the note's round
 pub record Takes (who : Claim) (note : Note) (w w' : Work) (answer : Taken) : Type 0 where
   pub same : IsSameDesk w.seat w'.seat
-  pub means : TakeMeans (cpu_of w.seat) w.seat.view w'.seat.view note.msg.0 note.round answer
+  pub means : TakeMeans (desk_cpu w.seat) w.seat.view w'.seat.view note.msg.0 note.round answer
   pub mails_are : w'.mails ≡ mails_taken who note answer w.mails
-  pub trace_is : w'.trace ≡ w.trace ++ take_events (cpu_of w.seat) note answer
+  pub trace_is : w'.trace ≡ w.trace ++ take_events (desk_cpu w.seat) note answer
 
 -- what is kept of a message that was reaped: it is at home, and the record of a synchronous answer is kept
 abbrev pub reaped_mail : Bool → Rec → Mail → Mail
@@ -68,9 +68,9 @@ reap_events cpu note reaped_.Stale = []
 -- the message of a note was tried to be reaped in the note's round
 pub record Reaps (keep : Bool) (note : Note) (w w' : Work) (answer : Reaped) : Type 0 where
   pub same : IsSameDesk w.seat w'.seat
-  pub means : ReapMeans (cpu_of w.seat) w.seat.view w'.seat.view note.msg.0 note.round answer
+  pub means : ReapMeans (desk_cpu w.seat) w.seat.view w'.seat.view note.msg.0 note.round answer
   pub mails_are : w'.mails ≡ mails_reaped keep note answer w.mails
-  pub trace_is : w'.trace ≡ w.trace ++ reap_events (cpu_of w.seat) note answer
+  pub trace_is : w'.trace ≡ w.trace ++ reap_events (desk_cpu w.seat) note answer
 
 -- what is kept of a message that was sent: it is away, and a synchronous answer that was not given is discarded
 abbrev pub sent_mail : Bool → Mail → Mail
@@ -79,9 +79,9 @@ sent_mail sync mail = record mail { home = false; sync = sync; done = None }
 -- the message was sent to a processor, in this round
 pub record Sends (msg : MsgId) (target : CpuId) (call : Call) (flags : Flags) (sync : Bool) (w w' : Work) (round : ℕ) : Type 0 where
   pub same : IsSameDesk w.seat w'.seat
-  pub means : HasSent (cpu_of w.seat) w.seat.view w'.seat.view msg.0 target call flags sync round
+  pub means : HasSent (desk_cpu w.seat) w.seat.view w'.seat.view msg.0 target call flags sync round
   pub mails_are : w'.mails ≡ slice_set w.mails msg.0 (sent_mail sync (kept_mail_at w.mails msg.0))
-  pub trace_is : w'.trace ≡ w.trace ++ Send (cpu_of w.seat) msg target round ∷ []
+  pub trace_is : w'.trace ≡ w.trace ++ Send (desk_cpu w.seat) msg target round ∷ []
 
 -- what is kept of a message that was replied to: no thread has it, and nothing is owed
 abbrev pub replied_mail : Mail → Mail
@@ -92,11 +92,11 @@ pub record Replies (msg : MsgId) (error outcome : ℕ) (w w' : Work) : Type 0 wh
   pub same : IsSameDesk w.seat w'.seat
   pub means : HasReplied w.seat.view w'.seat.view msg.0 error outcome
   pub mails_are : w'.mails ≡ slice_set w.mails msg.0 (replied_mail (kept_mail_at w.mails msg.0))
-  pub trace_is : w'.trace ≡ w.trace ++ Reply (cpu_of w.seat) msg ∷ []
+  pub trace_is : w'.trace ≡ w.trace ++ Reply (desk_cpu w.seat) msg ∷ []
 
 -- the message was not sent, since it is at its last round: the seat has looked at its word, and nothing else changed
 pub record IsRefused (msg : MsgId) (w w' : Work) : Type 0 where
   pub same : IsSameDesk w.seat w'.seat
-  pub why : IsUnsent (cpu_of w.seat) w.seat.view w'.seat.view msg.0 RoundsOut
+  pub why : IsUnsent (desk_cpu w.seat) w.seat.view w'.seat.view msg.0 RoundsOut
   pub mails_same : w'.mails ≡ w.mails
   pub trace_same : w'.trace ≡ w.trace

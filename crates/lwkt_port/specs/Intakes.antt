@@ -7,7 +7,7 @@ use Rattle.lwkt_core.specs.declared.events.Event.{Event}
 use Rattle.lwkt_lane.specs.declared.notes.Note.{Note}
 use Rattle.lwkt_lane.specs.declared.notes.NoteKind.{NoteKind}
 use Rattle.lwkt_lane.specs.declared.notes.NoteKind.TheVariants.{Request, Answer}
-use Rattle.lwkt_lane.specs.Lane.{received, seen, in_lane}
+use Rattle.lwkt_lane.specs.Lane.{received, seen_notes, in_lane}
 use Rattle.lwkt_msg.specs.declared.answers.Taken.{Taken}
 use Rattle.lwkt_msg.specs.declared.answers.Taken.TheVariants as taken
 use Rattle.lwkt_msg.specs.declared.answers.Reaped.{Reaped}
@@ -87,13 +87,13 @@ pub record Pops (most count : ℕ) (line line' : Lane) (x y : Desks) : Type 0 wh
   pub done : List Note
   pub between : Desks
   pub received_is : received line'.into ≡ received line.into ++ popped
-  pub first : IsPrefix (seen line.into) (popped ++ seen line'.into)
+  pub first : IsPrefix (seen_notes line.into) (popped ++ seen_notes line'.into)
   pub as_many : length popped ≡ count
   pub within : count ≤ most
   pub flow : popped ≡ done ++ option_to_list line'.kept
   pub handles : HandlesAll done x between
   pub last : MatchOption line'.kept (y ≡ between) (λ note. Handles note between y None)
-  pub emptied : count < most → line'.kept ≡ None → seen line'.into ≡ []
+  pub emptied : count < most → line'.kept ≡ None → seen_notes line'.into ≡ []
   pub out_same : line'.out ≡ line.out
   pub lane_same : in_lane line'.into ≡ in_lane line.into
 

@@ -15,9 +15,9 @@ use Rattle.lwkt_core.specs.declared.seats.SeatKind.TheVariants.{Of}
 use Rattle.lwkt_lane.specs.declared.ins.LaneIn.{LaneIn}
 use Rattle.lwkt_lane.specs.declared.notes.Note.{Note}
 use Rattle.lwkt_lane.specs.declared.notes.NoteKind.TheVariants.{Request}
-use Rattle.lwkt_lane.specs.Lane.{received, seen}
+use Rattle.lwkt_lane.specs.Lane.{received, seen_notes}
 use Rattle.lwkt_msg.specs.declared.answers.Taken.TheVariants as taken
-use Rattle.lwkt_msg.specs.Desks.{Desk, cpu_of, entry}
+use Rattle.lwkt_msg.specs.Desks.{Desk, desk_cpu, entry}
 use Rattle.lwkt_msg.specs.Views.{call_of}
 use Rattle.lwkt_port.specs.declared.deeds.Claim.TheVariants as claim
 use Rattle.lwkt_port.specs.declared.mails.Mail.{Mail}
@@ -111,7 +111,7 @@ TellsChain = (a b c : Desk) (t u v : List Event) → Tells a b t u → Tells b c
 
 -- a reply that was owed is made: the trace has it, nothing is owed then, and the seat has the message no more
 pub record IsPaid (m : ℕ) (x y : Payer) : Type 0 where
-  pub replied : y.work.trace ≡ x.work.trace ++ Reply (cpu_of x.work.seat) (record { 0 = m }) ∷ []
+  pub replied : y.work.trace ≡ x.work.trace ++ Reply (desk_cpu x.work.seat) (record { 0 = m }) ∷ []
   pub owes_none : (kept_mail_at y.work.mails m).owed ≡ None
   pub not_taken : (entry y.work.seat m).taken ≡ false
 
@@ -145,7 +145,7 @@ PaidHandsWaitForRoom = (p p' : Post) (trace trace' : Vec Event Global) → PostP
 pub record TakesSeen (limit count : ℕ) (into : LaneIn) (line : Lane) : Type 0 where
   pub popped : List Note
   pub received_is : received line.into ≡ received into ++ popped
-  pub rest : IsPrefix (seen into) popped ⊎ (IsSome line.kept ⊎ (limit ≤ count))
+  pub rest : IsPrefix (seen_notes into) popped ⊎ (IsSome line.kept ⊎ (limit ≤ count))
 
 -- where notes are taken in this is so of each lane
 abbrev pub SeenAreTakenIn : Type 0

@@ -1,7 +1,7 @@
 use Rattle.std.specs.Prelude.{◌≡◌, ◌⊎◌, ◌+◌, ◌<◌, ◌≤◌, [], ◌∷◌, ◌++◌, None, IsSome}
 use mathlib.Core.List.{IsPrefix}
 use Rattle.lwkt_lane.specs.declared.notes.Note.{Note}
-use Rattle.lwkt_lane.specs.Lane.{sent, in_hand, waiting, free, out_lane, received, seen, in_lane}
+use Rattle.lwkt_lane.specs.Lane.{sent_notes, in_hand, waiting, free, out_lane, received, seen_notes, in_lane}
 use Rattle.lwkt_port.specs.declared.lines.Lane.{Lane}
 
 -- no note is in hand at a line's sending end
@@ -15,7 +15,7 @@ WaitsForRoom line = IsSome (in_hand line.out) → free line.out ≡ 0
 -- the note in hand of a line went on into the queue, if there is one: it stays in hand only where no place is known to be free then,
 -- and not where one was known to be free before; it alone takes a place
 pub record IsRoomed (line line' : Lane) : Type 0 where
-  pub sent_same : sent line'.out ≡ sent line.out
+  pub sent_same : sent_notes line'.out ≡ sent_notes line.out
   pub hand : HasNoneInHand line' ⊎ (in_hand line'.out ≡ in_hand line.out)
   pub full : WaitsForRoom line'
   pub moves : 0 < free line.out → HasNoneInHand line'
@@ -27,7 +27,7 @@ pub record IsRoomed (line line' : Lane) : Type 0 where
 -- a note was sent over a line, after the one in hand: it stays in hand only where no place is known to be free then, and not where
 -- there were known to be places for all
 pub record HasPosted (note : Note) (line line' : Lane) : Type 0 where
-  pub sent_more : sent line'.out ≡ sent line.out ++ note ∷ []
+  pub sent_more : sent_notes line'.out ≡ sent_notes line.out ++ note ∷ []
   pub full : WaitsForRoom line'
   pub moves : waiting line.out < free line.out → HasNoneInHand line'
   pub lane_same : out_lane line'.out ≡ out_lane line.out
@@ -37,8 +37,8 @@ pub record HasPosted (note : Note) (line line' : Lane) : Type 0 where
 -- a line's lane gave no note: it had none that was seen
 pub record IsDrained (line line' : Lane) : Type 0 where
   pub received_same : received line'.into ≡ received line.into
-  pub seen_same : seen line'.into ≡ seen line.into
-  pub empty : seen line'.into ≡ []
+  pub seen_same : seen_notes line'.into ≡ seen_notes line.into
+  pub empty : seen_notes line'.into ≡ []
   pub lane_same : in_lane line'.into ≡ in_lane line.into
   pub out_same : line'.out ≡ line.out
   pub kept_same : line'.kept ≡ line.kept
@@ -46,7 +46,7 @@ pub record IsDrained (line line' : Lane) : Type 0 where
 -- a line's lane gave a note, the first one that was seen if any was
 pub record HasPopped (note : Note) (line line' : Lane) : Type 0 where
   pub received_is : received line'.into ≡ received line.into ++ note ∷ []
-  pub first : IsPrefix (seen line.into) (note ∷ seen line'.into)
+  pub first : IsPrefix (seen_notes line.into) (note ∷ seen_notes line'.into)
   pub lane_same : in_lane line'.into ≡ in_lane line.into
   pub out_same : line'.out ≡ line.out
   pub kept_same : line'.kept ≡ line.kept
@@ -55,8 +55,8 @@ pub record HasPopped (note : Note) (line line' : Lane) : Type 0 where
 pub record HasNone (line line' : Lane) : Type 0 where
   pub none : line.kept ≡ None
   pub received_same : received line'.into ≡ received line.into
-  pub first : IsPrefix (seen line.into) (seen line'.into)
-  pub empty : seen line'.into ≡ []
+  pub first : IsPrefix (seen_notes line.into) (seen_notes line'.into)
+  pub empty : seen_notes line'.into ≡ []
   pub lane_same : in_lane line'.into ≡ in_lane line.into
   pub out_same : line'.out ≡ line.out
   pub kept_same : line'.kept ≡ line.kept
@@ -65,7 +65,7 @@ pub record HasNone (line line' : Lane) : Type 0 where
 pub record IsLooked (line line' : Lane) : Type 0 where
   pub none : line.kept ≡ None
   pub received_same : received line'.into ≡ received line.into
-  pub first : IsPrefix (seen line.into) (seen line'.into)
+  pub first : IsPrefix (seen_notes line.into) (seen_notes line'.into)
   pub lane_same : in_lane line'.into ≡ in_lane line.into
   pub out_same : line'.out ≡ line.out
   pub kept_same : line'.kept ≡ line.kept

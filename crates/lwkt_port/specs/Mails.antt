@@ -1,5 +1,5 @@
 use Rattle.std.specs.Prelude.{◌≡◌, ℕ, ◌<◌, ◌≤◌, true, false, List, length, slice_index_or, None, IsSome}
-use Rattle.lwkt_msg.specs.Desks.{Desk, cpu_of, cpus_of, messages_of, entry}
+use Rattle.lwkt_msg.specs.Desks.{Desk, desk_cpu, cpus_of, messages_of, entry}
 use Rattle.lwkt_msg.specs.Views.{spec_at}
 use Rattle.lwkt_msg.specs.Hands.{IsOwn}
 use Rattle.lwkt_msg.specs.Calls.{IsHome}
@@ -17,8 +17,8 @@ kept_mail_at mails m = slice_index_or mails m no_kept_mail
 pub record IsMail (d : Desk) (m : ℕ) (mail : Mail) : Type 0 where
   pub origin_is : mail.origin ≡ (spec_at d.view.specs m).origin
   pub there : mail.origin.cpu.0 < cpus_of d
-  pub at_home : mail.home ≡ true → IsHome d.view (cpu_of d).0 m
-  pub is_away : mail.home ≡ false → IsOwn d.view (cpu_of d).0 m → (entry d m).away ≡ true
+  pub at_home : mail.home ≡ true → IsHome d.view (desk_cpu d).0 m
+  pub is_away : mail.home ≡ false → IsOwn d.view (desk_cpu d).0 m → (entry d m).away ≡ true
   pub owed_taken : IsSome mail.owed → (entry d m).taken ≡ true
   pub shown_taken : IsSome mail.shown → (entry d m).taken ≡ true
 

@@ -5,7 +5,7 @@ use Rattle.lwkt_base.specs.declared.names.ThreadId.{ThreadId}
 use Rattle.lwkt_base.specs.declared.openings.MsgSpec.{MsgSpec}
 use Rattle.lwkt_lane.specs.declared.ins.LaneIn.{LaneIn}
 use Rattle.lwkt_lane.specs.declared.outs.LaneOut.{LaneOut}
-use Rattle.lwkt_msg.specs.Desks.{Desk, cpu_of, cpus_of, messages_of, entry, opened_entry}
+use Rattle.lwkt_msg.specs.Desks.{Desk, desk_cpu, cpus_of, messages_of, entry, opened_entry}
 use Rattle.lwkt_msg.specs.Views.{spec_at}
 use Rattle.lwkt_port.specs.declared.lines.Lane.{Lane}
 use Rattle.lwkt_port.specs.declared.mails.Mail.{Mail}
@@ -45,7 +45,7 @@ pub record AreWithin (seat : Desk) (outs : List LaneOut) (ins : List LaneIn) (or
 
 -- the seat is as the book's opening gave it: it has its own messages at rest, and has taken none
 abbrev pub IsFresh : Desk → Type 0
-IsFresh seat = (m : ℕ) → m < messages_of seat → entry seat m ≡ opened_entry (cpu_of seat).0 (spec_at seat.view.specs m)
+IsFresh seat = (m : ℕ) → m < messages_of seat → entry seat m ≡ opened_entry (desk_cpu seat).0 (spec_at seat.view.specs m)
 
 -- the threads that the messages of the seat's book belong to
 abbrev pub AreOrigins : Desk → List ThreadId → Type 0

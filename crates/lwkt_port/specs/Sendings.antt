@@ -9,7 +9,7 @@ use Rattle.lwkt_core.specs.declared.events.Event.{Event}
 use Rattle.lwkt_lane.specs.declared.notes.Note.{Note}
 use Rattle.lwkt_lane.specs.declared.notes.NoteKind.TheVariants.{Request, Answer}
 use Rattle.lwkt_lane.specs.Lane.{in_hand}
-use Rattle.lwkt_msg.specs.Desks.{cpu_of, cpus_of}
+use Rattle.lwkt_msg.specs.Desks.{desk_cpu, cpus_of}
 use Rattle.lwkt_port.specs.declared.deeds.Sending.{Sending}
 use Rattle.lwkt_port.specs.declared.lines.Lane.{Lane}
 use Rattle.lwkt_port.specs.declared.mails.Mail.{Mail}
@@ -71,7 +71,7 @@ pub record IsElseSame (p p' : Post) : Type 0 where
 
 -- a thread would wait for its own answer
 abbrev pub IsSelfDo : Sending → Post → Type 0
-IsSelfDo s p = (s.sync ≡ true) × (s.to ≡ record { cpu = cpu_of p.seat; thread = s.thread })
+IsSelfDo s p = (s.sync ≡ true) × (s.to ≡ record { cpu = desk_cpu p.seat; thread = s.thread })
 
 -- a thread's call to send did so
 pub record PostSends (s : Sending) (p p' : Post) (trace trace' : Vec Event Global) : Type 0 where

@@ -6,8 +6,8 @@ use mathlib.Core.List.{IsPrefix}
 use Rattle.lwkt_core.specs.declared.events.Event.{Event}
 use Rattle.lwkt_lane.specs.declared.ins.LaneIn.{LaneIn}
 use Rattle.lwkt_lane.specs.declared.outs.LaneOut.{LaneOut}
-use Rattle.lwkt_lane.specs.Lane.{queued, received, seen, in_lane, IsLane, IsBeside}
-use Rattle.lwkt_msg.specs.Desks.{cpu_of}
+use Rattle.lwkt_lane.specs.Lane.{queued, received, seen_notes, in_lane, IsLane, IsBeside}
+use Rattle.lwkt_msg.specs.Desks.{desk_cpu}
 use Rattle.lwkt_port.specs.declared.lines.Lane.{Lane}
 use Rattle.lwkt_port.specs.Intakes.{PostTakesIn}
 use Rattle.lwkt_port.specs.Openings.{ArePaired}
@@ -21,9 +21,9 @@ pub record AreEnds (from to : ℕ) (sender lanes : List Lane) : Type 0 where
 
 -- a receiving end has seen all that this sending end has put into the queue
 pub record SeesQueue (out : LaneOut) (into into' : LaneIn) : Type 0 where
-  pub all : received into' ++ seen into' ≡ queued out
+  pub all : received into' ++ seen_notes into' ≡ queued out
   pub received_same : received into' ≡ received into
-  pub first : IsPrefix (seen into) (seen into')
+  pub first : IsPrefix (seen_notes into) (seen_notes into')
   pub lane_same : in_lane into' ≡ in_lane into
 
 -- a line's receiving end has seen all that this sending end has put into the queue; nothing else of the line changed
@@ -51,17 +51,17 @@ pub record Sees (from to : ℕ) (sender sender' lanes lanes' : List Lane) : Type
 
 -- the lane from one processor to another, whose ports are these, has its two ends there
 abbrev pub AreJoined : Post → Post → Type 0
-AreJoined s p = AreEnds (cpu_of s.seat).0 (cpu_of p.seat).0 s.lanes p.lanes
+AreJoined s p = AreEnds (desk_cpu s.seat).0 (desk_cpu p.seat).0 s.lanes p.lanes
 
 -- a receiver's ports saw all that a sender's had put into the queue of the lane between them
 pub record PostSees (s s' p p' : Post) : Type 0 where
-  pub sees : Sees (cpu_of s.seat).0 (cpu_of p.seat).0 s.lanes s'.lanes p.lanes p'.lanes
+  pub sees : Sees (desk_cpu s.seat).0 (desk_cpu p.seat).0 s.lanes s'.lanes p.lanes p'.lanes
   pub sender_else : s' ≡ record s { lanes = s'.lanes }
   pub else_same : p' ≡ record p { lanes = p'.lanes }
 
 -- a processor's ports saw all that they had put into the queue of the lane to themselves
 pub record PostSeesOwn (p p' : Post) : Type 0 where
-  pub sees : Changes SeesOwn (cpu_of p.seat).0 p.lanes p'.lanes
+  pub sees : Changes SeesOwn (desk_cpu p.seat).0 p.lanes p'.lanes
   pub else_same : p' ≡ record p { lanes = p'.lanes }
 
 -- all that a sending end had put into the queue of its lane is received at this line, in order, unless the line keeps a note that
@@ -72,12 +72,12 @@ IsDelivered limit count out line = IsPrefix (queued out) (received line.into) �
 -- what one processor's ports had put into the queue of the lane to another's, which then saw it and took notes in
 abbrev pub SentAreDelivered : Type 0
 SentAreDelivered = (s s' p q r : Post) (limit count : ℕ) (trace trace' : Vec Event Global) (d e : Lane) → AreJoined s p → PostSees s s' p q → PostTakesIn limit q r trace trace' count
-    → IsDelivered limit count (slice_index_or s.lanes (cpu_of p.seat).0 d).out (slice_index_or r.lanes (cpu_of s.seat).0 e)
+    → IsDelivered limit count (slice_index_or s.lanes (desk_cpu p.seat).0 d).out (slice_index_or r.lanes (desk_cpu s.seat).0 e)
 
 -- what one processor's ports had put into the queue of the lane to themselves, which they then saw and took in
 abbrev pub OwnAreDelivered : Type 0
 OwnAreDelivered = (p q r : Post) (limit count : ℕ) (trace trace' : Vec Event Global) (d e : Lane) → PostSeesOwn p q → PostTakesIn limit q r trace trace' count
-    → IsDelivered limit count (slice_index_or p.lanes (cpu_of p.seat).0 d).out (slice_index_or r.lanes (cpu_of p.seat).0 e)
+    → IsDelivered limit count (slice_index_or p.lanes (desk_cpu p.seat).0 d).out (slice_index_or r.lanes (desk_cpu p.seat).0 e)
 
 -- whatever calls two processors' ports make, the lane between them has its two ends there still
 abbrev pub StayJoined : Type 0
@@ -93,4 +93,4 @@ pub record AreWired (from to : ℕ) (outs outs' : List LaneOut) (ins ins' : List
 
 -- ports that are opened over such ends have that lane
 abbrev pub OpenedAreJoined : Type 0
-OpenedAreJoined = (s p : Post) (outs outs' : List LaneOut) (ins ins' : List LaneIn) → ArePaired outs ins s.lanes → ArePaired outs' ins' p.lanes → AreWired (cpu_of s.seat).0 (cpu_of p.seat).0 outs outs' ins ins' → AreJoined s p
+OpenedAreJoined = (s p : Post) (outs outs' : List LaneOut) (ins ins' : List LaneIn) → ArePaired outs ins s.lanes → ArePaired outs' ins' p.lanes → AreWired (desk_cpu s.seat).0 (desk_cpu p.seat).0 outs outs' ins ins' → AreJoined s p

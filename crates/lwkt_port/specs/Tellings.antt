@@ -3,7 +3,7 @@ use Rattle.std.specs.Prelude.{◌≡◌, List, ◌++◌}
 use Rattle.lwkt_core.specs.declared.events.Event.{Event}
 use Rattle.lwkt_core.specs.declared.seats.Deed.{Deed}
 use Rattle.lwkt_core.specs.History.{AreOwn, Grows, events_in}
-use Rattle.lwkt_msg.specs.Desks.{Desk, cpu_of, past_of, IsSameDesk}
+use Rattle.lwkt_msg.specs.Desks.{Desk, desk_cpu, past_of, IsSameDesk}
 use Rattle.lwkt_port.specs.Works.{Work}
 
 -- a trace grows by the events of the deeds by which what the seat has seen of the book's history grows, each once and in order; a
@@ -11,8 +11,8 @@ use Rattle.lwkt_port.specs.Works.{Work}
 pub record Tells (seat seat' : Desk) (before now : List Event) : Type 0 where
   pub same : IsSameDesk seat seat'
   pub deeds : List Deed
-  pub grows : Grows (cpu_of seat).0 (past_of seat) deeds (past_of seat')
-  pub mine : AreOwn (cpu_of seat).0 deeds
+  pub grows : Grows (desk_cpu seat).0 (past_of seat) deeds (past_of seat')
+  pub mine : AreOwn (desk_cpu seat).0 deeds
   pub trace_is : now ≡ before ++ events_in deeds
 
 -- the same of a step on messages

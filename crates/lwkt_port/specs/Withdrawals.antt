@@ -9,7 +9,7 @@ use Rattle.lwkt_base.specs.declared.records.Rec.{Rec}
 use Rattle.lwkt_core.specs.declared.events.Event.{Event}
 use Rattle.lwkt_core.specs.declared.events.Event.TheVariants.{Abort, DropMsg}
 use Rattle.lwkt_msg.specs.Calls.{HasRequested, IsUnrequested, HasDropped, IsUndropped, HasLostDrop, IsToldRequest}
-use Rattle.lwkt_msg.specs.Desks.{Desk, cpu_of, IsSameDesk}
+use Rattle.lwkt_msg.specs.Desks.{Desk, desk_cpu, IsSameDesk}
 use Rattle.lwkt_port.specs.declared.mails.Mail.{Mail}
 use Rattle.lwkt_port.specs.Mails.{kept_mail_at}
 use Rattle.lwkt_port.specs.Posts.{Post, work_of}
@@ -18,14 +18,14 @@ use Rattle.lwkt_port.specs.Works.{Work}
 
 -- a message is a thread's own: it is there, and the thread of this processor is its origin
 abbrev pub IsOwnOf : ℕ → MsgId → Desk → List Mail → Type 0
-IsOwnOf thread msg seat mails = (msg.0 < length mails) × ((kept_mail_at mails msg.0).origin ≡ record { cpu = cpu_of seat; thread = thread })
+IsOwnOf thread msg seat mails = (msg.0 < length mails) × ((kept_mail_at mails msg.0).origin ≡ record { cpu = desk_cpu seat; thread = thread })
 
 -- the message's origin has asked for it to be aborted
 pub record Requests (msg : MsgId) (w w' : Work) : Type 0 where
   pub same : IsSameDesk w.seat w'.seat
-  pub means : HasRequested (cpu_of w.seat) w.seat.view w'.seat.view msg.0
+  pub means : HasRequested (desk_cpu w.seat) w.seat.view w'.seat.view msg.0
   pub mails_same : w'.mails ≡ w.mails
-  pub trace_is : w'.trace ≡ w.trace ++ Abort (cpu_of w.seat) msg ∷ []
+  pub trace_is : w'.trace ≡ w.trace ++ Abort (desk_cpu w.seat) msg ∷ []
 
 -- for what an own message is not asked to be aborted, and for what it is not dropped
 abbrev pub MayRefuseAbort : Fault → Type 0
@@ -37,7 +37,7 @@ MayRefuseDrop fault = (fault ≡ NotOut) ⊎ (fault ≡ NotDropable)
 -- the message's origin has not asked, since its word forbade it: the seat has looked at it, and nothing else changed
 pub record IsUnasked (msg : MsgId) (w w' : Work) (fault : Fault) : Type 0 where
   pub same : IsSameDesk w.seat w'.seat
-  pub why : IsUnrequested (cpu_of w.seat) w.seat.view w'.seat.view msg.0 fault
+  pub why : IsUnrequested (desk_cpu w.seat) w.seat.view w'.seat.view msg.0 fault
   pub mails_same : w'.mails ≡ w.mails
   pub trace_same : w'.trace ≡ w.trace
 
@@ -48,15 +48,15 @@ dropped_mail mail = record mail { home = true }
 -- the message was dropped by its origin, before its target took it, and had this record
 pub record Drops (msg : MsgId) (w w' : Work) (rec : Rec) : Type 0 where
   pub same : IsSameDesk w.seat w'.seat
-  pub means : HasDropped (cpu_of w.seat) w.seat.view w'.seat.view msg.0 rec
+  pub means : HasDropped (desk_cpu w.seat) w.seat.view w'.seat.view msg.0 rec
   pub mails_are : w'.mails ≡ slice_set w.mails msg.0 (dropped_mail (kept_mail_at w.mails msg.0))
-  pub trace_is : w'.trace ≡ w.trace ++ DropMsg (cpu_of w.seat) msg ∷ []
+  pub trace_is : w'.trace ≡ w.trace ++ DropMsg (desk_cpu w.seat) msg ∷ []
 
 -- the message was not dropped, since its word forbade it, or its target took it just before: the seat has looked at it, or lost an
 -- exchange, and nothing else changed
 pub record IsUntouched (msg : MsgId) (w w' : Work) (fault : Fault) : Type 0 where
   pub same : IsSameDesk w.seat w'.seat
-  pub why : IsUndropped (cpu_of w.seat) w.seat.view w'.seat.view msg.0 fault ⊎ HasLostDrop (cpu_of w.seat) w.seat.view w'.seat.view msg.0 fault
+  pub why : IsUndropped (desk_cpu w.seat) w.seat.view w'.seat.view msg.0 fault ⊎ HasLostDrop (desk_cpu w.seat) w.seat.view w'.seat.view msg.0 fault
   pub mails_same : w'.mails ≡ w.mails
   pub trace_same : w'.trace ≡ w.trace
 

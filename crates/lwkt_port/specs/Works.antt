@@ -5,7 +5,7 @@ use Rattle.lwkt_core.specs.declared.events.Event.TheVariants.{Load, Take, Share,
 use Rattle.lwkt_base.specs.declared.names.CpuId.{CpuId}
 use Rattle.lwkt_base.specs.declared.names.MsgId.{MsgId}
 use Rattle.lwkt_msg.specs.Hands.{IsOwn}
-use Rattle.lwkt_msg.specs.Desks.{Desk, Shelf, cpu_of, entry, IsSameDesk}
+use Rattle.lwkt_msg.specs.Desks.{Desk, Shelf, desk_cpu, entry, IsSameDesk}
 use Rattle.lwkt_port.specs.declared.counters.Counters.{Counters}
 use Rattle.lwkt_port.specs.declared.mailrooms.Mailroom.{Mailroom}
 use Rattle.lwkt_port.specs.declared.mails.Mail.{Mail}
@@ -82,13 +82,13 @@ pub record HasTaken (msg : MsgId) (r : Mailroom) : Type 0 where
 -- the message is there, and belongs to the seat's processor
 pub record HasOwn (msg : MsgId) (r : Mailroom) : Type 0 where
   pub there : msg.0 < vec_len r.mails
-  pub own : IsOwn r.seat.view (cpu_of r.seat).0 msg.0
+  pub own : IsOwn r.seat.view (desk_cpu r.seat).0 msg.0
 
 -- the seat is the same one, of as many messages something is kept, and the trace grew by at most so many events of its processor
 pub record StandsSo (most : ℕ) (seat : Desk) (mails : Vec Mail Global) (trace : Vec Event Global) (seat' : Desk) (mails' : Vec Mail Global) (trace' : Vec Event Global) : Type 0 where
   pub same : IsSameDesk seat seat'
   pub len : vec_len mails' ≡ vec_len mails
-  pub grew : Grew (cpu_of seat) most trace trace'
+  pub grew : Grew (desk_cpu seat) most trace trace'
 
 -- the same of a mailroom
 abbrev pub MailroomStands : ℕ → Mailroom → Vec Event Global → Mailroom → Vec Event Global → Type 0
@@ -115,7 +115,7 @@ standing counters trace = record { counters = counters; trace = trace }
 pub record KeepsSo (seat : Desk) (mails : Vec Mail Global) (trace : Vec Event Global) (seat' : Desk) (mails' : Vec Mail Global) (trace' : Vec Event Global) : Type 0 where
   pub same : IsSameDesk seat seat'
   pub len : vec_len mails' ≡ vec_len mails
-  pub grown : Grown (cpu_of seat) trace trace'
+  pub grown : Grown (desk_cpu seat) trace trace'
   pub room : vec_capacity trace ≤ vec_capacity trace'
   pub away : away_count mails'.items + vec_len trace' ≡ away_count mails.items + vec_len trace
 

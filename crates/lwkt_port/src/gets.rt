@@ -1,7 +1,7 @@
 //! A thread looks at its port.
 ghost use Rattle.std.specs.Prelude.{◌≡◌, ◌+◌, ◌<◌, ◌≤◌, true, false, List, [], ◌∷◌, length, All, vec_len, vec_capacity};
 ghost use Rattle.lwkt_lane.specs.declared.notes.Note.{Note};
-ghost use Rattle.lwkt_msg.specs.Desks.{cpu_of};
+ghost use Rattle.lwkt_msg.specs.Desks.{desk_cpu};
 ghost use Rattle.lwkt_port.specs.Posts.{IsSamePost};
 ghost use Rattle.lwkt_port.specs.Queues.{HasNamed};
 ghost use Rattle.lwkt_port.specs.Works.{work, Grew, IsReady, MailroomStands};
@@ -143,7 +143,7 @@ impl Ports {
         requires room { vec_len trace.old + 128 ≤ vec_capacity trace.old }
         ensures gets { PostGets thread self.old self.new trace.old trace.new result }
         ensures same { IsSamePost self.old self.new }
-        ensures grew { Grew (cpu_of self.old.seat) 128 trace.old trace.new }
+        ensures grew { Grew (desk_cpu self.old.seat) 128 trace.old trace.new }
         ensures told { Tells self.old.seat self.new.seat trace.old.items trace.new.items }
     {
         let office = &mut self.office;

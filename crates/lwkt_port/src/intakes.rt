@@ -1,6 +1,6 @@
 //! The notes that came over the lanes are taken in.
 ghost use Rattle.std.specs.Prelude.{◌≡◌, ◌⊎◌, ℕ, ◌+◌, ◌-◌, ◌<◌, ◌≤◌, false, List, length, All, None, IsTrue, IfSome, vec_len, vec_capacity};
-ghost use Rattle.lwkt_msg.specs.Desks.{cpu_of};
+ghost use Rattle.lwkt_msg.specs.Desks.{desk_cpu};
 ghost use Rattle.lwkt_port.specs.declared.lines.Lane.{Lane};
 ghost use Rattle.lwkt_port.specs.declared.queues.Port.{Port};
 ghost use Rattle.lwkt_port.specs.Chains.{Chain};
@@ -192,7 +192,7 @@ impl Ports {
         ensures takes { PostTakesIn limit self.old self.new trace.old trace.new result }
         ensures within { result ≤ limit }
         ensures same { IsSamePost self.old self.new }
-        ensures grew { Grew (cpu_of self.old.seat) 256 trace.old trace.new }
+        ensures grew { Grew (desk_cpu self.old.seat) 256 trace.old trace.new }
         ensures told { Tells self.old.seat self.new.seat trace.old.items trace.new.items }
     {
         self.office.take_in(book, limit, trace)
@@ -207,7 +207,7 @@ impl Ports {
         requires room { vec_len trace.old + 256 ≤ vec_capacity trace.old }
         ensures pays { PostPays self.old self.new trace.old trace.new }
         ensures same { IsSamePost self.old self.new }
-        ensures grew { Grew (cpu_of self.old.seat) 64 trace.old trace.new }
+        ensures grew { Grew (desk_cpu self.old.seat) 64 trace.old trace.new }
         ensures told { Tells self.old.seat self.new.seat trace.old.items trace.new.items }
     {
         make_room(&mut self.office.lanes);

@@ -1,7 +1,7 @@
 //! The ports as they are opened.
 ghost use Rattle.std.specs.Prelude.{◌≡◌, ◌⊎◌, ℕ, ◌<◌, ◌≤◌, [], false, length, All, IfOk, MatchResult, ◌↔◌, IsTrue, vec_len, map};
 ghost use Rattle.lwkt_base.specs.declared.faults.Fault.TheVariants.{Limits};
-ghost use Rattle.lwkt_msg.specs.Desks.{cpu_of, cpus_of, messages_of};
+ghost use Rattle.lwkt_msg.specs.Desks.{desk_cpu, cpus_of, messages_of};
 ghost use Rattle.lwkt_port.specs.Mails.{kept_mail_at, AreMails};
 ghost use Rattle.lwkt_port.specs.Openings.{new_mail, AreNewPorts, new_line, ArePaired, AreWithin, IsFresh, AreOrigins, IsOpenedPost};
 
@@ -117,7 +117,7 @@ impl Ports {
         origins: &[ThreadId],
         threads: usize,
     ) -> Result<Ports, Fault>
-        requires mine { cpu ≡ cpu_of seat }
+        requires mine { cpu ≡ desk_cpu seat }
         requires fresh { IsFresh seat }
         requires origins { AreOrigins seat origins.now }
         ensures { MatchResult result

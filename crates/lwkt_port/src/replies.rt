@@ -1,6 +1,6 @@
 //! A thread replies to a message, and is given the reply that it waited for.
 ghost use Rattle.std.specs.Prelude.{◌≡◌, ◌↔◌, ◌+◌, ◌<◌, ◌≤◌, true, length, slice_set, All, vec_len, vec_capacity, None, IsTrue, OnOk, IfErr};
-ghost use Rattle.lwkt_msg.specs.Desks.{cpu_of, messages_of};
+ghost use Rattle.lwkt_msg.specs.Desks.{desk_cpu, messages_of};
 ghost use Rattle.lwkt_port.specs.Mails.{kept_mail_at};
 ghost use Rattle.lwkt_port.specs.Works.{work, Grew, IsReady, MailroomStands, KeepsPorts, HasTaken};
 ghost use Rattle.lwkt_port.specs.Posts.{IsSamePost};
@@ -115,7 +115,7 @@ impl Ports {
         ensures replied { OnOk result (PostReplies thread msg error outcome self.old self.new trace.old trace.new) }
         ensures refused { IfErr result (λ fault. PostRefusesReply thread msg error outcome self.old self.new trace.old trace.new fault) }
         ensures same { IsSamePost self.old self.new }
-        ensures grew { Grew (cpu_of self.old.seat) 1 trace.old trace.new }
+        ensures grew { Grew (desk_cpu self.old.seat) 1 trace.old trace.new }
         ensures told { Tells self.old.seat self.new.seat trace.old.items trace.new.items }
     {
         if !is_shown_to(&self.office.counters.room.mails, thread, msg) {

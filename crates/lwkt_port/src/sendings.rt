@@ -1,6 +1,6 @@
 //! A thread sends a message.
 ghost use Rattle.std.specs.Prelude.{◌≡◌, ◌↔◌, ◌+◌, ◌<◌, ◌≤◌, true, false, length, vec_len, vec_capacity, All, IsTrue, OnOk, IfErr, MatchResult};
-ghost use Rattle.lwkt_msg.specs.Desks.{cpu_of, cpus_of};
+ghost use Rattle.lwkt_msg.specs.Desks.{desk_cpu, cpus_of};
 ghost use Rattle.lwkt_msg.specs.Views.{no_flags};
 ghost use Rattle.lwkt_port.specs.Lines.{IsRoomed};
 ghost use Rattle.lwkt_port.specs.Mails.{kept_mail_at};
@@ -125,7 +125,7 @@ impl Ports {
         ensures sent { OnOk result (PostSends (record { thread = thread; msg = msg; to = to; call = call; flags = flags; sync = false }) self.old self.new trace.old trace.new) }
         ensures refused { IfErr result (λ fault. PostRefuses (record { thread = thread; msg = msg; to = to; call = call; flags = flags; sync = false }) self.old self.new trace.old trace.new fault) }
         ensures same { IsSamePost self.old self.new }
-        ensures grew { Grew (cpu_of self.old.seat) 1 trace.old trace.new }
+        ensures grew { Grew (desk_cpu self.old.seat) 1 trace.old trace.new }
         ensures told { Tells self.old.seat self.new.seat trace.old.items trace.new.items }
     {
         if !is_port_name(&self.office.counters.room.seat, to) {
@@ -162,7 +162,7 @@ impl Ports {
         ensures sent { OnOk result (PostSends (record { thread = thread; msg = msg; to = to; call = call; flags = no_flags; sync = true }) self.old self.new trace.old trace.new) }
         ensures refused { IfErr result (λ fault. PostRefuses (record { thread = thread; msg = msg; to = to; call = call; flags = no_flags; sync = true }) self.old self.new trace.old trace.new fault) }
         ensures same { IsSamePost self.old self.new }
-        ensures grew { Grew (cpu_of self.old.seat) 1 trace.old trace.new }
+        ensures grew { Grew (desk_cpu self.old.seat) 1 trace.old trace.new }
         ensures told { Tells self.old.seat self.new.seat trace.old.items trace.new.items }
     {
         if !is_port_name(&self.office.counters.room.seat, to) {

@@ -1,7 +1,7 @@
 //! A thread drops a message of its own, asks for it to be aborted, or hears whether one that it was shown is to be aborted.
 ghost use Rattle.std.specs.Prelude.{◌≡◌, ◌↔◌, ◌+◌, ◌<◌, ◌≤◌, List, length, vec_len, vec_capacity, true, IsTrue, IsOk, OnOk, IfOk, IfErr};
 ghost use Rattle.lwkt_core.specs.declared.events.Event.{Event};
-ghost use Rattle.lwkt_msg.specs.Desks.{cpu_of, IsSameDesk};
+ghost use Rattle.lwkt_msg.specs.Desks.{desk_cpu, IsSameDesk};
 ghost use Rattle.lwkt_port.specs.Posts.{IsSamePost};
 ghost use Rattle.lwkt_port.specs.Sendings.{IsShownTo};
 ghost use Rattle.lwkt_port.specs.Tellings.{Tells};
@@ -111,7 +111,7 @@ impl Ports {
         ensures aborted { OnOk result (PostAborts thread msg self.old self.new trace.old trace.new) }
         ensures refused { IfErr result (λ fault. PostRefusesAbort thread msg self.old self.new trace.old trace.new fault) }
         ensures same { IsSamePost self.old self.new }
-        ensures grew { Grew (cpu_of self.old.seat) 1 trace.old trace.new }
+        ensures grew { Grew (desk_cpu self.old.seat) 1 trace.old trace.new }
         ensures told { Tells self.old.seat self.new.seat trace.old.items trace.new.items }
     {
         if !self.office.counters.room.is_own(thread, msg) {
@@ -157,7 +157,7 @@ impl Ports {
         ensures dropped { IfOk result (λ rec. PostDrops thread msg self.old self.new trace.old trace.new rec) }
         ensures refused { IfErr result (λ fault. PostRefusesDrop thread msg self.old self.new trace.old trace.new fault) }
         ensures same { IsSamePost self.old self.new }
-        ensures grew { Grew (cpu_of self.old.seat) 1 trace.old trace.new }
+        ensures grew { Grew (desk_cpu self.old.seat) 1 trace.old trace.new }
         ensures told { Tells self.old.seat self.new.seat trace.old.items trace.new.items }
     {
         if !self.office.counters.room.is_own(thread, msg) {

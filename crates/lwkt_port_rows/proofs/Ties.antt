@@ -3,7 +3,7 @@ use Rattle.std.proofs.Common.{◌≡◌, ℕ, List, [], ◌∷◌, arith, refl, 
 use Rattle.lwkt_lane.specs.declared.ins.LaneIn.{LaneIn}
 use Rattle.lwkt_lane.specs.declared.outs.LaneOut.{LaneOut}
 use Rattle.lwkt_lane.specs.Lane.{IsLane}
-use Rattle.lwkt_msg.specs.Desks.{Shelf, Desk, cpu_of, IsOpened}
+use Rattle.lwkt_msg.specs.Desks.{Shelf, Desk, desk_cpu, IsOpened}
 use Rattle.lwkt_msg.specs.Views.{seat_cpu}
 use Rattle.lwkt_port.specs.Openings.{ArePaired}
 use Rattle.lwkt_port.specs.Posts.{Post, IsSamePost}
@@ -13,13 +13,13 @@ use Rattle.lwkt_port.proofs.Growing.{same_none}
 use Rattle.lwkt_port.proofs.JoinMoves.{opened_joined}
 use Rattle.lwkt_port.proofs.SameLanes.{lanes_none}
 
-pub tied : (from to : ℕ) (s p : Post) (outs outs' : List LaneOut) (ins ins' : List LaneIn) → (cpu_of s.seat).0 ≡ from → (cpu_of p.seat).0 ≡ to → ArePaired outs ins s.lanes → ArePaired outs' ins' p.lanes → AreWired from to outs outs' ins ins' → AreJoined s p
+pub tied : (from to : ℕ) (s p : Post) (outs outs' : List LaneOut) (ins ins' : List LaneIn) → (desk_cpu s.seat).0 ≡ from → (desk_cpu p.seat).0 ≡ to → ArePaired outs ins s.lanes → ArePaired outs' ins' p.lanes → AreWired from to outs outs' ins ins' → AreJoined s p
 tied from to s p outs outs' ins ins' one two here there wired =
     let F : ℕ × ℕ → Type 0 = λ k. AreWired k.0 k.1 outs outs' ins ins' in
     opened_joined s p outs outs' ins ins' here there (subst F (λ i. (sym one i, sym two i)) wired)
 
-pub opened_cpu : (cpu : ℕ) (book : Shelf) (seat : Desk) (p : Post) → IsOpened cpu book seat → p.seat ≡ seat → (cpu_of p.seat).0 ≡ cpu
-opened_cpu cpu book seat p opened is = ap (λ (d : Desk). (cpu_of d).0) is ∙ ap (λ k. (seat_cpu k).0) opened.kind
+pub opened_cpu : (cpu : ℕ) (book : Shelf) (seat : Desk) (p : Post) → IsOpened cpu book seat → p.seat ≡ seat → (desk_cpu p.seat).0 ≡ cpu
+opened_cpu cpu book seat p opened is = ap (λ (d : Desk). (desk_cpu d).0) is ∙ ap (λ k. (seat_cpu k).0) opened.kind
 
 pub post_stays : (p : Post) → IsSamePost p p
 post_stays p = record { seat = same_none p.seat; lanes = lanes_none p.lanes; threads = refl }
@@ -31,8 +31,8 @@ opened_tied book seat other s p outs ins' ins outs' own there back hers own_in b
     let G : List LaneOut × List LaneIn → Type 0 = λ l. ArePaired l.0 l.1 p.lanes in
     let a : ArePaired (own ∷ there ∷ []) (own_in ∷ back_in ∷ []) s.lanes = subst F (λ k. (o k, i k)) here in
     let b : ArePaired (back ∷ hers ∷ []) (there_in ∷ hers_in ∷ []) p.lanes = subst G (λ k. (o' k, i' k)) behind in
-    let mine : (cpu_of s.seat).0 ≡ 0 = opened_cpu 0 book seat s one first in
-    let its : (cpu_of p.seat).0 ≡ 1 = opened_cpu 1 book other p two second in
+    let mine : (desk_cpu s.seat).0 ≡ 0 = opened_cpu 0 book seat s one first in
+    let its : (desk_cpu p.seat).0 ≡ 1 = opened_cpu 1 book other p two second in
     let across : AreWired 0 1 (own ∷ there ∷ []) (back ∷ hers ∷ []) (own_in ∷ back_in ∷ []) (there_in ∷ hers_in ∷ []) = record { out_there = omega arith; line_there = omega arith; in_back = omega arith; line_back = omega arith; one = λ x y. joined } in
     let around : AreWired 1 1 (back ∷ hers ∷ []) (back ∷ hers ∷ []) (there_in ∷ hers_in ∷ []) (there_in ∷ hers_in ∷ []) = record { out_there = omega arith; line_there = omega arith; in_back = omega arith; line_back = omega arith; one = λ x y. looped } in
     record {

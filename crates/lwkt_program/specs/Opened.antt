@@ -10,7 +10,7 @@ use Rattle.lwkt_bank.specs.declared.seats.CpuSeat.{CpuSeat}
 use Rattle.lwkt_bank.specs.Gathered.{IsNew}
 use Rattle.lwkt_bank.specs.Opened.{plans_of}
 use Rattle.lwkt_bank.specs.Seats.{BankId, bank_of}
-use Rattle.lwkt_msg.specs.Desks.{Shelf, cpu_of, IsOpened}
+use Rattle.lwkt_msg.specs.Desks.{Shelf, desk_cpu, IsOpened}
 use Rattle.lwkt_port.specs.Openings.{new_mail, AreNewPorts}
 use Rattle.lwkt_cpu.specs.Driving.{none_driven}
 use Rattle.lwkt_cpu.specs.Fresh.{fresh}
@@ -33,7 +33,7 @@ pub record IsOpenedCpu {B : Type 0} (bank : BankId) (book : Shelf) (cpu : ℕ) (
   pub seat : IsSeat bank cpu d.cpu.seat
   pub desk : IsOpened cpu book d.cpu.post.seat
   pub ports : AreNewPorts (length bodies) d.cpu.post.ports
-  pub mails : d.cpu.post.mails ≡ map (new_mail (cpu_of d.cpu.post.seat)) (map (λ (spec : MsgSpec). spec.origin) book.specs)
+  pub mails : d.cpu.post.mails ≡ map (new_mail (desk_cpu d.cpu.post.seat)) (map (λ (spec : MsgSpec). spec.origin) book.specs)
   pub bodies_are : d.cpu.bodies ≡ bodies
   pub threads_are : d.cpu.threads ≡ replicate (length bodies) fresh
   pub none_runs : d.cpu.running ≡ None

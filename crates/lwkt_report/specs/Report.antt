@@ -30,14 +30,14 @@ abbrev pub spaced : {A : Type 0} → (A → List ℕ) → List A → List ℕ
 spaced text parts = flat_map (λ part. codes " " ++ text part) parts
 
 -- the same, or a `-` after a space where there is no part
-abbrev pub listed : {A : Type 0} → (A → List ℕ) → List A → List ℕ
-listed text [] = codes " -"
-listed text (part ∷ parts) = spaced text (part ∷ parts)
+abbrev pub spaced_or_dash : {A : Type 0} → (A → List ℕ) → List A → List ℕ
+spaced_or_dash text [] = codes " -"
+spaced_or_dash text (part ∷ parts) = spaced text (part ∷ parts)
 
 -- the lines of some items, numbered from n
-abbrev pub numbered : {A : Type 0} → (ℕ → A → List ℕ) → ℕ → List A → List ℕ
-numbered line n [] = []
-numbered line n (item ∷ items) = line n item ++ numbered line (n + 1) items
+abbrev pub numbered_lines : {A : Type 0} → (ℕ → A → List ℕ) → ℕ → List A → List ℕ
+numbered_lines line n [] = []
+numbered_lines line n (item ∷ items) = line n item ++ numbered_lines line (n + 1) items
 
 -- `tally T A0 A1 ..`, for a Tally token alone
 abbrev pub tally_line : ℕ → Option (List ℕ) → List ℕ
@@ -56,7 +56,7 @@ record_line tok (Some blob) = codes "record " ++ decimal tok ++ codes " " ++ rec
 -- `token T gen G cells C0 C1 ..`, and then its tally line and its record line
 abbrev pub token_line : ℕ → TokenLine → List ℕ
 token_line tok line =
-    codes "token " ++ decimal tok ++ codes " gen " ++ decimal line.generation ++ codes " cells" ++ listed decimal line.cells ++ line_feed ++ tally_line tok line.tallies ++ record_line tok line.blob
+    codes "token " ++ decimal tok ++ codes " gen " ++ decimal line.generation ++ codes " cells" ++ spaced_or_dash decimal line.cells ++ line_feed ++ tally_line tok line.tallies ++ record_line tok line.blob
 
 -- where a message is
 abbrev pub owner_text : Owner → List ℕ
@@ -102,7 +102,7 @@ entry_text (Refused number) = codes "f=" ++ decimal number
 -- `thread P.T STATE list L log E`
 abbrev pub thread_line : ThreadLine → List ℕ
 thread_line line =
-    codes "thread " ++ decimal line.id.cpu.0 ++ codes "." ++ decimal line.id.thread ++ codes " " ++ state_text line.state ++ codes " list" ++ listed ref_text line.list ++ codes " log" ++ listed entry_text line.log ++ line_feed
+    codes "thread " ++ decimal line.id.cpu.0 ++ codes "." ++ decimal line.id.thread ++ codes " " ++ state_text line.state ++ codes " list" ++ spaced_or_dash ref_text line.list ++ codes " log" ++ spaced_or_dash entry_text line.log ++ line_feed
 
 -- `closed`, `lawful` or `unlawful INDEX`
 abbrev pub verdict_line : Verdict → List ℕ
@@ -113,9 +113,9 @@ verdict_line (Unlawful index) = codes "unlawful " ++ decimal index ++ line_feed
 -- the lines of a report but the last: the tokens, the messages, the threads
 unfoldable pub front_text : Closing → List ℕ
 front_text closing =
-    numbered token_line 0 closing.tokens.items ++ numbered message_line 0 closing.messages.items ++ flat_map thread_line closing.threads.items
+    numbered_lines token_line 0 closing.tokens.items ++ numbered_lines message_line 0 closing.messages.items ++ flat_map thread_line closing.threads.items
 
 -- the tokens, the messages, the threads, and what is said of the trace
 unfoldable pub report_text : Closing → List ℕ
 report_text closing =
-    numbered token_line 0 closing.tokens.items ++ numbered message_line 0 closing.messages.items ++ flat_map thread_line closing.threads.items ++ verdict_line closing.verdict
+    numbered_lines token_line 0 closing.tokens.items ++ numbered_lines message_line 0 closing.messages.items ++ flat_map thread_line closing.threads.items ++ verdict_line closing.verdict

@@ -1,5 +1,5 @@
 ghost use Rattle.std.specs.Prelude.{◌≡◌, ◌++◌, OnOk, string_bytes};
-ghost use Rattle.lwkt_report.specs.Report.{spaced, listed};
+ghost use Rattle.lwkt_report.specs.Report.{spaced, spaced_or_dash};
 
 use crate::parts::Shown;
 use std::alloc::AllocError;
@@ -17,7 +17,7 @@ pub(crate) fn show_spaced<S: Shown>(parts: &[S], out: &mut String) -> Result<(),
 
 /// Appends the parts, each after a space, or a `-` after a space where there is no part.
 pub(crate) fn show_listed<S: Shown>(parts: &[S], out: &mut String) -> Result<(), AllocError>
-    ensures { OnOk result (string_bytes out.new ≡ string_bytes out.old ++ listed S.text parts.now) }
+    ensures { OnOk result (string_bytes out.new ≡ string_bytes out.old ++ spaced_or_dash S.text parts.now) }
 {
     if parts.is_empty() {
         out.push_str(" -")

@@ -1,6 +1,6 @@
 ghost use Rattle.std.specs.Prelude.{◌≡◌, ◌++◌, OnOk, IfOk, IsOkUnless, string_bytes};
 ghost use Rattle.std.specs.List.{flat_map};
-ghost use Rattle.lwkt_report.specs.Report.{token_line, tally_line, record_line, message_line, thread_line, verdict_line, numbered, front_text, report_text};
+ghost use Rattle.lwkt_report.specs.Report.{token_line, tally_line, record_line, message_line, thread_line, verdict_line, numbered_lines, front_text, report_text};
 ghost use Rattle.lwkt_base.specs.Fault.{no_memory};
 
 use crate::closings::{Closing, ThreadLine, TokenLine, Verdict};
@@ -76,7 +76,7 @@ fn show_verdict(verdict: &Verdict, out: &mut String) -> Result<(), AllocError>
 }
 
 fn show_tokens(lines: &[TokenLine], out: &mut String) -> Result<(), AllocError>
-    ensures { OnOk result (string_bytes out.new ≡ string_bytes out.old ++ numbered token_line 0 lines.now) }
+    ensures { OnOk result (string_bytes out.new ≡ string_bytes out.old ++ numbered_lines token_line 0 lines.now) }
 {
     for (tok, line) in lines.iter().enumerate() {
         show_token(tok, line, out)?;
@@ -85,7 +85,7 @@ fn show_tokens(lines: &[TokenLine], out: &mut String) -> Result<(), AllocError>
 }
 
 fn show_messages(ends: &[MsgEnd], out: &mut String) -> Result<(), AllocError>
-    ensures { OnOk result (string_bytes out.new ≡ string_bytes out.old ++ numbered message_line 0 ends.now) }
+    ensures { OnOk result (string_bytes out.new ≡ string_bytes out.old ++ numbered_lines message_line 0 ends.now) }
 {
     for (message, end) in ends.iter().enumerate() {
         show_message(message, end, out)?;

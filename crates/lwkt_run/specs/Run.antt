@@ -4,8 +4,7 @@ use Rattle.std.specs.List.{list_all, range_with_len}
 use Rattle.std.specs.Io.KnownBytes.{Appends, Keeps}
 use Rattle.lwkt_base.specs.declared.faults.Fault.{Fault as Refusal}
 use Rattle.lwkt_base.specs.declared.faults.Fault.TheVariants.{Script as ScriptFault, NoPort, Memory, Limits, LawBroken}
-use Rattle.lwkt_base.specs.declared.threads.ThreadState.{ThreadState}
-use Rattle.lwkt_base.specs.declared.threads.ThreadState.TheVariants.{Ready, Waiting, Running, Exited, Faulted}
+use Rattle.lwkt_base.specs.Threads.{has_ended}
 use Rattle.lwkt_core.specs.declared.events.Event.{Event}
 use Rattle.lwkt_core.specs.declared.finals.Final.{Final}
 use Rattle.lwkt_core.specs.Machine.{Machine}
@@ -138,14 +137,6 @@ pub record MayClose (pace : Pace) (script : Script) (closing : Closing) : Type 0
   pub kinds : map (λ line. is_some line.tallies) closing.tokens.items ≡ map (λ spec. is_tally spec.law) script.tokens
   pub threads : map (λ line. line.id) closing.threads.items ≡ ids_of script.cpus script.threads
   pub judged : IsJudged pace script closing
-
--- whether a thread has ended
-abbrev pub has_ended : ThreadState → Bool
-has_ended Ready = false
-has_ended Waiting = false
-has_ended Running = false
-has_ended Exited = true
-has_ended (Faulted fault) = true
 
 -- how a run ended by what its report says: unlawful, or with every thread ended, or with its turns used up
 abbrev pub end_by : Verdict → Bool → End

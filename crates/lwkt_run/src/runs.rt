@@ -1,11 +1,12 @@
 ghost use Rattle.std.specs.Prelude.{◌≡◌, ◌⊎◌, ◌<◌, All, map, is_some, IfOk, IfErr, OnOk, Err, IsTrue, string_bytes};
 ghost use Rattle.std.specs.List.{list_all};
+ghost use Rattle.lwkt_base.specs.Threads.{has_ended};
 ghost use Rattle.lwkt_core.specs.Opening.{AreWithin, AllOpenLawfully};
 ghost use Rattle.lwkt_machine.specs.Opened.{AreFew};
 ghost use Rattle.lwkt_run.specs.Judging.{ids_of};
 ghost use Rattle.lwkt_run.specs.Running.{kept_in_record};
 ghost use Rattle.lwkt_run.specs.Values.{is_tally, AreValuesOf};
-ghost use Rattle.lwkt_run.specs.Run.{opening_of_script, RunsInRounds, RunsAlong, RunsAt, IsJudgedBy, MayClose, IsTurnsRun, IsOrderRun, DeclinesAlong, RefusesAlong, has_ended, end_told, HasRun, Declines, Refuses, Tells};
+ghost use Rattle.lwkt_run.specs.Run.{opening_of_script, RunsInRounds, RunsAlong, RunsAt, IsJudgedBy, MayClose, IsTurnsRun, IsOrderRun, DeclinesAlong, RefusesAlong, end_told, HasRun, Declines, Refuses, Tells};
 
 use crate::endings::{Left, left_by};
 use crate::lines::token_lines;
@@ -13,7 +14,7 @@ use crate::records::Record;
 use crate::reports::{Done, conclude};
 use crate::rounds::{make_rounds, make_turns};
 use crate::verdicts::{ends_of, plans_of, verdict_of};
-use lwkt_base::{Fault, ThreadState};
+use lwkt_base::Fault;
 use lwkt_core::{Event, Final, State};
 use lwkt_machine::Machine;
 use lwkt_report::{Closing, RunFault, Sink, Source, ThreadLine, Verdict, read_capped, report};
@@ -260,13 +261,7 @@ pub fn end_told(closing: &Closing) -> End
 fn all_ended(lines: &[ThreadLine]) -> bool
     ensures { result ≡ list_all (λ line. has_ended line.state) lines.now }
 {
-    lines.iter().all(|line| has_ended(line.state))
-}
-
-fn has_ended(state: ThreadState) -> bool
-    ensures { result ≡ has_ended state }
-{
-    matches!(state, ThreadState::Exited | ThreadState::Faulted(_))
+    lines.iter().all(|line| line.state.has_ended())
 }
 
 // Runs the script that the bytes are, to the text of its report.

@@ -30,12 +30,12 @@ each f before no_items = Ok before
 each f before (item d ds) = f before d >>= λ x. each f (before ++ x ∷ []) ds
 
 -- the fault of a script's bad part; of a want of memory nothing is said, and there is no other fault
-abbrev pub Fails : {Y : Type 0} → Fault → Result Y ℕ → Type 0
-Fails (Script place) read = read ≡ Err place
-Fails (Memory refused) read = Unit {0}
-Fails _ read = ⊥
+abbrev pub IsFaultOf : {Y : Type 0} → Fault → Result Y ℕ → Type 0
+IsFaultOf (Script place) read = read ≡ Err place
+IsFaultOf (Memory refused) read = Unit {0}
+IsFaultOf _ read = ⊥
 
 -- what a reader returned, seen by view, is what reading gives
 abbrev pub Gives : {X Y : Type 0} → (X → Y) → Result X Fault → Result Y ℕ → Type 0
 Gives view (Ok x) read = read ≡ Ok (view x)
-Gives view (Err fault) read = Fails fault read
+Gives view (Err fault) read = IsFaultOf fault read

@@ -95,8 +95,8 @@ flags_under priority n =
     if n == 3 then Some (record { dropable = true; abortable = true; priority = priority }) else None)))
 
 -- the same, and in the second version plus 4 for priority
-abbrev pub flags_of : Version → ℕ → Option Flags
-flags_of version n = if nat_lt n 4 then flags_under false n else (if is_second version then flags_under true (n - 4) else None)
+abbrev pub flags_by_number : Version → ℕ → Option Flags
+flags_by_number version n = if nat_lt n 4 then flags_under false n else (if is_second version then flags_under true (n - 4) else None)
 
 -- the ask of a word with what is sent
 abbrev pub with_sending : List ℕ → Sending → Option Ask
@@ -114,7 +114,7 @@ asked version word count d =
     if count == 3 then (small_at 1 d >>= λ tok. with_item version word tok d) else (
     if count == 4 then (small_at 1 d >>= λ first. whole_at 2 d >>= λ n. whole_at 3 d >>= with_numbers word first n) else (
     if count == 6 then (sending_in d >>= with_sending word) else (
-    if count == 7 then (sending_in d >>= λ s. (whole_at 6 d >>= flags_of version) >>= with_flags word s) else None)))))
+    if count == 7 then (sending_in d >>= λ s. (whole_at 6 d >>= flags_by_number version) >>= with_flags word s) else None)))))
 
 -- the ask of a step: a word, and the numbers that go with it
 abbrev pub ask_of : Version → Data → Option Ask

@@ -1,7 +1,7 @@
 ghost use Rattle.std.specs.Prelude.{◌≡◌, ◌≤◌, ◌<◌, length, [], IfOk};
 ghost use Rattle.serde_json.specs.View.{view, items_view};
 ghost use Rattle.lwkt_script.specs.Outcome.{Gives, each};
-ghost use Rattle.lwkt_script.specs.Step.{small_at, code_at, whole_at, alone, with_one, with_one_in, with_number, takes_record, storing, with_item, with_numbers, sending_in, flags_under, flags_of, with_sending, with_flags, asked, ask_of};
+ghost use Rattle.lwkt_script.specs.Step.{small_at, code_at, whole_at, alone, with_one, with_one_in, with_number, takes_record, storing, with_item, with_numbers, sending_in, flags_under, flags_by_number, with_sending, with_flags, asked, ask_of};
 ghost use Rattle.lwkt_script.specs.Format.{step};
 
 use crate::fields::{item_count, number};
@@ -163,7 +163,7 @@ fn flags_under(priority: bool, n: u64) -> Option<Flags>
 
 // The same, and plus 4 for priority.
 fn flags_of(version: Version, n: u64) -> Option<Flags>
-    ensures { result ≡ flags_of version n }
+    ensures { result ≡ flags_by_number version n }
 {
     if n < 4 {
         return flags_under(false, n);

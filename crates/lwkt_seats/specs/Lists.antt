@@ -8,7 +8,7 @@ use Rattle.lwkt_base.specs.declared.names.Ref.{Ref}
 use Rattle.lwkt_base.specs.declared.holdings.Held.TheVariants.{Nothing, Holds}
 use Rattle.lwkt_base.specs.declared.words.Decision.TheVariants.{Held as IsHeld, Marked as IsMarked, Worn as IsWorn}
 use Rattle.lwkt_base.specs.Holding.{is_held, holding_of, holds_nothing}
-use Rattle.lwkt_base.specs.Refs.{is_to, first_mode, IsLawful as IsLawfulList}
+use Rattle.lwkt_base.specs.Refs.{is_to, first_mode, IsLawfulList}
 use Rattle.lwkt_bank.specs.declared.seats.CpuSeat.{CpuSeat}
 use Rattle.lwkt_bank.specs.declared.answers.Given.TheVariants.{One, Clean}
 use Rattle.lwkt_bank.specs.Views.{more}

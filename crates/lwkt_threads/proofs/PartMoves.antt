@@ -14,7 +14,7 @@ use Rattle.lwkt_core.specs.Events.{cpu_of}
 use Rattle.lwkt_ask.specs.Telling.{TellsMail}
 use Rattle.lwkt_bank.specs.Seats.{BankId}
 use Rattle.lwkt_hold.specs.Runs.{Ran}
-use Rattle.lwkt_msg.specs.Desks.{Shelf, cpu_of as desk_cpu}
+use Rattle.lwkt_msg.specs.Desks.{Shelf, desk_cpu}
 use Rattle.lwkt_msg.specs.Views.{seat_cpu}
 use Rattle.lwkt_port.specs.Chains.{Chain}
 use Rattle.lwkt_cpu.specs.Processors.{Processor}

@@ -17,7 +17,7 @@ use Rattle.lwkt_msg.specs.declared.views.View.{View}
 use Rattle.lwkt_msg.specs.Views.{word_at, at, page_of, spent_view}
 use Rattle.lwkt_msg.specs.Book.{Knows, first_view, mail_at}
 use Rattle.lwkt_msg.specs.Told.{Told}
-use Rattle.lwkt_msg.specs.Desks.{Desk, Shelf, desk, cpu_of, past_of}
+use Rattle.lwkt_msg.specs.Desks.{Desk, Shelf, desk, desk_cpu, past_of}
 use Rattle.lwkt_msg.specs.Laws.{RuleShowsSafety, EachSendAtMostOnce, StatesAreReached, SpentIsNoDeed}
 use Rattle.lwkt_tie.specs.Mails.{IsMailNow, IsMailBeside, finds_mail, finds_mail_beside, IsSoundBook, IsMailFound, IsMailFoundBeside}
 
@@ -70,20 +70,20 @@ found safety once reached book m n there now =
     record { now = now; sound = sound safety once reached now.key now.state now.told; picture = now.is ∙ (now.told.rule.book.each m low).is_word }
 
 -- and one that was found beside a seat
-module _ (book : Shelf) (seat : Seat Rec View) (kind : seat.me.0.kind ≡ Of (cpu_of (desk seat))) (m n : ℕ) (beside : IsMailBeside book.specs book.cpus seat.me.0 (word_at m) n) where
+module _ (book : Shelf) (seat : Seat Rec View) (kind : seat.me.0.kind ≡ Of (desk_cpu (desk seat))) (m n : ℕ) (beside : IsMailBeside book.specs book.cpus seat.me.0 (word_at m) n) where
   abbrev v : View
   v = seat.me.0
 
   abbrev now : IsMailNow book.specs book.cpus (word_at m) n
   now = beside.now
 
-  knows_there : (other : ℕ) → other < length book.specs → Knows (mail_at now.told.rule.mails other) (Of (cpu_of (desk seat))) (at v other)
+  knows_there : (other : ℕ) → other < length book.specs → Knows (mail_at now.told.rule.mails other) (Of (desk_cpu (desk seat))) (at v other)
   knows_there other there =
       let low : other < length now.key.specs.items = subst (λ (specs : List MsgSpec). other < length specs) (sym now.specs_are) there in
       subst (λ (k : SeatKind). Knows (mail_at now.told.rule.mails other) k (at v other)) kind ((now.told.rule.book.each other low).each_view beside.at v beside.here)
 
-  past_there : IsPastOf now.told.chronicle.history (cpu_of (desk seat)).0 (past_of (desk seat))
-  past_there = now.told.chronicle.parts (cpu_of (desk seat)) v.past (inl (record { at = beside.at; page = page_of v; here = at_map page_of now.state.views beside.at v beside.here; kind = kind; seen = refl }))
+  past_there : IsPastOf now.told.chronicle.history (desk_cpu (desk seat)).0 (past_of (desk seat))
+  past_there = now.told.chronicle.parts (desk_cpu (desk seat)) v.past (inl (record { at = beside.at; page = page_of v; here = at_map page_of now.state.views beside.at v beside.here; kind = kind; seen = refl }))
 
   found_here : RuleShowsSafety → EachSendAtMostOnce → StatesAreReached → m < length book.specs → IsMailFoundBeside book (desk seat) m n
   unfolding found
@@ -91,11 +91,11 @@ module _ (book : Shelf) (seat : Seat Rec View) (kind : seat.me.0.kind ≡ Of (cp
     seen = found safety once reached book m n there now;
     knows = knows_there;
     past = past_there;
-    events = events_by-past now.told.chronicle.history (cpu_of (desk seat)).0 v.past past_there;
-    steps = steps_by-past now.told.chronicle.history (cpu_of (desk seat)).0 v.past past_there;
+    events = events_by-past now.told.chronicle.history (desk_cpu (desk seat)).0 v.past past_there;
+    steps = steps_by-past now.told.chronicle.history (desk_cpu (desk seat)).0 v.past past_there;
   }
 
-pub found_beside : RuleShowsSafety → EachSendAtMostOnce → StatesAreReached → (book : Shelf) (d : Desk) (seat : Seat Rec View) → desk seat ≡ d → seat.me.0.kind ≡ Of (cpu_of d) → (m n : ℕ) → m < length book.specs → IsMailBeside book.specs book.cpus seat.me.0 (word_at m) n → IsMailFoundBeside book d m n
+pub found_beside : RuleShowsSafety → EachSendAtMostOnce → StatesAreReached → (book : Shelf) (d : Desk) (seat : Seat Rec View) → desk seat ≡ d → seat.me.0.kind ≡ Of (desk_cpu d) → (m n : ℕ) → m < length book.specs → IsMailBeside book.specs book.cpus seat.me.0 (word_at m) n → IsMailFoundBeside book d m n
 found_beside safety once reached book d seat is kind m n there beside =
-    let own : seat.me.0.kind ≡ Of (cpu_of (desk seat)) = subst (λ (x : Desk). seat.me.0.kind ≡ Of (cpu_of x)) (sym is) kind in
+    let own : seat.me.0.kind ≡ Of (desk_cpu (desk seat)) = subst (λ (x : Desk). seat.me.0.kind ≡ Of (desk_cpu x)) (sym is) kind in
     subst (λ (x : Desk). IsMailFoundBeside book x m n) is (found_here book seat own m n beside safety once reached there)

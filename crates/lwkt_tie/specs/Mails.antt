@@ -15,7 +15,7 @@ use Rattle.lwkt_msg.specs.Views.{word_at}
 use Rattle.lwkt_msg.specs.Book.{Knows, IsBook, mail_at, parts_of}
 use Rattle.lwkt_msg.specs.Steps.{machine_of}
 use Rattle.lwkt_msg.specs.Told.{Told, first_mails}
-use Rattle.lwkt_msg.specs.Desks.{Desk, Shelf, cpu_of, entry, past_of, events_of, steps_of}
+use Rattle.lwkt_msg.specs.Desks.{Desk, Shelf, desk_cpu, entry, past_of, events_of, steps_of}
 
 -- a word of the table is this number in a state of the book's rule, of a book that was declared so
 pub record IsMailNow (specs : List MsgSpec) (cpus word found : ℕ) : Type 0 where
@@ -59,7 +59,7 @@ pub record IsMailFound (book : Shelf) (m found : ℕ) : Type 0 where
 -- events and steps are all that are its processor's
 pub record IsMailFoundBeside (book : Shelf) (d : Desk) (m found : ℕ) : Type 0 where
   pub seen : IsMailFound book m found
-  pub knows : (other : ℕ) → other < length book.specs → Knows (mail_at seen.now.told.rule.mails other) (Of (cpu_of d)) (entry d other)
-  pub past : IsPastOf seen.now.told.chronicle.history (cpu_of d).0 (past_of d)
-  pub events : events_by (cpu_of d).0 seen.now.told.chronicle.history ≡ events_of d
-  pub steps : steps_by (cpu_of d).0 seen.now.told.chronicle.history ≡ steps_of d
+  pub knows : (other : ℕ) → other < length book.specs → Knows (mail_at seen.now.told.rule.mails other) (Of (desk_cpu d)) (entry d other)
+  pub past : IsPastOf seen.now.told.chronicle.history (desk_cpu d).0 (past_of d)
+  pub events : events_by (desk_cpu d).0 seen.now.told.chronicle.history ≡ events_of d
+  pub steps : steps_by (desk_cpu d).0 seen.now.told.chronicle.history ≡ steps_of d

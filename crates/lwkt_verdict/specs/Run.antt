@@ -1,6 +1,7 @@
 -- A run of a script over a lawful trace (own).
 use Rattle.std.specs.Prelude.{◌≡◌, ℕ, unwrap_or, ◌+◌, ◌-◌, ◌*◌, ◌%◌, ◌<◌, ◌≤◌, ◌⊎◌, Bool, true, false, List, [], ◌∷◌, ◌++◌, length, take, drop, All, slice_get, Option, MatchOption, option_and_then, is_some}
 use Rattle.std.specs.Option.{option_map_or}
+use Rattle.lwkt_base.specs.Threads.{has_ended}
 use Rattle.lwkt_core.specs.declared.events.Event.{Event}
 use Rattle.lwkt_core.specs.Events.{cpu_of}
 use Rattle.lwkt_core.specs.Machine.{Machine}
@@ -16,7 +17,7 @@ use Rattle.lwkt_verdict.specs.declared.progress.Piece.{Piece}
 use Rattle.lwkt_verdict.specs.Asks.{may_answer}
 use Rattle.lwkt_verdict.specs.Owns.{has_blocked}
 use Rattle.lwkt_verdict.specs.Parts.{after_all, GoesQuietly, IsPartOf}
-use Rattle.lwkt_verdict.specs.Threads.{slot_of, thread_of, line_of, asked_by, progress_of, MayAsk, IsLogged, Rests, Ends, has_ended}
+use Rattle.lwkt_verdict.specs.Threads.{slot_of, thread_of, line_of, asked_by, progress_of, MayAsk, IsLogged, Rests, Ends}
 
 -- the poll of a turn, by its place among the polls
 abbrev pub poll_of : List Poll → Turn → Option Poll

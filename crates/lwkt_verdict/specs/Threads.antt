@@ -123,10 +123,3 @@ Ends None (Some line) p = ⊥
 Ends (Some plan) None p = ⊥
 Ends (Some plan) (Some line) p = EndsAs line p
 
--- whether a thread has ended
-abbrev pub has_ended : ThreadState → Bool
-has_ended Ready = false
-has_ended Waiting = false
-has_ended Running = false
-has_ended Exited = true
-has_ended (Faulted fault) = true

@@ -1,11 +1,11 @@
 ghost use Rattle.std.specs.Prelude.{◌≡◌, ◌<◌, ◌≤◌, ◌+◌, ◌*◌, ◌-◌, ◌%◌, ◌↔◌, IsTrue, true, false, All, length, is_some};
-ghost use Rattle.lwkt_verdict.specs.Threads.{slot_of, has_ended};
+ghost use Rattle.lwkt_base.specs.Threads.{has_ended};
+ghost use Rattle.lwkt_verdict.specs.Threads.{slot_of};
 ghost use Rattle.lwkt_verdict.specs.Run.{poll_of, whose, AreListed, EndsEarly, GoesRound, AreRounds, KeepsPace};
 
 use crate::plans::slot_of;
 use crate::poll_lists::PollList;
 use crate::turns::{Pace, ThreadEnd, Turn, poll_of};
-use lwkt_base::ThreadState;
 
 // Whether a line is of a thread that can be, and comes after those before it.
 fn is_listed(cpus: usize, least: usize, line: &ThreadEnd) -> bool
@@ -28,18 +28,11 @@ pub fn are_listed(cpus: usize, lines: &[ThreadEnd]) -> bool
     true
 }
 
-// Whether a thread has ended.
-fn has_ended(state: ThreadState) -> bool
-    ensures { result ≡ has_ended state }
-{
-    matches!(state, ThreadState::Exited | ThreadState::Faulted(_))
-}
-
 // Whether every thread has ended.
 fn all_ended(lines: &[ThreadEnd]) -> bool
     ensures { IsTrue result ↔ All (λ line. has_ended line.state ≡ true) lines.now }
 {
-    lines.iter().all(|line| has_ended(line.state))
+    lines.iter().all(|line| line.state.has_ended())
 }
 
 // Whether no turn has an ask.

@@ -3,7 +3,7 @@ use Rattle.std.specs.Prelude.{Result}
 use Rattle.lwkt_base.specs.declared.asks.Item.{Item}
 use Rattle.lwkt_base.specs.declared.asks.Answer.{Answer}
 use Rattle.lwkt_base.specs.declared.faults.Fault.{Fault}
-use Rattle.lwkt_msg.specs.Desks.{cpu_of}
+use Rattle.lwkt_msg.specs.Desks.{desk_cpu}
 use Rattle.lwkt_ask.specs.Nexts.{next_with}
 use Rattle.lwkt_ask.specs.declared.nexts.Next.TheVariants.{Runs}
 use Rattle.lwkt_ask.specs.Mailing.{WaitsItem}
@@ -23,7 +23,7 @@ returns-in-Ok-Some-clause-waits c =
     }
 
 pub returns-in-Ok-Some-clause-ran : goal.returns-in-Ok-Some-clause-ran
-returns-in-Ok-Some-clause-ran c = ran_mail_held c.args.list.now (cpu_of c.args.ports.now.seat) 128 320 c.args.hold.now.seat c.args.trace.now c.get.new.trace (omega arith) c.requires.mine c.requires.held c.get.ensures.grew
+returns-in-Ok-Some-clause-ran c = ran_mail_held c.args.list.now (desk_cpu c.args.ports.now.seat) 128 320 c.args.hold.now.seat c.args.trace.now c.get.new.trace (omega arith) c.requires.mine c.requires.held c.get.ensures.grew
 
 pub returns-in-Ok-None-clause-waits : goal.returns-in-Ok-None-clause-waits
 returns-in-Ok-None-clause-waits c =
@@ -36,7 +36,7 @@ returns-in-Ok-None-clause-waits c =
     }
 
 pub returns-in-Ok-None-clause-ran : goal.returns-in-Ok-None-clause-ran
-returns-in-Ok-None-clause-ran c = ran_mail_left c.args.list.now (cpu_of c.args.ports.now.seat) 128 c.args.hold.now.seat c.leave.new.hold.seat c.args.trace.now c.get.new.trace c.leave.new.trace (omega arith) c.requires.mine c.requires.held c.get.ensures.grew c.leave.ensures.ran
+returns-in-Ok-None-clause-ran c = ran_mail_left c.args.list.now (desk_cpu c.args.ports.now.seat) 128 c.args.hold.now.seat c.leave.new.hold.seat c.args.trace.now c.get.new.trace c.leave.new.trace (omega arith) c.requires.mine c.requires.held c.get.ensures.grew c.leave.ensures.ran
 
 pub returns-in-Err-clause-waits : goal.returns-in-Err-clause-waits
 returns-in-Err-clause-waits c =
@@ -52,13 +52,13 @@ returns-in-Err-clause-waits c =
 pub returns-in-Err-clause-ran : goal.returns-in-Err-clause-ran
 returns-in-Err-clause-ran c =
     let l = c.leave-in-Err in
-    ran_mail_left c.args.list.now (cpu_of c.args.ports.now.seat) 128 c.args.hold.now.seat l.new.hold.seat c.args.trace.now c.get.new.trace l.new.trace (omega arith) c.requires.mine c.requires.held c.get.ensures.grew l.ensures.ran
+    ran_mail_left c.args.list.now (desk_cpu c.args.ports.now.seat) 128 c.args.hold.now.seat l.new.hold.seat c.args.trace.now c.get.new.trace l.new.trace (omega arith) c.requires.mine c.requires.held c.get.ensures.grew l.ensures.ran
 
 pub returns-in-Ok-Some-clause-told : goal.returns-in-Ok-Some-clause-told
 returns-in-Ok-Some-clause-told c =
     let p = c.args.ports.now.seat in
     let m = c.get in
-    mail_told (cpu_of p) 128 p m.new.self.seat c.args.trace.now m.new.trace m.ensures.told m.ensures.grew
+    mail_told (desk_cpu p) 128 p m.new.self.seat c.args.trace.now m.new.trace m.ensures.told m.ensures.grew
 
 pub returns-in-Ok-None-clause-told : goal.returns-in-Ok-None-clause-told
 returns-in-Ok-None-clause-told c =
@@ -66,7 +66,7 @@ returns-in-Ok-None-clause-told c =
     let m = c.get in
     let l = c.leave in
     mail_quiet p m.new.self.seat m.new.self.seat c.args.trace.now.items m.new.trace.items l.new.trace.items
-    (mail_told (cpu_of p) 128 p m.new.self.seat c.args.trace.now m.new.trace m.ensures.told m.ensures.grew)
+    (mail_told (desk_cpu p) 128 p m.new.self.seat c.args.trace.now m.new.trace m.ensures.told m.ensures.grew)
     (given_quiet _ _ _ _ m.new.trace l.new.trace _ _ (l.ensures.gives_up c.args.last.now)) refl
 
 pub returns-in-Err-clause-told : goal.returns-in-Err-clause-told
@@ -75,5 +75,5 @@ returns-in-Err-clause-told c =
     let m = c.get in
     let l = c.leave-in-Err in
     mail_quiet p m.new.self.seat m.new.self.seat c.args.trace.now.items m.new.trace.items l.new.trace.items
-    (mail_told (cpu_of p) 128 p m.new.self.seat c.args.trace.now m.new.trace m.ensures.told m.ensures.grew)
+    (mail_told (desk_cpu p) 128 p m.new.self.seat c.args.trace.now m.new.trace m.ensures.told m.ensures.grew)
     (given_quiet _ _ _ _ m.new.trace l.new.trace _ _ (l.ensures.gives_up c.args.last.now)) refl

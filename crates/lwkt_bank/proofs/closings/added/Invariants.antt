@@ -1,7 +1,7 @@
 use Rattle.std.proofs.Common.{◌≡◌, take}
 use Rattle.std.specs.Prelude.{sum_by}
-use Rattle.lwkt_bank.specs.Closing.{kept_of}
+use Rattle.lwkt_bank.specs.Closing.{kept_tally}
 use Rattle.lwkt_bank.proofs.closings.added.Given as goal
 
 abbrev pub invariant-loop-one : goal.invariant-loop-one
-invariant-loop-one l = l.sum ≡ sum_by (kept_of l.tok l.cpu) (take l.one-index l.kept)
+invariant-loop-one l = l.sum ≡ sum_by (kept_tally l.tok l.cpu) (take l.one-index l.kept)

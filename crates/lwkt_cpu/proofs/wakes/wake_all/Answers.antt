@@ -1,7 +1,7 @@
 use Rattle.std.proofs.Common.{◌≡◌, ◌+◌, ◌*◌, ◌<◌, length, get_or, set, refl, ap, arith, Some}
 use Rattle.std.specs.Prelude.{slice_get}
 use Rattle.std.proofs.lemmas.Option.{slice_get-get_or}
-use Rattle.lwkt_msg.specs.Desks.{cpu_of, messages_of}
+use Rattle.lwkt_msg.specs.Desks.{desk_cpu, messages_of}
 use Rattle.lwkt_port.proofs.Chaining.{chain_none, chain_more}
 use Rattle.lwkt_port.proofs.Growing.{grew_none}
 use Rattle.lwkt_port.proofs.Telling.{tells_none, tells_then}
@@ -14,7 +14,7 @@ loop-at-init c = record {
   wakes = chain_none Ward WakesAt (ward c.args.ports.now c.args.threads.now c.args.trace.now);
   woken = woken_none c.args.threads.now;
   same = post_none c.args.ports.now;
-  grew = grew_wider (cpu_of c.args.ports.now.seat) 0 (128 * 0) c.args.trace.now c.args.trace.now (omega arith) (grew_none (cpu_of c.args.ports.now.seat) c.args.trace.now);
+  grew = grew_wider (desk_cpu c.args.ports.now.seat) 0 (128 * 0) c.args.trace.now c.args.trace.now (omega arith) (grew_none (desk_cpu c.args.ports.now.seat) c.args.trace.now);
   told = tells_none c.args.ports.now.seat c.args.trace.now.items;
 }
 

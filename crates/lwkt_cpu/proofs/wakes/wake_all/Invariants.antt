@@ -1,5 +1,5 @@
 use Rattle.std.proofs.Common.{◌*◌}
-use Rattle.lwkt_msg.specs.Desks.{cpu_of}
+use Rattle.lwkt_msg.specs.Desks.{desk_cpu}
 use Rattle.lwkt_port.specs.Chains.{Chain}
 use Rattle.lwkt_port.specs.Posts.{IsSamePost}
 use Rattle.lwkt_port.specs.Tellings.{Tells}
@@ -12,6 +12,6 @@ invariant-loop-at l = record {
   wakes : Chain Ward WakesAt l.at (ward l.initial.ports l.initial.threads l.initial.trace) (ward l.ports l.threads l.trace);
   woken : AreWoken l.initial.threads l.threads;
   same : IsSamePost l.initial.ports l.ports;
-  grew : Grew (cpu_of l.initial.ports.seat) (128 * l.at) l.initial.trace l.trace;
+  grew : Grew (desk_cpu l.initial.ports.seat) (128 * l.at) l.initial.trace l.trace;
   told : Tells l.initial.ports.seat l.ports.seat l.initial.trace.items l.trace.items;
 }

@@ -5,15 +5,15 @@ use Rattle.lwkt_base.specs.declared.names.CpuId.{CpuId}
 use Rattle.lwkt_core.specs.declared.events.Event.{Event}
 use Rattle.lwkt_bank.specs.Seats.{holding}
 use Rattle.lwkt_hold.proofs.GiveMoves.{stores, not_tally, same_else, stored_ran, stored_kept, stores_first}
-use Rattle.lwkt_hold.specs.Rows.{writes, writes_record}
+use Rattle.lwkt_hold.specs.Rows.{write_events, record_write_events}
 use Rattle.lwkt_hold.proofs.gives.restore.Goals as goal
 
 pub returns-clause-ran : goal.returns-clause-ran
 returns-clause-ran c =
     let r = c.restore-stored.ensures.restored (not_tally c.args.seat.now c.args.tok.0 c.requires.broken.broken) in
     let stored = c.restore-stored.result in
-    let first = writes c.args.cpu c.args.tok 0 stored.cells in
-    let last = writes_record c.args.cpu c.args.tok stored.blob in
+    let first = write_events c.args.cpu c.args.tok 0 stored.cells in
+    let last = record_write_events c.args.cpu c.args.tok stored.blob in
     let both : length (first ++ last) ≡ length first + length last = length-append first last in
     let one = c.note_cells.ensures.longer in
     let two = c.note_record.ensures.longer in
@@ -32,8 +32,8 @@ returns-clause-stored c =
     let r = c.restore-stored.ensures.restored (not_tally c.args.seat.now c.args.tok.0 c.requires.broken.broken) in
     let s = c.args.seat.now in
     let stored = c.restore-stored.result in
-    let first = writes c.args.cpu c.args.tok 0 stored.cells in
-    let last = writes_record c.args.cpu c.args.tok stored.blob in (
+    let first = write_events c.args.cpu c.args.tok 0 stored.cells in
+    let last = record_write_events c.args.cpu c.args.tok stored.blob in (
       stores s.cpu c.args.tok stored.cells stored.blob,
       (
         c.note_record.ensures.items ∙ ap (λ (xs : List Event). xs ++ last) c.note_cells.ensures.items ∙ append_assoc c.args.trace.now.items first last
@@ -45,7 +45,7 @@ returns-clause-stored c =
             (
               stores_first s c.restore-stored.new.self c.args.tok.0 stored.cells stored.blob r,
               r.puts,
-              ap (λ (xs : List Event). writes s.cpu c.args.tok 0 stored.cells ++ xs) (sym (append-nil (writes_record s.cpu c.args.tok stored.blob))),
+              ap (λ (xs : List Event). write_events s.cpu c.args.tok 0 stored.cells ++ xs) (sym (append-nil (record_write_events s.cpu c.args.tok stored.blob))),
             ),
           ),
         ),

@@ -5,8 +5,8 @@ use Rattle.std.proofs.lemmas.List.Elements.{All-more, All-from_recursion}
 use Rattle.std.proofs.lemmas.Option.{slice_get-get_or}
 use Rattle.std.proofs.lemmas.Grind.{common_steps}
 use Rattle.lwkt_base.specs.declared.names.Ref.{Ref}
-use Rattle.lwkt_base.specs.Refs.{IsLawful}
-use Rattle.lwkt_base.proofs.RefsLemmas.{IsLawful-push}
+use Rattle.lwkt_base.specs.Refs.{IsLawfulList}
+use Rattle.lwkt_base.proofs.RefsLemmas.{IsLawfulList-push}
 use Rattle.lwkt_bank.specs.Seats.{id_of}
 use Rattle.lwkt_seats.specs.declared.references.LwktReference.{LwktReference}
 use Rattle.lwkt_seats.specs.Lists.{ref_of, refs_of, IsReference, IsList, Unlists}
@@ -19,7 +19,7 @@ unused = record { token = 0; mode = 0 }
 front_more : (refs : List LwktReference) (i : ℕ) (d : LwktReference) → i < length refs → take (i + 1) refs ≡ take i refs ++ (get_or refs i d ∷ [])
 front_more refs i d within = grind (arith, common_steps)
 
-nothing_lawful : IsLawful []
+nothing_lawful : IsLawfulList []
 nothing_lawful = λ tok shared. cc
 
 pub loop-at-init : goal.loop-at-init
@@ -44,11 +44,11 @@ loop-at-preserved c =
       | inl less ↦ omega (arith, long, less)
       | inr full ↦ absurd (c.in_default.ensures.room (kept ∙ (omega (arith, few, full))))
     ] in
-    let F : List Ref → Type 0 = λ xs. IsLawful xs in
-    let before : IsLawful l.list = subst F (sym l.invariant.listed) l.invariant.is_list.2 in
+    let F : List Ref → Type 0 = λ xs. IsLawfulList xs in
+    let before : IsLawfulList l.list = subst F (sym l.invariant.listed) l.invariant.is_list.2 in
     let follows = c.in_default.ensures.follows in
-    let pushed : IsLawful (l.list ++ ref_of r ∷ []) = IsLawful-push l.list (ref_of r) before (λ exclusive shared. follows (omega (arith, kept, few, c.in_default.ensures.room)) (exclusive, shared)) in
-    let lawful : IsLawful (refs_of (take (l.at + 1) refs)) = subst F (sym ok.1 ∙ listed) pushed in
+    let pushed : IsLawfulList (l.list ++ ref_of r ∷ []) = IsLawfulList-push l.list (ref_of r) before (λ exclusive shared. follows (omega (arith, kept, few, c.in_default.ensures.room)) (exclusive, shared)) in
+    let lawful : IsLawfulList (refs_of (take (l.at + 1) refs)) = subst F (sym ok.1 ∙ listed) pushed in
     record {
       listed = listed;
       is_list = (All-more (IsReference (id_of c.args.bank.now)) refs l.at unused within l.invariant.is_list.0 ok.0, room, lawful);

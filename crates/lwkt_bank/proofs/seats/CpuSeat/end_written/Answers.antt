@@ -1,7 +1,7 @@
 use Rattle.std.proofs.Common.{refl, ◌∙◌, length-set}
 use Rattle.lwkt_bank.specs.Notes.{note_at}
 use Rattle.lwkt_bank.specs.Seats.{entry}
-use Rattle.lwkt_bank.specs.Views.{ended, section_of}
+use Rattle.lwkt_bank.specs.Views.{ended, ended_section}
 use Rattle.lwkt_bank.proofs.NoteMoves.{IsNoted-nothing}
 use Rattle.lwkt_bank.proofs.ChangeMoves.{changed, keeps_changed, room_of, put_hands, entry_tok}
 use Rattle.lwkt_bank.specs.Deeds.{gives_written}
@@ -22,7 +22,7 @@ pub returns-clause-stepped : goal.returns-clause-stepped
 returns-clause-stepped c =
     let s = c.args.self.now in
     let t = c.args.tok.0 in
-    record { found = c.give_written-found.result; changes = changed s _ t (ended (entry s t)) c.give_written-found.ensures.gives.0 (λ cpu. gives_written (section_of t (entry s t)) cpu t c.give_written-found.result) c.give_written-found.ensures.table refl refl c.give_written-found.ensures.gives.1.0 c.give_written-found.ensures.gives.1.1.1 (entry_tok s t) }
+    record { found = c.give_written-found.result; changes = changed s _ t (ended (entry s t)) c.give_written-found.ensures.gives.0 (λ cpu. gives_written (ended_section t (entry s t)) cpu t c.give_written-found.result) c.give_written-found.ensures.table refl refl c.give_written-found.ensures.gives.1.0 c.give_written-found.ensures.gives.1.1.1 (entry_tok s t) }
 
 pub returns-clause-generation : goal.returns-clause-generation
 returns-clause-generation c = c.generation_in.ensures ∙ c.give_written-found.ensures.gives.1.1.0

@@ -3,7 +3,7 @@ use Rattle.lwkt_hold.specs.Runs.{Ran}
 use Rattle.lwkt_ask.specs.Nexts.{next_with}
 use Rattle.lwkt_ask.proofs.TellMoves.{given_quiet}
 use Rattle.lwkt_cpu.specs.declared.threads.Thread.{Thread}
-use Rattle.lwkt_cpu.specs.Processors.{Processor, has_ended, processor_of}
+use Rattle.lwkt_cpu.specs.Processors.{Processor, is_over, processor_of}
 use Rattle.lwkt_cpu.specs.Searches.{IsOfOne}
 use Rattle.lwkt_cpu.specs.Stopping.{Halts}
 use Rattle.lwkt_cpu.proofs.RestMoves.{thread_at, placed}
@@ -22,7 +22,7 @@ invariant_of-self g c =
     let up = p.ensures.gives_up last in
     rest_posted {B = g.row.B.Denot} p.new.hold.seat i.ports c.close_port.new.self i.bodies.items (set i.threads.items place c.go_on.new.thread) None i.cursor c.close_port.ensures.same
     (rest_halted {B = g.row.B.Denot} i.hold.seat p.new.hold.seat i.ports i.bodies.items i.threads.items i.running i.cursor place c.go_on.new.thread c.self.invariant within p.ensures.ran.bank p.ensures.ran.cpu
-    (ap (λ (t : Thread). has_ended t.phase) c.go_on.ensures.becomes ∙ became_over c.index_mut-thread.result.now (next_with p.result last) up.blocked up.next_is)
+    (ap (λ (t : Thread). is_over t.phase) c.go_on.ensures.becomes ∙ became_over c.index_mut-thread.result.now (next_with p.result last) up.blocked up.next_is)
     (ap (λ (t : Thread). t.list) c.go_on.ensures.becomes ∙ became_empty c.index_mut-thread.result.now (next_with p.result last) up.blocked up.next_is)
     (ap (λ (t : Thread). t.busy) c.go_on.ensures.becomes ∙ became_free c.index_mut-thread.result.now (next_with p.result last) up.blocked up.next_is)
     p.ensures.empty)

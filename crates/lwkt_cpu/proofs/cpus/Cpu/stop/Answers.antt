@@ -5,7 +5,7 @@ use Rattle.lwkt_bank.specs.Seats.{holding}
 use Rattle.lwkt_hold.specs.Runs.{Ran}
 use Rattle.lwkt_hold.proofs.RunMoves.{ran_then, ran_weaker, ran_with_room}
 use Rattle.lwkt_hold.proofs.ReadMoves.{ran_still}
-use Rattle.lwkt_msg.specs.Desks.{Desk, cpu_of}
+use Rattle.lwkt_msg.specs.Desks.{Desk, desk_cpu}
 use Rattle.lwkt_ask.specs.Telling.{TellsMail}
 use Rattle.lwkt_ask.proofs.MailMoves.{ran_mail}
 use Rattle.lwkt_ask.proofs.TellMoves.{mail_none, mail_then, mail_told, quiet_then}
@@ -43,7 +43,7 @@ returns-clause-ran g c =
     (ran_weaker P P (194 + 64) 258 p.seat n.new.self.seat r y.new.trace (λ x q. q) (omega arith)
     (ran_then P 194 64 p.seat s n.new.self.seat r h.new.trace y.new.trace
     (ran_weaker (IsOfOne p.threads) P 194 194 p.seat s r h.new.trace (λ x q. inr q) (omega arith) h.ensures.ran)
-    (subst F n.ensures.seat (ran_mail P (cpu_of n.new.self.post.seat) 64 n.new.self.seat h.new.trace y.new.trace y.ensures.mine (inl empty) y.ensures.grew)))))
+    (subst F n.ensures.seat (ran_mail P (desk_cpu n.new.self.post.seat) 64 n.new.self.seat h.new.trace y.new.trace y.ensures.mine (inl empty) y.ensures.grew)))))
 
 pub returns-clause-ok : goal.returns-clause-ok
 returns-clause-ok g c =
@@ -84,7 +84,7 @@ returns-clause-told g c =
     let F : Desk → Type 0 = λ x. TellsMail d x t h.new.trace.items in
     mail_then d n.new.self.post.seat y.new.self.post.seat t h.new.trace.items y.new.trace.items
     (subst F (sym same) (mail_none d t h.new.trace.items (quiet_then t r.items h.new.trace.items (quiet_items t r.items c.reserve.ensures.items) h.ensures.quiet)))
-    (mail_told (cpu_of n.new.self.post.seat) 64 n.new.self.post.seat y.new.self.post.seat h.new.trace y.new.trace y.ensures.told y.ensures.grew)
+    (mail_told (desk_cpu n.new.self.post.seat) 64 n.new.self.post.seat y.new.self.post.seat h.new.trace y.new.trace y.ensures.told y.ensures.grew)
 
 pub returns-in-Err-clause-same : goal.returns-in-Err-clause-same
 returns-in-Err-clause-same g c = post_none c.args.self.now.post

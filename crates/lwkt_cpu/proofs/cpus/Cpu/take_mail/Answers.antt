@@ -1,6 +1,6 @@
 use Rattle.std.proofs.Common.{◌*◌, ◌≤◌, List, length, refl, ap, sym, ◌∙◌, subst, arith}
 use Rattle.lwkt_hold.specs.Runs.{Ran}
-use Rattle.lwkt_msg.specs.Desks.{cpu_of}
+use Rattle.lwkt_msg.specs.Desks.{desk_cpu}
 use Rattle.lwkt_port.specs.Posts.{IsSamePost}
 use Rattle.lwkt_port.proofs.Telling.{tells_then}
 use Rattle.lwkt_ask.specs.Telling.{TellsMail}
@@ -53,7 +53,7 @@ returns-clause-ran g c =
     let t = c.take_in-count in
     let F : Processor g.row.B.Denot → Type 0 = λ p. Ran (IsMailed p.threads) 2304 p.seat i.hold.seat c.args.trace.now w.new.trace in
     let few : length c.deref_mut.result.now ≤ 16 = omega (arith, c.self.invariant.few, ap length c.deref_mut.ensures.value) in
-    subst F c.self.view_is (ran_mail (IsMailed i.threads.items) (cpu_of i.ports.seat) 2304 i.hold.seat c.args.trace.now w.new.trace c.self.invariant.mine (held_mailed i.hold.seat i.threads.items i.running c.self.invariant.held)
+    subst F c.self.view_is (ran_mail (IsMailed i.threads.items) (desk_cpu i.ports.seat) 2304 i.hold.seat c.args.trace.now w.new.trace c.self.invariant.mine (held_mailed i.hold.seat i.threads.items i.running c.self.invariant.held)
     (grew_more i.ports t.new.self 256 (128 * length c.deref_mut.result.now) 2304 c.args.trace.now t.new.trace w.new.trace (omega (arith, few)) t.ensures.same t.ensures.grew w.ensures.grew))
 
 pub returns-clause-told : goal.returns-clause-told
@@ -63,7 +63,7 @@ returns-clause-told g c =
     let t = c.take_in-count in
     let F : Processor g.row.B.Denot → Type 0 = λ p. TellsMail p.post.seat w.new.ports.seat c.args.trace.now.items w.new.trace.items in
     let few : length c.deref_mut.result.now ≤ 16 = omega (arith, c.self.invariant.few, ap length c.deref_mut.ensures.value) in
-    subst F c.self.view_is (mail_told (cpu_of i.ports.seat) 2304 i.ports.seat w.new.ports.seat c.args.trace.now w.new.trace
+    subst F c.self.view_is (mail_told (desk_cpu i.ports.seat) 2304 i.ports.seat w.new.ports.seat c.args.trace.now w.new.trace
     (tells_then i.ports.seat t.new.self.seat w.new.ports.seat c.args.trace.now.items t.new.trace.items w.new.trace.items t.ensures.told w.ensures.told)
     (grew_more i.ports t.new.self 256 (128 * length c.deref_mut.result.now) 2304 c.args.trace.now t.new.trace w.new.trace (omega (arith, few)) t.ensures.same t.ensures.grew w.ensures.grew))
 

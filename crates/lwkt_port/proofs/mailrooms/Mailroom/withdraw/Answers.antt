@@ -1,7 +1,7 @@
 use Rattle.std.proofs.Common.{◌≡◌, ◌∙◌, ◌<◌, ℕ, List, length, set, ap, refl, sym, rules, arith}
 use Rattle.std.proofs.lemmas.List.{get_or_default}
 use Rattle.std.specs.Prelude.{slice_index_or}
-use Rattle.lwkt_msg.specs.Desks.{cpu_of}
+use Rattle.lwkt_msg.specs.Desks.{desk_cpu}
 use Rattle.lwkt_port.specs.declared.mails.Mail.{Mail}
 use Rattle.lwkt_port.specs.Mails.{no_kept_mail, kept_mail_at}
 use Rattle.lwkt_port.specs.Withdrawals.{dropped_mail}
@@ -41,5 +41,5 @@ invariant_of-self-in-Err-1 c =
 
 pub returns-in-Err-clause-stands : goal.returns-in-Err-clause-stands
 returns-in-Err-clause-stands c =
-    let cpu = cpu_of c.args.self.now.seat in
+    let cpu = desk_cpu c.args.self.now.seat in
     let t = c.args.trace.now in record { same = c.in-Err.ensures.seat; len = refl; grew = grew_few cpu 0 1 t t (grew_none cpu t) (omega arith) }
