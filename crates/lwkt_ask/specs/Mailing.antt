@@ -66,7 +66,7 @@ WaitsReply a b refs v u msg next (Ok done) = GivesUp a b refs (length refs) v u 
 WaitsReply a b refs v u msg next (Err fault) = (b ≡ a) × (u ≡ v) × (next ≡ Runs (Refused fault))
 
 -- an ask to send and wait for the reply (lwkt_domsg of msgport(9))
-pub record Does (s : Sending) (p q : Post) (a b : CpuSeat) (refs : List Ref) (t u : Vec Event Global) (next : Next Answer) : Type 0 where
+pub record DoesMessage (s : Sending) (p q : Post) (a b : CpuSeat) (refs : List Ref) (t u : Vec Event Global) (next : Next Answer) : Type 0 where
   pub v : Vec Event Global
   pub result : Result (Unit {0}) Fault
   pub sends : SendsMail s p q t v result

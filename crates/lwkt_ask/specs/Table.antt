@@ -19,7 +19,7 @@ use Rattle.lwkt_ask.specs.declared.nexts.Next.TheVariants.{Runs, Readies, Exits}
 use Rattle.lwkt_ask.specs.Nexts.{done_or, value_or, bytes_or, bit_or}
 use Rattle.lwkt_ask.specs.Calls.{Acquires, Tries, Rels, Swaps, Reads, Stores, Adds, ReadsRecord, StoresRecord}
 use Rattle.lwkt_ask.specs.Leaving.{GivesUp}
-use Rattle.lwkt_ask.specs.Mailing.{sending, plain_flags, SendsMail, RepliesMail, AbortsMail, HearsMail, DropsMail, dropped_or, item_or, Does, WaitsPort}
+use Rattle.lwkt_ask.specs.Mailing.{sending, plain_flags, SendsMail, RepliesMail, AbortsMail, HearsMail, DropsMail, dropped_or, item_or, DoesMessage, WaitsPort}
 use Rattle.lwkt_base.specs.declared.asks.Item.{Item}
 use Rattle.lwkt_base.specs.declared.records.Rec.{Rec}
 use Rattle.lwkt_port.specs.Posts.{Post}
@@ -31,10 +31,10 @@ shared tok = record { tok = tok; mode = Shared }
 
 -- what follows on an answer for a reference: the thread goes on, with the reference or refused, or it gives up what it held
 -- before and is ready, its answer being Done once it is resumed
-abbrev pub GoesOn : CpuSeat → CpuSeat → List Ref → List Ref → Vec Event Global → Vec Event Global → Next Answer → Result Acquired Fault → Type 0
-GoesOn mid b refs now v u next (Ok Got) = (b ≡ mid) × (u ≡ v) × (next ≡ Runs Done)
-GoesOn mid b refs now v u next (Ok (MustSwitch why)) = GivesUp mid b now (length refs) v u (Readies Done) next
-GoesOn mid b refs now v u next (Err fault) = (b ≡ mid) × (u ≡ v) × (next ≡ Runs (Refused fault))
+abbrev pub GoesOnWith : CpuSeat → CpuSeat → List Ref → List Ref → Vec Event Global → Vec Event Global → Next Answer → Result Acquired Fault → Type 0
+GoesOnWith mid b refs now v u next (Ok Got) = (b ≡ mid) × (u ≡ v) × (next ≡ Runs Done)
+GoesOnWith mid b refs now v u next (Ok (MustSwitch why)) = GivesUp mid b now (length refs) v u (Readies Done) next
+GoesOnWith mid b refs now v u next (Err fault) = (b ≡ mid) × (u ≡ v) × (next ≡ Runs (Refused fault))
 
 -- an ask for a reference
 pub record Gets (bank : BankId) (a b : CpuSeat) (refs now : List Ref) (new : Ref) (t u : Vec Event Global) (next : Next Answer) : Type 0 where
@@ -42,7 +42,7 @@ pub record Gets (bank : BankId) (a b : CpuSeat) (refs now : List Ref) (new : Ref
   pub v : Vec Event Global
   pub result : Result Acquired Fault
   pub acquires : Acquires bank a mid refs now new t v result
-  pub goes_on : GoesOn mid b refs now v u next result
+  pub goes_on : GoesOnWith mid b refs now v u next result
 
 -- an ask of a thread and what comes next: from one seat, list and trace to the next, and from one state of the ports to the next, ask
 -- by ask, by the call that it makes (token(9), msgport(9); own)
@@ -58,7 +58,7 @@ Performs bank thread a b p q refs now t u (Add tok k) next = (q ≡ p) × ((resu
 Performs bank thread a b p q refs now t u (ReadBlob tok) next = (q ≡ p) × ((result : Result (List ℕ) Fault) × (ReadsRecord bank a b refs tok t u result × (now ≡ refs) × (next ≡ Runs (bytes_or result))))
 Performs bank thread a b p q refs now t u (WriteBlob tok bytes) next = (q ≡ p) × ((result : Result (Unit {0}) Fault) × (StoresRecord bank a b refs tok bytes t u result × (now ≡ refs) × (next ≡ Runs (done_or result))))
 Performs bank thread a b p q refs now t u (Send msg to call flags) next = (b ≡ a) × (now ≡ refs) × ((result : Result (Unit {0}) Fault) × (SendsMail (sending thread msg to call flags false) p q t u result × (next ≡ Runs (done_or result))))
-Performs bank thread a b p q refs now t u (Do msg to call) next = (now ≡ refs) × Does (sending thread msg to call plain_flags true) p q a b refs t u next
+Performs bank thread a b p q refs now t u (Do msg to call) next = (now ≡ refs) × DoesMessage (sending thread msg to call plain_flags true) p q a b refs t u next
 Performs bank thread a b p q refs now t u (Reply msg error outcome) next = (b ≡ a) × (now ≡ refs) × ((result : Result (Unit {0}) Fault) × (RepliesMail thread msg error outcome p q t u result × (next ≡ Runs (done_or result))))
 Performs bank thread a b p q refs now t u (Abort msg) next = (b ≡ a) × (now ≡ refs) × ((result : Result (Unit {0}) Fault) × (AbortsMail thread msg p q t u result × (next ≡ Runs (done_or result))))
 Performs bank thread a b p q refs now t u (IsAborted msg) next = (b ≡ a) × (now ≡ refs) × (u ≡ t) × ((result : Result Bool Fault) × (HearsMail thread msg p q result × (next ≡ Runs (bit_or result))))

@@ -22,7 +22,7 @@ pub record TellsMail (seat seat' : Desk) (before now : List Event) : Type 0 wher
   pub told : filter is_of_message done ≡ events_in deeds
 
 -- a trace grew by events of tokens alone
-pub record IsQuiet (before now : List Event) : Type 0 where
+pub record TellsTokensOnly (before now : List Event) : Type 0 where
   pub done : List Event
   pub trace_is : now ≡ before ++ done
   pub quiet : filter is_of_message done ≡ []

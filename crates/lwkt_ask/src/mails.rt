@@ -16,7 +16,7 @@ ghost use Rattle.lwkt_port.specs.Works.{Grew};
 ghost use Rattle.lwkt_port.specs.Servings.{PostGets};
 ghost use Rattle.lwkt_ask.specs.Nexts.{HoldsAfter, next_with, KeepsAnswer, done_or, bit_or};
 ghost use Rattle.lwkt_ask.specs.Telling.{TellsMail};
-ghost use Rattle.lwkt_ask.specs.Mailing.{sending, plain_flags, SendsMail, RepliesMail, AbortsMail, HearsMail, DropsMail, dropped_or, item_or, Does, WaitsPort};
+ghost use Rattle.lwkt_ask.specs.Mailing.{sending, plain_flags, SendsMail, RepliesMail, AbortsMail, HearsMail, DropsMail, dropped_or, item_or, DoesMessage, WaitsPort};
 
 use crate::calls::done;
 use crate::leaves::leave;
@@ -110,7 +110,7 @@ pub(crate) fn send_and_wait(
     requires mine { desk_cpu ports.old.seat ≡ (seat_of hold.old).cpu }
     requires held { holding (seat_of hold.old) ≡ holding_of list.now }
     requires room { vec_len trace.old + 512 ≤ vec_capacity trace.old }
-    ensures does { Does (sending thread msg to call plain_flags true) ports.old ports.new (seat_of hold.old) (seat_of hold.new) list.now trace.old trace.new (next_with result last.new) }
+    ensures does { DoesMessage (sending thread msg to call plain_flags true) ports.old ports.new (seat_of hold.old) (seat_of hold.new) list.now trace.old trace.new (next_with result last.new) }
     ensures ran { Ran (IsFront list.now) 320 (seat_of hold.old) (seat_of hold.new) trace.old trace.new }
     ensures kept { KeepsAnswer result last.old last.new }
     ensures held { HoldsAfter (next_with result last.new) (holding (seat_of hold.new)) list.now }

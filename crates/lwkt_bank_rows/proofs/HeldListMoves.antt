@@ -15,10 +15,10 @@ use Rattle.lwkt_bank.specs.Seats.{BankId, id_of, bank_of}
 use Rattle.lwkt_bank.specs.Gathered.{IsNew, IsOpened}
 use Rattle.lwkt_bank.specs.Closing.{IsReady}
 use Rattle.lwkt_base.specs.Holding.{Holding}
-use Rattle.lwkt_bank_rows.specs.HeldLists.{IsFree}
+use Rattle.lwkt_bank_rows.specs.HeldLists.{HoldsNothing}
 
 -- a new seat holds nothing
-new_free : (bank : BankId) (s : CpuSeat) → bank_of s ≡ bank → IsNew s → IsFree bank s
+new_free : (bank : BankId) (s : CpuSeat) → bank_of s ≡ bank → IsNew s → HoldsNothing bank s
 new_free bank s of new = record { of = of; empty = fun_ext (λ tok. ap (λ (e : TokenEntry). e.held) (new.entries tok)) }
 
 -- each seat of a list
@@ -27,19 +27,19 @@ each_seat P [] each = All-nil P
 each_seat P (s ∷ seats) each = All-cons P s seats (each 0 s (omega arith)) (each_seat P seats (λ k d low. each (suc k) d (omega arith)))
 
 -- the seats of a bank that was opened hold nothing
-all_free : (cpus : ℕ) (specs : List TokSpec) (bank : Bank) (seats : List CpuSeat) → IsOpened cpus specs bank seats → All (IsFree (id_of bank)) seats
+all_free : (cpus : ℕ) (specs : List TokSpec) (bank : Bank) (seats : List CpuSeat) → IsOpened cpus specs bank seats → All (HoldsNothing (id_of bank)) seats
 all_free cpus specs bank seats opened =
-    each_seat (IsFree (id_of bank)) seats (λ k s low. let told = opened.seats_out.each k s low in new_free (id_of bank) (slice_index_or seats k s) told.0 told.1)
+    each_seat (HoldsNothing (id_of bank)) seats (λ k s low. let told = opened.seats_out.each k s low in new_free (id_of bank) (slice_index_or seats k s) told.0 told.1)
 
-pub opened_free : (cpus : ℕ) (specs : List TokSpec) (r : Result (Bank × Vec CpuSeat Global) Fault) → IfOk r (λ o. IsOpened cpus specs o.0 o.1.items) → IfOk r (λ o. All (IsFree (id_of o.0)) o.1.items)
+pub opened_free : (cpus : ℕ) (specs : List TokSpec) (r : Result (Bank × Vec CpuSeat Global) Fault) → IfOk r (λ o. IsOpened cpus specs o.0 o.1.items) → IfOk r (λ o. All (HoldsNothing (id_of o.0)) o.1.items)
 opened_free cpus specs r opened =
-    IfOk-weaker r (λ o. IsOpened cpus specs o.0 o.1.items) (λ o. All (IsFree (id_of o.0)) o.1.items) (λ o yes. all_free cpus specs o.0 o.1.items yes) opened
+    IfOk-weaker r (λ o. IsOpened cpus specs o.0 o.1.items) (λ o. All (HoldsNothing (id_of o.0)) o.1.items) (λ o yes. all_free cpus specs o.0 o.1.items yes) opened
 
 -- a seat that holds nothing is ready for the close
-free_ready : (bank : BankId) (s : CpuSeat) → IsFree bank s → IsReady bank s
+free_ready : (bank : BankId) (s : CpuSeat) → HoldsNothing bank s → IsReady bank s
 free_ready bank s free = record { of = free.of; empty = λ tok low. ap (λ (h : Holding). h tok) free.empty }
 
-pub both_ready : (bank : BankId) (first second : CpuSeat) → IsFree bank first → IsFree bank second → All (IsReady bank) (first ∷ second ∷ [])
+pub both_ready : (bank : BankId) (first second : CpuSeat) → HoldsNothing bank first → HoldsNothing bank second → All (IsReady bank) (first ∷ second ∷ [])
 both_ready bank first second one other =
     All-cons (IsReady bank) first (second ∷ []) (free_ready bank first one) (All-cons (IsReady bank) second [] (free_ready bank second other) (All-nil (IsReady bank)))
 

@@ -20,7 +20,7 @@ use Rattle.lwkt_bank.specs.Deeds.{gives_one, reads}
 use Rattle.lwkt_bank.specs.Seats.{BankId, bank_of, tokens_of, entry, holding, references, Changes, Looked, Took, Lost, Stepped, Gave}
 use Rattle.lwkt_bank.specs.Holdings.{TakingAdds, GivingRemoves, OthersKeep, NothingCounts}
 use Rattle.lwkt_bank_rows.specs.Desks.{Sits}
-use Rattle.lwkt_bank_rows.specs.Readings.{IsEmpty, HasRead, IsFresh}
+use Rattle.lwkt_bank_rows.specs.Readings.{IsEmpty, HasRead, IsLaterReading}
 use Rattle.lwkt_bank_rows.proofs.DeskMoves.{looked-held}
 
 seen_if : (b : Bool) (e : TokenEntry) (g : ℕ) → (b ≡ true → e.generation ≡ g) → (cond b e (record e { generation = g; known = []; known_blob = [] })).generation ≡ g
@@ -126,7 +126,7 @@ first_known row known before cell value is all =
     get_or_from_slice_get row cell value 0 got
 
 -- what it read is fresh
-pub fresh_read : (s0 s1 s2 s3 : CpuSeat) (tok cell generation value earlier was : ℕ) (alone : Bool) (given : Given) → Reads s0 s1 s2 s3 tok cell generation value alone given → HasRead s0 tok cell earlier was → IsFresh earlier was generation value
+pub fresh_read : (s0 s1 s2 s3 : CpuSeat) (tok cell generation value earlier was : ℕ) (alone : Bool) (given : Given) → Reads s0 s1 s2 s3 tok cell generation value alone given → HasRead s0 tok cell earlier was → IsLaterReading earlier was generation value
 fresh_read s0 s1 s2 s3 tok cell generation value earlier was alone given r had =
     let rises = read_rises s0 s1 tok generation alone r.took in
     let seen_at = had.generation_is in

@@ -13,6 +13,6 @@ pub record IsHeld (bank : BankId) (hold : Hold) (list : List Ref) : Type 0 where
   pub held : holding (seat_of hold) ≡ holding_of list
 
 -- a seat of this bank, which holds nothing
-pub record IsFree (bank : BankId) (s : CpuSeat) : Type 0 where
+pub record HoldsNothing (bank : BankId) (s : CpuSeat) : Type 0 where
   pub of : bank_of s ≡ bank
   pub empty : holding s ≡ holds_nothing

@@ -17,6 +17,6 @@ pub record HasRead (s : CpuSeat) (tok cell generation value : ℕ) : Type 0 wher
   pub read : (entry s tok).known ≡ record { at = cell; value = value } ∷ before
 
 -- a later reading is fresh: its generation isn't lower, and at an equal one its value is the same
-pub record IsFresh (generation value later_generation later_value : ℕ) : Type 0 where
+pub record IsLaterReading (generation value later_generation later_value : ℕ) : Type 0 where
   pub rises : generation ≤ later_generation
   pub same : generation ≡ later_generation → value ≡ later_value

@@ -3,7 +3,7 @@ ghost use Rattle.std.specs.Prelude.{◌≡◌, ◌+◌, ◌<◌, ◌≤◌, [], 
 ghost use Rattle.lwkt_base.specs.Holding.{holding_of};
 ghost use Rattle.lwkt_bank.specs.Seats.{id_of, bank_of, tokens_of, cpus_of, holding};
 ghost use Rattle.lwkt_hold.specs.Holds.{seat_of};
-ghost use Rattle.lwkt_bank_rows.specs.HeldLists.{IsHeld, IsFree};
+ghost use Rattle.lwkt_bank_rows.specs.HeldLists.{IsHeld, HoldsNothing};
 
 use lwkt_bank::{Bank, CpuSeat};
 use lwkt_base::{Blob, Fault, Ref, TokId, TokList, TokSpec};
@@ -66,7 +66,7 @@ pub enum Told {
 
 /// A bank of these tokens, with a seat for each of so many processors.
 pub fn open(alloc: Global, specs: &[TokSpec], cpus: usize) -> Result<(Bank, Vec<CpuSeat>), Fault>
-    ensures free { IfOk result (λ opened. All (IsFree (id_of opened.0)) opened.1.items) }
+    ensures free { IfOk result (λ opened. All (HoldsNothing (id_of opened.0)) opened.1.items) }
     ensures cpus { IfOk result (λ opened. cpus_of opened.0 ≡ cpus) }
 {
     Bank::open(alloc, specs, cpus)
@@ -74,8 +74,8 @@ pub fn open(alloc: Global, specs: &[TokSpec], cpus: usize) -> Result<(Bank, Vec<
 
 /// The seat of the last processor that is left.
 pub fn next_watch<'a>(bank: &'a Bank, seats: &mut Vec<CpuSeat>) -> Option<Watch<'a>>
-    requires { All (IsFree (id_of bank.now)) seats.old.items }
-    ensures { All (IsFree (id_of bank.now)) seats.new.items }
+    requires { All (HoldsNothing (id_of bank.now)) seats.old.items }
+    ensures { All (HoldsNothing (id_of bank.now)) seats.new.items }
 {
     let seat = seats.pop()?;
     Some(Watch { seat, bank })
@@ -87,8 +87,8 @@ pub fn next_desk<'a>(
     bank: &'a Bank,
     seats: &mut Vec<CpuSeat>,
 ) -> Option<ListedHold<'a>>
-    requires { All (IsFree (id_of bank.now)) seats.old.items }
-    ensures { All (IsFree (id_of bank.now)) seats.new.items }
+    requires { All (HoldsNothing (id_of bank.now)) seats.old.items }
+    ensures { All (HoldsNothing (id_of bank.now)) seats.new.items }
 {
     let seat = seats.pop()?;
     Some(ListedHold {

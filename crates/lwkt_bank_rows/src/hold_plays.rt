@@ -1,7 +1,7 @@
 //! Tables of calls on holds, and what comes of them.
 ghost use Rattle.std.specs.Prelude.{All};
 ghost use Rattle.lwkt_bank.specs.Seats.{id_of};
-ghost use Rattle.lwkt_bank_rows.specs.HeldLists.{IsFree};
+ghost use Rattle.lwkt_bank_rows.specs.HeldLists.{HoldsNothing};
 
 use crate::hold_desks::{Call, ListedHold, Told, Watch, next_desk, next_watch, open};
 use lwkt_bank::{Bank, CpuSeat};
@@ -48,7 +48,7 @@ fn desks_of<'a>(
     bank: &'a Bank,
     seats: &mut Vec<CpuSeat>,
 ) -> Result<Vec<ListedHold<'a>>, AllocError>
-    requires { All (IsFree (id_of bank.now)) seats.old.items }
+    requires { All (HoldsNothing (id_of bank.now)) seats.old.items }
 {
     let mut desks = Vec::new(alloc);
     for _seat in 0..seats.len() {
@@ -105,7 +105,7 @@ fn is_left(desks: &[ListedHold], row: &Played) -> Result<(), Miss> {
 
 // Plays the calls of a row at a bank.
 fn play_at(alloc: Global, bank: &Bank, mut seats: Vec<CpuSeat>, row: &Played) -> Result<(), Miss>
-    requires { All (IsFree (id_of bank.now)) seats.items }
+    requires { All (HoldsNothing (id_of bank.now)) seats.items }
 {
     let Some(mut watch) = next_watch(bank, &mut seats) else {
         return Err(Miss::Seat);

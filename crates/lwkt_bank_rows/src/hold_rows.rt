@@ -1,7 +1,7 @@
 //! Holds: the worked rows, their refusals and limits, and two threads with their lists crossed.
 ghost use Rattle.std.specs.Prelude.{◌≡◌, ◌+◌, ◌<◌, ◌≤◌, [], ◌∷◌, All, IfSome, IfOk, vec_len, vec_capacity};
 ghost use Rattle.lwkt_bank.specs.Seats.{id_of, tokens_of, cpus_of};
-ghost use Rattle.lwkt_bank_rows.specs.HeldLists.{IsHeld, IsFree};
+ghost use Rattle.lwkt_bank_rows.specs.HeldLists.{IsHeld, HoldsNothing};
 
 use crate::hold_desks::{Call, Told, list_of, make_room, open};
 use crate::hold_plays::{Line, Played, expect};
@@ -452,8 +452,8 @@ fn turn(hold: &mut Hold, bank: &Bank, both: &TokList, trace: &mut Vec<Event>) ->
 
 // Makes so many sections under this list, and says how many were made.
 fn add_all(alloc: Global, bank: &Bank, seat: CpuSeat, refs: [Ref; 2]) -> (CpuSeat, u64)
-    requires { IsFree (id_of bank.now) seat }
-    ensures { IsFree (id_of bank.now) result.0 }
+    requires { HoldsNothing (id_of bank.now) seat }
+    ensures { HoldsNothing (id_of bank.now) result.0 }
 {
     let Ok(both) = list_of(bank, &refs) else {
         return (seat, 0);
@@ -477,8 +477,8 @@ fn add_all(alloc: Global, bank: &Bank, seat: CpuSeat, refs: [Ref; 2]) -> (CpuSea
 
 // The two seats of a bank of two processors.
 fn both_seats(mut seats: Vec<CpuSeat>, bank: &Bank) -> Option<(CpuSeat, CpuSeat)>
-    requires { All (IsFree (id_of bank.now)) seats.items }
-    ensures { IfSome result (λ p. IsFree (id_of bank.now) p.0 × IsFree (id_of bank.now) p.1) }
+    requires { All (HoldsNothing (id_of bank.now)) seats.items }
+    ensures { IfSome result (λ p. HoldsNothing (id_of bank.now) p.0 × HoldsNothing (id_of bank.now) p.1) }
 {
     let second = seats.pop()?;
     let first = seats.pop()?;
@@ -502,8 +502,8 @@ fn close(
     first: CpuSeat,
     second: CpuSeat,
 ) -> Result<Result<Closed, Fault>, AllocError>
-    requires first { IsFree (id_of bank) first }
-    requires second { IsFree (id_of bank) second }
+    requires first { HoldsNothing (id_of bank) first }
+    requires second { HoldsNothing (id_of bank) second }
     requires two { cpus_of bank ≡ 2 }
 {
     let seats = list_of_seats(alloc, first, second)?;
@@ -525,10 +525,10 @@ fn cross<R: Threads + Sync>(
     first: CpuSeat,
     second: CpuSeat,
 ) -> ((CpuSeat, u64), (CpuSeat, u64))
-    requires first { IsFree (id_of bank.now) first }
-    requires second { IsFree (id_of bank.now) second }
-    ensures first { IsFree (id_of bank.now) result.0.0 }
-    ensures second { IsFree (id_of bank.now) result.1.0 }
+    requires first { HoldsNothing (id_of bank.now) first }
+    requires second { HoldsNothing (id_of bank.now) second }
+    ensures first { HoldsNothing (id_of bank.now) result.0.0 }
+    ensures second { HoldsNothing (id_of bank.now) result.1.0 }
 {
     thread::join(
         rt,

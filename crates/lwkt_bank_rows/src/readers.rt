@@ -2,7 +2,7 @@
 ghost use Rattle.std.specs.Prelude.{◌≡◌, ℕ, ◌+◌, ◌<◌, ◌≤◌, IfSome, slice_index};
 ghost use Rattle.lwkt_bank.specs.Seats.{id_of, tokens_of, plan_of, entry};
 ghost use Rattle.lwkt_bank_rows.specs.Desks.{Sits};
-ghost use Rattle.lwkt_bank_rows.specs.Readings.{IsEmpty, HasRead, IsFresh};
+ghost use Rattle.lwkt_bank_rows.specs.Readings.{IsEmpty, HasRead, IsLaterReading};
 
 use crate::desks::{Ask, ListedSeat, call, give, may_give};
 use lwkt_bank::answers::{Given, Try};
@@ -27,7 +27,7 @@ fn read(bank: &Bank, seat: &mut CpuSeat, tok: TokId, cell: u8) -> Option<Reading
     ensures empty { IsEmpty (id_of bank.now) seat.new }
     ensures rises { IfSome result (λ r. (entry seat.old tok.0).generation ≤ r.generation) }
     ensures read { IfSome result (λ r. HasRead seat.new tok.0 cell r.generation r.value) }
-    ensures fresh { (generation value : ℕ) → HasRead seat.old tok.0 cell generation value → IfSome result (λ r. IsFresh generation value r.generation r.value) }
+    ensures fresh { (generation value : ℕ) → HasRead seat.old tok.0 cell generation value → IfSome result (λ r. IsLaterReading generation value r.generation r.value) }
 {
     calls_change_holdings();
     references_are_counted();
@@ -60,7 +60,7 @@ pub fn read_after(bank: &Bank, desk: &mut ListedSeat, tok: TokId) -> Option<(Sec
     requires sits { Sits (id_of bank.now) desk.old.seat desk.old.refs }
     requires there { tok.0 < tokens_of (id_of bank.now) }
     requires inside { 0 < (plan_of (id_of bank.now) tok.0).cells }
-    ensures { IfSome result (λ r. IsFresh (r.0.generation + 1) (slice_index r.0.after 0) r.1.generation r.1.value) }
+    ensures { IfSome result (λ r. IsLaterReading (r.0.generation + 1) (slice_index r.0.after 0) r.1.generation r.1.value) }
 {
     if !may_give(bank, &mut desk.seat, &desk.refs, tok) {
         return None;
@@ -92,7 +92,7 @@ pub fn read_around(
     requires inside { cell < (plan_of (id_of bank.now) tok.0).cells }
     ensures empty { IsEmpty (id_of bank.now) reader.new }
     ensures sits { Sits (id_of bank.now) writer.new.seat writer.new.refs }
-    ensures fresh { IfSome result (λ r. IsFresh r.0.generation r.0.value r.1.generation r.1.value) }
+    ensures fresh { IfSome result (λ r. IsLaterReading r.0.generation r.0.value r.1.generation r.1.value) }
 {
     let first = read(bank, reader, tok, cell)?;
     write(bank, writer, tok, cell, value);

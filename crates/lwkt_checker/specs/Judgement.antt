@@ -53,19 +53,19 @@ abbrev pub IsFound : Trace → Finding → Type 0
 IsFound trace finding = (last : Option Final) × (AreClosing trace.last last × FindsWhy (opening_of trace) trace.events last finding)
 
 -- why a trace is refused
-abbrev pub Declines : Trace → Refusal → Type 0
-Declines trace (Memory refused) = Unit {0}
-Declines trace Limits = ¬ AreWithin trace.cpus trace.tokens trace.messages
-Declines trace LawBroken = AreWithin trace.cpus trace.tokens trace.messages × ¬ AllOpenLawfully trace.tokens
-Declines trace _ = ⊥
+abbrev pub DeclinesTrace : Trace → Refusal → Type 0
+DeclinesTrace trace (Memory refused) = Unit {0}
+DeclinesTrace trace Limits = ¬ AreWithin trace.cpus trace.tokens trace.messages
+DeclinesTrace trace LawBroken = AreWithin trace.cpus trace.tokens trace.messages × ¬ AllOpenLawfully trace.tokens
+DeclinesTrace trace _ = ⊥
 
 -- why bytes are refused
-abbrev pub Refuses : List ℕ → Refusal → Type 0
-Refuses bytes (ScriptFault place) = trace_of bytes ≡ Err place
-Refuses bytes (Memory refused) = Unit {0}
-Refuses bytes Limits = (trace : Trace) × ((trace_of bytes ≡ Ok trace) × Declines trace Limits)
-Refuses bytes LawBroken = (trace : Trace) × ((trace_of bytes ≡ Ok trace) × Declines trace LawBroken)
-Refuses bytes _ = ⊥
+abbrev pub RefusesTrace : List ℕ → Refusal → Type 0
+RefusesTrace bytes (ScriptFault place) = trace_of bytes ≡ Err place
+RefusesTrace bytes (Memory refused) = Unit {0}
+RefusesTrace bytes Limits = (trace : Trace) × ((trace_of bytes ≡ Ok trace) × DeclinesTrace trace Limits)
+RefusesTrace bytes LawBroken = (trace : Trace) × ((trace_of bytes ≡ Ok trace) × DeclinesTrace trace LawBroken)
+RefusesTrace bytes _ = ⊥
 
 -- whether a finding is that of a lawful trace
 abbrev pub is_lawful : Finding → Bool

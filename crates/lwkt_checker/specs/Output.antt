@@ -7,7 +7,7 @@ use Rattle.lwkt_report.specs.declared.complaints.Program.TheVariants.{Check}
 use Rattle.lwkt_report.specs.declared.streams.RunFault.{RunFault}
 use Rattle.lwkt_report.specs.declared.streams.RunFault.TheVariants.{Fault, Stream}
 use Rattle.lwkt_report.specs.Stream.{AppendsFront, BlamesFailed}
-use Rattle.lwkt_checker.specs.Judgement.{HasFinding, Refuses}
+use Rattle.lwkt_checker.specs.Judgement.{HasFinding, RefusesTrace}
 
 -- these are the bytes that are read of a source that has so many left, where that is known
 abbrev pub AreRead : Option (List ℕ) → List ℕ → Type 0
@@ -15,10 +15,10 @@ AreRead left bytes = IfSome left (λ all. bytes ≡ take 268435457 all)
 
 -- what a check says by its answer, of what was left to read and of what was written before and after it: what was found of
 -- the trace that was read; or nothing written, and why; or, where a stream failed, a front of it
-abbrev pub Tells : Option (List ℕ) → Option (List ℕ) → Option (List ℕ) → Result Bool RunFault → Type 0
-Tells left old new (Ok lawful) = (bytes : List ℕ) × (AreRead left bytes × ((text : List ℕ) × (HasFinding bytes lawful text × Appends old new text)))
-Tells left old new (Err (Fault fault)) = Keeps old new × ((bytes : List ℕ) × (AreRead left bytes × Refuses bytes fault))
-Tells left old new (Err Stream) = Keeps old new ⊎ ((bytes : List ℕ) × (AreRead left bytes × ((lawful : Bool) × ((text : List ℕ) × (HasFinding bytes lawful text × AppendsFront old new text)))))
+abbrev pub TellsFinding : Option (List ℕ) → Option (List ℕ) → Option (List ℕ) → Result Bool RunFault → Type 0
+TellsFinding left old new (Ok lawful) = (bytes : List ℕ) × (AreRead left bytes × ((text : List ℕ) × (HasFinding bytes lawful text × Appends old new text)))
+TellsFinding left old new (Err (Fault fault)) = Keeps old new × ((bytes : List ℕ) × (AreRead left bytes × RefusesTrace bytes fault))
+TellsFinding left old new (Err Stream) = Keeps old new ⊎ ((bytes : List ℕ) × (AreRead left bytes × ((lawful : Bool) × ((text : List ℕ) × (HasFinding bytes lawful text × AppendsFront old new text)))))
 
 -- the exit status of the program
 abbrev pub status_of : Result Bool RunFault → ℕ
@@ -36,4 +36,4 @@ Complains failed old new (Err fault) = IsSaid failed old new (fault_line Check (
 -- what the program does where it has no arguments: it checks, complains if it can't, and answers the status; it blames a stream only
 -- where one has failed
 abbrev pub ChecksAs : Bool → Bool → Option (List ℕ) → Option (List ℕ) → Option (List ℕ) → Bool → Option (List ℕ) → Option (List ℕ) → ℕ → Type 0
-ChecksAs source_failed sink_failed left old new failed before after status = (outcome : Result Bool RunFault) × (Tells left old new outcome × (Complains failed before after outcome × (BlamesFailed source_failed sink_failed outcome × (status ≡ status_of outcome))))
+ChecksAs source_failed sink_failed left old new failed before after status = (outcome : Result Bool RunFault) × (TellsFinding left old new outcome × (Complains failed before after outcome × (BlamesFailed source_failed sink_failed outcome × (status ≡ status_of outcome))))

@@ -30,7 +30,7 @@ use Rattle.lwkt_core.specs.declared.messages.Message.{Message}
 use Rattle.lwkt_core.specs.declared.tokens.Token.{Token}
 use Rattle.lwkt_base.specs.Holding.{references_in}
 use Rattle.lwkt_trace.specs.Words.{numbers_text}
-use Rattle.lwkt_trace.specs.Written.{word_of, law_text}
+use Rattle.lwkt_trace.specs.Written.{word_of_event, law_text}
 use Rattle.lwkt_trace.specs.declared.traces.Told.{Told}
 use Rattle.lwkt_trace.specs.declared.traces.Told.TheVariants.{Whole, Given}
 use Rattle.lwkt_checker.specs.Told.{event_told, events_told}
@@ -46,7 +46,7 @@ said words = words
 -- the word of an event, as in a trace, but for a message's taking
 abbrev pub word_said : Event → List ℕ
 word_said (TakeMsg cpu msg round) = codes "take"
-word_said e = word_of e
+word_said e = word_of_event e
 
 -- what an event is at
 abbrev pub place_said : Place → List ℕ
@@ -166,12 +166,12 @@ length_said Len (Some blob) = codes ", the record has " ++ decimal (length blob)
 length_said law blob = []
 
 -- the law that a row breaks
-unfoldable pub law_said : Law → ℕ → List ℕ
-law_said law param = said (codes " breaks the law ") ++ law_text law ++ codes " " ++ decimal param
+unfoldable pub broken_law_text : Law → ℕ → List ℕ
+broken_law_text law param = said (codes " breaks the law ") ++ law_text law ++ codes " " ++ decimal param
 
 -- the law of a token, and the row that breaks it
 unfoldable pub broken_said : Token → List ℕ
-broken_said tok = codes "the row" ++ numbers_text tok.row ++ law_said tok.law tok.param ++ length_said tok.law tok.blob
+broken_said tok = codes "the row" ++ numbers_text tok.row ++ broken_law_text tok.law tok.param ++ length_said tok.law tok.blob
 
 -- the section of a token that would end now
 unfoldable pub own_said : Token → List ℕ

@@ -16,13 +16,13 @@ abbrev pub no_section : TokId → Section
 no_section t = record { before = []; after = []; generation = 0; tok = t }
 
 -- the section of a token that would end now
-abbrev pub section_now : Machine → TokId → Section
-section_now m t = option_map_or (section_at t) (slice_get m.tokens t.0) (no_section t)
+abbrev pub section_due : Machine → TokId → Section
+section_due m t = option_map_or (section_at t) (slice_get m.tokens t.0) (no_section t)
 
 -- the event that is told: a written give whose section isn't told has the one that would end now
 abbrev pub event_told : Machine → Told → Event
 event_told m (Whole e) = e
-event_told m (Given cpu t) = GiveWritten cpu t (section_now m t)
+event_told m (Given cpu t) = GiveWritten cpu t (section_due m t)
 
 -- the events that are told from a machine on, each in the machine that those before it leave
 abbrev pub events_told : Machine → List Told → List Event

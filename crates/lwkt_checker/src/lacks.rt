@@ -1,6 +1,6 @@
 ghost use Rattle.std.specs.Prelude.{◌≡◌, ◌++◌, OnOk, IfOk, slice_get, string_bytes};
 ghost use Rattle.lwkt_checker.specs.Told.{event_told};
-ghost use Rattle.lwkt_checker.specs.Said.{rows_said, records_said, unwritten_record_said, value_said, cell_said, raised_said, length_said, law_said, broken_said, own_said, token_lack_said, message_lack_said, place_lack_said, lack_said, some_lack_said, reason_text, IsReason};
+ghost use Rattle.lwkt_checker.specs.Said.{rows_said, records_said, unwritten_record_said, value_said, cell_said, raised_said, length_said, broken_law_text, broken_said, own_said, token_lack_said, message_lack_said, place_lack_said, lack_said, some_lack_said, reason_text, IsReason};
 ghost use Rattle.lwkt_core.specs.Events.{place_of};
 
 use crate::holdings::show_holders;
@@ -96,7 +96,7 @@ fn show_length(out: &mut String, token: &Token) -> Result<(), AllocError>
 // Appends the law that a row breaks.
 #[tactic(auto, unfolding(crate::specs::Said::law_said))]
 fn show_law(out: &mut String, law: Law, param: u64) -> Result<(), AllocError>
-    ensures { OnOk result (string_bytes out.new ≡ string_bytes out.old ++ law_said law param) }
+    ensures { OnOk result (string_bytes out.new ≡ string_bytes out.old ++ broken_law_text law param) }
 {
     say(out, " breaks the law ")?;
     out.push_str(law_name(law))?;

@@ -1,7 +1,7 @@
 ghost use Rattle.std.specs.Prelude.{◌≡◌, ◌<◌, ◌≤◌, length, take, OnOk, IfErr};
 ghost use Rattle.lwkt_core.specs.Tokens.{section_at};
 ghost use Rattle.lwkt_core.specs.Trace.{Run, IsLawfulTrace, StopsAt, FailsAt};
-ghost use Rattle.lwkt_checker.specs.Told.{section_now, event_told, events_told, ToldIsOnly};
+ghost use Rattle.lwkt_checker.specs.Told.{section_due, event_told, events_told, ToldIsOnly};
 
 use lwkt_base::{Row, Section, TokId};
 use lwkt_core::{Event, Final, State, Token};
@@ -23,7 +23,7 @@ fn section_at(tok: TokId, token: &Token) -> Section
 
 // The section of the token of a number that would end now; one without cells where there is no such token.
 fn section_now(state: &State, tok: TokId) -> Section
-    ensures { result ≡ section_now state.now tok }
+    ensures { result ≡ section_due state.now tok }
 {
     // A state is safe, as this call tells: the rows of its tokens have at most four cells.
     let _cpus = state.cpus();

@@ -1,7 +1,7 @@
 ghost use Rattle.std.specs.Prelude.{◌≡◌, ◌≢◌, ◌⊎◌, [], Err, IsTrue, IfOk, IfErr, string_bytes};
-ghost use Rattle.lwkt_checker.specs.Judgement.{HasFinding, Refuses};
+ghost use Rattle.lwkt_checker.specs.Judgement.{HasFinding, RefusesTrace};
 ghost use Rattle.lwkt_report.specs.Complaint.{fault_line, IsSaid};
-ghost use Rattle.lwkt_checker.specs.Output.{Tells, status_of, Complains, ChecksAs};
+ghost use Rattle.lwkt_checker.specs.Output.{TellsFinding, status_of, Complains, ChecksAs};
 
 use crate::judges::{Finding, finding_text, judge};
 use lwkt_base::Fault;
@@ -21,7 +21,7 @@ struct Done {
 // Checks the trace that the bytes are, to the text of what is found.
 fn done_of_bytes(alloc: Global, bytes: &[u8]) -> Result<Done, Fault>
     ensures ok { IfOk result (λ done. HasFinding bytes.now done.lawful (string_bytes done.text)) }
-    ensures refused { IfErr result (λ fault. Refuses bytes.now fault) }
+    ensures refused { IfErr result (λ fault. RefusesTrace bytes.now fault) }
 {
     let trace = read_trace(alloc, bytes)?;
     let finding = judge(alloc, trace)?;
@@ -45,7 +45,7 @@ pub fn check_stream<S: Source, K: Sink>(
     source: &mut S,
     sink: &mut K,
 ) -> Result<bool, RunFault>
-    ensures tells { Tells (S.left source.old) (K.contents sink.old) (K.contents sink.new) result }
+    ensures tells { TellsFinding (S.left source.old) (K.contents sink.old) (K.contents sink.new) result }
     ensures stream { result ≡ Err RunFault.Stream → IsTrue (S.has_failed source.new) ⊎ IsTrue (K.has_failed sink.new) }
 {
     let bytes = match read_up_to(alloc, source, LENGTH_LIMIT + 1) {

@@ -24,7 +24,7 @@ use Rattle.lwkt_cpu.specs.declared.phases.Phase.TheVariants.{Live, AwaitsReply, 
 use Rattle.lwkt_cpu.specs.declared.threads.BusyAt.{BusyAt}
 use Rattle.lwkt_cpu.specs.declared.threads.Thread.{Thread}
 use Rattle.lwkt_cpu.specs.Processors.{IsSettled, HoldsFor, IsAtRest, Awaits, AllAwait, Processor, processor_of, is_over}
-use Rattle.lwkt_cpu.specs.Searches.{Point, point, Finds, IsOfOne}
+use Rattle.lwkt_cpu.specs.Searches.{Point, point, FindsThread, IsOfOne}
 use Rattle.lwkt_cpu.specs.Turning.{cursor_after, Chooses, IsMailed, IsOfThread}
 use Rattle.lwkt_cpu.specs.Waking.{AreWoken}
 use Rattle.lwkt_lane.proofs.PlaceMoves.{get_set_same, get_set_other, some_same}
@@ -55,7 +55,7 @@ settled_none s t none free = record {
   busy = let F : Option BusyAt → Type 0 = λ o. IfSome o (λ r. IsRefusing t.list r.at r.word) in subst F (sym free) tt;
 }
 
-pub found_below : (cursor : ℕ) (x y : Point) (found : Option ℕ) → length x.threads ≤ 16 → Finds cursor x y found → IfSome found (λ place. place < 16)
+pub found_below : (cursor : ℕ) (x y : Point) (found : Option ℕ) → length x.threads ≤ 16 → FindsThread cursor x y found → IfSome found (λ place. place < 16)
 found_below cursor x y (Some place) few f = omega (arith, few, f.1.1.1.0)
 found_below cursor x y None few f = tt
 
@@ -70,11 +70,11 @@ kept_settled a b olds news same keeps settled k t at =
       | inr ended ↦ record { lawful = subst F (sym ended.0) lawful_none; there = subst G (sym ended.0) (All-nil (λ (r : Ref). r.tok.0 < tokens_of (bank_of b))); ended = λ is. ended.0; busy = x.1.1.1 old.busy }
     ]
 
-within_after : (cursor : ℕ) (x y : Point) (found : Option ℕ) → cursor ≤ length x.threads → Finds cursor x y found → cursor_after cursor found ≤ length y.threads
+within_after : (cursor : ℕ) (x y : Point) (found : Option ℕ) → cursor ≤ length x.threads → FindsThread cursor x y found → cursor_after cursor found ≤ length y.threads
 within_after cursor x y (Some place) within f = omega (arith, f.1.1.1.0, finds_long cursor x y (Some place) f)
 within_after cursor x y None within f = omega (arith, within, finds_long cursor x y None f)
 
-held_after : (cursor : ℕ) (x y : Point) (found : Option ℕ) → Finds cursor x y found → HoldsFor y.seat y.threads found
+held_after : (cursor : ℕ) (x y : Point) (found : Option ℕ) → FindsThread cursor x y found → HoldsFor y.seat y.threads found
 held_after cursor x y (Some place) f =
     let up = f.1.1.3 in
     up_at y.seat y.threads place up.found (ap (λ (xs : List Thread). slice_get xs place) up.same ∙ up.at) up.live up.held.1.1.resumes
@@ -97,7 +97,7 @@ kept_awaits n olds news keeps all = λ k t at.
     ]
 
 -- a processor after a search is at rest
-pub rest_found : {B : Type 0} (a b : CpuSeat) (post : Post) (bodies : List B) (olds news : List Thread) (t u : Vec Event Global) (running : Option ℕ) (cursor next : ℕ) (found : Option ℕ) → IsAtRest (processor_of a post bodies olds running cursor) → bank_of b ≡ bank_of a → b.cpu ≡ a.cpu → Finds cursor (point a olds t) (point b news u) found → next ≡ cursor_after cursor found → IsAtRest (processor_of b post bodies news found next)
+pub rest_found : {B : Type 0} (a b : CpuSeat) (post : Post) (bodies : List B) (olds news : List Thread) (t u : Vec Event Global) (running : Option ℕ) (cursor next : ℕ) (found : Option ℕ) → IsAtRest (processor_of a post bodies olds running cursor) → bank_of b ≡ bank_of a → b.cpu ≡ a.cpu → FindsThread cursor (point a olds t) (point b news u) found → next ≡ cursor_after cursor found → IsAtRest (processor_of b post bodies news found next)
 rest_found a b post bodies olds news t u running cursor next found rest same cpu f is =
     let x = point a olds t in
     let y = point b news u in

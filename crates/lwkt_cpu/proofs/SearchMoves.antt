@@ -19,7 +19,7 @@ use Rattle.lwkt_hold.specs.declared.answers.Resumed.TheVariants.{All as Whole, P
 use Rattle.lwkt_hold.specs.Fronts.{IsFront}
 use Rattle.lwkt_hold.specs.Runs.{Ran}
 use Rattle.lwkt_hold.specs.Stays.{Stays}
-use Rattle.lwkt_hold.specs.Rows.{IsClean}
+use Rattle.lwkt_hold.specs.Rows.{IsAllClean}
 use Rattle.lwkt_hold.specs.Takings.{takes_all}
 use Rattle.lwkt_hold.specs.Givings.{gives_all}
 use Rattle.lwkt_hold.specs.Holds.{Resumes}
@@ -31,7 +31,7 @@ use Rattle.lwkt_port.proofs.Chaining.{chain_none, chain_more}
 use Rattle.lwkt_cpu.specs.declared.phases.Phase.TheVariants.{Live, Faulted}
 use Rattle.lwkt_cpu.specs.declared.threads.Thread.{Thread}
 use Rattle.lwkt_cpu.specs.Processors.{KeepsBusyWord, HoldsFor, AreThere, AllKeepBusyWords}
-use Rattle.lwkt_cpu.specs.Searches.{missed_by, Tries, TriesList, Skips, Point, point, SkipsAt, IsIn, SkipsFrom, SkipsTo, FindsIn, SkipsNth, Searches, Finds, IsOfOne}
+use Rattle.lwkt_cpu.specs.Searches.{missed_by, TriesToHold, TriesList, Skips, Point, point, SkipsAt, IsIn, SkipsFrom, SkipsTo, FindsIn, SkipsNth, Searches, FindsThread, IsOfOne}
 use Rattle.lwkt_lane.proofs.PlaceMoves.{get_set_same, get_set_other, some_same}
 
 -- a front of a list that some thread has
@@ -43,12 +43,12 @@ pub looked_now : (a b : CpuSeat) (refs : List Ref) (place word : ℕ) (still ans
 looked_now a b refs place word still answer s is = let F : Bool → Type 0 = λ x. Stays a b refs place word x in subst F is s
 
 -- what resuming a list tells, as a try of it
-pub tries_by : (a b : CpuSeat) (t u : Vec Event Global) (refs : List Ref) (r : Resumed) → Ran (IsFront refs) 64 a b t u → Resumes a b refs r → (r ≡ Whole → u.items ≡ t.items ++ takes_all a.cpu [] refs) → ((place : ℕ) (why : Missed) → r ≡ Passed place why → u.items ≡ t.items ++ (takes_all a.cpu [] (take place refs) ++ gives_all a.cpu [] (take place refs))) → IsClean b → (answer : Resumed) → r ≡ answer → Tries a b t u refs answer
+pub tries_by : (a b : CpuSeat) (t u : Vec Event Global) (refs : List Ref) (r : Resumed) → Ran (IsFront refs) 64 a b t u → Resumes a b refs r → (r ≡ Whole → u.items ≡ t.items ++ takes_all a.cpu [] refs) → ((place : ℕ) (why : Missed) → r ≡ Passed place why → u.items ≡ t.items ++ (takes_all a.cpu [] (take place refs) ++ gives_all a.cpu [] (take place refs))) → IsAllClean b → (answer : Resumed) → r ≡ answer → TriesToHold a b t u refs answer
 tries_by a b t u refs Whole ran resumes all passed clean answer is =
-    let F : Resumed → Type 0 = λ x. Tries a b t u refs x in
+    let F : Resumed → Type 0 = λ x. TriesToHold a b t u refs x in
     subst F is (record { ran = ran; resumes = resumes; told = all refl; clean = clean })
 tries_by a b t u refs (Passed place why) ran resumes all passed clean answer is =
-    let F : Resumed → Type 0 = λ x. Tries a b t u refs x in
+    let F : Resumed → Type 0 = λ x. TriesToHold a b t u refs x in
     subst F is (record { ran = ran; resumes = resumes; told = passed place why refl; clean = clean })
 
 -- a thread has its list and does what it did, or it has ended at a last generation; what is kept of a refusal refuses its list if
@@ -256,7 +256,7 @@ to_end : (cursor upto : ℕ) (x y : Point) → upto ≤ length x.threads → Ski
 to_end cursor upto x y within s = chain_as (SkipsFrom cursor) (SkipsNth cursor (length x.threads)) (length x.threads - cursor) (from_cursor cursor (length x.threads)) (upto - cursor) (omega (arith, within)) x y s
 
 -- a thread was found before the end of the list
-pub found_first : (cursor place : ℕ) (x y : Point) → IsIn cursor (length x.threads) place → FindsIn cursor place x y → Finds cursor x y (Some place)
+pub found_first : (cursor place : ℕ) (x y : Point) → IsIn cursor (length x.threads) place → FindsIn cursor place x y → FindsThread cursor x y (Some place)
 found_first cursor place x y is f =
     let low : cursor ≤ place = is.0 in
     let high : place < length x.threads = is.1 in
@@ -273,18 +273,18 @@ module _ (cursor : ℕ) (x y z : Point) (within : cursor ≤ length x.threads) (
       (to_end cursor (length x.threads) x y (omega arith) first)
       (chain_as (SkipsFrom 0) (λ nth. SkipsNth cursor (length x.threads) (length x.threads - cursor + nth)) cursor round_again (upto - 0) (omega (arith, few)) y p second)
 
-  found_second : (place : ℕ) → IsIn 0 cursor place × FindsIn 0 place y z → Finds cursor x z (Some place)
+  found_second : (place : ℕ) → IsIn 0 cursor place × FindsIn 0 place y z → FindsThread cursor x z (Some place)
   found_second place f =
       let low : place < cursor = f.0.1 in
       (length x.threads - cursor + (place - 0), (f.1.0, (omega (arith, low, within), (omega (arith, low, within), inr (omega (arith, within))), went_round place f.1.0 (omega (arith, low)) f.1.1.0, f.1.1.1)))
 
-  found_none : (holding z.seat ≡ holds_nothing) × SkipsTo 0 cursor y z → Finds cursor x z None
+  found_none : (holding z.seat ≡ holds_nothing) × SkipsTo 0 cursor y z → FindsThread cursor x z None
   found_none s =
       let F : ℕ → Type 0 = λ k. Searches cursor k x z in
       let e : length x.threads - cursor + (cursor - 0) ≡ length x.threads = omega (arith, within) in
       (subst F e (went_round cursor z (omega arith) s.1), s.0)
 
-  pub found_round : (result : Option ℕ) → ((place : ℕ) → result ≡ Some place → IsIn 0 cursor place × FindsIn 0 place y z) → (result ≡ None → (holding z.seat ≡ holds_nothing) × SkipsTo 0 cursor y z) → Finds cursor x z result
+  pub found_round : (result : Option ℕ) → ((place : ℕ) → result ≡ Some place → IsIn 0 cursor place × FindsIn 0 place y z) → (result ≡ None → (holding z.seat ≡ holds_nothing) × SkipsTo 0 cursor y z) → FindsThread cursor x z result
   found_round (Some place) some none = found_second place (some place refl)
   found_round None some none = found_none (none refl)
 
@@ -301,12 +301,12 @@ searches_keeps cursor skipped x y s = chain_keeps (SkipsNth cursor (length x.thr
 searches_long : (cursor skipped : ℕ) (x y : Point) → Searches cursor skipped x y → length y.threads ≡ length x.threads
 searches_long cursor skipped x y s = chain_long (SkipsNth cursor (length x.threads)) (nth_long cursor (length x.threads)) skipped x y s
 
-pub finds_keeps : (cursor : ℕ) (x y : Point) (found : Option ℕ) → Finds cursor x y found → Keeps x.threads y.threads
+pub finds_keeps : (cursor : ℕ) (x y : Point) (found : Option ℕ) → FindsThread cursor x y found → Keeps x.threads y.threads
 finds_keeps cursor x y (Some place) f =
     let F : List Thread → Type 0 = λ xs. Keeps x.threads xs in
     subst F (sym f.1.1.3.same) (searches_keeps cursor f.0 x f.1.0 f.1.1.2)
 finds_keeps cursor x y None f = searches_keeps cursor (length x.threads) x y f.0
 
-pub finds_long : (cursor : ℕ) (x y : Point) (found : Option ℕ) → Finds cursor x y found → length y.threads ≡ length x.threads
+pub finds_long : (cursor : ℕ) (x y : Point) (found : Option ℕ) → FindsThread cursor x y found → length y.threads ≡ length x.threads
 finds_long cursor x y (Some place) f = ap length f.1.1.3.same ∙ searches_long cursor f.0 x f.1.0 f.1.1.2
 finds_long cursor x y None f = searches_long cursor (length x.threads) x y f.0

@@ -7,24 +7,24 @@ use Rattle.lwkt_base.specs.declared.names.CpuId.{CpuId}
 use Rattle.lwkt_lane.specs.Lane.{queued, in_lane}
 use Rattle.lwkt_msg.specs.Desks.{Desk, desk_cpu, IsSameDesk}
 use Rattle.lwkt_port.specs.declared.lines.Lane.{Lane}
-use Rattle.lwkt_port.specs.Posts.{Post, Changes, AreSameLanes, IsSamePost}
-use Rattle.lwkt_port.specs.Sights.{AreEnds, LooksBeside, PostSees, PostSeesOwn, Sees as LanesSee, SeesOwn as LineSeesOwn}
+use Rattle.lwkt_port.specs.Posts.{Post, ChangesOne, AreSameLanes, IsSamePost}
+use Rattle.lwkt_port.specs.Sights.{AreEnds, LooksBeside, PostSees, PostSeesOwn, SeesAllFrom as LanesSee, SeesOwnLine as LineSeesOwn}
 use Rattle.lwkt_port.specs.Sights as port
 use Rattle.lwkt_port.proofs.Growing.{same_none}
 use Rattle.lwkt_port.proofs.JoinMoves.{same_ends}
 use Rattle.lwkt_port.proofs.SameLanes.{lanes_change}
 use Rattle.lwkt_port.proofs.SightMoves.{sight_lanes, own_lanes}
 use Rattle.lwkt_cpu.specs.Processors.{Processor}
-use Rattle.lwkt_cpu.specs.Sights.{AreJoined, Sees, SeesOwn}
+use Rattle.lwkt_cpu.specs.Sights.{AreLinked, SeesLane, SeesOwnLane}
 
 -- the ports of joined processors are joined
-pub joined_posts : {B : Type 0} (s p : Processor B) → desk_cpu s.post.seat ≡ s.seat.cpu → desk_cpu p.post.seat ≡ p.seat.cpu → AreJoined s p → port.AreJoined s.post p.post
+pub joined_posts : {B : Type 0} (s p : Processor B) → desk_cpu s.post.seat ≡ s.seat.cpu → desk_cpu p.post.seat ≡ p.seat.cpu → AreLinked s p → port.AreJoined s.post p.post
 joined_posts {B} s p one two joined =
     let F : CpuId × CpuId → Type 0 = λ k. AreEnds k.0.0 k.1.0 s.post.lanes p.post.lanes in
     subst F (λ k. (sym one k, sym two k)) joined
 
 -- what their ports see they see
-pub see_posts : {B : Type 0} (s p : Processor B) (q r : Post) → desk_cpu s.post.seat ≡ s.seat.cpu → desk_cpu p.post.seat ≡ p.seat.cpu → PostSees s.post q p.post r → Sees s (record s { post = q }) p (record p { post = r })
+pub see_posts : {B : Type 0} (s p : Processor B) (q r : Post) → desk_cpu s.post.seat ≡ s.seat.cpu → desk_cpu p.post.seat ≡ p.seat.cpu → PostSees s.post q p.post r → SeesLane s (record s { post = q }) p (record p { post = r })
 see_posts {B} s p q r one two sees =
     let F : CpuId × CpuId → Type 0 = λ k. LanesSee k.0.0 k.1.0 s.post.lanes q.lanes p.post.lanes r.lanes in
     record {
@@ -34,16 +34,16 @@ see_posts {B} s p q r one two sees =
     }
 
 -- so it is with what they see of what they have sent to themselves
-pub see_own_post : {B : Type 0} (p : Processor B) (r : Post) → desk_cpu p.post.seat ≡ p.seat.cpu → PostSeesOwn p.post r → SeesOwn p (record p { post = r })
+pub see_own_post : {B : Type 0} (p : Processor B) (r : Post) → desk_cpu p.post.seat ≡ p.seat.cpu → PostSeesOwn p.post r → SeesOwnLane p (record p { post = r })
 see_own_post {B} p r mine sees =
-    let F : CpuId → Type 0 = λ k. Changes LineSeesOwn k.0 p.post.lanes r.lanes in
+    let F : CpuId → Type 0 = λ k. ChangesOne LineSeesOwn k.0 p.post.lanes r.lanes in
     record {
       sees = subst F mine sees.sees;
       else_same = ap (λ (x : Post). record p { post = x }) sees.else_same;
     }
 
 -- joined processors stay joined while their ports are the same ones
-pub joined_stay : {B : Type 0} (s s' p p' : Processor B) → s'.seat.cpu ≡ s.seat.cpu → p'.seat.cpu ≡ p.seat.cpu → IsSamePost s.post s'.post → IsSamePost p.post p'.post → AreJoined s p → AreJoined s' p'
+pub joined_stay : {B : Type 0} (s s' p p' : Processor B) → s'.seat.cpu ≡ s.seat.cpu → p'.seat.cpu ≡ p.seat.cpu → IsSamePost s.post s'.post → IsSamePost p.post p'.post → AreLinked s p → AreLinked s' p'
 joined_stay {B} s s' p p' one two ones twos joined =
     let F : CpuId × CpuId → Type 0 = λ k. AreEnds k.0.0 k.1.0 s'.post.lanes p'.post.lanes in
     subst F (λ k. (sym one k, sym two k)) (same_ends s.seat.cpu.0 p.seat.cpu.0 s.post.lanes s'.post.lanes p.post.lanes p'.post.lanes joined ones.lanes twos.lanes)
@@ -75,13 +75,13 @@ looked_post {B} p q looked = record {
 }
 
 -- one line changed, whose queue stays
-queues_change : (R : Lane → Lane → Type 0) (i : ℕ) (a b : List Lane) (c : Changes R i a b) → queued c.new.out ≡ queued c.old.out → (to : ℕ) (d : Lane) → queued (get_or b to d).out ≡ queued (get_or a to d).out
+queues_change : (R : Lane → Lane → Type 0) (i : ℕ) (a b : List Lane) (c : ChangesOne R i a b) → queued c.new.out ≡ queued c.old.out → (to : ℕ) (d : Lane) → queued (get_or b to d).out ≡ queued (get_or a to d).out
 queues_change R i a b c stays to d = dite (ℕ_discrete to i)
     (λ same. ap (λ l. queued (get_or l to d).out) c.now ∙ ap (λ n. queued (get_or (set a i c.new) n d).out) same ∙ ap (λ (l : Lane). queued l.out) (get_or-set_same a i c.new d c.there) ∙ stays ∙ ap (λ (l : Lane). queued l.out) (sym (get_or_default a i d c.old c.there ∙ c.was)) ∙ sym (ap (λ n. queued (get_or a n d).out) same))
     (λ apart. ap (λ l. queued (get_or l to d).out) c.now ∙ ap (λ (l : Lane). queued l.out) (get_or-set_other a i to c.new d apart))
 
 -- beside whose line to a number another one looked, it is looked at
-pub beside_looked : {B : Type 0} (to : ℕ) (s s' : Processor B) → Changes LooksBeside to s.post.lanes s'.post.lanes → s' ≡ record s { post = record s.post { lanes = s'.post.lanes } } → IsLooked s s'
+pub beside_looked : {B : Type 0} (to : ℕ) (s s' : Processor B) → ChangesOne LooksBeside to s.post.lanes s'.post.lanes → s' ≡ record s { post = record s.post { lanes = s'.post.lanes } } → IsLooked s s'
 beside_looked to s s' c is = record {
   lanes = lanes_change LooksBeside to s.post.lanes s'.post.lanes c c.does.beside.lane_same (ap (λ i. in_lane i) c.does.into_same);
   queues = queues_change LooksBeside to s.post.lanes s'.post.lanes c c.does.beside.queued_same;
@@ -89,7 +89,7 @@ beside_looked to s s' c is = record {
 }
 
 -- where a processor sees what another has sent, both are looked at
-pub sees_looked : {B : Type 0} (s s' p p' : Processor B) → Sees s s' p p' → IsLooked p p' × IsLooked s s'
+pub sees_looked : {B : Type 0} (s s' p p' : Processor B) → SeesLane s s' p p' → IsLooked p p' × IsLooked s s'
 sees_looked s s' p p' sees =
     let same = sight_lanes s.seat.cpu.0 p.seat.cpu.0 s.post.lanes s'.post.lanes p.post.lanes p'.post.lanes sees.lanes in
     let c = sees.lanes.sees in (
@@ -98,7 +98,7 @@ sees_looked s s' p p' sees =
     )
 
 -- where a processor sees what it has sent to itself, it is looked at
-pub sees_own_looked : {B : Type 0} (p p' : Processor B) → SeesOwn p p' → IsLooked p p'
+pub sees_own_looked : {B : Type 0} (p p' : Processor B) → SeesOwnLane p p' → IsLooked p p'
 sees_own_looked p p' own = record {
   lanes = own_lanes p.seat.cpu.0 p.post.lanes p'.post.lanes own.sees;
   queues = queues_change _ p.seat.cpu.0 p.post.lanes p'.post.lanes own.sees own.sees.does.beside.queued_same;

@@ -26,7 +26,7 @@ use Rattle.lwkt_cpu.specs.declared.threads.Thread.{Thread}
 use Rattle.lwkt_cpu.specs.Processors.{is_over, IsSettled, HoldsFor, IsAtRest, AllOver, processor_of}
 use Rattle.lwkt_cpu.specs.Searches.{IsOfOne, ended_by}
 use Rattle.lwkt_cpu.specs.Polling.{became}
-use Rattle.lwkt_cpu.specs.Stopping.{stopped, AreStopped}
+use Rattle.lwkt_cpu.specs.Stopping.{stopped, AreThreadsStopped}
 use Rattle.lwkt_lane.proofs.PlaceMoves.{get_set_same, get_set_other, some_same}
 use Rattle.lwkt_cpu.proofs.SearchMoves.{front_of_one}
 use Rattle.lwkt_cpu.proofs.RestMoves.{settled_none, set_settled, ended_awaits, set_awaits}
@@ -51,7 +51,7 @@ past_both : (olds news : List Thread) (k : ℕ) → length olds ≤ k → slice_
 past_both [] news k past = refl
 past_both (t ∷ olds) news k past = elim k as (λ i. length (t ∷ olds) ≤ i → slice_get (t ∷ olds) i ≡ None) [ zero ↦ λ p. absurd (omega (arith, p)) | suc i ↦ λ p. past_both olds news i (omega (arith, p)) ] past
 
-pub stopped_all : (olds news : List Thread) (at : ℕ) → length olds ≤ at → AreStoppedBelow at olds news → AreStopped olds news
+pub stopped_all : (olds news : List Thread) (at : ℕ) → length olds ≤ at → AreStoppedBelow at olds news → AreThreadsStopped olds news
 stopped_all olds news at past below = λ k. elim (cases_lt k at) [
   | inl less ↦ (below k).0 less
   | inr more ↦
@@ -71,7 +71,7 @@ from_map : (o : Option Thread) (t : Thread) → option_map stopped o ≡ Some t 
 from_map None t is = cc
 from_map (Some old) t is = (old, (refl, some_same t (stopped old) (Some t) refl (sym is)))
 
-pub over_stopped : (olds news : List Thread) → AreStopped olds news → AllOver news
+pub over_stopped : (olds news : List Thread) → AreThreadsStopped olds news → AllOver news
 over_stopped olds news all = λ k t at.
     let x = from_map (slice_get olds k) t (sym (all k) ∙ at) in
     ap (λ (y : Thread). is_over y.phase) x.1.1 ∙ ended_stopped x.0
@@ -81,13 +81,13 @@ stopped_settled_if : (s : CpuSeat) (b : Bool) (t : Thread) → is_over t.phase �
 stopped_settled_if s true t is settled = rw is settled
 stopped_settled_if s false t is settled = rw is (settled_none s (ended_by Exited t) refl refl)
 
-pub long_stopped : (olds news : List Thread) → AreStopped olds news → length news ≡ length olds
+pub long_stopped : (olds news : List Thread) → AreThreadsStopped olds news → length news ≡ length olds
 long_stopped [] [] all = refl
 long_stopped [] (t ∷ news) all = let e : Some t ≡ None = all 0 in cc
 long_stopped (t ∷ olds) [] all = let e : None ≡ Some (stopped t) = all 0 in cc
 long_stopped (t ∷ olds) (u ∷ news) all = ap (λ n. suc n) (long_stopped olds news (λ k. all (suc k)))
 
-pub rest_stopped : {B : Type 0} (s : CpuSeat) (post : Post) (bodies : List B) (olds news : List Thread) (running : Option ℕ) (cursor : ℕ) → running ≡ None → AreStopped olds news → IsAtRest (processor_of s post bodies olds running cursor) → IsAtRest (processor_of s post bodies news running cursor)
+pub rest_stopped : {B : Type 0} (s : CpuSeat) (post : Post) (bodies : List B) (olds news : List Thread) (running : Option ℕ) (cursor : ℕ) → running ≡ None → AreThreadsStopped olds news → IsAtRest (processor_of s post bodies olds running cursor) → IsAtRest (processor_of s post bodies news running cursor)
 rest_stopped s post bodies olds news running cursor none all rest = record {
   few = omega (arith, rest.few, long_stopped olds news all);
   as_many = rest.as_many ∙ sym (long_stopped olds news all);

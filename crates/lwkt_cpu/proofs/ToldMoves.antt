@@ -14,7 +14,7 @@ use Rattle.lwkt_hold.specs.declared.answers.Resumed.TheVariants.{All, Passed}
 use Rattle.lwkt_hold.specs.Givings.{gives_all}
 use Rattle.lwkt_hold.specs.Takings.{takes_all}
 use Rattle.lwkt_msg.specs.Desks.{Desk}
-use Rattle.lwkt_ask.specs.Telling.{TellsMail, IsQuiet}
+use Rattle.lwkt_ask.specs.Telling.{TellsMail, TellsTokensOnly}
 use Rattle.lwkt_ask.proofs.TellMoves.{quiet_none, mail_none, mail_then, mail_quiet, quiet_mail, plain_append, plain_takes_all, plain_gives_all}
 use Rattle.lwkt_cpu.specs.declared.answers.Turned.{Turned}
 use Rattle.lwkt_cpu.specs.Processors.{Processor}
@@ -24,11 +24,11 @@ use Rattle.lwkt_cpu.specs.Driving.{Made}
 use Rattle.lwkt_cpu.proofs.ShutMoves.{closed_seat}
 
 -- a trace with the same events
-pub quiet_items : (t u : List Event) → u ≡ t → IsQuiet t u
-quiet_items t u is = let F : List Event → Type 0 = λ x. IsQuiet t x in subst F (sym is) (quiet_none t)
+pub quiet_items : (t u : List Event) → u ≡ t → TellsTokensOnly t u
+quiet_items t u is = let F : List Event → Type 0 = λ x. TellsTokensOnly t x in subst F (sym is) (quiet_none t)
 
 -- a resume, whichever it was
-pub resumed_quiet : (cpu : CpuId) (refs : List Ref) (t u : List Event) (r : Resumed) → (r ≡ All → u ≡ t ++ takes_all cpu [] refs) → ((place : ℕ) (why : Missed) → r ≡ Passed place why → u ≡ t ++ (takes_all cpu [] (take place refs) ++ gives_all cpu [] (take place refs))) → IsQuiet t u
+pub resumed_quiet : (cpu : CpuId) (refs : List Ref) (t u : List Event) (r : Resumed) → (r ≡ All → u ≡ t ++ takes_all cpu [] refs) → ((place : ℕ) (why : Missed) → r ≡ Passed place why → u ≡ t ++ (takes_all cpu [] (take place refs) ++ gives_all cpu [] (take place refs))) → TellsTokensOnly t u
 resumed_quiet cpu refs t u All all passed = record { done = takes_all cpu [] refs; trace_is = all refl; quiet = plain_takes_all cpu [] refs }
 resumed_quiet cpu refs t u (Passed place why) all passed = record {
   done = takes_all cpu [] (take place refs) ++ gives_all cpu [] (take place refs);
@@ -42,7 +42,7 @@ chosen_post old new t u (Some place) found c = ap (λ p. p.post.seat) c.1
 chosen_post old new t u None found c = closed_seat is_worn new.threads (length new.threads) old.post new.post c.1
 
 -- a turn: room is made in the trace, mail is taken in, and a thread is chosen
-pub chosen_told : (a b c : Desk) (t r v u : List Event) → r ≡ t → TellsMail a b r v → IsQuiet v u → c ≡ b → TellsMail a c t u
+pub chosen_told : (a b c : Desk) (t r v u : List Event) → r ≡ t → TellsMail a b r v → TellsTokensOnly v u → c ≡ b → TellsMail a c t u
 chosen_told a b c t r v u same mail quiet is = mail_quiet a b c t v u (quiet_mail a a b t r v (quiet_items t r same) refl mail) quiet is
 
 -- turns made one after another

@@ -21,8 +21,8 @@ abbrev pub ClosesAt : (Phase → Bool) → List Thread → ℕ → Post → Post
 ClosesAt which threads number p q = (t : Thread) × ((slice_get threads number ≡ Some t) × ClosesIf (which t.phase) number p q)
 
 -- the ports of all such threads are closed, by rising number, and no other port
-abbrev pub Closes : (Phase → Bool) → List Thread → Post → Post → Type 0
-Closes which threads p q = Chain Post (ClosesAt which threads) (length threads) p q
+abbrev pub ClosesPorts : (Phase → Bool) → List Thread → Post → Post → Type 0
+ClosesPorts which threads p q = Chain Post (ClosesAt which threads) (length threads) p q
 
 -- whether a thread was ended by a last generation, which only a search for the next thread does
 abbrev pub is_worn : Phase → Bool

@@ -32,12 +32,12 @@ is_over Exited = true
 is_over (Faulted fault) = true
 
 -- what a thread is doing, by whether it runs
-abbrev pub state_of : Bool → Phase → ThreadState
-state_of runs Live = if runs then Running else Ready
-state_of runs AwaitsItem = Waiting
-state_of runs (AwaitsReply msg) = Waiting
-state_of runs Exited = HasExited
-state_of runs (Faulted fault) = WasFaulted fault
+abbrev pub thread_state : Bool → Phase → ThreadState
+thread_state runs Live = if runs then Running else Ready
+thread_state runs AwaitsItem = Waiting
+thread_state runs (AwaitsReply msg) = Waiting
+thread_state runs Exited = HasExited
+thread_state runs (Faulted fault) = WasFaulted fault
 
 abbrev pub is_running : Option ℕ → ℕ → Bool
 is_running None k = false

@@ -15,7 +15,7 @@ use Rattle.lwkt_hold.specs.declared.answers.Resumed.{Resumed}
 use Rattle.lwkt_hold.specs.declared.answers.Resumed.TheVariants.{All, Passed}
 use Rattle.lwkt_hold.specs.Fronts.{IsFront}
 use Rattle.lwkt_hold.specs.Runs.{Ran}
-use Rattle.lwkt_hold.specs.Rows.{IsClean}
+use Rattle.lwkt_hold.specs.Rows.{IsAllClean}
 use Rattle.lwkt_hold.specs.Misses.{Misses}
 use Rattle.lwkt_hold.specs.Stays.{Stays}
 use Rattle.lwkt_hold.specs.Holds.{Resumes}
@@ -56,15 +56,15 @@ tries cpu refs (Passed place why) = takes_all cpu [] (take place refs) ++ gives_
 
 -- a list is tried: it is held whole, or nothing is and a reference was missed; the events are those of the try, each one of the
 -- seat's steps, and of no token that is held a row was changed
-pub record Tries (a b : CpuSeat) (t u : Vec Event Global) (refs : List Ref) (answer : Resumed) : Type 0 where
+pub record TriesToHold (a b : CpuSeat) (t u : Vec Event Global) (refs : List Ref) (answer : Resumed) : Type 0 where
   pub ran : Ran (IsFront refs) 64 a b t u
   pub resumes : Resumes a b refs answer
   pub told : u.items ≡ t.items ++ tries a.cpu refs answer
-  pub clean : IsClean b
+  pub clean : IsAllClean b
 
 -- the list of a thread is tried, which it may be
 abbrev pub TriesList : CpuSeat → CpuSeat → Vec Event Global → Vec Event Global → Thread → Resumed → Type 0
-TriesList a b t u thread answer = (mid : CpuSeat) × (MayBeTried a mid thread × Tries mid b t u thread.list answer)
+TriesList a b t u thread answer = (mid : CpuSeat) × (MayBeTried a mid thread × TriesToHold mid b t u thread.list answer)
 
 -- a thread's list is missed: by a word that refused it, by a lost exchange, or at a last generation
 abbrev pub IsMissed : CpuSeat → CpuSeat → Vec Event Global → Vec Event Global → Thread → Thread → Type 0
@@ -130,9 +130,9 @@ abbrev pub Searches : ℕ → ℕ → Point → Point → Type 0
 Searches cursor skipped x y = Chain Point (SkipsNth cursor (length x.threads)) skipped x y
 
 -- a search finds the first thread from the cursor on, round once, that isn't skipped; or all are skipped, and nothing is held
-abbrev pub Finds : ℕ → Point → Point → Option ℕ → Type 0
-Finds cursor x y (Some place) = (nth : ℕ) × ((mid : Point) × ((nth < length x.threads) × IsNth cursor (length x.threads) nth place × Searches cursor nth x mid × IsUpAt place mid y))
-Finds cursor x y None = Searches cursor (length x.threads) x y × (holding y.seat ≡ holds_nothing)
+abbrev pub FindsThread : ℕ → Point → Point → Option ℕ → Type 0
+FindsThread cursor x y (Some place) = (nth : ℕ) × ((mid : Point) × ((nth < length x.threads) × IsNth cursor (length x.threads) nth place × Searches cursor nth x mid × IsUpAt place mid y))
+FindsThread cursor x y None = Searches cursor (length x.threads) x y × (holding y.seat ≡ holds_nothing)
 
 -- a holding is that of a front of some thread's list
 abbrev pub IsOfOne : List Thread → Holding → Type 0

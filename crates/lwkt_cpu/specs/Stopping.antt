@@ -13,7 +13,7 @@ use Rattle.lwkt_cpu.specs.declared.phases.Phase.TheVariants.{Exited}
 use Rattle.lwkt_cpu.specs.declared.threads.Thread.{Thread}
 use Rattle.lwkt_cpu.specs.Processors.{Processor, is_over, AllOver}
 use Rattle.lwkt_cpu.specs.Searches.{ended_by}
-use Rattle.lwkt_cpu.specs.Ending.{has_not_ended, Closes}
+use Rattle.lwkt_cpu.specs.Ending.{has_not_ended, ClosesPorts}
 use Rattle.lwkt_cpu.specs.Polling.{became}
 
 -- a thread after a stop: one that has ended stays as it is, and any other exits
@@ -21,8 +21,8 @@ abbrev pub stopped : Thread → Thread
 stopped t = if is_over t.phase then t else ended_by Exited t
 
 -- each thread is stopped
-abbrev pub AreStopped : List Thread → List Thread → Type 0
-AreStopped olds news = (k : ℕ) → slice_get news k ≡ option_map stopped (slice_get olds k)
+abbrev pub AreThreadsStopped : List Thread → List Thread → Type 0
+AreThreadsStopped olds news = (k : ℕ) → slice_get news k ≡ option_map stopped (slice_get olds k)
 
 -- the thread of this number gives up everything and ends: by itself, or, where a section had broken its law, by that fault; its
 -- port is closed
@@ -50,11 +50,11 @@ pub record Stops {B : Type 0} (old new : Processor B) (t u : Vec Event Global) :
   pub v : Vec Event Global
   pub halts : HaltsRunning old mid room v old.running
   pub shut : Post
-  pub closes : Closes has_not_ended mid.threads mid.post shut
+  pub closes : ClosesPorts has_not_ended mid.threads mid.post shut
   pub pays : PostPays shut new.post v u
   pub seat : new.seat ≡ mid.seat
   pub bodies : new.bodies ≡ old.bodies
-  pub threads : AreStopped mid.threads new.threads
+  pub threads : AreThreadsStopped mid.threads new.threads
   pub over : AllOver new.threads
   pub none_runs : new.running ≡ None
   pub empty : holding new.seat ≡ holds_nothing

@@ -13,8 +13,8 @@ use Rattle.lwkt_cpu.specs.declared.answers.Turned.{Turned}
 use Rattle.lwkt_cpu.specs.declared.answers.Turned.TheVariants.{Ran, Idle, AllExited}
 use Rattle.lwkt_cpu.specs.declared.threads.Thread.{Thread}
 use Rattle.lwkt_cpu.specs.Processors.{Processor, AllOver, IsAtRest}
-use Rattle.lwkt_cpu.specs.Searches.{point, Finds, IsOfOne}
-use Rattle.lwkt_cpu.specs.Ending.{is_worn, Closes}
+use Rattle.lwkt_cpu.specs.Searches.{point, FindsThread, IsOfOne}
+use Rattle.lwkt_cpu.specs.Ending.{is_worn, ClosesPorts}
 use Rattle.lwkt_cpu.specs.Polling.{Polls}
 use Rattle.lwkt_cpu.specs.Waking.{TakesMail}
 
@@ -27,7 +27,7 @@ cursor_after cursor (Some place) = place + 1
 -- of those that met a last generation are closed
 abbrev pub Chooses : {B : Type 0} → Processor B → Processor B → Vec Event Global → Vec Event Global → Option ℕ → Option ℕ → Type 0
 Chooses old new t u (Some place) found = (found ≡ Some place) × (new ≡ old) × (u ≡ t)
-Chooses old new t u None found = Finds old.cursor (point old.seat old.threads t) (point new.seat new.threads u) found × Closes is_worn new.threads old.post new.post × (new.bodies ≡ old.bodies) × (new.running ≡ found) × (new.cursor ≡ cursor_after old.cursor found)
+Chooses old new t u None found = FindsThread old.cursor (point old.seat old.threads t) (point new.seat new.threads u) found × ClosesPorts is_worn new.threads old.post new.post × (new.bodies ≡ old.bodies) × (new.running ≡ found) × (new.cursor ≡ cursor_after old.cursor found)
 
 -- the thread of this number can run and its list is held; its body is polled and its ask performed, and no other thread or body
 -- changes; it goes on running or not

@@ -13,7 +13,7 @@ use Rattle.lwkt_port.specs.Mails.{kept_mail_at}
 use Rattle.lwkt_port.specs.Posts.{Post, IsSamePost}
 use Rattle.lwkt_port.specs.Servings.{PostGets}
 use Rattle.lwkt_port.specs.Intakes.{PostTakesIn}
-use Rattle.lwkt_port.specs.Tellings.{Tells}
+use Rattle.lwkt_port.specs.Tellings.{TellsDeeds}
 use Rattle.lwkt_port.specs.Works.{Grew}
 use Rattle.lwkt_cpu.specs.declared.phases.Phase.{Phase}
 use Rattle.lwkt_cpu.specs.declared.phases.Phase.TheVariants.{Live, AwaitsItem, AwaitsReply, Exited, Faulted}
@@ -86,4 +86,4 @@ pub record LooksAfter (number : ℕ) (p q : Post) (t u : Vec Event Global) (old 
   pub live : old.phase ≡ Live → new ≡ old
   pub same : IsSamePost p q
   pub grew : Grew (desk_cpu p.seat) 128 t u
-  pub told : Tells p.seat q.seat t.items u.items
+  pub told : TellsDeeds p.seat q.seat t.items u.items

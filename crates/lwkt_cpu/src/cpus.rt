@@ -78,7 +78,7 @@ fn fits(ports: &Ports, count: usize) -> bool
 
 impl<B> Cpu<B> {
     ghost use Rattle.lwkt_cpu.specs.Processors.{IsAtRest};
-    ghost use Rattle.lwkt_cpu.specs.Shown.{IsNew, ShowsThread};
+    ghost use Rattle.lwkt_cpu.specs.Shown.{IsNewCpu, ShowsThread};
     ghost use Rattle.lwkt_base.specs.Fault.{no_memory};
 
     /// A processor over these seats, with a thread for each body, which is ready and was never polled. That the seats at bank and
@@ -91,7 +91,7 @@ impl<B> Cpu<B> {
         B: Drop,
         requires mine { desk_cpu ports.seat ≡ seat.cpu }
         requires empty { holding seat ≡ holds_nothing }
-        ensures ok { IfOk result (λ cpu. IsNew seat ports bodies.items cpu) }
+        ensures ok { IfOk result (λ cpu. IsNewCpu seat ports bodies.items cpu) }
         ensures only { OnErr result ((result ≡ Err no_memory) ⊎ ((result ≡ Err Fault.Limits) × ((16 < vec_len bodies) ⊎ (ports.threads ≢ vec_len bodies)))) }
     {
         let count = bodies.len();

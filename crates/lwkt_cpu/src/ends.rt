@@ -2,7 +2,7 @@
 ghost use Rattle.std.specs.Prelude.{◌≡◌, ◌<◌, ◌≤◌, length};
 ghost use Rattle.lwkt_port.specs.Posts.{IsSamePost};
 ghost use Rattle.lwkt_cpu.specs.Searches.{ended_by};
-ghost use Rattle.lwkt_cpu.specs.Ending.{ClosesIf, Closes, includes};
+ghost use Rattle.lwkt_cpu.specs.Ending.{ClosesIf, ClosesPorts, includes};
 ghost use Rattle.lwkt_ask.specs.Nexts.{next_with};
 ghost use Rattle.lwkt_cpu.specs.Polling.{became, goes_on};
 
@@ -40,7 +40,7 @@ pub(crate) fn close_if(ports: &mut Ports, number: u8, ends: bool)
 pub(crate) fn close_all(ports: &mut Ports, threads: &[Thread], which: ToClose)
     requires ported { ports.old.threads ≡ length threads.now }
     requires few { length threads.now ≤ 16 }
-    ensures closes { Closes (includes which) threads.now ports.old ports.new }
+    ensures closes { ClosesPorts (includes which) threads.now ports.old ports.new }
     ensures same { IsSamePost ports.old ports.new }
     ensures seat { ports.new.seat ≡ ports.old.seat }
 {

@@ -1,6 +1,6 @@
 //! Where two processors are both at hand, the one sees what the other has sent to it, and what it has sent to itself.
 ghost use Rattle.lwkt_port.specs.Posts.{IsSamePost};
-ghost use Rattle.lwkt_cpu.specs.Sights.{AreJoined, Sees, SeesOwn};
+ghost use Rattle.lwkt_cpu.specs.Sights.{AreLinked, SeesLane, SeesOwnLane};
 
 use crate::cpus::Cpu;
 
@@ -11,8 +11,8 @@ impl<B> Cpu<B> {
     /// That the lane from that processor to this one has its ends at them is the caller's condition.
     #[inline]
     pub fn see(&mut self, sender: &mut Cpu<B>)
-        requires { AreJoined sender.old self.old }
-        ensures sees { Sees sender.old sender.new self.old self.new }
+        requires { AreLinked sender.old self.old }
+        ensures sees { SeesLane sender.old sender.new self.old self.new }
         ensures same { IsSamePost self.old.post self.new.post }
         ensures sender { IsSamePost sender.old.post sender.new.post }
     {
@@ -23,8 +23,8 @@ impl<B> Cpu<B> {
     /// That this lane has both its ends here is the caller's condition.
     #[inline]
     pub fn see_own(&mut self)
-        requires { AreJoined self.old self.old }
-        ensures sees { SeesOwn self.old self.new }
+        requires { AreLinked self.old self.old }
+        ensures sees { SeesOwnLane self.old self.new }
         ensures same { IsSamePost self.old.post self.new.post }
     {
         self.ports.see_own();

@@ -10,11 +10,11 @@ ghost use Rattle.lwkt_cpu.specs.Turning.{IsMailed, HasSameEvents};
 ghost use Rattle.lwkt_msg.specs.Desks.{desk_cpu};
 ghost use Rattle.lwkt_port.specs.Closings.{PostPays};
 ghost use Rattle.lwkt_port.specs.Posts.{IsSamePost};
-ghost use Rattle.lwkt_port.specs.Tellings.{Tells};
+ghost use Rattle.lwkt_port.specs.Tellings.{TellsDeeds};
 ghost use Rattle.lwkt_port.specs.Works.{Grew};
-ghost use Rattle.lwkt_ask.specs.Telling.{TellsMail, IsQuiet};
-ghost use Rattle.lwkt_cpu.specs.Ending.{Closes, has_not_ended};
-ghost use Rattle.lwkt_cpu.specs.Stopping.{stopped, AreStopped, Halts, HaltsRunning, Stops};
+ghost use Rattle.lwkt_ask.specs.Telling.{TellsMail, TellsTokensOnly};
+ghost use Rattle.lwkt_cpu.specs.Ending.{ClosesPorts, has_not_ended};
+ghost use Rattle.lwkt_cpu.specs.Stopping.{stopped, AreThreadsStopped, Halts, HaltsRunning, Stops};
 
 use crate::cpus::Cpu;
 use crate::ends::{close_all, end, go_on};
@@ -38,7 +38,7 @@ fn stop_one(thread: &mut Thread)
 
 // Ends every thread that hasn't ended.
 fn stop_all(threads: &mut [Thread])
-    ensures { AreStopped threads.old threads.new }
+    ensures { AreThreadsStopped threads.old threads.new }
 {
     for at in 0..threads.len() {
         stop_one(&mut threads[at]);
@@ -55,7 +55,7 @@ impl<B> Cpu<B> {
         requires room { vec_len trace.old + 512 ≤ vec_capacity trace.old }
         ensures halts { Halts self.old self.new trace.old trace.new place }
         ensures ran { Ran (IsOfOne self.old.threads) 194 self.old.seat self.new.seat trace.old trace.new }
-        ensures quiet { IsQuiet trace.old.items trace.new.items }
+        ensures quiet { TellsTokensOnly trace.old.items trace.new.items }
         ensures same { IsSamePost self.old.post self.new.post }
     {
         let thread = &mut self.threads[place];
@@ -71,7 +71,7 @@ impl<B> Cpu<B> {
         requires room { vec_len trace.old + 512 ≤ vec_capacity trace.old }
         ensures halts { HaltsRunning self.old self.new trace.old trace.new self.old.running }
         ensures ran { Ran (IsOfOne self.old.threads) 194 self.old.seat self.new.seat trace.old trace.new }
-        ensures quiet { IsQuiet trace.old.items trace.new.items }
+        ensures quiet { TellsTokensOnly trace.old.items trace.new.items }
         ensures none { self.new.running ≡ None }
         ensures bodies { self.new.bodies ≡ self.old.bodies }
         ensures post { self.new.post.seat ≡ self.old.post.seat }
@@ -86,11 +86,11 @@ impl<B> Cpu<B> {
     // Every thread that hasn't ended ends, and its port is closed.
     fn end_all(&mut self)
         requires { self.old.running ≡ None }
-        ensures threads { AreStopped self.old.threads self.new.threads }
+        ensures threads { AreThreadsStopped self.old.threads self.new.threads }
         ensures over { AllOver self.new.threads }
         ensures seat { self.new.seat ≡ self.old.seat }
         ensures bodies { self.new.bodies ≡ self.old.bodies }
-        ensures closes { Closes has_not_ended self.old.threads self.old.post self.new.post }
+        ensures closes { ClosesPorts has_not_ended self.old.threads self.old.post self.new.post }
         ensures post { self.new.post.seat ≡ self.old.post.seat }
         ensures none { self.new.running ≡ None }
         ensures empty { holding self.new.seat ≡ holds_nothing }
@@ -111,7 +111,7 @@ impl<B> Cpu<B> {
         ensures running { self.new.running ≡ self.old.running }
         ensures grew { Grew (desk_cpu self.old.post.seat) 64 trace.old trace.new }
         ensures mine { desk_cpu self.old.post.seat ≡ self.old.seat.cpu }
-        ensures told { Tells self.old.post.seat self.new.post.seat trace.old.items trace.new.items }
+        ensures told { TellsDeeds self.old.post.seat self.new.post.seat trace.old.items trace.new.items }
         ensures same { IsSamePost self.old.post self.new.post }
     {
         self.ports.send_owed(book, trace);

@@ -7,7 +7,7 @@ ghost use Rattle.lwkt_cpu.specs.Processors.{AllOver, IsAtRest};
 ghost use Rattle.lwkt_cpu.specs.Searches.{IsOfOne};
 ghost use Rattle.lwkt_cpu.specs.Turning.{cursor_after, Chooses, RunsOne, IsMailed, IsOfThread, HasSameEvents, LacksRoom, MakesTurn};
 ghost use Rattle.lwkt_cpu.specs.Waking.{TakesMail, AreWoken};
-ghost use Rattle.lwkt_ask.specs.Telling.{TellsMail, IsQuiet};
+ghost use Rattle.lwkt_ask.specs.Telling.{TellsMail, TellsTokensOnly};
 
 use crate::answers::Turned;
 use crate::cpus::Cpu;
@@ -74,7 +74,7 @@ impl<B> Cpu<B> {
         ensures runs { self.new.running ≡ result }
         ensures mail { self.new.post.seat ≡ self.old.post.seat }
         ensures ran { Ran (IsOfOne self.old.threads) 1024 self.old.seat self.new.seat trace.old trace.new }
-        ensures quiet { IsQuiet trace.old.items trace.new.items }
+        ensures quiet { TellsTokensOnly trace.old.items trace.new.items }
         ensures same { IsSamePost self.old.post self.new.post }
     {
         match self.running {

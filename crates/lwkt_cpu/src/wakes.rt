@@ -2,7 +2,7 @@
 ghost use Rattle.std.specs.Prelude.{◌≡◌, ◌⊎◌, ℕ, ◌+◌, ◌*◌, ◌<◌, ◌≤◌, length, Some, slice_get, vec_len, vec_capacity};
 ghost use Rattle.lwkt_msg.specs.Desks.{desk_cpu, messages_of};
 ghost use Rattle.lwkt_port.specs.Posts.{IsSamePost};
-ghost use Rattle.lwkt_port.specs.Tellings.{Tells};
+ghost use Rattle.lwkt_port.specs.Tellings.{TellsDeeds};
 ghost use Rattle.lwkt_port.specs.Works.{Grew};
 ghost use Rattle.lwkt_cpu.specs.Processors.{Awaits, AllAwait};
 ghost use Rattle.lwkt_cpu.specs.Waking.{woken_by, replied_by, LooksAfter, WakesAll, ward, AreWoken};
@@ -100,7 +100,7 @@ pub(crate) fn wake_all(
     ensures woken { AreWoken threads.old threads.new }
     ensures same { IsSamePost ports.old ports.new }
     ensures grew { Grew (desk_cpu ports.old.seat) (128 * length threads.old) trace.old trace.new }
-    ensures told { Tells ports.old.seat ports.new.seat trace.old.items trace.new.items }
+    ensures told { TellsDeeds ports.old.seat ports.new.seat trace.old.items trace.new.items }
 {
     for at in 0..threads.len() {
         wake_one(ports, book, at as u8, &mut threads[at], trace);

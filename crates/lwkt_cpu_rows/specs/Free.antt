@@ -7,7 +7,7 @@ use Rattle.lwkt_msg.specs.Desks.{Desk, Shelf, IsOpened}
 use Rattle.lwkt_port.specs.Posts.{Post}
 
 -- a seat of this bank, which holds nothing
-pub record IsFree (bank : BankId) (s : CpuSeat) : Type 0 where
+pub record IsFreeSeat (bank : BankId) (s : CpuSeat) : Type 0 where
   pub of : bank_of s ≡ bank
   pub empty : holding s ≡ holds_nothing
 

@@ -1,7 +1,7 @@
 //! Bodies as lists of asks: two processors with their lists crossed, a broken law at a wait, and asks that name nothing.
 ghost use Rattle.std.specs.Prelude.{All};
 ghost use Rattle.lwkt_bank.specs.Seats.{id_of};
-ghost use Rattle.lwkt_cpu_rows.specs.Free.{IsFree, IsGiven};
+ghost use Rattle.lwkt_cpu_rows.specs.Free.{IsFreeSeat, IsGiven};
 
 use crate::drivers::{Board, Seats, add, next_driver};
 use crate::scenes::{Deed, PLAIN, Scene, Step, Token, expect, first_other_deed, open_all};
@@ -148,7 +148,7 @@ fn first_other_of(
     seats: &mut Seats,
     body: Box<dyn Body + Drop>,
 ) -> Result<Option<usize>, Fault>
-    requires seats { All (IsFree (id_of board.now.bank)) seats.old.seats.items }
+    requires seats { All (IsFreeSeat (id_of board.now.bank)) seats.old.seats.items }
     requires mails { All (IsGiven board.now.book) seats.old.mails.items }
 {
     let mut bodies = Vec::new(alloc);

@@ -3,7 +3,7 @@ ghost use Rattle.std.specs.Prelude.{◌≡◌, map, All, IfOk};
 ghost use Rattle.lwkt_base.specs.declared.openings.MsgSpec.{MsgSpec};
 ghost use Rattle.lwkt_bank.specs.Seats.{id_of, bank_of, cpus_of};
 ghost use Rattle.lwkt_msg.specs.Desks.{desk_cpu};
-ghost use Rattle.lwkt_cpu_rows.specs.Free.{IsFree, IsGiven, SitsAt};
+ghost use Rattle.lwkt_cpu_rows.specs.Free.{IsFreeSeat, IsGiven, SitsAt};
 
 use lwkt_bank::{Bank, CpuSeat};
 use lwkt_base::{Cells, CpuId, Fault, Law, MsgSpec, ThreadId, ThreadState, TokId, TokSpec};
@@ -76,7 +76,7 @@ pub fn add<T: Drop>(list: &mut Vec<T>, item: T) -> Result<(), Fault> {
 
 // A bank of these tokens, with a seat for each of so many processors.
 fn open_bank(alloc: Global, specs: &[TokSpec], cpus: usize) -> Result<(Bank, Vec<CpuSeat>), Fault>
-    ensures seats { IfOk result (λ opened. All (IsFree (id_of opened.0)) opened.1.items) }
+    ensures seats { IfOk result (λ opened. All (IsFreeSeat (id_of opened.0)) opened.1.items) }
     ensures cpus { IfOk result (λ opened. cpus_of opened.0 ≡ cpus) }
 {
     Bank::open(alloc, specs, cpus)
@@ -145,7 +145,7 @@ pub fn open(
     messages: &[MsgSpec],
     cpus: usize,
 ) -> Result<(Board, Seats), Fault>
-    ensures seats { IfOk result (λ opened. All (IsFree (id_of opened.0.bank)) opened.1.seats.items) }
+    ensures seats { IfOk result (λ opened. All (IsFreeSeat (id_of opened.0.bank)) opened.1.seats.items) }
     ensures mails { IfOk result (λ opened. All (IsGiven opened.0.book) opened.1.mails.items) }
     ensures bank { IfOk result (λ opened. cpus_of opened.0.bank ≡ cpus) }
     ensures book { IfOk result (λ opened. opened.0.book.cpus ≡ cpus) }
@@ -171,9 +171,9 @@ pub fn open(
 
 /// The seat of the last processor that is left, to look at words.
 pub fn next_watch<'a>(board: &'a Board, seats: &mut Seats) -> Option<Watch<'a>>
-    requires seats { All (IsFree (id_of board.now.bank)) seats.old.seats.items }
+    requires seats { All (IsFreeSeat (id_of board.now.bank)) seats.old.seats.items }
     requires mails { All (IsGiven board.now.book) seats.old.mails.items }
-    ensures seats { All (IsFree (id_of board.now.bank)) seats.new.seats.items }
+    ensures seats { All (IsFreeSeat (id_of board.now.bank)) seats.new.seats.items }
     ensures mails { All (IsGiven board.now.book) seats.new.mails.items }
 {
     let seat = seats.seats.pop()?;
@@ -215,9 +215,9 @@ fn next_ports(
     id: CpuId,
     threads: usize,
 ) -> Result<Ports, Fault>
-    requires seats { All (IsFree (id_of board.now.bank)) seats.old.seats.items }
+    requires seats { All (IsFreeSeat (id_of board.now.bank)) seats.old.seats.items }
     requires mails { All (IsGiven board.now.book) seats.old.mails.items }
-    ensures seats { All (IsFree (id_of board.now.bank)) seats.new.seats.items }
+    ensures seats { All (IsFreeSeat (id_of board.now.bank)) seats.new.seats.items }
     ensures mails { All (IsGiven board.now.book) seats.new.mails.items }
     ensures table { IfOk result (λ ports. ports.seat.table ≡ board.now.book.table) }
     ensures cpu { IfOk result (λ ports. desk_cpu ports.seat ≡ id) }
@@ -241,9 +241,9 @@ pub fn next_cpu<B: Drop>(
     seats: &mut Seats,
     bodies: Vec<B>,
 ) -> Result<Cpu<B>, Fault>
-    requires seats { All (IsFree (id_of board.now.bank)) seats.old.seats.items }
+    requires seats { All (IsFreeSeat (id_of board.now.bank)) seats.old.seats.items }
     requires mails { All (IsGiven board.now.book) seats.old.mails.items }
-    ensures seats { All (IsFree (id_of board.now.bank)) seats.new.seats.items }
+    ensures seats { All (IsFreeSeat (id_of board.now.bank)) seats.new.seats.items }
     ensures mails { All (IsGiven board.now.book) seats.new.mails.items }
     ensures cpu { IfOk result (λ cpu. SitsAt (id_of board.now.bank) board.now.book.table cpu.seat cpu.post) }
 {
@@ -259,9 +259,9 @@ pub fn next_cpu_of<B: Drop>(
     threads: usize,
     bodies: Vec<B>,
 ) -> Result<Cpu<B>, Fault>
-    requires seats { All (IsFree (id_of board.now.bank)) seats.old.seats.items }
+    requires seats { All (IsFreeSeat (id_of board.now.bank)) seats.old.seats.items }
     requires mails { All (IsGiven board.now.book) seats.old.mails.items }
-    ensures seats { All (IsFree (id_of board.now.bank)) seats.new.seats.items }
+    ensures seats { All (IsFreeSeat (id_of board.now.bank)) seats.new.seats.items }
     ensures mails { All (IsGiven board.now.book) seats.new.mails.items }
     ensures cpu { IfOk result (λ cpu. SitsAt (id_of board.now.bank) board.now.book.table cpu.seat cpu.post) }
 {
@@ -280,9 +280,9 @@ pub fn next_driver<'a, B: Drop>(
     seats: &mut Seats,
     bodies: Vec<B>,
 ) -> Result<Driver<'a, B>, Fault>
-    requires seats { All (IsFree (id_of board.now.bank)) seats.old.seats.items }
+    requires seats { All (IsFreeSeat (id_of board.now.bank)) seats.old.seats.items }
     requires mails { All (IsGiven board.now.book) seats.old.mails.items }
-    ensures seats { All (IsFree (id_of board.now.bank)) seats.new.seats.items }
+    ensures seats { All (IsFreeSeat (id_of board.now.bank)) seats.new.seats.items }
     ensures mails { All (IsGiven board.now.book) seats.new.mails.items }
 {
     let cpu = next_cpu(alloc, board, seats, bodies)?;

@@ -3,7 +3,7 @@
 ghost use Rattle.std.specs.Prelude.{◌≡◌, ◌<◌, All, IfOk};
 ghost use Rattle.lwkt_bank.specs.Seats.{id_of, cpus_of};
 ghost use Rattle.lwkt_bank.specs.Closing.{IsReady};
-ghost use Rattle.lwkt_cpu_rows.specs.Free.{IsFree, IsGiven, SitsAt};
+ghost use Rattle.lwkt_cpu_rows.specs.Free.{IsFreeSeat, IsGiven, SitsAt};
 
 use crate::closings::{close, end};
 use crate::drivers::{Board, Seats, add, next_cpu};
@@ -43,7 +43,7 @@ fn workers(alloc: Global, cpu: u8) -> Result<Vec<Worker>, Fault> {
 
 // Four processors.
 fn four(alloc: Global, board: &Board, seats: &mut Seats) -> Result<Vec<Cpu<Worker>>, Fault>
-    requires seats { All (IsFree (id_of board.now.bank)) seats.old.seats.items }
+    requires seats { All (IsFreeSeat (id_of board.now.bank)) seats.old.seats.items }
     requires mails { All (IsGiven board.now.book) seats.old.mails.items }
     ensures { IfOk result (λ cpus. All (λ cpu. SitsAt (id_of board.now.bank) board.now.book.table cpu.seat cpu.post) cpus.items) }
 {

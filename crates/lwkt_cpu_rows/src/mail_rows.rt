@@ -1,7 +1,7 @@
 //! Two processors and their messages: a call that is replied to, and a lane that is full.
 ghost use Rattle.std.specs.Prelude.{◌≡◌, All, IfOk};
 ghost use Rattle.lwkt_bank.specs.Seats.{id_of, cpus_of};
-ghost use Rattle.lwkt_cpu_rows.specs.Free.{IsFree, IsGiven, SitsAt};
+ghost use Rattle.lwkt_cpu_rows.specs.Free.{IsFreeSeat, IsGiven, SitsAt};
 
 use crate::closings::{close, end};
 use crate::drivers::{Board, Seats, next_cpu};
@@ -143,7 +143,7 @@ fn close_both(
 
 // The processor whose thread has made the 33 sends, all but the last of which were events.
 fn sender(alloc: Global, board: &Board, seats: &mut Seats) -> Result<Cpu<Script>, Fault>
-    requires seats { All (IsFree (id_of board.now.bank)) seats.old.seats.items }
+    requires seats { All (IsFreeSeat (id_of board.now.bank)) seats.old.seats.items }
     requires mails { All (IsGiven board.now.book) seats.old.mails.items }
     ensures { IfOk result (λ cpu. SitsAt (id_of board.now.bank) board.now.book.table cpu.seat cpu.post) }
 {

@@ -1,7 +1,7 @@
 //! Scenes: what the threads of some processors ask for, what the processors then do one after another, and what is seen.
 ghost use Rattle.std.specs.Prelude.{◌≡◌, All, IfOk};
 ghost use Rattle.lwkt_bank.specs.Seats.{id_of, cpus_of};
-ghost use Rattle.lwkt_cpu_rows.specs.Free.{IsFree, IsGiven};
+ghost use Rattle.lwkt_cpu_rows.specs.Free.{IsFreeSeat, IsGiven};
 
 use crate::drivers::{Board, Driver, Seats, Watch, add, next_driver, next_watch, open, token};
 use crate::scripts::{Script, one};
@@ -260,7 +260,7 @@ fn drivers_of<'a>(
     seats: &mut Seats,
     asks: &[&[Want]],
 ) -> Result<Vec<Driver<'a, Script>>, Fault>
-    requires seats { All (IsFree (id_of board.now.bank)) seats.old.seats.items }
+    requires seats { All (IsFreeSeat (id_of board.now.bank)) seats.old.seats.items }
     requires mails { All (IsGiven board.now.book) seats.old.mails.items }
 {
     let mut drivers = Vec::new(alloc);
@@ -280,7 +280,7 @@ pub fn open_all(
     messages: &[MsgSpec],
     cpus: usize,
 ) -> Result<(Board, Seats), Fault>
-    ensures seats { IfOk result (λ opened. All (IsFree (id_of opened.0.bank)) opened.1.seats.items) }
+    ensures seats { IfOk result (λ opened. All (IsFreeSeat (id_of opened.0.bank)) opened.1.seats.items) }
     ensures mails { IfOk result (λ opened. All (IsGiven opened.0.book) opened.1.mails.items) }
     ensures bank { IfOk result (λ opened. cpus_of opened.0.bank ≡ cpus) }
     ensures book { IfOk result (λ opened. opened.0.book.cpus ≡ cpus) }

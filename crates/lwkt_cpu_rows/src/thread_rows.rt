@@ -1,7 +1,7 @@
 //! Four threads, each driving a processor of its own.
 ghost use Rattle.std.specs.Prelude.{◌≡◌, All};
 ghost use Rattle.lwkt_bank.specs.Seats.{id_of};
-ghost use Rattle.lwkt_cpu_rows.specs.Free.{IsFree, IsGiven};
+ghost use Rattle.lwkt_cpu_rows.specs.Free.{IsFreeSeat, IsGiven};
 
 use crate::drivers::{Board, Driver, Seats, add, next_driver};
 use crate::scenes::{TALLY, has_heard, open_all};
@@ -104,9 +104,9 @@ fn four<'a>(
     board: &'a Board,
     seats: &mut Seats,
 ) -> Result<Vec<Driver<'a, Adder>>, Fault>
-    requires seats { All (IsFree (id_of board.now.bank)) seats.old.seats.items }
+    requires seats { All (IsFreeSeat (id_of board.now.bank)) seats.old.seats.items }
     requires mails { All (IsGiven board.now.book) seats.old.mails.items }
-    ensures seats { All (IsFree (id_of board.now.bank)) seats.new.seats.items }
+    ensures seats { All (IsFreeSeat (id_of board.now.bank)) seats.new.seats.items }
     ensures mails { All (IsGiven board.now.book) seats.new.mails.items }
 {
     let mut drivers = Vec::new(alloc);
@@ -124,9 +124,9 @@ fn add_up<R: Threads + Sync>(
     board: &Board,
     seats: &mut Seats,
 ) -> Result<(), Fault>
-    requires seats { All (IsFree (id_of board.now.bank)) seats.old.seats.items }
+    requires seats { All (IsFreeSeat (id_of board.now.bank)) seats.old.seats.items }
     requires mails { All (IsGiven board.now.book) seats.old.mails.items }
-    ensures seats { All (IsFree (id_of board.now.bank)) seats.new.seats.items }
+    ensures seats { All (IsFreeSeat (id_of board.now.bank)) seats.new.seats.items }
     ensures mails { All (IsGiven board.now.book) seats.new.mails.items }
 {
     let mut drivers = four(alloc, board, seats)?;
@@ -151,7 +151,7 @@ const READ: [Heard; 5] = [
 
 // Whether one more processor reads what was added.
 fn is_added(alloc: Global, board: &Board, seats: &mut Seats) -> Result<bool, Fault>
-    requires seats { All (IsFree (id_of board.now.bank)) seats.old.seats.items }
+    requires seats { All (IsFreeSeat (id_of board.now.bank)) seats.old.seats.items }
     requires mails { All (IsGiven board.now.book) seats.old.mails.items }
 {
     let mut reader = next_driver(alloc, board, seats, one(alloc, &READS)?)?;

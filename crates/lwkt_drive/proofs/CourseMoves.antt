@@ -25,7 +25,7 @@ use Rattle.lwkt_drive.specs.declared.driven.Driven.{Driven}
 use Rattle.lwkt_drive.specs.declared.driven.Limits.{Limits}
 use Rattle.lwkt_drive.specs.declared.driven.Said.{Said}
 use Rattle.lwkt_drive.specs.declared.driven.Ending.{Ending}
-use Rattle.lwkt_drive.specs.Course.{IsAt, IsWithin, GoesOn, EndsBy, WasSilent, EndsSilent, agreed, heard, said_at_end, MakesOne, Stays, IsDriven, EndedSilently, IsUnderWay, IsSo, ComesTo, GoesTo, DrivesOn, DrivesOut, drive_begun, counts}
+use Rattle.lwkt_drive.specs.Course.{IsAtTables, IsBelowLimits, MakesAnother, EndsBy, WasSilent, EndsSilent, agreed, heard, said_at_end, MakesOne, StaysAndWhy, IsDriven, EndedSilently, IsUnderWay, IsSo, ComesTo, GoesTo, DrivesOn, DrivesOut, drive_begun, counts}
 
 -- a turn more, after others
 pub made_more : {B : Type 0} (polled : B → Answer → Ask → B → Type 0) (bank : BankId) (old mid new : Processor B) (t v u : Vec Event Global) (turns : List Turned) (turned : Turned) → Made polled bank old mid t v turns → MakesTurn polled bank mid new v u turned → Made polled bank old new t u (turns ++ turned ∷ [])
@@ -140,12 +140,12 @@ counted_all drove Idle = omega arith
 counted_all drove AllExited = omega arith
 
 -- each turn so far was made where the processor went on, and so is one more
-going_more : (answers : CpuId → ℕ → Bool → Type 0) (limits : Limits) (cpu : CpuId) (turns : List Turned) (turned : Turned) → ((k : ℕ) → k < length turns → GoesOn answers limits cpu k (counts (take k turns))) → GoesOn answers limits cpu (length turns) (counts turns) → (k : ℕ) → k < length (turns ++ turned ∷ []) → GoesOn answers limits cpu k (counts (take k (turns ++ turned ∷ [])))
+going_more : (answers : CpuId → ℕ → Bool → Type 0) (limits : Limits) (cpu : CpuId) (turns : List Turned) (turned : Turned) → ((k : ℕ) → k < length turns → MakesAnother answers limits cpu k (counts (take k turns))) → MakesAnother answers limits cpu (length turns) (counts turns) → (k : ℕ) → k < length (turns ++ turned ∷ []) → MakesAnother answers limits cpu k (counts (take k (turns ++ turned ∷ [])))
 going_more answers limits cpu turns turned going last k less =
-    let F : List Turned → Type 0 = λ xs. GoesOn answers limits cpu k (counts xs) in
-    let G : ℕ → Type 0 = λ n. GoesOn answers limits cpu n (counts turns) in
+    let F : List Turned → Type 0 = λ xs. MakesAnother answers limits cpu k (counts xs) in
+    let G : ℕ → Type 0 = λ n. MakesAnother answers limits cpu n (counts turns) in
     let within : k ≤ length turns = omega (arith, length-append turns (turned ∷ []), less) in
-    let here : GoesOn answers limits cpu k (counts (take k turns)) = elim (cases_lt k (length turns)) [
+    let here : MakesAnother answers limits cpu k (counts (take k turns)) = elim (cases_lt k (length turns)) [
       | inl before ↦ going k before
       | inr past ↦ let at : length turns ≡ k = omega (arith, past, within) in subst F (sym (take_all k turns past)) (subst G at last)
     ] in
@@ -155,10 +155,10 @@ going_more answers limits cpu turns turned going last k less =
 pub under_more : {B : Type 0} (polled : B → Answer → Ask → B → Type 0) (answers : CpuId → ℕ → Bool → Type 0) (bank : BankId) (limits : Limits) (old mid new : Driven B) (turn : ℕ) → mid.drove.ran + mid.drove.idle ≡ turn → IsUnderWay polled answers bank limits old mid → MakesOne polled answers bank limits turn mid new → new.id ≡ mid.id → IsUnderWay polled answers bank limits old new
 under_more {B} polled answers bank limits old mid new turn total u m same =
     let long : length u.turns ≡ turn = sym u.all ∙ total in
-    let I : CpuId → Type 0 = λ id. GoesOn answers limits id turn mid.drove in
-    let N : ℕ → Type 0 = λ n. GoesOn answers limits old.id n mid.drove in
-    let D : Drove → Type 0 = λ d. GoesOn answers limits old.id (length u.turns) d in
-    let last : GoesOn answers limits old.id (length u.turns) (counts u.turns) = subst D u.drove (subst N (sym long) (subst I u.same m.goes)) in
+    let I : CpuId → Type 0 = λ id. MakesAnother answers limits id turn mid.drove in
+    let N : ℕ → Type 0 = λ n. MakesAnother answers limits old.id n mid.drove in
+    let D : Drove → Type 0 = λ d. MakesAnother answers limits old.id (length u.turns) d in
+    let last : MakesAnother answers limits old.id (length u.turns) (counts u.turns) = subst D u.drove (subst N (sym long) (subst I u.same m.goes)) in
     let T : Drove → Type 0 = λ d. d.ran + d.idle ≡ length (u.turns ++ m.turned ∷ []) in
     record {
       turns = u.turns ++ m.turned ∷ [];
@@ -172,9 +172,9 @@ under_more {B} polled answers bank limits old mid new turn total u m same =
       seat = m.makes.ran.cpu ∙ u.seat;
     }
 
-within_more : {B : Type 0} (polled : B → Answer → Ask → B → Type 0) (answers : CpuId → ℕ → Bool → Type 0) (bank : BankId) (limits : Limits) (mid new : Driven B) (turn : ℕ) → MakesOne polled answers bank limits turn mid new → IsWithin limits new.drove
+within_more : {B : Type 0} (polled : B → Answer → Ask → B → Type 0) (answers : CpuId → ℕ → Bool → Type 0) (bank : BankId) (limits : Limits) (mid new : Driven B) (turn : ℕ) → MakesOne polled answers bank limits turn mid new → IsBelowLimits limits new.drove
 within_more polled answers bank limits mid new turn m =
-    let W : Drove → Type 0 = λ d. IsWithin limits d in
+    let W : Drove → Type 0 = λ d. IsBelowLimits limits d in
     subst W (sym m.drove) (record {
       ran = omega (arith, counted_ran mid.drove m.turned, m.goes.ran);
       idle = omega (arith, counted_idle mid.drove m.turned, m.goes.idle);
@@ -186,7 +186,7 @@ total_more polled answers bank limits mid new turn total m =
     subst T (sym m.drove) (omega (arith, counted_all mid.drove m.turned, total))
 
 -- there was a reason to make no further turn
-driven_by : {B : Type 0} (polled : B → Answer → Ask → B → Type 0) (answers : CpuId → ℕ → Bool → Type 0) (bank : BankId) (limits : Limits) (old mid new : Driven B) (ending : Ending) (turn : ℕ) → mid.drove.ran + mid.drove.idle ≡ turn → IsUnderWay polled answers bank limits old mid → Stays answers limits turn mid new ending → new.id ≡ mid.id → IsDriven polled answers bank limits old new ending
+driven_by : {B : Type 0} (polled : B → Answer → Ask → B → Type 0) (answers : CpuId → ℕ → Bool → Type 0) (bank : BankId) (limits : Limits) (old mid new : Driven B) (ending : Ending) (turn : ℕ) → mid.drove.ran + mid.drove.idle ≡ turn → IsUnderWay polled answers bank limits old mid → StaysAndWhy answers limits turn mid new ending → new.id ≡ mid.id → IsDriven polled answers bank limits old new ending
 driven_by {B} polled answers bank limits old mid new ending turn total u s same =
     let long : length u.turns ≡ turn = sym u.all ∙ total in
     let M : Processor B → Type 0 = λ p. (made : Made polled bank old.cpu p old.trace mid.trace u.turns) × (new.silent ≡ true → EndsSilent polled bank old.cpu p old.trace mid.trace u.turns made) in
@@ -210,7 +210,7 @@ driven_by {B} polled answers bank limits old mid new ending turn total u s same 
     }
 
 -- both limits are reached
-driven_out : {B : Type 0} (polled : B → Answer → Ask → B → Type 0) (answers : CpuId → ℕ → Bool → Type 0) (bank : BankId) (limits : Limits) (old new : Driven B) → limits.turns + limits.idle ≤ new.drove.ran + new.drove.idle → IsWithin limits new.drove → IsUnderWay polled answers bank limits old new → IsDriven polled answers bank limits old new TurnsOut
+driven_out : {B : Type 0} (polled : B → Answer → Ask → B → Type 0) (answers : CpuId → ℕ → Bool → Type 0) (bank : BankId) (limits : Limits) (old new : Driven B) → limits.turns + limits.idle ≤ new.drove.ran + new.drove.idle → IsBelowLimits limits new.drove → IsUnderWay polled answers bank limits old new → IsDriven polled answers bank limits old new TurnsOut
 driven_out polled answers bank limits old new reached within u = record {
   turns = u.turns;
   v = new.trace;
@@ -230,10 +230,10 @@ pub record IsGoing {B : Type 0} (polled : B → Answer → Ask → B → Type 0)
   pub under : (old : Driven B) → IsUnderWay polled answers bank limits old first → IsUnderWay polled answers bank limits old now
   pub total : now.drove.ran + now.drove.idle ≡ turn
   pub least : first.drove.ran + first.drove.idle ≤ turn
-  pub within : IsWithin limits now.drove
-  pub at : IsAt bank book now
+  pub within : IsBelowLimits limits now.drove
+  pub at : IsAtTables bank book now
 
-pub going_none : {B : Type 0} (polled : B → Answer → Ask → B → Type 0) (answers : CpuId → ℕ → Bool → Type 0) (bank : BankId) (book : TableId) (limits : Limits) (d : Driven B) → IsAt bank book d → IsWithin limits d.drove → IsGoing polled answers bank book limits d d (d.drove.ran + d.drove.idle)
+pub going_none : {B : Type 0} (polled : B → Answer → Ask → B → Type 0) (answers : CpuId → ℕ → Bool → Type 0) (bank : BankId) (book : TableId) (limits : Limits) (d : Driven B) → IsAtTables bank book d → IsBelowLimits limits d.drove → IsGoing polled answers bank book limits d d (d.drove.ran + d.drove.idle)
 going_none polled answers bank book limits d at within = record {
   under = λ old u. u;
   total = refl;
@@ -242,7 +242,7 @@ going_none polled answers bank book limits d at within = record {
   at = at;
 }
 
-pub going_one : {B : Type 0} (polled : B → Answer → Ask → B → Type 0) (answers : CpuId → ℕ → Bool → Type 0) (bank : BankId) (book : TableId) (limits : Limits) (first mid new : Driven B) (turn : ℕ) → IsGoing polled answers bank book limits first mid turn → MakesOne polled answers bank limits turn mid new → IsAt bank book new → new.id ≡ mid.id → IsGoing polled answers bank book limits first new (turn + 1)
+pub going_one : {B : Type 0} (polled : B → Answer → Ask → B → Type 0) (answers : CpuId → ℕ → Bool → Type 0) (bank : BankId) (book : TableId) (limits : Limits) (first mid new : Driven B) (turn : ℕ) → IsGoing polled answers bank book limits first mid turn → MakesOne polled answers bank limits turn mid new → IsAtTables bank book new → new.id ≡ mid.id → IsGoing polled answers bank book limits first new (turn + 1)
 going_one polled answers bank book limits first mid new turn g m at same = record {
   under = λ old u. under_more polled answers bank limits old mid new turn g.total (g.under old u) m same;
   total = total_more polled answers bank limits mid new turn g.total m;
@@ -273,10 +273,10 @@ comes_more polled answers bank book limits first mid new turn ending g comes is 
   | inr stays ↦ absurd (never answers limits mid.id turn mid.drove mid.silent new.trace ending is stays.ends)
 ]
 
-pub comes_within : {B : Type 0} (polled : B → Answer → Ask → B → Type 0) (answers : CpuId → ℕ → Bool → Type 0) (bank : BankId) (book : TableId) (limits : Limits) (first mid new : Driven B) (turn : ℕ) (ending : Ending) → IsGoing polled answers bank book limits first mid turn → ComesTo polled answers bank limits turn mid new ending → IsWithin limits new.drove
+pub comes_within : {B : Type 0} (polled : B → Answer → Ask → B → Type 0) (answers : CpuId → ℕ → Bool → Type 0) (bank : BankId) (book : TableId) (limits : Limits) (first mid new : Driven B) (turn : ℕ) (ending : Ending) → IsGoing polled answers bank book limits first mid turn → ComesTo polled answers bank limits turn mid new ending → IsBelowLimits limits new.drove
 comes_within polled answers bank book limits first mid new turn ending g comes = elim comes [
   | inl made ↦ within_more polled answers bank limits mid new turn made.1
-  | inr stays ↦ let W : Drove → Type 0 = λ d. IsWithin limits d in subst W (sym stays.drove) g.within
+  | inr stays ↦ let W : Drove → Type 0 = λ d. IsBelowLimits limits d in subst W (sym stays.drove) g.within
 ]
 
 -- an end that is noted changes nothing else
@@ -326,7 +326,7 @@ out_ended polled answers bank limits least first now w ended old so = elim (w.so
   | inr driven ↦ driven
 ]
 
-out_left : {B : Type 0} (polled : B → Answer → Ask → B → Type 0) (answers : CpuId → ℕ → Bool → Type 0) (bank : BankId) (limits : Limits) (least : ℕ) (first now : Driven B) → limits.turns + limits.idle < least → Went polled answers bank limits least first now → IsWithin limits now.drove → DrivesOut polled answers bank limits first now
+out_left : {B : Type 0} (polled : B → Answer → Ask → B → Type 0) (answers : CpuId → ℕ → Bool → Type 0) (bank : BankId) (limits : Limits) (least : ℕ) (first now : Driven B) → limits.turns + limits.idle < least → Went polled answers bank limits least first now → IsBelowLimits limits now.drove → DrivesOut polled answers bank limits first now
 out_left polled answers bank limits least first now many w within old so = elim (w.so old so) [
   | inl under ↦ let l = w.more under.0 in absurd (omega (arith, l, many, within.ran, within.idle))
   | inr driven ↦ driven
@@ -353,13 +353,13 @@ zip_with R T P step (x ∷ xs) (y ∷ ys) r p = (step x y r.0 (p 0 y (omega arit
 -- processors between two slices
 pub record AreGoing {B : Type 0} (polled : B → Answer → Ask → B → Type 0) (answers : CpuId → ℕ → Bool → Type 0) (bank : BankId) (book : TableId) (limits : Limits) (first now : List (Driven B)) (least : ℕ) : Type 0 where
   pub went : AllZip (Went polled answers bank limits least) first now
-  pub at : All (IsAt bank book) now
-  pub within : All (λ d. IsWithin limits d.drove) now
+  pub at : All (IsAtTables bank book) now
+  pub within : All (λ d. IsBelowLimits limits d.drove) now
 
-pub are_none : {B : Type 0} (polled : B → Answer → Ask → B → Type 0) (answers : CpuId → ℕ → Bool → Type 0) (bank : BankId) (book : TableId) (limits : Limits) (all : List (Driven B)) → All (IsAt bank book) all → All (λ d. IsWithin limits d.drove) all → AreGoing polled answers bank book limits all all 0
+pub are_none : {B : Type 0} (polled : B → Answer → Ask → B → Type 0) (answers : CpuId → ℕ → Bool → Type 0) (bank : BankId) (book : TableId) (limits : Limits) (all : List (Driven B)) → All (IsAtTables bank book) all → All (λ d. IsBelowLimits limits d.drove) all → AreGoing polled answers bank book limits all all 0
 are_none polled answers bank book limits all at within = record { went = zip_refl (Went polled answers bank limits 0) (went_none polled answers bank limits) all; at = at; within = within }
 
-pub are_more : {B : Type 0} (polled : B → Answer → Ask → B → Type 0) (answers : CpuId → ℕ → Bool → Type 0) (bank : BankId) (book : TableId) (limits : Limits) (first mid new : List (Driven B)) (least : ℕ) → AreGoing polled answers bank book limits first mid least → AllZip (DrivesOn polled answers bank limits) mid new → All (IsAt bank book) new → All (λ d. IsWithin limits d.drove) new → AreGoing polled answers bank book limits first new (least + 1)
+pub are_more : {B : Type 0} (polled : B → Answer → Ask → B → Type 0) (answers : CpuId → ℕ → Bool → Type 0) (bank : BankId) (book : TableId) (limits : Limits) (first mid new : List (Driven B)) (least : ℕ) → AreGoing polled answers bank book limits first mid least → AllZip (DrivesOn polled answers bank limits) mid new → All (IsAtTables bank book) new → All (λ d. IsBelowLimits limits d.drove) new → AreGoing polled answers bank book limits first new (least + 1)
 are_more polled answers bank book limits first mid new least g on at within = record {
   went = zip_then (Went polled answers bank limits least) (DrivesOn polled answers bank limits) (Went polled answers bank limits (least + 1)) (went_more polled answers bank limits least) first mid new g.went on;
   at = at;
@@ -370,7 +370,7 @@ pub are_ended : {B : Type 0} (polled : B → Answer → Ask → B → Type 0) (a
 are_ended polled answers bank book limits first now least g ended = zip_with (Went polled answers bank limits least) (DrivesOut polled answers bank limits) (λ d. d.ending ≡ NotDriven → ⊥) (out_ended polled answers bank limits least) first now g.went ended
 
 pub are_out : {B : Type 0} (polled : B → Answer → Ask → B → Type 0) (answers : CpuId → ℕ → Bool → Type 0) (bank : BankId) (book : TableId) (limits : Limits) (first now : List (Driven B)) (least : ℕ) → limits.turns + limits.idle < least → AreGoing polled answers bank book limits first now least → AllZip (DrivesOut polled answers bank limits) first now
-are_out polled answers bank book limits first now least many g = zip_with (Went polled answers bank limits least) (DrivesOut polled answers bank limits) (λ d. IsWithin limits d.drove) (λ x y w within. out_left polled answers bank limits least x y many w within) first now g.went g.within
+are_out polled answers bank book limits first now least many g = zip_with (Went polled answers bank limits least) (DrivesOut polled answers bank limits) (λ d. IsBelowLimits limits d.drove) (λ x y w within. out_left polled answers bank limits least x y many w within) first now g.went g.within
 
 -- from before their first turns to their ends
 driven_whole : {B : Type 0} (polled : B → Answer → Ask → B → Type 0) (answers : CpuId → ℕ → Bool → Type 0) (bank : BankId) (limits : Limits) (old mid new : Driven B) → mid ≡ drive_begun old → DrivesOut polled answers bank limits mid new → IsDriven polled answers bank limits old new new.ending
@@ -381,22 +381,22 @@ driven_whole {B} polled answers bank limits old mid new is out =
 pub are_driven : {B : Type 0} (polled : B → Answer → Ask → B → Type 0) (answers : CpuId → ℕ → Bool → Type 0) (bank : BankId) (limits : Limits) (olds mids news : List (Driven B)) → AllZip (λ old new. new ≡ drive_begun old) olds mids → AllZip (DrivesOut polled answers bank limits) mids news → AllZip (λ old new. IsDriven polled answers bank limits old new new.ending) olds news
 are_driven polled answers bank limits olds mids news begins out = zip_then (λ old new. new ≡ drive_begun old) (DrivesOut polled answers bank limits) (λ old new. IsDriven polled answers bank limits old new new.ending) (driven_whole polled answers bank limits) olds mids news begins out
 
-at_begun : {B : Type 0} (bank : BankId) (book : TableId) (old new : Driven B) → new ≡ drive_begun old → IsAt bank book old → IsAt bank book new
+at_begun : {B : Type 0} (bank : BankId) (book : TableId) (old new : Driven B) → new ≡ drive_begun old → IsAtTables bank book old → IsAtTables bank book new
 at_begun {B} bank book old new is at =
-    let F : Driven B → Type 0 = λ d. IsAt bank book d in
+    let F : Driven B → Type 0 = λ d. IsAtTables bank book d in
     subst F (sym is) (record { bank_is = at.bank_is; book_is = at.book_is })
 
-pub all_at : {B : Type 0} (bank : BankId) (book : TableId) (olds news : List (Driven B)) → AllZip (λ old new. new ≡ drive_begun old) olds news → All (IsAt bank book) olds → All (IsAt bank book) news
+pub all_at : {B : Type 0} (bank : BankId) (book : TableId) (olds news : List (Driven B)) → AllZip (λ old new. new ≡ drive_begun old) olds news → All (IsAtTables bank book) olds → All (IsAtTables bank book) news
 all_at bank book olds news zip at k d less =
     let less' : k < length olds = omega (arith, less, length_all_zip (λ old new. new ≡ drive_begun old) olds news zip) in
     at_begun bank book (slice_index_or olds k d) (slice_index_or news k d) (AllZip-get_or (λ old new. new ≡ drive_begun old) olds news k d d zip less') (at k d less')
 
-within_begun : {B : Type 0} (limits : Limits) (old new : Driven B) → new ≡ drive_begun old → IsWithin limits new.drove
+within_begun : {B : Type 0} (limits : Limits) (old new : Driven B) → new ≡ drive_begun old → IsBelowLimits limits new.drove
 within_begun {B} limits old new is =
-    let F : Driven B → Type 0 = λ d. IsWithin limits d.drove in
+    let F : Driven B → Type 0 = λ d. IsBelowLimits limits d.drove in
     subst F (sym is) (record { ran = omega arith; idle = omega arith })
 
-pub all_within : {B : Type 0} (limits : Limits) (olds news : List (Driven B)) → AllZip (λ old new. new ≡ drive_begun old) olds news → All (λ d. IsWithin limits d.drove) news
+pub all_within : {B : Type 0} (limits : Limits) (olds news : List (Driven B)) → AllZip (λ old new. new ≡ drive_begun old) olds news → All (λ d. IsBelowLimits limits d.drove) news
 all_within limits olds news zip k d less =
     let less' : k < length olds = omega (arith, less, length_all_zip (λ old new. new ≡ drive_begun old) olds news zip) in
     within_begun limits (slice_index_or olds k d) (slice_index_or news k d) (AllZip-get_or (λ old new. new ≡ drive_begun old) olds news k d d zip less')

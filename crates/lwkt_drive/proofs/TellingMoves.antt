@@ -28,15 +28,15 @@ use Rattle.lwkt_cpu.specs.declared.answers.Turned.{Turned}
 use Rattle.lwkt_cpu.specs.Processors.{Processor}
 use Rattle.lwkt_cpu.specs.Turning.{IsOfThread}
 use Rattle.lwkt_cpu.specs.Driving.{Made}
-use Rattle.lwkt_drive.specs.Telling.{IsTold, IsMailTold, TellOneMailRun, TracesTellOneRun}
+use Rattle.lwkt_drive.specs.Telling.{TellsSeat, IsMailTold, TellOneMailRun, TracesTellOneRun}
 
-pub told_new : (s : CpuSeat) → IsNew s → IsTold s []
+pub told_new : (s : CpuSeat) → IsNew s → TellsSeat s []
 told_new s new = record {
   tells = let F : List Deed → Type 0 = λ past. Tells (events_by s.cpu.0 past) [] in subst F (sym new.past) refl;
   own = All-nil (λ (e : Event). cpu_of e ≡ s.cpu.0);
 }
 
-pub told_ran : (P : Holding → Type 0) (most : ℕ) (a b : CpuSeat) (t u : Vec Event Global) → Ran P most a b t u → IsTold a t.items → IsTold b u.items
+pub told_ran : (P : Holding → Type 0) (most : ℕ) (a b : CpuSeat) (t u : Vec Event Global) → Ran P most a b t u → TellsSeat a t.items → TellsSeat b u.items
 told_ran P most a b t u ran told =
     let grown : events_of b ≡ events_of a ++ events_in ran.deeds = ap (λ (k : CpuId). events_by k.0 (past_of b)) ran.cpu ∙ events_by-grows a.cpu.0 (past_of a) ran.deeds (past_of b) ran.grows ran.mine in
     let E : List Event → Type 0 = λ es. Tells es (filter is_of_token u.items) in
@@ -49,16 +49,16 @@ told_ran P most a b t u ran told =
       own = subst C (sym ran.cpu) (subst X (sym ran.trace) (All-append (λ (e : Event). cpu_of e ≡ a.cpu.0) t.items ran.done told.own ran.own));
     }
 
-pub told_made : {B : Type 0} (polled : B → Answer → Ask → B → Type 0) (bank : BankId) (old new : Processor B) (t u : Vec Event Global) (turns : List Turned) → Made polled bank old new t u turns → IsTold old.seat t.items → IsTold new.seat u.items
+pub told_made : {B : Type 0} (polled : B → Answer → Ask → B → Type 0) (bank : BankId) (old new : Processor B) (t u : Vec Event Global) (turns : List Turned) → Made polled bank old new t u turns → TellsSeat old.seat t.items → TellsSeat new.seat u.items
 told_made {B} polled bank old new t u [] made told =
-    let F : Processor B → Type 0 = λ p. IsTold p.seat u.items in
-    let G : Vec Event Global → Type 0 = λ v. IsTold old.seat v.items in
+    let F : Processor B → Type 0 = λ p. TellsSeat p.seat u.items in
+    let G : Vec Event Global → Type 0 = λ v. TellsSeat old.seat v.items in
     subst F (sym made.0) (subst G (sym made.1) told)
 told_made polled bank old new t u (turned ∷ turns) made told =
     told_made polled bank made.0 new made.1.0 u turns made.1.1.1 (told_ran (IsOfThread old.threads made.0.threads) 4096 old.seat made.0.seat t made.1.0 made.1.1.0.ran told)
 
 -- each processor's part of the history is what its trace tells
-pub told_part : (history : List Deed) (seats : List CpuSeat) (cpu : ℕ) (trace : List Event) (s : CpuSeat) → All (λ (x : CpuSeat). events_of x ≡ events_by x.cpu.0 history) seats → slice_get seats cpu ≡ Some s → s.cpu.0 ≡ cpu → IsTold s trace → Tells (events_by cpu history) (filter is_of_token trace) × All (λ e. cpu_of e ≡ cpu) trace
+pub told_part : (history : List Deed) (seats : List CpuSeat) (cpu : ℕ) (trace : List Event) (s : CpuSeat) → All (λ (x : CpuSeat). events_of x ≡ events_by x.cpu.0 history) seats → slice_get seats cpu ≡ Some s → s.cpu.0 ≡ cpu → TellsSeat s trace → Tells (events_by cpu history) (filter is_of_token trace) × All (λ e. cpu_of e ≡ cpu) trace
 told_part history seats cpu trace s all at same told =
     let F : CpuSeat → Type 0 = λ x. events_of x ≡ events_by x.cpu.0 history in
     let here : events_of s ≡ events_by s.cpu.0 history = subst F (get_or_from_slice_get seats cpu s s at) (all cpu s (slice_get_within seats cpu s at)) in
@@ -68,7 +68,7 @@ told_part history seats cpu trace s all at same told =
     (subst N same (subst E here told.tells), subst C same told.own)
 
 -- what was done more, wherever it was told: a processor's trace that told its seat, with these events more, tells it afterwards
-pub told_more : (P : Holding → Type 0) (most : ℕ) (a b : CpuSeat) (t u : Vec Event Global) (r : Ran P most a b t u) (trace : List Event) → IsTold a trace → IsTold b (trace ++ r.done)
+pub told_more : (P : Holding → Type 0) (most : ℕ) (a b : CpuSeat) (t u : Vec Event Global) (r : Ran P most a b t u) (trace : List Event) → TellsSeat a trace → TellsSeat b (trace ++ r.done)
 told_more P most a b t u ran trace told =
     let grown : events_of b ≡ events_of a ++ events_in ran.deeds = ap (λ (k : CpuId). events_by k.0 (past_of b)) ran.cpu ∙ events_by-grows a.cpu.0 (past_of a) ran.deeds (past_of b) ran.grows ran.mine in
     let E : List Event → Type 0 = λ es. Tells es (filter is_of_token (trace ++ ran.done)) in

@@ -19,7 +19,7 @@ use Rattle.lwkt_drive.specs.declared.driven.Ending.{Ending}
 use Rattle.lwkt_drive.specs.declared.driven.Ending.TheVariants.{NotDriven, Stopped, TurnsOut, IdleOut, AllExited, NoMemory, CalledOff, Quiet}
 
 -- a processor at this bank and book
-pub record IsAt {B : Type 0} (bank : BankId) (book : TableId) (d : Driven B) : Type 0 where
+pub record IsAtTables {B : Type 0} (bank : BankId) (book : TableId) (d : Driven B) : Type 0 where
   pub bank_is : bank_of d.cpu.seat ≡ bank
   pub book_is : d.cpu.post.seat.table ≡ book
 
@@ -28,12 +28,12 @@ abbrev pub counts : List Turned → Drove
 counts turns = fold with_turn none_driven turns
 
 -- neither limit is passed
-pub record IsWithin (limits : Limits) (drove : Drove) : Type 0 where
+pub record IsBelowLimits (limits : Limits) (drove : Drove) : Type 0 where
   pub ran : drove.ran ≤ limits.turns
   pub idle : drove.idle ≤ limits.idle
 
 -- after so many turns, counted so, a processor makes another: neither limit is reached, and the gate may let it go on
-pub record GoesOn (answers : CpuId → ℕ → Bool → Type 0) (limits : Limits) (cpu : CpuId) (turns : ℕ) (drove : Drove) : Type 0 where
+pub record MakesAnother (answers : CpuId → ℕ → Bool → Type 0) (limits : Limits) (cpu : CpuId) (turns : ℕ) (drove : Drove) : Type 0 where
   pub ran : drove.ran < limits.turns
   pub idle : drove.idle < limits.idle
   pub passed : answers cpu turns true
@@ -71,7 +71,7 @@ EndsBy answers limits cpu turns drove silent trace Stopped = answers cpu turns f
 EndsBy answers limits cpu turns drove silent trace TurnsOut = drove.ran ≡ limits.turns
 EndsBy answers limits cpu turns drove silent trace IdleOut = drove.idle ≡ limits.idle
 EndsBy answers limits cpu turns drove silent trace AllExited = drove.all_exited ≡ true
-EndsBy answers limits cpu turns drove silent trace (NoMemory refused) = GoesOn answers limits cpu turns drove × LacksRoom trace
+EndsBy answers limits cpu turns drove silent trace (NoMemory refused) = MakesAnother answers limits cpu turns drove × LacksRoom trace
 EndsBy answers limits cpu turns drove silent trace (CalledOff refused) = Unit {0}
 EndsBy answers limits cpu turns drove silent trace Quiet = silent ≡ true
 
@@ -94,14 +94,14 @@ EndsSilent polled bank old new t u (turned ∷ next ∷ turns) made = EndsSilent
 -- a processor makes its turn of this number, to which the gate says yes once and which is counted; it is marked only if it was silent
 pub record MakesOne {B : Type 0} (polled : B → Answer → Ask → B → Type 0) (answers : CpuId → ℕ → Bool → Type 0) (bank : BankId) (limits : Limits) (turn : ℕ) (old new : Driven B) : Type 0 where
   pub turned : Turned
-  pub goes : GoesOn answers limits old.id turn old.drove
+  pub goes : MakesAnother answers limits old.id turn old.drove
   pub makes : MakesTurn polled bank old.cpu new.cpu old.trace new.trace turned
   pub drove : new.drove ≡ with_turn old.drove turned
   pub silent : new.silent ≡ true → WasSilent turned old.trace new.trace
   pub said : new.said ≡ agreed old.said
 
 -- a processor stays as it is, and why
-pub record Stays {B : Type 0} (answers : CpuId → ℕ → Bool → Type 0) (limits : Limits) (turn : ℕ) (old new : Driven B) (ending : Ending) : Type 0 where
+pub record StaysAndWhy {B : Type 0} (answers : CpuId → ℕ → Bool → Type 0) (limits : Limits) (turn : ℕ) (old new : Driven B) (ending : Ending) : Type 0 where
   pub cpu : new.cpu ≡ old.cpu
   pub trace : new.trace.items ≡ old.trace.items
   pub drove : new.drove ≡ old.drove
@@ -117,7 +117,7 @@ pub record IsDriven {B : Type 0} (polled : B → Answer → Ask → B → Type 0
   pub v : Vec Event Global
   pub made : Made polled bank old.cpu new.cpu old.trace v turns
   pub trace : new.trace.items ≡ v.items
-  pub going : (k : ℕ) → k < length turns → GoesOn answers limits old.id k (counts (take k turns))
+  pub going : (k : ℕ) → k < length turns → MakesAnother answers limits old.id k (counts (take k turns))
   pub drove : new.drove ≡ counts turns
   pub silent : new.silent ≡ true → EndsSilent polled bank old.cpu new.cpu old.trace v turns made
   pub said : new.said ≡ said_at_end ending (heard (length turns) old.said)
@@ -153,7 +153,7 @@ drive_begun d = record d { said = said_at_start d.said; drove = none_driven; sil
 pub record IsUnderWay {B : Type 0} (polled : B → Answer → Ask → B → Type 0) (answers : CpuId → ℕ → Bool → Type 0) (bank : BankId) (limits : Limits) (old new : Driven B) : Type 0 where
   pub turns : List Turned
   pub made : Made polled bank old.cpu new.cpu old.trace new.trace turns
-  pub going : (k : ℕ) → k < length turns → GoesOn answers limits old.id k (counts (take k turns))
+  pub going : (k : ℕ) → k < length turns → MakesAnother answers limits old.id k (counts (take k turns))
   pub drove : new.drove ≡ counts turns
   pub all : new.drove.ran + new.drove.idle ≡ length turns
   pub silent : new.silent ≡ true → EndsSilent polled bank old.cpu new.cpu old.trace new.trace turns made
@@ -167,7 +167,7 @@ IsSo polled answers bank limits old new ending = ((ending ≡ NotDriven) × IsUn
 
 -- what asking for a turn comes to: none is made, and why; or one is made, after which the processor leaves its slice
 abbrev pub ComesTo : {B : Type 0} → (B → Answer → Ask → B → Type 0) → (CpuId → ℕ → Bool → Type 0) → BankId → Limits → ℕ → Driven B → Driven B → Ending → Type 0
-ComesTo polled answers bank limits turn old new ending = ((ending ≡ NotDriven) × MakesOne polled answers bank limits turn old new) ⊎ Stays answers limits turn old new ending
+ComesTo polled answers bank limits turn old new ending = ((ending ≡ NotDriven) × MakesOne polled answers bank limits turn old new) ⊎ StaysAndWhy answers limits turn old new ending
 
 -- a processor goes on: from wherever it was under way, it still is, or it ends so
 abbrev pub GoesTo : {B : Type 0} → (B → Answer → Ask → B → Type 0) → (CpuId → ℕ → Bool → Type 0) → BankId → Limits → Driven B → Driven B → Ending → Type 0

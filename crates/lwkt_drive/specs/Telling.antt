@@ -31,21 +31,21 @@ use Rattle.lwkt_drive.specs.Course.{IsDriven}
 
 -- what a trace has of tokens are all events that a seat has done, in order, without looks at words and loads of cells that
 -- weren't asked for; and it has no other processor's event
-pub record IsTold (s : CpuSeat) (trace : List Event) : Type 0 where
+pub record TellsSeat (s : CpuSeat) (trace : List Event) : Type 0 where
   pub tells : Tells (events_of s) (filter is_of_token trace)
   pub own : All (λ e. cpu_of e ≡ s.cpu.0) trace
 
 -- a theorem: a seat that has done nothing is told by no trace
 abbrev pub NewIsTold : Type 0
-NewIsTold = (s : CpuSeat) → IsNew s → IsTold s []
+NewIsTold = (s : CpuSeat) → IsNew s → TellsSeat s []
 
 -- a theorem: where a processor's trace told its seat before it was stopped, it tells it afterwards
 abbrev pub StopsAreTold : Type 0
-StopsAreTold = (threads : List Thread) (most : ℕ) (a b : CpuSeat) (t u : Vec Event Global) → Ran (IsMailed threads) most a b t u → IsTold a t.items → IsTold b u.items
+StopsAreTold = (threads : List Thread) (most : ℕ) (a b : CpuSeat) (t u : Vec Event Global) → Ran (IsMailed threads) most a b t u → TellsSeat a t.items → TellsSeat b u.items
 
 -- a theorem: where a processor's trace told its seat before it was driven, it tells it afterwards
 abbrev pub DrivesAreTold : {B G : Type 0} → (B → Answer → Ask → B → Type 0) → (G → CpuId → ℕ → Bool → Type 0) → Type 0
-DrivesAreTold {B} {G} polled answers = (gate : G) (bank : BankId) (limits : Limits) (old new : Driven B) (ending : Ending) → IsDriven polled (answers gate) bank limits old new ending → IsTold old.cpu.seat old.trace.items → IsTold new.cpu.seat new.trace.items
+DrivesAreTold {B} {G} polled answers = (gate : G) (bank : BankId) (limits : Limits) (old new : Driven B) (ending : Ending) → IsDriven polled (answers gate) bank limits old new ending → TellsSeat old.cpu.seat old.trace.items → TellsSeat new.cpu.seat new.trace.items
 
 -- the traces, by processor, are the parts of one run: one history of deeds leads from the machine that was declared to one with
 -- the closing values, its events are a run of the model, what each processor did in it is what its trace tells, and no other
@@ -63,7 +63,7 @@ pub record TellOneRun (bank : BankId) (cpus : ℕ) (closed : Closed) (traces : L
 -- closing values
 abbrev pub TracesTellOneRun : Type 0
 TracesTellOneRun = (bank : BankId) (cpus : ℕ) (seats : List CpuSeat) (closed : Closed) (traces : List (List Event)) → IsClosed bank cpus seats closed
-    → ((cpu : ℕ) (trace : List Event) → slice_get traces cpu ≡ Some trace → (s : CpuSeat) × ((slice_get seats cpu ≡ Some s) × (s.cpu.0 ≡ cpu) × IsTold s trace))
+    → ((cpu : ℕ) (trace : List Event) → slice_get traces cpu ≡ Some trace → (s : CpuSeat) × ((slice_get seats cpu ≡ Some s) × (s.cpu.0 ≡ cpu) × TellsSeat s trace))
     → TellOneRun bank cpus closed traces
 
 -- what a trace has of messages are all events that a seat at the book has done, each once and in order

@@ -2,7 +2,7 @@
 ghost use Rattle.std.specs.Prelude.{◌≡◌, ◌≢◌, true, false, ◌+◌, ◌<◌, ◌≤◌, ◌^◌, IfSome, All, None};
 ghost use Rattle.std.specs.List.{AllZip};
 ghost use Rattle.lwkt_bank.specs.Seats.{id_of};
-ghost use Rattle.lwkt_drive.specs.Course.{IsAt, IsWithin, IsDriven, MakesOne, ComesTo, GoesTo, DrivesOn};
+ghost use Rattle.lwkt_drive.specs.Course.{IsAtTables, IsBelowLimits, IsDriven, MakesOne, ComesTo, GoesTo, DrivesOn};
 
 use crate::boards::Board;
 use crate::driven::{Door, Driven, Ending, Limits};
@@ -36,11 +36,11 @@ impl<B: Body> Driven<B> {
         book: &MsgBook,
         turn: u64,
     ) -> Option<Ending>
-        requires at { IsAt (id_of bank.now) book.now.table self.old }
-        requires within { IsWithin limits.now self.old.drove }
+        requires at { IsAtTables (id_of bank.now) book.now.table self.old }
+        requires within { IsBelowLimits limits.now self.old.drove }
         ensures some { IfSome result (λ ending. ComesTo B.polled (G.answers door.now.gate.now) (id_of bank.now) limits.now turn self.old self.new ending) }
         ensures none { result ≡ None → MakesOne B.polled (G.answers door.now.gate.now) (id_of bank.now) limits.now turn self.old self.new }
-        ensures at { IsAt (id_of bank.now) book.now.table self.new }
+        ensures at { IsAtTables (id_of bank.now) book.now.table self.new }
         ensures same { self.new.id ≡ self.old.id }
     {
         if let Some(ending) = self.ends(door, watch, limits, turn) {
@@ -70,12 +70,12 @@ impl<B: Body> Driven<B> {
         bank: &Bank,
         book: &MsgBook,
     ) -> Ending
-        requires at { IsAt (id_of bank.now) book.now.table self.old }
-        requires within { IsWithin limits.now self.old.drove }
+        requires at { IsAtTables (id_of bank.now) book.now.table self.old }
+        requires within { IsBelowLimits limits.now self.old.drove }
         ensures goes { GoesTo B.polled (G.answers door.now.gate.now) (id_of bank.now) limits.now self.old self.new result }
         ensures more { result ≡ Ending.NotDriven → self.old.drove.ran + self.old.drove.idle < self.new.drove.ran + self.new.drove.idle }
-        ensures at { IsAt (id_of bank.now) book.now.table self.new }
-        ensures within { IsWithin limits.now self.new.drove }
+        ensures at { IsAtTables (id_of bank.now) book.now.table self.new }
+        ensures within { IsBelowLimits limits.now self.new.drove }
     {
         let made = self.drove.ran + self.drove.idle;
         for turn in made..u64::from(limits.turns) + u64::from(limits.idle) {
@@ -98,11 +98,11 @@ impl<B: Body> Driven<B> {
         bank: &Bank,
         book: &MsgBook,
     )
-        requires at { IsAt (id_of bank.now) book.now.table self.old }
-        requires within { IsWithin limits.now self.old.drove }
+        requires at { IsAtTables (id_of bank.now) book.now.table self.old }
+        requires within { IsBelowLimits limits.now self.old.drove }
         ensures on { DrivesOn B.polled (G.answers door.now.gate.now) (id_of bank.now) limits.now self.old self.new }
-        ensures at { IsAt (id_of bank.now) book.now.table self.new }
-        ensures within { IsWithin limits.now self.new.drove }
+        ensures at { IsAtTables (id_of bank.now) book.now.table self.new }
+        ensures within { IsBelowLimits limits.now self.new.drove }
     {
         if self.has_ended() {
             return;
@@ -141,9 +141,9 @@ pub fn drive_all<R: Threads + Sync, G: Gate + Sync, B: Body + Send>(
     book: &MsgBook,
     all: &mut [Driven<B>],
 )
-    requires at { All (IsAt (id_of bank.now) book.now.table) all.old }
+    requires at { All (IsAtTables (id_of bank.now) book.now.table) all.old }
     ensures driven { AllZip (λ old new. IsDriven B.polled (G.answers gate.now) (id_of bank.now) limits.now old new new.ending) all.old all.new }
-    ensures at { All (IsAt (id_of bank.now) book.now.table) all.new }
+    ensures at { All (IsAtTables (id_of bank.now) book.now.table) all.new }
 {
     drive_on_threads(rt, all.len(), gate, limits, bank, book, all);
 }
@@ -158,9 +158,9 @@ pub fn drive_on_threads<R: Threads + Sync, G: Gate + Sync, B: Body + Send>(
     book: &MsgBook,
     all: &mut [Driven<B>],
 )
-    requires at { All (IsAt (id_of bank.now) book.now.table) all.old }
+    requires at { All (IsAtTables (id_of bank.now) book.now.table) all.old }
     ensures driven { AllZip (λ old new. IsDriven B.polled (G.answers gate.now) (id_of bank.now) limits.now old new new.ending) all.old all.new }
-    ensures at { All (IsAt (id_of bank.now) book.now.table) all.new }
+    ensures at { All (IsAtTables (id_of bank.now) book.now.table) all.new }
 {
     let board = Board::new(all.len(), peers(all));
     let door = Door::new(gate);

@@ -3,7 +3,7 @@
 ghost use Rattle.std.specs.Prelude.{◌≡◌, ◌≢◌, false, All};
 ghost use Rattle.std.specs.List.{AllZip};
 ghost use Rattle.lwkt_bank.specs.Seats.{id_of};
-ghost use Rattle.lwkt_drive.specs.Course.{IsAt, IsWithin, DrivesOn, DrivesOut, drive_begun};
+ghost use Rattle.lwkt_drive.specs.Course.{IsAtTables, IsBelowLimits, DrivesOn, DrivesOut, drive_begun};
 
 use crate::boards::Board;
 use crate::driven::{Door, Driven, Ending, Limits};
@@ -64,11 +64,11 @@ fn drive_slice<R: Threads + Sync, G: Gate + Sync, B: Body + Send>(
     book: &MsgBook,
     all: &mut [Driven<B>],
 )
-    requires at { All (IsAt (id_of bank.now) book.now.table) all.old }
-    requires within { All (λ d. IsWithin limits.now d.drove) all.old }
+    requires at { All (IsAtTables (id_of bank.now) book.now.table) all.old }
+    requires within { All (λ d. IsBelowLimits limits.now d.drove) all.old }
     ensures on { AllZip (DrivesOn B.polled (G.answers door.now.gate.now) (id_of bank.now) limits.now) all.old all.new }
-    ensures at { All (IsAt (id_of bank.now) book.now.table) all.new }
-    ensures within { All (λ d. IsWithin limits.now d.drove) all.new }
+    ensures at { All (IsAtTables (id_of bank.now) book.now.table) all.new }
+    ensures within { All (λ d. IsBelowLimits limits.now d.drove) all.new }
 {
     thread::for_each_mut(
         rt,
@@ -90,10 +90,10 @@ pub(crate) fn drive_slices<R: Threads + Sync, G: Gate + Sync, B: Body + Send>(
     book: &MsgBook,
     all: &mut [Driven<B>],
 )
-    requires at { All (IsAt (id_of bank.now) book.now.table) all.old }
-    requires within { All (λ d. IsWithin limits.now d.drove) all.old }
+    requires at { All (IsAtTables (id_of bank.now) book.now.table) all.old }
+    requires within { All (λ d. IsBelowLimits limits.now d.drove) all.old }
     ensures out { AllZip (DrivesOut B.polled (G.answers door.now.gate.now) (id_of bank.now) limits.now) all.old all.new }
-    ensures at { All (IsAt (id_of bank.now) book.now.table) all.new }
+    ensures at { All (IsAtTables (id_of bank.now) book.now.table) all.new }
 {
     for number in 0..u64::from(limits.turns) + u64::from(limits.idle) + 1 {
         let waits = if threads < all.len() {

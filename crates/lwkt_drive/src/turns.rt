@@ -3,7 +3,7 @@ ghost use Rattle.std.specs.Prelude.{◌≡◌, true, ◌+◌, ◌<◌, ◌≤◌
 ghost use Rattle.lwkt_bank.specs.Seats.{id_of};
 ghost use Rattle.lwkt_cpu.specs.Driving.{with_turn};
 ghost use Rattle.lwkt_cpu.specs.Turning.{LacksRoom, MakesTurn};
-ghost use Rattle.lwkt_drive.specs.Course.{IsAt, IsWithin, GoesOn, EndsBy, RanNone, WasSilent, agreed, said_at_end};
+ghost use Rattle.lwkt_drive.specs.Course.{IsAtTables, IsBelowLimits, MakesAnother, EndsBy, RanNone, WasSilent, agreed, said_at_end};
 
 use crate::driven::{Door, Driven, Ending, Limits};
 use crate::gates::Gate;
@@ -33,9 +33,9 @@ impl<B> Driven<B> {
         limits: &Limits,
         turn: u64,
     ) -> Option<Ending>
-        requires { IsWithin limits.now self.old.drove }
+        requires { IsBelowLimits limits.now self.old.drove }
         ensures some { IfSome result (λ ending. (self.new ≡ record self.old { said = said_at_end ending self.old.said }) × EndsBy (G.answers door.now.gate.now) limits.now self.old.id turn self.old.drove self.old.silent self.old.trace ending) }
-        ensures none { result ≡ None → (self.new ≡ record self.old { said = agreed self.old.said }) × GoesOn (G.answers door.now.gate.now) limits.now self.old.id turn self.old.drove }
+        ensures none { result ≡ None → (self.new ≡ record self.old { said = agreed self.old.said }) × MakesAnother (G.answers door.now.gate.now) limits.now self.old.id turn self.old.drove }
         ensures few { result ≡ None → self.new.drove.ran + self.new.drove.idle + 1 < 2 ^ 64 }
     {
         if self.drove.ran >= u64::from(limits.turns) {
@@ -112,12 +112,12 @@ impl<B: Body> Driven<B> {
         bank: &Bank,
         book: &MsgBook,
     ) -> Result<Turned, AllocError>
-        requires at { IsAt (id_of bank.now) book.now.table self.old }
+        requires at { IsAtTables (id_of bank.now) book.now.table self.old }
         requires few { self.old.drove.ran + self.old.drove.idle + 1 < 2 ^ 64 }
         ensures ok { IfOk result (λ turned. MakesTurn B.polled (id_of bank.now) self.old.cpu self.new.cpu self.old.trace self.new.trace turned × (self.new.drove ≡ with_turn self.old.drove turned) × (self.new.silent ≡ true → WasSilent turned self.old.trace self.new.trace)) }
         ensures err { OnErr result ((self.new.cpu ≡ self.old.cpu) × (self.new.trace.items ≡ self.old.trace.items) × (self.new.drove ≡ self.old.drove) × (self.new.silent ≡ self.old.silent) × LacksRoom self.new.trace) }
         ensures said { self.new.said ≡ self.old.said }
-        ensures at { IsAt (id_of bank.now) book.now.table self.new }
+        ensures at { IsAtTables (id_of bank.now) book.now.table self.new }
         ensures same { self.new.id ≡ self.old.id }
     {
         let events = self.trace.len();

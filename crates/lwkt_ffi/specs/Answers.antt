@@ -11,7 +11,7 @@ use Rattle.lwkt_report.specs.declared.sources.TheConstants.{READ_LIMIT}
 use Rattle.lwkt_run.specs.declared.runs.End.{End}
 use Rattle.lwkt_run.specs.declared.runs.End.TheVariants.{Ended, TurnsOut, Unlawful}
 use Rattle.lwkt_run.specs.Run.{HasRun, Refuses, RefusesAlong}
-use Rattle.lwkt_checker.specs.Judgement.{HasFinding, Refuses as IsNoTrace}
+use Rattle.lwkt_checker.specs.Judgement.{HasFinding, RefusesTrace as IsNoTrace}
 use Rattle.lwkt_show.specs.Arguments.{AreOptions}
 use Rattle.lwkt_show.specs.Orders.{AreAlong}
 use Rattle.lwkt_show.specs.Showing.{IsShown, IsPastIn, IsShownAlong, IsPastAlong}

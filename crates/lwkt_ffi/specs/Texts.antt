@@ -57,7 +57,7 @@ pub record AnswersJson (text old new : List ℕ) (answer : LwktAnswer) (status :
   pub is_status : status ≡ status_of_made outcome
 
 -- these bytes are a text, and a run of its script may have this report, and come to this by what the text says of it
-pub record HasTextRun (text : List ℕ) (judgement : Judgement) (report : List ℕ) : Type 0 where
+pub record HasTextReport (text : List ℕ) (judgement : Judgement) (report : List ℕ) : Type 0 where
   pub reading : Reading
   pub read : reading_of text ≡ Ok reading
   pub closing : Closing
@@ -71,7 +71,7 @@ RefusesTextRun text fault = RefusesReading text fault ⊎ ((reading : Reading) �
 
 -- what came of a text that was run: its report, with more behind it; or why there is none
 abbrev pub TellsTextRun : List ℕ → Result Judgement Fault → List ℕ → Type 0
-TellsTextRun text (Ok judgement) whole = (report : List ℕ) × ((verdicts : List ℕ) × (HasTextRun text judgement report × (whole ≡ report ++ verdicts)))
+TellsTextRun text (Ok judgement) whole = (report : List ℕ) × ((verdicts : List ℕ) × (HasTextReport text judgement report × (whole ≡ report ++ verdicts)))
 TellsTextRun text (Err fault) whole = RefusesTextRun text fault
 
 abbrev pub status_of_text_run : Result Judgement Fault → ℕ

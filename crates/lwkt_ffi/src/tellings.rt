@@ -2,7 +2,7 @@
 ghost use Rattle.std.specs.Prelude.{◌≡◌, [], IfOk, IfErr, string_bytes};
 ghost use Rattle.lwkt_run.specs.Run.{MayClose, Declines};
 ghost use Rattle.lwkt_verdict.specs.declared.turns.Pace.{Pace};
-ghost use Rattle.lwkt_ffi.specs.Texts.{HasTextRun, RefusesTextRun, TellsTextRun, AnswersText, status_of_text_run};
+ghost use Rattle.lwkt_ffi.specs.Texts.{HasTextReport, RefusesTextRun, TellsTextRun, AnswersText, status_of_text_run};
 
 use crate::answers::{LwktAnswer, status_of_fault};
 use crate::fronts::{blank, fill, put_both};
@@ -42,7 +42,7 @@ fn closing_of(alloc: Global, script: Script) -> Result<Closing, Fault>
 
 // Runs a text, to all that is told of its run; why it is refused is put on a page.
 fn account_onto(alloc: Global, text: &[u8], page: &mut Page) -> Result<Account, Fault>
-    ensures ok { IfOk result (λ account. HasTextRun text.now account.judgement (string_bytes account.report)) }
+    ensures ok { IfOk result (λ account. HasTextReport text.now account.judgement (string_bytes account.report)) }
     ensures refused { IfErr result (λ fault. RefusesTextRun text.now fault) }
 {
     let Reading {

@@ -17,7 +17,7 @@ use Rattle.lwkt_core.specs.History.{steps_in}
 use Rattle.lwkt_hold.specs.declared.answers.Missed.{Missed}
 use Rattle.lwkt_hold.specs.Runs.{Ran}
 use Rattle.lwkt_hold.specs.Misses.{Misses}
-use Rattle.lwkt_hold.specs.Rows.{row, first_row, blob, first_blob, SameRow, SameSection, IsClean}
+use Rattle.lwkt_hold.specs.Rows.{row, first_row, blob, first_blob, SameRow, SameSection, IsAllClean}
 use Rattle.lwkt_hold.specs.Takings.{TakesRows}
 use Rattle.lwkt_hold.proofs.HoldingMoves.{holding_of_more, removed_added}
 use Rattle.lwkt_hold.proofs.GiveMoves.{more_here, held_more, row_from}
@@ -91,7 +91,7 @@ takes_then_same a b c taken kept same = record {
 }
 
 -- a clean seat stays clean when references are taken
-pub clean_taken : (s s' : CpuSeat) → TakesRows s s' → IsClean s → IsClean s'
+pub clean_taken : (s s' : CpuSeat) → TakesRows s s' → IsAllClean s → IsAllClean s'
 clean_taken s s' taken clean = record {
   each = λ tok held. elim (cases_Bool (is_held (holding s tok))) [
     | inl was ↦ (taken.kept tok was).row_is ∙ clean.each tok was ∙ sym (taken.kept tok was).first_is
@@ -125,14 +125,14 @@ stepped_rows s s' tok made c other = elim (cases_Bool (eqb other tok)) [
 ]
 
 -- a seat that holds nothing is clean
-pub clean_empty : (s : CpuSeat) → holding s ≡ holds_nothing → IsClean s
+pub clean_empty : (s : CpuSeat) → holding s ≡ holds_nothing → IsAllClean s
 clean_empty s empty = record {
   each = λ tok held. absurd (false≢true (sym (ap (λ h. is_held (h tok)) empty) ∙ held));
   records = λ tok held. absurd (false≢true (sym (ap (λ h. is_held (h tok)) empty) ∙ held));
 }
 
 -- giving a reference back keeps a clean seat clean
-pub clean_given : (s s' : CpuSeat) (tok : ℕ) → is_held (holding s tok) ≡ true → holding s' ≡ removed (holding s) tok → ((other : ℕ) → other ≢ tok → SameSection s s' other) → (is_held (holding s' tok) ≡ true → SameSection s s' tok) → IsClean s → IsClean s'
+pub clean_given : (s s' : CpuSeat) (tok : ℕ) → is_held (holding s tok) ≡ true → holding s' ≡ removed (holding s) tok → ((other : ℕ) → other ≢ tok → SameSection s s' other) → (is_held (holding s' tok) ≡ true → SameSection s s' tok) → IsAllClean s → IsAllClean s'
 clean_given s s' tok was given others still clean = record {
   each = λ other held. (clean_at other held).0;
   records = λ other held. (clean_at other held).1;

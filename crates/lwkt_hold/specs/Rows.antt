@@ -104,7 +104,7 @@ pub record Mends (old new : CpuSeat) (tok : ℕ) (restored : Bool) : Type 0 wher
   pub no_blob : restored ≡ false → blob new tok ≡ blob old tok
 
 -- the row of each token that is held is its section's first row, and the record its first record
-pub record IsClean (s : CpuSeat) : Type 0 where
+pub record IsAllClean (s : CpuSeat) : Type 0 where
   pub each : (tok : ℕ) → is_held (holding s tok) ≡ true → row s tok ≡ first_row s tok
   pub records : (tok : ℕ) → is_held (holding s tok) ≡ true → blob s tok ≡ first_blob s tok
 

@@ -6,7 +6,7 @@ ghost use Rattle.lwkt_base.specs.declared.names.Mode.TheVariants.{Exclusive};
 ghost use Rattle.lwkt_bank.specs.Seats.{id_of, bank_of, tokens_of, holding};
 ghost use Rattle.lwkt_hold.specs.Fronts.{IsFront};
 ghost use Rattle.lwkt_hold.specs.Runs.{Ran};
-ghost use Rattle.lwkt_hold.specs.Rows.{row, first_row, blob, first_blob, IsUnwritten, MeetsItsLaw, IsBroken, SameSection, Mends, GivesBack, IsClean};
+ghost use Rattle.lwkt_hold.specs.Rows.{row, first_row, blob, first_blob, IsUnwritten, MeetsItsLaw, IsBroken, SameSection, Mends, GivesBack, IsAllClean};
 ghost use Rattle.lwkt_hold.specs.Givings.{gives_all, GivesBy, RestoresBy, Releases};
 ghost use Rattle.lwkt_core.specs.declared.events.Event.{Event};
 
@@ -164,7 +164,7 @@ pub(crate) fn give_clean(
     requires of { bank_of seat.old ≡ id_of bank.now }
     requires within { count ≤ length refs.now }
     requires front { holding seat.old ≡ holding_of (take count refs.now) }
-    requires clean { IsClean seat.old }
+    requires clean { IsAllClean seat.old }
     requires room { vec_len trace.old + count ≤ vec_capacity trace.old }
     ensures ran { Ran (IsFront refs.now) count seat.old seat.new trace.old trace.new }
     ensures empty { holding seat.new ≡ holds_nothing }

@@ -15,7 +15,7 @@ use lwkt_core::Event;
 
 impl Hold {
     ghost use Rattle.lwkt_hold.specs.Holds.{seat_of, Resumes};
-    ghost use Rattle.lwkt_hold.specs.Rows.{IsClean};
+    ghost use Rattle.lwkt_hold.specs.Rows.{IsAllClean};
     ghost use Rattle.lwkt_hold.specs.Takings.{takes_all};
     ghost use Rattle.lwkt_hold.specs.Givings.{gives_all};
     ghost use Rattle.lwkt_hold.specs.declared.answers.Missed.{Missed};
@@ -31,7 +31,7 @@ impl Hold {
         ensures all { result ≡ Resumed.All → trace.new.items ≡ trace.old.items ++ takes_all (seat_of self.old).cpu [] list.now }
         ensures passed { (place : ℕ) → (why : Missed) → result ≡ Resumed.Passed place why
             → trace.new.items ≡ trace.old.items ++ (takes_all (seat_of self.old).cpu [] (take place list.now) ++ gives_all (seat_of self.old).cpu [] (take place list.now)) }
-        ensures clean { IsClean (seat_of self.new) }
+        ensures clean { IsAllClean (seat_of self.new) }
         ensures resumes { Resumes (seat_of self.old) (seat_of self.new) list.now result }
     {
         let refs = list.refs();

@@ -1,9 +1,9 @@
 ghost use Rattle.std.specs.Prelude.{◌≡◌, ◌↔◌, ◌⊎◌, [], IsTrue};
 ghost use Rattle.std.specs.Io.KnownBytes.{Keeps};
-ghost use Rattle.lwkt_checker.specs.Output.{Tells, status_of};
-ghost use Rattle.lwkt_lines.specs.Output.{Tells as TellsOfLines};
+ghost use Rattle.lwkt_checker.specs.Output.{TellsFinding, status_of};
+ghost use Rattle.lwkt_lines.specs.Output.{TellsOfLines};
 ghost use Rattle.lwkt_report.specs.Complaint.{fault_line};
-ghost use Rattle.lwkt_refusals.specs.Sayings.{Adds};
+ghost use Rattle.lwkt_refusals.specs.Sayings.{SaysMore};
 ghost use Rattle.lwkt_judge.specs.Told.{IsSaidFirst, ComplainsFirst, IsUnread, ChecksAloud, AsksLines, IsMisused};
 
 use lwkt_base::Fault;
@@ -26,7 +26,7 @@ fn say_refusal<E: Sink>(
     lines: Option<&Lines>,
     given: &Option<Vec<u8>>,
 )
-    ensures { Adds (E.has_failed errors.old) (E.has_failed errors.new) (E.contents errors.old) (E.contents errors.new) }
+    ensures { SaysMore (E.has_failed errors.old) (E.has_failed errors.new) (E.contents errors.old) (E.contents errors.new) }
 {
     let Some(lines) = lines else {
         return Speaker::Check.say_refusal(
@@ -57,7 +57,7 @@ fn say_why<I, O, E: Sink>(
     source: &ReaderSource<NotedReader<I>>,
     sink: &WriterSink<NotedWriter<O>>,
 )
-    ensures { Adds (E.has_failed errors.old) (E.has_failed errors.new) (E.contents errors.old) (E.contents errors.new) }
+    ensures { SaysMore (E.has_failed errors.old) (E.has_failed errors.new) (E.contents errors.old) (E.contents errors.new) }
 {
     match fault {
         RunFault::Fault(Fault::Memory(_)) => Speaker::Check.say_memory(errors),
@@ -131,7 +131,7 @@ pub fn check_told<I: Read, O: Write, E: Sink>(
     sink: &mut WriterSink<NotedWriter<O>>,
     errors: &mut E,
 ) -> u8
-    ensures checks { words.now ≡ [] → ChecksAloud Tells source.new.failed sink.new.failed (I.remaining source.old.reader.reader) (O.contents sink.old.writer.writer) (O.contents sink.new.writer.writer) (IsUnread sink.new.failed sink.new.writer.error) (E.has_failed errors.new) (E.contents errors.old) (E.contents errors.new) result }
+    ensures checks { words.now ≡ [] → ChecksAloud TellsFinding source.new.failed sink.new.failed (I.remaining source.old.reader.reader) (O.contents sink.old.writer.writer) (O.contents sink.new.writer.writer) (IsUnread sink.new.failed sink.new.writer.error) (E.has_failed errors.new) (E.contents errors.old) (E.contents errors.new) result }
     ensures lines { AsksLines words.now → ChecksAloud TellsOfLines source.new.failed sink.new.failed (I.remaining source.old.reader.reader) (O.contents sink.old.writer.writer) (O.contents sink.new.writer.writer) (IsUnread sink.new.failed sink.new.writer.error) (E.has_failed errors.new) (E.contents errors.old) (E.contents errors.new) result }
     ensures usage { IsMisused words.now → (result ≡ 1) × IsSaidFirst (E.has_failed errors.new) (E.contents errors.old) (E.contents errors.new) (fault_line Program.Check Complaint.Usage) }
     ensures unread { IsMisused words.now → source.new ≡ source.old }

@@ -24,8 +24,8 @@ use Rattle.lwkt_core.specs.declared.tokens.Token.{Token}
 use Rattle.lwkt_core.specs.Tokens.{held_by, IsFree, IsNotLastExclusive, IsSafeToken, TokenNeeds, with_less}
 use Rattle.lwkt_core.specs.Picture.{count_of_held, picture_of}
 use Rattle.lwkt_core.proofs.MachineMoves.{references_le}
-use Rattle.lwkt_core.proofs.PictureLemmas.{IsOpen-from_picture, IsFree-from_picture, picture-open, picture-free, picture-taken, picture-shared, count-le, fit}
-use Rattle.lwkt_kernel.specs.Steps.{taken, shared, gained, one_given, ended, clean_given, written_given}
+use Rattle.lwkt_core.proofs.PictureLemmas.{IsOpen-from_picture, IsFree-from_picture, picture-open, picture-free, picture-exclusive_taken, picture-shared_taken, count-le, fit}
+use Rattle.lwkt_kernel.specs.Steps.{exclusive_taken, shared_taken, gained, one_given, exclusive_ended, clean_given, written_given}
 use Rattle.lwkt_kernel.specs.Events.{word_after, StepsAreEvents}
 
 -- a test of a list stays as it was where an element passes as the one before it did
@@ -102,8 +102,8 @@ not_made : (fault : Fault) (next : ℕ) → refused fault ≡ Ok next → ⊥
 not_made fault next e = cc
 
 -- what a step that takes the token found of its word
-taken-found : (w : TokWord) (next : ℕ) → taken w ≡ Ok next → (w.generation ≢ LAST_GENERATION) × (w.exclusive ≡ false) × (w.count ≡ 0)
-taken-found w next takes =
+exclusive_taken-found : (w : TokWord) (next : ℕ) → exclusive_taken w ≡ Ok next → (w.generation ≢ LAST_GENERATION) × (w.exclusive ≡ false) × (w.count ≡ 0)
+exclusive_taken-found w next takes =
     let parts = go (eqb w.generation LAST_GENERATION) (w.exclusive || ltb 0 w.count) (word_of (record w { exclusive = true; mark = false })) takes in
     let bits = or_parts w.exclusive (ltb 0 w.count) parts.1 in
     let few = ltb-false 0 w.count bits.1 in
@@ -114,20 +114,20 @@ taken-found w next takes =
     go false true x e = absurd (not_made Busy next e)
     go false false x e = (refl, refl)
 
-shared-found : (w : TokWord) (alone : Bool) (next : ℕ) → shared alone w ≡ Ok next → (w.exclusive ≡ false) × ((w.mark && alone) ≡ false)
-shared-found w alone next takes = or_parts w.exclusive (w.mark && alone) (go (w.exclusive || (w.mark && alone)) (cond (eqb w.count 65535) (Err Limits) (Ok (word_of (record w { count = w.count + 1 })))) takes)
+shared_taken-found : (w : TokWord) (alone : Bool) (next : ℕ) → shared_taken alone w ≡ Ok next → (w.exclusive ≡ false) × ((w.mark && alone) ≡ false)
+shared_taken-found w alone next takes = or_parts w.exclusive (w.mark && alone) (go (w.exclusive || (w.mark && alone)) (cond (eqb w.count 65535) (Err Limits) (Ok (word_of (record w { count = w.count + 1 })))) takes)
   where
     go : (b : Bool) (x : Result ℕ Fault) → cond b (Err Busy) x ≡ Ok next → b ≡ false
     go true x e = absurd (not_made Busy next e)
     go false x e = refl
 
-taken_at : (w : TokWord) → w.generation < LAST_GENERATION → w.exclusive ≡ false → w.count ≡ 0 → taken w ≡ Ok (word_of (record w { exclusive = true; mark = false }))
+taken_at : (w : TokWord) → w.generation < LAST_GENERATION → w.exclusive ≡ false → w.count ≡ 0 → exclusive_taken w ≡ Ok (word_of (record w { exclusive = true; mark = false }))
 taken_at w unworn opened none =
     let gen : eqb w.generation LAST_GENERATION ≡ false = ne_eqb w.generation LAST_GENERATION (λ e. omega arith) in
     let free : (w.exclusive || ltb 0 w.count) ≡ false = or_from w.exclusive (ltb 0 w.count) opened (le-ltb 0 w.count (omega arith)) in
     rw (gen, free) refl
 
-shared_at : (w : TokWord) (alone : Bool) → w.count < 65535 → w.exclusive ≡ false → (w.mark && alone) ≡ false → shared alone w ≡ Ok (word_of (record w { count = w.count + 1 }))
+shared_at : (w : TokWord) (alone : Bool) → w.count < 65535 → w.exclusive ≡ false → (w.mark && alone) ≡ false → shared_taken alone w ≡ Ok (word_of (record w { count = w.count + 1 }))
 shared_at w alone few opened unstopped =
     let room : eqb w.count 65535 ≡ false = ne_eqb w.count 65535 (λ e. omega arith) in
     let free : (w.exclusive || (w.mark && alone)) ≡ false = or_from w.exclusive (w.mark && alone) opened unstopped in
@@ -143,7 +143,7 @@ one_given_at w some =
     let none : eqb w.count 0 ≡ false = ne_eqb w.count 0 (λ e. omega arith) in
     rw none refl
 
-ended_at : (w : TokWord) (next : ℕ) → w.exclusive ≡ true → w.count ≡ 0 → ended w next ≡ Ok next
+ended_at : (w : TokWord) (next : ℕ) → w.exclusive ≡ true → w.count ≡ 0 → exclusive_ended w next ≡ Ok next
 ended_at w next held none =
     let last : ltb 0 w.count ≡ false = le-ltb 0 w.count (omega arith) in
     rw (held, last) refl
@@ -207,10 +207,10 @@ module _ (cpus : ℕ) (tok : Token) (cpu : CpuId) (t : TokId) (safe : IsSafeToke
 pub steps_by_events : StepsAreEvents
 steps_by_events m i tok cpu t safe at here = record {
   fits = (fit m i tok safe at).0;
-  takes = λ needs. taken_at (picture_of tok) needs.1 (picture-open tok (λ p. ap is_exclusive (needs.0 p))) (picture-free tok needs.0) ∙ ap (λ w. Ok (word_of w)) (sym (picture-taken tok cpu t inside (needs.0 cpu.0)));
-  takes_only = λ next is. let found = taken-found (picture_of tok) next is in (IsFree-from_picture tok found.1 found.2, (let g = token.in_range in let d = found.0 in omega (arith, g, d)));
-  shares = λ alone needs unstopped. shared_at (picture_of tok) alone few (picture-open tok needs.0) unstopped ∙ ap (λ w. Ok (word_of w)) (sym (picture-shared tok cpu t inside needs.1));
-  shares_only = λ alone next nothing is. let found = shared-found (picture_of tok) alone next is in ((IsOpen-from_picture tok found.0, nothing), found.1);
+  takes = λ needs. taken_at (picture_of tok) needs.1 (picture-open tok (λ p. ap is_exclusive (needs.0 p))) (picture-free tok needs.0) ∙ ap (λ w. Ok (word_of w)) (sym (picture-exclusive_taken tok cpu t inside (needs.0 cpu.0)));
+  takes_only = λ next is. let found = exclusive_taken-found (picture_of tok) next is in (IsFree-from_picture tok found.1 found.2, (let g = token.in_range in let d = found.0 in omega (arith, g, d)));
+  shares = λ alone needs unstopped. shared_at (picture_of tok) alone few (picture-open tok needs.0) unstopped ∙ ap (λ w. Ok (word_of w)) (sym (picture-shared_taken tok cpu t inside needs.1));
+  shares_only = λ alone next nothing is. let found = shared_taken-found (picture_of tok) alone next is in ((IsOpen-from_picture tok found.0, nothing), found.1);
   gains = gains_at m.cpus tok cpu t token inside few;
   marks = refl;
   gives_one = gives_one_at m.cpus tok cpu t token inside few;

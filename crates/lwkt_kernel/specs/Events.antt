@@ -11,7 +11,7 @@ use Rattle.lwkt_core.specs.declared.tokens.Token.{Token}
 use Rattle.lwkt_core.specs.Machine.{Machine, IsSafe}
 use Rattle.lwkt_core.specs.Picture.{picture_of}
 use Rattle.lwkt_core.specs.Tokens.{held_by, TokenNeeds, token_after}
-use Rattle.lwkt_kernel.specs.Steps.{taken, shared, gained, marked, one_given, clean_given, written_given}
+use Rattle.lwkt_kernel.specs.Steps.{exclusive_taken, shared_taken, gained, marked, one_given, clean_given, written_given}
 
 -- the word of the token after an event (own)
 abbrev pub word_after : Token → Event → ℕ
@@ -22,10 +22,10 @@ word_after tok e = word_of (picture_of (token_after tok e))
 -- stops only lone requests is own)
 pub record StepsByEvents (tok : Token) (cpu : CpuId) (t : TokId) : Type 0 where
   pub fits : Fits (picture_of tok)
-  pub takes : TokenNeeds tok (Take cpu t) → taken (picture_of tok) ≡ Ok (word_after tok (Take cpu t))
-  pub takes_only : (next : ℕ) → taken (picture_of tok) ≡ Ok next → TokenNeeds tok (Take cpu t)
-  pub shares : (alone : Bool) → TokenNeeds tok (Share cpu t) → (tok.mark && alone) ≡ false → shared alone (picture_of tok) ≡ Ok (word_after tok (Share cpu t))
-  pub shares_only : (alone : Bool) (next : ℕ) → held_by tok cpu.0 ≡ Nothing → shared alone (picture_of tok) ≡ Ok next → TokenNeeds tok (Share cpu t) × ((tok.mark && alone) ≡ false)
+  pub takes : TokenNeeds tok (Take cpu t) → exclusive_taken (picture_of tok) ≡ Ok (word_after tok (Take cpu t))
+  pub takes_only : (next : ℕ) → exclusive_taken (picture_of tok) ≡ Ok next → TokenNeeds tok (Take cpu t)
+  pub shares : (alone : Bool) → TokenNeeds tok (Share cpu t) → (tok.mark && alone) ≡ false → shared_taken alone (picture_of tok) ≡ Ok (word_after tok (Share cpu t))
+  pub shares_only : (alone : Bool) (next : ℕ) → held_by tok cpu.0 ≡ Nothing → shared_taken alone (picture_of tok) ≡ Ok next → TokenNeeds tok (Share cpu t) × ((tok.mark && alone) ≡ false)
   pub gains : TokenNeeds tok (Again cpu t) → gained (picture_of tok) ≡ Ok (word_after tok (Again cpu t))
   pub marks : marked (picture_of tok) ≡ word_after tok (Mark cpu t)
   pub gives_one : TokenNeeds tok (GiveOne cpu t) → one_given (picture_of tok) ≡ Ok (word_after tok (GiveOne cpu t))

@@ -1,6 +1,6 @@
 ghost use Rattle.std.specs.Prelude.{◌≡◌, ℕ};
 ghost use Rattle.lwkt_base.specs.TokenWord.{word_of, Fits};
-ghost use Rattle.lwkt_kernel.specs.Steps.{taken, shared, gained, marked, one_given, ended, clean_given, written_given};
+ghost use Rattle.lwkt_kernel.specs.Steps.{exclusive_taken, shared_taken, gained, marked, one_given, exclusive_ended, clean_given, written_given};
 
 use lwkt_base::{Fault, LAST_GENERATION, TokWord};
 
@@ -12,7 +12,7 @@ const COUNT_LIMIT: u16 = 65_535;
 ///
 /// Refused with `Worn` at the last generation, and else with `Busy` where anyone holds the token.
 pub fn take(word: u64) -> Result<u64, Fault>
-    ensures { (w : TokWord) → Fits w → word_of w ≡ word → result ≡ taken w }
+    ensures { (w : TokWord) → Fits w → word_of w ≡ word → result ≡ exclusive_taken w }
 {
     let w = TokWord::parts(word);
     if w.generation == LAST_GENERATION {
@@ -30,7 +30,7 @@ pub fn take(word: u64) -> Result<u64, Fault>
 /// Refused with `Busy` where the token is held exclusively or the mark holds the request off, and else with `Limits` where the
 /// word counts 65535 references.
 pub fn share(word: u64, alone: bool) -> Result<u64, Fault>
-    ensures { (w : TokWord) → Fits w → word_of w ≡ word → result ≡ shared alone w }
+    ensures { (w : TokWord) → Fits w → word_of w ≡ word → result ≡ shared_taken alone w }
 {
     let w = TokWord::parts(word);
     if w.exclusive || (w.mark && alone) {
@@ -84,7 +84,7 @@ pub fn give_one(word: u64) -> Result<u64, Fault>
 
 // The next word, if an exclusive holding can end with the holder's next reference.
 fn ended(w: &TokWord, next: u64) -> Result<u64, Fault>
-    ensures { result ≡ ended w.now next }
+    ensures { result ≡ exclusive_ended w.now next }
 {
     if !w.exclusive {
         return Err(Fault::NotHeld);

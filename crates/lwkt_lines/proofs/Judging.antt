@@ -15,11 +15,11 @@ use Rattle.lwkt_trace.specs.declared.traces.Told.{Told}
 use Rattle.lwkt_trace.specs.declared.traces.Trace.{Trace}
 use Rattle.lwkt_trace.specs.Format.{closing_at, there}
 use Rattle.lwkt_trace.specs.Words.{event_of}
-use Rattle.lwkt_checker.specs.Judgement.{Declines}
+use Rattle.lwkt_checker.specs.Judgement.{DeclinesTrace}
 use Rattle.lwkt_checker.specs.declared.judges.Finding.TheVariants.{Lawful, Unlawful}
 use Rattle.lwkt_lines.specs.Line.{value_of}
-use Rattle.lwkt_lines.specs.Format.{opened, event_place, with_told, with_last, with_event, with_closing, with_value, with_line, next}
-use Rattle.lwkt_lines.specs.Judged.{StandsSo, Opens, OpensSo, IsJudged, Knows, awaits, Judges}
+use Rattle.lwkt_lines.specs.Format.{opened, event_place, with_told, with_last, with_event, with_closing, with_rest, with_line, next}
+use Rattle.lwkt_lines.specs.Judged.{StandsWith, OpensTrace, OpensSo, IsJudgedTrace, JudgeKnows, awaits, Judges}
 use Rattle.lwkt_lines.specs.declared.judges.Judge.{Judge}
 use Rattle.lwkt_lines.specs.declared.standings.Standing.{Standing}
 use Rattle.lwkt_lines.specs.declared.standings.Standing.TheVariants.{Awaits, Plays, Fails, Declined}
@@ -30,7 +30,7 @@ pub none_of : (o : Option Closing) → has_some o ≡ false → o ≡ None
 none_of None h = refl
 none_of (Some closing) h = absurd (cc)
 
-pub not_closed : (judge : Judge) (trace : Trace) → Knows judge trace → judge.closed ≡ false → trace.last ≡ None
+pub not_closed : (judge : Judge) (trace : Trace) → JudgeKnows judge trace → judge.closed ≡ false → trace.last ≡ None
 not_closed judge trace knows open_still = none_of trace.last (sym knows.closed ∙ open_still)
 
 -- an event is taken where there is room for it
@@ -67,25 +67,25 @@ pub line_closed : (trace : Trace) (line : List ℕ) → has_some trace.last ≡ 
 unfolding with_line
 line_closed trace line closed = rw closed refl
 
-line_open : (trace : Trace) (line : List ℕ) → has_some trace.last ≡ false → with_line trace line ≡ part (event_place (length trace.events)) (value_of line) >>= with_value trace
+line_open : (trace : Trace) (line : List ℕ) → has_some trace.last ≡ false → with_line trace line ≡ part (event_place (length trace.events)) (value_of line) >>= with_rest trace
 unfolding with_line
 line_open trace line open_still = rw open_still refl
 
-line_value : (trace : Trace) (line : List ℕ) (d : Data) → has_some trace.last ≡ false → part (event_place (length trace.events)) (value_of line) ≡ Ok d → with_line trace line ≡ with_value trace d
-line_value trace line d open_still is = line_open trace line open_still ∙ ap (λ (r : Result Data ℕ). r >>= with_value trace) is
+line_value : (trace : Trace) (line : List ℕ) (d : Data) → has_some trace.last ≡ false → part (event_place (length trace.events)) (value_of line) ≡ Ok d → with_line trace line ≡ with_rest trace d
+line_value trace line d open_still is = line_open trace line open_still ∙ ap (λ (r : Result Data ℕ). r >>= with_rest trace) is
 
 line_place : (trace : Trace) (line : List ℕ) (place : ℕ) → has_some trace.last ≡ false → part (event_place (length trace.events)) (value_of line) ≡ Err place → with_line trace line ≡ Err place
-line_place trace line place open_still is = line_open trace line open_still ∙ ap (λ (r : Result Data ℕ). r >>= with_value trace) is
+line_place trace line place open_still is = line_open trace line open_still ∙ ap (λ (r : Result Data ℕ). r >>= with_rest trace) is
 
 pub line_refused : (trace : Trace) (line : List ℕ) (fault : Refusal) → has_some trace.last ≡ false → IsRefused fault (part (event_place (length trace.events)) (value_of line)) → IsRefused fault (with_line trace line)
 line_refused trace line (ScriptFault place) open_still refused = line_place trace line place open_still refused
 line_refused trace line (Memory why) open_still refused = tt
 line_refused trace line _ open_still refused = absurd refused
 
-pub value_closing : (trace : Trace) (d : Data) → has_some (as_object d) ≡ true → with_value trace d ≡ with_closing trace d
+pub value_closing : (trace : Trace) (d : Data) → has_some (as_object d) ≡ true → with_rest trace d ≡ with_closing trace d
 value_closing trace d is = rw is refl
 
-pub value_event : (trace : Trace) (d : Data) → has_some (as_object d) ≡ false → with_value trace d ≡ with_event trace d
+pub value_event : (trace : Trace) (d : Data) → has_some (as_object d) ≡ false → with_rest trace d ≡ with_event trace d
 value_event trace d is = rw is refl
 
 -- the opening
@@ -109,20 +109,20 @@ opening_refused line d (Memory why) is refused = tt
 opening_refused line d _ is refused = absurd refused
 
 -- one that knows a trace awaits no opening
-begun_so : (trace : Trace) (standing : Standing) → StandsSo trace standing → awaits standing ≡ false
+begun_so : (trace : Trace) (standing : Standing) → StandsWith trace standing → awaits standing ≡ false
 begun_so trace Awaits so = absurd so
 begun_so trace (Plays state) so = refl
 begun_so trace (Fails index why) so = refl
 begun_so trace (Declined fault) so = refl
 
-pub begun : (judge : Judge) (trace : Trace) → Knows judge trace → awaits judge.standing ≡ false
+pub begun : (judge : Judge) (trace : Trace) → JudgeKnows judge trace → awaits judge.standing ≡ false
 begun judge trace knows = begun_so trace judge.standing knows.stands
 
 true_false : (b : Bool) → b ≡ true → b ≡ false → ⊥
 true_false b one two = let e : true ≡ false = sym one ∙ two in cc
 
 -- the first line is told to one that awaits it
-pub told_first : (judge after : Judge) (line : List ℕ) → awaits judge.standing ≡ true → (trace : Trace) × ((next None line ≡ Ok (Some trace)) × Knows after trace)
+pub told_first : (judge after : Judge) (line : List ℕ) → awaits judge.standing ≡ true → (trace : Trace) × ((next None line ≡ Ok (Some trace)) × JudgeKnows after trace)
     → (before : Option Trace) → Judges judge before → (trace : Option Trace) × ((next before line ≡ Ok trace) × Judges after trace)
 told_first judge after line waits told None judged = (Some told.0, told.1)
 told_first judge after line waits told (Some trace) judged = absurd (true_false (awaits judge.standing) waits (begun judge trace judged))
@@ -143,65 +143,65 @@ next_refused trace line (ScriptFault place) refused = next_place trace line plac
 next_refused trace line (Memory why) refused = tt
 next_refused trace line _ refused = absurd refused
 
-pub told_further : (judge after : Judge) (line : List ℕ) → awaits judge.standing ≡ false → ((trace : Trace) → Knows judge trace → (u : Trace) × ((with_line trace line ≡ Ok u) × Knows after u))
+pub told_further : (judge after : Judge) (line : List ℕ) → awaits judge.standing ≡ false → ((trace : Trace) → JudgeKnows judge trace → (u : Trace) × ((with_line trace line ≡ Ok u) × JudgeKnows after u))
     → (before : Option Trace) → Judges judge before → (trace : Option Trace) × ((next before line ≡ Ok trace) × Judges after trace)
 told_further judge after line going told None judged = absurd (true_false (awaits judge.standing) judged going)
 told_further judge after line going told (Some trace) judged =
     let took = told trace judged in
     (Some took.0, (next_taken trace took.0 line took.1.0, took.1.1))
 
-pub refused_further : (judge : Judge) (line : List ℕ) (fault : Refusal) → awaits judge.standing ≡ false → ((trace : Trace) → Knows judge trace → IsRefused fault (with_line trace line)) → (before : Option Trace) → Judges judge before → IsRefused fault (next before line)
+pub refused_further : (judge : Judge) (line : List ℕ) (fault : Refusal) → awaits judge.standing ≡ false → ((trace : Trace) → JudgeKnows judge trace → IsRefused fault (with_line trace line)) → (before : Option Trace) → Judges judge before → IsRefused fault (next before line)
 refused_further judge line fault going refused None judged = absurd (true_false (awaits judge.standing) judged going)
 refused_further judge line fault going refused (Some trace) judged = next_refused trace line fault (refused trace judged)
 
 -- what is found by where a judge stands
-stands_at : (judge : Judge) (trace : Trace) (standing : Standing) → Knows judge trace → judge.standing ≡ standing → StandsSo trace standing
-stands_at judge trace standing knows is = subst (λ (s : Standing). StandsSo trace s) is knows.stands
+stands_at : (judge : Judge) (trace : Trace) (standing : Standing) → JudgeKnows judge trace → judge.standing ≡ standing → StandsWith trace standing
+stands_at judge trace standing knows is = subst (λ (s : Standing). StandsWith trace s) is knows.stands
 
-opens_at : (judge : Judge) (trace : Trace) (standing : Standing) → Knows judge trace → judge.standing ≡ standing → OpensSo trace standing
+opens_at : (judge : Judge) (trace : Trace) (standing : Standing) → JudgeKnows judge trace → judge.standing ≡ standing → OpensSo trace standing
 opens_at judge trace standing knows is = subst (λ (s : Standing). OpensSo trace s) is knows.opens
 
-pub finds_lawful : (judge : Judge) (mid : Machine) → judge.standing ≡ Plays mid → (told : Option Trace) → Judges judge told → MatchOption told ⊥ (λ trace. IsJudged trace Lawful)
+pub finds_lawful : (judge : Judge) (mid : Machine) → judge.standing ≡ Plays mid → (told : Option Trace) → Judges judge told → MatchOption told ⊥ (λ trace. IsJudgedTrace trace Lawful)
 finds_lawful judge mid is None judged = true_false (awaits judge.standing) judged (ap awaits is)
 finds_lawful judge mid is (Some trace) judged = record { opens = opens_at judge trace (Plays mid) judged is; found = lawful trace mid (stands_at judge trace (Plays mid) judged is) }
 
-pub finds_unlawful : (judge : Judge) (index : ℕ) (why : String Global) → judge.standing ≡ Fails index why → (told : Option Trace) → Judges judge told → MatchOption told ⊥ (λ trace. IsJudged trace (Unlawful index why))
+pub finds_unlawful : (judge : Judge) (index : ℕ) (why : String Global) → judge.standing ≡ Fails index why → (told : Option Trace) → Judges judge told → MatchOption told ⊥ (λ trace. IsJudgedTrace trace (Unlawful index why))
 finds_unlawful judge index why is None judged = true_false (awaits judge.standing) judged (ap awaits is)
 finds_unlawful judge index why is (Some trace) judged = record { opens = opens_at judge trace (Fails index why) judged is; found = stands_at judge trace (Fails index why) judged is }
 
-pub finds_declined : (judge : Judge) (fault : Refusal) → judge.standing ≡ Declined fault → (told : Option Trace) → Judges judge told → MatchOption told (fault ≡ ScriptFault 0) (λ trace. Declines trace fault)
+pub finds_declined : (judge : Judge) (fault : Refusal) → judge.standing ≡ Declined fault → (told : Option Trace) → Judges judge told → MatchOption told (fault ≡ ScriptFault 0) (λ trace. DeclinesTrace trace fault)
 finds_declined judge fault is None judged = absurd (true_false (awaits judge.standing) judged (ap awaits is))
 finds_declined judge fault is (Some trace) judged = stands_at judge trace (Declined fault) judged is
 
-pub finds_none : (judge : Judge) → judge.standing ≡ Awaits → (told : Option Trace) → Judges judge told → MatchOption told (ScriptFault 0 ≡ ScriptFault 0) (λ trace. Declines trace (ScriptFault 0))
+pub finds_none : (judge : Judge) → judge.standing ≡ Awaits → (told : Option Trace) → Judges judge told → MatchOption told (ScriptFault 0 ≡ ScriptFault 0) (λ trace. DeclinesTrace trace (ScriptFault 0))
 finds_none judge is None judged = refl
 finds_none judge is (Some trace) judged = absurd (stands_at judge trace Awaits judged is)
 
 -- what a part of a judge's work says of a value, it says of the line that has the value
-pub told_lifts : (r : Result Judge Refusal) (judge : Judge) (read : Trace → Result Trace ℕ) (line : List ℕ) → ((trace : Trace) → Knows judge trace → (trace.last ≡ None) × (with_line trace line ≡ read trace))
-    → IfOk r (λ after. (trace : Trace) → trace.last ≡ None → Knows judge trace → (u : Trace) × ((read trace ≡ Ok u) × Knows after u)) → IfOk r (λ after. (trace : Trace) → Knows judge trace → (u : Trace) × ((with_line trace line ≡ Ok u) × Knows after u))
-told_lifts (Ok after) judge read line same told = λ (trace : Trace) (knows : Knows judge trace).
+pub told_lifts : (r : Result Judge Refusal) (judge : Judge) (read : Trace → Result Trace ℕ) (line : List ℕ) → ((trace : Trace) → JudgeKnows judge trace → (trace.last ≡ None) × (with_line trace line ≡ read trace))
+    → IfOk r (λ after. (trace : Trace) → trace.last ≡ None → JudgeKnows judge trace → (u : Trace) × ((read trace ≡ Ok u) × JudgeKnows after u)) → IfOk r (λ after. (trace : Trace) → JudgeKnows judge trace → (u : Trace) × ((with_line trace line ≡ Ok u) × JudgeKnows after u))
+told_lifts (Ok after) judge read line same told = λ (trace : Trace) (knows : JudgeKnows judge trace).
     let took = told trace (same trace knows).0 knows in
     (took.0, ((same trace knows).1 ∙ took.1.0, took.1.1))
 told_lifts (Err fault) judge read line same told = tt
 
-pub refused_lifts : (r : Result Judge Refusal) (judge : Judge) (read : Trace → Result Trace ℕ) (line : List ℕ) → ((trace : Trace) → Knows judge trace → (trace.last ≡ None) × (with_line trace line ≡ read trace))
-    → IfErr r (λ fault. (trace : Trace) → Knows judge trace → IsRefused fault (read trace)) → IfErr r (λ fault. (trace : Trace) → Knows judge trace → IsRefused fault (with_line trace line))
+pub refused_lifts : (r : Result Judge Refusal) (judge : Judge) (read : Trace → Result Trace ℕ) (line : List ℕ) → ((trace : Trace) → JudgeKnows judge trace → (trace.last ≡ None) × (with_line trace line ≡ read trace))
+    → IfErr r (λ fault. (trace : Trace) → JudgeKnows judge trace → IsRefused fault (read trace)) → IfErr r (λ fault. (trace : Trace) → JudgeKnows judge trace → IsRefused fault (with_line trace line))
 refused_lifts (Ok after) judge read line same refused = tt
-refused_lifts (Err fault) judge read line same refused = λ (trace : Trace) (knows : Knows judge trace).
+refused_lifts (Err fault) judge read line same refused = λ (trace : Trace) (knows : JudgeKnows judge trace).
     subst (λ (s : Result Trace ℕ). IsRefused fault s) (sym (same trace knows).1) (refused trace knows)
 
-pub each_lifts : (r : Result Judge Refusal) (judge : Judge) (read : Trace → Result Trace ℕ) → IfErr r (λ fault. (trace : Trace) → IsRefused fault (read trace)) → IfErr r (λ fault. (trace : Trace) → Knows judge trace → IsRefused fault (read trace))
+pub each_lifts : (r : Result Judge Refusal) (judge : Judge) (read : Trace → Result Trace ℕ) → IfErr r (λ fault. (trace : Trace) → IsRefused fault (read trace)) → IfErr r (λ fault. (trace : Trace) → JudgeKnows judge trace → IsRefused fault (read trace))
 each_lifts (Ok after) judge read refused = tt
-each_lifts (Err fault) judge read refused = λ (trace : Trace) (knows : Knows judge trace). refused trace
+each_lifts (Err fault) judge read refused = λ (trace : Trace) (knows : JudgeKnows judge trace). refused trace
 
 -- a line that has a value is what that is
-pub line_is : (judge : Judge) (trace : Trace) (line : List ℕ) (d : Data) (place : ℕ) → Knows judge trace → judge.closed ≡ false → place ≡ event_place judge.count → part place (value_of line) ≡ Ok d → with_line trace line ≡ with_value trace d
+pub line_is : (judge : Judge) (trace : Trace) (line : List ℕ) (d : Data) (place : ℕ) → JudgeKnows judge trace → judge.closed ≡ false → place ≡ event_place judge.count → part place (value_of line) ≡ Ok d → with_line trace line ≡ with_rest trace d
 line_is judge trace line d place knows open_still at is =
     line_value trace line d (sym knows.closed ∙ open_still) (ap (λ (p : ℕ). part p (value_of line)) (sym (at ∙ ap event_place knows.counted)) ∙ is)
 
 -- what is said of the first line and of a further one
-pub first_lifts : (r : Result Judge Refusal) (judge : Judge) (line : List ℕ) → awaits judge.standing ≡ true → IfOk r (λ after. (trace : Trace) × ((next None line ≡ Ok (Some trace)) × Knows after trace))
+pub first_lifts : (r : Result Judge Refusal) (judge : Judge) (line : List ℕ) → awaits judge.standing ≡ true → IfOk r (λ after. (trace : Trace) × ((next None line ≡ Ok (Some trace)) × JudgeKnows after trace))
     → IfOk r (λ after. (before : Option Trace) → Judges judge before → (trace : Option Trace) × ((next before line ≡ Ok trace) × Judges after trace))
 first_lifts (Ok after) judge line waits told = told_first judge after line waits told
 first_lifts (Err fault) judge line waits told = tt
@@ -210,17 +210,17 @@ pub first_refused_lifts : (r : Result Judge Refusal) (judge : Judge) (line : Lis
 first_refused_lifts (Ok after) judge line waits refused = tt
 first_refused_lifts (Err fault) judge line waits refused = refused_first judge line fault waits refused
 
-pub further_lifts : (r : Result Judge Refusal) (judge : Judge) (line : List ℕ) → awaits judge.standing ≡ false → IfOk r (λ after. (trace : Trace) → Knows judge trace → (u : Trace) × ((with_line trace line ≡ Ok u) × Knows after u))
+pub further_lifts : (r : Result Judge Refusal) (judge : Judge) (line : List ℕ) → awaits judge.standing ≡ false → IfOk r (λ after. (trace : Trace) → JudgeKnows judge trace → (u : Trace) × ((with_line trace line ≡ Ok u) × JudgeKnows after u))
     → IfOk r (λ after. (before : Option Trace) → Judges judge before → (trace : Option Trace) × ((next before line ≡ Ok trace) × Judges after trace))
 further_lifts (Ok after) judge line going told = told_further judge after line going told
 further_lifts (Err fault) judge line going told = tt
 
-pub further_refused_lifts : (r : Result Judge Refusal) (judge : Judge) (line : List ℕ) → awaits judge.standing ≡ false → IfErr r (λ fault. (trace : Trace) → Knows judge trace → IsRefused fault (with_line trace line)) → IfErr r (λ fault. (before : Option Trace) → Judges judge before → IsRefused fault (next before line))
+pub further_refused_lifts : (r : Result Judge Refusal) (judge : Judge) (line : List ℕ) → awaits judge.standing ≡ false → IfErr r (λ fault. (trace : Trace) → JudgeKnows judge trace → IsRefused fault (with_line trace line)) → IfErr r (λ fault. (before : Option Trace) → Judges judge before → IsRefused fault (next before line))
 further_refused_lifts (Ok after) judge line going refused = tt
 further_refused_lifts (Err fault) judge line going refused = refused_further judge line fault going refused
 
 -- a trace with an event more opens as it did, and one with its closing values
-opens_still : (trace : Trace) (x : Told) → Opens trace → Opens (with_told trace x)
+opens_still : (trace : Trace) (x : Told) → OpensTrace trace → OpensTrace (with_told trace x)
 opens_still trace x opens = record { within = opens.within; lawful = opens.lawful }
 
 pub opens_told : (trace : Trace) (x : Told) (standing : Standing) → OpensSo trace standing → OpensSo (with_told trace x) standing
@@ -229,7 +229,7 @@ opens_told trace x (Plays state) opens = opens_still trace x opens
 opens_told trace x (Fails index why) opens = opens_still trace x opens
 opens_told trace x (Declined fault) opens = tt
 
-opens_at_last : (trace : Trace) (closing : Closing) → Opens trace → Opens (with_last trace closing)
+opens_at_last : (trace : Trace) (closing : Closing) → OpensTrace trace → OpensTrace (with_last trace closing)
 opens_at_last trace closing opens = record { within = opens.within; lawful = opens.lawful }
 
 pub opens_last : (trace : Trace) (closing : Closing) (standing : Standing) → OpensSo trace standing → OpensSo (with_last trace closing) standing

@@ -20,7 +20,7 @@ use Rattle.lwkt_checker.specs.Judgement.{opening_of, AreValues, AreClosing, Find
 use Rattle.lwkt_checker.specs.declared.judges.Finding.TheVariants.{Lawful, Unlawful}
 use Rattle.lwkt_checker.proofs.ToldRuns.{length-events_told, ran_whole}
 use Rattle.lwkt_lines.specs.Format.{with_told, with_last}
-use Rattle.lwkt_lines.specs.Judged.{ClosesSo, StandsSo}
+use Rattle.lwkt_lines.specs.Judged.{ClosesSo, StandsWith}
 use Rattle.lwkt_lines.specs.declared.standings.Standing.{Standing}
 use Rattle.lwkt_lines.specs.declared.standings.Standing.TheVariants.{Awaits, Plays, Fails, Declined}
 
@@ -160,13 +160,13 @@ stopped_more m told others index text s =
     }
 
 -- where a judge stands with one event more: the event can happen
-pub plays_more : (trace : Trace) (x : Told) (mid n : Machine) → trace.last ≡ None → StandsSo trace (Plays mid) → Happens mid (event_told mid x) n → StandsSo (with_told trace x) (Plays n)
+pub plays_more : (trace : Trace) (x : Told) (mid n : Machine) → trace.last ≡ None → StandsWith trace (Plays mid) → Happens mid (event_told mid x) n → StandsWith (with_told trace x) (Plays n)
 plays_more trace x mid n open_still so step =
     (run_more (opening_of trace) trace.events x mid n so.0 step, subst (λ (o : Option Closing). ClosesSo o n) (sym open_still) tt)
 
 -- it can't
-pub fails_more : (trace : Trace) (x : Told) (mid : Machine) (index : ℕ) (why : String Global) → trace.last ≡ None → index ≡ length trace.events → StandsSo trace (Plays mid) → (Needs mid (event_told mid x) → ⊥) → IsReason mid index x (string_bytes why)
-    → StandsSo (with_told trace x) (Fails index why)
+pub fails_more : (trace : Trace) (x : Told) (mid : Machine) (index : ℕ) (why : String Global) → trace.last ≡ None → index ≡ length trace.events → StandsWith trace (Plays mid) → (Needs mid (event_told mid x) → ⊥) → IsReason mid index x (string_bytes why)
+    → StandsWith (with_told trace x) (Fails index why)
 fails_more trace x mid index why open_still counted so fails reason =
     let m = opening_of trace in
     let all = trace.events ++ x ∷ [] in
@@ -175,12 +175,12 @@ fails_more trace x mid index why open_still counted so fails reason =
     found_alone (with_told trace x) index why open_still s
 
 -- one before it couldn't
-failed_more : (trace : Trace) (x : Told) (index : ℕ) (why : String Global) → trace.last ≡ None → StandsSo trace (Fails index why) → StandsSo (with_told trace x) (Fails index why)
+failed_more : (trace : Trace) (x : Told) (index : ℕ) (why : String Global) → trace.last ≡ None → StandsWith trace (Fails index why) → StandsWith (with_told trace x) (Fails index why)
 failed_more trace x index why open_still found =
     found_alone (with_told trace x) index why open_still (stopped_more (opening_of trace) trace.events (x ∷ []) index (string_bytes why) (stopped_of trace index why open_still found))
 
 -- no events are played any more
-pub stays_more : (trace : Trace) (x : Told) (s : Standing) → ((mid : Machine) → s ≡ Plays mid → ⊥) → trace.last ≡ None → StandsSo trace s → StandsSo (with_told trace x) s
+pub stays_more : (trace : Trace) (x : Told) (s : Standing) → ((mid : Machine) → s ≡ Plays mid → ⊥) → trace.last ≡ None → StandsWith trace s → StandsWith (with_told trace x) s
 stays_more trace x Awaits ended open_still so = so
 stays_more trace x (Plays mid) ended open_still so = absurd (ended mid refl)
 stays_more trace x (Fails index why) ended open_still so = failed_more trace x index why open_still so
@@ -190,12 +190,12 @@ stays_more trace x (Declined LawBroken) ended open_still so = so
 stays_more trace x (Declined _) ended open_still so = absurd so
 
 -- where it stands with closing values: the machine closes so
-pub plays_last : (trace : Trace) (closing : Closing) (last : Final) (mid : Machine) → AreValues closing last → StandsSo trace (Plays mid) → Closes mid last → StandsSo (with_last trace closing) (Plays mid)
+pub plays_last : (trace : Trace) (closing : Closing) (last : Final) (mid : Machine) → AreValues closing last → StandsWith trace (Plays mid) → Closes mid last → StandsWith (with_last trace closing) (Plays mid)
 plays_last trace closing last mid values so closes = (so.0, (last, (values, closes)))
 
 -- it doesn't
-pub fails_last : (trace : Trace) (closing : Closing) (last : Final) (mid : Machine) (count : ℕ) (why : String Global) → count ≡ length trace.events → AreValues closing last → StandsSo trace (Plays mid) → (Closes mid last → ⊥) → IsDifference mid last (string_bytes why)
-    → StandsSo (with_last trace closing) (Fails count why)
+pub fails_last : (trace : Trace) (closing : Closing) (last : Final) (mid : Machine) (count : ℕ) (why : String Global) → count ≡ length trace.events → AreValues closing last → StandsWith trace (Plays mid) → (Closes mid last → ⊥) → IsDifference mid last (string_bytes why)
+    → StandsWith (with_last trace closing) (Fails count why)
 fails_last trace closing last mid count why counted values so differs difference =
     let m = opening_of trace in
     let es = events_told m trace.events in
@@ -205,12 +205,12 @@ fails_last trace closing last mid count why counted values so differs difference
     (Some last, (values, (subst (λ (n : ℕ). FailsAt m es last n) same (FailsAt-close m es last mid so.0 differs), (mid, (ran, subst (λ (o : Option Told). MatchOption o (IsDifferenceOf mid (Some last) (string_bytes why)) (λ t. IsReason mid count t (string_bytes why))) (sym none) difference)))))
 
 -- an event before them couldn't happen
-failed_last : (trace : Trace) (closing : Closing) (last : Final) (index : ℕ) (why : String Global) → trace.last ≡ None → AreValues closing last → StandsSo trace (Fails index why) → StandsSo (with_last trace closing) (Fails index why)
+failed_last : (trace : Trace) (closing : Closing) (last : Final) (index : ℕ) (why : String Global) → trace.last ≡ None → AreValues closing last → StandsWith trace (Fails index why) → StandsWith (with_last trace closing) (Fails index why)
 failed_last trace closing last index why open_still values found =
     found_closed trace closing last index why values (stopped_of trace index why open_still found)
 
 -- no events are played any more
-pub stays_last : (trace : Trace) (closing : Closing) (last : Final) (s : Standing) → ((mid : Machine) → s ≡ Plays mid → ⊥) → trace.last ≡ None → AreValues closing last → StandsSo trace s → StandsSo (with_last trace closing) s
+pub stays_last : (trace : Trace) (closing : Closing) (last : Final) (s : Standing) → ((mid : Machine) → s ≡ Plays mid → ⊥) → trace.last ≡ None → AreValues closing last → StandsWith trace s → StandsWith (with_last trace closing) s
 stays_last trace closing last Awaits ended open_still values so = so
 stays_last trace closing last (Plays mid) ended open_still values so = absurd (ended mid refl)
 stays_last trace closing last (Fails index why) ended open_still values so = failed_last trace closing last index why open_still values so
@@ -224,5 +224,5 @@ lawful_so : (trace : Trace) (o : Option Closing) (mid : Machine) → trace.last 
 lawful_so trace None mid is run so = (None, (subst (λ (o : Option Closing). AreClosing o None) (sym is) tt, ((mid, run), tt)))
 lawful_so trace (Some closing) mid is run so = (Some so.0, (subst (λ (o : Option Closing). AreClosing o (Some so.0)) (sym is) so.1.0, ((mid, (run, so.1.1)), tt)))
 
-pub lawful : (trace : Trace) (mid : Machine) → StandsSo trace (Plays mid) → IsFound trace Lawful
+pub lawful : (trace : Trace) (mid : Machine) → StandsWith trace (Plays mid) → IsFound trace Lawful
 lawful trace mid so = lawful_so trace trace.last mid refl so.0 so.1

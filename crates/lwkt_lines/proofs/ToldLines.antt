@@ -14,13 +14,13 @@ use Rattle.lwkt_report.specs.declared.streams.RunFault.TheVariants.{Fault as Fau
 use Rattle.lwkt_script.specs.Outcome.{◌>>=◌, ◌>>◌, part, demand, IsFaultOf as IsRefused}
 use Rattle.lwkt_trace.specs.declared.traces.Trace.{Trace}
 use Rattle.lwkt_trace.specs.Format.{there}
-use Rattle.lwkt_checker.specs.Judgement.{Declines}
+use Rattle.lwkt_checker.specs.Judgement.{DeclinesTrace}
 use Rattle.lwkt_checker.specs.declared.judges.Finding.{Finding}
 use Rattle.lwkt_lines.specs.Line.{lines_of, value_of}
-use Rattle.lwkt_lines.specs.Format.{opened, event_place, with_value, with_line, next, told, lined_trace_of}
-use Rattle.lwkt_lines.specs.Reading.{IsNext}
-use Rattle.lwkt_lines.specs.Judged.{IsJudged, Judges}
-use Rattle.lwkt_lines.specs.Output.{AreAll, KnowsAll, Refuses, Finds, Declares, DeclaresIn}
+use Rattle.lwkt_lines.specs.Format.{opened, event_place, with_rest, with_line, next, told, lined_trace_of}
+use Rattle.lwkt_lines.specs.Reading.{IsNextLine}
+use Rattle.lwkt_lines.specs.Judged.{IsJudgedTrace, Judges}
+use Rattle.lwkt_lines.specs.Output.{AreAll, KnowsAll, RefusesLines, FindsInLines, Declares, DeclaresIn}
 use Rattle.lwkt_lines.specs.declared.judges.Judge.{Judge}
 use Rattle.lwkt_lines.proofs.LineLemmas.{lines-fed, lines-bare, begins_with, value-long}
 
@@ -48,7 +48,7 @@ pub stands_first : (left : Option (List ℕ)) (judge : Judge) → Judges judge N
 stands_first left judge judged = record { trace = None; so_far = record { taken = []; consumed = Consumes-nil left; reads = λ rest. refl }; judged = judged }
 
 -- a line that a line feed ended
-so_far_more : (left old new : Option (List ℕ)) (before after : Option Trace) (line : List ℕ) → SoFar left old before → IsNext old new line true → next before line ≡ Ok after → SoFar left new after
+so_far_more : (left old new : Option (List ℕ)) (before after : Option Trace) (line : List ℕ) → SoFar left old before → IsNextLine old new line true → next before line ≡ Ok after → SoFar left new after
 so_far_more left old new before after line so is step = record {
   taken = so.taken ++ (line ++ 10 ∷ []);
   consumed = Consumes-trans left old new so.taken (line ++ 10 ∷ []) so.consumed is.taken;
@@ -67,7 +67,7 @@ Takes judge line after = (before : Option Trace) → Judges judge before → (tr
 abbrev pub RefusesLine : Judge → List ℕ → Refusal → Type 0
 RefusesLine judge line fault = (before : Option Trace) → Judges judge before → IsRefused fault (next before line)
 
-pub stands_more : (left old new : Option (List ℕ)) (judge after : Judge) (line : List ℕ) → Stands left old judge → IsNext old new line true → Takes judge line after → Stands left new after
+pub stands_more : (left old new : Option (List ℕ)) (judge after : Judge) (line : List ℕ) → Stands left old judge → IsNextLine old new line true → Takes judge line after → Stands left new after
 stands_more left old new judge after line so is takes =
     let took = takes so.trace so.judged in
     record { trace = took.0; so_far = so_far_more left old new so.trace took.0 line so.so_far is took.1.0; judged = took.1.1 }
@@ -77,10 +77,10 @@ next_same : (before : Option Trace) (line other : List ℕ) → value_of line �
 unfolding with_line
 next_same None line other same = ap (λ (value : Option Data). (part 0 value >>= opened) >>= there) same
 next_same (Some trace) line other same =
-    ap (λ (value : Option Data). (demand 6 (not (has_some trace.last)) >> (part (event_place (length trace.events)) value >>= with_value trace)) >>= there) same
+    ap (λ (value : Option Data). (demand 6 (not (has_some trace.last)) >> (part (event_place (length trace.events)) value >>= with_rest trace)) >>= there) same
 
 -- a line without a value is refused
-none_behind : (open_still : Bool) (place : ℕ) (trace : Trace) (after : Option Trace) → (demand 6 open_still >> (part place None >>= with_value trace)) >>= there ≡ Ok after → ⊥
+none_behind : (open_still : Bool) (place : ℕ) (trace : Trace) (after : Option Trace) → (demand 6 open_still >> (part place None >>= with_rest trace)) >>= there ≡ Ok after → ⊥
 none_behind true place trace after h = cc
 none_behind false place trace after h = cc
 
@@ -90,7 +90,7 @@ next_none None after line none h =
     let e : (part 0 None >>= opened) >>= there ≡ Ok after = ap (λ (value : Option Data). (part 0 value >>= opened) >>= there) (sym none) ∙ h in cc
 next_none (Some trace) after line none h =
     none_behind (not (has_some trace.last)) (event_place (length trace.events)) trace after
-    (ap (λ (value : Option Data). (demand 6 (not (has_some trace.last)) >> (part (event_place (length trace.events)) value >>= with_value trace)) >>= there) (sym none) ∙ h)
+    (ap (λ (value : Option Data). (demand 6 (not (has_some trace.last)) >> (part (event_place (length trace.events)) value >>= with_rest trace)) >>= there) (sym none) ∙ h)
 
 -- the bytes that are still left, or none where these aren't known
 abbrev known : Option (List ℕ) → List ℕ
@@ -115,7 +115,7 @@ abbrev behind : List ℕ → Bool → Option (List ℕ) → List ℕ
 behind line true new = line ++ 10 ∷ known new
 behind line false new = line ++ known new
 
-tail_refused : (before : Option Trace) (old new : Option (List ℕ)) (line : List ℕ) (ended : Bool) (place : ℕ) → IsNext old new line ended → (ended ≡ true) ⊎ (0 < length line) → next before line ≡ Err place
+tail_refused : (before : Option Trace) (old new : Option (List ℕ)) (line : List ℕ) (ended : Bool) (place : ℕ) → IsNextLine old new line ended → (ended ≡ true) ⊎ (0 < length line) → next before line ≡ Err place
     → told before (lines_of (behind line ended new)) ≡ Err place
 tail_refused before old new line true place is some step =
     told_refused before (line ++ 10 ∷ known new) line line (lines_of (known new)) place (lines-fed line (known new) is.no_feed) refl step
@@ -133,7 +133,7 @@ tail_refused before old new line false place is (inr some) step =
     ]
 
 -- what was taken of a source with a line that was read
-piece_of : (old new : Option (List ℕ)) (line : List ℕ) (ended : Bool) → IsNext old new line ended → (piece : List ℕ) × (Consumes old new piece × (piece ++ known new ≡ behind line ended new))
+piece_of : (old new : Option (List ℕ)) (line : List ℕ) (ended : Bool) → IsNextLine old new line ended → (piece : List ℕ) × (Consumes old new piece × (piece ++ known new ≡ behind line ended new))
 piece_of old new line true is = (line ++ 10 ∷ [], (is.taken, append_assoc line (10 ∷ []) (known new)))
 piece_of old new line false is = (line, (is.taken, refl))
 
@@ -141,7 +141,7 @@ lined_refused : (bytes : List ℕ) (place : ℕ) → told None (lines_of bytes) 
 unfolding lined_trace_of
 lined_refused bytes place h = ap (λ (r : Result (Option Trace) ℕ). r >>= part 0) h
 
-refused_at : (left old new : Option (List ℕ)) (before : Option Trace) (line : List ℕ) (ended : Bool) (place : ℕ) → SoFar left old before → IsNext old new line ended → (ended ≡ true) ⊎ (0 < length line) → next before line ≡ Err place
+refused_at : (left old new : Option (List ℕ)) (before : Option Trace) (line : List ℕ) (ended : Bool) (place : ℕ) → SoFar left old before → IsNextLine old new line ended → (ended ≡ true) ⊎ (0 < length line) → next before line ≡ Err place
     → Declares left (ScriptFault place)
 refused_at left old new before line ended place so is some step =
     let piece = piece_of old new line ended is in
@@ -164,13 +164,13 @@ declares_unread left why is =
     ]
 
 -- a line that is refused refuses all
-fault_declared : (left old new : Option (List ℕ)) (before : Option Trace) (line : List ℕ) (ended : Bool) (fault : Refusal) → SoFar left old before → IsNext old new line ended → (ended ≡ true) ⊎ (0 < length line) → IsRefused fault (next before line)
+fault_declared : (left old new : Option (List ℕ)) (before : Option Trace) (line : List ℕ) (ended : Bool) (fault : Refusal) → SoFar left old before → IsNextLine old new line ended → (ended ≡ true) ⊎ (0 < length line) → IsRefused fault (next before line)
     → Declares left fault
 fault_declared left old new before line ended (ScriptFault place) so is some refused = refused_at left old new before line ended place so is some refused
 fault_declared left old new before line ended (Memory why) so is some refused = ((some_all left).0, ((some_all left).1, tt))
 fault_declared left old new before line ended _ so is some refused = absurd refused
 
-pub declares_line : (left old new : Option (List ℕ)) (judge : Judge) (line : List ℕ) (ended : Bool) (fault : Refusal) → Stands left old judge → IsNext old new line ended → (ended ≡ true) ⊎ (0 < length line) → RefusesLine judge line fault → Declares left fault
+pub declares_line : (left old new : Option (List ℕ)) (judge : Judge) (line : List ℕ) (ended : Bool) (fault : Refusal) → Stands left old judge → IsNextLine old new line ended → (ended ≡ true) ⊎ (0 < length line) → RefusesLine judge line fault → Declares left fault
 declares_line left old new judge line ended fault so is some refuses =
     fault_declared left old new so.trace line ended fault so.so_far is some (refuses so.trace so.judged)
 
@@ -180,7 +180,7 @@ at_end left old new taken line first second end =
     (all_known left new (taken ++ line) (Consumes-trans left old new taken line first second))
 
 -- nothing is left behind the last line feed
-pub told_ended : (left old new : Option (List ℕ)) (judge : Judge) (line : List ℕ) → Stands left old judge → IsNext old new line false → length line ≡ 0 → KnowsAll left judge
+pub told_ended : (left old new : Option (List ℕ)) (judge : Judge) (line : List ℕ) → Stands left old judge → IsNextLine old new line false → length line ≡ 0 → KnowsAll left judge
 told_ended left old new judge [] so is none =
     elim (is.last refl) [
       | inl end ↦ record {
@@ -195,7 +195,7 @@ told_ended left old new judge [] so is none =
 told_ended left old new judge (b ∷ line) so is none = absurd (omega arith)
 
 -- a last line without a line feed
-pub told_last : (left old new : Option (List ℕ)) (judge after : Judge) (line : List ℕ) → Stands left old judge → IsNext old new line false → 0 < length line → Takes judge line after → KnowsAll left after
+pub told_last : (left old new : Option (List ℕ)) (judge after : Judge) (line : List ℕ) → Stands left old judge → IsNextLine old new line false → 0 < length line → Takes judge line after → KnowsAll left after
 told_last left old new judge after line so is some takes =
     let took = takes so.trace so.judged in
     elim (is.last refl) [
@@ -217,22 +217,22 @@ lined_none : (bytes : List ℕ) → told None (lines_of bytes) ≡ Ok None → l
 unfolding lined_trace_of
 lined_none bytes h = ap (λ (r : Result (Option Trace) ℕ). r >>= part 0) h
 
-found_of : (left : Option (List ℕ)) (bytes : List ℕ) (told_trace : Option Trace) (finding : Finding) → AreAll left bytes → told None (lines_of bytes) ≡ Ok told_trace → MatchOption told_trace ⊥ (λ trace. IsJudged trace finding) → Finds left finding
+found_of : (left : Option (List ℕ)) (bytes : List ℕ) (told_trace : Option Trace) (finding : Finding) → AreAll left bytes → told None (lines_of bytes) ≡ Ok told_trace → MatchOption told_trace ⊥ (λ trace. IsJudgedTrace trace finding) → FindsInLines left finding
 found_of left bytes None finding all reads found = absurd found
 found_of left bytes (Some trace) finding all reads found = (bytes, (all, record { trace = trace; read = lined_read bytes trace reads; judged = found }))
 
-pub finds : (left : Option (List ℕ)) (judge : Judge) (finding : Finding) → KnowsAll left judge → ((trace : Option Trace) → Judges judge trace → MatchOption trace ⊥ (λ t. IsJudged t finding)) → Finds left finding
+pub finds : (left : Option (List ℕ)) (judge : Judge) (finding : Finding) → KnowsAll left judge → ((trace : Option Trace) → Judges judge trace → MatchOption trace ⊥ (λ t. IsJudgedTrace t finding)) → FindsInLines left finding
 finds left judge finding is found = found_of left is.bytes is.trace finding is.all is.reads (found is.trace is.judged)
 
-declined : (bytes : List ℕ) (trace : Trace) (fault : Refusal) → lined_trace_of bytes ≡ Ok trace → Declines trace fault → Refuses bytes fault
+declined : (bytes : List ℕ) (trace : Trace) (fault : Refusal) → lined_trace_of bytes ≡ Ok trace → DeclinesTrace trace fault → RefusesLines bytes fault
 declined bytes trace (Memory why) read declines = tt
 declined bytes trace Limits read declines = (trace, (read, declines))
 declined bytes trace LawBroken read declines = (trace, (read, declines))
 declined bytes trace _ read declines = absurd declines
 
-refused_of : (left : Option (List ℕ)) (bytes : List ℕ) (told_trace : Option Trace) (fault : Refusal) → AreAll left bytes → told None (lines_of bytes) ≡ Ok told_trace → MatchOption told_trace (fault ≡ ScriptFault 0) (λ trace. Declines trace fault) → Declares left fault
-refused_of left bytes None fault all reads is = (bytes, (all, subst (λ (f : Refusal). Refuses bytes f) (sym is) (lined_none bytes reads)))
+refused_of : (left : Option (List ℕ)) (bytes : List ℕ) (told_trace : Option Trace) (fault : Refusal) → AreAll left bytes → told None (lines_of bytes) ≡ Ok told_trace → MatchOption told_trace (fault ≡ ScriptFault 0) (λ trace. DeclinesTrace trace fault) → Declares left fault
+refused_of left bytes None fault all reads is = (bytes, (all, subst (λ (f : Refusal). RefusesLines bytes f) (sym is) (lined_none bytes reads)))
 refused_of left bytes (Some trace) fault all reads declines = (bytes, (all, declined bytes trace fault (lined_read bytes trace reads) declines))
 
-pub declares : (left : Option (List ℕ)) (judge : Judge) (fault : Refusal) → KnowsAll left judge → ((trace : Option Trace) → Judges judge trace → MatchOption trace (fault ≡ ScriptFault 0) (λ t. Declines t fault)) → Declares left fault
+pub declares : (left : Option (List ℕ)) (judge : Judge) (fault : Refusal) → KnowsAll left judge → ((trace : Option Trace) → Judges judge trace → MatchOption trace (fault ≡ ScriptFault 0) (λ t. DeclinesTrace t fault)) → Declares left fault
 declares left judge fault is refused = refused_of left is.bytes is.trace fault is.all is.reads (refused is.trace is.judged)

@@ -7,7 +7,7 @@ use Rattle.lwkt_script.specs.Outcome.{◌>>=◌, ◌>>◌, part, demand, each}
 use Rattle.lwkt_trace.specs.declared.traces.Closing.{Closing}
 use Rattle.lwkt_trace.specs.declared.traces.Told.{Told}
 use Rattle.lwkt_trace.specs.declared.traces.Trace.{Trace}
-use Rattle.lwkt_trace.specs.Format.{message, closing_at, there}
+use Rattle.lwkt_trace.specs.Format.{message_behind, closing_at, there}
 use Rattle.lwkt_trace.specs.Guard.{guarded}
 use Rattle.lwkt_trace.specs.Words.{event_of}
 use Rattle.lwkt_lines.specs.Line.{lines_of, value_of}
@@ -25,7 +25,7 @@ opened d = do
   version ← part 2 (number_in (codes "version") 1 1 d)
   cpus ← part 3 (number_in (codes "cpus") 1 8 d)
   tokens ← each guarded [] token_items
-  messages ← each (message cpus) [] message_items
+  messages ← each (message_behind cpus) [] message_items
   Ok (record { cpus = cpus; tokens = tokens; messages = messages; events = []; last = None })
 
 -- the place of the event of an index
@@ -54,15 +54,15 @@ with_closing trace d = do
   Ok (with_last trace closing)
 
 -- what stands behind the opening: an object is the closing values, all else is an event
-abbrev pub with_value : Trace → Data → Result Trace ℕ
-with_value trace d = if is_some (as_object d) then with_closing trace d else with_event trace d
+abbrev pub with_rest : Trace → Data → Result Trace ℕ
+with_rest trace d = if is_some (as_object d) then with_closing trace d else with_event trace d
 
 -- a line behind the opening, which may not be behind the closing values
 unfoldable pub with_line : Trace → List ℕ → Result Trace ℕ
 with_line trace line = do
   demand 6 (not (is_some trace.last))
   d ← part (event_place (length trace.events)) (value_of line)
-  with_value trace d
+  with_rest trace d
 
 -- the trace with one line more: without an opening the line is that
 abbrev pub next : Option Trace → List ℕ → Result (Option Trace) ℕ

@@ -6,7 +6,7 @@ use Rattle.lwkt_core.specs.Opening.{AreWithin, AllOpenLawfully}
 use Rattle.lwkt_core.specs.Trace.{Run, Closes}
 use Rattle.lwkt_trace.specs.declared.traces.Closing.{Closing}
 use Rattle.lwkt_trace.specs.declared.traces.Trace.{Trace}
-use Rattle.lwkt_checker.specs.Judgement.{opening_of, AreValues, IsFound, Declines}
+use Rattle.lwkt_checker.specs.Judgement.{opening_of, AreValues, IsFound, DeclinesTrace}
 use Rattle.lwkt_checker.specs.Told.{events_told}
 use Rattle.lwkt_checker.specs.declared.judges.Finding.{Finding}
 use Rattle.lwkt_checker.specs.declared.judges.Finding.TheVariants.{Unlawful}
@@ -21,34 +21,34 @@ ClosesSo (Some closing) m = (last : Final) × (AreValues closing last × Closes 
 
 -- where a judge stands with a trace: the events have led to this machine, which closes as the trace says, if it says so; or the
 -- trace is unlawful, and this is found of it; or its opening is refused
-abbrev pub StandsSo : Trace → Standing → Type 0
-StandsSo trace Awaits = ⊥
-StandsSo trace (Plays state) = Run (opening_of trace) (events_told (opening_of trace) trace.events) state × ClosesSo trace.last state
-StandsSo trace (Fails index why) = IsFound trace (Unlawful index why)
-StandsSo trace (Declined fault) = Declines trace fault
+abbrev pub StandsWith : Trace → Standing → Type 0
+StandsWith trace Awaits = ⊥
+StandsWith trace (Plays state) = Run (opening_of trace) (events_told (opening_of trace) trace.events) state × ClosesSo trace.last state
+StandsWith trace (Fails index why) = IsFound trace (Unlawful index why)
+StandsWith trace (Declined fault) = DeclinesTrace trace fault
 
 -- an opening keeps the limits and the laws, so that it isn't refused
-pub record Opens (trace : Trace) : Type 0 where
+pub record OpensTrace (trace : Trace) : Type 0 where
   pub within : AreWithin trace.cpus trace.tokens trace.messages
   pub lawful : AllOpenLawfully trace.tokens
 
 -- so it is wherever a judge stands but where it awaits the opening or refuses it
 abbrev pub OpensSo : Trace → Standing → Type 0
 OpensSo trace Awaits = Unit {0}
-OpensSo trace (Plays state) = Opens trace
-OpensSo trace (Fails index why) = Opens trace
+OpensSo trace (Plays state) = OpensTrace trace
+OpensSo trace (Fails index why) = OpensTrace trace
 OpensSo trace (Declined fault) = Unit {0}
 
 -- what is found of a trace whose opening isn't refused
-pub record IsJudged (trace : Trace) (finding : Finding) : Type 0 where
-  pub opens : Opens trace
+pub record IsJudgedTrace (trace : Trace) (finding : Finding) : Type 0 where
+  pub opens : OpensTrace trace
   pub found : IsFound trace finding
 
 -- a judge knows how many events there are, whether closing values have come, and where it stands
-pub record Knows (judge : Judge) (trace : Trace) : Type 0 where
+pub record JudgeKnows (judge : Judge) (trace : Trace) : Type 0 where
   pub counted : judge.count ≡ length trace.events
   pub closed : judge.closed ≡ is_some trace.last
-  pub stands : StandsSo trace judge.standing
+  pub stands : StandsWith trace judge.standing
   pub opens : OpensSo trace judge.standing
 
 -- whether no line has come yet
@@ -61,7 +61,7 @@ awaits (Declined fault) = false
 -- the same of a trace of which no line may have come yet
 abbrev pub Judges : Judge → Option Trace → Type 0
 Judges judge None = awaits judge.standing ≡ true
-Judges judge (Some trace) = Knows judge trace
+Judges judge (Some trace) = JudgeKnows judge trace
 
 -- how many lines may still come behind the opening: the events up to 10^15, and the closing values
 abbrev pub lines_behind : ℕ → Bool → ℕ

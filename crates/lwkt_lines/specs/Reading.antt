@@ -6,7 +6,7 @@ use Rattle.lwkt_lines.specs.declared.lines.Lines.{Lines}
 use Rattle.lwkt_lines.specs.Line.{is_line_feed}
 
 -- so many bytes stand before the first line feed, if there is one, else in all
-pub record IsFront (bytes : List ℕ) (count : ℕ) (ended : Bool) : Type 0 where
+pub record IsLineFront (bytes : List ℕ) (count : ℕ) (ended : Bool) : Type 0 where
   pub within : count ≤ length bytes
   pub no_feed : list_any is_line_feed (take count bytes) ≡ false
   pub feed : ended ≡ true → (count < length bytes) × (drop count bytes ≡ 10 ∷ drop (count + 1) bytes)
@@ -21,7 +21,7 @@ abbrev pub left_of : Lines → Option (List ℕ) → Option (List ℕ)
 left_of lines left = prepend_known (unread lines) left
 
 -- a line was read of what was left: up to its line feed; or without one, where no more is left or the line is too long
-pub record IsNext (old new : Option (List ℕ)) (line : List ℕ) (ended : Bool) : Type 0 where
+pub record IsNextLine (old new : Option (List ℕ)) (line : List ℕ) (ended : Bool) : Type 0 where
   pub no_feed : list_any is_line_feed line ≡ false
   pub taken : Consumes old new (if ended then line ++ 10 ∷ [] else line)
   pub last : ended ≡ false → IsAtEnd new ⊎ (1048576 < length line)

@@ -1,10 +1,10 @@
 ghost use Rattle.std.specs.Prelude.{◌≡◌, ◌+◌, ◌<◌, ℕ, [], false, Option, Some, None, Result, Ok, IfOk, IfErr, MatchOption};
 ghost use Rattle.lwkt_script.specs.Outcome.{Gives, IsFaultOf as IsRefused, part};
 ghost use Rattle.lwkt_trace.specs.declared.traces.Trace.{Trace};
-ghost use Rattle.lwkt_checker.specs.Judgement.{Declines};
+ghost use Rattle.lwkt_checker.specs.Judgement.{DeclinesTrace};
 ghost use Rattle.lwkt_lines.specs.Line.{value_of};
 ghost use Rattle.lwkt_lines.specs.Format.{event_place, with_event, with_closing, with_line, next};
-ghost use Rattle.lwkt_lines.specs.Judged.{StandsSo, OpensSo, IsJudged, Knows, awaits, Judges, lines_left};
+ghost use Rattle.lwkt_lines.specs.Judged.{StandsWith, OpensSo, IsJudgedTrace, JudgeKnows, awaits, Judges, lines_left};
 ghost use Rattle.serde_json.specs.View.{view};
 
 use crate::openings::opened;
@@ -45,7 +45,7 @@ fn event_place(index: usize) -> u32
 fn standing_of(alloc: Global, trace: &Trace) -> Result<Standing, Fault>
     requires events { trace.now.events ≡ [] }
     requires last { trace.now.last ≡ None }
-    ensures stands { IfOk result (λ standing. StandsSo trace.now standing) }
+    ensures stands { IfOk result (λ standing. StandsWith trace.now standing) }
     ensures begun { IfOk result (λ standing. awaits standing ≡ false) }
     ensures opens { IfOk result (λ standing. OpensSo trace.now standing) }
     ensures memory { IfErr result (λ fault. (read : Result (Option Trace) ℕ) → IsRefused fault read) }
@@ -75,7 +75,7 @@ fn value_at(alloc: Global, place: u32, line: &[u8]) -> Result<Value, Fault>
 
 // The judge to whom the opening was told.
 fn opened_by(alloc: Global, line: &[u8]) -> Result<Judge, Fault>
-    ensures told { IfOk result (λ judge. (trace : Trace) × ((next None line.now ≡ Ok (Some trace)) × Knows judge trace)) }
+    ensures told { IfOk result (λ judge. (trace : Trace) × ((next None line.now ≡ Ok (Some trace)) × JudgeKnows judge trace)) }
     ensures fewer { IfOk result (λ judge. lines_left judge < 1000000000000002) }
     ensures refused { IfErr result (λ fault. IsRefused fault (next None line.now)) }
 {
@@ -111,9 +111,9 @@ impl Judge {
     // Takes an event.
     fn and_event(self, alloc: Global, value: &Value) -> Result<Judge, Fault>
         requires { awaits self.standing ≡ false }
-        ensures told { IfOk result (λ judge. (trace : Trace) → trace.last ≡ None → Knows self trace → (after : Trace) × ((with_event trace (view value.now) ≡ Ok after) × Knows judge after)) }
+        ensures told { IfOk result (λ judge. (trace : Trace) → trace.last ≡ None → JudgeKnows self trace → (after : Trace) × ((with_event trace (view value.now) ≡ Ok after) × JudgeKnows judge after)) }
         ensures fewer { IfOk result (λ judge. lines_left judge < lines_left self) }
-        ensures refused { IfErr result (λ fault. (trace : Trace) → Knows self trace → IsRefused fault (with_event trace (view value.now))) }
+        ensures refused { IfErr result (λ fault. (trace : Trace) → JudgeKnows self trace → IsRefused fault (with_event trace (view value.now))) }
     {
         let Judge {
             count,
@@ -141,7 +141,7 @@ impl Judge {
     fn and_closing(self, alloc: Global, value: &Value) -> Result<Judge, Fault>
         requires begun { awaits self.standing ≡ false }
         requires open { self.closed ≡ false }
-        ensures told { IfOk result (λ judge. (trace : Trace) → trace.last ≡ None → Knows self trace → (after : Trace) × ((with_closing trace (view value.now) ≡ Ok after) × Knows judge after)) }
+        ensures told { IfOk result (λ judge. (trace : Trace) → trace.last ≡ None → JudgeKnows self trace → (after : Trace) × ((with_closing trace (view value.now) ≡ Ok after) × JudgeKnows judge after)) }
         ensures fewer { IfOk result (λ judge. lines_left judge < lines_left self) }
         ensures refused { IfErr result (λ fault. (trace : Trace) → IsRefused fault (with_closing trace (view value.now))) }
     {
@@ -165,9 +165,9 @@ impl Judge {
     // Takes a line behind the opening.
     fn and_line(self, alloc: Global, line: &[u8]) -> Result<Judge, Fault>
         requires { awaits self.standing ≡ false }
-        ensures told { IfOk result (λ judge. (trace : Trace) → Knows self trace → (after : Trace) × ((with_line trace line.now ≡ Ok after) × Knows judge after)) }
+        ensures told { IfOk result (λ judge. (trace : Trace) → JudgeKnows self trace → (after : Trace) × ((with_line trace line.now ≡ Ok after) × JudgeKnows judge after)) }
         ensures fewer { IfOk result (λ judge. lines_left judge < lines_left self) }
-        ensures refused { IfErr result (λ fault. (trace : Trace) → Knows self trace → IsRefused fault (with_line trace line.now)) }
+        ensures refused { IfErr result (λ fault. (trace : Trace) → JudgeKnows self trace → IsRefused fault (with_line trace line.now)) }
     {
         if self.closed {
             return Err(Fault::Script { place: 6 });
@@ -212,8 +212,8 @@ impl Judge {
     ///
     /// Refused with `Script` and place 0 where no line has come, and with `Limits` or `LawBroken` for its opening.
     pub fn finding(self) -> Result<Finding, Fault>
-        ensures found { IfOk result (λ finding. (told : Option Trace) → Judges self told → MatchOption told ⊥ (λ trace. IsJudged trace finding)) }
-        ensures refused { IfErr result (λ fault. (told : Option Trace) → Judges self told → MatchOption told (fault ≡ Fault.Script 0) (λ trace. Declines trace fault)) }
+        ensures found { IfOk result (λ finding. (told : Option Trace) → Judges self told → MatchOption told ⊥ (λ trace. IsJudgedTrace trace finding)) }
+        ensures refused { IfErr result (λ fault. (told : Option Trace) → Judges self told → MatchOption told (fault ≡ Fault.Script 0) (λ trace. DeclinesTrace trace fault)) }
     {
         let Judge { standing, .. } = self;
         match standing {

@@ -3,7 +3,7 @@ ghost use Rattle.std.specs.List.{list_any};
 ghost use Rattle.std.specs.Io.KnownBytes.{Keeps, IsAtEnd, prepend_known};
 ghost use Rattle.lwkt_base.specs.Fault.{no_memory};
 ghost use Rattle.lwkt_lines.specs.Line.{is_line_feed};
-ghost use Rattle.lwkt_lines.specs.Reading.{IsFront, unread, left_of, IsNext};
+ghost use Rattle.lwkt_lines.specs.Reading.{IsLineFront, unread, left_of, IsNextLine};
 
 use lwkt_base::Fault;
 use lwkt_report::{RunFault, Source};
@@ -33,7 +33,7 @@ pub struct Lines {
 
 // How many bytes stand before the first line feed, and whether there is one.
 fn front_of(bytes: &[u8]) -> (usize, bool)
-    ensures { IsFront bytes.now result.0 result.1 }
+    ensures { IsLineFront bytes.now result.0 result.1 }
 {
     for (i, byte) in bytes.iter().enumerate() {
         if *byte == b'\n' {
@@ -46,7 +46,7 @@ fn front_of(bytes: &[u8]) -> (usize, bool)
 // Appends to a line what stands before the first line feed, or all where there is none; says how many bytes these are, and
 // whether there is one.
 fn add_front(line: &mut Vec<u8>, bytes: &[u8]) -> Result<(usize, bool), RunFault>
-    ensures front { IfOk result (λ front. IsFront bytes.now front.0 front.1) }
+    ensures front { IfOk result (λ front. IsLineFront bytes.now front.0 front.1) }
     ensures line { IfOk result (λ front. line.new.items ≡ line.old.items ++ take front.0 bytes.now) }
     ensures only { OnErr result (result ≡ Err (RunFault.Fault no_memory)) }
 {
@@ -152,7 +152,7 @@ impl Lines {
     ///
     /// Refused with `Stream` if a pull failed, which is not made again, and with `Memory` if an allocation was refused.
     pub fn read_line<S: Source>(&mut self, source: &mut S) -> Result<bool, RunFault>
-        ensures line { IfOk result (λ ended. IsNext (left_of self.old (S.left source.old)) (left_of self.new (S.left source.new)) self.new.line.items ended) }
+        ensures line { IfOk result (λ ended. IsNextLine (left_of self.old (S.left source.old)) (left_of self.new (S.left source.new)) self.new.line.items ended) }
         ensures ok { OnOk result (S.has_failed source.new ≡ S.has_failed source.old) }
         ensures stream { result ≡ Err RunFault.Stream → IsTrue (S.has_failed source.new) }
         ensures only { OnErr result ((result ≡ Err RunFault.Stream) ⊎ (result ≡ Err (RunFault.Fault no_memory))) }

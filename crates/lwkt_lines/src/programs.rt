@@ -1,6 +1,6 @@
 ghost use Rattle.std.specs.Prelude.{◌≡◌, ◌⊎◌, Err, IsTrue, IfOk, IfErr};
 ghost use Rattle.lwkt_lines.specs.Reading.{left_of};
-ghost use Rattle.lwkt_lines.specs.Output.{KnowsAll, Finds, DeclaresIn, Tells};
+ghost use Rattle.lwkt_lines.specs.Output.{KnowsAll, FindsInLines, DeclaresIn, TellsOfLines};
 
 use crate::judges::Judge;
 use crate::lines::Lines;
@@ -48,7 +48,7 @@ pub fn judge_lines<S: Source>(
     lines: &mut Lines,
     source: &mut S,
 ) -> Result<Finding, RunFault>
-    ensures found { IfOk result (λ finding. Finds (left_of lines.old (S.left source.old)) finding) }
+    ensures found { IfOk result (λ finding. FindsInLines (left_of lines.old (S.left source.old)) finding) }
     ensures refused { IfErr result (λ why. DeclaresIn (left_of lines.old (S.left source.old)) why) }
     ensures stream { result ≡ Err RunFault.Stream → IsTrue (S.has_failed source.new) }
 {
@@ -70,7 +70,7 @@ pub fn check_lines<S: Source, K: Sink>(
     source: &mut S,
     sink: &mut K,
 ) -> Result<bool, RunFault>
-    ensures tells { Tells (left_of lines.old (S.left source.old)) (K.contents sink.old) (K.contents sink.new) result }
+    ensures tells { TellsOfLines (left_of lines.old (S.left source.old)) (K.contents sink.old) (K.contents sink.new) result }
     ensures stream { result ≡ Err RunFault.Stream → IsTrue (S.has_failed source.new) ⊎ IsTrue (K.has_failed sink.new) }
 {
     let finding = judge_lines(alloc, lines, source)?;

@@ -3,7 +3,7 @@ ghost use Rattle.lwkt_trace.specs.declared.traces.Closing.{Closing};
 ghost use Rattle.lwkt_trace.specs.declared.traces.Trace.{Trace};
 ghost use Rattle.lwkt_checker.specs.Judgement.{AreValues};
 ghost use Rattle.lwkt_lines.specs.Format.{with_told, with_last};
-ghost use Rattle.lwkt_lines.specs.Judged.{StandsSo, Opens, OpensSo, awaits};
+ghost use Rattle.lwkt_lines.specs.Judged.{StandsWith, OpensTrace, OpensSo, awaits};
 
 use lwkt_base::Fault;
 use lwkt_checker::{difference, event_told, reason};
@@ -31,7 +31,7 @@ impl Standing {
     ///
     /// Refused if memory is.
     pub fn and_event(self, alloc: Global, index: usize, told: &Told) -> Result<Standing, AllocError>
-        ensures stands { IfOk result (λ after. (trace : Trace) → trace.last ≡ None → index ≡ length trace.events → StandsSo trace self → StandsSo (with_told trace told.now) after) }
+        ensures stands { IfOk result (λ after. (trace : Trace) → trace.last ≡ None → index ≡ length trace.events → StandsWith trace self → StandsWith (with_told trace told.now) after) }
         ensures begun { IfOk result (λ after. awaits after ≡ awaits self) }
         ensures opens { IfOk result (λ after. (trace : Trace) → OpensSo trace self → OpensSo trace after) }
     {
@@ -50,7 +50,7 @@ impl Standing {
         count: usize,
         last: &Final,
     ) -> Result<Standing, AllocError>
-        ensures stands { IfOk result (λ after. (trace : Trace) (closing : Closing) → trace.last ≡ None → count ≡ length trace.events → AreValues closing last.now → StandsSo trace self → StandsSo (with_last trace closing) after) }
+        ensures stands { IfOk result (λ after. (trace : Trace) (closing : Closing) → trace.last ≡ None → count ≡ length trace.events → AreValues closing last.now → StandsWith trace self → StandsWith (with_last trace closing) after) }
         ensures begun { IfOk result (λ after. awaits after ≡ awaits self) }
         ensures opens { IfOk result (λ after. (trace : Trace) → OpensSo trace self → OpensSo trace after) }
     {
@@ -63,9 +63,9 @@ impl Standing {
 
 // Where a judge stands that plays the event of an index in this state.
 fn played(alloc: Global, state: State, index: usize, told: &Told) -> Result<Standing, AllocError>
-    ensures stands { IfOk result (λ after. (trace : Trace) → trace.last ≡ None → index ≡ length trace.events → StandsSo trace (Standing.Plays state) → StandsSo (with_told trace told.now) after) }
+    ensures stands { IfOk result (λ after. (trace : Trace) → trace.last ≡ None → index ≡ length trace.events → StandsWith trace (Standing.Plays state) → StandsWith (with_told trace told.now) after) }
     ensures begun { IfOk result (λ after. awaits after ≡ false) }
-    ensures opens { IfOk result (λ after. (trace : Trace) → Opens trace → OpensSo trace after) }
+    ensures opens { IfOk result (λ after. (trace : Trace) → OpensTrace trace → OpensSo trace after) }
 {
     let mut state = state;
     let event = event_told(&state, told);
@@ -80,9 +80,9 @@ fn played(alloc: Global, state: State, index: usize, told: &Told) -> Result<Stan
 
 // Where a judge stands that closes this state, behind so many events.
 fn closed(alloc: Global, state: State, count: usize, last: &Final) -> Result<Standing, AllocError>
-    ensures stands { IfOk result (λ after. (trace : Trace) (closing : Closing) → trace.last ≡ None → count ≡ length trace.events → AreValues closing last.now → StandsSo trace (Standing.Plays state) → StandsSo (with_last trace closing) after) }
+    ensures stands { IfOk result (λ after. (trace : Trace) (closing : Closing) → trace.last ≡ None → count ≡ length trace.events → AreValues closing last.now → StandsWith trace (Standing.Plays state) → StandsWith (with_last trace closing) after) }
     ensures begun { IfOk result (λ after. awaits after ≡ false) }
-    ensures opens { IfOk result (λ after. (trace : Trace) → Opens trace → OpensSo trace after) }
+    ensures opens { IfOk result (λ after. (trace : Trace) → OpensTrace trace → OpensSo trace after) }
 {
     if state.closes(last) {
         return Ok(Standing::Plays(state));

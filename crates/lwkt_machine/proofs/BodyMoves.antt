@@ -11,7 +11,7 @@ use Rattle.lwkt_base.specs.declared.entries.Entry.{Entry}
 use Rattle.lwkt_verdict.specs.Threads.{ask_in}
 use Rattle.lwkt_machine.specs.Bodies.{Scripted, unpolled, entry_for, entry_told, logged, after_poll}
 use Rattle.lwkt_lane.proofs.PlaceMoves.{refilled_front}
-use Rattle.lwkt_machine.specs.Laws.{ArePolls, entries_of, AsksAreTheScripts, LogsAreFirstEntries}
+use Rattle.lwkt_machine.specs.Laws.{ArePolls, entries_made, AsksAreTheScripts, LogsAreFirstEntries}
 
 asks_from : (steps : List Ask) (repeat : ℕ) (polls : List (Answer × Ask)) (old b : Scripted) → old.steps ≡ steps → old.repeat ≡ repeat → old.polls + length polls ≤ 18446744073709551615 → ArePolls old polls b → (k : ℕ) (q : Answer × Ask) → slice_get polls k ≡ Some q → q.1 ≡ unwrap_or (ask_in repeat steps (old.polls + k)) Exit
 asks_from steps repeat [] old b is many few are k q at = absurd (let e : ◌≡◌ {A = Option (Answer × Ask)} None (Some q) = at in cc)
@@ -61,7 +61,7 @@ logged_any : (o : Option Entry) (log rest : List Entry) → length log ≤ 32 �
 logged_any None log rest few = (few, refl)
 logged_any (Some e) log rest few = logged_one (nat_lt (length log) 32) log rest e refl few
 
-logs_from : (polls : List (Answer × Ask)) (old b : Scripted) → length old.log ≤ 32 → ArePolls old polls b → b.log ≡ take 32 (old.log ++ entries_of old.asked polls)
+logs_from : (polls : List (Answer × Ask)) (old b : Scripted) → length old.log ≤ 32 → ArePolls old polls b → b.log ≡ take 32 (old.log ++ entries_made old.asked polls)
 logs_from [] old b few are = ap (λ (x : Scripted). x.log) are ∙ take_all old.log 32 few
 logs_from (p ∷ polls) old b few are =
     let mid = are.0 in
@@ -70,9 +70,9 @@ logs_from (p ∷ polls) old b few are =
     let log : mid.log ≡ logged old.log o = ap (λ (x : Scripted). x.log) step in
     let asked : mid.asked ≡ Some p.1 = ap (λ (x : Scripted). x.asked) step ∙ ap (λ a. Some a) (sym are.1.0.0) in
     let F : List Entry → Type 0 = λ xs. length xs ≤ 32 in
-    let rest = entries_of (Some p.1) polls in
+    let rest = entries_made (Some p.1) polls in
     logs_from polls mid b (subst F (sym log) (logged_any o old.log rest few).0) are.1.1
-    ∙ ap (λ xs. take 32 (xs ++ entries_of mid.asked polls)) log ∙ ap (λ a. take 32 (logged old.log o ++ entries_of a polls)) asked
+    ∙ ap (λ xs. take 32 (xs ++ entries_made mid.asked polls)) log ∙ ap (λ a. take 32 (logged old.log o ++ entries_made a polls)) asked
     ∙ (logged_any o old.log rest few).1
 
 pub logs_are : LogsAreFirstEntries

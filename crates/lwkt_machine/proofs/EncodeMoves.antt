@@ -7,11 +7,11 @@ use Rattle.lwkt_msg.specs.Desks.{Desk, Shelf}
 use Rattle.lwkt_cpu.specs.Processors.{Processor}
 use Rattle.lwkt_machine.specs.Bodies.{Scripted}
 use Rattle.lwkt_machine.specs.Encoded.{AreOfBook}
-use Rattle.lwkt_machine.specs.Machines.{IsOf, AreParts}
+use Rattle.lwkt_machine.specs.Machines.{IsOfMachine, AreOneMachine}
 
-pub seats_of_book : (seats : ℕ) (bank : BankId) (book : Shelf) (cpus : List (Processor Scripted)) (desks : List Desk) → AreParts seats bank book cpus → desks ≡ map (λ p. p.post.seat) cpus → AreOfBook book desks
+pub seats_of_book : (seats : ℕ) (bank : BankId) (book : Shelf) (cpus : List (Processor Scripted)) (desks : List Desk) → AreOneMachine seats bank book cpus → desks ≡ map (λ p. p.post.seat) cpus → AreOfBook book desks
 seats_of_book seats bank book cpus desks parts are =
     let P : Desk → Type 0 = λ seat. seat.table ≡ book.table in
     let f : Processor Scripted → Desk = λ p. p.post.seat in
     let Q : Processor Scripted → Type 0 = λ p. p.post.seat.table ≡ book.table in
-    subst (All P) (sym are) (All-map P f cpus (All-weaker (IsOf bank book) Q (λ p is. is.table_is) cpus parts.each))
+    subst (All P) (sym are) (All-map P f cpus (All-weaker (IsOfMachine bank book) Q (λ p is. is.table_is) cpus parts.each))

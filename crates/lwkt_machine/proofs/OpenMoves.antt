@@ -20,7 +20,7 @@ use Rattle.lwkt_port.specs.Sights.{AreEnds}
 use Rattle.lwkt_cpu.specs.Processors.{Processor}
 use Rattle.lwkt_machine.specs.Bodies.{Scripted}
 use Rattle.lwkt_lane.specs.Crossed.{AreLanes}
-use Rattle.lwkt_machine.specs.Machines.{IsOf, AreAllJoined, AreParts}
+use Rattle.lwkt_machine.specs.Machines.{IsOfMachine, AreAllJoined, AreOneMachine}
 use Rattle.lwkt_machine.specs.Opened.{IsSeat, AreFew, DeclinesTables, Declines, AreOpenedCpus}
 use Rattle.lwkt_cpu.specs.Wiring.{AreWired}
 use Rattle.lwkt_machine.specs.Seating.{SeatsFrom, DesksFrom, IsRest}
@@ -87,12 +87,12 @@ opened_joined cpus wired numbered i j s p at_s at_p =
     })
 
 -- processors as they are opened belong to their bank and book
-pub opened_parts : (seats : ℕ) (bank : BankId) (book : Shelf) (threads : List ThreadSpec) (cpus : List (Processor Scripted)) → seats ≡ length cpus → book.cpus ≡ length cpus → length cpus ≤ 8 → AreOpenedCpus bank book threads cpus → AreWired cpus → AreParts seats bank book cpus
+pub opened_parts : (seats : ℕ) (bank : BankId) (book : Shelf) (threads : List ThreadSpec) (cpus : List (Processor Scripted)) → seats ≡ length cpus → book.cpus ≡ length cpus → length cpus ≤ 8 → AreOpenedCpus bank book threads cpus → AreWired cpus → AreOneMachine seats bank book cpus
 opened_parts seats bank book threads cpus seats_many mails_many few each wired = record {
   seats_are = seats_many;
   mails_are = mails_many;
   few = few;
-  each = all_from_get (IsOf bank book) cpus (λ k p at. record { bank_is = (each k p at).seat.bank_is; table_is = (each k p at).desk.table });
+  each = all_from_get (IsOfMachine bank book) cpus (λ k p at. record { bank_is = (each k p at).seat.bank_is; table_is = (each k p at).desk.table });
   numbered = λ k p at. (each k p at).seat.number;
   joined = opened_joined cpus wired (λ k p at. (each k p at).seat.number);
 }

@@ -11,7 +11,7 @@ use Rattle.lwkt_cpu.specs.Processors.{Processor}
 use Rattle.lwkt_cpu.specs.Turning.{MakesTurn}
 use Rattle.lwkt_machine.specs.Bodies.{Scripted, IsPolled}
 use Rattle.lwkt_machine.specs.Ended.{AreSameCpus}
-use Rattle.lwkt_machine.specs.Machines.{rig_of, AreParts}
+use Rattle.lwkt_machine.specs.Machines.{rig_of, AreOneMachine}
 use Rattle.lwkt_machine.specs.Sights.{SeesSent}
 use Rattle.lwkt_machine.specs.Turns.{TurnsAt}
 use Rattle.lwkt_lane.proofs.PlaceMoves.{refilled}
@@ -30,7 +30,7 @@ turned_same bank olds mids k p q t u turned sees at made =
     same_set olds mids k p q (slice_get_within mids k p at) at (record { bank = made.ran.bank; table = made.ports.seat.table; number = made.ran.cpu; ports = made.ports }) (looked_same olds mids (sent_looked k olds mids sees))
 
 -- it is a turn of the machine
-pub turned_at : (seats : ℕ) (bank : BankId) (book : Shelf) (olds mids : List (Processor Scripted)) (k : ℕ) (p q : Processor Scripted) (t u : Vec Event Global) (turned : Turned) → AreParts seats bank book olds → SeesSent k olds mids → slice_get mids k ≡ Some p → MakesTurn IsPolled bank p q t u turned → TurnsAt k (rig_of bank book olds) (rig_of bank book (set mids k q)) t u turned
+pub turned_at : (seats : ℕ) (bank : BankId) (book : Shelf) (olds mids : List (Processor Scripted)) (k : ℕ) (p q : Processor Scripted) (t u : Vec Event Global) (turned : Turned) → AreOneMachine seats bank book olds → SeesSent k olds mids → slice_get mids k ≡ Some p → MakesTurn IsPolled bank p q t u turned → TurnsAt k (rig_of bank book olds) (rig_of bank book (set mids k q)) t u turned
 turned_at seats bank book olds mids k p q t u turned parts sees at made = record {
   seen = mids;
   sees = sees;

@@ -14,7 +14,7 @@ use Rattle.lwkt_lane.specs.declared.ins.LaneIn.{LaneIn}
 use Rattle.lwkt_lane.specs.declared.outs.LaneOut.{LaneOut}
 use Rattle.lwkt_lane.proofs.CrossedMoves.{first_long, rest_long}
 use Rattle.lwkt_msg.specs.Desks.{Desk, Shelf, IsOpened}
-use Rattle.lwkt_port.specs.Openings.{AreWithin}
+use Rattle.lwkt_port.specs.Openings.{KeepLimits}
 use Rattle.lwkt_script.specs.declared.scripts.ThreadSpec.{ThreadSpec}
 use Rattle.lwkt_script.specs.Format.{threads_on}
 use Rattle.lwkt_cpu.specs.Processors.{Processor}
@@ -48,7 +48,7 @@ pub length_bodies : (cpu : ℕ) (threads : List ThreadSpec) → length (bodies_o
 length_bodies cpu threads = length-map (filter (λ (t : ThreadSpec). t.cpu.0 == cpu) threads) body_of ∙ length-filter (λ (t : ThreadSpec). t.cpu.0 == cpu) threads
 
 -- the next processor keeps the limits of its ports
-pub first_within : (bank : BankId) (book : Shelf) (first : ℕ) (rest : Rest) (mail : Desk) (outs : Vec LaneOut Global) (ins : Vec LaneIn Global) (origins : List ThreadId) (threads : ℕ) → 0 < length rest.seats.items → IsOpened first book mail → outs ≡ get_or rest.outs.items 0 outs → ins ≡ get_or rest.ins.items 0 ins → origins ≡ map (λ (spec : MsgSpec). spec.origin) book.specs → threads ≤ 16 → IsRest bank book first rest → AreWithin mail outs.items ins.items origins threads
+pub first_within : (bank : BankId) (book : Shelf) (first : ℕ) (rest : Rest) (mail : Desk) (outs : Vec LaneOut Global) (ins : Vec LaneIn Global) (origins : List ThreadId) (threads : ℕ) → 0 < length rest.seats.items → IsOpened first book mail → outs ≡ get_or rest.outs.items 0 outs → ins ≡ get_or rest.ins.items 0 ins → origins ≡ map (λ (spec : MsgSpec). spec.origin) book.specs → threads ≤ 16 → IsRest bank book first rest → KeepLimits mail outs.items ins.items origins threads
 first_within bank book first rest mail outs ins origins threads some opened out into are few r = record {
   few = few;
   outs_are = first_long book.cpus rest.outs.items outs (omega (arith, some, r.outs_are)) out r.outs_long ∙ sym opened.cpus;

@@ -18,12 +18,12 @@ use Rattle.lwkt_lane.specs.Lane.{queued, received, seen_notes, out_lane, in_lane
 use Rattle.lwkt_port.specs.declared.lines.Lane.{Lane}
 use Rattle.lwkt_port.specs.Intakes.{PostTakesIn}
 use Rattle.lwkt_port.specs.Laws.{TakesSeen}
-use Rattle.lwkt_port.specs.Posts.{Post, Changes}
-use Rattle.lwkt_port.specs.Sights.{SeesAll, SeesOwn as LineSeesOwn, IsDelivered}
+use Rattle.lwkt_port.specs.Posts.{Post, ChangesOne}
+use Rattle.lwkt_port.specs.Sights.{SeesAll, SeesOwnLine as LineSeesOwn, IsDelivered}
 use Rattle.lwkt_port.proofs.DeliveryMoves.{seen_taken}
 use Rattle.lwkt_port.proofs.JoinMoves.{same_many}
 use Rattle.lwkt_cpu.specs.Processors.{Processor}
-use Rattle.lwkt_cpu.specs.Sights.{AreJoined, Sees, SeesOwn}
+use Rattle.lwkt_cpu.specs.Sights.{AreLinked, SeesLane, SeesOwnLane}
 use Rattle.lwkt_lane.proofs.PlaceMoves.{get_there, some_same}
 use Rattle.lwkt_cpu.proofs.SightMoves.{IsLooked, looked_none, looked_then, looked_seat, looked_post, beside_looked, sees_looked, sees_own_looked, joined_stay}
 use Rattle.lwkt_cpu.proofs.WakeMoves.{post_none}
@@ -141,14 +141,14 @@ looked_same olds news zip = record {
 }
 
 -- one line changed, and no other
-change_at : (R : Lane → Lane → Type 0) (i : ℕ) (a b : List Lane) → Changes R i a b → (d : Lane) → R (get_or a i d) (get_or b i d)
+change_at : (R : Lane → Lane → Type 0) (i : ℕ) (a b : List Lane) → ChangesOne R i a b → (d : Lane) → R (get_or a i d) (get_or b i d)
 change_at R i a b c d =
     let F : Lane × Lane → Type 0 = λ l. R l.0 l.1 in
     let old : get_or a i d ≡ c.old = get_or_default a i d c.old c.there ∙ c.was in
     let new : get_or b i d ≡ c.new = ap (λ l. get_or l i d) c.now ∙ get_or-set_same a i c.new d c.there in
     subst F (λ k. (sym old k, sym new k)) c.does
 
-change_apart : (R : Lane → Lane → Type 0) (i : ℕ) (a b : List Lane) → Changes R i a b → (k : ℕ) (d : Lane) → k ≢ i → get_or b k d ≡ get_or a k d
+change_apart : (R : Lane → Lane → Type 0) (i : ℕ) (a b : List Lane) → ChangesOne R i a b → (k : ℕ) (d : Lane) → k ≢ i → get_or b k d ≡ get_or a k d
 change_apart R i a b c k d apart = ap (λ l. get_or l k d) c.now ∙ get_or-set_other a i k c.new d apart
 
 -- processors have the numbers from this one on
@@ -171,7 +171,7 @@ each_apart p q (s ∷ olds) (s' ∷ news) is k d apart =
 abbrev SeesLine : (to : ℕ) (s p q : Processor Scripted) (from : ℕ) (d e : Lane) → Type 0
 SeesLine to s p q from d e = SeesAll (get_or s.post.lanes to d).out (get_or p.post.lanes from e) (get_or q.post.lanes from e)
 
-sees_line : (s s' p q : Processor Scripted) → Sees s s' p q → (d e : Lane) → SeesLine p.seat.cpu.0 s p q s.seat.cpu.0 d e
+sees_line : (s s' p q : Processor Scripted) → SeesLane s s' p q → (d e : Lane) → SeesLine p.seat.cpu.0 s p q s.seat.cpu.0 d e
 sees_line s s' p q sees d e =
     let b = sees.lanes.beside in
     let out_is : get_or s.post.lanes p.seat.cpu.0 d ≡ b.old = get_or_default s.post.lanes p.seat.cpu.0 d b.old b.there ∙ b.was in
@@ -236,7 +236,7 @@ pub record Looks (cpu : ℕ) (olds news : List (Processor Scripted)) : Type 0 wh
   pub number : length lower ≡ cpu
   pub were : olds ≡ lower ++ before ∷ upper
   pub are : news ≡ lower' ++ after ∷ upper'
-  pub own : SeesOwn before one
+  pub own : SeesOwnLane before one
   pub from_lower : SeesEach one two lower lower'
   pub from_upper : SeesEach two after upper upper'
 
@@ -393,13 +393,13 @@ sent_seen cpu olds news o numbered joined p here k s d e at =
     (λ apart. (there, (sees.others k s d e apart at).into.all))
 
 -- one more of the others is seen
-each_more : (p m q s s' : Processor Scripted) (olds news : List (Processor Scripted)) → SeesEach p m olds news → Sees s s' m q → SeesEach p q (olds ++ s ∷ []) (news ++ s' ∷ [])
-each_more p m q s s' [] [] is one = let F : Processor Scripted → Type 0 = λ x. Sees s s' x q in (q, (subst F is one, refl))
+each_more : (p m q s s' : Processor Scripted) (olds news : List (Processor Scripted)) → SeesEach p m olds news → SeesLane s s' m q → SeesEach p q (olds ++ s ∷ []) (news ++ s' ∷ [])
+each_more p m q s s' [] [] is one = let F : Processor Scripted → Type 0 = λ x. SeesLane s s' x q in (q, (subst F is one, refl))
 each_more p m q s s' [] (x ∷ news) is one = absurd is
 each_more p m q s s' (x ∷ olds) [] is one = absurd is
 each_more p m q s s' (x ∷ olds) (y ∷ news) is one = (is.0, (is.1.0, each_more is.0 m q s s' olds news is.1.1 one))
 
-pub each_next : (p m q s s' : Processor Scripted) (olds mids : List (Processor Scripted)) (n : ℕ) → n < length mids → slice_get olds n ≡ Some s → SeesEach p m (take n olds) (take n mids) → Sees s s' m q → SeesEach p q (take (n + 1) olds) (take (n + 1) (set mids n s'))
+pub each_next : (p m q s s' : Processor Scripted) (olds mids : List (Processor Scripted)) (n : ℕ) → n < length mids → slice_get olds n ≡ Some s → SeesEach p m (take n olds) (take n mids) → SeesLane s s' m q → SeesEach p q (take (n + 1) olds) (take (n + 1) (set mids n s'))
 each_next p m q s s' olds mids n less at is one =
     let F : List (Processor Scripted) × List (Processor Scripted) → Type 0 = λ l. SeesEach p q l.0 l.1 in
     let there : n < length olds = slice_get_within olds n s at in
@@ -408,28 +408,28 @@ each_next p m q s s' olds mids n less at is one =
     subst F (λ k. (sym more k, sym set_more k)) (each_more p m q s s' (take n olds) (take n mids) is one)
 
 -- once it looked, a processor is joined to those that it was joined to
-looked_joined : (p q s : Processor Scripted) → IsLooked p q → AreJoined s p → AreJoined s q
+looked_joined : (p q s : Processor Scripted) → IsLooked p q → AreLinked s p → AreLinked s q
 looked_joined p q s looked joined = joined_stay s s p q refl (ap (λ c. c.cpu) (looked_seat p q looked)) (post_none s.post) (looked_post p q looked) joined
 
 -- those that weren't seen yet are joined to the processor still
-pub still_joined : (p m : Processor Scripted) (olds news all : List (Processor Scripted)) → SeesEach p m olds news → All (λ s. AreJoined s p) all → (n : ℕ) (s : Processor Scripted) → slice_get all n ≡ Some s → AreJoined s m
+pub still_joined : (p m : Processor Scripted) (olds news all : List (Processor Scripted)) → SeesEach p m olds news → All (λ s. AreLinked s p) all → (n : ℕ) (s : Processor Scripted) → slice_get all n ≡ Some s → AreLinked s m
 still_joined p m olds news all sees joined n s at =
-    let F : Processor Scripted → Type 0 = λ x. AreJoined x p in
+    let F : Processor Scripted → Type 0 = λ x. AreLinked x p in
     looked_joined p m s (each_looked p m olds news sees).0 (subst F (get_or_from_slice_get all n s s at) (joined n s (slice_get_within all n s at)))
 
 -- of joined processors the one is joined to itself, and, once it looked, to those of lower numbers and to those of higher ones
-pub own_joined : (lower upper all : List (Processor Scripted)) (p : Processor Scripted) → all ≡ lower ++ p ∷ upper → AreAllJoined all → AreJoined p p
+pub own_joined : (lower upper all : List (Processor Scripted)) (p : Processor Scripted) → all ≡ lower ++ p ∷ upper → AreAllJoined all → AreLinked p p
 own_joined lower upper all p is joined =
     let here : slice_get all (length lower) ≡ Some p = ap (λ l. slice_get l (length lower)) is ∙ get_behind lower upper p in
     joined (length lower) (length lower) p p here here
 
-pub lower_joined : (lower upper all : List (Processor Scripted)) (p q : Processor Scripted) → all ≡ lower ++ p ∷ upper → AreAllJoined all → IsLooked p q → All (λ s. AreJoined s q) lower
-lower_joined lower upper all p q is joined looked = all_from_get (λ s. AreJoined s q) lower (λ k s at. looked_joined p q s looked (joined k (length lower) s p (ap (λ l. slice_get l k) is ∙ get_front lower (p ∷ upper) k (slice_get_within lower k s at) ∙ at) (ap (λ l. slice_get l (length lower)) is ∙ get_behind lower upper p)))
+pub lower_joined : (lower upper all : List (Processor Scripted)) (p q : Processor Scripted) → all ≡ lower ++ p ∷ upper → AreAllJoined all → IsLooked p q → All (λ s. AreLinked s q) lower
+lower_joined lower upper all p q is joined looked = all_from_get (λ s. AreLinked s q) lower (λ k s at. looked_joined p q s looked (joined k (length lower) s p (ap (λ l. slice_get l k) is ∙ get_front lower (p ∷ upper) k (slice_get_within lower k s at) ∙ at) (ap (λ l. slice_get l (length lower)) is ∙ get_behind lower upper p)))
 
-pub upper_joined : (lower upper all : List (Processor Scripted)) (p q : Processor Scripted) → all ≡ lower ++ p ∷ upper → AreAllJoined all → IsLooked p q → All (λ s. AreJoined s q) upper
+pub upper_joined : (lower upper all : List (Processor Scripted)) (p q : Processor Scripted) → all ≡ lower ++ p ∷ upper → AreAllJoined all → IsLooked p q → All (λ s. AreLinked s q) upper
 upper_joined lower upper all p q is joined looked =
     let here : slice_get all (length lower) ≡ Some p = ap (λ l. slice_get l (length lower)) is ∙ get_behind lower upper p in
-    all_from_get (λ s. AreJoined s q) upper (λ k s at. looked_joined p q s looked (joined (suc (length lower + k)) (length lower) s p (ap (λ l. slice_get l (suc (length lower + k))) is ∙ get_later lower upper p k ∙ at) here))
+    all_from_get (λ s. AreLinked s q) upper (λ k s at. looked_joined p q s looked (joined (suc (length lower + k)) (length lower) s p (ap (λ l. slice_get l (suc (length lower + k))) is ∙ get_later lower upper p k ∙ at) here))
 
 -- a list of one element
 pub one_is : {A : Type 0} (xs : List A) (d : A) → length xs ≡ 1 → xs ≡ get_or xs 0 d ∷ []

@@ -12,7 +12,7 @@ use Rattle.lwkt_lane.proofs.PlaceMoves.{get_set_same, get_set_other, some_same}
 use Rattle.lwkt_cpu.proofs.SightMoves.{joined_stay}
 use Rattle.lwkt_cpu.proofs.WakeMoves.{post_none, post_then}
 use Rattle.lwkt_machine.specs.Bodies.{Scripted}
-use Rattle.lwkt_machine.specs.Machines.{IsOf, AreParts}
+use Rattle.lwkt_machine.specs.Machines.{IsOfMachine, AreOneMachine}
 use Rattle.lwkt_machine.specs.Ended.{IsSameCpu, AreSameCpus}
 use Rattle.lwkt_machine.proofs.ListMoves.{all_from_get}
 
@@ -39,22 +39,22 @@ same_set olds mids k p q within at same all = record {
 }
 
 -- a processor that is still the same is of the bank and the book that it was of
-pub same_of : (bank : BankId) (book : Shelf) (olds news : List (Processor Scripted)) (k : ℕ) (q : Processor Scripted) → slice_get news k ≡ Some q → AreSameCpus olds news → All (IsOf bank book) olds → IsOf bank book q
+pub same_of : (bank : BankId) (book : Shelf) (olds news : List (Processor Scripted)) (k : ℕ) (q : Processor Scripted) → slice_get news k ≡ Some q → AreSameCpus olds news → All (IsOfMachine bank book) olds → IsOfMachine bank book q
 same_of bank book olds news k q at same all =
     let x = same.each k q at in
     let p = x.0 in
     let within = slice_get_within olds k p x.1.0 in
     let e : get_or olds k p ≡ p = get_or_from_slice_get olds k p p x.1.0 in
-    let of : IsOf bank book p = subst (IsOf bank book) e (All-get_or (IsOf bank book) olds k p within all) in
+    let of : IsOfMachine bank book p = subst (IsOfMachine bank book) e (All-get_or (IsOfMachine bank book) olds k p within all) in
     record { bank_is = x.1.1.bank ∙ of.bank_is; table_is = x.1.1.table ∙ of.table_is }
 
 -- the processors of a machine that are still the same make it whole
-pub parts_same : (seats : ℕ) (bank : BankId) (book : Shelf) (olds news : List (Processor Scripted)) → AreSameCpus olds news → AreParts seats bank book olds → AreParts seats bank book news
+pub parts_same : (seats : ℕ) (bank : BankId) (book : Shelf) (olds news : List (Processor Scripted)) → AreSameCpus olds news → AreOneMachine seats bank book olds → AreOneMachine seats bank book news
 parts_same seats bank book olds news same parts = record {
   seats_are = parts.seats_are ∙ sym same.as_many;
   mails_are = parts.mails_are ∙ sym same.as_many;
   few = omega (arith, parts.few, same.as_many);
-  each = all_from_get (IsOf bank book) news (λ k q at. same_of bank book olds news k q at same parts.each);
+  each = all_from_get (IsOfMachine bank book) news (λ k q at. same_of bank book olds news k q at same parts.each);
   numbered = λ k q at.
       let x = same.each k q at in
       ap (λ (i : _). i.0) x.1.1.number ∙ parts.numbered k x.0 x.1.0;

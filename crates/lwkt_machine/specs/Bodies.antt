@@ -20,10 +20,10 @@ pub record Scripted : Type 0 where
   pub log : List Entry
 
 -- what a body asked last, of its steps
-abbrev pub asked_by : List Ask → Asked → Option Ask
-asked_by steps Nothing = None
-asked_by steps (Step at) = slice_get steps at
-asked_by steps AskedExit = Some Exit
+abbrev pub asked_last : List Ask → Asked → Option Ask
+asked_last steps Nothing = None
+asked_last steps (Step at) = slice_get steps at
+asked_last steps AskedExit = Some Exit
 
 -- a body that was never polled
 abbrev pub unpolled : List Ask → ℕ → Scripted

@@ -45,16 +45,16 @@ pub record IsStopped (p q : Processor Scripted) (t u : Vec Event Global) : Type 
   pub told : TellsMail p.post.seat q.post.seat t.items u.items
 
 -- the processor of this number stops
-abbrev pub StopsAt : ℕ → Stage → Stage → Type 0
-StopsAt k x y = (p : Processor Scripted) × ((q : Processor Scripted) × ((slice_get x.cpus k ≡ Some p) × IsStopped p q x.trace y.trace × (y.cpus ≡ slice_set x.cpus k q)))
+abbrev pub StopsCpu : ℕ → Stage → Stage → Type 0
+StopsCpu k x y = (p : Processor Scripted) × ((q : Processor Scripted) × ((slice_get x.cpus k ≡ Some p) × IsStopped p q x.trace y.trace × (y.cpus ≡ slice_set x.cpus k q)))
 
 -- the processors stop one after another, by rising number
 abbrev pub AreStopped : List (Processor Scripted) → List (Processor Scripted) → Vec Event Global → Vec Event Global → Type 0
-AreStopped olds news t u = Chain Stage StopsAt (length olds) (stage olds t) (stage news u)
+AreStopped olds news t u = Chain Stage StopsCpu (length olds) (stage olds t) (stage news u)
 
 -- so many of them do, and of the next one nothing has changed
 abbrev pub AreStoppedShort : List (Processor Scripted) → List (Processor Scripted) → Vec Event Global → Vec Event Global → Type 0
-AreStoppedShort olds news t u = (count : ℕ) × ((v : Vec Event Global) × (Chain Stage StopsAt count (stage olds t) (stage news v) × (u.items ≡ v.items)))
+AreStoppedShort olds news t u = (count : ℕ) × ((v : Vec Event Global) × (Chain Stage StopsCpu count (stage olds t) (stage news v) × (u.items ≡ v.items)))
 
 -- a machine stops: its processors do
 pub record StopsAll (old new : Rig) (t u : Vec Event Global) : Type 0 where

@@ -13,9 +13,9 @@ ArePolls old [] new = new ≡ old
 ArePolls old (q ∷ qs) new = (mid : Scripted) × (IsPolled old q.0 q.1 mid × ArePolls mid qs new)
 
 -- the entries that the answers of polls make, by the asks that they answer
-abbrev pub entries_of : Option Ask → List (Answer × Ask) → List Entry
-entries_of asked [] = []
-entries_of asked (q ∷ qs) = option_to_list (entry_for asked q.0) ++ entries_of (Some q.1) qs
+abbrev pub entries_made : Option Ask → List (Answer × Ask) → List Entry
+entries_made asked [] = []
+entries_made asked (q ∷ qs) = option_to_list (entry_for asked q.0) ++ entries_made (Some q.1) qs
 
 -- a theorem: the asks of a body are those of its script, each by the number of polls before it
 abbrev pub AsksAreTheScripts : Type 0
@@ -23,4 +23,4 @@ AsksAreTheScripts = (steps : List Ask) (repeat : ℕ) (polls : List (Answer × A
 
 -- a theorem: the log of a body is the first 32 entries that the answers to its asks make
 abbrev pub LogsAreFirstEntries : Type 0
-LogsAreFirstEntries = (steps : List Ask) (repeat : ℕ) (polls : List (Answer × Ask)) (b : Scripted) → ArePolls (unpolled steps repeat) polls b → b.log ≡ take 32 (entries_of None polls)
+LogsAreFirstEntries = (steps : List Ask) (repeat : ℕ) (polls : List (Answer × Ask)) (b : Scripted) → ArePolls (unpolled steps repeat) polls b → b.log ≡ take 32 (entries_made None polls)

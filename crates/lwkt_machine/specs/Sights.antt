@@ -3,10 +3,10 @@ use Rattle.std.specs.Prelude.{◌≡◌, ◌≢◌, ℕ, ◌≤◌, List, [], �
 use Rattle.std.specs.declared.alloc.Global.{Global}
 use Rattle.lwkt_core.specs.declared.events.Event.{Event}
 use Rattle.lwkt_port.specs.declared.lines.Lane.{Lane}
-use Rattle.lwkt_port.specs.Posts.{Changes}
-use Rattle.lwkt_port.specs.Sights.{SeesAll, SeesOwn, LooksBeside, IsDelivered}
+use Rattle.lwkt_port.specs.Posts.{ChangesOne}
+use Rattle.lwkt_port.specs.Sights.{SeesAll, SeesOwnLine, LooksBeside, IsDelivered}
 use Rattle.lwkt_cpu.specs.Processors.{Processor}
-use Rattle.lwkt_cpu.specs.Sights.{Sees}
+use Rattle.lwkt_cpu.specs.Sights.{SeesLane}
 use Rattle.lwkt_cpu.specs.Waking.{TakesMail}
 use Rattle.lwkt_machine.specs.Bodies.{Scripted}
 
@@ -15,11 +15,11 @@ abbrev pub SeesEach : Processor Scripted → Processor Scripted → List (Proces
 SeesEach p q [] [] = q ≡ p
 SeesEach p q [] (_ ∷ _) = ⊥
 SeesEach p q (_ ∷ _) [] = ⊥
-SeesEach p q (s ∷ olds) (s' ∷ news) = (mid : Processor Scripted) × (Sees s s' p mid × SeesEach mid q olds news)
+SeesEach p q (s ∷ olds) (s' ∷ news) = (mid : Processor Scripted) × (SeesLane s s' p mid × SeesEach mid q olds news)
 
 -- of a processor no more changed than that its line to the processor of this number was looked at
 pub record IsLookedAt (cpu : ℕ) (s s' : Processor Scripted) : Type 0 where
-  pub line : Changes LooksBeside cpu s.post.lanes s'.post.lanes
+  pub line : ChangesOne LooksBeside cpu s.post.lanes s'.post.lanes
   pub else_same : s' ≡ record s { post = record s.post { lanes = s'.post.lanes } }
 
 -- the processor of this number saw all that each of these processors, itself too, had put into the queue of the lane to it; nothing
@@ -27,7 +27,7 @@ pub record IsLookedAt (cpu : ℕ) (s s' : Processor Scripted) : Type 0 where
 pub record SeesFrom (cpu : ℕ) (cpus : List (Processor Scripted)) (p p' : Processor Scripted) : Type 0 where
   pub as_many : length p'.post.lanes ≡ length p.post.lanes
   pub others : (k : ℕ) (s : Processor Scripted) (d e : Lane) → k ≢ cpu → slice_get cpus k ≡ Some s → SeesAll (slice_index_or s.post.lanes cpu d).out (slice_index_or p.post.lanes k e) (slice_index_or p'.post.lanes k e)
-  pub own : (d : Lane) → SeesOwn (slice_index_or p.post.lanes cpu d) (slice_index_or p'.post.lanes cpu d)
+  pub own : (d : Lane) → SeesOwnLine (slice_index_or p.post.lanes cpu d) (slice_index_or p'.post.lanes cpu d)
   pub rest : (k : ℕ) (d : Lane) → length cpus ≤ k → slice_index_or p'.post.lanes k d ≡ slice_index_or p.post.lanes k d
   pub else_same : p' ≡ record p { post = record p.post { lanes = p'.post.lanes } }
 

@@ -2,13 +2,13 @@
 use Rattle.std.specs.Prelude.{ℕ, Bool, List, map}
 use Rattle.std.specs.List.{enumerate_from, flat_map}
 use Rattle.lwkt_cpu.specs.declared.threads.Thread.{Thread}
-use Rattle.lwkt_cpu.specs.Processors.{Processor, state_of, is_running}
+use Rattle.lwkt_cpu.specs.Processors.{Processor, thread_state, is_running}
 use Rattle.lwkt_machine.specs.Bodies.{Scripted}
 use Rattle.lwkt_machine.specs.declared.standings.Standing.{Standing}
 
 -- how a thread stands: its processor and its number there, what it is doing, by whether it runs, and its references
 abbrev pub standing_of : ℕ → ℕ → Bool → Thread → Standing
-standing_of cpu n runs t = record { id = record { cpu = record { 0 = cpu }; thread = n }; state = state_of runs t.phase; list = t.list }
+standing_of cpu n runs t = record { id = record { cpu = record { 0 = cpu }; thread = n }; state = thread_state runs t.phase; list = t.list }
 
 -- how each thread of the processor of this number stands, by number
 abbrev pub standings_on : ℕ → Processor Scripted → List Standing

@@ -1,7 +1,7 @@
 //! The bodies of a script's threads.
 ghost use Rattle.std.specs.Prelude.{◌≡◌, ◌<◌, ◌≤◌, length, false, IfOk, Option, Some, None, unwrap_or};
 ghost use Rattle.std.specs.Option.{option_copied};
-ghost use Rattle.lwkt_machine.specs.Bodies.{unpolled, next_ask, entry_for, entry_told, logged, asked_by};
+ghost use Rattle.lwkt_machine.specs.Bodies.{unpolled, next_ask, entry_for, entry_told, logged, asked_last};
 
 use lwkt_ask::Body;
 use lwkt_base::{Answer, Ask, Entry};
@@ -40,11 +40,11 @@ pub struct ScriptBody {
 impl Model for ScriptBody {
     ghost use Rattle.std.specs.Prelude.{◌≡◌, ◌≤◌, length, vec_capacity};
     ghost use Rattle.lwkt_base.specs.declared.asks.Ask.TheVariants.{Exit};
-    ghost use Rattle.lwkt_machine.specs.Bodies.{Scripted, asked_by};
+    ghost use Rattle.lwkt_machine.specs.Bodies.{Scripted, asked_last};
 
     ghost Value = { Scripted };
 
-    ghost view = { λ b. record { steps = b.steps.items; repeat = b.repeat; polls = b.polls; asked = asked_by b.steps.items b.asked; told = b.told; log = b.log.items } };
+    ghost view = { λ b. record { steps = b.steps.items; repeat = b.repeat; polls = b.polls; asked = asked_last b.steps.items b.asked; told = b.told; log = b.log.items } };
 
     ghost invariant = { λ b. (length b.log.items ≤ 32) × (32 ≤ vec_capacity b.log) × (b.end ≡ Exit) };
 }
@@ -145,7 +145,7 @@ impl ScriptBody {
     // What the body asks next.
     #[inline(always)]
     fn next(&self) -> Asked
-        ensures { asked_by self.now.steps result ≡ Some (next_ask self.now) }
+        ensures { asked_last self.now.steps result ≡ Some (next_ask self.now) }
     {
         let count = self.steps.len() as u64;
         if count == 0 || self.polls / count >= u64::from(self.repeat) {
@@ -157,7 +157,7 @@ impl ScriptBody {
     // The ask that is told so, `Exit` if none is.
     #[inline(always)]
     fn ask_of(&self, asked: Asked) -> &Ask
-        ensures { result.now ≡ unwrap_or (asked_by self.now.steps asked) Ask.Exit }
+        ensures { result.now ≡ unwrap_or (asked_last self.now.steps asked) Ask.Exit }
     {
         match asked {
             Asked::Step(at) => match self.steps.get(at) {

@@ -24,17 +24,17 @@ pub struct Machine {
 
 impl Model for Machine {
     ghost use Rattle.lwkt_bank.specs.Seats.{id_of, cpus_of};
-    ghost use Rattle.lwkt_machine.specs.Machines.{Rig, rig_of, AreParts};
+    ghost use Rattle.lwkt_machine.specs.Machines.{Rig, rig_of, AreOneMachine};
 
     ghost Value = { Rig };
 
     ghost view = { λ m. rig_of (id_of m.bank) m.book m.cpus.items };
 
-    ghost invariant = { λ m. AreParts (cpus_of m.bank) (id_of m.bank) m.book m.cpus.items };
+    ghost invariant = { λ m. AreOneMachine (cpus_of m.bank) (id_of m.bank) m.book m.cpus.items };
 }
 
 impl Machine {
-    ghost use Rattle.lwkt_machine.specs.Machines.{rig_of, AreParts, IsWhole, ShowsBody, ShowsThreadAt};
+    ghost use Rattle.lwkt_machine.specs.Machines.{rig_of, AreOneMachine, IsWhole, ShowsBody, ShowsThreadAt};
     ghost use Rattle.lwkt_machine.specs.Turns.{TurnsAt};
     ghost use Rattle.lwkt_base.specs.Fault.{no_memory};
 
@@ -70,7 +70,7 @@ impl Machine {
 
     /// The machine's bank, its book and its processors, which may do something by themselves then.
     pub fn take_apart(self) -> (Bank, MsgBook, Vec<Cpu<ScriptBody>>)
-        ensures parts { AreParts (cpus_of result.0) (id_of result.0) result.1 result.2.items }
+        ensures parts { AreOneMachine (cpus_of result.0) (id_of result.0) result.1 result.2.items }
         ensures are { self ≡ rig_of (id_of result.0) result.1 result.2.items }
     {
         let Machine { bank, book, cpus } = self;
@@ -79,7 +79,7 @@ impl Machine {
 
     /// A machine of these parts. That they belong together is the caller's condition.
     pub fn put_together(bank: Bank, book: MsgBook, cpus: Vec<Cpu<ScriptBody>>) -> Machine
-        requires { AreParts (cpus_of bank) (id_of bank) book cpus.items }
+        requires { AreOneMachine (cpus_of bank) (id_of bank) book cpus.items }
         ensures { result ≡ rig_of (id_of bank) book cpus.items }
     {
         Machine { bank, book, cpus }

@@ -3,7 +3,7 @@ ghost use Rattle.std.specs.Prelude.{◌≡◌, ℕ, ◌+◌, ◌<◌, ◌≤◌,
 ghost use Rattle.lwkt_base.specs.declared.openings.MsgSpec.{MsgSpec};
 ghost use Rattle.lwkt_bank.specs.Seats.{id_of};
 ghost use Rattle.lwkt_msg.specs.Desks.{desk_cpu, IsOpened};
-ghost use Rattle.lwkt_port.specs.Openings.{new_mail, AreNewPorts, ArePaired, AreWithin};
+ghost use Rattle.lwkt_port.specs.Openings.{new_mail, AreNewPorts, ArePaired, KeepLimits};
 ghost use Rattle.lwkt_script.specs.Format.{threads_on};
 ghost use Rattle.lwkt_cpu.specs.Wiring.{HasLines, HaveLines};
 ghost use Rattle.lwkt_machine.specs.Lanes.{AreLeft};
@@ -70,7 +70,7 @@ fn open_ports(
 ) -> Result<Ports, Fault>
     requires mail { IsOpened number book.now mail }
     requires origins { origins.now ≡ map (λ (spec : MsgSpec). spec.origin) book.now.specs }
-    requires within { AreWithin mail outs.items ins.items origins.now threads }
+    requires within { KeepLimits mail outs.items ins.items origins.now threads }
     ensures desk { IfOk result (λ ports. IsOpened number book.now ports.seat) }
     ensures new { IfOk result (λ ports. AreNewPorts threads ports.ports) }
     ensures mails { IfOk result (λ ports. ports.mails ≡ map (new_mail (desk_cpu ports.seat)) (map (λ (spec : MsgSpec). spec.origin) book.now.specs)) }

@@ -1,6 +1,6 @@
 //! A processor of a machine sees what has been sent to it.
 ghost use Rattle.std.specs.Prelude.{◌≡◌, ◌<◌, All, Some, length, slice_get};
-ghost use Rattle.lwkt_cpu.specs.Sights.{AreJoined};
+ghost use Rattle.lwkt_cpu.specs.Sights.{AreLinked};
 ghost use Rattle.lwkt_machine.specs.Machines.{AreAllJoined, AreNumbered};
 ghost use Rattle.lwkt_machine.specs.Sights.{SeesEach, SeesSent};
 
@@ -9,7 +9,7 @@ use lwkt_cpu::Cpu;
 
 // A processor sees all that each of these others has put into the queue of its lane to it.
 fn see_each(cpu: &mut Cpu<ScriptBody>, others: &mut [Cpu<ScriptBody>])
-    requires { All (λ s. AreJoined s cpu.old) others.old }
+    requires { All (λ s. AreLinked s cpu.old) others.old }
     ensures sees { SeesEach cpu.old cpu.new others.old others.new }
     ensures as_many { length others.new ≡ length others.old }
 {

@@ -1,7 +1,7 @@
 //! The stop of a machine.
 ghost use Rattle.std.specs.Prelude.{◌≡◌, ℕ, ◌<◌, All, OnOk, OnErr, Err, Some, slice_get};
 ghost use Rattle.lwkt_bank.specs.Seats.{id_of};
-ghost use Rattle.lwkt_machine.specs.Machines.{IsOf};
+ghost use Rattle.lwkt_machine.specs.Machines.{IsOfMachine};
 ghost use Rattle.lwkt_machine.specs.Ended.{AreSameCpus, AreOver, AreStopped, AreStoppedShort, StopsAll, StopsShort};
 ghost use Rattle.lwkt_base.specs.Fault.{no_memory};
 
@@ -20,7 +20,7 @@ fn stop_all(
     cpus: &mut [Cpu<ScriptBody>],
     trace: &mut Vec<Event>,
 ) -> Result<(), Fault>
-    requires of { All (IsOf (id_of bank.now) book.now) cpus.old }
+    requires of { All (IsOfMachine (id_of bank.now) book.now) cpus.old }
     ensures ok { OnOk result (AreStopped cpus.old cpus.new trace.old trace.new) }
     ensures over { OnOk result (AreOver cpus.new) }
     ensures err { OnErr result (AreStoppedShort cpus.old cpus.new trace.old trace.new) }

@@ -28,7 +28,7 @@ use Rattle.lwkt_msg.specs.Book.{Mail, parts_of, state_of, shown_target, in_slot,
 use Rattle.lwkt_msg.specs.Hands.{Has, AreSame, IsOwn, IsInHand, AreHands}
 use Rattle.lwkt_msg.specs.Steps.{sent_word, rest_word}
 use Rattle.lwkt_msg.specs.Deeds as deed
-use Rattle.lwkt_msg.specs.Told.{Told, Tells}
+use Rattle.lwkt_msg.specs.Told.{Told, TellsStep}
 use Rattle.lwkt_msg.specs.Records.{WasSent, WasAnswered, IsPosted, IsAskedSo}
 use Rattle.lwkt_msg.specs.Plays.{IsAfter, IsAskedBy, Looked, looks, send_is_told, Took, takes_it, reply_is_told, HasFetched, reap_is_told, hands_out}
 use Rattle.lwkt_msg.proofs.WordFacts.{message_word-injective}
@@ -136,7 +136,7 @@ module _ (key : Key) (s : State Rec View) (id : ℕ) (v : View) (cpu : CpuId) (m
 
 -- what a step tells of its deed, by the processor of the view
 pub told_by_who : (key : Key) (s : State Rec View) (told : Told key s) (id : ℕ) (v : View) (cpu : CpuId) (is_seat : v.kind ≡ Of cpu) (hands : List (ℕ × Rec)) (m : ℕ) (e : MessageEntry) (d : CpuId → Deed) (word : ℕ) (act : Act Rec)
-    → (t : Tells key s told id v hands m e (d cpu) word act) → noted t.between v m e (d cpu) ≡ noted t.between v m e (d (who v))
+    → (t : TellsStep key s told id v hands m e (d cpu) word act) → noted t.between v m e (d cpu) ≡ noted t.between v m e (d (who v))
 told_by_who key s told id v cpu is_seat hands m e d word act t = ap (λ (c : CpuId). noted t.between v m e (d c)) (sym (who_is v cpu is_seat))
 
 -- what a word shows of a request to abort is so by the history
@@ -176,7 +176,7 @@ look_allowed key slots id me cpu m is_seat within hands s told deep at_id small 
     here : m < length key.specs.items
     here = there key s id me.0 cpu m told.rule at_id is_seat within
 
-    look : (act : Act Rec) → Valid s.homes me.1 act → homes_after s.homes me.1 act ≡ s.homes → Tells key s told id me.0 me.1 m e' d n act
+    look : (act : Act Rec) → Valid s.homes me.1 act → homes_after s.homes me.1 act ≡ s.homes → TellsStep key s told id me.0 me.1 m e' d n act
     look act valid same = tell.look_told key s id me.0 cpu m told at_id is_seat here e' operation.Load me.1 act valid same (look_mine mail cpu (at me.0 m)) (inl refl)
 
     tells : (act : Act Rec) (valid : Valid s.homes me.1 act) (homes : homes_after s.homes me.1 act ≡ s.homes) (hands' : List (ℕ × Rec)) → carried_after me.1 act ≡ hands' → AreSame me.1 hands' → ((rec : Rec) → Has me.1 (slot_at m) rec → (others : List (ℕ × Rec)) × (hands' ≡ (slot_at m, rec) ∷ others))

@@ -24,11 +24,11 @@ counted_by cpus specs history mails passes as_many m within =
     let long = length-map specs opened_mail in
     let grows = are_events (machine_of cpus (first_mails specs)) (events_in history) (machine_of cpus mails) m first.msg (mail_at mails m).msg run (shown_at (first_mails specs) m (omega arith)) (shown_at mails m (omega arith)) in
     record {
-      sends = from_none (λ x. x.sends) (kind.sends m) refl grows.0;
-      takes = from_none (λ x. x.takes) (kind.takes m) refl grows.1;
-      drops = from_none (λ x. x.drops) (kind.drops m) refl grows.2;
-      replies = from_none (λ x. x.replies) (kind.replies m) refl grows.3;
-      reaps = from_none (λ x. x.reaps) (kind.reaps m) refl grows.4;
+      sends = from_none (λ x. x.sends) (kind.sends_message m) refl grows.0;
+      takes = from_none (λ x. x.takes) (kind.takes_message m) refl grows.1;
+      drops = from_none (λ x. x.drops) (kind.drops_message m) refl grows.2;
+      replies = from_none (λ x. x.replies) (kind.replies_to_message m) refl grows.3;
+      reaps = from_none (λ x. x.reaps) (kind.reaps_message m) refl grows.4;
     }
   where
     first : Mail

@@ -115,11 +115,11 @@ module _ (book : Shelf) (key : Key) (seats : List Desk) (v w : View) (id : ℕ) 
       let long = ap (λ (xs : List MsgSpec). length xs) specs_is in
       let as_many = told.rule.book.as_many in
       let c = counted_by book.cpus book.specs told.chronicle.history told.rule.mails (is_history book key seats v w id s cpus_is specs_is all taken told at_id).passes (omega arith) m (omega arith) in record {
-        sends = c.sends ∙ sym (all_events (kind.sends m));
-        takes = c.takes ∙ sym (all_events (kind.takes m));
-        drops = c.drops ∙ sym (all_events (kind.drops m));
-        replies = c.replies ∙ sym (all_events (kind.replies m));
-        reaps = c.reaps ∙ sym (all_events (kind.reaps m));
+        sends = c.sends ∙ sym (all_events (kind.sends_message m));
+        takes = c.takes ∙ sym (all_events (kind.takes_message m));
+        drops = c.drops ∙ sym (all_events (kind.drops_message m));
+        replies = c.replies ∙ sym (all_events (kind.replies_to_message m));
+        reaps = c.reaps ∙ sym (all_events (kind.reaps_message m));
       }
 
 -- what the closing words show is what the book's messages are, once all seats are taken back

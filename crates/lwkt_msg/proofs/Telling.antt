@@ -32,7 +32,7 @@ use Rattle.lwkt_msg.specs.Hands.{IsOwn}
 use Rattle.lwkt_msg.specs.Steps.{sent_word, rest_word, machine_of}
 use Rattle.lwkt_msg.specs.Deeds.{word_step, look_by, deed_by}
 use Rattle.lwkt_msg.specs.Deeds as deed
-use Rattle.lwkt_msg.specs.Told.{OnlyLooks, IsOperation, IsRecordOf, IsSentAs, IsHandedOut, IsDone, first_mails, Told, Tells}
+use Rattle.lwkt_msg.specs.Told.{OnlyLooks, IsOperation, IsRecordOf, IsSentAs, IsHandedOut, IsDone, first_mails, Told, TellsStep}
 use Rattle.lwkt_msg.proofs.WordFacts.{requested_word}
 use Rattle.lwkt_msg.proofs.Moves.{mail_after, mail_sent, hand_others}
 use Rattle.lwkt_msg.proofs.Recalling.{recalls_after}
@@ -52,7 +52,7 @@ left_lost old new met apart = rw (ne_eqb met old apart) refl
 -- a step that is done between two states of the messages becomes a deed, here alone
 module _ (key : Key) (s : State Rec View) (id : ℕ) (v : View) (cpu : CpuId) (told : Told key s) (e : get_elem? s.views id ≡ some v) (is_seat : v.kind ≡ Of cpu)
     (m : ℕ) (there : m < length told.rule.mails) (e' : MessageEntry) (d : Deed) (own : d.cpu ≡ cpu) (mail' : Mail) (others : lead.KeptByOthers cpu.0 (mail_at told.rule.mails m) mail') (done : IsDone key.cpus told.rule.mails d (set told.rule.mails m mail')) where
-  pub deed_told : (hands : List (ℕ × Rec)) (word : ℕ) (act : Act Rec) → Valid s.homes hands act → ((past : List Deed) → IsBook key (set told.rule.mails m mail') (stepped s (word_at m) word id hands (noted past v m e' d) act)) → Tells key s told id v hands m e' d word act
+  pub deed_told : (hands : List (ℕ × Rec)) (word : ℕ) (act : Act Rec) → Valid s.homes hands act → ((past : List Deed) → IsBook key (set told.rule.mails m mail') (stepped s (word_at m) word id hands (noted past v m e' d) act)) → TellsStep key s told id v hands m e' d word act
   deed_told hands word act valid book =
       let past = Views-between (IsDone key.cpus) page_of (first_mails key.specs.items) told.rule.mails s.views told.chronicle id v e cpu is_seat in
       let F : CpuId → Type 0 = λ c. AreOthers c.0 past.0 in
@@ -132,7 +132,7 @@ module _ (key : Key) (s : State Rec View) (id : ℕ) (v : View) (cpu : CpuId) (m
   -- a look, after which everything at home is as it was
   pub look_told : (e' : MessageEntry) (operation : Operation) (hands : List (ℕ × Rec)) (act : Act Rec) → Valid s.homes hands act → homes_after s.homes hands act ≡ s.homes
       → (Knows mail (Of cpu) (at v m) → Knows mail (Of cpu) e')
-      → OnlyLooks operation n → Tells key s told id v hands m e' (look_by cpu (word_step m operation n) []) n act
+      → OnlyLooks operation n → TellsStep key s told id v hands m e' (look_by cpu (word_step m operation n) []) n act
   look_told e' operation hands act valid same mine only =
       let over = ⊎_elim
       (λ (h : operation ≡ operate.Load). let F : Operation → Type 0 = λ o. IsStepOver n n (word_step m o n) in subst F (sym h) record { found = refl; leaves = refl })
@@ -148,7 +148,7 @@ module _ (key : Key) (s : State Rec View) (id : ℕ) (v : View) (cpu : CpuId) (m
 
   -- a send
   pub send_told : (to : CpuId) (sync : Bool) (flags : Flags) (rec : Rec) (others : List (ℕ × Rec)) → IsOwn v cpu.0 m → (at v m).away ≡ false → to.0 < key.cpus → (at v m).round < LAST_ROUND → rec.error ≡ 0 → rec.result ≡ 0
-      → let w : MsgWord = sent_word cpu to ((at v m).round + 1) sync flags in Tells key s told id v ((slot_at m, rec) ∷ others) m (sent w (call_of rec) (at v m)) (deed.sends cpu m to w.round (message_word w) rec) (message_word w) gives
+      → let w : MsgWord = sent_word cpu to ((at v m).round + 1) sync flags in TellsStep key s told id v ((slot_at m, rec) ∷ others) m (sent w (call_of rec) (at v m)) (deed.sends cpu m to w.round (message_word w) rec) (message_word w) gives
   send_told to sync flags rec others own home to_there room no_error no_result =
       let w : MsgWord = sent_word cpu to ((at v m).round + 1) sync flags in
       let d : Deed = deed.sends cpu m to w.round (message_word w) rec in
@@ -160,7 +160,7 @@ module _ (key : Key) (s : State Rec View) (id : ℕ) (v : View) (cpu : CpuId) (m
 
   -- a take
   pub take_told : (w : MsgWord) (hands : List (ℕ × Rec)) → n ≡ message_word w → MessageFits w → w.state ≡ state.Out → w.target ≡ cpu
-      → Tells key s told id v hands m (took mail.rec (at v m)) (deed.takes cpu m w.round (message_word w) mail.rec) (message_word w + 1) (takes (slot_at m) mail.rec)
+      → TellsStep key s told id v hands m (took mail.rec (at v m)) (deed.takes cpu m w.round (message_word w) mail.rec) (message_word w + 1) (takes (slot_at m) mail.rec)
   take_told w hands is fits out to =
       let d : Deed = deed.takes cpu m w.round (message_word w) mail.rec in
       let l = λ (past : List Deed). lead.take_leads key mails s id v cpu m told.rule.book e is_seat there w past d is fits out to in
@@ -172,7 +172,7 @@ module _ (key : Key) (s : State Rec View) (id : ℕ) (v : View) (cpu : CpuId) (m
 
   -- a reply
   pub reply_told : (rec : Rec) (others : List (ℕ × Rec)) → (at v m).taken ≡ true → call_of rec ≡ (at v m).got
-      → Tells key s told id v ((slot_at m, rec) ∷ others) m (replied rec (at v m)) (deed.replies cpu m n rec) (n + 1) gives
+      → TellsStep key s told id v ((slot_at m, rec) ∷ others) m (replied rec (at v m)) (deed.replies cpu m n rec) (n + 1) gives
   reply_told rec others taken call =
       let d : Deed = deed.replies cpu m n rec in
       let l = λ (past : List Deed). lead.reply_leads key mails s id v cpu m told.rule.book e is_seat there rec past d taken call in
@@ -186,7 +186,7 @@ module _ (key : Key) (s : State Rec View) (id : ℕ) (v : View) (cpu : CpuId) (m
 
   -- a reap
   pub reap_told : (hands : List (ℕ × Rec)) → IsOwn v cpu.0 m → (at v m).had ≡ true → (at v m).back ≡ true
-      → let word : ℕ = message_word (rest_word cpu (at v m).round) in Tells key s told id v hands m (reaped (at v m)) (deed.reaps cpu m word mail.rec) word (takes (slot_at m) mail.rec)
+      → let word : ℕ = message_word (rest_word cpu (at v m).round) in TellsStep key s told id v hands m (reaped (at v m)) (deed.reaps cpu m word mail.rec) word (takes (slot_at m) mail.rec)
   reap_told hands own had seen =
       let word : ℕ = message_word (rest_word cpu (at v m).round) in
       let d : Deed = deed.reaps cpu m word mail.rec in
@@ -198,7 +198,7 @@ module _ (key : Key) (s : State Rec View) (id : ℕ) (v : View) (cpu : CpuId) (m
 
   -- a drop
   pub drop_told : (w : MsgWord) (hands : List (ℕ × Rec)) → IsOwn v cpu.0 m → (at v m).had ≡ true → n ≡ message_word w → MessageFits w → w.state ≡ state.Out
-      → let word : ℕ = message_word (rest_word cpu (at v m).round) in Tells key s told id v hands m (dropped (at v m)) (deed.drops cpu m (message_word w) word mail.rec) word (takes (slot_at m) mail.rec)
+      → let word : ℕ = message_word (rest_word cpu (at v m).round) in TellsStep key s told id v hands m (dropped (at v m)) (deed.drops cpu m (message_word w) word mail.rec) word (takes (slot_at m) mail.rec)
   drop_told w hands own had is fits out =
       let word : ℕ = message_word (rest_word cpu (at v m).round) in
       let d : Deed = deed.drops cpu m (message_word w) word mail.rec in
@@ -210,7 +210,7 @@ module _ (key : Key) (s : State Rec View) (id : ℕ) (v : View) (cpu : CpuId) (m
       hands word (takes (slot_at m) mail.rec) (lead.out_slot key mails s id v cpu m told.rule.book e is_seat there w is fits out).0 (λ past. (l past).book)
 
   -- a request to abort
-  pub abort_told : (hands : List (ℕ × Rec)) → IsOwn v cpu.0 m → (at v m).away ≡ true → Tells key s told id v hands m (requested (at v m)) (deed.requests cpu m n) (bit_or n 4) keeps
+  pub abort_told : (hands : List (ℕ × Rec)) → IsOwn v cpu.0 m → (at v m).away ≡ true → TellsStep key s told id v hands m (requested (at v m)) (deed.requests cpu m n) (bit_or n 4) keeps
   abort_told hands own away =
       let d : Deed = deed.requests cpu m n in
       let w : MsgWord = parts_of mail in
@@ -225,7 +225,7 @@ module _ (key : Key) (s : State Rec View) (id : ℕ) (v : View) (cpu : CpuId) (m
 
   -- the load that hands a record out
   pub hand_told : (hands : List (ℕ × Rec)) → IsOwn v cpu.0 m → (at v m).had ≡ false → (at v m).away ≡ false
-      → Tells key s told id v hands m (handed (at v m)) (deed.hands_out cpu m n mail.rec) n (takes (slot_at m) mail.rec)
+      → TellsStep key s told id v hands m (handed (at v m)) (deed.hands_out cpu m n mail.rec) n (takes (slot_at m) mail.rec)
   hand_told hands own had home =
       let d : Deed = deed.hands_out cpu m n mail.rec in
       let mail' : Mail = record mail { had = true } in

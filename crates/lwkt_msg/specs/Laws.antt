@@ -26,7 +26,7 @@ use Rattle.lwkt_msg.specs.Steps.{sent_word, rest_word, machine_of}
 use Rattle.lwkt_msg.specs.Deeds as deed
 use Rattle.lwkt_msg.specs.Calls.{Does}
 use Rattle.lwkt_msg.specs.Desks.{AreOpeningWords}
-use Rattle.lwkt_msg.specs.Told.{IsDone, first_mails, AreCounted, Told, IsNext, IsSame, Opens, Tells}
+use Rattle.lwkt_msg.specs.Told.{IsDone, first_mails, AreCounted, Told, IsNext, IsSame, Opens, TellsStep}
 
 -- each state of a book's table shows a machine whose messages are all safe: each has one owner
 abbrev pub RuleShowsSafety : Type 0
@@ -74,44 +74,44 @@ AtSeat P = (key : Key) (s : State Rec View) (told : Told key s) (id : ℕ) (v : 
 
 -- a load, or an exchange that is lost, is a look
 abbrev pub LoadIsLook : Type 0
-LoadIsLook = AtSeat (λ key s told id v cpu m n. (hands : List (ℕ × Rec)) → Tells key s told id v hands m (looked (parts_of (mail_at told.rule.mails m)) (at v m)) (deed.loads cpu m n) n keeps)
+LoadIsLook = AtSeat (λ key s told id v cpu m n. (hands : List (ℕ × Rec)) → TellsStep key s told id v hands m (looked (parts_of (mail_at told.rule.mails m)) (at v m)) (deed.loads cpu m n) n keeps)
 
 abbrev pub LostExchangeIsLook : Type 0
-LostExchangeIsLook = AtSeat (λ key s told id v cpu m n. (hands : List (ℕ × Rec)) (old new : ℕ) → n ≢ old → Tells key s told id v hands m (at v m) (deed.loses cpu m old new n) n keeps)
+LostExchangeIsLook = AtSeat (λ key s told id v cpu m n. (hands : List (ℕ × Rec)) (old new : ℕ) → n ≢ old → TellsStep key s told id v hands m (at v m) (deed.loses cpu m old new n) n keeps)
 
 -- so is the load by which an origin gets the record of its message at the opening
 abbrev pub HandingOutIsLook : Type 0
 HandingOutIsLook = AtSeat (λ key s told id v cpu m n. (hands : List (ℕ × Rec)) → IsOwn v cpu.0 m → (at v m).had ≡ false → (at v m).away ≡ false
-    → Tells key s told id v hands m (handed (at v m)) (deed.hands_out cpu m n (mail_at told.rule.mails m).rec) n (takes (slot_at m) (mail_at told.rule.mails m).rec))
+    → TellsStep key s told id v hands m (handed (at v m)) (deed.hands_out cpu m n (mail_at told.rule.mails m).rec) n (takes (slot_at m) (mail_at told.rule.mails m).rec))
 
 -- a send: the origin stores the word of a message that it has at rest
 abbrev pub StoreIsSend : Type 0
 StoreIsSend = AtSeat (λ key s told id v cpu m n. (to : CpuId) (sync : Bool) (flags : Flags) (rec : Rec) (others : List (ℕ × Rec)) → IsOwn v cpu.0 m → (at v m).away ≡ false → to.0 < key.cpus → (at v m).round < LAST_ROUND → rec.error ≡ 0 → rec.result ≡ 0
-    → let w : MsgWord = sent_word cpu to ((at v m).round + 1) sync flags in Tells key s told id v ((slot_at m, rec) ∷ others) m (sent w (call_of rec) (at v m)) (deed.sends cpu m to w.round (message_word w) rec) (message_word w) gives)
+    → let w : MsgWord = sent_word cpu to ((at v m).round + 1) sync flags in TellsStep key s told id v ((slot_at m, rec) ∷ others) m (sent w (call_of rec) (at v m)) (deed.sends cpu m to w.round (message_word w) rec) (message_word w) gives)
 
 -- a take: the target changes the word of a message on its way to it from Out to With
 abbrev pub ExchangeIsTake : Type 0
 ExchangeIsTake = AtSeat (λ key s told id v cpu m n. (w : MsgWord) (hands : List (ℕ × Rec)) → n ≡ message_word w → MessageFits w → w.state ≡ state.Out → w.target ≡ cpu
-    → Tells key s told id v hands m (took (mail_at told.rule.mails m).rec (at v m)) (deed.takes cpu m w.round (message_word w) (mail_at told.rule.mails m).rec) (message_word w + 1) (takes (slot_at m) (mail_at told.rule.mails m).rec))
+    → TellsStep key s told id v hands m (took (mail_at told.rule.mails m).rec (at v m)) (deed.takes cpu m w.round (message_word w) (mail_at told.rule.mails m).rec) (message_word w + 1) (takes (slot_at m) (mail_at told.rule.mails m).rec))
 
 -- a reply: the target adds 1 to the word of a message that it has taken, and the call of the record is as it was
 abbrev pub AddIsReply : Type 0
 AddIsReply = AtSeat (λ key s told id v cpu m n. (rec : Rec) (others : List (ℕ × Rec)) → (at v m).taken ≡ true → call_of rec ≡ (at v m).got
-    → Tells key s told id v ((slot_at m, rec) ∷ others) m (replied rec (at v m)) (deed.replies cpu m n rec) (n + 1) gives)
+    → TellsStep key s told id v ((slot_at m, rec) ∷ others) m (replied rec (at v m)) (deed.replies cpu m n rec) (n + 1) gives)
 
 -- a reap: the origin stores the word of a message at rest, once it has seen that it is back
 abbrev pub StoreIsReap : Type 0
 StoreIsReap = AtSeat (λ key s told id v cpu m n. (hands : List (ℕ × Rec)) → IsOwn v cpu.0 m → (at v m).had ≡ true → (at v m).back ≡ true
-    → let word : ℕ = message_word (rest_word cpu (at v m).round) in Tells key s told id v hands m (reaped (at v m)) (deed.reaps cpu m word (mail_at told.rule.mails m).rec) word (takes (slot_at m) (mail_at told.rule.mails m).rec))
+    → let word : ℕ = message_word (rest_word cpu (at v m).round) in TellsStep key s told id v hands m (reaped (at v m)) (deed.reaps cpu m word (mail_at told.rule.mails m).rec) word (takes (slot_at m) (mail_at told.rule.mails m).rec))
 
 -- a drop: the origin changes the word of a message on its way to that of a message at rest
 abbrev pub ExchangeIsDrop : Type 0
 ExchangeIsDrop = AtSeat (λ key s told id v cpu m n. (w : MsgWord) (hands : List (ℕ × Rec)) → IsOwn v cpu.0 m → (at v m).had ≡ true → n ≡ message_word w → MessageFits w → w.state ≡ state.Out
-    → let word : ℕ = message_word (rest_word cpu (at v m).round) in Tells key s told id v hands m (dropped (at v m)) (deed.drops cpu m (message_word w) word (mail_at told.rule.mails m).rec) word (takes (slot_at m) (mail_at told.rule.mails m).rec))
+    → let word : ℕ = message_word (rest_word cpu (at v m).round) in TellsStep key s told id v hands m (dropped (at v m)) (deed.drops cpu m (message_word w) word (mail_at told.rule.mails m).rec) word (takes (slot_at m) (mail_at told.rule.mails m).rec))
 
 -- a request to abort: the origin sets a bit of the word of a message that is away
 abbrev pub OrIsAbort : Type 0
-OrIsAbort = AtSeat (λ key s told id v cpu m n. (hands : List (ℕ × Rec)) → IsOwn v cpu.0 m → (at v m).away ≡ true → Tells key s told id v hands m (requested (at v m)) (deed.requests cpu m n) (bit_or n 4) keeps)
+OrIsAbort = AtSeat (λ key s told id v cpu m n. (hands : List (ℕ × Rec)) → IsOwn v cpu.0 m → (at v m).away ≡ true → TellsStep key s told id v hands m (requested (at v m)) (deed.requests cpu m n) (bit_or n 4) keeps)
 
 -- a seat that is made, cut off or taken back is no deed
 abbrev pub SeatingIsNoDeed : Type 0

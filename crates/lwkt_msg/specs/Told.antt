@@ -137,11 +137,11 @@ pub record IsDone (cpus : ℕ) (mails : List Mail) (d : Deed) (others : List Mai
 
 -- how often each thing was done with a message is how many events did it, by this count of the events of one kind
 pub record AreCounted (msg : Message) (m : ℕ) (count : (Event → Bool) → ℕ) : Type 0 where
-  pub sends : msg.sends ≡ count (kind.sends m)
-  pub takes : msg.takes ≡ count (kind.takes m)
-  pub drops : msg.drops ≡ count (kind.drops m)
-  pub replies : msg.replies ≡ count (kind.replies m)
-  pub reaps : msg.reaps ≡ count (kind.reaps m)
+  pub sends : msg.sends ≡ count (kind.sends_message m)
+  pub takes : msg.takes ≡ count (kind.takes_message m)
+  pub drops : msg.drops ≡ count (kind.drops_message m)
+  pub replies : msg.replies ≡ count (kind.replies_to_message m)
+  pub reaps : msg.reaps ≡ count (kind.reaps_message m)
 
 -- the messages as they are declared
 abbrev pub first_mails : List MsgSpec → List Mail
@@ -176,7 +176,7 @@ Opens key s = (told : Told key s) × (told.rule.mails ≡ first_mails key.specs.
 -- a seat's step, by the table's own relation of a step: the word of the message becomes this number, and by this act the seat takes
 -- its record from its slot or gives it back. Others have acted since the seat's last deed; the seat knows this of the message now,
 -- the rule holds, and the history has this deed more
-pub record Tells (key : Key) (s : State Rec View) (told : Told key s) (id : ℕ) (v : View) (hands : List (ℕ × Rec)) (m : ℕ) (e : MessageEntry) (d : Deed) (word : ℕ) (act : Act Rec) : Type 0 where
+pub record TellsStep (key : Key) (s : State Rec View) (told : Told key s) (id : ℕ) (v : View) (hands : List (ℕ × Rec)) (m : ℕ) (e : MessageEntry) (d : Deed) (word : ℕ) (act : Act Rec) : Type 0 where
   pub valid : Valid s.homes hands act
   pub between : List Deed
   pub others : AreOthers (who v).0 between

@@ -16,7 +16,7 @@ use Rattle.lwkt_port.specs.declared.lines.Lane.{Lane}
 use Rattle.lwkt_port.specs.declared.mails.Mail.{Mail}
 use Rattle.lwkt_port.specs.declared.queues.Port.{Port}
 use Rattle.lwkt_port.specs.Mails.{no_kept_mail, kept_mail_at, IsMail}
-use Rattle.lwkt_port.specs.Openings.{new_mail, IsNewPort, AreNew, AreNewPorts, new_line, ArePaired, AreWithin, IsFresh, AreOrigins}
+use Rattle.lwkt_port.specs.Openings.{new_mail, IsNewPort, AreNew, AreNewPorts, new_line, ArePaired, KeepLimits, IsFresh, AreOrigins}
 use Rattle.lwkt_port.specs.Posts.{Post, IsPost, KeepsNamed}
 use Rattle.lwkt_port.proofs.Classing.{named_empty}
 
@@ -71,7 +71,7 @@ new_fits cpu d m o seat fresh within is =
       shown_taken = λ h. absurd (true≢false (sym h));
     }
 
-pub opened : (cpu : CpuId) (p : Post) (outs : List LaneOut) (ins : List LaneIn) (origins : List ThreadId) → IsSeatOf cpu p.seat → IsFresh p.seat → AreOrigins p.seat origins → AreWithin p.seat outs ins origins p.threads → ArePaired outs ins p.lanes → AreNewPorts p.threads p.ports → p.mails ≡ map (new_mail cpu) origins → IsPost p
+pub opened : (cpu : CpuId) (p : Post) (outs : List LaneOut) (ins : List LaneIn) (origins : List ThreadId) → IsSeatOf cpu p.seat → IsFresh p.seat → AreOrigins p.seat origins → KeepLimits p.seat outs ins origins p.threads → ArePaired outs ins p.lanes → AreNewPorts p.threads p.ports → p.mails ≡ map (new_mail cpu) origins → IsPost p
 opened cpu p outs ins origins seat fresh are within paired ports mails =
     let n : ℕ = length p.mails in
     let L : List Lane → Type 0 = All (KeepsNamed n) in

@@ -17,7 +17,7 @@ use Rattle.lwkt_port.specs.Intakes.{Payer, PaysOwed, Pays, Desks, desks_of, Hand
 use Rattle.lwkt_port.specs.Laws.{TakesSeen, SeenAreTakenIn}
 use Rattle.lwkt_port.specs.Lines.{IsRoomed}
 use Rattle.lwkt_port.specs.Mails.{kept_mail_at}
-use Rattle.lwkt_port.specs.Posts.{Changes}
+use Rattle.lwkt_port.specs.Posts.{ChangesOne}
 use Rattle.lwkt_port.specs.Sendings.{ReplyMeans}
 use Rattle.lwkt_port.specs.Works.{Work}
 use Rattle.lwkt_port.proofs.Hinting.{chain_keeps}
@@ -45,12 +45,12 @@ ends_set a i old new there was same = record {
       (λ apart. ap (λ (l : Lane). l.into) (get_or-set_other a i k new d apart));
 }
 
-ends_change : (R : Lane → Lane → Type 0) (i : ℕ) (a b : List Lane) (c : Changes R i a b) → c.new.into ≡ c.old.into → SameEnds a b
+ends_change : (R : Lane → Lane → Type 0) (i : ℕ) (a b : List Lane) (c : ChangesOne R i a b) → c.new.into ≡ c.old.into → SameEnds a b
 ends_change R i a b c same = ends_is a (set a i c.new) b c.now (ends_set a i c.old c.new c.there c.was same)
 
 -- moving notes in hand on, and paying what is owed, leave the receiving ends alone
-rooms_ends : (k : ℕ) (x y : List Lane) → Chain (List Lane) (λ i a b. Changes IsRoomed i a b) k x y → SameEnds x y
-rooms_ends k x y chain = chain_keeps (List Lane) (λ i a b. Changes IsRoomed i a b) (λ z. SameEnds x z) (λ i a b c p. ends_then x a b p (ends_change IsRoomed i a b c c.does.into_same)) k x y chain (ends_none x)
+rooms_ends : (k : ℕ) (x y : List Lane) → Chain (List Lane) (λ i a b. ChangesOne IsRoomed i a b) k x y → SameEnds x y
+rooms_ends k x y chain = chain_keeps (List Lane) (λ i a b. ChangesOne IsRoomed i a b) (λ z. SameEnds x z) (λ i a b c p. ends_then x a b p (ends_change IsRoomed i a b c c.does.into_same)) k x y chain (ends_none x)
 
 reply_ends : (msg : MsgId) (error outcome : ℕ) (line line' : Lane) (w w' : Work) (made : Bool) → ReplyMeans msg error outcome line line' w w' made → line'.into ≡ line.into
 reply_ends msg error outcome line line' w w' true r = r.posted.into_same

@@ -12,15 +12,15 @@ use Rattle.lwkt_port.specs.declared.lines.Lane.{Lane}
 use Rattle.lwkt_port.specs.declared.queues.Port.{Port}
 use Rattle.lwkt_lane.specs.declared.notes.Note.{Note}
 use Rattle.std.proofs.lemmas.List.Elements.{All-set, All-get_or}
-use Rattle.lwkt_port.specs.Posts.{Changes, KeepsNamed}
+use Rattle.lwkt_port.specs.Posts.{ChangesOne, KeepsNamed}
 use Rattle.lwkt_port.specs.Queues.{NamesBoth, HasNamed}
 use Rattle.lwkt_port.specs.Sendings.{MaySend, SendsOver, RefusesOver, HasSentNote, WhyUnsent, ReplyMeans, Answers}
 use Rattle.lwkt_port.specs.Works.{Work}
 
 -- one thing of a list was changed so
-pub changed : (A : Type 0) (R : A → A → Type 0) (i j : ℕ) (xs : List A) (old new : A) → j < length xs → old ≡ slice_index_or xs j old → j ≡ i → R old new → Changes R i xs (slice_set xs j new)
+pub changed : (A : Type 0) (R : A → A → Type 0) (i j : ℕ) (xs : List A) (old new : A) → j < length xs → old ≡ slice_index_or xs j old → j ≡ i → R old new → ChangesOne R i xs (slice_set xs j new)
 changed A R i j xs old new there was is does =
-    let F : ℕ → Type 0 = λ n. Changes R n xs (slice_set xs j new) in
+    let F : ℕ → Type 0 = λ n. ChangesOne R n xs (slice_set xs j new) in
     subst F is record { old = old; new = new; there = there; was = sym was; now = refl; does = does }
 
 -- a thread's message was sent, or not

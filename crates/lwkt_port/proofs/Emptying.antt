@@ -16,16 +16,16 @@ use Rattle.lwkt_port.specs.declared.lines.Lane.{Lane}
 use Rattle.lwkt_port.specs.Intakes.{Desks, desks, Handles, HandlesAll, Pops}
 use Rattle.lwkt_port.specs.declared.mails.Mail.{Mail}
 use Rattle.lwkt_port.specs.Lines.{IsDrained, HasPopped}
-use Rattle.lwkt_port.specs.Works.{Grew, away_count, StandsSo, Standing, KeepsSo, Keeps}
+use Rattle.lwkt_port.specs.Works.{Grew, away_count, StandsSo, Standing, KeepsSo, KeepsStanding}
 use Rattle.lwkt_port.proofs.Growing.{grew_none, grew_then, same_none, same_then}
 
 abbrev pub desks_at : Standing → Desks
 desks_at s = desks s.counters s.trace
 
-pub keeps_none : (s : Standing) → Keeps s s
+pub keeps_none : (s : Standing) → KeepsStanding s s
 keeps_none s = record { same = same_none s.counters.room.seat; len = refl; grown = (0, grew_none (desk_cpu s.counters.room.seat) s.trace); room = omega arith; away = refl }
 
-pub keeps_then : (s s' s'' : Standing) → Keeps s s' → Keeps s' s'' → Keeps s s''
+pub keeps_then : (s s' s'' : Standing) → KeepsStanding s s' → KeepsStanding s' s'' → KeepsStanding s s''
 keeps_then s s' s'' k l =
     let cpu : CpuId = desk_cpu s.counters.room.seat in
     let F : CpuId → Type 0 = λ c. Grew c l.grown.0 s'.trace s''.trace in
@@ -73,12 +73,12 @@ pub record IsPopping (turn : ℕ) (line : Lane) (s : Standing) (line' : Lane) (s
   pub none : line'.kept ≡ None
   pub out_same : line'.out ≡ line.out
   pub lane_same : in_lane line'.into ≡ in_lane line.into
-  pub keeps : Keeps s s'
+  pub keeps : KeepsStanding s s'
 
-pub popping_none : (line : Lane) (s : Standing) → line.kept ≡ None → Keeps s s → IsPopping 0 line s line s
+pub popping_none : (line : Lane) (s : Standing) → line.kept ≡ None → KeepsStanding s s → IsPopping 0 line s line s
 popping_none line s none keeps = record { popped = []; as_many = refl; received_is = sym (append-nil (received line.into)); first = front_itself (seen_notes line.into); handles = refl; none = none; out_same = refl; lane_same = refl; keeps = keeps }
 
-pub popping_more : (turn : ℕ) (line : Lane) (s : Standing) (line1 : Lane) (s1 : Standing) (line2 : Lane) (s2 : Standing) (note : Note) (how : Fate) → IsPopping turn line s line1 s1 → HasPopped note line1 line2 → Handles note (desks_at s1) (desks_at s2) (Some how) → Keeps s1 s2 → IsPopping (turn + 1) line s line2 s2
+pub popping_more : (turn : ℕ) (line : Lane) (s : Standing) (line1 : Lane) (s1 : Standing) (line2 : Lane) (s2 : Standing) (note : Note) (how : Fate) → IsPopping turn line s line1 s1 → HasPopped note line1 line2 → Handles note (desks_at s1) (desks_at s2) (Some how) → KeepsStanding s1 s2 → IsPopping (turn + 1) line s line2 s2
 popping_more turn line s line1 s1 line2 s2 note how i pop handles keeps = record {
   popped = i.popped ++ note ∷ [];
   as_many = omega (arith, length-append i.popped (note ∷ []), i.as_many);

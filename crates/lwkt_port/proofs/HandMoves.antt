@@ -15,7 +15,7 @@ use Rattle.lwkt_port.specs.Intakes.{Payer, PaysOwed, Pays, Desks, Handles, Pops,
 use Rattle.lwkt_port.specs.Laws.{HandsWaitForRoom, PaidHandsWaitForRoom}
 use Rattle.lwkt_port.specs.Lines.{WaitsForRoom, IsRoomed}
 use Rattle.lwkt_port.specs.Mails.{kept_mail_at}
-use Rattle.lwkt_port.specs.Posts.{Changes, work_of}
+use Rattle.lwkt_port.specs.Posts.{ChangesOne, work_of}
 use Rattle.lwkt_port.specs.Sendings.{ReplyMeans, Answers}
 use Rattle.lwkt_port.specs.Works.{Work}
 use Rattle.lwkt_port.proofs.Hinting.{chain_keeps}
@@ -41,21 +41,21 @@ unfolding AreUpto
 upto_all k lanes many upto = λ j d there. upto j d (omega (arith, there, many)) there
 
 -- each sending end has moved its note in hand on
-rooms_upto : (k : ℕ) (x y : List Lane) → Chain (List Lane) (λ i a b. Changes IsRoomed i a b) k x y → (length y ≡ length x) × AreUpto k y
+rooms_upto : (k : ℕ) (x y : List Lane) → Chain (List Lane) (λ i a b. ChangesOne IsRoomed i a b) k x y → (length y ≡ length x) × AreUpto k y
 unfolding Chain
 rooms_upto zero x y chain = (ap length chain, upto_none y)
 rooms_upto (suc k) x y chain =
     let z : List Lane = chain.0 in
-    let c : Changes IsRoomed k z y = chain.2 in
+    let c : ChangesOne IsRoomed k z y = chain.2 in
     let before : (length z ≡ length x) × AreUpto k z = rooms_upto k x z chain.1 in
     let F : List Lane → Type 0 = AreUpto (suc k) in
     (ap length c.now ∙ length-set z k c.new ∙ before.0, subst F (sym c.now) (upto_more k z c.new c.there c.does.full before.1))
 
-rooms_wait : (x y : List Lane) → Chain (List Lane) (λ i a b. Changes IsRoomed i a b) (length x) x y → All WaitsForRoom y
+rooms_wait : (x y : List Lane) → Chain (List Lane) (λ i a b. ChangesOne IsRoomed i a b) (length x) x y → All WaitsForRoom y
 rooms_wait x y chain = let r : (length y ≡ length x) × AreUpto (length x) y = rooms_upto (length x) x y chain in upto_all (length x) y r.0 r.1
 
 -- one line of the lanes changed
-change_waits : (R : Lane → Lane → Type 0) (i : ℕ) (lanes lanes' : List Lane) (c : Changes R i lanes lanes') → (WaitsForRoom c.old → WaitsForRoom c.new) → All WaitsForRoom lanes → All WaitsForRoom lanes'
+change_waits : (R : Lane → Lane → Type 0) (i : ℕ) (lanes lanes' : List Lane) (c : ChangesOne R i lanes lanes') → (WaitsForRoom c.old → WaitsForRoom c.new) → All WaitsForRoom lanes → All WaitsForRoom lanes'
 change_waits R i lanes lanes' c keeps all =
     let W : Lane → Type 0 = WaitsForRoom in
     let F : List Lane → Type 0 = λ l. All WaitsForRoom l in

@@ -9,14 +9,14 @@ use Rattle.lwkt_msg.specs.Desks.{Desk, desk_cpu}
 use Rattle.lwkt_port.specs.declared.mailrooms.Mailroom.{Mailroom}
 use Rattle.lwkt_port.specs.declared.mails.Mail.{Mail}
 use Rattle.lwkt_port.specs.Mails.{AreMails}
-use Rattle.lwkt_port.specs.Works.{away_count, Grew, MailroomStands, Standing, Keeps}
+use Rattle.lwkt_port.specs.Works.{away_count, Grew, MailroomStands, Standing, KeepsStanding}
 use Rattle.lwkt_port.proofs.Growing.{grew_few, stands_then, stands_is}
 
 -- no more messages are away than there are
 pub away_few : (d : Desk) (mails : List Mail) → AreMails d mails → away_count mails ≤ 64
 away_few d mails are = omega (arith, count_by-le-length (λ (mail : Mail). not mail.home) mails, are.few)
 
-pub stands_in_all : (r0 : Mailroom) (t0 : Vec Event Global) (s1 s2 : Standing) (r3 : Mailroom) (t3 : Vec Event Global) → MailroomStands 64 r0 t0 s1.counters.room s1.trace → Keeps s1 s2 → MailroomStands 32 s2.counters.room s2.trace r3 t3 → MailroomStands 256 r0 t0 r3 t3
+pub stands_in_all : (r0 : Mailroom) (t0 : Vec Event Global) (s1 s2 : Standing) (r3 : Mailroom) (t3 : Vec Event Global) → MailroomStands 64 r0 t0 s1.counters.room s1.trace → KeepsStanding s1 s2 → MailroomStands 32 s2.counters.room s2.trace r3 t3 → MailroomStands 256 r0 t0 r3 t3
 stands_in_all r0 t0 s1 s2 r3 t3 paid keeps cleared =
     let r1 : Mailroom = s1.counters.room in
     let r2 : Mailroom = s2.counters.room in

@@ -11,7 +11,7 @@ use Rattle.lwkt_msg.specs.Views.{seat_cpu}
 use Rattle.lwkt_port.specs.declared.lines.Lane.{Lane}
 use Rattle.lwkt_port.specs.Openings.{new_line}
 use Rattle.lwkt_port.specs.Posts.{AreSameLanes}
-use Rattle.lwkt_port.specs.Sights.{AreEnds, StayJoined, AreWired, OpenedAreJoined}
+use Rattle.lwkt_port.specs.Sights.{AreEnds, StayJoined, AreEndsOfLane, OpenedAreJoined}
 
 abbrev out_of : Lane → LaneId
 out_of line = out_lane line.out
@@ -67,7 +67,7 @@ line_into (o ∷ outs) [] i d y a b = absurd (omega (arith, b))
 line_into (o ∷ outs) (n ∷ ins) zero d y a b = refl
 line_into (o ∷ outs) (n ∷ ins) (suc i) d y a b = line_into outs ins i d y (omega (arith, a)) (omega (arith, b))
 
-wired_ends : (from to : ℕ) (outs outs' : List LaneOut) (ins ins' : List LaneIn) → AreWired from to outs outs' ins ins' → AreEnds from to (map new_line (zip outs ins)) (map new_line (zip outs' ins'))
+wired_ends : (from to : ℕ) (outs outs' : List LaneOut) (ins ins' : List LaneIn) → AreEndsOfLane from to outs outs' ins ins' → AreEnds from to (map new_line (zip outs ins)) (map new_line (zip outs' ins'))
 wired_ends from to outs outs' ins ins' w = record {
   there = lines_long outs ins to w.out_there w.line_there;
   back = lines_long outs' ins' from w.line_back w.in_back;

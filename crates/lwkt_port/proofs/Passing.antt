@@ -13,8 +13,8 @@ use Rattle.lwkt_port.specs.declared.queues.Port.{Port}
 use Rattle.lwkt_port.specs.Chains.{Chain}
 use Rattle.lwkt_port.specs.Hints.{OwesNone}
 use Rattle.lwkt_port.specs.Intakes.{Desks, desks_of, Handles, Pops, EmptiesKept, Empties, Intake, EmptiesFrom, untaken, IsFronted, Clearing, ClearsAt, Hall, TakesIn}
-use Rattle.lwkt_port.specs.Lines.{HasNoneInHand, IsRoomed, HasNone, IsLooked, HasFoundNote}
-use Rattle.lwkt_port.specs.Posts.{Changes}
+use Rattle.lwkt_port.specs.Lines.{HasNoneInHand, IsRoomed, HasNone, IsLineLooked, HasFoundNote}
+use Rattle.lwkt_port.specs.Posts.{ChangesOne}
 use Rattle.lwkt_port.specs.Works.{Work}
 use Rattle.lwkt_port.proofs.Chaining.{chain_more}
 use Rattle.lwkt_port.proofs.Dispatching.{changed}
@@ -27,13 +27,13 @@ an_item A [] there = absurd (omega arith)
 an_item A (x ∷ xs) there = x
 
 -- one thing of a list stays
-changes_itself : (A : Type 0) (P : A → Type 0) (R : A → A → Type 0) (k : ℕ) (xs : List A) → ((x : A) → P x → R x x) → All P xs → k < length xs → Changes R k xs xs
+changes_itself : (A : Type 0) (P : A → Type 0) (R : A → A → Type 0) (k : ℕ) (xs : List A) → ((x : A) → P x → R x x) → All P xs → k < length xs → ChangesOne R k xs xs
 changes_itself A P R k xs same all there =
     let first : A = an_item A xs (omega arith) in
     let x : A = get_or xs k first in
     record { old = x; new = x; there = there; was = get_or_default xs k x first there; now = sym (set-get_or xs k first); does = same x (All-get_or P xs k first there all) }
 
-rooms_none : (k : ℕ) (lanes : List Lane) → All HasNoneInHand lanes → k ≤ length lanes → Chain (List Lane) (λ i a b. Changes IsRoomed i a b) k lanes lanes
+rooms_none : (k : ℕ) (lanes : List Lane) → All HasNoneInHand lanes → k ≤ length lanes → Chain (List Lane) (λ i a b. ChangesOne IsRoomed i a b) k lanes lanes
 unfolding Chain
 rooms_none zero lanes none within = refl
 rooms_none (suc k) lanes none within = (lanes, rooms_none k lanes none (omega arith), changes_itself Lane HasNoneInHand IsRoomed k lanes room_itself none (omega arith))
@@ -66,7 +66,7 @@ passes_more limit sender w ports before lanes old new there was none chain =
     let x : Intake = untaken w ports lanes in
     let y : Intake = untaken w ports (slice_set lanes sender new) in
     let R : Lane → Lane → Type 0 = λ a b. Empties (limit - 0) 0 a b (desks_of x) (desks_of y) in
-    let changes : Changes R sender lanes (slice_set lanes sender new) = changed Lane R sender sender lanes old new there was refl (none_empties (limit - 0) old new (desks_of x) none) in
+    let changes : ChangesOne R sender lanes (slice_set lanes sender new) = changed Lane R sender sender lanes old new there was refl (none_empties (limit - 0) old new (desks_of x) none) in
     chain_more Intake (EmptiesFrom limit) sender (untaken w ports before) x y chain (0, changes, refl)
 
 -- a lane has a note
@@ -82,7 +82,7 @@ pub front_there : (limit first : ℕ) (w : Work) (ports : List Port) (before now
 front_there limit first w ports before now f = omega (arith, f.found.there, length-set f.passed first f.found.new, ap length f.found.now)
 
 -- emptying a lane that was looked at is emptying it
-looked_empties : (most count : ℕ) (line0 line1 line2 : Lane) (x y : Desks) → IsLooked line0 line1 → Empties most count line1 line2 x y → Empties most count line0 line2 x y
+looked_empties : (most count : ℕ) (line0 line1 line2 : Lane) (x y : Desks) → IsLineLooked line0 line1 → Empties most count line1 line2 x y → Empties most count line0 line2 x y
 looked_empties most count line0 line1 line2 x y l e =
     let F : Option Note → Type 0 = λ o. EmptiesKept o most count line1 line2 x y in
     let G : Option Note → Type 0 = λ o. EmptiesKept o most count line0 line2 x y in
@@ -107,7 +107,7 @@ looked_empties most count line0 line1 line2 x y l e =
 found_empties : (most count : ℕ) (line0 line1 line2 : Lane) (x y : Desks) → HasFoundNote line0 line1 → Empties most count line1 line2 x y → Empties most count line0 line2 x y
 found_empties most count line0 line1 line2 x y found e = ⊎_elim
     (λ (same : line1 ≡ line0). let F : Lane → Type 0 = λ l. Empties most count l line2 x y in subst F same e)
-    (λ (l : IsLooked line0 line1). looked_empties most count line0 line1 line2 x y l e)
+    (λ (l : IsLineLooked line0 line1). looked_empties most count line0 line1 line2 x y l e)
     found
 
 -- no more notes are taken in than are allowed
@@ -131,7 +131,7 @@ takes_within limit count x y t =
 pub found_kept : (line line' : Lane) → HasFoundNote line line' → line'.kept ≡ line.kept
 found_kept line line' found = ⊎_elim
     (λ (same : line' ≡ line). ap (λ (l : Lane). l.kept) same)
-    (λ (l : IsLooked line line'). l.kept_same)
+    (λ (l : IsLineLooked line line'). l.kept_same)
     found
 
 -- the first lane with a note was emptied
@@ -144,7 +144,7 @@ front_emptied limit k first w w' ports ports' before now line new f was does =
     let x : Intake = untaken w ports f.passed in
     let y : Intake = record { work = w'; lanes = slice_set now first new; ports = ports'; count = k } in
     let R : Lane → Lane → Type 0 = λ a b. Empties (limit - 0) k a b (desks_of x) (desks_of y) in
-    let changes : Changes R first f.passed (slice_set now first new) = record {
+    let changes : ChangesOne R first f.passed (slice_set now first new) = record {
       old = c.old;
       new = new;
       there = c.there;

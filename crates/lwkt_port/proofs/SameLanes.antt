@@ -13,7 +13,7 @@ use Rattle.lwkt_port.specs.Chains.{Chain}
 use Rattle.lwkt_port.specs.Intakes.{Payer, PaysOwed, Pays, Desks, desks_of, Handles, Pops, EmptiesKept, Intake, EmptiesFrom, Hall, TakesIn}
 use Rattle.lwkt_port.specs.Lines.{IsRoomed}
 use Rattle.lwkt_port.specs.Mails.{kept_mail_at}
-use Rattle.lwkt_port.specs.Posts.{Changes, AreSameLanes}
+use Rattle.lwkt_port.specs.Posts.{ChangesOne, AreSameLanes}
 use Rattle.lwkt_port.specs.Sendings.{ReplyMeans, Answers, RefusesOver, HasSentNote, WhyUnsent}
 use Rattle.lwkt_port.specs.Works.{Work}
 use Rattle.lwkt_port.proofs.Hinting.{chain_keeps}
@@ -34,11 +34,11 @@ map_set A B f (x ∷ xs) zero old new was same = ap (λ y. y ∷ map f xs) (same
 map_set A B f (x ∷ xs) (suc i) old new was same = ap (λ l. f x ∷ l) (map_set A B f xs i old new was same)
 
 -- one line changed, and goes over its lanes still
-pub lanes_change : (R : Lane → Lane → Type 0) (i : ℕ) (a b : List Lane) (c : Changes R i a b) → out_lane c.new.out ≡ out_lane c.old.out → in_lane c.new.into ≡ in_lane c.old.into → AreSameLanes a b
+pub lanes_change : (R : Lane → Lane → Type 0) (i : ℕ) (a b : List Lane) (c : ChangesOne R i a b) → out_lane c.new.out ≡ out_lane c.old.out → in_lane c.new.into ≡ in_lane c.old.into → AreSameLanes a b
 lanes_change R i a b c out into = lanes_then a (set a i c.new) b (record { outs = map_set _ _ (λ (line : Lane). out_lane line.out) a i c.old c.new c.was out; ins = map_set _ _ (λ (line : Lane). in_lane line.into) a i c.old c.new c.was into }) (lanes_is (set a i c.new) b c.now)
 
-rooms_lanes : (k : ℕ) (x y : List Lane) → Chain (List Lane) (λ i a b. Changes IsRoomed i a b) k x y → AreSameLanes x y
-rooms_lanes k x y chain = chain_keeps (List Lane) (λ i a b. Changes IsRoomed i a b) (λ z. AreSameLanes x z) (λ i a b c p. lanes_then x a b p (lanes_change IsRoomed i a b c c.does.lane_same (ap (λ i. in_lane i) c.does.into_same))) k x y chain (lanes_none x)
+rooms_lanes : (k : ℕ) (x y : List Lane) → Chain (List Lane) (λ i a b. ChangesOne IsRoomed i a b) k x y → AreSameLanes x y
+rooms_lanes k x y chain = chain_keeps (List Lane) (λ i a b. ChangesOne IsRoomed i a b) (λ z. AreSameLanes x z) (λ i a b c p. lanes_then x a b p (lanes_change IsRoomed i a b c c.does.lane_same (ap (λ i. in_lane i) c.does.into_same))) k x y chain (lanes_none x)
 
 reply_out : (msg : MsgId) (error outcome : ℕ) (line line' : Lane) (w w' : Work) (made : Bool) → ReplyMeans msg error outcome line line' w w' made → out_lane line'.out ≡ out_lane line.out
 reply_out msg error outcome line line' w w' true r = r.posted.lane_same
@@ -59,7 +59,7 @@ pay_lanes : (k : ℕ) (x y : Payer) → Chain Payer Pays k x y → AreSameLanes 
 pay_lanes k x y chain = chain_keeps Payer Pays (λ z. AreSameLanes x.lanes z.lanes) (λ m a b p q. lanes_then x.lanes a.lanes b.lanes q (owed_lanes (kept_mail_at a.work.mails m).owed m a b p)) k x y chain (lanes_none x.lanes)
 
 -- the notes in hand moved on, and what is owed was paid
-pub paid_lanes : (n k : ℕ) (x roomed : List Lane) (w : Work) (y : Payer) → Chain (List Lane) (λ i a b. Changes IsRoomed i a b) n x roomed → Chain Payer Pays k (record { work = w; lanes = roomed }) y → AreSameLanes x y.lanes
+pub paid_lanes : (n k : ℕ) (x roomed : List Lane) (w : Work) (y : Payer) → Chain (List Lane) (λ i a b. ChangesOne IsRoomed i a b) n x roomed → Chain Payer Pays k (record { work = w; lanes = roomed }) y → AreSameLanes x y.lanes
 paid_lanes n k x roomed w y rooms owed = lanes_then x roomed y.lanes (rooms_lanes n x roomed rooms) (pay_lanes k (record { work = w; lanes = roomed }) y owed)
 
 emptied_out : (kept : Option Note) (most count : ℕ) (line line' : Lane) (x y : Desks) → EmptiesKept kept most count line line' x y → out_lane line'.out ≡ out_lane line.out
@@ -99,7 +99,7 @@ refused_into s line line' w w' LaneFull r = ap (λ i. in_lane i) r.0.roomed.into
 refused_into s line line' w w' RoundsOut r = ap (λ i. in_lane i) r.0.into_same
 refused_into s line line' w w' _ r = absurd r
 
-over_lanes : (s : Sending) (lanes lanes' : List Lane) (w w' : Work) (fault : Fault) → Changes (λ a b. RefusesOver s a b w w' fault) s.to.cpu.0 lanes lanes' → AreSameLanes lanes lanes'
+over_lanes : (s : Sending) (lanes lanes' : List Lane) (w w' : Work) (fault : Fault) → ChangesOne (λ a b. RefusesOver s a b w w' fault) s.to.cpu.0 lanes lanes' → AreSameLanes lanes lanes'
 over_lanes s lanes lanes' w w' fault c = lanes_change (λ a b. RefusesOver s a b w w' fault) s.to.cpu.0 lanes lanes' c (refused_out s c.old c.new w w' fault c.does) (refused_into s c.old c.new w w' fault c.does)
 
 unsent_lanes : (s : Sending) (lanes lanes' : List Lane) (w w' : Work) (fault : Fault) → WhyUnsent s lanes lanes' w w' fault → AreSameLanes lanes lanes'

@@ -13,30 +13,30 @@ use Rattle.lwkt_msg.specs.Desks.{desk_cpu}
 use Rattle.lwkt_port.specs.declared.lines.Lane.{Lane}
 use Rattle.lwkt_port.specs.Intakes.{PostTakesIn}
 use Rattle.lwkt_port.specs.Laws.{TakesSeen}
-use Rattle.lwkt_port.specs.Posts.{Post, Changes, AreSameLanes}
-use Rattle.lwkt_port.specs.Sights.{AreEnds, SeesQueue, SeesAll, LooksBeside, SeesOwn, Sees, IsDelivered, SentAreDelivered, OwnAreDelivered}
+use Rattle.lwkt_port.specs.Posts.{Post, ChangesOne, AreSameLanes}
+use Rattle.lwkt_port.specs.Sights.{AreEnds, SeesQueue, SeesAll, LooksBeside, SeesOwnLine, SeesAllFrom, IsDelivered, SentAreDelivered, OwnAreDelivered}
 use Rattle.lwkt_port.proofs.DeliveryMoves.{seen_taken}
 use Rattle.lwkt_port.proofs.Dispatching.{changed}
 use Rattle.lwkt_port.proofs.SameLanes.{lanes_change}
 
-pub lines_see : (from to : ℕ) (sender lanes : List Lane) (s s' line line' : Lane) → to < length sender → s ≡ slice_index_or sender to s → from < length lanes → line ≡ slice_index_or lanes from line → LooksBeside s s' → SeesAll s.out line line' → Sees from to sender (set sender to s') lanes (set lanes from line')
+pub lines_see : (from to : ℕ) (sender lanes : List Lane) (s s' line line' : Lane) → to < length sender → s ≡ slice_index_or sender to s → from < length lanes → line ≡ slice_index_or lanes from line → LooksBeside s s' → SeesAll s.out line line' → SeesAllFrom from to sender (set sender to s') lanes (set lanes from line')
 lines_see from to sender lanes s s' line line' there was back at beside sees = record {
   beside = record { old = s; new = s'; there = there; was = sym was; now = refl; does = beside };
   sees = changed Lane (SeesAll s.out) from from lanes line line' back at refl sees;
 }
 
-pub sight_lanes : (from to : ℕ) (sender sender' lanes lanes' : List Lane) → Sees from to sender sender' lanes lanes' → AreSameLanes lanes lanes' × AreSameLanes sender sender'
+pub sight_lanes : (from to : ℕ) (sender sender' lanes lanes' : List Lane) → SeesAllFrom from to sender sender' lanes lanes' → AreSameLanes lanes lanes' × AreSameLanes sender sender'
 sight_lanes from to sender sender' lanes lanes' s = (
   lanes_change (SeesAll s.beside.old.out) from lanes lanes' s.sees (ap (λ o. out_lane o) s.sees.does.out_same) s.sees.does.into.lane_same,
   lanes_change LooksBeside to sender sender' s.beside s.beside.does.beside.lane_same (ap (λ i. in_lane i) s.beside.does.into_same),
 )
 
 -- so it is with a line whose two ends are of one lane
-pub line_sees : (at : ℕ) (lanes : List Lane) (line line' : Lane) → at < length lanes → line ≡ slice_index_or lanes at line → SeesOwn line line' → Changes SeesOwn at lanes (set lanes at line')
-line_sees at lanes line line' there was sees = changed Lane SeesOwn at at lanes line line' there was refl sees
+pub line_sees : (at : ℕ) (lanes : List Lane) (line line' : Lane) → at < length lanes → line ≡ slice_index_or lanes at line → SeesOwnLine line line' → ChangesOne SeesOwnLine at lanes (set lanes at line')
+line_sees at lanes line line' there was sees = changed Lane SeesOwnLine at at lanes line line' there was refl sees
 
-pub own_lanes : (at : ℕ) (lanes lanes' : List Lane) → Changes SeesOwn at lanes lanes' → AreSameLanes lanes lanes'
-own_lanes at lanes lanes' c = lanes_change SeesOwn at lanes lanes' c c.does.beside.lane_same c.does.into.lane_same
+pub own_lanes : (at : ℕ) (lanes lanes' : List Lane) → ChangesOne SeesOwnLine at lanes lanes' → AreSameLanes lanes lanes'
+own_lanes at lanes lanes' c = lanes_change SeesOwnLine at lanes lanes' c c.does.beside.lane_same c.does.into.lane_same
 
 -- the two ends at one place are of one lane
 pub own_ends : (at : ℕ) (lanes : List Lane) (line : Lane) → AreEnds at at lanes lanes → line ≡ slice_index_or lanes at line → IsLane line.out line.into

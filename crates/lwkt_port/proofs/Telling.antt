@@ -40,17 +40,17 @@ use Rattle.lwkt_port.specs.Mails.{kept_mail_at}
 use Rattle.lwkt_port.specs.Sendings.{WhyUnsent, HasSentNote, ReplyMeans, Answers}
 use Rattle.lwkt_port.specs.Queues.{queue_of}
 use Rattle.lwkt_port.specs.Servings.{ServesAs, Serves, PassesAll, GetMeans}
-use Rattle.lwkt_port.specs.Tellings.{Tells, IsWorkTold}
+use Rattle.lwkt_port.specs.Tellings.{TellsDeeds, IsWorkTold}
 use Rattle.lwkt_port.specs.Withdrawals.{Requests, MayRefuseAbort, IsUnasked, MayRefuseDrop, Drops, IsUntouched, IsHeard}
 use Rattle.lwkt_port.specs.Works.{Work}
 use Rattle.lwkt_port.proofs.Growing.{same_none, same_then}
 
 -- nothing was done
-pub tells_none : (d : Desk) (t : List Event) → Tells d d t t
+pub tells_none : (d : Desk) (t : List Event) → TellsDeeds d d t t
 tells_none d t = record { same = same_none d; deeds = []; grows = refl; mine = own-nil (desk_cpu d).0; trace_is = sym (append-nil t) }
 
 -- one call after another
-pub tells_then : (a b c : Desk) (t u v : List Event) → Tells a b t u → Tells b c u v → Tells a c t v
+pub tells_then : (a b c : Desk) (t u v : List Event) → TellsDeeds a b t u → TellsDeeds b c u v → TellsDeeds a c t v
 tells_then a b c t u v first second =
     let same : desk_cpu b ≡ desk_cpu a = ap seat_cpu first.same.kind in
     let F : CpuId → Type 0 = λ k. Grows k.0 (past_of b) second.deeds (past_of c) in

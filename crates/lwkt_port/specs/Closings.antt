@@ -9,7 +9,7 @@ use Rattle.lwkt_port.specs.Mails.{kept_mail_at}
 use Rattle.lwkt_port.specs.Chains.{Chain}
 use Rattle.lwkt_port.specs.Intakes.{Payer, Pays}
 use Rattle.lwkt_port.specs.Lines.{IsRoomed}
-use Rattle.lwkt_port.specs.Posts.{Post, Changes, work_of}
+use Rattle.lwkt_port.specs.Posts.{Post, ChangesOne, work_of}
 use Rattle.lwkt_port.specs.Sendings.{IsElseSame}
 
 -- the error that is replied to a request whose thread has ended (own)
@@ -38,7 +38,7 @@ IsClosedPort port port' = port' ≡ record port { closed = true }
 -- a thread's port was closed: each message that the thread was shown, and hasn't replied to, is owed a reply
 pub record PostCloses (thread : ℕ) (p p' : Post) : Type 0 where
   pub owes : OwesGone thread (length p.mails) p.mails p'.mails
-  pub closes : Changes IsClosedPort thread p.ports p'.ports
+  pub closes : ChangesOne IsClosedPort thread p.ports p'.ports
   pub seat_same : p'.seat ≡ p.seat
   pub lanes_same : p'.lanes ≡ p.lanes
   pub threads_same : p'.threads ≡ p.threads
@@ -46,6 +46,6 @@ pub record PostCloses (thread : ℕ) (p p' : Post) : Type 0 where
 -- the replies that are owed go out, by message number, as lanes have room: first each sending end moves its note in hand on
 pub record PostPays (p p' : Post) (trace trace' : Vec Event Global) : Type 0 where
   pub roomed : List Lane
-  pub rooms : Chain (List Lane) (λ i a b. Changes IsRoomed i a b) (length p.lanes) p.lanes roomed
+  pub rooms : Chain (List Lane) (λ i a b. ChangesOne IsRoomed i a b) (length p.lanes) p.lanes roomed
   pub owed : Chain Payer Pays (length p.mails) (record { work = work_of p trace; lanes = roomed }) (record { work = work_of p' trace'; lanes = p'.lanes })
   pub else_same : IsElseSame p p'

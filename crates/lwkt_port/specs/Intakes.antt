@@ -25,7 +25,7 @@ use Rattle.lwkt_port.specs.Chains.{Chain}
 use Rattle.lwkt_port.specs.Deeds.{Takes, Reaps}
 use Rattle.lwkt_port.specs.Lines.{IsRoomed, HasFoundNote}
 use Rattle.lwkt_port.specs.Mails.{kept_mail_at}
-use Rattle.lwkt_port.specs.Posts.{Post, Changes, work_of}
+use Rattle.lwkt_port.specs.Posts.{Post, ChangesOne, work_of}
 use Rattle.lwkt_port.specs.Queues.{NamesBoth, queue_of, IsQueued, LeavesInOrder}
 use Rattle.lwkt_port.specs.Sendings.{Answers}
 use Rattle.lwkt_port.specs.Works.{Work, work, MailroomStands}
@@ -71,8 +71,8 @@ abbrev pub Handles : Note → Desks → Desks → Option Fate → Type 0
 Handles note x y (Some fate.Foreign) = (NamesBoth (length x.work.mails) note → ⊥) × (y ≡ x)
 Handles note x y (Some fate.Reaped) = NamesBoth (length x.work.mails) note × IsSyncAnswer note x.work.mails × ((rec : Rec) × Reaps true note x.work y.work (reaped_.Done rec)) × (y.ports ≡ x.ports)
 Handles note x y (Some fate.Stale) = NamesBoth (length x.work.mails) note × IsSyncAnswer note x.work.mails × Reaps true note x.work y.work reaped_.Stale × (y.ports ≡ x.ports)
-Handles note x y (Some fate.Queued) = NamesBoth (length x.work.mails) note × (IsSyncAnswer note x.work.mails → ⊥) × (y.work ≡ x.work) × Changes (λ a b. IsQueued note a b true) note.port x.ports y.ports
-Handles note x y None = NamesBoth (length x.work.mails) note × (IsSyncAnswer note x.work.mails → ⊥) × (y.work ≡ x.work) × Changes (λ a b. IsQueued note a b false) note.port x.ports y.ports
+Handles note x y (Some fate.Queued) = NamesBoth (length x.work.mails) note × (IsSyncAnswer note x.work.mails → ⊥) × (y.work ≡ x.work) × ChangesOne (λ a b. IsQueued note a b true) note.port x.ports y.ports
+Handles note x y None = NamesBoth (length x.work.mails) note × (IsSyncAnswer note x.work.mails → ⊥) × (y.work ≡ x.work) × ChangesOne (λ a b. IsQueued note a b false) note.port x.ports y.ports
 
 -- all these notes were handled, in order, and none of them found a queue full
 abbrev pub HandlesAll : List Note → Desks → Desks → Type 0
@@ -120,7 +120,7 @@ desks_of x = record { work = x.work; ports = x.ports }
 
 -- the lane from a processor is emptied, as far as the limit allows
 abbrev pub EmptiesFrom : ℕ → ℕ → Intake → Intake → Type 0
-EmptiesFrom limit sender x y = (k : ℕ) × Changes (λ a b. Empties (limit - x.count) k a b (desks_of x) (desks_of y)) sender x.lanes y.lanes × (y.count ≡ x.count + k)
+EmptiesFrom limit sender x y = (k : ℕ) × ChangesOne (λ a b. Empties (limit - x.count) k a b (desks_of x) (desks_of y)) sender x.lanes y.lanes × (y.count ≡ x.count + k)
 
 -- before any note is handled
 abbrev pub untaken : Work → List Port → List Lane → Intake
@@ -130,7 +130,7 @@ untaken w ports lanes = record { work = w; lanes = lanes; ports = ports; count =
 pub record IsFronted (limit first : ℕ) (w : Work) (ports : List Port) (before now : List Lane) : Type 0 where
   pub passed : List Lane
   pub passes : Chain Intake (EmptiesFrom limit) first (untaken w ports before) (untaken w ports passed)
-  pub found : Changes HasFoundNote first passed now
+  pub found : ChangesOne HasFoundNote first passed now
   pub as_many : length now ≡ length before
 
 -- a note of a closed port: a request is taken and owed a reply, an answer is reaped; a request whose take was lost stays
@@ -180,7 +180,7 @@ abbrev pub clearing : Counters → Vec Event Global → ℕ → Clearing
 clearing c trace left = record { work = work c.room trace; ports = c.ports.items; left = left }
 
 abbrev pub ClearsAt : ℕ → Clearing → Clearing → Type 0
-ClearsAt port x y = (k : ℕ) × Changes (λ a b. ClearsPort x.left k a b x.work y.work) port x.ports y.ports × (y.left + k ≡ x.left)
+ClearsAt port x y = (k : ℕ) × ChangesOne (λ a b. ClearsPort x.left k a b x.work y.work) port x.ports y.ports × (y.left + k ≡ x.left)
 
 -- all that taking notes in changes
 pub record Hall : Type 0 where
@@ -202,7 +202,7 @@ pub record TakesIn (limit : ℕ) (x y : Hall) (count : ℕ) : Type 0 where
   pub paid : Payer
   pub emptied : Intake
   pub left : ℕ
-  pub rooms : Chain (List Lane) (λ i a b. Changes IsRoomed i a b) (length x.lanes) x.lanes roomed
+  pub rooms : Chain (List Lane) (λ i a b. ChangesOne IsRoomed i a b) (length x.lanes) x.lanes roomed
   pub owed : Chain Payer Pays (length x.work.mails) (record { work = x.work; lanes = roomed }) paid
   pub notes : Chain Intake (EmptiesFrom limit) (length paid.lanes) (record { work = paid.work; lanes = paid.lanes; ports = x.ports; count = 0 }) emptied
   pub closed : Chain Clearing ClearsAt 16 (record { work = emptied.work; ports = emptied.ports; left = 16 }) (record { work = y.work; ports = y.ports; left = left })

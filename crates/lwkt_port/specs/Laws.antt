@@ -33,7 +33,7 @@ use Rattle.lwkt_port.specs.Mails.{kept_mail_at, AreMails}
 use Rattle.lwkt_port.specs.Posts.{Post}
 use Rattle.lwkt_port.specs.Queues.{urgent_of, ordinary_of, queue_of, IsQueued, LeavesInOrder}
 use Rattle.lwkt_port.specs.Servings.{served_request, Serves, GetMeans, ServesPort}
-use Rattle.lwkt_port.specs.Tellings.{Tells}
+use Rattle.lwkt_port.specs.Tellings.{TellsDeeds}
 use Rattle.lwkt_port.specs.Works.{Work}
 
 -- what a lane kept and what was popped from it, in this order, is what was reaped, queued, found stale or foreign, in order, and then
@@ -104,10 +104,10 @@ RequestsAreShownOnce = (cpu : CpuId) (thread : ℕ) (note : Note) (w w' : Work) 
 
 -- where nothing is done nothing is told, and what one call tells and then another is what both tell
 abbrev pub NothingIsTold : Type 0
-NothingIsTold = (d : Desk) (t : List Event) → Tells d d t t
+NothingIsTold = (d : Desk) (t : List Event) → TellsDeeds d d t t
 
 abbrev pub TellsChain : Type 0
-TellsChain = (a b c : Desk) (t u v : List Event) → Tells a b t u → Tells b c u v → Tells a c t v
+TellsChain = (a b c : Desk) (t u v : List Event) → TellsDeeds a b t u → TellsDeeds b c u v → TellsDeeds a c t v
 
 -- a reply that was owed is made: the trace has it, nothing is owed then, and the seat has the message no more
 pub record IsPaid (m : ℕ) (x y : Payer) : Type 0 where

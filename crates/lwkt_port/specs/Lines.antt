@@ -62,7 +62,7 @@ pub record HasNone (line line' : Lane) : Type 0 where
   pub kept_same : line'.kept ≡ line.kept
 
 -- the lane of a line that keeps no note was looked at
-pub record IsLooked (line line' : Lane) : Type 0 where
+pub record IsLineLooked (line line' : Lane) : Type 0 where
   pub none : line.kept ≡ None
   pub received_same : received line'.into ≡ received line.into
   pub first : IsPrefix (seen_notes line.into) (seen_notes line'.into)
@@ -72,4 +72,4 @@ pub record IsLooked (line line' : Lane) : Type 0 where
 
 -- a line was found with a note: it keeps one, or its lane was looked at
 abbrev pub HasFoundNote : Lane → Lane → Type 0
-HasFoundNote line line' = (line' ≡ line) ⊎ IsLooked line line'
+HasFoundNote line line' = (line' ≡ line) ⊎ IsLineLooked line line'

@@ -37,7 +37,7 @@ abbrev pub ArePaired : List LaneOut → List LaneIn → List Lane → Type 0
 ArePaired outs ins lanes = lanes ≡ map new_line (zip outs ins)
 
 -- the limits are kept: at most 16 threads, one lane each way for each processor, one origin for each message
-pub record AreWithin (seat : Desk) (outs : List LaneOut) (ins : List LaneIn) (origins : List ThreadId) (threads : ℕ) : Type 0 where
+pub record KeepLimits (seat : Desk) (outs : List LaneOut) (ins : List LaneIn) (origins : List ThreadId) (threads : ℕ) : Type 0 where
   pub few : threads ≤ 16
   pub outs_are : length outs ≡ cpus_of seat
   pub ins_are : length ins ≡ cpus_of seat

@@ -46,7 +46,7 @@ pub record IsPost (p : Post) : Type 0 where
   pub kept : All (KeepsNamed (length p.mails)) p.lanes
 
 -- one of the things of a list changed like this, and no other
-pub record Changes {A : Type 0} (R : A → A → Type 0) (i : ℕ) (xs ys : List A) : Type 0 where
+pub record ChangesOne {A : Type 0} (R : A → A → Type 0) (i : ℕ) (xs ys : List A) : Type 0 where
   pub old : A
   pub new : A
   pub there : i < length xs

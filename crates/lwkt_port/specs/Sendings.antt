@@ -16,7 +16,7 @@ use Rattle.lwkt_port.specs.declared.mails.Mail.{Mail}
 use Rattle.lwkt_port.specs.Deeds.{Sends, IsRefused, Replies}
 use Rattle.lwkt_port.specs.Lines.{IsRoomed, HasPosted}
 use Rattle.lwkt_port.specs.Mails.{kept_mail_at}
-use Rattle.lwkt_port.specs.Posts.{Post, Changes, work_of}
+use Rattle.lwkt_port.specs.Posts.{Post, ChangesOne, work_of}
 use Rattle.lwkt_port.specs.Works.{Work}
 
 -- the note that tells of a request, which is urgent if the message is sent with priority, and of an answer, which is urgent if the
@@ -55,13 +55,13 @@ RefusesOver s line line' w w' _ = ⊥
 -- a message was sent by its thread: the book's event, and one note over the lane to the target
 pub record HasSentNote (s : Sending) (lanes lanes' : List Lane) (w w' : Work) : Type 0 where
   pub may : MaySend s w.mails
-  pub over : Changes (λ a b. SendsOver s a b w w') s.to.cpu.0 lanes lanes'
+  pub over : ChangesOne (λ a b. SendsOver s a b w w') s.to.cpu.0 lanes lanes'
 
 -- why a message was not sent by its thread: it is no message of the thread at rest; or as above
 abbrev pub WhyUnsent : Sending → List Lane → List Lane → Work → Work → Fault → Type 0
 WhyUnsent s lanes lanes' w w' NotOwner = (MaySend s w.mails → ⊥) × (lanes' ≡ lanes) × (w' ≡ w)
-WhyUnsent s lanes lanes' w w' LaneFull = MaySend s w.mails × Changes (λ a b. RefusesOver s a b w w' LaneFull) s.to.cpu.0 lanes lanes'
-WhyUnsent s lanes lanes' w w' RoundsOut = MaySend s w.mails × Changes (λ a b. RefusesOver s a b w w' RoundsOut) s.to.cpu.0 lanes lanes'
+WhyUnsent s lanes lanes' w w' LaneFull = MaySend s w.mails × ChangesOne (λ a b. RefusesOver s a b w w' LaneFull) s.to.cpu.0 lanes lanes'
+WhyUnsent s lanes lanes' w w' RoundsOut = MaySend s w.mails × ChangesOne (λ a b. RefusesOver s a b w w' RoundsOut) s.to.cpu.0 lanes lanes'
 WhyUnsent s lanes lanes' w w' _ = ⊥
 
 -- what isn't told of the ports otherwise stays
@@ -113,7 +113,7 @@ IsShownTo thread msg mails = (msg.0 < length mails) × ((kept_mail_at mails msg.
 
 -- a reply over the line to the processor of the message's origin
 abbrev pub Answers : MsgId → ℕ → ℕ → List Lane → List Lane → Work → Work → Bool → Type 0
-Answers msg error outcome lanes lanes' w w' answer = Changes (λ a b. ReplyMeans msg error outcome a b w w' answer) (kept_mail_at w.mails msg.0).origin.cpu.0 lanes lanes'
+Answers msg error outcome lanes lanes' w w' answer = ChangesOne (λ a b. ReplyMeans msg error outcome a b w w' answer) (kept_mail_at w.mails msg.0).origin.cpu.0 lanes lanes'
 
 -- a thread's call to reply did so
 pub record PostReplies (thread : ℕ) (msg : MsgId) (error outcome : ℕ) (p p' : Post) (trace trace' : Vec Event Global) : Type 0 where

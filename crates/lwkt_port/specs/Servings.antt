@@ -20,7 +20,7 @@ use Rattle.lwkt_port.specs.declared.gets.Served.{Served}
 use Rattle.lwkt_port.specs.declared.gets.Served.TheVariants as served
 use Rattle.lwkt_port.specs.declared.queues.Port.{Port}
 use Rattle.lwkt_port.specs.Deeds.{Takes, Reaps}
-use Rattle.lwkt_port.specs.Posts.{Post, Changes, work_of}
+use Rattle.lwkt_port.specs.Posts.{Post, ChangesOne, work_of}
 use Rattle.lwkt_port.specs.Queues.{queue_of, LeavesInOrder}
 use Rattle.lwkt_port.specs.Works.{Work}
 
@@ -83,6 +83,6 @@ ServesPort thread port port' w w' answer = GetMeans thread (queue_of port) (queu
 
 -- a thread's call to get did so: its own port changed, and no other
 pub record PostGets (thread : ℕ) (p p' : Post) (trace trace' : Vec Event Global) (answer : Result (Option Item) Fault) : Type 0 where
-  pub gets : Changes (λ a b. ServesPort thread a b (work_of p trace) (work_of p' trace') answer) thread p.ports p'.ports
+  pub gets : ChangesOne (λ a b. ServesPort thread a b (work_of p trace) (work_of p' trace') answer) thread p.ports p'.ports
   pub lanes_same : p'.lanes ≡ p.lanes
   pub threads_same : p'.threads ≡ p.threads

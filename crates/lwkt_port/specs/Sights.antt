@@ -11,7 +11,7 @@ use Rattle.lwkt_msg.specs.Desks.{desk_cpu}
 use Rattle.lwkt_port.specs.declared.lines.Lane.{Lane}
 use Rattle.lwkt_port.specs.Intakes.{PostTakesIn}
 use Rattle.lwkt_port.specs.Openings.{ArePaired}
-use Rattle.lwkt_port.specs.Posts.{Post, Changes, IsSamePost}
+use Rattle.lwkt_port.specs.Posts.{Post, ChangesOne, IsSamePost}
 
 -- lines of a sender and of a receiver, at these places, have the two ends of one lane
 pub record AreEnds (from to : ℕ) (sender lanes : List Lane) : Type 0 where
@@ -39,15 +39,15 @@ pub record LooksBeside (line line' : Lane) : Type 0 where
   pub kept_same : line'.kept ≡ line.kept
 
 -- a line's receiving end has seen all that the line's own sending end has put into the queue; nothing else of the line changed
-pub record SeesOwn (line line' : Lane) : Type 0 where
+pub record SeesOwnLine (line line' : Lane) : Type 0 where
   pub into : SeesQueue line.out line.into line'.into
   pub beside : IsBeside line.out line'.out
   pub kept_same : line'.kept ≡ line.kept
 
 -- of a sender's lines and a receiver's, the receiver saw all that came from the sender's number
-pub record Sees (from to : ℕ) (sender sender' lanes lanes' : List Lane) : Type 0 where
-  pub beside : Changes LooksBeside to sender sender'
-  pub sees : Changes (SeesAll beside.old.out) from lanes lanes'
+pub record SeesAllFrom (from to : ℕ) (sender sender' lanes lanes' : List Lane) : Type 0 where
+  pub beside : ChangesOne LooksBeside to sender sender'
+  pub sees : ChangesOne (SeesAll beside.old.out) from lanes lanes'
 
 -- the lane from one processor to another, whose ports are these, has its two ends there
 abbrev pub AreJoined : Post → Post → Type 0
@@ -55,13 +55,13 @@ AreJoined s p = AreEnds (desk_cpu s.seat).0 (desk_cpu p.seat).0 s.lanes p.lanes
 
 -- a receiver's ports saw all that a sender's had put into the queue of the lane between them
 pub record PostSees (s s' p p' : Post) : Type 0 where
-  pub sees : Sees (desk_cpu s.seat).0 (desk_cpu p.seat).0 s.lanes s'.lanes p.lanes p'.lanes
+  pub sees : SeesAllFrom (desk_cpu s.seat).0 (desk_cpu p.seat).0 s.lanes s'.lanes p.lanes p'.lanes
   pub sender_else : s' ≡ record s { lanes = s'.lanes }
   pub else_same : p' ≡ record p { lanes = p'.lanes }
 
 -- a processor's ports saw all that they had put into the queue of the lane to themselves
 pub record PostSeesOwn (p p' : Post) : Type 0 where
-  pub sees : Changes SeesOwn (desk_cpu p.seat).0 p.lanes p'.lanes
+  pub sees : ChangesOne SeesOwnLine (desk_cpu p.seat).0 p.lanes p'.lanes
   pub else_same : p' ≡ record p { lanes = p'.lanes }
 
 -- all that a sending end had put into the queue of its lane is received at this line, in order, unless the line keeps a note that
@@ -84,7 +84,7 @@ abbrev pub StayJoined : Type 0
 StayJoined = (s s' p p' : Post) → AreJoined s p → IsSamePost s s' → IsSamePost p p' → AreJoined s' p'
 
 -- of the ends that a sender's ports and a receiver's were opened over, those of the lane between them are its two ends
-pub record AreWired (from to : ℕ) (outs outs' : List LaneOut) (ins ins' : List LaneIn) : Type 0 where
+pub record AreEndsOfLane (from to : ℕ) (outs outs' : List LaneOut) (ins ins' : List LaneIn) : Type 0 where
   pub out_there : to < length outs
   pub line_there : to < length ins
   pub in_back : from < length ins'
@@ -93,4 +93,4 @@ pub record AreWired (from to : ℕ) (outs outs' : List LaneOut) (ins ins' : List
 
 -- ports that are opened over such ends have that lane
 abbrev pub OpenedAreJoined : Type 0
-OpenedAreJoined = (s p : Post) (outs outs' : List LaneOut) (ins ins' : List LaneIn) → ArePaired outs ins s.lanes → ArePaired outs' ins' p.lanes → AreWired (desk_cpu s.seat).0 (desk_cpu p.seat).0 outs outs' ins ins' → AreJoined s p
+OpenedAreJoined = (s p : Post) (outs outs' : List LaneOut) (ins ins' : List LaneIn) → ArePaired outs ins s.lanes → ArePaired outs' ins' p.lanes → AreEndsOfLane (desk_cpu s.seat).0 (desk_cpu p.seat).0 outs outs' ins ins' → AreJoined s p

@@ -8,7 +8,7 @@ use Rattle.lwkt_port.specs.Works.{Work}
 
 -- a trace grows by the events of the deeds by which what the seat has seen of the book's history grows, each once and in order; a
 -- look at a message's word is a deed without an event
-pub record Tells (seat seat' : Desk) (before now : List Event) : Type 0 where
+pub record TellsDeeds (seat seat' : Desk) (before now : List Event) : Type 0 where
   pub same : IsSameDesk seat seat'
   pub deeds : List Deed
   pub grows : Grows (desk_cpu seat).0 (past_of seat) deeds (past_of seat')
@@ -17,4 +17,4 @@ pub record Tells (seat seat' : Desk) (before now : List Event) : Type 0 where
 
 -- the same of a step on messages
 abbrev pub IsWorkTold : Work → Work → Type 0
-IsWorkTold w w' = Tells w.seat w'.seat w.trace w'.trace
+IsWorkTold w w' = TellsDeeds w.seat w'.seat w.trace w'.trace

@@ -70,12 +70,12 @@ abbrev pub away_count : List Mail → ℕ
 away_count mails = count_by (λ (mail : Mail). not mail.home) mails
 
 -- a step on messages can be made: the seat is one at this book, and the trace has room for so many events
-pub record IsReady (most : ℕ) (r : Mailroom) (book : Shelf) (trace : Vec Event Global) : Type 0 where
+pub record CanStep (most : ℕ) (r : Mailroom) (book : Shelf) (trace : Vec Event Global) : Type 0 where
   pub table : r.seat.table ≡ book.table
   pub room : vec_len trace + most ≤ vec_capacity trace
 
 -- the message is there, and the seat has taken it
-pub record HasTaken (msg : MsgId) (r : Mailroom) : Type 0 where
+pub record IsTaken (msg : MsgId) (r : Mailroom) : Type 0 where
   pub there : msg.0 < vec_len r.mails
   pub taken : (entry r.seat msg.0).taken ≡ true
 
@@ -119,5 +119,5 @@ pub record KeepsSo (seat : Desk) (mails : Vec Mail Global) (trace : Vec Event Gl
   pub room : vec_capacity trace ≤ vec_capacity trace'
   pub away : away_count mails'.items + vec_len trace' ≡ away_count mails.items + vec_len trace
 
-abbrev pub Keeps : Standing → Standing → Type 0
-Keeps s s' = KeepsSo s.counters.room.seat s.counters.room.mails s.trace s'.counters.room.seat s'.counters.room.mails s'.trace
+abbrev pub KeepsStanding : Standing → Standing → Type 0
+KeepsStanding s s' = KeepsSo s.counters.room.seat s.counters.room.mails s.trace s'.counters.room.seat s'.counters.room.mails s'.trace

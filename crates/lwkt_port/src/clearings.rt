@@ -2,7 +2,7 @@
 ghost use Rattle.std.specs.Prelude.{◌≡◌, ◌↔◌, ℕ, ◌+◌, ◌-◌, ◌<◌, ◌≤◌, true, false, IsTrue, length, All, vec_len, vec_capacity};
 ghost use Rattle.lwkt_port.specs.Chains.{Chain};
 ghost use Rattle.lwkt_port.specs.Queues.{HasNamed};
-ghost use Rattle.lwkt_port.specs.Works.{work, IsReady, MailroomStands};
+ghost use Rattle.lwkt_port.specs.Works.{work, CanStep, MailroomStands};
 ghost use Rattle.lwkt_port.specs.Hints.{IsClear, AreClear};
 ghost use Rattle.lwkt_port.specs.Intakes.{Clears, ClearsPort, Clearing, clearing, ClearsAt};
 
@@ -20,7 +20,7 @@ const CLEARED_AT_ONCE: usize = 16;
 impl Mailroom {
     // Clears a note of a closed port. True if it stays, since another step on its message came between.
     fn clear_note(&mut self, book: &MsgBook, note: Note, trace: &mut Vec<Event>) -> bool
-        requires ready { IsReady 1 self.old book.now trace.old }
+        requires ready { CanStep 1 self.old book.now trace.old }
         requires exists { note.msg.0 < vec_len self.old.mails }
         ensures clears { Clears note (work self.old trace.old) (work self.new trace.new) result }
         ensures stands { MailroomStands 1 self.old trace.old self.new trace.new }
@@ -47,7 +47,7 @@ impl Mailroom {
         most: usize,
         trace: &mut Vec<Event>,
     ) -> usize
-        requires ready { IsReady (most + 1) self.old book.now trace.old }
+        requires ready { CanStep (most + 1) self.old book.now trace.old }
         requires named { HasNamed (vec_len self.old.mails) port.old }
         ensures clears { ClearsPort most result port.old port.new (work self.old trace.old) (work self.new trace.new) }
         ensures within { result ≤ most }
@@ -74,7 +74,7 @@ impl Counters {
     #[cold]
     #[inline(never)]
     fn clear_each(&mut self, book: &MsgBook, trace: &mut Vec<Event>) -> usize
-        requires ready { IsReady 64 self.old.room book.now trace.old }
+        requires ready { CanStep 64 self.old.room book.now trace.old }
         requires uncleared { self.old.uncleared ≡ true }
         ensures clears { Chain Clearing ClearsAt 16 (clearing self.old trace.old 16) (clearing self.new trace.new result) }
         ensures stands { MailroomStands 32 self.old.room trace.old self.new.room trace.new }
@@ -105,7 +105,7 @@ impl Counters {
     /// Clears the closed ports, of at most 16 notes.
     #[inline]
     pub(crate) fn clear_all(&mut self, book: &MsgBook, trace: &mut Vec<Event>)
-        requires ready { IsReady 64 self.old.room book.now trace.old }
+        requires ready { CanStep 64 self.old.room book.now trace.old }
         ensures clears { (left : ℕ) × Chain Clearing ClearsAt 16 (clearing self.old trace.old 16) (clearing self.new trace.new left) }
         ensures stands { MailroomStands 32 self.old.room trace.old self.new.room trace.new }
         ensures none { self.old.uncleared ≡ false → self.new.room.mails.items ≡ self.old.room.mails.items }

@@ -1,7 +1,7 @@
 //! The steps on one message: each with what is kept of the message then, and its event.
 ghost use Rattle.std.specs.Prelude.{◌≡◌, ◌+◌, ◌<◌, ◌≤◌, true, vec_len, vec_capacity, ◌++◌, length, MatchOption};
 ghost use Rattle.lwkt_msg.specs.Desks.{desk_cpu, cpus_of};
-ghost use Rattle.lwkt_port.specs.Works.{work, away_count, HasToldThese, IsReady, MailroomStands, HasTaken};
+ghost use Rattle.lwkt_port.specs.Works.{work, away_count, HasToldThese, CanStep, MailroomStands, IsTaken};
 ghost use Rattle.lwkt_port.specs.Sendings.{MaySend};
 ghost use Rattle.lwkt_port.specs.Deeds.{taken_mail, mails_taken, take_events, Takes, reaped_mail, mails_reaped, reap_events, Reaps, replied_mail, Replies, sent_mail, Sends, IsRefused};
 
@@ -85,7 +85,7 @@ impl Mailroom {
         note: Note,
         trace: &mut Vec<Event>,
     ) -> Taken
-        requires ready { IsReady 1 self.old book.now trace.old }
+        requires ready { CanStep 1 self.old book.now trace.old }
         requires exists { note.msg.0 < vec_len self.old.mails }
         ensures takes { Takes who note (work self.old trace.old) (work self.new trace.new) result }
         ensures stands { MailroomStands 1 self.old trace.old self.new trace.new }
@@ -146,7 +146,7 @@ impl Mailroom {
         note: Note,
         trace: &mut Vec<Event>,
     ) -> Reaped
-        requires ready { IsReady 1 self.old book.now trace.old }
+        requires ready { CanStep 1 self.old book.now trace.old }
         requires exists { note.msg.0 < vec_len self.old.mails }
         ensures reaps { Reaps keep note (work self.old trace.old) (work self.new trace.new) result }
         ensures stands { MailroomStands 1 self.old trace.old self.new trace.new }
@@ -180,8 +180,8 @@ impl Mailroom {
         outcome: u64,
         trace: &mut Vec<Event>,
     )
-        requires ready { IsReady 1 self.old book.now trace.old }
-        requires taken { HasTaken msg self.old }
+        requires ready { CanStep 1 self.old book.now trace.old }
+        requires taken { IsTaken msg self.old }
         ensures replies { Replies msg error outcome (work self.old trace.old) (work self.new trace.new) }
         ensures stands { MailroomStands 1 self.old trace.old self.new trace.new }
     {
@@ -234,7 +234,7 @@ impl Mailroom {
         sending: &Sending,
         trace: &mut Vec<Event>,
     ) -> Option<u64>
-        requires ready { IsReady 1 self.old book.now trace.old }
+        requires ready { CanStep 1 self.old book.now trace.old }
         requires may { MaySend sending.now self.old.mails.items }
         requires target { sending.now.to.cpu.0 < cpus_of self.old.seat }
         ensures sends { MatchOption result (IsRefused sending.now.msg (work self.old trace.old) (work self.new trace.new)) (λ round. Sends sending.now.msg sending.now.to.cpu sending.now.call sending.now.flags sending.now.sync (work self.old trace.old) (work self.new trace.new) round) }

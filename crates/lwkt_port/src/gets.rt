@@ -4,9 +4,9 @@ ghost use Rattle.lwkt_lane.specs.declared.notes.Note.{Note};
 ghost use Rattle.lwkt_msg.specs.Desks.{desk_cpu};
 ghost use Rattle.lwkt_port.specs.Posts.{IsSamePost};
 ghost use Rattle.lwkt_port.specs.Queues.{HasNamed};
-ghost use Rattle.lwkt_port.specs.Works.{work, Grew, IsReady, MailroomStands};
+ghost use Rattle.lwkt_port.specs.Works.{work, Grew, CanStep, MailroomStands};
 ghost use Rattle.lwkt_port.specs.Servings.{served_request, served_answer, Serves, ServesPort, PostGets};
-ghost use Rattle.lwkt_port.specs.Tellings.{Tells};
+ghost use Rattle.lwkt_port.specs.Tellings.{TellsDeeds};
 ghost use Rattle.lwkt_port.specs.Hints.{OwesNone};
 
 use crate::deeds::Claim;
@@ -68,7 +68,7 @@ impl Mailroom {
         note: Note,
         trace: &mut Vec<Event>,
     ) -> Served
-        requires ready { IsReady 1 self.old book.now trace.old }
+        requires ready { CanStep 1 self.old book.now trace.old }
         requires exists { note.msg.0 < vec_len self.old.mails }
         ensures serves { Serves thread note (work self.old trace.old) (work self.new trace.new) result }
         ensures stands { MailroomStands 1 self.old trace.old self.new trace.new }
@@ -94,7 +94,7 @@ impl Mailroom {
         owing: &mut bool,
         trace: &mut Vec<Event>,
     ) -> Result<Option<Item>, Fault>
-        requires ready { IsReady 128 self.old book.now trace.old }
+        requires ready { CanStep 128 self.old book.now trace.old }
         requires named { HasNamed (vec_len self.old.mails) port.old }
         requires hint { owing.old ≡ false → OwesNone self.old.mails.items }
         ensures serves { ServesPort thread port.old port.new (work self.old trace.old) (work self.new trace.new) result }
@@ -144,7 +144,7 @@ impl Ports {
         ensures gets { PostGets thread self.old self.new trace.old trace.new result }
         ensures same { IsSamePost self.old self.new }
         ensures grew { Grew (desk_cpu self.old.seat) 128 trace.old trace.new }
-        ensures told { Tells self.old.seat self.new.seat trace.old.items trace.new.items }
+        ensures told { TellsDeeds self.old.seat self.new.seat trace.old.items trace.new.items }
     {
         let office = &mut self.office;
         let counters = &mut office.counters;

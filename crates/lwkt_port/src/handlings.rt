@@ -2,7 +2,7 @@
 ghost use Rattle.std.specs.Prelude.{◌≡◌, ◌↔◌, ◌+◌, ◌<◌, ◌≤◌, true, false, length, All, None, Some, IsTrue, MatchOption, vec_len, vec_capacity};
 ghost use Rattle.lwkt_lane.specs.Lane.{received, in_lane};
 ghost use Rattle.lwkt_port.specs.Mails.{kept_mail_at};
-ghost use Rattle.lwkt_port.specs.Works.{away_count, IsReady, standing, Keeps};
+ghost use Rattle.lwkt_port.specs.Works.{away_count, CanStep, standing, KeepsStanding};
 ghost use Rattle.lwkt_port.specs.Posts.{KeepsNamed};
 ghost use Rattle.lwkt_port.specs.Queues.{NamesBoth};
 ghost use Rattle.lwkt_port.specs.Intakes.{desks, IsSyncAnswer, Handles, Pops, Empties};
@@ -49,9 +49,9 @@ impl Counters {
     // Handles a note that came over a lane. None if its port's queue is full.
     #[inline(always)]
     fn handle(&mut self, book: &MsgBook, note: Note, trace: &mut Vec<Event>) -> Option<Fate>
-        requires ready { IsReady (away_count self.old.room.mails.items + 1) self.old.room book.now trace.old }
+        requires ready { CanStep (away_count self.old.room.mails.items + 1) self.old.room book.now trace.old }
         ensures handles { Handles note (desks self.old trace.old) (desks self.new trace.new) result }
-        ensures keeps { Keeps (standing self.old trace.old) (standing self.new trace.new) }
+        ensures keeps { KeepsStanding (standing self.old trace.old) (standing self.new trace.new) }
     {
         if !names_both(&self.room.mails, note) {
             return Some(Fate::Foreign);
@@ -81,10 +81,10 @@ impl Counters {
         most: usize,
         trace: &mut Vec<Event>,
     ) -> usize
-        requires ready { IsReady (away_count self.old.room.mails.items + 1) self.old.room book.now trace.old }
+        requires ready { CanStep (away_count self.old.room.mails.items + 1) self.old.room book.now trace.old }
         requires none { line.old.kept ≡ None }
         ensures pops { Pops most result line.old line.new (desks self.old trace.old) (desks self.new trace.new) }
-        ensures keeps { Keeps (standing self.old trace.old) (standing self.new trace.new) }
+        ensures keeps { KeepsStanding (standing self.old trace.old) (standing self.new trace.new) }
         ensures line { KeepsNamed (vec_len self.new.room.mails) line.new }
     {
         for popped in 0..most {
@@ -111,11 +111,11 @@ impl Counters {
         most: usize,
         trace: &mut Vec<Event>,
     ) -> usize
-        requires ready { IsReady (away_count self.old.room.mails.items + 1) self.old.room book.now trace.old }
+        requires ready { CanStep (away_count self.old.room.mails.items + 1) self.old.room book.now trace.old }
         requires line { KeepsNamed (vec_len self.old.room.mails) line.old }
         ensures empties { Empties most result line.old line.new (desks self.old trace.old) (desks self.new trace.new) }
         ensures within { result ≤ most }
-        ensures keeps { Keeps (standing self.old trace.old) (standing self.new trace.new) }
+        ensures keeps { KeepsStanding (standing self.old trace.old) (standing self.new trace.new) }
         ensures line { KeepsNamed (vec_len self.new.room.mails) line.new }
     {
         let Some(note) = line.kept else {

@@ -6,11 +6,11 @@ ghost use Rattle.lwkt_port.specs.declared.queues.Port.{Port};
 ghost use Rattle.lwkt_port.specs.Chains.{Chain};
 ghost use Rattle.lwkt_port.specs.Hints.{OwesNone};
 ghost use Rattle.lwkt_port.specs.Lines.{IsRoomed, HasNoneInHand};
-ghost use Rattle.lwkt_port.specs.Posts.{Changes, AreStillLines, IsSamePost};
-ghost use Rattle.lwkt_port.specs.Works.{Work, work, Grew, away_count, IsReady, MailroomStands, standing, Keeps};
+ghost use Rattle.lwkt_port.specs.Posts.{ChangesOne, AreStillLines, IsSamePost};
+ghost use Rattle.lwkt_port.specs.Works.{Work, work, Grew, away_count, CanStep, MailroomStands, standing, KeepsStanding};
 ghost use Rattle.lwkt_port.specs.Intakes.{PaysFirst, Intake, intake, EmptiesFrom, untaken, IsFronted, hall, TakesIn, PostTakesIn};
 ghost use Rattle.lwkt_port.specs.Closings.{PostPays};
-ghost use Rattle.lwkt_port.specs.Tellings.{Tells};
+ghost use Rattle.lwkt_port.specs.Tellings.{TellsDeeds};
 
 use crate::lines::{Lane, has_none_in_hand, has_note, has_room};
 use crate::mails::{Mail, mail_of};
@@ -22,7 +22,7 @@ use lwkt_msg::MsgBook;
 
 // Moves the note in hand of each sending end on.
 fn make_room(lanes: &mut Vec<Lane>)
-    ensures rooms { Chain (List Lane) (λ i x y. Changes IsRoomed i x y) (vec_len lanes.old) lanes.old.items lanes.new.items }
+    ensures rooms { Chain (List Lane) (λ i x y. ChangesOne IsRoomed i x y) (vec_len lanes.old) lanes.old.items lanes.new.items }
     ensures lines { AreStillLines lanes.old lanes.new }
 {
     let count = lanes.len();
@@ -34,7 +34,7 @@ fn make_room(lanes: &mut Vec<Lane>)
 impl Office {
     // Makes the replies that are owed, as lanes have room, if there may be one.
     fn pay_owed(&mut self, book: &MsgBook, trace: &mut Vec<Event>)
-        requires ready { IsReady 64 self.old.counters.room book.now trace.old }
+        requires ready { CanStep 64 self.old.counters.room book.now trace.old }
         ensures { PaysFirst (vec_len self.old.counters.room.mails) 64 self.old trace.old self.new trace.new }
     {
         if !self.owing {
@@ -70,11 +70,11 @@ impl Office {
         limit: usize,
         trace: &mut Vec<Event>,
     ) -> usize
-        requires ready { IsReady (away_count self.old.counters.room.mails.items + 1) self.old.counters.room book.now trace.old }
+        requires ready { CanStep (away_count self.old.counters.room.mails.items + 1) self.old.counters.room book.now trace.old }
         requires first { first ≤ vec_len self.old.lanes }
         requires taken { taken ≤ limit }
         ensures notes { (z : Intake) → Chain Intake (EmptiesFrom limit) first z (intake self.old trace.old taken) → Chain Intake (EmptiesFrom limit) (vec_len self.old.lanes) z (intake self.new trace.new result) }
-        ensures keeps { Keeps (standing self.old.counters trace.old) (standing self.new.counters trace.new) }
+        ensures keeps { KeepsStanding (standing self.old.counters trace.old) (standing self.new.counters trace.new) }
     {
         let mut count = taken;
         let senders = self.lanes.len();
@@ -114,7 +114,7 @@ impl Office {
         limit: usize,
         trace: &mut Vec<Event>,
     ) -> usize
-        requires ready { IsReady 256 self.old.counters.room book.now trace.old }
+        requires ready { CanStep 256 self.old.counters.room book.now trace.old }
         requires owing { OwesNone self.old.counters.room.mails.items }
         requires front { (before : List Lane) × IsFronted limit first (work self.old.counters.room trace.old) self.old.counters.ports.items before self.old.lanes.items }
         ensures takes { (before : List Lane) → IsFronted limit first (work self.old.counters.room trace.old) self.old.counters.ports.items before self.old.lanes.items → All HasNoneInHand before → TakesIn limit (record { work = work self.old.counters.room trace.old; lanes = before; ports = self.old.counters.ports.items }) (hall self.new trace.new) result }
@@ -136,7 +136,7 @@ impl Office {
     #[cold]
     #[inline(never)]
     fn take_all(&mut self, book: &MsgBook, limit: usize, trace: &mut Vec<Event>) -> usize
-        requires ready { IsReady 256 self.old.counters.room book.now trace.old }
+        requires ready { CanStep 256 self.old.counters.room book.now trace.old }
         ensures takes { TakesIn limit (hall self.old trace.old) (hall self.new trace.new) result }
         ensures stands { MailroomStands 256 self.old.counters.room trace.old self.new.counters.room trace.new }
     {
@@ -162,7 +162,7 @@ impl Office {
     // Takes the notes in that came over the lanes.
     #[inline(always)]
     fn take_in(&mut self, book: &MsgBook, limit: usize, trace: &mut Vec<Event>) -> usize
-        requires ready { IsReady 256 self.old.counters.room book.now trace.old }
+        requires ready { CanStep 256 self.old.counters.room book.now trace.old }
         ensures takes { TakesIn limit (hall self.old trace.old) (hall self.new trace.new) result }
         ensures stands { MailroomStands 256 self.old.counters.room trace.old self.new.counters.room trace.new }
     {
@@ -193,7 +193,7 @@ impl Ports {
         ensures within { result ≤ limit }
         ensures same { IsSamePost self.old self.new }
         ensures grew { Grew (desk_cpu self.old.seat) 256 trace.old trace.new }
-        ensures told { Tells self.old.seat self.new.seat trace.old.items trace.new.items }
+        ensures told { TellsDeeds self.old.seat self.new.seat trace.old.items trace.new.items }
     {
         self.office.take_in(book, limit, trace)
     }
@@ -208,7 +208,7 @@ impl Ports {
         ensures pays { PostPays self.old self.new trace.old trace.new }
         ensures same { IsSamePost self.old self.new }
         ensures grew { Grew (desk_cpu self.old.seat) 64 trace.old trace.new }
-        ensures told { Tells self.old.seat self.new.seat trace.old.items trace.new.items }
+        ensures told { TellsDeeds self.old.seat self.new.seat trace.old.items trace.new.items }
     {
         make_room(&mut self.office.lanes);
         self.office.pay_owed(book, trace);

@@ -3,7 +3,7 @@ ghost use Rattle.std.specs.Prelude.{◌≡◌, ◌⊎◌, ℕ, ◌<◌, ◌≤�
 ghost use Rattle.lwkt_base.specs.declared.faults.Fault.TheVariants.{Limits};
 ghost use Rattle.lwkt_msg.specs.Desks.{desk_cpu, cpus_of, messages_of};
 ghost use Rattle.lwkt_port.specs.Mails.{kept_mail_at, AreMails};
-ghost use Rattle.lwkt_port.specs.Openings.{new_mail, AreNewPorts, new_line, ArePaired, AreWithin, IsFresh, AreOrigins, IsOpenedPost};
+ghost use Rattle.lwkt_port.specs.Openings.{new_mail, AreNewPorts, new_line, ArePaired, KeepLimits, IsFresh, AreOrigins, IsOpenedPost};
 
 use crate::counters::Counters;
 use crate::lines::Lane;
@@ -86,7 +86,7 @@ fn are_within(
     origins: &[ThreadId],
     threads: usize,
 ) -> bool
-    ensures { IsTrue result ↔ AreWithin seat.now outs.now.items ins.now.items origins.now threads }
+    ensures { IsTrue result ↔ KeepLimits seat.now outs.now.items ins.now.items origins.now threads }
 {
     threads <= PORTS
         && outs.len() == seat.cpus()
@@ -121,8 +121,8 @@ impl Ports {
         requires fresh { IsFresh seat }
         requires origins { AreOrigins seat origins.now }
         ensures { MatchResult result
-            (λ p. AreWithin seat outs.items ins.items origins.now threads × IsOpenedPost cpu seat outs.items ins.items origins.now threads p)
-            (λ fault. (fault ≡ no_memory) ⊎ ((fault ≡ Limits) × (AreWithin seat outs.items ins.items origins.now threads → ⊥))) }
+            (λ p. KeepLimits seat outs.items ins.items origins.now threads × IsOpenedPost cpu seat outs.items ins.items origins.now threads p)
+            (λ fault. (fault ≡ no_memory) ⊎ ((fault ≡ Limits) × (KeepLimits seat outs.items ins.items origins.now threads → ⊥))) }
     {
         let own = seat.cpu();
         let within = are_within(&seat, &outs, &ins, origins, threads);

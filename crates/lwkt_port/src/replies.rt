@@ -2,10 +2,10 @@
 ghost use Rattle.std.specs.Prelude.{◌≡◌, ◌↔◌, ◌+◌, ◌<◌, ◌≤◌, true, length, slice_set, All, vec_len, vec_capacity, None, IsTrue, OnOk, IfErr};
 ghost use Rattle.lwkt_msg.specs.Desks.{desk_cpu, messages_of};
 ghost use Rattle.lwkt_port.specs.Mails.{kept_mail_at};
-ghost use Rattle.lwkt_port.specs.Works.{work, Grew, IsReady, MailroomStands, KeepsPorts, HasTaken};
+ghost use Rattle.lwkt_port.specs.Works.{work, Grew, CanStep, MailroomStands, KeepsPorts, IsTaken};
 ghost use Rattle.lwkt_port.specs.Posts.{IsSamePost};
 ghost use Rattle.lwkt_port.specs.Sendings.{answer_note, ReplyMeans, Answers, IsShownTo, PostReplies, PostRefusesReply};
-ghost use Rattle.lwkt_port.specs.Tellings.{Tells};
+ghost use Rattle.lwkt_port.specs.Tellings.{TellsDeeds};
 
 use crate::lines::{Lane, has_room, post};
 use crate::mailrooms::Mailroom;
@@ -42,8 +42,8 @@ impl Mailroom {
         outcome: u64,
         trace: &mut Vec<Event>,
     ) -> bool
-        requires ready { IsReady 1 self.old book.now trace.old }
-        requires taken { HasTaken msg self.old }
+        requires ready { CanStep 1 self.old book.now trace.old }
+        requires taken { IsTaken msg self.old }
         ensures means { ReplyMeans msg error outcome line.old line.new (work self.old trace.old) (work self.new trace.new) result }
         ensures stands { MailroomStands 1 self.old trace.old self.new trace.new }
     {
@@ -68,8 +68,8 @@ impl Office {
         outcome: u64,
         trace: &mut Vec<Event>,
     ) -> bool
-        requires ready { IsReady 1 self.old.counters.room book.now trace.old }
-        requires taken { HasTaken msg self.old.counters.room }
+        requires ready { CanStep 1 self.old.counters.room book.now trace.old }
+        requires taken { IsTaken msg self.old.counters.room }
         ensures means { Answers msg error outcome self.old.lanes.items self.new.lanes.items (work self.old.counters.room trace.old) (work self.new.counters.room trace.new) result }
         ensures beside { KeepsPorts 1 self.old.counters trace.old self.new.counters trace.new }
     {
@@ -116,7 +116,7 @@ impl Ports {
         ensures refused { IfErr result (λ fault. PostRefusesReply thread msg error outcome self.old self.new trace.old trace.new fault) }
         ensures same { IsSamePost self.old self.new }
         ensures grew { Grew (desk_cpu self.old.seat) 1 trace.old trace.new }
-        ensures told { Tells self.old.seat self.new.seat trace.old.items trace.new.items }
+        ensures told { TellsDeeds self.old.seat self.new.seat trace.old.items trace.new.items }
     {
         if !is_shown_to(&self.office.counters.room.mails, thread, msg) {
             return Err(Fault::NotTaken);

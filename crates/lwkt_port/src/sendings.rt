@@ -4,10 +4,10 @@ ghost use Rattle.lwkt_msg.specs.Desks.{desk_cpu, cpus_of};
 ghost use Rattle.lwkt_msg.specs.Views.{no_flags};
 ghost use Rattle.lwkt_port.specs.Lines.{IsRoomed};
 ghost use Rattle.lwkt_port.specs.Mails.{kept_mail_at};
-ghost use Rattle.lwkt_port.specs.Works.{work, Grew, IsReady, MailroomStands, KeepsPorts};
+ghost use Rattle.lwkt_port.specs.Works.{work, Grew, CanStep, MailroomStands, KeepsPorts};
 ghost use Rattle.lwkt_port.specs.Sendings.{IsPortName, MaySend, SendsOver, RefusesOver, HasSentNote, WhyUnsent, PostSends, PostRefuses};
 ghost use Rattle.lwkt_port.specs.Posts.{IsSamePost};
-ghost use Rattle.lwkt_port.specs.Tellings.{Tells};
+ghost use Rattle.lwkt_port.specs.Tellings.{TellsDeeds};
 
 use crate::deeds::Sending;
 use crate::lines::{Lane, has_room, post};
@@ -49,7 +49,7 @@ impl Mailroom {
         sending: &Sending,
         trace: &mut Vec<Event>,
     ) -> Result<(), Fault>
-        requires ready { IsReady 1 self.old book.now trace.old }
+        requires ready { CanStep 1 self.old book.now trace.old }
         requires may { MaySend sending.now self.old.mails.items }
         requires target { sending.now.to.cpu.0 < cpus_of self.old.seat }
         ensures means { MatchResult result (λ _. SendsOver sending.now line.old line.new (work self.old trace.old) (work self.new trace.new)) (λ fault. RefusesOver sending.now line.old line.new (work self.old trace.old) (work self.new trace.new) fault) }
@@ -83,7 +83,7 @@ impl Office {
         sending: &Sending,
         trace: &mut Vec<Event>,
     ) -> Result<(), Fault>
-        requires ready { IsReady 1 self.old.counters.room book.now trace.old }
+        requires ready { CanStep 1 self.old.counters.room book.now trace.old }
         requires target { sending.now.to.cpu.0 < cpus_of self.old.counters.room.seat }
         ensures sent { OnOk result (HasSentNote sending.now self.old.lanes.items self.new.lanes.items (work self.old.counters.room trace.old) (work self.new.counters.room trace.new)) }
         ensures refused { IfErr result (λ fault. WhyUnsent sending.now self.old.lanes.items self.new.lanes.items (work self.old.counters.room trace.old) (work self.new.counters.room trace.new) fault) }
@@ -126,7 +126,7 @@ impl Ports {
         ensures refused { IfErr result (λ fault. PostRefuses (record { thread = thread; msg = msg; to = to; call = call; flags = flags; sync = false }) self.old self.new trace.old trace.new fault) }
         ensures same { IsSamePost self.old self.new }
         ensures grew { Grew (desk_cpu self.old.seat) 1 trace.old trace.new }
-        ensures told { Tells self.old.seat self.new.seat trace.old.items trace.new.items }
+        ensures told { TellsDeeds self.old.seat self.new.seat trace.old.items trace.new.items }
     {
         if !is_port_name(&self.office.counters.room.seat, to) {
             return Err(Fault::NoPort);
@@ -163,7 +163,7 @@ impl Ports {
         ensures refused { IfErr result (λ fault. PostRefuses (record { thread = thread; msg = msg; to = to; call = call; flags = no_flags; sync = true }) self.old self.new trace.old trace.new fault) }
         ensures same { IsSamePost self.old self.new }
         ensures grew { Grew (desk_cpu self.old.seat) 1 trace.old trace.new }
-        ensures told { Tells self.old.seat self.new.seat trace.old.items trace.new.items }
+        ensures told { TellsDeeds self.old.seat self.new.seat trace.old.items trace.new.items }
     {
         if !is_port_name(&self.office.counters.room.seat, to) {
             return Err(Fault::NoPort);

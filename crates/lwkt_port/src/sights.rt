@@ -1,8 +1,8 @@
 //! Where the ports of two processors are both at hand, the one sees what the other has sent, and what it has sent to itself.
 ghost use Rattle.std.specs.Prelude.{◌≡◌, ℕ, ◌<◌, All, slice_index_or, vec_len};
 ghost use Rattle.lwkt_lane.specs.Lane.{IsLane};
-ghost use Rattle.lwkt_port.specs.Posts.{Changes, AreStillLines, IsSamePost};
-ghost use Rattle.lwkt_port.specs.Sights.{AreEnds, SeesAll, LooksBeside, SeesOwn, Sees, AreJoined, PostSees, PostSeesOwn};
+ghost use Rattle.lwkt_port.specs.Posts.{ChangesOne, AreStillLines, IsSamePost};
+ghost use Rattle.lwkt_port.specs.Sights.{AreEnds, SeesAll, LooksBeside, SeesOwnLine, SeesAllFrom, AreJoined, PostSees, PostSeesOwn};
 
 use crate::lines::Lane;
 use crate::posts::Ports;
@@ -19,7 +19,7 @@ fn see_line(line: &mut Lane, sender: &mut Lane)
 // Lines see all that came from a sender.
 fn see_from(lanes: &mut Vec<Lane>, from: usize, sender: &mut Vec<Lane>, to: usize)
     requires { AreEnds from to sender.old.items lanes.old.items }
-    ensures sees { Sees from to sender.old.items sender.new.items lanes.old.items lanes.new.items }
+    ensures sees { SeesAllFrom from to sender.old.items sender.new.items lanes.old.items lanes.new.items }
     ensures lines { AreStillLines lanes.old lanes.new }
     ensures sender { AreStillLines sender.old sender.new }
 {
@@ -29,7 +29,7 @@ fn see_from(lanes: &mut Vec<Lane>, from: usize, sender: &mut Vec<Lane>, to: usiz
 // A line whose two ends are those of one lane sees all that was put into its queue.
 fn see_line_own(line: &mut Lane)
     requires { IsLane line.old.out line.old.into }
-    ensures { SeesOwn line.old line.new }
+    ensures { SeesOwnLine line.old line.new }
 {
     let _ = line.into.see_all(&mut line.out);
 }
@@ -37,7 +37,7 @@ fn see_line_own(line: &mut Lane)
 // The line at this place sees all that came over the lane of its own two ends.
 fn see_at(lanes: &mut Vec<Lane>, at: usize)
     requires { AreEnds at at lanes.old.items lanes.old.items }
-    ensures sees { Changes SeesOwn at lanes.old.items lanes.new.items }
+    ensures sees { ChangesOne SeesOwnLine at lanes.old.items lanes.new.items }
     ensures lines { AreStillLines lanes.old lanes.new }
 {
     see_line_own(&mut lanes[at]);

@@ -4,8 +4,8 @@ ghost use Rattle.lwkt_core.specs.declared.events.Event.{Event};
 ghost use Rattle.lwkt_msg.specs.Desks.{desk_cpu, IsSameDesk};
 ghost use Rattle.lwkt_port.specs.Posts.{IsSamePost};
 ghost use Rattle.lwkt_port.specs.Sendings.{IsShownTo};
-ghost use Rattle.lwkt_port.specs.Tellings.{Tells};
-ghost use Rattle.lwkt_port.specs.Works.{work, Grew, IsReady, MailroomStands, HasTaken, HasOwn};
+ghost use Rattle.lwkt_port.specs.Tellings.{TellsDeeds};
+ghost use Rattle.lwkt_port.specs.Works.{work, Grew, CanStep, MailroomStands, IsTaken, HasOwn};
 ghost use Rattle.lwkt_port.specs.Withdrawals.{IsOwnOf, Requests, IsUnasked, Drops, IsUntouched, MayRefuseAbort, MayRefuseDrop, IsHeard, PostAborts, PostRefusesAbort, PostDrops, PostRefusesDrop, PostHears, PostRefusesHearing};
 
 use crate::mailrooms::Mailroom;
@@ -37,7 +37,7 @@ impl Mailroom {
 impl Mailroom {
     // Asks for an own message to be aborted.
     fn request(&mut self, book: &MsgBook, msg: MsgId, trace: &mut Vec<Event>) -> Result<(), Fault>
-        requires ready { IsReady 1 self.old book.now trace.old }
+        requires ready { CanStep 1 self.old book.now trace.old }
         requires own { HasOwn msg self.old }
         ensures requests { OnOk result (Requests msg (work self.old trace.old) (work self.new trace.new)) }
         ensures refused { IfErr result (λ fault. MayRefuseAbort fault × IsUnasked msg (work self.old trace.old) (work self.new trace.new) fault) }
@@ -57,7 +57,7 @@ impl Mailroom {
 impl Mailroom {
     // Drops an own message.
     fn withdraw(&mut self, book: &MsgBook, msg: MsgId, trace: &mut Vec<Event>) -> Result<Rec, Fault>
-        requires ready { IsReady 1 self.old book.now trace.old }
+        requires ready { CanStep 1 self.old book.now trace.old }
         requires own { HasOwn msg self.old }
         ensures drops { IfOk result (λ rec. Drops msg (work self.old trace.old) (work self.new trace.new) rec) }
         ensures refused { IfErr result (λ fault. MayRefuseDrop fault × IsUntouched msg (work self.old trace.old) (work self.new trace.new) fault) }
@@ -80,7 +80,7 @@ impl Mailroom {
     // Hears whether a message that the seat has taken is to be aborted.
     fn hear(&mut self, book: &MsgBook, msg: MsgId) -> Result<bool, Fault>
         requires table { self.old.seat.table ≡ book.now.table }
-        requires taken { HasTaken msg self.old }
+        requires taken { IsTaken msg self.old }
         ensures heard { IfOk result (λ aborted. (events : List Event) → IsHeard msg (record { seat = self.old.seat; mails = self.old.mails.items; trace = events }) (record { seat = self.new.seat; mails = self.new.mails.items; trace = events }) aborted) }
         ensures always { IsOk result }
         ensures same { IsSameDesk self.old.seat self.new.seat }
@@ -112,7 +112,7 @@ impl Ports {
         ensures refused { IfErr result (λ fault. PostRefusesAbort thread msg self.old self.new trace.old trace.new fault) }
         ensures same { IsSamePost self.old self.new }
         ensures grew { Grew (desk_cpu self.old.seat) 1 trace.old trace.new }
-        ensures told { Tells self.old.seat self.new.seat trace.old.items trace.new.items }
+        ensures told { TellsDeeds self.old.seat self.new.seat trace.old.items trace.new.items }
     {
         if !self.office.counters.room.is_own(thread, msg) {
             return Err(Fault::NotOwner);
@@ -129,7 +129,7 @@ impl Ports {
         ensures heard { IfOk result (λ aborted. PostHears thread msg self.old self.new aborted) }
         ensures refused { IfErr result (λ fault. PostRefusesHearing thread msg self.old self.new fault) }
         ensures same { IsSamePost self.old self.new }
-        ensures told { (events : List Event) → Tells self.old.seat self.new.seat events events }
+        ensures told { (events : List Event) → TellsDeeds self.old.seat self.new.seat events events }
     {
         if !is_shown_to(&self.office.counters.room.mails, thread, msg) {
             return Err(Fault::NotTaken);
@@ -158,7 +158,7 @@ impl Ports {
         ensures refused { IfErr result (λ fault. PostRefusesDrop thread msg self.old self.new trace.old trace.new fault) }
         ensures same { IsSamePost self.old self.new }
         ensures grew { Grew (desk_cpu self.old.seat) 1 trace.old trace.new }
-        ensures told { Tells self.old.seat self.new.seat trace.old.items trace.new.items }
+        ensures told { TellsDeeds self.old.seat self.new.seat trace.old.items trace.new.items }
     {
         if !self.office.counters.room.is_own(thread, msg) {
             return Err(Fault::NotOwner);

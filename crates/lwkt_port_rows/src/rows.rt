@@ -1,7 +1,7 @@
 //! The worked rows, and what becomes of full lanes and full queues.
 ghost use Rattle.std.specs.Prelude.{◌≡◌, ◌<◌};
 ghost use Rattle.lwkt_msg.specs.Desks.{cpus_of};
-ghost use Rattle.lwkt_port_rows.specs.Stations.{Sits};
+ghost use Rattle.lwkt_port_rows.specs.Stations.{AreOverSeat};
 
 use crate::stations::{
     Ask, Line, Miss, NO_FLAGS, Pair, Told, both, listed, open, open_ports, play_after_sends,
@@ -171,8 +171,8 @@ pub(crate) fn fill(
     out: &mut LaneOut,
     stale: Note,
 ) -> Result<(), Miss>
-    requires { Sits book.now 2 ports.old }
-    ensures { Sits book.now 2 ports.new }
+    requires { AreOverSeat book.now 2 ports.old }
+    ensures { AreOverSeat book.now 2 ports.new }
 {
     for _copy in 0..64 {
         push(out, stale)?;
@@ -200,7 +200,7 @@ fn hold_up(
     slow: &mut LaneOut,
     quick: &mut LaneOut,
 ) -> Result<(), Miss>
-    requires { Sits book.now 2 ports.old }
+    requires { AreOverSeat book.now 2 ports.old }
 {
     push(slow, note(200, 1, 0))?;
     play_all(alloc, book, ports, 2, &ONE_NOTE)?;

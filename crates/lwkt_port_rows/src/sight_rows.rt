@@ -1,7 +1,7 @@
 //! What another processor, and the processor itself, has put into the queue of a lane is seen by a look, and taken in behind it.
 ghost use Rattle.std.specs.Prelude.{IfOk};
 ghost use Rattle.lwkt_port.specs.Posts.{IsSamePost};
-ghost use Rattle.lwkt_port_rows.specs.Stations.{Sits, AreTied};
+ghost use Rattle.lwkt_port_rows.specs.Stations.{AreOverSeat, AreTied};
 
 use crate::rows::OWN;
 use crate::stations::{Ask, Miss, NO_FLAGS, Pair, Told, both, listed, open_ports, play_all};
@@ -52,8 +52,8 @@ fn open_tied(alloc: Global) -> Result<Pair, Fault>
 
 // Thread 0 of a processor sends a message to a thread of the second one, with its number as op.
 fn send(alloc: Global, book: &MsgBook, ports: &mut Ports, m: u8, thread: u8) -> Result<(), Fault>
-    requires { Sits book.now 3 ports.old }
-    ensures sits { Sits book.now 3 ports.new }
+    requires { AreOverSeat book.now 3 ports.old }
+    ensures sits { AreOverSeat book.now 3 ports.new }
     ensures same { IsSamePost ports.old ports.new }
 {
     let mut trace = Vec::with_capacity(alloc, 256).map_err(Fault::Memory)?;
@@ -76,7 +76,7 @@ fn look(
     second: &mut Ports,
 ) -> Result<usize, Fault>
     requires { AreTied book.now 3 first.old second.old }
-    ensures { Sits book.now 3 second.new }
+    ensures { AreOverSeat book.now 3 second.new }
 {
     let mut trace = Vec::with_capacity(alloc, 256).map_err(Fault::Memory)?;
     second.see(first);
@@ -92,7 +92,7 @@ fn looked(
     second: &mut Ports,
 ) -> Result<usize, Fault>
     requires { AreTied book.now 3 first.old second.old }
-    ensures { Sits book.now 3 second.new }
+    ensures { AreOverSeat book.now 3 second.new }
 {
     send(alloc, book, first, 0, 0)?;
     send(alloc, book, first, 1, 1)?;

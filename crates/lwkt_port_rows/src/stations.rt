@@ -3,7 +3,7 @@ ghost use Rattle.std.specs.Prelude.{◌≡◌, ℕ, ◌+◌, ◌<◌, ◌≤◌,
 ghost use Rattle.lwkt_msg.specs.Desks.{AreSeats, IsOpened, messages_of, cpus_of};
 ghost use Rattle.lwkt_base.specs.declared.openings.MsgSpec.{MsgSpec};
 ghost use Rattle.lwkt_port.specs.Openings.{ArePaired};
-ghost use Rattle.lwkt_port_rows.specs.Stations.{Sits};
+ghost use Rattle.lwkt_port_rows.specs.Stations.{AreOverSeat};
 
 use lwkt_base::{Call, CpuId, Fault, Flags, Item, MsgId, MsgSpec, Rec, ThreadId};
 use lwkt_core::Event;
@@ -100,9 +100,9 @@ fn play_end(
     ask: Ask,
     trace: &mut Vec<Event>,
 ) -> Told
-    requires sits { Sits book.now messages ports.old }
+    requires sits { AreOverSeat book.now messages ports.old }
     requires room { vec_len trace.old + 256 ≤ vec_capacity trace.old }
-    ensures { Sits book.now messages ports.new }
+    ensures { AreOverSeat book.now messages ports.new }
 {
     match ask {
         Ask::SendUrgent(thread, m, cpu, target, op, arg) => {
@@ -145,8 +145,8 @@ pub fn play(
     messages: usize,
     ask: Ask,
 ) -> Result<Told, Fault>
-    requires { Sits book.now messages ports.old }
-    ensures { Sits book.now messages ports.new }
+    requires { AreOverSeat book.now messages ports.old }
+    ensures { AreOverSeat book.now messages ports.new }
 {
     let mut trace = Vec::with_capacity(alloc, 256).map_err(Fault::Memory)?;
     let told = match ask {
@@ -218,7 +218,7 @@ pub fn open_ports(
 ) -> Result<Ports, Fault>
     requires opened { (cpu : ℕ) × IsOpened cpu book.now seat }
     requires specs { book.now.specs ≡ specs.now }
-    ensures sits { IfOk result (λ ports. Sits book.now (length specs.now) ports) }
+    ensures sits { IfOk result (λ ports. AreOverSeat book.now (length specs.now) ports) }
     ensures lanes { IfOk result (λ ports. ArePaired outs.items ins.items ports.lanes × (ports.seat ≡ seat)) }
 {
     let origins = match origins_of(alloc, specs) {
@@ -317,7 +317,7 @@ fn ports_of(
 ) -> Result<Ports, Fault>
     requires opened { (cpu : ℕ) × IsOpened cpu book.now seat }
     requires specs { book.now.specs ≡ specs.now }
-    ensures { IfOk result (λ ports. Sits book.now (length specs.now) ports) }
+    ensures { IfOk result (λ ports. AreOverSeat book.now (length specs.now) ports) }
 {
     let Ends { outs, ins } = ends;
     open_ports(alloc, seat, book, specs, outs, ins)
@@ -327,7 +327,7 @@ fn ports_of(
 pub fn open(alloc: Global, specs: &[MsgSpec], capacity: usize) -> Result<Pair, Fault>
     requires least { 2 ≤ capacity }
     requires most { capacity ≤ 32 }
-    ensures { IfOk result (λ pair. Sits pair.book (length specs.now) pair.first × Sits pair.book (length specs.now) pair.second) }
+    ensures { IfOk result (λ pair. AreOverSeat pair.book (length specs.now) pair.first × AreOverSeat pair.book (length specs.now) pair.second) }
 {
     let (book, seats) = MsgBook::open(alloc, specs, 2)?;
     let Some((seat, other)) = both(seats, &book) else {
@@ -353,8 +353,8 @@ pub fn play_all(
     messages: usize,
     lines: &[(Ask, Told)],
 ) -> Result<(), Miss>
-    requires { Sits book.now messages ports.old }
-    ensures { Sits book.now messages ports.new }
+    requires { AreOverSeat book.now messages ports.old }
+    ensures { AreOverSeat book.now messages ports.new }
 {
     for (at, (ask, wanted)) in lines.iter().enumerate() {
         match play(alloc, book, ports, messages, *ask) {
@@ -368,10 +368,10 @@ pub fn play_all(
 
 /// Plays a table of calls by both processors.
 pub fn run(alloc: Global, pair: &mut Pair, messages: usize, lines: &[Line]) -> Result<(), Miss>
-    requires first { Sits pair.old.book messages pair.old.first }
-    requires second { Sits pair.old.book messages pair.old.second }
-    ensures first { Sits pair.new.book messages pair.new.first }
-    ensures second { Sits pair.new.book messages pair.new.second }
+    requires first { AreOverSeat pair.old.book messages pair.old.first }
+    requires second { AreOverSeat pair.old.book messages pair.old.second }
+    ensures first { AreOverSeat pair.new.book messages pair.new.first }
+    ensures second { AreOverSeat pair.new.book messages pair.new.second }
 {
     for (at, line) in lines.iter().enumerate() {
         let answer = if line.second {
@@ -406,10 +406,10 @@ pub fn play_pair(
 
 // Thread 0 of the first processor sends the first so many messages to thread 0 of the second.
 fn send_first(alloc: Global, pair: &mut Pair, messages: usize, count: u8) -> Result<(), Miss>
-    requires first { Sits pair.old.book messages pair.old.first }
-    requires second { Sits pair.old.book messages pair.old.second }
-    ensures first { Sits pair.new.book messages pair.new.first }
-    ensures second { Sits pair.new.book messages pair.new.second }
+    requires first { AreOverSeat pair.old.book messages pair.old.first }
+    requires second { AreOverSeat pair.old.book messages pair.old.second }
+    ensures first { AreOverSeat pair.new.book messages pair.new.first }
+    ensures second { AreOverSeat pair.new.book messages pair.new.second }
 {
     for m in 0..count {
         let line = first!(Ask::Send(0, m, 1, 0, 1, 1), Told::Done);

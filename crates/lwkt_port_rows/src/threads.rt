@@ -1,6 +1,6 @@
 //! Two processors, each driven by a thread of its own.
 ghost use Rattle.std.specs.Prelude.{◌≡◌, ◌<◌};
-ghost use Rattle.lwkt_port_rows.specs.Stations.{Sits};
+ghost use Rattle.lwkt_port_rows.specs.Stations.{AreOverSeat};
 
 use crate::stations::{Ask, Pair, Told, open, play};
 use lwkt_base::{Call, CpuId, Item, MsgId, MsgSpec, Rec, ThreadId};
@@ -16,8 +16,8 @@ const ROUNDS: u32 = 1000;
 
 // Sends the message, and waits for its reply: whether it is the one that is wanted.
 fn ask(alloc: Global, book: &MsgBook, ports: &mut Ports, round: u32) -> bool
-    requires { Sits book.now 1 ports.old }
-    ensures { Sits book.now 1 ports.new }
+    requires { AreOverSeat book.now 1 ports.old }
+    ensures { AreOverSeat book.now 1 ports.new }
 {
     let arg = u64::from(round);
     let wanted = Rec {
@@ -42,7 +42,7 @@ fn ask(alloc: Global, book: &MsgBook, ports: &mut Ports, round: u32) -> bool
 
 // How many rounds of asking went well.
 fn ask_all(alloc: Global, book: &MsgBook, mut ports: Ports) -> u32
-    requires { Sits book.now 1 ports }
+    requires { AreOverSeat book.now 1 ports }
 {
     let mut asked = 0;
     for round in 0..ROUNDS {
@@ -56,8 +56,8 @@ fn ask_all(alloc: Global, book: &MsgBook, mut ports: Ports) -> u32
 
 // Waits for a request, and replies to it: whether it is the one that is wanted.
 fn serve(alloc: Global, book: &MsgBook, ports: &mut Ports, round: u32) -> bool
-    requires { Sits book.now 1 ports.old }
-    ensures { Sits book.now 1 ports.new }
+    requires { AreOverSeat book.now 1 ports.old }
+    ensures { AreOverSeat book.now 1 ports.new }
 {
     let arg = u64::from(round);
     let call = Call { arg, op: 5 };
@@ -75,7 +75,7 @@ fn serve(alloc: Global, book: &MsgBook, ports: &mut Ports, round: u32) -> bool
 
 // How many requests were served well.
 fn serve_all(alloc: Global, book: &MsgBook, mut ports: Ports) -> u32
-    requires { Sits book.now 1 ports }
+    requires { AreOverSeat book.now 1 ports }
 {
     let mut served = 0;
     for round in 0..ROUNDS {

@@ -1,5 +1,5 @@
 //! Messages that are sent with priority: their notes are served first, and each class in the order sent.
-ghost use Rattle.lwkt_port_rows.specs.Stations.{Sits};
+ghost use Rattle.lwkt_port_rows.specs.Stations.{AreOverSeat};
 
 use crate::rows::{Lanes, OWN, fill, join, note, push, send_both};
 use crate::stations::{
@@ -126,7 +126,7 @@ fn hold_up(
     slow: &mut LaneOut,
     quick: &mut LaneOut,
 ) -> Result<(), Miss>
-    requires { Sits book.now 2 ports.old }
+    requires { AreOverSeat book.now 2 ports.old }
 {
     fill(alloc, book, ports, slow, STALE)?;
     push(slow, STALE)?;

@@ -16,10 +16,10 @@ use Rattle.lwkt_bank.specs.Gathered.{IsOpened as IsOpenedBank}
 use Rattle.lwkt_msg.specs.Desks.{Desk, Shelf, IsOpened, AreOpened}
 use Rattle.lwkt_lane.specs.declared.ins.LaneIn.{LaneIn}
 use Rattle.lwkt_lane.specs.declared.outs.LaneOut.{LaneOut}
-use Rattle.lwkt_port.specs.Openings.{AreWithin}
+use Rattle.lwkt_port.specs.Openings.{KeepLimits}
 use Rattle.lwkt_lane.proofs.PlaceMoves.{get_there, get_removed, length_removed, get_pushed}
 use Rattle.lwkt_drive.specs.declared.driven.Driven.{Driven}
-use Rattle.lwkt_drive.specs.Course.{IsAt}
+use Rattle.lwkt_drive.specs.Course.{IsAtTables}
 use Rattle.lwkt_lane.specs.Crossed.{AreLanes, IsLeft}
 use Rattle.lwkt_program.specs.Machines.{AreKept, Lasts, IsWhole}
 use Rattle.lwkt_program.specs.Opened.{IsSeat, IsOpenedCpu, AreOpenedCpus}
@@ -65,7 +65,7 @@ rest_few {B} (x ∷ xs) ys some is all =
     subst G (sym is) (All-tail F x xs all)
 
 -- the next processor keeps the limits of its ports
-pub first_within : {B : Type 0} (bank : BankId) (book : Shelf) (first : ℕ) (rest : Rest B) (mail : Desk) (outs : Vec LaneOut Global) (ins : Vec LaneIn Global) (origins : List ThreadId) (threads : ℕ) → 0 < length rest.seats.items → IsOpened first book mail → outs ≡ get_or rest.outs.items 0 outs → ins ≡ get_or rest.ins.items 0 ins → origins ≡ map (λ (spec : MsgSpec). spec.origin) book.specs → threads ≤ 16 → IsRest bank book first rest → AreWithin mail outs.items ins.items origins threads
+pub first_within : {B : Type 0} (bank : BankId) (book : Shelf) (first : ℕ) (rest : Rest B) (mail : Desk) (outs : Vec LaneOut Global) (ins : Vec LaneIn Global) (origins : List ThreadId) (threads : ℕ) → 0 < length rest.seats.items → IsOpened first book mail → outs ≡ get_or rest.outs.items 0 outs → ins ≡ get_or rest.ins.items 0 ins → origins ≡ map (λ (spec : MsgSpec). spec.origin) book.specs → threads ≤ 16 → IsRest bank book first rest → KeepLimits mail outs.items ins.items origins threads
 first_within bank book first rest mail outs ins origins threads some opened out into are few r = record {
   few = few;
   outs_are = first_long book.cpus rest.outs.items outs (omega (arith, some, r.outs_are)) out r.outs_long ∙ sym opened.cpus;
@@ -175,7 +175,7 @@ pub opened_whole : {B : Type 0} (kept : B → Type 0) (seats : ℕ) (bank : Bank
 opened_whole {B} kept seats bank book lists cpus seats_many mails_many many each before = record {
   seats_are = seats_many;
   mails_are = mails_many;
-  places = all_from_get (IsAt bank book.table) cpus (λ k d at.
+  places = all_from_get (IsAtTables bank book.table) cpus (λ k d at.
       let v = get_there lists k (omega (arith, many, slice_get_within cpus k d at)) in
       let opened = each k v.0 d v.1 at in
       record { bank_is = opened.seat.bank_is; book_is = opened.desk.table });

@@ -11,7 +11,7 @@ use Rattle.lwkt_bank.specs.Seats.{BankId, bank_of, holding}
 use Rattle.lwkt_msg.specs.Desks.{Desk, Shelf}
 use Rattle.lwkt_cpu.specs.Processors.{AllOver}
 use Rattle.lwkt_drive.specs.declared.driven.Driven.{Driven}
-use Rattle.lwkt_drive.specs.Course.{IsAt}
+use Rattle.lwkt_drive.specs.Course.{IsAtTables}
 use Rattle.lwkt_program.specs.Ended.{AreOver, AreRetired}
 use Rattle.lwkt_program.specs.Machines.{AreKept, Lasts}
 use Rattle.lwkt_program.specs.declared.closings.Gathered.{Gathered}
@@ -51,21 +51,21 @@ retired_more {B} done d old new seat mail bodies seat_is empty mail_is bodies_ar
 }
 
 -- the seats that were given back are of the bank, and hold nothing
-pub seats_ready : {B : Type 0} (bank : BankId) (book : Shelf) (cpus : List (Driven B)) (r : Gathered B) → All (IsAt bank book.table) cpus → AreRetired cpus r → All (IsReady bank) r.seats.items
+pub seats_ready : {B : Type 0} (bank : BankId) (book : Shelf) (cpus : List (Driven B)) (r : Gathered B) → All (IsAtTables bank book.table) cpus → AreRetired cpus r → All (IsReady bank) r.seats.items
 seats_ready {B} bank book cpus r places retired =
     let P : CpuSeat → Type 0 = λ s. bank_of s ≡ bank in
     let Q : Driven B → Type 0 = λ d. bank_of d.cpu.seat ≡ bank in
     let f : Driven B → CpuSeat = λ d. d.cpu.seat in
-    let of : All P r.seats.items = subst (All P) (sym retired.seats) (All-map P f cpus (All-weaker (IsAt bank book.table) Q (λ d is. is.bank_is) cpus places)) in
+    let of : All P r.seats.items = subst (All P) (sym retired.seats) (All-map P f cpus (All-weaker (IsAtTables bank book.table) Q (λ d is. is.bank_is) cpus places)) in
     λ k d within. record { of = of k d within; empty = λ tok low. ap (λ h. h tok) (retired.empty k d within) }
 
 -- so are those at the book
-pub desks_of : {B : Type 0} (bank : BankId) (book : Shelf) (cpus : List (Driven B)) (r : Gathered B) → All (IsAt bank book.table) cpus → AreRetired cpus r → All (λ d. d.table ≡ book.table) r.mails.items
+pub desks_of : {B : Type 0} (bank : BankId) (book : Shelf) (cpus : List (Driven B)) (r : Gathered B) → All (IsAtTables bank book.table) cpus → AreRetired cpus r → All (λ d. d.table ≡ book.table) r.mails.items
 desks_of {B} bank book cpus r places retired =
     let P : Desk → Type 0 = λ d. d.table ≡ book.table in
     let Q : Driven B → Type 0 = λ d. d.cpu.post.seat.table ≡ book.table in
     let f : Driven B → Desk = λ d. d.cpu.post.seat in
-    subst (All P) (sym retired.mails) (All-map P f cpus (All-weaker (IsAt bank book.table) Q (λ d is. is.book_is) cpus places))
+    subst (All P) (sym retired.mails) (All-map P f cpus (All-weaker (IsAtTables bank book.table) Q (λ d is. is.book_is) cpus places))
 
 -- what bodies keep holds of them when they come back
 kept_lists : {B : Type 0} (kept : B → Type 0) (lists : List (Vec B Global)) (cpus : List (Driven B)) → map (λ (v : Vec B Global). v.items) lists ≡ map (λ (d : Driven B). d.cpu.bodies) cpus → All (Lasts kept) cpus → AreKept kept lists

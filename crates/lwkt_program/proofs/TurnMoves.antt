@@ -8,7 +8,7 @@ use Rattle.lwkt_bank.specs.Seats.{BankId}
 use Rattle.lwkt_cpu.specs.declared.answers.Turned.{Turned}
 use Rattle.lwkt_cpu.specs.declared.answers.Turned.TheVariants.{AllExited}
 use Rattle.lwkt_drive.specs.declared.driven.Driven.{Driven}
-use Rattle.lwkt_program.specs.Turns.{DoesAt, Stays, TurnsAt, TurnsFrom, MakesRound, MakesRounds, MakesRoundShort, IsOver, Runs, RunsShort}
+use Rattle.lwkt_program.specs.Turns.{DoesAt, StaysPut, TurnsAt, TurnsFrom, MakesRound, MakesRounds, MakesRoundShort, IsOver, Runs, RunsShort}
 use Rattle.lwkt_program.proofs.ListMoves.{all_front, all_last}
 
 -- one turn more
@@ -63,9 +63,9 @@ pub turned_all : {B : Type 0} (polled : B → Answer → Ask → B → Type 0) (
 turned_all polled bank olds news count over all so_far = (so_far.turns, (record { as_many = so_far.long ∙ all; made = so_far.made }, so_far.yes, so_far.no))
 
 -- a round up to a turn that is refused
-pub turned_short : {B : Type 0} (polled : B → Answer → Ask → B → Type 0) (bank : BankId) (olds mids news : List (Driven B)) (count : ℕ) (over : Bool) → IsTurning polled bank olds mids count over → DoesAt Stays count mids news → MakesRoundShort polled bank olds news
+pub turned_short : {B : Type 0} (polled : B → Answer → Ask → B → Type 0) (bank : BankId) (olds mids news : List (Driven B)) (count : ℕ) (over : Bool) → IsTurning polled bank olds mids count over → DoesAt StaysPut count mids news → MakesRoundShort polled bank olds news
 turned_short {B} polled bank olds mids news count over so_far stays =
-    let G : ℕ → Type 0 = λ n. DoesAt Stays n mids news in
+    let G : ℕ → Type 0 = λ n. DoesAt StaysPut n mids news in
     record { turns = so_far.turns; mids = mids; made = so_far.made; stays = subst G (sym so_far.long) stays }
 
 -- one round more

@@ -14,7 +14,7 @@ use Rattle.lwkt_drive.specs.declared.driven.Driven.{Driven}
 use Rattle.lwkt_program.specs.declared.closings.Closed.{Closed}
 use Rattle.lwkt_program.specs.declared.closings.Gathered.{Gathered}
 use Rattle.lwkt_program.specs.Machines.{Rig}
-use Rattle.lwkt_program.specs.Turns.{DoesAt, Stays}
+use Rattle.lwkt_program.specs.Turns.{DoesAt, StaysPut}
 
 -- a processor stops, and the events by which its trace grows are what its seats at bank and book did; what was told of its driving
 -- stays
@@ -39,7 +39,7 @@ pub record AreStoppedShort {B : Type 0} (olds news : List (Driven B)) : Type 0 w
   pub count : ℕ
   pub mids : List (Driven B)
   pub stopped : HaveStopped count olds mids
-  pub stays : DoesAt Stays count mids news
+  pub stays : DoesAt StaysPut count mids news
 
 -- every thread of every processor has ended
 abbrev pub AreOver : {B : Type 0} → List (Driven B) → Type 0

@@ -9,7 +9,7 @@ use Rattle.lwkt_bank.specs.Views.{RecordOf}
 use Rattle.lwkt_bank.specs.Seats.{BankId}
 use Rattle.lwkt_msg.specs.Desks.{Shelf}
 use Rattle.lwkt_drive.specs.declared.driven.Driven.{Driven}
-use Rattle.lwkt_drive.specs.Course.{IsAt}
+use Rattle.lwkt_drive.specs.Course.{IsAtTables}
 
 -- what callers see of a machine: which bank and which book it has, and its processors, by number, with the events of their turns
 pub record Rig (B : Type 0) : Type 0 where
@@ -33,7 +33,7 @@ AreKept kept lists = All (λ v. All kept v.items) lists
 pub record IsWhole {B : Type 0} (kept : B → Type 0) (seats : ℕ) (bank : BankId) (book : Shelf) (all : List (Driven B)) : Type 0 where
   pub seats_are : seats ≡ length all
   pub mails_are : book.cpus ≡ length all
-  pub places : All (IsAt bank book.table) all
+  pub places : All (IsAtTables bank book.table) all
   pub lasting : All (Lasts kept) all
 
 -- a token's row at the close, with its record and its tallies, meets the law that was declared for it, cell by cell

@@ -24,7 +24,7 @@ pub record Makes {B : Type 0} (polled : B → Answer → Ask → B → Type 0) (
   pub rest : new ≡ record old { cpu = new.cpu; trace = new.trace }
 
 -- nothing has changed of a processor, whose trace may have more room
-pub record Stays {B : Type 0} (old new : Driven B) : Type 0 where
+pub record StaysPut {B : Type 0} (old new : Driven B) : Type 0 where
   pub rest : new ≡ record old { trace = new.trace }
   pub same : HasSameEvents old.trace new.trace
 
@@ -36,7 +36,7 @@ TurnsAt polled bank cpu olds news turned = DoesAt (Makes polled bank turned) cpu
 -- Nothing has changed
 abbrev pub Declines : {B : Type 0} → ℕ → List (Driven B) → List (Driven B) → Fault → Type 0
 Declines cpu olds news Limits = (length olds ≤ cpu) × (news ≡ olds)
-Declines cpu olds news (Memory refused) = DoesAt Stays cpu olds news
+Declines cpu olds news (Memory refused) = DoesAt StaysPut cpu olds news
 Declines cpu olds news _ = ⊥
 
 -- turns of the processors from this number on, by rising number, which return these
@@ -70,7 +70,7 @@ pub record MakesRoundShort {B : Type 0} (polled : B → Answer → Ask → B →
   pub turns : List Turned
   pub mids : List (Driven B)
   pub made : TurnsFrom polled bank 0 olds mids turns
-  pub stays : DoesAt Stays (length turns) mids news
+  pub stays : DoesAt StaysPut (length turns) mids news
 
 -- a machine runs until a turn is refused: the rounds before it stand, fewer than so many, none of which was over
 pub record RunsShort {B : Type 0} (polled : B → Answer → Ask → B → Type 0) (bank : BankId) (limit : ℕ) (olds news : List (Driven B)) : Type 0 where

@@ -2,9 +2,9 @@
 ghost use Rattle.std.specs.Prelude.{◌≡◌, ◌<◌, All, Err, IfErr, IfOk, OnErr, length, option_map, slice_get, true};
 ghost use Rattle.std.specs.List.{AllZip};
 ghost use Rattle.lwkt_bank.specs.Seats.{id_of};
-ghost use Rattle.lwkt_drive.specs.Course.{IsAt, IsDriven};
+ghost use Rattle.lwkt_drive.specs.Course.{IsAtTables, IsDriven};
 ghost use Rattle.lwkt_program.specs.Machines.{Lasts};
-ghost use Rattle.lwkt_program.specs.Turns.{DoesAt, Makes, Stays, TurnsAt};
+ghost use Rattle.lwkt_program.specs.Turns.{DoesAt, Makes, StaysPut, TurnsAt};
 ghost use Rattle.lwkt_base.specs.Fault.{no_memory};
 
 use crate::lasting::Lasting;
@@ -48,12 +48,12 @@ fn turn_one<B: Lasting>(
     book: &MsgBook,
     driven: &mut Driven<B>,
 ) -> Result<Turned, Fault>
-    requires at { IsAt (id_of bank.now) book.now.table driven.old }
+    requires at { IsAtTables (id_of bank.now) book.now.table driven.old }
     requires kept { Lasts B.kept driven.old }
     ensures ok { IfOk result (λ turned. Makes B.polled (id_of bank.now) turned driven.old driven.new) }
-    ensures err { OnErr result (Stays driven.old driven.new) }
+    ensures err { OnErr result (StaysPut driven.old driven.new) }
     ensures only { OnErr result (result ≡ Err no_memory) }
-    ensures at { IsAt (id_of bank.now) book.now.table driven.new }
+    ensures at { IsAtTables (id_of bank.now) book.now.table driven.new }
     ensures kept { Lasts B.kept driven.new }
 {
     driven.cpu.turn(bank, book, &mut driven.trace)
@@ -67,12 +67,12 @@ pub(crate) fn turn_at<B: Lasting>(
     number: usize,
 ) -> Result<Turned, Fault>
     requires there { number < length cpus.old }
-    requires at { All (IsAt (id_of bank.now) book.now.table) cpus.old }
+    requires at { All (IsAtTables (id_of bank.now) book.now.table) cpus.old }
     requires kept { All (Lasts B.kept) cpus.old }
     ensures ok { IfOk result (λ turned. TurnsAt B.polled (id_of bank.now) number cpus.old cpus.new turned) }
-    ensures err { OnErr result (DoesAt Stays number cpus.old cpus.new) }
+    ensures err { OnErr result (DoesAt StaysPut number cpus.old cpus.new) }
     ensures only { OnErr result (result ≡ Err no_memory) }
-    ensures at { All (IsAt (id_of bank.now) book.now.table) cpus.new }
+    ensures at { All (IsAtTables (id_of bank.now) book.now.table) cpus.new }
     ensures kept { All (Lasts B.kept) cpus.new }
     ensures as_many { length cpus.new ≡ length cpus.old }
 {

@@ -2,7 +2,7 @@
 ghost use Rattle.std.specs.Prelude.{◌≡◌, ◌≢◌, ◌⊎◌, true, false, All, Err, IfOk, OnErr, OnOk, List, length};
 ghost use Rattle.lwkt_bank.specs.Seats.{id_of};
 ghost use Rattle.lwkt_cpu.specs.declared.answers.Turned.{Turned as Told};
-ghost use Rattle.lwkt_drive.specs.Course.{IsAt};
+ghost use Rattle.lwkt_drive.specs.Course.{IsAtTables};
 ghost use Rattle.lwkt_program.specs.Machines.{Lasts};
 ghost use Rattle.lwkt_program.specs.Turns.{IsOver, MakesRound, MakesRoundShort, Runs, RunsShort};
 ghost use Rattle.lwkt_base.specs.Fault.{no_memory};
@@ -25,12 +25,12 @@ fn is_still_over(over: bool, turned: Turned) -> bool
 
 // A turn of each processor, by rising number. Says whether every thread has ended.
 fn turn_all<B: Lasting>(bank: &Bank, book: &MsgBook, cpus: &mut [Driven<B>]) -> Result<bool, Fault>
-    requires at { All (IsAt (id_of bank.now) book.now.table) cpus.old }
+    requires at { All (IsAtTables (id_of bank.now) book.now.table) cpus.old }
     requires kept { All (Lasts B.kept) cpus.old }
     ensures ok { IfOk result (λ over. (turns : List Told) × (MakesRound B.polled (id_of bank.now) cpus.old cpus.new turns × (over ≡ true → IsOver turns) × (over ≡ false → ¬ IsOver turns))) }
     ensures err { OnErr result (MakesRoundShort B.polled (id_of bank.now) cpus.old cpus.new) }
     ensures only { OnErr result (result ≡ Err no_memory) }
-    ensures at { All (IsAt (id_of bank.now) book.now.table) cpus.new }
+    ensures at { All (IsAtTables (id_of bank.now) book.now.table) cpus.new }
     ensures kept { All (Lasts B.kept) cpus.new }
     ensures as_many { length cpus.new ≡ length cpus.old }
 {
@@ -49,12 +49,12 @@ fn run_all<B: Lasting>(
     cpus: &mut [Driven<B>],
     rounds: u32,
 ) -> Result<(), Fault>
-    requires at { All (IsAt (id_of bank.now) book.now.table) cpus.old }
+    requires at { All (IsAtTables (id_of bank.now) book.now.table) cpus.old }
     requires kept { All (Lasts B.kept) cpus.old }
     ensures ok { OnOk result (Runs B.polled (id_of bank.now) rounds cpus.old cpus.new) }
     ensures err { OnErr result (RunsShort B.polled (id_of bank.now) rounds cpus.old cpus.new) }
     ensures only { OnErr result (result ≡ Err no_memory) }
-    ensures at { All (IsAt (id_of bank.now) book.now.table) cpus.new }
+    ensures at { All (IsAtTables (id_of bank.now) book.now.table) cpus.new }
     ensures kept { All (Lasts B.kept) cpus.new }
     ensures as_many { length cpus.new ≡ length cpus.old }
 {

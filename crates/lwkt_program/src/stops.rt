@@ -2,10 +2,10 @@
 ghost use Rattle.std.specs.Prelude.{◌≡◌, All, Err, OnErr, OnOk, length};
 ghost use Rattle.lwkt_bank.specs.Seats.{id_of};
 ghost use Rattle.lwkt_cpu.specs.Processors.{AllOver};
-ghost use Rattle.lwkt_drive.specs.Course.{IsAt};
+ghost use Rattle.lwkt_drive.specs.Course.{IsAtTables};
 ghost use Rattle.lwkt_program.specs.Ended.{IsStopped, AreStopped, AreStoppedShort};
 ghost use Rattle.lwkt_program.specs.Machines.{Lasts};
-ghost use Rattle.lwkt_program.specs.Turns.{Stays};
+ghost use Rattle.lwkt_program.specs.Turns.{StaysPut};
 ghost use Rattle.lwkt_base.specs.Fault.{no_memory};
 
 use crate::lasting::Lasting;
@@ -17,12 +17,12 @@ use lwkt_msg::MsgBook;
 
 // A processor stops: its threads end and give up what they hold.
 fn stop_one<B: Lasting>(bank: &Bank, book: &MsgBook, driven: &mut Driven<B>) -> Result<(), Fault>
-    requires at { IsAt (id_of bank.now) book.now.table driven.old }
+    requires at { IsAtTables (id_of bank.now) book.now.table driven.old }
     requires kept { Lasts B.kept driven.old }
     ensures ok { OnOk result (IsStopped driven.old driven.new) }
-    ensures err { OnErr result (Stays driven.old driven.new) }
+    ensures err { OnErr result (StaysPut driven.old driven.new) }
     ensures only { OnErr result (result ≡ Err no_memory) }
-    ensures at { IsAt (id_of bank.now) book.now.table driven.new }
+    ensures at { IsAtTables (id_of bank.now) book.now.table driven.new }
     ensures kept { Lasts B.kept driven.new }
 {
     driven.cpu.stop(bank, book, &mut driven.trace)
@@ -34,12 +34,12 @@ pub(crate) fn stop_all<B: Lasting>(
     book: &MsgBook,
     cpus: &mut [Driven<B>],
 ) -> Result<(), Fault>
-    requires at { All (IsAt (id_of bank.now) book.now.table) cpus.old }
+    requires at { All (IsAtTables (id_of bank.now) book.now.table) cpus.old }
     requires kept { All (Lasts B.kept) cpus.old }
     ensures ok { OnOk result (AreStopped cpus.old cpus.new) }
     ensures err { OnErr result (AreStoppedShort cpus.old cpus.new) }
     ensures only { OnErr result (result ≡ Err no_memory) }
-    ensures at { All (IsAt (id_of bank.now) book.now.table) cpus.new }
+    ensures at { All (IsAtTables (id_of bank.now) book.now.table) cpus.new }
     ensures kept { All (Lasts B.kept) cpus.new }
     ensures as_many { length cpus.new ≡ length cpus.old }
 {

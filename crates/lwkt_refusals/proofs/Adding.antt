@@ -1,10 +1,10 @@
 -- Words behind words.
 use Rattle.std.proofs.Common.{ℕ, List, [], ◌++◌, Bool, Option, None, Some, sym, ◌∙◌, ap, append_assoc, append-nil}
 use Rattle.std.specs.Io.KnownBytes.{Appends}
-use Rattle.lwkt_refusals.specs.Sayings.{Adds}
+use Rattle.lwkt_refusals.specs.Sayings.{SaysMore}
 
 -- nothing is written
-pub adds_nothing : {failed : Bool} {old : Option (List ℕ)} → Adds failed failed old old
+pub adds_nothing : {failed : Bool} {old : Option (List ℕ)} → SaysMore failed failed old old
 adds_nothing {old = None} = record { words = []; behind = tt; stays = λ f. f }
 adds_nothing {old = Some xs} = record { words = []; behind = sym (append-nil xs); stays = λ f. f }
 
@@ -16,5 +16,5 @@ Appends-twice (Some xs) (Some ys) None first second a b = absurd b
 Appends-twice (Some xs) (Some ys) (Some zs) first second a b = b ∙ ap (λ (front : List ℕ). front ++ second) a ∙ append_assoc xs first second
 
 -- words behind words
-pub adds_twice : {f g h : Bool} {old mid new : Option (List ℕ)} → Adds f g old mid → Adds g h mid new → Adds f h old new
+pub adds_twice : {f g h : Bool} {old mid new : Option (List ℕ)} → SaysMore f g old mid → SaysMore g h mid new → SaysMore f h old new
 adds_twice {old = old} {mid = mid} {new = new} a b = record { words = a.words ++ b.words; behind = Appends-twice old mid new a.words b.words a.behind b.behind; stays = λ fine. a.stays (b.stays fine) }

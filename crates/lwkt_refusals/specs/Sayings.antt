@@ -6,7 +6,7 @@ use Rattle.std.specs.declared.io.ErrorKind.TheVariants.{BrokenPipe}
 use Rattle.std.specs.IoError.{error_kind}
 
 -- some words, perhaps none, are written behind what stands; a failure stays one
-pub record Adds (failed failed' : Bool) (old new : Option (List ℕ)) : Type 0 where
+pub record SaysMore (failed failed' : Bool) (old new : Option (List ℕ)) : Type 0 where
   pub words : List ℕ
   pub behind : Appends old new words
   pub stays : failed' ≡ false → failed ≡ false

@@ -1,7 +1,7 @@
 ghost use Rattle.std.specs.Prelude.{◌≡◌, ◌<◌, ◌++◌, [], ◌∷◌, None, IfOk, string_bytes};
 ghost use Rattle.std.specs.Fmt.{decimal};
 ghost use Rattle.lwkt_base.specs.Fault.{fault_message};
-ghost use Rattle.lwkt_refusals.specs.Pages.{Grows};
+ghost use Rattle.lwkt_refusals.specs.Pages.{GrowsBy};
 
 use lwkt_base::{Fault, Law};
 use std::alloc::{AllocError, Global};
@@ -28,7 +28,7 @@ impl Page {
 
     /// Appends a text.
     pub fn add(&mut self, text: &str)
-        ensures { Grows self.old self.new text.now }
+        ensures { GrowsBy self.old self.new text.now }
     {
         if self.lost.is_none() {
             match self.text.push_str(text) {
@@ -40,7 +40,7 @@ impl Page {
 
     /// Appends a character.
     pub fn letter(&mut self, letter: char)
-        ensures { letter < 128 → Grows self.old self.new (letter ∷ []) }
+        ensures { letter < 128 → GrowsBy self.old self.new (letter ∷ []) }
     {
         if self.lost.is_none() {
             match self.text.push(letter) {
@@ -52,7 +52,7 @@ impl Page {
 
     // Appends a number.
     fn digits(&mut self, number: u64)
-        ensures { Grows self.old self.new (decimal number) }
+        ensures { GrowsBy self.old self.new (decimal number) }
     {
         if self.lost.is_none() {
             match write!(self.text, "{number}") {
@@ -64,7 +64,7 @@ impl Page {
 
     /// Appends a text, and a number behind it.
     pub fn number(&mut self, before: &str, number: u64)
-        ensures { Grows self.old self.new (before.now ++ decimal number) }
+        ensures { GrowsBy self.old self.new (before.now ++ decimal number) }
     {
         self.add(before);
         self.digits(number)
@@ -72,7 +72,7 @@ impl Page {
 
     /// Appends a text, and a number of parts behind it.
     pub fn size(&mut self, before: &str, number: usize)
-        ensures { Grows self.old self.new (before.now ++ decimal number) }
+        ensures { GrowsBy self.old self.new (before.now ++ decimal number) }
     {
         self.number(before, number as u64);
     }
@@ -89,7 +89,7 @@ impl Page {
 
     // Appends the message of a fault.
     fn message(&mut self, fault: Fault)
-        ensures { Grows self.old self.new (fault_message fault) }
+        ensures { GrowsBy self.old self.new (fault_message fault) }
     {
         if self.lost.is_none() {
             match write!(self.text, "{fault}") {
@@ -101,7 +101,7 @@ impl Page {
 
     /// Appends a text, and the message of a fault behind it.
     pub fn fault(&mut self, before: &str, fault: Fault)
-        ensures { Grows self.old self.new (before.now ++ fault_message fault) }
+        ensures { GrowsBy self.old self.new (before.now ++ fault_message fault) }
     {
         self.add(before);
         self.message(fault)
@@ -109,7 +109,7 @@ impl Page {
 
     /// Appends what was made on another page.
     pub fn add_page(&mut self, page: &Page)
-        ensures text { Grows self.old self.new (string_bytes page.now.text) }
+        ensures text { GrowsBy self.old self.new (string_bytes page.now.text) }
         ensures kept { self.new.lost ≡ None → page.now.lost ≡ None }
     {
         self.add(page.text.as_str());

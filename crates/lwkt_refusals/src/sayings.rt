@@ -1,6 +1,6 @@
 //! What a program says where its errors go, beside its line.
 ghost use Rattle.std.specs.Prelude.{◌↔◌, IsTrue};
-ghost use Rattle.lwkt_refusals.specs.Sayings.{Adds, HasNoReader};
+ghost use Rattle.lwkt_refusals.specs.Sayings.{SaysMore, HasNoReader};
 
 use crate::pages::Page;
 use crate::refusals::{Document, line_refusal, refusal};
@@ -62,7 +62,7 @@ pub enum Speaker {
 
 // Writes a text. What can't be written is let go.
 fn put<E: Sink>(errors: &mut E, text: &str)
-    ensures { Adds (E.has_failed errors.old) (E.has_failed errors.new) (E.contents errors.old) (E.contents errors.new) }
+    ensures { SaysMore (E.has_failed errors.old) (E.has_failed errors.new) (E.contents errors.old) (E.contents errors.new) }
 {
     let _ = write_whole(errors, text.as_bytes());
 }
@@ -116,7 +116,7 @@ impl Speaker {
 
     // Writes a line. What can't be written is let go.
     fn say<E: Sink>(self, errors: &mut E, text: &str)
-        ensures { Adds (E.has_failed errors.old) (E.has_failed errors.new) (E.contents errors.old) (E.contents errors.new) }
+        ensures { SaysMore (E.has_failed errors.old) (E.has_failed errors.new) (E.contents errors.old) (E.contents errors.new) }
     {
         put(errors, self.name());
         put(errors, text);
@@ -135,7 +135,7 @@ impl Speaker {
 
     /// Says how the program is called.
     pub fn say_usage<E: Sink>(self, errors: &mut E)
-        ensures { Adds (E.has_failed errors.old) (E.has_failed errors.new) (E.contents errors.old) (E.contents errors.new) }
+        ensures { SaysMore (E.has_failed errors.old) (E.has_failed errors.new) (E.contents errors.old) (E.contents errors.new) }
     {
         put(errors, self.usage());
     }
@@ -148,7 +148,7 @@ impl Speaker {
         bytes: Option<&[u8]>,
         fault: Fault,
     )
-        ensures { Adds (E.has_failed errors.old) (E.has_failed errors.new) (E.contents errors.old) (E.contents errors.new) }
+        ensures { SaysMore (E.has_failed errors.old) (E.has_failed errors.new) (E.contents errors.old) (E.contents errors.new) }
     {
         let words = match bytes {
             Some(bytes) => self.words(alloc, bytes, fault).ok(),
@@ -169,7 +169,7 @@ impl Speaker {
         line: &[u8],
         place: u32,
     )
-        ensures { Adds (E.has_failed errors.old) (E.has_failed errors.new) (E.contents errors.old) (E.contents errors.new) }
+        ensures { SaysMore (E.has_failed errors.old) (E.has_failed errors.new) (E.contents errors.old) (E.contents errors.new) }
     {
         match line_refusal(alloc, number, line, place) {
             Ok(text) => self.say(errors, text.as_str()),
@@ -179,14 +179,14 @@ impl Speaker {
 
     /// Says that there is no memory to say why something is refused.
     pub fn say_no_words<E: Sink>(self, errors: &mut E)
-        ensures { Adds (E.has_failed errors.old) (E.has_failed errors.new) (E.contents errors.old) (E.contents errors.new) }
+        ensures { SaysMore (E.has_failed errors.old) (E.has_failed errors.new) (E.contents errors.old) (E.contents errors.new) }
     {
         self.say(errors, "there is no memory to say why it is refused");
     }
 
     /// Says that there was no memory.
     pub fn say_memory<E: Sink>(self, errors: &mut E)
-        ensures { Adds (E.has_failed errors.old) (E.has_failed errors.new) (E.contents errors.old) (E.contents errors.new) }
+        ensures { SaysMore (E.has_failed errors.old) (E.has_failed errors.new) (E.contents errors.old) (E.contents errors.new) }
     {
         match self {
             Speaker::Run | Speaker::Check => self.say(errors, "out of memory"),
@@ -196,7 +196,7 @@ impl Speaker {
 
     /// Says what is the matter where the arguments can't be told: no memory, or how the program is called.
     pub fn say_arguments<E: Sink>(self, errors: &mut E, memory: bool)
-        ensures { Adds (E.has_failed errors.old) (E.has_failed errors.new) (E.contents errors.old) (E.contents errors.new) }
+        ensures { SaysMore (E.has_failed errors.old) (E.has_failed errors.new) (E.contents errors.old) (E.contents errors.new) }
     {
         if memory {
             self.say_memory(errors);
@@ -213,7 +213,7 @@ impl Speaker {
         text: &str,
         error: &Option<io::Error>,
     )
-        ensures { Adds (E.has_failed errors.old) (E.has_failed errors.new) (E.contents errors.old) (E.contents errors.new) }
+        ensures { SaysMore (E.has_failed errors.old) (E.has_failed errors.new) (E.contents errors.old) (E.contents errors.new) }
     {
         let Some(error) = error else {
             return self.say(errors, text);
@@ -229,14 +229,14 @@ impl Speaker {
 
     /// Says that a read failed, and why.
     pub fn say_unread<E: Sink>(self, alloc: Global, errors: &mut E, error: &Option<io::Error>)
-        ensures { Adds (E.has_failed errors.old) (E.has_failed errors.new) (E.contents errors.old) (E.contents errors.new) }
+        ensures { SaysMore (E.has_failed errors.old) (E.has_failed errors.new) (E.contents errors.old) (E.contents errors.new) }
     {
         self.say_failure(alloc, errors, self.read_failure(), error);
     }
 
     /// Says that a write failed, and why; nothing where nobody reads any more what is written.
     pub fn say_unwritten<E: Sink>(self, alloc: Global, errors: &mut E, error: &Option<io::Error>)
-        ensures { Adds (E.has_failed errors.old) (E.has_failed errors.new) (E.contents errors.old) (E.contents errors.new) }
+        ensures { SaysMore (E.has_failed errors.old) (E.has_failed errors.new) (E.contents errors.old) (E.contents errors.new) }
     {
         if !has_no_reader(error) {
             self.say_failure(alloc, errors, self.write_failure(), error);

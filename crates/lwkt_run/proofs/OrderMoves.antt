@@ -7,7 +7,7 @@ use Rattle.lwkt_port.specs.Chains.{Chain}
 use Rattle.lwkt_port.proofs.Chaining.{chain_none, chain_more}
 use Rattle.lwkt_machine.proofs.SightMoves.{zip_long, sent_looked}
 use Rattle.lwkt_verdict.specs.Run.{whose, GoesRound}
-use Rattle.lwkt_run.specs.Running.{Scene, scene, Going, going, TakesTurn, MakesTurnAt, MakesTurns, MakesRound, HasMadeRounds}
+use Rattle.lwkt_run.specs.Running.{Scene, scene, Going, going, TakesTurn, MakesTurnAt, MakesTurns, MakesKeptRound, HasMadeRounds}
 use Rattle.lwkt_run.specs.Keeping.{none_kept}
 use Rattle.lwkt_run.specs.Orders.{RoundsAreAnOrder}
 use Rattle.lwkt_run.proofs.IdMoves.{opened_has}
@@ -39,7 +39,7 @@ abbrev GoTurns : ℕ → ℕ → Scene → Scene → Type 0
 GoTurns cpus n x y = Chain Scene (λ k. MakesTurnAt (k % cpus)) n x y
 
 -- a round behind so many others
-one_round : (over : Bool) (number cpus count : ℕ) (x y : Scene) → length x.machine.cpus ≡ cpus → MakesRound over number x y → Chain Scene (λ j. MakesTurnAt ((count * cpus + j) % cpus)) cpus x y
+one_round : (over : Bool) (number cpus count : ℕ) (x y : Scene) → length x.machine.cpus ≡ cpus → MakesKeptRound over number x y → Chain Scene (λ j. MakesTurnAt ((count * cpus + j) % cpus)) cpus x y
 one_round over number cpus count x y same round =
     let f : Going → Scene = λ z. z.at in
     let T : ℕ → Scene → Scene → Type 0 = λ j. MakesTurnAt ((count * cpus + j) % cpus) in
@@ -55,7 +55,7 @@ turn_keeps cpus cpu x y turn same =
     let d = turn.1.makes in
     ap length d.turns.cpus ∙ length-set d.seen cpu d.turns.now ∙ zip_long _ x.machine.cpus d.seen (sent_looked cpu x.machine.cpus d.seen d.sees) ∙ same
 
-keeps_round : (cpus : ℕ) (over : Bool) (number : ℕ) (x y : Scene) → MakesRound over number x y → length x.machine.cpus ≡ cpus → length y.machine.cpus ≡ cpus
+keeps_round : (cpus : ℕ) (over : Bool) (number : ℕ) (x y : Scene) → MakesKeptRound over number x y → length x.machine.cpus ≡ cpus → length y.machine.cpus ≡ cpus
 keeps_round cpus over number x y round same = round_keeps (λ z. length z.machine.cpus ≡ cpus) (turn_keeps cpus) over number x y round same
 
 -- a scene after so many rounds
@@ -63,7 +63,7 @@ record Turned (cpus count : ℕ) (x y : Scene) : Type 0 where
   pub turns : GoTurns cpus (count * cpus) x y
   pub same : length y.machine.cpus ≡ cpus
 
-turned_more : (over : Bool) (number cpus count : ℕ) (x y z : Scene) → Turned cpus count x y → MakesRound over number y z → Turned cpus (count + 1) x z
+turned_more : (over : Bool) (number cpus count : ℕ) (x y z : Scene) → Turned cpus count x y → MakesKeptRound over number y z → Turned cpus (count + 1) x z
 turned_more over number cpus count x y z turned round =
     let e : count * cpus + cpus ≡ (count + 1) * cpus = omega arith in
     let F : ℕ → Type 0 = λ n. GoTurns cpus n x z in
@@ -72,7 +72,7 @@ turned_more over number cpus count x y z turned round =
       same = keeps_round cpus over number y z round turned.same;
     }
 
-rounds_turned : (cpus : ℕ) (count : ℕ) (x y : Scene) → length x.machine.cpus ≡ cpus → Chain Scene (MakesRound false) count x y → Turned cpus count x y
+rounds_turned : (cpus : ℕ) (count : ℕ) (x y : Scene) → length x.machine.cpus ≡ cpus → Chain Scene (MakesKeptRound false) count x y → Turned cpus count x y
 unfolding Chain
 rounds_turned cpus zero x y same chain =
     let F : Scene → Type 0 = λ z. Turned cpus zero x z in

@@ -33,7 +33,7 @@ use Rattle.lwkt_script.specs.declared.scripts.ThreadSpec.{ThreadSpec}
 use Rattle.lwkt_script.specs.Format.{threads_on}
 use Rattle.lwkt_threads.specs.Driven.{WasDriven, AreDriven}
 use Rattle.lwkt_verdict.specs.Run.{whose}
-use Rattle.lwkt_run.specs.Running.{HasThreads, Scene, Going, going, says_over, both, TakesTurn, MakesTurnAt, MakesTurns, MakesRound, HasMadeRounds}
+use Rattle.lwkt_run.specs.Running.{HasThreads, Scene, Going, going, says_over, both, TakesTurn, MakesTurnAt, MakesTurns, MakesKeptRound, HasMadeRounds}
 
 -- what each step of a chain keeps, the chain keeps
 chain_keeps : (A : Type 0) (Step : ℕ → A → A → Type 0) (P : A → Type 0) → ((k : ℕ) (x y : A) → Step k x y → P x → P y) → (n : ℕ) (x y : A) → Chain A Step n x y → P x → P y
@@ -99,18 +99,18 @@ has_turn : (cpus : ℕ) (threads : List ThreadSpec) (cpu : ℕ) (x y : Scene) �
 has_turn cpus threads cpu x y turn has = has_turned cpus threads cpu x.machine y.machine x.trace y.trace turn.0 turn.1.makes has
 
 -- what each turn keeps, a round keeps
-pub round_keeps : (P : Scene → Type 0) → ((cpu : ℕ) (x y : Scene) → MakesTurnAt cpu x y → P x → P y) → (over : Bool) (number : ℕ) (x y : Scene) → MakesRound over number x y → P x → P y
+pub round_keeps : (P : Scene → Type 0) → ((cpu : ℕ) (x y : Scene) → MakesTurnAt cpu x y → P x → P y) → (over : Bool) (number : ℕ) (x y : Scene) → MakesKeptRound over number x y → P x → P y
 round_keeps P keeps over number x y round p = chain_keeps Going TakesTurn (λ z. P z.at) (λ cpu v w turn q. keeps cpu v.at w.at (turn.0, turn.1.0) q) (length x.machine.cpus) (going x true) (going y over) round p
 
 -- the rounds of a run too
 pub rounds_keep : (P : Scene → Type 0) → ((cpu : ℕ) (x y : Scene) → MakesTurnAt cpu x y → P x → P y) → (limit : ℕ) (x y : Scene) → HasMadeRounds limit x y → P x → P y
 rounds_keep P keeps limit x y rounds p =
-    let go : (k : ℕ) (v w : Scene) → MakesRound false k v w → P v → P w = λ k v w round q. round_keeps P keeps false k v w round q in
+    let go : (k : ℕ) (v w : Scene) → MakesKeptRound false k v w → P v → P w = λ k v w round q. round_keeps P keeps false k v w round q in
     elim rounds [
       | inl ended ↦
           let e = ended.1.1 in
-          round_keeps P keeps true ended.0 e.mid y e.last (chain_keeps Scene (MakesRound false) P go ended.0 x e.mid e.earlier p)
-      | inr whole ↦ chain_keeps Scene (MakesRound false) P go limit x y whole p
+          round_keeps P keeps true ended.0 e.mid y e.last (chain_keeps Scene (MakesKeptRound false) P go ended.0 x e.mid e.earlier p)
+      | inr whole ↦ chain_keeps Scene (MakesKeptRound false) P go limit x y whole p
     ]
 
 -- and the turns of an order

@@ -26,7 +26,7 @@ use Rattle.lwkt_report.specs.declared.closings.ThreadLine.{ThreadLine}
 use Rattle.lwkt_report.specs.declared.closings.Verdict.{Verdict}
 use Rattle.lwkt_report.specs.declared.closings.Verdict.TheVariants.{Closed, Lawful, Unlawful}
 use Rattle.lwkt_script.specs.declared.scripts.Script.{Script}
-use Rattle.lwkt_run.specs.Telling.{AreTold, opening_rows, closing_rows, IsVerdictOn}
+use Rattle.lwkt_run.specs.Telling.{TellChains, opening_rows, closing_rows, IsVerdictOn}
 use Rattle.lwkt_run.specs.Threaded.{RunsOnThreads, EndsOnThreads}
 use Rattle.lwkt_run.specs.Values.{AreValuesOf}
 use Rattle.lwkt_run.proofs.ChainMoves.{opens_open, free_open, without_messages, tokens_chain}
@@ -79,7 +79,7 @@ module _ (answers : CpuId → ℕ → Bool → Type 0) (script : Script) (lines 
       (IsPermutation-trans _ _ _ same ends.told) ends.sorted
 
   -- so it is in order, and chains
-  pub told_in_order : AreTold (opening script.cpus script.tokens []) ends.runs.traces ends.runs.stops.items last sections
+  pub told_in_order : TellChains (opening script.cpus script.tokens []) ends.runs.traces ends.runs.stops.items last sections
   told_in_order =
       let r = ends.runs in
       let m : Machine = opening script.cpus script.tokens [] in
@@ -96,7 +96,7 @@ closed_on Closed first last sections long on ordered chains = refl
 closed_on (Unlawful index) first last sections long on ordered chains = absurd (refutes first last sections index long on (ordered, chains))
 closed_on Lawful first last sections long on ordered chains = absurd on
 
-pub told_closed : (cpus : ℕ) (specs : List TokSpec) (traces : List (Vec Event Global)) (stops : List Event) (last : Final) (sections : List Section) (verdict : Verdict) → AreValuesOf specs last → AreTold (opening cpus specs []) traces stops last sections → IsVerdictOn verdict (opening_rows specs) (closing_rows last) sections → verdict ≡ Closed
+pub told_closed : (cpus : ℕ) (specs : List TokSpec) (traces : List (Vec Event Global)) (stops : List Event) (last : Final) (sections : List Section) (verdict : Verdict) → AreValuesOf specs last → TellChains (opening cpus specs []) traces stops last sections → IsVerdictOn verdict (opening_rows specs) (closing_rows last) sections → verdict ≡ Closed
 told_closed cpus specs traces stops last sections verdict values told on =
     let long = as_many_rows specs last.rows.items last.gens.items values.rows (values.gens ∙ sym values.rows) in
     closed_on verdict (opening_rows specs) (closing_rows last) sections long on told.ordered

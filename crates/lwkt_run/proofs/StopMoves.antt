@@ -13,7 +13,7 @@ use Rattle.lwkt_cpu.specs.Processors.{Processor}
 use Rattle.lwkt_lane.proofs.PlaceMoves.{some_same, get_there, get_set_same, get_set_other}
 use Rattle.lwkt_drive.specs.declared.driven.Limits.{Limits}
 use Rattle.lwkt_machine.specs.Bodies.{Scripted}
-use Rattle.lwkt_machine.specs.Ended.{Stage, stage, StopsAt, StopsAll}
+use Rattle.lwkt_machine.specs.Ended.{Stage, stage, StopsCpu, StopsAll}
 use Rattle.lwkt_machine.specs.Machines.{Rig}
 use Rattle.lwkt_machine.specs.Opened.{IsOpenedMachine}
 use Rattle.lwkt_script.specs.declared.scripts.Script.{Script}
@@ -37,7 +37,7 @@ driven_number answers limits script opened driven traces opens drives k q at =
     ap (λ (x : Processor Scripted). x.seat.cpu.0) (sym w.cpu) ∙ ap (λ (c : CpuId). c.0) w.driven.seat ∙ ap (λ (x : Processor Scripted). x.seat.cpu.0) w.fresh.cpu ∙ (opens.each k p.0 p.1).seat.number
 
 -- one of them stops
-of_them_step : (n k : ℕ) (x y : Stage) → StopsAt k x y → IsOfThem n x → IsOfThem n y
+of_them_step : (n k : ℕ) (x y : Stage) → StopsCpu k x y → IsOfThem n x → IsOfThem n y
 of_them_step n k x y stops of =
     let p = stops.0 in
     let q = stops.1.0 in
@@ -65,7 +65,7 @@ of_them_step n k x y stops of =
           subst F (sym s.ran.trace) (All-append P x.trace.items s.ran.done of.own more);
     }
 
-of_them_chain : (n k : ℕ) (x y : Stage) → Chain Stage StopsAt k x y → IsOfThem n x → IsOfThem n y
+of_them_chain : (n k : ℕ) (x y : Stage) → Chain Stage StopsCpu k x y → IsOfThem n x → IsOfThem n y
 unfolding Chain
 of_them_chain n zero x y chain of = subst (IsOfThem n) (sym chain) of
 of_them_chain n (suc k) x y chain of = of_them_step n k chain.0 y chain.2 (of_them_chain n k x chain.0 chain.1 of)

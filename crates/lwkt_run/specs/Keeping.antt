@@ -49,7 +49,7 @@ abbrev pub turn_of : Option Polled → ℕ → ℕ → Turn
 turn_of asks events before = record { poll = option_map (λ p. min before 4294967295) asks; events = events }
 
 -- a turn of a processor is kept: its processor, its number of events and its poll, and nothing else changes
-pub record Keeps (cpu events : ℕ) (asks : Option Polled) (old new : Kept) : Type 0 where
+pub record KeepsTurn (cpu events : ℕ) (asks : Option Polled) (old new : Kept) : Type 0 where
   pub order : new.order ≡ old.order ++ cpu ∷ []
   pub turns : new.turns ≡ old.turns ++ turn_of asks events (length old.polls) ∷ []
   pub polls : new.polls ≡ polls_after asks old.polls

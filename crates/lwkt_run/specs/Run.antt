@@ -206,8 +206,8 @@ TellsBy Run left old new (Err (Fault fault)) = Keeps old new × ((bytes : List �
 TellsBy Run left old new (Err Stream) = Keeps old new ⊎ ((bytes : List ℕ) × (AreRead left bytes × ((end : End) × ((text : List ℕ) × (Run bytes end text × AppendsFront old new text)))))
 
 -- the same of a run in rounds
-abbrev pub Tells : Option (List ℕ) → Option (List ℕ) → Option (List ℕ) → Result End RunFault → Type 0
-Tells left old new answer = TellsBy HasRun left old new answer
+abbrev pub TellsRounds : Option (List ℕ) → Option (List ℕ) → Option (List ℕ) → Result End RunFault → Type 0
+TellsRounds left old new answer = TellsBy HasRun left old new answer
 
 -- what a run's end says by its answer, of what was written before and after it: its report was written whole, or a front of it where
 -- the stream failed; of a refused run nothing
@@ -234,7 +234,7 @@ SaysAfterRun failed old new (Err fault) = IsSaid failed old new (fault_line RunP
 -- what the program does where its one argument is right: it runs, answers the status and writes the line; it blames a stream only
 -- where one has failed
 abbrev pub RunsAs : Bool → Bool → Option (List ℕ) → Option (List ℕ) → Option (List ℕ) → ℕ → Type 0
-RunsAs source_failed sink_failed left old new status = (outcome : Result End RunFault) × ((mid : Option (List ℕ)) × (Tells left old mid outcome × (SaysAfterRun sink_failed mid new outcome × (BlamesFailed source_failed sink_failed outcome × (status ≡ exit_status outcome)))))
+RunsAs source_failed sink_failed left old new status = (outcome : Result End RunFault) × ((mid : Option (List ℕ)) × (TellsRounds left old mid outcome × (SaysAfterRun sink_failed mid new outcome × (BlamesFailed source_failed sink_failed outcome × (status ≡ exit_status outcome)))))
 
 -- the arguments are the one word `turns`
 abbrev pub AsksTurns : List (String Global) → Type 0

@@ -18,7 +18,7 @@ use Rattle.lwkt_script.specs.Format.{threads_on}
 use Rattle.lwkt_verdict.specs.Run.{whose}
 use Rattle.lwkt_run.specs.declared.polled.Polled.{Polled}
 use Rattle.lwkt_run.specs.declared.records.Record.{Record}
-use Rattle.lwkt_run.specs.Keeping.{Kept, kept_as, Keeps}
+use Rattle.lwkt_run.specs.Keeping.{Kept, kept_as, KeepsTurn}
 
 -- so many processors, each with as many threads as a script has on it
 pub record HasThreads (cpus : ℕ) (threads : List ThreadSpec) (processors : List (Processor Scripted)) : Type 0 where
@@ -52,11 +52,11 @@ pub record IsPolledAt (m : Rig) (cpu thread : ℕ) (p : Polled) : Type 0 where
 
 -- what a turn of a processor asked, by its answer and the machine that it left: nothing where it ran no thread, else what the thread
 -- was told and asked that ran
-abbrev pub HasAsked : ℕ → Rig → Turned → Option Polled → Type 0
-HasAsked cpu m (Ran thread) None = ⊥
-HasAsked cpu m (Ran thread) (Some p) = IsPolledAt m cpu thread p
-HasAsked cpu m Idle asks = asks ≡ None
-HasAsked cpu m AllExited asks = asks ≡ None
+abbrev pub HasBeenAsked : ℕ → Rig → Turned → Option Polled → Type 0
+HasBeenAsked cpu m (Ran thread) None = ⊥
+HasBeenAsked cpu m (Ran thread) (Some p) = IsPolledAt m cpu thread p
+HasBeenAsked cpu m Idle asks = asks ≡ None
+HasBeenAsked cpu m AllExited asks = asks ≡ None
 
 -- a thread that is there was polled; and so was the one that a turn ran, which is one of a processor's 16 threads
 abbrev pub WasPolled : Rig → ℕ → ℕ → Type 0
@@ -87,8 +87,8 @@ pub record MakesKeptTurn (cpu : ℕ) (turned : Turned) (x y : Scene) : Type 0 wh
   pub events : ℕ
   pub grown : length y.trace.items ≡ length x.trace.items + events
   pub asks : Option Polled
-  pub has_asked : HasAsked cpu y.machine turned asks
-  pub keeps : Keeps cpu events asks x.kept y.kept
+  pub has_asked : HasBeenAsked cpu y.machine turned asks
+  pub keeps : KeepsTurn cpu events asks x.kept y.kept
 
 -- the processor of this number makes a turn
 abbrev pub MakesTurnAt : ℕ → Scene → Scene → Type 0
@@ -125,23 +125,23 @@ TakesTurn cpu x y = (turned : Turned) × (MakesKeptTurn cpu turned x.at y.at × 
 
 -- a round: each processor makes one turn, by rising number; it is over exactly if each of these turns says that every thread of its
 -- processor has ended
-abbrev pub MakesRound : Bool → ℕ → Scene → Scene → Type 0
-MakesRound over number x y = Chain Going TakesTurn (length x.machine.cpus) (going x true) (going y over)
+abbrev pub MakesKeptRound : Bool → ℕ → Scene → Scene → Type 0
+MakesKeptRound over number x y = Chain Going TakesTurn (length x.machine.cpus) (going x true) (going y over)
 
 -- so many rounds, none of which was over
 abbrev pub GoRounds : ℕ → Scene → Scene → Type 0
-GoRounds count x y = Chain Scene (MakesRound false) count x y
+GoRounds count x y = Chain Scene (MakesKeptRound false) count x y
 
 -- a round was made, and told whether it was over; if it was, every thread of each processor has ended
 pub record RoundTold (x y : Scene) (over : Bool) : Type 0 where
-  pub round : MakesRound over 0 x y
+  pub round : MakesKeptRound over 0 x y
   pub over_is : over ≡ true → AreOver y.machine.cpus
 
 -- so many rounds that weren't over, and then one that was: every thread of each processor has ended
 pub record EndRounds (count : ℕ) (x y : Scene) : Type 0 where
   pub mid : Scene
   pub earlier : GoRounds count x mid
-  pub last : MakesRound true count mid y
+  pub last : MakesKeptRound true count mid y
   pub over : AreOver y.machine.cpus
 
 -- rounds were made up to the first that was over, or so many as the limit says, none of which was over

@@ -37,7 +37,7 @@ IsVerdictOn Lawful first last sections = ⊥
 
 -- sections are the written ones that traces and a stop tell, in order, and chains: of each token one, generation by generation, from
 -- its row in a machine to its closing row
-pub record AreTold (m : Machine) (traces : List (Vec Event Global)) (stops : List Event) (last : Final) (sections : List Section) : Type 0 where
+pub record TellChains (m : Machine) (traces : List (Vec Event Global)) (stops : List Event) (last : Final) (sections : List Section) : Type 0 where
   pub told : IsPermutation (sections_of_all traces stops) sections
   pub ordered : AreInOrder sections
   pub chains : AreSectionChains (rows_of m) (closing_rows last) sections

@@ -27,7 +27,7 @@ use Rattle.lwkt_run.specs.declared.runs.End.{End}
 use Rattle.lwkt_run.specs.declared.threaded.ThreadRecord.{ThreadRecord}
 use Rattle.lwkt_run.specs.Chains.{WritesChains}
 use Rattle.lwkt_run.specs.Joining.{AreOneRun}
-use Rattle.lwkt_run.specs.Telling.{sections_of_all, AreSorted, AreTold}
+use Rattle.lwkt_run.specs.Telling.{sections_of_all, AreSorted, TellChains}
 use Rattle.lwkt_run.specs.Judging.{ids_of}
 use Rattle.lwkt_run.specs.Leaving.{Leaves}
 use Rattle.lwkt_run.specs.Running.{ShowThreads}
@@ -77,7 +77,7 @@ pub record MayCloseOnThreads (answers : CpuId → ℕ → Bool → Type 0) (scri
   pub runs : RunsOnThreads answers script closing.threads.items last
   pub chains : WritesChains (opening script.cpus script.tokens []) (events_in runs.tells.tokens.history) last
   pub sections : List Section
-  pub told : AreTold (opening script.cpus script.tokens []) runs.traces runs.stops.items last sections
+  pub told : TellChains (opening script.cpus script.tokens []) runs.traces runs.stops.items last sections
   pub written : sections ≡ sections_in (opening script.cpus script.tokens []) (events_in runs.tells.tokens.history)
 
 -- what was kept of a run of the script on threads: what its report shows, and the written sections that its traces and its stop tell,

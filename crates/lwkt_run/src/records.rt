@@ -34,7 +34,7 @@ fn place_behind(before: usize) -> u32
 impl Record {
     ghost use Rattle.std.specs.Prelude.{IfSome, OnOk, option_map};
     ghost use Rattle.lwkt_verdict.specs.Threads.{slot_of};
-    ghost use Rattle.lwkt_run.specs.Keeping.{polled_of, none_kept, kept_as, polls_answered, polls_after, Keeps};
+    ghost use Rattle.lwkt_run.specs.Keeping.{polled_of, none_kept, kept_as, polls_answered, polls_after, KeepsTurn};
 
     /// Nothing kept yet. Takes no memory.
     pub fn new(alloc: Global) -> Self
@@ -92,7 +92,7 @@ impl Record {
         asks: Option<PolledRef<'_>>,
     ) -> Result<(), AllocError>
         requires { IfSome asks (λ p. slot_of p.thread < 128) }
-        ensures { OnOk result (Keeps cpu events (option_map polled_of asks.entry) (kept_as self.old.order.items self.old.turns.items self.old.polls) (kept_as self.new.order.items self.new.turns.items self.new.polls)) }
+        ensures { OnOk result (KeepsTurn cpu events (option_map polled_of asks.entry) (kept_as self.old.order.items self.old.turns.items self.old.polls) (kept_as self.new.order.items self.new.turns.items self.new.polls)) }
     {
         let before = self.polls.len();
         let poll = match asks {

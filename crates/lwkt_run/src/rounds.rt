@@ -3,7 +3,7 @@ ghost use Rattle.std.specs.Prelude.{◌≡◌, ◌<◌, ◌≤◌, ◌++◌, All
 ghost use Rattle.lwkt_cpu.specs.declared.answers.Turned.{Turned};
 ghost use Rattle.lwkt_verdict.specs.Threads.{slot_of};
 ghost use Rattle.lwkt_run.specs.Keeping.{polled_of};
-ghost use Rattle.lwkt_run.specs.Running.{WasPolled, HasPolled, IsPolledAt, HasAsked, MakesKeptTurn, kept_in_record, scene, says_over, both as both_so, RoundTold, HasMadeRounds, MakesTurns};
+ghost use Rattle.lwkt_run.specs.Running.{WasPolled, HasPolled, IsPolledAt, HasBeenAsked, MakesKeptTurn, kept_in_record, scene, says_over, both as both_so, RoundTold, HasMadeRounds, MakesTurns};
 ghost use Rattle.lwkt_base.specs.Fault.{no_memory};
 
 use crate::polled::PolledRef;
@@ -35,7 +35,7 @@ fn polled_at(machine: &Machine, cpu: usize, thread: usize) -> PolledRef<'_>
 fn asks_of(machine: &Machine, cpu: usize, turned: Turned) -> Option<PolledRef<'_>>
     requires processor { cpu < 8 }
     requires polled { HasPolled cpu machine.now turned }
-    ensures asked { HasAsked cpu machine.now turned (option_map polled_of result) }
+    ensures asked { HasBeenAsked cpu machine.now turned (option_map polled_of result) }
     ensures within { IfSome result (λ p. slot_of p.thread < 128) }
 {
     match turned {

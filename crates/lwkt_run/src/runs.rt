@@ -6,7 +6,7 @@ ghost use Rattle.lwkt_machine.specs.Opened.{AreFew};
 ghost use Rattle.lwkt_run.specs.Judging.{ids_of};
 ghost use Rattle.lwkt_run.specs.Running.{kept_in_record};
 ghost use Rattle.lwkt_run.specs.Values.{is_tally, AreValuesOf};
-ghost use Rattle.lwkt_run.specs.Run.{opening_of_script, RunsInRounds, RunsAlong, RunsAt, IsJudgedBy, MayClose, IsTurnsRun, IsOrderRun, DeclinesAlong, RefusesAlong, end_told, HasRun, Declines, Refuses, Tells};
+ghost use Rattle.lwkt_run.specs.Run.{opening_of_script, RunsInRounds, RunsAlong, RunsAt, IsJudgedBy, MayClose, IsTurnsRun, IsOrderRun, DeclinesAlong, RefusesAlong, end_told, HasRun, Declines, Refuses, TellsRounds};
 
 use crate::endings::{Left, left_by};
 use crate::lines::token_lines;
@@ -286,7 +286,7 @@ pub fn run_turns<S: Source, K: Sink>(
     source: &mut S,
     sink: &mut K,
 ) -> Result<End, RunFault>
-    ensures tells { Tells (S.left source.old) (K.contents sink.old) (K.contents sink.new) result }
+    ensures tells { TellsRounds (S.left source.old) (K.contents sink.old) (K.contents sink.new) result }
     ensures stream { result ≡ Err RunFault.Stream → IsTrue (S.has_failed source.new) ⊎ IsTrue (K.has_failed sink.new) }
 {
     let bytes = match read_capped(alloc, source) {

@@ -2,11 +2,11 @@
 use Rattle.std.proofs.Common.{◌≡◌, ℕ, suc, zero, List, [], ◌∷◌, ◌++◌, Bool, true, false, ◌&&◌, take, refl}
 use Rattle.std.specs.List.{list_all}
 use Rattle.lwkt_refusals.specs.declared.pages.Page.{Page}
-use Rattle.lwkt_refusals.specs.Pages.{Grows}
+use Rattle.lwkt_refusals.specs.Pages.{GrowsBy}
 use Rattle.lwkt_refusals.proofs.Growing.{grows_twice}
 
 -- a text behind a text
-pub joined : {old mid new : Page} {first second : List ℕ} → Grows old mid first → Grows mid new second → Grows old new (first ++ second)
+pub joined : {old mid new : Page} {first second : List ℕ} → GrowsBy old mid first → GrowsBy mid new second → GrowsBy old new (first ++ second)
 joined {old = old} {mid = mid} {new = new} {first = first} {second = second} a b = grows_twice old mid new first second a b
 
 and_kept : (a b c : Bool) → (a && b) ≡ true → (b ≡ true → c ≡ true) → (a && c) ≡ true

@@ -7,21 +7,21 @@ use Rattle.lwkt_scenes.specs.Words.{ask_text, ask_word, flags_number}
 use Rattle.lwkt_scenes.specs.Lines.{IsLine}
 
 -- a turn as its line tells it: its number, its round, its processor, and its poll if it has one
-pub record Told : Type 0 where
+pub record TurnTold : Type 0 where
   pub number : ℕ
   pub round : ℕ
   pub cpu : ℕ
   pub poll : Option Poll
 
 -- the numbers of a turn are some of a word each
-pub record AreWords (turn : Told) : Type 0 where
+pub record AreWords (turn : TurnTold) : Type 0 where
   pub number : turn.number < 2 ^ 64
   pub round : turn.round < 2 ^ 64
   pub cpu : turn.cpu < 2 ^ 64
   pub poll : IfSome turn.poll (λ poll. (poll.thread.cpu.0 < 2 ^ 64) × (poll.thread.thread < 2 ^ 64))
 
 -- a line is that of a turn
-abbrev pub IsLineOf : Told → List ℕ → Type 0
+abbrev pub IsLineOf : TurnTold → List ℕ → Type 0
 IsLineOf turn line = IsLine turn.number turn.round turn.cpu turn.poll line
 
 -- two polls are of one thread, and their asks have one word, and are the same step of a script
@@ -38,7 +38,7 @@ PollAlike (Some one) None = ⊥
 PollAlike (Some one) (Some other) = AskAlike one other
 
 -- two turns are alike in all that a line tells of them for certain
-pub record AreAlike (one other : Told) : Type 0 where
+pub record AreAlike (one other : TurnTold) : Type 0 where
   pub number : one.number ≡ other.number
   pub round : one.round ≡ other.round
   pub cpu : one.cpu ≡ other.cpu
@@ -46,7 +46,7 @@ pub record AreAlike (one other : Told) : Type 0 where
 
 -- turns that have the same line are alike
 abbrev pub LinesTellTurns : Type 0
-LinesTellTurns = (one other : Told) (line : List ℕ) → AreWords one → AreWords other → IsLineOf one line → IsLineOf other line → AreAlike one other
+LinesTellTurns = (one other : TurnTold) (line : List ℕ) → AreWords one → AreWords other → IsLineOf one line → IsLineOf other line → AreAlike one other
 
 -- the numbers that stand behind the word of an ask
 abbrev pub numbers_of : Ask → List ℕ

@@ -5,7 +5,7 @@ use Rattle.std.specs.Option.{option_copied}
 use Rattle.lwkt_base.specs.declared.asks.Answer.{Answer}
 use Rattle.lwkt_base.specs.declared.faults.Fault.{Fault}
 use Rattle.lwkt_refusals.specs.declared.pages.Page.{Page}
-use Rattle.lwkt_refusals.specs.Pages.{Grows}
+use Rattle.lwkt_refusals.specs.Pages.{GrowsBy}
 use Rattle.lwkt_verdict.specs.declared.turns.Poll.{Poll}
 use Rattle.lwkt_verdict.specs.declared.turns.Turn.{Turn}
 use Rattle.lwkt_verdict.specs.Run.{poll_of}
@@ -140,10 +140,10 @@ AreLines first last order cpus polls n (turn ∷ turns) text =
     (line : List ℕ) × (rest : List ℕ) × (text ≡ line ++ rest) × IsLineIfShown (is_shown first last n) n (round_of order cpus n) (processor_of_turn order cpus n) (poll_of polls turn) line × AreLines first last order cpus polls (n + 1) turns rest
 
 -- some words of which this holds stand on a page behind what stood on it, unless memory was refused for a piece of it
-pub record Adds (Holds : List ℕ → Type 0) (old new : Page) : Type 0 where
+pub record AddsWords (Holds : List ℕ → Type 0) (old new : Page) : Type 0 where
   pub words : List ℕ
   pub holds : Holds words
-  pub grows : Grows old new words
+  pub grows : GrowsBy old new words
 
 -- a text begins with words of which this holds
 pub record Begins (Holds : List ℕ → Type 0) (text : List ℕ) : Type 0 where
@@ -153,7 +153,7 @@ pub record Begins (Holds : List ℕ → Type 0) (text : List ℕ) : Type 0 where
   pub is : text ≡ front ++ rest
 
 -- the lines of a run's turns, of those that are chosen, and then which turns are left out
-pub record AreShown (chosen : Chosen) (order : Option (List ℕ)) (cpus : ℕ) (polls : List Poll) (turns : List Turn) (text : List ℕ) : Type 0 where
+pub record AreTurnLines (chosen : Chosen) (order : Option (List ℕ)) (cpus : ℕ) (polls : List Poll) (turns : List Turn) (text : List ℕ) : Type 0 where
   pub first : ℕ
   pub last : ℕ
   pub lines : List ℕ
@@ -164,12 +164,12 @@ pub record AreShown (chosen : Chosen) (order : Option (List ℕ)) (cpus : ℕ) (
 
 -- the same of what was kept of a run, at the beginning of a text
 abbrev pub BeginsWithLines : Reel → Chosen → List ℕ → Type 0
-BeginsWithLines run chosen text = Begins (AreShown chosen (option_copied run.order) run.script.now.cpus run.polls.now run.turns.now) text
+BeginsWithLines run chosen text = Begins (AreTurnLines chosen (option_copied run.order) run.script.now.cpus run.polls.now run.turns.now) text
 
 -- a text is the lines of a run's turns, of those that are chosen, one behind another; then which turns are left out, and some words;
 -- and then the run's report
-pub record IsTold (chosen : Chosen) (order : Option (List ℕ)) (cpus : ℕ) (polls : List Poll) (turns : List Turn) (closing : Closing) (text : List ℕ) : Type 0 where
+pub record AreLinesOf (chosen : Chosen) (order : Option (List ℕ)) (cpus : ℕ) (polls : List Poll) (turns : List Turn) (closing : Closing) (text : List ℕ) : Type 0 where
   pub front : List ℕ
   pub behind : List ℕ
-  pub shown : AreShown chosen order cpus polls turns front
+  pub shown : AreTurnLines chosen order cpus polls turns front
   pub parts : text ≡ front ++ behind ++ report_text closing

@@ -1,7 +1,7 @@
 ghost use Rattle.std.specs.Prelude.{◌≡◌, true, take};
 ghost use Rattle.std.specs.List.{list_all};
 ghost use Rattle.lwkt_base.specs.Hex.{hex_text};
-ghost use Rattle.lwkt_refusals.specs.Pages.{Grows};
+ghost use Rattle.lwkt_refusals.specs.Pages.{GrowsBy};
 ghost use Rattle.lwkt_trace.specs.Written.{blob_text};
 ghost use Rattle.lwkt_scenes.specs.Words.{is_shown, bytes_words, cut_words, full_words, record_words};
 
@@ -14,7 +14,7 @@ const SHOWN: usize = 24;
 
 /// Appends bytes, two digits for each.
 pub(crate) fn show_hex(out: &mut Page, bytes: &[u8])
-    ensures { Grows out.old out.new (hex_text bytes.now) }
+    ensures { GrowsBy out.old out.new (hex_text bytes.now) }
 {
     for byte in bytes {
         let (high, low) = digits_of(*byte);
@@ -26,7 +26,7 @@ pub(crate) fn show_hex(out: &mut Page, bytes: &[u8])
 /// Appends a record as it stands in a script or a trace: its digits in quotes.
 #[tactic(auto, unfolding(lwkt_trace::specs::Written::blob_text))]
 pub(crate) fn show_digits(out: &mut Page, blob: &Blob)
-    ensures { Grows out.old out.new (blob_text blob.now) }
+    ensures { GrowsBy out.old out.new (blob_text blob.now) }
 {
     out.add("\"");
     show_hex(out, blob.as_slice());
@@ -61,7 +61,7 @@ fn front_of(bytes: &[u8]) -> &[u8]
 // Appends bytes as text, those that are shown as they are.
 fn show_letters(out: &mut Page, bytes: &[u8])
     requires { list_all is_shown bytes.now ≡ true }
-    ensures { Grows out.old out.new bytes.now }
+    ensures { GrowsBy out.old out.new bytes.now }
 {
     for byte in bytes {
         out.letter(*byte as char);
@@ -70,7 +70,7 @@ fn show_letters(out: &mut Page, bytes: &[u8])
 
 // Appends bytes as text where all of them are shown as they are, else as hexadecimal digits; cut where they are many.
 fn show_bytes(out: &mut Page, bytes: &[u8])
-    ensures { Grows out.old out.new (bytes_words bytes.now) }
+    ensures { GrowsBy out.old out.new (bytes_words bytes.now) }
 {
     let front = front_of(bytes);
     if is_text(bytes) {
@@ -84,7 +84,7 @@ fn show_bytes(out: &mut Page, bytes: &[u8])
 
 // Appends how many bytes a record has, where it is cut.
 fn show_cut(out: &mut Page, blob: &Blob)
-    ensures { Grows out.old out.new (cut_words blob.now) }
+    ensures { GrowsBy out.old out.new (cut_words blob.now) }
 {
     if blob.len() > 24 {
         out.number(".., ", u64::from(blob.len()));
@@ -96,7 +96,7 @@ fn show_cut(out: &mut Page, blob: &Blob)
 
 // Appends a record that has bytes.
 fn show_full(out: &mut Page, blob: &Blob)
-    ensures { Grows out.old out.new (full_words blob.now) }
+    ensures { GrowsBy out.old out.new (full_words blob.now) }
 {
     out.add("record ");
     show_bytes(out, blob.as_slice());
@@ -106,7 +106,7 @@ fn show_full(out: &mut Page, blob: &Blob)
 /// Appends a record: as text if all of it is printable, else as hexadecimal digits; cut if it is long, and then with its
 /// length.
 pub(crate) fn show_record(out: &mut Page, blob: &Blob)
-    ensures { Grows out.old out.new (record_words blob.now) }
+    ensures { GrowsBy out.old out.new (record_words blob.now) }
 {
     if blob.is_empty() {
         out.add("an empty record")

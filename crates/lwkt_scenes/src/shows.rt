@@ -1,7 +1,7 @@
 ghost use Rattle.std.specs.Prelude.{◌≡◌, IfErr, IfOk, string_bytes};
 ghost use Rattle.std.specs.Option.{option_copied};
-ghost use Rattle.lwkt_refusals.specs.Pages.{Grows};
-ghost use Rattle.lwkt_scenes.specs.Lines.{last_shown, before_text, after_text, choice_text, is_shown, IsLineIfShown, AreLines, Adds, BeginsWithLines, IsTold};
+ghost use Rattle.lwkt_refusals.specs.Pages.{GrowsBy};
+ghost use Rattle.lwkt_scenes.specs.Lines.{last_shown, before_text, after_text, choice_text, is_shown, IsLineIfShown, AreLines, AddsWords, BeginsWithLines, AreLinesOf};
 ghost use Rattle.lwkt_scenes.specs.Shown.{EndsInReport, MayBeRefused};
 
 use crate::ends::show_ends;
@@ -26,7 +26,7 @@ fn last_shown(chosen: Chosen) -> usize
 
 // Appends that turns before the first that is shown are left out, if there are any.
 fn show_before(out: &mut Page, first: usize)
-    ensures { Grows out.old out.new (before_text first) }
+    ensures { GrowsBy out.old out.new (before_text first) }
 {
     if first == 0 {
         out.add("")
@@ -38,7 +38,7 @@ fn show_before(out: &mut Page, first: usize)
 
 // Appends that turns behind the last that is shown are left out, if there are any.
 fn show_after(out: &mut Page, last: usize, turns: usize)
-    ensures { Grows out.old out.new (after_text last turns) }
+    ensures { GrowsBy out.old out.new (after_text last turns) }
 {
     if last < turns.saturating_sub(1) {
         out.size("turns behind turn ", last);
@@ -52,7 +52,7 @@ fn show_after(out: &mut Page, last: usize, turns: usize)
 
 // Appends which turns are left out, if not all are shown.
 fn show_choice(out: &mut Page, chosen: Chosen, turns: usize)
-    ensures { Grows out.old out.new (choice_text chosen.first chosen.last turns) }
+    ensures { GrowsBy out.old out.new (choice_text chosen.first chosen.last turns) }
 {
     show_before(out, chosen.first);
     show_after(out, last_shown(chosen), turns)
@@ -67,7 +67,7 @@ fn is_shown(chosen: Chosen, number: usize) -> bool
 
 // Makes a turn happen, and appends its line if it is shown.
 fn show_one(alloc: Global, out: &mut Page, replay: &mut Replay, scene: &Scene, shown: bool)
-    ensures { Adds (IsLineIfShown shown scene.now.number scene.now.round scene.now.cpu scene.now.poll) out.old out.new }
+    ensures { AddsWords (IsLineIfShown shown scene.now.number scene.now.round scene.now.cpu scene.now.poll) out.old out.new }
 {
     if shown {
         show_turn(alloc, replay, out, scene)
@@ -84,7 +84,7 @@ fn show_turns(
     replay: &mut Replay,
     chosen: Chosen,
 ) -> usize
-    ensures { Adds (AreLines chosen.first chosen.last (option_copied run.now.order) run.now.script.now.cpus run.now.polls.now 0 run.now.turns.now) out.old out.new }
+    ensures { AddsWords (AreLines chosen.first chosen.last (option_copied run.now.order) run.now.script.now.cpus run.now.polls.now 0 run.now.turns.now) out.old out.new }
 {
     let mut from = 0usize;
     for (number, turn) in run.turns.iter().enumerate() {
@@ -138,7 +138,7 @@ fn front_of(alloc: Global, run: &Reel, chosen: Chosen) -> Result<String, Fault>
 /// Refused with `Memory` if memory is refused, and with `Limits` or `LawBroken` as `State::open` is for the script's opening.
 pub fn lines_of(alloc: Global, run: &Reel, chosen: Chosen) -> Result<String, Fault>
     ensures report { IfOk result (λ text. EndsInReport run.now.closing.now (string_bytes text)) }
-    ensures lines { IfOk result (λ text. IsTold chosen (option_copied run.now.order) run.now.script.now.cpus run.now.polls.now run.now.turns.now run.now.closing.now (string_bytes text)) }
+    ensures lines { IfOk result (λ text. AreLinesOf chosen (option_copied run.now.order) run.now.script.now.cpus run.now.polls.now run.now.turns.now run.now.closing.now (string_bytes text)) }
     ensures refused { IfErr result (MayBeRefused run.now.script.now) }
 {
     let mut out = front_of(alloc, run, chosen)?;

@@ -1,6 +1,6 @@
 ghost use Rattle.std.specs.Prelude.{◌≡◌, ◌/◌, ◌<◌};
-ghost use Rattle.lwkt_refusals.specs.Pages.{Grows};
-ghost use Rattle.lwkt_scenes.specs.Lines.{late_text, faulted_text, answered_text, unanswered_text, came_text, time_text, step_text, poll_text, turn_text, IsIdle, IsDoing, IsLine, Adds};
+ghost use Rattle.lwkt_refusals.specs.Pages.{GrowsBy};
+ghost use Rattle.lwkt_scenes.specs.Lines.{late_text, faulted_text, answered_text, unanswered_text, came_text, time_text, step_text, poll_text, turn_text, IsIdle, IsDoing, IsLine, AddsWords};
 
 use crate::pages::Page;
 use crate::replays::Replay;
@@ -13,7 +13,7 @@ use std::alloc::Global;
 
 // Appends the answer to an ask whose thread waits before it has it.
 fn show_late(out: &mut Page, answer: Answer)
-    ensures { Grows out.old out.new (late_text answer) }
+    ensures { GrowsBy out.old out.new (late_text answer) }
 {
     out.add("waits, then ");
     show_answer(out, answer)
@@ -21,7 +21,7 @@ fn show_late(out: &mut Page, answer: Answer)
 
 // Appends that a thread ends by a fault.
 fn show_faulted(out: &mut Page, fault: Fault)
-    ensures { Grows out.old out.new (faulted_text fault) }
+    ensures { GrowsBy out.old out.new (faulted_text fault) }
 {
     out.add("ends faulted ");
     show_fault(out, fault)
@@ -29,7 +29,7 @@ fn show_faulted(out: &mut Page, fault: Fault)
 
 // Appends the answer to an ask, and whether its thread waits before it has it.
 fn show_answered(out: &mut Page, came: Came, answer: Answer)
-    ensures { Grows out.old out.new (answered_text came answer) }
+    ensures { GrowsBy out.old out.new (answered_text came answer) }
 {
     match came {
         Came::Waits => show_late(out, answer),
@@ -39,7 +39,7 @@ fn show_answered(out: &mut Page, came: Came, answer: Answer)
 
 // Appends what came of a step whose thread isn't asked again.
 fn show_unanswered(out: &mut Page, came: Came)
-    ensures { Grows out.old out.new (unanswered_text came) }
+    ensures { GrowsBy out.old out.new (unanswered_text came) }
 {
     match came {
         Came::Runs => out.add("not asked again"),
@@ -51,7 +51,7 @@ fn show_unanswered(out: &mut Page, came: Came)
 
 // Appends what came of a step: the answer, if its thread is asked again.
 fn show_came(out: &mut Page, came: Came, answer: Option<Answer>)
-    ensures { Grows out.old out.new (came_text came answer) }
+    ensures { GrowsBy out.old out.new (came_text came answer) }
 {
     match answer {
         Some(answer) => show_answered(out, came, answer),
@@ -62,7 +62,7 @@ fn show_came(out: &mut Page, came: Came, answer: Option<Answer>)
 // Appends which time over a thread makes its steps, from 1, where it makes them several times.
 fn show_time(out: &mut Page, step: Step, time: u64)
     requires { (0 < step.steps) × (time ≡ step.polls / step.steps) × (time < step.repeat) }
-    ensures { Grows out.old out.new (time_text step) }
+    ensures { GrowsBy out.old out.new (time_text step) }
 {
     if step.repeat > 1 {
         out.number(" of time ", time + 1)
@@ -73,7 +73,7 @@ fn show_time(out: &mut Page, step: Step, time: u64)
 
 /// Appends which of its steps a thread makes: `step 2`, counted from 0, and if it makes them several times which time, from 1.
 pub(crate) fn show_step(out: &mut Page, step: Step)
-    ensures { Grows out.old out.new (step_text step) }
+    ensures { GrowsBy out.old out.new (step_text step) }
 {
     if step.steps == 0 {
         return out.add("after its steps");
@@ -88,7 +88,7 @@ pub(crate) fn show_step(out: &mut Page, step: Step)
 
 // Appends a poll: thread, step, ask and what came of it.
 fn show_poll(out: &mut Page, poll: &Poll, step: Step, came: Came)
-    ensures { Grows out.old out.new (poll_text poll.now step came) }
+    ensures { GrowsBy out.old out.new (poll_text poll.now step came) }
 {
     out.add(", thread ");
     show_thread(out, poll.thread);
@@ -158,7 +158,7 @@ fn show_waits(out: &mut Page, replay: &Replay, scene: &Scene) -> bool {
 
 // Appends that a turn's processor runs no thread, and why.
 fn show_idle(alloc: Global, out: &mut Page, replay: &Replay, scene: &Scene)
-    ensures { Adds IsIdle out.old out.new }
+    ensures { AddsWords IsIdle out.old out.new }
 {
     let mut why = Page::new(alloc);
     if show_waits(&mut why, replay, scene) {
@@ -177,7 +177,7 @@ fn show_doing(
     scene: &Scene,
     outcome: Option<Outcome>,
 )
-    ensures { Adds (IsDoing scene.now.poll) out.old out.new }
+    ensures { AddsWords (IsDoing scene.now.poll) out.old out.new }
 {
     match scene.poll {
         Some(poll) => {
@@ -191,7 +191,7 @@ fn show_doing(
 
 // Appends a turn by its number, its round and its processor.
 fn show_head(out: &mut Page, scene: &Scene)
-    ensures { Grows out.old out.new (turn_text scene.now.number scene.now.round scene.now.cpu) }
+    ensures { GrowsBy out.old out.new (turn_text scene.now.number scene.now.round scene.now.cpu) }
 {
     out.size("turn ", scene.number);
     out.size(", round ", scene.round);
@@ -200,7 +200,7 @@ fn show_head(out: &mut Page, scene: &Scene)
 
 /// Makes a turn happen, and appends its line.
 pub(crate) fn show_turn(alloc: Global, replay: &mut Replay, out: &mut Page, scene: &Scene)
-    ensures { Adds (IsLine scene.now.number scene.now.round scene.now.cpu scene.now.poll) out.old out.new }
+    ensures { AddsWords (IsLine scene.now.number scene.now.round scene.now.cpu scene.now.poll) out.old out.new }
 {
     let mail = replay.take_mail(scene.part);
     let mut events = Page::new(alloc);

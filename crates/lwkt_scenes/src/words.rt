@@ -1,6 +1,6 @@
 ghost use Rattle.std.specs.Prelude.{◌≡◌, ◌++◌};
 ghost use Rattle.std.specs.Fmt.{decimal};
-ghost use Rattle.lwkt_refusals.specs.Pages.{Grows};
+ghost use Rattle.lwkt_refusals.specs.Pages.{GrowsBy};
 ghost use Rattle.lwkt_trace.specs.Written.{comma};
 ghost use Rattle.lwkt_scenes.specs.Words.{thread_text, ask_word, token_parts, call_text, flags_number, message_parts, ask_text, fault_text, item_text, dropped_text, refused_text, answer_text};
 
@@ -10,7 +10,7 @@ use lwkt_base::{Answer, Ask, Call, Fault, Flags, Item, Mode, MsgId, Rec, ThreadI
 
 /// Appends a thread by its processor and its number: `1.0`.
 pub(crate) fn show_thread(out: &mut Page, id: ThreadId)
-    ensures { Grows out.old out.new (thread_text id) }
+    ensures { GrowsBy out.old out.new (thread_text id) }
 {
     out.number("", u64::from(id.cpu.0));
     out.number(".", u64::from(id.thread));
@@ -46,14 +46,14 @@ fn ask_word(ask: &Ask) -> &'static str
 
 // Appends a number after a comma.
 fn show_part(out: &mut Page, number: u64)
-    ensures { Grows out.old out.new (comma number) }
+    ensures { GrowsBy out.old out.new (comma number) }
 {
     out.number(",", number)
 }
 
 // Appends the parts of an ask for a token.
 fn show_token_parts(out: &mut Page, ask: &Ask)
-    ensures { Grows out.old out.new (token_parts ask.now) }
+    ensures { GrowsBy out.old out.new (token_parts ask.now) }
 {
     match ask {
         Ask::Get(tok)
@@ -85,7 +85,7 @@ fn show_token_parts(out: &mut Page, ask: &Ask)
 
 // Appends a message, a thread and a call.
 fn show_call(out: &mut Page, msg: MsgId, to: ThreadId, call: Call)
-    ensures { Grows out.old out.new (call_text msg to call) }
+    ensures { GrowsBy out.old out.new (call_text msg to call) }
 {
     show_part(out, u64::from(msg.0));
     show_part(out, u64::from(to.cpu.0));
@@ -106,7 +106,7 @@ fn flags_number(flags: Flags) -> u8
 
 // Appends the parts of an ask for a message.
 fn show_message_parts(out: &mut Page, ask: &Ask)
-    ensures { Grows out.old out.new (message_parts ask.now) }
+    ensures { GrowsBy out.old out.new (message_parts ask.now) }
 {
     match ask {
         Ask::Send(msg, to, call, flags) => {
@@ -128,7 +128,7 @@ fn show_message_parts(out: &mut Page, ask: &Ask)
 
 /// Appends an ask as the step of a script that stands for it: `["add",0,5]`.
 pub(crate) fn show_ask(out: &mut Page, ask: &Ask)
-    ensures { Grows out.old out.new (ask_text ask.now) }
+    ensures { GrowsBy out.old out.new (ask_text ask.now) }
 {
     out.add("[\"");
     out.add(ask_word(ask));
@@ -140,7 +140,7 @@ pub(crate) fn show_ask(out: &mut Page, ask: &Ask)
 
 /// Appends a fault by its number and its message: `23, token busy`.
 pub(crate) fn show_fault(out: &mut Page, fault: Fault)
-    ensures { Grows out.old out.new (fault_text fault) }
+    ensures { GrowsBy out.old out.new (fault_text fault) }
 {
     out.number("", u64::from(fault.number()));
     out.fault(", ", fault)
@@ -148,7 +148,7 @@ pub(crate) fn show_fault(out: &mut Page, fault: Fault)
 
 // Appends a message with two numbers, each behind its words.
 fn show_values(out: &mut Page, middle: &str, msg: MsgId, first: u64, behind: &str, second: u64)
-    ensures { Grows out.old out.new (decimal msg.0 ++ middle.now ++ decimal first ++ behind.now ++ decimal second) }
+    ensures { GrowsBy out.old out.new (decimal msg.0 ++ middle.now ++ decimal first ++ behind.now ++ decimal second) }
 {
     out.number("", u64::from(msg.0));
     out.number(middle, first);
@@ -157,7 +157,7 @@ fn show_values(out: &mut Page, middle: &str, msg: MsgId, first: u64, behind: &st
 
 // Appends an item of a port.
 fn show_item(out: &mut Page, item: Item)
-    ensures { Grows out.old out.new (item_text item) }
+    ensures { GrowsBy out.old out.new (item_text item) }
 {
     match item {
         Item::Request(msg, call) => {
@@ -173,7 +173,7 @@ fn show_item(out: &mut Page, item: Item)
 
 // Appends a message that was taken back.
 fn show_dropped(out: &mut Page, msg: MsgId, rec: Rec)
-    ensures { Grows out.old out.new (dropped_text msg rec) }
+    ensures { GrowsBy out.old out.new (dropped_text msg rec) }
 {
     out.add("message ");
     show_values(
@@ -188,7 +188,7 @@ fn show_dropped(out: &mut Page, msg: MsgId, rec: Rec)
 
 // Appends a refusal.
 fn show_refused(out: &mut Page, fault: Fault)
-    ensures { Grows out.old out.new (refused_text fault) }
+    ensures { GrowsBy out.old out.new (refused_text fault) }
 {
     out.add("refused ");
     show_fault(out, fault)
@@ -196,7 +196,7 @@ fn show_refused(out: &mut Page, fault: Fault)
 
 /// Appends an answer: `done`, `value 15`, `refused 23, token busy`.
 pub(crate) fn show_answer(out: &mut Page, answer: Answer)
-    ensures { Grows out.old out.new (answer_text answer) }
+    ensures { GrowsBy out.old out.new (answer_text answer) }
 {
     match answer {
         Answer::Begin => out.add("not asked before"),

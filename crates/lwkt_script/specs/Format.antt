@@ -23,8 +23,8 @@ abbrev pub cell : ℕ → List ℕ → Data → Result ℕ ℕ
 cell place before d = part place (whole d)
 
 -- a token: its cells, law, parameter and generation, and in the second version its record
-unfoldable pub token_at : Version → ℕ → Data → Result TokSpec ℕ
-token_at version place d = do
+unfoldable pub token_read : Version → ℕ → Data → Result TokSpec ℕ
+token_read version place d = do
   demand place (has_members (token_members version) d)
   items ← part place (list_in (codes "cells") d)
   law ← part place (law_in d)
@@ -40,7 +40,7 @@ token_at version place d = do
 abbrev pub token : Version → List TokSpec → Data → Result TokSpec ℕ
 token version before d = do
   demand 1064 (nat_lt (length before) 64)
-  token_at version (1000 + length before) d
+  token_read version (1000 + length before) d
 
 -- a message: the thread that it is of, and its round
 unfoldable pub message_at : ℕ → ℕ → Data → Result MsgSpec ℕ

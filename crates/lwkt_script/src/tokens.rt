@@ -2,7 +2,7 @@ ghost use Rattle.std.specs.Prelude.{◌≡◌, ◌<◌, ◌≤◌, [], length, A
 ghost use Rattle.serde_json.specs.View.{view, items_view};
 ghost use Rattle.lwkt_script.specs.Outcome.{Gives, each};
 ghost use Rattle.lwkt_script.specs.Member.{law_of, law_in, allows};
-ghost use Rattle.lwkt_script.specs.Format.{cell, token_at, token};
+ghost use Rattle.lwkt_script.specs.Format.{cell, token_read, token};
 ghost use Rattle.lwkt_script.specs.Limits.{IsToken};
 
 use crate::fields::{has_members, list_at, number_at};
@@ -66,7 +66,7 @@ pub fn cells_of(alloc: Global, place: u32, items: &[Value]) -> Result<Vec<u64>, 
 
 #[tactic(auto, using(crate::proofs::Counts::items_counted), unfolding(crate::specs::Format::token_at))]
 fn token_at(alloc: Global, version: Version, place: u32, value: &Value) -> Result<TokSpec, Fault>
-    ensures exact { Gives (λ t. t) result (token_at version place (view value.now)) }
+    ensures exact { Gives (λ t. t) result (token_read version place (view value.now)) }
     ensures within { IfOk result IsToken }
 {
     if !has_members(value, version.token_members()) {

@@ -23,7 +23,7 @@ use Rattle.lwkt_bank.proofs.HoldMoves.{giving_removes}
 use Rattle.lwkt_bank.proofs.ChangeMoves.{same_holding}
 use Rattle.lwkt_seats.specs.Asks.{ObeysItsLaw, GivesReference}
 use Rattle.lwkt_seats.specs.Cells.{IsMine}
-use Rattle.lwkt_seats.specs.Lists.{EndsOne, EndsPair, EndsEach, IsBroken, AreLawfulBelow, IsFirstBroken, first_restored}
+use Rattle.lwkt_seats.specs.Lists.{EndsOne, EndsPair, EndsEach, BreaksLaw, AreLawfulBelow, IsFirstToBreak, first_restored}
 use Rattle.lwkt_seats.proofs.ListMoves.{chain_more, chain_after, not_held}
 
 -- nothing was given back; one reference more is, and several more are
@@ -151,7 +151,7 @@ section_lawful a b tok bank same lawful =
     let H : RecordOf → Type 0 = λ bytes. Obeys (plan_of (bank_of a) tok).law (plan_of (bank_of a) tok).param (entry a tok).row (length_of bytes) in
     subst H same.1 (subst G same.0 (subst F bank lawful))
 
-pub section_broken : (a b : CpuSeat) (tok : ℕ) → bank_of b ≡ bank_of a → IsSameSection a b tok → IsBroken b tok → IsBroken a tok
+pub section_broken : (a b : CpuSeat) (tok : ℕ) → bank_of b ≡ bank_of a → IsSameSection a b tok → BreaksLaw b tok → BreaksLaw a tok
 section_broken a b tok bank same broken = (sym same.2 ∙ broken.0, λ lawful. broken.1 (section_lawful b a tok (sym bank) (section_back a b tok same) lawful))
 
 -- the last reference of a section leaves nothing
@@ -179,7 +179,7 @@ ends_section s s' tok false ends given held = elim ends [
 ends_section s s' tok true ends given held = absurd (last_gone s s' tok ends.0 given held)
 
 -- what is told of a section that ends
-pub ends_broken : (s s' : CpuSeat) (tok : ℕ) (restored : Bool) → EndsOne tok s s' restored → restored ≡ true → IsBroken s tok
+pub ends_broken : (s s' : CpuSeat) (tok : ℕ) (restored : Bool) → EndsOne tok s s' restored → restored ≡ true → BreaksLaw s tok
 ends_broken s s' tok true ends is = (ap is_exclusive ends.0, ends.1)
 ends_broken s s' tok false ends is = absurd (false≢true is)
 
@@ -193,11 +193,11 @@ ends_lawful s s' tok false ends given is gone mine = elim ends [
 ]
 
 -- the first token that breaks its law, with one token more
-pub first_more : (s : CpuSeat) (n : ℕ) (first : Option TokId) (restored : Bool) (tok : TokId) → tok.0 ≡ n → IsFirstBroken s n first → (restored ≡ true → IsBroken s n) → (restored ≡ false → IsMine s n → ObeysItsLaw s n) → IsFirstBroken s (n + 1) (first_restored first restored tok)
+pub first_more : (s : CpuSeat) (n : ℕ) (first : Option TokId) (restored : Bool) (tok : TokId) → tok.0 ≡ n → IsFirstToBreak s n first → (restored ≡ true → BreaksLaw s n) → (restored ≡ false → IsMine s n → ObeysItsLaw s n) → IsFirstToBreak s (n + 1) (first_restored first restored tok)
 first_more s n (Some f) restored tok is so broken lawful = let below : f.0 < n = so.0 in (omega (arith, below), so.1, so.2)
 first_more s n None true tok is so broken lawful =
-    let F : ℕ → Type 0 = λ k. IsBroken s k × AreLawfulBelow s k in
-    let both : IsBroken s tok.0 × AreLawfulBelow s tok.0 = subst F (sym is) (broken refl, so) in
+    let F : ℕ → Type 0 = λ k. BreaksLaw s k × AreLawfulBelow s k in
+    let both : BreaksLaw s tok.0 × AreLawfulBelow s tok.0 = subst F (sym is) (broken refl, so) in
     (omega (arith, is), both.0, both.1)
 first_more s n None false tok is so broken lawful = λ t below mine. ⊎_elim
     (λ (same : t ≡ n). let F : ℕ → Type 0 = λ k. IsMine s k → ObeysItsLaw s k in subst F (sym same) (lawful refl) mine)

@@ -46,9 +46,9 @@ use Rattle.lwkt_seats.specs.declared.list_answers.Resumed.TheVariants as resumed
 use Rattle.lwkt_seats.specs.declared.spots.Spot.{Spot}
 use Rattle.lwkt_seats.specs.declared.spots.Sitter.{Sitter}
 use Rattle.lwkt_seats.specs.Asks.{AsksFor, Furthers, MarksToken, GivesToken, GivesReference}
-use Rattle.lwkt_seats.specs.Cells.{Loads, Stores, Adds, JudgesToken, RestoresRow, Restores}
+use Rattle.lwkt_seats.specs.Cells.{Loads, StoresInCell, AddsToCell, JudgesToken, RestoresRow, Restores}
 use Rattle.lwkt_seats.specs.Records.{ReadsBytes, WritesBytes}
-use Rattle.lwkt_seats.specs.Lists.{Chain, TakesOne, MissesOne, GivesUnwritten, ResumesSeat, EndsRestored, EndsOne, EndsPair, BlocksSeat, refs_of}
+use Rattle.lwkt_seats.specs.Lists.{DoneInTurn, TakesOne, MissesOne, GivesUnwritten, ResumesSeat, EndsRestored, EndsOne, EndsPair, BlocksSeat, refs_of}
 use Rattle.lwkt_seats.specs.Calls.{TellsRecord}
 use Rattle.lwkt_seats.specs.Numbers.{record_read_number}
 use Rattle.lwkt_seats.specs.Seated.{IsBrief, AreBrief, IsSeated, KeepsBankAndCpu}
@@ -134,7 +134,7 @@ loads tok cell s s' loaded.NoToken does = same s s' does.1
 loads tok cell s s' loaded.NoCell does = same s s' does.2
 loads tok cell s s' loaded.NotHeld does = same s s' does.2
 
-pub stores : (tok cell value : ℕ) (s s' : CpuSeat) (answer : Stored) → Stores tok cell value s s' answer → Keeps s s'
+pub stores : (tok cell value : ℕ) (s s' : CpuSeat) (answer : Stored) → StoresInCell tok cell value s s' answer → Keeps s s'
 stores tok cell value s s' done.Stored does = knows s s' tok _ _ does.3 (λ here. here)
 stores tok cell value s s' done.NoToken does = same s s' does.1
 stores tok cell value s s' done.NoCell does = same s s' does.2
@@ -142,7 +142,7 @@ stores tok cell value s s' done.NotHeld does = same s s' does.2
 stores tok cell value s s' done.SharedWrite does = same s s' does.2
 stores tok cell value s s' done.TallyOnly does = unchanged s s' does.3
 
-pub adds : (tok amount : ℕ) (s s' : CpuSeat) (answer : Added) → Adds tok amount s s' answer → Keeps s s'
+pub adds : (tok amount : ℕ) (s s' : CpuSeat) (answer : Added) → AddsToCell tok amount s s' answer → Keeps s s'
 adds tok amount s s' (added.Sum sum) does = knows s s' tok _ _ does.4 (λ here. here)
 adds tok amount s s' added.NoToken does = same s s' does.1
 adds tok amount s s' added.NotHeld does = same s s' does.2
@@ -192,7 +192,7 @@ writes tok bytes s s' wrote.NotHeld does = same s s' does.2
 writes tok bytes s s' wrote.SharedRecord does = same s s' does.2
 writes tok bytes s s' wrote.RecordLong does = same s s' does.3
 
-chain : {A : Type 0} (Does : A → CpuSeat → CpuSeat → Type 0) → ((x : A) (a b : CpuSeat) → Does x a b → Keeps a b) → (xs : List A) (a b : CpuSeat) → Chain Does xs a b → Keeps a b
+chain : {A : Type 0} (Does : A → CpuSeat → CpuSeat → Type 0) → ((x : A) (a b : CpuSeat) → Does x a b → Keeps a b) → (xs : List A) (a b : CpuSeat) → DoneInTurn Does xs a b → Keeps a b
 chain Does each [] a b is = same a b is
 chain Does each (x ∷ xs) a b is = λ brief. chain Does each xs is.0 b is.1.1 (each x a is.0 is.1.0 brief)
 
@@ -210,7 +210,7 @@ misses_one refs r s s' missed.Worn does = looks s s' r.tok.0 does.1.0 does.1.1.1
 gives_unwritten : (tok : ℕ) (s s' : CpuSeat) → GivesUnwritten tok s s' → Keeps s s'
 gives_unwritten tok s s' does = elim does [ inl one ↦ gives_back s s' tok One one | inr last ↦ gives_back s s' tok Clean last ]
 
-missed_at : (refs : List Ref) (x : Option Ref) (front : List Ref) (why : Missed) (s s' : CpuSeat) → IsSomeAnd x (λ r. (taken : CpuSeat) × (Chain (TakesOne refs) front s taken × MissesOne refs r taken s' why)) → Keeps s s'
+missed_at : (refs : List Ref) (x : Option Ref) (front : List Ref) (why : Missed) (s s' : CpuSeat) → IsSomeAnd x (λ r. (taken : CpuSeat) × (DoneInTurn (TakesOne refs) front s taken × MissesOne refs r taken s' why)) → Keeps s s'
 missed_at refs (Some r) front why s s' does brief = misses_one refs r does.0 s' why does.1.1 (chain (TakesOne refs) (takes_one refs) front s does.0 does.1.0 brief)
 missed_at refs None front why s s' does brief = absurd does
 

@@ -19,8 +19,8 @@ use Rattle.lwkt_seats.specs.declared.spots.Spot.{Spot}
 use Rattle.lwkt_seats.specs.declared.spots.Sitter.{Sitter}
 use Rattle.lwkt_seats.specs.declared.desks.Desk.{Desk}
 use Rattle.lwkt_seats.specs.Seated.{IsSeated}
-use Rattle.lwkt_seats.specs.Desks.{IsPlaced, IsSeatOf}
-use Rattle.lwkt_seats.specs.Closes.{IsBankOf, IsFreeAt, AreFree, SomeHolds, IsSized, Ends}
+use Rattle.lwkt_seats.specs.Desks.{IsPlaced, IsSeatAt}
+use Rattle.lwkt_seats.specs.Closes.{IsBankOf, IsFreeAt, AreFree, SomeHolds, IsSized, ClosesDesk}
 use Rattle.lwkt_seats.proofs.BriefMoves.{tally_or_not}
 
 abbrev pub seat_in : Box Sitter → CpuSeat
@@ -68,7 +68,7 @@ last_seated desk all xs x spot k is free number at =
     subst (λ (s : Spot). IsSeated s x.value) (one_spot there.0 spot (slice_get desk.places.items (length xs)) there.1.0 same) there.1.1
 
 -- a seat that was taken from its place is that of the place's number
-pub seat_there : (desk : Desk) (number : ℕ) (spot : Spot) (s : Sitter) → IsPlaced desk number spot → IsSeated spot s → IsSeatOf desk number s.seat
+pub seat_there : (desk : Desk) (number : ℕ) (spot : Spot) (s : Sitter) → IsPlaced desk number spot → IsSeated spot s → IsSeatAt desk number s.seat
 seat_there desk number spot s at seated = (spot, (at, seated.of, ap (λ (c : CpuId). c.0) seated.cpu ∙ (desk.spots number number spot spot at at).1))
 
 pub holds_there : (desk : Desk) (number : ℕ) (spot : Spot) (s : Sitter) → IsPlaced desk number spot → IsSeated spot s → (holding s.seat ≢ holds_nothing) → SomeHolds desk
@@ -108,11 +108,11 @@ module _ (desk : Desk) (xs : List (Box Sitter)) (free : AreFree desk xs) where
       let there = free 0 x at in
       (desk.spots number 0 spot there.0 placed there.1.0).0 ∙ sym there.1.1.bank ∙ ap (λ (s : Sitter). arc_value s.bank) (sym is)
 
-  pub seated_at : (k : ℕ) (s : CpuSeat) → slice_get (map seat_in xs) k ≡ Some s → IsSeatOf desk k s
+  pub seated_at : (k : ℕ) (s : CpuSeat) → slice_get (map seat_in xs) k ≡ Some s → IsSeatAt desk k s
   seated_at k s at =
       let found = seat_from xs k s at in
       let there = free k found.0 found.1.0 in
-      subst (IsSeatOf desk k) found.1.1 (seat_there desk k there.0 found.0.value there.1.0 there.1.1)
+      subst (IsSeatAt desk k) found.1.1 (seat_there desk k there.0 found.0.value there.1.0 there.1.1)
 
   ready_at : (bank : Bank) (k : ℕ) (s : CpuSeat) → IsBankOf desk bank → slice_get (map seat_in xs) k ≡ Some s → IsReady (id_of bank) s
   ready_at bank k s of at =
@@ -156,7 +156,7 @@ sized bank seats closed few is tok = elim (cases_lt tok (tokens_of (id_of bank))
 
 -- and so the desk ends
 module _ (desk : Desk) (xs : List (Box Sitter)) (free : AreFree desk xs) (bank : Bank) (seats : List CpuSeat) (x : Box Sitter) (room : ℕ) where
-  pub ends : (closed : Closed) → seats ≡ map seat_in xs → slice_get xs 0 ≡ Some x → IsBankOf desk bank → length xs ≡ length desk.places.items → tokens_of (id_of bank) ≤ room → IsClosed (id_of bank) (cpus_of bank) seats closed → Ends desk room closed
+  pub ends : (closed : Closed) → seats ≡ map seat_in xs → slice_get xs 0 ≡ Some x → IsBankOf desk bank → length xs ≡ length desk.places.items → tokens_of (id_of bank) ≤ room → IsClosed (id_of bank) (cpus_of bank) seats closed → ClosesDesk desk room closed
   ends closed are at of all fits is =
       let many = as_many desk xs free bank seats x are at of all in
       let places = ap length are ∙ seats_in xs ∙ all in
@@ -175,7 +175,7 @@ module _ (desk : Desk) (xs : List (Box Sitter)) (free : AreFree desk xs) (bank :
       }
 
   pub ended : (came : Result Closed ℕ) → seats ≡ map seat_in xs → slice_get xs 0 ≡ Some x → IsBankOf desk bank → length xs ≡ length desk.places.items → tokens_of (id_of bank) ≤ room
-      → IfOk came (λ closed. IsClosed (id_of bank) (cpus_of bank) seats closed) → IfOk came (λ closed. Ends desk room closed)
+      → IfOk came (λ closed. IsClosed (id_of bank) (cpus_of bank) seats closed) → IfOk came (λ closed. ClosesDesk desk room closed)
   ended (Ok closed) are at of all fits is = ends closed are at of all fits is
   ended (Err answer) are at of all fits is = tt
 

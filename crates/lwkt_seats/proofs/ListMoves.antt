@@ -31,15 +31,15 @@ use Rattle.lwkt_seats.specs.declared.list_answers.Resumed.{Resumed}
 use Rattle.lwkt_seats.specs.declared.list_answers.Resumed.TheVariants as resumed
 use Rattle.lwkt_seats.specs.ListNumbers.{unlisted_number, missed_number, resumed_number, NamesNoPlace}
 use Rattle.lwkt_seats.specs.Calls.{TellsPlace}
-use Rattle.lwkt_seats.specs.Lists.{Chain, has_only, TakesOne, MissesOne, HoldsClean, GivesUnwritten, TakesAll, TakesUpTo}
+use Rattle.lwkt_seats.specs.Lists.{DoneInTurn, has_only, TakesOne, MissesOne, HoldsClean, GivesUnwritten, TakesAll, TakesUpTo}
 
 -- one thing more is done, and several more
-pub chain_more : {A : Type 0} (Does : A → CpuSeat → CpuSeat → Type 0) (xs : List A) (x : A) (a b c : CpuSeat) → Chain Does xs a b → Does x b c → Chain Does (xs ++ x ∷ []) a c
+pub chain_more : {A : Type 0} (Does : A → CpuSeat → CpuSeat → Type 0) (xs : List A) (x : A) (a b c : CpuSeat) → DoneInTurn Does xs a b → Does x b c → DoneInTurn Does (xs ++ x ∷ []) a c
 chain_more Does [] x a b c chain does = let F : CpuSeat → Type 0 = λ s. Does x s c in (c, (subst F chain does, refl))
 chain_more Does (y ∷ ys) x a b c chain does = (chain.0, (chain.1.0, chain_more Does ys x chain.0 b c chain.1.1 does))
 
-pub chain_after : {A : Type 0} (Does : A → CpuSeat → CpuSeat → Type 0) (xs ys : List A) (a b c : CpuSeat) → Chain Does xs a b → Chain Does ys b c → Chain Does (xs ++ ys) a c
-chain_after Does [] ys a b c first second = let F : CpuSeat → Type 0 = λ s. Chain Does ys s c in subst F first second
+pub chain_after : {A : Type 0} (Does : A → CpuSeat → CpuSeat → Type 0) (xs ys : List A) (a b c : CpuSeat) → DoneInTurn Does xs a b → DoneInTurn Does ys b c → DoneInTurn Does (xs ++ ys) a c
+chain_after Does [] ys a b c first second = let F : CpuSeat → Type 0 = λ s. DoneInTurn Does ys s c in subst F first second
 chain_after Does (x ∷ xs) ys a b c first second = (first.0, (first.1.0, chain_after Does xs ys first.0 b c first.1.1 second))
 
 -- a further reference in any mode
@@ -168,16 +168,16 @@ pub idle_clean : (s : CpuSeat) → holding s ≡ holds_nothing → HoldsClean s
 idle_clean s idle tok held = absurd (false≢true (sym (ap (λ (h : Holding). is_held (h tok)) idle) ∙ held))
 
 -- one reference more of a list is taken, all of it is, and one of it is missed
-pub chain_front : {A : Type 0} (Does : A → CpuSeat → CpuSeat → Type 0) (xs : List A) (i : ℕ) (x : A) (a b c : CpuSeat) → take (i + 1) xs ≡ take i xs ++ (x ∷ []) → Chain Does (take i xs) a b → Does x b c → Chain Does (take (i + 1) xs) a c
-chain_front {A} Does xs i x a b c is chain does = let F : List A → Type 0 = λ ys. Chain Does ys a c in subst F (sym is) (chain_more Does (take i xs) x a b c chain does)
+pub chain_front : {A : Type 0} (Does : A → CpuSeat → CpuSeat → Type 0) (xs : List A) (i : ℕ) (x : A) (a b c : CpuSeat) → take (i + 1) xs ≡ take i xs ++ (x ∷ []) → DoneInTurn Does (take i xs) a b → Does x b c → DoneInTurn Does (take (i + 1) xs) a c
+chain_front {A} Does xs i x a b c is chain does = let F : List A → Type 0 = λ ys. DoneInTurn Does ys a c in subst F (sym is) (chain_more Does (take i xs) x a b c chain does)
 
-pub takes_whole : (refs : List Ref) (at : ℕ) (s s' : CpuSeat) → length refs ≤ at → Chain (TakesOne refs) (take at refs) s s' → holding s' ≡ holding_of (take at refs) → TakesAll refs s s'
+pub takes_whole : (refs : List Ref) (at : ℕ) (s s' : CpuSeat) → length refs ≤ at → DoneInTurn (TakesOne refs) (take at refs) s s' → holding s' ≡ holding_of (take at refs) → TakesAll refs s s'
 takes_whole refs at s s' end chain front =
     let is : take at refs ≡ refs = take_all at refs end in
-    let F : List Ref → Type 0 = λ xs. Chain (TakesOne refs) xs s s' in
+    let F : List Ref → Type 0 = λ xs. DoneInTurn (TakesOne refs) xs s s' in
     (subst F is chain, front ∙ ap holding_of is)
 
-pub takes_up_to : (refs : List Ref) (at : ℕ) (why : Missed) (s taken s' : CpuSeat) → at < length refs → Chain (TakesOne refs) (take at refs) s taken → MissesOne refs (get_or refs at unused) taken s' why → TakesUpTo refs at why s s'
+pub takes_up_to : (refs : List Ref) (at : ℕ) (why : Missed) (s taken s' : CpuSeat) → at < length refs → DoneInTurn (TakesOne refs) (take at refs) s taken → MissesOne refs (get_or refs at unused) taken s' why → TakesUpTo refs at why s s'
 takes_up_to refs at why s taken s' within chain misses = rw (slice_get-get_or refs at unused within) (taken, (chain, misses))
 
 pub token_there : (tokens : ℕ) (refs : List Ref) (at : ℕ) → at < length refs → All (λ r. r.tok.0 < tokens) refs → (get_or refs at unused).tok.0 < tokens

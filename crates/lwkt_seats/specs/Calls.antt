@@ -18,7 +18,7 @@ use Rattle.lwkt_seats.specs.declared.answers.RecordRead.TheVariants as read
 use Rattle.lwkt_seats.specs.declared.answers.RecordWritten.{RecordWritten}
 use Rattle.lwkt_seats.specs.Numbers.{asked_number, furthered_number, marked_number, gave_number, loaded_number, stored_number, added_number, judged_number, restored_number, record_read_number, record_written_number}
 use Rattle.lwkt_seats.specs.Asks.{AsksFor, Furthers, MarksToken, GivesToken}
-use Rattle.lwkt_seats.specs.Cells.{Loads, Stores, Adds, JudgesToken, Restores}
+use Rattle.lwkt_seats.specs.Cells.{Loads, StoresInCell, AddsToCell, JudgesToken, Restores}
 use Rattle.lwkt_seats.specs.Records.{ReadsBytes, WritesBytes, buffer_with_bytes}
 use Rattle.lwkt_base.specs.declared.names.TokId.{TokId}
 use Rattle.lwkt_seats.specs.declared.references.LwktReference.{LwktReference}
@@ -62,8 +62,8 @@ abbrev pub TellsFirst : Option TokId → ℕ → ℕ → Type 0
 TellsFirst None before now = now ≡ before
 TellsFirst (Some tok) before now = now ≡ tok.0
 
-abbrev pub Takes : Mode → ℕ → CpuSeat → CpuSeat → ℕ → Type 0
-Takes mode tok old new answer = (asked : Asked) × ((answer ≡ asked_number asked) × AsksFor mode tok old new asked)
+abbrev pub TakesAt : Mode → ℕ → CpuSeat → CpuSeat → ℕ → Type 0
+TakesAt mode tok old new answer = (asked : Asked) × ((answer ≡ asked_number asked) × AsksFor mode tok old new asked)
 
 abbrev pub GainsOne : ℕ → CpuSeat → CpuSeat → ℕ → Type 0
 GainsOne tok old new answer = (furthered : Furthered) × ((answer ≡ furthered_number furthered) × Furthers tok old new furthered)
@@ -71,17 +71,17 @@ GainsOne tok old new answer = (furthered : Furthered) × ((answer ≡ furthered_
 abbrev pub SetsMark : ℕ → CpuSeat → CpuSeat → ℕ → Type 0
 SetsMark tok old new answer = (marked : Marked) × ((answer ≡ marked_number marked) × MarksToken tok old new marked)
 
-abbrev pub GivesBack : ℕ → CpuSeat → CpuSeat → ℕ → Type 0
-GivesBack tok old new answer = (gave : GaveBack) × ((answer ≡ gave_number gave) × GivesToken tok old new gave)
+abbrev pub GivesOneBack : ℕ → CpuSeat → CpuSeat → ℕ → Type 0
+GivesOneBack tok old new answer = (gave : GaveBack) × ((answer ≡ gave_number gave) × GivesToken tok old new gave)
 
 abbrev pub LoadsCell : ℕ → ℕ → ℕ → ℕ → CpuSeat → CpuSeat → ℕ → Type 0
 LoadsCell tok cell before now old new answer = (loaded : Loaded) × ((answer ≡ loaded_number loaded) × Loads tok cell old new loaded × TellsLoaded loaded before now)
 
 abbrev pub StoresValue : ℕ → ℕ → ℕ → CpuSeat → CpuSeat → ℕ → Type 0
-StoresValue tok cell value old new answer = (stored : Stored) × ((answer ≡ stored_number stored) × Stores tok cell value old new stored)
+StoresValue tok cell value old new answer = (stored : Stored) × ((answer ≡ stored_number stored) × StoresInCell tok cell value old new stored)
 
 abbrev pub AddsTo : ℕ → ℕ → ℕ → ℕ → CpuSeat → CpuSeat → ℕ → Type 0
-AddsTo tok amount before now old new answer = (added : Added) × ((answer ≡ added_number added) × Adds tok amount old new added × TellsAdded added before now)
+AddsTo tok amount before now old new answer = (added : Added) × ((answer ≡ added_number added) × AddsToCell tok amount old new added × TellsAdded added before now)
 
 abbrev pub JudgesRow : ℕ → CpuSeat → CpuSeat → ℕ → Type 0
 JudgesRow tok old new answer = (judged : Judged) × ((answer ≡ judged_number judged) × JudgesToken tok old new judged)
@@ -89,8 +89,8 @@ JudgesRow tok old new answer = (judged : Judged) × ((answer ≡ judged_number j
 abbrev pub RestoresFirst : ℕ → CpuSeat → CpuSeat → ℕ → Type 0
 RestoresFirst tok old new answer = (restored : RowRestored) × ((answer ≡ restored_number restored) × Restores tok old new restored)
 
-abbrev pub ReadsRecord : ℕ → List ℕ → List ℕ → ℕ → ℕ → CpuSeat → CpuSeat → ℕ → Type 0
-ReadsRecord tok before now before_length now_length old new answer = (read : RecordRead) × ((answer ≡ record_read_number read) × ReadsBytes tok old new read × TellsRecord read before now before_length now_length)
+abbrev pub ReadsTheRecord : ℕ → List ℕ → List ℕ → ℕ → ℕ → CpuSeat → CpuSeat → ℕ → Type 0
+ReadsTheRecord tok before now before_length now_length old new answer = (read : RecordRead) × ((answer ≡ record_read_number read) × ReadsBytes tok old new read × TellsRecord read before now before_length now_length)
 
 abbrev pub WritesRecord : ℕ → List ℕ → CpuSeat → CpuSeat → ℕ → Type 0
 WritesRecord tok bytes old new answer = (written : RecordWritten) × ((answer ≡ record_written_number written) × WritesBytes tok bytes old new written)

@@ -39,23 +39,23 @@ Loads tok cell old new loaded.NoToken = IsMissing old tok × (new ≡ old)
 Loads tok cell old new loaded.NoCell = IsThere old tok × ((plan_of (bank_of old) tok).cells ≤ cell) × (new ≡ old)
 Loads tok cell old new loaded.NotHeld = HasCell old tok cell × IsUnheld old tok × (new ≡ old)
 
-abbrev pub Stores : ℕ → ℕ → ℕ → CpuSeat → CpuSeat → Stored → Type 0
-Stores tok cell value old new done.Stored = HasCell old tok cell × IsMine old tok × ((plan_of (bank_of old) tok).law ≢ Tally)
+abbrev pub StoresInCell : ℕ → ℕ → ℕ → CpuSeat → CpuSeat → Stored → Type 0
+StoresInCell tok cell value old new done.Stored = HasCell old tok cell × IsMine old tok × ((plan_of (bank_of old) tok).law ≢ Tally)
     × Knowing old new tok (stored (entry old tok) cell value) (first_load old.cpu tok (entry old tok) cell ++ writes old.cpu tok cell value ∷ [])
-Stores tok cell value old new done.NoToken = IsMissing old tok × (new ≡ old)
-Stores tok cell value old new done.NoCell = IsThere old tok × ((plan_of (bank_of old) tok).cells ≤ cell) × (new ≡ old)
-Stores tok cell value old new done.NotHeld = HasCell old tok cell × IsUnheld old tok × (new ≡ old)
-Stores tok cell value old new done.SharedWrite = HasCell old tok cell × IsShared old tok × (new ≡ old)
-Stores tok cell value old new done.TallyOnly = HasCell old tok cell × IsMine old tok × ((plan_of (bank_of old) tok).law ≡ Tally) × IsUnchanged old new
+StoresInCell tok cell value old new done.NoToken = IsMissing old tok × (new ≡ old)
+StoresInCell tok cell value old new done.NoCell = IsThere old tok × ((plan_of (bank_of old) tok).cells ≤ cell) × (new ≡ old)
+StoresInCell tok cell value old new done.NotHeld = HasCell old tok cell × IsUnheld old tok × (new ≡ old)
+StoresInCell tok cell value old new done.SharedWrite = HasCell old tok cell × IsShared old tok × (new ≡ old)
+StoresInCell tok cell value old new done.TallyOnly = HasCell old tok cell × IsMine old tok × ((plan_of (bank_of old) tok).law ≡ Tally) × IsUnchanged old new
 
-abbrev pub Adds : ℕ → ℕ → CpuSeat → CpuSeat → Added → Type 0
-Adds tok amount old new (added.Sum sum) = IsThere old tok × IsMine old tok × ((plan_of (bank_of old) tok).law ≡ Tally) × (sum ≡ slice_index (entry old tok).row 0 + amount)
+abbrev pub AddsToCell : ℕ → ℕ → CpuSeat → CpuSeat → Added → Type 0
+AddsToCell tok amount old new (added.Sum sum) = IsThere old tok × IsMine old tok × ((plan_of (bank_of old) tok).law ≡ Tally) × (sum ≡ slice_index (entry old tok).row 0 + amount)
     × Knowing old new tok (raised (entry old tok) old.cpu amount) (first_load old.cpu tok (entry old tok) 0 ++ writes old.cpu tok 0 sum ∷ [])
-Adds tok amount old new added.NoToken = IsMissing old tok × (new ≡ old)
-Adds tok amount old new added.NotHeld = IsThere old tok × IsUnheld old tok × (new ≡ old)
-Adds tok amount old new added.SharedWrite = IsThere old tok × IsShared old tok × (new ≡ old)
-Adds tok amount old new added.TallyOnly = IsThere old tok × IsMine old tok × ((plan_of (bank_of old) tok).law ≢ Tally) × IsUnchanged old new
-Adds tok amount old new added.Overflow = IsThere old tok × IsMine old tok × ((plan_of (bank_of old) tok).law ≡ Tally) × (2 ^ 64 ≤ slice_index (entry old tok).row 0 + amount)
+AddsToCell tok amount old new added.NoToken = IsMissing old tok × (new ≡ old)
+AddsToCell tok amount old new added.NotHeld = IsThere old tok × IsUnheld old tok × (new ≡ old)
+AddsToCell tok amount old new added.SharedWrite = IsThere old tok × IsShared old tok × (new ≡ old)
+AddsToCell tok amount old new added.TallyOnly = IsThere old tok × IsMine old tok × ((plan_of (bank_of old) tok).law ≢ Tally) × IsUnchanged old new
+AddsToCell tok amount old new added.Overflow = IsThere old tok × IsMine old tok × ((plan_of (bank_of old) tok).law ≡ Tally) × (2 ^ 64 ≤ slice_index (entry old tok).row 0 + amount)
     × Knowing old new tok (entry old tok) (first_load old.cpu tok (entry old tok) 0)
 
 abbrev pub JudgesToken : ℕ → CpuSeat → CpuSeat → Judged → Type 0

@@ -15,7 +15,7 @@ use Rattle.lwkt_seats.specs.declared.spots.Spot.{Spot}
 use Rattle.lwkt_seats.specs.declared.spots.Sitter.{Sitter}
 use Rattle.lwkt_seats.specs.declared.desks.Desk.{Desk}
 use Rattle.lwkt_seats.specs.Seated.{IsSeated}
-use Rattle.lwkt_seats.specs.Desks.{IsPlaced, IsSeatOf}
+use Rattle.lwkt_seats.specs.Desks.{IsPlaced, IsSeatAt}
 
 -- the bank of a desk
 abbrev pub IsBankOf : Desk → Bank → Type 0
@@ -30,7 +30,7 @@ AreFree desk sitters = (number : ℕ) (x : Box Sitter) → slice_get sitters num
 
 -- a seat of the desk holds a token
 abbrev pub SomeHolds : Desk → Type 0
-SomeHolds desk = (number : ℕ) × ((s : CpuSeat) × (IsSeatOf desk number s × (holding s ≢ holds_nothing)))
+SomeHolds desk = (number : ℕ) × ((s : CpuSeat) × (IsSeatAt desk number s × (holding s ≢ holds_nothing)))
 
 -- the bank has more tokens than there is room for
 abbrev pub IsWide : Desk → ℕ → Type 0
@@ -45,12 +45,12 @@ abbrev pub RowsObeyLaws : Bank → Closed → Type 0
 RowsObeyLaws bank closed = (tok : ℕ) → tok < tokens_of (id_of bank) → Obeys (plan_of (id_of bank) tok).law (plan_of (id_of bank) tok).param (slice_index_or closed.rows.items tok []) (length_of (slice_index_or closed.blobs.items tok None))
 
 -- the closing values of the desk's bank with its seats, one of each place, which held nothing; there is room for them
-pub record Ends (desk : Desk) (room : ℕ) (closed : Closed) : Type 0 where
+pub record ClosesDesk (desk : Desk) (room : ℕ) (closed : Closed) : Type 0 where
   pub bank : Bank
   pub seats : List CpuSeat
   pub is_bank : IsBankOf desk bank
   pub as_many : length seats ≡ length desk.places.items
-  pub seated : (number : ℕ) (s : CpuSeat) → slice_get seats number ≡ Some s → IsSeatOf desk number s
+  pub seated : (number : ℕ) (s : CpuSeat) → slice_get seats number ≡ Some s → IsSeatAt desk number s
   pub ready : All (IsReady (id_of bank)) seats
   pub is_closed : IsClosed (id_of bank) (cpus_of bank) seats closed
   pub lawful : RowsObeyLaws bank closed

@@ -11,8 +11,8 @@ abbrev pub IsPlaced : Desk → ℕ → Spot → Type 0
 IsPlaced desk number spot = slice_get desk.places.items number ≡ Some spot
 
 -- the seat of a number: of the desk's bank, and of the processor of that number
-abbrev pub IsSeatOf : Desk → ℕ → CpuSeat → Type 0
-IsSeatOf desk number s = (spot : Spot) × (IsPlaced desk number spot × (bank_of s ≡ id_of (arc_value spot.bank)) × (s.cpu.0 ≡ number))
+abbrev pub IsSeatAt : Desk → ℕ → CpuSeat → Type 0
+IsSeatAt desk number s = (spot : Spot) × (IsPlaced desk number spot × (bank_of s ≡ id_of (arc_value spot.bank)) × (s.cpu.0 ≡ number))
 
 -- there is no seat of this number; or another call has it, 50, or the bank is closed, 52; or the seat was so when the call came, and
 -- is so when it is over, and the answer tells what came of it
@@ -20,4 +20,4 @@ abbrev pub IsDeskAnswer : Desk → ℕ → (CpuSeat → CpuSeat → ℕ → Type
 IsDeskAnswer desk number Does answer =
     ((answer ≡ 30) × (length desk.places.items ≤ number))
     ⊎ (((answer ≡ 50) ⊎ (answer ≡ 52)) × (number < length desk.places.items))
-    ⊎ ((old : CpuSeat) × ((new : CpuSeat) × (IsSeatOf desk number old × IsSeatOf desk number new × Does old new answer)))
+    ⊎ ((old : CpuSeat) × ((new : CpuSeat) × (IsSeatAt desk number old × IsSeatAt desk number new × Does old new answer)))

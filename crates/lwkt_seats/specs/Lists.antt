@@ -25,9 +25,9 @@ use Rattle.lwkt_seats.specs.Asks.{ObeysItsLaw, Asked_for, GivesReference}
 use Rattle.lwkt_seats.specs.Cells.{IsMine, RestoresRow}
 
 -- one thing after another is done, from the first seat to the last
-abbrev pub Chain : {A : Type 0} → (A → CpuSeat → CpuSeat → Type 0) → List A → CpuSeat → CpuSeat → Type 0
-Chain Does [] old new = new ≡ old
-Chain Does (x ∷ xs) old new = (next : CpuSeat) × (Does x old next × Chain Does xs next new)
+abbrev pub DoneInTurn : {A : Type 0} → (A → CpuSeat → CpuSeat → Type 0) → List A → CpuSeat → CpuSeat → Type 0
+DoneInTurn Does [] old new = new ≡ old
+DoneInTurn Does (x ∷ xs) old new = (next : CpuSeat) × (Does x old next × DoneInTurn Does xs next new)
 
 -- a reference as C names it
 abbrev pub mode_of_number : ℕ → Mode
@@ -88,14 +88,14 @@ GivesUnwritten tok old new = Gave old new tok One ⊎ Gave old new tok Clean
 
 -- the references of a list are taken in order: all of them, or those in front of the first that is missed
 abbrev pub TakesAll : List Ref → CpuSeat → CpuSeat → Type 0
-TakesAll refs old new = Chain (TakesOne refs) refs old new × (holding new ≡ holding_of refs)
+TakesAll refs old new = DoneInTurn (TakesOne refs) refs old new × (holding new ≡ holding_of refs)
 
 abbrev pub TakesUpTo : List Ref → ℕ → Missed → CpuSeat → CpuSeat → Type 0
-TakesUpTo refs at why old new = IsSomeAnd (slice_get refs at) (λ r. (taken : CpuSeat) × (Chain (TakesOne refs) (take at refs) old taken × MissesOne refs r taken new why))
+TakesUpTo refs at why old new = IsSomeAnd (slice_get refs at) (λ r. (taken : CpuSeat) × (DoneInTurn (TakesOne refs) (take at refs) old taken × MissesOne refs r taken new why))
 
 -- a list is missed at a place, and those in front of it are given back: nothing is held
 abbrev pub GivesBackAll : CpuSeat → CpuSeat → Type 0
-GivesBackAll old new = (holding new ≡ holds_nothing) × ((done : List ℕ) × Chain GivesUnwritten done old new)
+GivesBackAll old new = (holding new ≡ holds_nothing) × ((done : List ℕ) × DoneInTurn GivesUnwritten done old new)
 
 abbrev pub TakesNone : List Ref → ℕ → Missed → CpuSeat → CpuSeat → Type 0
 TakesNone refs at why old new = (tried : CpuSeat) × (TakesUpTo refs at why old tried × GivesBackAll tried new)
@@ -121,20 +121,20 @@ EndsPair x old new = EndsOne x.0.0 old new x.1
 
 -- references are given back, one after another
 abbrev pub EndsEach : CpuSeat → CpuSeat → Type 0
-EndsEach old new = (done : List (TokId × Bool)) × Chain EndsPair done old new
+EndsEach old new = (done : List (TokId × Bool)) × DoneInTurn EndsPair done old new
 
 -- the seat holds the token exclusively, and row and record break its law
-abbrev pub IsBroken : CpuSeat → ℕ → Type 0
-IsBroken s tok = IsMine s tok × (¬ ObeysItsLaw s tok)
+abbrev pub BreaksLaw : CpuSeat → ℕ → Type 0
+BreaksLaw s tok = IsMine s tok × (¬ ObeysItsLaw s tok)
 
 -- each token below a number that the seat holds exclusively obeys its law
 abbrev pub AreLawfulBelow : CpuSeat → ℕ → Type 0
 AreLawfulBelow s n = (tok : ℕ) → tok < n → IsMine s tok → ObeysItsLaw s tok
 
 -- the first token below a number that breaks its law, if there is one
-abbrev pub IsFirstBroken : CpuSeat → ℕ → Option TokId → Type 0
-IsFirstBroken s n None = AreLawfulBelow s n
-IsFirstBroken s n (Some tok) = (tok.0 < n) × IsBroken s tok.0 × AreLawfulBelow s tok.0
+abbrev pub IsFirstToBreak : CpuSeat → ℕ → Option TokId → Type 0
+IsFirstToBreak s n None = AreLawfulBelow s n
+IsFirstToBreak s n (Some tok) = (tok.0 < n) × BreaksLaw s tok.0 × AreLawfulBelow s tok.0
 
 -- the first token that was restored so far, if any was, after one token more
 abbrev pub first_restored : Option TokId → Bool → TokId → Option TokId
@@ -144,4 +144,4 @@ first_restored None false tok = None
 
 -- all that a seat holds is given up; the first token that broke its law, if there is one, is named
 abbrev pub BlocksSeat : CpuSeat → CpuSeat → Option TokId → Type 0
-BlocksSeat old new first = (holding new ≡ holds_nothing) × IsFirstBroken old (tokens_of (bank_of old)) first × EndsEach old new
+BlocksSeat old new first = (holding new ≡ holds_nothing) × IsFirstToBreak old (tokens_of (bank_of old)) first × EndsEach old new

@@ -7,11 +7,11 @@ use Rattle.lwkt_bank.specs.Views.{RecordOf}
 use Rattle.lwkt_seats.specs.declared.tokens.LwktToken.{LwktToken}
 
 -- a token has at most four cells, one of the six laws, at most 64 bytes and at most one record
-abbrev pub IsToken : LwktToken → Type 0
-IsToken token = (token.cells ≤ 4) × (token.law ≤ 5) × (token.length ≤ 64) × (token.records ≤ 1)
+abbrev pub IsOpenable : LwktToken → Type 0
+IsOpenable token = (token.cells ≤ 4) × (token.law ≤ 5) × (token.length ≤ 64) × (token.records ≤ 1)
 
 abbrev pub AreTokens : List LwktToken → Type 0
-AreTokens tokens = All IsToken tokens
+AreTokens tokens = All IsOpenable tokens
 
 -- the law of a number
 abbrev pub law_of_number : ℕ → Law

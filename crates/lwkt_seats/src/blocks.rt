@@ -5,7 +5,7 @@ ghost use Rattle.lwkt_base.specs.Holding.{is_held, removed};
 ghost use Rattle.lwkt_bank.specs.Seats.{id_of, bank_of, tokens_of, plan_of, entry, holding};
 ghost use Rattle.lwkt_seats.specs.Asks.{ObeysItsLaw};
 ghost use Rattle.lwkt_seats.specs.Cells.{IsMine};
-ghost use Rattle.lwkt_seats.specs.Lists.{EndsRestored, EndsOne, EndsEach, IsBroken, BlocksSeat, first_restored};
+ghost use Rattle.lwkt_seats.specs.Lists.{EndsRestored, EndsOne, EndsEach, BreaksLaw, BlocksSeat, first_restored};
 ghost use Rattle.lwkt_seats.specs.Seated.{KeepsBankAndCpu};
 
 use crate::answers::GaveBack;
@@ -66,7 +66,7 @@ fn give_up(seat: &mut CpuSeat, bank: &Bank, tok: TokId) -> bool
     requires of { bank_of seat.old ≡ id_of bank.now }
     requires there { tok.0 < tokens_of (bank_of seat.old) }
     ensures does { EndsEach seat.old seat.new }
-    ensures broken { result ≡ true → IsBroken seat.old tok.0 }
+    ensures broken { result ≡ true → BreaksLaw seat.old tok.0 }
     ensures lawful { result ≡ false → IsMine seat.old tok.0 → ObeysItsLaw seat.old tok.0 }
     ensures gone { holding seat.new tok.0 ≡ Held.Nothing }
     ensures others { (other : ℕ) → other ≢ tok.0 → entry seat.new other ≡ entry seat.old other }

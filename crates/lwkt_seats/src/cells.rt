@@ -1,7 +1,7 @@
 //! The cells of a token that a seat holds.
 ghost use Rattle.std.specs.Prelude.{◌≡◌, ◌<◌};
 ghost use Rattle.lwkt_bank.specs.Seats.{id_of, bank_of, tokens_of};
-ghost use Rattle.lwkt_seats.specs.Cells.{Loads, Stores, Adds, JudgesToken, Restores};
+ghost use Rattle.lwkt_seats.specs.Cells.{Loads, StoresInCell, AddsToCell, JudgesToken, Restores};
 ghost use Rattle.lwkt_seats.specs.Seated.{KeepsBankAndCpu};
 
 use crate::answers::{Added, Judged, Loaded, RowRestored, Stored};
@@ -30,7 +30,7 @@ pub(crate) fn load(seat: &mut CpuSeat, bank: &Bank, token: u32, cell: u32) -> Lo
 /// Stores a value in a cell.
 pub(crate) fn store(seat: &mut CpuSeat, bank: &Bank, token: u32, cell: u32, value: u64) -> Stored
     requires of { bank_of seat.old ≡ id_of bank.now }
-    ensures does { Stores token cell value seat.old seat.new result }
+    ensures does { StoresInCell token cell value seat.old seat.new result }
     ensures same { KeepsBankAndCpu seat.old seat.new }
 {
     if token as usize >= bank.tokens() {
@@ -56,7 +56,7 @@ pub(crate) fn store(seat: &mut CpuSeat, bank: &Bank, token: u32, cell: u32, valu
 /// Adds to the cell of a Tally token.
 pub(crate) fn add(seat: &mut CpuSeat, bank: &Bank, token: u32, amount: u64) -> Added
     requires of { bank_of seat.old ≡ id_of bank.now }
-    ensures does { Adds token amount seat.old seat.new result }
+    ensures does { AddsToCell token amount seat.old seat.new result }
     ensures same { KeepsBankAndCpu seat.old seat.new }
 {
     if token as usize >= bank.tokens() {

@@ -1,7 +1,7 @@
 //! The close of a bank, for C; include/lwkt.h declares it.
 ghost use Rattle.std.specs.Prelude.{◌≡◌, ◌≢◌, ◌⊎◌, length};
 ghost use Rattle.lwkt_bank.specs.declared.closed.Closed.{Closed};
-ghost use Rattle.lwkt_seats.specs.Closes.{SomeHolds, IsWide, Ends};
+ghost use Rattle.lwkt_seats.specs.Closes.{SomeHolds, IsWide, ClosesDesk};
 ghost use Rattle.lwkt_seats.specs.Closings.{TellsClosing};
 
 use crate::closings::{LwktClosing, tell};
@@ -20,7 +20,7 @@ pub extern "C" fn lwkt_bank_close(
     bank: LwktBank,
     closings: &mut [LwktClosing],
 ) -> u32
-    ensures closed { result ≡ 0 → (closed : Closed) × (Ends bank.desk (length closings.old) closed × TellsClosing closed closings.old closings.new) }
+    ensures closed { result ≡ 0 → (closed : Closed) × (ClosesDesk bank.desk (length closings.old) closed × TellsClosing closed closings.old closings.new) }
     ensures holds { result ≡ 51 → SomeHolds bank.desk }
     ensures wide { result ≡ 39 → IsWide bank.desk (length closings.old) }
     ensures only { (result ≡ 0) ⊎ ((result ≡ 32) ⊎ ((result ≡ 39) ⊎ ((result ≡ 50) ⊎ ((result ≡ 51) ⊎ (result ≡ 52))))) }

@@ -96,7 +96,7 @@ fn prepare(
 }
 
 impl Desk {
-    ghost use Rattle.lwkt_seats.specs.Closes.{IsFreeAt, AreFree, SomeHolds, Ends, IsWide};
+    ghost use Rattle.lwkt_seats.specs.Closes.{IsFreeAt, AreFree, SomeHolds, ClosesDesk, IsWide};
 
     // The seat of a number, which holds nothing, taken from its place.
     fn free_seat(&self, number: u32) -> Result<Box<Sitter>, u32>
@@ -156,7 +156,7 @@ impl Desk {
     /// `IN_USE` or `CLOSED` where a seat doesn't rest, `HOLDS` where one holds a token, `NO_ROOM`: the seats are in their places as
     /// before. `NO_MEMORY`: so they are, or the bank is given up, and closed.
     pub(crate) fn close(&self, alloc: Global, room: usize) -> Result<Closed, u32>
-        ensures ok { IfOk result (λ closed. Ends self.now room closed) }
+        ensures ok { IfOk result (λ closed. ClosesDesk self.now room closed) }
         ensures holds { result ≡ Err 51 → SomeHolds self.now }
         ensures short { result ≡ Err 39 → IsWide self.now room }
         ensures only { IfErr result (λ answer. (answer ≡ 32) ⊎ ((answer ≡ 39) ⊎ ((answer ≡ 50) ⊎ ((answer ≡ 51) ⊎ (answer ≡ 52))))) }

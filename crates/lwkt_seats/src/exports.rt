@@ -2,7 +2,7 @@
 ghost use Rattle.std.specs.Prelude.{◌≡◌, ◌≢◌, ℕ};
 ghost use Rattle.lwkt_base.specs.declared.names.Mode.TheVariants.{Exclusive, Shared};
 ghost use Rattle.lwkt_seats.specs.Desks.{IsDeskAnswer};
-ghost use Rattle.lwkt_seats.specs.Calls.{Takes, GainsOne, SetsMark, GivesBack, LoadsCell, StoresValue, AddsTo, JudgesRow, RestoresFirst, TellsLoaded, TellsAdded};
+ghost use Rattle.lwkt_seats.specs.Calls.{TakesAt, GainsOne, SetsMark, GivesOneBack, LoadsCell, StoresValue, AddsTo, JudgesRow, RestoresFirst, TellsLoaded, TellsAdded};
 ghost use Rattle.lwkt_seats.specs.Numbers.{loaded_number, added_number};
 
 use crate::answers::{Added, Loaded};
@@ -41,7 +41,7 @@ fn tell_added(added: Added, value: &mut u64) -> u32
 /// where it doesn't hold it, 20 at the last generation, 23 where another seat holds it, 34 where another seat's step came between. 30 where there is no seat of this number, 50 while another call has it, 52 where the bank is closed.
 #[unsafe(no_mangle)]
 pub extern "C" fn lwkt_take(bank: LwktBank, seat: u32, token: u32) -> u32
-    ensures { IsDeskAnswer bank.desk seat (Takes Exclusive token) result }
+    ensures { IsDeskAnswer bank.desk seat (TakesAt Exclusive token) result }
 {
     let (place, mut sitter) = match bank.desk().seat(seat) {
         Ok(found) => found,
@@ -58,7 +58,7 @@ pub extern "C" fn lwkt_take(bank: LwktBank, seat: u32, token: u32) -> u32
 /// 0; or 16, 10, 23 and 34 as `lwkt_take`; 23 also where the mark of an exclusive request holds off a seat that has no reference. 30 where there is no seat of this number, 50 while another call has it, 52 where the bank is closed.
 #[unsafe(no_mangle)]
 pub extern "C" fn lwkt_share(bank: LwktBank, seat: u32, token: u32) -> u32
-    ensures { IsDeskAnswer bank.desk seat (Takes Shared token) result }
+    ensures { IsDeskAnswer bank.desk seat (TakesAt Shared token) result }
 {
     let (place, mut sitter) = match bank.desk().seat(seat) {
         Ok(found) => found,
@@ -110,7 +110,7 @@ pub extern "C" fn lwkt_mark(bank: LwktBank, seat: u32, token: u32) -> u32
 /// exclusive holder, and row and record don't obey the law: the token stays held. 30 where there is no seat of this number, 50 while another call has it, 52 where the bank is closed.
 #[unsafe(no_mangle)]
 pub extern "C" fn lwkt_give(bank: LwktBank, seat: u32, token: u32) -> u32
-    ensures { IsDeskAnswer bank.desk seat (GivesBack token) result }
+    ensures { IsDeskAnswer bank.desk seat (GivesOneBack token) result }
 {
     let (place, mut sitter) = match bank.desk().seat(seat) {
         Ok(found) => found,

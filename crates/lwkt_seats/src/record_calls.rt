@@ -1,7 +1,7 @@
 //! The calls on a token's record, for C; include/lwkt.h declares them.
 ghost use Rattle.std.specs.Prelude.{◌≡◌, ◌≢◌, ◌≤◌};
 ghost use Rattle.lwkt_seats.specs.Desks.{IsDeskAnswer};
-ghost use Rattle.lwkt_seats.specs.Calls.{ReadsRecord, WritesRecord, TellsRecord};
+ghost use Rattle.lwkt_seats.specs.Calls.{ReadsTheRecord, WritesRecord, TellsRecord};
 ghost use Rattle.lwkt_seats.specs.Numbers.{record_read_number};
 ghost use Rattle.lwkt_seats.specs.Records.{buffer_with_bytes};
 
@@ -45,7 +45,7 @@ pub extern "C" fn lwkt_read_record(
     buffer: &mut [u8],
     length: &mut usize,
 ) -> u32
-    ensures does { IsDeskAnswer bank.desk seat (ReadsRecord token buffer.old buffer.new length.old length.new) result }
+    ensures does { IsDeskAnswer bank.desk seat (ReadsTheRecord token buffer.old buffer.new length.old length.new) result }
     ensures short { result ≡ 0 → length.new ≤ 64 }
     ensures kept { result ≢ 0 → (buffer.new ≡ buffer.old) × (length.new ≡ length.old) }
 {

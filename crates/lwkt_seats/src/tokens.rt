@@ -36,11 +36,11 @@ pub struct LwktToken {
 }
 
 impl LwktToken {
-    ghost use Rattle.lwkt_seats.specs.Openings.{IsToken, law_of_number, record_of, spec_of};
+    ghost use Rattle.lwkt_seats.specs.Openings.{IsOpenable, law_of_number, record_of, spec_of};
 
     /// Whether it has at most four cells, one of the six laws, at most 64 bytes and at most one record.
     pub fn is_token(&self) -> bool
-        ensures { IsTrue result ↔ IsToken self.now }
+        ensures { IsTrue result ↔ IsOpenable self.now }
     {
         self.cells <= 4 && self.law <= 5 && self.length <= 64 && self.records <= 1
     }
@@ -71,7 +71,7 @@ impl LwktToken {
     /// Whether what is declared of it keeps the limits of an opening: exactly one cell and no record under tally, a cell and a
     /// record under len, and a generation that isn't past the last.
     pub fn is_within(&self) -> bool
-        requires { IsToken self.now }
+        requires { IsOpenable self.now }
         ensures { IsTrue result ↔ IsTokenWithin (spec_of self.now) }
     {
         let all = [self.first, self.second, self.third, self.fourth];
@@ -87,7 +87,7 @@ impl LwktToken {
 
     /// Whether its row, with the length of its record, obeys its law.
     pub fn opens_lawfully(&self) -> bool
-        requires { IsToken self.now }
+        requires { IsOpenable self.now }
         ensures { IsTrue result ↔ OpensLawfully (spec_of self.now).law (spec_of self.now).param (spec_of self.now).cells (option_map length (spec_of self.now).blob) }
     {
         let all = [self.first, self.second, self.third, self.fourth];

@@ -13,7 +13,7 @@ use Rattle.lwkt_run.specs.declared.threaded.ThreadRecord.{ThreadRecord}
 use Rattle.lwkt_script.specs.declared.scripts.Script.{Script}
 use Rattle.lwkt_script.specs.Format.{script_of}
 use Rattle.lwkt_scenes.specs.declared.reels.Chosen.{Chosen}
-use Rattle.lwkt_scenes.specs.Lines.{IsTold}
+use Rattle.lwkt_scenes.specs.Lines.{AreLinesOf}
 use Rattle.lwkt_scenes.specs.Shown.{first_turn}
 use Rattle.lwkt_trace.specs.Written.{trace_text}
 use Rattle.lwkt_show.specs.declared.options.Options.{Options}
@@ -28,13 +28,13 @@ chosen_by options = record { counted = options.counted; first = options.first; l
 
 -- the lines of a run in rounds, or along an order: of each turn that the options choose its line, one behind another, then some words,
 -- and then the run's report
-abbrev pub HasLines : Options → Option (List ℕ) → TurnsRun → List ℕ → Type 0
-HasLines options order run text = IsTold (chosen_by options) order run.script.cpus run.polls run.turns.items run.closing text
+abbrev pub ShowsLines : Options → Option (List ℕ) → TurnsRun → List ℕ → Type 0
+ShowsLines options order run text = AreLinesOf (chosen_by options) order run.script.cpus run.polls run.turns.items run.closing text
 
 -- what is said of a text that shows what was kept: it has the lines of the chosen turns, and ends with the report; a trace is the text of
 -- the script's opening, of all events and of what the report closes with; of the other views nothing is said
 abbrev pub ShowsBy : View → Options → Option (List ℕ) → TurnsRun → List ℕ → Type 0
-ShowsBy Lines options order run text = HasLines options order run text
+ShowsBy Lines options order run text = ShowsLines options order run text
 ShowsBy Trace options order run text = text ≡ trace_text run.script run.trace.items run.closing
 ShowsBy Picture options order run text = Unit {0}
 ShowsBy Chains options order run text = Unit {0}

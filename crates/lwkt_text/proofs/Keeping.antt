@@ -19,7 +19,7 @@ use Rattle.lwkt_text.specs.declared.wrongs.Wrong.{Wrong}
 use Rattle.lwkt_text.specs.declared.wrongs.What.TheVariants as whats
 use Rattle.lwkt_text.specs.Drafting.{no_draft, blamed, crowded, closed_by, closed, thread_begun, put}
 use Rattle.lwkt_text.specs.Looking.{wrong_at}
-use Rattle.lwkt_text.specs.Within.{IsHead, MayBeSaid, HasRoom, IsDraft}
+use Rattle.lwkt_text.specs.Within.{IsHead, MayBeSaid, HasRoomBehind, IsDraft}
 
 -- nothing was told
 pub none_within : (cpus : ℕ) (faults : List Wrong) → IsDraft cpus (no_draft faults)
@@ -162,7 +162,7 @@ closed_with cpus h d is room i =
       few_steps = omega arith;
     }
 
-closed_cases : (cpus : ℕ) (head : Option Head) (d : Draft) → HasRoom cpus d.threads head → IsDraft cpus d → IsDraft cpus (closed_by head d)
+closed_cases : (cpus : ℕ) (head : Option Head) (d : Draft) → HasRoomBehind cpus d.threads head → IsDraft cpus d → IsDraft cpus (closed_by head d)
 closed_cases cpus None d room i = i
 closed_cases cpus (Some h) d room i = closed_with cpus h d room.0 room.1 i
 

@@ -21,7 +21,7 @@ use Rattle.lwkt_text.specs.declared.wrongs.Wanted.TheVariants as wanted
 use Rattle.lwkt_text.specs.declared.wrongs.What.TheVariants as whats
 use Rattle.lwkt_text.specs.declared.wrongs.Wrong.{Wrong}
 use Rattle.lwkt_text.specs.Looking.{text_at, is_at, part_at, demand_at, ends_at, wrong_at, decimal_number, number_at, bytes_at}
-use Rattle.lwkt_text.specs.Naming.{token_id_at, message_id_at, cell_at, named_thread}
+use Rattle.lwkt_text.specs.Naming.{token_id_at, message_id_at, cell_by_words, named_thread}
 use Rattle.lwkt_text.specs.Outcome.{◌>>=◌, ◌>>◌}
 use Rattle.lwkt_text.specs.Stepping.{call_at, call_end, last_number}
 
@@ -51,7 +51,7 @@ plain_at ws i = part_at ws i whats.Quantity (decimal_number (text_at ws i)) >>= 
 
 -- `T.C` from word i on
 abbrev pub cell_term_at : Names → List Word → ℕ → Result Term Wrong
-cell_term_at names ws i = cell_at names ws i >>= λ p. Ok (term (quantities.Cell p.tok p.cell) (i + 3))
+cell_term_at names ws i = cell_by_words names ws i >>= λ p. Ok (term (quantities.Cell p.tok p.cell) (i + 3))
 
 -- a quantity that a word before it names, or a number
 abbrev pub named_term : Names → List Word → ℕ → Result Term Wrong

@@ -42,8 +42,8 @@ part_said names ws =
     if is_at ws 0 (codes "thread") then (head_of names ws >>= λ h. Ok (saids.Thread h)) else claim_said names ws))
 
 -- what a sentence tells
-unfoldable pub said : Names → List Word → Result Said Wrong
-said names ws = demand_at ws 1000 whats.Long (nat_le (length ws) 1000) >> (
+unfoldable pub said_by_sentence : Names → List Word → Result Said Wrong
+said_by_sentence names ws = demand_at ws 1000 whats.Long (nat_le (length ws) 1000) >> (
     if is_at ws 0 (codes "turns") then (setting ws 1000000 >>= λ n. Ok (saids.Turns n)) else (
     if is_at ws 0 (codes "idle") then (setting ws 100000000 >>= λ n. Ok (saids.Idle n)) else (
     if is_at ws 0 (codes "cpus") then (setting ws 8 >>= λ n. Ok saids.Cpus) else part_said names ws)))
@@ -95,7 +95,7 @@ put_or_blamed (Err wrong) ws d = blamed wrong d
 
 -- a sentence, told
 abbrev pub sentence_told : Names → List Word → Draft → Draft
-sentence_told names ws d = put_or_blamed (said names ws) ws d
+sentence_told names ws d = put_or_blamed (said_by_sentence names ws) ws d
 
 abbrev pub all_told : Names → List Sentence → Draft → Draft
 all_told names [] d = d

@@ -44,8 +44,8 @@ abbrev pub cells_of : Names → TokId → List (List ℕ)
 cells_of names tok = unwrap_or (slice_get names.cells tok.0) []
 
 -- words i to i + 2, a token and a cell of it
-unfoldable pub cell_at : Names → List Word → ℕ → Result CellPlace Wrong
-cell_at names ws i = do
+unfoldable pub cell_by_words : Names → List Word → ℕ → Result CellPlace Wrong
+cell_by_words names ws i = do
   tok ← token_id_at names ws i
   demand_at ws (i + 1) (whats.Word Point) (is_at ws (i + 1) (codes "."))
   cell ← part_at ws (i + 2) whats.Cell (reference (cells_of names tok) (text_at ws (i + 2)))

@@ -13,7 +13,7 @@ use Rattle.lwkt_text.specs.declared.wrongs.Wanted.TheVariants.{Arrow}
 use Rattle.lwkt_text.specs.declared.wrongs.What.TheVariants as whats
 use Rattle.lwkt_text.specs.declared.wrongs.Wrong.{Wrong}
 use Rattle.lwkt_text.specs.Looking.{is_at, demand_at, ends_at, wrong_at, number_at, bytes_at, optional, past_key}
-use Rattle.lwkt_text.specs.Naming.{token_id_at, message_id_at, cell_at, thread_id_at, thread_length}
+use Rattle.lwkt_text.specs.Naming.{token_id_at, message_id_at, cell_by_words, thread_id_at, thread_length}
 use Rattle.lwkt_text.specs.Outcome.{◌>>=◌, ◌>>◌}
 
 -- word 1, a token, and nothing more
@@ -87,10 +87,10 @@ reply_of names ws = do
   Ok (asks.Reply msg error result)
 
 abbrev pub read_of : Names → List Word → Result Ask Wrong
-read_of names ws = cell_at names ws 1 >>= λ p. ends_at ws 4 >> Ok (asks.Read p.tok p.cell)
+read_of names ws = cell_by_words names ws 1 >>= λ p. ends_at ws 4 >> Ok (asks.Read p.tok p.cell)
 
 abbrev pub write_of : Names → List Word → Result Ask Wrong
-write_of names ws = cell_at names ws 1 >>= λ p. number_at ws 4 0 18446744073709551615 >>= λ v. ends_at ws 5 >> Ok (asks.Write p.tok p.cell v)
+write_of names ws = cell_by_words names ws 1 >>= λ p. number_at ws 4 0 18446744073709551615 >>= λ v. ends_at ws 5 >> Ok (asks.Write p.tok p.cell v)
 
 abbrev pub add_of : Names → List Word → Result Ask Wrong
 add_of names ws = token_id_at names ws 1 >>= λ tok. number_at ws 2 0 18446744073709551615 >>= λ k. ends_at ws 3 >> Ok (asks.Add tok k)

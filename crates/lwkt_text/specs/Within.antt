@@ -26,9 +26,9 @@ MayBeSaid cpus (saids.Step a) = Unit {0}
 MayBeSaid cpus (saids.Expect e) = Unit {0}
 
 -- the thread whose steps are told has room behind the others
-abbrev pub HasRoom : ℕ → List ThreadSpec → Option Head → Type 0
-HasRoom cpus threads None = Unit {0}
-HasRoom cpus threads (Some h) = IsHead cpus h × (threads_on h.cpu.0 threads < 16)
+abbrev pub HasRoomBehind : ℕ → List ThreadSpec → Option Head → Type 0
+HasRoomBehind cpus threads None = Unit {0}
+HasRoomBehind cpus threads (Some h) = IsHead cpus h × (threads_on h.cpu.0 threads < 16)
 
 -- what was told keeps the limits
 pub record IsDraft (cpus : ℕ) (d : Draft) : Type 0 where
@@ -42,5 +42,5 @@ pub record IsDraft (cpus : ℕ) (d : Draft) : Type 0 where
   pub messages : All (IsMessage cpus) d.messages
   pub threads : All (IsThread cpus) d.threads
   pub few_threads : (cpu : ℕ) → threads_on cpu d.threads ≤ 16
-  pub head : HasRoom cpus d.threads d.head
+  pub head : HasRoomBehind cpus d.threads d.head
   pub few_steps : length d.steps ≤ 256

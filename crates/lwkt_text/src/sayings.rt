@@ -1,5 +1,5 @@
 ghost use Rattle.std.specs.Prelude.{◌≡◌, ◌<◌, ◌≤◌, length, IfOk};
-ghost use Rattle.lwkt_text.specs.Drafting.{setting, expected, claim_said, part_said, said};
+ghost use Rattle.lwkt_text.specs.Drafting.{setting, expected, claim_said, part_said, said_by_sentence};
 ghost use Rattle.lwkt_text.specs.Outcome.{IsAsRead};
 ghost use Rattle.lwkt_text.specs.Within.{MayBeSaid};
 
@@ -93,7 +93,7 @@ fn part_said(alloc: Global, names: &Names, words: &[Word]) -> Result<Said, Slip>
 #[tactic(auto, unfolding(crate::specs::Drafting::said))]
 pub fn told_by(alloc: Global, names: &Names, words: &[Word]) -> Result<Said, Slip>
     requires { 0 < names.now.cpus }
-    ensures exact { IsAsRead result (said names.now words.now) }
+    ensures exact { IsAsRead result (said_by_sentence names.now words.now) }
     ensures limits { IfOk result (MayBeSaid names.now.cpus) }
 {
     checked(demand_at(words, 1000, What::Long, words.len() <= 1000))?;

@@ -1,5 +1,5 @@
 ghost use Rattle.std.specs.Prelude.{◌≡◌, ◌≤◌};
-ghost use Rattle.lwkt_text.specs.Naming.{position, reference, token_id_at, message_id_at, cells_of, cell_at, thread_length, numbered_thread, named_thread, thread_id_at};
+ghost use Rattle.lwkt_text.specs.Naming.{position, reference, token_id_at, message_id_at, cells_of, cell_by_words, thread_length, numbered_thread, named_thread, thread_id_at};
 
 use crate::looks::{decimal_number, demand_at, is_at, number_at, text_at, wrong_at};
 use crate::many::Many;
@@ -91,7 +91,7 @@ fn cells_of(names: &Names, tok: TokId) -> &[Name]
 #[tactic(auto, unfolding(crate::specs::Naming::cell_at))]
 pub fn cell_at(names: &Names, words: &[Word], i: usize) -> Result<CellPlace, Wrong>
     requires { i ≤ 100000 }
-    ensures { result ≡ cell_at names.now words.now i }
+    ensures { result ≡ cell_by_words names.now words.now i }
 {
     let tok = token_id_at(names, words, i)?;
     demand_at(

@@ -19,10 +19,10 @@ use Rattle.lwkt_cpu.proofs.TurnMoves.{made_ports}
 use Rattle.lwkt_drive.specs.declared.driven.Driven.{Driven}
 use Rattle.lwkt_drive.specs.declared.driven.Limits.{Limits}
 use Rattle.lwkt_drive.specs.declared.driven.Ending.TheVariants.{NoMemory}
-use Rattle.lwkt_drive.specs.Course.{IsAt, IsDriven}
+use Rattle.lwkt_drive.specs.Course.{IsAtTables, IsDriven}
 use Rattle.lwkt_machine.specs.Bodies.{Scripted, IsPolled}
-use Rattle.lwkt_machine.specs.Machines.{IsOf, AreAllJoined, AreParts}
-use Rattle.lwkt_threads.specs.Driven.{IsFresh, IsAmple, WasDriven, AreDriven}
+use Rattle.lwkt_machine.specs.Machines.{IsOfMachine, AreAllJoined, AreOneMachine}
+use Rattle.lwkt_threads.specs.Driven.{IsUndriven, IsAmple, WasDriven, AreDriven}
 
 behind : {A : Type 0} (xs ys : List A) (y : A) → slice_get (xs ++ y ∷ ys) (length xs) ≡ Some y
 behind [] ys y = refl
@@ -35,8 +35,8 @@ next_at {A} xs ys y all is =
     subst F is (behind xs ys y)
 
 -- one more
-pub fresh_more : (xs : List (Processor Scripted)) (ys : List (Driven Scripted)) (p : Processor Scripted) (d : Driven Scripted) → AllZip IsFresh xs ys → d.cpu ≡ p → d.trace.items ≡ [] → d.id.0 ≡ p.seat.cpu.0 → AllZip IsFresh (xs ++ p ∷ []) (ys ++ d ∷ [])
-fresh_more xs ys p d zip cpu none id = AllZip-append IsFresh xs ys (p ∷ []) (d ∷ []) zip (record { cpu = cpu; trace = none; id = id }, tt)
+pub fresh_more : (xs : List (Processor Scripted)) (ys : List (Driven Scripted)) (p : Processor Scripted) (d : Driven Scripted) → AllZip IsUndriven xs ys → d.cpu ≡ p → d.trace.items ≡ [] → d.id.0 ≡ p.seat.cpu.0 → AllZip IsUndriven (xs ++ p ∷ []) (ys ++ d ∷ [])
+fresh_more xs ys p d zip cpu none id = AllZip-append IsUndriven xs ys (p ∷ []) (d ∷ []) zip (record { cpu = cpu; trace = none; id = id }, tt)
 
 -- two lists that fit are as long, and fit at each place
 zip_long : {A B : Type 0} (R : A → B → Type 0) (xs : List A) (ys : List B) → AllZip R xs ys → length ys ≡ length xs
@@ -53,12 +53,12 @@ zip_at R (a ∷ xs) (b ∷ ys) zip zero x y less = zip.0
 zip_at R (a ∷ xs) (b ∷ ys) zip (suc k) x y less = zip_at R xs ys zip.1 k x y (omega (arith, less))
 
 -- processors of a bank and a book that are to be driven
-pub fresh_at : (bank : BankId) (book : Shelf) (cpus : List (Processor Scripted)) (all : List (Driven Scripted)) → AllZip IsFresh cpus all → All (IsOf bank book) cpus → All (IsAt bank book.table) all
+pub fresh_at : (bank : BankId) (book : Shelf) (cpus : List (Processor Scripted)) (all : List (Driven Scripted)) → AllZip IsUndriven cpus all → All (IsOfMachine bank book) cpus → All (IsAtTables bank book.table) all
 fresh_at bank book cpus all zip of k d less =
-    let long : k < length cpus = omega (arith, zip_long IsFresh cpus all zip, less) in
-    let f : IsFresh (get_or cpus k d.cpu) (get_or all k d) = zip_at IsFresh cpus all zip k d.cpu d long in
-    let F : Processor Scripted → Type 0 = λ p. IsOf bank book p in
-    let o : IsOf bank book (get_or all k d).cpu = subst F (sym f.cpu) (of k d.cpu long) in
+    let long : k < length cpus = omega (arith, zip_long IsUndriven cpus all zip, less) in
+    let f : IsUndriven (get_or cpus k d.cpu) (get_or all k d) = zip_at IsUndriven cpus all zip k d.cpu d long in
+    let F : Processor Scripted → Type 0 = λ p. IsOfMachine bank book p in
+    let o : IsOfMachine bank book (get_or all k d).cpu = subst F (sym f.cpu) (of k d.cpu long) in
     record { bank_is = o.bank_is; book_is = o.table_is }
 
 -- the element of a place of a mapped list
@@ -78,17 +78,17 @@ module _ (answers : CpuId → ℕ → Bool → Type 0) (limits : Limits) (bank :
   abbrev pub Drove : Driven Scripted → Driven Scripted → Type 0
   Drove old new = IsDriven IsPolled answers bank limits old new new.ending
 
-  pub driven_long : AllZip IsFresh cpus olds → AllZip Drove olds news → length news ≡ length cpus
-  driven_long fresh drove = zip_long Drove olds news drove ∙ zip_long IsFresh cpus olds fresh
+  pub driven_long : AllZip IsUndriven cpus olds → AllZip Drove olds news → length news ≡ length cpus
+  driven_long fresh drove = zip_long Drove olds news drove ∙ zip_long IsUndriven cpus olds fresh
 
-  driven_each : AllZip IsFresh cpus olds → AllZip Drove olds news → All (λ (d : Driven Scripted). IsAmple d.ending) news → (k : ℕ) (p q : Processor Scripted) (trace : Vec Event Global) → slice_get cpus k ≡ Some p → slice_get (map (λ (d : Driven Scripted). d.cpu) news) k ≡ Some q → slice_get (map (λ (d : Driven Scripted). d.trace) news) k ≡ Some trace → WasDriven answers limits bank p q trace
+  driven_each : AllZip IsUndriven cpus olds → AllZip Drove olds news → All (λ (d : Driven Scripted). IsAmple d.ending) news → (k : ℕ) (p q : Processor Scripted) (trace : Vec Event Global) → slice_get cpus k ≡ Some p → slice_get (map (λ (d : Driven Scripted). d.cpu) news) k ≡ Some q → slice_get (map (λ (d : Driven Scripted). d.trace) news) k ≡ Some trace → WasDriven answers limits bank p q trace
   driven_each fresh drove ample k p q trace at to told =
       let within : k < length cpus = slice_get_within cpus k p at in
-      let olds_within : k < length olds = omega (arith, zip_long IsFresh cpus olds fresh, within) in
+      let olds_within : k < length olds = omega (arith, zip_long IsUndriven cpus olds fresh, within) in
       let news_within : k < length news = omega (arith, driven_long fresh drove, within) in
       let d : Driven Scripted = record { id = record { 0 = 0 }; cpu = p; trace = trace; said = record { drives = 0; yeses = 0; no = false }; drove = record { ran = 0; idle = 0; all_exited = false }; silent = false; ending = NoMemory (record {}) } in
-      let f : IsFresh (get_or cpus k p) (get_or olds k d) = zip_at IsFresh cpus olds fresh k p d within in
-      let F : Processor Scripted → Type 0 = λ x. IsFresh x (get_or olds k d) in
+      let f : IsUndriven (get_or cpus k p) (get_or olds k d) = zip_at IsUndriven cpus olds fresh k p d within in
+      let F : Processor Scripted → Type 0 = λ x. IsUndriven x (get_or olds k d) in
       record {
         old = get_or olds k d;
         new = get_or news k d;
@@ -99,7 +99,7 @@ module _ (answers : CpuId → ℕ → Bool → Type 0) (limits : Limits) (bank :
         trace_is = mapped_at (λ (x : Driven Scripted). x.trace) news k trace d told news_within;
       }
 
-  pub are_driven : AllZip IsFresh cpus olds → AllZip Drove olds news → All (λ (d : Driven Scripted). IsAmple d.ending) news → AreDriven answers limits bank cpus (map (λ (d : Driven Scripted). d.cpu) news) (map (λ (d : Driven Scripted). d.trace) news)
+  pub are_driven : AllZip IsUndriven cpus olds → AllZip Drove olds news → All (λ (d : Driven Scripted). IsAmple d.ending) news → AreDriven answers limits bank cpus (map (λ (d : Driven Scripted). d.cpu) news) (map (λ (d : Driven Scripted). d.trace) news)
   are_driven fresh drove ample = record {
     as_many = length-map news (λ (d : Driven Scripted). d.cpu) ∙ driven_long fresh drove;
     traces_are = length-map news (λ (d : Driven Scripted). d.trace) ∙ driven_long fresh drove;
@@ -107,7 +107,7 @@ module _ (answers : CpuId → ℕ → Bool → Type 0) (limits : Limits) (bank :
   }
 
   -- the processors and the events of those that were driven, taken apart
-  pub apart_driven : {X : Type 0} (cpus_in : X → List (Processor Scripted)) (traces_in : X → List (Vec Event Global)) (r : Result X Fault) (xs : List (Driven Scripted)) → xs ≡ news → IfOk r (λ x. cpus_in x ≡ map (λ (d : Driven Scripted). d.cpu) xs) → IfOk r (λ x. traces_in x ≡ map (λ (d : Driven Scripted). d.trace) xs) → AllZip IsFresh cpus olds → AllZip Drove olds news → All (λ (d : Driven Scripted). IsAmple d.ending) news → IfOk r (λ x. AreDriven answers limits bank cpus (cpus_in x) (traces_in x))
+  pub apart_driven : {X : Type 0} (cpus_in : X → List (Processor Scripted)) (traces_in : X → List (Vec Event Global)) (r : Result X Fault) (xs : List (Driven Scripted)) → xs ≡ news → IfOk r (λ x. cpus_in x ≡ map (λ (d : Driven Scripted). d.cpu) xs) → IfOk r (λ x. traces_in x ≡ map (λ (d : Driven Scripted). d.trace) xs) → AllZip IsUndriven cpus olds → AllZip Drove olds news → All (λ (d : Driven Scripted). IsAmple d.ending) news → IfOk r (λ x. AreDriven answers limits bank cpus (cpus_in x) (traces_in x))
   apart_driven cpus_in traces_in r xs same cs ts fresh drove ample =
       ok_both r (λ x. cpus_in x ≡ map (λ (d : Driven Scripted). d.cpu) xs) (λ x. traces_in x ≡ map (λ (d : Driven Scripted). d.trace) xs) (λ x. AreDriven answers limits bank cpus (cpus_in x) (traces_in x)) (λ x c t.
       let C : List (Processor Scripted) → Type 0 = λ ps. AreDriven answers limits bank cpus ps (traces_in x) in
@@ -116,21 +116,21 @@ module _ (answers : CpuId → ℕ → Bool → Type 0) (limits : Limits) (bank :
       subst C (sym c) (subst T (sym t) (subst N (sym same) (are_driven fresh drove ample)))) cs ts
 
 -- processors that were driven are still of their bank and book
-pub driven_of : (bank : BankId) (book : Shelf) (news : List (Driven Scripted)) → All (IsAt bank book.table) news → All (IsOf bank book) (map (λ (d : Driven Scripted). d.cpu) news)
+pub driven_of : (bank : BankId) (book : Shelf) (news : List (Driven Scripted)) → All (IsAtTables bank book.table) news → All (IsOfMachine bank book) (map (λ (d : Driven Scripted). d.cpu) news)
 driven_of bank book [] at k p less = absurd (omega (arith, less))
 driven_of bank book (d ∷ ds) at k p less =
     let news : List (Driven Scripted) = d ∷ ds in
     let within : k < length news = omega (arith, length-map news (λ (x : Driven Scripted). x.cpu), less) in
-    let a : IsAt bank book.table (get_or news k d) = at k d within in
-    let F : Processor Scripted → Type 0 = λ x. IsOf bank book x in
+    let a : IsAtTables bank book.table (get_or news k d) = at k d within in
+    let F : Processor Scripted → Type 0 = λ x. IsOfMachine bank book x in
     subst F (sym (get_or-map (λ (x : Driven Scripted). x.cpu) news k d p within)) (record { bank_is = a.bank_is; table_is = a.book_is })
 
 -- the same of what was taken apart
-pub apart_of : {X : Type 0} (bank : BankId) (book : Shelf) (news xs : List (Driven Scripted)) (cpus_in : X → List (Processor Scripted)) (r : Result X Fault) → xs ≡ news → IfOk r (λ x. cpus_in x ≡ map (λ (d : Driven Scripted). d.cpu) xs) → All (IsAt bank book.table) news → IfOk r (λ x. All (IsOf bank book) (cpus_in x))
+pub apart_of : {X : Type 0} (bank : BankId) (book : Shelf) (news xs : List (Driven Scripted)) (cpus_in : X → List (Processor Scripted)) (r : Result X Fault) → xs ≡ news → IfOk r (λ x. cpus_in x ≡ map (λ (d : Driven Scripted). d.cpu) xs) → All (IsAtTables bank book.table) news → IfOk r (λ x. All (IsOfMachine bank book) (cpus_in x))
 apart_of bank book news xs cpus_in r same cs at =
-    ok_both r (λ x. cpus_in x ≡ map (λ (d : Driven Scripted). d.cpu) xs) (λ x. cpus_in x ≡ map (λ (d : Driven Scripted). d.cpu) xs) (λ x. All (IsOf bank book) (cpus_in x)) (λ x c d.
-    let C : List (Processor Scripted) → Type 0 = λ ps. All (IsOf bank book) ps in
-    let N : List (Driven Scripted) → Type 0 = λ ds. All (IsOf bank book) (map (λ (y : Driven Scripted). y.cpu) ds) in
+    ok_both r (λ x. cpus_in x ≡ map (λ (d : Driven Scripted). d.cpu) xs) (λ x. cpus_in x ≡ map (λ (d : Driven Scripted). d.cpu) xs) (λ x. All (IsOfMachine bank book) (cpus_in x)) (λ x c d.
+    let C : List (Processor Scripted) → Type 0 = λ ps. All (IsOfMachine bank book) ps in
+    let N : List (Driven Scripted) → Type 0 = λ ds. All (IsOfMachine bank book) (map (λ (y : Driven Scripted). y.cpu) ds) in
     subst C (sym c) (subst N (sym same) (driven_of bank book news at))) cs cs
 
 numbered_again : (answers : CpuId → ℕ → Bool → Type 0) (limits : Limits) (bank : BankId) (olds news : List (Processor Scripted)) (traces : List (Vec Event Global)) → AreDriven answers limits bank olds news traces → ((k : ℕ) (p : Processor Scripted) → slice_get olds k ≡ Some p → p.seat.cpu.0 ≡ k) → (k : ℕ) (q : Processor Scripted) → slice_get news k ≡ Some q → q.seat.cpu.0 ≡ k
@@ -163,7 +163,7 @@ joined_again answers limits bank olds news traces d joined i j s p at_s at_p =
     joined_stay a.0 s b.0 p one.1 two.1 one.0 two.0 (joined i j a.0 b.0 a.1 b.1)
 
 -- the parts of a machine whose processors were driven still belong together
-pub parts_again : (answers : CpuId → ℕ → Bool → Type 0) (limits : Limits) (seats : ℕ) (bank : BankId) (book : Shelf) (olds news : List (Processor Scripted)) (traces : List (Vec Event Global)) → AreParts seats bank book olds → AreDriven answers limits bank olds news traces → All (IsOf bank book) news → AreParts seats bank book news
+pub parts_again : (answers : CpuId → ℕ → Bool → Type 0) (limits : Limits) (seats : ℕ) (bank : BankId) (book : Shelf) (olds news : List (Processor Scripted)) (traces : List (Vec Event Global)) → AreOneMachine seats bank book olds → AreDriven answers limits bank olds news traces → All (IsOfMachine bank book) news → AreOneMachine seats bank book news
 parts_again answers limits seats bank book olds news traces parts d of = record {
   seats_are = parts.seats_are ∙ sym d.as_many;
   mails_are = parts.mails_are ∙ sym d.as_many;

@@ -21,14 +21,14 @@ use Rattle.lwkt_cpu.specs.Processors.{Processor}
 use Rattle.lwkt_cpu.specs.Turning.{IsMailed}
 use Rattle.lwkt_lane.proofs.PlaceMoves.{some_same, get_there, get_set_same, get_set_other}
 use Rattle.lwkt_drive.specs.declared.driven.Limits.{Limits}
-use Rattle.lwkt_drive.specs.Telling.{IsTold, IsMailTold, TellOneRun, TellOneMailRun}
+use Rattle.lwkt_drive.specs.Telling.{TellsSeat, IsMailTold, TellOneRun, TellOneMailRun}
 use Rattle.lwkt_drive.proofs.TellingMoves.{told_new, told_made, told_more, one_run, mail_new, mail_made, mail_more, mail_same, one_mail_run}
 use Rattle.lwkt_script.specs.declared.scripts.Script.{Script}
 use Rattle.lwkt_script.specs.declared.scripts.ThreadSpec.{ThreadSpec}
 use Rattle.lwkt_machine.specs.declared.closings.Closed.{Closed}
 use Rattle.lwkt_machine.specs.Bodies.{Scripted, IsPolled}
 use Rattle.lwkt_machine.specs.Closing.{IsClosedMachine}
-use Rattle.lwkt_machine.specs.Ended.{Stage, stage, StopsAt, StopsAll}
+use Rattle.lwkt_machine.specs.Ended.{Stage, stage, StopsCpu, StopsAll}
 use Rattle.lwkt_machine.specs.Machines.{Rig}
 use Rattle.lwkt_machine.specs.Opened.{IsOpenedCpu, IsOpenedMachine}
 use Rattle.lwkt_threads.specs.Driven.{WasDriven, IsDrivenMachine}
@@ -67,7 +67,7 @@ parts_at n (trace ∷ traces) stops (suc k) part at =
 pub record IsToldAt (k : ℕ) (p : Processor Scripted) (part : List Event) : Type 0 where
   pub seat : p.seat.cpu.0 ≡ k
   pub desk : (desk_cpu p.post.seat).0 ≡ k
-  pub tokens : IsTold p.seat part
+  pub tokens : TellsSeat p.seat part
   pub mails : IsMailTold p.post.seat part
 
 pub told_opened : (bank : BankId) (book : Shelf) (threads : List ThreadSpec) (k : ℕ) (p : Processor Scripted) → IsOpenedCpu bank book threads k p → IsToldAt k p []
@@ -154,12 +154,12 @@ told_moved P most traces n x y p q here cpus ran mail told = record {
 }
 
 -- one processor stops
-told_step : (traces : List (Vec Event Global)) (n : ℕ) (x y : Stage) → StopsAt n x y → AreTold traces x → AreTold traces y
+told_step : (traces : List (Vec Event Global)) (n : ℕ) (x y : Stage) → StopsCpu n x y → AreTold traces x → AreTold traces y
 told_step traces n x y stops told =
     let s = stops.1.1.1 in
     told_moved (IsMailed stops.0.threads) s.most traces n x y stops.0 stops.1.0 stops.1.1.0 stops.1.1.2 s.ran s.told told
 
-told_chain : (traces : List (Vec Event Global)) (n : ℕ) (x y : Stage) → Chain Stage StopsAt n x y → AreTold traces x → AreTold traces y
+told_chain : (traces : List (Vec Event Global)) (n : ℕ) (x y : Stage) → Chain Stage StopsCpu n x y → AreTold traces x → AreTold traces y
 unfolding Chain
 told_chain traces zero x y chain told = subst (AreTold traces) (sym chain) told
 told_chain traces (suc n) x y chain told = told_step traces n chain.0 y chain.2 (told_chain traces n x chain.0 chain.1 told)

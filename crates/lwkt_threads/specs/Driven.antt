@@ -14,7 +14,7 @@ use Rattle.lwkt_machine.specs.Bodies.{Scripted, IsPolled}
 use Rattle.lwkt_machine.specs.Machines.{Rig}
 
 -- a processor that is to be driven, by its number and without events
-pub record IsFresh (p : Processor Scripted) (d : Driven Scripted) : Type 0 where
+pub record IsUndriven (p : Processor Scripted) (d : Driven Scripted) : Type 0 where
   pub cpu : d.cpu ≡ p
   pub trace : d.trace.items ≡ []
   pub id : d.id.0 ≡ p.seat.cpu.0
@@ -29,7 +29,7 @@ IsAmple _ = Unit {0}
 pub record WasDriven (answers : CpuId → ℕ → Bool → Type 0) (limits : Limits) (bank : BankId) (p q : Processor Scripted) (trace : Vec Event Global) : Type 0 where
   pub old : Driven Scripted
   pub new : Driven Scripted
-  pub fresh : IsFresh p old
+  pub fresh : IsUndriven p old
   pub driven : IsDriven IsPolled answers bank limits old new new.ending
   pub ample : IsAmple new.ending
   pub cpu : new.cpu ≡ q

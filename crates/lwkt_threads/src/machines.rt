@@ -2,8 +2,8 @@
 ghost use Rattle.std.specs.Prelude.{◌≡◌, ◌≤◌, ◌↔◌, None, length, All, IfOk, OnErr, Err, map};
 ghost use Rattle.std.specs.List.{AllZip};
 ghost use Rattle.lwkt_bank.specs.Seats.{id_of};
-ghost use Rattle.lwkt_machine.specs.Machines.{IsOf, AreNumbered};
-ghost use Rattle.lwkt_threads.specs.Driven.{IsFresh, IsAmple, AreDriven, IsDrivenMachine};
+ghost use Rattle.lwkt_machine.specs.Machines.{IsOfMachine, AreNumbered};
+ghost use Rattle.lwkt_threads.specs.Driven.{IsUndriven, IsAmple, AreDriven, IsDrivenMachine};
 ghost use Rattle.lwkt_base.specs.Fault.{no_memory};
 
 use lwkt_bank::Bank;
@@ -29,7 +29,7 @@ pub struct Outcome {
 fn undriven(alloc: Global, cpus: Vec<Cpu<ScriptBody>>) -> Result<Vec<Driven<ScriptBody>>, Fault>
     requires few { length cpus.items ≤ 8 }
     requires numbered { AreNumbered cpus.items }
-    ensures ok { IfOk result (λ all. AllZip IsFresh cpus.items all.items) }
+    ensures ok { IfOk result (λ all. AllZip IsUndriven cpus.items all.items) }
     ensures only { OnErr result (result ≡ Err no_memory) }
 {
     let mut all = Vec::new(alloc);
@@ -99,11 +99,11 @@ fn drive_parts<R: Threads + Sync, G: Gate + Sync>(
     book: &MsgBook,
     cpus: Vec<Cpu<ScriptBody>>,
 ) -> Result<Apart, Fault>
-    requires of { All (IsOf (id_of bank.now) book.now) cpus.items }
+    requires of { All (IsOfMachine (id_of bank.now) book.now) cpus.items }
     requires few { length cpus.items ≤ 8 }
     requires numbered { AreNumbered cpus.items }
     ensures ok { IfOk result (λ parts. AreDriven (G.answers gate.now) limits.now (id_of bank.now) cpus.items parts.cpus.items parts.traces.items) }
-    ensures at { IfOk result (λ parts. All (IsOf (id_of bank.now) book.now) parts.cpus.items) }
+    ensures at { IfOk result (λ parts. All (IsOfMachine (id_of bank.now) book.now) parts.cpus.items) }
     ensures only { OnErr result (result ≡ Err no_memory) }
 {
     let mut all = undriven(alloc, cpus)?;

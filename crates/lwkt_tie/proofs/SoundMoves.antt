@@ -22,7 +22,7 @@ use Rattle.lwkt_bank.specs.Told.{IsDone, Told, first_machine}
 use Rattle.lwkt_bank.specs.Seats.{BankId, entry, holding, past_of}
 use Rattle.lwkt_bank.specs.Lent.{IsSeatOf}
 use Rattle.lwkt_tie.specs.Looks.{IsWordNow, IsWordBeside}
-use Rattle.lwkt_tie.specs.Sound.{IsSound, IsFound, IsFoundBeside}
+use Rattle.lwkt_tie.specs.Sound.{IsSound, IsFoundWord, IsFoundBeside}
 
 -- a deed that is done is a run of its event
 deed_runs : (m : Machine) (d : Deed) (n : Machine) → IsDone m d n → Run m d.events n
@@ -68,7 +68,7 @@ beside_as plans plans' cpus cpus' v word word' n one two place now = record {
 }
 
 -- a word that was found from outside
-pub found : RunsAreCompatible → RunsKeepLaws → (bank : BankId) (cpus tok n : ℕ) → tok < length bank.plans → IsWordNow bank.plans cpus (token_word tok) n → IsFound bank cpus tok n
+pub found : RunsAreCompatible → RunsKeepLaws → (bank : BankId) (cpus tok n : ℕ) → tok < length bank.plans → IsWordNow bank.plans cpus (token_word tok) n → IsFoundWord bank cpus tok n
 found compatible laws bank cpus tok n there now = record {
   state = now.state;
   told = now.told;

@@ -22,7 +22,7 @@ pub record IsSound (plans : List Plan) (cpus : ℕ) (s : Bench) (told : Told pla
 
 -- this was found as the word of a token: it is that of a state of the bank's table in which the headline holds, and is the
 -- picture of the token there
-pub record IsFound (bank : BankId) (cpus tok found : ℕ) : Type 0 where
+pub record IsFoundWord (bank : BankId) (cpus tok found : ℕ) : Type 0 where
   pub state : Bench
   pub told : Told bank.plans cpus state
   pub sound : IsSound bank.plans cpus state told
@@ -32,7 +32,7 @@ pub record IsFound (bank : BankId) (cpus tok found : ℕ) : Type 0 where
 -- and in that state what a seat says is so: its processor holds of each token what the seat says, what the seat knows of it is
 -- true, what it has seen is the front of the history, and its events and steps are all that are its processor's
 pub record IsFoundBeside (bank : BankId) (cpus : ℕ) (s : CpuSeat) (tok found : ℕ) : Type 0 where
-  pub seen : IsFound bank cpus tok found
+  pub seen : IsFoundWord bank cpus tok found
   pub held : (other : ℕ) → other < length bank.plans → held_by (token_at seen.told.rule.model other) s.cpu.0 ≡ holding s other
   pub knows : (other : ℕ) → other < length bank.plans → Knows (token_at seen.told.rule.model other) (entry s other)
   pub past : IsPastOf seen.told.chronicle.history s.cpu.0 (past_of s)

@@ -3,7 +3,7 @@ ghost use Rattle.std.specs.Prelude.{◌≡◌, ◌+◌, ◌*◌, ◌<◌};
 ghost use Rattle.lwkt_bank.specs.Rule.{token_word};
 ghost use Rattle.lwkt_bank.specs.Seats.{id_of, bank_of, cpus_of, tokens_of};
 ghost use Rattle.lwkt_tie.specs.Looks.{IsWordNow, IsWordBeside};
-ghost use Rattle.lwkt_tie.specs.Sound.{IsFound, IsFoundBeside};
+ghost use Rattle.lwkt_tie.specs.Sound.{IsFoundWord, IsFoundBeside};
 
 use crate::plays::{Finds, FindsBeside, Processors};
 use atomic_table::{Seat, Shared};
@@ -50,7 +50,7 @@ fn word_found_beside<K: Processors>(
 /// headline holds.
 pub fn word_now(bank: &Bank, tok: TokId) -> u64
     requires { tok.0 < tokens_of (id_of bank.now) }
-    ensures { IsFound (id_of bank.now) (cpus_of bank.now) tok.0 result }
+    ensures { IsFoundWord (id_of bank.now) (cpus_of bank.now) tok.0 result }
 {
     headline::runs_are_compatible();
     headline::runs_keep_laws();

@@ -7,7 +7,7 @@ use Rattle.serde_json.specs.Data.{Data, array, object, member}
 use Rattle.lwkt_base.specs.declared.owners.MsgEnd.{MsgEnd}
 use Rattle.lwkt_report.specs.declared.closings.TokenLine.{TokenLine}
 use Rattle.lwkt_script.specs.Outcome.{◌>>=◌, each}
-use Rattle.lwkt_trace.specs.Format.{row, tally, blob, closing_at, there}
+use Rattle.lwkt_trace.specs.Format.{row_behind, tally, record_behind, closing_at, there}
 use Rattle.lwkt_trace.specs.Written.{has_record}
 use Rattle.lwkt_trace.specs.Readback.{items_as, ends_data, AreTellableEnds}
 use Rattle.lwkt_trace.specs.Values.{row_data, generation_data, tallies_data, tally_data, last_blob_data, record_data, rows_members, HasGuard, IsGuard, ClosingIsReadBack}
@@ -31,7 +31,7 @@ blob_of line = line.blob
 abbrev IsAny : TokenLine → Type 0
 IsAny line = Unit {0}
 
-next_row : (before : List (List ℕ)) (line : TokenLine) → IsAny line → length before < 64 → row before (row_data line) ≡ Ok (cells_of line)
+next_row : (before : List (List ℕ)) (line : TokenLine) → IsAny line → length before < 64 → row_behind before (row_data line) ≡ Ok (cells_of line)
 next_row before line any room = rw (lt-ltb (length before) 64 room, cells_read (3000 + length before) line.cells) refl
 
 tally_read : (before : List (List ℕ)) (tallies : Option (List ℕ)) → length before < 64 → tally before (tallies_data tallies) ≡ Ok (unwrap_or tallies [])
@@ -41,22 +41,22 @@ tally_read before (Some tallies) room = rw (lt-ltb (length before) 64 room, cell
 next_tally : (before : List (List ℕ)) (line : TokenLine) → IsAny line → length before < 64 → tally before (tally_data line) ≡ Ok (tallies_of line)
 next_tally before line any room = tally_read before line.tallies room
 
-record_read : (before : List (Option (List ℕ))) (record_of : Option (List ℕ)) → IfSome record_of IsGuard → length before < 64 → blob before (last_blob_data record_of) ≡ Ok record_of
+record_read : (before : List (Option (List ℕ))) (record_of : Option (List ℕ)) → IfSome record_of IsGuard → length before < 64 → record_behind before (last_blob_data record_of) ≡ Ok record_of
 record_read before None is room = rw (lt-ltb (length before) 64 room) refl
 record_read before (Some bytes) is room = rw (lt-ltb (length before) 64 room, guard_read bytes is.0 is.1) refl
 
-next_record : (before : List (Option (List ℕ))) (line : TokenLine) → HasGuard line → length before < 64 → blob before (record_data line) ≡ Ok (blob_of line)
+next_record : (before : List (Option (List ℕ))) (line : TokenLine) → HasGuard line → length before < 64 → record_behind before (record_data line) ≡ Ok (blob_of line)
 next_record before line is room = record_read before line.blob is room
 
 module _ (lines : List TokenLine) (few : length lines ≤ 64) where
-  rows_are : each row [] (items_as row_data lines) ≡ Ok (map cells_of lines)
-  rows_are = list_read row row_data cells_of IsAny 64 next_row [] lines (λ k d l. tt) (omega (arith, few))
+  rows_are : each row_behind [] (items_as row_data lines) ≡ Ok (map cells_of lines)
+  rows_are = list_read row_behind row_data cells_of IsAny 64 next_row [] lines (λ k d l. tt) (omega (arith, few))
 
   tallies_are : each tally [] (items_as tally_data lines) ≡ Ok (map tallies_of lines)
   tallies_are = list_read tally tally_data tallies_of IsAny 64 next_tally [] lines (λ k d l. tt) (omega (arith, few))
 
-  records_are : All HasGuard lines → each blob [] (items_as record_data lines) ≡ Ok (map blob_of lines)
-  records_are all = list_read blob record_data blob_of HasGuard 64 next_record [] lines all (omega (arith, few))
+  records_are : All HasGuard lines → each record_behind [] (items_as record_data lines) ≡ Ok (map blob_of lines)
+  records_are all = list_read record_behind record_data blob_of HasGuard 64 next_record [] lines all (omega (arith, few))
 
 -- where no token has a record, the records are none of any
 no_record : (o : Option (List ℕ)) → is_some o ≡ false → o ≡ None

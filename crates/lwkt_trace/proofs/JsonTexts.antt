@@ -16,7 +16,7 @@ use Rattle.json.proofs.Printed.Strings.{content-escape, lex-escape, escape_byte_
 use Rattle.serde_json.proofs.Numbers.{number_of-decimal}
 use Rattle.serde_json.specs.Data.{Num, Data, null, number, string, array, object, Items, no_items, item, Members, no_members, put}
 use Rattle.serde_json.specs.Read.{of_json, of_items, of_members}
-use Rattle.lwkt_trace.specs.Written.{named, comma_at, line_at, parted}
+use Rattle.lwkt_trace.specs.Written.{member_name, comma_at, line_at, parted}
 use Rattle.lwkt_trace.specs.Readback.{number_data, items_as}
 use Rattle.lwkt_trace.specs.Printed.{HasWords, ItemsHaveWords}
 use Rattle.lwkt_trace.proofs.Lexemes.{value_onto, items_onto, members_onto}
@@ -243,14 +243,14 @@ no_more_members later deep = record {
   ascii = ascii_from (codes "}") refl;
 }
 
-named_read : (name rest : List ℕ) → escape name ≡ name → lex between (named name ++ rest) ≡ token (Token.string name) ∷ colon ∷ lex between rest
-unfolding named lex
+named_read : (name rest : List ℕ) → escape name ≡ name → lex between (member_name name ++ rest) ≡ token (Token.string name) ∷ colon ∷ lex between rest
+unfolding member_name lex
 named_read name rest same =
     let closed : (name ++ codes "\":") ++ rest ≡ escape name ++ 34 ∷ 58 ∷ rest = append_assoc name (codes "\":") rest ∙ ap (λ (l : List ℕ). l ++ 34 ∷ 58 ∷ rest) (sym same) in
     ap (λ (l : List ℕ). lex between (34 ∷ l)) closed ∙ ap₂ (λ (o : Option (List ℕ)) (ls : List Lexeme). token (string_token o) ∷ ls) (content-escape name (58 ∷ rest)) (lex-escape name (58 ∷ rest))
 
-named_ascii : (name : List ℕ) → IsAscii name → IsAscii (named name)
-unfolding named
+named_ascii : (name : List ℕ) → IsAscii name → IsAscii (member_name name)
+unfolding member_name
 named_ascii name h = IsAscii-append (codes "\"") (name ++ codes "\":") (ascii_from (codes "\"") refl) (IsAscii-append name (codes "\":") h (ascii_from (codes "\":") refl))
 
 member_of : (k : List ℕ) (j : json.Json) (ms : json.Members) (d : Data) (puts : Members → Members) → of_json j ≡ Some d → ((found : Members) → of_members ms found ≡ Some (puts found))
@@ -258,7 +258,7 @@ member_of : (k : List ℕ) (j : json.Json) (ms : json.Members) (d : Data) (puts 
 member_of k j ms d puts first behind found = rw first (behind (put k d found))
 
 module _ {text rest_text : List ℕ} {d : Data} {puts : Members → Members} {deep : ℕ} (name : List ℕ) (plain : IsPlain name) (first : Tells text d deep) (behind : MembersTell true rest_text puts deep) where
-  member_read : (rest : List ℕ) → lex between (named name ++ (text ++ (rest_text ++ rest))) ≡ token (Token.string name) ∷ colon ∷ value_onto first.value (members_onto true behind.members (lex between rest))
+  member_read : (rest : List ℕ) → lex between (member_name name ++ (text ++ (rest_text ++ rest))) ≡ token (Token.string name) ∷ colon ∷ value_onto first.value (members_onto true behind.members (lex between rest))
   member_read rest =
       named_read name (text ++ (rest_text ++ rest)) plain.same
       ∙ ap (λ (ls : List Lexeme). token (Token.string name) ∷ colon ∷ ls) (first.reads (rest_text ++ rest) (behind.ends refl rest) ∙ ap (λ (ls : List Lexeme). value_onto first.value ls) (behind.reads rest))
@@ -266,29 +266,29 @@ module _ {text rest_text : List ℕ} {d : Data} {puts : Members → Members} {de
   member_deepest : members_depth (json.member name first.value behind.members) ≤ deep
   member_deepest = let a = first.shallow in let b = behind.shallow in omega (arith, a, b)
 
-  member_ascii : IsAscii (named name ++ (text ++ rest_text))
-  member_ascii = IsAscii-append (named name) (text ++ rest_text) (named_ascii name plain.ascii) (IsAscii-append text rest_text first.ascii behind.ascii)
+  member_ascii : IsAscii (member_name name ++ (text ++ rest_text))
+  member_ascii = IsAscii-append (member_name name) (text ++ rest_text) (named_ascii name plain.ascii) (IsAscii-append text rest_text first.ascii behind.ascii)
 
-  pub member_first : MembersTell false (named name ++ (text ++ rest_text)) (λ found. puts (put name d found)) deep
+  pub member_first : MembersTell false (member_name name ++ (text ++ rest_text)) (λ found. puts (put name d found)) deep
   member_first = record {
     members = json.member name first.value behind.members;
     is = member_of name first.value behind.members d puts first.is behind.is;
     shallow = member_deepest;
-    reads = λ rest. ap (lex between) (three_parts (named name) text rest_text rest) ∙ member_read rest;
+    reads = λ rest. ap (lex between) (three_parts (member_name name) text rest_text rest) ∙ member_read rest;
     ends = λ e rest. absurd (cc);
     ascii = member_ascii;
   }
 
-  pub member_more : (gap : List ℕ) → IsComma gap → MembersTell true (gap ++ (named name ++ (text ++ rest_text))) (λ found. puts (put name d found)) deep
+  pub member_more : (gap : List ℕ) → IsComma gap → MembersTell true (gap ++ (member_name name ++ (text ++ rest_text))) (λ found. puts (put name d found)) deep
   member_more gap mark = record {
     members = json.member name first.value behind.members;
     is = member_of name first.value behind.members d puts first.is behind.is;
     shallow = member_deepest;
     reads = λ rest.
-        ap (lex between) (append_assoc gap (named name ++ (text ++ rest_text)) rest ∙ ap (λ (l : List ℕ). gap ++ l) (three_parts (named name) text rest_text rest))
-        ∙ mark.reads (named name ++ (text ++ (rest_text ++ rest))) ∙ ap (λ (ls : List Lexeme). comma ∷ ls) (member_read rest);
-    ends = λ e rest. ap ends_word (append_assoc gap (named name ++ (text ++ rest_text)) rest) ∙ mark.ends ((named name ++ (text ++ rest_text)) ++ rest);
-    ascii = IsAscii-append gap (named name ++ (text ++ rest_text)) mark.ascii member_ascii;
+        ap (lex between) (append_assoc gap (member_name name ++ (text ++ rest_text)) rest ∙ ap (λ (l : List ℕ). gap ++ l) (three_parts (member_name name) text rest_text rest))
+        ∙ mark.reads (member_name name ++ (text ++ (rest_text ++ rest))) ∙ ap (λ (ls : List Lexeme). comma ∷ ls) (member_read rest);
+    ends = λ e rest. ap ends_word (append_assoc gap (member_name name ++ (text ++ rest_text)) rest) ∙ mark.ends ((member_name name ++ (text ++ rest_text)) ++ rest);
+    ascii = IsAscii-append gap (member_name name ++ (text ++ rest_text)) mark.ascii member_ascii;
   }
 
 pub object_tells : {text : List ℕ} {puts : Members → Members} (deep : ℕ) → MembersTell false text puts deep → Tells (codes "{" ++ text) (object (puts no_members)) (deep + 1)

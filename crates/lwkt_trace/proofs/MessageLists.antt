@@ -9,7 +9,7 @@ use Rattle.lwkt_script.specs.Format.{message_at}
 use Rattle.lwkt_script.specs.Limits.{IsMessage}
 use Rattle.lwkt_script.specs.Member.{thread_of}
 use Rattle.lwkt_script.specs.Outcome.{◌>>=◌, each}
-use Rattle.lwkt_trace.specs.Format.{end, message}
+use Rattle.lwkt_trace.specs.Format.{end, message_behind}
 use Rattle.lwkt_trace.specs.Words.{message_end_of}
 use Rattle.lwkt_trace.specs.Readback.{end_data, IsTellablePlace, ends_data, AreTellableEnds, EndsAreReadBack, message_data, messages_data, AreMessages, MessagesAreReadBack}
 
@@ -38,14 +38,14 @@ message_is cpus place m is =
     let cpu : m.origin.cpu.0 ≤ cpus - 1 = (let c = is.origin.cpu in omega (arith, c)) in
     rw (le-leb 0 m.origin.cpu.0 (omega arith), le-leb m.origin.cpu.0 (cpus - 1) cpu, le-leb 0 m.origin.thread (omega arith), le-leb m.origin.thread 15 is.origin.thread, le-leb 0 m.round (omega arith), le-leb m.round 2251799813685247 is.round) refl
 
-next_message : (cpus : ℕ) (before : List MsgSpec) (m : MsgSpec) → IsMessage cpus m → length before < 64 → message cpus before (message_data m) ≡ Ok m
+next_message : (cpus : ℕ) (before : List MsgSpec) (m : MsgSpec) → IsMessage cpus m → length before < 64 → message_behind cpus before (message_data m) ≡ Ok m
 next_message cpus before m is room = rw (lt-ltb (length before) 64 room, message_is cpus (2000 + length before) m is) refl
 
-all_messages : (cpus : ℕ) (before ms : List MsgSpec) → AreMessages cpus ms → length before + length ms ≤ 64 → each (message cpus) before (messages_data ms) ≡ Ok (before ++ ms)
+all_messages : (cpus : ℕ) (before ms : List MsgSpec) → AreMessages cpus ms → length before + length ms ≤ 64 → each (message_behind cpus) before (messages_data ms) ≡ Ok (before ++ ms)
 all_messages cpus before [] are room = ap (λ (l : List MsgSpec). Ok l) (sym (append-nil before))
 all_messages cpus before (m ∷ ms) are room =
     let more : length (before ++ m ∷ []) ≡ length before + 1 = length-append before (m ∷ []) in
-    ap (λ (r : Result MsgSpec ℕ). r >>= λ x. each (message cpus) (before ++ x ∷ []) (messages_data ms)) (next_message cpus before m are.0 (omega (arith, room)))
+    ap (λ (r : Result MsgSpec ℕ). r >>= λ x. each (message_behind cpus) (before ++ x ∷ []) (messages_data ms)) (next_message cpus before m are.0 (omega (arith, room)))
     ∙ all_messages cpus (before ++ m ∷ []) ms are.1 (omega (arith, more, room)) ∙ ap (λ (l : List MsgSpec). Ok l) (append_assoc before (m ∷ []) ms)
 
 pub messages_read_back : MessagesAreReadBack

@@ -13,7 +13,7 @@ use Rattle.lwkt_base.specs.declared.owners.MsgEnd.{MsgEnd}
 use Rattle.lwkt_core.specs.Events.{cpu_of}
 use Rattle.lwkt_core.specs.declared.events.Event.{Event}
 use Rattle.lwkt_core.specs.declared.events.Event.TheVariants.{Load, Take, Share, Again, Mark, GiveOne, GiveClean, GiveWritten, Read, Write, ReadBlob, WriteBlob, Send, TakeMsg, DropMsg, Reply, Reap, Abort}
-use Rattle.lwkt_trace.specs.Written.{named, comma, comma_at, list_text, past_text, blob_text, law_text, guard_text, cells_text, law_member_text, param_text, gen_text, token_text, message_text, word_of, rest_text, event_text, place_text, end_text, tallies_text, last_blob_text}
+use Rattle.lwkt_trace.specs.Written.{member_name, comma, comma_at, list_text, past_text, blob_text, law_text, guard_text, cells_text, law_member_text, param_text, gen_text, token_text, message_text, word_of_event, rest_text, event_text, owner_json, end_text, tallies_text, last_blob_text}
 use Rattle.lwkt_trace.specs.Readback.{number_data, blob_data, one_item, two_items, three_items, rest_data, event_data, end_data, message_data}
 use Rattle.lwkt_trace.specs.Values.{numbers_data, guard_data, token_data, tallies_data, last_blob_data}
 use Rattle.lwkt_trace.specs.Printed.{HasWords, ItemsHaveWords}
@@ -29,7 +29,7 @@ law_plain Cap = plain_from (codes "cap") refl
 law_plain Tally = plain_from (codes "tally") refl
 law_plain Len = plain_from (codes "len") refl
 
-word_plain : (e : Event) → IsPlain (word_of e)
+word_plain : (e : Event) → IsPlain (word_of_event e)
 word_plain (Load cpu tok) = plain_from (codes "load") refl
 word_plain (Take cpu tok) = plain_from (codes "take") refl
 word_plain (Share cpu tok) = plain_from (codes "share") refl
@@ -92,7 +92,7 @@ guard_puts (Some blob) found = put (codes "record") (blob_data blob) found
 guard_tells : (blob : Option (List ℕ)) → MembersTell true (guard_text blob ++ codes "}") (λ found. guard_puts blob found) 1
 guard_tells None = no_more_members true 1
 guard_tells (Some blob) =
-    subst (λ (t : List ℕ). MembersTell true t (λ found. put (codes "record") (blob_data blob) found) 1) (sym (left_parts (codes ",") (named (codes "record")) (blob_text blob) (codes "}")))
+    subst (λ (t : List ℕ). MembersTell true t (λ found. put (codes "record") (blob_data blob) found) 1) (sym (left_parts (codes ",") (member_name (codes "record")) (blob_text blob) (codes "}")))
     (member_more (codes "record") (plain_from (codes "record") refl) (blob_tells blob 1) (no_more_members true 1) (codes ",") comma_is)
 
 -- the members of a token by name
@@ -104,10 +104,10 @@ token_put (Some blob) cells law param generation = refl
 
 abbrev token_members : TokSpec → List ℕ
 token_members t =
-    named (codes "cells") ++ (list_text t.cells ++ (codes "," ++ (
-    named (codes "law") ++ (in_quotes (law_text t.law) ++ (codes "," ++ (
-    named (codes "param") ++ (decimal t.param ++ (codes "," ++ (
-    named (codes "gen") ++ (decimal t.generation ++ (guard_text t.blob ++ codes "}")))))))))))
+    member_name (codes "cells") ++ (list_text t.cells ++ (codes "," ++ (
+    member_name (codes "law") ++ (in_quotes (law_text t.law) ++ (codes "," ++ (
+    member_name (codes "param") ++ (decimal t.param ++ (codes "," ++ (
+    member_name (codes "gen") ++ (decimal t.generation ++ (guard_text t.blob ++ codes "}")))))))))))
 
 token_grouped : (t : TokSpec) → token_text t ≡ codes "{" ++ token_members t
 unfolding cells_text law_member_text param_text gen_text
@@ -127,10 +127,10 @@ token_tells t words =
 
 abbrev message_members : MsgSpec → List ℕ
 message_members m =
-    named (codes "of") ++ ((codes "[" ++ (decimal m.origin.cpu.0 ++ (codes "," ++ (decimal m.origin.thread ++ codes "]")))) ++ (codes "," ++ (named (codes "round") ++ (decimal m.round ++ codes "}"))))
+    member_name (codes "of") ++ ((codes "[" ++ (decimal m.origin.cpu.0 ++ (codes "," ++ (decimal m.origin.thread ++ codes "]")))) ++ (codes "," ++ (member_name (codes "round") ++ (decimal m.round ++ codes "}"))))
 
 message_grouped : (m : MsgSpec) → message_text m ≡ codes "{" ++ message_members m
-unfolding named
+unfolding member_name
 message_grouped m = simp append_assoc
 
 pub message_tells : (m : MsgSpec) → HasWords (message_data m) → Tells (message_text m) (message_data m) 2
@@ -168,7 +168,7 @@ worded numbers word plain rest = array_tells 1 (item_first (string_tells word 1 
 pub end_tells : (e : MsgEnd) → HasWords (end_data e.state e.round) → Tells (end_text e) (end_data e.state e.round) 2
 end_tells e words = place_tells e.state e.round words
   where
-    place_tells : (o : Owner) (round : ℕ) → HasWords (end_data o round) → Tells (place_text o ++ comma round ++ codes "]") (end_data o round) 2
+    place_tells : (o : Owner) (round : ℕ) → HasWords (end_data o round) → Tells (owner_json o ++ comma round ++ codes "]") (end_data o round) 2
     place_tells (Rest origin) round w = worded (comma origin.0 ++ comma round) (codes "rest") (plain_from (codes "rest") refl) (two_tell origin.0 round w.1.0 w.1.1.0)
     place_tells (Out origin target) round w = worded (comma origin.0 ++ comma target.0 ++ comma round) (codes "out") (plain_from (codes "out") refl) (three_tell origin.0 target.0 round w.1.0 w.1.1.0 w.1.1.1.0)
     place_tells (With origin target) round w = worded (comma origin.0 ++ comma target.0 ++ comma round) (codes "with") (plain_from (codes "with") refl) (three_tell origin.0 target.0 round w.1.0 w.1.1.0 w.1.1.1.0)
@@ -201,8 +201,8 @@ event_grouped word cpu rest = simp append_assoc
 
 pub event_tells : (e : Event) → HasWords (event_data e) → Tells (event_text e) (event_data e) 2
 event_tells e words =
-    subst (λ (t : List ℕ). Tells t (event_data e) 2) (event_grouped (word_of e) (decimal (cpu_of e)) (rest_text e))
-    (array_tells 1 (item_first (string_tells (word_of e) 1 (word_plain e)) (item_more (number_tells (cpu_of e) 1 words.1.0) (rest_tells e words.1.1) (codes ",") comma_is) [] nothing_is))
+    subst (λ (t : List ℕ). Tells t (event_data e) 2) (event_grouped (word_of_event e) (decimal (cpu_of e)) (rest_text e))
+    (array_tells 1 (item_first (string_tells (word_of_event e) 1 (word_plain e)) (item_more (number_tells (cpu_of e) 1 words.1.0) (rest_tells e words.1.1) (codes ",") comma_is) [] nothing_is))
 
 -- ---- closing values of a token
 

@@ -5,7 +5,7 @@ use Rattle.lwkt_base.specs.declared.laws.Law.{Law}
 use Rattle.lwkt_base.specs.declared.laws.Law.TheVariants.{Any, Sum, Order, Cap, Tally, Len}
 use Rattle.lwkt_base.specs.declared.openings.TokSpec.{TokSpec}
 use Rattle.lwkt_script.specs.declared.versions.Version.TheVariants.{First, Second}
-use Rattle.lwkt_script.specs.Format.{token_at}
+use Rattle.lwkt_script.specs.Format.{token_read}
 use Rattle.lwkt_script.specs.Limits.{IsToken}
 use Rattle.lwkt_script.specs.Member.{law_of, allows}
 use Rattle.lwkt_script.specs.Record.{guard_in, may_guard}
@@ -76,8 +76,8 @@ abbrev spec : List ℕ → Law → ℕ → ℕ → Option (List ℕ) → TokSpec
 spec cells law param generation blob = record { cells = cells; law = law; param = param; generation = generation; blob = blob }
 
 token_is : (place : ℕ) (cells : List ℕ) (law : Law) (param generation : ℕ) (blob : Option (List ℕ)) → IsToken (spec cells law param generation blob) → IsTyped (spec cells law param generation blob)
-    → token_at (version_in (token_data (spec cells law param generation blob))) place (token_data (spec cells law param generation blob)) ≡ Ok (spec cells law param generation blob)
-unfolding token_at
+    → token_read (version_in (token_data (spec cells law param generation blob))) place (token_data (spec cells law param generation blob)) ≡ Ok (spec cells law param generation blob)
+unfolding token_read
 token_is place cells law param generation None is typed =
     let other : law ≡ Len → ⊥ = λ e. is.guarded e refl in
     rw (

@@ -12,7 +12,7 @@ use Rattle.lwkt_core.specs.declared.events.Event.{Event}
 use Rattle.lwkt_report.specs.declared.closings.Closing as report
 use Rattle.lwkt_report.specs.declared.closings.TokenLine.{TokenLine}
 use Rattle.lwkt_script.specs.declared.scripts.Script.{Script}
-use Rattle.lwkt_trace.specs.Written.{named, parted, comma_at, line_at, row_text, generation_text, tally_text, record_text, has_record, token_text, message_text, event_text, end_text, listed_text, cpus_text, tokens_text, messages_text, events_text, rows_text, generations_text, all_tallies_text, ends_text, closing_text, trace_text}
+use Rattle.lwkt_trace.specs.Written.{member_name, parted, comma_at, line_at, row_text, generation_text, tally_text, last_record_text, has_record, token_text, message_text, event_text, end_text, listed_text, cpus_text, tokens_text, messages_text, events_text, rows_text, generations_text, all_tallies_text, ends_text, closing_text, trace_text}
 use Rattle.lwkt_trace.specs.Readback.{items_as, event_data, end_data, ends_data, message_data}
 use Rattle.lwkt_trace.specs.Values.{token_data, row_data, generation_data, tally_data, record_data, closing_data, trace_data}
 use Rattle.lwkt_trace.specs.Printed.{HasWords, ItemsHaveWords, TextIsOfValue, WrittenIsReadBack}
@@ -38,8 +38,8 @@ generations_tell lines words = array_tells 2 (parts_tell comma_at comma_breaks g
 tallies_of_all_tell : (lines : List TokenLine) → ItemsHaveWords (items_as tally_data lines) → Tells (listed comma_at tally_text lines) (array (items_as tally_data lines)) 3
 tallies_of_all_tell lines words = array_tells 2 (parts_tell comma_at comma_breaks tally_text tally_data 2 (λ line w. tallies_tell line.tallies w) lines words)
 
-records_tell : (lines : List TokenLine) → ItemsHaveWords (items_as record_data lines) → Tells (listed comma_at record_text lines) (array (items_as record_data lines)) 3
-records_tell lines words = array_tells 2 (parts_tell comma_at comma_breaks record_text record_data 2 (λ line w. last_blob_tells line.blob) lines words)
+records_tell : (lines : List TokenLine) → ItemsHaveWords (items_as record_data lines) → Tells (listed comma_at last_record_text lines) (array (items_as record_data lines)) 3
+records_tell lines words = array_tells 2 (parts_tell comma_at comma_breaks last_record_text record_data 2 (λ line w. last_blob_tells line.blob) lines words)
 
 ends_tell : (ends : List MsgEnd) → ItemsHaveWords (ends_data ends) → Tells (listed line_at end_text ends) (array (ends_data ends)) 3
 ends_tell ends words = array_tells 2 (parts_tell line_at line_breaks end_text (λ e. end_data e.state e.round) 2 end_tells ends words)
@@ -47,9 +47,9 @@ ends_tell ends words = array_tells 2 (parts_tell line_at line_breaks end_text (�
 -- the records and the ends of messages, up to the closing brace
 abbrev behind_text : Bool → List TokenLine → List MsgEnd → List ℕ
 behind_text true lines ends =
-    codes ",\n" ++ (named (codes "records") ++ (listed comma_at record_text lines ++ (
-    codes ",\n" ++ (named (codes "messages") ++ (listed line_at end_text ends ++ codes "}")))))
-behind_text false lines ends = codes ",\n" ++ (named (codes "messages") ++ (listed line_at end_text ends ++ codes "}"))
+    codes ",\n" ++ (member_name (codes "records") ++ (listed comma_at last_record_text lines ++ (
+    codes ",\n" ++ (member_name (codes "messages") ++ (listed line_at end_text ends ++ codes "}")))))
+behind_text false lines ends = codes ",\n" ++ (member_name (codes "messages") ++ (listed line_at end_text ends ++ codes "}"))
 
 abbrev behind_puts : Bool → List TokenLine → List MsgEnd → Members → Members
 behind_puts true lines ends found = put (codes "messages") (array (ends_data ends)) (put (codes "records") (array (items_as record_data lines)) found)
@@ -70,9 +70,9 @@ rows_words false lines ends words = (words.1.1.0, words.1.1.1.0)
 
 abbrev closing_members : Bool → List TokenLine → List MsgEnd → List ℕ
 closing_members recorded lines ends =
-    named (codes "rows") ++ (listed comma_at row_text lines ++ (codes ",\n" ++ (
-    named (codes "gens") ++ (listed comma_at generation_text lines ++ (codes ",\n" ++ (
-    named (codes "tallies") ++ (listed comma_at tally_text lines ++ behind_text recorded lines ends)))))))
+    member_name (codes "rows") ++ (listed comma_at row_text lines ++ (codes ",\n" ++ (
+    member_name (codes "gens") ++ (listed comma_at generation_text lines ++ (codes ",\n" ++ (
+    member_name (codes "tallies") ++ (listed comma_at tally_text lines ++ behind_text recorded lines ends)))))))
 
 -- the members by name
 closing_put : (recorded : Bool) (lines : List TokenLine) (ends : List MsgEnd)
@@ -107,12 +107,12 @@ closing_tells c words =
 
 abbrev trace_members : Script → List Event → report.Closing → List ℕ
 trace_members script events c =
-    named (codes "version") ++ (decimal 1 ++ (codes "," ++ (
-    named (codes "cpus") ++ (decimal script.cpus ++ (codes ",\n" ++ (
-    named (codes "tokens") ++ (listed line_at token_text script.tokens ++ (codes ",\n" ++ (
-    named (codes "messages") ++ (listed line_at message_text script.messages ++ (codes ",\n" ++ (
-    named (codes "events") ++ (listed line_at event_text events ++ (codes ",\n" ++ (
-    named (codes "last") ++ (closing_inside (list_any has_record c.tokens.items) c.tokens.items c.messages.items ++ codes "}"))))))))))))))))
+    member_name (codes "version") ++ (decimal 1 ++ (codes "," ++ (
+    member_name (codes "cpus") ++ (decimal script.cpus ++ (codes ",\n" ++ (
+    member_name (codes "tokens") ++ (listed line_at token_text script.tokens ++ (codes ",\n" ++ (
+    member_name (codes "messages") ++ (listed line_at message_text script.messages ++ (codes ",\n" ++ (
+    member_name (codes "events") ++ (listed line_at event_text events ++ (codes ",\n" ++ (
+    member_name (codes "last") ++ (closing_inside (list_any has_record c.tokens.items) c.tokens.items c.messages.items ++ codes "}"))))))))))))))))
 
 trace_tells : (script : Script) (events : List Event) (c : report.Closing) → HasWords (trace_data script events c) → Tells (codes "{" ++ trace_members script events c) (trace_data script events c) 5
 trace_tells script events c words =

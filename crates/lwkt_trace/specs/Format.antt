@@ -17,8 +17,8 @@ use Rattle.lwkt_trace.specs.Guard.{guarded}
 use Rattle.lwkt_trace.specs.Words.{event_of, message_end_of}
 
 -- the message after those: there are at most 64
-abbrev pub message : ℕ → List MsgSpec → Data → Result MsgSpec ℕ
-message cpus before d = do
+abbrev pub message_behind : ℕ → List MsgSpec → Data → Result MsgSpec ℕ
+message_behind cpus before d = do
   demand 2064 (nat_lt (length before) 64)
   message_at cpus (2000 + length before) d
 
@@ -33,8 +33,8 @@ abbrev pub numbers : ℕ → Data → Result (List ℕ) ℕ
 numbers place d = part place (as_array d) >>= each (cell place) []
 
 -- the row after those: there are at most 64
-abbrev pub row : List (List ℕ) → Data → Result (List ℕ) ℕ
-row before d = do
+abbrev pub row_behind : List (List ℕ) → Data → Result (List ℕ) ℕ
+row_behind before d = do
   demand 3064 (nat_lt (length before) 64)
   numbers (3000 + length before) d
 
@@ -51,15 +51,15 @@ end before d = do
   part (5000 + length before) (message_end_of d)
 
 -- the record of a token after those: there are at most 64
-abbrev pub blob : List (Option (List ℕ)) → Data → Result (Option (List ℕ)) ℕ
-blob before d = do
+abbrev pub record_behind : List (Option (List ℕ)) → Data → Result (Option (List ℕ)) ℕ
+record_behind before d = do
   demand 6064 (nat_lt (length before) 64)
   part (6000 + length before) (guard_in d)
 
 -- the records of so many tokens; where they are left out, no token has one
 abbrev pub blobs : ℕ → Option Data → Result (List (Option (List ℕ))) ℕ
 blobs count None = Ok (replicate count None)
-blobs count (Some d) = part 4 (as_array d) >>= each blob []
+blobs count (Some d) = part 4 (as_array d) >>= each record_behind []
 
 -- how many members closing values have that name records, or don't
 abbrev pub members_of : Data → ℕ
@@ -73,7 +73,7 @@ closing_at d = do
   gen_items ← part 4 (list_in (codes "gens") d)
   tally_items ← part 4 (list_in (codes "tallies") d)
   end_items ← part 4 (list_in (codes "messages") d)
-  rows ← each row [] row_items
+  rows ← each row_behind [] row_items
   gens ← each (cell 5) [] gen_items
   tallies ← each tally [] tally_items
   ends ← each end [] end_items
@@ -89,13 +89,13 @@ abbrev pub closing : Data → Result (Option Closing) ℕ
 closing d = if is_some (as_null d) then Ok None else (closing_at d >>= there)
 
 -- an object with exactly the six members
-abbrev pub is_whole : Data → Bool
-is_whole d = has_members 6 d && is_some (get (codes "version") d) && is_some (get (codes "cpus") d) && is_some (get (codes "last") d)
+abbrev pub has_six_members : Data → Bool
+has_six_members d = has_members 6 d && is_some (get (codes "version") d) && is_some (get (codes "cpus") d) && is_some (get (codes "last") d)
 
 -- a trace: the shape of the whole first, then the parts in their order
 unfoldable pub trace : Data → Result Trace ℕ
 trace d = do
-  demand 1 (is_whole d)
+  demand 1 (has_six_members d)
   token_items ← part 1 (list_in (codes "tokens") d)
   message_items ← part 1 (list_in (codes "messages") d)
   event_items ← part 1 (list_in (codes "events") d)
@@ -103,7 +103,7 @@ trace d = do
   version ← part 2 (number_in (codes "version") 1 1 d)
   cpus ← part 3 (number_in (codes "cpus") 1 8 d)
   tokens ← each guarded [] token_items
-  messages ← each (message cpus) [] message_items
+  messages ← each (message_behind cpus) [] message_items
   events ← each event [] event_items
   last ← closing last_part
   Ok (record { cpus = cpus; tokens = tokens; messages = messages; events = events; last = last })

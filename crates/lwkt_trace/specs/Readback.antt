@@ -12,9 +12,9 @@ use Rattle.lwkt_core.specs.declared.events.Event.{Event}
 use Rattle.lwkt_core.specs.declared.events.Event.TheVariants.{Load, Take, Share, Again, Mark, GiveOne, GiveClean, GiveWritten, Read, Write, ReadBlob, WriteBlob, Send, TakeMsg, DropMsg, Reply, Reap, Abort}
 use Rattle.lwkt_script.specs.Limits.{IsMessage}
 use Rattle.lwkt_script.specs.Outcome.{each}
-use Rattle.lwkt_trace.specs.Format.{event, end, message}
+use Rattle.lwkt_trace.specs.Format.{event, end, message_behind}
 use Rattle.lwkt_trace.specs.Words.{event_of}
-use Rattle.lwkt_trace.specs.Written.{word_of, past_text}
+use Rattle.lwkt_trace.specs.Written.{word_of_event, past_text}
 use Rattle.lwkt_trace.specs.declared.traces.Told.{Told}
 use Rattle.lwkt_trace.specs.declared.traces.Told.TheVariants.{Whole, Given}
 
@@ -63,7 +63,7 @@ rest_data (Abort cpu msg) = one_item (number_data msg.0)
 
 -- an event as a list: its word, its processor, and the rest
 abbrev pub event_data : Event → Data
-event_data e = array (item (string (word_of e)) (item (number_data (cpu_of e)) (rest_data e)))
+event_data e = array (item (string (word_of_event e)) (item (number_data (cpu_of e)) (rest_data e)))
 
 -- an event as it is told where no section is
 abbrev pub told_alone : Event → Told
@@ -162,4 +162,4 @@ AreMessages cpus (m ∷ ms) = IsMessage cpus m × AreMessages cpus ms
 
 -- a law: the list of at most 64 messages that a script may have is read as these messages
 abbrev pub MessagesAreReadBack : Type 0
-MessagesAreReadBack = (cpus : ℕ) (ms : List MsgSpec) → AreMessages cpus ms → length ms ≤ 64 → each (message cpus) [] (messages_data ms) ≡ Ok ms
+MessagesAreReadBack = (cpus : ℕ) (ms : List MsgSpec) → AreMessages cpus ms → length ms ≤ 64 → each (message_behind cpus) [] (messages_data ms) ≡ Ok ms

@@ -88,12 +88,12 @@ abbrev pub row_of : Items → Option (List ℕ)
 row_of items = if nat_le (items_len items) 4 then numbers_behind [] items else None
 
 -- item i, a row
-abbrev pub row_at : ℕ → Data → Option (List ℕ)
-row_at i d = (at i d >>= as_array) >>= row_of
+abbrev pub row_item : ℕ → Data → Option (List ℕ)
+row_item i d = (at i d >>= as_array) >>= row_of
 
 -- items 3 to 5, a section of a token: its generation, and the rows at its beginning and at its end
-abbrev pub section_in : ℕ → Data → Option Section
-section_in tok d = whole_at 3 d >>= λ generation. row_at 4 d >>= λ before. row_at 5 d >>= λ after. Some (record { before = before; after = after; generation = generation; tok = tok_id tok })
+abbrev pub section_items : ℕ → Data → Option Section
+section_items tok d = whole_at 3 d >>= λ generation. row_item 4 d >>= λ before. row_item 5 d >>= λ after. Some (record { before = before; after = after; generation = generation; tok = tok_id tok })
 
 -- the event of a word with a processor and a section
 abbrev pub with_section : List ℕ → ℕ → Section → Option Event
@@ -121,7 +121,7 @@ happened word count d =
     if count == 3 then (small_at 1 d >>= λ cpu. small_at 2 d >>= λ place. told_at word cpu place) else (
     if count == 4 then whole_event (or_else (round_told word d) (record_told word d)) else (
     if count == 5 then whole_event (small_at 1 d >>= λ cpu. small_at 2 d >>= λ place. small_at 3 d >>= λ part. whole_at 4 d >>= λ value. with_value word cpu place part value) else (
-    if count == 6 then whole_event (small_at 1 d >>= λ cpu. (small_at 2 d >>= λ tok. section_in tok d) >>= with_section word cpu) else None)))
+    if count == 6 then whole_event (small_at 1 d >>= λ cpu. (small_at 2 d >>= λ tok. section_items tok d) >>= with_section word cpu) else None)))
 
 -- an event as it is told: a word, and what goes with it
 abbrev pub event_of : Data → Option Told
@@ -139,14 +139,14 @@ at_other word origin target round =
     if bytes_eq word (codes "back") then Some (record { round = round; state = Back (cpu_id origin) (cpu_id target) }) else None))
 
 -- the end of a word with so many items in all
-abbrev pub ended : List ℕ → ℕ → Data → Option MsgEnd
-ended word count d =
+abbrev pub end_by_word : List ℕ → ℕ → Data → Option MsgEnd
+end_by_word word count d =
     if count == 3 then (small_at 1 d >>= λ origin. whole_at 2 d >>= λ round. at_rest word origin round) else (
     if count == 4 then (small_at 1 d >>= λ origin. small_at 2 d >>= λ target. whole_at 3 d >>= λ round. at_other word origin target round) else None)
 
 -- a message's end: a word, and the numbers that go with it
 abbrev pub message_end_of : Data → Option MsgEnd
-message_end_of d = item_count d >>= λ count. (at 0 d >>= as_str) >>= λ word. ended word count d
+message_end_of d = item_count d >>= λ count. (at 0 d >>= as_str) >>= λ word. end_by_word word count d
 
 -- a word is that of an event: with the numbers of the event it is read as this event; of a written give with its section, or
 -- without it as one whose section isn't told
@@ -176,10 +176,10 @@ place_at (Token tok) = AtToken tok.0
 place_at (Message msg) = AtMessage msg.0
 
 -- numbers, each after a space
-abbrev pub spaced : List ℕ → List ℕ
-spaced numbers = flat_map (λ n. codes " " ++ decimal n) numbers
+abbrev pub spaced_numbers : List ℕ → List ℕ
+spaced_numbers numbers = flat_map (λ n. codes " " ++ decimal n) numbers
 
 -- the same, or a `-` after a space where there is none
 abbrev pub numbers_text : List ℕ → List ℕ
 numbers_text [] = codes " -"
-numbers_text (n ∷ ns) = spaced (n ∷ ns)
+numbers_text (n ∷ ns) = spaced_numbers (n ∷ ns)

@@ -31,8 +31,8 @@ parted before text n [] = []
 parted before text n (x ∷ xs) = before n ++ text x ++ parted before text (n + 1) xs
 
 -- the name of a member, and what stands between it and its value
-unfoldable pub named : List ℕ → List ℕ
-named name = codes "\"" ++ name ++ codes "\":"
+unfoldable pub member_name : List ℕ → List ℕ
+member_name name = codes "\"" ++ name ++ codes "\":"
 
 -- numbers as a list
 unfoldable pub list_text : List ℕ → List ℕ
@@ -62,20 +62,20 @@ law_text Len = codes "len"
 -- the record of a token, where it has one
 abbrev pub guard_text : Option (List ℕ) → List ℕ
 guard_text None = []
-guard_text (Some blob) = codes "," ++ named (codes "record") ++ blob_text blob
+guard_text (Some blob) = codes "," ++ member_name (codes "record") ++ blob_text blob
 
 -- the cells of a token, its law, the law's parameter, and its generation
 unfoldable pub cells_text : List ℕ → List ℕ
-cells_text cells = named (codes "cells") ++ list_text cells ++ codes ","
+cells_text cells = member_name (codes "cells") ++ list_text cells ++ codes ","
 
 unfoldable pub law_member_text : Law → List ℕ
-law_member_text law = named (codes "law") ++ codes "\"" ++ law_text law ++ codes "\","
+law_member_text law = member_name (codes "law") ++ codes "\"" ++ law_text law ++ codes "\","
 
 unfoldable pub param_text : ℕ → List ℕ
-param_text param = named (codes "param") ++ decimal param ++ codes ","
+param_text param = member_name (codes "param") ++ decimal param ++ codes ","
 
 unfoldable pub gen_text : ℕ → List ℕ
-gen_text generation = named (codes "gen") ++ decimal generation
+gen_text generation = member_name (codes "gen") ++ decimal generation
 
 -- a token of the opening
 abbrev pub token_text : TokSpec → List ℕ
@@ -88,25 +88,25 @@ message_text m =
     codes "{\"of\":[" ++ decimal m.origin.cpu.0 ++ codes "," ++ decimal m.origin.thread ++ codes "],\"round\":" ++ decimal m.round ++ codes "}"
 
 -- the word of an event
-abbrev pub word_of : Event → List ℕ
-word_of (Load cpu tok) = codes "load"
-word_of (Take cpu tok) = codes "take"
-word_of (Share cpu tok) = codes "share"
-word_of (Again cpu tok) = codes "again"
-word_of (Mark cpu tok) = codes "mark"
-word_of (GiveOne cpu tok) = codes "give_one"
-word_of (GiveClean cpu tok) = codes "give_clean"
-word_of (GiveWritten cpu tok section) = codes "give_written"
-word_of (Read cpu tok cell value) = codes "read"
-word_of (Write cpu tok cell value) = codes "write"
-word_of (ReadBlob cpu tok blob) = codes "read_record"
-word_of (WriteBlob cpu tok blob) = codes "write_record"
-word_of (Send cpu msg to round) = codes "send"
-word_of (TakeMsg cpu msg round) = codes "take_msg"
-word_of (DropMsg cpu msg) = codes "drop"
-word_of (Reply cpu msg) = codes "reply"
-word_of (Reap cpu msg) = codes "reap"
-word_of (Abort cpu msg) = codes "abort"
+abbrev pub word_of_event : Event → List ℕ
+word_of_event (Load cpu tok) = codes "load"
+word_of_event (Take cpu tok) = codes "take"
+word_of_event (Share cpu tok) = codes "share"
+word_of_event (Again cpu tok) = codes "again"
+word_of_event (Mark cpu tok) = codes "mark"
+word_of_event (GiveOne cpu tok) = codes "give_one"
+word_of_event (GiveClean cpu tok) = codes "give_clean"
+word_of_event (GiveWritten cpu tok section) = codes "give_written"
+word_of_event (Read cpu tok cell value) = codes "read"
+word_of_event (Write cpu tok cell value) = codes "write"
+word_of_event (ReadBlob cpu tok blob) = codes "read_record"
+word_of_event (WriteBlob cpu tok blob) = codes "write_record"
+word_of_event (Send cpu msg to round) = codes "send"
+word_of_event (TakeMsg cpu msg round) = codes "take_msg"
+word_of_event (DropMsg cpu msg) = codes "drop"
+word_of_event (Reply cpu msg) = codes "reply"
+word_of_event (Reap cpu msg) = codes "reap"
+word_of_event (Abort cpu msg) = codes "abort"
 
 -- what an event is at, and what else it says; of a written give not its section
 abbrev pub rest_text : Event → List ℕ
@@ -131,18 +131,18 @@ rest_text (Abort cpu msg) = comma msg.0
 
 -- an event
 abbrev pub event_text : Event → List ℕ
-event_text e = codes "[\"" ++ word_of e ++ codes "\"," ++ decimal (cpu_of e) ++ rest_text e ++ codes "]"
+event_text e = codes "[\"" ++ word_of_event e ++ codes "\"," ++ decimal (cpu_of e) ++ rest_text e ++ codes "]"
 
 -- where a message is: a word, and its processors
-abbrev pub place_text : Owner → List ℕ
-place_text (Rest origin) = codes "[\"rest\"" ++ comma origin.0
-place_text (Out origin target) = codes "[\"out\"" ++ comma origin.0 ++ comma target.0
-place_text (With origin target) = codes "[\"with\"" ++ comma origin.0 ++ comma target.0
-place_text (Back origin target) = codes "[\"back\"" ++ comma origin.0 ++ comma target.0
+abbrev pub owner_json : Owner → List ℕ
+owner_json (Rest origin) = codes "[\"rest\"" ++ comma origin.0
+owner_json (Out origin target) = codes "[\"out\"" ++ comma origin.0 ++ comma target.0
+owner_json (With origin target) = codes "[\"with\"" ++ comma origin.0 ++ comma target.0
+owner_json (Back origin target) = codes "[\"back\"" ++ comma origin.0 ++ comma target.0
 
 -- where a message is at the close, and its round
 abbrev pub end_text : MsgEnd → List ℕ
-end_text e = place_text e.state ++ comma e.round ++ codes "]"
+end_text e = owner_json e.state ++ comma e.round ++ codes "]"
 
 -- what a processor has added, where the token's law is Tally
 abbrev pub tallies_text : Option (List ℕ) → List ℕ
@@ -164,8 +164,8 @@ generation_text line = decimal line.generation
 abbrev pub tally_text : TokenLine → List ℕ
 tally_text line = tallies_text line.tallies
 
-abbrev pub record_text : TokenLine → List ℕ
-record_text line = last_blob_text line.blob
+abbrev pub last_record_text : TokenLine → List ℕ
+last_record_text line = last_blob_text line.blob
 
 -- whether a token has a record
 abbrev pub has_record : TokenLine → Bool
@@ -173,7 +173,7 @@ has_record line = is_some line.blob
 
 -- the list of the records of the close
 unfoldable pub listed_text : List TokenLine → List ℕ
-listed_text lines = named (codes "records") ++ codes "[" ++ parted comma_at record_text 0 lines ++ codes "],\n"
+listed_text lines = member_name (codes "records") ++ codes "[" ++ parted comma_at last_record_text 0 lines ++ codes "],\n"
 
 -- the records of the close, where a token has one
 abbrev pub records_text : List TokenLine → List ℕ
@@ -181,38 +181,38 @@ records_text lines = if list_any has_record lines then listed_text lines else []
 
 -- the version, and how many processors there are
 unfoldable pub cpus_text : ℕ → List ℕ
-cpus_text cpus = named (codes "version") ++ codes "1," ++ named (codes "cpus") ++ decimal cpus ++ codes ",\n"
+cpus_text cpus = member_name (codes "version") ++ codes "1," ++ member_name (codes "cpus") ++ decimal cpus ++ codes ",\n"
 
 -- the tokens of the opening
 unfoldable pub tokens_text : List TokSpec → List ℕ
-tokens_text tokens = named (codes "tokens") ++ codes "[" ++ parted line_at token_text 0 tokens ++ codes "],\n"
+tokens_text tokens = member_name (codes "tokens") ++ codes "[" ++ parted line_at token_text 0 tokens ++ codes "],\n"
 
 -- the messages of the opening
 unfoldable pub messages_text : List MsgSpec → List ℕ
-messages_text messages = named (codes "messages") ++ codes "[" ++ parted line_at message_text 0 messages ++ codes "],\n"
+messages_text messages = member_name (codes "messages") ++ codes "[" ++ parted line_at message_text 0 messages ++ codes "],\n"
 
 -- the events
 unfoldable pub events_text : List Event → List ℕ
-events_text events = named (codes "events") ++ codes "[" ++ parted line_at event_text 0 events ++ codes "],\n"
+events_text events = member_name (codes "events") ++ codes "[" ++ parted line_at event_text 0 events ++ codes "],\n"
 
 -- the rows, the generations and the tallies of the close
 unfoldable pub rows_text : List TokenLine → List ℕ
-rows_text lines = named (codes "rows") ++ codes "[" ++ parted comma_at row_text 0 lines ++ codes "],\n"
+rows_text lines = member_name (codes "rows") ++ codes "[" ++ parted comma_at row_text 0 lines ++ codes "],\n"
 
 unfoldable pub generations_text : List TokenLine → List ℕ
-generations_text lines = named (codes "gens") ++ codes "[" ++ parted comma_at generation_text 0 lines ++ codes "],\n"
+generations_text lines = member_name (codes "gens") ++ codes "[" ++ parted comma_at generation_text 0 lines ++ codes "],\n"
 
 unfoldable pub all_tallies_text : List TokenLine → List ℕ
-all_tallies_text lines = named (codes "tallies") ++ codes "[" ++ parted comma_at tally_text 0 lines ++ codes "],\n"
+all_tallies_text lines = member_name (codes "tallies") ++ codes "[" ++ parted comma_at tally_text 0 lines ++ codes "],\n"
 
 -- where the messages are at the close
 unfoldable pub ends_text : List MsgEnd → List ℕ
-ends_text ends = named (codes "messages") ++ codes "[" ++ parted line_at end_text 0 ends ++ codes "]"
+ends_text ends = member_name (codes "messages") ++ codes "[" ++ parted line_at end_text 0 ends ++ codes "]"
 
 -- the closing values
 unfoldable pub closing_text : Closing → List ℕ
 closing_text closing =
-    named (codes "last") ++ codes "{" ++ rows_text closing.tokens.items ++ generations_text closing.tokens.items ++ all_tallies_text closing.tokens.items ++ records_text closing.tokens.items ++ ends_text closing.messages.items ++ codes "}"
+    member_name (codes "last") ++ codes "{" ++ rows_text closing.tokens.items ++ generations_text closing.tokens.items ++ all_tallies_text closing.tokens.items ++ records_text closing.tokens.items ++ ends_text closing.messages.items ++ codes "}"
 
 -- a trace: the opening of a script, events, and closing values
 unfoldable pub trace_text : Script → List Event → Closing → List ℕ

@@ -2,8 +2,8 @@ ghost use Rattle.std.specs.Prelude.{◌≡◌, [], None, Ok, codes, replicate};
 ghost use Rattle.serde_json.specs.View.{view, items_view};
 ghost use Rattle.serde_json.specs.Find.{get};
 ghost use Rattle.lwkt_script.specs.Outcome.{Gives, each};
-ghost use Rattle.lwkt_trace.specs.Words.{at_rest, at_other, ended, message_end_of};
-ghost use Rattle.lwkt_trace.specs.Format.{numbers, row, tally, end, blob, blobs, members_of, closing_at, closing};
+ghost use Rattle.lwkt_trace.specs.Words.{at_rest, at_other, end_by_word, message_end_of};
+ghost use Rattle.lwkt_trace.specs.Format.{numbers, row_behind, tally, end, record_behind, blobs, members_of, closing_at, closing};
 
 use crate::traces::Closing;
 use lwkt_base::{Blob, Cells, CpuId, Fault, MsgEnd, Owner};
@@ -59,7 +59,7 @@ fn at_other(word: &str, origin: u8, target: u8, round: u64) -> Option<MsgEnd>
 
 // The end of a word with so many items in all.
 fn ended(word: &str, count: usize, value: &Value) -> Option<MsgEnd>
-    ensures { result ≡ ended word.now count (view value.now) }
+    ensures { result ≡ end_by_word word.now count (view value.now) }
 {
     match count {
         3 => at_rest(word, small_at(value, 1)?, whole_at(value, 2)?),
@@ -93,7 +93,7 @@ fn numbers(alloc: Global, place: u32, value: &Value) -> Result<Cells, Fault>
 
 // The row after those.
 fn row(alloc: Global, before: &[Cells], value: &Value) -> Result<Cells, Fault>
-    ensures { Gives (λ c. c) result (row before.now (view value.now)) }
+    ensures { Gives (λ c. c) result (row_behind before.now (view value.now)) }
 {
     if before.len() >= LIMIT {
         return Err(Fault::Script { place: 3064 });
@@ -127,7 +127,7 @@ fn end(before: &[MsgEnd], value: &Value) -> Result<MsgEnd, Fault>
 }
 
 fn rows_of(alloc: Global, items: &[Value]) -> Result<Vec<Cells>, Fault>
-    ensures { Gives (λ v. v.items) result (each row [] (items_view items.now)) }
+    ensures { Gives (λ v. v.items) result (each row_behind [] (items_view items.now)) }
 {
     let mut rows = Vec::new(alloc);
     for item in items {
@@ -161,7 +161,7 @@ fn ends_of(alloc: Global, items: &[Value]) -> Result<Vec<MsgEnd>, Fault>
 
 // The record of a token after those.
 fn blob(before: &[Option<Blob>], value: &Value) -> Result<Option<Blob>, Fault>
-    ensures { Gives (λ b. b) result (blob before.now (view value.now)) }
+    ensures { Gives (λ b. b) result (record_behind before.now (view value.now)) }
 {
     if before.len() >= LIMIT {
         return Err(Fault::Script { place: 6064 });
@@ -175,7 +175,7 @@ fn blob(before: &[Option<Blob>], value: &Value) -> Result<Option<Blob>, Fault>
 }
 
 fn blobs_of(alloc: Global, items: &[Value]) -> Result<Vec<Option<Blob>>, Fault>
-    ensures { Gives (λ v. v.items) result (each blob [] (items_view items.now)) }
+    ensures { Gives (λ v. v.items) result (each record_behind [] (items_view items.now)) }
 {
     let mut blobs = Vec::new(alloc);
     for item in items {

@@ -1,7 +1,7 @@
 ghost use Rattle.std.specs.Prelude.{◌<◌, []};
 ghost use Rattle.serde_json.specs.View.{view, items_view};
 ghost use Rattle.lwkt_script.specs.Outcome.{Gives, each};
-ghost use Rattle.lwkt_trace.specs.Format.{message};
+ghost use Rattle.lwkt_trace.specs.Format.{message_behind};
 
 use lwkt_base::{Fault, MsgSpec};
 use lwkt_script::growth::push;
@@ -14,7 +14,7 @@ const MESSAGE_LIMIT: usize = 64;
 // The message after those.
 fn message(cpus: u8, before: &[MsgSpec], value: &Value) -> Result<MsgSpec, Fault>
     requires { 0 < cpus }
-    ensures { Gives (λ m. m) result (message cpus before.now (view value.now)) }
+    ensures { Gives (λ m. m) result (message_behind cpus before.now (view value.now)) }
 {
     if before.len() >= MESSAGE_LIMIT {
         return Err(Fault::Script { place: 2064 });
@@ -28,7 +28,7 @@ fn message(cpus: u8, before: &[MsgSpec], value: &Value) -> Result<MsgSpec, Fault
 /// an allocation was refused.
 pub fn messages_of(alloc: Global, cpus: u8, items: &[Value]) -> Result<Vec<MsgSpec>, Fault>
     requires { 0 < cpus }
-    ensures { Gives (λ v. v.items) result (each (message cpus) [] (items_view items.now)) }
+    ensures { Gives (λ v. v.items) result (each (message_behind cpus) [] (items_view items.now)) }
 {
     let mut messages = Vec::new(alloc);
     for item in items {

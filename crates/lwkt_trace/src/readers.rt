@@ -1,7 +1,7 @@
 ghost use Rattle.std.specs.Prelude.{◌≡◌, ◌<◌, ◌≤◌, length, Err};
 ghost use Rattle.serde_json.specs.View.{view};
 ghost use Rattle.lwkt_script.specs.Outcome.{Gives};
-ghost use Rattle.lwkt_trace.specs.Format.{is_whole, trace, trace_of};
+ghost use Rattle.lwkt_trace.specs.Format.{has_six_members, trace, trace_of};
 ghost use Rattle.lwkt_base.specs.Fault.{no_memory};
 
 use crate::closings::closing;
@@ -22,7 +22,7 @@ const CPU_LIMIT: u64 = 8;
 
 // Whether the value is an object with exactly the six members.
 fn is_whole(value: &Value) -> bool
-    ensures { result ≡ is_whole (view value.now) }
+    ensures { result ≡ has_six_members (view value.now) }
 {
     has_members(value, 6) && has(value, "version") && has(value, "cpus") && has(value, "last")
 }

@@ -1,6 +1,6 @@
 ghost use Rattle.std.specs.Prelude.{◌≡◌, ◌≤◌, length};
 ghost use Rattle.serde_json.specs.View.{view, items_view};
-ghost use Rattle.lwkt_trace.specs.Words.{row_of, row_at, section_in};
+ghost use Rattle.lwkt_trace.specs.Words.{row_of, row_item, section_items};
 
 use lwkt_base::{Row, Section, TokId};
 use lwkt_script::steps::whole_at;
@@ -25,14 +25,14 @@ fn row_of(items: &[Value]) -> Option<Row>
 
 // Item i as a row.
 fn row_at(value: &Value, i: usize) -> Option<Row>
-    ensures { result ≡ row_at i (view value.now) }
+    ensures { result ≡ row_item i (view value.now) }
 {
     row_of(value.get(i)?.as_array()?.as_slice())
 }
 
 /// The section of a token that items 3 to 5 tell: its generation, and the rows at its beginning and at its end.
 pub fn section_in(tok: u8, value: &Value) -> Option<Section>
-    ensures { result ≡ section_in tok (view value.now) }
+    ensures { result ≡ section_items tok (view value.now) }
 {
     let generation = whole_at(value, 3)?;
     let before = row_at(value, 4)?;

@@ -2,8 +2,8 @@ ghost use Rattle.std.specs.Prelude.{◌≡◌, ◌++◌, take, OnOk, Some, strin
 ghost use Rattle.lwkt_base.specs.Hex.{bytes_text};
 ghost use Rattle.lwkt_core.specs.Events.{place_of};
 ghost use Rattle.lwkt_script.specs.Member.{law_of};
-ghost use Rattle.lwkt_trace.specs.Words.{IsWordOf, place_at, spaced, numbers_text};
-ghost use Rattle.lwkt_trace.specs.Written.{word_of, law_text};
+ghost use Rattle.lwkt_trace.specs.Words.{IsWordOf, place_at, spaced_numbers, numbers_text};
+ghost use Rattle.lwkt_trace.specs.Written.{word_of_event, law_text};
 
 use lwkt_base::hexes::show_hex_or_none;
 use lwkt_base::{Blob, Law, MsgId, TokId};
@@ -13,7 +13,7 @@ use std::alloc::AllocError;
 /// The word of an event: the one that reading a trace takes for it.
 pub fn event_word(event: &Event) -> &'static str
     ensures reads { IsWordOf result.now event.now }
-    ensures word { result.now ≡ word_of event.now }
+    ensures word { result.now ≡ word_of_event event.now }
 {
     match event {
         Event::Load { .. } => "load",
@@ -94,7 +94,7 @@ pub fn show_bytes(out: &mut String, blob: &Blob) -> Result<(), AllocError>
 
 // Appends numbers, each after a space.
 fn show_spaced(out: &mut String, numbers: &[u64]) -> Result<(), AllocError>
-    ensures { OnOk result (string_bytes out.new ≡ string_bytes out.old ++ spaced numbers.now) }
+    ensures { OnOk result (string_bytes out.new ≡ string_bytes out.old ++ spaced_numbers numbers.now) }
 {
     for number in numbers {
         write!(out, " {number}")?;

@@ -2,7 +2,7 @@
 ghost use Rattle.std.specs.Prelude.{◌≡◌, ◌++◌, OnOk, IfOk, string_bytes};
 ghost use Rattle.std.specs.Fmt.{decimal};
 ghost use Rattle.std.specs.List.{list_any};
-ghost use Rattle.lwkt_trace.specs.Written.{comma_at, line_at, named, parted, list_text, blob_text, guard_text, cells_text, law_member_text, param_text, gen_text, token_text, message_text, rest_text, event_text, place_text, end_text, tallies_text, last_blob_text, row_text, generation_text, tally_text, record_text, has_record, records_text, listed_text, cpus_text, tokens_text, messages_text, events_text, rows_text, generations_text, all_tallies_text, ends_text, closing_text, trace_text};
+ghost use Rattle.lwkt_trace.specs.Written.{comma_at, line_at, member_name, parted, list_text, blob_text, guard_text, cells_text, law_member_text, param_text, gen_text, token_text, message_text, rest_text, event_text, owner_json, end_text, tallies_text, last_blob_text, row_text, generation_text, tally_text, last_record_text, has_record, records_text, listed_text, cpus_text, tokens_text, messages_text, events_text, rows_text, generations_text, all_tallies_text, ends_text, closing_text, trace_text};
 
 use crate::words::{event_word, law_name};
 use lwkt_base::hexes::show_hex;
@@ -44,7 +44,7 @@ fn show_parts(out: &mut String, numbers: &[u64]) -> Result<(), AllocError>
 // Appends the name of a member, and what stands between it and its value.
 #[tactic(auto, unfolding(crate::specs::Written::named))]
 fn show_name(out: &mut String, name: &str) -> Result<(), AllocError>
-    ensures { OnOk result (string_bytes out.new ≡ string_bytes out.old ++ named name.now) }
+    ensures { OnOk result (string_bytes out.new ≡ string_bytes out.old ++ member_name name.now) }
 {
     out.push_str("\"")?;
     out.push_str(name)?;
@@ -200,7 +200,7 @@ fn show_event(out: &mut String, event: &Event) -> Result<(), AllocError>
 
 // Appends where a message is.
 fn show_place(out: &mut String, state: &Owner) -> Result<(), AllocError>
-    ensures { OnOk result (string_bytes out.new ≡ string_bytes out.old ++ place_text state.now) }
+    ensures { OnOk result (string_bytes out.new ≡ string_bytes out.old ++ owner_json state.now) }
 {
     match state {
         Owner::Rest { origin } => write!(out, "[\"rest\",{}", origin.0),
@@ -351,7 +351,7 @@ fn show_last_record(out: &mut String, blob: &Option<Blob>) -> Result<(), AllocEr
 
 // Appends the records of the tokens at the close.
 fn show_last_records(out: &mut String, lines: &[TokenLine]) -> Result<(), AllocError>
-    ensures { OnOk result (string_bytes out.new ≡ string_bytes out.old ++ parted comma_at record_text 0 lines.now) }
+    ensures { OnOk result (string_bytes out.new ≡ string_bytes out.old ++ parted comma_at last_record_text 0 lines.now) }
 {
     for (number, line) in lines.iter().enumerate() {
         show_comma(out, number)?;

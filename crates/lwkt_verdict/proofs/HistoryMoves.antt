@@ -14,8 +14,8 @@ use Rattle.lwkt_verdict.specs.declared.turns.Turn.{Turn}
 use Rattle.lwkt_verdict.specs.declared.progress.Asked.{Asked}
 use Rattle.lwkt_verdict.specs.declared.progress.Piece.{Piece}
 use Rattle.lwkt_verdict.specs.Parts.{after_all}
-use Rattle.lwkt_verdict.specs.Threads.{IsLogged, slot_of, thread_of, line_of, ask_at, asked_by, last_of, logged_by, entries_of, progress_of, EndsAs, Ends}
-use Rattle.lwkt_verdict.specs.Run.{poll_of, piece, whose, came, asked, Polls, Fits, EndsRun, Runs}
+use Rattle.lwkt_verdict.specs.Threads.{IsLogged, slot_of, plan_of_thread, line_of, ask_at, asked_by, last_of, logged_by, entries_of, progress_of, EndsAs, EndsAsTold}
+use Rattle.lwkt_verdict.specs.Run.{poll_of, piece, whose, came, asked_of_poll, PollFits, TurnFits, EndsRun, RunsThrough}
 use Rattle.lwkt_verdict.specs.Laws.{pieces_of, asks_of, AsksAreThoseOfTheScript, AllButTheLastAreAnswered, LogsAreTheFirstEntries}
 use Rattle.lwkt_verdict.proofs.ShowMoves.{asked_push, asked_here, asked_there}
 
@@ -28,7 +28,7 @@ pub record Ended (plans : List ThreadPlan) (lines : List ThreadEnd) (Q : List Pi
 
 module _ (plans : List ThreadPlan) (lines : List ThreadEnd) (polls : List Poll) (order : List ℕ) where
   -- what each turn that fits keeps holds after all turns
-  pub through : (Q : List Piece → Type 0) → ((m : Machine) (before : List Piece) (poll : Option Poll) (part : List Event) → Q before → Fits plans lines (whose order (length before)) m before poll part → Q (before ++ piece poll part ∷ [])) → (m : Machine) (before : List Piece) (turns : List Turn) (events : List Event) → Q before → Runs plans lines polls order m before turns events → Ended plans lines Q (before ++ pieces_of polls turns events)
+  pub through : (Q : List Piece → Type 0) → ((m : Machine) (before : List Piece) (poll : Option Poll) (part : List Event) → Q before → TurnFits plans lines (whose order (length before)) m before poll part → Q (before ++ piece poll part ∷ [])) → (m : Machine) (before : List Piece) (turns : List Turn) (events : List Event) → Q before → RunsThrough plans lines polls order m before turns events → Ended plans lines Q (before ++ pieces_of polls turns events)
   through Q step m before [] events q closes =
       subst (λ (all : List Piece). Ended plans lines Q all) (sym (append-nil before)) (record { holds = q; end = m; stop = events; closes = closes })
   through Q step m before (t ∷ ts) events q runs =
@@ -42,10 +42,10 @@ pub record Asks (plans : List ThreadPlan) (lines : List ThreadEnd) (slot : ℕ) 
   pub q : Poll
   pub cpu : ℕ
   pub here : slot_of q.thread ≡ slot
-  pub fits : Polls plans lines cpu (came before slot) q
-  pub is : asked_by slot (before ++ p ∷ []) ≡ asked_by slot before ++ asked q p.blocked ∷ []
+  pub fits : PollFits plans lines cpu (came before slot) q
+  pub is : asked_by slot (before ++ p ∷ []) ≡ asked_by slot before ++ asked_of_poll q p.blocked ∷ []
 
-pub asks_or_not : (plans : List ThreadPlan) (lines : List ThreadEnd) (slot cpu : ℕ) (m : Machine) (before : List Piece) (poll : Option Poll) (part : List Event) → Fits plans lines cpu m before poll part → (asked_by slot (before ++ piece poll part ∷ []) ≡ asked_by slot before) ⊎ Asks plans lines slot before (piece poll part)
+pub asks_or_not : (plans : List ThreadPlan) (lines : List ThreadEnd) (slot cpu : ℕ) (m : Machine) (before : List Piece) (poll : Option Poll) (part : List Event) → TurnFits plans lines cpu m before poll part → (asked_by slot (before ++ piece poll part ∷ []) ≡ asked_by slot before) ⊎ Asks plans lines slot before (piece poll part)
 asks_or_not plans lines slot cpu m before None part fits =
     inl (asked_push slot before (piece None part) ∙ append-nil (asked_by slot before))
 asks_or_not plans lines slot cpu m before (Some q) part fits =
@@ -55,7 +55,7 @@ asks_or_not plans lines slot cpu m before (Some q) part fits =
         q = q;
         cpu = cpu;
         here = same;
-        fits = subst (λ k. Polls plans lines cpu (came before k) q) same fits.polls;
+        fits = subst (λ k. PollFits plans lines cpu (came before k) q) same fits.polls;
         is = asked_push slot before p ∙ ap (λ (xs : List Asked). asked_by slot before ++ xs) (asked_here slot q p.blocked same);
       })
       | inr apart ↦ inl (asked_push slot before p ∙ ap (λ (xs : List Asked). asked_by slot before ++ xs) (asked_there slot q p.blocked apart) ∙ append-nil (asked_by slot before))
@@ -83,23 +83,23 @@ match_any (Some x) P C there step = step x there
 
 -- what a thread asks after some turns is a front of what its plan has
 FollowsPlan : List ThreadPlan → ℕ → ℕ → List Piece → Type 0
-FollowsPlan plans cpu n before = (k : ℕ) (a : Asked) → slice_get (asked_by (16 * cpu + n) before) k ≡ Some a → MatchOption (thread_of cpu n plans) ⊥ (λ plan. ask_at plan k ≡ Some a.ask)
+FollowsPlan plans cpu n before = (k : ℕ) (a : Asked) → slice_get (asked_by (16 * cpu + n) before) k ≡ Some a → MatchOption (plan_of_thread cpu n plans) ⊥ (λ plan. ask_at plan k ≡ Some a.ask)
 
-follows_step : (plans : List ThreadPlan) (lines : List ThreadEnd) (cpu n now : ℕ) → n < 16 → (m : Machine) (before : List Piece) (poll : Option Poll) (part : List Event) → FollowsPlan plans cpu n before → Fits plans lines now m before poll part → FollowsPlan plans cpu n (before ++ piece poll part ∷ [])
+follows_step : (plans : List ThreadPlan) (lines : List ThreadEnd) (cpu n now : ℕ) → n < 16 → (m : Machine) (before : List Piece) (poll : Option Poll) (part : List Event) → FollowsPlan plans cpu n before → TurnFits plans lines now m before poll part → FollowsPlan plans cpu n (before ++ piece poll part ∷ [])
 unfolding FollowsPlan
 follows_step plans lines cpu n now small m before poll part follows fits k a is =
     let slot = 16 * cpu + n in
     let xs : List Asked = asked_by slot before in
-    let G : ℕ → ℕ → ℕ → Asked → Type 0 = λ c t j x. MatchOption (thread_of c t plans) ⊥ (λ plan. ask_at plan j ≡ Some x.ask) in
+    let G : ℕ → ℕ → ℕ → Asked → Type 0 = λ c t j x. MatchOption (plan_of_thread c t plans) ⊥ (λ plan. ask_at plan j ≡ Some x.ask) in
     elim (asks_or_not plans lines slot now m before poll part fits) [
       | inl same ↦ follows k a (subst (λ (ys : List Asked). slice_get ys k ≡ Some a) same is)
-      | inr w ↦ (let new : Asked = asked w.q (piece poll part).blocked in
+      | inr w ↦ (let new : Asked = asked_of_poll w.q (piece poll part).blocked in
           let there = w.fits.here in
           let few = w.fits.numbered in
           let here = w.here in
           let same_cpu : w.cpu ≡ cpu = omega arith in
           let same_n : w.q.thread.thread ≡ n = omega arith in
-          let next : G w.cpu w.q.thread.thread (length xs) new = match_on (thread_of w.cpu w.q.thread.thread plans) (λ plan. (ask_at plan (length xs) ≡ Some w.q.ask) × MatchOption (last_of xs) (Unit {0}) (λ x. is_some x.answer ≡ true)) (λ plan. ask_at plan (length xs) ≡ Some w.q.ask) w.fits.asks (λ plan may. may.0) in
+          let next : G w.cpu w.q.thread.thread (length xs) new = match_on (plan_of_thread w.cpu w.q.thread.thread plans) (λ plan. (ask_at plan (length xs) ≡ Some w.q.ask) × MatchOption (last_of xs) (Unit {0}) (λ x. is_some x.answer ≡ true)) (λ plan. ask_at plan (length xs) ≡ Some w.q.ask) w.fits.asks (λ plan may. may.0) in
           elim (get_push xs new k a (subst (λ (ys : List Asked). slice_get ys k ≡ Some a) w.is is)) [
             | inl old ↦ follows k a old
             | inr last ↦ subst (λ c. G c n k a) same_cpu (subst (λ t. G w.cpu t k a) same_n (subst (λ j. G w.cpu w.q.thread.thread j a) (sym last.0) (subst (λ (x : Asked). G w.cpu w.q.thread.thread (length xs) x) (sym last.1) next)))
@@ -110,16 +110,16 @@ follows_step plans lines cpu n now small m before poll part follows fits k a is 
 AreAnswered : ℕ → List Piece → Type 0
 AreAnswered slot before = (k : ℕ) (a : Asked) → slice_get (asked_by slot before) k ≡ Some a → k + 1 < length (asked_by slot before) → is_some a.answer ≡ true
 
-answered_step : (plans : List ThreadPlan) (lines : List ThreadEnd) (slot now : ℕ) (m : Machine) (before : List Piece) (poll : Option Poll) (part : List Event) → AreAnswered slot before → Fits plans lines now m before poll part → AreAnswered slot (before ++ piece poll part ∷ [])
+answered_step : (plans : List ThreadPlan) (lines : List ThreadEnd) (slot now : ℕ) (m : Machine) (before : List Piece) (poll : Option Poll) (part : List Event) → AreAnswered slot before → TurnFits plans lines now m before poll part → AreAnswered slot (before ++ piece poll part ∷ [])
 unfolding AreAnswered
 answered_step plans lines slot now m before poll part answered fits k a is inside =
     let xs : List Asked = asked_by slot before in
     elim (asks_or_not plans lines slot now m before poll part fits) [
       | inl same ↦ answered k a (subst (λ (ys : List Asked). slice_get ys k ≡ Some a) same is) (subst (λ (ys : List Asked). k + 1 < length ys) same inside)
-      | inr w ↦ (let new : Asked = asked w.q (piece poll part).blocked in
+      | inr w ↦ (let new : Asked = asked_of_poll w.q (piece poll part).blocked in
           let more : length (xs ++ new ∷ []) ≡ length xs + 1 = length_push xs new in
           let below : k + 1 < length (xs ++ new ∷ []) = subst (λ (ys : List Asked). k + 1 < length ys) w.is inside in
-          let last_has : MatchOption (last_of xs) (Unit {0}) (λ x. is_some x.answer ≡ true) = match_any (thread_of w.cpu w.q.thread.thread plans) (λ plan. (ask_at plan (length xs) ≡ Some w.q.ask) × MatchOption (last_of xs) (Unit {0}) (λ x. is_some x.answer ≡ true)) (MatchOption (last_of xs) (Unit {0}) (λ x. is_some x.answer ≡ true)) w.fits.asks (λ plan may. may.1) in
+          let last_has : MatchOption (last_of xs) (Unit {0}) (λ x. is_some x.answer ≡ true) = match_any (plan_of_thread w.cpu w.q.thread.thread plans) (λ plan. (ask_at plan (length xs) ≡ Some w.q.ask) × MatchOption (last_of xs) (Unit {0}) (λ x. is_some x.answer ≡ true)) (MatchOption (last_of xs) (Unit {0}) (λ x. is_some x.answer ≡ true)) w.fits.asks (λ plan may. may.1) in
           elim (get_push xs new k a (subst (λ (ys : List Asked). slice_get ys k ≡ Some a) w.is is)) [
             | inl old ↦ elim (cases_order (k + 1) (length xs)) [
               | inl at_last ↦ (let place : length xs - 1 ≡ k = omega arith in
@@ -158,12 +158,12 @@ log_step log es (Some e) so_far fits =
     ]
 
 -- a thread's line says that its last ask has no answer, where it asked something at all
-ends_open : (t : Option ThreadPlan) (l : Option ThreadEnd) (p : List Asked) (X : ThreadPlan → Type 0) → MatchOption t ⊥ X → Ends t l (progress_of p) → MatchOption (last_of p) (Unit {0}) (λ a. is_some a.answer ≡ false)
+ends_open : (t : Option ThreadPlan) (l : Option ThreadEnd) (p : List Asked) (X : ThreadPlan → Type 0) → MatchOption t ⊥ X → EndsAsTold t l (progress_of p) → MatchOption (last_of p) (Unit {0}) (λ a. is_some a.answer ≡ false)
 ends_open None l p X there ends = absurd there
 ends_open (Some plan) None p X there ends = absurd ends
 ends_open (Some plan) (Some line) p X there ends = ends.0
 
-ends_line : (t : Option ThreadPlan) (line : ThreadEnd) (p : List Asked) → Ends t (Some line) (progress_of p) → EndsAs line (progress_of p)
+ends_line : (t : Option ThreadPlan) (line : ThreadEnd) (p : List Asked) → EndsAsTold t (Some line) (progress_of p) → EndsAs line (progress_of p)
 ends_line None line p ends = absurd ends
 ends_line (Some plan) line p ends = ends
 
@@ -179,7 +179,7 @@ all_answered plans pace order opening polls turns trace lines run cpu n here few
     let slot = 16 * cpu + n in
     let xs : List Asked = asks_of polls turns trace cpu n in
     let done = through plans lines polls order (AreAnswered slot) (λ m before poll part q fits. answered_step plans lines slot (whose order (length before)) m before poll part q fits) opening [] turns trace (λ j x none. absurd cc) run.runs in
-    let open_end : MatchOption (last_of xs) (Unit {0}) (λ x. is_some x.answer ≡ false) = ends_open (thread_of cpu n plans) (line_of slot lines) xs (λ plan. ask_at plan k ≡ Some a.ask) (asks_follow plans pace order opening polls turns trace lines run cpu n here few k a is) (done.closes.ends cpu n here few) in (
+    let open_end : MatchOption (last_of xs) (Unit {0}) (λ x. is_some x.answer ≡ false) = ends_open (plan_of_thread cpu n plans) (line_of slot lines) xs (λ plan. ask_at plan k ≡ Some a.ask) (asks_follow plans pace order opening polls turns trace lines run cpu n here few k a is) (done.closes.ends cpu n here few) in (
       (λ inside. done.holds k a is inside),
       (λ last. (let place : length xs - 1 ≡ k = omega arith in
           let F : Option Asked → Type 0 = λ o. MatchOption o (Unit {0}) (λ x. is_some x.answer ≡ false) in
@@ -190,7 +190,7 @@ all_answered plans pace order opening polls turns trace lines run cpu n here few
 HasLogged : List Entry → ℕ → List Piece → Type 0
 HasLogged log slot before = take (min 32 (length (entries_of (asked_by slot before)))) log ≡ take 32 (entries_of (asked_by slot before))
 
-logged_step : (plans : List ThreadPlan) (lines : List ThreadEnd) (line : ThreadEnd) (slot now : ℕ) → line_of slot lines ≡ Some line → (m : Machine) (before : List Piece) (poll : Option Poll) (part : List Event) → HasLogged line.log.items slot before → Fits plans lines now m before poll part → HasLogged line.log.items slot (before ++ piece poll part ∷ [])
+logged_step : (plans : List ThreadPlan) (lines : List ThreadEnd) (line : ThreadEnd) (slot now : ℕ) → line_of slot lines ≡ Some line → (m : Machine) (before : List Piece) (poll : Option Poll) (part : List Event) → HasLogged line.log.items slot before → TurnFits plans lines now m before poll part → HasLogged line.log.items slot (before ++ piece poll part ∷ [])
 unfolding HasLogged
 logged_step plans lines line slot now is_line m before poll part so_far fits =
     let log : List Entry = line.log.items in
@@ -198,12 +198,12 @@ logged_step plans lines line slot now is_line m before poll part so_far fits =
     let G : List Entry → Type 0 = λ es. take (min 32 (length es)) log ≡ take 32 es in
     elim (asks_or_not plans lines slot now m before poll part fits) [
       | inl same ↦ subst (λ (ys : List Asked). G (entries_of ys)) (sym same) so_far
-      | inr w ↦ (let new : Asked = asked w.q (piece poll part).blocked in
+      | inr w ↦ (let new : Asked = asked_of_poll w.q (piece poll part).blocked in
           let there = w.fits.here in
           let here = w.here in
           let place : 16 * w.cpu + w.q.thread.thread ≡ slot = omega arith in
-          let L : Option ThreadEnd → Type 0 = λ o. MatchOption o ⊥ (λ l. IsLogged l (came before slot) (asked w.q false)) in
-          let stands : IsLogged line (came before slot) (asked w.q false) = subst L (ap (λ s. line_of s lines) place ∙ is_line) w.fits.logs in
+          let L : Option ThreadEnd → Type 0 = λ o. MatchOption o ⊥ (λ l. IsLogged l (came before slot) (asked_of_poll w.q false)) in
+          let stands : IsLogged line (came before slot) (asked_of_poll w.q false) = subst L (ap (λ s. line_of s lines) place ∙ is_line) w.fits.logs in
           let next : G (entries_of xs ++ cons_option (logged_by new) []) = log_step log (entries_of xs) (logged_by new) so_far stands in
           subst (λ (ys : List Asked). G (entries_of ys)) (sym w.is) (subst G (sym (filter_map-append logged_by xs (new ∷ []))) next))
     ]
@@ -220,7 +220,7 @@ logs_are_first plans pace order opening polls turns trace lines run cpu n here f
     let xs : List Asked = asks_of polls turns trace cpu n in
     with_value (line_of slot lines) (λ line. line.log.items ≡ take 32 (entries_of xs)) (λ line is_line. (let log : List Entry = line.log.items in
     let done = through plans lines polls order (HasLogged log slot) (λ m before poll part q fits. logged_step plans lines line slot (whose order (length before)) is_line m before poll part q fits) opening [] turns trace refl run.runs in
-    let E : Option ThreadEnd → Type 0 = λ o. Ends (thread_of cpu n plans) o (progress_of xs) in
-    let ends = ends_line (thread_of cpu n plans) line xs (subst E is_line (done.closes.ends cpu n here few)) in
+    let E : Option ThreadEnd → Type 0 = λ o. EndsAsTold (plan_of_thread cpu n plans) o (progress_of xs) in
+    let ends = ends_line (plan_of_thread cpu n plans) line xs (subst E is_line (done.closes.ends cpu n here few)) in
     let long : length log ≡ min 32 (length (entries_of xs)) = ends.1 in
     sym (take_all (min 32 (length (entries_of xs))) log (omega arith)) ∙ done.holds))

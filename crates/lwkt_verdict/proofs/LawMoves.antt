@@ -3,8 +3,8 @@ use Rattle.std.specs.Prelude.{is_some, MatchOption}
 use Rattle.std.proofs.lemmas.Bool.{false≢true}
 use Rattle.lwkt_verdict.specs.declared.turns.ThreadPlan.{ThreadPlan}
 use Rattle.lwkt_verdict.specs.declared.turns.Poll.{Poll}
-use Rattle.lwkt_verdict.specs.Threads.{thread_of}
-use Rattle.lwkt_verdict.specs.Run.{whose, came, Idles, Polls}
+use Rattle.lwkt_verdict.specs.Threads.{plan_of_thread}
+use Rattle.lwkt_verdict.specs.Run.{whose, came, Idles, PollFits}
 use Rattle.lwkt_verdict.specs.Laws.{NoTurnsAreNoRun, RunsBeginWithAnAsk}
 
 pub no_turns : NoTurnsAreNoRun
@@ -20,6 +20,6 @@ none_rests (Some plan) is may = may
 pub begins_with_an_ask : RunsBeginWithAnAsk
 begins_with_an_ask plans pace order opening polls turn turns trace lines there none run =
     let fits = run.runs.1.0 in
-    let F : Option Poll → Type 0 = λ o. MatchOption o (Idles plans (whose order 0) (came [])) (λ q. Polls plans lines (whose order 0) (came [] (16 * q.thread.cpu.0 + q.thread.thread)) q) in
+    let F : Option Poll → Type 0 = λ o. MatchOption o (Idles plans (whose order 0) (came [])) (λ q. PollFits plans lines (whose order 0) (came [] (16 * q.thread.cpu.0 + q.thread.thread)) q) in
     let idles : Idles plans (whose order 0) (came []) = subst F none fits.polls in
-    none_rests (thread_of (whose order 0) 0 plans) there (idles 0 (omega arith))
+    none_rests (plan_of_thread (whose order 0) 0 plans) there (idles 0 (omega arith))

@@ -19,10 +19,10 @@ use Rattle.lwkt_verdict.specs.declared.shorts.ShortAnswer.TheVariants.{NotYet, B
 use Rattle.lwkt_verdict.specs.declared.poll_lists.PollRow.{PollRow}
 use Rattle.lwkt_core.specs.Machine.{changed}
 use Rattle.lwkt_core.proofs.MachineMoves.{changed_at}
-use Rattle.lwkt_verdict.specs.Shorts.{ask_of, answer_of, IsAskIn, IsAnswerIn, IsRowIn, Grows, poll_in, polls_in}
+use Rattle.lwkt_verdict.specs.Shorts.{long_ask, long_answer, IsAskIn, IsAnswerIn, IsRowIn, GrowsBehind, poll_in, polls_in}
 
 -- an ask, where more long ones come behind
-ask_longer : (longs more : List Ask) (short : ShortAsk) → IsAskIn (length longs) short → ask_of (longs ++ more) short ≡ ask_of longs short
+ask_longer : (longs more : List Ask) (short : ShortAsk) → IsAskIn (length longs) short → long_ask (longs ++ more) short ≡ long_ask longs short
 ask_longer longs more (ShortGet tok) inside = refl
 ask_longer longs more (ShortGetShared tok) inside = refl
 ask_longer longs more (ShortTryGet tok) inside = refl
@@ -67,7 +67,7 @@ ask_stays few many ShortExit less inside = tt
 ask_stays few many (LongAsk place) less inside = omega arith
 
 -- an answer, where more long ones come behind
-answer_longer : (longs more : List Answer) (short : ShortAnswer) → IsAnswerIn (length longs) short → answer_of (longs ++ more) short ≡ answer_of longs short
+answer_longer : (longs more : List Answer) (short : ShortAnswer) → IsAnswerIn (length longs) short → long_answer (longs ++ more) short ≡ long_answer longs short
 answer_longer longs more NotYet inside = refl
 answer_longer longs more ShortBegin inside = refl
 answer_longer longs more ShortDone inside = refl
@@ -95,7 +95,7 @@ made answer ask row = record { answer = answer; ask = ask; thread = row.thread }
 -- the poll of a row
 row_longer : (asks asks' : List Ask) (answers answers' : List Answer) (row : PollRow) → IsRowIn (length asks) (length answers) row → poll_in (asks ++ asks') (answers ++ answers') row ≡ poll_in asks answers row
 row_longer asks asks' answers answers' row is =
-    ap (λ (a : Option Answer). made a (ask_of (asks ++ asks') row.ask) row) (answer_longer answers answers' row.answer is.answer) ∙ ap (λ (a : Ask). made (answer_of answers row.answer) a row) (ask_longer asks asks' row.ask is.ask)
+    ap (λ (a : Option Answer). made a (long_ask (asks ++ asks') row.ask) row) (answer_longer answers answers' row.answer is.answer) ∙ ap (λ (a : Ask). made (long_answer answers row.answer) a row) (ask_longer asks asks' row.ask is.ask)
 
 pub row_stays : (asks answers asks' answers' : ℕ) → asks ≤ asks' → answers ≤ answers' → (row : PollRow) → IsRowIn asks answers row → IsRowIn asks' answers' row
 row_stays asks answers asks' answers' one other row is = record {
@@ -104,10 +104,10 @@ row_stays asks answers asks' answers' one other row is = record {
 }
 
 -- lists that have grown
-pub stays : {A : Type 0} (xs : List A) → Grows xs xs
+pub stays : {A : Type 0} (xs : List A) → GrowsBehind xs xs
 stays xs = record { more = []; is = sym (append-nil xs) }
 
-grown_long : {A : Type 0} (xs ys : List A) → Grows xs ys → length xs ≤ length ys
+grown_long : {A : Type 0} (xs ys : List A) → GrowsBehind xs ys → length xs ≤ length ys
 grown_long xs ys grows =
     let e : length ys ≡ length xs + length grows.more = ap length grows.is ∙ length-append xs grows.more in
     omega arith
@@ -118,11 +118,11 @@ polls_longer asks asks' answers answers' [] all = refl
 polls_longer asks asks' answers answers' (row ∷ rows) all =
     ap (λ (q : Poll). q ∷ polls_in (asks ++ asks') (answers ++ answers') rows) (row_longer asks asks' answers answers' row (all 0 row (omega arith))) ∙ ap (λ (qs : List Poll). poll_in asks answers row ∷ qs) (polls_longer asks asks' answers answers' rows (λ k d inside. all (suc k) d (omega arith)))
 
-pub polls_grown : (asks asks' : List Ask) (answers answers' : List Answer) (rows : List PollRow) → Grows asks asks' → Grows answers answers' → All (IsRowIn (length asks) (length answers)) rows → polls_in asks' answers' rows ≡ polls_in asks answers rows
+pub polls_grown : (asks asks' : List Ask) (answers answers' : List Answer) (rows : List PollRow) → GrowsBehind asks asks' → GrowsBehind answers answers' → All (IsRowIn (length asks) (length answers)) rows → polls_in asks' answers' rows ≡ polls_in asks answers rows
 polls_grown asks asks' answers answers' rows one other all =
     ap (λ (xs : List Ask). polls_in xs answers' rows) one.is ∙ ap (λ (ys : List Answer). polls_in (asks ++ one.more) ys rows) other.is ∙ polls_longer asks one.more answers other.more rows all
 
-pub rows_grown : (asks asks' : List Ask) (answers answers' : List Answer) (rows : List PollRow) → Grows asks asks' → Grows answers answers' → All (IsRowIn (length asks) (length answers)) rows → All (IsRowIn (length asks') (length answers')) rows
+pub rows_grown : (asks asks' : List Ask) (answers answers' : List Answer) (rows : List PollRow) → GrowsBehind asks asks' → GrowsBehind answers answers' → All (IsRowIn (length asks) (length answers)) rows → All (IsRowIn (length asks') (length answers')) rows
 rows_grown asks asks' answers answers' rows one other all =
     All-weaker (IsRowIn (length asks) (length answers)) (IsRowIn (length asks') (length answers')) (row_stays (length asks) (length answers) (length asks') (length answers') (grown_long asks asks' one) (grown_long answers answers' other)) rows all
 

@@ -14,7 +14,7 @@ use Rattle.lwkt_verdict.specs.declared.progress.Asked.{Asked}
 use Rattle.lwkt_verdict.specs.declared.progress.Progress.{Progress}
 use Rattle.lwkt_verdict.specs.declared.progress.Piece.{Piece}
 use Rattle.lwkt_verdict.specs.Threads.{slot_of, asked_in, asked_by, logged_by, entries_of, progress_of, progress_after}
-use Rattle.lwkt_verdict.specs.Run.{came, asked, Polls}
+use Rattle.lwkt_verdict.specs.Run.{came, asked_of_poll, PollFits}
 use Rattle.lwkt_verdict.specs.Progressed.{ShowsProgress}
 
 -- what a turn more asked of a thread
@@ -63,7 +63,7 @@ came_next slot before p a one =
     ap progress_of (asked_push slot before p ∙ ap (λ (ys : List Asked). asked_by slot before ++ ys) one) ∙ progress_push (asked_by slot before) a
 
 -- what a poll asks of its thread, and of another
-pub asked_here : (slot : ℕ) (q : Poll) (blocked : Bool) → slot_of q.thread ≡ slot → asked_in slot (record { poll = Some q; blocked = blocked }) ≡ asked q blocked ∷ []
+pub asked_here : (slot : ℕ) (q : Poll) (blocked : Bool) → slot_of q.thread ≡ slot → asked_in slot (record { poll = Some q; blocked = blocked }) ≡ asked_of_poll q blocked ∷ []
 asked_here slot q blocked is = search rules
 
 pub asked_there : (slot : ℕ) (q : Poll) (blocked : Bool) → (slot_of q.thread ≡ slot → ⊥) → asked_in slot (record { poll = Some q; blocked = blocked }) ≡ []
@@ -104,17 +104,17 @@ shows_idle before table blocked shows = record {
 }
 
 -- after a turn that polled a thread
-pub shows_poll : (before : List Piece) (table new : List Progress) (q : Poll) (blocked : Bool) → ShowsProgress before table → slot_of q.thread < 128 → new ≡ slice_set table (slot_of q.thread) (progress_after (came before (slot_of q.thread)) (asked q blocked)) → ShowsProgress (before ++ record { poll = Some q; blocked = blocked } ∷ []) new
+pub shows_poll : (before : List Piece) (table new : List Progress) (q : Poll) (blocked : Bool) → ShowsProgress before table → slot_of q.thread < 128 → new ≡ slice_set table (slot_of q.thread) (progress_after (came before (slot_of q.thread)) (asked_of_poll q blocked)) → ShowsProgress (before ++ record { poll = Some q; blocked = blocked } ∷ []) new
 shows_poll before table new q blocked shows inside is =
     let slot = slot_of q.thread in
     let p : Piece = record { poll = Some q; blocked = blocked } in
-    let v : Progress = progress_after (came before slot) (asked q blocked) in
+    let v : Progress = progress_after (came before slot) (asked_of_poll q blocked) in
     record {
       room = ap (λ (t : List Progress). length t) is ∙ length_set table slot v ∙ shows.room;
       at = λ k below. ap (λ (t : List Progress). slice_get t k) is ∙ elim (cases_eq slot k) [
         | inl same ↦ (let F : ℕ → Type 0 = λ j. slice_get (slice_set table slot v) j ≡ Some (came (before ++ p ∷ []) j) in
             let room : slot < length table = (let w = shows.room in omega arith) in
-            subst F same (get_set table slot v room ∙ ap (λ (x : Progress). Some x) (sym (came_next slot before p (asked q blocked) (asked_here slot q blocked refl)))))
+            subst F same (get_set table slot v room ∙ ap (λ (x : Progress). Some x) (sym (came_next slot before p (asked_of_poll q blocked) (asked_here slot q blocked refl)))))
         | inr apart ↦ get_set_other table slot k v apart ∙ shows.at k below ∙ ap (λ (x : Progress). Some x) (sym (came_other k before p (asked_there k q blocked apart)))
       ];
     }
@@ -129,10 +129,10 @@ few_in None f few = omega arith
 few_in (Some q) f few = few q
 
 asked_once : (slot : ℕ) (p : Piece) → length (asked_in slot p) ≤ 1
-asked_once slot p = few_in p.poll (λ q. if slot_of q.thread == slot then (asked q p.blocked ∷ []) else []) (λ q. if_few (slot_of q.thread == slot) (asked q p.blocked))
+asked_once slot p = few_in p.poll (λ q. if slot_of q.thread == slot then (asked_of_poll q p.blocked ∷ []) else []) (λ q. if_few (slot_of q.thread == slot) (asked_of_poll q p.blocked))
 
 -- a poll that fits is of one of the threads that there can be
-inside_by : (plans : List ThreadPlan) (lines : List ThreadEnd) (cpu : ℕ) (o : Option Progress) (q : Poll) → cpu < 8 → MatchOption o ⊥ (λ p. Polls plans lines cpu p q) → slot_of q.thread < 128
+inside_by : (plans : List ThreadPlan) (lines : List ThreadEnd) (cpu : ℕ) (o : Option Progress) (q : Poll) → cpu < 8 → MatchOption o ⊥ (λ p. PollFits plans lines cpu p q) → slot_of q.thread < 128
 inside_by plans lines cpu None q small right = absurd right
 inside_by plans lines cpu (Some p) q small right =
     let here = right.here in
@@ -154,9 +154,9 @@ few_polls before table k shows few inside =
     subst F (sym (shows.at k inside)) (omega arith)
 
 -- the same, by what the check of a poll says
-pub shows_polled : (plans : List ThreadPlan) (lines : List ThreadEnd) (cpu : ℕ) (before : List Piece) (table new : List Progress) (q : Poll) (blocked : Bool) → cpu < 8 → ShowsProgress before table → MatchOption (slice_get table (slot_of q.thread)) ⊥ (λ p. Polls plans lines cpu p q) → MatchOption (slice_get table (slot_of q.thread)) ⊥ (λ p. new ≡ slice_set table (slot_of q.thread) (progress_after p (asked q blocked))) → ShowsProgress (before ++ record { poll = Some q; blocked = blocked } ∷ []) new
+pub shows_polled : (plans : List ThreadPlan) (lines : List ThreadEnd) (cpu : ℕ) (before : List Piece) (table new : List Progress) (q : Poll) (blocked : Bool) → cpu < 8 → ShowsProgress before table → MatchOption (slice_get table (slot_of q.thread)) ⊥ (λ p. PollFits plans lines cpu p q) → MatchOption (slice_get table (slot_of q.thread)) ⊥ (λ p. new ≡ slice_set table (slot_of q.thread) (progress_after p (asked_of_poll q blocked))) → ShowsProgress (before ++ record { poll = Some q; blocked = blocked } ∷ []) new
 shows_polled plans lines cpu before table new q blocked small shows right moved =
     let slot = slot_of q.thread in
     let inside : slot < 128 = inside_by plans lines cpu (slice_get table slot) q small right in
-    let F : Option Progress → Type 0 = λ o. MatchOption o ⊥ (λ p. new ≡ slice_set table slot (progress_after p (asked q blocked))) in
+    let F : Option Progress → Type 0 = λ o. MatchOption o ⊥ (λ p. new ≡ slice_set table slot (progress_after p (asked_of_poll q blocked))) in
     shows_poll before table new q blocked shows inside (subst F (shows.at slot inside) moved)

@@ -12,7 +12,7 @@ use Rattle.lwkt_verdict.specs.declared.turns.Turn.{Turn}
 use Rattle.lwkt_verdict.specs.declared.progress.Piece.{Piece}
 use Rattle.lwkt_verdict.specs.Owns.{own_place}
 use Rattle.lwkt_verdict.specs.Parts.{after_all, GoesQuietly, GoesFrom}
-use Rattle.lwkt_verdict.specs.Run.{poll_of, piece, Makes, Runs}
+use Rattle.lwkt_verdict.specs.Run.{poll_of, piece, MakesPart, RunsThrough}
 use Rattle.lwkt_verdict.specs.Laws.{TracesOfRunsHappen}
 use Rattle.lwkt_verdict.proofs.PartMoves.{after_cut}
 
@@ -38,14 +38,14 @@ run_cut m n k es i run next =
     subst (λ (ys : List Event). Run m ys k) (take-append-drop i es) (run_join m n k (take i es) (drop i es) run next)
 
 -- the events of a turn's part happen one after another
-pub part_happens : (m : Machine) (poll : Option Poll) (part : List Event) → Makes m poll part → Run m part (after_all m part)
+pub part_happens : (m : Machine) (poll : Option Poll) (part : List Event) → MakesPart m poll part → Run m part (after_all m part)
 part_happens m None part makes = quiet_happens m part makes
 part_happens m (Some q) part makes =
     let i : ℕ = own_place q.ask part in
     let mid : Machine = after_all m (take i part) in
     subst (λ (k : Machine). Run m part k) (sym (after_cut m part i)) (run_cut m mid (after_all mid (drop i part)) part i (quiet_happens m (take i part) makes.0) (from_happens mid q.ask q.answer (drop i part) makes.1))
 
-runs_happen : (plans : List ThreadPlan) (lines : List ThreadEnd) (polls : List Poll) (order : List ℕ) (m : Machine) (before : List Piece) (turns : List Turn) (events : List Event) → Runs plans lines polls order m before turns events → (end : Machine) × Run m events end
+runs_happen : (plans : List ThreadPlan) (lines : List ThreadEnd) (polls : List Poll) (order : List ℕ) (m : Machine) (before : List Piece) (turns : List Turn) (events : List Event) → RunsThrough plans lines polls order m before turns events → (end : Machine) × Run m events end
 runs_happen plans lines polls order m before [] events closes = (after_all m events, quiet_happens m events closes.quiet)
 runs_happen plans lines polls order m before (t ∷ ts) events runs =
     let part : List Event = take t.events events in

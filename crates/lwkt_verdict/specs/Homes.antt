@@ -3,13 +3,13 @@ use Rattle.std.specs.Prelude.{◌≡◌, ℕ, ◌+◌, ◌*◌, ◌<◌, List, l
 use Rattle.lwkt_verdict.specs.declared.turns.ThreadPlan.{ThreadPlan}
 use Rattle.lwkt_verdict.specs.declared.turns.ThreadEnd.{ThreadEnd}
 use Rattle.lwkt_verdict.specs.declared.homes.Home.{Home}
-use Rattle.lwkt_verdict.specs.Threads.{thread_of, line_of}
+use Rattle.lwkt_verdict.specs.Threads.{plan_of_thread, line_of}
 
 -- where a thread and its line stand, if they are there
-abbrev pub IsHome : List ThreadPlan → List ThreadEnd → ℕ → ℕ → Option Home → Type 0
-IsHome plans lines cpu n None = (thread_of cpu n plans ≡ None) × (line_of (16 * cpu + n) lines ≡ None)
-IsHome plans lines cpu n (Some home) = (thread_of cpu n plans ≡ slice_get plans home.plan) × (home.plan < length plans) × (line_of (16 * cpu + n) lines ≡ slice_get lines home.line) × (home.line < length lines)
+abbrev pub IsHomeOf : List ThreadPlan → List ThreadEnd → ℕ → ℕ → Option Home → Type 0
+IsHomeOf plans lines cpu n None = (plan_of_thread cpu n plans ≡ None) × (line_of (16 * cpu + n) lines ≡ None)
+IsHomeOf plans lines cpu n (Some home) = (plan_of_thread cpu n plans ≡ slice_get plans home.plan) × (home.plan < length plans) × (line_of (16 * cpu + n) lines ≡ slice_get lines home.line) × (home.line < length lines)
 
 -- the same of all threads, 16 for each of 8 processors
 abbrev pub AreHomes : List ThreadPlan → List ThreadEnd → List (Option Home) → Type 0
-AreHomes plans lines homes = (length homes ≡ 128) × ((cpu n : ℕ) → cpu < 8 → n < 16 → IsHome plans lines cpu n (slice_index_or homes (16 * cpu + n) None))
+AreHomes plans lines homes = (length homes ≡ 128) × ((cpu n : ℕ) → cpu < 8 → n < 16 → IsHomeOf plans lines cpu n (slice_index_or homes (16 * cpu + n) None))

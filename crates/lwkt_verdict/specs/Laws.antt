@@ -9,7 +9,7 @@ use Rattle.lwkt_verdict.specs.declared.turns.Poll.{Poll}
 use Rattle.lwkt_verdict.specs.declared.turns.Turn.{Turn}
 use Rattle.lwkt_verdict.specs.declared.progress.Asked.{Asked}
 use Rattle.lwkt_verdict.specs.declared.progress.Piece.{Piece}
-use Rattle.lwkt_verdict.specs.Threads.{thread_of, line_of, ask_at, asked_by, entries_of}
+use Rattle.lwkt_verdict.specs.Threads.{plan_of_thread, line_of, ask_at, asked_by, entries_of}
 use Rattle.lwkt_verdict.specs.declared.turns.Pace.{Pace}
 use Rattle.lwkt_verdict.specs.declared.turns.Pace.TheVariants.{Rounds}
 use Rattle.lwkt_verdict.specs.Run.{poll_of, piece, whose, IsScriptRun}
@@ -37,7 +37,7 @@ NoTurnsAreNoRun = (plans : List ThreadPlan) (limit : ℕ) (order : List ℕ) (op
 
 -- a theorem: no run begins with a turn without an ask, where the processor of that turn has a thread
 abbrev pub RunsBeginWithAnAsk : Type 0
-RunsBeginWithAnAsk = (plans : List ThreadPlan) (pace : Pace) (order : List ℕ) (opening : Machine) (polls : List Poll) (turn : Turn) (turns : List Turn) (trace : List Event) (lines : List ThreadEnd) → is_some (thread_of (whose order 0) 0 plans) ≡ true → poll_of polls turn ≡ None → ¬ IsScriptRun plans pace order opening polls (turn ∷ turns) trace lines
+RunsBeginWithAnAsk = (plans : List ThreadPlan) (pace : Pace) (order : List ℕ) (opening : Machine) (polls : List Poll) (turn : Turn) (turns : List Turn) (trace : List Event) (lines : List ThreadEnd) → is_some (plan_of_thread (whose order 0) 0 plans) ≡ true → poll_of polls turn ≡ None → ¬ IsScriptRun plans pace order opening polls (turn ∷ turns) trace lines
 
 -- a theorem: the events of a run's trace can happen one after another, from the opening on
 abbrev pub TracesOfRunsHappen : Type 0
@@ -45,7 +45,7 @@ TracesOfRunsHappen = OfRuns (λ plans opening polls turns trace lines. (end : Ma
 
 -- a theorem: what a thread asks is a front of its steps, so many times over, and then Exit
 abbrev pub AsksAreThoseOfTheScript : Type 0
-AsksAreThoseOfTheScript = OfRuns (λ plans opening polls turns trace lines. OfThreads (λ cpu n. (k : ℕ) (a : Asked) → slice_get (asks_of polls turns trace cpu n) k ≡ Some a → MatchOption (thread_of cpu n plans) ⊥ (λ plan. ask_at plan k ≡ Some a.ask)))
+AsksAreThoseOfTheScript = OfRuns (λ plans opening polls turns trace lines. OfThreads (λ cpu n. (k : ℕ) (a : Asked) → slice_get (asks_of polls turns trace cpu n) k ≡ Some a → MatchOption (plan_of_thread cpu n plans) ⊥ (λ plan. ask_at plan k ≡ Some a.ask)))
 
 -- a theorem: each ask of a thread but its last has its answer, and the last has none
 abbrev pub AllButTheLastAreAnswered : Type 0

@@ -27,13 +27,13 @@ may_make ask answer = makes_event ask && not (is_refused answer)
 
 -- these events can happen, from the place of an ask's own event on: that event, and then what may happen unasked; or only
 -- what may happen unasked, where the ask needn't have made its event
-abbrev pub GoesOn : Machine → Ask → Option Answer → Event → List Event → Type 0
-GoesOn m ask answer e es = ((may_make ask answer ≡ true) × (is_own m ask answer e ≡ true) × Needs m e × GoesQuietly (after m e) es) ⊎ ((must_make ask answer ≡ false) × GoesQuietly m (e ∷ es))
+abbrev pub HappensFrom : Machine → Ask → Option Answer → Event → List Event → Type 0
+HappensFrom m ask answer e es = ((may_make ask answer ≡ true) × (is_own m ask answer e ≡ true) × Needs m e × GoesQuietly (after m e) es) ⊎ ((must_make ask answer ≡ false) × GoesQuietly m (e ∷ es))
 
 -- the same of some events, which may be none
 abbrev pub GoesFrom : Machine → Ask → Option Answer → List Event → Type 0
 GoesFrom m ask answer [] = must_make ask answer ≡ false
-GoesFrom m ask answer (e ∷ es) = GoesOn m ask answer e es
+GoesFrom m ask answer (e ∷ es) = HappensFrom m ask answer e es
 
 -- the part of a turn that polled a thread: up to the place of the ask's own event only what may happen unasked; a read, a
 -- write, a send, a reply, an abort or a drop ends its part, and only after the send of a synchronous one may the part go on

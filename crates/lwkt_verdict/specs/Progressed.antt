@@ -6,12 +6,12 @@ use Rattle.lwkt_verdict.specs.declared.places.PollPlace.{PollPlace}
 use Rattle.lwkt_verdict.specs.declared.progress.Asked.{Asked}
 use Rattle.lwkt_verdict.specs.declared.progress.Progress.{Progress}
 use Rattle.lwkt_verdict.specs.declared.progress.Piece.{Piece}
-use Rattle.lwkt_verdict.specs.Threads.{thread_of, line_of, Ends}
-use Rattle.lwkt_verdict.specs.Run.{poll_of, asked, came}
+use Rattle.lwkt_verdict.specs.Threads.{plan_of_thread, line_of, EndsAsTold}
+use Rattle.lwkt_verdict.specs.Run.{poll_of, asked_of_poll, came}
 
 -- what a thread last asked, if anything, by where its poll lies and whether its part shows that it blocked the thread
 abbrev pub last_asked : Option PollPlace → Bool → Option Asked
-last_asked last blocked = option_and_then (λ p. option_map (λ q. asked q blocked) (poll_of p.polls.now p.turn)) last
+last_asked last blocked = option_and_then (λ p. option_map (λ q. asked_of_poll q blocked) (poll_of p.polls.now p.turn)) last
 
 -- a table says how far each thread has come after some turns, 16 for each of 8 processors
 pub record ShowsProgress (before : List Piece) (table : List Progress) : Type 0 where
@@ -20,4 +20,4 @@ pub record ShowsProgress (before : List Piece) (table : List Progress) : Type 0 
 
 -- a thread that the script may have or not ends as its line says, by a table of how far the threads have come
 abbrev pub EndsAt : List ThreadPlan → List ThreadEnd → List Progress → ℕ → ℕ → Type 0
-EndsAt plans lines table cpu n = MatchOption (slice_get table (16 * cpu + n)) ⊥ (Ends (thread_of cpu n plans) (line_of (16 * cpu + n) lines))
+EndsAt plans lines table cpu n = MatchOption (slice_get table (16 * cpu + n)) ⊥ (EndsAsTold (plan_of_thread cpu n plans) (line_of (16 * cpu + n) lines))

@@ -17,7 +17,7 @@ use Rattle.lwkt_verdict.specs.declared.progress.Piece.{Piece}
 use Rattle.lwkt_verdict.specs.Asks.{may_answer}
 use Rattle.lwkt_verdict.specs.Owns.{has_blocked}
 use Rattle.lwkt_verdict.specs.Parts.{after_all, GoesQuietly, IsPartOf}
-use Rattle.lwkt_verdict.specs.Threads.{slot_of, thread_of, line_of, asked_by, progress_of, MayAsk, IsLogged, Rests, Ends}
+use Rattle.lwkt_verdict.specs.Threads.{slot_of, plan_of_thread, line_of, asked_by, progress_of, MayAsk, IsLogged, Rests, EndsAsTold}
 
 -- the poll of a turn, by its place among the polls
 abbrev pub poll_of : List Poll → Turn → Option Poll
@@ -32,42 +32,42 @@ abbrev pub came : List Piece → ℕ → Progress
 came before slot = progress_of (asked_by slot before)
 
 -- an ask and its answer, where its part shows that it blocked its thread, or doesn't
-abbrev pub asked : Poll → Bool → Asked
-asked q blocked = record { ask = q.ask; answer = q.answer; blocked = blocked }
+abbrev pub asked_of_poll : Poll → Bool → Asked
+asked_of_poll q blocked = record { ask = q.ask; answer = q.answer; blocked = blocked }
 
 -- a poll fits a thread that has come so far: the thread is one of the script's, of this processor, the ask is its next one,
 -- the ask before it has its answer, the answer of this one, if it has one, is one that the ask can have, and its entry stands
 -- in the thread's log
-pub record Polls (plans : List ThreadPlan) (lines : List ThreadEnd) (cpu : ℕ) (p : Progress) (q : Poll) : Type 0 where
+pub record PollFits (plans : List ThreadPlan) (lines : List ThreadEnd) (cpu : ℕ) (p : Progress) (q : Poll) : Type 0 where
   pub here : q.thread.cpu.0 ≡ cpu
   pub numbered : q.thread.thread < 16
-  pub asks : MatchOption (thread_of cpu q.thread.thread plans) ⊥ (λ plan. MayAsk plan p q.ask)
+  pub asks : MatchOption (plan_of_thread cpu q.thread.thread plans) ⊥ (λ plan. MayAsk plan p q.ask)
   pub answers : MatchOption q.answer (Unit {0}) (λ a. may_answer q.ask a ≡ true)
-  pub logs : MatchOption (line_of (16 * cpu + q.thread.thread) lines) ⊥ (λ line. IsLogged line p (asked q false))
+  pub logs : MatchOption (line_of (16 * cpu + q.thread.thread) lines) ⊥ (λ line. IsLogged line p (asked_of_poll q false))
 
 -- a turn without an ask fits threads that have come so far: each thread of its processor may rest
 abbrev pub Idles : List ThreadPlan → ℕ → (ℕ → Progress) → Type 0
-Idles plans cpu progress = (n : ℕ) → n < 16 → MatchOption (thread_of cpu n plans) (Unit {0}) (λ plan. Rests (progress (16 * cpu + n)))
+Idles plans cpu progress = (n : ℕ) → n < 16 → MatchOption (plan_of_thread cpu n plans) (Unit {0}) (λ plan. Rests (progress (16 * cpu + n)))
 
 -- the same of one thread, by a table of how far the threads have come
 abbrev pub IdlesAt : List ThreadPlan → ℕ → List Progress → ℕ → Type 0
-IdlesAt plans cpu table n = MatchOption (thread_of cpu n plans) (Unit {0}) (λ plan. MatchOption (slice_get table (16 * cpu + n)) ⊥ Rests)
+IdlesAt plans cpu table n = MatchOption (plan_of_thread cpu n plans) (Unit {0}) (λ plan. MatchOption (slice_get table (16 * cpu + n)) ⊥ Rests)
 
 -- the part of a turn with or without an ask
-abbrev pub Makes : Machine → Option Poll → List Event → Type 0
-Makes m poll part = MatchOption poll (GoesQuietly m part) (λ q. IsPartOf m q.ask q.answer part)
+abbrev pub MakesPart : Machine → Option Poll → List Event → Type 0
+MakesPart m poll part = MatchOption poll (GoesQuietly m part) (λ q. IsPartOf m q.ask q.answer part)
 
 -- a turn fits the turns before it, and its part of the trace the machine that it finds; each event of the part is of the
 -- turn's processor
-pub record Fits (plans : List ThreadPlan) (lines : List ThreadEnd) (cpu : ℕ) (m : Machine) (before : List Piece) (poll : Option Poll) (part : List Event) : Type 0 where
+pub record TurnFits (plans : List ThreadPlan) (lines : List ThreadEnd) (cpu : ℕ) (m : Machine) (before : List Piece) (poll : Option Poll) (part : List Event) : Type 0 where
   pub own : All (λ e. cpu_of e ≡ cpu) part
-  pub makes : Makes m poll part
-  pub polls : MatchOption poll (Idles plans cpu (came before)) (λ q. Polls plans lines cpu (came before (slot_of q.thread)) q)
+  pub makes : MakesPart m poll part
+  pub polls : MatchOption poll (Idles plans cpu (came before)) (λ q. PollFits plans lines cpu (came before (slot_of q.thread)) q)
 
 -- the end of a run: the events of the stop may happen unasked, and each thread of the script has its line and ends as it says
 pub record EndsRun (plans : List ThreadPlan) (lines : List ThreadEnd) (m : Machine) (before : List Piece) (stop : List Event) : Type 0 where
   pub quiet : GoesQuietly m stop
-  pub ends : (cpu n : ℕ) → cpu < 8 → n < 16 → Ends (thread_of cpu n plans) (line_of (16 * cpu + n) lines) (came before (16 * cpu + n))
+  pub ends : (cpu n : ℕ) → cpu < 8 → n < 16 → EndsAsTold (plan_of_thread cpu n plans) (line_of (16 * cpu + n) lines) (came before (16 * cpu + n))
 
 -- the processor of the turn of this number, by an order of processors
 abbrev pub whose : List ℕ → ℕ → ℕ
@@ -75,14 +75,14 @@ whose order k = unwrap_or (slice_get order k) 0
 
 -- the trace is cut in order into one part for each turn and the events of the stop; each turn is of the processor that the order
 -- names
-abbrev pub Runs : List ThreadPlan → List ThreadEnd → List Poll → List ℕ → Machine → List Piece → List Turn → List Event → Type 0
-Runs plans lines polls order m before [] events = EndsRun plans lines m before events
-Runs plans lines polls order m before (turn ∷ turns) events =
-    (turn.events ≤ length events) × (Fits plans lines (whose order (length before)) m before (poll_of polls turn) (take turn.events events) × Runs plans lines polls order (after_all m (take turn.events events)) (before ++ piece (poll_of polls turn) (take turn.events events) ∷ []) turns (drop turn.events events))
+abbrev pub RunsThrough : List ThreadPlan → List ThreadEnd → List Poll → List ℕ → Machine → List Piece → List Turn → List Event → Type 0
+RunsThrough plans lines polls order m before [] events = EndsRun plans lines m before events
+RunsThrough plans lines polls order m before (turn ∷ turns) events =
+    (turn.events ≤ length events) × (TurnFits plans lines (whose order (length before)) m before (poll_of polls turn) (take turn.events events) × RunsThrough plans lines polls order (after_all m (take turn.events events)) (before ++ piece (poll_of polls turn) (take turn.events events) ∷ []) turns (drop turn.events events))
 
 -- a thread and its line are both there, or neither is
 abbrev pub IsPaired : List ThreadPlan → List ThreadEnd → ℕ → ℕ → Type 0
-IsPaired plans lines cpu n = is_some (thread_of cpu n plans) ≡ is_some (line_of (16 * cpu + n) lines)
+IsPaired plans lines cpu n = is_some (plan_of_thread cpu n plans) ≡ is_some (line_of (16 * cpu + n) lines)
 
 -- the lines of threads are in order, by processor, then number
 abbrev pub AreListed : ℕ → ℕ → List ThreadEnd → Type 0
@@ -121,4 +121,4 @@ pub record IsScriptRun (plans : List ThreadPlan) (pace : Pace) (order : List ℕ
   pub named : length order ≡ length turns
   pub within : All (λ cpu. cpu < opening.cpus) order
   pub paced : KeepsPace pace polls opening.cpus order turns lines
-  pub runs : Runs plans lines polls order opening [] turns trace
+  pub runs : RunsThrough plans lines polls order opening [] turns trace

@@ -24,39 +24,39 @@ is_long_answer (Dropped msg rec) = true
 is_long_answer _ = false
 
 -- the ask that a short one stands for, where the long ones are these
-abbrev pub ask_of : List Ask → ShortAsk → Ask
-ask_of longs (ShortGet tok) = Get tok
-ask_of longs (ShortGetShared tok) = GetShared tok
-ask_of longs (ShortTryGet tok) = TryGet tok
-ask_of longs (ShortRel tok) = Rel tok
-ask_of longs ShortSwap = Swap
-ask_of longs (ShortRead tok cell) = Read tok cell
-ask_of longs (ShortWrite tok cell value) = Write tok cell value
-ask_of longs (ShortAdd tok more) = Add tok more
-ask_of longs (ShortReadBlob tok) = ReadBlob tok
-ask_of longs (ShortSend msg to flags call) = Send msg to call flags
-ask_of longs (ShortDo msg to call) = Do msg to call
-ask_of longs (ShortReply msg error outcome) = Reply msg error outcome
-ask_of longs (ShortAbort msg) = Abort msg
-ask_of longs (ShortIsAborted msg) = IsAborted msg
-ask_of longs (ShortDropMsg msg) = DropMsg msg
-ask_of longs ShortGetPort = GetPort
-ask_of longs ShortWaitPort = WaitPort
-ask_of longs ShortYield = Yield
-ask_of longs ShortExit = Exit
-ask_of longs (LongAsk place) = get_or longs place Exit
+abbrev pub long_ask : List Ask → ShortAsk → Ask
+long_ask longs (ShortGet tok) = Get tok
+long_ask longs (ShortGetShared tok) = GetShared tok
+long_ask longs (ShortTryGet tok) = TryGet tok
+long_ask longs (ShortRel tok) = Rel tok
+long_ask longs ShortSwap = Swap
+long_ask longs (ShortRead tok cell) = Read tok cell
+long_ask longs (ShortWrite tok cell value) = Write tok cell value
+long_ask longs (ShortAdd tok more) = Add tok more
+long_ask longs (ShortReadBlob tok) = ReadBlob tok
+long_ask longs (ShortSend msg to flags call) = Send msg to call flags
+long_ask longs (ShortDo msg to call) = Do msg to call
+long_ask longs (ShortReply msg error outcome) = Reply msg error outcome
+long_ask longs (ShortAbort msg) = Abort msg
+long_ask longs (ShortIsAborted msg) = IsAborted msg
+long_ask longs (ShortDropMsg msg) = DropMsg msg
+long_ask longs ShortGetPort = GetPort
+long_ask longs ShortWaitPort = WaitPort
+long_ask longs ShortYield = Yield
+long_ask longs ShortExit = Exit
+long_ask longs (LongAsk place) = get_or longs place Exit
 
 -- the answer that a short one stands for, if it is there, where the long ones are these
-abbrev pub answer_of : List Answer → ShortAnswer → Option Answer
-answer_of longs NotYet = None
-answer_of longs ShortBegin = Some Begin
-answer_of longs ShortDone = Some Done
-answer_of longs (ShortValue value) = Some (Value value)
-answer_of longs (ShortRequest msg call) = Some (Got (Request msg call))
-answer_of longs (ShortAnswered msg error outcome) = Some (Got (Answered msg error outcome))
-answer_of longs ShortNoMsg = Some NoMsg
-answer_of longs (ShortRefused fault) = Some (Refused fault)
-answer_of longs (LongAnswer place) = Some (get_or longs place Begin)
+abbrev pub long_answer : List Answer → ShortAnswer → Option Answer
+long_answer longs NotYet = None
+long_answer longs ShortBegin = Some Begin
+long_answer longs ShortDone = Some Done
+long_answer longs (ShortValue value) = Some (Value value)
+long_answer longs (ShortRequest msg call) = Some (Got (Request msg call))
+long_answer longs (ShortAnswered msg error outcome) = Some (Got (Answered msg error outcome))
+long_answer longs ShortNoMsg = Some NoMsg
+long_answer longs (ShortRefused fault) = Some (Refused fault)
+long_answer longs (LongAnswer place) = Some (get_or longs place Begin)
 
 -- the place of a long ask is one of so many
 abbrev pub IsAskIn : ℕ → ShortAsk → Type 0
@@ -79,16 +79,16 @@ answer_place (LongAnswer place) = Some place
 answer_place _ = None
 
 -- where one more is kept, beside these long ones: behind them if it is long, and else not among them
-abbrev pub end_of : {A : Type 0} → Bool → List A → Option ℕ
-end_of is_long longs = if is_long then Some (length longs) else None
+abbrev pub kept_place : {A : Type 0} → Bool → List A → Option ℕ
+kept_place is_long longs = if is_long then Some (length longs) else None
 
 -- the long ones with one more, if it is long
-abbrev pub with_one : {A : Type 0} → Bool → List A → A → List A
-with_one is_long longs one = if is_long then (longs ++ one ∷ []) else longs
+abbrev pub with_kept : {A : Type 0} → Bool → List A → A → List A
+with_kept is_long longs one = if is_long then (longs ++ one ∷ []) else longs
 
 -- the poll that a row stands for, where the long asks and answers are these
 abbrev pub poll_in : List Ask → List Answer → PollRow → Poll
-poll_in asks answers row = record { answer = answer_of answers row.answer; ask = ask_of asks row.ask; thread = row.thread }
+poll_in asks answers row = record { answer = long_answer answers row.answer; ask = long_ask asks row.ask; thread = row.thread }
 
 -- the polls that rows stand for
 abbrev pub polls_in : List Ask → List Answer → List PollRow → List Poll
@@ -100,6 +100,6 @@ pub record IsRowIn (asks answers : ℕ) (row : PollRow) : Type 0 where
   pub answer : IsAnswerIn answers row.answer
 
 -- a list has more behind what it had, or nothing more
-pub record Grows {A : Type 0} (old new : List A) : Type 0 where
+pub record GrowsBehind {A : Type 0} (old new : List A) : Type 0 where
   pub more : List A
   pub is : new ≡ old ++ more

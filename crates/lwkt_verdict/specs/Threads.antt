@@ -20,9 +20,9 @@ abbrev pub slot_of : ThreadId → ℕ
 slot_of id = 16 * id.cpu.0 + id.thread
 
 -- thread number n of a processor: its n-th thread in the script, counted from 0
-abbrev pub thread_of : ℕ → ℕ → List ThreadPlan → Option ThreadPlan
-thread_of cpu n [] = None
-thread_of cpu n (t ∷ ts) = if t.cpu.0 == cpu then (if n == 0 then Some t else thread_of cpu (n - 1) ts) else thread_of cpu n ts
+abbrev pub plan_of_thread : ℕ → ℕ → List ThreadPlan → Option ThreadPlan
+plan_of_thread cpu n [] = None
+plan_of_thread cpu n (t ∷ ts) = if t.cpu.0 == cpu then (if n == 0 then Some t else plan_of_thread cpu (n - 1) ts) else plan_of_thread cpu n ts
 
 -- the printed line of a thread
 abbrev pub line_of : ℕ → List ThreadEnd → Option ThreadEnd
@@ -117,9 +117,9 @@ abbrev pub EndsAs : ThreadEnd → Progress → Type 0
 EndsAs line p = MatchOption p.last (Unit {0}) (λ a. is_some a.answer ≡ false) × (length line.log.items ≡ p.logged) × (may_end line.state p.last ≡ true)
 
 -- the same of a thread that the script may have or not: a line is there exactly if the thread is
-abbrev pub Ends : Option ThreadPlan → Option ThreadEnd → Progress → Type 0
-Ends None None p = Unit {0}
-Ends None (Some line) p = ⊥
-Ends (Some plan) None p = ⊥
-Ends (Some plan) (Some line) p = EndsAs line p
+abbrev pub EndsAsTold : Option ThreadPlan → Option ThreadEnd → Progress → Type 0
+EndsAsTold None None p = Unit {0}
+EndsAsTold None (Some line) p = ⊥
+EndsAsTold (Some plan) None p = ⊥
+EndsAsTold (Some plan) (Some line) p = EndsAs line p
 

@@ -5,7 +5,7 @@ ghost use Rattle.lwkt_core.specs.Trace.{Run};
 ghost use Rattle.lwkt_verdict.specs.declared.progress.Piece.{Piece};
 ghost use Rattle.lwkt_verdict.specs.Parts.{after_all};
 ghost use Rattle.lwkt_verdict.specs.Threads.{slot_of};
-ghost use Rattle.lwkt_verdict.specs.Run.{poll_of, piece, came, Makes, Idles, Polls, Fits, Runs, EndsRun, IsScriptRun};
+ghost use Rattle.lwkt_verdict.specs.Run.{poll_of, piece, came, MakesPart, Idles, PollFits, TurnFits, RunsThrough, EndsRun, IsScriptRun};
 ghost use Rattle.lwkt_verdict.specs.Homes.{AreHomes};
 ghost use Rattle.lwkt_verdict.specs.Progressed.{ShowsProgress};
 
@@ -40,7 +40,7 @@ fn blocked_by(poll: Option<&Poll>, part: &[Event]) -> bool
 
 // Makes the events of a turn's part happen, if they can and are what the turn can have made.
 fn makes(state: &mut State, poll: Option<&Poll>, part: &[Event]) -> bool
-    ensures right { IsTrue result ↔ Makes state.old (option_copied poll.entry) part.now }
+    ensures right { IsTrue result ↔ MakesPart state.old (option_copied poll.entry) part.now }
     ensures moved { IsTrue result → state.new ≡ after_all state.old part.now }
 {
     match poll {
@@ -64,7 +64,7 @@ fn asks<'a>(
     requires placed { poll_of place.polls.now place.turn ≡ option_copied poll }
     requires homes { AreHomes plans.now lines.now homes.now }
     requires shows { (before : List Piece) × (ShowsProgress before table.old × (length before < 2 ^ 64 - 1)) }
-    ensures right { (before : List Piece) → ShowsProgress before table.old → (IsTrue result ↔ MatchOption (option_copied poll.entry) (Idles plans.now cpu (came before)) (λ q. Polls plans.now lines.now cpu (came before (slot_of q.thread)) q)) }
+    ensures right { (before : List Piece) → ShowsProgress before table.old → (IsTrue result ↔ MatchOption (option_copied poll.entry) (Idles plans.now cpu (came before)) (λ q. PollFits plans.now lines.now cpu (came before (slot_of q.thread)) q)) }
     ensures moved { (before : List Piece) → ShowsProgress before table.old → IsTrue result → ShowsProgress (before ++ record { poll = option_copied poll.entry; blocked = blocked } ∷ []) table.new }
 {
     match poll {
@@ -96,7 +96,7 @@ fn fits<'a>(
     requires processor { cpu < 8 }
     requires homes { AreHomes plans.now lines.now homes.now }
     requires shows { (before : List Piece) × (ShowsProgress before table.old × (length before < 2 ^ 64 - 1)) }
-    ensures right { (before : List Piece) → ShowsProgress before table.old → (IsTrue result ↔ Fits plans.now lines.now cpu state.old before (poll_of polls.now turn.now) part.now) }
+    ensures right { (before : List Piece) → ShowsProgress before table.old → (IsTrue result ↔ TurnFits plans.now lines.now cpu state.old before (poll_of polls.now turn.now) part.now) }
     ensures moved { IsTrue result → state.new ≡ after_all state.old part.now }
     ensures noted { (before : List Piece) → ShowsProgress before table.old → IsTrue result → ShowsProgress (before ++ piece (poll_of polls.now turn.now) part.now ∷ []) table.new }
 {
@@ -154,7 +154,7 @@ fn runs<'a>(
     requires processors { All (λ x. x < 8) order.now }
     requires homes { AreHomes plans.now lines.now homes.now }
     requires shows { ShowsProgress [] table.old }
-    ensures right { IsTrue result ↔ Runs plans.now lines.now polls.now order.now state.old [] turns.now trace.now }
+    ensures right { IsTrue result ↔ RunsThrough plans.now lines.now polls.now order.now state.old [] turns.now trace.now }
     ensures led { IsTrue result → Run state.old trace.now state.new }
 {
     let mut rest = trace;

@@ -1,5 +1,5 @@
 ghost use Rattle.std.specs.Prelude.{◌≡◌, ℕ, ◌<◌, ◌+◌, ◌*◌, ◌↔◌, IsTrue, length, MatchOption, slice_index_or, None};
-ghost use Rattle.lwkt_verdict.specs.Homes.{IsHome, AreHomes};
+ghost use Rattle.lwkt_verdict.specs.Homes.{IsHomeOf, AreHomes};
 ghost use Rattle.lwkt_verdict.specs.Run.{IsPaired};
 
 use crate::plans::{find_line, find_thread};
@@ -20,7 +20,7 @@ pub struct Home {
 // Where a thread and its line stand, if both are there or neither is.
 fn home_of(cpu: u8, n: u8, plans: &[ThreadPlan], lines: &[ThreadEnd]) -> Option<Option<Home>>
     requires { n < 16 }
-    ensures { MatchOption result (¬ IsPaired plans.now lines.now cpu n) (λ home. IsHome plans.now lines.now cpu n home) }
+    ensures { MatchOption result (¬ IsPaired plans.now lines.now cpu n) (λ home. IsHomeOf plans.now lines.now cpu n home) }
 {
     let slot = 16 * usize::from(cpu) + usize::from(n);
     match (find_thread(cpu, n, plans), find_line(slot, lines)) {

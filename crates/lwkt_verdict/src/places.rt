@@ -1,7 +1,7 @@
 //! Where polls lie.
 ghost use Rattle.std.specs.Prelude.{◌≡◌, is_some, option_map};
 ghost use Rattle.lwkt_verdict.specs.Asks.{is_refused};
-ghost use Rattle.lwkt_verdict.specs.Run.{poll_of, asked};
+ghost use Rattle.lwkt_verdict.specs.Run.{poll_of, asked_of_poll};
 
 use crate::poll_lists::PollList;
 use crate::progress::Asked;
@@ -19,7 +19,7 @@ pub struct PollPlace<'a> {
 impl PollPlace<'_> {
     /// What the poll asked and was answered, whose part of the trace shows that it blocked its thread, or doesn't.
     pub fn asked(&self, blocked: bool) -> Option<Asked>
-        ensures { result ≡ option_map (λ q. asked q blocked) (poll_of self.now.polls.now self.now.turn) }
+        ensures { result ≡ option_map (λ q. asked_of_poll q blocked) (poll_of self.now.polls.now self.now.turn) }
     {
         match poll_of(self.polls, &self.turn) {
             None => None,

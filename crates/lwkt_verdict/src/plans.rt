@@ -1,6 +1,6 @@
 ghost use Rattle.std.specs.Prelude.{◌≡◌, ◌<◌, ◌^◌, ◌↔◌, IsTrue, Some, length, slice_get, option_and_then, IfSome};
 ghost use Rattle.lwkt_base.specs.declared.asks.Ask.TheVariants.{WriteBlob, Exit};
-ghost use Rattle.lwkt_verdict.specs.Threads.{thread_of, line_of, slot_of, ask_in, ask_at};
+ghost use Rattle.lwkt_verdict.specs.Threads.{plan_of_thread, line_of, slot_of, ask_in, ask_at};
 
 use crate::turns::{ThreadEnd, ThreadPlan};
 use lwkt_base::{Ask, Blob, ThreadId, TokId};
@@ -76,7 +76,7 @@ pub fn is_ask_at(plan: &ThreadPlan, k: u64, ask: &Ask) -> bool
 
 /// Where in a script thread number n of a processor stands.
 pub fn find_thread(cpu: u8, n: u8, plans: &[ThreadPlan]) -> Option<usize>
-    ensures there { option_and_then (slice_get plans.now) result ≡ thread_of cpu n plans.now }
+    ensures there { option_and_then (slice_get plans.now) result ≡ plan_of_thread cpu n plans.now }
     ensures within { IfSome result (λ i. i < length plans.now) }
 {
     let mut left = n;

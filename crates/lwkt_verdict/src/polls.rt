@@ -1,8 +1,8 @@
 ghost use Rattle.std.specs.Prelude.{◌≡◌, ℕ, ◌<◌, ◌+◌, ◌*◌, ◌-◌, ◌^◌, ◌↔◌, IsTrue, true, length, MatchOption, IfSome, slice_get, slice_set, slice_index_or, Some, None};
 ghost use Rattle.lwkt_verdict.specs.Asks.{may_answer};
 ghost use Rattle.lwkt_verdict.specs.Threads.{slot_of, progress_after, Rests};
-ghost use Rattle.lwkt_verdict.specs.Run.{poll_of, asked, Polls, IdlesAt};
-ghost use Rattle.lwkt_verdict.specs.Homes.{IsHome, AreHomes};
+ghost use Rattle.lwkt_verdict.specs.Run.{poll_of, asked_of_poll, PollFits, IdlesAt};
+ghost use Rattle.lwkt_verdict.specs.Homes.{IsHomeOf, AreHomes};
 
 use crate::asks::may_answer;
 use crate::homes::{Home, home_at};
@@ -32,8 +32,8 @@ fn poll_fits(
 ) -> bool
     requires here { poll.now.thread.cpu.0 ≡ cpu }
     requires numbered { poll.now.thread.thread < 16 }
-    requires home { IsHome plans.now lines.now cpu poll.now.thread.thread home }
-    ensures { IsTrue result ↔ Polls plans.now lines.now cpu standing.now poll.now }
+    requires home { IsHomeOf plans.now lines.now cpu poll.now.thread.thread home }
+    ensures { IsTrue result ↔ PollFits plans.now lines.now cpu standing.now poll.now }
 {
     let Some(home) = home else {
         return false;
@@ -67,8 +67,8 @@ pub fn note_poll<'a>(
     requires homes { AreHomes plans.now lines.now homes.now }
     requires room { length table.old ≡ 128 }
     requires few { (k : ℕ) → k < 128 → IfSome (slice_get table.old k) (λ p. p.polls < 2 ^ 64 - 1) }
-    ensures right { IsTrue result ↔ MatchOption (slice_get table.old (slot_of poll.now.thread)) ⊥ (λ p. Polls plans.now lines.now cpu p poll.now) }
-    ensures moved { IsTrue result → MatchOption (slice_get table.old (slot_of poll.now.thread)) ⊥ (λ p. table.new ≡ slice_set table.old (slot_of poll.now.thread) (progress_after p (asked poll.now blocked))) }
+    ensures right { IsTrue result ↔ MatchOption (slice_get table.old (slot_of poll.now.thread)) ⊥ (λ p. PollFits plans.now lines.now cpu p poll.now) }
+    ensures moved { IsTrue result → MatchOption (slice_get table.old (slot_of poll.now.thread)) ⊥ (λ p. table.new ≡ slice_set table.old (slot_of poll.now.thread) (progress_after p (asked_of_poll poll.now blocked))) }
 {
     if usize::from(poll.thread.cpu.0) != cpu || poll.thread.thread >= 16 {
         return false;

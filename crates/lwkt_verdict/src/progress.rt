@@ -2,7 +2,7 @@ ghost use Rattle.std.specs.Prelude.{◌≡◌, ◌<◌, ◌+◌, ◌^◌, ◌-�
 ghost use Rattle.std.specs.Option.{option_map_or};
 ghost use Rattle.lwkt_base.specs.declared.entries.Entry.TheVariants.{Bytes};
 ghost use Rattle.lwkt_verdict.specs.Asks.{entry_of};
-ghost use Rattle.lwkt_verdict.specs.Run.{poll_of, asked};
+ghost use Rattle.lwkt_verdict.specs.Run.{poll_of, asked_of_poll};
 ghost use Rattle.lwkt_verdict.specs.Threads.{logged_by, progress_after, MayAsk, IsLogged, is_blocked, Rests, may_fault, may_end_after, may_end, EndsAs};
 
 use crate::asks::{entry_of, is_exit, is_refused, may_block, may_wait};
@@ -88,7 +88,7 @@ fn makes_entry(ask: &Ask, answer: &Answer) -> bool
 
 // Whether a poll's answer, if it has one, puts an entry in the log.
 fn makes_logged(poll: &Poll) -> bool
-    ensures { result ≡ is_some (logged_by (asked poll.now false)) }
+    ensures { result ≡ is_some (logged_by (asked_of_poll poll.now false)) }
 {
     match &poll.answer {
         None => false,
@@ -98,7 +98,7 @@ fn makes_logged(poll: &Poll) -> bool
 
 // How many entries a log has after one more poll, at most 32.
 fn logged_after(logged: usize, poll: &Poll) -> usize
-    ensures { result ≡ option_map_or (λ e. min 32 (logged + 1)) (logged_by (asked poll.now false)) logged }
+    ensures { result ≡ option_map_or (λ e. min 32 (logged + 1)) (logged_by (asked_of_poll poll.now false)) logged }
 {
     if !makes_logged(poll) {
         return logged;
@@ -119,7 +119,7 @@ pub fn progress_after<'a>(
 ) -> Standing<'a>
     requires few { standing.now.polls < 2 ^ 64 - 1 }
     requires placed { poll_of place.polls.now place.turn ≡ Some poll.now }
-    ensures { result ≡ progress_after standing.now (asked poll.now blocked) }
+    ensures { result ≡ progress_after standing.now (asked_of_poll poll.now blocked) }
 {
     Standing {
         polls: standing.polls + 1,
@@ -234,7 +234,7 @@ fn is_entry_at(log: &[Entry], place: usize, ask: &Ask, answer: &Answer) -> bool
 
 // Whether the entry of a poll's answer, if it has one, stands at a place of the thread's log.
 fn is_logged_at(line: &ThreadEnd, place: usize, poll: &Poll) -> bool
-    ensures { IsTrue result ↔ MatchOption (logged_by (asked poll.now false)) (Unit {0}) (λ e. slice_get line.now.log.items place ≡ Some e) }
+    ensures { IsTrue result ↔ MatchOption (logged_by (asked_of_poll poll.now false)) (Unit {0}) (λ e. slice_get line.now.log.items place ≡ Some e) }
 {
     match &poll.answer {
         None => true,
@@ -244,14 +244,14 @@ fn is_logged_at(line: &ThreadEnd, place: usize, poll: &Poll) -> bool
 
 /// Whether the entry of a poll's answer, if it has one and is among the first 32, stands in the thread's log.
 pub fn is_logged(line: &ThreadEnd, standing: &Standing<'_>, poll: &Poll) -> bool
-    ensures { IsTrue result ↔ IsLogged line.now standing.now (asked poll.now false) }
+    ensures { IsTrue result ↔ IsLogged line.now standing.now (asked_of_poll poll.now false) }
 {
     standing.logged >= LOG_LIMIT || is_logged_at(line, standing.logged, poll)
 }
 
 // Whether a thread is blocked by what it asked.
 fn is_blocked(asked: &Asked) -> bool
-    ensures { result ≡ is_blocked asked.now }
+    ensures { result ≡ is_blocked asked_of_poll.now }
 {
     !is_refused(&asked.answer) && asked.blocked
 }
@@ -275,7 +275,7 @@ fn may_fault(number: u8, ask: &Ask) -> bool
 
 // Whether a thread may be in this state that asked this last.
 fn may_end_after(state: ThreadState, asked: &Asked) -> bool
-    ensures { result ≡ may_end_after state asked.now }
+    ensures { result ≡ may_end_after state asked_of_poll.now }
 {
     match state {
         ThreadState::Ready => is_blocked(asked) && may_block(&asked.ask),

@@ -4,7 +4,7 @@
 //! message that was taken back lie in lists of their own, and are kept short by their place there. All others are kept as they are.
 ghost use Rattle.std.specs.Prelude.{◌≡◌, ◌<◌, not, length, Some, IfSome, IfOk, OnErr, is_some};
 ghost use Rattle.lwkt_verdict.specs.Asks.{is_refused};
-ghost use Rattle.lwkt_verdict.specs.Shorts.{ask_of, answer_of, is_long_ask, is_long_answer, ask_place, answer_place, end_of, with_one, IsAskIn, IsAnswerIn, Grows};
+ghost use Rattle.lwkt_verdict.specs.Shorts.{long_ask, long_answer, is_long_ask, is_long_answer, ask_place, answer_place, kept_place, with_kept, IsAskIn, IsAnswerIn, GrowsBehind};
 
 use lwkt_base::{Answer, Ask, Call, Fault, Flags, Item, MsgId, ThreadId, TokId};
 use std::alloc::AllocError;
@@ -56,7 +56,7 @@ pub enum ShortAnswer {
 impl ShortAsk {
     // An ask that isn't long.
     fn of(ask: &Ask) -> Option<ShortAsk>
-        ensures same { IfSome result (λ short. (longs : _) → ask_of longs short ≡ ask.now) }
+        ensures same { IfSome result (λ short. (longs : _) → long_ask longs short ≡ ask.now) }
         ensures inside { IfSome result (λ short. IsAskIn 0 short) }
         ensures short { is_some result ≡ not (is_long_ask ask.now) }
     {
@@ -87,7 +87,7 @@ impl ShortAsk {
     /// Writes the whole ask, where the long ones are these. Each kind is written by itself, since only a record takes all the room.
     #[inline(always)]
     pub fn write(&self, longs: &[Ask], ask: &mut Ask)
-        ensures { ask.new ≡ ask_of longs.now self.now }
+        ensures { ask.new ≡ long_ask longs.now self.now }
     {
         match *self {
             ShortAsk::Get(tok) => *ask = Ask::Get(tok),
@@ -120,7 +120,7 @@ impl ShortAsk {
 impl ShortAnswer {
     // An answer that isn't long.
     fn of(answer: &Answer) -> Option<ShortAnswer>
-        ensures same { IfSome result (λ short. (longs : _) → answer_of longs short ≡ Some answer.now) }
+        ensures same { IfSome result (λ short. (longs : _) → long_answer longs short ≡ Some answer.now) }
         ensures inside { IfSome result (λ short. IsAnswerIn 0 short) }
         ensures short { is_some result ≡ not (is_long_answer answer.now) }
     {
@@ -143,7 +143,7 @@ impl ShortAnswer {
     /// room.
     #[inline(always)]
     pub fn write(&self, longs: &[Answer], answer: &mut Option<Answer>)
-        ensures { answer.new ≡ answer_of longs.now self.now }
+        ensures { answer.new ≡ long_answer longs.now self.now }
     {
         match *self {
             ShortAnswer::NotYet => *answer = None,
@@ -167,14 +167,14 @@ impl ShortAnswer {
 
     /// Whether there is an answer.
     pub fn is_there(&self) -> bool
-        ensures { (longs : _) → is_some (answer_of longs self.now) ≡ result }
+        ensures { (longs : _) → is_some (long_answer longs self.now) ≡ result }
     {
         !matches!(self, ShortAnswer::NotYet)
     }
 
     /// Whether the answer is a refusal, where the long ones are these.
     pub fn is_refusal(&self, longs: &[Answer]) -> bool
-        ensures { result ≡ is_refused (answer_of longs.now self.now) }
+        ensures { result ≡ is_refused (long_answer longs.now self.now) }
     {
         match *self {
             ShortAnswer::Refused(_) => true,
@@ -189,12 +189,12 @@ impl ShortAnswer {
 
 /// An ask kept short: a long one, and no other, lies behind the others then. Where memory for it is refused, nothing changes.
 pub fn keep_ask(longs: &mut Vec<Ask>, ask: &Ask) -> Result<ShortAsk, AllocError>
-    ensures same { IfOk result (λ short. ask_of longs.new.items short ≡ ask.now) }
+    ensures same { IfOk result (λ short. long_ask longs.new.items short ≡ ask.now) }
     ensures inside { IfOk result (λ short. IsAskIn (length longs.new.items) short) }
-    ensures short { IfOk result (λ short. ask_place short ≡ end_of (is_long_ask ask.now) longs.old.items) }
-    ensures added { IfOk result (λ short. longs.new.items ≡ with_one (is_long_ask ask.now) longs.old.items ask.now) }
+    ensures short { IfOk result (λ short. ask_place short ≡ kept_place (is_long_ask ask.now) longs.old.items) }
+    ensures added { IfOk result (λ short. longs.new.items ≡ with_kept (is_long_ask ask.now) longs.old.items ask.now) }
     ensures refused { OnErr result (longs.new.items ≡ longs.old.items) }
-    ensures grows { Grows longs.old.items longs.new.items }
+    ensures grows { GrowsBehind longs.old.items longs.new.items }
 {
     if let Some(short) = ShortAsk::of(ask) {
         return Ok(short);
@@ -206,12 +206,12 @@ pub fn keep_ask(longs: &mut Vec<Ask>, ask: &Ask) -> Result<ShortAsk, AllocError>
 
 /// An answer kept short: a long one, and no other, lies behind the others then. Where memory for it is refused, nothing changes.
 pub fn keep_answer(longs: &mut Vec<Answer>, answer: &Answer) -> Result<ShortAnswer, AllocError>
-    ensures same { IfOk result (λ short. answer_of longs.new.items short ≡ Some answer.now) }
+    ensures same { IfOk result (λ short. long_answer longs.new.items short ≡ Some answer.now) }
     ensures inside { IfOk result (λ short. IsAnswerIn (length longs.new.items) short) }
-    ensures short { IfOk result (λ short. answer_place short ≡ end_of (is_long_answer answer.now) longs.old.items) }
-    ensures added { IfOk result (λ short. longs.new.items ≡ with_one (is_long_answer answer.now) longs.old.items answer.now) }
+    ensures short { IfOk result (λ short. answer_place short ≡ kept_place (is_long_answer answer.now) longs.old.items) }
+    ensures added { IfOk result (λ short. longs.new.items ≡ with_kept (is_long_answer answer.now) longs.old.items answer.now) }
     ensures refused { OnErr result (longs.new.items ≡ longs.old.items) }
-    ensures grows { Grows longs.old.items longs.new.items }
+    ensures grows { GrowsBehind longs.old.items longs.new.items }
 {
     if let Some(short) = ShortAnswer::of(answer) {
         return Ok(short);

@@ -4,7 +4,7 @@
 ghost use Rattle.std.specs.Prelude.{◌≡◌, ℕ};
 ghost use Rattle.lwkt_base.specs.declared.words.TokWord.{TokWord};
 ghost use Rattle.lwkt_base.specs.TokenWord.{word_of, Fits};
-ghost use Rattle.lwkt_kernel.specs.Steps.{taken, shared, gained, marked, one_given, clean_given, written_given};
+ghost use Rattle.lwkt_kernel.specs.Steps.{exclusive_taken, shared_taken, gained, marked, one_given, clean_given, written_given};
 ghost use Rattle.lwkt_words.specs.Answers.{AnswersStep};
 
 use lwkt_base::Fault;
@@ -27,7 +27,7 @@ fn answer(step: Result<u64, Fault>, next: &mut u64) -> u32
 /// `next` stays as it was.
 #[unsafe(no_mangle)]
 pub extern "C" fn lwkt_word_take(word: u64, next: &mut u64) -> u32
-    ensures { (w : TokWord) → Fits w → word_of w ≡ word → AnswersStep (taken w) next.old next.new result }
+    ensures { (w : TokWord) → Fits w → word_of w ≡ word → AnswersStep (exclusive_taken w) next.old next.new result }
 {
     answer(take(word), next)
 }
@@ -36,7 +36,7 @@ pub extern "C" fn lwkt_word_take(word: u64, next: &mut u64) -> u32
 /// or else 39 where the word counts 65535 references, and `next` stays as it was.
 #[unsafe(no_mangle)]
 pub extern "C" fn lwkt_word_share(word: u64, alone: bool, next: &mut u64) -> u32
-    ensures { (w : TokWord) → Fits w → word_of w ≡ word → AnswersStep (shared alone w) next.old next.new result }
+    ensures { (w : TokWord) → Fits w → word_of w ≡ word → AnswersStep (shared_taken alone w) next.old next.new result }
 {
     answer(share(word, alone), next)
 }

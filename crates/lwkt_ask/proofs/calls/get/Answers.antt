@@ -6,7 +6,7 @@ use Rattle.lwkt_base.specs.declared.faults.Fault.{Fault}
 use Rattle.std.specs.Prelude.{Result}
 use Rattle.lwkt_base.specs.declared.asks.Answer.{Answer}
 use Rattle.lwkt_ask.specs.declared.nexts.Next.TheVariants.{Runs}
-use Rattle.lwkt_ask.specs.Table.{GoesOn}
+use Rattle.lwkt_ask.specs.Table.{GoesOnWith}
 use Rattle.lwkt_ask.specs.Nexts.{kept_list, next_with}
 use Rattle.lwkt_ask.proofs.AskMoves.{given_up_at, ran_right, ran_switched, front_is, one_more, there_pushed, err_ends}
 use Rattle.lwkt_ask.proofs.calls.get.Goals as goal
@@ -34,7 +34,7 @@ returns-in-Ok-Got-clause-there c =
 pub returns-in-Ok-Got-clause-gets : goal.returns-in-Ok-Got-clause-gets
 returns-in-Ok-Got-clause-gets c =
     let e = c.get.ensures in
-    let F : Result Acquired Fault → Type 0 = λ r. GoesOn c.get.new.self.seat c.get.new.self.seat c.args.list.now c.get.new.list c.get.new.trace c.get.new.trace (Runs c.done.new.last) r in
+    let F : Result Acquired Fault → Type 0 = λ r. GoesOnWith c.get.new.self.seat c.get.new.self.seat c.args.list.now c.get.new.list c.get.new.trace c.get.new.trace (Runs c.done.new.last) r in
     record {
       mid = c.get.new.self.seat;
       v = c.get.new.trace;
@@ -77,7 +77,7 @@ returns-in-Ok-MustSwitch-clause-gets c =
     let long = one_more c.args.list.now c.get.new.list c.args.new m.0 in
     let held : c.len-held.result - 1 ≡ length c.args.list.now = omega (arith, c.len-held.ensures.value, long) in
     let g = c.be_ready.ensures.gives_up in
-    let F : Result Acquired Fault → Type 0 = λ r. GoesOn c.get.new.self.seat c.be_ready.new.hold.seat c.args.list.now c.get.new.list c.get.new.trace c.be_ready.new.trace (next_with c.be_ready.result c.be_ready.new.last) r in
+    let F : Result Acquired Fault → Type 0 = λ r. GoesOnWith c.get.new.self.seat c.be_ready.new.hold.seat c.args.list.now c.get.new.list c.get.new.trace c.be_ready.new.trace (next_with c.be_ready.result c.be_ready.new.last) r in
     record {
       mid = c.get.new.self.seat;
       v = c.get.new.trace;
@@ -102,7 +102,7 @@ returns-in-Ok-MustSwitch-clause-gets c =
 pub returns-in-Err-clause-gets : goal.returns-in-Err-clause-gets
 returns-in-Err-clause-gets c =
     let e = c.get.ensures in
-    let F : Result Acquired Fault → Type 0 = λ r. GoesOn c.get.new.self.seat c.get.new.self.seat c.args.list.now c.get.new.list c.get.new.trace c.get.new.trace (Runs c.done-in-Err.new.last) r in
+    let F : Result Acquired Fault → Type 0 = λ r. GoesOnWith c.get.new.self.seat c.get.new.self.seat c.args.list.now c.get.new.list c.get.new.trace c.get.new.trace (Runs c.done-in-Err.new.last) r in
     record {
       mid = c.get.new.self.seat;
       v = c.get.new.trace;

@@ -1,7 +1,7 @@
 use Rattle.std.proofs.Common.{◌≡◌, ◌⊎◌, inl, inr, ◌<◌, ℕ, List, length, vec_len, Bool, true, false, Option, sym, ◌∙◌, subst, arith}
 use Rattle.lwkt_base.specs.Fault.{no_memory}
 use Rattle.lwkt_report.specs.declared.streams.RunFault.TheVariants.{Fault, Stream}
-use Rattle.lwkt_lines.specs.Reading.{left_of, IsNext}
+use Rattle.lwkt_lines.specs.Reading.{left_of, IsNextLine}
 use Rattle.lwkt_lines.proofs.ToldLines.{is_some, is_none, stands_first, stands_more, Takes, RefusesLine, told_ended, told_last, declares_unread, declares_line}
 use Rattle.lwkt_lines.proofs.programs.tell_lines.Goals as goal
 use Rattle.lwkt_lines.proofs.programs.tell_lines.Goals.{else-not-is_ended-via-then-not-is_ended+else-is_empty, else-not-is_ended-via-else-not-is_ended}
@@ -20,7 +20,7 @@ returns-then-is_empty-clause-told g c =
     let old : Option (List ℕ) = left_of c.loop-is_ended.lines (g.S.Source.left c.loop-is_ended.source) in
     let new : Option (List ℕ) = left_of c.read_line.new.self (g.S.Source.left c.read_line.new.source) in
     let line : List ℕ = c.read_line.new.self.line.items in
-    let is : IsNext old new line false = subst (λ (b : Bool). IsNext old new line b) c.if-not-is_ended.true c.in-Ok.ensures.line in
+    let is : IsNextLine old new line false = subst (λ (b : Bool). IsNextLine old new line b) c.if-not-is_ended.true c.in-Ok.ensures.line in
     let none : length line ≡ 0 = is_none c.is_empty.result (vec_len c.read_line.new.self.line) (length line) c.is_empty.ensures c.if-is_empty.true (omega (arith, c.read_line.new.self.line.ok.0)) in
     told_ended (left_of c.args.lines.now (g.S.Source.left c.args.source.now)) old new c.loop-is_ended.judge line c.loop-is_ended.invariant is none
 
@@ -44,7 +44,7 @@ returns-then-not-is_ended-2-clause-told g c =
     let old : Option (List ℕ) = left_of c.loop-is_ended.lines (g.S.Source.left c.loop-is_ended.source) in
     let new : Option (List ℕ) = left_of c.read_line.new.self (g.S.Source.left c.read_line.new.source) in
     let line : List ℕ = c.read_line.new.self.line.items in
-    let is : IsNext old new line false = subst (λ (b : Bool). IsNext old new line b) c.if-not-is_ended-2.true c.in-Ok.ensures.line in
+    let is : IsNextLine old new line false = subst (λ (b : Bool). IsNextLine old new line b) c.if-not-is_ended-2.true c.in-Ok.ensures.line in
     let takes : Takes c.loop-is_ended.judge line c.in-Ok-tell.after =
     subst (λ (l : List ℕ). Takes c.loop-is_ended.judge l c.in-Ok-tell.after) c.as_slice.ensures.value c.in-Ok-tell.ensures.told in
     let some : 0 < length line =
@@ -60,7 +60,7 @@ loop-is_ended-preserved g c =
     let old : Option (List ℕ) = left_of c.loop-is_ended.lines (g.S.Source.left c.loop-is_ended.source) in
     let new : Option (List ℕ) = left_of c.read_line.new.self (g.S.Source.left c.read_line.new.source) in
     let line : List ℕ = c.read_line.new.self.line.items in
-    let is : IsNext old new line true = subst (λ (b : Bool). IsNext old new line b) c.if-not-is_ended-2.false c.in-Ok.ensures.line in
+    let is : IsNextLine old new line true = subst (λ (b : Bool). IsNextLine old new line b) c.if-not-is_ended-2.false c.in-Ok.ensures.line in
     let takes : Takes c.loop-is_ended.judge line c.in-Ok-tell.after =
     subst (λ (l : List ℕ). Takes c.loop-is_ended.judge l c.in-Ok-tell.after) c.as_slice.ensures.value c.in-Ok-tell.ensures.told in
     stands_more (left_of c.args.lines.now (g.S.Source.left c.args.source.now)) old new c.loop-is_ended.judge c.in-Ok-tell.after line c.loop-is_ended.invariant is takes

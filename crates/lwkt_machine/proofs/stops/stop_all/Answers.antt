@@ -5,13 +5,13 @@ use Rattle.lwkt_bank.specs.Seats.{id_of}
 use Rattle.lwkt_port.proofs.Chaining.{chain_none, chain_more}
 use Rattle.lwkt_cpu.specs.Processors.{Processor}
 use Rattle.lwkt_machine.specs.Bodies.{Scripted}
-use Rattle.lwkt_machine.specs.Ended.{AreStoppedShort, Stage, stage, StopsAt}
+use Rattle.lwkt_machine.specs.Ended.{AreStoppedShort, Stage, stage, StopsCpu}
 use Rattle.lwkt_machine.proofs.StopMoves.{same_none, same_set, same_of, on_err, set_same, over_more}
 use Rattle.lwkt_machine.proofs.stops.stop_all.Goals as goal
 
 pub loop-at-init : goal.loop-at-init
 loop-at-init c = record {
-  stopped = chain_none Stage StopsAt (stage c.args.cpus.now c.args.trace.now);
+  stopped = chain_none Stage StopsCpu (stage c.args.cpus.now c.args.trace.now);
   same = same_none c.args.cpus.now;
   over = λ k p less at. absurd (omega (arith, less));
 }
@@ -54,7 +54,7 @@ loop-at-preserved c =
     let stops = c.in_ok-stop.ensures.ok in
     let ran = c.stop.ensures.ran in
     record {
-      stopped = chain_more Stage StopsAt l.at (stage c.args.cpus.now c.args.trace.now) (stage l.cpus l.trace) (stage (set l.cpus l.at q) c.stop.new.trace) l.invariant.stopped (p, (q, (is, record { stops = stops; most = 258; ran = ran; told = c.stop.ensures.told }, refl)));
+      stopped = chain_more Stage StopsCpu l.at (stage c.args.cpus.now c.args.trace.now) (stage l.cpus l.trace) (stage (set l.cpus l.at q) c.stop.new.trace) l.invariant.stopped (p, (q, (is, record { stops = stops; most = 258; ran = ran; told = c.stop.ensures.told }, refl)));
       same = same_set c.args.cpus.now l.cpus l.at p q within is (record { bank = ran.bank; table = c.stop.ensures.told.same.table; number = ran.cpu; ports = c.stop.ensures.same }) l.invariant.same;
       over = over_more l.cpus l.at q within stops.over l.invariant.over;
     }

@@ -3,7 +3,7 @@ use Rattle.std.specs.Prelude.{slice_get}
 use Rattle.std.proofs.lemmas.Option.{slice_get-get_or}
 use Rattle.std.proofs.lemmas.Result.{IfOk-weaker, on_err_weaker}
 use Rattle.lwkt_bank.specs.Seats.{id_of}
-use Rattle.lwkt_program.specs.Turns.{DoesAt, Makes, Stays, TurnsAt}
+use Rattle.lwkt_program.specs.Turns.{DoesAt, Makes, StaysPut, TurnsAt}
 use Rattle.lwkt_program.proofs.machines.turn_at.Goals as goal
 
 pub returns-clause-ok : goal.returns-clause-ok
@@ -25,5 +25,5 @@ returns-clause-err g c =
     let p = get_or cpus k d in
     let q = c.turn_one.new.driven in
     let is : slice_get cpus k ≡ Some p = slice_get-get_or cpus k d c.requires.there in
-    on_err_weaker {P = Stays {B = g.row.B.Denot} p q} {Q = DoesAt {B = g.row.B.Denot} (Stays {B = g.row.B.Denot}) k cpus (set cpus k q)} c.turn_one.result
+    on_err_weaker {P = StaysPut {B = g.row.B.Denot} p q} {Q = DoesAt {B = g.row.B.Denot} (StaysPut {B = g.row.B.Denot}) k cpus (set cpus k q)} c.turn_one.result
     (λ stays. record { before = p; now = q; at_before = is; does = stays; cpus = refl }) c.turn_one.ensures.err

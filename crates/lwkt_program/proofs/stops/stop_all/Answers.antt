@@ -3,7 +3,7 @@ use Rattle.std.specs.Prelude.{slice_get}
 use Rattle.std.proofs.lemmas.List.Elements.{All-set}
 use Rattle.std.proofs.lemmas.Option.{slice_get-get_or}
 use Rattle.lwkt_bank.specs.Seats.{id_of}
-use Rattle.lwkt_drive.specs.Course.{IsAt}
+use Rattle.lwkt_drive.specs.Course.{IsAtTables}
 use Rattle.lwkt_program.specs.Ended.{AreStoppedShort}
 use Rattle.lwkt_program.specs.Machines.{Lasts}
 use Rattle.lwkt_program.proofs.StopMoves.{stopped_more}
@@ -35,7 +35,7 @@ loop-number-preserved g c =
     let q = c.stop_one.new.driven in
     let is : slice_get l.cpus l.number ≡ Some p = slice_get-get_or l.cpus l.number d within in
     record {
-      at = All-set (IsAt {B = g.row.B.Denot} (id_of c.args.bank.now) c.args.book.now.table) l.cpus l.number q c.stop_one.ensures.at l.invariant.at;
+      at = All-set (IsAtTables {B = g.row.B.Denot} (id_of c.args.bank.now) c.args.book.now.table) l.cpus l.number q c.stop_one.ensures.at l.invariant.at;
       kept = All-set (Lasts {B = g.row.B.Denot} g.B.Lasting.kept) l.cpus l.number q c.stop_one.ensures.kept l.invariant.kept;
       so_far = stopped_more {B = g.row.B.Denot} c.args.cpus.now l.cpus l.number p q within is c.in_ok-stop_one.ensures.ok l.invariant.so_far;
     }

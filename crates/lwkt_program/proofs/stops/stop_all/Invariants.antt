@@ -1,13 +1,13 @@
 use Rattle.std.specs.Prelude.{All}
 use Rattle.lwkt_bank.specs.Seats.{id_of}
-use Rattle.lwkt_drive.specs.Course.{IsAt}
+use Rattle.lwkt_drive.specs.Course.{IsAtTables}
 use Rattle.lwkt_program.specs.Ended.{HaveStopped}
 use Rattle.lwkt_program.specs.Machines.{Lasts}
 use Rattle.lwkt_program.proofs.stops.stop_all.Given as goal
 
 abbrev pub invariant-loop-number : goal.invariant-loop-number
 invariant-loop-number g l = record {
-  at : All (IsAt {B = g.row.B.Denot} (id_of l.bank) l.book.table) l.cpus;
+  at : All (IsAtTables {B = g.row.B.Denot} (id_of l.bank) l.book.table) l.cpus;
   kept : All (Lasts {B = g.row.B.Denot} g.B.Lasting.kept) l.cpus;
   so_far : HaveStopped {B = g.row.B.Denot} l.number l.initial.cpus l.cpus;
 }

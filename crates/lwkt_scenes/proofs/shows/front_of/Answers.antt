@@ -1,6 +1,6 @@
 use Rattle.std.proofs.Common.{string_bytes}
 use Rattle.std.specs.Option.{option_copied}
-use Rattle.lwkt_scenes.specs.Lines.{AreShown, Adds}
+use Rattle.lwkt_scenes.specs.Lines.{AreTurnLines, AddsWords}
 use Rattle.lwkt_scenes.proofs.Rows.{shown_with, begins}
 use Rattle.lwkt_scenes.proofs.shows.front_of.Goals as goal
 
@@ -8,11 +8,11 @@ pub returns-in-Ok : goal.returns-in-Ok
 returns-in-Ok c =
     let run = c.args.run.now in
     let turns = c.in_turns-turns.result in
-    let told : Adds (AreShown c.args.chosen (option_copied run.order) run.script.now.cpus run.polls.now run.turns.now) c.new-out.result c.show_choice.new.out =
+    let told : AddsWords (AreTurnLines c.args.chosen (option_copied run.order) run.script.now.cpus run.polls.now run.turns.now) c.new-out.result c.show_choice.new.out =
     shown_with c.args.chosen (option_copied run.order) run.script.now.cpus run.polls.now run.turns.now turns.first turns.last c.new-out.result c.show_turns-from.new.out c.show_choice.new.out
     c.in_turns-turns.ensures.first c.in_turns-turns.ensures.last c.show_turns-from.ensures c.show_choice.ensures in
     record {
-      begins = begins (AreShown c.args.chosen (option_copied run.order) run.script.now.cpus run.polls.now run.turns.now) c.new-out.result c.show_choice.new.out c.add_page.new.self (string_bytes c.show_behind.new.out.text) (string_bytes c.in-Ok.text)
+      begins = begins (AreTurnLines c.args.chosen (option_copied run.order) run.script.now.cpus run.polls.now run.turns.now) c.new-out.result c.show_choice.new.out c.add_page.new.self (string_bytes c.show_behind.new.out.text) (string_bytes c.in-Ok.text)
           c.new-out.ensures told c.add_page.ensures.text c.in-Ok.ensures.0 c.in-Ok.ensures.1;
       refused = tt;
     }

@@ -1,10 +1,10 @@
 use Rattle.std.proofs.Common.{refl, Some, None}
-use Rattle.lwkt_scenes.specs.Lines.{IsDoing, Adds, poll_text}
+use Rattle.lwkt_scenes.specs.Lines.{IsDoing, AddsWords, poll_text}
 use Rattle.lwkt_scenes.proofs.turns.show_doing.Goals as goal
 
 pub returns-in-Some : goal.returns-in-Some
 returns-in-Some c =
-    let told : Adds (IsDoing (Some c.in-Some.poll)) c.args.out.now c.show_poll.new.out = record {
+    let told : AddsWords (IsDoing (Some c.in-Some.poll)) c.args.out.now c.show_poll.new.out = record {
       words = poll_text c.in-Some.poll c.step_of-step.result c.came_of-came.result;
       holds = (c.step_of-step.result, c.came_of-came.result, refl);
       grows = c.show_poll.ensures;
@@ -13,5 +13,5 @@ returns-in-Some c =
 
 pub returns-in-None : goal.returns-in-None
 returns-in-None c =
-    let told : Adds (IsDoing None) c.args.out.now c.show_idle.new.out = c.show_idle.ensures in
+    let told : AddsWords (IsDoing None) c.args.out.now c.show_idle.new.out = c.show_idle.ensures in
     rw c.in-None.is told

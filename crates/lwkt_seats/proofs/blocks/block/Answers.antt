@@ -3,7 +3,7 @@ use Rattle.std.specs.Prelude.{Option}
 use Rattle.lwkt_base.specs.declared.names.TokId.{TokId}
 use Rattle.lwkt_bank.specs.declared.views.TokenEntry.{TokenEntry}
 use Rattle.lwkt_bank.specs.Seats.{bank_of, tokens_of}
-use Rattle.lwkt_seats.specs.Lists.{IsFirstBroken}
+use Rattle.lwkt_seats.specs.Lists.{IsFirstToBreak}
 use Rattle.lwkt_seats.proofs.BlockMoves.{ends_none, ends_after, free_past, free_more, free_all, first_more, section_entry, section_broken, section_lawful, IsSameSection}
 use Rattle.lwkt_seats.proofs.blocks.block.Goals as goal
 
@@ -25,7 +25,7 @@ loop-tok-preserved c =
     let tok : TokId = record { 0 = l.tok } in
     let bank = l.invariant.same.0 in
     let here : IsSameSection a l.seat l.tok = section_entry a l.seat l.tok (l.invariant.rest l.tok (omega arith)) in
-    let F : Option TokId → Type 0 = λ f. IsFirstBroken a (l.tok + 1) f in
+    let F : Option TokId → Type 0 = λ f. IsFirstToBreak a (l.tok + 1) f in
     record {
       each = ends_after a l.seat s' l.invariant.each g.ensures.does;
       free = free_more l.seat s' (tokens_of (bank_of a)) l.tok l.invariant.free g.ensures.gone (λ t away. ap (λ (e : TokenEntry). e.held) (g.ensures.others t away));
@@ -45,5 +45,5 @@ returns-clause-does c =
     let past = c.loop-tok-test.false in
     let within = l.auto.tok-end in
     let end : l.tok ≡ tokens_of (bank_of a) = omega (arith, tokens, of, past, within) in
-    let F : ℕ → Type 0 = λ n. IsFirstBroken a n l.first in
+    let F : ℕ → Type 0 = λ n. IsFirstToBreak a n l.first in
     (free_all l.seat (tokens_of (bank_of a)) l.tok (omega (arith, end)) l.invariant.free, subst F end l.invariant.named, l.invariant.each)

@@ -1,14 +1,14 @@
 use Rattle.std.proofs.Common.{ℕ, length, ap, subst}
 use Rattle.std.specs.Prelude.{Err}
 use Rattle.lwkt_seats.specs.declared.desks.Desk.{Desk}
-use Rattle.lwkt_seats.specs.Closes.{SomeHolds, IsWide, Ends}
+use Rattle.lwkt_seats.specs.Closes.{SomeHolds, IsWide, ClosesDesk}
 use Rattle.lwkt_seats.proofs.CloseMoves.{refuses}
 use Rattle.lwkt_seats.proofs.close_calls.lwkt_bank_close.Goals as goal
 
 pub returns-in-Ok-clause-closed : goal.returns-in-Ok-clause-closed
 returns-in-Ok-clause-closed c = λ is.
     let room = length c.args.closings.now in
-    (c.in-Ok.closed, (subst (λ (d : Desk). Ends d room c.in-Ok.closed) c.desk.ensures c.in-Ok.ensures.ok, c.tell.ensures))
+    (c.in-Ok.closed, (subst (λ (d : Desk). ClosesDesk d room c.in-Ok.closed) c.desk.ensures c.in-Ok.ensures.ok, c.tell.ensures))
 
 pub returns-in-Err-clause-closed : goal.returns-in-Err-clause-closed
 returns-in-Err-clause-closed c = λ is. absurd (refuses c.in-Err.answer c.in-Err.ensures.only is)

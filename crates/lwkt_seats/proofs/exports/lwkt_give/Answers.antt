@@ -1,4 +1,4 @@
-use Rattle.lwkt_seats.specs.Calls.{GivesBack}
+use Rattle.lwkt_seats.specs.Calls.{GivesOneBack}
 use Rattle.lwkt_seats.proofs.Answering.{answered-at}
 use Rattle.lwkt_seats.proofs.BriefMoves.{gives, seated-at}
 use Rattle.lwkt_seats.proofs.exports.lwkt_give.Goals as goal
@@ -10,5 +10,5 @@ put_back-requires c =
 
 pub returns : goal.returns
 returns c =
-    answered-at c.desk.result.now c.args.bank.desk c.args.seat c.in-Ok.found.0.now c.in-Ok.found.1.value c.deref_mut-held.result.now c.give-answer.new.seat (GivesBack c.args.token) c.number.result c.desk.ensures c.deref_mut-held.ensures.value
+    answered-at c.desk.result.now c.args.bank.desk c.args.seat c.in-Ok.found.0.now c.in-Ok.found.1.value c.deref_mut-held.result.now c.give-answer.new.seat (GivesOneBack c.args.token) c.number.result c.desk.ensures c.deref_mut-held.ensures.value
     c.in-Ok.ensures.ok c.give-answer.ensures.same (c.give-answer.result, (c.number.ensures, c.give-answer.ensures.does))

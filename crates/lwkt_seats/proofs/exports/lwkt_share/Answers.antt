@@ -1,5 +1,5 @@
 use Rattle.lwkt_base.specs.declared.names.Mode.TheVariants.{Shared}
-use Rattle.lwkt_seats.specs.Calls.{Takes}
+use Rattle.lwkt_seats.specs.Calls.{TakesAt}
 use Rattle.lwkt_seats.proofs.Answering.{answered-at}
 use Rattle.lwkt_seats.proofs.BriefMoves.{asks, seated-at}
 use Rattle.lwkt_seats.proofs.exports.lwkt_share.Goals as goal
@@ -11,5 +11,5 @@ put_back-requires c =
 
 pub returns : goal.returns
 returns c =
-    answered-at c.desk.result.now c.args.bank.desk c.args.seat c.in-Ok.found.0.now c.in-Ok.found.1.value c.deref_mut-held.result.now c.ask-answer.new.seat (Takes Shared c.args.token) c.number.result c.desk.ensures c.deref_mut-held.ensures.value
+    answered-at c.desk.result.now c.args.bank.desk c.args.seat c.in-Ok.found.0.now c.in-Ok.found.1.value c.deref_mut-held.result.now c.ask-answer.new.seat (TakesAt Shared c.args.token) c.number.result c.desk.ensures c.deref_mut-held.ensures.value
     c.in-Ok.ensures.ok c.ask-answer.ensures.same (c.ask-answer.result, (c.number.ensures, c.ask-answer.ensures.does))

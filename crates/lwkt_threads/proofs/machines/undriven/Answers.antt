@@ -6,7 +6,7 @@ use Rattle.std.proofs.lemmas.Option.{slice_get_within}
 use Rattle.lwkt_base.specs.declared.names.CpuId.{CpuId}
 use Rattle.lwkt_drive.specs.declared.driven.Driven.{Driven}
 use Rattle.lwkt_machine.specs.Bodies.{Scripted}
-use Rattle.lwkt_threads.specs.Driven.{IsFresh}
+use Rattle.lwkt_threads.specs.Driven.{IsUndriven}
 use Rattle.lwkt_threads.proofs.MachineMoves.{fresh_more, next_at}
 use Rattle.lwkt_threads.proofs.machines.undriven.Goals as goal
 
@@ -19,7 +19,7 @@ loop-cpu-preserved c =
     let rest : l.yielded ++ cpu ∷ left ≡ into_iter_items c.into_iter-cpu-iterator.result = ap (λ xs. l.yielded ++ xs) (sym steps) ∙ l.invariant.rest in
     let at : slice_get c.args.cpus.items (length l.yielded) ≡ Some cpu = next_at l.yielded left cpu c.args.cpus.items (rest ∙ c.into_iter-cpu-iterator.ensures.into_iter_gives.0) in
     let i : c.push.new.self.items ≡ l.all.items ++ c.new-driven.result ∷ [] = search rules in
-    let F : List (Driven Scripted) → Type 0 = λ xs. AllZip IsFresh (l.yielded ++ cpu ∷ []) xs in
+    let F : List (Driven Scripted) → Type 0 = λ xs. AllZip IsUndriven (l.yielded ++ cpu ∷ []) xs in
     let id : c.new-driven.result.id.0 ≡ cpu.seat.cpu.0 = ap (λ (n : CpuId). n.0) c.new-driven.ensures.id ∙ l.invariant.count ∙ sym (c.requires.numbered (length l.yielded) cpu at) in
     record {
       fresh = subst F (sym i) (fresh_more l.yielded l.all.items cpu c.new-driven.result l.invariant.fresh c.new-driven.ensures.cpu c.new-driven.ensures.trace id);

@@ -2,7 +2,7 @@ use Rattle.std.proofs.Common.{◌++◌, ◌∷◌, [], ◌≡◌, ◌∙◌, Boo
 use Rattle.std.specs.Prelude.{◌↔◌, IsTrue}
 use Rattle.std.specs.Option.{option_copied}
 use Rattle.lwkt_verdict.specs.declared.turns.Poll.{Poll}
-use Rattle.lwkt_verdict.specs.Run.{poll_of, piece, Fits}
+use Rattle.lwkt_verdict.specs.Run.{poll_of, piece, TurnFits}
 use Rattle.lwkt_verdict.specs.Progressed.{ShowsProgress}
 use Rattle.lwkt_verdict.proofs.checks.fits.Goals as goal
 
@@ -10,7 +10,7 @@ pub returns-clause-right : goal.returns-clause-right
 returns-clause-right c = λ before shows.
     let right = c.asks.ensures.right before shows in
     let is : option_copied c.poll_read-poll.result ≡ poll_of c.args.polls.now c.args.turn.now = c.poll_read-poll.ensures ∙ sym c.read_poll-polled.ensures in
-    let F : Option Poll → Type 0 = λ o. IsTrue c.asks.result ↔ Fits c.args.plans.now c.args.lines.now c.args.cpu c.args.state.now before o c.args.part.now in
+    let F : Option Poll → Type 0 = λ o. IsTrue c.asks.result ↔ TurnFits c.args.plans.now c.args.lines.now c.args.cpu c.args.state.now before o c.args.part.now in
     subst F is ((λ yes. record { own = c.are_of.ensures.0 c.if-not-are_of.false; makes = c.makes.ensures.right.0 c.if-not-makes.false; polls = right.0 yes }), (λ fits. right.1 fits.polls))
 
 pub returns-clause-noted : goal.returns-clause-noted

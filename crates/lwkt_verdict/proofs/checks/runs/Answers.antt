@@ -1,14 +1,14 @@
 use Rattle.std.proofs.Common.{[], refl, subst, sym}
 use Rattle.lwkt_core.specs.Machine.{Machine}
 use Rattle.lwkt_core.specs.Trace.{Run}
-use Rattle.lwkt_verdict.specs.Run.{Runs}
+use Rattle.lwkt_verdict.specs.Run.{RunsThrough}
 use Rattle.lwkt_verdict.proofs.RunMoves.{goes_next, goes_to_end}
 use Rattle.lwkt_verdict.proofs.TraceMoves.{part_happens, quiet_happens, led_on, led_to_end}
 use Rattle.lwkt_verdict.proofs.checks.runs.Goals as goal
 
 pub loop-i-preserved : goal.loop-i-preserved
 loop-i-preserved c =
-    let P = Runs c.args.plans.now c.args.lines.now c.args.polls.now c.args.order.now c.args.state.now [] c.args.turns.now c.args.trace.now in
+    let P = RunsThrough c.args.plans.now c.args.lines.now c.args.polls.now c.args.order.now c.args.state.now [] c.args.turns.now c.args.trace.now in
     let goes = c.loop-i.invariant.0 in
     let yes = c.if-not-fits.false in
     let fits = (c.fits.ensures.right goes.before goes.shows).0 yes in
@@ -20,7 +20,7 @@ loop-i-preserved c =
 
 pub returns-clause-right : goal.returns-clause-right
 returns-clause-right c =
-    let P = Runs c.args.plans.now c.args.lines.now c.args.polls.now c.args.order.now c.args.state.now [] c.args.turns.now c.args.trace.now in
+    let P = RunsThrough c.args.plans.now c.args.lines.now c.args.polls.now c.args.order.now c.args.state.now [] c.args.turns.now c.args.trace.now in
     let goes = c.loop-i.invariant.0 in
     let closes = c.closes.ensures.right goes.before goes.shows in
     let end = goes_to_end P c.args.plans.now c.args.lines.now c.args.polls.now c.args.order.now c.loop-i.state c.loop-i.table c.args.turns.now c.loop-i.i c.loop-i.rest.now goes c.loop-i-test.false in

@@ -1,9 +1,9 @@
 use Rattle.std.proofs.Common.{[]}
-use Rattle.lwkt_verdict.specs.Run.{Runs}
+use Rattle.lwkt_verdict.specs.Run.{RunsThrough}
 use Rattle.lwkt_verdict.proofs.RunMoves.{Goes}
 use Rattle.lwkt_verdict.proofs.TraceMoves.{Led}
 use Rattle.lwkt_verdict.proofs.checks.runs.Given as goal
 
 -- the turns so far fit, and the run is one exactly if the turns that are left go on from there; their events led there
 abbrev pub invariant-loop-i : goal.invariant-loop-i
-invariant-loop-i l = Goes (Runs l.fn.plans l.fn.lines l.fn.polls l.fn.order l.fn.state [] l.fn.turns l.fn.trace) l.fn.plans l.fn.lines l.fn.polls l.fn.order l.state l.table l.fn.turns l.i l.rest × Led l.fn.state l.fn.trace l.state l.rest
+invariant-loop-i l = Goes (RunsThrough l.fn.plans l.fn.lines l.fn.polls l.fn.order l.fn.state [] l.fn.turns l.fn.trace) l.fn.plans l.fn.lines l.fn.polls l.fn.order l.state l.table l.fn.turns l.i l.rest × Led l.fn.state l.fn.trace l.state l.rest

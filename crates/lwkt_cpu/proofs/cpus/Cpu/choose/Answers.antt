@@ -2,8 +2,8 @@ use Rattle.std.proofs.Common.{◌≡◌, ℕ, List, ◌++◌, length, take, drop
 use Rattle.lwkt_hold.proofs.ReadMoves.{ran_still}
 use Rattle.lwkt_cpu.specs.declared.threads.Thread.{Thread}
 use Rattle.lwkt_cpu.specs.Processors.{Processor, IsAtRest, AreThere, AllKeepBusyWords, processor_of}
-use Rattle.lwkt_cpu.specs.Searches.{point, Finds, IsOfOne}
-use Rattle.lwkt_cpu.specs.Ending.{is_worn, Closes}
+use Rattle.lwkt_cpu.specs.Searches.{point, FindsThread, IsOfOne}
+use Rattle.lwkt_cpu.specs.Ending.{is_worn, ClosesPorts}
 use Rattle.lwkt_cpu.specs.Turning.{Chooses}
 use Rattle.lwkt_cpu.proofs.RestMoves.{refilled, rest_found}
 use Rattle.lwkt_cpu.proofs.SearchMoves.{finds_long}
@@ -30,7 +30,7 @@ invariant_of-self g c =
     let f = c.find-found in
     let q = c.close_all.new.ports in
     let F : List Thread → Type 0 = λ xs. IsAtRest {B = g.row.B.Denot} (processor_of f.new.hold.seat q i.bodies.items xs f.result c.past-self-inside.result) in
-    let G : List Thread → Type 0 = λ xs. Finds i.cursor (point i.hold.seat xs c.args.trace.now) (point f.new.hold.seat f.new.threads f.new.trace) f.result in
+    let G : List Thread → Type 0 = λ xs. FindsThread i.cursor (point i.hold.seat xs c.args.trace.now) (point f.new.hold.seat f.new.threads f.new.trace) f.result in
     let long : length f.new.threads ≡ i.threads.len = finds_long i.cursor (point i.hold.seat c.deref_mut.result.now c.args.trace.now) (point f.new.hold.seat f.new.threads f.new.trace) f.result f.ensures.finds ∙ c.deref_mut.ensures.len in
     subst F (sym (refilled f.new.threads i.threads.items i.threads.len long))
     (rest_posted {B = g.row.B.Denot} f.new.hold.seat i.ports q i.bodies.items f.new.threads f.result c.past-self-inside.result c.close_all.ensures.same
@@ -45,11 +45,11 @@ returns-in-None-clause-chooses g c =
     let u = f.new.trace in
     let start = processor_of {B = g.row.B.Denot} i.hold.seat i.ports i.bodies.items i.threads.items i.running i.cursor in
     let end : List Thread → Processor g.row.B.Denot = λ xs. processor_of f.new.hold.seat q i.bodies.items xs f.result c.past-self-inside.result in
-    let F : List Thread → Type 0 = λ xs. Finds i.cursor (point i.hold.seat xs t) (point f.new.hold.seat f.new.threads u) f.result in
+    let F : List Thread → Type 0 = λ xs. FindsThread i.cursor (point i.hold.seat xs t) (point f.new.hold.seat f.new.threads u) f.result in
     let found = subst F c.deref_mut.ensures.value f.ensures.finds in
     let long : length f.new.threads ≡ i.threads.len = finds_long i.cursor (point i.hold.seat c.deref_mut.result.now t) (point f.new.hold.seat f.new.threads u) f.result f.ensures.finds ∙ c.deref_mut.ensures.len in
     let back = refilled f.new.threads i.threads.items i.threads.len long in
-    let G : List Thread → Type 0 = λ xs. Closes is_worn xs i.ports q in
+    let G : List Thread → Type 0 = λ xs. ClosesPorts is_worn xs i.ports q in
     let closed = subst G (c.deref.ensures.value ∙ back) c.close_all.ensures.closes in
     let H : Option ℕ → Type 0 = λ o. Chooses {B = g.row.B.Denot} start (end f.new.threads) t u o f.result in
     let K : List Thread → Type 0 = λ xs. Chooses {B = g.row.B.Denot} start (end xs) t u i.running f.result in

@@ -1,7 +1,7 @@
 use Rattle.std.proofs.Common.{◌≡◌, ap, sym, ◌∙◌, subst, List, length, None}
 use Rattle.lwkt_cpu.specs.declared.threads.Thread.{Thread}
 use Rattle.lwkt_cpu.specs.Processors.{Processor, IsAtRest, processor_of}
-use Rattle.lwkt_cpu.specs.Stopping.{AreStopped}
+use Rattle.lwkt_cpu.specs.Stopping.{AreThreadsStopped}
 use Rattle.lwkt_cpu.proofs.RestMoves.{refilled}
 use Rattle.lwkt_cpu.proofs.ShutMoves.{rest_posted}
 use Rattle.lwkt_cpu.proofs.StopMoves.{rest_stopped, long_stopped}
@@ -15,7 +15,7 @@ invariant_of-self g c =
     let news = s.new.threads in
     let none : i.running ≡ None = ap (λ (x : Processor g.row.B.Denot). x.running) c.self.view_is ∙ c.requires in
     let F : List Thread → Type 0 = λ xs. IsAtRest {B = g.row.B.Denot} (processor_of i.hold.seat q i.bodies.items xs i.running i.cursor) in
-    let G : List Thread → Type 0 = λ xs. AreStopped xs news in
+    let G : List Thread → Type 0 = λ xs. AreThreadsStopped xs news in
     let long : length news ≡ i.threads.len = long_stopped c.deref_mut.result.now news s.ensures ∙ c.deref_mut.ensures.len in
     subst F (sym (refilled news i.threads.items i.threads.len long))
     (rest_stopped {B = g.row.B.Denot} i.hold.seat q i.bodies.items i.threads.items news i.running i.cursor none (subst G c.deref_mut.ensures.value s.ensures)

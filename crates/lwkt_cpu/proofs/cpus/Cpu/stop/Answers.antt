@@ -13,7 +13,7 @@ use Rattle.lwkt_cpu.specs.declared.threads.Thread.{Thread}
 use Rattle.lwkt_cpu.specs.Processors.{AllOver}
 use Rattle.lwkt_cpu.specs.Searches.{IsOfOne}
 use Rattle.lwkt_cpu.specs.Turning.{IsMailed}
-use Rattle.lwkt_cpu.specs.Stopping.{AreStopped}
+use Rattle.lwkt_cpu.specs.Stopping.{AreThreadsStopped}
 use Rattle.lwkt_cpu.proofs.ToldMoves.{quiet_items}
 use Rattle.lwkt_cpu.proofs.WakeMoves.{post_none, post_then}
 use Rattle.lwkt_cpu.proofs.cpus.Cpu.stop.Goals as goal
@@ -50,7 +50,7 @@ returns-clause-ok g c =
     let e = c.end_all.ensures in
     let y = c.pay.ensures in
     let news = c.pay.new.self.threads in
-    let F : List Thread → Type 0 = λ xs. AreStopped c.halt_running.new.self.threads xs in
+    let F : List Thread → Type 0 = λ xs. AreThreadsStopped c.halt_running.new.self.threads xs in
     let G : List Thread → Type 0 = λ xs. AllOver xs in
     record {
       room = c.reserve.new.self;

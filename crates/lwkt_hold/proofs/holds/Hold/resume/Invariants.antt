@@ -3,7 +3,7 @@ use Rattle.lwkt_base.specs.Holding.{holding_of}
 use Rattle.lwkt_bank.specs.Seats.{holding}
 use Rattle.lwkt_hold.specs.Fronts.{IsFront}
 use Rattle.lwkt_hold.specs.Runs.{Ran}
-use Rattle.lwkt_hold.specs.Rows.{IsClean}
+use Rattle.lwkt_hold.specs.Rows.{IsAllClean}
 use Rattle.lwkt_hold.specs.Takings.{takes_all}
 use Rattle.lwkt_hold.proofs.holds.Hold.resume.Given as goal
 
@@ -11,6 +11,6 @@ abbrev pub invariant-loop-at : goal.invariant-loop-at
 invariant-loop-at l = record {
   ran : Ran (IsFront l.refs) l.at l.initial.self.seat l.self.seat l.initial.trace l.trace;
   front : holding l.self.seat ≡ holding_of (take l.at l.refs);
-  clean : IsClean l.self.seat;
+  clean : IsAllClean l.self.seat;
   told : l.trace.items ≡ l.initial.trace.items ++ takes_all l.initial.self.seat.cpu [] (take l.at l.refs);
 }

@@ -4,7 +4,7 @@ use Rattle.std.proofs.lemmas.Result.{on_ok_weaker, on_err_weaker}
 use Rattle.lwkt_bank.specs.Seats.{id_of, cpus_of}
 use Rattle.lwkt_cpu.specs.Processors.{Processor}
 use Rattle.lwkt_machine.specs.Bodies.{Scripted}
-use Rattle.lwkt_machine.specs.Machines.{Rig, rig_of, AreParts}
+use Rattle.lwkt_machine.specs.Machines.{Rig, rig_of, AreOneMachine}
 use Rattle.lwkt_machine.specs.Ended.{AreSameCpus, AreStopped, AreStoppedShort, StopsAll, StopsShort}
 use Rattle.lwkt_lane.proofs.PlaceMoves.{refilled}
 use Rattle.lwkt_machine.proofs.StopMoves.{parts_same}
@@ -14,7 +14,7 @@ pub invariant_of-self : goal.invariant_of-self
 invariant_of-self c =
     let i = c.self.inside in
     let news = c.stop_all.new.cpus in
-    let F : List (Processor Scripted) → Type 0 = λ xs. AreParts (cpus_of i.bank) (id_of i.bank) i.book xs in
+    let F : List (Processor Scripted) → Type 0 = λ xs. AreOneMachine (cpus_of i.bank) (id_of i.bank) i.book xs in
     let G : List (Processor Scripted) → Type 0 = λ xs. AreSameCpus xs news in
     let full = refilled news i.cpus.items i.cpus.len (c.stop_all.ensures.same.as_many ∙ c.deref_mut.ensures.len) in
     subst F (sym full) (parts_same (cpus_of i.bank) (id_of i.bank) i.book i.cpus.items news (subst G c.deref_mut.ensures.value c.stop_all.ensures.same) c.self.invariant)

@@ -4,7 +4,7 @@ use Rattle.lwkt_bank.specs.Seats.{id_of, cpus_of}
 use Rattle.lwkt_cpu.specs.Processors.{Processor}
 use Rattle.lwkt_cpu.proofs.TurnMoves.{turn_from_room}
 use Rattle.lwkt_machine.specs.Bodies.{Scripted, IsPolled}
-use Rattle.lwkt_machine.specs.Machines.{Rig, rig_of, AreAllJoined, AreNumbered, AreParts}
+use Rattle.lwkt_machine.specs.Machines.{Rig, rig_of, AreAllJoined, AreNumbered, AreOneMachine}
 use Rattle.lwkt_machine.specs.Sights.{SeesSent}
 use Rattle.lwkt_machine.specs.Turns.{TurnsAt}
 use Rattle.lwkt_lane.proofs.PlaceMoves.{refilled}
@@ -57,7 +57,7 @@ invariant_of-self c =
     let within : k < i.cpus.len = omega (arith, ap (λ (m : Rig). length m.cpus) c.self.view_is, c.self.inside.cpus.ok, c.requires) in
     let at : slice_get mids k ≡ Some p = read_back mids i.cpus.items i.cpus.len k p long within c.index_mut.ensures.value in
     let q = c.turn_in_room.new.self in
-    let F : List (Processor Scripted) → Type 0 = λ xs. AreParts (cpus_of i.bank) (id_of i.bank) i.book (set xs k q) in
+    let F : List (Processor Scripted) → Type 0 = λ xs. AreOneMachine (cpus_of i.bank) (id_of i.bank) i.book (set xs k q) in
     subst F (sym (refilled mids i.cpus.items i.cpus.len long)) (parts_same (cpus_of i.bank) (id_of i.bank) i.book i.cpus.items (set mids k q) (turned_same (id_of i.bank) i.cpus.items mids k p q c.reserve.new.self c.turn_in_room.new.trace c.turn_in_room.result sees at c.turn_in_room.ensures.makes) c.self.invariant)
 
 pub returns-clause-ok : goal.returns-clause-ok

@@ -2,7 +2,7 @@ use Rattle.std.proofs.Common.{◌≡◌, ℕ, List, length, refl, rules, sym, su
 use Rattle.lwkt_port.specs.declared.lines.Lane.{Lane}
 use Rattle.lwkt_port.specs.Chains.{Chain}
 use Rattle.lwkt_port.specs.Lines.{IsRoomed}
-use Rattle.lwkt_port.specs.Posts.{Changes}
+use Rattle.lwkt_port.specs.Posts.{ChangesOne}
 use Rattle.lwkt_port.specs.Intakes.{Intake, Payer, Pays, intake, payer, EmptiesFrom}
 use Rattle.lwkt_port.specs.declared.mails.Mail.{Mail}
 use Rattle.lwkt_port.specs.declared.queues.Port.{Port}
@@ -34,7 +34,7 @@ returns-clause-takes c =
     let roomed = c.make_room.new.lanes in
     let paid : Payer = payer p.new.self p.new.trace in
     let start : Intake = intake p.new.self p.new.trace 0 in
-    let F : ℕ → Type 0 = λ n. Chain (List Lane) (λ i a b. Changes IsRoomed i a b) n o.lanes.items roomed.items in
+    let F : ℕ → Type 0 = λ n. Chain (List Lane) (λ i a b. ChangesOne IsRoomed i a b) n o.lanes.items roomed.items in
     let lines : vec_len o.lanes ≡ length o.lanes.items = search rules in
     let first : Payer = record { work = work o.counters.room c.args.trace.now; lanes = roomed.items } in
     let G : ℕ → Type 0 = λ n. Chain Payer Pays n first paid in

@@ -4,7 +4,7 @@ use Rattle.lwkt_port.specs.declared.lines.Lane.{Lane}
 use Rattle.lwkt_port.specs.Chains.{Chain}
 use Rattle.lwkt_port.specs.Hints.{OwesNone}
 use Rattle.lwkt_port.specs.Intakes.{Intake, intake, desks, untaken, EmptiesFrom}
-use Rattle.lwkt_port.specs.Works.{Work, work, MailroomStands, Standing, standing, Keeps}
+use Rattle.lwkt_port.specs.Works.{Work, work, MailroomStands, Standing, standing, KeepsStanding}
 use Rattle.lwkt_port.proofs.Dispatching.{line_named}
 use Rattle.lwkt_port.proofs.Emptying.{keeps_then}
 use Rattle.lwkt_port.proofs.Growing.{stands_none, stands_is}
@@ -48,7 +48,7 @@ returns-clause-stands c =
     let s1 : Standing = standing c.args.self.now.counters t in
     let s2 : Standing = standing f.new.self f.new.trace in
     let s3 : Standing = standing e.new.self.counters e.new.trace in
-    let keeps : Keeps s1 s3 = keeps_then s1 s2 s3 f.ensures.keeps e.ensures.keeps in
+    let keeps : KeepsStanding s1 s3 = keeps_then s1 s2 s3 f.ensures.keeps e.ensures.keeps in
     let still : MailroomStands 64 r t r t = stands_is 0 64 r r t t (omega arith) (stands_none r t) in
     stands_in_all r t s1 s3 c.clear_all.new.self.room c.clear_all.new.trace still keeps c.clear_all.ensures.stands
 

@@ -1,7 +1,7 @@
 use Rattle.std.proofs.Common.{ap, subst}
 use Rattle.lwkt_msg.specs.Desks.{Desk}
 use Rattle.lwkt_port.specs.Posts.{Post}
-use Rattle.lwkt_port.specs.Tellings.{Tells}
+use Rattle.lwkt_port.specs.Tellings.{TellsDeeds}
 use Rattle.lwkt_port.specs.Works.{work}
 use Rattle.lwkt_port.proofs.Telling.{withdraw_told}
 use Rattle.lwkt_port.proofs.posts.Ports.drop_msg.Goals as goal
@@ -10,5 +10,5 @@ pub returns-clause-told : goal.returns-clause-told
 returns-clause-told c =
     let r = c.self.inside.office.counters.room in
     let n = c.withdraw in
-    let F : Desk → Type 0 = λ d. Tells d n.new.self.seat c.args.trace.now.items n.new.trace.items in
+    let F : Desk → Type 0 = λ d. TellsDeeds d n.new.self.seat c.args.trace.now.items n.new.trace.items in
     subst F (ap (λ (p : Post). p.seat) c.self.view_is) (withdraw_told c.args.msg (work r c.args.trace.now) (work n.new.self n.new.trace) n.result n.ensures.drops n.ensures.refused)

@@ -4,7 +4,7 @@ use Rattle.lwkt_msg.specs.Desks.{Desk}
 use Rattle.lwkt_port.specs.declared.queues.Port.{Port}
 use Rattle.lwkt_port.specs.Posts.{Post}
 use Rattle.lwkt_port.specs.Queues.{queue_of}
-use Rattle.lwkt_port.specs.Tellings.{Tells}
+use Rattle.lwkt_port.specs.Tellings.{TellsDeeds}
 use Rattle.lwkt_port.specs.Works.{work}
 use Rattle.lwkt_port.proofs.ClosedPorts.{ports_named}
 use Rattle.lwkt_port.proofs.Dispatching.{port_named}
@@ -17,7 +17,7 @@ pub returns-clause-told : goal.returns-clause-told
 returns-clause-told c =
     let r = c.self.inside.office.counters.room in
     let n = c.serve in
-    let F : Desk → Type 0 = λ d. Tells d n.new.self.seat c.args.trace.now.items n.new.trace.items in
+    let F : Desk → Type 0 = λ d. TellsDeeds d n.new.self.seat c.args.trace.now.items n.new.trace.items in
     subst F (ap (λ (p : Post). p.seat) c.self.view_is) (get_told c.args.thread (queue_of c.index_mut.result.now) (queue_of n.new.port) (work r c.args.trace.now) (work n.new.self n.new.trace) n.result n.ensures.serves.0)
 
 pub invariant_of-counters : goal.invariant_of-counters

@@ -2,7 +2,7 @@ use Rattle.std.proofs.Common.{◌≡◌, ◌∙◌, ℕ, List, length, subst, sy
 use Rattle.std.specs.Prelude.{All}
 use Rattle.lwkt_port.specs.declared.mails.Mail.{Mail}
 use Rattle.lwkt_port.specs.Hints.{OwesNone}
-use Rattle.lwkt_port.specs.Openings.{AreWithin}
+use Rattle.lwkt_port.specs.Openings.{KeepLimits}
 use Rattle.lwkt_port.specs.Posts.{Post, IsPost, KeepsNamed}
 use Rattle.lwkt_port.specs.Queues.{HasNamed}
 use Rattle.lwkt_port.proofs.Begun.{opened}
@@ -12,13 +12,13 @@ use Rattle.lwkt_port.proofs.posts.Ports.new.Goals as goal
 pub invariant_of-room : goal.invariant_of-room
 invariant_of-room c =
     let p : Post = record { seat = c.args.seat; lanes = c.in-Ok.lanes.items; ports = c.in-Ok-new_ports.ports.items; mails = c.in-Ok-open_mails.mails.items; threads = c.args.threads } in
-    let within : AreWithin c.args.seat c.args.outs.items c.args.ins.items c.args.origins.now c.args.threads = search rules in
+    let within : KeepLimits c.args.seat c.args.outs.items c.args.ins.items c.args.origins.now c.args.threads = search rules in
     let post : IsPost p = opened c.cpu-own.result p c.args.outs.items c.args.ins.items c.args.origins.now c.cpu-own.ensures.seat c.requires.fresh c.requires.origins within c.in-Ok.ensures c.in-Ok-new_ports.ensures c.in-Ok-open_mails.ensures in record { kept = post.mails_are }
 
 pub invariant_of-counters : goal.invariant_of-counters
 invariant_of-counters c =
     let p : Post = record { seat = c.args.seat; lanes = c.in-Ok.lanes.items; ports = c.in-Ok-new_ports.ports.items; mails = c.in-Ok-open_mails.mails.items; threads = c.args.threads } in
-    let within : AreWithin c.args.seat c.args.outs.items c.args.ins.items c.args.origins.now c.args.threads = search rules in
+    let within : KeepLimits c.args.seat c.args.outs.items c.args.ins.items c.args.origins.now c.args.threads = search rules in
     let post : IsPost p = opened c.cpu-own.result p c.args.outs.items c.args.ins.items c.args.origins.now c.cpu-own.ensures.seat c.requires.fresh c.requires.origins within c.in-Ok.ensures c.in-Ok-new_ports.ensures c.in-Ok-open_mails.ensures in
     let ports : vec_len c.in-Ok-new_ports.ports ≡ length c.in-Ok-new_ports.ports.items = search rules in
     let mails : vec_len c.in-Ok-open_mails.mails ≡ length c.in-Ok-open_mails.mails.items = search rules in
@@ -31,7 +31,7 @@ invariant_of-counters c =
 pub invariant_of-office : goal.invariant_of-office
 invariant_of-office c =
     let p : Post = record { seat = c.args.seat; lanes = c.in-Ok.lanes.items; ports = c.in-Ok-new_ports.ports.items; mails = c.in-Ok-open_mails.mails.items; threads = c.args.threads } in
-    let within : AreWithin c.args.seat c.args.outs.items c.args.ins.items c.args.origins.now c.args.threads = search rules in
+    let within : KeepLimits c.args.seat c.args.outs.items c.args.ins.items c.args.origins.now c.args.threads = search rules in
     let post : IsPost p = opened c.cpu-own.result p c.args.outs.items c.args.ins.items c.args.origins.now c.cpu-own.ensures.seat c.requires.fresh c.requires.origins within c.in-Ok.ensures c.in-Ok-new_ports.ensures c.in-Ok-open_mails.ensures in
     let lanes : vec_len c.in-Ok.lanes ≡ length c.in-Ok.lanes.items = search rules in
     let mails : vec_len c.in-Ok-open_mails.mails ≡ length c.in-Ok-open_mails.mails.items = search rules in

@@ -1,7 +1,7 @@
 use Rattle.std.proofs.Common.{ap, refl, subst}
 use Rattle.lwkt_msg.specs.Desks.{Desk}
 use Rattle.lwkt_port.specs.Posts.{Post, IsSamePost}
-use Rattle.lwkt_port.specs.Tellings.{Tells}
+use Rattle.lwkt_port.specs.Tellings.{TellsDeeds}
 use Rattle.lwkt_port.specs.Works.{work}
 use Rattle.lwkt_port.proofs.SameLanes.{answer_lanes}
 use Rattle.lwkt_port.proofs.Telling.{answer_told}
@@ -11,7 +11,7 @@ pub returns-clause-told : goal.returns-clause-told
 returns-clause-told c =
     let r = c.self.inside.office.counters.room in
     let n = c.answer in
-    let F : Desk → Type 0 = λ d. Tells d n.new.self.counters.room.seat c.args.trace.now.items n.new.trace.items in
+    let F : Desk → Type 0 = λ d. TellsDeeds d n.new.self.counters.room.seat c.args.trace.now.items n.new.trace.items in
     subst F (ap (λ (p : Post). p.seat) c.self.view_is) (answer_told c.args.msg c.args.error c.args.outcome c.self.inside.office.lanes.items n.new.self.lanes.items (work r c.args.trace.now) (work n.new.self.counters.room n.new.trace) n.result n.ensures.means)
 
 pub returns-clause-same : goal.returns-clause-same

@@ -2,7 +2,7 @@ use Rattle.std.proofs.Common.{ap, refl, subst}
 use Rattle.lwkt_msg.specs.Desks.{Desk}
 use Rattle.lwkt_port.specs.Intakes.{payer}
 use Rattle.lwkt_port.specs.Posts.{Post, IsSamePost}
-use Rattle.lwkt_port.specs.Tellings.{Tells}
+use Rattle.lwkt_port.specs.Tellings.{TellsDeeds}
 use Rattle.lwkt_port.specs.Works.{work}
 use Rattle.lwkt_port.proofs.SameLanes.{paid_lanes}
 use Rattle.lwkt_port.proofs.Telling.{owed_all_told}
@@ -12,7 +12,7 @@ pub returns-clause-told : goal.returns-clause-told
 returns-clause-told c =
     let r = c.self.inside.office.counters.room in
     let n = c.pay_owed in
-    let F : Desk → Type 0 = λ d. Tells d n.new.self.counters.room.seat c.args.trace.now.items n.new.trace.items in
+    let F : Desk → Type 0 = λ d. TellsDeeds d n.new.self.counters.room.seat c.args.trace.now.items n.new.trace.items in
     subst F (ap (λ (p : Post). p.seat) c.self.view_is) (owed_all_told _ (record { work = work r c.args.trace.now; lanes = c.make_room.new.lanes.items }) (payer n.new.self n.new.trace) n.ensures.pays)
 
 pub returns-clause-same : goal.returns-clause-same

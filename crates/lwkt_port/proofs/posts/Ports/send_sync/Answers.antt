@@ -3,7 +3,7 @@ use Rattle.lwkt_msg.specs.Desks.{Desk}
 use Rattle.lwkt_msg.specs.Views.{no_flags}
 use Rattle.lwkt_port.specs.declared.deeds.Sending.{Sending}
 use Rattle.lwkt_port.specs.Posts.{Post, IsSamePost}
-use Rattle.lwkt_port.specs.Tellings.{Tells}
+use Rattle.lwkt_port.specs.Tellings.{TellsDeeds}
 use Rattle.lwkt_port.specs.Works.{work}
 use Rattle.lwkt_port.proofs.SameLanes.{dispatch_lanes}
 use Rattle.lwkt_port.proofs.Telling.{dispatch_told}
@@ -14,7 +14,7 @@ returns-clause-told c =
     let r = c.self.inside.office.counters.room in
     let n = c.dispatch in
     let s : Sending = record { thread = c.args.thread; msg = c.args.msg; to = c.args.to; call = c.args.call; flags = no_flags; sync = true } in
-    let F : Desk → Type 0 = λ d. Tells d n.new.self.counters.room.seat c.args.trace.now.items n.new.trace.items in
+    let F : Desk → Type 0 = λ d. TellsDeeds d n.new.self.counters.room.seat c.args.trace.now.items n.new.trace.items in
     subst F (ap (λ (p : Post). p.seat) c.self.view_is) (dispatch_told s c.self.inside.office.lanes.items n.new.self.lanes.items (work r c.args.trace.now) (work n.new.self.counters.room n.new.trace) n.result n.ensures.sent n.ensures.refused)
 
 pub returns-clause-same : goal.returns-clause-same

@@ -2,7 +2,7 @@ use Rattle.std.proofs.Common.{ap, refl, subst}
 use Rattle.lwkt_msg.specs.Desks.{Desk}
 use Rattle.lwkt_port.specs.Intakes.{hall}
 use Rattle.lwkt_port.specs.Posts.{Post, IsSamePost}
-use Rattle.lwkt_port.specs.Tellings.{Tells}
+use Rattle.lwkt_port.specs.Tellings.{TellsDeeds}
 use Rattle.lwkt_port.proofs.Passing.{takes_within}
 use Rattle.lwkt_port.proofs.SameLanes.{taken_lanes}
 use Rattle.lwkt_port.proofs.Telling.{takes_in_told}
@@ -11,7 +11,7 @@ use Rattle.lwkt_port.proofs.posts.Ports.take_in.Goals as goal
 pub returns-clause-told : goal.returns-clause-told
 returns-clause-told c =
     let n = c.take_in in
-    let F : Desk → Type 0 = λ d. Tells d n.new.self.counters.room.seat c.args.trace.now.items n.new.trace.items in
+    let F : Desk → Type 0 = λ d. TellsDeeds d n.new.self.counters.room.seat c.args.trace.now.items n.new.trace.items in
     subst F (ap (λ (p : Post). p.seat) c.self.view_is) (takes_in_told c.args.limit (hall c.self.inside.office c.args.trace.now) (hall n.new.self n.new.trace) n.result n.ensures.takes)
 
 pub returns-clause-same : goal.returns-clause-same
