@@ -8,7 +8,7 @@ use Rattle.lwkt_report.specs.declared.streams.RunFault.{RunFault}
 use Rattle.lwkt_report.specs.declared.streams.RunFault.TheVariants.{Fault, Stream}
 use Rattle.lwkt_report.specs.Stream.{BlamesFailed}
 use Rattle.lwkt_run.proofs.RunLemmas.{tells_unread}
-use Rattle.lwkt_run.specs.Run.{AreRead, HasRun, SaysAfterRun, exit_status}
+use Rattle.lwkt_run.specs.Run.{AreBytesRead, HasRun, SaysAfterRun, exit_status}
 use Rattle.lwkt_run.specs.Threaded.{HasThreadedRun, lets_all}
 use Rattle.lwkt_text.specs.Beginning.{is_text, ByForm}
 use Rattle.lwkt.specs.declared.modes.Mode.{Mode}
@@ -77,7 +77,7 @@ runs_unread mode bytes source sink old new fault status why blames says is =
     (json_unread mode bytes source sink old new fault status why blames says is)
 
 -- some bytes are those that are read
-pub some_read : (left : Option (List ℕ)) → (bytes : List ℕ) × AreRead left bytes
+pub some_read : (left : Option (List ℕ)) → (bytes : List ℕ) × AreBytesRead left bytes
 some_read None = ([], tt)
 some_read (Some all) = (take READ_LIMIT all, refl)
 

@@ -11,7 +11,7 @@ use Rattle.lwkt_report.specs.declared.streams.RunFault.{RunFault}
 use Rattle.lwkt_report.specs.declared.streams.RunFault.TheVariants.{Fault, Stream}
 use Rattle.lwkt_report.specs.Report.{report_text}
 use Rattle.lwkt_report.specs.Stream.{AppendsFront, BlamesFailed}
-use Rattle.lwkt_run.specs.Run.{MayClose, RunsAs, AsksTurns, AreRead, Declines, SaysAfterRun, exit_status}
+use Rattle.lwkt_run.specs.Run.{MayClose, RunsAs, AsksTurns, AreBytesRead, DeclinesRun, SaysAfterRun, exit_status}
 use Rattle.lwkt_run.specs.Threaded.{MayCloseOnThreads, RunsOnThreadsAs, AsksThreads, lets_all}
 use Rattle.lwkt_script.specs.declared.scripts.Script.{Script}
 use Rattle.lwkt_verdict.specs.declared.turns.Pace.TheVariants.{Rounds}
@@ -45,8 +45,8 @@ pub record HasTextRun (mode : Mode) (bytes : List ℕ) (judgement : Judgement) (
 abbrev pub RefusesText : List ℕ → Refusal → Type 0
 RefusesText bytes (ScriptFault place) = (place ≡ 0) × ((wrongs : List Wrong) × (reading_of bytes ≡ Err wrongs))
 RefusesText bytes (Memory refused) = Unit {0}
-RefusesText bytes Limits = (reading : Reading) × ((reading_of bytes ≡ Ok reading) × Declines reading.script Limits)
-RefusesText bytes LawBroken = (reading : Reading) × ((reading_of bytes ≡ Ok reading) × Declines reading.script LawBroken)
+RefusesText bytes Limits = (reading : Reading) × ((reading_of bytes ≡ Ok reading) × DeclinesRun reading.script Limits)
+RefusesText bytes LawBroken = (reading : Reading) × ((reading_of bytes ≡ Ok reading) × DeclinesRun reading.script LawBroken)
 RefusesText bytes _ = ⊥
 
 -- what a run of a text says by its answer, of what was written before and after it: the report of a run of its script; or nothing
@@ -81,4 +81,4 @@ RunsBytesAs mode bytes source_failed sink_failed old new status = ByForm (is_tex
 
 -- what it does with what was left to read
 abbrev pub RunsReadAs : Mode → Bool → Bool → Option (List ℕ) → Option (List ℕ) → Option (List ℕ) → ℕ → Type 0
-RunsReadAs mode source_failed sink_failed left old new status = (bytes : List ℕ) × (AreRead left bytes × RunsBytesAs mode bytes source_failed sink_failed old new status)
+RunsReadAs mode source_failed sink_failed left old new status = (bytes : List ℕ) × (AreBytesRead left bytes × RunsBytesAs mode bytes source_failed sink_failed old new status)

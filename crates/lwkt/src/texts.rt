@@ -1,6 +1,6 @@
 //! Texts, run.
 ghost use Rattle.std.specs.Prelude.{◌≡◌, Err, IfErr, IfOk, IsTrue, Ok, string_bytes};
-ghost use Rattle.lwkt_run.specs.Run.{Declines};
+ghost use Rattle.lwkt_run.specs.Run.{DeclinesRun};
 ghost use Rattle.lwkt_text.specs.Reading.{reading_of};
 ghost use Rattle.lwkt.specs.Text.{HasTextRun, MayCloseBy, RefusesText, TellsText};
 
@@ -40,7 +40,7 @@ fn closing_by<R: Threads + Sync>(
     script: Script,
 ) -> Result<Closing, Fault>
     ensures ok { IfOk result (λ closing. MayCloseBy mode script closing) }
-    ensures refused { IfErr result (λ fault. Declines script fault) }
+    ensures refused { IfErr result (λ fault. DeclinesRun script fault) }
 {
     match mode {
         Mode::Turns => {

@@ -9,14 +9,14 @@ use Rattle.lwkt_report.specs.declared.complaints.Complaint.{Complaint}
 use Rattle.lwkt_report.specs.declared.complaints.Program.TheVariants.{Check}
 use Rattle.lwkt_report.specs.Complaint.{fault_line, complaint_of, IsSaid}
 use Rattle.lwkt_checker.specs.Judgement.{HasFinding, RefusesTrace}
-use Rattle.lwkt_checker.specs.Output.{AreRead, TellsFinding, Complains}
+use Rattle.lwkt_checker.specs.Output.{IsTraceRead, TellsFinding, Complains}
 
 -- what was written stays what it is
 keeps_itself : (o : Option (List ℕ)) → Keeps o o
 keeps_itself o = search rules
 
 -- some bytes are those that are read
-some_read : (left : Option (List ℕ)) → (bytes : List ℕ) × AreRead left bytes
+some_read : (left : Option (List ℕ)) → (bytes : List ℕ) × IsTraceRead left bytes
 some_read None = ([], tt)
 some_read (Some all) = (take 268435457 all, refl)
 
@@ -30,17 +30,17 @@ tells_unread left old fault why =
     ]
 
 -- where the bytes are refused nothing is written
-pub tells_refused : (left old : Option (List ℕ)) (bytes read : List ℕ) (fault : Refusal) → read ≡ bytes → AreRead left bytes → RefusesTrace read fault → TellsFinding left old old (Err (Fault fault))
+pub tells_refused : (left old : Option (List ℕ)) (bytes read : List ℕ) (fault : Refusal) → read ≡ bytes → IsTraceRead left bytes → RefusesTrace read fault → TellsFinding left old old (Err (Fault fault))
 tells_refused left old bytes read fault same are refuses =
     (keeps_itself old, (bytes, (are, subst (λ b. RefusesTrace b fault) same refuses)))
 
 -- a text that was written whole
-pub tells_done : (left old new : Option (List ℕ)) (bytes read text written : List ℕ) (lawful : Bool) → read ≡ bytes → written ≡ text → AreRead left bytes → HasFinding read lawful text → Appends old new written → TellsFinding left old new (Ok lawful)
+pub tells_done : (left old new : Option (List ℕ)) (bytes read text written : List ℕ) (lawful : Bool) → read ≡ bytes → written ≡ text → IsTraceRead left bytes → HasFinding read lawful text → Appends old new written → TellsFinding left old new (Ok lawful)
 tells_done left old new bytes read text written lawful same same_text are found appends =
     (bytes, (are, (text, (subst (λ b. HasFinding b lawful text) same found, subst (λ t. Appends old new t) same_text appends))))
 
 -- a text of which a front was written
-pub tells_front : (left old new : Option (List ℕ)) (bytes read text written : List ℕ) (lawful : Bool) → read ≡ bytes → written ≡ text → AreRead left bytes → HasFinding read lawful text → AppendsFront old new written → TellsFinding left old new (Err Stream)
+pub tells_front : (left old new : Option (List ℕ)) (bytes read text written : List ℕ) (lawful : Bool) → read ≡ bytes → written ≡ text → IsTraceRead left bytes → HasFinding read lawful text → AppendsFront old new written → TellsFinding left old new (Err Stream)
 tells_front left old new bytes read text written lawful same same_text are found front =
     inr (bytes, (are, (lawful, (text, (subst (λ b. HasFinding b lawful text) same found, subst (λ t. AppendsFront old new t) same_text front)))))
 

@@ -10,15 +10,15 @@ use Rattle.lwkt_report.specs.Stream.{AppendsFront, BlamesFailed}
 use Rattle.lwkt_checker.specs.Judgement.{HasFinding, RefusesTrace}
 
 -- these are the bytes that are read of a source that has so many left, where that is known
-abbrev pub AreRead : Option (List ℕ) → List ℕ → Type 0
-AreRead left bytes = IfSome left (λ all. bytes ≡ take 268435457 all)
+abbrev pub IsTraceRead : Option (List ℕ) → List ℕ → Type 0
+IsTraceRead left bytes = IfSome left (λ all. bytes ≡ take 268435457 all)
 
 -- what a check says by its answer, of what was left to read and of what was written before and after it: what was found of
 -- the trace that was read; or nothing written, and why; or, where a stream failed, a front of it
 abbrev pub TellsFinding : Option (List ℕ) → Option (List ℕ) → Option (List ℕ) → Result Bool RunFault → Type 0
-TellsFinding left old new (Ok lawful) = (bytes : List ℕ) × (AreRead left bytes × ((text : List ℕ) × (HasFinding bytes lawful text × Appends old new text)))
-TellsFinding left old new (Err (Fault fault)) = Keeps old new × ((bytes : List ℕ) × (AreRead left bytes × RefusesTrace bytes fault))
-TellsFinding left old new (Err Stream) = Keeps old new ⊎ ((bytes : List ℕ) × (AreRead left bytes × ((lawful : Bool) × ((text : List ℕ) × (HasFinding bytes lawful text × AppendsFront old new text)))))
+TellsFinding left old new (Ok lawful) = (bytes : List ℕ) × (IsTraceRead left bytes × ((text : List ℕ) × (HasFinding bytes lawful text × Appends old new text)))
+TellsFinding left old new (Err (Fault fault)) = Keeps old new × ((bytes : List ℕ) × (IsTraceRead left bytes × RefusesTrace bytes fault))
+TellsFinding left old new (Err Stream) = Keeps old new ⊎ ((bytes : List ℕ) × (IsTraceRead left bytes × ((lawful : Bool) × ((text : List ℕ) × (HasFinding bytes lawful text × AppendsFront old new text)))))
 
 -- the exit status of the program
 abbrev pub status_of : Result Bool RunFault → ℕ

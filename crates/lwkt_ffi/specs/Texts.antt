@@ -11,7 +11,7 @@ use Rattle.lwkt_litmus.specs.declared.judgements.Judgement.{Judgement}
 use Rattle.lwkt_litmus.specs.Judgements.{judgement_of, status_of_judgement}
 use Rattle.lwkt_report.specs.declared.closings.Closing.{Closing}
 use Rattle.lwkt_report.specs.Report.{report_text}
-use Rattle.lwkt_run.specs.Run.{MayClose, Declines}
+use Rattle.lwkt_run.specs.Run.{MayClose, DeclinesRun}
 use Rattle.lwkt_script.specs.Format.{script_of}
 use Rattle.lwkt_text.specs.declared.readers.Reading.{Reading}
 use Rattle.lwkt_text.specs.declared.wrongs.Wrong.{Wrong}
@@ -67,7 +67,7 @@ pub record HasTextReport (text : List ℕ) (judgement : Judgement) (report : Lis
 
 -- why a run of a text is refused: it isn't read; or it is, and its machine isn't opened
 abbrev pub RefusesTextRun : List ℕ → Fault → Type 0
-RefusesTextRun text fault = RefusesReading text fault ⊎ ((reading : Reading) × ((reading_of text ≡ Ok reading) × Declines reading.script fault))
+RefusesTextRun text fault = RefusesReading text fault ⊎ ((reading : Reading) × ((reading_of text ≡ Ok reading) × DeclinesRun reading.script fault))
 
 -- what came of a text that was run: its report, with more behind it; or why there is none
 abbrev pub TellsTextRun : List ℕ → Result Judgement Fault → List ℕ → Type 0

@@ -1,6 +1,6 @@
 //! Texts of the language for scripts, run.
 ghost use Rattle.std.specs.Prelude.{◌≡◌, [], IfOk, IfErr, string_bytes};
-ghost use Rattle.lwkt_run.specs.Run.{MayClose, Declines};
+ghost use Rattle.lwkt_run.specs.Run.{MayClose, DeclinesRun};
 ghost use Rattle.lwkt_verdict.specs.declared.turns.Pace.{Pace};
 ghost use Rattle.lwkt_ffi.specs.Texts.{HasTextReport, RefusesTextRun, TellsTextRun, AnswersText, status_of_text_run};
 
@@ -34,7 +34,7 @@ fn say_opening(alloc: Global, text: &[u8], fault: Fault, page: &mut Page) {
 // Runs a script in rounds, to what its report shows.
 fn closing_of(alloc: Global, script: Script) -> Result<Closing, Fault>
     ensures ok { IfOk result (λ closing. MayClose (Pace.Rounds script.turns) script closing) }
-    ensures refused { IfErr result (λ fault. Declines script fault) }
+    ensures refused { IfErr result (λ fault. DeclinesRun script fault) }
 {
     let TurnsRun { closing, .. } = turns_run_of(alloc, script)?;
     Ok(closing)

@@ -34,10 +34,10 @@ TurnsAt polled bank cpu olds news turned = DoesAt (Makes polled bank turned) cpu
 
 -- why no turn of the processor of this number is made: there is no such processor; or out of memory, of which nothing else is claimed.
 -- Nothing has changed
-abbrev pub Declines : {B : Type 0} → ℕ → List (Driven B) → List (Driven B) → Fault → Type 0
-Declines cpu olds news Limits = (length olds ≤ cpu) × (news ≡ olds)
-Declines cpu olds news (Memory refused) = DoesAt StaysPut cpu olds news
-Declines cpu olds news _ = ⊥
+abbrev pub DeclinesTurn : {B : Type 0} → ℕ → List (Driven B) → List (Driven B) → Fault → Type 0
+DeclinesTurn cpu olds news Limits = (length olds ≤ cpu) × (news ≡ olds)
+DeclinesTurn cpu olds news (Memory refused) = DoesAt StaysPut cpu olds news
+DeclinesTurn cpu olds news _ = ⊥
 
 -- turns of the processors from this number on, by rising number, which return these
 abbrev pub TurnsFrom : {B : Type 0} → (B → Answer → Ask → B → Type 0) → BankId → ℕ → List (Driven B) → List (Driven B) → List Turned → Type 0

@@ -80,7 +80,7 @@ pub(crate) fn turn_at<B: Lasting>(
 }
 
 impl<B: Lasting> Machine<B> {
-    ghost use Rattle.lwkt_program.specs.Turns.{Declines};
+    ghost use Rattle.lwkt_program.specs.Turns.{DeclinesTurn};
 
     /// Makes a turn of the processor of this number, as `Cpu::turn` does. Its events are kept for the close.
     ///
@@ -88,7 +88,7 @@ impl<B: Lasting> Machine<B> {
     /// events; nothing has changed then.
     pub fn turn(&mut self, cpu: CpuId) -> Result<Turned, Fault>
         ensures ok { IfOk result (λ turned. TurnsAt B.polled self.old.bank cpu.0 self.old.cpus self.new.cpus turned) }
-        ensures refused { IfErr result (λ fault. Declines cpu.0 self.old.cpus self.new.cpus fault) }
+        ensures refused { IfErr result (λ fault. DeclinesTurn cpu.0 self.old.cpus self.new.cpus fault) }
         ensures bank { self.new.bank ≡ self.old.bank }
         ensures book { self.new.book ≡ self.old.book }
     {

@@ -8,14 +8,14 @@ use Rattle.lwkt_report.specs.declared.streams.RunFault.TheVariants.{Fault, Strea
 use Rattle.lwkt_report.specs.declared.sources.TheConstants.{READ_LIMIT}
 use Rattle.lwkt_run.specs.declared.reports.Done.{Done}
 use Rattle.lwkt_run.specs.declared.runs.End.{End}
-use Rattle.lwkt_run.specs.Run.{AreRead, Refuses, TellsBy, Concludes}
+use Rattle.lwkt_run.specs.Run.{AreBytesRead, Refuses, TellsBy, Concludes}
 
 -- what was written stays what it is
 keeps_itself : (o : Option (List ℕ)) → Keeps o o
 keeps_itself o = search rules
 
 -- some bytes are those that are read
-some_read : (left : Option (List ℕ)) → (bytes : List ℕ) × AreRead left bytes
+some_read : (left : Option (List ℕ)) → (bytes : List ℕ) × AreBytesRead left bytes
 some_read None = ([], tt)
 some_read (Some all) = (take READ_LIMIT all, refl)
 
@@ -29,7 +29,7 @@ tells_unread Run left old fault why =
     ]
 
 -- what was read, run and concluded
-pub tells_concluded : (Run : List ℕ → End → List ℕ → Type 0) (left old new : Option (List ℕ)) (bytes read : List ℕ) (outcome : Result Done Refusal) (answer : Result End RunFault) → read ≡ bytes → AreRead left bytes
+pub tells_concluded : (Run : List ℕ → End → List ℕ → Type 0) (left old new : Option (List ℕ)) (bytes read : List ℕ) (outcome : Result Done Refusal) (answer : Result End RunFault) → read ≡ bytes → AreBytesRead left bytes
     → IfOk outcome (λ done. Run read done.end (string_bytes done.text)) → IfErr outcome (λ fault. Refuses read fault) → Concludes old new outcome answer → TellsBy Run left old new answer
 tells_concluded Run left old new bytes read (Ok done) (Ok end) same are run refused ends =
     (bytes, (are, (string_bytes done.text, (subst (λ e. Run bytes e (string_bytes done.text)) (sym ends.0) (subst (λ b. Run b done.end (string_bytes done.text)) same run), ends.1))))

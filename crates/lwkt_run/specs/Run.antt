@@ -172,21 +172,21 @@ pub record IsOrderRun (bytes : List ℕ) (order : List ℕ) (run : TurnsRun) : T
   pub judged : IsJudgedBy Named run.script run.closing run.order.items run.trace.items run.polls run.turns.items
 
 -- why a run of this script is refused: its machine isn't opened
-abbrev pub Declines : Script → Refusal → Type 0
-Declines script fault = IsDeclined script fault
+abbrev pub DeclinesRun : Script → Refusal → Type 0
+DeclinesRun script fault = IsDeclined script fault
 
 -- why a run of these bytes is refused
 abbrev pub Refuses : List ℕ → Refusal → Type 0
 Refuses bytes (ScriptFault place) = script_of bytes ≡ Err place
 Refuses bytes (Memory refused) = Unit {0}
-Refuses bytes Limits = (script : Script) × ((script_of bytes ≡ Ok script) × Declines script Limits)
-Refuses bytes LawBroken = (script : Script) × ((script_of bytes ≡ Ok script) × Declines script LawBroken)
+Refuses bytes Limits = (script : Script) × ((script_of bytes ≡ Ok script) × DeclinesRun script Limits)
+Refuses bytes LawBroken = (script : Script) × ((script_of bytes ≡ Ok script) × DeclinesRun script LawBroken)
 Refuses bytes _ = ⊥
 
 -- why a run of this script along an order is refused: its machine isn't opened, or the order names a processor that isn't there
 abbrev pub DeclinesAlong : Script → List ℕ → Refusal → Type 0
 DeclinesAlong script order NoPort = ¬ All (λ x. x < script.cpus) order
-DeclinesAlong script order fault = Declines script fault
+DeclinesAlong script order fault = DeclinesRun script fault
 
 -- why a run of these bytes along an order is refused
 abbrev pub RefusesAlong : List ℕ → List ℕ → Refusal → Type 0
@@ -194,16 +194,16 @@ RefusesAlong bytes order NoPort = (script : Script) × ((script_of bytes ≡ Ok 
 RefusesAlong bytes order fault = Refuses bytes fault
 
 -- these are the bytes that are read of a source that has so many left, where that is known
-abbrev pub AreRead : Option (List ℕ) → List ℕ → Type 0
-AreRead left bytes = IfSome left (λ all. bytes ≡ take READ_LIMIT all)
+abbrev pub AreBytesRead : Option (List ℕ) → List ℕ → Type 0
+AreBytesRead left bytes = IfSome left (λ all. bytes ≡ take READ_LIMIT all)
 
 -- what a run says by its answer, of what was left to read and of what was written before and after it, where this tells how a run
 -- of a script may end and with which report: the report of a run of the script that was read; or nothing written, and why; or,
 -- where a stream failed, a front of such a report
 abbrev pub TellsBy : (List ℕ → End → List ℕ → Type 0) → Option (List ℕ) → Option (List ℕ) → Option (List ℕ) → Result End RunFault → Type 0
-TellsBy Run left old new (Ok end) = (bytes : List ℕ) × (AreRead left bytes × ((text : List ℕ) × (Run bytes end text × Appends old new text)))
-TellsBy Run left old new (Err (Fault fault)) = Keeps old new × ((bytes : List ℕ) × (AreRead left bytes × Refuses bytes fault))
-TellsBy Run left old new (Err Stream) = Keeps old new ⊎ ((bytes : List ℕ) × (AreRead left bytes × ((end : End) × ((text : List ℕ) × (Run bytes end text × AppendsFront old new text)))))
+TellsBy Run left old new (Ok end) = (bytes : List ℕ) × (AreBytesRead left bytes × ((text : List ℕ) × (Run bytes end text × Appends old new text)))
+TellsBy Run left old new (Err (Fault fault)) = Keeps old new × ((bytes : List ℕ) × (AreBytesRead left bytes × Refuses bytes fault))
+TellsBy Run left old new (Err Stream) = Keeps old new ⊎ ((bytes : List ℕ) × (AreBytesRead left bytes × ((end : End) × ((text : List ℕ) × (Run bytes end text × AppendsFront old new text)))))
 
 -- the same of a run in rounds
 abbrev pub TellsRounds : Option (List ℕ) → Option (List ℕ) → Option (List ℕ) → Result End RunFault → Type 0

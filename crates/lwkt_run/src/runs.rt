@@ -6,7 +6,7 @@ ghost use Rattle.lwkt_machine.specs.Opened.{AreFew};
 ghost use Rattle.lwkt_run.specs.Judging.{ids_of};
 ghost use Rattle.lwkt_run.specs.Running.{kept_in_record};
 ghost use Rattle.lwkt_run.specs.Values.{is_tally, AreValuesOf};
-ghost use Rattle.lwkt_run.specs.Run.{opening_of_script, RunsInRounds, RunsAlong, RunsAt, IsJudgedBy, MayClose, IsTurnsRun, IsOrderRun, DeclinesAlong, RefusesAlong, end_told, HasRun, Declines, Refuses, TellsRounds};
+ghost use Rattle.lwkt_run.specs.Run.{opening_of_script, RunsInRounds, RunsAlong, RunsAt, IsJudgedBy, MayClose, IsTurnsRun, IsOrderRun, DeclinesAlong, RefusesAlong, end_told, HasRun, DeclinesRun, Refuses, TellsRounds};
 
 use crate::endings::{Left, left_by};
 use crate::lines::token_lines;
@@ -105,7 +105,7 @@ fn opened(alloc: Global, script: &Script) -> Result<State, Fault>
     ensures ok { IfOk result (λ state. state ≡ opening_of_script script.now) }
     ensures within { OnOk result (AreWithin script.now.cpus script.now.tokens script.now.messages) }
     ensures lawful { OnOk result (AllOpenLawfully script.now.tokens) }
-    ensures refused { IfErr result (λ fault. Declines script.now fault) }
+    ensures refused { IfErr result (λ fault. DeclinesRun script.now fault) }
 {
     State::open(
         alloc,
@@ -129,7 +129,7 @@ fn run_of(alloc: Global, script: &Script) -> Result<Made, Fault>
     ensures runs { IfOk result (λ made. RunsInRounds script.now made.left.threads.items (kept_in_record made.kept) made.trace.items made.left.last) }
     ensures threads { IfOk result (λ made. map (λ line. line.id) made.left.threads.items ≡ ids_of script.now.cpus script.now.threads) }
     ensures few { OnOk result (AreFew script.now.cpus script.now.threads) }
-    ensures refused { IfErr result (λ fault. Declines script.now fault) }
+    ensures refused { IfErr result (λ fault. DeclinesRun script.now fault) }
 {
     let mut machine = Machine::open(alloc, script)?;
     let mut trace = Vec::new(alloc);
@@ -147,7 +147,7 @@ fn run_along(alloc: Global, script: &Script, order: &[u8]) -> Result<Made, Fault
     ensures runs { IfOk result (λ made. RunsAlong script.now made.kept.order.items made.left.threads.items (kept_in_record made.kept) made.trace.items made.left.last) }
     ensures threads { IfOk result (λ made. map (λ line. line.id) made.left.threads.items ≡ ids_of script.now.cpus script.now.threads) }
     ensures few { OnOk result (AreFew script.now.cpus script.now.threads) }
-    ensures refused { IfErr result (λ fault. Declines script.now fault) }
+    ensures refused { IfErr result (λ fault. DeclinesRun script.now fault) }
 {
     let mut machine = Machine::open(alloc, script)?;
     let mut trace = Vec::new(alloc);
@@ -167,7 +167,7 @@ fn judged_run(alloc: Global, pace: Pace, script: Script, made: Made) -> Result<T
     ensures order { IfOk result (λ run. run.order ≡ made.kept.order) }
     ensures closes { IfOk result (λ run. MayClose pace script run.closing) }
     ensures judged { IfOk result (λ run. IsJudgedBy pace script run.closing run.order.items run.trace.items run.polls run.turns.items) }
-    ensures refused { IfErr result (λ fault. Declines script fault) }
+    ensures refused { IfErr result (λ fault. DeclinesRun script fault) }
 {
     let opening = opened(alloc, &script)?;
     let again = opened(alloc, &script)?;
@@ -199,7 +199,7 @@ pub fn turns_run_of(alloc: Global, script: Script) -> Result<TurnsRun, Fault>
     ensures script { IfOk result (λ run. run.script ≡ script) }
     ensures closes { IfOk result (λ run. MayClose (Pace.Rounds script.turns) script run.closing) }
     ensures judged { IfOk result (λ run. IsJudgedBy (Pace.Rounds script.turns) script run.closing run.order.items run.trace.items run.polls run.turns.items) }
-    ensures refused { IfErr result (λ fault. Declines script fault) }
+    ensures refused { IfErr result (λ fault. DeclinesRun script fault) }
 {
     let made = run_of(alloc, &script)?;
     let pace = Pace::Rounds(script.turns);

@@ -3,7 +3,7 @@ ghost use Rattle.std.specs.Prelude.{◌≡◌, ◌⊎◌, map, IfOk, IfErr, OnOk
 ghost use Rattle.lwkt_core.specs.Opening.{AreWithin, AllOpenLawfully};
 ghost use Rattle.lwkt_run.specs.Judging.{ids_of};
 ghost use Rattle.lwkt_run.specs.Values.{AreValuesOf};
-ghost use Rattle.lwkt_run.specs.Run.{Declines, Refuses};
+ghost use Rattle.lwkt_run.specs.Run.{DeclinesRun, Refuses};
 ghost use Rattle.lwkt_run.specs.Threaded.{EndsOnThreads, IsThreadRecord, HasThreadedRun, TellsOnThreads, lets_all};
 
 use crate::endings::{Left, left_by};
@@ -54,7 +54,7 @@ fn told_of<R: Threads + Sync, G: Gate + Sync>(
     ensures threads { IfOk result (λ told. map (λ line. line.id) told.left.threads.items ≡ ids_of script.now.cpus script.now.threads) }
     ensures within { OnOk result (AreWithin script.now.cpus script.now.tokens script.now.messages) }
     ensures lawful { OnOk result (AllOpenLawfully script.now.tokens) }
-    ensures refused { IfErr result (λ fault. Declines script.now fault) }
+    ensures refused { IfErr result (λ fault. DeclinesRun script.now fault) }
 {
     let machine = Machine::open(alloc, script)?;
     let limits = Limits {
@@ -120,7 +120,7 @@ fn record_of_script<R: Threads + Sync, G: Gate + Sync>(
     with_givers: bool,
 ) -> Result<ThreadRecord, Fault>
     ensures ok { IfOk result (λ kept. IsThreadRecord (G.answers gate.now) script.now kept) }
-    ensures refused { IfErr result (λ fault. Declines script.now fault) }
+    ensures refused { IfErr result (λ fault. DeclinesRun script.now fault) }
 {
     let told = told_of(rt, alloc, gate, script, with_givers)?;
     match record_of(alloc, gate, script, told) {
@@ -197,7 +197,7 @@ pub fn record_threads<R: Threads + Sync>(
     script: &Script,
 ) -> Result<ThreadRecord, Fault>
     ensures ok { IfOk result (λ kept. IsThreadRecord lets_all script.now kept) }
-    ensures refused { IfErr result (λ fault. Declines script.now fault) }
+    ensures refused { IfErr result (λ fault. DeclinesRun script.now fault) }
 {
     record_of_script(rt, alloc, &OpenGate, script, true)
 }

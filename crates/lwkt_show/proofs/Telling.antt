@@ -8,7 +8,7 @@ use Rattle.lwkt_report.specs.declared.streams.RunFault.TheVariants.{Fault, Strea
 use Rattle.lwkt_report.specs.Stream.{AppendsFront}
 use Rattle.lwkt_run.specs.declared.runs.End.{End}
 use Rattle.lwkt_run.proofs.RunLemmas.{tells_unread}
-use Rattle.lwkt_run.specs.Run.{AreRead, IsOrderRun, end_told, Refuses, RefusesAlong, TellsBy}
+use Rattle.lwkt_run.specs.Run.{AreBytesRead, IsOrderRun, end_told, Refuses, RefusesAlong, TellsBy}
 use Rattle.lwkt_show.specs.declared.options.Options.{Options}
 use Rattle.lwkt_show.specs.declared.programs.Outcome.TheVariants.{Past}
 use Rattle.lwkt_run.specs.declared.runs.TurnsRun.{TurnsRun}
@@ -19,22 +19,22 @@ keeps_itself : (o : Option (List ℕ)) → Keeps o o
 keeps_itself o = search rules
 
 -- where the bytes are refused nothing is written
-pub tells_refused : (Run : List ℕ → End → List ℕ → Type 0) (left old : Option (List ℕ)) (bytes read : List ℕ) (fault : Refusal) → read ≡ bytes → AreRead left bytes → Refuses read fault → TellsBy Run left old old (Err (Fault fault))
+pub tells_refused : (Run : List ℕ → End → List ℕ → Type 0) (left old : Option (List ℕ)) (bytes read : List ℕ) (fault : Refusal) → read ≡ bytes → AreBytesRead left bytes → Refuses read fault → TellsBy Run left old old (Err (Fault fault))
 tells_refused Run left old bytes read fault same are refuses =
     (keeps_itself old, (bytes, (are, subst (λ b. Refuses b fault) same refuses)))
 
 -- a report that was written whole
-pub tells_done : (Run : List ℕ → End → List ℕ → Type 0) (left old new : Option (List ℕ)) (bytes read text written : List ℕ) (end : End) → read ≡ bytes → written ≡ text → AreRead left bytes → Run read end text → Appends old new written → TellsBy Run left old new (Ok end)
+pub tells_done : (Run : List ℕ → End → List ℕ → Type 0) (left old new : Option (List ℕ)) (bytes read text written : List ℕ) (end : End) → read ≡ bytes → written ≡ text → AreBytesRead left bytes → Run read end text → Appends old new written → TellsBy Run left old new (Ok end)
 tells_done Run left old new bytes read text written end same same_text are run appends =
     (bytes, (are, (text, (subst (λ b. Run b end text) same run, subst (λ t. Appends old new t) same_text appends))))
 
 -- a report of which a front was written
-pub tells_front : (Run : List ℕ → End → List ℕ → Type 0) (left old new : Option (List ℕ)) (bytes read text written : List ℕ) (end : End) → read ≡ bytes → written ≡ text → AreRead left bytes → Run read end text → AppendsFront old new written → TellsBy Run left old new (Err Stream)
+pub tells_front : (Run : List ℕ → End → List ℕ → Type 0) (left old new : Option (List ℕ)) (bytes read text written : List ℕ) (end : End) → read ≡ bytes → written ≡ text → AreBytesRead left bytes → Run read end text → AppendsFront old new written → TellsBy Run left old new (Err Stream)
 tells_front Run left old new bytes read text written end same same_text are run front =
     inr (bytes, (are, (end, (text, (subst (λ b. Run b end text) same run, subst (λ t. AppendsFront old new t) same_text front)))))
 
 -- a run that ended before the first turn that was chosen: nothing is written
-pub tells_past : (options : Options) (left old : Option (List ℕ)) (bytes read : List ℕ) → read ≡ bytes → AreRead left bytes → IsPastIn options read → TellsShown options left old old (Ok Past)
+pub tells_past : (options : Options) (left old : Option (List ℕ)) (bytes read : List ℕ) → read ≡ bytes → AreBytesRead left bytes → IsPastIn options read → TellsShown options left old old (Ok Past)
 tells_past options left old bytes read same are past =
     (keeps_itself old, (bytes, (are, subst (λ b. IsPastIn options b) same past)))
 
@@ -43,7 +43,7 @@ pub is_none_of : (T : Type 0) (o : Option T) → o ≡ None → IsNone o
 is_none_of T o same = search rules
 
 -- some bytes are those that are read
-pub some_read : (left : Option (List ℕ)) → (bytes : List ℕ) × AreRead left bytes
+pub some_read : (left : Option (List ℕ)) → (bytes : List ℕ) × AreBytesRead left bytes
 some_read None = ([], tt)
 some_read (Some all) = (take READ_LIMIT all, refl)
 
@@ -57,12 +57,12 @@ along_unread order options left old fault why =
     ]
 
 -- where the bytes or the order are refused nothing is written
-pub along_refused : (order : List ℕ) (options : Options) (left old : Option (List ℕ)) (bytes read : List ℕ) (fault : Refusal) → read ≡ bytes → AreRead left bytes → RefusesAlong read order fault → TellsAlong order options left old old (Err (Fault fault))
+pub along_refused : (order : List ℕ) (options : Options) (left old : Option (List ℕ)) (bytes read : List ℕ) (fault : Refusal) → read ≡ bytes → AreBytesRead left bytes → RefusesAlong read order fault → TellsAlong order options left old old (Err (Fault fault))
 along_refused order options left old bytes read fault same are refuses =
     (keeps_itself old, (bytes, (are, subst (λ b. RefusesAlong b order fault) same refuses)))
 
 -- a run that ended before the first turn that was chosen
-pub along_past : (order : List ℕ) (options : Options) (left old : Option (List ℕ)) (bytes read : List ℕ) → read ≡ bytes → AreRead left bytes → IsPastAlong order options read → TellsAlong order options left old old (Ok Past)
+pub along_past : (order : List ℕ) (options : Options) (left old : Option (List ℕ)) (bytes read : List ℕ) → read ≡ bytes → AreBytesRead left bytes → IsPastAlong order options read → TellsAlong order options left old old (Ok Past)
 along_past order options left old bytes read same are past =
     (keeps_itself old, (bytes, (are, subst (λ b. IsPastAlong order options b) same past)))
 

@@ -5,7 +5,7 @@ use Rattle.lwkt_report.specs.declared.streams.RunFault.{RunFault}
 use Rattle.lwkt_report.specs.declared.streams.RunFault.TheVariants.{Fault, Stream}
 use Rattle.lwkt_report.specs.Complaint.{IsSaid}
 use Rattle.lwkt_report.specs.Stream.{BlamesFailed}
-use Rattle.lwkt_run.specs.Run.{AreRead, IsTurnsRun, IsOrderRun, RefusesAlong, end_told, TellsBy, exit_status}
+use Rattle.lwkt_run.specs.Run.{AreBytesRead, IsTurnsRun, IsOrderRun, RefusesAlong, end_told, TellsBy, exit_status}
 use Rattle.lwkt_run.specs.Threaded.{IsThreadRecord, lets_all}
 use Rattle.lwkt_run.specs.declared.runs.End.{End}
 use Rattle.lwkt_run.specs.declared.runs.TurnsRun.{TurnsRun}
@@ -64,7 +64,7 @@ pub record IsPastIn (options : Options) (bytes : List ℕ) : Type 0 where
 -- run is; or nothing is written, since it ended before the first turn that was chosen
 abbrev pub TellsShown : Options → Option (List ℕ) → Option (List ℕ) → Option (List ℕ) → Result Outcome RunFault → Type 0
 TellsShown options left old new (Ok (Shown end)) = TellsBy (IsShown options) left old new (Ok end)
-TellsShown options left old new (Ok Past) = Keeps old new × ((bytes : List ℕ) × (AreRead left bytes × IsPastIn options bytes))
+TellsShown options left old new (Ok Past) = Keeps old new × ((bytes : List ℕ) × (AreBytesRead left bytes × IsPastIn options bytes))
 TellsShown options left old new (Err fault) = TellsBy (IsShown options) left old new (Err fault)
 
 -- the status of an outcome: that of a run, and 1 where nothing is shown
@@ -110,8 +110,8 @@ pub record IsPastAlong (order : List ℕ) (options : Options) (bytes : List ℕ)
 -- a processor that isn't there
 abbrev pub TellsAlong : List ℕ → Options → Option (List ℕ) → Option (List ℕ) → Option (List ℕ) → Result Outcome RunFault → Type 0
 TellsAlong order options left old new (Ok (Shown end)) = TellsBy (IsShownAlong order options) left old new (Ok end)
-TellsAlong order options left old new (Ok Past) = Keeps old new × ((bytes : List ℕ) × (AreRead left bytes × IsPastAlong order options bytes))
-TellsAlong order options left old new (Err (Fault fault)) = Keeps old new × ((bytes : List ℕ) × (AreRead left bytes × RefusesAlong bytes order fault))
+TellsAlong order options left old new (Ok Past) = Keeps old new × ((bytes : List ℕ) × (AreBytesRead left bytes × IsPastAlong order options bytes))
+TellsAlong order options left old new (Err (Fault fault)) = Keeps old new × ((bytes : List ℕ) × (AreBytesRead left bytes × RefusesAlong bytes order fault))
 TellsAlong order options left old new (Err Stream) = TellsBy (IsShownAlong order options) left old new (Err Stream)
 
 -- what the program does where its arguments are this order and these options

@@ -10,7 +10,7 @@ use Rattle.lwkt_report.specs.declared.streams.RunFault.{RunFault}
 use Rattle.lwkt_report.specs.declared.streams.RunFault.TheVariants.{Fault, Stream}
 use Rattle.lwkt_report.specs.Stream.{BlamesFailed}
 use Rattle.lwkt_run.proofs.RunLemmas.{tells_unread}
-use Rattle.lwkt_run.specs.Run.{AreRead}
+use Rattle.lwkt_run.specs.Run.{AreBytesRead}
 use Rattle.lwkt_script.specs.declared.scripts.Script.{Script}
 use Rattle.lwkt_script.specs.Format.{script_of}
 use Rattle.lwkt_show.specs.declared.options.Options.{Options}
@@ -101,7 +101,7 @@ no_json : (bytes : List ℕ) → is_text bytes ≡ true → script_of bytes ≡ 
 no_json bytes is = no_json_of (script_of bytes) (both (begins_as_text bytes) (is_no_json (script_of bytes)) (both (nat_le (length bytes) 1048576) (begins_as_text bytes && is_no_json (script_of bytes)) is))
 
 -- bytes that are few are all read
-are_read : (bytes : List ℕ) → length bytes ≤ READ_LIMIT → AreRead (Some bytes) bytes
+are_read : (bytes : List ℕ) → length bytes ≤ READ_LIMIT → AreBytesRead (Some bytes) bytes
 are_read bytes few = sym (take_all READ_LIMIT bytes few)
 
 -- with a text that is refused it is as with bytes that are no JSON
@@ -112,7 +112,7 @@ pub threads_wrong : (bytes : List ℕ) (source sink : Bool) (old : Option (List 
 threads_wrong bytes source sink old is few = (Err (Fault (ScriptFault 0)), ((keeps_itself old, (bytes, (are_read bytes few, no_json bytes is))), (blames_as source sink (Fault (ScriptFault 0)) (λ e. absurd (never_stream e)), refl)))
 
 -- some bytes are those that are read
-pub some_read : (left : Option (List ℕ)) → (bytes : List ℕ) × AreRead left bytes
+pub some_read : (left : Option (List ℕ)) → (bytes : List ℕ) × AreBytesRead left bytes
 some_read None = ([], tt)
 some_read (Some all) = (take READ_LIMIT all, refl)
 

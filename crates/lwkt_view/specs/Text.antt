@@ -1,7 +1,7 @@
 -- What is shown of what was read, where this may be a text (own).
 use Rattle.std.specs.Prelude.{◌≡◌, ◌⊎◌, ℕ, Bool, List, Option, Some, Result, Ok, Err}
 use Rattle.std.specs.Io.KnownBytes.{Keeps}
-use Rattle.lwkt_run.specs.Run.{AreRead}
+use Rattle.lwkt_run.specs.Run.{AreBytesRead}
 use Rattle.lwkt_script.specs.Format.{script_of}
 use Rattle.lwkt_text.specs.declared.readers.Reading.{Reading}
 use Rattle.lwkt_text.specs.declared.wrongs.Wrong.{Wrong}
@@ -25,4 +25,4 @@ ShowsBytes Shows bytes source_failed sink_failed old new status = ByForm (is_tex
 
 -- what it does with what was left to read
 abbrev pub ShowsRead : (Bool → Bool → Option (List ℕ) → Option (List ℕ) → Option (List ℕ) → ℕ → Type 0) → Bool → Bool → Option (List ℕ) → Option (List ℕ) → Option (List ℕ) → ℕ → Type 0
-ShowsRead Shows source_failed sink_failed left old new status = (bytes : List ℕ) × (AreRead left bytes × ShowsBytes Shows bytes source_failed sink_failed old new status)
+ShowsRead Shows source_failed sink_failed left old new status = (bytes : List ℕ) × (AreBytesRead left bytes × ShowsBytes Shows bytes source_failed sink_failed old new status)
