@@ -18,7 +18,8 @@ pub struct Page {
 impl Page {
     /// An empty text.
     pub fn new(alloc: Global) -> Page
-        ensures { string_bytes result.text ≡ [] }
+        ensures empty { string_bytes result.text ≡ [] }
+        ensures kept { result.lost ≡ None }
     {
         Page {
             text: String::new(alloc),

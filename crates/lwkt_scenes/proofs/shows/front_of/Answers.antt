@@ -13,6 +13,6 @@ returns-in-Ok c =
     c.in_turns-turns.ensures.first c.in_turns-turns.ensures.last c.show_turns-from.ensures c.show_choice.ensures in
     record {
       begins = begins (AreTurnLines c.args.chosen (option_copied run.order) run.script.now.cpus run.polls.now run.turns.now) c.new-out.result c.show_choice.new.out c.add_page.new.self (string_bytes c.show_behind.new.out.text) (string_bytes c.in-Ok.text)
-          c.new-out.ensures told c.add_page.ensures.text c.in-Ok.ensures.0 c.in-Ok.ensures.1;
+          c.new-out.ensures.empty told c.add_page.ensures.text c.in-Ok.ensures.0 c.in-Ok.ensures.1;
       refused = tt;
     }
