@@ -8,7 +8,7 @@ use Rattle.lwkt_base.specs.Holding.{Holding, holding_of}
 use Rattle.lwkt_core.specs.declared.events.Event.{Event}
 use Rattle.lwkt_core.specs.declared.events.Event.TheVariants.{Load, Take, Share, Again, Mark, GiveOne, GiveClean, GiveWritten, Read, Write, ReadBlob, WriteBlob, Send, TakeMsg, DropMsg, Reply, Reap, Abort}
 use Rattle.lwkt_core.specs.Events.{cpu_of}
-use Rattle.lwkt_core.proofs.HistoryLemmas.{own-nil}
+use Rattle.lwkt_table.proofs.HistoryLemmas.{own-nil}
 use Rattle.lwkt_bank.specs.declared.seats.CpuSeat.{CpuSeat}
 use Rattle.lwkt_bank.specs.Seats.{holding}
 use Rattle.lwkt_hold.specs.Fronts.{IsFront}

@@ -16,8 +16,8 @@ use Rattle.lwkt_base.specs.declared.names.TokId.{TokId}
 use Rattle.lwkt_base.specs.Holding.{holding_of}
 use Rattle.lwkt_core.specs.declared.events.Event.{Event}
 use Rattle.lwkt_core.specs.declared.events.Event.TheVariants.{Load, Take, Share, Again, Mark, GiveOne, GiveClean, GiveWritten, Read, Write, ReadBlob, WriteBlob, Send, TakeMsg, DropMsg, Reply, Reap, Abort}
-use Rattle.lwkt_core.specs.History.{AreOwn, Grows, events_in}
-use Rattle.lwkt_core.proofs.HistoryLemmas.{own-nil, own-append, Grows-append, events_in-append}
+use Rattle.lwkt_table.specs.History.{AreOwn, Grows, events_in}
+use Rattle.lwkt_table.proofs.HistoryLemmas.{own-nil, own-append, Grows-append, events_in-append}
 use Rattle.lwkt_bank.specs.declared.seats.CpuSeat.{CpuSeat}
 use Rattle.lwkt_bank.specs.Seats.{BankId, holding}
 use Rattle.lwkt_hold.specs.declared.answers.Acquired.{Acquired}

@@ -1,8 +1,8 @@
 -- What a trace has of messages, beside its events of tokens.
 use Rattle.std.specs.Prelude.{◌≡◌, Bool, List, [], ◌++◌, filter, not}
 use Rattle.lwkt_core.specs.declared.events.Event.{Event}
-use Rattle.lwkt_core.specs.declared.seats.Deed.{Deed}
-use Rattle.lwkt_core.specs.History.{AreOwn, Grows, events_in}
+use Rattle.lwkt_table.specs.declared.seats.Deed.{Deed}
+use Rattle.lwkt_table.specs.History.{AreOwn, Grows, events_in}
 use Rattle.lwkt_hold.specs.Steps.{is_of_token}
 use Rattle.lwkt_msg.specs.Desks.{Desk, desk_cpu, past_of, IsSameDesk}
 

@@ -2,11 +2,11 @@ use Rattle.std.proofs.Common.{eqb, ◌≡◌, ◌≢◌, ℕ, ◌<◌, Bool, tru
 use Rattle.std.specs.Prelude.{slice_index}
 use Rattle.std.proofs.lemmas.Bool.{eqb-true, eqb-false}
 use Rattle.std.proofs.lemmas.List.{set-get_or}
-use Rattle.lwkt_core.proofs.SeatingLemmas.{set_again}
+use Rattle.lwkt_table.proofs.SeatingLemmas.{set_again}
 use mathlib.Core.Option.{some, none}
 use lib.ListN.{get_elem?}
 use Rattle.atomic_table.specs.Table.{Act, Step, Me, keeps, takes, gives, chain, rest, put_back, carried_after, homes_after, Valid, stepped, Allows}
-use Rattle.lwkt_core.specs.declared.seats.Deed.{Deed}
+use Rattle.lwkt_table.specs.declared.seats.Deed.{Deed}
 use Rattle.lwkt_bank.specs.declared.views.Plan.{Plan}
 use Rattle.lwkt_bank.specs.declared.views.View.{View}
 use Rattle.lwkt_bank.specs.Views.{RecordOf, at}

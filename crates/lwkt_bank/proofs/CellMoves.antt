@@ -2,7 +2,7 @@ use Rattle.std.proofs.Common.{Bool, true, false, cond, ◌≡◌, ℕ, zero, suc
 use Rattle.std.specs.Prelude.{slice_index}
 use Rattle.lwkt_base.specs.declared.names.CpuId.{CpuId}
 use Rattle.lwkt_base.specs.declared.sections.Section.{Section}
-use Rattle.lwkt_core.specs.declared.seats.Deed.{Deed}
+use Rattle.lwkt_table.specs.declared.seats.Deed.{Deed}
 use Rattle.lwkt_bank.specs.declared.seats.CpuSeat.{CpuSeat}
 use Rattle.lwkt_bank.specs.declared.views.TokenEntry.{TokenEntry}
 use Rattle.lwkt_bank.specs.Views.{is_touched, read, stored, raised, ended, ended_section}

@@ -2,10 +2,10 @@ use Rattle.std.proofs.Common.{eq-eqb, ⊎_elim, Bool, true, cond, ◌≡◌, ◌
 use Rattle.std.specs.Prelude.{slice_get, slice_index, All, Some, is_some}
 use Rattle.atomic_table.specs.declared.shared.Seat.{Seat}
 use Rattle.lwkt_base.specs.declared.names.CpuId.{CpuId}
-use Rattle.lwkt_core.specs.declared.seats.SeatKind.TheVariants.{Of}
-use Rattle.lwkt_core.specs.declared.seats.Deed.{Deed}
-use Rattle.lwkt_core.specs.History.{AreOthers, AreOwn, Grows}
-use Rattle.lwkt_core.proofs.HistoryLemmas.{own-nil, own-cons, own-append, Grows-append}
+use Rattle.lwkt_table.specs.declared.seats.SeatKind.TheVariants.{Of}
+use Rattle.lwkt_table.specs.declared.seats.Deed.{Deed}
+use Rattle.lwkt_table.specs.History.{AreOthers, AreOwn, Grows}
+use Rattle.lwkt_table.proofs.HistoryLemmas.{own-nil, own-cons, own-append, Grows-append}
 use Rattle.lwkt_bank.specs.declared.views.Plan.{Plan}
 use Rattle.lwkt_bank.specs.declared.views.KnownCell.{KnownCell}
 use Rattle.lwkt_bank.specs.declared.views.TokenEntry.{TokenEntry}

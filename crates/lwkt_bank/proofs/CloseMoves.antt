@@ -8,12 +8,12 @@ use Rattle.lwkt_base.specs.declared.laws.Law.{Law}
 use Rattle.lwkt_base.specs.declared.holdings.Held.TheVariants.{Nothing}
 use Rattle.lwkt_base.specs.Holding.{is_exclusive, references_in}
 use Rattle.lwkt_base.specs.Law.{Obeys, IsTallied}
-use Rattle.lwkt_core.specs.declared.seats.SeatKind.{SeatKind}
-use Rattle.lwkt_core.specs.declared.seats.SeatKind.TheVariants.{Clerk, Spent}
+use Rattle.lwkt_table.specs.declared.seats.SeatKind.{SeatKind}
+use Rattle.lwkt_table.specs.declared.seats.SeatKind.TheVariants.{Clerk, Spent}
 use Rattle.lwkt_core.specs.declared.tokens.Token.{Token}
 use Rattle.lwkt_core.specs.Tokens.{held_by, length_of, IsFree, IsShort}
 use Rattle.lwkt_core.specs.Picture.{picture_of}
-use Rattle.lwkt_core.proofs.SeatingLemmas.{at_map, of_map, total-only, AreSeated-closed}
+use Rattle.lwkt_table.proofs.SeatingLemmas.{at_map, of_map, total-only, AreSeated-closed}
 use Rattle.lwkt_core.proofs.MachineMoves.{references_le}
 use Rattle.lwkt_bank.specs.declared.views.Plan.{Plan}
 use Rattle.lwkt_bank.specs.declared.views.TokenEntry.{TokenEntry}

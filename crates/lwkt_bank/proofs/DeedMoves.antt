@@ -14,14 +14,14 @@ use Rattle.lwkt_base.specs.Holding.{is_held, is_exclusive}
 use Rattle.lwkt_core.specs.declared.events.Event.{Event}
 use Rattle.lwkt_core.specs.declared.events.Event.TheVariants.{Load, Take, Share, Again, Mark, GiveOne, GiveClean, GiveWritten, Read, Write, ReadBlob, WriteBlob}
 use Rattle.lwkt_core.specs.declared.events.Place.TheVariants.{AtToken}
-use Rattle.lwkt_core.specs.declared.seats.SeatKind.TheVariants.{Of}
-use Rattle.lwkt_core.specs.declared.seats.Operation.{Operation}
-use Rattle.lwkt_core.specs.declared.seats.Operation.TheVariants.{Load as Loads, Exchange, Add, Sub, Or}
-use Rattle.lwkt_core.specs.declared.seats.Deed.{Deed}
+use Rattle.lwkt_table.specs.declared.seats.SeatKind.TheVariants.{Of}
+use Rattle.lwkt_table.specs.declared.seats.Operation.{Operation}
+use Rattle.lwkt_table.specs.declared.seats.Operation.TheVariants.{Load as Loads, Exchange, Add, Sub, Or}
+use Rattle.lwkt_table.specs.declared.seats.Deed.{Deed}
 use Rattle.lwkt_core.specs.Events.{cpu_of, place_of}
 use Rattle.lwkt_core.specs.Tokens.{IsNotLastExclusive}
-use Rattle.lwkt_core.specs.History.{left_by, told_by, IsPastOf}
-use Rattle.lwkt_core.proofs.ViewLemmas.{Views-between, Views-noted}
+use Rattle.lwkt_table.specs.History.{left_by, told_by, IsPastOf}
+use Rattle.lwkt_table.proofs.ViewLemmas.{Views-between, Views-noted}
 use Rattle.lwkt_bank.specs.declared.views.Plan.{Plan}
 use Rattle.lwkt_bank.specs.declared.views.TokenEntry.{TokenEntry}
 use Rattle.lwkt_bank.specs.declared.views.View.{View}

@@ -9,12 +9,12 @@ use lib.ListN.{get_elem?}
 use Rattle.lwkt_base.specs.declared.names.CpuId.{CpuId}
 use Rattle.lwkt_base.specs.declared.holdings.Held.TheVariants.{Nothing}
 use Rattle.lwkt_base.specs.Holding.{is_held}
-use Rattle.lwkt_core.specs.declared.seats.SeatKind.{SeatKind}
-use Rattle.lwkt_core.specs.declared.seats.SeatKind.TheVariants.{Clerk, Of, Spent}
+use Rattle.lwkt_table.specs.declared.seats.SeatKind.{SeatKind}
+use Rattle.lwkt_table.specs.declared.seats.SeatKind.TheVariants.{Clerk, Of, Spent}
 use Rattle.lwkt_core.specs.declared.tokens.Token.{Token}
 use Rattle.lwkt_core.specs.Tokens.{held_by}
-use Rattle.lwkt_core.specs.Seating.{AreSeated, after_made, after_back, next_seat}
-use Rattle.lwkt_core.proofs.SeatingLemmas.{at_set, at_snoc, at_longer, set_else, at_map, of_map, map-set, map-snoc, total-set, total-snoc, AreSeated-split, AreSeated-join, AreSeated-below}
+use Rattle.lwkt_table.specs.Seating.{AreSeated, after_made, after_back, next_seat}
+use Rattle.lwkt_table.proofs.SeatingLemmas.{at_set, at_snoc, at_longer, set_else, at_map, of_map, map-set, map-snoc, total-set, total-snoc, AreSeated-split, AreSeated-join, AreSeated-below}
 use Rattle.lwkt_bank.specs.declared.views.Plan.{Plan}
 use Rattle.lwkt_bank.specs.declared.views.Added.{Added}
 use Rattle.lwkt_bank.specs.declared.views.KnownCell.{KnownCell}

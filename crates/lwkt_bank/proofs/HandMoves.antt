@@ -5,7 +5,7 @@ use mathlib.Core.Option.{Option, some, none, some-injective, some-ne-none}
 use native.Mathlib.Decide.{ℕ_discrete}
 use lib.ListN.{get_elem?}
 use Rattle.atomic_table.specs.Table.{Act, keeps, takes, gives, chain, carried_after, homes_after, Valid}
-use Rattle.lwkt_core.proofs.SeatingLemmas.{set_here, set_else, set_again, inside}
+use Rattle.lwkt_table.proofs.SeatingLemmas.{set_here, set_else, set_again, inside}
 use Rattle.std.specs.Prelude.{◌||◌}
 use Rattle.std.specs.List.{list_any}
 use Rattle.std.proofs.lemmas.Bool.{eqb-true, false≢true}

@@ -13,18 +13,19 @@ use Rattle.lwkt_base.specs.declared.laws.Law.TheVariants.{Any, Sum, Order, Cap, 
 use Rattle.lwkt_base.specs.declared.holdings.Held.TheVariants.{Nothing}
 use Rattle.lwkt_core.specs.declared.tokens.Token.{Token}
 use Rattle.lwkt_core.specs.declared.events.Event.{Event}
-use Rattle.lwkt_core.specs.declared.seats.Deed.{Deed}
+use Rattle.lwkt_table.specs.declared.seats.Deed.{Deed}
 use Rattle.lwkt_core.specs.Tokens.{held_by, length_of, IsShort}
 use Rattle.lwkt_core.specs.Machine.{Machine}
-use Rattle.lwkt_core.specs.RunSections.{rows_of, sections_by}
+use Rattle.lwkt_core.specs.RunSections.{rows_of}
+use Rattle.lwkt_table.specs.Sections.{sections_by}
 use Rattle.lwkt_core.specs.SectionChain.{RowsAt, AreSectionChains}
 use Rattle.lwkt_core.proofs.RunChainLemmas.{IsSettled, zipped}
-use Rattle.lwkt_core.proofs.SectionParts.{parts_chains}
+use Rattle.lwkt_table.proofs.SectionParts.{parts_chains}
 use Rattle.lwkt_base.specs.Holding.{is_exclusive}
 use Rattle.lwkt_core.specs.Trace.{Run, shown_tallies}
-use Rattle.lwkt_core.specs.History.{AreOthers, IsPastOf, events_by, steps_by}
-use Rattle.lwkt_core.proofs.HistoryLemmas.{Passes-run, events_by-past, steps_by-past}
-use Rattle.lwkt_core.proofs.ViewLemmas.{Views-part, Views-others}
+use Rattle.lwkt_table.specs.History.{AreOthers, IsPastOf, events_by, steps_by}
+use Rattle.lwkt_table.proofs.HistoryLemmas.{Passes-run, events_by-past, steps_by-past}
+use Rattle.lwkt_table.proofs.ViewLemmas.{Views-part, Views-others}
 use Rattle.lwkt_bank.specs.Told.{IsDone, first_token, first_machine}
 use Rattle.lwkt_base.specs.Law.{Obeys, IsTallied}
 use Rattle.lwkt_bank.specs.declared.views.Plan.{Plan}
@@ -33,9 +34,9 @@ use Rattle.lwkt_bank.proofs.CloseMoves.{Settled, settled}
 use Rattle.lwkt_bank.proofs.SeatMoves.{tally-le}
 use Rattle.lwkt_bank.proofs.ChangeMoves.{who_is}
 use Rattle.lwkt_base.specs.declared.names.CpuId.{CpuId}
-use Rattle.lwkt_core.specs.declared.seats.SeatKind.{SeatKind}
-use Rattle.lwkt_core.specs.declared.seats.SeatKind.TheVariants.{Clerk, Of, Spent}
-use Rattle.lwkt_core.proofs.SeatingLemmas.{total-snoc}
+use Rattle.lwkt_table.specs.declared.seats.SeatKind.{SeatKind}
+use Rattle.lwkt_table.specs.declared.seats.SeatKind.TheVariants.{Clerk, Of, Spent}
+use Rattle.lwkt_table.proofs.SeatingLemmas.{total-snoc}
 use Rattle.lwkt_bank.specs.declared.views.Added.{Added}
 use Rattle.lwkt_bank.specs.declared.views.KnownCell.{KnownCell}
 use Rattle.lwkt_bank.specs.declared.views.TokenEntry.{TokenEntry}
@@ -43,7 +44,7 @@ use Rattle.lwkt_bank.specs.declared.views.View.{View}
 use Rattle.lwkt_bank.specs.declared.seats.CpuSeat.{CpuSeat}
 use Rattle.lwkt_bank.specs.declared.kept.Kept.{Kept}
 use Rattle.lwkt_bank.specs.Views.{RecordOf, at, amount, generation_in, page_of, known_of, known_blob_of, both_of, joined}
-use Rattle.lwkt_core.specs.Seating.{after_back}
+use Rattle.lwkt_table.specs.Seating.{after_back}
 use Rattle.lwkt_bank.specs.Notes.{note_at, clerk_number}
 use Rattle.lwkt_bank.specs.Seats.{BankId, id_of_desk, entry, past_of, events_of, steps_of}
 use Rattle.lwkt_bank.specs.Gathered.{written_by, added_by, IsStill, IsClosedToken, Ends, IsHistory, IsClosed}

@@ -9,21 +9,21 @@ use Rattle.lwkt_core.specs.declared.events.Event.{Event}
 use Rattle.lwkt_core.specs.declared.events.Event.TheVariants.{Load, Take, Share, Again, Mark, GiveOne, GiveClean, GiveWritten, Read, Write, ReadBlob, WriteBlob, Send, TakeMsg, DropMsg, Reply, Reap, Abort}
 use Rattle.lwkt_core.specs.declared.events.Place.{Place}
 use Rattle.lwkt_core.specs.declared.events.Place.TheVariants.{AtToken}
-use Rattle.lwkt_core.specs.declared.seats.WordStep.{WordStep}
-use Rattle.lwkt_core.specs.declared.seats.Deed.{Deed}
+use Rattle.lwkt_table.specs.declared.seats.WordStep.{WordStep}
+use Rattle.lwkt_table.specs.declared.seats.Deed.{Deed}
 use Rattle.lwkt_core.specs.declared.tokens.Token.{Token}
 use Rattle.lwkt_core.specs.Events.{place_of}
 use Rattle.lwkt_core.specs.Tokens.{TokenNeeds, token_after}
 use Rattle.lwkt_core.specs.Picture.{picture_of}
 use Rattle.lwkt_core.specs.Machine.{Machine, machine, PlaceNeeds, Happens, after_at}
 use Rattle.lwkt_core.specs.Trace.{Run}
-use Rattle.lwkt_core.specs.History.{IsStepOver, left_by, told_by, Page, Chronicle}
+use Rattle.lwkt_table.specs.History.{IsStepOver, left_by, told_by, Page, Chronicle}
 use Rattle.lwkt_core.proofs.MachineMoves.{changed_at}
-use Rattle.lwkt_core.proofs.HistoryLemmas.{Passes-run, events_by-past, steps_by-past}
-use Rattle.lwkt_core.proofs.ChronicleLemmas.{Chronicle-same, Chronicle-decides}
-use Rattle.lwkt_core.proofs.SeatingLemmas.{set_again, at_map, map-set}
-use Rattle.lwkt_core.proofs.ViewLemmas.{Views-between, Views-was_done}
-use Rattle.lwkt_clerk.proofs.GrownMoves.{Views-were_done}
+use Rattle.lwkt_table.proofs.HistoryLemmas.{Passes-run, events_by-past, steps_by-past}
+use Rattle.lwkt_table.proofs.ChronicleLemmas.{Chronicle-same, Chronicle-decides}
+use Rattle.lwkt_table.proofs.SeatingLemmas.{set_again, at_map, map-set}
+use Rattle.lwkt_table.proofs.ViewLemmas.{Views-between, Views-was_done}
+use Rattle.lwkt_table.proofs.GrownMoves.{Views-were_done}
 use Rattle.lwkt_bank.specs.declared.views.Plan.{Plan}
 use Rattle.lwkt_bank.specs.Views.{named, page_of}
 use Rattle.lwkt_bank.specs.Rule.{moved, Bench, Rule, token_word, cell_word, plan_at, token_at, no_token}

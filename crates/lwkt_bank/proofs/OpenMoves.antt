@@ -12,16 +12,16 @@ use Rattle.lwkt_base.specs.declared.laws.Law.TheVariants.{Any, Tally}
 use Rattle.lwkt_base.specs.declared.holdings.Held.TheVariants.{Nothing}
 use Rattle.lwkt_base.specs.declared.openings.TokSpec.{TokSpec}
 use Rattle.lwkt_base.specs.TokenWord.{word_of}
-use Rattle.lwkt_core.specs.declared.seats.SeatKind.TheVariants.{Clerk, Spent}
+use Rattle.lwkt_table.specs.declared.seats.SeatKind.TheVariants.{Clerk, Spent}
 use Rattle.lwkt_core.specs.declared.tokens.Token.{Token}
 use Rattle.lwkt_core.specs.Picture.{picture_of}
 use Rattle.lwkt_core.specs.Opening.{opened_token, opening, AreWithin, AllOpenLawfully, IsTokenWithin}
 use Rattle.lwkt_core.proofs.OpeningLemmas.{IsSafe-opening}
-use Rattle.lwkt_core.proofs.SeatingLemmas.{AreSeated-opening, at_map}
+use Rattle.lwkt_table.proofs.SeatingLemmas.{AreSeated-opening, at_map}
 use Rattle.lwkt_bank.specs.declared.views.Plan.{Plan}
 use Rattle.lwkt_bank.specs.declared.views.View.{View}
 use Rattle.lwkt_bank.specs.Views.{RecordOf, blank, first_view, new_seat, one_generation}
-use Rattle.lwkt_core.specs.Seating.{next_seat}
+use Rattle.lwkt_table.specs.Seating.{next_seat}
 use Rattle.lwkt_bank.specs.declared.notes.TokenNote.{TokenNote}
 use Rattle.lwkt_bank.specs.Notes.{seat_number, no_note, IsNoted, Keeps}
 use Rattle.lwkt_bank.specs.Rule.{token_word, cell_word, law_word, param_word, law_number, Seen, column, held_by_kind, Knows, ShowsToken, lies_in, Rule, plan_at, token_at, no_plan, no_token}

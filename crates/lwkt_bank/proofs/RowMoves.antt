@@ -11,8 +11,8 @@ use Rattle.lwkt_base.specs.Holding.{is_held}
 use Rattle.lwkt_bank.specs.declared.views.TokenEntry.{TokenEntry}
 use Rattle.lwkt_bank.specs.declared.seats.CpuSeat.{CpuSeat}
 use Rattle.lwkt_base.specs.declared.names.CpuId.{CpuId}
-use Rattle.lwkt_core.specs.declared.seats.Deed.{Deed}
-use Rattle.lwkt_core.specs.History.{Grows}
+use Rattle.lwkt_table.specs.declared.seats.Deed.{Deed}
+use Rattle.lwkt_table.specs.History.{Grows}
 use Rattle.lwkt_bank.specs.Views.{is_touched, touching, stored}
 use Rattle.lwkt_bank.specs.Deeds.{writes, writes_all, writes_blob_if}
 use Rattle.lwkt_bank.specs.Rule.{plan_at}

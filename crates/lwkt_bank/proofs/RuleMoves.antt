@@ -5,8 +5,8 @@ use Rattle.std.proofs.lemmas.Option.{slice_get-get_or}
 use mathlib.Core.Option.{Option, some}
 use lib.ListN.{get_elem?}
 use Rattle.lwkt_base.specs.declared.names.CpuId.{CpuId}
-use Rattle.lwkt_core.specs.declared.seats.SeatKind.{SeatKind}
-use Rattle.lwkt_core.specs.declared.seats.SeatKind.TheVariants.{Of, Spent}
+use Rattle.lwkt_table.specs.declared.seats.SeatKind.{SeatKind}
+use Rattle.lwkt_table.specs.declared.seats.SeatKind.TheVariants.{Of, Spent}
 use Rattle.lwkt_core.specs.declared.tokens.Token.{Token}
 use Rattle.lwkt_core.specs.declared.events.Event.{Event}
 use Rattle.lwkt_core.specs.declared.events.Place.{Place}
@@ -14,9 +14,9 @@ use Rattle.lwkt_core.specs.declared.events.Place.TheVariants.{AtToken}
 use Rattle.lwkt_core.specs.Events.{cpu_of, place_of, adds_reference}
 use Rattle.lwkt_core.specs.Tokens.{held_by, IsSafeToken, TokenNeeds, token_after}
 use Rattle.lwkt_core.specs.Machine.{Machine, machine, Needs, PlaceNeeds, references_of, Happens, after}
-use Rattle.lwkt_core.specs.Seating.{AreSeated}
+use Rattle.lwkt_table.specs.Seating.{AreSeated}
 use Rattle.lwkt_core.proofs.MachineMoves.{IsSafe_left, changed_at, after_token}
-use Rattle.lwkt_core.proofs.SeatingLemmas.{at_set, set_again, at_map, of_map, map-set, AreSeated-there}
+use Rattle.lwkt_table.proofs.SeatingLemmas.{at_set, set_again, at_map, of_map, map-set, AreSeated-there}
 use Rattle.lwkt_bank.specs.declared.views.Plan.{Plan}
 use Rattle.lwkt_bank.specs.declared.views.View.{View}
 use Rattle.lwkt_bank.specs.Views.{at, count_from, held_of}

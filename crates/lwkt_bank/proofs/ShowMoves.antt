@@ -6,12 +6,12 @@ use lib.ListN.{get_elem?}
 use Rattle.lwkt_base.specs.declared.names.CpuId.{CpuId}
 use Rattle.lwkt_base.specs.declared.holdings.Held.TheVariants.{Nothing}
 use Rattle.lwkt_base.specs.TokenWord.{word_of}
-use Rattle.lwkt_core.specs.declared.seats.SeatKind.{SeatKind}
-use Rattle.lwkt_core.specs.declared.seats.SeatKind.TheVariants.{Clerk, Of, Spent}
+use Rattle.lwkt_table.specs.declared.seats.SeatKind.{SeatKind}
+use Rattle.lwkt_table.specs.declared.seats.SeatKind.TheVariants.{Clerk, Of, Spent}
 use Rattle.lwkt_core.specs.declared.tokens.Token.{Token}
 use Rattle.lwkt_core.specs.Tokens.{held_by, tally_of}
 use Rattle.lwkt_core.specs.Picture.{picture_of}
-use Rattle.lwkt_core.proofs.SeatingLemmas.{at_set, set_here, set_else, inside, total-set}
+use Rattle.lwkt_table.proofs.SeatingLemmas.{at_set, set_here, set_else, inside, total-set}
 use Rattle.lwkt_bank.specs.declared.views.Plan.{Plan}
 use Rattle.lwkt_bank.specs.declared.views.TokenEntry.{TokenEntry}
 use Rattle.lwkt_bank.specs.Views.{amount}

@@ -2,13 +2,13 @@ use Rattle.std.proofs.Common.{inl, inr, ◌≡◌, ⊎_elim, ℕ, List, [], ◌�
 use Rattle.std.specs.Prelude.{slice_index}
 use mathlib.Core.Option.{Option}
 use lib.ListN.{get_elem?}
-use Rattle.lwkt_core.specs.declared.seats.SeatKind.{SeatKind}
-use Rattle.lwkt_core.specs.declared.seats.SeatKind.TheVariants.{Spent}
+use Rattle.lwkt_table.specs.declared.seats.SeatKind.{SeatKind}
+use Rattle.lwkt_table.specs.declared.seats.SeatKind.TheVariants.{Spent}
 use Rattle.lwkt_core.specs.declared.tokens.Token.{Token}
-use Rattle.lwkt_core.specs.Seating.{AreSeated}
-use Rattle.lwkt_core.specs.History.{Chronicle}
-use Rattle.lwkt_core.proofs.SeatingLemmas.{at_snoc, at_longer, map-snoc, total-snoc}
-use Rattle.lwkt_clerk.proofs.SpentMoves.{seated_more, Views-more}
+use Rattle.lwkt_table.specs.Seating.{AreSeated}
+use Rattle.lwkt_table.specs.History.{Chronicle}
+use Rattle.lwkt_table.proofs.SeatingLemmas.{at_snoc, at_longer, map-snoc, total-snoc}
+use Rattle.lwkt_table.proofs.SpentMoves.{seated_more, Views-more}
 use Rattle.lwkt_bank.specs.declared.views.Plan.{Plan}
 use Rattle.lwkt_bank.specs.declared.views.View.{View}
 use Rattle.lwkt_bank.specs.Views.{blank, amount, page_of, spent}

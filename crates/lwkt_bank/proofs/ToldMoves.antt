@@ -7,12 +7,12 @@ use Rattle.atomic_table.specs.Table.{opening as table_opening}
 use Rattle.lwkt_base.specs.declared.names.CpuId.{CpuId}
 use Rattle.lwkt_base.specs.declared.openings.TokSpec.{TokSpec}
 use Rattle.lwkt_base.specs.declared.holdings.Held.TheVariants.{Nothing}
-use Rattle.lwkt_core.specs.declared.seats.SeatKind.TheVariants.{Clerk, Of}
+use Rattle.lwkt_table.specs.declared.seats.SeatKind.TheVariants.{Clerk, Of}
 use Rattle.lwkt_core.specs.declared.tokens.Token.{Token}
 use Rattle.lwkt_core.specs.Opening.{opened_token, opening, AreWithin, AllOpenLawfully, IsTokenWithin}
 use Rattle.lwkt_core.specs.Machine.{Machine, machine}
-use Rattle.lwkt_core.specs.History.{Chronicle}
-use Rattle.lwkt_core.proofs.ViewLemmas.{Views-opened, Views-split, Views-joined}
+use Rattle.lwkt_table.specs.History.{Chronicle}
+use Rattle.lwkt_table.proofs.ViewLemmas.{Views-opened, Views-split, Views-joined}
 use Rattle.lwkt_bank.specs.declared.views.Plan.{Plan}
 use Rattle.lwkt_bank.specs.declared.views.View.{View}
 use Rattle.lwkt_bank.specs.Views.{at, seat_cpu, who, page_of, first_view, clerk_after, new_seat, joined, spent}

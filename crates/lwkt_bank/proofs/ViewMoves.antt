@@ -7,7 +7,7 @@ use Rattle.lwkt_base.specs.Holding.{references_in, Holding}
 use Rattle.lwkt_core.specs.declared.tokens.Token.{Token}
 use Rattle.lwkt_core.specs.Tokens.{held_by}
 use Rattle.lwkt_core.specs.Machine.{references_of}
-use Rattle.lwkt_core.proofs.SeatingLemmas.{set_again, at_map, map-set}
+use Rattle.lwkt_table.proofs.SeatingLemmas.{set_again, at_map, map-set}
 use Rattle.lwkt_bank.specs.declared.views.TokenEntry.{TokenEntry}
 use Rattle.lwkt_bank.specs.declared.views.View.{View}
 use Rattle.lwkt_bank.specs.Views.{at, both_of, merged, count_from}

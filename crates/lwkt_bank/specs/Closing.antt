@@ -1,7 +1,7 @@
 use Rattle.std.specs.Prelude.{◌≡◌, ◌≢◌, ℕ, ◌+◌, ◌<◌, ◌≤◌, ◌==◌, if◌then◌else◌, List, [], ◌++◌, length, All, None, Some, slice_get, slice_index, slice_index_or, vec_capacity}
 use Rattle.lwkt_base.specs.declared.holdings.Held.TheVariants.{Nothing}
-use Rattle.lwkt_core.specs.declared.seats.SeatKind.TheVariants.{Clerk}
-use Rattle.lwkt_core.specs.Seating.{total}
+use Rattle.lwkt_table.specs.declared.seats.SeatKind.TheVariants.{Clerk}
+use Rattle.lwkt_table.specs.Seating.{total}
 use mathlib.Core.Option.{some}
 use lib.ListN.{get_elem?}
 use Rattle.lwkt_bank.specs.declared.views.Plan.{Plan}

@@ -6,8 +6,8 @@ use Rattle.lwkt_base.specs.declared.sections.Section.{Section}
 use Rattle.lwkt_base.specs.declared.names.Mode.TheVariants.{Exclusive, Shared}
 use Rattle.lwkt_core.specs.declared.events.Event.{Event}
 use Rattle.lwkt_core.specs.declared.events.Event.TheVariants.{Load, Take, Share, Again, Mark, GiveOne, GiveClean, GiveWritten, Read, Write, ReadBlob, WriteBlob}
-use Rattle.lwkt_core.specs.declared.seats.WordStep.{WordStep}
-use Rattle.lwkt_core.specs.declared.seats.Deed.{Deed}
+use Rattle.lwkt_table.specs.declared.seats.WordStep.{WordStep}
+use Rattle.lwkt_table.specs.declared.seats.Deed.{Deed}
 use Rattle.lwkt_bank.specs.Views.{RecordOf, one_section, named, load, exchange, add, sub, or}
 
 -- one atomic step of a processor at the bank: its event, and its step on the word of a token if it is one

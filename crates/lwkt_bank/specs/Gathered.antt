@@ -1,21 +1,22 @@
 use Rattle.std.specs.Prelude.{◌≡◌, ◌≢◌, ℕ, ◌+◌, ◌<◌, ◌≤◌, List, [], ◌∷◌, length, map, All, Some, None, slice_get, slice_index, slice_index_or, sum, zip, is_some}
-use Rattle.lwkt_core.specs.declared.seats.SeatKind.TheVariants.{Clerk}
+use Rattle.lwkt_table.specs.declared.seats.SeatKind.TheVariants.{Clerk}
 use Rattle.lwkt_bank.specs.declared.banks.Bank.{Bank}
 use Rattle.lwkt_bank.specs.declared.clerks.ClerkDesk.{ClerkDesk}
 use Rattle.lwkt_bank.specs.declared.seats.CpuSeat.{CpuSeat}
 use Rattle.lwkt_base.specs.declared.laws.Law.TheVariants.{Tally}
 use Rattle.lwkt_base.specs.Law.{Obeys}
-use Rattle.lwkt_core.specs.Seating.{total}
+use Rattle.lwkt_table.specs.Seating.{total}
 use Rattle.lwkt_bank.specs.declared.views.Plan.{Plan}
 use Rattle.lwkt_bank.specs.declared.views.TokenEntry.{TokenEntry}
 use Rattle.lwkt_bank.specs.declared.closed.Closed.{Closed}
-use Rattle.lwkt_core.specs.declared.seats.Deed.{Deed}
+use Rattle.lwkt_table.specs.declared.seats.Deed.{Deed}
 use Rattle.lwkt_core.specs.Tokens.{IsFree, IsShort, length_of}
 use Rattle.lwkt_core.specs.Machine.{Machine}
-use Rattle.lwkt_core.specs.RunSections.{rows_of, sections_by}
+use Rattle.lwkt_core.specs.RunSections.{rows_of}
+use Rattle.lwkt_table.specs.Sections.{sections_by}
 use Rattle.lwkt_core.specs.SectionChain.{AreSectionChains}
 use Rattle.lwkt_core.specs.Trace.{Run, shown_tallies}
-use Rattle.lwkt_core.specs.History.{Passes, AreOthers, IsPastOf, events_in, events_by, steps_by}
+use Rattle.lwkt_table.specs.History.{Passes, AreOthers, IsPastOf, events_in, events_by, steps_by}
 use Rattle.lwkt_bank.specs.Rule.{IsOpeningRow}
 use Rattle.lwkt_bank.specs.Told.{IsDone, first_machine}
 use Rattle.lwkt_bank.specs.Views.{RecordOf, blank, amount}

@@ -3,7 +3,7 @@ use Rattle.lwkt_base.specs.declared.names.Mode.{Mode}
 use Rattle.lwkt_base.specs.declared.names.Mode.TheVariants.{Shared}
 use Rattle.lwkt_base.specs.declared.holdings.Held.TheVariants.{Nothing}
 use Rattle.lwkt_base.specs.Holding.{Holding, holds_nothing, added, removed}
-use Rattle.lwkt_core.specs.declared.seats.Deed.{Deed}
+use Rattle.lwkt_table.specs.declared.seats.Deed.{Deed}
 use Rattle.lwkt_bank.specs.declared.views.TokenEntry.{TokenEntry}
 use Rattle.lwkt_bank.specs.declared.seats.CpuSeat.{CpuSeat}
 use Rattle.lwkt_bank.specs.declared.answers.Given.{Given}

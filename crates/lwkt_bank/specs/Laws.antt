@@ -10,16 +10,16 @@ use Rattle.lwkt_base.specs.declared.openings.TokSpec.{TokSpec}
 use Rattle.lwkt_base.specs.declared.words.Decision.TheVariants.{Take as Takes}
 use Rattle.lwkt_base.specs.Holding.{is_held, is_exclusive}
 use Rattle.lwkt_bank.specs.Hands.{IsInHand}
-use Rattle.lwkt_core.specs.declared.seats.SeatKind.TheVariants.{Clerk, Of}
-use Rattle.lwkt_core.specs.declared.seats.Deed.{Deed}
-use Rattle.lwkt_core.specs.declared.seats.WordStep.{WordStep}
+use Rattle.lwkt_table.specs.declared.seats.SeatKind.TheVariants.{Clerk, Of}
+use Rattle.lwkt_table.specs.declared.seats.Deed.{Deed}
+use Rattle.lwkt_table.specs.declared.seats.WordStep.{WordStep}
 use Rattle.lwkt_core.specs.declared.events.Event.{Event}
 use Rattle.lwkt_core.specs.declared.events.Event.TheVariants.{Load, Take, Share, Again, Mark, GiveOne, GiveClean, GiveWritten, Read, Write, ReadBlob, WriteBlob, Send, TakeMsg, DropMsg, Reply, Reap, Abort}
 use Rattle.lwkt_core.specs.Tokens.{held_by, IsNotLastExclusive}
 use Rattle.lwkt_core.specs.Machine.{Machine, IsSafe}
 use Rattle.lwkt_core.specs.Opening.{opening, AreWithin, AllOpenLawfully}
 use Rattle.lwkt_core.specs.Trace.{Run}
-use Rattle.lwkt_core.specs.History.{IsStepOver, AreOthers, IsPastOf, Passes, events_by, steps_by, events_in, steps_in, AreOwn, Grows, noted_page}
+use Rattle.lwkt_table.specs.History.{IsStepOver, AreOthers, IsPastOf, Passes, events_by, steps_by, events_in, steps_in, AreOwn, Grows, noted_page}
 use Rattle.lwkt_bank.specs.declared.views.Plan.{Plan}
 use Rattle.lwkt_bank.specs.declared.views.View.{View}
 use Rattle.lwkt_bank.specs.declared.seats.CpuSeat.{CpuSeat}

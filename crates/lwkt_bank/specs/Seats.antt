@@ -15,8 +15,8 @@ use Rattle.lwkt_base.specs.declared.words.Decision.{Decision}
 use Rattle.lwkt_base.specs.declared.words.Decision.TheVariants.{Take, Held, Marked, Worn as IsWorn}
 use Rattle.lwkt_base.specs.Holding.{Holding}
 use Rattle.lwkt_base.specs.TokenWord.{word_of, Fits, decision}
-use Rattle.lwkt_core.specs.declared.seats.SeatKind.TheVariants.{Of}
-use Rattle.lwkt_core.specs.declared.seats.WordStep.{WordStep}
+use Rattle.lwkt_table.specs.declared.seats.SeatKind.TheVariants.{Of}
+use Rattle.lwkt_table.specs.declared.seats.WordStep.{WordStep}
 use Rattle.lwkt_bank.specs.declared.views.Plan.{Plan}
 use Rattle.lwkt_bank.specs.declared.views.KnownCell.{KnownCell}
 use Rattle.lwkt_bank.specs.declared.views.TokenEntry.{TokenEntry}
@@ -28,9 +28,9 @@ use Rattle.lwkt_bank.specs.declared.answers.Try.{Try}
 use Rattle.lwkt_bank.specs.declared.answers.Try.TheVariants.{Got, Busy, Again, Worn}
 use Rattle.lwkt_bank.specs.declared.answers.Given.{Given}
 use Rattle.lwkt_bank.specs.declared.answers.Given.TheVariants.{One, Clean, Written}
-use Rattle.lwkt_core.specs.declared.seats.Deed.{Deed}
+use Rattle.lwkt_table.specs.declared.seats.Deed.{Deed}
 use Rattle.lwkt_core.specs.declared.events.Event.{Event}
-use Rattle.lwkt_core.specs.History.{steps_by, events_by, AreOwn, Grows}
+use Rattle.lwkt_table.specs.History.{steps_by, events_by, AreOwn, Grows}
 use Rattle.lwkt_bank.specs.Views.{RecordOf, at, count_from, held_of, generation_in, is_touched, looked, taken, less, ended, ended_section, who}
 use Rattle.lwkt_bank.specs.Deeds.{loads, takes, loses, gives_one, gives_clean, gives_written, reads, writes_all, reads_blob, writes_blob_if}
 use Rattle.lwkt_bank.specs.Plays.{IsTakenRow}

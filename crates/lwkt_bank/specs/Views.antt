@@ -7,14 +7,14 @@ use Rattle.lwkt_base.specs.declared.names.Mode.{Mode}
 use Rattle.lwkt_base.specs.declared.names.Mode.TheVariants.{Shared}
 use Rattle.lwkt_base.specs.declared.holdings.Held.TheVariants.{Nothing, Holds}
 use Rattle.lwkt_base.specs.Holding.{Holding, references_in, one_more, one_less}
-use Rattle.lwkt_core.specs.declared.seats.SeatKind.{SeatKind}
-use Rattle.lwkt_core.specs.declared.seats.SeatKind.TheVariants.{Clerk, Of, Spent}
-use Rattle.lwkt_core.specs.declared.seats.WordStep.{WordStep}
-use Rattle.lwkt_core.specs.declared.seats.Operation.TheVariants.{Load, Exchange, Add, Sub, Or}
-use Rattle.lwkt_core.specs.declared.seats.Deed.{Deed}
-use Rattle.lwkt_core.specs.declared.seats.Chapter.{Chapter}
-use Rattle.lwkt_core.specs.History.{Page}
-use Rattle.lwkt_core.specs.Seating.{after_made, after_back, next_seat}
+use Rattle.lwkt_table.specs.declared.seats.SeatKind.{SeatKind}
+use Rattle.lwkt_table.specs.declared.seats.SeatKind.TheVariants.{Clerk, Of, Spent}
+use Rattle.lwkt_table.specs.declared.seats.WordStep.{WordStep}
+use Rattle.lwkt_table.specs.declared.seats.Operation.TheVariants.{Load, Exchange, Add, Sub, Or}
+use Rattle.lwkt_table.specs.declared.seats.Deed.{Deed}
+use Rattle.lwkt_table.specs.declared.seats.Chapter.{Chapter}
+use Rattle.lwkt_table.specs.History.{Page}
+use Rattle.lwkt_table.specs.Seating.{after_made, after_back, next_seat}
 use Rattle.lwkt_bank.specs.declared.views.Plan.{Plan}
 use Rattle.lwkt_bank.specs.declared.views.KnownCell.{KnownCell}
 use Rattle.lwkt_bank.specs.declared.views.Added.{Added}

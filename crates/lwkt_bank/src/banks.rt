@@ -9,7 +9,7 @@ use crate::rules::{BankRule, Key};
 use crate::views::View;
 use atomic_table::Table;
 use lwkt_base::Blob;
-use lwkt_clerk::Resting;
+use lwkt_table::Resting;
 use std::alloc::Global;
 
 /// The token words and cells of a machine.

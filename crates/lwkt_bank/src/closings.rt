@@ -24,7 +24,7 @@ use crate::seats::CpuSeat;
 use crate::views::{Plan, View};
 use atomic_table::{Closed as ClosedTable, Seat, Table};
 use lwkt_base::{Blob, Cells, Fault, Law, TokId};
-use lwkt_core::SeatKind;
+use lwkt_table::SeatKind;
 use std::alloc::{AllocError, Global};
 
 fn copy_words(closed: &ClosedTable<Blob, Global>, count: usize, mut words: Vec<u64>) -> Vec<u64>

@@ -1,7 +1,7 @@
 //! The close: the clerk takes back all seats.
 ghost use Rattle.std.specs.Prelude.{◌≡◌, ℕ, ◌+◌, ◌<◌, ◌≤◌, [], ◌∷◌, length, All, vec_len, vec_capacity};
 ghost use Rattle.lwkt_base.specs.declared.holdings.Held.TheVariants.{Nothing};
-ghost use Rattle.lwkt_core.specs.Seating.{total};
+ghost use Rattle.lwkt_table.specs.Seating.{total};
 ghost use Rattle.lwkt_bank.specs.Views.{at, amount, joined};
 ghost use Rattle.lwkt_bank.specs.Notes.{clerk_number, note_at};
 ghost use Rattle.lwkt_bank.specs.Closing.{IsReady, Gathering};
@@ -14,7 +14,7 @@ use crate::seats::CpuSeat;
 use crate::views::View;
 use atomic_table::{Seat, Table};
 use lwkt_base::{Blob, CpuId};
-use lwkt_core::SeatKind;
+use lwkt_table::SeatKind;
 use std::alloc::Global;
 
 // The clerk takes back a seat that holds nothing.

@@ -4,7 +4,7 @@ ghost use Rattle.lwkt_bank.specs.Seats.{id_of, id_of_desk};
 
 use crate::banks::Bank;
 use crate::clerks::ClerkDesk;
-use lwkt_clerk::Resting;
+use lwkt_table::Resting;
 
 impl ClerkDesk {
     /// The bank, whose clerk rests from now on.

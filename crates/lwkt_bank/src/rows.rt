@@ -4,7 +4,7 @@ ghost use Rattle.lwkt_base.specs.Holding.{is_held, is_exclusive};
 ghost use Rattle.lwkt_base.specs.Law.{Obeys};
 ghost use Rattle.lwkt_core.specs.Tokens.{length_of};
 ghost use Rattle.lwkt_bank.specs.Views.{is_touched, stored};
-ghost use Rattle.lwkt_core.specs.declared.seats.Deed.{Deed};
+ghost use Rattle.lwkt_table.specs.declared.seats.Deed.{Deed};
 ghost use Rattle.lwkt_bank.specs.Deeds.{reads_all, writes, writes_blob_if};
 ghost use Rattle.lwkt_bank.specs.Seats.{id_of, bank_of, tokens_of, plan_of, entry, holding, Changes, Knowing, IsUnchanged, IsLawfulIn, PutsFirst, RowRestored, Restored, lawful_loads, asked_record, last_loads};
 

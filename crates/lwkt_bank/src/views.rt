@@ -1,5 +1,5 @@
 use lwkt_base::{Blob, CpuId, Held, Law};
-use lwkt_core::{Chapter, Deed, SeatKind};
+use lwkt_table::{Chapter, Deed, SeatKind};
 
 /// What is declared of a token at the opening.
 #[derive(Clone, Copy, Debug)]

@@ -11,7 +11,7 @@ use Rattle.lwkt_base.specs.declared.holdings.Held.{Held}
 use Rattle.lwkt_base.specs.declared.holdings.Held.TheVariants.{Nothing, Holds}
 use Rattle.lwkt_base.specs.Refs.{first_mode}
 use Rattle.lwkt_base.specs.Holding.{Holding, mode_of, is_held, added, removed, holding_of, holds_nothing, ListsAreHeld, AcquiringAdds, ReleasingRemoves}
-use Rattle.lwkt_core.specs.declared.seats.Deed.{Deed}
+use Rattle.lwkt_table.specs.declared.seats.Deed.{Deed}
 use Rattle.lwkt_bank.specs.declared.views.TokenEntry.{TokenEntry}
 use Rattle.lwkt_bank.specs.declared.seats.CpuSeat.{CpuSeat}
 use Rattle.lwkt_bank.specs.declared.answers.Given.{Given}

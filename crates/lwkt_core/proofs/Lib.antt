@@ -4,17 +4,9 @@ pub mod LackLemmas
 pub mod MachineMoves
 pub mod OpeningLemmas
 pub mod TraceLemmas
-pub mod SeatingLemmas
-pub mod HistoryLemmas
-pub mod ChronicleLemmas
-pub mod ViewLemmas
 pub mod PictureLemmas
 pub mod SafetyLemmas
 pub mod RunLemmas
-pub mod ShareLemmas
 pub mod ChainLemmas
 pub mod RunChainLemmas
-pub mod PartLemmas
-pub mod SectionParts
 pub mod TellLemmas
-pub mod OrderLemmas

@@ -7,8 +7,6 @@ pub mod Opening
 pub mod Trace
 pub mod Values
 pub mod Picture
-pub mod Seating
-pub mod History
 pub mod Safety
 pub mod Headline
 pub mod SectionChain

@@ -3,8 +3,6 @@ use Rattle.std.specs.List.{range_with_len}
 use Rattle.lwkt_base.specs.declared.sections.Section.{Section}
 use Rattle.lwkt_core.specs.declared.events.Event.{Event}
 use Rattle.lwkt_core.specs.declared.events.Event.TheVariants.{GiveWritten}
-use Rattle.lwkt_core.specs.declared.seats.Deed.{Deed}
-use Rattle.lwkt_core.specs.History.{AreOthers, events_in, events_by}
 use Rattle.lwkt_core.specs.declared.tokens.Token.{Token}
 use Rattle.lwkt_core.specs.Tokens.{IsOpen}
 use Rattle.lwkt_core.specs.Machine.{Machine, IsSafe}
@@ -29,10 +27,6 @@ section_in e = []
 abbrev pub sections_told : List Event → List Section
 sections_told events = flat_map section_in events
 
--- the sections that so many processors tell of what was done, one processor's after another's
-abbrev pub sections_by : ℕ → List Deed → List Section
-sections_by cpus history = flat_map (λ cpu. sections_told (events_by cpu history)) (range_with_len 0 cpus)
-
 -- the row and generation of a token, and of each token of a machine
 abbrev pub values_of : Token → List ℕ × ℕ
 values_of tok = (tok.row, tok.generation)
@@ -55,9 +49,3 @@ TracesWriteChains = (m : Machine) (events : List Event) (last : Final) → IsSaf
 -- a law: what the events of a run tell of a token are its written sections, in order (own)
 abbrev pub RunsTellSections : Type 0
 RunsTellSections = (m : Machine) (events : List Event) (n : Machine) → Run m events n → (t : ℕ) → sections_at t (sections_told events) ≡ map (of_token t) (sections_of t m events)
-
--- a law: the sections that processors tell of one run, each of what it did itself, put together in any order of the processors, are
--- chains from the rows and generations of the machine that the run begins with to those of the one that it ends with (own)
-abbrev pub PartsTellChains : Type 0
-PartsTellChains = (m : Machine) (history : List Deed) (n : Machine) (cpus : ℕ) → IsSafe m → Run m (events_in history) n → All IsOpen m.tokens → All IsOpen n.tokens → ((cpu : ℕ) → cpus ≤ cpu → AreOthers cpu history)
-    → AreSectionChains (rows_of m) (rows_of n) (sections_by cpus history)

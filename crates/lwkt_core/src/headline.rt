@@ -1,4 +1,4 @@
-ghost use Rattle.lwkt_core.specs.RunSections.{RunsWriteChains, TracesWriteChains, RunsTellSections, PartsTellChains};
+ghost use Rattle.lwkt_core.specs.RunSections.{RunsWriteChains, TracesWriteChains, RunsTellSections};
 ghost use Rattle.lwkt_core.specs.Headline.{RunsAreCompatible, RunsKeepLaws, TalliesAreRaises, CountsAreEvents, MessagesGoRound, EachSendIsAnsweredOnce, AnswersAreOfTheirSend, SectionsAreChain, RowsStandBetweenSections, RecordsAreChain, RecordsStandBetweenSections, RecordsAreLastWritten};
 
 /// The theorem that in every machine of a run from a safe one each token has one exclusive holder or only shared ones.
@@ -84,10 +84,4 @@ pub fn traces_write_chains()
 /// The theorem that the sections which the written gives of a run tell are, token by token, its written sections.
 pub fn runs_tell_sections()
     ensures { RunsTellSections }
-{}
-
-/// The theorem that the sections which the processors of a run tell, each of what it did itself, put together, are chains from
-/// the rows and generations at its beginning to those at its end, where nobody holds a token exclusively at either.
-pub fn parts_tell_chains()
-    ensures { PartsTellChains }
 {}

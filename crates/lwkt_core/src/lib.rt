@@ -4,8 +4,7 @@
 //! Words: a *machine* is the state of all tokens and messages, and it is *safe* if its tokens and messages are; an *event*
 //! is one atomic step of one processor; its *needs* say when it can happen, and a *lack* is the first need that isn't met; a
 //! *run* is events that happen one after another; a *trace* is such events with the *closing values*; a *chain* is a token's
-//! written sections, generation by generation; a *deed* is a step of a seat, and a *history* the deeds of all seats of a
-//! table.
+//! written sections, generation by generation.
 #![tactic(auto)]
 
 pub mod checks;
@@ -18,7 +17,6 @@ pub mod messages;
 mod openings;
 mod rules;
 pub mod safety;
-pub mod seats;
 pub mod sections;
 pub mod states;
 pub mod tokens;
@@ -29,7 +27,6 @@ pub use finals::Final;
 pub use lacks::Lack;
 pub use messages::Message;
 pub use openings::{all_open_lawfully, are_within};
-pub use seats::{Chapter, Deed, Operation, SeatKind, WordStep};
 pub use sections::check_sections;
 pub use states::State;
 pub use tokens::Token;

@@ -2,8 +2,8 @@ use Rattle.std.proofs.Common.{◌≡◌, ◌∙◌, subst}
 use Rattle.lwkt_base.specs.declared.asks.Ask.{Ask}
 use Rattle.lwkt_base.specs.declared.asks.Answer.{Answer}
 use Rattle.lwkt_base.specs.declared.names.CpuId.{CpuId}
-use Rattle.lwkt_core.specs.History.{events_by, steps_by}
-use Rattle.lwkt_core.proofs.HistoryLemmas.{events_by-grows, events_by-past, steps_by-grows}
+use Rattle.lwkt_table.specs.History.{events_by, steps_by}
+use Rattle.lwkt_table.proofs.HistoryLemmas.{events_by-grows, events_by-past, steps_by-grows}
 use Rattle.lwkt_bank.specs.Seats.{past_of}
 use Rattle.lwkt_bank.specs.Laws.{StatesAreReached}
 use Rattle.lwkt_msg.specs.Laws.{RuleShowsSafety}

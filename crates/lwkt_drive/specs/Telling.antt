@@ -4,9 +4,9 @@ use Rattle.lwkt_base.specs.declared.asks.Ask.{Ask}
 use Rattle.lwkt_base.specs.declared.asks.Answer.{Answer}
 use Rattle.lwkt_base.specs.declared.names.CpuId.{CpuId}
 use Rattle.lwkt_core.specs.declared.events.Event.{Event}
-use Rattle.lwkt_core.specs.declared.seats.Deed.{Deed}
+use Rattle.lwkt_table.specs.declared.seats.Deed.{Deed}
 use Rattle.lwkt_core.specs.Events.{cpu_of}
-use Rattle.lwkt_core.specs.History.{AreOthers, Passes, events_in, events_by}
+use Rattle.lwkt_table.specs.History.{AreOthers, Passes, events_in, events_by}
 use Rattle.lwkt_core.specs.Machine.{Machine}
 use Rattle.lwkt_core.specs.Trace.{Run, end_of}
 use Rattle.lwkt_ask.specs.Telling.{is_of_message, TellsMail}

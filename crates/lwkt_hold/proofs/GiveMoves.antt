@@ -23,10 +23,10 @@ use Rattle.lwkt_core.specs.declared.events.Event.TheVariants.{Write, WriteBlob}
 use Rattle.lwkt_core.specs.Events.{cpu_of}
 use Rattle.lwkt_bank.specs.declared.views.TokenEntry.{TokenEntry}
 use Rattle.lwkt_bank.specs.declared.seats.CpuSeat.{CpuSeat}
-use Rattle.lwkt_core.specs.declared.seats.WordStep.{WordStep}
-use Rattle.lwkt_core.specs.declared.seats.Deed.{Deed}
-use Rattle.lwkt_core.specs.History.{events_in, steps_in}
-use Rattle.lwkt_core.proofs.HistoryLemmas.{events_in-append, steps_in-append}
+use Rattle.lwkt_table.specs.declared.seats.WordStep.{WordStep}
+use Rattle.lwkt_table.specs.declared.seats.Deed.{Deed}
+use Rattle.lwkt_table.specs.History.{events_in, steps_in}
+use Rattle.lwkt_table.proofs.HistoryLemmas.{events_in-append, steps_in-append}
 use Rattle.lwkt_bank.specs.Views.{RecordOf, is_touched}
 use Rattle.lwkt_bank.specs.Deeds.{reads, reads_all, writes_all, writes_blob_if}
 use Rattle.lwkt_bank.specs.Seats.{BankId, bank_of, plan_of, entry, holding, Changes, Knowing, PutsFirst, Restored, first_load, last_loads, lawful_loads, asked_record, written_over}

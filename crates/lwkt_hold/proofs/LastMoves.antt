@@ -21,7 +21,7 @@ use Rattle.lwkt_hold.specs.declared.answers.Acquired.TheVariants.{MustSwitch}
 use Rattle.lwkt_base.specs.declared.names.CpuId.{CpuId}
 use Rattle.lwkt_hold.specs.Fronts.{IsFront}
 use Rattle.lwkt_hold.specs.Takings.{taking_event}
-use Rattle.lwkt_core.specs.History.{events_in, steps_in}
+use Rattle.lwkt_table.specs.History.{events_in, steps_in}
 use Rattle.lwkt_hold.specs.Steps.{is_counted, is_of_token, is_on_word, ShowsEvent, Tells}
 use Rattle.lwkt_hold.specs.Runs.{Moves, Ran}
 use Rattle.lwkt_hold.proofs.HoldingMoves.{holding_of_push, removed_added}

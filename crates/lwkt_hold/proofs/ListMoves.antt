@@ -7,13 +7,13 @@ use Rattle.lwkt_base.specs.declared.names.Ref.{Ref}
 use Rattle.lwkt_base.specs.declared.holdings.Held.TheVariants.{Nothing}
 use Rattle.lwkt_base.specs.Holding.{Holding, is_held, one_less, added, removed, holding_of, holds_nothing}
 use Rattle.lwkt_core.specs.declared.events.Event.{Event}
-use Rattle.lwkt_core.specs.declared.seats.Deed.{Deed}
+use Rattle.lwkt_table.specs.declared.seats.Deed.{Deed}
 use Rattle.lwkt_bank.specs.declared.views.TokenEntry.{TokenEntry}
 use Rattle.lwkt_bank.specs.declared.seats.CpuSeat.{CpuSeat}
 use Rattle.lwkt_bank.specs.Seats.{entry, holding, Changes, Looked, Lost}
 use Rattle.lwkt_bank.specs.Views.{generation_in, looked}
 use Rattle.lwkt_bank.specs.Deeds.{loads, loses}
-use Rattle.lwkt_core.specs.History.{steps_in}
+use Rattle.lwkt_table.specs.History.{steps_in}
 use Rattle.lwkt_hold.specs.declared.answers.Missed.{Missed}
 use Rattle.lwkt_hold.specs.Runs.{Ran}
 use Rattle.lwkt_hold.specs.Misses.{Misses}

@@ -20,10 +20,10 @@ use Rattle.lwkt_base.specs.Refs.{first_mode}
 use Rattle.lwkt_base.specs.Holding.{Holding, is_held, is_exclusive, one_more, added, holding_of, holds_nothing}
 use Rattle.lwkt_core.specs.declared.events.Event.{Event}
 use Rattle.lwkt_core.specs.declared.events.Event.TheVariants.{Read, Write, ReadBlob, WriteBlob}
-use Rattle.lwkt_core.specs.declared.seats.WordStep.{WordStep}
-use Rattle.lwkt_core.specs.declared.seats.Deed.{Deed}
-use Rattle.lwkt_core.specs.History.{events_in, steps_in}
-use Rattle.lwkt_core.proofs.HistoryLemmas.{own-nil}
+use Rattle.lwkt_table.specs.declared.seats.WordStep.{WordStep}
+use Rattle.lwkt_table.specs.declared.seats.Deed.{Deed}
+use Rattle.lwkt_table.specs.History.{events_in, steps_in}
+use Rattle.lwkt_table.proofs.HistoryLemmas.{own-nil}
 use Rattle.lwkt_bank.specs.declared.views.TokenEntry.{TokenEntry}
 use Rattle.lwkt_bank.specs.declared.seats.CpuSeat.{CpuSeat}
 use Rattle.lwkt_bank.specs.Views.{is_touched}

@@ -10,10 +10,10 @@ use Rattle.lwkt_base.specs.declared.holdings.Held.{Held}
 use Rattle.lwkt_base.specs.Holding.{Holding}
 use Rattle.lwkt_core.specs.declared.events.Event.{Event}
 use Rattle.lwkt_base.specs.declared.names.CpuId.{CpuId}
-use Rattle.lwkt_core.specs.declared.seats.WordStep.{WordStep}
-use Rattle.lwkt_core.specs.declared.seats.Deed.{Deed}
-use Rattle.lwkt_core.specs.History.{AreOwn, Grows, steps_by, events_in, steps_in}
-use Rattle.lwkt_core.proofs.HistoryLemmas.{own-nil, own-append, Grows-append, events_in-append, steps_in-append, steps_by-grows}
+use Rattle.lwkt_table.specs.declared.seats.WordStep.{WordStep}
+use Rattle.lwkt_table.specs.declared.seats.Deed.{Deed}
+use Rattle.lwkt_table.specs.History.{AreOwn, Grows, steps_by, events_in, steps_in}
+use Rattle.lwkt_table.proofs.HistoryLemmas.{own-nil, own-append, Grows-append, events_in-append, steps_in-append, steps_by-grows}
 use Rattle.lwkt_core.specs.Events.{cpu_of}
 use Rattle.lwkt_bank.specs.declared.views.TokenEntry.{TokenEntry}
 use Rattle.lwkt_bank.specs.declared.seats.CpuSeat.{CpuSeat}

@@ -6,7 +6,7 @@ use Rattle.lwkt_base.specs.declared.names.Mode.{Mode}
 use Rattle.lwkt_base.specs.declared.names.Mode.TheVariants.{Exclusive}
 use Rattle.lwkt_base.specs.declared.names.Ref.{Ref}
 use Rattle.lwkt_base.specs.declared.words.Decision.TheVariants.{Take, Held, Marked, Worn as IsWorn}
-use Rattle.lwkt_core.specs.declared.seats.WordStep.{WordStep}
+use Rattle.lwkt_table.specs.declared.seats.WordStep.{WordStep}
 use Rattle.lwkt_bank.specs.declared.seats.CpuSeat.{CpuSeat}
 use Rattle.lwkt_bank.specs.Seats.{steps_of, Decides}
 use Rattle.lwkt_bank.specs.Views.{load, exchange}

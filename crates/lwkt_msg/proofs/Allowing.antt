@@ -15,10 +15,10 @@ use Rattle.lwkt_base.specs.declared.message_words.MsgWord.{MsgWord}
 use Rattle.lwkt_base.specs.declared.message_words.MsgState.TheVariants as state
 use Rattle.lwkt_base.specs.MessageWord.{message_word, MessageFits}
 use Rattle.lwkt_core.specs.declared.messages.TheConstants.{LAST_ROUND}
-use Rattle.lwkt_core.specs.declared.seats.Deed.{Deed}
-use Rattle.lwkt_core.specs.declared.seats.Operation.TheVariants as operation
-use Rattle.lwkt_core.specs.declared.seats.SeatKind.{SeatKind}
-use Rattle.lwkt_core.specs.declared.seats.SeatKind.TheVariants.{Of}
+use Rattle.lwkt_table.specs.declared.seats.Deed.{Deed}
+use Rattle.lwkt_table.specs.declared.seats.Operation.TheVariants as operation
+use Rattle.lwkt_table.specs.declared.seats.SeatKind.{SeatKind}
+use Rattle.lwkt_table.specs.declared.seats.SeatKind.TheVariants.{Of}
 use Rattle.lwkt_core.specs.Messages.{is_away, origin_of, target_of}
 use Rattle.lwkt_msg.specs.declared.views.MessageEntry.{MessageEntry}
 use Rattle.lwkt_msg.specs.declared.views.Key.{Key}

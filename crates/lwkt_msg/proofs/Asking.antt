@@ -12,10 +12,10 @@ use Rattle.lwkt_core.specs.declared.messages.Message.{Message}
 use Rattle.lwkt_core.specs.declared.events.Event.{Event}
 use Rattle.lwkt_core.specs.declared.events.Event.TheVariants.{Load, Take, Share, Again, Mark, GiveOne, GiveClean, GiveWritten, Read, Write, ReadBlob, WriteBlob, Send, TakeMsg, DropMsg, Reply, Reap, Abort}
 use Rattle.lwkt_core.specs.declared.events.Place.TheVariants.{AtMessage}
-use Rattle.lwkt_core.specs.declared.seats.Deed.{Deed}
+use Rattle.lwkt_table.specs.declared.seats.Deed.{Deed}
 use Rattle.lwkt_core.specs.Events.{place_of}
 use Rattle.lwkt_core.specs.Messages.{MessageNeeds, message_after, origin_of, is_away, IsOutTo, IsWith}
-use Rattle.lwkt_core.specs.History.{Passes}
+use Rattle.lwkt_table.specs.History.{Passes}
 use Rattle.lwkt_msg.specs.Views.{named}
 use Rattle.lwkt_msg.specs.Book.{Mail, mail_at, no_mail, opened_mail}
 use Rattle.lwkt_msg.specs.Told.{IsHandedOut, IsLook, IsEvent, IsDone, first_mails}

@@ -6,7 +6,7 @@ use native.Mathlib.Decide.{ℕ_discrete}
 use lib.ListN.{get_elem?}
 use Rattle.atomic_table.specs.Table.{Act, keeps, takes, gives, chain, carried_after, homes_after, Valid}
 use Rattle.lwkt_base.specs.declared.records.Rec.{Rec}
-use Rattle.lwkt_core.proofs.SeatingLemmas.{set_here, set_else, set_again, inside}
+use Rattle.lwkt_table.proofs.SeatingLemmas.{set_here, set_else, set_again, inside}
 use Rattle.lwkt_msg.specs.Hands.{Has, AreApart, AreSame}
 
 abbrev Hand : Type 0

@@ -6,9 +6,9 @@ use lib.ListN.{get_elem?}
 use Rattle.lwkt_base.specs.declared.owners.MsgEnd.{MsgEnd}
 use Rattle.lwkt_base.specs.declared.message_words.MsgWord.{MsgWord}
 use Rattle.lwkt_base.specs.MessageWord.{message_word, MessageFits}
-use Rattle.lwkt_core.specs.declared.seats.Chapter.{Chapter}
-use Rattle.lwkt_core.specs.declared.seats.SeatKind.TheVariants.{Clerk}
-use Rattle.lwkt_core.specs.Seating.{after_back}
+use Rattle.lwkt_table.specs.declared.seats.Chapter.{Chapter}
+use Rattle.lwkt_table.specs.declared.seats.SeatKind.TheVariants.{Clerk}
+use Rattle.lwkt_table.specs.Seating.{after_back}
 use Rattle.lwkt_msg.specs.declared.views.View.{View}
 use Rattle.lwkt_msg.specs.Views.{word_at, chapter_of, joined}
 use Rattle.lwkt_msg.specs.Desks.{Desk, chapters_of, IsRecalled, IsTaking, HasTakenBack, AreShown, shown_end}

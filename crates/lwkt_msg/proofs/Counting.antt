@@ -3,11 +3,11 @@ use lib.ListN.{length-map}
 use Rattle.lwkt_base.specs.declared.openings.MsgSpec.{MsgSpec}
 use Rattle.lwkt_core.specs.declared.events.Event.{Event}
 use Rattle.lwkt_core.specs.declared.messages.Message.{Message}
-use Rattle.lwkt_core.specs.declared.seats.Deed.{Deed}
+use Rattle.lwkt_table.specs.declared.seats.Deed.{Deed}
 use Rattle.lwkt_core.specs.Headline as kind
-use Rattle.lwkt_core.specs.History.{Passes, events_in}
+use Rattle.lwkt_table.specs.History.{Passes, events_in}
 use Rattle.lwkt_core.specs.Opening.{opened_message}
-use Rattle.lwkt_core.proofs.HistoryLemmas.{Passes-run}
+use Rattle.lwkt_table.proofs.HistoryLemmas.{Passes-run}
 use Rattle.lwkt_core.proofs.RunLemmas.{are_events}
 use Rattle.lwkt_msg.specs.Views.{spec_at}
 use Rattle.lwkt_msg.specs.Book.{Mail, mail_at, opened_mail}

@@ -7,10 +7,10 @@ use Rattle.lwkt_base.specs.MessageWord.{message_word}
 use Rattle.lwkt_core.specs.declared.messages.Message.{Message}
 use Rattle.lwkt_core.specs.declared.events.Event.{Event}
 use Rattle.lwkt_core.specs.declared.events.Event.TheVariants.{Load, Take, Share, Again, Mark, GiveOne, GiveClean, GiveWritten, Read, Write, ReadBlob, WriteBlob, Send, TakeMsg, DropMsg, Reply, Reap, Abort}
-use Rattle.lwkt_core.specs.declared.seats.WordStep.{WordStep}
-use Rattle.lwkt_core.specs.declared.seats.Deed.{Deed}
+use Rattle.lwkt_table.specs.declared.seats.WordStep.{WordStep}
+use Rattle.lwkt_table.specs.declared.seats.Deed.{Deed}
 use Rattle.lwkt_core.specs.Messages.{message_after}
-use Rattle.lwkt_core.specs.History.{IsStepOver}
+use Rattle.lwkt_table.specs.History.{IsStepOver}
 use Rattle.lwkt_msg.specs.Book.{Mail, parts_of, mail_at}
 use Rattle.lwkt_msg.specs.Told.{IsRecordOf, IsSentAs, IsHandedOut, IsLook, IsEvent, IsDone}
 use Rattle.lwkt_msg.proofs.WordFacts.{flags_told}

@@ -10,22 +10,22 @@ use Rattle.lwkt_base.specs.declared.owners.Owner.TheVariants.{Rest, Out, With, B
 use Rattle.lwkt_base.specs.declared.openings.MsgSpec.{MsgSpec}
 use Rattle.lwkt_base.specs.declared.records.Rec.{Rec}
 use Rattle.lwkt_core.specs.declared.events.Event.{Event}
-use Rattle.lwkt_core.specs.declared.seats.Deed.{Deed}
-use Rattle.lwkt_core.specs.declared.seats.Chapter.{Chapter}
-use Rattle.lwkt_core.specs.declared.seats.SeatKind.TheVariants.{Of}
+use Rattle.lwkt_table.specs.declared.seats.Deed.{Deed}
+use Rattle.lwkt_table.specs.declared.seats.Chapter.{Chapter}
+use Rattle.lwkt_table.specs.declared.seats.SeatKind.TheVariants.{Of}
 use Rattle.lwkt_core.specs.Messages.{IsSafeMessage, origin_of}
 use Rattle.lwkt_core.specs.Headline as kind
-use Rattle.lwkt_core.proofs.SeatingLemmas.{at_map, of_map, at_within, total-like}
+use Rattle.lwkt_table.proofs.SeatingLemmas.{at_map, of_map, at_within, total-like}
 use Rattle.lwkt_msg.specs.declared.views.MessageEntry.{MessageEntry}
 use Rattle.lwkt_msg.specs.declared.views.Key.{Key}
 use Rattle.lwkt_msg.specs.declared.views.View.{View}
 use Rattle.lwkt_msg.specs.Views.{word_at, spec_at, page_of, chapter_of, recalled_of}
 use Rattle.lwkt_msg.specs.Steps.{machine_of}
 use Rattle.lwkt_msg.specs.Told.{IsDone, first_mails, Told}
-use Rattle.lwkt_core.specs.History.{Passes, IsPastOf, events_by, events_in}
-use Rattle.lwkt_core.proofs.HistoryLemmas.{Passes-each, Passes-run, events_by-past, steps_by-past}
-use Rattle.lwkt_core.proofs.ViewLemmas.{Views-part, Views-chapter, Views-others}
-use Rattle.lwkt_core.proofs.ShareLemmas.{seats_for, seats_for-some, seats_for-one, shares}
+use Rattle.lwkt_table.specs.History.{Passes, IsPastOf, events_by, events_in}
+use Rattle.lwkt_table.proofs.HistoryLemmas.{Passes-each, Passes-run, events_by-past, steps_by-past}
+use Rattle.lwkt_table.proofs.ViewLemmas.{Views-part, Views-chapter, Views-others}
+use Rattle.lwkt_table.proofs.ShareLemmas.{seats_for, seats_for-some, seats_for-one, shares}
 use Rattle.lwkt_msg.proofs.Running.{done_runs}
 use Rattle.lwkt_msg.proofs.Recalling.{recalled-same}
 use Rattle.lwkt_msg.specs.Book.{Mail, parts_of, state_of, shown_target, Knows, mail_at, Rule}

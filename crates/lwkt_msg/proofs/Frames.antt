@@ -8,12 +8,12 @@ use Rattle.lwkt_base.specs.declared.names.CpuId.{CpuId}
 use Rattle.lwkt_base.specs.declared.records.Rec.{Rec}
 use Rattle.lwkt_base.specs.declared.openings.MsgSpec.{MsgSpec}
 use Rattle.lwkt_base.specs.MessageWord.{message_word}
-use Rattle.lwkt_core.specs.declared.seats.Deed.{Deed}
-use Rattle.lwkt_core.specs.declared.seats.SeatKind.{SeatKind}
-use Rattle.lwkt_core.specs.declared.seats.SeatKind.TheVariants.{Clerk, Of, Spent}
+use Rattle.lwkt_table.specs.declared.seats.Deed.{Deed}
+use Rattle.lwkt_table.specs.declared.seats.SeatKind.{SeatKind}
+use Rattle.lwkt_table.specs.declared.seats.SeatKind.TheVariants.{Clerk, Of, Spent}
 use Rattle.lwkt_core.specs.Messages.{IsSafeMessage, in_out}
-use Rattle.lwkt_core.specs.Seating.{AreSeated}
-use Rattle.lwkt_core.proofs.SeatingLemmas.{at_set, at_map, map-set, AreSeated-kept, AreSeated-below}
+use Rattle.lwkt_table.specs.Seating.{AreSeated}
+use Rattle.lwkt_table.proofs.SeatingLemmas.{at_set, at_map, map-set, AreSeated-kept, AreSeated-below}
 use Rattle.lwkt_msg.specs.declared.views.MessageEntry.{MessageEntry}
 use Rattle.lwkt_msg.specs.declared.views.Key.{Key}
 use Rattle.lwkt_msg.specs.declared.views.View.{View}

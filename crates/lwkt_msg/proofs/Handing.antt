@@ -8,16 +8,16 @@ use Rattle.atomic_table.specs.declared.shared.Seat.{Seat}
 use Rattle.lwkt_base.specs.declared.names.CpuId.{CpuId}
 use Rattle.lwkt_base.specs.declared.openings.MsgSpec.{MsgSpec}
 use Rattle.lwkt_base.specs.declared.records.Rec.{Rec}
-use Rattle.lwkt_core.specs.declared.seats.Deed.{Deed}
-use Rattle.lwkt_core.specs.Seating.{next_seat}
+use Rattle.lwkt_table.specs.declared.seats.Deed.{Deed}
+use Rattle.lwkt_table.specs.Seating.{next_seat}
 use Rattle.lwkt_core.specs.Opening.{AreWithin}
 use Rattle.lwkt_msg.specs.declared.views.MessageEntry.{MessageEntry}
 use Rattle.lwkt_msg.specs.declared.views.View.{View}
 use Rattle.lwkt_base.specs.MessageWord.{message_word}
 use Rattle.lwkt_core.specs.declared.events.Event.{Event}
-use Rattle.lwkt_core.specs.declared.seats.Operation.TheVariants.{Load}
-use Rattle.lwkt_core.specs.History.{AreOthers, events_by, steps_by}
-use Rattle.lwkt_core.proofs.HistoryLemmas.{part_by-noted}
+use Rattle.lwkt_table.specs.declared.seats.Operation.TheVariants.{Load}
+use Rattle.lwkt_table.specs.History.{AreOthers, events_by, steps_by}
+use Rattle.lwkt_table.proofs.HistoryLemmas.{part_by-noted}
 use Rattle.lwkt_msg.specs.Deeds.{word_step, hands_out}
 use Rattle.lwkt_msg.specs.Steps.{rest_word}
 use Rattle.lwkt_msg.specs.Views.{new_seat, slot_at, spec_at, seat_cpu, who, first_entry, at, noted, handed}

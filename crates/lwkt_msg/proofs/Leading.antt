@@ -23,14 +23,14 @@ use Rattle.lwkt_core.specs.declared.events.Place.TheVariants.{AtMessage}
 use Rattle.lwkt_core.specs.declared.messages.Message.{Message}
 use Rattle.lwkt_core.specs.declared.messages.TheConstants.{LAST_ROUND}
 use Rattle.lwkt_core.specs.declared.tokens.TheConstants.{CPU_LIMIT}
-use Rattle.lwkt_core.specs.declared.seats.Deed.{Deed}
-use Rattle.lwkt_core.specs.declared.seats.SeatKind.{SeatKind}
-use Rattle.lwkt_core.specs.declared.seats.SeatKind.TheVariants.{Of}
+use Rattle.lwkt_table.specs.declared.seats.Deed.{Deed}
+use Rattle.lwkt_table.specs.declared.seats.SeatKind.{SeatKind}
+use Rattle.lwkt_table.specs.declared.seats.SeatKind.TheVariants.{Of}
 use Rattle.lwkt_core.specs.Events.{cpu_of, place_of, adds_reference}
 use Rattle.lwkt_core.specs.Machine.{Machine, Happens, PlaceNeeds, after_at, changed}
 use Rattle.lwkt_core.specs.Messages.{IsSafeMessage, MessageNeeds, message_after, origin_of, target_of, is_away, in_out, TargetIsThere, IsOutTo, IsOutFrom, IsWith, IsBackTo}
 use Rattle.lwkt_core.proofs.MessageMoves.{IsSafeMessage-after}
-use Rattle.lwkt_core.proofs.SeatingLemmas.{set_here, set_else, at_map, map-set, AreSeated-there}
+use Rattle.lwkt_table.proofs.SeatingLemmas.{set_here, set_else, at_map, map-set, AreSeated-there}
 use Rattle.lwkt_msg.specs.declared.views.MessageEntry.{MessageEntry}
 use Rattle.lwkt_msg.specs.declared.views.Key.{Key}
 use Rattle.lwkt_msg.specs.declared.views.View.{View}

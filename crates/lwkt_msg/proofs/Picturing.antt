@@ -9,13 +9,13 @@ use Rattle.lwkt_base.specs.declared.owners.Owner.TheVariants.{Rest, Out, With, B
 use Rattle.lwkt_base.specs.declared.records.Rec.{Rec}
 use Rattle.lwkt_base.specs.MessageWord.{message_word}
 use Rattle.lwkt_core.specs.declared.messages.Message.{Message}
-use Rattle.lwkt_core.specs.declared.seats.Operation.TheVariants as operation
+use Rattle.lwkt_table.specs.declared.seats.Operation.TheVariants as operation
 use Rattle.lwkt_core.specs.Messages.{IsSafeMessage, in_out, in_with}
-use Rattle.lwkt_core.specs.History.{IsStepOver, Page, Chronicle, steps_by, steps_in, events_by, events_in}
-use Rattle.lwkt_core.proofs.SeatingLemmas.{map-set, set_again, at_map}
-use Rattle.lwkt_core.proofs.HistoryLemmas.{Passes-run, steps_by-grows, events_by-grows}
-use Rattle.lwkt_core.proofs.ChronicleLemmas.{Chronicle-same, Chronicle-decides}
-use Rattle.lwkt_core.proofs.ViewLemmas.{Views-between, Views-one_more, Views-was_done}
+use Rattle.lwkt_table.specs.History.{IsStepOver, Page, Chronicle, steps_by, steps_in, events_by, events_in}
+use Rattle.lwkt_table.proofs.SeatingLemmas.{map-set, set_again, at_map}
+use Rattle.lwkt_table.proofs.HistoryLemmas.{Passes-run, steps_by-grows, events_by-grows}
+use Rattle.lwkt_table.proofs.ChronicleLemmas.{Chronicle-same, Chronicle-decides}
+use Rattle.lwkt_table.proofs.ViewLemmas.{Views-between, Views-one_more, Views-was_done}
 use Rattle.lwkt_msg.specs.declared.views.Key.{Key}
 use Rattle.lwkt_msg.specs.declared.views.View.{View}
 use Rattle.lwkt_msg.specs.Views.{word_at, slot_at, at, looked, seat_cpu, who, page_of}

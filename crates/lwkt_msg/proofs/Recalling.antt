@@ -6,11 +6,11 @@ use lib.ListN.{get_elem?}
 use Rattle.atomic_table.specs.Table.{State}
 use Rattle.lwkt_base.specs.declared.names.CpuId.{CpuId}
 use Rattle.lwkt_base.specs.declared.records.Rec.{Rec}
-use Rattle.lwkt_core.specs.declared.seats.Chapter.{Chapter}
-use Rattle.lwkt_core.specs.declared.seats.Deed.{Deed}
-use Rattle.lwkt_core.specs.declared.seats.SeatKind.TheVariants.{Clerk, Of}
-use Rattle.lwkt_core.specs.Seating.{after_made, after_back}
-use Rattle.lwkt_core.proofs.SeatingLemmas.{at_set, at_snoc, at_map}
+use Rattle.lwkt_table.specs.declared.seats.Chapter.{Chapter}
+use Rattle.lwkt_table.specs.declared.seats.Deed.{Deed}
+use Rattle.lwkt_table.specs.declared.seats.SeatKind.TheVariants.{Clerk, Of}
+use Rattle.lwkt_table.specs.Seating.{after_made, after_back}
+use Rattle.lwkt_table.proofs.SeatingLemmas.{at_set, at_snoc, at_map}
 use Rattle.lwkt_msg.specs.declared.views.MessageEntry.{MessageEntry}
 use Rattle.lwkt_msg.specs.declared.views.Key.{Key}
 use Rattle.lwkt_msg.specs.declared.views.Recalled.{Recalled}

@@ -15,13 +15,13 @@ use Rattle.lwkt_core.specs.declared.events.Event.{Event}
 use Rattle.lwkt_core.specs.declared.events.Event.TheVariants.{Load, Take, Share, Again, Mark, GiveOne, GiveClean, GiveWritten, Read, Write, ReadBlob, WriteBlob, Send, TakeMsg, DropMsg, Reply, Reap, Abort}
 use Rattle.lwkt_core.specs.declared.events.Place.{Place}
 use Rattle.lwkt_core.specs.declared.events.Place.TheVariants.{AtToken, AtMessage}
-use Rattle.lwkt_core.specs.declared.seats.Deed.{Deed}
-use Rattle.lwkt_core.specs.declared.seats.WordStep.{WordStep}
+use Rattle.lwkt_table.specs.declared.seats.Deed.{Deed}
+use Rattle.lwkt_table.specs.declared.seats.WordStep.{WordStep}
 use Rattle.lwkt_core.specs.Events.{place_of}
 use Rattle.lwkt_core.specs.Machine.{PlaceNeeds}
 use Rattle.lwkt_core.specs.Messages.{MessageNeeds, message_after, IsOutTo, IsOutFrom, IsWith, IsBackTo}
-use Rattle.lwkt_core.specs.History.{Passes}
-use Rattle.lwkt_core.proofs.HistoryLemmas.{Passes-split}
+use Rattle.lwkt_table.specs.History.{Passes}
+use Rattle.lwkt_table.proofs.HistoryLemmas.{Passes-split}
 use Rattle.lwkt_msg.specs.Views.{named, call_of}
 use Rattle.lwkt_msg.specs.Book.{Mail, mail_at, no_mail, opened_mail}
 use Rattle.lwkt_msg.specs.Steps.{machine_of}

@@ -10,8 +10,8 @@ use Rattle.lwkt_base.specs.declared.records.Rec.{Rec}
 use Rattle.lwkt_base.specs.declared.message_words.MsgWord.{MsgWord}
 use Rattle.lwkt_base.specs.declared.message_words.MsgState.TheVariants as state
 use Rattle.lwkt_base.specs.MessageWord.{message_word, MessageFits}
-use Rattle.lwkt_core.specs.declared.seats.Operation.TheVariants as operation
-use Rattle.lwkt_core.specs.declared.seats.SeatKind.TheVariants.{Of}
+use Rattle.lwkt_table.specs.declared.seats.Operation.TheVariants as operation
+use Rattle.lwkt_table.specs.declared.seats.SeatKind.TheVariants.{Of}
 use Rattle.lwkt_core.specs.Messages.{origin_of, target_of}
 use Rattle.lwkt_msg.specs.declared.views.MessageEntry.{MessageEntry}
 use Rattle.lwkt_msg.specs.declared.views.Key.{Key}

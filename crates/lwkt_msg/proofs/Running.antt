@@ -1,10 +1,10 @@
 use Rattle.std.proofs.Common.{◌≡◌, ⊎_elim, ℕ, zero, suc, List, [], ◌∷◌, map, set, refl, ap, sym, ◌∙◌, subst}
 use Rattle.lwkt_core.specs.declared.events.Event.{Event}
 use Rattle.lwkt_core.specs.declared.messages.Message.{Message}
-use Rattle.lwkt_core.specs.declared.seats.Deed.{Deed}
+use Rattle.lwkt_table.specs.declared.seats.Deed.{Deed}
 use Rattle.lwkt_core.specs.Machine.{Machine}
 use Rattle.lwkt_core.specs.Trace.{Run}
-use Rattle.lwkt_core.proofs.SeatingLemmas.{map-set}
+use Rattle.lwkt_table.proofs.SeatingLemmas.{map-set}
 use Rattle.lwkt_msg.specs.Book.{Mail, mail_at}
 use Rattle.lwkt_msg.specs.Steps.{machine_of}
 use Rattle.lwkt_msg.specs.Told.{IsHandedOut, IsLook, IsEvent, IsDone}

@@ -3,12 +3,12 @@ use mathlib.Core.Option.{some, some-ne-none}
 use lib.ListN.{get_elem?}
 use Rattle.atomic_table.specs.Table.{State}
 use Rattle.lwkt_base.specs.declared.records.Rec.{Rec}
-use Rattle.lwkt_core.specs.declared.seats.SeatKind.{SeatKind}
-use Rattle.lwkt_core.specs.declared.seats.SeatKind.TheVariants.{Spent}
-use Rattle.lwkt_core.specs.Seating.{AreSeated}
-use Rattle.lwkt_core.proofs.SeatingLemmas.{at_snoc, map-snoc}
-use Rattle.lwkt_clerk.proofs.SpentMoves.{seated_more, Views-more}
-use Rattle.lwkt_clerk.proofs.GrownMoves.{Views-were_done}
+use Rattle.lwkt_table.specs.declared.seats.SeatKind.{SeatKind}
+use Rattle.lwkt_table.specs.declared.seats.SeatKind.TheVariants.{Spent}
+use Rattle.lwkt_table.specs.Seating.{AreSeated}
+use Rattle.lwkt_table.proofs.SeatingLemmas.{at_snoc, map-snoc}
+use Rattle.lwkt_table.proofs.SpentMoves.{seated_more, Views-more}
+use Rattle.lwkt_table.proofs.GrownMoves.{Views-were_done}
 use Rattle.lwkt_msg.specs.declared.views.Key.{Key}
 use Rattle.lwkt_msg.specs.declared.views.Recalled.{Recalled}
 use Rattle.lwkt_msg.specs.declared.views.View.{View}

@@ -6,14 +6,14 @@ use Rattle.lwkt_base.specs.declared.names.CpuId.{CpuId}
 use Rattle.lwkt_base.specs.declared.records.Rec.{Rec}
 use Rattle.lwkt_base.specs.declared.openings.MsgSpec.{MsgSpec}
 use Rattle.lwkt_base.specs.MessageWord.{message_word}
-use Rattle.lwkt_core.specs.declared.seats.SeatKind.{SeatKind}
-use Rattle.lwkt_core.specs.declared.seats.SeatKind.TheVariants.{Clerk, Of, Spent}
+use Rattle.lwkt_table.specs.declared.seats.SeatKind.{SeatKind}
+use Rattle.lwkt_table.specs.declared.seats.SeatKind.TheVariants.{Clerk, Of, Spent}
 use Rattle.lwkt_core.specs.Opening.{AreWithin, IsMessageWithin}
-use Rattle.lwkt_core.specs.Seating.{AreSeated, weight, after_made, after_back, next_seat}
-use Rattle.lwkt_core.specs.History.{back_page}
-use Rattle.lwkt_core.proofs.ViewLemmas.{Views-opened, Views-split, Views-moved, Views-joined}
+use Rattle.lwkt_table.specs.Seating.{AreSeated, weight, after_made, after_back, next_seat}
+use Rattle.lwkt_table.specs.History.{back_page}
+use Rattle.lwkt_table.proofs.ViewLemmas.{Views-opened, Views-split, Views-moved, Views-joined}
 use Rattle.lwkt_core.proofs.MessageMoves.{IsSafeMessage-opened}
-use Rattle.lwkt_core.proofs.SeatingLemmas.{at_set, set_else, at_longer, at_snoc, at_map, map-set, map-snoc, total-set, total-snoc, AreSeated-opening, AreSeated-split, AreSeated-join}
+use Rattle.lwkt_table.proofs.SeatingLemmas.{at_set, set_else, at_longer, at_snoc, at_map, map-set, map-snoc, total-set, total-snoc, AreSeated-opening, AreSeated-split, AreSeated-join}
 use Rattle.lwkt_msg.specs.declared.views.MessageEntry.{MessageEntry}
 use Rattle.lwkt_msg.specs.declared.views.Key.{Key}
 use Rattle.lwkt_msg.specs.declared.views.Noted.{Noted}

@@ -13,16 +13,16 @@ use Rattle.lwkt_core.specs.declared.events.Event.{Event}
 use Rattle.lwkt_core.specs.declared.events.Event.TheVariants.{Send, TakeMsg, DropMsg, Reply, Reap, Abort}
 use Rattle.lwkt_core.specs.declared.events.Place.TheVariants.{AtMessage}
 use Rattle.lwkt_core.specs.declared.messages.TheConstants.{LAST_ROUND}
-use Rattle.lwkt_core.specs.declared.seats.Deed.{Deed}
-use Rattle.lwkt_core.specs.declared.seats.Operation.{Operation}
-use Rattle.lwkt_core.specs.declared.seats.Operation.TheVariants.{Store, Exchange, Add, Or}
-use Rattle.lwkt_core.specs.declared.seats.Operation.TheVariants as operate
-use Rattle.lwkt_core.specs.declared.seats.SeatKind.TheVariants.{Of}
+use Rattle.lwkt_table.specs.declared.seats.Deed.{Deed}
+use Rattle.lwkt_table.specs.declared.seats.Operation.{Operation}
+use Rattle.lwkt_table.specs.declared.seats.Operation.TheVariants.{Store, Exchange, Add, Or}
+use Rattle.lwkt_table.specs.declared.seats.Operation.TheVariants as operate
+use Rattle.lwkt_table.specs.declared.seats.SeatKind.TheVariants.{Of}
 use Rattle.lwkt_core.specs.Events.{cpu_of, place_of}
 use Rattle.lwkt_core.specs.Machine.{Happens}
 use Rattle.lwkt_core.specs.Messages.{message_after}
-use Rattle.lwkt_core.specs.History.{left_by, IsStepOver, AreOthers}
-use Rattle.lwkt_core.proofs.ViewLemmas.{Views-between, Views-noted}
+use Rattle.lwkt_table.specs.History.{left_by, IsStepOver, AreOthers}
+use Rattle.lwkt_table.proofs.ViewLemmas.{Views-between, Views-noted}
 use Rattle.lwkt_msg.specs.declared.views.MessageEntry.{MessageEntry}
 use Rattle.lwkt_msg.specs.declared.views.Key.{Key}
 use Rattle.lwkt_msg.specs.declared.views.View.{View}

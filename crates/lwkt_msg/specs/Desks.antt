@@ -8,16 +8,16 @@ use Rattle.lwkt_base.specs.declared.openings.MsgSpec.{MsgSpec}
 use Rattle.lwkt_base.specs.declared.owners.MsgEnd.{MsgEnd}
 use Rattle.lwkt_base.specs.declared.records.Rec.{Rec}
 use Rattle.lwkt_core.specs.declared.messages.Message.{Message}
-use Rattle.lwkt_core.specs.declared.seats.SeatKind.TheVariants.{Clerk, Of}
+use Rattle.lwkt_table.specs.declared.seats.SeatKind.TheVariants.{Clerk, Of}
 use Rattle.lwkt_core.specs.Messages.{IsSafeMessage}
 use Rattle.lwkt_core.specs.Opening.{AreWithin}
-use Rattle.lwkt_core.specs.Seating.{total}
+use Rattle.lwkt_table.specs.Seating.{total}
 use Rattle.lwkt_core.specs.Trace.{Run, end_of}
 use Rattle.lwkt_core.specs.declared.events.Event.{Event}
-use Rattle.lwkt_core.specs.declared.seats.WordStep.{WordStep}
-use Rattle.lwkt_core.specs.declared.seats.Deed.{Deed}
-use Rattle.lwkt_core.specs.declared.seats.Chapter.{Chapter}
-use Rattle.lwkt_core.specs.History.{Passes, AreOthers, IsPastOf, events_in, events_by, steps_by}
+use Rattle.lwkt_table.specs.declared.seats.WordStep.{WordStep}
+use Rattle.lwkt_table.specs.declared.seats.Deed.{Deed}
+use Rattle.lwkt_table.specs.declared.seats.Chapter.{Chapter}
+use Rattle.lwkt_table.specs.History.{Passes, AreOthers, IsPastOf, events_in, events_by, steps_by}
 use Rattle.lwkt_msg.specs.declared.views.MessageEntry.{MessageEntry}
 use Rattle.lwkt_msg.specs.declared.views.Key.{Key}
 use Rattle.lwkt_msg.specs.declared.views.View.{View}
@@ -30,7 +30,7 @@ use Rattle.lwkt_base.specs.declared.message_words.MsgState.TheVariants as state
 use Rattle.lwkt_base.specs.MessageWord.{message_word, MessageFits}
 use Rattle.lwkt_msg.specs.Hands.{AreHands}
 use Rattle.lwkt_msg.specs.Book.{Mail, Knows, mail_at}
-use Rattle.lwkt_core.specs.declared.seats.Operation.TheVariants.{Load}
+use Rattle.lwkt_table.specs.declared.seats.Operation.TheVariants.{Load}
 use Rattle.lwkt_msg.specs.Deeds.{word_step}
 use Rattle.lwkt_msg.specs.Steps.{rest_word, machine_of}
 use Rattle.lwkt_msg.specs.Told.{IsDone, first_mails, AreCounted}

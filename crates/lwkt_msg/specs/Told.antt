@@ -10,16 +10,16 @@ use Rattle.lwkt_core.specs.declared.events.Event.{Event}
 use Rattle.lwkt_core.specs.declared.events.Event.TheVariants.{Load, Take, Share, Again, Mark, GiveOne, GiveClean, GiveWritten, Read, Write, ReadBlob, WriteBlob, Send, TakeMsg, DropMsg, Reply, Reap, Abort}
 use Rattle.lwkt_core.specs.declared.events.Place.TheVariants.{AtMessage}
 use Rattle.lwkt_core.specs.declared.messages.Message.{Message}
-use Rattle.lwkt_core.specs.declared.seats.Operation.{Operation}
-use Rattle.lwkt_core.specs.declared.seats.Operation.TheVariants.{Load as Loads, Store, Exchange, Add, Or}
-use Rattle.lwkt_core.specs.declared.seats.WordStep.{WordStep}
-use Rattle.lwkt_core.specs.declared.seats.Deed.{Deed}
-use Rattle.lwkt_core.specs.declared.seats.SeatKind.TheVariants.{Clerk, Of}
+use Rattle.lwkt_table.specs.declared.seats.Operation.{Operation}
+use Rattle.lwkt_table.specs.declared.seats.Operation.TheVariants.{Load as Loads, Store, Exchange, Add, Or}
+use Rattle.lwkt_table.specs.declared.seats.WordStep.{WordStep}
+use Rattle.lwkt_table.specs.declared.seats.Deed.{Deed}
+use Rattle.lwkt_table.specs.declared.seats.SeatKind.TheVariants.{Clerk, Of}
 use Rattle.lwkt_core.specs.Events.{cpu_of, place_of}
 use Rattle.lwkt_core.specs.Headline as kind
 use Rattle.lwkt_core.specs.Messages.{message_after}
 use Rattle.lwkt_core.specs.Machine.{Happens}
-use Rattle.lwkt_core.specs.History.{IsStepOver, AreOthers, Chronicle}
+use Rattle.lwkt_table.specs.History.{IsStepOver, AreOthers, Chronicle}
 use Rattle.lwkt_msg.specs.declared.views.MessageEntry.{MessageEntry}
 use Rattle.lwkt_msg.specs.declared.views.Key.{Key}
 use Rattle.lwkt_msg.specs.declared.views.Recalled.{Recalled}

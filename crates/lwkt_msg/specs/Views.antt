@@ -8,12 +8,12 @@ use Rattle.lwkt_base.specs.declared.openings.MsgSpec.{MsgSpec}
 use Rattle.lwkt_base.specs.declared.message_words.MsgWord.{MsgWord}
 use Rattle.lwkt_base.specs.declared.message_words.MsgState.{MsgState}
 use Rattle.lwkt_base.specs.declared.message_words.MsgState.TheVariants.{Rest, Out, With, Back}
-use Rattle.lwkt_core.specs.declared.seats.Deed.{Deed}
-use Rattle.lwkt_core.specs.declared.seats.Chapter.{Chapter}
-use Rattle.lwkt_core.specs.declared.seats.SeatKind.{SeatKind}
-use Rattle.lwkt_core.specs.declared.seats.SeatKind.TheVariants.{Clerk, Of, Spent}
-use Rattle.lwkt_core.specs.Seating.{after_made, after_back, next_seat}
-use Rattle.lwkt_core.specs.History.{Page}
+use Rattle.lwkt_table.specs.declared.seats.Deed.{Deed}
+use Rattle.lwkt_table.specs.declared.seats.Chapter.{Chapter}
+use Rattle.lwkt_table.specs.declared.seats.SeatKind.{SeatKind}
+use Rattle.lwkt_table.specs.declared.seats.SeatKind.TheVariants.{Clerk, Of, Spent}
+use Rattle.lwkt_table.specs.Seating.{after_made, after_back, next_seat}
+use Rattle.lwkt_table.specs.History.{Page}
 use Rattle.lwkt_msg.specs.declared.views.MessageEntry.{MessageEntry}
 use Rattle.lwkt_msg.specs.declared.views.Noted.{Noted}
 use Rattle.lwkt_msg.specs.declared.views.Recalled.{Recalled}

@@ -5,7 +5,7 @@ ghost use Rattle.lwkt_msg.specs.Desks.{shown_owner, shown_end, AreShown, HasTake
 ghost use Rattle.lwkt_msg.specs.Views.{joined};
 ghost use Rattle.lwkt_base.specs.declared.message_words.MsgWord.{MsgWord};
 ghost use Rattle.lwkt_base.specs.MessageWord.{message_word, MessageFits};
-ghost use Rattle.lwkt_core.specs.declared.seats.SeatKind.TheVariants.{Clerk};
+ghost use Rattle.lwkt_table.specs.declared.seats.SeatKind.TheVariants.{Clerk};
 
 use crate::places::word_of_message;
 use crate::plays::{CutOff, TakeBack};

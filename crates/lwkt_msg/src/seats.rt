@@ -226,7 +226,7 @@ impl MsgSeat {
 }
 
 impl MsgSeat {
-    ghost use Rattle.lwkt_core.specs.declared.seats.SeatKind.TheVariants.{Of};
+    ghost use Rattle.lwkt_table.specs.declared.seats.SeatKind.TheVariants.{Of};
     ghost use Rattle.lwkt_msg.specs.Desks.{desk, desk_cpu};
     ghost use Rattle.lwkt_msg.specs.Hands.{AreHands};
 

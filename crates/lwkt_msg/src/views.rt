@@ -1,6 +1,6 @@
 //! What the book's table is made from, and what its seats know. Only proofs have values of the types but `Key`.
 use lwkt_base::{Call, CpuId, Flags, MsgSpec};
-use lwkt_core::{Chapter, Deed, SeatKind};
+use lwkt_table::{Chapter, Deed, SeatKind};
 
 /// What the table is told when it is made.
 #[derive(Drop)]

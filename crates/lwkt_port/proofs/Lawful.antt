@@ -9,8 +9,8 @@ use Rattle.lwkt_base.specs.declared.names.MsgId.{MsgId}
 use Rattle.lwkt_base.specs.declared.records.Call.{Call}
 use Rattle.lwkt_base.specs.declared.message_words.MsgState.{MsgState}
 use Rattle.lwkt_base.specs.declared.message_words.MsgState.TheVariants.{Out}
-use Rattle.lwkt_core.specs.declared.seats.SeatKind.{SeatKind}
-use Rattle.lwkt_core.specs.declared.seats.SeatKind.TheVariants.{Of}
+use Rattle.lwkt_table.specs.declared.seats.SeatKind.{SeatKind}
+use Rattle.lwkt_table.specs.declared.seats.SeatKind.TheVariants.{Of}
 use Rattle.lwkt_lane.specs.declared.notes.Note.{Note}
 use Rattle.lwkt_lane.specs.declared.notes.NoteKind.{NoteKind}
 use Rattle.lwkt_lane.specs.declared.notes.NoteKind.TheVariants.{Request, Answer}

@@ -11,9 +11,9 @@ use Rattle.lwkt_base.specs.declared.records.Call.{Call}
 use Rattle.lwkt_base.specs.declared.records.Flags.{Flags}
 use Rattle.lwkt_base.specs.declared.records.Rec.{Rec}
 use Rattle.lwkt_core.specs.declared.events.Event.{Event}
-use Rattle.lwkt_core.specs.declared.seats.Deed.{Deed}
-use Rattle.lwkt_core.specs.History.{AreOwn, Grows, events_in}
-use Rattle.lwkt_core.proofs.HistoryLemmas.{own-nil, own-cons, own-append, Grows-append, events_in-append}
+use Rattle.lwkt_table.specs.declared.seats.Deed.{Deed}
+use Rattle.lwkt_table.specs.History.{AreOwn, Grows, events_in}
+use Rattle.lwkt_table.proofs.HistoryLemmas.{own-nil, own-cons, own-append, Grows-append, events_in-append}
 use Rattle.lwkt_lane.specs.declared.notes.Note.{Note}
 use Rattle.lwkt_lane.specs.declared.notes.NoteKind.{NoteKind}
 use Rattle.lwkt_lane.specs.declared.notes.NoteKind.TheVariants.{Request, Answer}

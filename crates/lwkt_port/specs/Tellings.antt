@@ -1,8 +1,8 @@
 -- What a call tells of what its processor's seat did at the book: the trace is that of the seat's deeds (own).
 use Rattle.std.specs.Prelude.{◌≡◌, List, ◌++◌}
 use Rattle.lwkt_core.specs.declared.events.Event.{Event}
-use Rattle.lwkt_core.specs.declared.seats.Deed.{Deed}
-use Rattle.lwkt_core.specs.History.{AreOwn, Grows, events_in}
+use Rattle.lwkt_table.specs.declared.seats.Deed.{Deed}
+use Rattle.lwkt_table.specs.History.{AreOwn, Grows, events_in}
 use Rattle.lwkt_msg.specs.Desks.{Desk, desk_cpu, past_of, IsSameDesk}
 use Rattle.lwkt_port.specs.Works.{Work}
 

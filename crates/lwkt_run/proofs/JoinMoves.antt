@@ -13,10 +13,10 @@ use Rattle.lwkt_core.specs.declared.events.Place.{Place}
 use Rattle.lwkt_core.specs.declared.events.Place.TheVariants.{AtToken, AtMessage}
 use Rattle.lwkt_core.specs.declared.finals.Final.{Final}
 use Rattle.lwkt_core.specs.declared.messages.Message.{Message}
-use Rattle.lwkt_core.specs.declared.seats.Deed.{Deed}
+use Rattle.lwkt_table.specs.declared.seats.Deed.{Deed}
 use Rattle.lwkt_core.specs.declared.tokens.Token.{Token}
 use Rattle.lwkt_core.specs.Events.{cpu_of, place_of, adds_reference}
-use Rattle.lwkt_core.specs.History.{Passes, events_in, events_by}
+use Rattle.lwkt_table.specs.History.{Passes, events_in, events_by}
 use Rattle.lwkt_core.specs.Machine.{Machine, machine, Needs, PlaceNeeds, changed}
 use Rattle.lwkt_core.specs.Messages.{message_after}
 use Rattle.lwkt_core.specs.Opening.{opening, opened_token, opened_message}

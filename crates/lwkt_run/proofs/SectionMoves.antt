@@ -13,13 +13,13 @@ use Rattle.lwkt_core.specs.declared.tokens.Token.{Token}
 use Rattle.lwkt_core.specs.Tokens.{IsFree, IsOpen, IsSafeToken}
 use Rattle.lwkt_core.specs.Machine.{Machine, IsSafe}
 use Rattle.lwkt_core.specs.Trace.{Run}
-use Rattle.lwkt_core.specs.History.{events_in}
+use Rattle.lwkt_table.specs.History.{events_in}
 use Rattle.lwkt_core.specs.Opening.{opening, opened_token, IsTokenWithin, AreWithin, AllOpenLawfully}
 use Rattle.lwkt_core.specs.SectionChain.{RowsAt, AreInOrder, AreSectionChains}
 use Rattle.lwkt_core.specs.RunSections.{values_of, rows_of, sections_in}
 use Rattle.lwkt_core.proofs.ChainLemmas.{refutes}
 use Rattle.lwkt_core.proofs.OpeningLemmas.{IsSafe-opening}
-use Rattle.lwkt_core.proofs.OrderLemmas.{in_order_as_written}
+use Rattle.lwkt_table.proofs.OrderLemmas.{in_order_as_written}
 use Rattle.lwkt_core.proofs.RunChainLemmas.{open_settled}
 use Rattle.lwkt_core.proofs.SafetyLemmas.{stays}
 use Rattle.lwkt_report.specs.declared.closings.ThreadLine.{ThreadLine}

@@ -8,11 +8,12 @@ use Rattle.std.proofs.lemmas.List.Sorted.{IsPermutation-refl, IsPermutation-sym,
 use Rattle.lwkt_base.specs.declared.sections.Section.{Section}
 use Rattle.lwkt_core.specs.declared.events.Event.{Event}
 use Rattle.lwkt_core.specs.declared.events.Event.TheVariants.{GiveWritten}
-use Rattle.lwkt_core.specs.declared.seats.Deed.{Deed}
+use Rattle.lwkt_table.specs.declared.seats.Deed.{Deed}
 use Rattle.lwkt_core.specs.Events.{cpu_of}
-use Rattle.lwkt_core.specs.History.{events_by}
-use Rattle.lwkt_core.specs.RunSections.{section_in, sections_told, sections_by}
-use Rattle.lwkt_core.proofs.PartLemmas.{permutation_same, flat_map-kept, flat_map-parted}
+use Rattle.lwkt_table.specs.History.{events_by}
+use Rattle.lwkt_core.specs.RunSections.{section_in, sections_told}
+use Rattle.lwkt_table.specs.Sections.{sections_by}
+use Rattle.lwkt_table.proofs.PartLemmas.{permutation_same, flat_map-kept, flat_map-parted}
 use Rattle.lwkt_hold.specs.Steps.{may_be_untold, is_of_token, Tells}
 use Rattle.lwkt_threads.specs.Parts.{of_cpu, parts_from}
 use Rattle.lwkt_run.specs.Telling.{sections_of_all}

@@ -5,7 +5,7 @@ use Rattle.lwkt_base.specs.declared.names.CpuId.{CpuId}
 use Rattle.lwkt_core.specs.declared.events.Event.{Event}
 use Rattle.lwkt_core.specs.declared.finals.Final.{Final}
 use Rattle.lwkt_base.specs.declared.sections.Section.{Section}
-use Rattle.lwkt_core.specs.History.{events_in}
+use Rattle.lwkt_table.specs.History.{events_in}
 use Rattle.lwkt_core.specs.RunSections.{sections_in}
 use Rattle.lwkt_core.specs.Opening.{opening, AreWithin, AllOpenLawfully}
 use Rattle.lwkt_bank.specs.Told.{first_machine}

@@ -12,7 +12,7 @@ use Rattle.lwkt_base.specs.declared.holdings.Held.TheVariants.{Nothing, Holds}
 use Rattle.lwkt_base.specs.Law.{Obeys}
 use Rattle.lwkt_base.specs.Holding.{Holding, is_held, is_exclusive, references_in, one_less, removed, holds_nothing}
 use Rattle.lwkt_core.specs.Tokens.{IsNotLastExclusive, length_of}
-use Rattle.lwkt_core.specs.declared.seats.Deed.{Deed}
+use Rattle.lwkt_table.specs.declared.seats.Deed.{Deed}
 use Rattle.lwkt_bank.specs.declared.views.TokenEntry.{TokenEntry}
 use Rattle.lwkt_bank.specs.declared.seats.CpuSeat.{CpuSeat}
 use Rattle.lwkt_bank.specs.declared.answers.Given.{Given}

@@ -9,7 +9,7 @@ use Rattle.std.proofs.lemmas.Option.{slice_get-map, slice_get_within}
 use Rattle.lwkt_base.specs.declared.names.CpuId.{CpuId}
 use Rattle.lwkt_base.specs.Holding.{Holding}
 use Rattle.lwkt_core.specs.declared.events.Event.{Event}
-use Rattle.lwkt_core.specs.declared.seats.SeatKind.{SeatKind}
+use Rattle.lwkt_table.specs.declared.seats.SeatKind.{SeatKind}
 use Rattle.lwkt_core.specs.Events.{cpu_of}
 use Rattle.lwkt_ask.specs.Telling.{TellsMail}
 use Rattle.lwkt_bank.specs.Seats.{BankId}

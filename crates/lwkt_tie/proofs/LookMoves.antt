@@ -4,7 +4,7 @@ use Rattle.std.proofs.lemmas.List.{set-get_or}
 use mathlib.Core.Option.{some, none}
 use lib.ListN.{get_elem?}
 use Rattle.atomic_table.specs.Table.{keeps, step, Enters, Allows, stepped}
-use Rattle.lwkt_core.proofs.SeatingLemmas.{set_again}
+use Rattle.lwkt_table.proofs.SeatingLemmas.{set_again}
 use Rattle.lwkt_bank.specs.declared.views.Plan.{Plan}
 use Rattle.lwkt_bank.specs.declared.views.View.{View}
 use Rattle.lwkt_bank.specs.Views.{first_view, spent}

@@ -7,11 +7,11 @@ use Rattle.atomic_table.specs.Table.{State, keeps, step, Enters, Allows, stepped
 use Rattle.atomic_table.specs.declared.shared.Seat.{Seat}
 use Rattle.lwkt_base.specs.declared.openings.MsgSpec.{MsgSpec}
 use Rattle.lwkt_base.specs.declared.records.Rec.{Rec}
-use Rattle.lwkt_core.specs.declared.seats.SeatKind.{SeatKind}
-use Rattle.lwkt_core.specs.declared.seats.SeatKind.TheVariants.{Of}
-use Rattle.lwkt_core.specs.History.{IsPastOf}
-use Rattle.lwkt_core.proofs.HistoryLemmas.{events_by-past, steps_by-past}
-use Rattle.lwkt_core.proofs.SeatingLemmas.{at_map, set_again}
+use Rattle.lwkt_table.specs.declared.seats.SeatKind.{SeatKind}
+use Rattle.lwkt_table.specs.declared.seats.SeatKind.TheVariants.{Of}
+use Rattle.lwkt_table.specs.History.{IsPastOf}
+use Rattle.lwkt_table.proofs.HistoryLemmas.{events_by-past, steps_by-past}
+use Rattle.lwkt_table.proofs.SeatingLemmas.{at_map, set_again}
 use Rattle.lwkt_msg.specs.declared.views.Key.{Key}
 use Rattle.lwkt_msg.specs.declared.views.View.{View}
 use Rattle.lwkt_msg.specs.Views.{word_at, at, page_of, spent_view}

@@ -2,7 +2,7 @@ use Rattle.std.specs.Prelude.{◌≡◌, ℕ, ◌<◌, List, length, All, slice_
 use Rattle.lwkt_core.specs.Tokens.{held_by}
 use Rattle.lwkt_core.specs.Machine.{IsSafe}
 use Rattle.lwkt_core.specs.Safety.{IsCompatible, IsWriting, KeepsLaw}
-use Rattle.lwkt_core.specs.History.{IsPastOf, events_in, events_by, steps_by}
+use Rattle.lwkt_table.specs.History.{IsPastOf, events_in, events_by, steps_by}
 use Rattle.lwkt_core.specs.Trace.{Run}
 use Rattle.lwkt_bank.specs.declared.views.Plan.{Plan}
 use Rattle.lwkt_bank.specs.declared.seats.CpuSeat.{CpuSeat}

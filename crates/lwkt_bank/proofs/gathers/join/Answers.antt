@@ -1,6 +1,6 @@
 use Rattle.std.proofs.Common.{◌∙◌, sym}
 use Rattle.lwkt_bank.proofs.ToldMoves.{Told-join}
-use Rattle.lwkt_core.proofs.SeatingLemmas.{set_else}
+use Rattle.lwkt_table.proofs.SeatingLemmas.{set_else}
 use Rattle.lwkt_bank.specs.Views.{joined}
 use Rattle.lwkt_bank.proofs.gathers.join.Goals as goal
 

@@ -1,7 +1,7 @@
 use Rattle.std.proofs.Common.{ap, ◌∙◌}
 use Rattle.lwkt_base.specs.declared.names.CpuId.{CpuId}
-use Rattle.lwkt_core.specs.History.{steps_by, events_by}
-use Rattle.lwkt_core.proofs.HistoryLemmas.{steps_by-grows, events_by-grows}
+use Rattle.lwkt_table.specs.History.{steps_by, events_by}
+use Rattle.lwkt_table.proofs.HistoryLemmas.{steps_by-grows, events_by-grows}
 use Rattle.lwkt_bank.specs.Seats.{past_of}
 use Rattle.lwkt_bank.proofs.laws.deeds_are_told.Goals as goal
 

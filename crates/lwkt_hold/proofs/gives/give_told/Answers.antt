@@ -7,7 +7,7 @@ use Rattle.lwkt_base.specs.Holding.{one_less, removed}
 use Rattle.lwkt_core.specs.declared.events.Event.TheVariants.{GiveOne, GiveClean, GiveWritten}
 use Rattle.lwkt_bank.specs.Views.{less, ended}
 use Rattle.lwkt_bank.specs.Deeds.{gives_one, gives_clean, gives_written}
-use Rattle.lwkt_core.specs.declared.seats.WordStep.{WordStep}
+use Rattle.lwkt_table.specs.declared.seats.WordStep.{WordStep}
 use Rattle.lwkt_bank.specs.Seats.{bank_of, plan_of, entry, holding, last_loads}
 use Rattle.lwkt_hold.specs.Steps.{is_counted, is_on_word, ShowsEvent}
 use Rattle.lwkt_hold.proofs.GiveMoves.{tells_behind, steps_behind, last_untold}

@@ -1,5 +1,5 @@
 use Rattle.std.proofs.Common.{◌≡◌, ap, sym, subst, ◌∙◌, List, [], ◌++◌}
-use Rattle.lwkt_core.specs.declared.seats.Deed.{Deed}
+use Rattle.lwkt_table.specs.declared.seats.Deed.{Deed}
 use Rattle.lwkt_bank.specs.declared.views.Plan.{Plan}
 use Rattle.lwkt_bank.specs.Deeds.{reads_all}
 use Rattle.lwkt_bank.specs.Seats.{BankId, bank_of, plan_of, entry, Knowing, lawful_loads, asked_record}

@@ -1,6 +1,6 @@
 use Rattle.std.proofs.Common.{inl, inr, ◌≡◌, ℕ, ◌+◌, [], ◌∷◌, ◌++◌, refl, ap, sym, subst, ◌∙◌}
 use Rattle.std.specs.Prelude.{slice_index}
-use Rattle.lwkt_core.specs.History.{events_in, steps_in}
+use Rattle.lwkt_table.specs.History.{events_in, steps_in}
 use Rattle.lwkt_core.specs.declared.events.Event.TheVariants.{Write}
 use Rattle.lwkt_bank.specs.Views.{raised}
 use Rattle.lwkt_bank.specs.Deeds.{writes}

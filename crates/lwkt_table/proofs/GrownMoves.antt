@@ -4,14 +4,14 @@ use Rattle.std.proofs.lemmas.List.{append_cancel_left}
 use mathlib.Core.Option.{some, some-injective}
 use lib.ListN.{get_elem?}
 use Rattle.lwkt_base.specs.declared.names.CpuId.{CpuId}
-use Rattle.lwkt_core.specs.declared.seats.SeatKind.{SeatKind}
-use Rattle.lwkt_core.specs.declared.seats.SeatKind.TheVariants.{Clerk, Of, Spent}
-use Rattle.lwkt_core.specs.declared.seats.Deed.{Deed}
-use Rattle.lwkt_core.specs.Seating.{AreSeated}
-use Rattle.lwkt_core.specs.History.{Passes, part_by, AreOthers, AreOwn, IsPastOf, Grows, Page, kinds_of, HasClerk, HasSeen, Chronicle}
-use Rattle.lwkt_core.proofs.SeatingLemmas.{set_here, set_else, inside, at_map, of_map, map-set}
-use Rattle.lwkt_core.proofs.ViewLemmas.{seated_pages}
-use Rattle.lwkt_core.proofs.HistoryLemmas.{others-right, part_by-append, part_by-others, part_by-own, part_by-grows, Grows-front, Passes-split, Passes-same}
+use Rattle.lwkt_table.specs.declared.seats.SeatKind.{SeatKind}
+use Rattle.lwkt_table.specs.declared.seats.SeatKind.TheVariants.{Clerk, Of, Spent}
+use Rattle.lwkt_table.specs.declared.seats.Deed.{Deed}
+use Rattle.lwkt_table.specs.Seating.{AreSeated}
+use Rattle.lwkt_table.specs.History.{Passes, part_by, AreOthers, AreOwn, IsPastOf, Grows, Page, kinds_of, HasClerk, HasSeen, Chronicle}
+use Rattle.lwkt_table.proofs.SeatingLemmas.{set_here, set_else, inside, at_map, of_map, map-set}
+use Rattle.lwkt_table.proofs.ViewLemmas.{seated_pages}
+use Rattle.lwkt_table.proofs.HistoryLemmas.{others-right, part_by-append, part_by-others, part_by-own, part_by-grows, Grows-front, Passes-split, Passes-same}
 
 abbrev cpu_in : SeatKind → CpuId
 cpu_in (Clerk made back) = record { 0 = 0 }

@@ -2,13 +2,13 @@ use Rattle.std.proofs.Common.{inl, inr, ◌≡◌, ⊎_elim, ℕ, List, [], ◌�
 use mathlib.Core.Option.{some}
 use lib.ListN.{get_elem?}
 use Rattle.lwkt_base.specs.declared.names.CpuId.{CpuId}
-use Rattle.lwkt_core.specs.declared.seats.SeatKind.{SeatKind}
-use Rattle.lwkt_core.specs.declared.seats.SeatKind.TheVariants.{Clerk, Of, Spent}
-use Rattle.lwkt_core.specs.declared.seats.Deed.{Deed}
-use Rattle.lwkt_core.specs.declared.seats.Chapter.{Chapter}
-use Rattle.lwkt_core.specs.Seating.{AreSeated, weight}
-use Rattle.lwkt_core.specs.History.{Page, spent_page, HasClerk, HasSeat, HasChapter, HasSeen, Chronicle}
-use Rattle.lwkt_core.proofs.SeatingLemmas.{at_snoc, at_longer, map-snoc, total-snoc}
+use Rattle.lwkt_table.specs.declared.seats.SeatKind.{SeatKind}
+use Rattle.lwkt_table.specs.declared.seats.SeatKind.TheVariants.{Clerk, Of, Spent}
+use Rattle.lwkt_table.specs.declared.seats.Deed.{Deed}
+use Rattle.lwkt_table.specs.declared.seats.Chapter.{Chapter}
+use Rattle.lwkt_table.specs.Seating.{AreSeated, weight}
+use Rattle.lwkt_table.specs.History.{Page, spent_page, HasClerk, HasSeat, HasChapter, HasSeen, Chronicle}
+use Rattle.lwkt_table.proofs.SeatingLemmas.{at_snoc, at_longer, map-snoc, total-snoc}
 
 not_clerk : (made back : ℕ) → Spent ≡ Clerk made back → ⊥
 not_clerk made back e = cc

@@ -1,17 +1,21 @@
-//! The clerk of a table rests: its seat is needed at the opening and at the close alone. A seat can't be shared by threads;
-//! at rest it lets them share what it belongs to, and costs nothing meanwhile. Bank and book keep their clerks so.
+//! What a table of seats has, be it of tokens or of messages: the history of what was done at it, what each seat has seen of this
+//! history, and the clerk, which makes the seats and takes them back.
 //!
-//! Words: a *clerk* makes a table's seats and takes them back; it *rests* while others step on the table, and *wakes* for the
-//! close; a *spent* view is one that was joined into another.
+//! Words: a *deed* is one atomic step of a seat; a *history* is the deeds of all seats of a table, in order; a *view* is what a
+//! seat knows, and a *chapter* what one that was taken back had seen; a *clerk* makes a table's seats and takes them back; it
+//! *rests* while others step on the table, and *wakes* for the close; a *spent* view is one that was joined into another.
 #![tactic(auto)]
 
+pub mod laws;
 mod refusals;
+pub mod seats;
 
 ghost use Rattle.std.specs.Prelude.{◌≡◌};
 ghost use Rattle.std.specs.Borrow.{ftrue};
 
 use atomic_table::Seat;
 pub use refusals::table_refusal;
+pub use seats::{Chapter, Deed, Operation, SeatKind, WordStep};
 use std::marker::Model;
 
 /// A clerk's seat at rest. A reference to it gives no seat, so threads may share what it lies in; who owns it wakes the clerk.

@@ -2,10 +2,10 @@ use Rattle.std.proofs.Common.{◌≡◌, ◌≢◌, ℕ, ◌==◌, Bool, cond, L
 use Rattle.std.proofs.lemmas.List.Elements.{All-nil, All-cons, All-head, All-tail, All-append}
 use Rattle.std.proofs.lemmas.List.Concat.{flat_map-append}
 use Rattle.lwkt_core.specs.declared.events.Event.{Event}
-use Rattle.lwkt_core.specs.declared.seats.Deed.{Deed}
+use Rattle.lwkt_table.specs.declared.seats.Deed.{Deed}
 use Rattle.lwkt_core.specs.Machine.{Machine}
 use Rattle.lwkt_core.specs.Trace.{Run}
-use Rattle.lwkt_core.specs.History.{part_by, steps_by, events_by, events_in, steps_in, Passes, AreOthers, AreOwn, IsPastOf, Grows}
+use Rattle.lwkt_table.specs.History.{part_by, steps_by, events_by, events_in, steps_in, Passes, AreOthers, AreOwn, IsPastOf, Grows}
 
 -- a deed is another processor's, or this one's
 abbrev is_other : ℕ → Deed → Type 0

@@ -8,17 +8,18 @@ use Rattle.std.proofs.lemmas.List.Elements.{All-cons, All-head, All-tail, All-we
 use Rattle.std.proofs.lemmas.List.Sorted.{IsPermutation-sym, IsPermutation-trans, All-permutation, length_permutation}
 use Rattle.lwkt_base.specs.declared.sections.Section.{Section}
 use Rattle.lwkt_core.specs.declared.events.Event.{Event}
-use Rattle.lwkt_core.specs.declared.seats.Deed.{Deed}
+use Rattle.lwkt_table.specs.declared.seats.Deed.{Deed}
 use Rattle.lwkt_core.specs.Machine.{Machine}
 use Rattle.lwkt_core.specs.Trace.{Run}
 use Rattle.lwkt_core.specs.Headline.{sections_of}
-use Rattle.lwkt_core.specs.History.{events_in, AreOthers}
+use Rattle.lwkt_table.specs.History.{events_in, AreOthers}
 use Rattle.lwkt_core.specs.SectionChain.{sections_at, AreSectionChains, Precedes, AreInOrder}
-use Rattle.lwkt_core.specs.RunSections.{of_token, rows_of, section_in, sections_in, sections_told, sections_by}
-use Rattle.lwkt_core.proofs.PartLemmas.{permutation_same, permutation-filter, flat_map-parted}
+use Rattle.lwkt_core.specs.RunSections.{of_token, rows_of, section_in, sections_in, sections_told}
+use Rattle.lwkt_table.specs.Sections.{sections_by}
+use Rattle.lwkt_table.proofs.PartLemmas.{permutation_same, permutation-filter, flat_map-parted}
 use Rattle.lwkt_core.proofs.RunChainLemmas.{IsSettled, settled_chains, length-rows}
 use Rattle.lwkt_core.proofs.TellLemmas.{tell, told_chains}
-use Rattle.lwkt_core.proofs.SectionParts.{chains_in_any_order, deeds_below, parts_are_all, parts_chains, is_before, sorted_in_order}
+use Rattle.lwkt_table.proofs.SectionParts.{chains_in_any_order, deeds_below, parts_are_all, parts_chains, is_before, sorted_in_order}
 
 -- a section that is before another one is so by the test, and none is before itself
 less_than : (a b : ℕ) (p : Ordering) → (a < b) ⊎ ((a ≡ b) × (is_lt p ≡ true)) → is_lt (ordering_then (nat_cmp a b) p) ≡ true

@@ -5,10 +5,10 @@ use Rattle.std.proofs.lemmas.List.Sums.{sum_by-append}
 use mathlib.Core.Option.{some}
 use lib.ListN.{get_elem?}
 use Rattle.lwkt_core.specs.declared.events.Event.{Event}
-use Rattle.lwkt_core.specs.declared.seats.Deed.{Deed}
-use Rattle.lwkt_core.specs.Seating.{total}
-use Rattle.lwkt_core.specs.History.{events_by, events_in}
-use Rattle.lwkt_core.proofs.SeatingLemmas.{total-cons, total-zero, total-at}
+use Rattle.lwkt_table.specs.declared.seats.Deed.{Deed}
+use Rattle.lwkt_table.specs.Seating.{total}
+use Rattle.lwkt_table.specs.History.{events_by, events_in}
+use Rattle.lwkt_table.proofs.SeatingLemmas.{total-cons, total-zero, total-at}
 
 -- 1 where a test passes
 abbrev one_if : Bool → ℕ

@@ -11,17 +11,18 @@ use Rattle.std.proofs.lemmas.Map.Keys.{ge_from_not_lt}
 use Rattle.std.proofs.lemmas.List.Sorted.{IsPermutation-trans, All-permutation, sum_by-IsPermutation}
 use Rattle.lwkt_base.specs.declared.sections.Section.{Section}
 use Rattle.lwkt_core.specs.declared.events.Event.{Event}
-use Rattle.lwkt_core.specs.declared.seats.Deed.{Deed}
-use Rattle.lwkt_core.specs.History.{part_by, events_by, events_in, AreOthers}
+use Rattle.lwkt_table.specs.declared.seats.Deed.{Deed}
+use Rattle.lwkt_table.specs.History.{part_by, events_by, events_in, AreOthers}
 use Rattle.lwkt_core.specs.SectionChain.{RowsAt, row_at, generation_at, IsSectionChain, sections_at, AreSectionChains, Precedes, AreInOrder}
 use Rattle.lwkt_core.proofs.ChainLemmas.{is_of, count-yes, count-no, count-none, sections_at-own, sections_at-other, sections_at-none}
-use Rattle.lwkt_core.specs.RunSections.{rows_of, section_in, sections_by, PartsTellChains}
+use Rattle.lwkt_core.specs.RunSections.{rows_of, section_in}
+use Rattle.lwkt_table.specs.Sections.{sections_by, PartsTellChains}
 use Rattle.lwkt_core.specs.Machine.{Machine}
 use Rattle.lwkt_core.specs.Trace.{Run}
 use Rattle.lwkt_core.proofs.RunChainLemmas.{IsSettled, open_settled}
 use Rattle.lwkt_core.proofs.SafetyLemmas.{stays}
 use Rattle.lwkt_core.proofs.TellLemmas.{told_chains}
-use Rattle.lwkt_core.proofs.PartLemmas.{permutation_same, permutation-filter, flat_map-parted}
+use Rattle.lwkt_table.proofs.PartLemmas.{permutation_same, permutation-filter, flat_map-parted}
 
 -- a token's chain, with its sections in another order
 module _ (opening : List ℕ) (first : ℕ) (closing : List ℕ) (last : ℕ) where

@@ -3,11 +3,11 @@ use Rattle.atomic_table.proofs.Names.{◌≡◌, List, [], ◌∷◌, ◌++◌, 
 use Rattle.atomic_table.proofs.Walks.{proved, leaves}
 use Rattle.atomic_table.proofs.Fields.{token_val, token_told}
 use Rattle.atomic_table.specs.contracts.shared.Seat as seat
-use Rattle.lwkt_clerk.specs.contracts.Resting as rest
-use Rattle.lwkt_clerk.specs.contracts.Resting.of.{ended, clauses}
-use Rattle.lwkt_clerk.specs.contracts.Resting.of.Key.{name as #self}
-use Rattle.lwkt_clerk.proofs.Resting.of.Statement.{statement}
-use Rattle.lwkt_clerk.proofs.Resting.of.Code as code
+use Rattle.lwkt_table.specs.contracts.Resting as rest
+use Rattle.lwkt_table.specs.contracts.Resting.of.{ended, clauses}
+use Rattle.lwkt_table.specs.contracts.Resting.of.Key.{name as #self}
+use Rattle.lwkt_table.proofs.Resting.of.Statement.{statement}
+use Rattle.lwkt_table.proofs.Resting.of.Code as code
 
 pub of_spec : {M : Type 1} → statement M
 of_spec 𝓤 𝓛 𝓜 𝓡 wired T U _ _ =

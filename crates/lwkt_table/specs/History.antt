@@ -3,14 +3,14 @@ use mathlib.Core.Option.{some}
 use lib.ListN.{get_elem?}
 use Rattle.lwkt_base.specs.declared.names.CpuId.{CpuId}
 use Rattle.lwkt_core.specs.declared.events.Event.{Event}
-use Rattle.lwkt_core.specs.declared.seats.SeatKind.{SeatKind}
-use Rattle.lwkt_core.specs.declared.seats.SeatKind.TheVariants.{Clerk, Of, Spent}
-use Rattle.lwkt_core.specs.declared.seats.Operation.{Operation}
-use Rattle.lwkt_core.specs.declared.seats.Operation.TheVariants.{Load, Store, Exchange, Add, Sub, Or}
-use Rattle.lwkt_core.specs.declared.seats.WordStep.{WordStep}
-use Rattle.lwkt_core.specs.declared.seats.Deed.{Deed}
-use Rattle.lwkt_core.specs.declared.seats.Chapter.{Chapter}
-use Rattle.lwkt_core.specs.Seating.{after_made, after_back, next_seat}
+use Rattle.lwkt_table.specs.declared.seats.SeatKind.{SeatKind}
+use Rattle.lwkt_table.specs.declared.seats.SeatKind.TheVariants.{Clerk, Of, Spent}
+use Rattle.lwkt_table.specs.declared.seats.Operation.{Operation}
+use Rattle.lwkt_table.specs.declared.seats.Operation.TheVariants.{Load, Store, Exchange, Add, Sub, Or}
+use Rattle.lwkt_table.specs.declared.seats.WordStep.{WordStep}
+use Rattle.lwkt_table.specs.declared.seats.Deed.{Deed}
+use Rattle.lwkt_table.specs.declared.seats.Chapter.{Chapter}
+use Rattle.lwkt_table.specs.Seating.{after_made, after_back, next_seat}
 
 -- the word that an operation leaves where it met this one
 abbrev pub left_by : Operation → ℕ → ℕ

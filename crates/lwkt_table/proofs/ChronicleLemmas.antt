@@ -4,14 +4,14 @@ use Rattle.std.proofs.lemmas.List.{append_cancel_left, nil_from_length}
 use mathlib.Core.Option.{some, some-injective, some-ne-none}
 use lib.ListN.{get_elem?}
 use Rattle.lwkt_base.specs.declared.names.CpuId.{CpuId}
-use Rattle.lwkt_core.specs.declared.seats.SeatKind.{SeatKind}
-use Rattle.lwkt_core.specs.declared.seats.SeatKind.TheVariants.{Clerk, Of, Spent}
-use Rattle.lwkt_core.specs.declared.seats.Deed.{Deed}
-use Rattle.lwkt_core.specs.declared.seats.Chapter.{Chapter}
-use Rattle.lwkt_core.specs.Seating.{AreSeated, after_made, after_back, next_seat}
-use Rattle.lwkt_core.specs.History.{Passes, part_by, AreOthers, AreOwn, IsPastOf, Page, kinds_of, first_page, spent_page, noted_page, made_page, seat_page, back_page, HasClerk, HasSeat, HasChapter, HasSeen, Chronicle}
-use Rattle.lwkt_core.proofs.SeatingLemmas.{at_set, set_here, set_else, at_longer, at_last, at_snoc, inside, at_map, of_map, at_two, AreSeated-below, AreSeated-clerk, AreSeated-closed}
-use Rattle.lwkt_core.proofs.HistoryLemmas.{others-nil, others-snoc, others-right, part_by-append, part_by-others, part_by-own, part_by-noted, Passes-snoc, Passes-split, Passes-same}
+use Rattle.lwkt_table.specs.declared.seats.SeatKind.{SeatKind}
+use Rattle.lwkt_table.specs.declared.seats.SeatKind.TheVariants.{Clerk, Of, Spent}
+use Rattle.lwkt_table.specs.declared.seats.Deed.{Deed}
+use Rattle.lwkt_table.specs.declared.seats.Chapter.{Chapter}
+use Rattle.lwkt_table.specs.Seating.{AreSeated, after_made, after_back, next_seat}
+use Rattle.lwkt_table.specs.History.{Passes, part_by, AreOthers, AreOwn, IsPastOf, Page, kinds_of, first_page, spent_page, noted_page, made_page, seat_page, back_page, HasClerk, HasSeat, HasChapter, HasSeen, Chronicle}
+use Rattle.lwkt_table.proofs.SeatingLemmas.{at_set, set_here, set_else, at_longer, at_last, at_snoc, inside, at_map, of_map, at_two, AreSeated-below, AreSeated-clerk, AreSeated-closed}
+use Rattle.lwkt_table.proofs.HistoryLemmas.{others-nil, others-snoc, others-right, part_by-append, part_by-others, part_by-own, part_by-noted, Passes-snoc, Passes-split, Passes-same}
 
 -- what a kind has in it
 abbrev cpu_in : SeatKind → CpuId

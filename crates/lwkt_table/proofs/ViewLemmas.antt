@@ -2,14 +2,14 @@ use Rattle.std.proofs.Common.{◌≡◌, ◌≢◌, ◌⊎◌, ℕ, ◌<◌, ◌
 use mathlib.Core.Option.{some}
 use lib.ListN.{get_elem?}
 use Rattle.lwkt_base.specs.declared.names.CpuId.{CpuId}
-use Rattle.lwkt_core.specs.declared.seats.SeatKind.{SeatKind}
-use Rattle.lwkt_core.specs.declared.seats.SeatKind.TheVariants.{Clerk, Of}
-use Rattle.lwkt_core.specs.declared.seats.Deed.{Deed}
-use Rattle.lwkt_core.specs.declared.seats.Chapter.{Chapter}
-use Rattle.lwkt_core.specs.Seating.{AreSeated}
-use Rattle.lwkt_core.specs.History.{AreOthers, IsPastOf, Page, kinds_of, first_page, spent_page, noted_page, made_page, seat_page, back_page, Chronicle}
-use Rattle.lwkt_core.proofs.SeatingLemmas.{at_map, map-set, map-snoc}
-use Rattle.lwkt_core.proofs.ChronicleLemmas.{Chronicle-opened, Chronicle-between, Chronicle-noted, Chronicle-split, Chronicle-joined, Chronicle-moved, Chronicle-one_more, Chronicle-was_done, Closed-part, Closed-chapter, Closed-others, Closed-whole}
+use Rattle.lwkt_table.specs.declared.seats.SeatKind.{SeatKind}
+use Rattle.lwkt_table.specs.declared.seats.SeatKind.TheVariants.{Clerk, Of}
+use Rattle.lwkt_table.specs.declared.seats.Deed.{Deed}
+use Rattle.lwkt_table.specs.declared.seats.Chapter.{Chapter}
+use Rattle.lwkt_table.specs.Seating.{AreSeated}
+use Rattle.lwkt_table.specs.History.{AreOthers, IsPastOf, Page, kinds_of, first_page, spent_page, noted_page, made_page, seat_page, back_page, Chronicle}
+use Rattle.lwkt_table.proofs.SeatingLemmas.{at_map, map-set, map-snoc}
+use Rattle.lwkt_table.proofs.ChronicleLemmas.{Chronicle-opened, Chronicle-between, Chronicle-noted, Chronicle-split, Chronicle-joined, Chronicle-moved, Chronicle-one_more, Chronicle-was_done, Closed-part, Closed-chapter, Closed-others, Closed-whole}
 
 -- what was proved of pages, for the views of a table that show them
 module _ {V : Type 0} (page_of : V → Page) where

@@ -1,5 +1,5 @@
-use crate::events::Event;
 use lwkt_base::{CpuId, Rec};
+use lwkt_core::Event;
 
 /// Whose view of a table of seats a view is. Bank and book split one seat off for each processor at their opening, and
 /// join them at their close. Only proofs have values of it.

@@ -4,11 +4,11 @@ use Rattle.atomic_table.proofs.Walks.{proved, leaves}
 use Rattle.atomic_table.proofs.Fields.{token_val, token_told}
 use Rattle.core.proofs.alloc.Calls.{Goes-blank}
 use Rattle.atomic_table.specs.contracts.shared.Seat as seat
-use Rattle.lwkt_clerk.specs.contracts.Resting as rest
-use Rattle.lwkt_clerk.specs.contracts.Resting.wake.{ended, clauses}
-use Rattle.lwkt_clerk.specs.contracts.Resting.wake.Key.{name as #self}
-use Rattle.lwkt_clerk.proofs.Resting.wake.Statement.{statement}
-use Rattle.lwkt_clerk.proofs.Resting.wake.Code as code
+use Rattle.lwkt_table.specs.contracts.Resting as rest
+use Rattle.lwkt_table.specs.contracts.Resting.wake.{ended, clauses}
+use Rattle.lwkt_table.specs.contracts.Resting.wake.Key.{name as #self}
+use Rattle.lwkt_table.proofs.Resting.wake.Statement.{statement}
+use Rattle.lwkt_table.proofs.Resting.wake.Code as code
 
 abbrev rest_val : Val
 rest_val = vstruct (vcons token_val vnil)

@@ -1,2 +1,0 @@
-pub mod SpentMoves
-pub mod GrownMoves

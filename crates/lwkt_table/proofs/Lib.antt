@@ -1,0 +1,10 @@
+pub mod SpentMoves
+pub mod GrownMoves
+pub mod SeatingLemmas
+pub mod HistoryLemmas
+pub mod ChronicleLemmas
+pub mod ViewLemmas
+pub mod ShareLemmas
+pub mod PartLemmas
+pub mod SectionParts
+pub mod OrderLemmas

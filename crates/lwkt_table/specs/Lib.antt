@@ -1,0 +1,3 @@
+pub mod Seating
+pub mod History
+pub mod Sections
