@@ -94,7 +94,7 @@ fn show_length(out: &mut String, token: &Token) -> Result<(), AllocError>
 }
 
 // Appends the law that a row breaks.
-#[tactic(auto, unfolding(crate::specs::Said::law_said))]
+#[tactic(auto, unfolding(crate::specs::Said::broken_law_text))]
 fn show_law(out: &mut String, law: Law, param: u64) -> Result<(), AllocError>
     ensures { OnOk result (string_bytes out.new ≡ string_bytes out.old ++ broken_law_text law param) }
 {

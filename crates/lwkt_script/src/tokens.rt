@@ -64,7 +64,7 @@ pub fn cells_of(alloc: Global, place: u32, items: &[Value]) -> Result<Vec<u64>, 
     Ok(cells)
 }
 
-#[tactic(auto, using(crate::proofs::Counts::items_counted), unfolding(crate::specs::Format::token_at))]
+#[tactic(auto, using(crate::proofs::Counts::items_counted), unfolding(crate::specs::Format::token_read))]
 fn token_at(alloc: Global, version: Version, place: u32, value: &Value) -> Result<TokSpec, Fault>
     ensures exact { Gives (λ t. t) result (token_read version place (view value.now)) }
     ensures within { IfOk result IsToken }

@@ -90,7 +90,7 @@ fn part_said(alloc: Global, names: &Names, words: &[Word]) -> Result<Said, Slip>
 }
 
 /// What a sentence tells.
-#[tactic(auto, unfolding(crate::specs::Drafting::said))]
+#[tactic(auto, unfolding(crate::specs::Drafting::said_by_sentence))]
 pub fn told_by(alloc: Global, names: &Names, words: &[Word]) -> Result<Said, Slip>
     requires { 0 < names.now.cpus }
     ensures exact { IsAsRead result (said_by_sentence names.now words.now) }

@@ -88,7 +88,7 @@ fn cells_of(names: &Names, tok: TokId) -> &[Name]
 }
 
 /// Words i to i + 2, a token, a full stop and a cell: its name, or a number up to 255.
-#[tactic(auto, unfolding(crate::specs::Naming::cell_at))]
+#[tactic(auto, unfolding(crate::specs::Naming::cell_by_words))]
 pub fn cell_at(names: &Names, words: &[Word], i: usize) -> Result<CellPlace, Wrong>
     requires { i ≤ 100000 }
     ensures { result ≡ cell_by_words names.now words.now i }

@@ -42,7 +42,7 @@ fn show_parts(out: &mut String, numbers: &[u64]) -> Result<(), AllocError>
 }
 
 // Appends the name of a member, and what stands between it and its value.
-#[tactic(auto, unfolding(crate::specs::Written::named))]
+#[tactic(auto, unfolding(crate::specs::Written::member_name))]
 fn show_name(out: &mut String, name: &str) -> Result<(), AllocError>
     ensures { OnOk result (string_bytes out.new ≡ string_bytes out.old ++ member_name name.now) }
 {
