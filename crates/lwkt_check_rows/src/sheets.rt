@@ -1,11 +1,21 @@
 //! A run written down by hand: the script's threads, turns with their polls and events, and the lines at the end.
 
 use lwkt_base::{
-    Answer, Ask, Cells, CpuId, Entry, Fault, Law, MsgSpec, ThreadId, ThreadState, TokSpec,
+    Answer, Ask, Cells, CpuId, Entry, Fault, Law, MsgSpec, ThreadId, ThreadState, TokList, TokSpec,
 };
 use lwkt_core::{Event, State};
-use lwkt_verdict::{Pace, Poll, PollList, ThreadEnd, ThreadPlan, Turn, is_script_run};
+use lwkt_report::{Log, ThreadLine};
+use lwkt_script::{Parts, ThreadSpec};
+use lwkt_verdict::{Pace, Poll, PollList, Turn, is_script_run};
 use std::alloc::{AllocError, Global};
+
+/// How a thread stands at the end of a run, and its log.
+#[derive(Drop)]
+pub struct Line {
+    pub id: ThreadId,
+    pub state: ThreadState,
+    pub log: Vec<Entry>,
+}
 
 /// A run by hand.
 #[derive(Drop)]
@@ -14,11 +24,11 @@ pub struct Sheet {
     pub limit: u32,
     pub tokens: Vec<TokSpec>,
     pub messages: Vec<MsgSpec>,
-    pub plans: Vec<ThreadPlan>,
+    pub threads: Vec<ThreadSpec>,
     pub polls: Vec<Poll>,
     pub turns: Vec<Turn>,
     pub trace: Vec<Event>,
-    pub lines: Vec<ThreadEnd>,
+    pub lines: Vec<Line>,
 }
 
 /// The first thread of a processor.
@@ -37,7 +47,7 @@ impl Sheet {
             limit,
             tokens: Vec::new(alloc),
             messages: Vec::new(alloc),
-            plans: Vec::new(alloc),
+            threads: Vec::new(alloc),
             polls: Vec::new(alloc),
             turns: Vec::new(alloc),
             trace: Vec::new(alloc),
@@ -72,12 +82,12 @@ impl Sheet {
         state: ThreadState,
         log: &[Entry],
     ) -> Result<(), AllocError> {
-        self.plans.push(ThreadPlan {
+        self.threads.push(ThreadSpec {
             cpu: id.cpu,
             repeat: 1,
-            steps: Vec::from_slice(alloc, steps)?,
+            steps: Parts::from_vec(Vec::from_slice(alloc, steps)?),
         })?;
-        self.lines.push(ThreadEnd {
+        self.lines.push(Line {
             id,
             state,
             log: Vec::from_slice(alloc, log)?,
@@ -143,6 +153,20 @@ impl Sheet {
         Ok(order)
     }
 
+    // The lines as a report has them.
+    fn reported(&self, alloc: Global) -> Result<Vec<ThreadLine>, AllocError> {
+        let mut lines = Vec::new(alloc);
+        for line in &self.lines {
+            lines.push(ThreadLine {
+                id: line.id,
+                state: line.state,
+                list: TokList::new(),
+                log: Log::from_vec(Vec::from_slice(alloc, line.log.as_slice())?),
+            })?;
+        }
+        Ok(lines)
+    }
+
     /// Whether this is a run of its script.
     pub fn is_run(&self, alloc: Global) -> Result<bool, Fault> {
         let mut state = State::open(
@@ -153,15 +177,16 @@ impl Sheet {
         )?;
         let order = self.order(alloc)?;
         let polls = self.packed(alloc).map_err(Fault::Memory)?;
+        let lines = self.reported(alloc).map_err(Fault::Memory)?;
         Ok(is_script_run(
-            self.plans.as_slice(),
+            self.threads.as_slice(),
             Pace::Rounds(self.limit),
             order.as_slice(),
             &mut state,
             &polls,
             self.turns.as_slice(),
             self.trace.as_slice(),
-            self.lines.as_slice(),
+            lines.as_slice(),
         ))
     }
 }

@@ -7,8 +7,8 @@ use Rattle.lwkt_core.specs.Machine.{Machine, Needs}
 use Rattle.lwkt_core.specs.Trace.{Run, Closes, IsLawfulTrace, FailsAt}
 use Rattle.lwkt_report.specs.declared.closings.Verdict.{Verdict}
 use Rattle.lwkt_report.specs.declared.closings.Verdict.TheVariants.{Lawful, Unlawful}
-use Rattle.lwkt_verdict.specs.declared.turns.ThreadPlan.{ThreadPlan}
-use Rattle.lwkt_verdict.specs.declared.turns.ThreadEnd.{ThreadEnd}
+use Rattle.lwkt_script.specs.declared.scripts.ThreadSpec.{ThreadSpec}
+use Rattle.lwkt_report.specs.declared.closings.ThreadLine.{ThreadLine}
 use Rattle.lwkt_verdict.specs.declared.turns.Poll.{Poll}
 use Rattle.lwkt_verdict.specs.declared.turns.Turn.{Turn}
 use Rattle.lwkt_verdict.specs.declared.turns.Pace.{Pace}
@@ -33,7 +33,7 @@ fails_at_end m n es last run not = record {
   fails = subst (λ (o : Option Event). MatchOption o (Closes n last → ⊥) (λ e. Needs n e → ⊥)) (sym (nothing_behind es)) not;
 }
 
-module _ (opening : Machine) (pace : Pace) (order : List ℕ) (plans : List ThreadPlan) (ends : List ThreadEnd) (last : Final) (trace : List Event) (polls : List Poll) (turns : List Turn) where
+module _ (opening : Machine) (pace : Pace) (order : List ℕ) (plans : List ThreadSpec) (ends : List ThreadLine) (last : Final) (trace : List Event) (polls : List Poll) (turns : List Turn) where
   abbrev Judged : Verdict → Type 0
   Judged verdict = IsVerdict verdict opening pace order plans ends last trace polls turns
 

@@ -10,8 +10,6 @@ use Rattle.lwkt_report.specs.declared.closings.Verdict.{Verdict}
 use Rattle.lwkt_report.specs.declared.closings.Verdict.TheVariants.{Closed, Lawful, Unlawful}
 use Rattle.lwkt_script.specs.declared.scripts.ThreadSpec.{ThreadSpec}
 use Rattle.lwkt_script.specs.Format.{threads_on}
-use Rattle.lwkt_verdict.specs.declared.turns.ThreadPlan.{ThreadPlan}
-use Rattle.lwkt_verdict.specs.declared.turns.ThreadEnd.{ThreadEnd}
 use Rattle.lwkt_verdict.specs.declared.turns.Poll.{Poll}
 use Rattle.lwkt_verdict.specs.declared.turns.Turn.{Turn}
 use Rattle.lwkt_verdict.specs.declared.turns.Pace.{Pace}
@@ -27,23 +25,11 @@ abbrev pub ids_of : ℕ → List ThreadSpec → List ThreadId
 ids_of zero threads = []
 ids_of (suc cpu) threads = ids_of cpu threads ++ ids_on cpu (threads_on cpu threads)
 
--- the plans that a check of a run goes by are the threads of the script
-pub record ArePlansOf (threads : List ThreadSpec) (plans : List ThreadPlan) : Type 0 where
-  pub cpus : map (λ plan. plan.cpu) plans ≡ map (λ thread. thread.cpu) threads
-  pub repeats : map (λ plan. plan.repeat) plans ≡ map (λ thread. thread.repeat) threads
-  pub steps : map (λ plan. plan.steps.items) plans ≡ map (λ thread. thread.steps) threads
-
--- the ends of threads that a check of a run goes by are those that a report shows
-pub record AreEndsOf (lines : List ThreadLine) (ends : List ThreadEnd) : Type 0 where
-  pub ids : map (λ end. end.id) ends ≡ map (λ line. line.id) lines
-  pub states : map (λ end. end.state) ends ≡ map (λ line. line.state) lines
-  pub logs : map (λ end. end.log.items) ends ≡ map (λ line. line.log) lines
-
 -- the verdict on a trace and the turns of an order that made it: lawful if the trace leads from the opening to the closing values
 -- and the turns are a run of the script along the order, at this pace, over it; else the first event that can't happen, or the number of events, if the close or the
 -- run alone isn't so
-abbrev pub IsVerdict : Verdict → Machine → Pace → List ℕ → List ThreadPlan → List ThreadEnd → Final → List Event → List Poll → List Turn → Type 0
-IsVerdict Closed opening pace order plans ends last trace polls turns = ⊥
-IsVerdict Lawful opening pace order plans ends last trace polls turns = IsLawfulTrace opening trace last × IsScriptRun plans pace order opening polls turns trace ends
-IsVerdict (Unlawful index) opening pace order plans ends last trace polls turns =
-    FailsAt opening trace last index ⊎ (IsLawfulTrace opening trace last × ((index ≡ length trace) × ¬ IsScriptRun plans pace order opening polls turns trace ends))
+abbrev pub IsVerdict : Verdict → Machine → Pace → List ℕ → List ThreadSpec → List ThreadLine → Final → List Event → List Poll → List Turn → Type 0
+IsVerdict Closed opening pace order threads lines last trace polls turns = ⊥
+IsVerdict Lawful opening pace order threads lines last trace polls turns = IsLawfulTrace opening trace last × IsScriptRun threads pace order opening polls turns trace lines
+IsVerdict (Unlawful index) opening pace order threads lines last trace polls turns =
+    FailsAt opening trace last index ⊎ (IsLawfulTrace opening trace last × ((index ≡ length trace) × ¬ IsScriptRun threads pace order opening polls turns trace lines))

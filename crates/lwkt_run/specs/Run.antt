@@ -22,8 +22,7 @@ use Rattle.lwkt_report.specs.Stream.{AppendsFront, BlamesFailed}
 use Rattle.lwkt_report.specs.Complaint.{fault_line, complaint_of, IsSaid}
 use Rattle.lwkt_script.specs.declared.scripts.Script.{Script}
 use Rattle.lwkt_script.specs.Format.{script_of}
-use Rattle.lwkt_verdict.specs.declared.turns.ThreadPlan.{ThreadPlan}
-use Rattle.lwkt_verdict.specs.declared.turns.ThreadEnd.{ThreadEnd}
+use Rattle.lwkt_script.specs.declared.scripts.ThreadSpec.{ThreadSpec}
 use Rattle.lwkt_verdict.specs.declared.turns.Poll.{Poll}
 use Rattle.lwkt_verdict.specs.declared.turns.Turn.{Turn}
 use Rattle.lwkt_verdict.specs.declared.turns.Pace.{Pace}
@@ -38,7 +37,7 @@ use Rattle.lwkt_run.specs.Keeping.{Kept, kept_as, none_kept}
 use Rattle.lwkt_run.specs.Values.{is_tally}
 use Rattle.lwkt_run.specs.Leaving.{Leaves}
 use Rattle.lwkt_run.specs.Running.{ShowThreads, scene, HasMadeRounds, MakesTurns}
-use Rattle.lwkt_run.specs.Judging.{ids_of, ArePlansOf, AreEndsOf, IsVerdict}
+use Rattle.lwkt_run.specs.Judging.{ids_of, IsVerdict}
 use Rattle.lwkt_run.specs.declared.reports.Done.{Done}
 use Rattle.lwkt_run.specs.declared.runs.End.{End}
 use Rattle.lwkt_run.specs.declared.runs.TurnsRun.{TurnsRun}
@@ -111,14 +110,10 @@ RunsAt Named script order lines kept trace last = RunsAlong script order lines k
 -- this pace, from its opening to the values and the threads' ends that it shows; where the verdict is lawful, the written sections of
 -- the trace are chains from the opening rows to those of the token lines (own)
 pub record IsJudgedBy (pace : Pace) (script : Script) (closing : Closing) (order : List ℕ) (trace : List Event) (polls : List Poll) (turns : List Turn) : Type 0 where
-  pub plans : List ThreadPlan
-  pub ends : List ThreadEnd
   pub last : Final
-  pub are_plans : ArePlansOf script.threads plans
-  pub are_ends : AreEndsOf closing.threads.items ends
   pub shows : ShowsClosing closing last
   pub runs : RunsAt pace script order closing.threads.items (kept_as order turns polls) trace last
-  pub by : IsVerdict closing.verdict (opening_of_script script) pace order plans ends last trace polls turns
+  pub by : IsVerdict closing.verdict (opening_of_script script) pace order script.threads closing.threads.items last trace polls turns
   pub chains : closing.verdict ≡ Lawful → WritesChains (opening_of_script script) trace last
 
 -- there are a trace and turns of an order with their polls on which the report gives its verdict

@@ -13,7 +13,7 @@ use crate::lines::token_lines;
 use crate::records::Record;
 use crate::reports::{Done, conclude};
 use crate::rounds::{make_rounds, make_turns};
-use crate::verdicts::{ends_of, plans_of, verdict_of};
+use crate::verdicts::verdict_of;
 use lwkt_base::Fault;
 use lwkt_core::{Event, Final, State};
 use lwkt_machine::Machine;
@@ -77,15 +77,13 @@ fn closing_of(
 {
     let Left { last, threads } = left;
     let tokens = token_lines(alloc, script.tokens.as_slice(), &last)?;
-    let plans = plans_of(alloc, script.threads.as_slice())?;
-    let ends = ends_of(alloc, &threads)?;
     let verdict = verdict_of(
         opening,
         again,
         pace,
         &kept.order,
-        &plans,
-        &ends,
+        script.threads.as_slice(),
+        &threads,
         &last,
         trace,
         kept,

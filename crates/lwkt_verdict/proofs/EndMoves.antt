@@ -1,7 +1,7 @@
 use Rattle.std.proofs.Common.{zero, suc, ◌≡◌, ℕ, ◌+◌, ◌*◌, ◌/◌, ◌%◌, ◌<◌, List, [], ◌∷◌, length, refl, sym, ap, ◌∙◌, subst, arith, Option, Some, None}
 use Rattle.std.specs.Prelude.{◌↔◌, slice_get, slice_index_or, MatchOption, IfSome, is_some}
-use Rattle.lwkt_verdict.specs.declared.turns.ThreadPlan.{ThreadPlan}
-use Rattle.lwkt_verdict.specs.declared.turns.ThreadEnd.{ThreadEnd}
+use Rattle.lwkt_script.specs.declared.scripts.ThreadSpec.{ThreadSpec}
+use Rattle.lwkt_report.specs.declared.closings.ThreadLine.{ThreadLine}
 use Rattle.lwkt_verdict.specs.declared.homes.Home.{Home}
 use Rattle.lwkt_verdict.specs.declared.progress.Progress.{Progress}
 use Rattle.lwkt_verdict.specs.Threads.{plan_of_thread, line_of, EndsAs, EndsAsTold}
@@ -16,14 +16,14 @@ some_of (x ∷ xs) zero inside = (x, refl)
 some_of (x ∷ xs) (suc i) inside = some_of xs i (omega arith)
 
 -- where a thread has its line, that is one of the lines
-pub home_inside : (plans : List ThreadPlan) (lines : List ThreadEnd) (cpu n : ℕ) (home : Option Home) → IsHomeOf plans lines cpu n home → IfSome home (λ h. h.line < length lines)
+pub home_inside : (plans : List ThreadSpec) (lines : List ThreadLine) (cpu n : ℕ) (home : Option Home) → IsHomeOf plans lines cpu n home → IfSome home (λ h. h.line < length lines)
 home_inside plans lines cpu n None is = tt
 home_inside plans lines cpu n (Some home) is = is.3
 
 -- whether a thread ends as its line says, by where they stand and by the table
-pub end_here : (plans : List ThreadPlan) (lines : List ThreadEnd) (table : List Progress) (cpu n : ℕ) (home : Option Home) (p : Progress) → IsHomeOf plans lines cpu n home → slice_get table (16 * cpu + n) ≡ Some p → MatchOption home (Unit {0}) (λ h. MatchOption (slice_get lines h.line) ⊥ (λ line. EndsAs line p)) ↔ EndsAt plans lines table cpu n
+pub end_here : (plans : List ThreadSpec) (lines : List ThreadLine) (table : List Progress) (cpu n : ℕ) (home : Option Home) (p : Progress) → IsHomeOf plans lines cpu n home → slice_get table (16 * cpu + n) ≡ Some p → MatchOption home (Unit {0}) (λ h. MatchOption (slice_get lines h.line) ⊥ (λ line. EndsAs line p)) ↔ EndsAt plans lines table cpu n
 end_here plans lines table cpu n None p is at =
-    let G : Option Progress → Option ThreadPlan → Option ThreadEnd → Type 0 = λ a b c. MatchOption a ⊥ (EndsAsTold b c) in
+    let G : Option Progress → Option ThreadSpec → Option ThreadLine → Type 0 = λ a b c. MatchOption a ⊥ (EndsAsTold b c) in
     let slot = 16 * cpu + n in
     let t = plan_of_thread cpu n plans in
     let l = line_of slot lines in
@@ -31,8 +31,8 @@ end_here plans lines table cpu n None p is at =
     subst (λ a. G a t l) (sym at) (subst (λ b. G (Some p) b l) (sym is.0) (subst (λ c. G (Some p) None c) (sym is.1) tt)) in
     ((λ e. whole), (λ e. tt))
 end_here plans lines table cpu n (Some home) p is at =
-    let G : Option Progress → Option ThreadPlan → Option ThreadEnd → Type 0 = λ a b c. MatchOption a ⊥ (EndsAsTold b c) in
-    let H : Option ThreadEnd → Type 0 = λ o. MatchOption o ⊥ (λ line. EndsAs line p) in
+    let G : Option Progress → Option ThreadSpec → Option ThreadLine → Type 0 = λ a b c. MatchOption a ⊥ (EndsAsTold b c) in
+    let H : Option ThreadLine → Type 0 = λ o. MatchOption o ⊥ (λ line. EndsAs line p) in
     let slot = 16 * cpu + n in
     let t = plan_of_thread cpu n plans in
     let l = line_of slot lines in
@@ -63,26 +63,26 @@ by_threads P all cpu n here few =
     subst (λ m. P cpu m) (slot_number cpu n few) (subst (λ c. P c ((16 * cpu + n) % 16)) (slot_cpu cpu n few) there)
 
 -- where the thread of a number stands
-pub home_k : (plans : List ThreadPlan) (lines : List ThreadEnd) (homes : List (Option Home)) (k : ℕ) (home : Option Home) → AreHomes plans lines homes → k < 128 → home ≡ slice_index_or homes k None → IsHomeOf plans lines (k / 16) (k % 16) home
+pub home_k : (plans : List ThreadSpec) (lines : List ThreadLine) (homes : List (Option Home)) (k : ℕ) (home : Option Home) → AreHomes plans lines homes → k < 128 → home ≡ slice_index_or homes k None → IsHomeOf plans lines (k / 16) (k % 16) home
 home_k plans lines homes k home are inside is =
     let there = are.1 (k / 16) (k % 16) (omega arith) (omega arith) in
     let same : slice_index_or homes (16 * (k / 16) + k % 16) None ≡ home = ap (λ i. slice_index_or homes i None) (slot_back k) ∙ sym is in
     subst (λ (h : Option Home). IsHomeOf plans lines (k / 16) (k % 16) h) same there
 
 -- the same as above, of the thread of a number
-pub end_k : (plans : List ThreadPlan) (lines : List ThreadEnd) (table : List Progress) (k : ℕ) (home : Option Home) (p : Progress) → IsHomeOf plans lines (k / 16) (k % 16) home → slice_get table k ≡ Some p → MatchOption home (Unit {0}) (λ h. MatchOption (slice_get lines h.line) ⊥ (λ line. EndsAs line p)) ↔ EndsAt plans lines table (k / 16) (k % 16)
+pub end_k : (plans : List ThreadSpec) (lines : List ThreadLine) (table : List Progress) (k : ℕ) (home : Option Home) (p : Progress) → IsHomeOf plans lines (k / 16) (k % 16) home → slice_get table k ≡ Some p → MatchOption home (Unit {0}) (λ h. MatchOption (slice_get lines h.line) ⊥ (λ line. EndsAs line p)) ↔ EndsAt plans lines table (k / 16) (k % 16)
 end_k plans lines table k home p is at =
     end_here plans lines table (k / 16) (k % 16) home p is (ap (λ i. slice_get table i) (slot_back k) ∙ at)
 
 -- where threads and lines stand, each thread has its line and each line its thread
-home_paired : (plans : List ThreadPlan) (lines : List ThreadEnd) (cpu n : ℕ) (home : Option Home) → IsHomeOf plans lines cpu n home → IsPaired plans lines cpu n
+home_paired : (plans : List ThreadSpec) (lines : List ThreadLine) (cpu n : ℕ) (home : Option Home) → IsHomeOf plans lines cpu n home → IsPaired plans lines cpu n
 home_paired plans lines cpu n None is =
-    ap (λ (o : Option ThreadPlan). is_some o) is.0 ∙ sym (ap (λ (o : Option ThreadEnd). is_some o) is.1)
+    ap (λ (o : Option ThreadSpec). is_some o) is.0 ∙ sym (ap (λ (o : Option ThreadLine). is_some o) is.1)
 home_paired plans lines cpu n (Some home) is =
     let plan = some_of plans home.plan is.1 in
     let line = some_of lines home.line is.3 in
-    ap (λ (o : Option ThreadPlan). is_some o) (is.0 ∙ plan.1) ∙ sym (ap (λ (o : Option ThreadEnd). is_some o) (is.2 ∙ line.1))
+    ap (λ (o : Option ThreadSpec). is_some o) (is.0 ∙ plan.1) ∙ sym (ap (λ (o : Option ThreadLine). is_some o) (is.2 ∙ line.1))
 
-pub homes_paired : (plans : List ThreadPlan) (lines : List ThreadEnd) (homes : List (Option Home)) → AreHomes plans lines homes → (cpu n : ℕ) → cpu < 8 → n < 16 → IsPaired plans lines cpu n
+pub homes_paired : (plans : List ThreadSpec) (lines : List ThreadLine) (homes : List (Option Home)) → AreHomes plans lines homes → (cpu n : ℕ) → cpu < 8 → n < 16 → IsPaired plans lines cpu n
 homes_paired plans lines homes are cpu n here few =
     home_paired plans lines cpu n (slice_index_or homes (16 * cpu + n) None) (are.1 cpu n here few)

@@ -7,8 +7,8 @@ use Rattle.std.specs.List.{cons_option}
 use Rattle.lwkt_base.specs.declared.entries.Entry.{Entry}
 use Rattle.lwkt_core.specs.declared.events.Event.{Event}
 use Rattle.lwkt_core.specs.Machine.{Machine}
-use Rattle.lwkt_verdict.specs.declared.turns.ThreadPlan.{ThreadPlan}
-use Rattle.lwkt_verdict.specs.declared.turns.ThreadEnd.{ThreadEnd}
+use Rattle.lwkt_script.specs.declared.scripts.ThreadSpec.{ThreadSpec}
+use Rattle.lwkt_report.specs.declared.closings.ThreadLine.{ThreadLine}
 use Rattle.lwkt_verdict.specs.declared.turns.Poll.{Poll}
 use Rattle.lwkt_verdict.specs.declared.turns.Turn.{Turn}
 use Rattle.lwkt_verdict.specs.declared.progress.Asked.{Asked}
@@ -20,13 +20,13 @@ use Rattle.lwkt_verdict.specs.Laws.{pieces_of, asks_of, AsksAreThoseOfTheScript,
 use Rattle.lwkt_verdict.proofs.ShowMoves.{asked_push, asked_here, asked_there}
 
 -- what holds after all turns of a run, with the end of the run
-pub record Ended (plans : List ThreadPlan) (lines : List ThreadEnd) (Q : List Piece → Type 0) (all : List Piece) : Type 0 where
+pub record Ended (plans : List ThreadSpec) (lines : List ThreadLine) (Q : List Piece → Type 0) (all : List Piece) : Type 0 where
   pub holds : Q all
   pub end : Machine
   pub stop : List Event
   pub closes : EndsRun plans lines end all stop
 
-module _ (plans : List ThreadPlan) (lines : List ThreadEnd) (polls : List Poll) (order : List ℕ) where
+module _ (plans : List ThreadSpec) (lines : List ThreadLine) (polls : List Poll) (order : List ℕ) where
   -- what each turn that fits keeps holds after all turns
   pub through : (Q : List Piece → Type 0) → ((m : Machine) (before : List Piece) (poll : Option Poll) (part : List Event) → Q before → TurnFits plans lines (whose order (length before)) m before poll part → Q (before ++ piece poll part ∷ [])) → (m : Machine) (before : List Piece) (turns : List Turn) (events : List Event) → Q before → RunsThrough plans lines polls order m before turns events → Ended plans lines Q (before ++ pieces_of polls turns events)
   through Q step m before [] events q closes =
@@ -38,14 +38,14 @@ module _ (plans : List ThreadPlan) (lines : List ThreadEnd) (polls : List Poll) 
       subst (λ (all : List Piece). Ended plans lines Q all) (append_assoc before (p ∷ []) (pieces_of polls ts rest)) (through Q step (after_all m part) (before ++ p ∷ []) ts rest (step m before (poll_of polls t) part q runs.1.0) runs.1.1)
 
 -- what a turn that fits asks of a thread: nothing, or what its poll asks, which fits the thread
-pub record Asks (plans : List ThreadPlan) (lines : List ThreadEnd) (slot : ℕ) (before : List Piece) (p : Piece) : Type 0 where
+pub record Asks (plans : List ThreadSpec) (lines : List ThreadLine) (slot : ℕ) (before : List Piece) (p : Piece) : Type 0 where
   pub q : Poll
   pub cpu : ℕ
   pub here : slot_of q.thread ≡ slot
   pub fits : PollFits plans lines cpu (came before slot) q
   pub is : asked_by slot (before ++ p ∷ []) ≡ asked_by slot before ++ asked_of_poll q p.blocked ∷ []
 
-pub asks_or_not : (plans : List ThreadPlan) (lines : List ThreadEnd) (slot cpu : ℕ) (m : Machine) (before : List Piece) (poll : Option Poll) (part : List Event) → TurnFits plans lines cpu m before poll part → (asked_by slot (before ++ piece poll part ∷ []) ≡ asked_by slot before) ⊎ Asks plans lines slot before (piece poll part)
+pub asks_or_not : (plans : List ThreadSpec) (lines : List ThreadLine) (slot cpu : ℕ) (m : Machine) (before : List Piece) (poll : Option Poll) (part : List Event) → TurnFits plans lines cpu m before poll part → (asked_by slot (before ++ piece poll part ∷ []) ≡ asked_by slot before) ⊎ Asks plans lines slot before (piece poll part)
 asks_or_not plans lines slot cpu m before None part fits =
     inl (asked_push slot before (piece None part) ∙ append-nil (asked_by slot before))
 asks_or_not plans lines slot cpu m before (Some q) part fits =
@@ -82,10 +82,10 @@ match_any None P C there step = absurd there
 match_any (Some x) P C there step = step x there
 
 -- what a thread asks after some turns is a front of what its plan has
-FollowsPlan : List ThreadPlan → ℕ → ℕ → List Piece → Type 0
+FollowsPlan : List ThreadSpec → ℕ → ℕ → List Piece → Type 0
 FollowsPlan plans cpu n before = (k : ℕ) (a : Asked) → slice_get (asked_by (16 * cpu + n) before) k ≡ Some a → MatchOption (plan_of_thread cpu n plans) ⊥ (λ plan. ask_at plan k ≡ Some a.ask)
 
-follows_step : (plans : List ThreadPlan) (lines : List ThreadEnd) (cpu n now : ℕ) → n < 16 → (m : Machine) (before : List Piece) (poll : Option Poll) (part : List Event) → FollowsPlan plans cpu n before → TurnFits plans lines now m before poll part → FollowsPlan plans cpu n (before ++ piece poll part ∷ [])
+follows_step : (plans : List ThreadSpec) (lines : List ThreadLine) (cpu n now : ℕ) → n < 16 → (m : Machine) (before : List Piece) (poll : Option Poll) (part : List Event) → FollowsPlan plans cpu n before → TurnFits plans lines now m before poll part → FollowsPlan plans cpu n (before ++ piece poll part ∷ [])
 unfolding FollowsPlan
 follows_step plans lines cpu n now small m before poll part follows fits k a is =
     let slot = 16 * cpu + n in
@@ -110,7 +110,7 @@ follows_step plans lines cpu n now small m before poll part follows fits k a is 
 AreAnswered : ℕ → List Piece → Type 0
 AreAnswered slot before = (k : ℕ) (a : Asked) → slice_get (asked_by slot before) k ≡ Some a → k + 1 < length (asked_by slot before) → is_some a.answer ≡ true
 
-answered_step : (plans : List ThreadPlan) (lines : List ThreadEnd) (slot now : ℕ) (m : Machine) (before : List Piece) (poll : Option Poll) (part : List Event) → AreAnswered slot before → TurnFits plans lines now m before poll part → AreAnswered slot (before ++ piece poll part ∷ [])
+answered_step : (plans : List ThreadSpec) (lines : List ThreadLine) (slot now : ℕ) (m : Machine) (before : List Piece) (poll : Option Poll) (part : List Event) → AreAnswered slot before → TurnFits plans lines now m before poll part → AreAnswered slot (before ++ piece poll part ∷ [])
 unfolding AreAnswered
 answered_step plans lines slot now m before poll part answered fits k a is inside =
     let xs : List Asked = asked_by slot before in
@@ -158,12 +158,12 @@ log_step log es (Some e) so_far fits =
     ]
 
 -- a thread's line says that its last ask has no answer, where it asked something at all
-ends_open : (t : Option ThreadPlan) (l : Option ThreadEnd) (p : List Asked) (X : ThreadPlan → Type 0) → MatchOption t ⊥ X → EndsAsTold t l (progress_of p) → MatchOption (last_of p) (Unit {0}) (λ a. is_some a.answer ≡ false)
+ends_open : (t : Option ThreadSpec) (l : Option ThreadLine) (p : List Asked) (X : ThreadSpec → Type 0) → MatchOption t ⊥ X → EndsAsTold t l (progress_of p) → MatchOption (last_of p) (Unit {0}) (λ a. is_some a.answer ≡ false)
 ends_open None l p X there ends = absurd there
 ends_open (Some plan) None p X there ends = absurd ends
 ends_open (Some plan) (Some line) p X there ends = ends.0
 
-ends_line : (t : Option ThreadPlan) (line : ThreadEnd) (p : List Asked) → EndsAsTold t (Some line) (progress_of p) → EndsAs line (progress_of p)
+ends_line : (t : Option ThreadSpec) (line : ThreadLine) (p : List Asked) → EndsAsTold t (Some line) (progress_of p) → EndsAs line (progress_of p)
 ends_line None line p ends = absurd ends
 ends_line (Some plan) line p ends = ends
 
@@ -190,10 +190,10 @@ all_answered plans pace order opening polls turns trace lines run cpu n here few
 HasLogged : List Entry → ℕ → List Piece → Type 0
 HasLogged log slot before = take (min 32 (length (entries_of (asked_by slot before)))) log ≡ take 32 (entries_of (asked_by slot before))
 
-logged_step : (plans : List ThreadPlan) (lines : List ThreadEnd) (line : ThreadEnd) (slot now : ℕ) → line_of slot lines ≡ Some line → (m : Machine) (before : List Piece) (poll : Option Poll) (part : List Event) → HasLogged line.log.items slot before → TurnFits plans lines now m before poll part → HasLogged line.log.items slot (before ++ piece poll part ∷ [])
+logged_step : (plans : List ThreadSpec) (lines : List ThreadLine) (line : ThreadLine) (slot now : ℕ) → line_of slot lines ≡ Some line → (m : Machine) (before : List Piece) (poll : Option Poll) (part : List Event) → HasLogged line.log slot before → TurnFits plans lines now m before poll part → HasLogged line.log slot (before ++ piece poll part ∷ [])
 unfolding HasLogged
 logged_step plans lines line slot now is_line m before poll part so_far fits =
-    let log : List Entry = line.log.items in
+    let log : List Entry = line.log in
     let xs : List Asked = asked_by slot before in
     let G : List Entry → Type 0 = λ es. take (min 32 (length es)) log ≡ take 32 es in
     elim (asks_or_not plans lines slot now m before poll part fits) [
@@ -202,7 +202,7 @@ logged_step plans lines line slot now is_line m before poll part so_far fits =
           let there = w.fits.here in
           let here = w.here in
           let place : 16 * w.cpu + w.q.thread.thread ≡ slot = omega arith in
-          let L : Option ThreadEnd → Type 0 = λ o. MatchOption o ⊥ (λ l. IsLogged l (came before slot) (asked_of_poll w.q false)) in
+          let L : Option ThreadLine → Type 0 = λ o. MatchOption o ⊥ (λ l. IsLogged l (came before slot) (asked_of_poll w.q false)) in
           let stands : IsLogged line (came before slot) (asked_of_poll w.q false) = subst L (ap (λ s. line_of s lines) place ∙ is_line) w.fits.logs in
           let next : G (entries_of xs ++ cons_option (logged_by new) []) = log_step log (entries_of xs) (logged_by new) so_far stands in
           subst (λ (ys : List Asked). G (entries_of ys)) (sym w.is) (subst G (sym (filter_map-append logged_by xs (new ∷ []))) next))
@@ -218,9 +218,9 @@ unfolding HasLogged
 logs_are_first plans pace order opening polls turns trace lines run cpu n here few =
     let slot = 16 * cpu + n in
     let xs : List Asked = asks_of polls turns trace cpu n in
-    with_value (line_of slot lines) (λ line. line.log.items ≡ take 32 (entries_of xs)) (λ line is_line. (let log : List Entry = line.log.items in
+    with_value (line_of slot lines) (λ line. line.log ≡ take 32 (entries_of xs)) (λ line is_line. (let log : List Entry = line.log in
     let done = through plans lines polls order (HasLogged log slot) (λ m before poll part q fits. logged_step plans lines line slot (whose order (length before)) is_line m before poll part q fits) opening [] turns trace refl run.runs in
-    let E : Option ThreadEnd → Type 0 = λ o. EndsAsTold (plan_of_thread cpu n plans) o (progress_of xs) in
+    let E : Option ThreadLine → Type 0 = λ o. EndsAsTold (plan_of_thread cpu n plans) o (progress_of xs) in
     let ends = ends_line (plan_of_thread cpu n plans) line xs (subst E is_line (done.closes.ends cpu n here few)) in
     let long : length log ≡ min 32 (length (entries_of xs)) = ends.1 in
     sym (take_all (min 32 (length (entries_of xs))) log (omega arith)) ∙ done.holds))

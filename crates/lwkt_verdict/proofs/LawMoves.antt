@@ -1,7 +1,7 @@
 use Rattle.std.proofs.Common.{◌≡◌, ◌+◌, ◌*◌, [], true, subst, arith, Option, Some, None}
 use Rattle.std.specs.Prelude.{is_some, MatchOption}
 use Rattle.std.proofs.lemmas.Bool.{false≢true}
-use Rattle.lwkt_verdict.specs.declared.turns.ThreadPlan.{ThreadPlan}
+use Rattle.lwkt_script.specs.declared.scripts.ThreadSpec.{ThreadSpec}
 use Rattle.lwkt_verdict.specs.declared.turns.Poll.{Poll}
 use Rattle.lwkt_verdict.specs.Threads.{plan_of_thread}
 use Rattle.lwkt_verdict.specs.Run.{whose, came, Idles, PollFits}
@@ -13,7 +13,7 @@ no_turns plans limit order opening polls trace lines run =
     omega arith
 
 -- before the first turn no thread of a script may rest
-none_rests : (o : Option ThreadPlan) → is_some o ≡ true → MatchOption o (Unit {0}) (λ plan. ⊥) → ⊥
+none_rests : (o : Option ThreadSpec) → is_some o ≡ true → MatchOption o (Unit {0}) (λ plan. ⊥) → ⊥
 none_rests None is may = absurd (false≢true is)
 none_rests (Some plan) is may = may
 

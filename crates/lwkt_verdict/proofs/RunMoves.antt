@@ -3,8 +3,8 @@ use Rattle.std.specs.Prelude.{◌↔◌}
 use Rattle.std.proofs.lemmas.List.{drop_more, drop_all, length_push}
 use Rattle.lwkt_core.specs.declared.events.Event.{Event}
 use Rattle.lwkt_core.specs.Machine.{Machine}
-use Rattle.lwkt_verdict.specs.declared.turns.ThreadPlan.{ThreadPlan}
-use Rattle.lwkt_verdict.specs.declared.turns.ThreadEnd.{ThreadEnd}
+use Rattle.lwkt_script.specs.declared.scripts.ThreadSpec.{ThreadSpec}
+use Rattle.lwkt_report.specs.declared.closings.ThreadLine.{ThreadLine}
 use Rattle.lwkt_verdict.specs.declared.turns.Poll.{Poll}
 use Rattle.lwkt_verdict.specs.declared.turns.Turn.{Turn}
 use Rattle.lwkt_verdict.specs.declared.progress.Progress.{Progress}
@@ -15,13 +15,13 @@ use Rattle.lwkt_verdict.specs.Progressed.{ShowsProgress}
 
 -- a check of a run in the middle: what is to be shown holds exactly if the turns that are left go on from the machine and the
 -- turns so far, which the table shows
-pub record Goes (P : Type 0) (plans : List ThreadPlan) (lines : List ThreadEnd) (polls : List Poll) (order : List ℕ) (m : Machine) (table : List Progress) (turns : List Turn) (i : ℕ) (rest : List Event) : Type 0 where
+pub record Goes (P : Type 0) (plans : List ThreadSpec) (lines : List ThreadLine) (polls : List Poll) (order : List ℕ) (m : Machine) (table : List Progress) (turns : List Turn) (i : ℕ) (rest : List Event) : Type 0 where
   pub before : List Piece
   pub counted : length before ≡ i
   pub shows : ShowsProgress before table
   pub whole : P ↔ RunsThrough plans lines polls order m before (drop i turns) rest
 
-module _ (P : Type 0) (plans : List ThreadPlan) (lines : List ThreadEnd) (polls : List Poll) (order : List ℕ) (m : Machine) (table : List Progress) (turns : List Turn) (i : ℕ) (rest : List Event) (d : Turn) (goes : Goes P plans lines polls order m table turns i rest) where
+module _ (P : Type 0) (plans : List ThreadSpec) (lines : List ThreadLine) (polls : List Poll) (order : List ℕ) (m : Machine) (table : List Progress) (turns : List Turn) (i : ℕ) (rest : List Event) (d : Turn) (goes : Goes P plans lines polls order m table turns i rest) where
   -- what is to be shown, by the next turn and those after it
   next : i < length turns → P ↔ RunsThrough plans lines polls order m goes.before (get_or turns i d ∷ drop (i + 1) turns) rest
   next inside = subst (λ (ts : List Turn). P ↔ RunsThrough plans lines polls order m goes.before ts rest) (drop_more turns i d inside) goes.whole
@@ -66,6 +66,6 @@ module _ (P : Type 0) (plans : List ThreadPlan) (lines : List ThreadEnd) (polls 
       unfit (subst (λ j. TurnFits plans lines (whose order j) m goes.before (poll_of polls t) (take t.events rest)) goes.counted ((next inside).0 p).1.0)
 
 -- after the last turn the end of the run decides
-pub goes_to_end : (P : Type 0) (plans : List ThreadPlan) (lines : List ThreadEnd) (polls : List Poll) (order : List ℕ) (m : Machine) (table : List Progress) (turns : List Turn) (i : ℕ) (rest : List Event) (goes : Goes P plans lines polls order m table turns i rest) → length turns ≤ i → P ↔ EndsRun plans lines m goes.before rest
+pub goes_to_end : (P : Type 0) (plans : List ThreadSpec) (lines : List ThreadLine) (polls : List Poll) (order : List ℕ) (m : Machine) (table : List Progress) (turns : List Turn) (i : ℕ) (rest : List Event) (goes : Goes P plans lines polls order m table turns i rest) → length turns ≤ i → P ↔ EndsRun plans lines m goes.before rest
 goes_to_end P plans lines polls order m table turns i rest goes past =
     subst (λ (ts : List Turn). P ↔ RunsThrough plans lines polls order m goes.before ts rest) (drop_all i turns past) goes.whole

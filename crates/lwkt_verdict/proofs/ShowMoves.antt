@@ -8,8 +8,8 @@ use Rattle.std.proofs.lemmas.Option.{slice_get-get_or}
 use Rattle.std.proofs.lemmas.List.Elements.{filter_map-append}
 use Rattle.lwkt_base.specs.declared.entries.Entry.{Entry}
 use Rattle.lwkt_verdict.specs.declared.turns.Poll.{Poll}
-use Rattle.lwkt_verdict.specs.declared.turns.ThreadPlan.{ThreadPlan}
-use Rattle.lwkt_verdict.specs.declared.turns.ThreadEnd.{ThreadEnd}
+use Rattle.lwkt_script.specs.declared.scripts.ThreadSpec.{ThreadSpec}
+use Rattle.lwkt_report.specs.declared.closings.ThreadLine.{ThreadLine}
 use Rattle.lwkt_verdict.specs.declared.progress.Asked.{Asked}
 use Rattle.lwkt_verdict.specs.declared.progress.Progress.{Progress}
 use Rattle.lwkt_verdict.specs.declared.progress.Piece.{Piece}
@@ -132,7 +132,7 @@ asked_once : (slot : ℕ) (p : Piece) → length (asked_in slot p) ≤ 1
 asked_once slot p = few_in p.poll (λ q. if slot_of q.thread == slot then (asked_of_poll q p.blocked ∷ []) else []) (λ q. if_few (slot_of q.thread == slot) (asked_of_poll q p.blocked))
 
 -- a poll that fits is of one of the threads that there can be
-inside_by : (plans : List ThreadPlan) (lines : List ThreadEnd) (cpu : ℕ) (o : Option Progress) (q : Poll) → cpu < 8 → MatchOption o ⊥ (λ p. PollFits plans lines cpu p q) → slot_of q.thread < 128
+inside_by : (plans : List ThreadSpec) (lines : List ThreadLine) (cpu : ℕ) (o : Option Progress) (q : Poll) → cpu < 8 → MatchOption o ⊥ (λ p. PollFits plans lines cpu p q) → slot_of q.thread < 128
 inside_by plans lines cpu None q small right = absurd right
 inside_by plans lines cpu (Some p) q small right =
     let here = right.here in
@@ -154,7 +154,7 @@ few_polls before table k shows few inside =
     subst F (sym (shows.at k inside)) (omega arith)
 
 -- the same, by what the check of a poll says
-pub shows_polled : (plans : List ThreadPlan) (lines : List ThreadEnd) (cpu : ℕ) (before : List Piece) (table new : List Progress) (q : Poll) (blocked : Bool) → cpu < 8 → ShowsProgress before table → MatchOption (slice_get table (slot_of q.thread)) ⊥ (λ p. PollFits plans lines cpu p q) → MatchOption (slice_get table (slot_of q.thread)) ⊥ (λ p. new ≡ slice_set table (slot_of q.thread) (progress_after p (asked_of_poll q blocked))) → ShowsProgress (before ++ record { poll = Some q; blocked = blocked } ∷ []) new
+pub shows_polled : (plans : List ThreadSpec) (lines : List ThreadLine) (cpu : ℕ) (before : List Piece) (table new : List Progress) (q : Poll) (blocked : Bool) → cpu < 8 → ShowsProgress before table → MatchOption (slice_get table (slot_of q.thread)) ⊥ (λ p. PollFits plans lines cpu p q) → MatchOption (slice_get table (slot_of q.thread)) ⊥ (λ p. new ≡ slice_set table (slot_of q.thread) (progress_after p (asked_of_poll q blocked))) → ShowsProgress (before ++ record { poll = Some q; blocked = blocked } ∷ []) new
 shows_polled plans lines cpu before table new q blocked small shows right moved =
     let slot = slot_of q.thread in
     let inside : slot < 128 = inside_by plans lines cpu (slice_get table slot) q small right in

@@ -5,8 +5,8 @@ use Rattle.lwkt_base.specs.declared.asks.Answer.{Answer}
 use Rattle.lwkt_core.specs.declared.events.Event.{Event}
 use Rattle.lwkt_core.specs.Machine.{Machine, after}
 use Rattle.lwkt_core.specs.Trace.{Run}
-use Rattle.lwkt_verdict.specs.declared.turns.ThreadPlan.{ThreadPlan}
-use Rattle.lwkt_verdict.specs.declared.turns.ThreadEnd.{ThreadEnd}
+use Rattle.lwkt_script.specs.declared.scripts.ThreadSpec.{ThreadSpec}
+use Rattle.lwkt_report.specs.declared.closings.ThreadLine.{ThreadLine}
 use Rattle.lwkt_verdict.specs.declared.turns.Poll.{Poll}
 use Rattle.lwkt_verdict.specs.declared.turns.Turn.{Turn}
 use Rattle.lwkt_verdict.specs.declared.progress.Piece.{Piece}
@@ -45,7 +45,7 @@ part_happens m (Some q) part makes =
     let mid : Machine = after_all m (take i part) in
     subst (λ (k : Machine). Run m part k) (sym (after_cut m part i)) (run_cut m mid (after_all mid (drop i part)) part i (quiet_happens m (take i part) makes.0) (from_happens mid q.ask q.answer (drop i part) makes.1))
 
-runs_happen : (plans : List ThreadPlan) (lines : List ThreadEnd) (polls : List Poll) (order : List ℕ) (m : Machine) (before : List Piece) (turns : List Turn) (events : List Event) → RunsThrough plans lines polls order m before turns events → (end : Machine) × Run m events end
+runs_happen : (plans : List ThreadSpec) (lines : List ThreadLine) (polls : List Poll) (order : List ℕ) (m : Machine) (before : List Piece) (turns : List Turn) (events : List Event) → RunsThrough plans lines polls order m before turns events → (end : Machine) × Run m events end
 runs_happen plans lines polls order m before [] events closes = (after_all m events, quiet_happens m events closes.quiet)
 runs_happen plans lines polls order m before (t ∷ ts) events runs =
     let part : List Event = take t.events events in

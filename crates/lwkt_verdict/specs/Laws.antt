@@ -3,8 +3,8 @@ use Rattle.std.specs.Prelude.{◌≡◌, ℕ, ◌+◌, ◌*◌, ◌<◌, true, f
 use Rattle.lwkt_core.specs.declared.events.Event.{Event}
 use Rattle.lwkt_core.specs.Machine.{Machine}
 use Rattle.lwkt_core.specs.Trace.{Run}
-use Rattle.lwkt_verdict.specs.declared.turns.ThreadPlan.{ThreadPlan}
-use Rattle.lwkt_verdict.specs.declared.turns.ThreadEnd.{ThreadEnd}
+use Rattle.lwkt_script.specs.declared.scripts.ThreadSpec.{ThreadSpec}
+use Rattle.lwkt_report.specs.declared.closings.ThreadLine.{ThreadLine}
 use Rattle.lwkt_verdict.specs.declared.turns.Poll.{Poll}
 use Rattle.lwkt_verdict.specs.declared.turns.Turn.{Turn}
 use Rattle.lwkt_verdict.specs.declared.progress.Asked.{Asked}
@@ -24,8 +24,8 @@ abbrev pub asks_of : List Poll → List Turn → List Event → ℕ → ℕ → 
 asks_of polls turns trace cpu n = asked_by (16 * cpu + n) (pieces_of polls turns trace)
 
 -- what holds of each run of each script
-abbrev pub OfRuns : (List ThreadPlan → Machine → List Poll → List Turn → List Event → List ThreadEnd → Type 0) → Type 0
-OfRuns P = (plans : List ThreadPlan) (pace : Pace) (order : List ℕ) (opening : Machine) (polls : List Poll) (turns : List Turn) (trace : List Event) (lines : List ThreadEnd) → IsScriptRun plans pace order opening polls turns trace lines → P plans opening polls turns trace lines
+abbrev pub OfRuns : (List ThreadSpec → Machine → List Poll → List Turn → List Event → List ThreadLine → Type 0) → Type 0
+OfRuns P = (plans : List ThreadSpec) (pace : Pace) (order : List ℕ) (opening : Machine) (polls : List Poll) (turns : List Turn) (trace : List Event) (lines : List ThreadLine) → IsScriptRun plans pace order opening polls turns trace lines → P plans opening polls turns trace lines
 
 -- what holds of each of the threads that there can be
 abbrev pub OfThreads : (ℕ → ℕ → Type 0) → Type 0
@@ -33,11 +33,11 @@ OfThreads P = (cpu n : ℕ) → cpu < 8 → n < 16 → P cpu n
 
 -- a theorem: no turn at all is no run in rounds
 abbrev pub NoTurnsAreNoRun : Type 0
-NoTurnsAreNoRun = (plans : List ThreadPlan) (limit : ℕ) (order : List ℕ) (opening : Machine) (polls : List Poll) (trace : List Event) (lines : List ThreadEnd) → ¬ IsScriptRun plans (Rounds limit) order opening polls [] trace lines
+NoTurnsAreNoRun = (plans : List ThreadSpec) (limit : ℕ) (order : List ℕ) (opening : Machine) (polls : List Poll) (trace : List Event) (lines : List ThreadLine) → ¬ IsScriptRun plans (Rounds limit) order opening polls [] trace lines
 
 -- a theorem: no run begins with a turn without an ask, where the processor of that turn has a thread
 abbrev pub RunsBeginWithAnAsk : Type 0
-RunsBeginWithAnAsk = (plans : List ThreadPlan) (pace : Pace) (order : List ℕ) (opening : Machine) (polls : List Poll) (turn : Turn) (turns : List Turn) (trace : List Event) (lines : List ThreadEnd) → is_some (plan_of_thread (whose order 0) 0 plans) ≡ true → poll_of polls turn ≡ None → ¬ IsScriptRun plans pace order opening polls (turn ∷ turns) trace lines
+RunsBeginWithAnAsk = (plans : List ThreadSpec) (pace : Pace) (order : List ℕ) (opening : Machine) (polls : List Poll) (turn : Turn) (turns : List Turn) (trace : List Event) (lines : List ThreadLine) → is_some (plan_of_thread (whose order 0) 0 plans) ≡ true → poll_of polls turn ≡ None → ¬ IsScriptRun plans pace order opening polls (turn ∷ turns) trace lines
 
 -- a theorem: the events of a run's trace can happen one after another, from the opening on
 abbrev pub TracesOfRunsHappen : Type 0
@@ -53,4 +53,4 @@ AllButTheLastAreAnswered = OfRuns (λ plans opening polls turns trace lines. OfT
 
 -- a theorem: a thread's printed log is the first 32 entries of the answers to its asks
 abbrev pub LogsAreTheFirstEntries : Type 0
-LogsAreTheFirstEntries = OfRuns (λ plans opening polls turns trace lines. OfThreads (λ cpu n. IfSome (line_of (16 * cpu + n) lines) (λ line. line.log.items ≡ take 32 (entries_of (asks_of polls turns trace cpu n)))))
+LogsAreTheFirstEntries = OfRuns (λ plans opening polls turns trace lines. OfThreads (λ cpu n. IfSome (line_of (16 * cpu + n) lines) (λ line. line.log ≡ take 32 (entries_of (asks_of polls turns trace cpu n)))))

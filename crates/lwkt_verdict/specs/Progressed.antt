@@ -1,7 +1,7 @@
 -- What a check of a run keeps while it goes over the turns (own).
 use Rattle.std.specs.Prelude.{◌≡◌, ℕ, ◌+◌, ◌*◌, ◌<◌, Bool, List, length, slice_get, Option, Some, MatchOption, option_map, option_and_then}
-use Rattle.lwkt_verdict.specs.declared.turns.ThreadPlan.{ThreadPlan}
-use Rattle.lwkt_verdict.specs.declared.turns.ThreadEnd.{ThreadEnd}
+use Rattle.lwkt_script.specs.declared.scripts.ThreadSpec.{ThreadSpec}
+use Rattle.lwkt_report.specs.declared.closings.ThreadLine.{ThreadLine}
 use Rattle.lwkt_verdict.specs.declared.places.PollPlace.{PollPlace}
 use Rattle.lwkt_verdict.specs.declared.progress.Asked.{Asked}
 use Rattle.lwkt_verdict.specs.declared.progress.Progress.{Progress}
@@ -19,5 +19,5 @@ pub record ShowsProgress (before : List Piece) (table : List Progress) : Type 0 
   pub at : (k : ℕ) → k < 128 → slice_get table k ≡ Some (came before k)
 
 -- a thread that the script may have or not ends as its line says, by a table of how far the threads have come
-abbrev pub EndsAt : List ThreadPlan → List ThreadEnd → List Progress → ℕ → ℕ → Type 0
+abbrev pub EndsAt : List ThreadSpec → List ThreadLine → List Progress → ℕ → ℕ → Type 0
 EndsAt plans lines table cpu n = MatchOption (slice_get table (16 * cpu + n)) ⊥ (EndsAsTold (plan_of_thread cpu n plans) (line_of (16 * cpu + n) lines))

@@ -5,8 +5,8 @@ use Rattle.lwkt_base.specs.Threads.{has_ended}
 use Rattle.lwkt_core.specs.declared.events.Event.{Event}
 use Rattle.lwkt_core.specs.Events.{cpu_of}
 use Rattle.lwkt_core.specs.Machine.{Machine}
-use Rattle.lwkt_verdict.specs.declared.turns.ThreadPlan.{ThreadPlan}
-use Rattle.lwkt_verdict.specs.declared.turns.ThreadEnd.{ThreadEnd}
+use Rattle.lwkt_script.specs.declared.scripts.ThreadSpec.{ThreadSpec}
+use Rattle.lwkt_report.specs.declared.closings.ThreadLine.{ThreadLine}
 use Rattle.lwkt_verdict.specs.declared.turns.Poll.{Poll}
 use Rattle.lwkt_verdict.specs.declared.turns.Turn.{Turn}
 use Rattle.lwkt_verdict.specs.declared.turns.Pace.{Pace}
@@ -38,7 +38,7 @@ asked_of_poll q blocked = record { ask = q.ask; answer = q.answer; blocked = blo
 -- a poll fits a thread that has come so far: the thread is one of the script's, of this processor, the ask is its next one,
 -- the ask before it has its answer, the answer of this one, if it has one, is one that the ask can have, and its entry stands
 -- in the thread's log
-pub record PollFits (plans : List ThreadPlan) (lines : List ThreadEnd) (cpu : ℕ) (p : Progress) (q : Poll) : Type 0 where
+pub record PollFits (plans : List ThreadSpec) (lines : List ThreadLine) (cpu : ℕ) (p : Progress) (q : Poll) : Type 0 where
   pub here : q.thread.cpu.0 ≡ cpu
   pub numbered : q.thread.thread < 16
   pub asks : MatchOption (plan_of_thread cpu q.thread.thread plans) ⊥ (λ plan. MayAsk plan p q.ask)
@@ -46,11 +46,11 @@ pub record PollFits (plans : List ThreadPlan) (lines : List ThreadEnd) (cpu : �
   pub logs : MatchOption (line_of (16 * cpu + q.thread.thread) lines) ⊥ (λ line. IsLogged line p (asked_of_poll q false))
 
 -- a turn without an ask fits threads that have come so far: each thread of its processor may rest
-abbrev pub Idles : List ThreadPlan → ℕ → (ℕ → Progress) → Type 0
+abbrev pub Idles : List ThreadSpec → ℕ → (ℕ → Progress) → Type 0
 Idles plans cpu progress = (n : ℕ) → n < 16 → MatchOption (plan_of_thread cpu n plans) (Unit {0}) (λ plan. Rests (progress (16 * cpu + n)))
 
 -- the same of one thread, by a table of how far the threads have come
-abbrev pub IdlesAt : List ThreadPlan → ℕ → List Progress → ℕ → Type 0
+abbrev pub IdlesAt : List ThreadSpec → ℕ → List Progress → ℕ → Type 0
 IdlesAt plans cpu table n = MatchOption (plan_of_thread cpu n plans) (Unit {0}) (λ plan. MatchOption (slice_get table (16 * cpu + n)) ⊥ Rests)
 
 -- the part of a turn with or without an ask
@@ -59,13 +59,13 @@ MakesPart m poll part = MatchOption poll (GoesQuietly m part) (λ q. IsPartOf m 
 
 -- a turn fits the turns before it, and its part of the trace the machine that it finds; each event of the part is of the
 -- turn's processor
-pub record TurnFits (plans : List ThreadPlan) (lines : List ThreadEnd) (cpu : ℕ) (m : Machine) (before : List Piece) (poll : Option Poll) (part : List Event) : Type 0 where
+pub record TurnFits (plans : List ThreadSpec) (lines : List ThreadLine) (cpu : ℕ) (m : Machine) (before : List Piece) (poll : Option Poll) (part : List Event) : Type 0 where
   pub own : All (λ e. cpu_of e ≡ cpu) part
   pub makes : MakesPart m poll part
   pub polls : MatchOption poll (Idles plans cpu (came before)) (λ q. PollFits plans lines cpu (came before (slot_of q.thread)) q)
 
 -- the end of a run: the events of the stop may happen unasked, and each thread of the script has its line and ends as it says
-pub record EndsRun (plans : List ThreadPlan) (lines : List ThreadEnd) (m : Machine) (before : List Piece) (stop : List Event) : Type 0 where
+pub record EndsRun (plans : List ThreadSpec) (lines : List ThreadLine) (m : Machine) (before : List Piece) (stop : List Event) : Type 0 where
   pub quiet : GoesQuietly m stop
   pub ends : (cpu n : ℕ) → cpu < 8 → n < 16 → EndsAsTold (plan_of_thread cpu n plans) (line_of (16 * cpu + n) lines) (came before (16 * cpu + n))
 
@@ -75,22 +75,22 @@ whose order k = unwrap_or (slice_get order k) 0
 
 -- the trace is cut in order into one part for each turn and the events of the stop; each turn is of the processor that the order
 -- names
-abbrev pub RunsThrough : List ThreadPlan → List ThreadEnd → List Poll → List ℕ → Machine → List Piece → List Turn → List Event → Type 0
+abbrev pub RunsThrough : List ThreadSpec → List ThreadLine → List Poll → List ℕ → Machine → List Piece → List Turn → List Event → Type 0
 RunsThrough plans lines polls order m before [] events = EndsRun plans lines m before events
 RunsThrough plans lines polls order m before (turn ∷ turns) events =
     (turn.events ≤ length events) × (TurnFits plans lines (whose order (length before)) m before (poll_of polls turn) (take turn.events events) × RunsThrough plans lines polls order (after_all m (take turn.events events)) (before ++ piece (poll_of polls turn) (take turn.events events) ∷ []) turns (drop turn.events events))
 
 -- a thread and its line are both there, or neither is
-abbrev pub IsPaired : List ThreadPlan → List ThreadEnd → ℕ → ℕ → Type 0
+abbrev pub IsPaired : List ThreadSpec → List ThreadLine → ℕ → ℕ → Type 0
 IsPaired plans lines cpu n = is_some (plan_of_thread cpu n plans) ≡ is_some (line_of (16 * cpu + n) lines)
 
 -- the lines of threads are in order, by processor, then number
-abbrev pub AreListed : ℕ → ℕ → List ThreadEnd → Type 0
+abbrev pub AreListed : ℕ → ℕ → List ThreadLine → Type 0
 AreListed cpus least [] = Unit {0}
 AreListed cpus least (l ∷ ls) = (least ≤ slot_of l.id) × ((l.id.cpu.0 < cpus) × ((l.id.thread < 16) × AreListed cpus (slot_of l.id + 1) ls))
 
 -- the rounds of a run end before the script's are used up: the last round has no ask, and every thread has ended
-pub record EndsEarly (polls : List Poll) (cpus : ℕ) (limit : ℕ) (turns : List Turn) (lines : List ThreadEnd) : Type 0 where
+pub record EndsEarly (polls : List Poll) (cpus : ℕ) (limit : ℕ) (turns : List Turn) (lines : List ThreadLine) : Type 0 where
   pub fewer : length turns < limit * cpus
   pub unasked : All (λ turn. is_some (poll_of polls turn) ≡ false) (drop (length turns - cpus) turns)
   pub ended : All (λ line. has_ended line.state ≡ true) lines
@@ -101,7 +101,7 @@ GoesRound cpus k [] = Unit {0}
 GoesRound cpus k (cpu ∷ order) = (cpu ≡ k % cpus) × GoesRound cpus (k + 1) order
 
 -- the turns of an order are whole rounds of the processors, at least one; they are the script's, or fewer
-pub record AreRounds (polls : List Poll) (cpus : ℕ) (limit : ℕ) (order : List ℕ) (turns : List Turn) (lines : List ThreadEnd) : Type 0 where
+pub record AreRounds (polls : List Poll) (cpus : ℕ) (limit : ℕ) (order : List ℕ) (turns : List Turn) (lines : List ThreadLine) : Type 0 where
   pub round : GoesRound cpus 0 order
   pub processors : 0 < cpus
   pub some : 0 < length turns
@@ -109,13 +109,13 @@ pub record AreRounds (polls : List Poll) (cpus : ℕ) (limit : ℕ) (order : Lis
   pub enough : (length turns ≡ limit * cpus) ⊎ EndsEarly polls cpus limit turns lines
 
 -- turns follow one another as they should: in rounds, or as they were named
-abbrev pub KeepsPace : Pace → List Poll → ℕ → List ℕ → List Turn → List ThreadEnd → Type 0
+abbrev pub KeepsPace : Pace → List Poll → ℕ → List ℕ → List Turn → List ThreadLine → Type 0
 KeepsPace (Rounds limit) polls cpus order turns lines = AreRounds polls cpus limit order turns lines
 KeepsPace Named polls cpus order turns lines = Unit {0}
 
 -- the turns, with their polls, are a run of a script along an order of its processors, at this pace, over a trace from an opening,
 -- which ends as the lines say
-pub record IsScriptRun (plans : List ThreadPlan) (pace : Pace) (order : List ℕ) (opening : Machine) (polls : List Poll) (turns : List Turn) (trace : List Event) (lines : List ThreadEnd) : Type 0 where
+pub record IsScriptRun (plans : List ThreadSpec) (pace : Pace) (order : List ℕ) (opening : Machine) (polls : List Poll) (turns : List Turn) (trace : List Event) (lines : List ThreadLine) : Type 0 where
   pub listed : AreListed opening.cpus 0 lines
   pub paired : (cpu n : ℕ) → cpu < 8 → n < 16 → IsPaired plans lines cpu n
   pub named : length order ≡ length turns

@@ -8,8 +8,8 @@ use Rattle.lwkt_base.specs.declared.asks.Ask.{Ask}
 use Rattle.lwkt_base.specs.declared.asks.Ask.TheVariants.{Exit}
 use Rattle.lwkt_base.specs.declared.entries.Entry.{Entry}
 use Rattle.lwkt_base.specs.Fault.{number_of}
-use Rattle.lwkt_verdict.specs.declared.turns.ThreadPlan.{ThreadPlan}
-use Rattle.lwkt_verdict.specs.declared.turns.ThreadEnd.{ThreadEnd}
+use Rattle.lwkt_script.specs.declared.scripts.ThreadSpec.{ThreadSpec}
+use Rattle.lwkt_report.specs.declared.closings.ThreadLine.{ThreadLine}
 use Rattle.lwkt_verdict.specs.declared.progress.Asked.{Asked}
 use Rattle.lwkt_verdict.specs.declared.progress.Progress.{Progress}
 use Rattle.lwkt_verdict.specs.declared.progress.Piece.{Piece}
@@ -20,12 +20,12 @@ abbrev pub slot_of : ThreadId → ℕ
 slot_of id = 16 * id.cpu.0 + id.thread
 
 -- thread number n of a processor: its n-th thread in the script, counted from 0
-abbrev pub plan_of_thread : ℕ → ℕ → List ThreadPlan → Option ThreadPlan
+abbrev pub plan_of_thread : ℕ → ℕ → List ThreadSpec → Option ThreadSpec
 plan_of_thread cpu n [] = None
 plan_of_thread cpu n (t ∷ ts) = if t.cpu.0 == cpu then (if n == 0 then Some t else plan_of_thread cpu (n - 1) ts) else plan_of_thread cpu n ts
 
 -- the printed line of a thread
-abbrev pub line_of : ℕ → List ThreadEnd → Option ThreadEnd
+abbrev pub line_of : ℕ → List ThreadLine → Option ThreadLine
 line_of slot [] = None
 line_of slot (l ∷ ls) = if slot_of l.id == slot then Some l else line_of slot ls
 
@@ -36,8 +36,8 @@ ask_in repeat steps k =
     if nat_lt (k / length steps) repeat then slice_get steps (k % length steps) else (
     if k / length steps == repeat && k % length steps == 0 then Some Exit else None))
 
-abbrev pub ask_at : ThreadPlan → ℕ → Option Ask
-ask_at plan k = ask_in plan.repeat plan.steps.items k
+abbrev pub ask_at : ThreadSpec → ℕ → Option Ask
+ask_at plan k = ask_in plan.repeat plan.steps k
 
 -- what a turn asked of a thread
 abbrev pub asked_in : ℕ → Piece → List Asked
@@ -69,12 +69,12 @@ abbrev pub progress_after : Progress → Asked → Progress
 progress_after p a = record { polls = p.polls + 1; last = Some a; logged = option_map_or (λ e. min 32 (p.logged + 1)) (logged_by a) p.logged }
 
 -- a thread that has come so far may be polled with this ask: it is the thread's next ask, and the ask before it has its answer
-abbrev pub MayAsk : ThreadPlan → Progress → Ask → Type 0
+abbrev pub MayAsk : ThreadSpec → Progress → Ask → Type 0
 MayAsk plan p ask = (ask_at plan p.polls ≡ Some ask) × MatchOption p.last (Unit {0}) (λ a. is_some a.answer ≡ true)
 
 -- the entry of an ask's answer, if it has one and is among the first 32, stands at its place in the thread's log
-abbrev pub IsLogged : ThreadEnd → Progress → Asked → Type 0
-IsLogged line p a = MatchOption (logged_by a) (Unit {0}) (λ e. p.logged < 32 → slice_get line.log.items p.logged ≡ Some e)
+abbrev pub IsLogged : ThreadLine → Progress → Asked → Type 0
+IsLogged line p a = MatchOption (logged_by a) (Unit {0}) (λ e. p.logged < 32 → slice_get line.log p.logged ≡ Some e)
 
 -- whether a thread is blocked by what it last asked: that isn't refused, and its part shows that it blocked
 abbrev pub is_blocked : Asked → Bool
@@ -113,13 +113,12 @@ may_end state (Some a) = may_end_after state a
 
 -- a thread that has come so far ends as its printed line says: its last ask has no answer, the line's log has no more than
 -- the entries that were logged, and its state may come of its last ask
-abbrev pub EndsAs : ThreadEnd → Progress → Type 0
-EndsAs line p = MatchOption p.last (Unit {0}) (λ a. is_some a.answer ≡ false) × (length line.log.items ≡ p.logged) × (may_end line.state p.last ≡ true)
+abbrev pub EndsAs : ThreadLine → Progress → Type 0
+EndsAs line p = MatchOption p.last (Unit {0}) (λ a. is_some a.answer ≡ false) × (length line.log ≡ p.logged) × (may_end line.state p.last ≡ true)
 
 -- the same of a thread that the script may have or not: a line is there exactly if the thread is
-abbrev pub EndsAsTold : Option ThreadPlan → Option ThreadEnd → Progress → Type 0
+abbrev pub EndsAsTold : Option ThreadSpec → Option ThreadLine → Progress → Type 0
 EndsAsTold None None p = Unit {0}
 EndsAsTold None (Some line) p = ⊥
 EndsAsTold (Some plan) None p = ⊥
 EndsAsTold (Some plan) (Some line) p = EndsAs line p
-

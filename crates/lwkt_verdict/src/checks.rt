@@ -18,8 +18,10 @@ use crate::poll_lists::PollList;
 use crate::polls::{idles, note_poll};
 use crate::progress::Standing;
 use crate::rounds::{are_listed, are_processors, keeps_pace, whose};
-use crate::turns::{Pace, Poll, ThreadEnd, ThreadPlan, Turn, read_poll};
+use crate::turns::{Pace, Poll, Turn, read_poll};
 use lwkt_core::{Event, State};
+use lwkt_report::ThreadLine;
+use lwkt_script::ThreadSpec;
 
 // Whether each event of a part is of this processor.
 fn are_of(cpu: usize, part: &[Event]) -> bool
@@ -51,8 +53,8 @@ fn makes(state: &mut State, poll: Option<&Poll>, part: &[Event]) -> bool
 
 // Whether a turn's poll, or its want of one, fits the turns before it; how far its thread has come is then noted.
 fn asks<'a>(
-    plans: &[ThreadPlan],
-    lines: &[ThreadEnd],
+    plans: &[ThreadSpec],
+    lines: &[ThreadLine],
     homes: &[Option<Home>],
     table: &mut [Standing<'a>],
     cpu: usize,
@@ -82,8 +84,8 @@ fn poll_read(polled: bool, room: &Poll) -> Option<&Poll>
 
 // Whether a turn fits the turns before it, and its part the machine that it finds; both then go on.
 fn fits<'a>(
-    plans: &[ThreadPlan],
-    lines: &[ThreadEnd],
+    plans: &[ThreadSpec],
+    lines: &[ThreadLine],
     homes: &[Option<Home>],
     table: &mut [Standing<'a>],
     state: &mut State,
@@ -123,8 +125,8 @@ fn fits<'a>(
 
 // Whether what is left of a trace after the last turn is the end of a run.
 fn closes(
-    plans: &[ThreadPlan],
-    lines: &[ThreadEnd],
+    plans: &[ThreadSpec],
+    lines: &[ThreadLine],
     homes: &[Option<Home>],
     table: &[Standing<'_>],
     state: &mut State,
@@ -140,8 +142,8 @@ fn closes(
 
 // Whether the turns are those of a run, over a trace from this machine, which the trace then has led on.
 fn runs<'a>(
-    plans: &[ThreadPlan],
-    lines: &[ThreadEnd],
+    plans: &[ThreadSpec],
+    lines: &[ThreadLine],
     homes: &[Option<Home>],
     table: &mut [Standing<'a>],
     state: &mut State,
@@ -187,14 +189,14 @@ fn start<'a>() -> [Standing<'a>; 128]
 /// over this trace from the opening, which ends as the lines of the threads say. If so, the trace has led the opening to the
 /// state that is left. Takes no memory; the work is in proportion to turns and events.
 pub fn is_script_run(
-    plans: &[ThreadPlan],
+    plans: &[ThreadSpec],
     pace: Pace,
     order: &[u8],
     state: &mut State,
     polls: &PollList,
     turns: &[Turn],
     trace: &[Event],
-    lines: &[ThreadEnd],
+    lines: &[ThreadLine],
 ) -> bool
     ensures right { IsTrue result ↔ IsScriptRun plans.now pace order.now state.old polls.now turns.now trace.now lines.now }
     ensures led { IsTrue result → Run state.old trace.now state.new }

@@ -6,10 +6,11 @@ ghost use Rattle.lwkt_verdict.specs.Progressed.{EndsAt};
 use crate::homes::{Home, THREAD_LIMIT, home_at};
 use crate::polls::standing_at;
 use crate::progress::{Standing, ends_as};
-use crate::turns::{ThreadEnd, ThreadPlan};
+use lwkt_report::ThreadLine;
+use lwkt_script::ThreadSpec;
 
 // Whether a thread that has come so far ends as its line says, if it has one.
-fn ends(lines: &[ThreadEnd], home: Option<Home>, standing: &Standing<'_>) -> bool
+fn ends(lines: &[ThreadLine], home: Option<Home>, standing: &Standing<'_>) -> bool
     requires { IfSome home (λ h. h.line < length lines.now) }
     ensures { IsTrue result ↔ MatchOption home (Unit {0}) (λ h. MatchOption (slice_get lines.now h.line) ⊥ (λ line. EndsAs line standing.now)) }
 {
@@ -21,8 +22,8 @@ fn ends(lines: &[ThreadEnd], home: Option<Home>, standing: &Standing<'_>) -> boo
 
 /// Whether each thread ends as its line says.
 pub fn all_end(
-    plans: &[ThreadPlan],
-    lines: &[ThreadEnd],
+    plans: &[ThreadSpec],
+    lines: &[ThreadLine],
     homes: &[Option<Home>],
     table: &[Standing<'_>],
 ) -> bool

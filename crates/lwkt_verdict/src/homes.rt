@@ -3,7 +3,8 @@ ghost use Rattle.lwkt_verdict.specs.Homes.{IsHomeOf, AreHomes};
 ghost use Rattle.lwkt_verdict.specs.Run.{IsPaired};
 
 use crate::plans::{find_line, find_thread};
-use crate::turns::{ThreadEnd, ThreadPlan};
+use lwkt_report::ThreadLine;
+use lwkt_script::ThreadSpec;
 
 /// How many threads there can be: 16 for each of 8 processors.
 pub const THREAD_LIMIT: usize = 128;
@@ -18,7 +19,7 @@ pub struct Home {
 }
 
 // Where a thread and its line stand, if both are there or neither is.
-fn home_of(cpu: u8, n: u8, plans: &[ThreadPlan], lines: &[ThreadEnd]) -> Option<Option<Home>>
+fn home_of(cpu: u8, n: u8, plans: &[ThreadSpec], lines: &[ThreadLine]) -> Option<Option<Home>>
     requires { n < 16 }
     ensures { MatchOption result (¬ IsPaired plans.now lines.now cpu n) (λ home. IsHomeOf plans.now lines.now cpu n home) }
 {
@@ -31,7 +32,7 @@ fn home_of(cpu: u8, n: u8, plans: &[ThreadPlan], lines: &[ThreadEnd]) -> Option<
 }
 
 /// Where all threads and their lines stand, if each thread has its line and each line its thread.
-pub fn homes_of(plans: &[ThreadPlan], lines: &[ThreadEnd]) -> Option<[Option<Home>; 128]>
+pub fn homes_of(plans: &[ThreadSpec], lines: &[ThreadLine]) -> Option<[Option<Home>; 128]>
     ensures { MatchOption result (¬ ((cpu n : ℕ) → cpu < 8 → n < 16 → IsPaired plans.now lines.now cpu n)) (λ homes. AreHomes plans.now lines.now homes) }
 {
     let mut homes = [None; 128];

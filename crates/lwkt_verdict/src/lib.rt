@@ -27,4 +27,4 @@ pub use asks::entry_of;
 pub use checks::is_script_run;
 pub use poll_lists::PollList;
 pub use rounds::are_processors;
-pub use turns::{Pace, Poll, ThreadEnd, ThreadPlan, Turn};
+pub use turns::{Pace, Poll, Turn};

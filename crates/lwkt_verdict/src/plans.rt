@@ -2,8 +2,9 @@ ghost use Rattle.std.specs.Prelude.{◌≡◌, ◌<◌, ◌^◌, ◌↔◌, IsTr
 ghost use Rattle.lwkt_base.specs.declared.asks.Ask.TheVariants.{WriteBlob, Exit};
 ghost use Rattle.lwkt_verdict.specs.Threads.{plan_of_thread, line_of, slot_of, ask_in, ask_at};
 
-use crate::turns::{ThreadEnd, ThreadPlan};
 use lwkt_base::{Ask, Blob, ThreadId, TokId};
+use lwkt_report::ThreadLine;
+use lwkt_script::ThreadSpec;
 
 /// A thread's number among those of all processors, 16 for each.
 pub fn slot_of(id: ThreadId) -> usize
@@ -68,14 +69,14 @@ fn is_ask_in(repeat: u64, steps: &[Ask], k: u64, ask: &Ask) -> bool
 }
 
 /// Whether an ask is ask k of a thread.
-pub fn is_ask_at(plan: &ThreadPlan, k: u64, ask: &Ask) -> bool
+pub fn is_ask_at(plan: &ThreadSpec, k: u64, ask: &Ask) -> bool
     ensures { IsTrue result ↔ (ask_at plan.now k ≡ Some ask.now) }
 {
     is_ask_in(u64::from(plan.repeat), plan.steps.as_slice(), k, ask)
 }
 
 /// Where in a script thread number n of a processor stands.
-pub fn find_thread(cpu: u8, n: u8, plans: &[ThreadPlan]) -> Option<usize>
+pub fn find_thread(cpu: u8, n: u8, plans: &[ThreadSpec]) -> Option<usize>
     ensures there { option_and_then (slice_get plans.now) result ≡ plan_of_thread cpu n plans.now }
     ensures within { IfSome result (λ i. i < length plans.now) }
 {
@@ -92,7 +93,7 @@ pub fn find_thread(cpu: u8, n: u8, plans: &[ThreadPlan]) -> Option<usize>
 }
 
 /// Where the line of a thread stands.
-pub fn find_line(slot: usize, lines: &[ThreadEnd]) -> Option<usize>
+pub fn find_line(slot: usize, lines: &[ThreadLine]) -> Option<usize>
     ensures there { option_and_then (slice_get lines.now) result ≡ line_of slot lines.now }
     ensures within { IfSome result (λ i. i < length lines.now) }
 {

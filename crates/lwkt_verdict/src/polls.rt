@@ -8,8 +8,10 @@ use crate::asks::may_answer;
 use crate::homes::{Home, home_at};
 use crate::places::PollPlace;
 use crate::progress::{Standing, is_logged, may_ask, progress_after, rests};
-use crate::turns::{Poll, ThreadEnd, ThreadPlan};
+use crate::turns::Poll;
 use lwkt_base::{Answer, Ask};
+use lwkt_report::ThreadLine;
+use lwkt_script::ThreadSpec;
 
 // Whether an answer, if there is one, is one that an ask can have.
 fn fits_ask(ask: &Ask, answer: &Option<Answer>) -> bool
@@ -23,8 +25,8 @@ fn fits_ask(ask: &Ask, answer: &Option<Answer>) -> bool
 
 // Whether a poll fits a thread of this processor that has come so far.
 fn poll_fits(
-    plans: &[ThreadPlan],
-    lines: &[ThreadEnd],
+    plans: &[ThreadSpec],
+    lines: &[ThreadLine],
     home: Option<Home>,
     cpu: usize,
     standing: &Standing<'_>,
@@ -53,8 +55,8 @@ pub fn standing_at<'t, 'a>(table: &'t [Standing<'a>], slot: usize) -> &'t Standi
 
 /// Whether a poll fits the turns before it; how far its thread has come is then noted.
 pub fn note_poll<'a>(
-    plans: &[ThreadPlan],
-    lines: &[ThreadEnd],
+    plans: &[ThreadSpec],
+    lines: &[ThreadLine],
     homes: &[Option<Home>],
     table: &mut [Standing<'a>],
     cpu: usize,
@@ -96,8 +98,8 @@ fn may_idle(home: Option<Home>, standing: &Standing<'_>) -> bool
 
 /// Whether a turn without an ask fits the turns before it: each thread of its processor may rest.
 pub fn idles(
-    plans: &[ThreadPlan],
-    lines: &[ThreadEnd],
+    plans: &[ThreadSpec],
+    lines: &[ThreadLine],
     homes: &[Option<Home>],
     table: &[Standing<'_>],
     cpu: usize,

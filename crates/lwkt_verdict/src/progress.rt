@@ -8,8 +8,10 @@ ghost use Rattle.lwkt_verdict.specs.Threads.{logged_by, progress_after, MayAsk, 
 use crate::asks::{entry_of, is_exit, is_refused, may_block, may_wait};
 use crate::places::PollPlace;
 use crate::plans::is_ask_at;
-use crate::turns::{Poll, ThreadEnd, ThreadPlan};
+use crate::turns::Poll;
 use lwkt_base::{Answer, Ask, Blob, Entry, ThreadState};
+use lwkt_report::ThreadLine;
+use lwkt_script::ThreadSpec;
 use std::marker::Model;
 
 /// The most entries of a log.
@@ -183,7 +185,7 @@ fn is_unanswered(standing: &Standing<'_>) -> bool
 }
 
 /// Whether a thread that has come so far may be polled with this ask.
-pub fn may_ask(plan: &ThreadPlan, standing: &Standing<'_>, ask: &Ask) -> bool
+pub fn may_ask(plan: &ThreadSpec, standing: &Standing<'_>, ask: &Ask) -> bool
     ensures { IsTrue result ↔ MayAsk plan.now standing.now ask.now }
 {
     is_ask_at(plan, standing.polls, ask) && is_answered(standing)
@@ -233,8 +235,8 @@ fn is_entry_at(log: &[Entry], place: usize, ask: &Ask, answer: &Answer) -> bool
 }
 
 // Whether the entry of a poll's answer, if it has one, stands at a place of the thread's log.
-fn is_logged_at(line: &ThreadEnd, place: usize, poll: &Poll) -> bool
-    ensures { IsTrue result ↔ MatchOption (logged_by (asked_of_poll poll.now false)) (Unit {0}) (λ e. slice_get line.now.log.items place ≡ Some e) }
+fn is_logged_at(line: &ThreadLine, place: usize, poll: &Poll) -> bool
+    ensures { IsTrue result ↔ MatchOption (logged_by (asked_of_poll poll.now false)) (Unit {0}) (λ e. slice_get line.now.log place ≡ Some e) }
 {
     match &poll.answer {
         None => true,
@@ -243,7 +245,7 @@ fn is_logged_at(line: &ThreadEnd, place: usize, poll: &Poll) -> bool
 }
 
 /// Whether the entry of a poll's answer, if it has one and is among the first 32, stands in the thread's log.
-pub fn is_logged(line: &ThreadEnd, standing: &Standing<'_>, poll: &Poll) -> bool
+pub fn is_logged(line: &ThreadLine, standing: &Standing<'_>, poll: &Poll) -> bool
     ensures { IsTrue result ↔ IsLogged line.now standing.now (asked_of_poll poll.now false) }
 {
     standing.logged >= LOG_LIMIT || is_logged_at(line, standing.logged, poll)
@@ -299,8 +301,10 @@ fn may_end(state: ThreadState, standing: &Standing<'_>) -> bool
 }
 
 /// Whether a thread that has come so far ends as its line says.
-pub fn ends_as(line: &ThreadEnd, standing: &Standing<'_>) -> bool
+pub fn ends_as(line: &ThreadLine, standing: &Standing<'_>) -> bool
     ensures { IsTrue result ↔ EndsAs line.now standing.now }
 {
-    is_unanswered(standing) && line.log.len() == standing.logged && may_end(line.state, standing)
+    is_unanswered(standing)
+        && line.log.as_slice().len() == standing.logged
+        && may_end(line.state, standing)
 }

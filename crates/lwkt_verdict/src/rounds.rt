@@ -5,17 +5,18 @@ ghost use Rattle.lwkt_verdict.specs.Run.{poll_of, whose, AreListed, EndsEarly, G
 
 use crate::plans::slot_of;
 use crate::poll_lists::PollList;
-use crate::turns::{Pace, ThreadEnd, Turn, poll_of};
+use crate::turns::{Pace, Turn, poll_of};
+use lwkt_report::ThreadLine;
 
 // Whether a line is of a thread that can be, and comes after those before it.
-fn is_listed(cpus: usize, least: usize, line: &ThreadEnd) -> bool
+fn is_listed(cpus: usize, least: usize, line: &ThreadLine) -> bool
     ensures { IsTrue result ↔ ((least ≤ slot_of line.now.id) × (line.now.id.cpu.0 < cpus) × (line.now.id.thread < 16)) }
 {
     least <= slot_of(line.id) && usize::from(line.id.cpu.0) < cpus && line.id.thread < 16
 }
 
 /// Whether the lines of threads are in order, by processor, then number.
-pub fn are_listed(cpus: usize, lines: &[ThreadEnd]) -> bool
+pub fn are_listed(cpus: usize, lines: &[ThreadLine]) -> bool
     ensures { IsTrue result ↔ AreListed cpus 0 lines.now }
 {
     let mut least = 0;
@@ -29,7 +30,7 @@ pub fn are_listed(cpus: usize, lines: &[ThreadEnd]) -> bool
 }
 
 // Whether every thread has ended.
-fn all_ended(lines: &[ThreadEnd]) -> bool
+fn all_ended(lines: &[ThreadLine]) -> bool
     ensures { IsTrue result ↔ All (λ line. has_ended line.state ≡ true) lines.now }
 {
     lines.iter().all(|line| line.state.has_ended())
@@ -48,7 +49,7 @@ fn ends_early(
     cpus: usize,
     limit: u32,
     turns: &[Turn],
-    lines: &[ThreadEnd],
+    lines: &[ThreadLine],
 ) -> bool
     requires { cpus ≤ 8 }
     ensures { IsTrue result ↔ EndsEarly polls.now cpus limit turns.now lines.now }
@@ -78,7 +79,7 @@ fn are_rounds(
     limit: u32,
     order: &[u8],
     turns: &[Turn],
-    lines: &[ThreadEnd],
+    lines: &[ThreadLine],
 ) -> bool
     requires { cpus ≤ 8 }
     ensures { IsTrue result ↔ AreRounds polls.now cpus limit order.now turns.now lines.now }
@@ -99,7 +100,7 @@ pub fn keeps_pace(
     cpus: usize,
     order: &[u8],
     turns: &[Turn],
-    lines: &[ThreadEnd],
+    lines: &[ThreadLine],
 ) -> bool
     requires { cpus ≤ 8 }
     ensures { IsTrue result ↔ KeepsPace pace polls.now cpus order.now turns.now lines.now }

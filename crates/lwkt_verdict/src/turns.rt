@@ -2,30 +2,7 @@ ghost use Rattle.std.specs.Prelude.{◌≡◌, Some, None, if◌then◌else◌};
 ghost use Rattle.lwkt_verdict.specs.Run.{poll_of};
 
 use crate::poll_lists::PollList;
-use lwkt_base::{Answer, Ask, CpuId, Entry, ThreadId, ThreadState};
-
-/// What a script says of one of its threads. The threads lie as in the script; a thread's number is its place among those
-/// of its processor.
-#[derive(Debug, Drop)]
-pub struct ThreadPlan {
-    /// The processor that the thread runs on.
-    pub cpu: CpuId,
-    /// How many times the thread makes its steps.
-    pub repeat: u32,
-    /// The steps, in order.
-    pub steps: Vec<Ask>,
-}
-
-/// What a report says of one thread.
-#[derive(Debug, Drop)]
-pub struct ThreadEnd {
-    /// The thread.
-    pub id: ThreadId,
-    /// What it is when the run stops.
-    pub state: ThreadState,
-    /// The first 32 entries of its log.
-    pub log: Vec<Entry>,
-}
+use lwkt_base::{Answer, Ask, CpuId, ThreadId};
 
 /// One poll of a thread: what it asked, and what this was answered, if the thread was polled again.
 #[derive(Clone, Copy, Debug, PartialEq, Eq)]

@@ -12,12 +12,12 @@ use Rattle.lwkt_run.proofs.verdicts.verdict_of.Goals as goal
 pub returns-then-is_script_run : goal.returns-then-is_script_run
 returns-then-is_script_run c =
     let yes = c.if-is_script_run.true in
-    let J : List Turn → Type 0 = λ ts. IsVerdict c.close_of.result c.args.opening c.args.pace c.args.order.now c.args.plans.now c.args.ends.now c.args.last.now c.args.trace.now c.args.kept.now.polls ts in
+    let J : List Turn → Type 0 = λ ts. IsVerdict c.close_of.result c.args.opening c.args.pace c.args.order.now c.args.threads.now c.args.lines.now c.args.last.now c.args.trace.now c.args.kept.now.polls ts in
     subst J c.deref.ensures.value (judged_by_close _ _ _ _ _ _ _ _ _ _ _ (c.is_script_run.ensures.right.0 yes) (c.is_script_run.ensures.led yes) c.close_of.ensures)
 
 pub returns-else-is_script_run : goal.returns-else-is_script_run
 returns-else-is_script_run c =
-    let no : IsScriptRun c.args.plans.now c.args.pace c.args.order.now c.args.opening c.args.kept.now.polls c.deref.result.now c.args.trace.now c.args.ends.now → ⊥ = λ run. absurd (false≢true (sym c.if-is_script_run.false ∙ c.is_script_run.ensures.right.1 run)) in
+    let no : IsScriptRun c.args.threads.now c.args.pace c.args.order.now c.args.opening c.args.kept.now.polls c.deref.result.now c.args.trace.now c.args.lines.now → ⊥ = λ run. absurd (false≢true (sym c.if-is_script_run.false ∙ c.is_script_run.ensures.right.1 run)) in
     let F : Machine → Type 0 = λ m. (index : ℕ) × ((c.failure_of.result ≡ Unlawful index) × (FailsAt m c.args.trace.now c.args.last.now index ⊎ (IsLawfulTrace m c.args.trace.now c.args.last.now × (index ≡ length c.args.trace.now)))) in
-    let J : List Turn → Type 0 = λ ts. IsVerdict c.failure_of.result c.args.opening c.args.pace c.args.order.now c.args.plans.now c.args.ends.now c.args.last.now c.args.trace.now c.args.kept.now.polls ts in
+    let J : List Turn → Type 0 = λ ts. IsVerdict c.failure_of.result c.args.opening c.args.pace c.args.order.now c.args.threads.now c.args.lines.now c.args.last.now c.args.trace.now c.args.kept.now.polls ts in
     subst J c.deref.ensures.value (judged_by_failure _ _ _ _ _ _ _ _ _ _ no (subst F c.requires c.failure_of.ensures))
