@@ -17,9 +17,8 @@ use crate::seats::CpuSeat;
 use crate::views::View;
 use atomic_table::{Seat, Table};
 use lwkt_base::{Blob, CpuId, Fault, TokSpec};
-use lwkt_table::table_refusal;
 use lwkt_core::all_open_lawfully;
-use lwkt_table::SeatKind;
+use lwkt_table::{SeatKind, table_refusal};
 use std::alloc::{AllocError, Global};
 
 // What a seat keeps at the opening.

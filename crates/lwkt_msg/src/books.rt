@@ -7,8 +7,8 @@ use crate::seats::MsgSeat;
 use crate::views::{Key, View};
 use atomic_table::Shared;
 use lwkt_base::{Fault, MsgEnd, MsgSpec, Rec};
-use lwkt_table::{Resting, table_refusal};
 use lwkt_core::are_within;
+use lwkt_table::{Resting, table_refusal};
 use std::alloc::{AllocError, Global};
 use std::marker::Model;
 
