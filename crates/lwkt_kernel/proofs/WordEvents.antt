@@ -24,7 +24,7 @@ use Rattle.lwkt_core.specs.declared.tokens.Token.{Token}
 use Rattle.lwkt_core.specs.Tokens.{held_by, IsFree, IsNotLastExclusive, IsSafeToken, TokenNeeds, with_less}
 use Rattle.lwkt_core.specs.Picture.{count_of_held, picture_of}
 use Rattle.lwkt_core.proofs.MachineMoves.{references_le}
-use Rattle.lwkt_core.proofs.PictureLemmas.{IsOpen-from_picture, IsFree-from_picture, picture-open, picture-free, picture-exclusive_taken, picture-shared_taken, count-le, fit}
+use Rattle.lwkt_core.proofs.PictureLemmas.{IsOpen-from_picture, IsFree-from_picture, picture-open, picture-free, picture-taken, picture-shared, count-le, fit}
 use Rattle.lwkt_kernel.specs.Steps.{exclusive_taken, shared_taken, gained, one_given, exclusive_ended, clean_given, written_given}
 use Rattle.lwkt_kernel.specs.Events.{word_after, StepsAreEvents}
 
@@ -207,9 +207,9 @@ module _ (cpus : ℕ) (tok : Token) (cpu : CpuId) (t : TokId) (safe : IsSafeToke
 pub steps_by_events : StepsAreEvents
 steps_by_events m i tok cpu t safe at here = record {
   fits = (fit m i tok safe at).0;
-  takes = λ needs. taken_at (picture_of tok) needs.1 (picture-open tok (λ p. ap is_exclusive (needs.0 p))) (picture-free tok needs.0) ∙ ap (λ w. Ok (word_of w)) (sym (picture-exclusive_taken tok cpu t inside (needs.0 cpu.0)));
+  takes = λ needs. taken_at (picture_of tok) needs.1 (picture-open tok (λ p. ap is_exclusive (needs.0 p))) (picture-free tok needs.0) ∙ ap (λ w. Ok (word_of w)) (sym (picture-taken tok cpu t inside (needs.0 cpu.0)));
   takes_only = λ next is. let found = exclusive_taken-found (picture_of tok) next is in (IsFree-from_picture tok found.1 found.2, (let g = token.in_range in let d = found.0 in omega (arith, g, d)));
-  shares = λ alone needs unstopped. shared_at (picture_of tok) alone few (picture-open tok needs.0) unstopped ∙ ap (λ w. Ok (word_of w)) (sym (picture-shared_taken tok cpu t inside needs.1));
+  shares = λ alone needs unstopped. shared_at (picture_of tok) alone few (picture-open tok needs.0) unstopped ∙ ap (λ w. Ok (word_of w)) (sym (picture-shared tok cpu t inside needs.1));
   shares_only = λ alone next nothing is. let found = shared_taken-found (picture_of tok) alone next is in ((IsOpen-from_picture tok found.0, nothing), found.1);
   gains = gains_at m.cpus tok cpu t token inside few;
   marks = refl;
