@@ -1,5 +1,8 @@
 //! The program: reads a script from standard input, in JSON or as a text, runs it, and writes its report to standard output. Why
 //! there is none it says on standard error, and of a text which of its expectations hold.
+//!
+//! Words: a *mode* is what the program does with a script: runs it in rounds on one thread, or on threads; a *text* is a script in
+//! the language for scripts.
 #![tactic(auto)]
 
 mod modes;

@@ -1,4 +1,7 @@
 //! The program that shows a run of a script: its arguments, what it reads and writes, and its exit status.
+//!
+//! Words: the *options* say which turns are *chosen* and in which form they are shown; a run goes in rounds or *along* an order of
+//! its processors; it is *past* the run's end to choose a turn that wasn't made.
 #![tactic(auto)]
 
 mod alongs;
