@@ -253,7 +253,7 @@ pub fn is_logged(line: &ThreadLine, standing: &Standing<'_>, poll: &Poll) -> boo
 
 // Whether a thread is blocked by what it asked.
 fn is_blocked(asked: &Asked) -> bool
-    ensures { result ≡ is_blocked asked_of_poll.now }
+    ensures { result ≡ is_blocked asked.now }
 {
     !is_refused(&asked.answer) && asked.blocked
 }
@@ -277,7 +277,7 @@ fn may_fault(number: u8, ask: &Ask) -> bool
 
 // Whether a thread may be in this state that asked this last.
 fn may_end_after(state: ThreadState, asked: &Asked) -> bool
-    ensures { result ≡ may_end_after state asked_of_poll.now }
+    ensures { result ≡ may_end_after state asked.now }
 {
     match state {
         ThreadState::Ready => is_blocked(asked) && may_block(&asked.ask),
