@@ -297,27 +297,27 @@ sees_low : (cpu : ℕ) (olds news : List (Processor Scripted)) (o : Looks cpu ol
 sees_low cpu olds news o numbered k s d e less at =
     let within : k < length o.lower = omega (arith, less, o.number) in
     let here : slice_get o.lower k ≡ Some s = sym (ap (λ l. slice_get l k) o.were ∙ get_front o.lower (o.before ∷ o.upper) k within) ∙ at in
-    let seen_notes : SeesLine o.one.seat.cpu.0 s o.one o.two s.seat.cpu.0 d e = each_sees 0 o.one o.two o.lower o.lower' (low_numbered cpu olds news o numbered) o.from_lower k s d e here in
+    let seen : SeesLine o.one.seat.cpu.0 s o.one o.two s.seat.cpu.0 d e = each_sees 0 o.one o.two o.lower o.lower' (low_numbered cpu olds news o numbered) o.from_lower k s d e here in
     let F : ℕ × ℕ → Type 0 = λ i. SeesLine i.0 s o.one o.two i.1 d e in
     let to_is = cpu_same o.before o.one (one_looked cpu olds news o) ∙ cpu_before cpu olds news o numbered in
     let from_is = numbered k s at in
     let G : Lane × Lane → Type 0 = λ l. SeesAll (get_or s.post.lanes cpu d).out l.0 l.1 in
     let was = own_apart cpu olds news o numbered k e (λ same. omega (arith, same, less)) in
     let now = up_apart cpu olds news o numbered k e (inl (omega (arith, less))) in
-    subst G (λ i. (was i, sym now i)) (subst F (λ i. (to_is i, from_is i)) seen_notes)
+    subst G (λ i. (was i, sym now i)) (subst F (λ i. (to_is i, from_is i)) seen)
 
 sees_high : (cpu : ℕ) (olds news : List (Processor Scripted)) (o : Looks cpu olds news) → AreNumbered olds → (k : ℕ) (s : Processor Scripted) (d e : Lane) → cpu < k → slice_get olds k ≡ Some s → SeesLine cpu s o.before o.after k d e
 sees_high cpu olds news o numbered k s d e less at =
     let j : ℕ = k - (cpu + 1) in
     let n : suc (length o.lower + j) ≡ k = omega (arith, less, o.number) in
     let here : slice_get o.upper j ≡ Some s = sym (ap (λ l. slice_get l (suc (length o.lower + j))) o.were ∙ get_later o.lower o.upper o.before j) ∙ ap (λ i. slice_get olds i) n ∙ at in
-    let seen_notes : SeesLine o.two.seat.cpu.0 s o.two o.after s.seat.cpu.0 d e = each_sees (cpu + 1) o.two o.after o.upper o.upper' (up_numbered cpu olds news o numbered) o.from_upper j s d e here in
+    let seen : SeesLine o.two.seat.cpu.0 s o.two o.after s.seat.cpu.0 d e = each_sees (cpu + 1) o.two o.after o.upper o.upper' (up_numbered cpu olds news o numbered) o.from_upper j s d e here in
     let F : ℕ × ℕ → Type 0 = λ i. SeesLine i.0 s o.two o.after i.1 d e in
     let to_is = cpu_same o.before o.two (two_looked cpu olds news o) ∙ cpu_before cpu olds news o numbered in
     let from_is = numbered k s at in
     let G : Lane → Type 0 = λ l. SeesAll (get_or s.post.lanes cpu d).out l (get_or o.after.post.lanes k e) in
     let was = low_apart cpu olds news o numbered k e (omega (arith, less)) ∙ own_apart cpu olds news o numbered k e (λ same. omega (arith, same, less)) in
-    subst G was (subst F (λ i. (to_is i, from_is i)) seen_notes)
+    subst G was (subst F (λ i. (to_is i, from_is i)) seen)
 
 sees_own : (cpu : ℕ) (olds news : List (Processor Scripted)) (o : Looks cpu olds news) → AreNumbered olds → (d : Lane) → LineSeesOwn (get_or o.before.post.lanes cpu d) (get_or o.after.post.lanes cpu d)
 sees_own cpu olds news o numbered d =
