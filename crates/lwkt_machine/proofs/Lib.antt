@@ -1,12 +1,10 @@
 pub mod BodyMoves
 pub mod CloseMoves
 pub mod EncodeMoves
-pub mod LaneMoves
 pub mod ListMoves
 pub mod OpenMoves
 pub mod PartMoves
 pub mod RetireMoves
-pub mod SeatMoves
 pub mod SightMoves
 pub mod StandMoves
 pub mod StopMoves

@@ -3,6 +3,7 @@ use Rattle.std.proofs.Common.{◌≡◌, suc, ◌<◌, List, [], ◌∷◌, ◌+
 use Rattle.std.specs.Prelude.{All, OnOk, slice_get}
 use Rattle.std.specs.List.{remove, flat_map}
 use Rattle.std.specs.Result.{is_ok}
+use Rattle.std.proofs.lemmas.List.{map-append}
 use Rattle.std.proofs.lemmas.List.Elements.{All-push}
 use Rattle.lwkt_base.specs.Holding.{holds_nothing}
 use Rattle.lwkt_bank.specs.declared.seats.CpuSeat.{CpuSeat}
@@ -14,7 +15,7 @@ use Rattle.lwkt_machine.specs.Ended.{AreOver}
 use Rattle.lwkt_machine.specs.Retiring.{AreRetired}
 use Rattle.lwkt_machine.specs.declared.closings.Retired.{Retired}
 use Rattle.lwkt_lane.proofs.PlaceMoves.{get_removed}
-use Rattle.lwkt_machine.proofs.ListMoves.{map_push, flat_push}
+use Rattle.lwkt_machine.proofs.ListMoves.{flat_push}
 
 -- some of the processors have given back what they have, and the rest are over
 pub record IsRetiring (all rest : List (Processor Scripted)) (r : Retired) : Type 0 where
@@ -41,9 +42,9 @@ retiring_more all rest left r s x some is are so_far more = record {
 -- one processor more gives back what it has
 pub retired_more : {T E : Type 0} (done : List (Processor Scripted)) (p : Processor Scripted) (old new : Retired) (seat : CpuSeat) (mail : Desk) (bodies : List Scripted) (t : Result T E) → seat ≡ p.seat → holding seat ≡ holds_nothing → mail ≡ p.post.seat → bodies ≡ p.bodies → new.seats.items ≡ old.seats.items ++ seat ∷ [] → new.mails.items ≡ old.mails.items ++ mail ∷ [] → new.bodies.items ≡ cond (is_ok t) (old.bodies.items ++ bodies) old.bodies.items → AreRetired done old → OnOk t (AreRetired (done ++ p ∷ []) new)
 retired_more done p old new seat mail bodies (Ok x) seat_is empty mail_is bodies_are seats mails all_bodies so_far = record {
-  seats = seats ∙ ap (λ xs. xs ++ seat ∷ []) so_far.seats ∙ ap (λ s. map (λ (q : Processor Scripted). q.seat) done ++ s ∷ []) seat_is ∙ sym (map_push (λ (q : Processor Scripted). q.seat) done p);
+  seats = seats ∙ ap (λ xs. xs ++ seat ∷ []) so_far.seats ∙ ap (λ s. map (λ (q : Processor Scripted). q.seat) done ++ s ∷ []) seat_is ∙ sym (map-append (λ (q : Processor Scripted). q.seat) done (p ∷ []));
   empty = subst (All (λ s. holding s ≡ holds_nothing)) (sym seats) (All-push (λ s. holding s ≡ holds_nothing) old.seats.items seat so_far.empty empty);
-  mails = mails ∙ ap (λ xs. xs ++ mail ∷ []) so_far.mails ∙ ap (λ d. map (λ (q : Processor Scripted). q.post.seat) done ++ d ∷ []) mail_is ∙ sym (map_push (λ (q : Processor Scripted). q.post.seat) done p);
+  mails = mails ∙ ap (λ xs. xs ++ mail ∷ []) so_far.mails ∙ ap (λ d. map (λ (q : Processor Scripted). q.post.seat) done ++ d ∷ []) mail_is ∙ sym (map-append (λ (q : Processor Scripted). q.post.seat) done (p ∷ []));
   bodies = all_bodies ∙ ap (λ xs. xs ++ bodies) so_far.bodies ∙ ap (λ bs. flat_map (λ (q : Processor Scripted). q.bodies) done ++ bs) bodies_are ∙ sym (flat_push (λ (q : Processor Scripted). q.bodies) done p);
 }
 retired_more done p old new seat mail bodies (Err e) seat_is empty mail_is bodies_are seats mails all_bodies so_far = tt

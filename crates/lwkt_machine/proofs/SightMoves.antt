@@ -31,7 +31,7 @@ use Rattle.lwkt_machine.specs.Bodies.{Scripted}
 use Rattle.lwkt_machine.specs.Ended.{AreSameCpus}
 use Rattle.lwkt_machine.specs.Machines.{AreAllJoined, AreNumbered}
 use Rattle.lwkt_machine.specs.Sights.{SeesEach, IsLookedAt, SeesFrom, SeesSent}
-use Rattle.lwkt_machine.proofs.ListMoves.{all_from_get}
+use Rattle.lwkt_seating.proofs.ListMoves.{all_from_get}
 
 -- two lists that fit are as long, and fit at each place
 pub zip_long : {A B : Type 0} (R : A → B → Type 0) (xs : List A) (ys : List B) → AllZip R xs ys → length ys ≡ length xs

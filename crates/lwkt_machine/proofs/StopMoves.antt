@@ -14,7 +14,7 @@ use Rattle.lwkt_cpu.proofs.WakeMoves.{post_none, post_then}
 use Rattle.lwkt_machine.specs.Bodies.{Scripted}
 use Rattle.lwkt_machine.specs.Machines.{IsOfMachine, AreOneMachine}
 use Rattle.lwkt_machine.specs.Ended.{IsSameCpu, AreSameCpus}
-use Rattle.lwkt_machine.proofs.ListMoves.{all_from_get}
+use Rattle.lwkt_seating.proofs.ListMoves.{all_from_get}
 
 pub same_none : (cpus : List (Processor Scripted)) → AreSameCpus cpus cpus
 same_none cpus = record { as_many = refl; each = λ k q at. (q, (at, record { bank = refl; table = refl; number = refl; ports = post_none q.post })) }

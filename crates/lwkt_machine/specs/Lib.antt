@@ -2,12 +2,10 @@ pub mod Bodies
 pub mod Closing
 pub mod Encoded
 pub mod Ended
-pub mod Lanes
 pub mod Laws
 pub mod Machines
 pub mod Opened
 pub mod Retiring
-pub mod Seating
 pub mod Sights
 pub mod Standings
 pub mod Turns

@@ -4,27 +4,17 @@ ghost use Rattle.lwkt_core.specs.Opening.{AreWithin, AllOpenLawfully};
 ghost use Rattle.lwkt_bank.specs.Gathered.{IsOpened};
 ghost use Rattle.lwkt_msg.specs.Desks.{AreOpened};
 ghost use Rattle.lwkt_script.specs.Format.{threads_on};
-ghost use Rattle.lwkt_machine.specs.Opened.{IsOpenedMachine, AreFew, DeclinesTables, Declines};
+ghost use Rattle.lwkt_machine.specs.Opened.{IsOpenedMachine, AreFew, Declines};
 ghost use Rattle.lwkt_base.specs.Fault.{no_memory};
 
 use crate::machines::Machine;
-use crate::seatings::{Rest, origins_of};
-use lwkt_bank::{Bank, CpuSeat};
-use lwkt_base::{Fault, MsgSpec, TokSpec};
+use crate::seatings::seat_all;
+use lwkt_base::Fault;
 use lwkt_cpu::cpus::THREAD_LIMIT;
 use lwkt_lane::{Lanes, open_lanes};
-use lwkt_msg::{MsgBook, MsgSeat};
 use lwkt_script::{Script, ThreadSpec};
+use lwkt_seating::{Rest, Tables, open_tables, origins_of};
 use std::alloc::Global;
-
-// A bank and a book that were just opened, with their seats.
-#[derive(Drop)]
-struct Tables {
-    bank: Bank,
-    seats: Vec<CpuSeat>,
-    book: MsgBook,
-    mails: Vec<MsgSeat>,
-}
 
 // How many of these threads are of a processor.
 fn threads_on(threads: &[ThreadSpec], cpu: usize) -> usize
@@ -50,29 +40,6 @@ fn are_few(script: &Script) -> bool
     true
 }
 
-// Opens a bank of these tokens and a book of these messages. The book comes first, so that a law that is broken is told only
-// within all limits.
-fn open_tables(
-    alloc: Global,
-    tokens: &[TokSpec],
-    messages: &[MsgSpec],
-    cpus: usize,
-) -> Result<Tables, Fault>
-    ensures bank { IfOk result (λ t. IsOpened cpus tokens.now t.bank t.seats.items) }
-    ensures book { IfOk result (λ t. AreOpened cpus messages.now t.book t.mails.items) }
-    ensures within { OnOk result (AreWithin cpus tokens.now messages.now × AllOpenLawfully tokens.now) }
-    ensures refused { IfErr result (λ fault. DeclinesTables cpus tokens.now messages.now fault) }
-{
-    let (book, mails) = MsgBook::open(alloc, messages, cpus)?;
-    let (bank, seats) = Bank::open(alloc, tokens, cpus)?;
-    Ok(Tables {
-        bank,
-        seats,
-        book,
-        mails,
-    })
-}
-
 // A machine at the tables of a script, with the script's threads.
 fn open_at(alloc: Global, script: &Script, tables: Tables) -> Result<Machine, Fault>
     requires bank { IsOpened script.now.cpus script.now.tokens tables.bank tables.seats.items }
@@ -96,7 +63,8 @@ fn open_at(alloc: Global, script: &Script, tables: Tables) -> Result<Machine, Fa
         outs,
         ins,
     };
-    let cpus = rest.seat_all(alloc, &bank, &book, &origins, script.threads.as_slice())?;
+    let threads = script.threads.as_slice();
+    let cpus = seat_all(alloc, &bank, &book, &mut rest, &origins, threads)?;
     Ok(Machine { bank, book, cpus })
 }
 

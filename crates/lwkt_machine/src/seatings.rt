@@ -1,44 +1,20 @@
-//! Processors put at their seats.
-ghost use Rattle.std.specs.Prelude.{◌≡◌, ℕ, ◌+◌, ◌<◌, ◌≤◌, length, map, IfOk, OnErr, Err};
+//! Processors of a script, put at their seats.
+ghost use Rattle.std.specs.Prelude.{◌≡◌, length, map, IfOk, OnErr, Err};
 ghost use Rattle.lwkt_base.specs.declared.openings.MsgSpec.{MsgSpec};
-ghost use Rattle.lwkt_bank.specs.Seats.{id_of};
-ghost use Rattle.lwkt_msg.specs.Desks.{desk_cpu, IsOpened};
-ghost use Rattle.lwkt_port.specs.Openings.{new_mail, AreNewPorts, ArePaired, KeepLimits};
-ghost use Rattle.lwkt_script.specs.Format.{threads_on};
-ghost use Rattle.lwkt_cpu.specs.Wiring.{HasLines, HaveLines};
-ghost use Rattle.lwkt_machine.specs.Lanes.{AreLeft};
-ghost use Rattle.lwkt_machine.specs.Opened.{bodies_on, IsSeat, IsOpenedCpu, AreOpenedCpus, AreFew};
 ghost use Rattle.lwkt_base.specs.Fault.{no_memory};
+ghost use Rattle.lwkt_bank.specs.Seats.{id_of};
+ghost use Rattle.lwkt_cpu.specs.Wiring.{HaveLines};
+ghost use Rattle.lwkt_seating.specs.Seating.{IsRest};
+ghost use Rattle.lwkt_machine.specs.Opened.{bodies_on, AreOpenedCpus, AreFew};
 
 use crate::bodies::ScriptBody;
-use lwkt_bank::{Bank, CpuSeat};
+use lwkt_bank::Bank;
 use lwkt_base::{Fault, MsgSpec, ThreadId};
 use lwkt_cpu::Cpu;
-use lwkt_lane::{LaneIn, LaneOut};
-use lwkt_msg::{MsgBook, MsgSeat};
-use lwkt_port::Ports;
+use lwkt_msg::MsgBook;
 use lwkt_script::ThreadSpec;
+use lwkt_seating::Rest;
 use std::alloc::{AllocError, Global};
-
-/// What processors are made of that weren't made yet, by their numbers: their seats, and the ends of their lanes.
-#[derive(Drop)]
-pub(crate) struct Rest {
-    /// Their seats at the bank.
-    pub seats: Vec<CpuSeat>,
-    /// Their seats at the book.
-    pub mails: Vec<MsgSeat>,
-    /// The sending ends, by the processor that the lane leads to.
-    pub outs: Vec<Vec<LaneOut>>,
-    /// The receiving ends, by the processor that the lane comes from.
-    pub ins: Vec<Vec<LaneIn>>,
-}
-
-/// The threads that messages belong to.
-pub(crate) fn origins_of(alloc: Global, specs: &[MsgSpec]) -> Result<Vec<ThreadId>, AllocError>
-    ensures { IfOk result (λ v. v.items ≡ map (λ (spec : MsgSpec). spec.origin) specs.now) }
-{
-    specs.iter().map(|spec| spec.origin).collect(alloc)
-}
 
 /// The bodies of a processor's threads.
 pub(crate) fn bodies_on(
@@ -57,113 +33,29 @@ pub(crate) fn bodies_on(
     Ok(bodies)
 }
 
-// The ports of a processor, over its seat at the book.
-fn open_ports(
-    alloc: Global,
-    book: &MsgBook,
-    mail: MsgSeat,
-    outs: Vec<LaneOut>,
-    ins: Vec<LaneIn>,
-    origins: &[ThreadId],
-    threads: usize,
-    number: usize,
-) -> Result<Ports, Fault>
-    requires mail { IsOpened number book.now mail }
-    requires origins { origins.now ≡ map (λ (spec : MsgSpec). spec.origin) book.now.specs }
-    requires within { KeepLimits mail outs.items ins.items origins.now threads }
-    ensures desk { IfOk result (λ ports. IsOpened number book.now ports.seat) }
-    ensures new { IfOk result (λ ports. AreNewPorts threads ports.ports) }
-    ensures mails { IfOk result (λ ports. ports.mails ≡ map (new_mail (desk_cpu ports.seat)) (map (λ (spec : MsgSpec). spec.origin) book.now.specs)) }
-    ensures lines { IfOk result (λ ports. ArePaired outs.items ins.items ports.lanes) }
-    ensures threads { IfOk result (λ ports. ports.threads ≡ threads) }
-    ensures only { OnErr result (result ≡ Err no_memory) }
-{
-    let id = mail.cpu();
-    Ports::new(alloc, id, mail, outs, ins, origins, threads)
-}
-
-// The processor of this number, at its seats, with a thread for each of the script's threads of its number.
-fn seat_one(
+/// All the processors, each with a thread for each of the script's threads of its number.
+pub(crate) fn seat_all(
     alloc: Global,
     bank: &Bank,
     book: &MsgBook,
-    seat: CpuSeat,
-    ports: Ports,
+    rest: &mut Rest,
+    origins: &[ThreadId],
     threads: &[ThreadSpec],
-    bodies: Vec<ScriptBody>,
-    number: usize,
-) -> Result<Cpu<ScriptBody>, Fault>
-    requires seat { IsSeat (id_of bank.now) number seat }
-    requires desk { IsOpened number book.now ports.seat }
-    requires new { AreNewPorts (length bodies.items) ports.ports }
-    requires mails { ports.mails ≡ map (new_mail (desk_cpu ports.seat)) (map (λ (spec : MsgSpec). spec.origin) book.now.specs) }
-    requires bodies { bodies.items ≡ bodies_on number threads.now }
-    requires few { length bodies.items ≤ 16 }
-    requires threads { ports.threads ≡ length bodies.items }
-    ensures ok { IfOk result (λ cpu. IsOpenedCpu (id_of bank.now) book.now threads.now number cpu) }
-    ensures lines { IfOk result (λ cpu. cpu.post.lanes ≡ ports.lanes) }
+) -> Result<Vec<Cpu<ScriptBody>>, Fault>
+    requires rest { IsRest (id_of bank.now) book.now 0 rest.old }
+    requires origins { origins.now ≡ map (λ (spec : MsgSpec). spec.origin) book.now.specs }
+    requires few { AreFew (length rest.old.seats.items) threads.now }
+    ensures as_many { IfOk result (λ cpus. length cpus.items ≡ length rest.old.seats.items) }
+    ensures each { IfOk result (λ cpus. AreOpenedCpus (id_of bank.now) book.now threads.now cpus.items) }
+    ensures lines { IfOk result (λ cpus. HaveLines rest.old.outs.items rest.old.ins.items cpus.items) }
     ensures only { OnErr result (result ≡ Err no_memory) }
 {
-    Cpu::new(alloc, seat, ports, bodies)
-}
-
-impl Rest {
-    ghost use Rattle.lwkt_machine.specs.Seating.{IsRest};
-    ghost use Rattle.lwkt_base.specs.Fault.{no_memory};
-
-    // The next processor.
-    fn next(
-        &mut self,
-        alloc: Global,
-        bank: &Bank,
-        book: &MsgBook,
-        origins: &[ThreadId],
-        threads: &[ThreadSpec],
-        number: usize,
-    ) -> Result<Cpu<ScriptBody>, Fault>
-        requires some { 0 < length self.old.seats.items }
-        requires rest { IsRest (id_of bank.now) book.now number self.old }
-        requires origins { origins.now ≡ map (λ (spec : MsgSpec). spec.origin) book.now.specs }
-        requires few { threads_on number threads.now ≤ 16 }
-        ensures ok { IfOk result (λ cpu. IsOpenedCpu (id_of bank.now) book.now threads.now number cpu) }
-        ensures lines { IfOk result (λ cpu. HasLines self.old.outs.items self.old.ins.items 0 cpu) }
-        ensures left { AreLeft 1 self.old self.new }
-        ensures only { OnErr result (result ≡ Err no_memory) }
-        ensures rest { IsRest (id_of bank.now) book.now (number + 1) self.new }
-        ensures fewer { length self.new.seats.items + 1 ≡ length self.old.seats.items }
-    {
-        let seat = self.seats.remove(0);
-        let mail = self.mails.remove(0);
-        let outs = self.outs.remove(0);
-        let ins = self.ins.remove(0);
+    let mut cpus = Vec::new(alloc);
+    for number in 0..rest.seats.len() {
         let bodies = bodies_on(alloc, threads, number).map_err(Fault::Memory)?;
-        let ports = open_ports(alloc, book, mail, outs, ins, origins, bodies.len(), number)?;
-        seat_one(alloc, bank, book, seat, ports, threads, bodies, number)
+        let cpu = rest.next(alloc, bank, book, origins, bodies, number)?;
+        cpus.push(cpu)
+            .map_err(|refused| Fault::Memory(refused.into()))?;
     }
-
-    /// All the processors.
-    pub(crate) fn seat_all(
-        &mut self,
-        alloc: Global,
-        bank: &Bank,
-        book: &MsgBook,
-        origins: &[ThreadId],
-        threads: &[ThreadSpec],
-    ) -> Result<Vec<Cpu<ScriptBody>>, Fault>
-        requires rest { IsRest (id_of bank.now) book.now 0 self.old }
-        requires origins { origins.now ≡ map (λ (spec : MsgSpec). spec.origin) book.now.specs }
-        requires few { AreFew (length self.old.seats.items) threads.now }
-        ensures as_many { IfOk result (λ cpus. length cpus.items ≡ length self.old.seats.items) }
-        ensures each { IfOk result (λ cpus. AreOpenedCpus (id_of bank.now) book.now threads.now cpus.items) }
-        ensures lines { IfOk result (λ cpus. HaveLines self.old.outs.items self.old.ins.items cpus.items) }
-        ensures only { OnErr result (result ≡ Err no_memory) }
-    {
-        let mut cpus = Vec::new(alloc);
-        for number in 0..self.seats.len() {
-            let cpu = self.next(alloc, bank, book, origins, threads, number)?;
-            cpus.push(cpu)
-                .map_err(|refused| Fault::Memory(refused.into()))?;
-        }
-        Ok(cpus)
-    }
+    Ok(cpus)
 }

@@ -3,6 +3,7 @@ use Rattle.std.proofs.Common.{◌≡◌, ◌∙◌, suc, ◌<◌, List, [], ◌�
 use Rattle.std.specs.Prelude.{All, Vec, slice_get}
 use Rattle.std.specs.List.{remove}
 use Rattle.std.specs.declared.alloc.Global.{Global}
+use Rattle.std.proofs.lemmas.List.{map-append}
 use Rattle.std.proofs.lemmas.List.Elements.{All-nil, All-cons, All-head, All-tail, All-push, All-map, All-weaker}
 use Rattle.lwkt_base.specs.Holding.{holds_nothing}
 use Rattle.lwkt_bank.specs.declared.seats.CpuSeat.{CpuSeat}
@@ -16,7 +17,6 @@ use Rattle.lwkt_program.specs.Ended.{AreOver, AreRetired}
 use Rattle.lwkt_program.specs.Machines.{AreKept, Lasts}
 use Rattle.lwkt_program.specs.declared.closings.Gathered.{Gathered}
 use Rattle.lwkt_lane.proofs.PlaceMoves.{get_removed}
-use Rattle.lwkt_program.proofs.ListMoves.{map_push}
 
 -- some of the processors have given back what they have, and the rest are over
 pub record IsRetiring {B : Type 0} (all rest : List (Driven B)) (r : Gathered B) : Type 0 where
@@ -43,11 +43,11 @@ retiring_more all rest left r s x some is are so_far more = record {
 -- one processor more gives back what it has
 pub retired_more : {B : Type 0} (done : List (Driven B)) (d : Driven B) (old new : Gathered B) (seat : CpuSeat) (mail : Desk) (bodies : Vec B Global) → seat ≡ d.cpu.seat → holding seat ≡ holds_nothing → mail ≡ d.cpu.post.seat → bodies.items ≡ d.cpu.bodies → new.seats.items ≡ old.seats.items ++ seat ∷ [] → new.mails.items ≡ old.mails.items ++ mail ∷ [] → new.bodies.items ≡ old.bodies.items ++ bodies ∷ [] → new.traces.items ≡ old.traces.items ++ d.trace ∷ [] → AreRetired done old → AreRetired (done ++ d ∷ []) new
 retired_more {B} done d old new seat mail bodies seat_is empty mail_is bodies_are seats mails lists traces so_far = record {
-  seats = seats ∙ ap (λ xs. xs ++ seat ∷ []) so_far.seats ∙ ap (λ s. map (λ (e : Driven B). e.cpu.seat) done ++ s ∷ []) seat_is ∙ sym (map_push (λ (e : Driven B). e.cpu.seat) done d);
+  seats = seats ∙ ap (λ xs. xs ++ seat ∷ []) so_far.seats ∙ ap (λ s. map (λ (e : Driven B). e.cpu.seat) done ++ s ∷ []) seat_is ∙ sym (map-append (λ (e : Driven B). e.cpu.seat) done (d ∷ []));
   empty = subst (All (λ s. holding s ≡ holds_nothing)) (sym seats) (All-push (λ s. holding s ≡ holds_nothing) old.seats.items seat so_far.empty empty);
-  mails = mails ∙ ap (λ xs. xs ++ mail ∷ []) so_far.mails ∙ ap (λ m. map (λ (e : Driven B). e.cpu.post.seat) done ++ m ∷ []) mail_is ∙ sym (map_push (λ (e : Driven B). e.cpu.post.seat) done d);
-  bodies = ap (λ xs. map (λ (v : Vec B Global). v.items) xs) lists ∙ map_push (λ (v : Vec B Global). v.items) old.bodies.items bodies ∙ ap (λ xs. xs ++ bodies.items ∷ []) so_far.bodies ∙ ap (λ b. map (λ (e : Driven B). e.cpu.bodies) done ++ b ∷ []) bodies_are ∙ sym (map_push (λ (e : Driven B). e.cpu.bodies) done d);
-  traces = traces ∙ ap (λ xs. xs ++ d.trace ∷ []) so_far.traces ∙ sym (map_push (λ (e : Driven B). e.trace) done d);
+  mails = mails ∙ ap (λ xs. xs ++ mail ∷ []) so_far.mails ∙ ap (λ m. map (λ (e : Driven B). e.cpu.post.seat) done ++ m ∷ []) mail_is ∙ sym (map-append (λ (e : Driven B). e.cpu.post.seat) done (d ∷ []));
+  bodies = ap (λ xs. map (λ (v : Vec B Global). v.items) xs) lists ∙ map-append (λ (v : Vec B Global). v.items) old.bodies.items (bodies ∷ []) ∙ ap (λ xs. xs ++ bodies.items ∷ []) so_far.bodies ∙ ap (λ b. map (λ (e : Driven B). e.cpu.bodies) done ++ b ∷ []) bodies_are ∙ sym (map-append (λ (e : Driven B). e.cpu.bodies) done (d ∷ []));
+  traces = traces ∙ ap (λ xs. xs ++ d.trace ∷ []) so_far.traces ∙ sym (map-append (λ (e : Driven B). e.trace) done (d ∷ []));
 }
 
 -- the seats that were given back are of the bank, and hold nothing

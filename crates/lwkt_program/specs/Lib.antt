@@ -1,6 +1,5 @@
 pub mod Ended
 pub mod Machines
 pub mod Opened
-pub mod Seating
 pub mod Steps
 pub mod Turns

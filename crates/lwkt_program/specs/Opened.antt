@@ -1,50 +1,32 @@
 -- A machine as it is opened (own).
-use Rattle.std.specs.Prelude.{◌≡◌, ℕ, ◌≤◌, List, [], length, map, replicate, All, Vec, Some, None, slice_get}
+use Rattle.std.specs.Prelude.{◌≡◌, ℕ, ◌≤◌, List, [], length, map, All, Vec, Some, slice_get}
 use Rattle.std.specs.declared.alloc.Global.{Global}
 use Rattle.lwkt_base.specs.declared.faults.Fault.{Fault}
 use Rattle.lwkt_base.specs.declared.faults.Fault.TheVariants.{Memory, Limits, LawBroken}
 use Rattle.lwkt_base.specs.declared.openings.MsgSpec.{MsgSpec}
 use Rattle.lwkt_base.specs.declared.openings.TokSpec.{TokSpec}
 use Rattle.lwkt_core.specs.Opening.{AreWithin, AllOpenLawfully}
-use Rattle.lwkt_bank.specs.declared.seats.CpuSeat.{CpuSeat}
-use Rattle.lwkt_bank.specs.Gathered.{IsNew}
 use Rattle.lwkt_bank.specs.Opened.{plans_of}
-use Rattle.lwkt_bank.specs.Seats.{BankId, bank_of}
-use Rattle.lwkt_msg.specs.Desks.{Shelf, desk_cpu, IsOpened}
-use Rattle.lwkt_port.specs.Openings.{new_mail, AreNewPorts}
+use Rattle.lwkt_bank.specs.Seats.{BankId}
+use Rattle.lwkt_msg.specs.Desks.{Shelf}
 use Rattle.lwkt_cpu.specs.Driving.{none_driven}
-use Rattle.lwkt_cpu.specs.Fresh.{fresh}
 use Rattle.lwkt_cpu.specs.Wiring.{AreWired}
 use Rattle.lwkt_drive.specs.declared.driven.Driven.{Driven}
 use Rattle.lwkt_drive.specs.declared.driven.Ending.TheVariants.{NotDriven}
+use Rattle.lwkt_seating.specs.Opened.{IsOpenedCpu}
 use Rattle.lwkt_program.specs.Machines.{Rig}
 
--- a seat of the bank that has done nothing, of the processor of this number
-pub record IsSeat (bank : BankId) (cpu : ℕ) (s : CpuSeat) : Type 0 where
-  pub bank_is : bank_of s ≡ bank
-  pub new : IsNew s
-  pub number : s.cpu.0 ≡ cpu
-
--- the processor of this number as it is opened: its seat at the bank has done nothing, its seat at the book has its own messages at
--- rest, its ports are empty, its bodies are these, in order, each with a thread that was never polled, none of which runs, and it
--- wasn't driven and has no events
-pub record IsOpenedCpu {B : Type 0} (bank : BankId) (book : Shelf) (cpu : ℕ) (bodies : List B) (d : Driven B) : Type 0 where
+-- the processor of this number as it is opened, with these bodies; it wasn't driven and has no events
+pub record IsOpenedDriven {B : Type 0} (bank : BankId) (book : Shelf) (cpu : ℕ) (bodies : List B) (d : Driven B) : Type 0 where
   pub id : d.id.0 ≡ cpu
-  pub seat : IsSeat bank cpu d.cpu.seat
-  pub desk : IsOpened cpu book d.cpu.post.seat
-  pub ports : AreNewPorts (length bodies) d.cpu.post.ports
-  pub mails : d.cpu.post.mails ≡ map (new_mail (desk_cpu d.cpu.post.seat)) (map (λ (spec : MsgSpec). spec.origin) book.specs)
-  pub bodies_are : d.cpu.bodies ≡ bodies
-  pub threads_are : d.cpu.threads ≡ replicate (length bodies) fresh
-  pub none_runs : d.cpu.running ≡ None
-  pub cursor : d.cpu.cursor ≡ 0
+  pub opened : IsOpenedCpu bank book cpu bodies d.cpu
   pub trace : d.trace.items ≡ []
   pub drove : d.drove ≡ none_driven
   pub ending : d.ending ≡ NotDriven
 
 -- each processor of a list is as it is opened, and at its number, with the bodies that were handed in for it
 abbrev pub AreOpenedCpus : {B : Type 0} → BankId → Shelf → List (Vec B Global) → List (Driven B) → Type 0
-AreOpenedCpus {B} bank book lists cpus = (k : ℕ) (v : Vec B Global) (d : Driven B) → slice_get lists k ≡ Some v → slice_get cpus k ≡ Some d → IsOpenedCpu bank book k v.items d
+AreOpenedCpus {B} bank book lists cpus = (k : ℕ) (v : Vec B Global) (d : Driven B) → slice_get lists k ≡ Some v → slice_get cpus k ≡ Some d → IsOpenedDriven bank book k v.items d
 
 -- a machine as it is opened: a bank of these tokens, a book of these messages, and a processor for each list of bodies, as it is
 -- opened, with new lanes from each to each
@@ -61,15 +43,8 @@ pub record IsWithin {B : Type 0} (tokens : List TokSpec) (messages : List MsgSpe
   pub tables : AreWithin (length lists) tokens messages
   pub few : All (λ v. length v.items ≤ 16) lists
 
--- why no bank and book of so many processors are opened: out of memory, of which nothing is claimed; or a limit is passed; or within
--- the limits an opening row breaks its law
-abbrev pub DeclinesTables : ℕ → List TokSpec → List MsgSpec → Fault → Type 0
-DeclinesTables cpus tokens messages (Memory refused) = Unit {0}
-DeclinesTables cpus tokens messages Limits = ¬ AreWithin cpus tokens messages
-DeclinesTables cpus tokens messages LawBroken = AreWithin cpus tokens messages × ¬ AllOpenLawfully tokens
-DeclinesTables cpus tokens messages _ = ⊥
-
--- the same of a machine
+-- why no machine is opened: out of memory, of which nothing is claimed; or a limit is passed; or within the limits an opening row
+-- breaks its law
 abbrev pub Declines : {B : Type 0} → List TokSpec → List MsgSpec → List (Vec B Global) → Fault → Type 0
 Declines tokens messages lists (Memory refused) = Unit {0}
 Declines tokens messages lists Limits = ¬ IsWithin tokens messages lists

@@ -4,55 +4,22 @@ ghost use Rattle.lwkt_bank.specs.Gathered.{IsOpened};
 ghost use Rattle.lwkt_core.specs.Opening.{AreWithin, AllOpenLawfully};
 ghost use Rattle.lwkt_msg.specs.Desks.{AreOpened};
 ghost use Rattle.lwkt_program.specs.Machines.{AreKept};
-ghost use Rattle.lwkt_program.specs.Opened.{DeclinesTables, Declines, IsOpenedMachine, IsWithin};
+ghost use Rattle.lwkt_program.specs.Opened.{Declines, IsOpenedMachine, IsWithin};
 
 use crate::lasting::Lasting;
 use crate::machines::Machine;
-use crate::seatings::{Rest, origins_of};
-use lwkt_bank::{Bank, CpuSeat};
+use crate::seatings::seat_all;
 use lwkt_base::{Fault, MsgSpec, TokSpec};
 use lwkt_cpu::cpus::THREAD_LIMIT;
 use lwkt_lane::{Lanes, open_lanes};
-use lwkt_msg::{MsgBook, MsgSeat};
+use lwkt_seating::{Rest, Tables, open_tables, origins_of};
 use std::alloc::Global;
-
-// A bank and a book that were just opened, with their seats.
-#[derive(Drop)]
-struct Tables {
-    bank: Bank,
-    seats: Vec<CpuSeat>,
-    book: MsgBook,
-    mails: Vec<MsgSeat>,
-}
 
 // Whether no list has more bodies than a processor may have threads.
 fn are_few<B>(lists: &[Vec<B>]) -> bool
     ensures { IsTrue result ↔ All (λ v. length v.items ≤ 16) lists.now }
 {
     lists.iter().all(|list| list.len() <= THREAD_LIMIT)
-}
-
-// Opens a bank of these tokens and a book of these messages. The book comes first, so that a law that is broken is told only
-// within all limits.
-fn open_tables(
-    alloc: Global,
-    tokens: &[TokSpec],
-    messages: &[MsgSpec],
-    cpus: usize,
-) -> Result<Tables, Fault>
-    ensures bank { IfOk result (λ t. IsOpened cpus tokens.now t.bank t.seats.items) }
-    ensures book { IfOk result (λ t. AreOpened cpus messages.now t.book t.mails.items) }
-    ensures within { OnOk result (AreWithin cpus tokens.now messages.now × AllOpenLawfully tokens.now) }
-    ensures refused { IfErr result (λ fault. DeclinesTables cpus tokens.now messages.now fault) }
-{
-    let (book, mails) = MsgBook::open(alloc, messages, cpus)?;
-    let (bank, seats) = Bank::open(alloc, tokens, cpus)?;
-    Ok(Tables {
-        bank,
-        seats,
-        book,
-        mails,
-    })
 }
 
 impl<B: Lasting + Drop> Machine<B> {
@@ -87,9 +54,8 @@ impl<B: Lasting + Drop> Machine<B> {
             mails,
             outs,
             ins,
-            bodies,
         };
-        let cpus = rest.seat_all(alloc, &bank, &book, &origins)?;
+        let cpus = seat_all(alloc, &bank, &book, &mut rest, &origins, bodies)?;
         Ok(Machine { bank, book, cpus })
     }
 

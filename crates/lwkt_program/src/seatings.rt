@@ -1,150 +1,71 @@
-//! Processors put at their seats.
-ghost use Rattle.std.specs.Prelude.{◌≡◌, ◌+◌, ◌<◌, ◌≤◌, Err, IfOk, List, OnErr, Some, length, map, slice_get};
+//! Processors of these bodies, put at their seats.
+ghost use Rattle.std.specs.Prelude.{◌≡◌, ◌+◌, ◌<◌, ◌≤◌, All, Err, IfOk, OnErr, length, map};
 ghost use Rattle.lwkt_base.specs.declared.openings.MsgSpec.{MsgSpec};
-ghost use Rattle.lwkt_bank.specs.Seats.{id_of};
-ghost use Rattle.lwkt_msg.specs.Desks.{desk_cpu, IsOpened};
-ghost use Rattle.lwkt_port.specs.Openings.{new_mail, AreNewPorts, ArePaired, KeepLimits};
-ghost use Rattle.lwkt_cpu.specs.Wiring.{HasLines, HaveLines};
-ghost use Rattle.lwkt_program.specs.Opened.{IsSeat, IsOpenedCpu, AreOpenedCpus};
 ghost use Rattle.lwkt_base.specs.Fault.{no_memory};
+ghost use Rattle.lwkt_bank.specs.Seats.{id_of};
+ghost use Rattle.lwkt_cpu.specs.Wiring.{HasLines, HaveLines};
+ghost use Rattle.lwkt_drive.specs.declared.driven.Driven.{Driven as Driver};
+ghost use Rattle.lwkt_seating.specs.Seating.{AreLeft, IsRest};
+ghost use Rattle.lwkt_program.specs.Opened.{IsOpenedDriven, AreOpenedCpus};
 
-use lwkt_bank::{Bank, CpuSeat};
+use lwkt_bank::Bank;
 use lwkt_base::{Fault, MsgSpec, ThreadId};
-use lwkt_cpu::Cpu;
 use lwkt_drive::Driven;
-use lwkt_lane::{LaneIn, LaneOut};
-use lwkt_msg::{MsgBook, MsgSeat};
-use lwkt_port::Ports;
-use std::alloc::{AllocError, Global};
+use lwkt_msg::MsgBook;
+use lwkt_seating::Rest;
+use std::alloc::Global;
 
-/// What processors are made of that weren't made yet, by number: their seats, the ends of their lanes, and their bodies.
-#[derive(Drop)]
-pub(crate) struct Rest<B> {
-    /// Their seats at the bank.
-    pub seats: Vec<CpuSeat>,
-    /// Their seats at the book.
-    pub mails: Vec<MsgSeat>,
-    /// The sending ends, by the processor that the lane leads to.
-    pub outs: Vec<Vec<LaneOut>>,
-    /// The receiving ends, by the processor that the lane comes from.
-    pub ins: Vec<Vec<LaneIn>>,
-    /// Their bodies, by the threads' numbers.
-    pub bodies: Vec<Vec<B>>,
-}
-
-/// The threads that messages belong to.
-pub(crate) fn origins_of(alloc: Global, specs: &[MsgSpec]) -> Result<Vec<ThreadId>, AllocError>
-    ensures { IfOk result (λ v. v.items ≡ map (λ (spec : MsgSpec). spec.origin) specs.now) }
-{
-    specs.iter().map(|spec| spec.origin).collect(alloc)
-}
-
-// The ports of a processor, over its seat at the book.
-fn open_ports(
-    alloc: Global,
-    book: &MsgBook,
-    mail: MsgSeat,
-    outs: Vec<LaneOut>,
-    ins: Vec<LaneIn>,
-    origins: &[ThreadId],
-    threads: usize,
-    number: usize,
-) -> Result<Ports, Fault>
-    requires mail { IsOpened number book.now mail }
-    requires origins { origins.now ≡ map (λ (spec : MsgSpec). spec.origin) book.now.specs }
-    requires within { KeepLimits mail outs.items ins.items origins.now threads }
-    ensures desk { IfOk result (λ ports. IsOpened number book.now ports.seat) }
-    ensures new { IfOk result (λ ports. AreNewPorts threads ports.ports) }
-    ensures mails { IfOk result (λ ports. ports.mails ≡ map (new_mail (desk_cpu ports.seat)) (map (λ (spec : MsgSpec). spec.origin) book.now.specs)) }
-    ensures lines { IfOk result (λ ports. ArePaired outs.items ins.items ports.lanes) }
-    ensures threads { IfOk result (λ ports. ports.threads ≡ threads) }
-    ensures only { OnErr result (result ≡ Err no_memory) }
-{
-    let id = mail.cpu();
-    Ports::new(alloc, id, mail, outs, ins, origins, threads)
-}
-
-// The processor of this number, over its seat and its ports, with a thread for each of these bodies.
-fn seat_one<B: Drop>(
+// The next processor, with a thread for each of these bodies. It wasn't driven yet.
+fn seat_next<B: Drop>(
     alloc: Global,
     bank: &Bank,
     book: &MsgBook,
-    seat: CpuSeat,
-    ports: Ports,
+    rest: &mut Rest,
+    origins: &[ThreadId],
     bodies: Vec<B>,
     number: usize,
 ) -> Result<Driven<B>, Fault>
-    requires seat { IsSeat (id_of bank.now) number seat }
-    requires desk { IsOpened number book.now ports.seat }
-    requires new { AreNewPorts (length bodies.items) ports.ports }
-    requires mails { ports.mails ≡ map (new_mail (desk_cpu ports.seat)) (map (λ (spec : MsgSpec). spec.origin) book.now.specs) }
+    requires some { 0 < length rest.old.seats.items }
+    requires rest { IsRest (id_of bank.now) book.now number rest.old }
+    requires origins { origins.now ≡ map (λ (spec : MsgSpec). spec.origin) book.now.specs }
     requires few { length bodies.items ≤ 16 }
-    requires threads { ports.threads ≡ length bodies.items }
-    ensures ok { IfOk result (λ d. IsOpenedCpu (id_of bank.now) book.now number bodies.items d) }
-    ensures lines { IfOk result (λ d. d.cpu.post.lanes ≡ ports.lanes) }
+    ensures ok { IfOk result (λ d. IsOpenedDriven (id_of bank.now) book.now number bodies.items d) }
+    ensures lines { IfOk result (λ d. HasLines rest.old.outs.items rest.old.ins.items 0 d.cpu) }
+    ensures left { AreLeft 1 rest.old rest.new }
     ensures only { OnErr result (result ≡ Err no_memory) }
+    ensures rest { IsRest (id_of bank.now) book.now (number + 1) rest.new }
+    ensures fewer { length rest.new.seats.items + 1 ≡ length rest.old.seats.items }
 {
-    let id = seat.cpu();
-    let cpu = Cpu::new(alloc, seat, ports, bodies)?;
+    let id = rest.seats[0].cpu();
+    let cpu = rest.next(alloc, bank, book, origins, bodies, number)?;
     Ok(Driven::new(alloc, id, cpu))
 }
 
-impl<B: Drop> Rest<B> {
-    ghost use Rattle.std.specs.declared.alloc.Global.{Global as Heap};
-    ghost use Rattle.std.specs.Prelude.{Vec as Items};
-    ghost use Rattle.lwkt_drive.specs.declared.driven.Driven.{Driven as Driver};
-    ghost use Rattle.lwkt_program.specs.Seating.{AreLeft, IsRest};
-    ghost use Rattle.lwkt_base.specs.Fault.{no_memory};
-
-    // The next processor.
-    fn next(
-        &mut self,
-        alloc: Global,
-        bank: &Bank,
-        book: &MsgBook,
-        origins: &[ThreadId],
-        number: usize,
-    ) -> Result<Driven<B>, Fault>
-        requires some { 0 < length self.old.seats.items }
-        requires rest { IsRest (id_of bank.now) book.now number self.old }
-        requires origins { origins.now ≡ map (λ (spec : MsgSpec). spec.origin) book.now.specs }
-        ensures ok { IfOk result (λ d. (v : Items B Heap) → slice_get self.old.bodies.items 0 ≡ Some v → IsOpenedCpu (id_of bank.now) book.now number v.items d) }
-        ensures lines { IfOk result (λ d. HasLines self.old.outs.items self.old.ins.items 0 d.cpu) }
-        ensures left { AreLeft 1 self.old self.new }
-        ensures only { OnErr result (result ≡ Err no_memory) }
-        ensures rest { IsRest (id_of bank.now) book.now (number + 1) self.new }
-        ensures fewer { length self.new.seats.items + 1 ≡ length self.old.seats.items }
-    {
-        let seat = self.seats.remove(0);
-        let mail = self.mails.remove(0);
-        let outs = self.outs.remove(0);
-        let ins = self.ins.remove(0);
-        let bodies = self.bodies.remove(0);
-        let ports = open_ports(alloc, book, mail, outs, ins, origins, bodies.len(), number)?;
-        seat_one(alloc, bank, book, seat, ports, bodies, number)
+/// All the processors, each with a thread for each body of its list.
+pub(crate) fn seat_all<B: Drop>(
+    alloc: Global,
+    bank: &Bank,
+    book: &MsgBook,
+    rest: &mut Rest,
+    origins: &[ThreadId],
+    lists: Vec<Vec<B>>,
+) -> Result<Vec<Driven<B>>, Fault>
+    requires rest { IsRest (id_of bank.now) book.now 0 rest.old }
+    requires origins { origins.now ≡ map (λ (spec : MsgSpec). spec.origin) book.now.specs }
+    requires lists { length lists.items ≡ length rest.old.seats.items }
+    requires few { All (λ v. length v.items ≤ 16) lists.items }
+    ensures as_many { IfOk result (λ cpus. length cpus.items ≡ length lists.items) }
+    ensures each { IfOk result (λ cpus. AreOpenedCpus (id_of bank.now) book.now lists.items cpus.items) }
+    ensures lines { IfOk result (λ cpus. HaveLines rest.old.outs.items rest.old.ins.items (map (λ (d : Driver B). d.cpu) cpus.items)) }
+    ensures only { OnErr result (result ≡ Err no_memory) }
+{
+    let mut left = lists;
+    let mut cpus = Vec::new(alloc);
+    for number in 0..left.len() {
+        let bodies = left.remove(0);
+        let driven = seat_next(alloc, bank, book, rest, origins, bodies, number)?;
+        cpus.push(driven)
+            .map_err(|refused| Fault::Memory(refused.into()))?;
     }
-
-    /// All the processors.
-    pub(crate) fn seat_all(
-        &mut self,
-        alloc: Global,
-        bank: &Bank,
-        book: &MsgBook,
-        origins: &[ThreadId],
-    ) -> Result<Vec<Driven<B>>, Fault>
-        requires rest { IsRest (id_of bank.now) book.now 0 self.old }
-        requires origins { origins.now ≡ map (λ (spec : MsgSpec). spec.origin) book.now.specs }
-        ensures as_many { IfOk result (λ cpus. length cpus.items ≡ length self.old.seats.items) }
-        ensures each { IfOk result (λ cpus. AreOpenedCpus (id_of bank.now) book.now self.old.bodies.items cpus.items) }
-        ensures lines { IfOk result (λ cpus. HaveLines self.old.outs.items self.old.ins.items (map (λ (d : Driver B). d.cpu) cpus.items)) }
-        ensures only { OnErr result (result ≡ Err no_memory) }
-    {
-        let mut cpus = Vec::new(alloc);
-        for number in 0..self.seats.len() {
-            let driven = self.next(alloc, bank, book, origins, number)?;
-            cpus.push(driven)
-                .map_err(|refused| Fault::Memory(refused.into()))?;
-        }
-        Ok(cpus)
-    }
+    Ok(cpus)
 }

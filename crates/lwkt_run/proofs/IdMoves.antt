@@ -11,7 +11,7 @@ use Rattle.lwkt_cpu.specs.Processors.{Processor, is_running}
 use Rattle.lwkt_machine.specs.declared.standings.Standing.{Standing}
 use Rattle.lwkt_machine.specs.Bodies.{Scripted}
 use Rattle.lwkt_machine.specs.Machines.{Rig}
-use Rattle.lwkt_machine.specs.Opened.{body_of, IsOpenedMachine}
+use Rattle.lwkt_machine.specs.Opened.{body_of, bodies_on, IsOpenedMachine}
 use Rattle.lwkt_machine.specs.Standings.{standing_of, standings_on, standings_of}
 use Rattle.lwkt_script.specs.declared.scripts.Script.{Script}
 use Rattle.lwkt_script.specs.declared.scripts.ThreadSpec.{ThreadSpec}
@@ -80,7 +80,7 @@ opened_has script m opened = record {
   each = λ k p at.
       let o = opened.each k p at in
       let mine : List ThreadSpec = filter (λ (t : ThreadSpec). t.cpu.0 == k) script.threads in
-      ap length o.threads_are ∙ long_copies (length p.bodies) fresh ∙ ap length o.bodies ∙ length-map mine body_of ∙ length-filter (λ (t : ThreadSpec). t.cpu.0 == k) script.threads;
+      ap length o.threads_are ∙ long_copies (length (bodies_on k script.threads)) fresh ∙ length-map mine body_of ∙ length-filter (λ (t : ThreadSpec). t.cpu.0 == k) script.threads;
 }
 
 -- one line more shows one standing more

@@ -20,6 +20,7 @@ use Rattle.lwkt_port.specs.Chains.{Chain}
 use Rattle.lwkt_cpu.specs.Processors.{Processor}
 use Rattle.lwkt_cpu.specs.Turning.{IsMailed}
 use Rattle.lwkt_lane.proofs.PlaceMoves.{some_same, get_there, get_set_same, get_set_other}
+use Rattle.lwkt_seating.specs.Opened.{IsOpenedCpu}
 use Rattle.lwkt_drive.specs.declared.driven.Limits.{Limits}
 use Rattle.lwkt_drive.specs.Telling.{TellsSeat, IsMailTold, TellOneRun, TellOneMailRun}
 use Rattle.lwkt_drive.proofs.TellingMoves.{told_new, told_made, told_more, one_run, mail_new, mail_made, mail_more, mail_same, one_mail_run}
@@ -30,7 +31,7 @@ use Rattle.lwkt_machine.specs.Bodies.{Scripted, IsPolled}
 use Rattle.lwkt_machine.specs.Closing.{IsClosedMachine}
 use Rattle.lwkt_machine.specs.Ended.{Stage, stage, StopsCpu, StopsAll}
 use Rattle.lwkt_machine.specs.Machines.{Rig}
-use Rattle.lwkt_machine.specs.Opened.{IsOpenedCpu, IsOpenedMachine}
+use Rattle.lwkt_machine.specs.Opened.{bodies_on, IsOpenedMachine}
 use Rattle.lwkt_threads.specs.Driven.{WasDriven, IsDrivenMachine}
 use Rattle.lwkt_threads.specs.Parts.{of_cpu, parts_from, TellTheRuns}
 
@@ -70,7 +71,7 @@ pub record IsToldAt (k : ℕ) (p : Processor Scripted) (part : List Event) : Typ
   pub tokens : TellsSeat p.seat part
   pub mails : IsMailTold p.post.seat part
 
-pub told_opened : (bank : BankId) (book : Shelf) (threads : List ThreadSpec) (k : ℕ) (p : Processor Scripted) → IsOpenedCpu bank book threads k p → IsToldAt k p []
+pub told_opened : (bank : BankId) (book : Shelf) (threads : List ThreadSpec) (k : ℕ) (p : Processor Scripted) → IsOpenedCpu bank book k (bodies_on k threads) p → IsToldAt k p []
 told_opened bank book threads k p o = record {
   seat = o.seat.number;
   desk = ap (λ (kind : SeatKind). (seat_cpu kind).0) o.desk.kind;

@@ -1,7 +1,8 @@
 use Rattle.std.proofs.Common.{rules}
 use Rattle.std.proofs.lemmas.Result.{IfOk-weaker, IfErr-weaker}
 use Rattle.std.specs.Prelude.{IfErr}
-use Rattle.lwkt_machine.specs.Opened.{AreFew, DeclinesTables, Declines, IsOpenedMachine}
+use Rattle.lwkt_seating.specs.Opened.{DeclinesTables}
+use Rattle.lwkt_machine.specs.Opened.{AreFew, Declines, IsOpenedMachine}
 use Rattle.lwkt_machine.proofs.OpenMoves.{declines_more}
 use Rattle.lwkt_machine.proofs.machines.Machine.open.Goals as goal
 

@@ -5,7 +5,8 @@ use Rattle.lwkt_lane.specs.Crossed.{AreLanes}
 use Rattle.lwkt_cpu.specs.Processors.{Processor}
 use Rattle.lwkt_cpu.proofs.WiringMoves.{wired}
 use Rattle.lwkt_drive.specs.declared.driven.Driven.{Driven}
-use Rattle.lwkt_program.proofs.OpenMoves.{rest_first, opened_whole}
+use Rattle.lwkt_seating.proofs.OpenMoves.{rest_first}
+use Rattle.lwkt_program.proofs.OpenMoves.{opened_whole}
 use Rattle.lwkt_program.proofs.machines.Machine.open_at.Goals as goal
 
 pub seat_all-requires-clause-rest : goal.seat_all-requires-clause-rest
@@ -14,14 +15,13 @@ seat_all-requires-clause-rest g c =
     let f = c.in_ok-outs in
     let many : c.len.result ≡ length c.args.bodies.items = omega (arith, c.len.ensures, c.args.bodies.ok) in
     let F : ℕ → Type 0 = λ n. AreLanes n n f.field-0.outs.items f.field-0.ins.items in
-    rest_first {B = g.row.B.Denot} c.args.tokens.now c.args.messages.now t.bank t.book (record { seats = t.seats; mails = t.mails; outs = f.field-0.outs; ins = f.field-0.ins; bodies = c.args.bodies }) c.requires.bank c.requires.book (subst F many f.ensures.ok) c.requires.few
+    rest_first (length c.args.bodies.items) c.args.tokens.now c.args.messages.now t.bank t.book (record { seats = t.seats; mails = t.mails; outs = f.field-0.outs; ins = f.field-0.ins }) c.requires.bank c.requires.book (subst F many f.ensures.ok)
 
 pub invariant_of-result : goal.invariant_of-result
 invariant_of-result g c =
     let t = c.args.tables in
     let made = c.in_ok-cpus in
-    let long = made.ensures.as_many ∙ c.requires.bank.as_many in
-    opened_whole {B = g.row.B.Denot} g.B.Lasting.kept (cpus_of t.bank) (id_of t.bank) t.book c.args.bodies.items made.cpus.items (c.requires.bank.processors ∙ sym long) (c.requires.book.cpus_is ∙ sym long) long made.ensures.each c.requires.kept
+    opened_whole {B = g.row.B.Denot} g.B.Lasting.kept (cpus_of t.bank) (id_of t.bank) t.book c.args.bodies.items made.cpus.items (c.requires.bank.processors ∙ sym made.ensures.as_many) (c.requires.book.cpus_is ∙ sym made.ensures.as_many) made.ensures.as_many made.ensures.each c.requires.kept
 
 pub returns-clause-ok : goal.returns-clause-ok
 returns-clause-ok g c =
@@ -29,12 +29,11 @@ returns-clause-ok g c =
     let lanes = c.in_ok-outs in
     let f : Driven g.row.B.Denot → Processor g.row.B.Denot = λ d. d.cpu in
     let many : c.len.result ≡ length c.args.bodies.items = omega (arith, c.len.ensures, c.args.bodies.ok) in
-    let long = made.ensures.as_many ∙ c.requires.bank.as_many in
     record {
       plans = c.requires.bank.plans;
       specs = c.requires.book.specs_is;
       desks_are = c.requires.book.cpus_is;
-      as_many = long;
+      as_many = made.ensures.as_many;
       each = made.ensures.each;
-      wired = wired {B = g.row.B.Denot} c.len.result lanes.field-0.outs.items lanes.field-0.ins.items (map f made.cpus.items) lanes.ensures.ok made.ensures.lines (length-map made.cpus.items f ∙ long ∙ sym many);
+      wired = wired {B = g.row.B.Denot} c.len.result lanes.field-0.outs.items lanes.field-0.ins.items (map f made.cpus.items) lanes.ensures.ok made.ensures.lines (length-map made.cpus.items f ∙ made.ensures.as_many ∙ sym many);
     }

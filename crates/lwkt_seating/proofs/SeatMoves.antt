@@ -1,10 +1,9 @@
--- Seats that are left, and processors that are made.
+-- Seats and lanes' ends that are left, one processor after another.
 use Rattle.std.specs.Global.{Global}
-use Rattle.std.proofs.Common.{◌≡◌, ℕ, suc, ◌+◌, ◌<◌, ◌≤◌, ◌==◌, List, [], ◌∷◌, ◌++◌, length, map, get_or, refl, ap, sym, ◌∙◌, subst, inl, inr, arith, Some}
-use Rattle.std.specs.Prelude.{Vec, filter, slice_get}
+use Rattle.std.proofs.Common.{◌≡◌, ℕ, suc, ◌+◌, ◌<◌, ◌≤◌, List, length, map, get_or, refl, ap, sym, ◌∙◌, subst, arith, Some}
+use Rattle.std.specs.Prelude.{Vec, slice_get}
 use Rattle.std.specs.List.{remove}
 use Rattle.std.proofs.lemmas.List.{length-map}
-use Rattle.std.proofs.lemmas.List.Sums.{length-filter}
 use Rattle.std.proofs.lemmas.Option.{slice_get_read}
 use Rattle.lwkt_base.specs.declared.names.ThreadId.{ThreadId}
 use Rattle.lwkt_base.specs.declared.openings.MsgSpec.{MsgSpec}
@@ -12,17 +11,13 @@ use Rattle.lwkt_bank.specs.declared.seats.CpuSeat.{CpuSeat}
 use Rattle.lwkt_bank.specs.Seats.{BankId}
 use Rattle.lwkt_lane.specs.declared.ins.LaneIn.{LaneIn}
 use Rattle.lwkt_lane.specs.declared.outs.LaneOut.{LaneOut}
-use Rattle.lwkt_lane.proofs.CrossedMoves.{first_long, rest_long}
+use Rattle.lwkt_lane.proofs.CrossedMoves.{first_long, rest_long, none_gone, first_gone, more_gone}
+use Rattle.lwkt_lane.proofs.PlaceMoves.{get_removed, length_removed}
 use Rattle.lwkt_msg.specs.Desks.{Desk, Shelf, IsOpened}
 use Rattle.lwkt_port.specs.Openings.{KeepLimits}
-use Rattle.lwkt_script.specs.declared.scripts.ThreadSpec.{ThreadSpec}
-use Rattle.lwkt_script.specs.Format.{threads_on}
-use Rattle.lwkt_cpu.specs.Processors.{Processor}
-use Rattle.lwkt_machine.specs.Bodies.{Scripted}
-use Rattle.lwkt_machine.specs.Opened.{body_of, bodies_on, IsSeat, IsOpenedCpu, AreOpenedCpus}
-use Rattle.lwkt_machine.specs.Seating.{SeatsFrom, DesksFrom, IsRest}
-use Rattle.lwkt_machine.specs.declared.seatings.Rest.{Rest}
-use Rattle.lwkt_lane.proofs.PlaceMoves.{get_removed, length_removed, get_pushed}
+use Rattle.lwkt_seating.specs.Opened.{IsSeat}
+use Rattle.lwkt_seating.specs.Seating.{SeatsFrom, DesksFrom, IsRest, AreLeft}
+use Rattle.lwkt_seating.specs.declared.seatings.Rest.{Rest}
 
 -- what holds of each place of a list, counted from a number on
 from_first : {A : Type 0} (P : ℕ → A → Type 0) (first : ℕ) (xs : List A) (x : A) → 0 < length xs → x ≡ get_or xs 0 x → ((j : ℕ) (y : A) → slice_get xs j ≡ Some y → P (first + j) y) → P first x
@@ -43,10 +38,6 @@ first_seat bank first seats s some is from = from_first (λ n x. IsSeat bank n x
 pub first_desk : (book : Shelf) (first : ℕ) (desks : List Desk) (d : Desk) → 0 < length desks → d ≡ get_or desks 0 d → DesksFrom book first desks → IsOpened first book d
 first_desk book first desks d some is from = from_first (λ n x. IsOpened n book x) first desks d some is from
 
--- a processor has a body for each of its threads
-pub length_bodies : (cpu : ℕ) (threads : List ThreadSpec) → length (bodies_on cpu threads) ≡ threads_on cpu threads
-length_bodies cpu threads = length-map (filter (λ (t : ThreadSpec). t.cpu.0 == cpu) threads) body_of ∙ length-filter (λ (t : ThreadSpec). t.cpu.0 == cpu) threads
-
 -- the next processor keeps the limits of its ports
 pub first_within : (bank : BankId) (book : Shelf) (first : ℕ) (rest : Rest) (mail : Desk) (outs : Vec LaneOut Global) (ins : Vec LaneIn Global) (origins : List ThreadId) (threads : ℕ) → 0 < length rest.seats.items → IsOpened first book mail → outs ≡ get_or rest.outs.items 0 outs → ins ≡ get_or rest.ins.items 0 ins → origins ≡ map (λ (spec : MsgSpec). spec.origin) book.specs → threads ≤ 16 → IsRest bank book first rest → KeepLimits mail outs.items ins.items origins threads
 first_within bank book first rest mail outs ins origins threads some opened out into are few r = record {
@@ -56,6 +47,7 @@ first_within bank book first rest mail outs ins origins threads some opened out 
   origins_are = ap length are ∙ length-map book.specs (λ (spec : MsgSpec). spec.origin) ∙ ap length (sym opened.specs);
 }
 
+-- two lists of one length still have one when each is without its first element
 fewer : {A B : Type 0} (xs vs : List A) (ys ws : List B) → 0 < length xs → length ys ≡ length xs → vs ≡ remove xs 0 → ws ≡ remove ys 0 → length ws ≡ length vs
 fewer xs vs ys ws some same v w =
     let l = length_removed xs some in
@@ -75,12 +67,15 @@ rest_more bank book first old new some seats mails outs ins rest = record {
   ins_long = rest_long book.cpus old.ins.items new.ins.items ins rest.ins_long;
 }
 
--- one processor more
-pub opened_more : (bank : BankId) (book : Shelf) (threads : List ThreadSpec) (cpus : List (Processor Scripted)) (p : Processor Scripted) → IsOpenedCpu bank book threads (length cpus) p → AreOpenedCpus bank book threads cpus → AreOpenedCpus bank book threads (cpus ++ p ∷ [])
-opened_more bank book threads cpus p new each k q at = elim (get_pushed cpus p q k at) [
-  | inl there ↦ each k q there
-  | inr last ↦
-      let F : ℕ → Type 0 = λ n. IsOpenedCpu bank book threads n q in
-      let G : Processor Scripted → Type 0 = λ x. IsOpenedCpu bank book threads (length cpus) x in
-      subst F (sym last.0) (subst G (sym last.1) new)
-]
+-- what is left when none is gone, the first, or one more
+pub left_none : (rest : Rest) → AreLeft 0 rest rest
+left_none rest = record { outs = none_gone rest.outs.items; ins = none_gone rest.ins.items }
+
+pub left_first : (old new : Rest) → new.outs.items ≡ remove old.outs.items 0 → new.ins.items ≡ remove old.ins.items 0 → AreLeft 1 old new
+left_first old new outs ins = record { outs = first_gone old.outs.items new.outs.items outs; ins = first_gone old.ins.items new.ins.items ins }
+
+pub left_more : (count : ℕ) (all mid left : Rest) → AreLeft count all mid → AreLeft 1 mid left → AreLeft (count + 1) all left
+left_more count all mid left a b = record {
+  outs = more_gone count all.outs.items mid.outs.items left.outs.items a.outs b.outs;
+  ins = more_gone count all.ins.items mid.ins.items left.ins.items a.ins b.ins;
+}

@@ -1,0 +1,3 @@
+pub mod ListMoves
+pub mod OpenMoves
+pub mod SeatMoves
