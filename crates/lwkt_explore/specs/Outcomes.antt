@@ -1,11 +1,14 @@
 -- Outcomes of a script (own).
-use Rattle.std.specs.Prelude.{◌≡◌, ℕ, List, All, string_bytes}
-use Rattle.lwkt_report.specs.declared.closings.Verdict.TheVariants.{Lawful}
+use Rattle.std.specs.Prelude.{◌≡◌, ℕ, ◌≤◌, List, All, length, string_bytes}
+use Rattle.std.specs.List.{Any}
+use Rattle.lwkt_base.specs.declared.faults.Fault.{Fault}
+use Rattle.lwkt_base.specs.declared.faults.Fault.TheVariants.{Unlawful}
+use Rattle.lwkt_report.specs.declared.closings.Verdict.TheVariants.{Lawful, Unlawful as UnlawfulVerdict}
 use Rattle.lwkt_report.specs.Report.{front_text}
 use Rattle.lwkt_run.specs.declared.runs.End.{End}
 use Rattle.lwkt_run.specs.declared.runs.End.TheVariants.{Ended as EndedRun, TurnsOut}
 use Rattle.lwkt_run.specs.declared.runs.TurnsRun.{TurnsRun}
-use Rattle.lwkt_run.specs.Run.{IsOrderRun, end_told}
+use Rattle.lwkt_run.specs.Run.{IsOrderRun, Refuses, end_told}
 use Rattle.lwkt_explore.specs.declared.outcomes.Kind.{Kind}
 use Rattle.lwkt_explore.specs.declared.outcomes.Kind.TheVariants.{Ended, Stuck, Cut}
 use Rattle.lwkt_explore.specs.declared.outcomes.Outcome.{Outcome}
@@ -30,3 +33,23 @@ pub record IsOutcome (bytes : List ℕ) (outcome : Outcome) : Type 0 where
 -- each of these is one
 abbrev pub AreOutcomes : List ℕ → Outcomes → Type 0
 AreOutcomes bytes outcomes = All (IsOutcome bytes) outcomes.all.items
+
+-- the order of each of these has at most so many turns
+abbrev pub AreShort : ℕ → Outcomes → Type 0
+AreShort turns outcomes = All (λ outcome. length outcome.order.items ≤ turns) outcomes.all.items
+
+-- one of these is ended
+abbrev pub HasEnded : Outcomes → Type 0
+HasEnded outcomes = Any (λ outcome. outcome.kind ≡ Ended) outcomes.all.items
+
+-- the run along some order of the script that these bytes are has the verdict `unlawful at` this index
+pub record HasUnlawfulRun (bytes : List ℕ) (index : ℕ) : Type 0 where
+  pub order : List ℕ
+  pub run : TurnsRun
+  pub is_run : IsOrderRun bytes order run
+  pub unlawful : run.closing.verdict ≡ UnlawfulVerdict index
+
+-- why a search of these bytes is refused: the verdict on a run along some order isn't `lawful`, or a run of them is refused so
+abbrev pub RefusesSearch : List ℕ → Fault → Type 0
+RefusesSearch bytes (Unlawful index) = HasUnlawfulRun bytes index
+RefusesSearch bytes fault = Refuses bytes fault

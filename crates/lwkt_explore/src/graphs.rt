@@ -1,4 +1,7 @@
 //! The states that were found, with the turns that lead from one to the other.
+ghost use Rattle.std.specs.Prelude.{◌≡◌, ◌⊎◌, ℕ, ◌+◌, ◌<◌, ◌≤◌, [], length, IfOk, OnOk};
+ghost use Rattle.lwkt_explore.specs.Graphs.{AreNodes, depth_at, IsOrder};
+
 use crate::choices::{Choice, NO_CHOICE};
 use crate::lists::Lists;
 use std::alloc::{AllocError, Global};
@@ -34,7 +37,9 @@ pub(crate) struct Graph {
 
 impl Graph {
     /// No states yet, of a script with so many processors.
-    pub(crate) fn new(alloc: Global, cpus: usize) -> Result<Graph, AllocError> {
+    pub(crate) fn new(alloc: Global, cpus: usize) -> Result<Graph, AllocError>
+        ensures { IfOk result (λ graph. graph.nodes.items ≡ []) }
+    {
         Ok(Graph {
             nodes: Vec::new(alloc),
             states: Lists::new(alloc)?,
@@ -44,12 +49,16 @@ impl Graph {
     }
 
     /// How many states there are.
-    pub(crate) fn len(&self) -> usize {
+    pub(crate) fn len(&self) -> usize
+        ensures { result ≡ length self.now.nodes.items }
+    {
         self.nodes.len()
     }
 
     /// How many turns lead to a state.
-    pub(crate) fn depth(&self, at: usize) -> usize {
+    pub(crate) fn depth(&self, at: usize) -> usize
+        ensures { result ≡ depth_at self.now at }
+    {
         match self.nodes.get(at) {
             Some(node) => node.depth as usize,
             None => 0,
@@ -75,9 +84,14 @@ impl Graph {
         cpu: u8,
         parts: &[u32],
         choice: Choice,
-    ) -> Result<u32, AllocError> {
+    ) -> Result<u32, AllocError>
+        ensures nodes { (cpus turns : ℕ) → cpu < cpus → (self.old.nodes.items ≡ []) ⊎ (depth_at self.old parent < turns) → AreNodes cpus turns self.old → AreNodes cpus turns self.new }
+        ensures one_more { OnOk result (length self.new.nodes.items ≡ length self.old.nodes.items + 1) }
+        ensures none_less { length self.old.nodes.items ≤ length self.new.nodes.items }
+        ensures few { length self.new.nodes.items ≤ length self.old.nodes.items + 1 }
+    {
         let number = self.states.add(alloc, parts)?;
-        let depth = if number == 0 {
+        let depth = if self.nodes.is_empty() {
             0
         } else {
             u32::try_from(self.depth(parent))
@@ -111,7 +125,9 @@ impl Graph {
     }
 
     /// Notes what the turns from the next state led to.
-    pub(crate) fn note(&mut self, row: &Row) -> Result<(), AllocError> {
+    pub(crate) fn note(&mut self, row: &Row) -> Result<(), AllocError>
+        ensures { self.new.nodes ≡ self.old.nodes }
+    {
         for (cpu, number) in row.iter().enumerate() {
             if cpu < self.cpus {
                 self.next.push(*number)?;
@@ -144,7 +160,9 @@ impl Graph {
     }
 
     /// A shortest order that leads to a state.
-    pub(crate) fn order(&self, alloc: Global, at: usize) -> Result<Vec<u8>, AllocError> {
+    pub(crate) fn order(&self, alloc: Global, at: usize) -> Result<Vec<u8>, AllocError>
+        ensures { (cpus turns : ℕ) → AreNodes cpus turns self.now → IfOk result (λ order. IsOrder cpus turns order.items) }
+    {
         let mut order = Vec::new(alloc);
         let mut number = at;
         for _ in 0..self.depth(at) {

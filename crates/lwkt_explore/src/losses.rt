@@ -1,4 +1,6 @@
 //! States from which no end can be reached.
+ghost use Rattle.std.specs.Prelude.{◌≡◌, ◌<◌, true, length, Contains, IsTrue, IfOk, None};
+
 use crate::graphs::Graph;
 use std::alloc::{AllocError, Global};
 
@@ -14,7 +16,9 @@ pub struct Lost {
 }
 
 // Whether a turn leads from a state to one from which an end can be reached.
-fn leads_on(graph: &Graph, reaches: &[bool], at: usize, cpus: usize) -> bool {
+fn leads_on(graph: &Graph, reaches: &[bool], at: usize, cpus: usize) -> bool
+    ensures { IsTrue result → Contains reaches.now true }
+{
     for cpu in 0..cpus {
         if let Some(next) = graph.behind(at, cpu) {
             if reaches.get(next) == Some(&true) {
@@ -26,7 +30,9 @@ fn leads_on(graph: &Graph, reaches: &[bool], at: usize, cpus: usize) -> bool {
 }
 
 // Goes over all states once, the last first, and says whether one more can reach an end.
-fn go_back(graph: &Graph, reaches: &mut [bool], cpus: usize) -> bool {
+fn go_back(graph: &Graph, reaches: &mut [bool], cpus: usize) -> bool
+    ensures { Contains reaches.new true → Contains reaches.old true }
+{
     let count = reaches.len();
     let mut found = false;
     for step in 0..count {
@@ -45,7 +51,10 @@ fn reaching(
     graph: &Graph,
     ends: &[bool],
     cpus: usize,
-) -> Result<Vec<bool>, AllocError> {
+) -> Result<Vec<bool>, AllocError>
+    ensures as_many { IfOk result (λ reaches. length reaches.items ≡ length ends.now) }
+    ensures from_ends { IfOk result (λ reaches. Contains reaches.items true → Contains ends.now true) }
+{
     let mut reaches = Vec::from_slice(alloc, ends)?;
     for _ in 0..ends.len() {
         if !go_back(graph, reaches.as_mut_slice(), cpus) {
@@ -72,7 +81,10 @@ pub(crate) fn lost_of(
     graph: &Graph,
     ends: &[bool],
     cpus: usize,
-) -> Result<Option<Lost>, AllocError> {
+) -> Result<Option<Lost>, AllocError>
+    // Where no state is lost, and there is one, one is an end.
+    ensures { IfOk result (λ lost. lost ≡ None → 0 < length ends.now → Contains ends.now true) }
+{
     let reaches = reaching(alloc, graph, ends, cpus)?;
     let count = count_false(reaches.as_slice());
     for at in 0..reaches.len() {

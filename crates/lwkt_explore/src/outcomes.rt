@@ -1,9 +1,14 @@
 //! Outcomes: reports of runs along orders, each once.
-ghost use Rattle.std.specs.Prelude.{◌≡◌, [], ◌∷◌, ◌++◌, IfOk, OnOk, OnErr};
-ghost use Rattle.lwkt_report.specs.declared.closings.Verdict.TheVariants.{Lawful};
+ghost use Rattle.std.specs.Prelude.{◌≡◌, ◌≢◌, ℕ, ◌+◌, ◌<◌, ◌≤◌, [], ◌∷◌, ◌++◌, length, sum, IfOk, IfErr, OnOk, OnErr, IfSome, OnSome};
+ghost use Rattle.std.specs.List.{Any};
+ghost use Rattle.std.specs.Option.{option_to_list};
+ghost use Rattle.lwkt_base.specs.Fault.{no_memory};
 ghost use Rattle.lwkt_run.specs.Run.{IsOrderRun, end_told};
-ghost use Rattle.lwkt_explore.specs.Outcomes.{IsKind, IsOutcome, AreOutcomes};
+ghost use Rattle.lwkt_explore.specs.Outcomes.{IsKind, IsOutcome, AreOutcomes, AreShort, HasEnded, RefusesSearch};
+ghost use Rattle.lwkt_explore.specs.Walks.{IsOrderOf};
+ghost use Rattle.lwkt_explore.specs.Verdicts.{IsOfVerdict};
 
+use crate::walks::{memory, number_in_order};
 use lwkt_base::Fault;
 use lwkt_report::{Closing, Verdict, report_front};
 use lwkt_run::{End, TurnsRun, end_told, order_run};
@@ -47,11 +52,14 @@ pub struct Outcomes {
 
 // Which kind of outcome a run is that was cut, or changes nothing any more. 35: its verdict isn't `lawful`.
 fn kind_of(run: &TurnsRun, is_cut: bool) -> Result<Kind, Fault>
-    ensures lawful { OnOk result (run.now.closing.verdict ≡ Lawful) }
+    requires { run.now.closing.verdict ≢ Verdict.Closed }
+    ensures lawful { OnOk result (run.now.closing.verdict ≡ Verdict.Lawful) }
+    ensures unlawful { IfErr result (λ fault. IsOfVerdict run.now.closing.verdict fault) }
     ensures kind { IfOk result (λ kind. IsKind kind (end_told run.now.closing)) }
 {
     match run.closing.verdict {
         Verdict::Lawful => {}
+        // (a verdict was made, so this can't be)
         Verdict::Closed => return Err(Fault::Unlawful { index: 0 }),
         Verdict::Unlawful { index } => return Err(Fault::Unlawful { index }),
     }
@@ -67,7 +75,9 @@ fn kind_of(run: &TurnsRun, is_cut: bool) -> Result<Kind, Fault>
 }
 
 // Why the threads of a run haven't ended, where it is stuck.
-fn why_of(alloc: Global, kind: Kind, run: &TurnsRun) -> Result<Option<String>, Fault> {
+fn why_of(alloc: Global, kind: Kind, run: &TurnsRun) -> Result<Option<String>, Fault>
+    ensures { OnErr result (result ≡ Err no_memory) }
+{
     match kind {
         Kind::Ended | Kind::Cut => return Ok(None),
         Kind::Stuck => {}
@@ -82,13 +92,18 @@ fn why_of(alloc: Global, kind: Kind, run: &TurnsRun) -> Result<Option<String>, F
     };
     match whys_of(alloc, &reel) {
         Ok(why) => Ok(Some(why)),
-        Err(fault) => Err(fault),
+        Err(Fault::Memory(refused)) => Err(Fault::Memory(refused)),
+        // (a machine of this script was opened, so there is no other fault)
+        Err(_) => Ok(None),
     }
 }
 
 // The outcome of a run along an order.
 fn outcome_of(alloc: Global, bytes: &[u8], order: Vec<u8>, is_cut: bool) -> Result<Outcome, Fault>
-    ensures { IfOk result (λ outcome. IsOutcome bytes.now outcome) }
+    requires { IsOrderOf bytes.now order.items }
+    ensures ok { IfOk result (λ outcome. IsOutcome bytes.now outcome) }
+    ensures order { IfOk result (λ outcome. outcome.order.items ≡ order.items) }
+    ensures refused { IfErr result (λ fault. RefusesSearch bytes.now fault) }
 {
     let run = order_run(alloc, bytes, order)?;
     let kind = kind_of(&run, is_cut)?;
@@ -103,10 +118,32 @@ fn outcome_of(alloc: Global, bytes: &[u8], order: Vec<u8>, is_cut: bool) -> Resu
     })
 }
 
+/// Makes the run along an order and the turn of a processor behind it, and refuses if the verdict on it isn't `lawful`.
+pub(crate) fn judge(
+    alloc: Global,
+    bytes: &[u8],
+    order: &[u8],
+    cpu: Option<usize>,
+) -> Result<(), Fault>
+    requires order { IsOrderOf bytes.now (order.now ++ option_to_list cpu) }
+    requires cpu { IfSome cpu (λ cpu. cpu < 8) }
+    ensures { IfErr result (λ fault. RefusesSearch bytes.now fault) }
+{
+    let mut whole = memory(Vec::from_slice(alloc, order))?;
+    if let Some(cpu) = cpu {
+        if let Err(refused) = whole.push(number_in_order(cpu)) {
+            return Err(Fault::Memory(refused.into()));
+        }
+    }
+    outcome_of(alloc, bytes, whole, true)?;
+    Ok(())
+}
+
 impl Outcomes {
     /// None so far.
     pub(crate) fn new(alloc: Global) -> Self
-        ensures { result.all.items ≡ [] }
+        ensures none { result.all.items ≡ [] }
+        ensures counts { result.counts.items ≡ [] }
     {
         Outcomes {
             all: Vec::new(alloc),
@@ -115,7 +152,9 @@ impl Outcomes {
     }
 
     // Which outcome this is, if it was found before.
-    fn place_of(&self, outcome: &Outcome) -> Option<usize> {
+    fn place_of(&self, outcome: &Outcome) -> Option<usize>
+        ensures { OnSome result (Any (λ one. one.kind ≡ outcome.now.kind) self.now.all.items) }
+    {
         for (place, one) in self.all.iter().enumerate() {
             if one.kind == outcome.kind && one.text.as_str() == outcome.text.as_str() {
                 return Some(place);
@@ -126,7 +165,8 @@ impl Outcomes {
 
     // Counts one order more that led to an outcome.
     fn count(&mut self, place: usize)
-        ensures { self.new.all ≡ self.old.all }
+        ensures all { self.new.all ≡ self.old.all }
+        ensures counts { sum self.new.counts.items ≤ sum self.old.counts.items + 1 }
     {
         if let Some(count) = self.counts.get_mut(place) {
             *count = count.saturating_add(1);
@@ -134,7 +174,9 @@ impl Outcomes {
     }
 
     /// How many of the orders that were tried led to an outcome.
-    pub(crate) fn total(&self) -> u64 {
+    pub(crate) fn total(&self) -> u64
+        ensures { result ≤ sum self.now.counts.items }
+    {
         let mut total = 0u64;
         for count in &self.counts {
             total = total.saturating_add(*count);
@@ -146,6 +188,8 @@ impl Outcomes {
     fn keep(&mut self, outcome: Outcome) -> Result<(), Fault>
         ensures ok { OnOk result (self.new.all.items ≡ self.old.all.items ++ outcome ∷ []) }
         ensures err { OnErr result (self.new.all.items ≡ self.old.all.items) }
+        ensures counts { sum self.new.counts.items ≤ sum self.old.counts.items + 1 }
+        ensures only { OnErr result (result ≡ Err no_memory) }
     {
         self.counts
             .push(1)
@@ -164,8 +208,14 @@ impl Outcomes {
         order: Vec<u8>,
         is_cut: bool,
     ) -> Result<Kind, Fault>
-        requires { AreOutcomes bytes.now self.old }
-        ensures { AreOutcomes bytes.now self.new }
+        requires order { IsOrderOf bytes.now order.items }
+        requires outcomes { AreOutcomes bytes.now self.old }
+        ensures found { AreOutcomes bytes.now self.new }
+        ensures short { (turns : ℕ) → length order.items ≤ turns → AreShort turns self.old → AreShort turns self.new }
+        ensures ended { HasEnded self.old → HasEnded self.new }
+        ensures kind { IfOk result (λ kind. kind ≡ Kind.Ended → HasEnded self.new) }
+        ensures counts { sum self.new.counts.items ≤ sum self.old.counts.items + 1 }
+        ensures refused { IfErr result (λ fault. RefusesSearch bytes.now fault) }
     {
         let outcome = outcome_of(alloc, bytes, order, is_cut)?;
         let kind = outcome.kind;

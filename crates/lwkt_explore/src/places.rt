@@ -1,4 +1,8 @@
 //! A script's machine under way, made along an order.
+ghost use Rattle.std.specs.Prelude.{◌≡◌, ◌<◌, All, length, IfOk, IfErr, OnErr};
+ghost use Rattle.lwkt_base.specs.Fault.{no_memory};
+ghost use Rattle.lwkt_run.specs.Run.{DeclinesRun};
+
 use crate::doings::Doings;
 use crate::parts::Written;
 use crate::states::{add_state, away};
@@ -19,6 +23,8 @@ const ROOM: usize = 256;
 pub(crate) struct Place {
     machine: Machine,
     state: State,
+    /// Whether each of its events could happen.
+    pub is_lawful: bool,
 }
 
 // The processor that a message is on its way to, or that has taken it; its own, where it is at rest.
@@ -51,17 +57,22 @@ fn all_sent(alloc: Global, state: &State) -> Result<Vec<Sent>, AllocError> {
     Ok(sent)
 }
 
-// Makes the events of a turn happen.
-fn step_all(state: &mut State, trace: &[Event]) -> Result<(), Fault> {
+// Makes the events of a turn happen, up to the first that can't. Says whether each could.
+fn step_all(state: &mut State, trace: &[Event]) -> bool {
     for event in trace {
-        state.step(event)?;
+        if state.step(event).is_err() {
+            return false;
+        }
     }
-    Ok(())
+    true
 }
 
 impl Place {
     /// The machine of a script as it is opened.
-    pub(crate) fn open(alloc: Global, script: &Script) -> Result<Place, Fault> {
+    pub(crate) fn open(alloc: Global, script: &Script) -> Result<Place, Fault>
+        ensures ok { IfOk result (λ place. length place.machine.cpus ≡ script.now.cpus) }
+        ensures refused { IfErr result (λ fault. DeclinesRun script.now fault) }
+    {
         let machine = Machine::open(alloc, script)?;
         let state = State::open(
             alloc,
@@ -69,22 +80,33 @@ impl Place {
             script.messages.as_slice(),
             usize::from(script.cpus),
         )?;
-        Ok(Place { machine, state })
+        Ok(Place {
+            machine,
+            state,
+            is_lawful: true,
+        })
     }
 
-    /// Makes the turn of a processor. 30: it isn't there.
-    pub(crate) fn turn(&mut self, cpu: usize, trace: &mut Vec<Event>) -> Result<Turned, Fault> {
-        if cpu >= self.machine.cpus() {
-            return Err(Fault::NoPort);
-        }
+    /// Makes the turn of a processor. That it is there is the caller's condition.
+    pub(crate) fn turn(&mut self, cpu: usize, trace: &mut Vec<Event>) -> Result<Turned, Fault>
+        requires { cpu < length self.old.machine.cpus }
+        ensures as_many { length self.new.machine.cpus ≡ length self.old.machine.cpus }
+        ensures only { OnErr result (result ≡ Err no_memory) }
+    {
         trace.clear();
         let turned = self.machine.turn(cpu, trace)?;
-        step_all(&mut self.state, trace.as_slice())?;
+        if !step_all(&mut self.state, trace.as_slice()) {
+            self.is_lawful = false;
+        }
         Ok(turned)
     }
 
-    /// Makes the turns of an order.
-    pub(crate) fn go(&mut self, order: &[u8], trace: &mut Vec<Event>) -> Result<(), Fault> {
+    /// Makes the turns of an order. That its processors are there is the caller's condition.
+    pub(crate) fn go(&mut self, order: &[u8], trace: &mut Vec<Event>) -> Result<(), Fault>
+        requires { All (λ cpu. cpu < length self.old.machine.cpus) order.now }
+        ensures as_many { length self.new.machine.cpus ≡ length self.old.machine.cpus }
+        ensures only { OnErr result (result ≡ Err no_memory) }
+    {
         for cpu in order {
             self.turn(usize::from(*cpu), trace)?;
         }
@@ -93,7 +115,7 @@ impl Place {
 
     /// Writes what tells this place apart from others of the same script, and gives it up.
     pub(crate) fn write(self, alloc: Global, script: &Script) -> Result<Written, AllocError> {
-        let Place { machine, state } = self;
+        let Place { machine, state, .. } = self;
         let mut written = Written {
             words: Vec::with_capacity(alloc, ROOM)?,
             ends: Vec::with_capacity(alloc, ROOM)?,

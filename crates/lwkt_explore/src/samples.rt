@@ -1,6 +1,8 @@
 //! Random orders, for scripts that are too large for a search.
-ghost use Rattle.std.specs.Prelude.{IfOk};
-ghost use Rattle.lwkt_explore.specs.Outcomes.{AreOutcomes};
+ghost use Rattle.std.specs.Prelude.{◌≡◌, ◌+◌, ◌≤◌, ◌<◌, false, None, sum, IfOk, IfErr};
+ghost use Rattle.lwkt_explore.specs.Outcomes.{AreOutcomes, AreShort, RefusesSearch};
+ghost use Rattle.lwkt_explore.specs.Tries.{HasTriedOrders};
+ghost use Rattle.lwkt_explore.specs.Walks.{IsWalk};
 
 use crate::outcomes::Outcomes;
 use crate::searches::{Bounds, Found, Method, Tried};
@@ -32,7 +34,9 @@ impl Dice {
     }
 
     /// A number below a limit; 0 below no limit.
-    pub(crate) fn below(&mut self, limit: u64) -> u64 {
+    pub(crate) fn below(&mut self, limit: u64) -> u64
+        ensures { 0 < limit → result < limit }
+    {
         let next = self.next();
         if limit == 0 { 0 } else { next % limit }
     }
@@ -46,10 +50,17 @@ fn add_one(
     outcomes: &mut Outcomes,
     dice: &mut Dice,
 ) -> Result<(), Fault>
-    requires { AreOutcomes bytes.now outcomes.old }
-    ensures { AreOutcomes bytes.now outcomes.new }
+    requires walk { IsWalk bytes.now walk.old }
+    requires outcomes { AreOutcomes bytes.now outcomes.old }
+    requires short { AreShort walk.old.bounds.turns outcomes.old }
+    ensures walk { IsWalk bytes.now walk.new }
+    ensures bounds { walk.new.bounds ≡ walk.old.bounds }
+    ensures found { AreOutcomes bytes.now outcomes.new }
+    ensures short { AreShort walk.old.bounds.turns outcomes.new }
+    ensures counts { sum outcomes.new.counts.items ≤ sum outcomes.old.counts.items + 1 }
+    ensures refused { IfErr result (λ fault. RefusesSearch bytes.now fault) }
 {
-    let (order, quiet) = walk.stray(alloc, dice)?;
+    let (order, quiet) = walk.stray(alloc, bytes, dice)?;
     match outcomes.add(alloc, bytes, order, !quiet) {
         Ok(_) => Ok(()),
         Err(fault) => Err(fault),
@@ -66,8 +77,14 @@ fn add_all<W: Watch>(
     count: u64,
     watch: &mut W,
 ) -> Result<(), Fault>
-    requires { AreOutcomes bytes.now outcomes.old }
-    ensures { AreOutcomes bytes.now outcomes.new }
+    requires walk { IsWalk bytes.now walk.old }
+    requires outcomes { AreOutcomes bytes.now outcomes.old }
+    requires short { AreShort walk.old.bounds.turns outcomes.old }
+    requires none { sum outcomes.old.counts.items ≡ 0 }
+    ensures found { AreOutcomes bytes.now outcomes.new }
+    ensures short { AreShort walk.old.bounds.turns outcomes.new }
+    ensures counts { sum outcomes.new.counts.items ≤ count }
+    ensures refused { IfErr result (λ fault. RefusesSearch bytes.now fault) }
 {
     for made in 0..count {
         if !watch.goes_on(walk.strayed(made)) {
@@ -92,10 +109,18 @@ pub fn sample<W: Watch>(
     seed: u64,
     watch: &mut W,
 ) -> Result<Found, Fault>
-    ensures { IfOk result (λ found. AreOutcomes bytes.now found.outcomes) }
+    // Each outcome is one of the script.
+    ensures found { IfOk result (λ found. AreOutcomes bytes.now found.outcomes) }
+
+    // Its order has no more turns than the bound allows.
+    ensures short { IfOk result (λ found. AreShort bounds.turns found.outcomes) }
+    ensures part { IfOk result (λ found. found.is_complete ≡ false) }
+    ensures lost { IfOk result (λ found. found.lost ≡ None) }
+    ensures tried { IfOk result (λ found. HasTriedOrders count found.tried) }
+    ensures refused { IfErr result (λ fault. RefusesSearch bytes.now fault) }
 {
     let script = read_script(alloc, bytes)?;
-    let mut walk = Walk::begin(alloc, script, bounds, Method::Plain)?;
+    let mut walk = Walk::begin(alloc, bytes, script, bounds, Method::Plain)?;
     let mut outcomes = Outcomes::new(alloc);
     let mut dice = Dice::new(seed);
     let made = add_all(

@@ -1,6 +1,8 @@
 //! The search: over states, breadth first, so that orders are shortest.
-ghost use Rattle.std.specs.Prelude.{IfOk};
-ghost use Rattle.lwkt_explore.specs.Outcomes.{AreOutcomes};
+ghost use Rattle.std.specs.Prelude.{◌≡◌, ◌+◌, ◌≤◌, ◌<◌, true, false, None, length, IfOk, IfErr, OnOk};
+ghost use Rattle.lwkt_explore.specs.Outcomes.{AreOutcomes, AreShort, HasEnded, RefusesSearch};
+ghost use Rattle.lwkt_explore.specs.Tries.{HasTriedStates};
+ghost use Rattle.lwkt_explore.specs.Walks.{IsSearching};
 
 use crate::losses::Lost;
 use crate::outcomes::{Kind, Outcomes};
@@ -62,10 +64,13 @@ fn expand(
     outcomes: &mut Outcomes,
     at: usize,
 ) -> Result<(), Fault>
-    requires { AreOutcomes bytes.now outcomes.old }
-    ensures { AreOutcomes bytes.now outcomes.new }
+    requires { IsSearching bytes.now walk.old outcomes.old }
+    ensures search { IsSearching bytes.now walk.new outcomes.new }
+    ensures bounds { walk.new.bounds ≡ walk.old.bounds }
+    ensures ends { OnOk result (length walk.new.ends.items ≡ length walk.old.ends.items + 1) }
+    ensures refused { IfErr result (λ fault. RefusesSearch bytes.now fault) }
 {
-    let quiet = walk.go_on(alloc, at)?;
+    let quiet = walk.go_on(alloc, bytes, at)?;
     if !quiet && !walk.is_far(at) {
         return walk.note_end(false);
     }
@@ -83,8 +88,11 @@ fn search<W: Watch>(
     states: usize,
     watch: &mut W,
 ) -> Result<(), Fault>
-    requires { AreOutcomes bytes.now outcomes.old }
-    ensures { AreOutcomes bytes.now outcomes.new }
+    requires { IsSearching bytes.now walk.old outcomes.old }
+    ensures search { IsSearching bytes.now walk.new outcomes.new }
+    ensures bounds { walk.new.bounds ≡ walk.old.bounds }
+    ensures ends { OnOk result (walk.new.is_complete ≡ true → 0 < length walk.new.ends.items) }
+    ensures refused { IfErr result (λ fault. RefusesSearch bytes.now fault) }
 {
     for at in 0..states {
         if at >= walk.graph.len() {
@@ -116,10 +124,22 @@ pub fn explore<W: Watch>(
     method: Method,
     watch: &mut W,
 ) -> Result<Found, Fault>
-    ensures { IfOk result (λ found. AreOutcomes bytes.now found.outcomes) }
+    // Each outcome is one of the script.
+    ensures found { IfOk result (λ found. AreOutcomes bytes.now found.outcomes) }
+
+    // Its order has no more turns than the bound allows.
+    ensures short { IfOk result (λ found. AreShort bounds.turns found.outcomes) }
+
+    // If every order was tried and no state is lost, there is an end.
+    ensures ended { IfOk result (λ found. found.is_complete ≡ true → found.lost ≡ None → HasEnded found.outcomes) }
+
+    // Lost states are told only if every order was tried.
+    ensures lost { IfOk result (λ found. found.is_complete ≡ false → found.lost ≡ None) }
+    ensures tried { IfOk result (λ found. HasTriedStates bounds.states found.tried) }
+    ensures refused { IfErr result (λ fault. RefusesSearch bytes.now fault) }
 {
     let script = read_script(alloc, bytes)?;
-    let mut walk = Walk::begin(alloc, script, bounds, method)?;
+    let mut walk = Walk::begin(alloc, bytes, script, bounds, method)?;
     let mut outcomes = Outcomes::new(alloc);
     match search(alloc, bytes, &mut walk, &mut outcomes, bounds.states, watch) {
         Ok(()) => {}

@@ -1,10 +1,19 @@
 //! A walk over the states of a script.
+ghost use Rattle.std.specs.Prelude.{◌≡◌, ◌⊎◌, ℕ, ◌+◌, ◌<◌, ◌≤◌, true, false, List, [], length, All, Ok, Err, None, Contains, IsFalse, IfOk, IfErr, OnOk, OnErr, IfSome};
+ghost use Rattle.lwkt_base.specs.Fault.{no_memory};
+ghost use Rattle.lwkt_script.specs.Format.{script_of};
+ghost use Rattle.lwkt_script.specs.Limits.{IsWithinLimits};
+ghost use Rattle.lwkt_explore.specs.Graphs.{depth_at, IsOrder};
+ghost use Rattle.lwkt_explore.specs.Outcomes.{RefusesSearch};
+ghost use Rattle.lwkt_explore.specs.Walks.{IsWalk, WalkStays, StaysThere, WalkGoesOn};
+
 use crate::choices::Choice;
 use crate::doings::Doings;
 use crate::graphs::{Graph, NONE, Row, UNTRIED};
 use crate::losses::{Lost, lost_of};
 use crate::mails::Mails;
 use crate::memos::{Memos, picked, put_back};
+use crate::outcomes::judge;
 use crate::parts::{Layout, Parts, Written};
 use crate::places::Place;
 use crate::samples::Dice;
@@ -38,11 +47,21 @@ pub(crate) struct Walk {
 }
 
 /// What was given, or `Memory`.
-pub(crate) fn memory<T>(given: Result<T, AllocError>) -> Result<T, Fault> {
+pub(crate) fn memory<T>(given: Result<T, AllocError>) -> Result<T, Fault>
+    ensures ok { IfOk result (λ x. given ≡ Ok x) }
+    ensures only { OnErr result (result ≡ Err no_memory) }
+{
     match given {
         Ok(x) => Ok(x),
         Err(refused) => Err(Fault::Memory(refused)),
     }
+}
+
+/// The number of a processor, as an order has it.
+pub(crate) fn number_in_order(cpu: usize) -> u8
+    ensures { cpu < 256 → result ≡ cpu }
+{
+    u8::try_from(cpu).unwrap_or(u8::MAX)
 }
 
 // How large a block is allocated and freed before the first machine is made.
@@ -66,13 +85,22 @@ fn is_quiet(row: &Row, at: usize, cpus: usize) -> bool {
 }
 
 impl Walk {
-    /// A walk that has the opening state.
+    /// A walk that has the opening state of the script that the bytes are.
     pub(crate) fn begin(
         alloc: Global,
+        bytes: &[u8],
         script: Script,
         bounds: Bounds,
         method: Method,
-    ) -> Result<Walk, Fault> {
+    ) -> Result<Walk, Fault>
+        requires read { script_of bytes.now ≡ Ok script }
+        requires limits { IsWithinLimits script }
+        ensures walk { IfOk result (λ walk. IsWalk bytes.now walk) }
+        ensures bounds { IfOk result (λ walk. walk.bounds ≡ bounds) }
+        ensures some { IfOk result (λ walk. 1 ≤ length walk.graph.nodes.items) }
+        ensures none_ends { IfOk result (λ walk. walk.ends.items ≡ []) }
+        ensures refused { IfErr result (λ fault. RefusesSearch bytes.now fault) }
+    {
         keep_memory(alloc);
         let cpus = usize::from(script.cpus);
         let mails = memory(Mails::of(alloc, &script))?;
@@ -91,7 +119,7 @@ impl Walk {
             is_complete: true,
             trace: Vec::new(alloc),
         };
-        let opening = walk.make(alloc, &[], None)?;
+        let opening = walk.make(alloc, bytes, &[], None)?;
         let choice = walk.choice_at(opening.as_slice());
         memory(walk.graph.add(alloc, 0, 0, opening.as_slice(), choice))?;
         Ok(walk)
@@ -106,27 +134,66 @@ impl Walk {
         }
     }
 
-    // Goes along an order, makes the turn of a processor then, and writes where that led.
-    fn write(&mut self, alloc: Global, order: &[u8], cpu: Option<usize>) -> Result<Written, Fault> {
+    // Goes along an order, makes the turn of a processor then, and writes where that led. If the model refuses an event of these turns,
+    // the run along them is judged.
+    fn write(
+        &mut self,
+        alloc: Global,
+        bytes: &[u8],
+        order: &[u8],
+        cpu: Option<usize>,
+    ) -> Result<Written, Fault>
+        requires walk { IsWalk bytes.now self.old }
+        requires order { All (λ cpu. cpu < self.old.script.cpus) order.now }
+        requires cpu { IfSome cpu (λ cpu. cpu < self.old.script.cpus) }
+        ensures stays { StaysThere self.old self.new }
+        ensures refused { IfErr result (λ fault. RefusesSearch bytes.now fault) }
+    {
         let mut place = Place::open(alloc, &self.script)?;
         place.go(order, &mut self.trace)?;
         if let Some(cpu) = cpu {
             place.turn(cpu, &mut self.trace)?;
             self.turns = self.turns.saturating_add(1);
         }
+        if !place.is_lawful {
+            judge(alloc, bytes, order, cpu)?;
+        }
         memory(place.write(alloc, &self.script))
     }
 
     // The same; gives the state's parts.
-    fn make(&mut self, alloc: Global, order: &[u8], cpu: Option<usize>) -> Result<Vec<u32>, Fault> {
-        let written = self.write(alloc, order, cpu)?;
+    fn make(
+        &mut self,
+        alloc: Global,
+        bytes: &[u8],
+        order: &[u8],
+        cpu: Option<usize>,
+    ) -> Result<Vec<u32>, Fault>
+        requires walk { IsWalk bytes.now self.old }
+        requires order { All (λ cpu. cpu < self.old.script.cpus) order.now }
+        requires cpu { IfSome cpu (λ cpu. cpu < self.old.script.cpus) }
+        ensures stays { StaysThere self.old self.new }
+        ensures refused { IfErr result (λ fault. RefusesSearch bytes.now fault) }
+    {
+        let written = self.write(alloc, bytes, order, cpu)?;
         memory(self.parts.numbers_of(alloc, &written))
     }
 
     // Makes the turn of a processor from a state.
-    fn make_turn(&mut self, alloc: Global, at: usize, cpu: usize) -> Result<Vec<u32>, Fault> {
+    fn make_turn(
+        &mut self,
+        alloc: Global,
+        bytes: &[u8],
+        at: usize,
+        cpu: usize,
+    ) -> Result<Vec<u32>, Fault>
+        requires walk { IsWalk bytes.now self.old }
+        requires cpu { cpu < self.old.script.cpus }
+        ensures stays { StaysThere self.old self.new }
+        ensures refused { IfErr result (λ fault. RefusesSearch bytes.now fault) }
+    {
         let order = memory(self.graph.order(alloc, at))?;
-        self.make(alloc, order.as_slice(), Some(cpu))
+        self.make(alloc, bytes, order.as_slice(), Some(cpu))
     }
 
     // Makes the turn of a processor from a state, unless one like it was made: from a state that has the same parts where the turn
@@ -134,10 +201,16 @@ impl Walk {
     fn turn_like(
         &mut self,
         alloc: Global,
+        bytes: &[u8],
         at: usize,
         doings: &Doings,
         cpu: usize,
-    ) -> Result<Vec<u32>, Fault> {
+    ) -> Result<Vec<u32>, Fault>
+        requires walk { IsWalk bytes.now self.old }
+        requires cpu { cpu < self.old.script.cpus }
+        ensures stays { StaysThere self.old self.new }
+        ensures refused { IfErr result (λ fault. RefusesSearch bytes.now fault) }
+    {
         let mut state = memory(Vec::from_slice(alloc, self.graph.parts(at)))?;
         let places = memory(self.layout.touched(alloc, cpu, doings.next(cpu)))?;
         let before = memory(picked(alloc, state.as_slice(), places.as_slice()))?;
@@ -146,7 +219,7 @@ impl Walk {
             self.turns = self.turns.saturating_add(1);
             return Ok(state);
         }
-        let made = self.make_turn(alloc, at, cpu)?;
+        let made = self.make_turn(alloc, bytes, at, cpu)?;
         let after = memory(picked(alloc, made.as_slice(), places.as_slice()))?;
         put_back(state.as_mut_slice(), places.as_slice(), after.as_slice());
         // (a turn that changed another part would be made each time)
@@ -176,7 +249,9 @@ impl Walk {
     }
 
     /// Whether the order to a state has as many turns as it may have.
-    pub(crate) fn is_far(&self, at: usize) -> bool {
+    pub(crate) fn is_far(&self, at: usize) -> bool
+        ensures { IsFalse result → depth_at self.now.graph at < self.now.bounds.turns }
+    {
         self.graph.depth(at) >= self.bounds.turns
     }
 
@@ -187,7 +262,13 @@ impl Walk {
         at: usize,
         cpu: usize,
         state: &[u32],
-    ) -> Result<u32, Fault> {
+    ) -> Result<u32, Fault>
+        requires cpu { cpu < self.old.script.cpus }
+        ensures stays { WalkStays self.old self.new }
+        ensures walk { (bytes : List ℕ) → IsWalk bytes self.old → IsWalk bytes self.new }
+        ensures states { length self.old.graph.nodes.items ≤ length self.new.graph.nodes.items }
+        ensures only { OnErr result (result ≡ Err no_memory) }
+    {
         if let Some(number) = self.graph.find(state) {
             return Ok(number);
         }
@@ -195,7 +276,7 @@ impl Walk {
             self.is_complete = false;
             return Ok(NONE);
         }
-        let number = u8::try_from(cpu).unwrap_or(u8::MAX);
+        let number = number_in_order(cpu);
         let choice = self.choice_at(state);
         memory(self.graph.add(alloc, at, number, state, choice))
     }
@@ -219,16 +300,22 @@ impl Walk {
     fn next(
         &mut self,
         alloc: Global,
+        bytes: &[u8],
         at: usize,
         doings: &Doings,
         cpu: usize,
-    ) -> Result<u32, Fault> {
+    ) -> Result<u32, Fault>
+        requires walk { IsWalk bytes.now self.old }
+        requires cpu { cpu < self.old.script.cpus }
+        ensures goes { WalkGoesOn bytes.now self.old self.new }
+        ensures refused { IfErr result (λ fault. RefusesSearch bytes.now fault) }
+    {
         if let Some(number) = self.known(at, cpu) {
             return Ok(number);
         }
         let state = match self.method {
-            Method::Plain => self.make_turn(alloc, at, cpu)?,
-            Method::Reduced => self.turn_like(alloc, at, doings, cpu)?,
+            Method::Plain => self.make_turn(alloc, bytes, at, cpu)?,
+            Method::Reduced => self.turn_like(alloc, bytes, at, doings, cpu)?,
         };
         self.number_of(alloc, at, cpu, state.as_slice())
     }
@@ -238,16 +325,22 @@ impl Walk {
     fn try_set(
         &mut self,
         alloc: Global,
+        bytes: &[u8],
         at: usize,
         doings: &Doings,
         set: u8,
         row: &mut Row,
-    ) -> Result<bool, Fault> {
+    ) -> Result<bool, Fault>
+        requires { IsWalk bytes.now self.old }
+        ensures goes { WalkGoesOn bytes.now self.old self.new }
+        ensures refused { IfErr result (λ fault. RefusesSearch bytes.now fault) }
+    {
+        let cpus = usize::from(self.script.cpus);
         let mut leads_on = false;
-        for cpu in 0..8usize {
+        for cpu in 0..cpus {
             if has(set, cpu) {
                 if row[cpu] == UNTRIED {
-                    row[cpu] = self.next(alloc, at, doings, cpu)?;
+                    row[cpu] = self.next(alloc, bytes, at, doings, cpu)?;
                 }
                 leads_on = leads_on || row[cpu] as usize > at;
             }
@@ -256,10 +349,20 @@ impl Walk {
     }
 
     // Tries the turns of sets from a state, up to the first set that is enough.
-    fn try_sets(&mut self, alloc: Global, at: usize, row: &mut Row) -> Result<(), Fault> {
+    fn try_sets(
+        &mut self,
+        alloc: Global,
+        bytes: &[u8],
+        at: usize,
+        row: &mut Row,
+    ) -> Result<(), Fault>
+        requires { IsWalk bytes.now self.old }
+        ensures goes { WalkGoesOn bytes.now self.old self.new }
+        ensures refused { IfErr result (λ fault. RefusesSearch bytes.now fault) }
+    {
         let doings = self.parts.doings(&self.mails, self.graph.parts(at));
         for set in self.graph.choice(at).sets {
-            if self.try_set(alloc, at, &doings, set, row)? {
+            if self.try_set(alloc, bytes, at, &doings, set, row)? {
                 return Ok(());
             }
         }
@@ -279,18 +382,27 @@ impl Walk {
     }
 
     /// Tries turns from a state, and says whether no processor's turn changes anything.
-    pub(crate) fn go_on(&mut self, alloc: Global, at: usize) -> Result<bool, Fault> {
+    pub(crate) fn go_on(&mut self, alloc: Global, bytes: &[u8], at: usize) -> Result<bool, Fault>
+        requires { IsWalk bytes.now self.old }
+        ensures goes { WalkGoesOn bytes.now self.old self.new }
+        ensures refused { IfErr result (λ fault. RefusesSearch bytes.now fault) }
+    {
         let mut row = self.first_row(at);
-        self.try_sets(alloc, at, &mut row)?;
+        self.try_sets(alloc, bytes, at, &mut row)?;
         memory(self.graph.note(&row))?;
         Ok(is_quiet(&row, at, usize::from(self.script.cpus)))
     }
 
     // Whether no turn changes anything behind an order.
-    fn is_quiet(&mut self, alloc: Global, order: &[u8]) -> Result<bool, Fault> {
-        let here = self.write(alloc, order, None)?;
+    fn is_quiet(&mut self, alloc: Global, bytes: &[u8], order: &[u8]) -> Result<bool, Fault>
+        requires walk { IsWalk bytes.now self.old }
+        requires order { All (λ cpu. cpu < self.old.script.cpus) order.now }
+        ensures stays { StaysThere self.old self.new }
+        ensures refused { IfErr result (λ fault. RefusesSearch bytes.now fault) }
+    {
+        let here = self.write(alloc, bytes, order, None)?;
         for cpu in 0..usize::from(self.script.cpus) {
-            let next = self.write(alloc, order, Some(cpu))?;
+            let next = self.write(alloc, bytes, order, Some(cpu))?;
             if next.words.as_slice() != here.words.as_slice() {
                 return Ok(false);
             }
@@ -302,27 +414,33 @@ impl Walk {
     pub(crate) fn stray(
         &mut self,
         alloc: Global,
+        bytes: &[u8],
         dice: &mut Dice,
-    ) -> Result<(Vec<u8>, bool), Fault> {
+    ) -> Result<(Vec<u8>, bool), Fault>
+        requires { IsWalk bytes.now self.old }
+        ensures stays { StaysThere self.old self.new }
+        ensures order { IfOk result (λ made. IsOrder self.old.script.cpus self.old.bounds.turns made.0.items) }
+        ensures refused { IfErr result (λ fault. RefusesSearch bytes.now fault) }
+    {
         let cpus = u64::from(self.script.cpus);
         let mut place = Place::open(alloc, &self.script)?;
         let mut order = Vec::new(alloc);
         let mut idle = 0u64;
         for _ in 0..self.bounds.turns {
             if idle >= 4 * cpus {
-                if self.is_quiet(alloc, order.as_slice())? {
+                if self.is_quiet(alloc, bytes, order.as_slice())? {
                     return Ok((order, true));
                 }
                 idle = 0;
             }
-            let cpu = dice.below(cpus);
-            let turned = place.turn(cpu as usize, &mut self.trace)?;
+            let cpu = dice.below(cpus) as usize;
+            let turned = place.turn(cpu, &mut self.trace)?;
             self.turns = self.turns.saturating_add(1);
             idle = match turned {
                 Turned::Ran { .. } => 0,
                 Turned::Idle | Turned::AllExited => idle.saturating_add(1),
             };
-            if let Err(refused) = order.push(u8::try_from(cpu).unwrap_or(u8::MAX)) {
+            if let Err(refused) = order.push(number_in_order(cpu)) {
                 return Err(Fault::Memory(refused.into()));
             }
         }
@@ -330,7 +448,14 @@ impl Walk {
     }
 
     /// Notes of the next state that was gone on from whether it is an end.
-    pub(crate) fn note_end(&mut self, is_end: bool) -> Result<(), Fault> {
+    pub(crate) fn note_end(&mut self, is_end: bool) -> Result<(), Fault>
+        ensures one_more { OnOk result (length self.new.ends.items ≡ length self.old.ends.items + 1) }
+        ensures end { Contains self.new.ends.items true → Contains self.old.ends.items true ⊎ (is_end ≡ true) }
+        ensures only { OnErr result (result ≡ Err no_memory) }
+        ensures script { self.new.script ≡ self.old.script }
+        ensures bounds { self.new.bounds ≡ self.old.bounds }
+        ensures graph { self.new.graph ≡ self.old.graph }
+    {
         match self.ends.push(is_end) {
             Ok(()) => Ok(()),
             Err(refused) => Err(Fault::Memory(refused.into())),
@@ -338,7 +463,11 @@ impl Walk {
     }
 
     /// The states from which no end can be reached, if every order was tried.
-    pub(crate) fn lost(&self, alloc: Global) -> Result<Option<Lost>, Fault> {
+    pub(crate) fn lost(&self, alloc: Global) -> Result<Option<Lost>, Fault>
+        ensures part { self.now.is_complete ≡ false → IfOk result (λ lost. lost ≡ None) }
+        ensures none { IfOk result (λ lost. self.now.is_complete ≡ true → lost ≡ None → 0 < length self.now.ends.items → Contains self.now.ends.items true) }
+        ensures only { OnErr result (result ≡ Err no_memory) }
+    {
         if !self.is_complete {
             return Ok(None);
         }

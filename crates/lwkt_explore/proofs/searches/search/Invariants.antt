@@ -1,5 +1,10 @@
-use Rattle.lwkt_explore.specs.Outcomes.{AreOutcomes}
+use Rattle.std.proofs.Common.{◌≡◌, ◌≤◌, length}
+use Rattle.lwkt_explore.specs.Walks.{IsSearching}
 use Rattle.lwkt_explore.proofs.searches.search.Given as goal
 
 abbrev pub invariant-loop-at : goal.invariant-loop-at
-invariant-loop-at g l = AreOutcomes l.bytes l.outcomes
+invariant-loop-at g l = record {
+  search : IsSearching l.bytes l.walk l.outcomes;
+  bounds : l.walk.bounds ≡ l.fn.walk.bounds;
+  ends : l.at ≤ length l.walk.ends.items;
+}

@@ -1,0 +1,5 @@
+pub mod EndLemmas
+pub mod OrderLemmas
+pub mod RefusalLemmas
+pub mod SearchLemmas
+pub mod WalkLemmas

@@ -1,0 +1,49 @@
+use Rattle.std.proofs.Common.{◌≡◌, ◌⊎◌, ℕ, ◌≤◌, Bool, true, List, length, ⊎_elim, sym, subst, arith}
+use Rattle.std.specs.Prelude.{Contains, Vec}
+use Rattle.std.specs.declared.alloc.Global.{Global}
+use Rattle.lwkt_explore.specs.declared.graphs.Graph.{Graph}
+use Rattle.lwkt_explore.specs.declared.outcomes.Outcomes.{Outcomes}
+use Rattle.lwkt_explore.specs.declared.searches.Bounds.{Bounds}
+use Rattle.lwkt_explore.specs.declared.walks.Walk.{Walk}
+use Rattle.lwkt_explore.specs.Outcomes.{AreOutcomes, AreShort, HasEnded}
+use Rattle.lwkt_explore.specs.Walks.{WalkGoesOn, IsSearching}
+use Rattle.lwkt_explore.proofs.WalkLemmas.{walk_stays}
+
+-- bounds that are the same
+pub short_at : (a b : Bounds) (outcomes : Outcomes) → a ≡ b → AreShort a.turns outcomes → AreShort b.turns outcomes
+short_at a b outcomes same short = let F : Bounds → Type 0 = λ bounds. AreShort bounds.turns outcomes in subst F same short
+
+-- a search whose walk went on
+pub search_goes : (bytes : List ℕ) (old new : Walk) (outcomes : Outcomes) → WalkGoesOn bytes old new → IsSearching bytes old outcomes → IsSearching bytes new outcomes
+search_goes bytes old new outcomes goes is =
+    let E : Vec Bool Global → Type 0 = λ ends. Contains ends.items true → HasEnded outcomes in
+    record {
+      walk_is = goes.walk;
+      some = omega (arith, goes.states, is.some);
+      found = is.found;
+      short = short_at old.bounds new.bounds outcomes (sym goes.stays.bounds) is.short;
+      ended = subst E (sym goes.stays.ends) is.ended;
+    }
+
+-- a search with one outcome more
+pub search_finds : (bytes : List ℕ) (walk : Walk) (old new : Outcomes) → AreOutcomes bytes new → AreShort walk.bounds.turns new → (HasEnded old → HasEnded new) → IsSearching bytes walk old → IsSearching bytes walk new
+search_finds bytes walk old new found short more is = record {
+  walk_is = is.walk_is;
+  some = is.some;
+  found = found;
+  short = short;
+  ended = λ has. more (is.ended has);
+}
+
+-- a search that noted of one state more whether it is an end
+pub search_notes : (bytes : List ℕ) (old new : Walk) (outcomes : Outcomes) (is_end : Bool) → new.script ≡ old.script → new.bounds ≡ old.bounds → new.graph ≡ old.graph
+    → (Contains new.ends.items true → Contains old.ends.items true ⊎ (is_end ≡ true)) → (is_end ≡ true → HasEnded outcomes) → IsSearching bytes old outcomes → IsSearching bytes new outcomes
+search_notes bytes old new outcomes is_end script bounds graph noted ends is =
+    let S : Graph → Type 0 = λ g. 1 ≤ length g.nodes.items in
+    record {
+      walk_is = walk_stays bytes old new script bounds graph is.walk_is;
+      some = subst S (sym graph) is.some;
+      found = is.found;
+      short = short_at old.bounds new.bounds outcomes (sym bounds) is.short;
+      ended = λ has. ⊎_elim is.ended ends (noted has);
+    }

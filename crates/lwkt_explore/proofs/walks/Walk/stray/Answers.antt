@@ -1,0 +1,37 @@
+use Rattle.std.proofs.Common.{◌≡◌, ℕ, ◌+◌, ◌<◌, ◌≤◌, ◌∙◌, List, [], ◌∷◌, ◌++◌, All, length, length-append, ap, arith, subst, sym, refl}
+use Rattle.std.proofs.lemmas.List.Elements.{All-push}
+use Rattle.lwkt_explore.specs.declared.walks.Walk.{Walk}
+use Rattle.lwkt_explore.specs.Walks.{StaysThere}
+use Rattle.lwkt_explore.proofs.WalkLemmas.{stays_there_on}
+use Rattle.lwkt_explore.proofs.walks.Walk.stray.Goals as goal
+use Rattle.lwkt_explore.proofs.walks.Walk.stray.Goals.{then-idle-cpus+in_ok-is_quiet+else-branch, else-idle-cpus}
+
+pub loop-preserved : goal.loop-preserved
+loop-preserved c =
+    let first = c.args.self.now in
+    let F : Walk → Type 0 = λ walk. StaysThere first walk in
+    let joined : StaysThere first c.if-idle-cpus.self =
+    elim c.if-idle-cpus.branch [
+      | then-idle-cpus+in_ok-is_quiet+else-branch w ↦ subst F (sym w.self-is) (stays_there_on first c.loop.self w.is_quiet.new.self c.loop.invariant.there w.is_quiet.ensures.stays)
+      | else-idle-cpus w ↦ subst F (sym w.self-is) c.loop.invariant.there
+    ]
+    in
+    let cpus : c.from-cpus.result ≡ first.script.cpus = c.loop.invariant.cpus in
+    let at_least : 1 ≤ first.script.cpus = c.requires.some_cpus in
+    let at_most : first.script.cpus ≤ 8 = c.requires.few_cpus in
+    let some : 0 < c.from-cpus.result = omega arith in
+    let below : c.below-cpu.result < c.from-cpus.result = c.below-cpu.ensures some in
+    let number : c.number_in_order.result ≡ c.below-cpu.result = c.number_in_order.ensures (omega arith) in
+    let there : c.number_in_order.result < first.script.cpus = omega arith in
+    let items : c.push.new.self.items ≡ c.loop.order.items ++ c.number_in_order.result ∷ [] = c.in_default.ensures.items in
+    let P : ℕ → Type 0 = λ cpu. cpu < first.script.cpus in
+    let G : List ℕ → Type 0 = λ order. All P order in
+    let more : length c.push.new.self.items ≡ length c.loop.order.items + 1 = ap (λ (xs : List ℕ). length xs) items ∙ length-append c.loop.order.items (c.number_in_order.result ∷ []) in
+    record {
+      there = record { stays = record { script = joined.stays.script; bounds = joined.stays.bounds; ends = joined.stays.ends }; graph = joined.graph };
+      cpus = cpus;
+      place = c.turn.ensures.as_many ∙ c.loop.invariant.place;
+      order = subst G (sym items) (All-push P c.loop.order.items c.number_in_order.result c.loop.invariant.order there);
+      short = omega (arith, more, c.loop.invariant.short);
+      end = refl;
+    }
