@@ -1,12 +1,14 @@
 -- What the calls of the library answer to C of scripts in either form (own).
-use Rattle.std.specs.Prelude.{◌≡◌, ◌⊎◌, ◌<◌, ℕ, ◌++◌, List, length, Result, Ok, Err, if◌then◌else◌}
+use Rattle.std.specs.Prelude.{◌≡◌, ◌⊎◌, ◌<◌, ℕ, ◌++◌, true, false, List, length, None, Result, Ok, Err, if◌then◌else◌}
 use Rattle.std.specs.Result.{result_err}
 use Rattle.lwkt_base.specs.declared.faults.Fault.{Fault}
 use Rattle.lwkt_base.specs.declared.faults.Fault.TheVariants.{Script as ScriptFault, Limits, Unlawful}
 use Rattle.lwkt_base.specs.Fault.{no_memory}
 use Rattle.lwkt_expected.specs.Expectations.{status_of_text as status_of_text_search}
-use Rattle.lwkt_explore.specs.Outcomes.{AreOutcomes}
+use Rattle.lwkt_explore.specs.declared.searches.Found.{Found}
+use Rattle.lwkt_explore.specs.Outcomes.{AreOutcomes, AreShort, HasEnded, RefusesSearch}
 use Rattle.lwkt_explore.specs.Statuses.{status_of_found}
+use Rattle.lwkt_explore.specs.Tries.{HasTriedStates}
 use Rattle.lwkt_litmus.specs.declared.judgements.Judgement.{Judgement}
 use Rattle.lwkt_litmus.specs.Judgements.{judgement_of, status_of_judgement}
 use Rattle.lwkt_report.specs.declared.closings.Closing.{Closing}
@@ -86,28 +88,45 @@ pub record AnswersText (text old new : List ℕ) (answer : LwktAnswer) (status :
   pub fills : Fills old new answer whole (result_err outcome)
   pub is_status : status ≡ status_of_text_run outcome
 
--- what was found of a script in JSON: outcomes of it, and the status by them
-pub record IsSearchOfJson (script : List ℕ) (search : Search) : Type 0 where
-  pub are : AreOutcomes script search.found.outcomes
+-- what a search of a script in JSON within these bounds finds: outcomes of it, whose orders are short enough; an ended one, if every
+-- order was tried and no state is lost; lost states only if every order was tried; and how many states were kept
+pub record AreFoundWithin (script : List ℕ) (states turns : ℕ) (found : Found) : Type 0 where
+  pub are : AreOutcomes script found.outcomes
+  pub short : AreShort turns found.outcomes
+  pub ended : found.is_complete ≡ true → found.lost ≡ None → HasEnded found.outcomes
+  pub part : found.is_complete ≡ false → found.lost ≡ None
+  pub tried : HasTriedStates states found.tried
+
+-- what came of a script in JSON: what was found of it, and the status by that
+pub record IsSearchOfJson (script : List ℕ) (states turns : ℕ) (search : Search) : Type 0 where
+  pub is_found : AreFoundWithin script states turns search.found
   pub is_status : search.status ≡ status_of_found search.found
 
--- what was found of a text: outcomes of its script, and the status by what the text says of them
-pub record IsSearchOfText (text : List ℕ) (search : Search) : Type 0 where
+-- what came of a text: what was found of its script, and the status by what the text says of that
+pub record IsSearchOfText (text : List ℕ) (states turns : ℕ) (search : Search) : Type 0 where
   pub reading : Reading
   pub read : reading_of text ≡ Ok reading
   pub json : List ℕ
   pub is_json : script_of json ≡ Ok reading.script
-  pub are : AreOutcomes json search.found.outcomes
+  pub is_found : AreFoundWithin json states turns search.found
   pub is_status : search.status ≡ status_of_text_search reading.expectations search.found
 
--- what was found of a script in either form
-abbrev pub IsSearch : List ℕ → Search → Type 0
-IsSearch script search = ByForm (is_text script) (IsSearchOfText script search) (IsSearchOfJson script search)
+-- what came of a script in either form
+abbrev pub IsSearch : List ℕ → ℕ → ℕ → Search → Type 0
+IsSearch script states turns search = ByForm (is_text script) (IsSearchOfText script states turns search) (IsSearchOfJson script states turns search)
 
--- what came of a script whose orders were tried; of one that is refused nothing is said
-abbrev pub TellsSearch : List ℕ → Result Search Fault → Type 0
-TellsSearch script (Ok search) = IsSearch script search
-TellsSearch script (Err fault) = Unit {0}
+-- why a search of a text is refused: there is no JSON of it; or there is, and a search of that is refused
+abbrev pub RefusesTextSearch : List ℕ → Fault → Type 0
+RefusesTextSearch text fault = RefusesJson text fault ⊎ ((json : List ℕ) × (IsJsonOf text json × RefusesSearch json fault))
+
+-- why a search of a script in either form is refused
+abbrev pub RefusesOrders : List ℕ → Fault → Type 0
+RefusesOrders script fault = ByForm (is_text script) (RefusesTextSearch script fault) (RefusesSearch script fault)
+
+-- what came of a script whose orders were tried within these bounds: what was found; or it is refused for this fault
+abbrev pub TellsSearch : List ℕ → ℕ → ℕ → Result Search Fault → Type 0
+TellsSearch script states turns (Ok search) = IsSearch script states turns search
+TellsSearch script states turns (Err fault) = RefusesOrders script fault
 
 abbrev pub status_of_untried : Fault → ℕ
 status_of_untried (Unlawful index) = 4
@@ -117,10 +136,11 @@ abbrev pub status_of_orders : Result Search Fault → ℕ
 status_of_orders (Ok search) = search.status
 status_of_orders (Err fault) = status_of_untried fault
 
--- what `lwkt_explore_orders` answers: what was found, of which the text is made, in its status, its answer and the buffer
-pub record AnswersOrders (script old new : List ℕ) (answer : LwktAnswer) (status : ℕ) : Type 0 where
+-- what `lwkt_explore_orders` answers: what was found within these bounds, of which the text is made, or why nothing was, in its status,
+-- its answer and the buffer
+pub record AnswersOrders (script : List ℕ) (states turns : ℕ) (old new : List ℕ) (answer : LwktAnswer) (status : ℕ) : Type 0 where
   pub outcome : Result Search Fault
   pub whole : List ℕ
-  pub tells : TellsSearch script outcome
+  pub tells : TellsSearch script states turns outcome
   pub fills : Fills old new answer whole (result_err outcome)
   pub is_status : status ≡ status_of_orders outcome

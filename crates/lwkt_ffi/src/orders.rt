@@ -1,8 +1,8 @@
 //! Every order of turns of a script.
-ghost use Rattle.std.specs.Prelude.{◌≡◌, [], IfOk};
+ghost use Rattle.std.specs.Prelude.{◌≡◌, [], IfOk, IfErr};
 ghost use Rattle.std.specs.Result.{result_err};
-ghost use Rattle.lwkt_explore.specs.Outcomes.{AreOutcomes};
-ghost use Rattle.lwkt_ffi.specs.Texts.{IsSearch, IsSearchOfText, IsSearchOfJson, TellsSearch, AnswersOrders, status_of_orders};
+ghost use Rattle.lwkt_explore.specs.Outcomes.{RefusesSearch};
+ghost use Rattle.lwkt_ffi.specs.Texts.{AreFoundWithin, IsSearch, IsSearchOfText, IsSearchOfJson, RefusesTextSearch, RefusesOrders, TellsSearch, AnswersOrders, status_of_orders};
 
 use crate::answers::{LwktAnswer, status_of_fault};
 use crate::forms::json_told;
@@ -58,7 +58,8 @@ fn explored(
     bounds: Bounds,
     page: &mut Page,
 ) -> Result<Found, Fault>
-    ensures { IfOk result (λ found. AreOutcomes json.now found.outcomes) }
+    ensures found { IfOk result (λ found. AreFoundWithin json.now bounds.states bounds.turns found) }
+    ensures refused { IfErr result (λ fault. RefusesSearch json.now fault) }
 {
     match explore(alloc, json, bounds, Method::Reduced, &mut Unwatched) {
         Ok(found) => Ok(found),
@@ -76,7 +77,8 @@ fn search_json(
     bounds: Bounds,
     page: &mut Page,
 ) -> Result<Search, Fault>
-    ensures { IfOk result (λ search. IsSearchOfJson script.now search) }
+    ensures found { IfOk result (λ search. IsSearchOfJson script.now bounds.states bounds.turns search) }
+    ensures refused { IfErr result (λ fault. RefusesSearch script.now fault) }
 {
     let found = match explored(alloc, script, script, true, bounds, page) {
         Ok(found) => found,
@@ -92,7 +94,8 @@ fn search_json(
 
 // Tries every order of a text, and judges what it says of the outcomes; why it is refused is put on a page.
 fn search_text(alloc: Global, text: &[u8], bounds: Bounds, page: &mut Page) -> Result<Search, Fault>
-    ensures { IfOk result (λ search. IsSearchOfText text.now search) }
+    ensures found { IfOk result (λ search. IsSearchOfText text.now bounds.states bounds.turns search) }
+    ensures refused { IfErr result (λ fault. RefusesTextSearch text.now fault) }
 {
     let reading = match read_onto(alloc, Speaker::Explore, text, page) {
         Ok(reading) => reading,
@@ -122,7 +125,8 @@ fn search_text(alloc: Global, text: &[u8], bounds: Bounds, page: &mut Page) -> R
 
 // Tries every order of a script in either form; why it is refused is put on a page.
 fn search_of(alloc: Global, script: &[u8], bounds: Bounds, page: &mut Page) -> Result<Search, Fault>
-    ensures { IfOk result (λ search. IsSearch script.now search) }
+    ensures found { IfOk result (λ search. IsSearch script.now bounds.states bounds.turns search) }
+    ensures refused { IfErr result (λ fault. RefusesOrders script.now fault) }
 {
     match is_text(alloc, script) {
         Ok(true) => search_text(alloc, script, bounds, page),
@@ -142,7 +146,7 @@ fn search_onto(
     page: &mut Page,
 ) -> Result<Search, Fault>
     requires { page.old.text.items ≡ [] }
-    ensures { TellsSearch script.now result }
+    ensures { TellsSearch script.now bounds.states bounds.turns result }
 {
     let mut errors = blank(alloc);
     let search = match search_of(alloc, script, bounds, &mut errors) {
@@ -195,7 +199,7 @@ pub extern "C" fn lwkt_explore_orders(
     buffer: &mut [u8],
     answer: &mut LwktAnswer,
 ) -> u32
-    ensures { AnswersOrders script.now buffer.old buffer.new answer.new result }
+    ensures { AnswersOrders script.now states turns buffer.old buffer.new answer.new result }
 {
     let mut page = blank(alloc);
     // A search without a state would say that it tried every order.
