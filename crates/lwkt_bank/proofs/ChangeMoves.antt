@@ -19,10 +19,7 @@ use Rattle.lwkt_base.specs.Holding.{is_held, is_exclusive}
 use Rattle.lwkt_base.specs.declared.names.Mode.{Mode}
 use Rattle.lwkt_base.specs.declared.names.Mode.TheVariants.{Exclusive, Shared}
 use Rattle.lwkt_base.specs.declared.holdings.Held.TheVariants.{Nothing, Holds}
-use Rattle.lwkt_base.specs.declared.words.TokWord.{TokWord}
-use Rattle.lwkt_base.specs.declared.words.Decision.{Decision}
 use Rattle.lwkt_base.specs.declared.words.Decision.TheVariants.{Take}
-use Rattle.lwkt_base.specs.TokenWord.{word_of, Fits, decision}
 use Rattle.lwkt_base.specs.Holding.{Holding}
 use Rattle.lwkt_bank.specs.Plays.{IsTakenRow, TakesHands}
 use Rattle.lwkt_bank.specs.Hands.{AreSame, AreHands, IsInHand, TakesOut, PutsBack}
@@ -33,7 +30,7 @@ use Rattle.lwkt_bank.specs.Deeds.{loads, takes, loses, writes}
 use Rattle.lwkt_bank.specs.Rule.{plan_at}
 use Rattle.lwkt_bank.specs.Notes.{Keeps, IsNoted, no_note, note_at, begun, note_wrote, first_record, Overwrites}
 use Rattle.lwkt_bank.specs.declared.notes.TokenNote.{TokenNote}
-use Rattle.lwkt_bank.specs.Seats.{BankId, id_of, bank_of, tokens_of, plan_of, entry, past_of, holding, references, IsOf, Changes, Knowing, IsUnchanged, written_over, Looked, Took, Lost, Hit, Miss, Decides}
+use Rattle.lwkt_bank.specs.Seats.{BankId, id_of, bank_of, tokens_of, plan_of, entry, past_of, holding, references, IsOf, Changes, Knowing, written_over, Looked, Took, Lost, Hit, Miss, Decides}
 use Rattle.lwkt_bank.proofs.ViewMoves.{at-here, at-else, at-tok}
 use Rattle.lwkt_bank.proofs.NoteMoves.{seat_told, IsNoted-seen, IsNoted-missed, IsNoted-wrote, Keeps-kept, Keeps-set}
 use Rattle.lwkt_bank.proofs.TurnMoves.{seen-keeps, exclusive_held}
@@ -91,9 +88,6 @@ knowing_same s s' tok e deeds changes = record { known = e.known; new = []; grow
 -- nothing was changed yet
 pub knowing_none : (s : CpuSeat) (tok : ℕ) → Knowing s s tok (entry s tok) []
 knowing_none s tok = record { known = (entry s tok).known; new = []; grown = refl; changes = record { bank = refl; cpu = refl; here = refl; else_ = λ other away. refl; grows = refl; own = own-nil s.cpu.0 } }
-
-pub knowing_unchanged : (s s' : CpuSeat) (tok : ℕ) → IsUnchanged s s' → Knowing s s' tok (entry s tok) []
-knowing_unchanged s s' tok same = record { known = (entry s tok).known; new = []; grown = refl; changes = record { bank = same.bank; cpu = same.cpu; here = same.entries tok; else_ = λ other away. same.entries other; grows = same.past; own = own-nil s.cpu.0 } }
 
 -- a cell was read: one more is known
 pub knowing_read : (s s' : CpuSeat) (tok cell : ℕ) (deeds : List Deed) → Changes s s' tok (read (entry s tok) cell) deeds → Knowing s s' tok (entry s tok) deeds
@@ -256,10 +250,6 @@ lost s mid s' tok mode alone word next looked' decides miss =
           (subst (λ d. H d s.cpu) (ap (λ (d : TokenEntry). looked d miss.found) looked'.changes.here) (subst (λ c. H (looked (entry mid tok) miss.found) c) looked'.changes.cpu miss.changes));
     }
 
--- what `decide` answers, in the order of a try's contract
-pub decides_so : (word : ℕ) (mode : Mode) (alone : Bool) (answer given : Decision) → ((w : TokWord) → word_of w ≡ word → Fits w → given ≡ decision w mode alone) → given ≡ answer → Decides word mode alone answer
-decides_so word mode alone answer given says is = λ w fits its. sym (says w its fits) ∙ is
-
 -- what a seat keeps after the note of a token was written anew
 pub keeps_set : (s : CpuSeat) (w : View) (tok : ℕ) (e : TokenEntry) (between : List Deed) (d : Deed) (note : TokenNote) → tok < 64 → w ≡ noted between s.seat.me.0 e d → tok < length s.seat.me.0.plans → e.tok ≡ tok → IsNoted (plan_at s.seat.me.0.plans tok) s.cpu.0 e note → Keeps (set s.notes tok note) s.cpu w
 keeps_set s w tok e between d note room is there is_tok here =
@@ -273,10 +263,6 @@ keeps_kept s w tok e between d is there is_tok here = Keeps-kept s.notes s.cpu s
 -- the entry of a token says which it is
 pub entry_tok : (s : CpuSeat) (tok : ℕ) → (entry s tok).tok ≡ tok
 entry_tok s tok = at-tok s.seat.me.0.tokens tok
-
--- the note that was read
-pub noted_as : (s : CpuSeat) (tok : ℕ) (note : TokenNote) → tok < length s.seat.me.0.plans → note ≡ note_at s.notes tok → IsNoted (plan_at s.seat.me.0.plans tok) s.cpu.0 (entry s tok) note
-noted_as s tok note there is = let F : TokenNote → Type 0 = λ m. IsNoted (plan_at s.seat.me.0.plans tok) s.cpu.0 (entry s tok) m in subst F (sym is) (s.kept.each tok there)
 
 -- what is declared of a token, told by the seat or by the bank
 pub plan_is : (bank : Bank) (s : CpuSeat) (tok : ℕ) → bank_of s ≡ id_of bank → plan_at s.seat.me.0.plans tok ≡ plan_at bank.key.plans.items tok
@@ -320,15 +306,6 @@ written_more (Some y ∷ made) i (suc c) x row room none =
 -- a token that exists has room in what a seat keeps
 pub room_of : (bank : Bank) (s : CpuSeat) (tok : ℕ) → bank_of s ≡ id_of bank → tok < length s.seat.me.0.plans → tok < 64
 room_of bank s tok of there = let t = there_of bank s tok of there in let f = bank.few in omega arith
-
--- what a seat keeps after a part of the note of a token was written
-pub keeps_part : (s : CpuSeat) (w : View) (tok : ℕ) (e : TokenEntry) (between : List Deed) (deed : Deed) (f : TokenNote → TokenNote) (d : TokenNote) → tok < 64 → w ≡ noted between s.seat.me.0 e deed → tok < length s.seat.me.0.plans → e.tok ≡ tok → IsNoted (plan_at s.seat.me.0.plans tok) s.cpu.0 e (f (note_at s.notes tok)) → Keeps (set s.notes tok (f (get_or s.notes tok d))) s.cpu w
-keeps_part s w tok e between deed f d room is there is_tok here =
-    let sized = s.sized in
-    let inside : tok < length s.notes = omega arith in
-    let same : get_or s.notes tok d ≡ note_at s.notes tok = get_or_default s.notes tok d no_note inside in
-    let F : TokenNote → Type 0 = λ m. Keeps (set s.notes tok (f m)) s.cpu w in
-    subst F (sym same) (keeps_set s w tok e between deed (f (note_at s.notes tok)) room is there is_tok here)
 
 -- the note that is read of a token that exists
 pub note_read : (s : CpuSeat) (tok : ℕ) (d : TokenNote) → tok < 64 → get_or s.notes tok d ≡ note_at s.notes tok

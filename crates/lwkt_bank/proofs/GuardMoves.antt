@@ -15,10 +15,6 @@ use Rattle.lwkt_bank.specs.Hands.{Has, AreApart, AreSame, IsInHand, AreHands, Ta
 use Rattle.lwkt_bank.proofs.ViewMoves.{at-here, at-else}
 use Rattle.lwkt_bank.proofs.HandMoves.{AreApart-rest, AreApart-more, not_again, to_there, from_there}
 
--- a record and none are two
-not_none : (bytes : List ℕ) → is_some (Some bytes) ≡ true
-not_none bytes = refl
-
 -- an entry as what is in hand sees it
 pub record IsAlike (e e' : TokenEntry) : Type 0 where
   pub held : is_exclusive e'.held ≡ is_exclusive e.held
@@ -191,12 +187,6 @@ front_same tok one other xs ys zs first second = pairs (tok, one) (tok, other) y
 -- a list with this in front is that and its rest
 pub front_whole : (x : ℕ × List ℕ) (ys xs : List (ℕ × List ℕ)) → xs ≡ x ∷ ys → xs ≡ x ∷ rest xs
 front_whole x ys xs is = is ∙ ap (λ (zs : List (ℕ × List ℕ)). x ∷ zs) (sym (ap rest is))
-
-pub rest_same : (tok : ℕ) (one other : List ℕ) (xs ys zs : List (ℕ × List ℕ)) → xs ≡ (tok, one) ∷ ys → xs ≡ (tok, other) ∷ zs → ys ≡ zs
-rest_same tok one other xs ys zs first second = tails (tok, one) (tok, other) ys zs (sym first ∙ second)
-  where
-    tails : (a b : ℕ × List ℕ) (us vs : List (ℕ × List ℕ)) → a ∷ us ≡ b ∷ vs → us ≡ vs
-    tails a b us vs same = cc
 
 -- a seat that holds nothing has no record in hand, and so a new one
 pub new_hands : (v : View) (hands : List (ℕ × List ℕ)) → v.tokens ≡ [] → hands ≡ [] → AreHands v hands

@@ -87,10 +87,6 @@ Knows-seen tok e g is knows = go (eqb e.generation g)
     go true = knows
     go false = record { not_above = omega arith; cells = λ same. All-nil (λ c. slice_get tok.first c.at ≡ Some c.value); records = λ same. All-nil (λ bytes. tok.first_blob ≡ Some bytes); holder = λ held. let h = knows.holder held in (is, h.1, h.2, h.3, h.4) }
 
--- the known cells after a look, where the generation is the one that was known
-pub known-seen : (tok : Token) (e : TokenEntry) (g : ℕ) → g ≡ tok.generation → Knows tok e → All (λ c. slice_get tok.first c.at ≡ Some c.value) (seen e g).known
-known-seen tok e g is knows = (Knows-seen tok e g is knows).cells ((seen-keeps e g).6 ∙ is)
-
 -- an exclusive holding is held
 pub exclusive_held : (h : Held) → is_exclusive h ≡ true → is_held h ≡ true
 exclusive_held Nothing is = is

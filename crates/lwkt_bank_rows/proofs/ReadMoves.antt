@@ -6,9 +6,8 @@ use Rattle.lwkt_base.specs.declared.names.Mode.{Mode}
 use Rattle.lwkt_base.specs.declared.names.Mode.TheVariants.{Exclusive, Shared}
 use Rattle.lwkt_base.specs.declared.holdings.Held.{Held}
 use Rattle.lwkt_base.specs.declared.holdings.Held.TheVariants.{Nothing, Holds}
-use Rattle.lwkt_base.specs.declared.names.Ref.{Ref}
 use Rattle.lwkt_base.specs.declared.sections.Section.{Section}
-use Rattle.lwkt_base.specs.Holding.{Holding, is_held, added, removed, holds_nothing, holding_of, RemovingUndoesAdding}
+use Rattle.lwkt_base.specs.Holding.{Holding, is_held, added, removed, holds_nothing, RemovingUndoesAdding}
 use Rattle.lwkt_table.specs.declared.seats.Deed.{Deed}
 use Rattle.lwkt_bank.specs.declared.views.TokenEntry.{TokenEntry}
 use Rattle.lwkt_bank.specs.declared.views.KnownCell.{KnownCell}
@@ -19,7 +18,6 @@ use Rattle.lwkt_bank.specs.Views.{count_from, generation_in, looked, read, less,
 use Rattle.lwkt_bank.specs.Deeds.{gives_one, reads}
 use Rattle.lwkt_bank.specs.Seats.{BankId, bank_of, tokens_of, entry, holding, references, Changes, Looked, Took, Lost, Stepped, Gave}
 use Rattle.lwkt_bank.specs.Holdings.{TakingAdds, GivingRemoves, OthersKeep, NothingCounts}
-use Rattle.lwkt_bank_rows.specs.Desks.{Sits}
 use Rattle.lwkt_bank_rows.specs.Readings.{IsEmpty, HasRead, IsLaterReading}
 use Rattle.lwkt_bank_rows.proofs.DeskMoves.{looked-held}
 
@@ -137,10 +135,6 @@ fresh_read s0 s1 s2 s3 tok cell generation value earlier was alone given r had =
           sym (first_known r.took.row (entry s0 tok).known had.before cell was had.read (r.took.found.fresh at_word))
           ∙ sym (value_read s0 s1 s2 s3 tok cell generation value alone given r);
     }
-
--- a seat whose list is empty holds nothing
-pub empty_list : (bank : BankId) (s : CpuSeat) (refs : List Ref) → refs ≡ [] → Sits bank s refs → IsEmpty bank s
-empty_list bank s refs none sits = record { of = sits.of; empty = sits.held ∙ ap holding_of none }
 
 -- the first cell of a row is the first that is known of it
 numbered_first : (row : List ℕ) (known : List KnownCell) → row ≢ [] → known ≡ numbered 0 row → (before : List KnownCell) × (known ≡ record { at = 0; value = slice_index row 0 } ∷ before)

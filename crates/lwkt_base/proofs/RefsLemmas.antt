@@ -1,4 +1,4 @@
-use Rattle.std.proofs.Common.{◌+◌, ◌<◌, ◌≤◌, ◌-◌, length, take, get_or, set, inl, inr, ◌≡◌, ◌≢◌, ℕ, true, eqb, List, [], ◌∷◌, ◌++◌, Option, Some, None, refl, ap, sym, ◌∙◌, subst, arith, All, append_assoc, length-append}
+use Rattle.std.proofs.Common.{◌+◌, ◌<◌, ◌≤◌, ◌-◌, length, take, get_or, set, inl, inr, ◌≡◌, ◌≢◌, ℕ, true, eqb, List, [], ◌∷◌, ◌++◌, Option, Some, None, refl, ap, sym, ◌∙◌, subst, arith, All, append_assoc}
 use Rattle.std.specs.Prelude.{find, option_map}
 use Rattle.std.specs.List.{AllByRecursion}
 use Rattle.std.specs.Option.{option_or}
@@ -143,12 +143,6 @@ last_of items n d some within = grind (arith, common_steps)
 pub IsLastTo_read : (items : List Ref) (n : ℕ) (d : Ref) (tok : ℕ) → 0 < n → n ≤ length items → (get_or items (n - 1) d).tok.0 ≡ tok → IsLastTo (take n items) tok
 IsLastTo_read items n d tok some within to = (take (n - 1) items, (get_or items (n - 1) d, (last_of items n d some within, to)))
 
--- the last reference is to another token
-pub not_IsLastTo_read : (items : List Ref) (n : ℕ) (d : Ref) (tok : ℕ) → 0 < n → n ≤ length items → (get_or items (n - 1) d).tok.0 ≢ tok → IsLastTo (take n items) tok → ⊥
-not_IsLastTo_read items n d tok some within other (front, (last, (is, to))) =
-    let e = same_from_push (take (n - 1) items) front (get_or items (n - 1) d) last (sym (last_of items n d some within) ∙ is) in
-    other (ap (λ (r : Ref). r.tok.0) e.1 ∙ to)
-
 -- the two last references are to one token
 pub EndsInOneToken_read : (items : List Ref) (n : ℕ) (d : Ref) → 2 ≤ n → n ≤ length items → (get_or items (n - 1) d).tok.0 ≡ (get_or items (n - 2) d).tok.0 → EndsInOneToken (take n items)
 EndsInOneToken_read items n d two within same = (take (n - 2) items, (get_or items (n - 2) d, (get_or items (n - 1) d, (take_two items n d two within, sym same))))
@@ -163,11 +157,6 @@ not_EndsInOneToken_read items n d two within apart (front, (before, (last, (is, 
     let e = same_from_push (take (n - 2) items ++ a ∷ []) (front ++ before ∷ []) b last joined in
     let f = same_from_push (take (n - 2) items) front a before e.0 in
     apart (ap (λ (r : Ref). r.tok.0) e.1 ∙ sym same ∙ sym (ap (λ (r : Ref). r.tok.0) f.1))
-
--- fewer than two references have no two last
-pub not_EndsInOneToken_short : (refs : List Ref) → length refs < 2 → EndsInOneToken refs → ⊥
-not_EndsInOneToken_short refs short (front, (before, (last, (is, same)))) =
-    let e : length refs ≡ length front + 2 = ap length is ∙ length-append front (before ∷ last ∷ []) in absurd (omega arith)
 
 -- an exchange in the array
 pub AreExchanged_read : (items : List Ref) (n : ℕ) (d : Ref) → 2 ≤ n → n ≤ length items → AreExchanged (take n items) (take n (set (set items (n - 2) (get_or items (n - 1) d)) (n - 1) (get_or items (n - 2) d)))

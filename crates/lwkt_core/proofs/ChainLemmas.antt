@@ -1,7 +1,7 @@
 use Rattle.std.proofs.Common.{◌≡◌, ◌≢◌, ◌⊎◌, inl, inr, ⊎_elim, ℕ, zero, suc, ◌+◌, ◌<◌, ◌≤◌, ◌==◌, Bool, cond, List, [], ◌∷◌, ◌++◌, length, set, get_or, take, All, count_by, refl, ap, sym, ◌∙◌, subst, arith, Option, Some, None, eq-eqb, ne_eqb, get_or-set_same, get_or-set_other}
 use Rattle.std.specs.Prelude.{slice_get, MatchOption, IfSome}
 use Rattle.std.proofs.lemmas.Bool.{cases_eq, cases_order}
-use Rattle.std.proofs.lemmas.List.{take_more, take-take, take_all, length-take-le, length-set, get_or-take, get_or_default, set-get_or}
+use Rattle.std.proofs.lemmas.List.{take_more, take-take, take_all, length-take-le, length-set, get_or-take, get_or_default}
 use Rattle.std.proofs.lemmas.List.Elements.{All-nil, All-cons, All-head, All-tail, All-weaker}
 use Rattle.std.proofs.lemmas.List.Sums.{sum_by-cons}
 use Rattle.std.proofs.lemmas.Option.{slice_get-get_or, slice_get_past}
@@ -419,14 +419,6 @@ set-set (r ∷ rows) (suc t) a b = ap (λ (rs : RowsAt). r ∷ rs) (set-set rows
 pub record IsAlong (first last : RowsAt) (sections : List Section) (tok from index : ℕ) (row : List ℕ) (generation : ℕ) : Type 0 where
   pub gone : GoOn last first (take index sections)
   pub moved : rows_after_all first (take index sections) ≡ set (rows_after_all first (take from sections)) tok (row, generation)
-
--- a chain begins with the token's opening values
-pub along-begin : (first last : RowsAt) (sections : List Section) (tok from : ℕ) (d : List ℕ × ℕ) → tok < length first → IsUpTo first last sections tok from → IsAlong first last sections tok from from (get_or first tok d).0 (get_or first tok d).1
-along-begin first last sections tok from d low come = record {
-  gone = come.gone;
-  moved = (let rows : RowsAt = rows_after_all first (take from sections) in
-      sym (set-get_or rows tok ([], 0)) ∙ ap (λ (r : List ℕ × ℕ). set rows tok r) (come.later tok (omega arith) ∙ get_or_default first tok ([], 0) d low));
-}
 
 -- and goes on with a section
 pub along-next : (first last : RowsAt) (sections : List Section) (tok from index : ℕ) (row : List ℕ) (generation : ℕ) (d : Section) → tok < length first → index < length sections → IsUpTo first last sections tok from → IsAlong first last sections tok from index row generation

@@ -140,10 +140,6 @@ reply_no_take : (i : ℕ) (e : Event) → replies_to_message i e ≡ true → ta
 reply_no_take i (Reply cpu msg) is = refl
 reply_no_take i e is = absurd (false≢true is)
 
-reply_no_send : (i : ℕ) (e : Event) → replies_to_message i e ≡ true → sends_message i e ≡ false
-reply_no_send i (Reply cpu msg) is = refl
-reply_no_send i e is = absurd (false≢true is)
-
 send_no_reap : (i : ℕ) (e : Event) → sends_message i e ≡ true → reaps_or_drops i e ≡ false
 send_no_reap i (Send cpu msg to round) is = refl
 send_no_reap i e is = absurd (false≢true is)

@@ -113,11 +113,6 @@ more_keeps (Holds Shared further) mode held = refl
 held_not_nothing : (held : Held) → is_held held ≡ true → held ≡ Nothing → ⊥
 held_not_nothing held is nothing = false≢true (sym (ap is_held nothing) ∙ is)
 
--- an exclusive holding is held
-exclusive_is_held : (held : Held) → is_exclusive held ≡ true → is_held held ≡ true
-exclusive_is_held Nothing e = e
-exclusive_is_held (Holds mode further) e = refl
-
 -- of an exclusive holding that isn't at its last reference one less is exclusive still
 less_keeps_exclusive : (held : Held) → IsNotLastExclusive held → is_exclusive held ≡ true → is_exclusive (one_less held) ≡ true
 less_keeps_exclusive Nothing may e = absurd may

@@ -1,7 +1,7 @@
 use Rattle.std.proofs.Common.{suc, ◌≡◌, ◌≢◌, ℕ, ◌+◌, ◌*◌, ◌<◌, ◌≤◌, List, [], ◌∷◌, ◌++◌, length, refl, ap, sym, ◌∙◌, subst, arith, inl, inr, length-append}
 use Rattle.std.specs.Prelude.{All, fold, Vec, Result, Ok, Err, OnErr}
 use Rattle.std.specs.declared.alloc.Global.{Global}
-use Rattle.std.proofs.lemmas.List.Elements.{All-nil, All-append, All-from_recursion}
+use Rattle.std.proofs.lemmas.List.Elements.{All-append, All-from_recursion}
 use Rattle.std.proofs.lemmas.List.Sums.{fold-append}
 use Rattle.lwkt_base.specs.declared.asks.Ask.{Ask}
 use Rattle.lwkt_base.specs.declared.asks.Answer.{Answer}
@@ -76,9 +76,6 @@ pub record IsDriven {B : Type 0} (polled : B → Answer → Ask → B → Type 0
   pub few : drove.ran + drove.idle ≤ count
   pub bank_same : bank_of new.seat ≡ bank_of old.seat
   pub table_same : new.post.seat.table ≡ old.post.seat.table
-
-pub driven_none : {B : Type 0} (polled : B → Answer → Ask → B → Type 0) (bank : BankId) (old : Processor B) (t : Vec Event Global) → IsDriven polled bank old old t t none_driven 0
-driven_none polled bank old t = record { turns = []; made = (refl, refl); counts = refl; going = All-nil (λ turned. turned ≢ AllExited); long = refl; few = omega arith; bank_same = refl; table_same = refl }
 
 one_more : (drove : Drove) (turned : Turned) → (with_turn drove turned).ran + (with_turn drove turned).idle ≡ drove.ran + drove.idle + 1
 one_more drove (Ran thread) = omega arith

@@ -55,10 +55,6 @@ settled_none s t none free = record {
   busy = let F : Option BusyAt → Type 0 = λ o. IfSome o (λ r. IsRefusing t.list r.at r.word) in subst F (sym free) tt;
 }
 
-pub found_below : (cursor : ℕ) (x y : Point) (found : Option ℕ) → length x.threads ≤ 16 → FindsThread cursor x y found → IfSome found (λ place. place < 16)
-found_below cursor x y (Some place) few f = omega (arith, few, f.1.1.1.0)
-found_below cursor x y None few f = tt
-
 kept_settled : (a b : CpuSeat) (olds news : List Thread) → bank_of b ≡ bank_of a → Keeps olds news → ((k : ℕ) (t : Thread) → slice_get olds k ≡ Some t → IsSettled a t) → (k : ℕ) (t : Thread) → slice_get news k ≡ Some t → IsSettled b t
 kept_settled a b olds news same keeps settled k t at =
     let x = keeps k t at in

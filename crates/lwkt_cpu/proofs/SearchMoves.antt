@@ -185,9 +185,6 @@ skip_at a b threads t u number old new is empty skips = record { old = old; new 
 skips_keeps : (from to : ℕ) (x y : Point) → SkipsTo from to x y → Keeps x.threads y.threads
 skips_keeps from to x y s = chain_keeps (SkipsFrom from) (λ nth p q step. skip_keeps (from + nth) p q step) (to - from) x y s
 
-skips_long : (from to : ℕ) (x y : Point) → SkipsTo from to x y → length y.threads ≡ length x.threads
-skips_long from to x y s = chain_long (SkipsFrom from) (λ nth p q step. skip_long (from + nth) p q step) (to - from) x y s
-
 -- a thread that can run, and whose list is held
 pub up_at : (s : CpuSeat) (threads : List Thread) (k : ℕ) (t : Thread) → slice_get threads k ≡ Some t → t.phase ≡ Live → holding s ≡ holding_of t.list → HoldsFor s threads (Some k)
 up_at s threads k t is live held = let F : Option Thread → Type 0 = λ o. IsSomeAnd o (λ x. (x.phase ≡ Live) × (holding s ≡ holding_of x.list)) in subst F (sym is) (live, held)

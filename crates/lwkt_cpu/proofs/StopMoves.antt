@@ -5,8 +5,7 @@ use Rattle.std.proofs.lemmas.Bool.{cases_lt, false≢true}
 use Rattle.std.proofs.lemmas.List.{length-set}
 use Rattle.std.proofs.lemmas.Option.{slice_get-get_or}
 use Rattle.lwkt_base.specs.declared.asks.Answer.{Answer}
-use Rattle.lwkt_base.specs.declared.names.Ref.{Ref}
-use Rattle.lwkt_base.specs.Holding.{Holding, holding_of, holds_nothing}
+use Rattle.lwkt_base.specs.Holding.{holding_of, holds_nothing}
 use Rattle.lwkt_core.specs.declared.events.Event.{Event}
 use Rattle.lwkt_bank.specs.declared.seats.CpuSeat.{CpuSeat}
 use Rattle.lwkt_bank.specs.Seats.{bank_of, holding}
@@ -19,7 +18,7 @@ use Rattle.lwkt_msg.specs.Desks.{messages_of}
 use Rattle.lwkt_port.specs.Posts.{Post}
 use Rattle.lwkt_ask.specs.declared.nexts.Next.{Next}
 use Rattle.lwkt_ask.specs.declared.nexts.Next.TheVariants.{Exits}
-use Rattle.lwkt_ask.specs.Nexts.{kept_list, HoldsAfter, unless_broken}
+use Rattle.lwkt_ask.specs.Nexts.{unless_broken}
 use Rattle.lwkt_cpu.specs.declared.phases.Phase.{Phase}
 use Rattle.lwkt_cpu.specs.declared.phases.Phase.TheVariants.{Live, Exited}
 use Rattle.lwkt_cpu.specs.declared.threads.Thread.{Thread}
@@ -107,10 +106,6 @@ rest_stopped s post bodies olds news running cursor none all rest = record {
 }
 
 -- a thread that gave up everything and ends
-pub exit_empty : (next : Next Answer) (blocked : Blocked) (h : Holding) (refs : List Ref) → next ≡ unless_broken Exits blocked → HoldsAfter next h refs → h ≡ holds_nothing
-exit_empty next Clean h refs is held = let F : Next Answer → Type 0 = λ n. HoldsAfter n h refs in subst F is held
-exit_empty next (Restored tok) h refs is held = let F : Next Answer → Type 0 = λ n. HoldsAfter n h refs in subst F is held
-
 pub became_over : (t : Thread) (next : Next Answer) (blocked : Blocked) → next ≡ unless_broken Exits blocked → is_over (became t next).phase ≡ true
 became_over t next Clean is = ap (λ n. is_over (became t n).phase) is
 became_over t next (Restored tok) is = ap (λ n. is_over (became t n).phase) is
@@ -122,10 +117,6 @@ became_empty t next (Restored tok) is = ap (λ n. (became t n).list) is
 pub became_free : (t : Thread) (next : Next Answer) (blocked : Blocked) → next ≡ unless_broken Exits blocked → (became t next).busy ≡ None
 became_free t next Clean is = ap (λ n. (became t n).busy) is
 became_free t next (Restored tok) is = ap (λ n. (became t n).busy) is
-
-kept_empty : (next : Next Answer) (blocked : Blocked) (refs : List Ref) → next ≡ unless_broken Exits blocked → kept_list next refs ≡ []
-kept_empty next Clean refs is = ap (λ n. kept_list n refs) is
-kept_empty next (Restored tok) refs is = ap (λ n. kept_list n refs) is
 
 pub rest_halted : {B : Type 0} (a b : CpuSeat) (post : Post) (bodies : List B) (threads : List Thread) (running : Option ℕ) (cursor place : ℕ) (now : Thread) → IsAtRest (processor_of a post bodies threads running cursor) → place < length threads → bank_of b ≡ bank_of a → b.cpu ≡ a.cpu → is_over now.phase ≡ true → now.list ≡ [] → now.busy ≡ None → holding b ≡ holds_nothing → IsAtRest (processor_of b post bodies (set threads place now) None cursor)
 rest_halted a b post bodies threads running cursor place now rest within same cpu over none free empty = record {

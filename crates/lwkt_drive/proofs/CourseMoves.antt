@@ -233,15 +233,6 @@ pub record IsGoing {B : Type 0} (polled : B → Answer → Ask → B → Type 0)
   pub within : IsBelowLimits limits now.drove
   pub at : IsAtTables bank book now
 
-pub going_none : {B : Type 0} (polled : B → Answer → Ask → B → Type 0) (answers : CpuId → ℕ → Bool → Type 0) (bank : BankId) (book : TableId) (limits : Limits) (d : Driven B) → IsAtTables bank book d → IsBelowLimits limits d.drove → IsGoing polled answers bank book limits d d (d.drove.ran + d.drove.idle)
-going_none polled answers bank book limits d at within = record {
-  under = λ old u. u;
-  total = refl;
-  least = omega arith;
-  within = within;
-  at = at;
-}
-
 pub going_one : {B : Type 0} (polled : B → Answer → Ask → B → Type 0) (answers : CpuId → ℕ → Bool → Type 0) (bank : BankId) (book : TableId) (limits : Limits) (first mid new : Driven B) (turn : ℕ) → IsGoing polled answers bank book limits first mid turn → MakesOne polled answers bank limits turn mid new → IsAtTables bank book new → new.id ≡ mid.id → IsGoing polled answers bank book limits first new (turn + 1)
 going_one polled answers bank book limits first mid new turn g m at same = record {
   under = λ old u. under_more polled answers bank limits old mid new turn g.total (g.under old u) m same;
@@ -291,10 +282,6 @@ so_noted polled answers bank limits old new by ending so = elim so [
   | inl under ↦ inl (under.0, under_noted polled answers bank limits old new by under.1)
   | inr driven ↦ inr (driven_noted polled answers bank limits old new by ending driven)
 ]
-
--- a processor that has ended is left as it is
-pub drives_none : {B : Type 0} (polled : B → Answer → Ask → B → Type 0) (answers : CpuId → ℕ → Bool → Type 0) (bank : BankId) (limits : Limits) (d : Driven B) → (d.ending ≡ NotDriven → ⊥) → DrivesOn polled answers bank limits d d
-drives_none polled answers bank limits d ended = record { so = λ old so. so; more = λ is. absurd (ended is) }
 
 -- one that hasn't goes on
 pub drives_more : {B : Type 0} (polled : B → Answer → Ask → B → Type 0) (answers : CpuId → ℕ → Bool → Type 0) (bank : BankId) (limits : Limits) (mid new : Driven B) (ending : Ending) → mid.ending ≡ NotDriven → GoesTo polled answers bank limits mid new ending → (ending ≡ NotDriven → mid.drove.ran + mid.drove.idle < new.drove.ran + new.drove.idle) → DrivesOn polled answers bank limits mid (record new { ending = ending })

@@ -68,16 +68,7 @@ stays_there_on a b c first next = record {
   graph = next.graph ∙ first.graph;
 }
 
--- a walk whose states stay goes on
-pub goes_there : (bytes : List ℕ) (old new : Walk) → IsWalk bytes old → StaysThere old new → WalkGoesOn bytes old new
-goes_there bytes old new is there =
-    let F : Graph → Type 0 = λ g. length old.graph.nodes.items ≤ length g.nodes.items in
-    record {
-      stays = there.stays;
-      walk = walk_there bytes old new there is;
-      states = subst F (sym there.graph) (omega arith);
-    }
-
+-- a walk that goes on, and goes on again, goes on
 pub goes_on : (bytes : List ℕ) (a b c : Walk) → WalkGoesOn bytes a b → WalkGoesOn bytes b c → WalkGoesOn bytes a c
 goes_on bytes a b c first next = record {
   stays = stays_on a b c first.stays next.stays;

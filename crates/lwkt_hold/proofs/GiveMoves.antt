@@ -1,15 +1,13 @@
-use Rattle.std.proofs.Common.{◌≡◌, ◌≢◌, ◌⊎◌, ℕ, zero, suc, ◌+◌, ◌-◌, ◌<◌, ◌≤◌, Bool, true, false, cond, eqb, List, [], ◌∷◌, ◌++◌, length, take, get_or, refl, ap, sym, ◌∙◌, subst, arith, inl, inr, eq-eqb, append_assoc}
-use Rattle.std.specs.Prelude.{All, filter, Vec, vec_len, vec_capacity, Option, Some, None, slice_get, slice_index}
+use Rattle.std.proofs.Common.{◌≡◌, ◌≢◌, ◌⊎◌, ℕ, zero, suc, ◌+◌, ◌-◌, ◌<◌, ◌≤◌, Bool, true, false, cond, eqb, List, [], ◌∷◌, ◌++◌, length, refl, ap, sym, ◌∙◌, subst, arith, inl, inr, eq-eqb, append_assoc}
+use Rattle.std.specs.Prelude.{All, filter, Vec, vec_len, vec_capacity, Option, Some, None, slice_index}
 use Rattle.std.specs.List.{AllZip, list_any}
 use Rattle.std.specs.declared.alloc.Global.{Global}
 use Rattle.std.proofs.lemmas.List.{append-nil}
 use Rattle.std.proofs.lemmas.List.Elements.{All-append, filter-append, All-from_recursion, All-cons}
-use Rattle.std.proofs.lemmas.Option.{slice_get_within, get_or_from_slice_get}
 use Rattle.lwkt_base.specs.declared.names.CpuId.{CpuId}
 use Rattle.lwkt_base.specs.declared.names.TokId.{TokId}
 use Rattle.lwkt_base.specs.declared.names.Mode.{Mode}
 use Rattle.lwkt_base.specs.declared.names.Mode.TheVariants.{Exclusive, Shared}
-use Rattle.lwkt_base.specs.declared.names.Ref.{Ref}
 use Rattle.lwkt_base.specs.declared.holdings.Held.{Held}
 use Rattle.lwkt_base.specs.declared.holdings.Held.TheVariants.{Nothing, Holds}
 use Rattle.lwkt_base.specs.declared.laws.Law.{Law}
@@ -17,7 +15,7 @@ use Rattle.lwkt_base.specs.declared.laws.Law.TheVariants.{Any, Sum, Order, Cap, 
 use Rattle.lwkt_base.specs.Law.{Obeys}
 use Rattle.lwkt_core.specs.Tokens.{length_of}
 use Rattle.std.proofs.lemmas.Bool.{eqb-true, eqb-false, cases_Bool, false≢true}
-use Rattle.lwkt_base.specs.Holding.{Holding, is_held, is_exclusive, one_more, one_less, added, removed, holding_of}
+use Rattle.lwkt_base.specs.Holding.{Holding, is_held, is_exclusive, one_more, one_less, added, removed}
 use Rattle.lwkt_core.specs.declared.events.Event.{Event}
 use Rattle.lwkt_core.specs.declared.events.Event.TheVariants.{Write, WriteBlob}
 use Rattle.lwkt_core.specs.Events.{cpu_of}
@@ -34,7 +32,6 @@ use Rattle.lwkt_hold.specs.Steps.{is_counted, is_of_token, is_on_word, ShowsEven
 use Rattle.lwkt_hold.specs.Runs.{Moves, Ran}
 use Rattle.lwkt_hold.specs.Rows.{row, first_row, blob, first_blob, is_stored_to, IsUnwritten, MeetsItsLaw, IsBroken, SameRow, SameSection, section_now, write_events, record_write_events, GivesBack, Mends}
 use Rattle.lwkt_hold.specs.Givings.{StoresFirst, RestoresBy}
-use Rattle.lwkt_hold.proofs.HoldingMoves.{holding_of_more}
 use Rattle.lwkt_hold.proofs.RunMoves.{Moves-append, Tells-append, ran_quiet, ran_weaker, holding_kept}
 
 -- stores are no steps on a token word, are by their processor, and keep every holding
@@ -227,13 +224,7 @@ first_load_ran P most s s' tok cell t k = knowing_ran P most s s' tok (first_loa
 pub knowing_kept : (s s' : CpuSeat) (tok : ℕ) (deeds : List Deed) → Knowing s s' tok (entry s tok) deeds → holding s' ≡ holding s
 knowing_kept s s' tok deeds k = holding_kept s s' tok (record (entry s tok) { known = k.known }) deeds k.changes refl
 
--- what the front with the reference of this place holds
-pub held_at : (refs : List Ref) (at : ℕ) (last : Ref) → slice_get refs at ≡ Some last → holding_of (take (at + 1) refs) ≡ added (holding_of (take at refs)) last.tok.0 last.mode
-held_at refs at last got =
-    let within = slice_get_within refs at last got in
-    let is : get_or refs at last ≡ last = get_or_from_slice_get refs at last last got in
-    holding_of_more refs at last within ∙ ap (λ (r : Ref). added (holding_of (take at refs)) r.tok.0 r.mode) is
-
+-- a reference more, where it is to this token
 one_more_here : (b : Bool) (held : Held) (mode : Mode) → b ≡ true → cond b (one_more held mode) held ≡ one_more held mode
 one_more_here true held mode is = refl
 one_more_here false held mode is = cc

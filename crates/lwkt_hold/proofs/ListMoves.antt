@@ -69,14 +69,6 @@ takes_changed s s' tok e made c stays begins = record {
           absurd (false≢true (sym free ∙ sym (ap (λ (x : TokenEntry). is_held x.held) k) ∙ held))
     ]
 
--- nothing was taken
-pub takes_none : (s : CpuSeat) → TakesRows s s
-takes_none s = record {
-  kept = λ tok held. same_from s s tok refl;
-  begun = λ tok free held. absurd (false≢true (sym free ∙ held));
-  records = λ tok free held. absurd (false≢true (sym free ∙ held));
-}
-
 -- something was taken, and then no row and no holding changed
 pub takes_then_same : (a b c : CpuSeat) → TakesRows a b → holding c ≡ holding b → ((tok : ℕ) → SameRow b c tok) → TakesRows a c
 takes_then_same a b c taken kept same = record {
@@ -113,16 +105,6 @@ looked-stands s tok e word stands = looked_if (eqb e.generation (generation_in w
 
 pub stands_now : (s : CpuSeat) (tok : ℕ) → Stands s tok (entry s tok)
 stands_now s tok = record { row_is = refl; first_is = refl; blob_is = refl; first_blob_is = refl }
-
--- a mark leaves every row as it was
-pub stepped_rows : (s s' : CpuSeat) (tok : ℕ) (made : List Deed) → Changes s s' tok (entry s tok) made → (other : ℕ) → SameRow s s' other
-stepped_rows s s' tok made c other = elim (cases_Bool (eqb other tok)) [
-  | inl is ↦
-      let same = eqb-true other tok is in
-      let F : ℕ → Type 0 = λ t. SameRow s s' t in
-      subst F (sym same) (same_from s s' tok c.here)
-  | inr is ↦ same_from s s' other (c.else_ other (eqb-false other tok is))
-]
 
 -- a seat that holds nothing is clean
 pub clean_empty : (s : CpuSeat) → holding s ≡ holds_nothing → IsAllClean s

@@ -1,24 +1,22 @@
 -- What a judge knows after a line.
 use Rattle.std.proofs.Common.{◌≡◌, ◌<◌, ◌≤◌, ℕ, List, length, Bool, true, false, Option, None, Some, Result, Ok, Err, refl, ap, sym, ◌∙◌, subst, lt-ltb}
-use Rattle.std.specs.Prelude.{nat_lt, IfOk, IfErr, MatchOption, String}
+use Rattle.std.specs.Prelude.{IfOk, IfErr, MatchOption, String}
 use Rattle.std.specs.Global.{Global}
 use Rattle.std.specs.Option.{is_some as has_some}
-use Rattle.std.proofs.lemmas.Bool.{le-ltb}
 use Rattle.serde_json.specs.Data.{Data}
 use Rattle.serde_json.specs.Find.{as_object}
 use Rattle.lwkt_base.specs.declared.faults.Fault.{Fault as Refusal}
 use Rattle.lwkt_base.specs.declared.faults.Fault.TheVariants.{Script as ScriptFault, Memory}
 use Rattle.lwkt_core.specs.Machine.{Machine}
-use Rattle.lwkt_script.specs.Outcome.{◌>>=◌, ◌>>◌, part, demand, IsFaultOf as IsRefused}
+use Rattle.lwkt_script.specs.Outcome.{◌>>=◌, ◌>>◌, part, IsFaultOf as IsRefused}
 use Rattle.lwkt_trace.specs.declared.traces.Closing.{Closing}
 use Rattle.lwkt_trace.specs.declared.traces.Told.{Told}
 use Rattle.lwkt_trace.specs.declared.traces.Trace.{Trace}
 use Rattle.lwkt_trace.specs.Format.{closing_at, there}
 use Rattle.lwkt_trace.specs.Words.{event_of}
-use Rattle.lwkt_checker.specs.Judgement.{DeclinesTrace}
 use Rattle.lwkt_checker.specs.declared.judges.Finding.TheVariants.{Lawful, Unlawful}
 use Rattle.lwkt_lines.specs.Line.{value_of}
-use Rattle.lwkt_lines.specs.Format.{opened, event_place, with_told, with_last, with_event, with_closing, with_rest, with_line, next}
+use Rattle.lwkt_lines.specs.Format.{event_place, with_told, with_last, with_event, with_closing, with_rest, with_line, next}
 use Rattle.lwkt_lines.specs.Judged.{StandsWith, OpensTrace, OpensSo, IsJudgedTrace, JudgeKnows, awaits, Judges}
 use Rattle.lwkt_lines.specs.declared.judges.Judge.{Judge}
 use Rattle.lwkt_lines.specs.declared.standings.Standing.{Standing}
@@ -37,30 +35,9 @@ not_closed judge trace knows open_still = none_of trace.last (sym knows.closed �
 pub event_taken : (trace : Trace) (d : Data) (x : Told) → length trace.events < 1000000000000000 → event_of d ≡ Some x → with_event trace d ≡ Ok (with_told trace x)
 event_taken trace d x room is = rw (lt-ltb (length trace.events) 1000000000000000 room) (ap (λ (o : Option Told). part (event_place (length trace.events)) o >>= λ e. Ok (with_told trace e)) is)
 
--- else it is refused at its place
-refused_or : (b : Bool) (place : ℕ) (trace : Trace) → (demand place b >> (part place None >>= λ e. Ok (with_told trace e))) ≡ Err place
-refused_or true place trace = refl
-refused_or false place trace = refl
-
-pub event_none : (trace : Trace) (d : Data) → event_of d ≡ None → with_event trace d ≡ Err (event_place (length trace.events))
-event_none trace d is =
-    ap (λ (o : Option Told). demand (event_place (length trace.events)) (nat_lt (length trace.events) 1000000000000000) >> (part (event_place (length trace.events)) o >>= λ e. Ok (with_told trace e))) is
-    ∙ refused_or (nat_lt (length trace.events) 1000000000000000) (event_place (length trace.events)) trace
-
-pub event_many : (trace : Trace) (d : Data) → 1000000000000000 ≤ length trace.events → with_event trace d ≡ Err (event_place (length trace.events))
-event_many trace d many = rw (le-ltb (length trace.events) 1000000000000000 many) refl
-
 -- closing values
 pub closing_taken : (trace : Trace) (d : Data) (closing : Closing) → closing_at d ≡ Ok closing → with_closing trace d ≡ Ok (with_last trace closing)
 closing_taken trace d closing is = ap (λ (r : Result Closing ℕ). r >>= λ c. Ok (with_last trace c)) is
-
-closing_place : (trace : Trace) (d : Data) (place : ℕ) → closing_at d ≡ Err place → with_closing trace d ≡ Err place
-closing_place trace d place is = ap (λ (r : Result Closing ℕ). r >>= λ c. Ok (with_last trace c)) is
-
-pub closing_refused : (trace : Trace) (d : Data) (fault : Refusal) → IsRefused fault (closing_at d) → IsRefused fault (with_closing trace d)
-closing_refused trace d (ScriptFault place) refused = closing_place trace d place refused
-closing_refused trace d (Memory why) refused = tt
-closing_refused trace d _ refused = absurd refused
 
 -- lines behind the opening
 pub line_closed : (trace : Trace) (line : List ℕ) → has_some trace.last ≡ true → with_line trace line ≡ Err 6
@@ -87,26 +64,6 @@ value_closing trace d is = rw is refl
 
 pub value_event : (trace : Trace) (d : Data) → has_some (as_object d) ≡ false → with_rest trace d ≡ with_event trace d
 value_event trace d is = rw is refl
-
--- the opening
-pub opening_taken : (line : List ℕ) (d : Data) (trace : Trace) → part 0 (value_of line) ≡ Ok d → opened d ≡ Ok trace → next None line ≡ Ok (Some trace)
-opening_taken line d trace is read = ap (λ (r : Result Data ℕ). (r >>= opened) >>= there) is ∙ ap (λ (r : Result Trace ℕ). r >>= there) read
-
-opening_place : (line : List ℕ) (place : ℕ) → part 0 (value_of line) ≡ Err place → next None line ≡ Err place
-opening_place line place is = ap (λ (r : Result Data ℕ). (r >>= opened) >>= there) is
-
-pub opening_unread : (line : List ℕ) (fault : Refusal) → IsRefused fault (part 0 (value_of line)) → IsRefused fault (next None line)
-opening_unread line (ScriptFault place) refused = opening_place line place refused
-opening_unread line (Memory why) refused = tt
-opening_unread line _ refused = absurd refused
-
-opening_bad : (line : List ℕ) (d : Data) (place : ℕ) → part 0 (value_of line) ≡ Ok d → opened d ≡ Err place → next None line ≡ Err place
-opening_bad line d place is read = ap (λ (r : Result Data ℕ). (r >>= opened) >>= there) is ∙ ap (λ (r : Result Trace ℕ). r >>= there) read
-
-pub opening_refused : (line : List ℕ) (d : Data) (fault : Refusal) → part 0 (value_of line) ≡ Ok d → IsRefused fault (opened d) → IsRefused fault (next None line)
-opening_refused line d (ScriptFault place) is refused = opening_bad line d place is refused
-opening_refused line d (Memory why) is refused = tt
-opening_refused line d _ is refused = absurd refused
 
 -- one that knows a trace awaits no opening
 begun_so : (trace : Trace) (standing : Standing) → StandsWith trace standing → awaits standing ≡ false
@@ -168,14 +125,6 @@ finds_lawful judge mid is (Some trace) judged = record { opens = opens_at judge 
 pub finds_unlawful : (judge : Judge) (index : ℕ) (why : String Global) → judge.standing ≡ Fails index why → (told : Option Trace) → Judges judge told → MatchOption told ⊥ (λ trace. IsJudgedTrace trace (Unlawful index why))
 finds_unlawful judge index why is None judged = true_false (awaits judge.standing) judged (ap awaits is)
 finds_unlawful judge index why is (Some trace) judged = record { opens = opens_at judge trace (Fails index why) judged is; found = stands_at judge trace (Fails index why) judged is }
-
-pub finds_declined : (judge : Judge) (fault : Refusal) → judge.standing ≡ Declined fault → (told : Option Trace) → Judges judge told → MatchOption told (fault ≡ ScriptFault 0) (λ trace. DeclinesTrace trace fault)
-finds_declined judge fault is None judged = absurd (true_false (awaits judge.standing) judged (ap awaits is))
-finds_declined judge fault is (Some trace) judged = stands_at judge trace (Declined fault) judged is
-
-pub finds_none : (judge : Judge) → judge.standing ≡ Awaits → (told : Option Trace) → Judges judge told → MatchOption told (ScriptFault 0 ≡ ScriptFault 0) (λ trace. DeclinesTrace trace (ScriptFault 0))
-finds_none judge is None judged = refl
-finds_none judge is (Some trace) judged = absurd (stands_at judge trace Awaits judged is)
 
 -- what a part of a judge's work says of a value, it says of the line that has the value
 pub told_lifts : (r : Result Judge Refusal) (judge : Judge) (read : Trace → Result Trace ℕ) (line : List ℕ) → ((trace : Trace) → JudgeKnows judge trace → (trace.last ≡ None) × (with_line trace line ≡ read trace))

@@ -22,7 +22,6 @@ use Rattle.lwkt_msg.specs.Deeds.{word_step, hands_out}
 use Rattle.lwkt_msg.specs.Steps.{rest_word}
 use Rattle.lwkt_msg.specs.Views.{new_seat, slot_at, spec_at, seat_cpu, who, first_entry, at, noted, handed}
 use Rattle.lwkt_msg.specs.Hands.{IsOwn, IsInHand, AreHands}
-use Rattle.lwkt_msg.specs.Plays.{IsSat}
 use Rattle.lwkt_msg.specs.Desks.{opened_entry, opening_steps, IsHanding, IsClerk}
 use Rattle.lwkt_msg.proofs.Knowing.{at-here, at-else}
 use Rattle.lwkt_msg.proofs.Carrying.{hands_taken}
@@ -128,23 +127,6 @@ handing_other place cpu m h other = record {
   where
     blank : (spec : MsgSpec) → (spec.origin.cpu.0 ≡ cpu.0 → ⊥) → first_entry spec ≡ opened_entry cpu.0 spec
     blank spec apart = rw (ne_eqb spec.origin.cpu.0 cpu.0 apart) refl
-
--- once all records are handed out, the seat is that of its processor
-pub handing_done : (place : Seat Rec View) (cpu : CpuId) → IsHanding cpu (length place.me.0.specs) place → IsSat cpu place
-handing_done place cpu h = record {
-  kind = h.kind;
-  words = h.words;
-  slots = h.slots;
-  few = h.few;
-  cpus = h.cpus;
-  there = h.there;
-  within = h.within;
-  had = λ m within own. ap (λ (x : MessageEntry). x.had) (h.done m within) ∙ has (spec_at place.me.0.specs m) own;
-  hands = h.hands;
-}
-  where
-    has : (spec : MsgSpec) → spec.origin.cpu.0 ≡ cpu.0 → (opened_entry cpu.0 spec).had ≡ true
-    has spec is = rw (eq-eqb spec.origin.cpu.0 cpu.0 is) refl
 
 -- a seat that was just made has no record in hand
 pub handing_fresh : (clerk place : Seat Rec View) (cpu : CpuId) (cpus : ℕ) (specs : List MsgSpec) → IsClerk cpu.0 cpus specs clerk → cpu.0 < cpus → place.table_id ≡ clerk.table_id → place.me ≡ (new_seat clerk.me.0, []) → IsHanding cpu 0 place

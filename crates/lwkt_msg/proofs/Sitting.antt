@@ -88,31 +88,6 @@ pub sat_same : (place place' : Seat Rec View) (cpu : CpuId) (m : ℕ) (between :
     → place'.me.1 ≡ place.me.1 → IsSat cpu place'
 sat_same place place' cpu m between did sat same view_is hands = sat_alike place place' cpu m (at place.me.0 m) between did sat same view_is (record { had = refl; away = refl; taken = refl; got = refl }) hands
 
--- a seat that is the same but for its number is sat on too
-pub sat_moved : (place place' : Seat Rec View) (cpu : CpuId) → IsSat cpu place → place'.table_id ≡ place.table_id → place'.me ≡ place.me → IsSat cpu place'
-sat_moved place place' cpu sat same me =
-    let F : Me Rec View → Type 0 = λ x. AreHands x.0 cpu.0 x.1 in
-    let specs_same = ap (λ (x : Me Rec View). length x.0.specs) me in
-    let cpus_same = ap (λ (x : Me Rec View). x.0.cpus) me in
-    let words_same = ap (λ (z : TableId). z.words) same in
-    let slots_same = ap (λ (z : TableId). z.slots) same in
-    let a = sat.words in
-    let b = sat.slots in
-    let c = sat.few in
-    let d = sat.cpus in
-    let f = sat.there in
-    record {
-      kind = ap (λ (x : Me Rec View). x.0.kind) me ∙ sat.kind;
-      words = omega arith;
-      slots = omega arith;
-      few = omega arith;
-      cpus = omega arith;
-      there = omega arith;
-      within = subst (λ (x : Me Rec View). AreWithin x.0.cpus [] x.0.specs) (sym me) sat.within;
-      had = let H : Me Rec View → Type 0 = λ x. (k : ℕ) → k < length x.0.specs → IsOwn x.0 cpu.0 k → (at x.0 k).had ≡ true in subst H (sym me) sat.had;
-      hands = subst F (sym me) sat.hands;
-    }
-
 -- the front after a record was written there
 pub wrote : (me then : Me Rec View) (slot at_slot : ℕ) (old rec : Rec) (others : List (ℕ × Rec)) → at_slot ≡ slot → me.1 ≡ (slot, old) ∷ others → then ≡ (me.0, (at_slot, rec) ∷ rest me.1) → then ≡ (me.0, (slot, rec) ∷ others)
 wrote me then slot at_slot old rec others same held is =

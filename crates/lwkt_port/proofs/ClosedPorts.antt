@@ -1,5 +1,5 @@
 -- A closed port is cleared, a note at a time.
-use Rattle.std.proofs.Common.{◌≡◌, ℕ, ◌+◌, ◌<◌, true, false, List, [], ◌∷◌, ◌++◌, length, refl, ap, sym, ◌∙◌, subst, arith, append_assoc, length-append, inl, inr, Bool, ◌≤◌}
+use Rattle.std.proofs.Common.{◌≡◌, ℕ, ◌+◌, ◌<◌, true, false, List, [], ◌∷◌, ◌++◌, length, refl, ap, sym, ◌∙◌, subst, arith, append_assoc, length-append, Bool, ◌≤◌}
 use Rattle.std.proofs.lemmas.List.Elements.{All-set}
 use Rattle.std.specs.Prelude.{Vec, vec_len, All, slice_set}
 use Rattle.std.specs.declared.alloc.Global.{Global}
@@ -55,28 +55,9 @@ clearing_more turn r t p r1 t1 p1 r2 t2 p2 note rest s is left clears stands = r
   order = leaving_chains p p1 p2 s.order left.2;
 }
 
--- the first note stays
-pub clearing_stays : (most turn : ℕ) (r : Mailroom) (t : Vec Event Global) (p : Port) (r1 : Mailroom) (t1 : Vec Event Global) (p1 : Port) (r2 : Mailroom) (t2 : Vec Event Global) (note : Note) (rest : List Note)
-    → turn < most → IsClearing turn r t p r1 t1 p1 → queue_of p1 ≡ note ∷ rest → Clears note (work r1 t1) (work r2 t2) true → ClearsQueue most turn (queue_of p) (queue_of p1) (work r t) (work r2 t2)
-clearing_stays most turn r t p r1 t1 p1 r2 t2 note rest within s is clears = record {
-  done = s.notes;
-  between = work r1 t1;
-  queue_is = s.queue_is;
-  as_many = s.as_many;
-  within = omega arith;
-  clears = s.clears;
-  ends = inr (note, rest, is, clears);
-}
-
 -- what was taken off a closed port clears it: none is left, as many were taken off as may be, or the first one stays
 pub cleared : (most turn : ℕ) (p p1 : Port) (w w1 : Work) → p.closed ≡ true → p1.closed ≡ p.closed → ClearsQueue most turn (queue_of p) (queue_of p1) w w1 → LeavesInOrder p p1 → ClearsPort most turn p p1 w w1
 cleared most turn p p1 w w1 closed same clears order = let F : Bool → Type 0 = λ b. ClearsClosed b most turn p p1 w w1 in let all : ClearsClosed true most turn p p1 w w1 = (same ∙ closed, clears, order) in subst F (sym closed) all
-
-pub cleared_empty : (most turn : ℕ) (r : Mailroom) (t : Vec Event Global) (p : Port) (r1 : Mailroom) (t1 : Vec Event Global) (p1 : Port) → turn ≤ most → IsClearing turn r t p r1 t1 p1 → queue_of p1 ≡ [] → ClearsQueue most turn (queue_of p) (queue_of p1) (work r t) (work r1 t1)
-cleared_empty most turn r t p r1 t1 p1 within s none = record { done = s.notes; between = work r1 t1; queue_is = s.queue_is; as_many = s.as_many; within = within; clears = s.clears; ends = inl (inr none, refl) }
-
-pub cleared_most : (most turn : ℕ) (r : Mailroom) (t : Vec Event Global) (p : Port) (r1 : Mailroom) (t1 : Vec Event Global) (p1 : Port) → turn ≡ most → IsClearing turn r t p r1 t1 p1 → ClearsQueue most most (queue_of p) (queue_of p1) (work r t) (work r1 t1)
-cleared_most most turn r t p r1 t1 p1 is s = record { done = s.notes; between = work r1 t1; queue_is = s.queue_is; as_many = s.as_many ∙ is; within = omega arith; clears = s.clears; ends = inl (inl refl, refl) }
 
 -- clearing a port leaves notes that name messages
 pub clears_named : (closed : Bool) (most count n n' : ℕ) (p p' : Port) (w w' : Work) → ClearsClosed closed most count p p' w w' → n' ≡ n → HasNamed n p → HasNamed n' p'

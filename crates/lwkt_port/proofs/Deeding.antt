@@ -1,7 +1,6 @@
 -- What is kept of messages fits the seat after a take, a reap, a send and a reply, and how many messages are away then.
-use Rattle.std.proofs.Common.{◌≡◌, ⊎_elim, ℕ, ◌+◌, ◌<◌, ◌≤◌, Bool, true, false, true≢false, List, length, set, refl, ap, sym, ◌∙◌, subst, arith, rules, length-set}
-use Rattle.std.specs.Prelude.{◌⊎◌, IsSome, None, Option, Vec, vec_len}
-use Rattle.std.specs.declared.alloc.Global.{Global}
+use Rattle.std.proofs.Common.{◌≡◌, ⊎_elim, ℕ, ◌+◌, ◌<◌, ◌≤◌, Bool, true, false, true≢false, List, length, set, refl, ap, sym, ◌∙◌, subst, arith}
+use Rattle.std.specs.Prelude.{◌⊎◌, IsSome, None, Option}
 use Rattle.lwkt_base.specs.declared.faults.Fault.{Fault}
 use Rattle.lwkt_base.specs.declared.faults.Fault.TheVariants.{NotOwner}
 use Rattle.lwkt_base.specs.declared.names.CpuId.{CpuId}
@@ -161,31 +160,3 @@ refused_keeps msg d d' mails fault same why are = ⊎_elim
     (λ (s : (messages_of d ≤ msg.0) × (fault ≡ NotOwner) × (d' ≡ d)). let F : Desk → Type 0 = λ x. AreMails x mails in subst F (sym s.2) are)
     (λ (s : (msg.0 < messages_of d) × IsUnsent (desk_cpu d) d.view d'.view msg.0 fault). unsent_keeps msg d d' mails fault same s.1 are)
     why
-
--- of as many messages something is kept
-pub taken_many : (who : Claim) (note : Note) (answer : Taken) (mails mails' : Vec Mail Global) → mails'.items ≡ mails_taken who note answer mails.items → vec_len mails' ≡ vec_len mails
-taken_many who note answer mails mails' is =
-    let old : vec_len mails ≡ length mails.items = search rules in
-    let new : vec_len mails' ≡ length mails'.items = search rules in
-    new ∙ ap length is ∙ many answer ∙ sym old
-  where
-    many : (t : Taken) → length (mails_taken who note t mails.items) ≡ length mails.items
-    many (taken.Took rec aborted priority) = length-set mails.items note.msg.0 (taken_mail who aborted priority note.round (kept_mail_at mails.items note.msg.0))
-    many taken.Stale = refl
-    many taken.Again = refl
-
-pub reaped_many : (keep : Bool) (note : Note) (answer : Reaped) (mails mails' : Vec Mail Global) → mails'.items ≡ mails_reaped keep note answer mails.items → vec_len mails' ≡ vec_len mails
-reaped_many keep note answer mails mails' is =
-    let old : vec_len mails ≡ length mails.items = search rules in
-    let new : vec_len mails' ≡ length mails'.items = search rules in
-    new ∙ ap length is ∙ many answer ∙ sym old
-  where
-    many : (t : Reaped) → length (mails_reaped keep note t mails.items) ≡ length mails.items
-    many (reaped_.Done rec) = length-set mails.items note.msg.0 (reaped_mail keep rec (kept_mail_at mails.items note.msg.0))
-    many reaped_.Stale = refl
-
-pub put_many : (m : ℕ) (mail : Mail) (mails mails' : Vec Mail Global) → mails'.items ≡ set mails.items m mail → vec_len mails' ≡ vec_len mails
-put_many m mail mails mails' is =
-    let old : vec_len mails ≡ length mails.items = search rules in
-    let new : vec_len mails' ≡ length mails'.items = search rules in
-    new ∙ ap length is ∙ length-set mails.items m mail ∙ sym old

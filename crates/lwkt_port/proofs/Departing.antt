@@ -1,14 +1,13 @@
 -- A thread has ended: what is kept of the messages that it was shown fits the seat still, and its port is in order.
-use Rattle.std.proofs.Common.{◌≡◌, ℕ, ◌+◌, ◌<◌, ◌==◌, Bool, true, false, cond, true≢false, List, length, set, refl, ap, sym, ◌∙◌, subst, arith, length-set, get_or-set_same, get_or-set_other}
+use Rattle.std.proofs.Common.{◌≡◌, ℕ, ◌+◌, ◌<◌, ◌==◌, Bool, true, false, cond, true≢false, List, length, set, refl, ap, sym, ◌∙◌, subst, arith}
 use Rattle.std.specs.Prelude.{slice_index_or, All, IsSome, is_some, Option, Some, None}
 use Rattle.std.proofs.lemmas.List.Elements.{All-set, All-get_or}
-use mathlib.Core.Logic.{dite}
 use native.Mathlib.Decide.{ℕ_discrete}
 use Rattle.lwkt_msg.specs.Desks.{Desk}
 use Rattle.lwkt_port.specs.declared.mails.Mail.{Mail}
 use Rattle.lwkt_port.specs.declared.queues.Port.{Port}
-use Rattle.lwkt_port.specs.Closings.{gone, mail_after_end, gone_mail, OwesGone, IsClosedPort}
-use Rattle.lwkt_port.specs.Mails.{no_kept_mail, kept_mail_at, IsMail, AreMails}
+use Rattle.lwkt_port.specs.Closings.{gone, mail_after_end, OwesGone, IsClosedPort}
+use Rattle.lwkt_port.specs.Mails.{kept_mail_at, IsMail, AreMails}
 use Rattle.lwkt_port.specs.Queues.{HasNamed}
 
 none_some : IsSome {T = ℕ} None → ⊥
@@ -43,15 +42,6 @@ gone_are d thread mails mails' o are = record {
 -- none was looked at yet, and one more
 pub owes_none : (thread : ℕ) (mails : List Mail) → OwesGone thread 0 mails mails
 owes_none thread mails = record { as_many = refl; done = λ m below. absurd (omega (arith, below)); rest = λ m above. refl }
-
-pub owes_more : (thread k : ℕ) (old mails : List Mail) (mail : Mail) → k < length mails → mail ≡ gone_mail thread (kept_mail_at mails k) → OwesGone thread k old mails → OwesGone thread (k + 1) old (set mails k mail)
-owes_more thread k old mails mail there is o = record {
-  as_many = length-set mails k mail ∙ o.as_many;
-  done = λ m below. dite (ℕ_discrete m k)
-      (λ same. ap (λ n. kept_mail_at (set mails k mail) n) same ∙ get_or-set_same mails k mail no_kept_mail there ∙ is ∙ ap (gone_mail thread) (o.rest k (omega arith)) ∙ ap (λ n. gone_mail thread (kept_mail_at old n)) (sym same))
-      (λ apart. get_or-set_other mails k m mail no_kept_mail apart ∙ o.done m (omega (arith, below, apart)));
-  rest = λ m above. get_or-set_other mails k m mail no_kept_mail (λ same. omega (arith, above, same)) ∙ o.rest m (omega (arith, above));
-}
 
 -- the ports after one was closed
 pub closed_named : (n : ℕ) (ports : List Port) (j : ℕ) (old new : Port) → j < length ports → old ≡ slice_index_or ports j old → IsClosedPort old new → All (HasNamed n) ports → All (HasNamed n) (set ports j new)

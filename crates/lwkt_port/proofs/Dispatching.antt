@@ -1,6 +1,6 @@
 -- One line of a processor's lanes changes, and the others stay: for sends and replies.
 use Rattle.std.proofs.Common.{◌≡◌, ℕ, ◌<◌, List, length, refl, ap, sym, subst}
-use Rattle.std.specs.Prelude.{Bool, true, false, All, IfSome, Option, Some, is_some, Result, Ok, Err, OnOk, IfErr, MatchResult, slice_index_or, slice_set}
+use Rattle.std.specs.Prelude.{Bool, true, All, IfSome, Option, Some, is_some, Result, Ok, Err, OnOk, IfErr, MatchResult, slice_index_or, slice_set}
 use Rattle.lwkt_base.specs.declared.faults.Fault.{Fault}
 use Rattle.lwkt_base.specs.declared.faults.Fault.TheVariants.{LaneFull, RoundsOut}
 use Rattle.lwkt_base.specs.declared.names.MsgId.{MsgId}
@@ -41,11 +41,6 @@ not_dispatched (Err e) s lanes old new w w' j may there was is does = refused e 
 pub answered_over : (b : Bool) (msg : MsgId) (error outcome : ℕ) (lanes : List Lane) (old new : Lane) (w w' : Work) (j : ℕ) → j < length lanes → old ≡ slice_index_or lanes j old → j ≡ (kept_mail_at w.mails msg.0).origin.cpu.0 → ReplyMeans msg error outcome old new w w' b → Answers msg error outcome lanes (slice_set lanes j new) w w' b
 answered_over b msg error outcome lanes old new w w' j there was is does = changed Lane (λ x y. ReplyMeans msg error outcome x y w w' b) (kept_mail_at w.mails msg.0).origin.cpu.0 j lanes old new there was is does
 
--- a line keeps what it kept, whether a reply went over it or not
-pub reply_kept : (made : Bool) (msg : MsgId) (error outcome : ℕ) (line line' : Lane) (w w' : Work) → ReplyMeans msg error outcome line line' w w' made → line'.kept ≡ line.kept
-reply_kept true msg error outcome line line' w w' r = r.posted.kept_same
-reply_kept false msg error outcome line line' w w' r = r.0.roomed.kept_same
-
 -- a port of those whose notes name messages
 pub port_named : (n : ℕ) (ports : List Port) (j : ℕ) (old : Port) → j < length ports → old ≡ slice_index_or ports j old → All (HasNamed n) ports → HasNamed n old
 port_named n ports j old there was all = let F : Port → Type 0 = HasNamed n in subst F (sym was) (All-get_or (HasNamed n) ports j old there all)
@@ -53,9 +48,6 @@ port_named n ports j old there was all = let F : Port → Type 0 = HasNamed n in
 -- a shown message is taken
 pub shown_is_taken : (d : Desk) (mails : List Mail) (m thread : ℕ) → AreMails d mails → m < length mails → (kept_mail_at mails m).shown ≡ Some thread → (entry d m).taken ≡ true
 shown_is_taken d mails m thread are there shown = (are.each m there).shown_taken (ap is_some shown)
-
-pub owed_is_taken : (d : Desk) (mails : List Mail) (m error : ℕ) → AreMails d mails → m < length mails → (kept_mail_at mails m).owed ≡ Some error → (entry d m).taken ≡ true
-owed_is_taken d mails m error are there owed = (are.each m there).owed_taken (ap is_some owed)
 
 -- the line to the processor of a message's origin is there
 pub line_is_there : (d : Desk) (mails : List Mail) (m : ℕ) → AreMails d mails → m < length mails → (kept_mail_at mails m).origin.cpu.0 < cpus_of d

@@ -1,22 +1,19 @@
 -- A lane is emptied, a note at a time.
 use Rattle.std.proofs.Common.{◌≡◌, ℕ, ◌+◌, ◌<◌, List, [], ◌∷◌, ◌++◌, length, refl, ap, sym, ◌∙◌, subst, arith, append_assoc, length-append}
 use Rattle.std.proofs.lemmas.List.{append-nil}
-use Rattle.std.specs.Prelude.{Vec, vec_len, Option, Some, None, MatchOption, option_to_list}
-use Rattle.std.specs.declared.alloc.Global.{Global}
+use Rattle.std.specs.Prelude.{Option, Some, None, MatchOption, option_to_list}
 use Rattle.lwkt_base.specs.declared.names.CpuId.{CpuId}
-use Rattle.lwkt_core.specs.declared.events.Event.{Event}
 use Rattle.lwkt_lane.specs.declared.notes.Note.{Note}
 use mathlib.Core.List.{IsPrefix}
 use Rattle.lwkt_lane.specs.Lane.{received, seen_notes, IsSeenGone, in_lane}
 use Rattle.lwkt_msg.specs.Views.{seat_cpu}
-use Rattle.lwkt_msg.specs.Desks.{Desk, desk_cpu}
+use Rattle.lwkt_msg.specs.Desks.{desk_cpu}
 use Rattle.lwkt_port.specs.declared.handlings.Fate.{Fate}
 use Rattle.lwkt_lane.specs.declared.ins.LaneIn.{LaneIn}
 use Rattle.lwkt_port.specs.declared.lines.Lane.{Lane}
 use Rattle.lwkt_port.specs.Intakes.{Desks, desks, Handles, HandlesAll, Pops}
-use Rattle.lwkt_port.specs.declared.mails.Mail.{Mail}
 use Rattle.lwkt_port.specs.Lines.{IsDrained, HasPopped}
-use Rattle.lwkt_port.specs.Works.{Grew, away_count, StandsSo, Standing, KeepsSo, KeepsStanding}
+use Rattle.lwkt_port.specs.Works.{Grew, Standing, KeepsStanding}
 use Rattle.lwkt_port.proofs.Growing.{grew_none, grew_then, same_none, same_then}
 
 abbrev pub desks_at : Standing → Desks
@@ -36,12 +33,6 @@ keeps_then s s' s'' k l =
       room = omega (arith, k.room, l.room);
       away = l.away ∙ k.away;
     }
-
-pub keeps_nothing : (seat : Desk) (mails : Vec Mail Global) (trace : Vec Event Global) → KeepsSo seat mails trace seat mails trace
-keeps_nothing seat mails trace = record { same = same_none seat; len = refl; grown = (0, grew_none (desk_cpu seat) trace); room = omega arith; away = refl }
-
-pub keeps_step : (seat : Desk) (mails : Vec Mail Global) (trace : Vec Event Global) (seat' : Desk) (mails' : Vec Mail Global) (trace' : Vec Event Global) → StandsSo 1 seat mails trace seat' mails' trace' → away_count mails'.items + vec_len trace' ≡ away_count mails.items + vec_len trace → KeepsSo seat mails trace seat' mails' trace'
-keeps_step seat mails trace seat' mails' trace' stands away = record { same = stands.same; len = stands.len; grown = (1, stands.grew); room = stands.grew.room; away = away }
 
 -- one more note was handled
 pub handles_more : (notes : List Note) (note : Note) (how : Fate) (x y z : Desks) → HandlesAll notes x y → Handles note y z (Some how) → HandlesAll (notes ++ note ∷ []) x z
@@ -101,42 +92,6 @@ flow_nothing popped o is = sym (append-nil popped) ∙ ap (λ p. popped ++ optio
 pub popped_so : (o : Option Note) (line : Lane) (into : LaneIn) → MatchOption o (received into ≡ received line.into) (λ note. received into ≡ received line.into ++ note ∷ []) → (o ≡ None → (seen_notes line.into ≡ []) × (seen_notes into ≡ [])) → IsSeenGone o (seen_notes line.into) (seen_notes into) → in_lane into ≡ in_lane line.into → MatchOption o (IsDrained line (record line { into = into })) (λ note. HasPopped note line (record line { into = into }))
 popped_so None line into same none gone lane = record { received_same = same; seen_same = gone; empty = (none refl).1; lane_same = lane; out_same = refl; kept_same = refl }
 popped_so (Some note) line into more none gone lane = record { received_is = more; first = gone; lane_same = lane; out_same = refl; kept_same = refl }
-
--- the lane had no more notes
-pub popped_empty : (most turn : ℕ) (line : Lane) (s : Standing) (line1 : Lane) (s1 : Standing) (line2 : Lane) → turn < most → IsPopping turn line s line1 s1 → IsDrained line1 line2 → Pops most turn line line2 (desks_at s) (desks_at s1)
-popped_empty most turn line s line1 s1 line2 within i d = record {
-  popped = i.popped;
-  done = i.popped;
-  between = desks_at s1;
-  received_is = d.received_same ∙ i.received_is;
-  first = first_same (seen_notes line.into) i.popped (seen_notes line1.into) (seen_notes line2.into) i.first d.seen_same;
-  as_many = i.as_many;
-  within = omega arith;
-  flow = flow_nothing i.popped line2.kept (d.kept_same ∙ i.none);
-  handles = i.handles;
-  last = kept_nothing line2.kept (desks_at s1) (desks_at s1) (d.kept_same ∙ i.none) refl;
-  emptied = λ _ _. d.empty;
-  out_same = d.out_same ∙ i.out_same;
-  lane_same = d.lane_same ∙ i.lane_same;
-}
-
--- as many were popped as are allowed
-pub popped_most : (most turn : ℕ) (line : Lane) (s : Standing) (line1 : Lane) (s1 : Standing) → turn ≡ most → IsPopping turn line s line1 s1 → Pops most most line line1 (desks_at s) (desks_at s1)
-popped_most most turn line s line1 s1 is i = record {
-  popped = i.popped;
-  done = i.popped;
-  between = desks_at s1;
-  received_is = i.received_is;
-  first = i.first;
-  as_many = i.as_many ∙ is;
-  within = omega arith;
-  flow = flow_nothing i.popped line1.kept i.none;
-  handles = i.handles;
-  last = kept_nothing line1.kept (desks_at s1) (desks_at s1) i.none refl;
-  emptied = λ fewer _. absurd (omega arith);
-  out_same = i.out_same;
-  lane_same = i.lane_same;
-}
 
 -- the last note found its port's queue full
 pub popped_full : (most turn : ℕ) (line : Lane) (s : Standing) (line1 : Lane) (s1 : Standing) (line2 line3 : Lane) (s2 : Standing) (note : Note) → turn < most → IsPopping turn line s line1 s1 → HasPopped note line1 line2 → Handles note (desks_at s1) (desks_at s2) None → line3 ≡ record line2 { kept = Some note } → Pops most (turn + 1) line line3 (desks_at s) (desks_at s2)

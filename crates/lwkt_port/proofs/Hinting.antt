@@ -4,12 +4,11 @@ use Rattle.std.proofs.lemmas.Bool.{cases_lt}
 use Rattle.std.proofs.lemmas.List.{set-get_or, get_or_default, get_or_past}
 use Rattle.std.proofs.lemmas.Option.{slice_get-get_or}
 use Rattle.std.proofs.lemmas.List.Elements.{All-set, All-get_or, All-nil, All-cons}
-use Rattle.std.specs.Prelude.{Option, Some, None, Result, Ok, Err, OnOk, IfOk, IfErr, MatchOption, slice_index_or}
+use Rattle.std.specs.Prelude.{Option, Some, None, Result, Ok, Err, MatchOption, slice_index_or}
 use Rattle.lwkt_base.specs.declared.faults.Fault.{Fault}
-use Rattle.lwkt_base.specs.declared.faults.Fault.TheVariants.{NotOwner, LaneFull, RoundsOut, Again}
+use Rattle.lwkt_base.specs.declared.faults.Fault.TheVariants.{Again}
 use Rattle.lwkt_base.specs.declared.asks.Item.{Item}
 use Rattle.lwkt_base.specs.declared.names.CpuId.{CpuId}
-use Rattle.lwkt_base.specs.declared.names.MsgId.{MsgId}
 use Rattle.lwkt_base.specs.declared.names.ThreadId.{ThreadId}
 use Rattle.lwkt_base.specs.declared.records.Rec.{Rec}
 use Rattle.lwkt_lane.specs.declared.notes.Note.{Note}
@@ -20,7 +19,6 @@ use Rattle.lwkt_msg.specs.declared.answers.Taken.TheVariants as taken
 use Rattle.lwkt_msg.specs.declared.answers.Reaped.{Reaped}
 use Rattle.lwkt_msg.specs.declared.answers.Reaped.TheVariants as reaped_
 use Rattle.lwkt_port.specs.declared.deeds.Claim.TheVariants as claim
-use Rattle.lwkt_port.specs.declared.deeds.Sending.{Sending}
 use Rattle.lwkt_port.specs.declared.gets.Served.{Served}
 use Rattle.lwkt_port.specs.declared.gets.Served.TheVariants as served
 use Rattle.lwkt_port.specs.declared.handlings.Fate.{Fate}
@@ -36,9 +34,7 @@ use Rattle.lwkt_port.specs.Mails.{no_kept_mail, kept_mail_at}
 use Rattle.lwkt_port.specs.Openings.{new_mail, AreNew}
 use Rattle.lwkt_port.specs.Queues.{queue_of}
 use Rattle.lwkt_port.proofs.Classing.{leaves_none}
-use Rattle.lwkt_port.specs.Sendings.{WhyUnsent, HasSentNote, ReplyMeans, Answers}
 use Rattle.lwkt_port.specs.Servings.{served_request, ServesAs, Serves, GetMeans}
-use Rattle.lwkt_port.specs.Withdrawals.{MayRefuseDrop, Drops, IsUntouched}
 use Rattle.lwkt_port.specs.Works.{Work}
 
 -- where no reply is owed, none is owed to the message of any number
@@ -58,9 +54,6 @@ owes_is mails mails' m mail same is none = let F : List Mail → Type 0 = OwesNo
 
 owes_same : (mails mails' : List Mail) → mails' ≡ mails → OwesNone mails → OwesNone mails'
 owes_same mails mails' is none = let F : List Mail → Type 0 = OwesNone in subst F (sym is) none
-
-clear_same : (ports ports' : List Port) → ports' ≡ ports → AreClear ports → AreClear ports'
-clear_same ports ports' is all = let F : List Port → Type 0 = AreClear in subst F (sym is) all
 
 -- one port is another, which has nothing to clear if the first had nothing
 pub clear_put : (ports : List Port) (j : ℕ) (old new : Port) → j < length ports → old ≡ slice_index_or ports j old → (IsClear old → IsClear new) → AreClear ports → AreClear (set ports j new)
@@ -100,29 +93,6 @@ serves_as_owe Answer thread note w w' outcome shown s none = reaps_owe false not
 pub serves_owe : (thread : ℕ) (note : Note) (w w' : Work) (outcome : Served) → outcome ≢ served.Passed → Serves thread note w w' outcome → OwesNone w.mails → OwesNone w'.mails
 serves_owe thread note w w' outcome shown s none = serves_as_owe note.kind thread note w w' outcome shown s none
 
--- replies, sends and drops
-reply_owes : (msg : MsgId) (error outcome : ℕ) (line line' : Lane) (w w' : Work) (made : Bool) → ReplyMeans msg error outcome line line' w w' made → OwesNone w.mails → OwesNone w'.mails
-reply_owes msg error outcome line line' w w' true r none =
-    let F : List Mail → Type 0 = OwesNone in subst F (sym r.replies.mails_are) (All-set IsUnowed w.mails msg.0 _ refl none)
-reply_owes msg error outcome line line' w w' false r none = owes_same w.mails w'.mails (ap (λ (v : Work). v.mails) r.1) none
-
-pub answers_owe : (msg : MsgId) (error outcome : ℕ) (lanes lanes' : List Lane) (w w' : Work) (made : Bool) → Answers msg error outcome lanes lanes' w w' made → OwesNone w.mails → OwesNone w'.mails
-answers_owe msg error outcome lanes lanes' w w' made a none = reply_owes msg error outcome a.old a.new w w' made a.does none
-
-unsent_owes : (s : Sending) (lanes lanes' : List Lane) (w w' : Work) (fault : Fault) → WhyUnsent s lanes lanes' w w' fault → OwesNone w.mails → OwesNone w'.mails
-unsent_owes s lanes lanes' w w' NotOwner r none = owes_same w.mails w'.mails (ap (λ (v : Work). v.mails) r.2) none
-unsent_owes s lanes lanes' w w' LaneFull r none = owes_same w.mails w'.mails (ap (λ (v : Work). v.mails) r.1.does.1) none
-unsent_owes s lanes lanes' w w' RoundsOut r none = owes_same w.mails w'.mails r.1.does.2.mails_same none
-unsent_owes s lanes lanes' w w' _ r none = absurd r
-
-pub dispatch_owes : (s : Sending) (lanes lanes' : List Lane) (w w' : Work) (answer : Result (Unit {0}) Fault) → OnOk answer (HasSentNote s lanes lanes' w w') → IfErr answer (λ fault. WhyUnsent s lanes lanes' w w' fault) → OwesNone w.mails → OwesNone w'.mails
-dispatch_owes s lanes lanes' w w' (Ok x) sent refused none = owes_is w.mails w'.mails s.msg.0 _ refl sent.over.does.sends.mails_are none
-dispatch_owes s lanes lanes' w w' (Err fault) sent refused none = unsent_owes s lanes lanes' w w' fault refused none
-
-pub withdraw_owes : (msg : MsgId) (w w' : Work) (answer : Result Rec Fault) → IfOk answer (λ rec. Drops msg w w' rec) → IfErr answer (λ fault. MayRefuseDrop fault × IsUntouched msg w w' fault) → OwesNone w.mails → OwesNone w'.mails
-withdraw_owes msg w w' (Ok rec) made refused none = owes_is w.mails w'.mails msg.0 _ refl made.mails_are none
-withdraw_owes msg w w' (Err fault) made refused none = owes_same w.mails w'.mails refused.1.mails_same none
-
 -- what each step of a chain keeps, the chain keeps
 pub chain_keeps : (A : Type 0) (Step : ℕ → A → A → Type 0) (P : A → Type 0) → ((k : ℕ) (x y : A) → Step k x y → P x → P y) → (k : ℕ) (x y : A) → Chain A Step k x y → P x → P y
 unfolding Chain
@@ -130,12 +100,6 @@ chain_keeps A Step P each zero x y chain is = subst P (sym chain) is
 chain_keeps A Step P each (suc k) x y chain is = each k chain.0 y chain.2 (chain_keeps A Step P each k x chain.0 chain.1 is)
 
 -- nothing is owed: no reply is made
-unowed_pays : (owed : Option ℕ) (m : ℕ) (x y : Payer) → owed ≡ None → PaysOwed owed m x y → y ≡ x
-unowed_pays owed m x y none p = let F : Option ℕ → Type 0 = λ o. PaysOwed o m x y in let q : PaysOwed None m x y = subst F none p in q
-
-pays_owe : (m : ℕ) (x y : Payer) → Pays m x y → OwesNone x.work.mails → OwesNone y.work.mails
-pays_owe m x y p none = owes_same x.work.mails y.work.mails (ap (λ (z : Payer). z.work.mails) (unowed_pays (kept_mail_at x.work.mails m).owed m x y (owed_at x.work.mails m none) p)) none
-
 pub pays_none : (k : ℕ) (x : Payer) → OwesNone x.work.mails → Chain Payer Pays k x x
 unfolding Chain
 pays_none zero x none = refl

@@ -78,9 +78,6 @@ fronted limit sender w ports before lanes old new there was found same chain = r
   as_many = omega (arith, length-set lanes sender new, same);
 }
 
-pub front_there : (limit first : ℕ) (w : Work) (ports : List Port) (before now : List Lane) → IsFronted limit first w ports before now → first < length now
-front_there limit first w ports before now f = omega (arith, f.found.there, length-set f.passed first f.found.new, ap length f.found.now)
-
 -- emptying a lane that was looked at is emptying it
 looked_empties : (most count : ℕ) (line0 line1 line2 : Lane) (x y : Desks) → IsLineLooked line0 line1 → Empties most count line1 line2 x y → Empties most count line0 line2 x y
 looked_empties most count line0 line1 line2 x y l e =

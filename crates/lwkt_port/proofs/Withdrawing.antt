@@ -1,14 +1,13 @@
 -- Drops and requests to abort: what is kept of messages fits the seat again, and why each refusal came.
 use Rattle.std.proofs.Common.{inl, inr, ◌≡◌, ℕ, ◌<◌, ◌≤◌, Bool, true≢false, List, length, set, refl, ap, sym, ◌∙◌, subst, arith}
-use Rattle.std.specs.Prelude.{◌⊎◌, Result, Ok, Err, IfOk, MatchResult, Vec}
-use Rattle.std.specs.declared.alloc.Global.{Global}
+use Rattle.std.specs.Prelude.{◌⊎◌, Result, Ok, Err, IfOk, MatchResult}
 use Rattle.lwkt_base.specs.declared.faults.Fault.{Fault}
 use Rattle.lwkt_base.specs.declared.faults.Fault.TheVariants.{NotOwner}
 use Rattle.lwkt_base.specs.declared.message_words.MsgWord.{MsgWord}
 use Rattle.lwkt_base.specs.declared.names.MsgId.{MsgId}
 use Rattle.lwkt_base.specs.declared.records.Rec.{Rec}
 use Rattle.lwkt_core.specs.declared.events.Event.{Event}
-use Rattle.lwkt_msg.specs.Calls.{IsLoaded, ForbidsAbort, ForbidsDrop, HasRequested, IsUnrequested, HasDropped, IsUndropped, HasLostDrop, IsToldRequest}
+use Rattle.lwkt_msg.specs.Calls.{IsLoaded, ForbidsAbort, ForbidsDrop, HasRequested, IsUnrequested, HasDropped, IsUndropped, HasLostDrop}
 use Rattle.lwkt_msg.specs.Desks.{Desk, desk_cpu, messages_of, entry, IsSameDesk}
 use Rattle.lwkt_msg.specs.Hands.{IsOwn}
 use Rattle.lwkt_msg.specs.Views.{spec_at}
@@ -16,12 +15,8 @@ use Rattle.lwkt_port.specs.declared.mails.Mail.{Mail}
 use Rattle.lwkt_port.specs.Mails.{kept_mail_at, IsMail, AreMails}
 use Rattle.lwkt_port.specs.Posts.{Post}
 use Rattle.lwkt_port.specs.Sendings.{IsShownTo}
-use Rattle.lwkt_port.specs.Withdrawals.{IsOwnOf, MayRefuseAbort, MayRefuseDrop, dropped_mail, IsHeard, PostHears, PostUnasked, PostRefusesAbort, PostUntouched, PostRefusesDrop}
+use Rattle.lwkt_port.specs.Withdrawals.{MayRefuseAbort, MayRefuseDrop, dropped_mail, IsHeard, PostHears}
 use Rattle.lwkt_port.proofs.Keeping.{own_still, there_still, all_still, all_put}
-
--- a thread's own message is its processor's
-pub own_message : (d : Desk) (mails : List Mail) (thread : ℕ) (msg : MsgId) → AreMails d mails → IsOwnOf thread msg d mails → IsOwn d.view (desk_cpu d).0 msg.0
-own_message d mails thread msg are own = ap (λ o. o.cpu.0) (sym (are.each msg.0 own.0).origin_is ∙ own.1)
 
 -- the word of an own message shows this processor as its origin
 own_origin : (d : Desk) (m : ℕ) (w : MsgWord) → IsLoaded d.view m w → IsOwn d.view (desk_cpu d).0 m → w.origin ≡ desk_cpu d
@@ -48,9 +43,6 @@ pub unrequested_keeps : (d d' : Desk) (mails : List Mail) (msg : MsgId) (fault :
 unrequested_keeps d d' mails msg fault same why are =
     let does = why.looked_at.does in
     all_still d d' msg.0 mails same does.else_same (ap (λ e. e.away) does.here) (ap (λ e. e.taken) does.here) are
-
-pub unrequested_for : (d d' : Desk) (msg : MsgId) (fault : Fault) → IsOwn d.view (desk_cpu d).0 msg.0 → IsUnrequested (desk_cpu d) d.view d'.view msg.0 fault → MayRefuseAbort fault
-unrequested_for d d' msg fault own why = may_ask d msg.0 why.found fault why.looked_at.loaded own why.why
 
 -- after a drop, made or refused
 pub dropped_keeps : (d d' : Desk) (mails mails' : List Mail) (msg : MsgId) (rec : Rec) → IsSameDesk d d' → HasDropped (desk_cpu d) d.view d'.view msg.0 rec → mails' ≡ set mails msg.0 (dropped_mail (kept_mail_at mails msg.0)) → msg.0 < length mails → AreMails d mails → AreMails d' mails'
@@ -80,25 +72,6 @@ untouched_for d d' msg fault own why = elim why [
   | inl looked ↦ may_drop d msg.0 looked.found fault looked.looked_at.loaded own looked.why
   | inr lost ↦ inl lost.is
 ]
-
--- after a look for a request
-pub heard_keeps : (d d' : Desk) (mails : List Mail) (msg : MsgId) (aborted : Bool) → IsSameDesk d d' → IsToldRequest d.view d'.view msg.0 aborted → AreMails d mails → AreMails d' mails
-heard_keeps d d' mails msg aborted same means are =
-    let does = means.looked_at.does in
-    all_still d d' msg.0 mails same does.else_same (ap (λ e. e.away) does.here) (ap (λ e. e.taken) does.here) are
-
--- why a thread's call was refused
-pub refuses_abort : (thread : ℕ) (msg : MsgId) (p p' : Post) (t t' : Vec Event Global) (fault : Fault) → MayRefuseAbort fault → PostUnasked thread msg p p' t t' fault → PostRefusesAbort thread msg p p' t t' fault
-refuses_abort thread msg p p' t t' fault may un =
-    let F : Fault → Type 0 = λ f. PostUnasked thread msg p p' t t' f in
-    let G : Fault → Type 0 = λ f. PostRefusesAbort thread msg p p' t t' f in
-    elim may [ inl is ↦ subst G (sym is) (subst F is un) | inr is ↦ subst G (sym is) (subst F is un) ]
-
-pub refuses_drop : (thread : ℕ) (msg : MsgId) (p p' : Post) (t t' : Vec Event Global) (fault : Fault) → MayRefuseDrop fault → PostUntouched thread msg p p' t t' fault → PostRefusesDrop thread msg p p' t t' fault
-refuses_drop thread msg p p' t t' fault may un =
-    let F : Fault → Type 0 = λ f. PostUntouched thread msg p p' t t' f in
-    let G : Fault → Type 0 = λ f. PostRefusesDrop thread msg p p' t t' f in
-    elim may [ inl is ↦ subst G (sym is) (subst F is un) | inr is ↦ subst G (sym is) (subst F is un) ]
 
 -- of what the book tells of a refusal, the part on a message that is there
 pub there_of : {B : Type 0} (fault : Fault) (d d' : Desk) (mails : List Mail) (m : ℕ) → AreMails d mails → m < length mails → ((messages_of d ≤ m) × (fault ≡ NotOwner) × (d' ≡ d)) ⊎ ((m < messages_of d) × B) → B

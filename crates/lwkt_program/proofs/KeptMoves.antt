@@ -1,6 +1,6 @@
 -- What each poll of a body keeps is kept by turns, and by drives.
 use Rattle.std.proofs.Common.{◌≡◌, ◌<◌, ℕ, List, [], ◌∷◌, length, sym, subst}
-use Rattle.std.specs.Prelude.{Bool, Vec, All, Option, Some, None, Result, Ok, Err, IfOk, OnOk, OnErr}
+use Rattle.std.specs.Prelude.{Bool, Vec, All, Option, Some, None}
 use Rattle.std.specs.List.{AllZip}
 use Rattle.std.specs.declared.alloc.Global.{Global}
 use Rattle.std.proofs.lemmas.List.Elements.{All-cons, All-head, All-tail, All-get_or, All-set}
@@ -8,15 +8,13 @@ use Rattle.std.proofs.lemmas.Option.{slice_get_within, get_or_from_slice_get}
 use Rattle.lwkt_base.specs.declared.names.CpuId.{CpuId}
 use Rattle.lwkt_base.specs.declared.asks.Ask.{Ask}
 use Rattle.lwkt_base.specs.declared.asks.Answer.{Answer}
-use Rattle.lwkt_base.specs.declared.faults.Fault.{Fault}
 use Rattle.lwkt_core.specs.declared.events.Event.{Event}
 use Rattle.lwkt_bank.specs.Seats.{BankId}
 use Rattle.lwkt_cpu.specs.declared.answers.Turned.{Turned}
 use Rattle.lwkt_cpu.specs.declared.answers.Turned.TheVariants.{Ran, Idle, AllExited}
 use Rattle.lwkt_cpu.specs.Processors.{Processor}
-use Rattle.lwkt_cpu.specs.Turning.{Chooses, RunsOne, Turns, HasSameEvents, MakesTurn}
+use Rattle.lwkt_cpu.specs.Turning.{Chooses, RunsOne, Turns, MakesTurn}
 use Rattle.lwkt_cpu.specs.Driving.{Made}
-use Rattle.lwkt_cpu.specs.Stopping.{Stops}
 use Rattle.lwkt_drive.specs.declared.driven.Driven.{Driven}
 use Rattle.lwkt_drive.specs.declared.driven.Limits.{Limits}
 use Rattle.lwkt_drive.specs.Course.{IsDriven}
@@ -58,22 +56,6 @@ pub kept_turn : {B : Type 0} (polled : B → Answer → Ask → B → Type 0) (k
 kept_turn {B} polled kept keeps bank old new t u turned turn before =
     let F : List B → Type 0 = λ bodies. All kept bodies in
     kept_turns polled kept keeps bank turn.mid new turn.v u turned turn.turns (subst F (sym turn.mail.bodies) before)
-
--- so does one that may be refused
-pub kept_either : {B : Type 0} (polled : B → Answer → Ask → B → Type 0) (kept : B → Type 0) → Keeps polled kept → (bank : BankId) (old new : Processor B) (t u : Vec Event Global) (r : Result Turned Fault) → IfOk r (λ turned. MakesTurn polled bank old new t u turned) → OnErr r ((new ≡ old) × HasSameEvents t u) → Has kept old → Has kept new
-kept_either polled kept keeps bank old new t u (Ok turned) ok err before = kept_turn polled kept keeps bank old new t u turned ok before
-kept_either {B} polled kept keeps bank old new t u (Err fault) ok err before =
-    let F : Processor B → Type 0 = λ p. Has kept p in
-    subst F (sym err.0) before
-
--- so does a stop, which may be refused
-pub kept_stopped : {B : Type 0} (kept : B → Type 0) (old new : Processor B) (t u : Vec Event Global) (r : Result (Unit {0}) Fault) → OnOk r (Stops old new t u) → OnErr r ((new ≡ old) × HasSameEvents t u) → Has kept old → Has kept new
-kept_stopped {B} kept old new t u (Ok done) ok err before =
-    let F : List B → Type 0 = λ bodies. All kept bodies in
-    subst F (sym ok.bodies) before
-kept_stopped {B} kept old new t u (Err fault) ok err before =
-    let F : Processor B → Type 0 = λ p. Has kept p in
-    subst F (sym err.0) before
 
 -- so do turns one after the other
 pub kept_made : {B : Type 0} (polled : B → Answer → Ask → B → Type 0) (kept : B → Type 0) → Keeps polled kept → (bank : BankId) (old new : Processor B) (t u : Vec Event Global) (turns : List Turned) → Made polled bank old new t u turns → Has kept old → Has kept new

@@ -8,9 +8,6 @@ use Rattle.lwkt_lane.proofs.PlaceMoves.{get_set_same, get_set_other, get_there, 
 use Rattle.lwkt_drive.specs.declared.driven.Driven.{Driven}
 use Rattle.lwkt_program.specs.Ended.{IsStopped, HaveStopped, AreStopped, AreOver}
 
-pub stopped_none : {B : Type 0} (cpus : List (Driven B)) → HaveStopped 0 cpus cpus
-stopped_none cpus = record { as_many = refl; below = λ k p q less was is. absurd (omega (arith, less)); above = λ k more. refl }
-
 -- the next one stops
 pub stopped_more : {B : Type 0} (olds mids : List (Driven B)) (at : ℕ) (p q : Driven B) → at < length mids → slice_get mids at ≡ Some p → IsStopped p q → HaveStopped at olds mids → HaveStopped (at + 1) olds (set mids at q)
 stopped_more {B} olds mids at p q within here stops so_far = record {

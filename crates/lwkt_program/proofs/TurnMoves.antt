@@ -1,14 +1,14 @@
 -- Turns and rounds, one after another.
-use Rattle.std.proofs.Common.{◌≡◌, ◌≢◌, ◌⊎◌, ◌∙◌, ℕ, ◌+◌, ◌<◌, List, [], ◌∷◌, ◌++◌, length, length-append, refl, ap, sym, subst, inl, inr, arith}
+use Rattle.std.proofs.Common.{◌≡◌, ◌≢◌, ◌⊎◌, ◌∙◌, ℕ, ◌+◌, ◌<◌, List, [], ◌∷◌, ◌++◌, length, length-append, refl, ap, subst, inl, inr, arith}
 use Rattle.std.specs.Prelude.{Bool, true, false, All, Result, Ok, Err, OnErr}
-use Rattle.std.proofs.lemmas.List.Elements.{All-nil, All-push}
+use Rattle.std.proofs.lemmas.List.Elements.{All-push}
 use Rattle.lwkt_base.specs.declared.asks.Ask.{Ask}
 use Rattle.lwkt_base.specs.declared.asks.Answer.{Answer}
 use Rattle.lwkt_bank.specs.Seats.{BankId}
 use Rattle.lwkt_cpu.specs.declared.answers.Turned.{Turned}
 use Rattle.lwkt_cpu.specs.declared.answers.Turned.TheVariants.{AllExited}
 use Rattle.lwkt_drive.specs.declared.driven.Driven.{Driven}
-use Rattle.lwkt_program.specs.Turns.{DoesAt, StaysPut, TurnsAt, TurnsFrom, MakesRound, MakesRounds, MakesRoundShort, IsOver, Runs, RunsShort}
+use Rattle.lwkt_program.specs.Turns.{TurnsAt, TurnsFrom, MakesRound, MakesRounds, IsOver, Runs}
 use Rattle.lwkt_program.proofs.ListMoves.{all_front, all_last}
 
 -- one turn more
@@ -32,16 +32,6 @@ pub record IsTurning {B : Type 0} (polled : B → Answer → Ask → B → Type 
   pub no : over ≡ false → ¬ IsOver turns
   pub as_many : length news ≡ length olds
 
-pub turning_none : {B : Type 0} (polled : B → Answer → Ask → B → Type 0) (bank : BankId) (olds : List (Driven B)) → IsTurning polled bank olds olds 0 true
-turning_none polled bank olds = record {
-  turns = [];
-  long = refl;
-  made = refl;
-  yes = λ is. All-nil (λ turned. turned ≡ AllExited);
-  no = λ is. absurd cc;
-  as_many = refl;
-}
-
 pub turning_more : {B : Type 0} (polled : B → Answer → Ask → B → Type 0) (bank : BankId) (olds mids news : List (Driven B)) (count : ℕ) (over now : Bool) (turned : Turned) → IsTurning polled bank olds mids count over → TurnsAt polled bank count mids news turned → (now ≡ true → (over ≡ true) × (turned ≡ AllExited)) → (now ≡ false → (over ≡ false) ⊎ (turned ≢ AllExited)) → length news ≡ length mids → IsTurning polled bank olds news (count + 1) now
 turning_more polled bank olds mids news count over now turned so_far one when unless many =
     let G : ℕ → Type 0 = λ n. TurnsAt polled bank n mids news turned in
@@ -57,16 +47,6 @@ turning_more polled bank olds mids news count over now turned so_far one when un
       ];
       as_many = many ∙ so_far.as_many;
     }
-
--- a whole round
-pub turned_all : {B : Type 0} (polled : B → Answer → Ask → B → Type 0) (bank : BankId) (olds news : List (Driven B)) (count : ℕ) (over : Bool) → count ≡ length olds → IsTurning polled bank olds news count over → (turns : List Turned) × (MakesRound polled bank olds news turns × (over ≡ true → IsOver turns) × (over ≡ false → ¬ IsOver turns))
-turned_all polled bank olds news count over all so_far = (so_far.turns, (record { as_many = so_far.long ∙ all; made = so_far.made }, so_far.yes, so_far.no))
-
--- a round up to a turn that is refused
-pub turned_short : {B : Type 0} (polled : B → Answer → Ask → B → Type 0) (bank : BankId) (olds mids news : List (Driven B)) (count : ℕ) (over : Bool) → IsTurning polled bank olds mids count over → DoesAt StaysPut count mids news → MakesRoundShort polled bank olds news
-turned_short {B} polled bank olds mids news count over so_far stays =
-    let G : ℕ → Type 0 = λ n. DoesAt StaysPut n mids news in
-    record { turns = so_far.turns; mids = mids; made = so_far.made; stays = subst G (sym so_far.long) stays }
 
 -- one round more
 pub rounds_more : {B : Type 0} (polled : B → Answer → Ask → B → Type 0) (bank : BankId) (olds mids news : List (Driven B)) (rounds : List (List Turned)) (round : List Turned) → MakesRounds polled bank olds mids rounds → MakesRound polled bank mids news round → MakesRounds polled bank olds news (rounds ++ round ∷ [])
@@ -84,9 +64,6 @@ pub record IsRunning {B : Type 0} (polled : B → Answer → Ask → B → Type 
   pub going : All (λ round. ¬ IsOver round) rounds
   pub as_many : length news ≡ length olds
 
-pub running_none : {B : Type 0} (polled : B → Answer → Ask → B → Type 0) (bank : BankId) (olds : List (Driven B)) → IsRunning polled bank olds olds 0
-running_none polled bank olds = record { rounds = []; long = refl; made = refl; going = All-nil (λ round. ¬ IsOver round); as_many = refl }
-
 -- what a round of these processors came to
 abbrev pub Rounded : {B : Type 0} → (B → Answer → Ask → B → Type 0) → BankId → List (Driven B) → List (Driven B) → Bool → Type 0
 Rounded polled bank olds news over = (turns : List Turned) × (MakesRound polled bank olds news turns × (over ≡ true → IsOver turns) × (over ≡ false → ¬ IsOver turns))
@@ -100,9 +77,6 @@ running_more polled bank olds mids news count over is so_far one many = record {
   as_many = many ∙ so_far.as_many;
 }
 
-pub runs_all : {B : Type 0} (polled : B → Answer → Ask → B → Type 0) (bank : BankId) (olds news : List (Driven B)) (count limit : ℕ) → count ≡ limit → IsRunning polled bank olds news count → Runs polled bank limit olds news
-runs_all polled bank olds news count limit all so_far = record { rounds = so_far.rounds; made = so_far.made; stops = inl (so_far.going, so_far.long ∙ all) }
-
 pub runs_over : {B : Type 0} (polled : B → Answer → Ask → B → Type 0) (bank : BankId) (olds mids news : List (Driven B)) (count limit : ℕ) (over : Bool) → over ≡ true → count < limit → IsRunning polled bank olds mids count → Rounded polled bank mids news over → Runs polled bank limit olds news
 runs_over polled bank olds mids news count limit over is less so_far one =
     let more = length-append so_far.rounds (one.0 ∷ []) in
@@ -111,16 +85,6 @@ runs_over polled bank olds mids news count limit over is less so_far one =
       made = rounds_more polled bank olds mids news so_far.rounds one.0 so_far.made one.1.0;
       stops = inr (so_far.rounds, (one.0, (so_far.going, one.1.1 is, refl, omega (arith, more, less, so_far.long))));
     }
-
-pub runs_short : {B : Type 0} (polled : B → Answer → Ask → B → Type 0) (bank : BankId) (olds mids news : List (Driven B)) (count limit : ℕ) → count < limit → IsRunning polled bank olds mids count → MakesRoundShort polled bank mids news → RunsShort polled bank limit olds news
-runs_short polled bank olds mids news count limit less so_far last = record {
-  rounds = so_far.rounds;
-  mids = mids;
-  made = so_far.made;
-  going = so_far.going;
-  few = omega (arith, less, so_far.long);
-  last = last;
-}
 
 pub on_err : {T E : Type 0} (r : Result T E) (P : Type 0) → P → OnErr r P
 on_err (Ok x) P p = tt

@@ -1,12 +1,7 @@
 -- Words behind words.
-use Rattle.std.proofs.Common.{ℕ, List, [], ◌++◌, Bool, Option, None, Some, sym, ◌∙◌, ap, append_assoc, append-nil}
+use Rattle.std.proofs.Common.{ℕ, List, [], ◌++◌, Bool, Option, None, Some, ◌∙◌, ap, append_assoc}
 use Rattle.std.specs.Io.KnownBytes.{Appends}
 use Rattle.lwkt_refusals.specs.Sayings.{SaysMore}
-
--- nothing is written
-pub adds_nothing : {failed : Bool} {old : Option (List ℕ)} → SaysMore failed failed old old
-adds_nothing {old = None} = record { words = []; behind = tt; stays = λ f. f }
-adds_nothing {old = Some xs} = record { words = []; behind = sym (append-nil xs); stays = λ f. f }
 
 -- bytes behind what stands, and bytes behind them
 pub Appends-twice : (old mid new : Option (List ℕ)) (first second : List ℕ) → Appends old mid first → Appends mid new second → Appends old new (first ++ second)

@@ -47,10 +47,7 @@ place_set slot (x ∷ polls) (suc k) q r at same =
     let F : Option ℕ → Option ℕ = λ o. option_map_or (λ place. Some (place + 1)) o (if slot_of x.thread == slot then Some 0 else None) in
     ap F (place_set slot polls k q r at same)
 
--- the last poll of a thread gets its answer, if there is one
-pub some_answered : (slot : ℕ) (told : Answer) (polls : List Poll) (place : ℕ) → last_place slot polls ≡ Some place → polls_answered slot told polls ≡ changed (with_answer told) polls place
-some_answered slot told polls place is = ap (λ o. option_map_or (λ k. changed (with_answer told) polls k) o polls) is
-
+-- of a thread without a poll none gets an answer
 pub none_answered : (slot : ℕ) (told : Answer) (polls : List Poll) → last_place slot polls ≡ None → polls_answered slot told polls ≡ polls
 none_answered slot told polls is = ap (λ o. option_map_or (λ k. changed (with_answer told) polls k) o polls) is
 

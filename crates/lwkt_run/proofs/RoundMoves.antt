@@ -24,7 +24,6 @@ use Rattle.lwkt_cpu.proofs.SightMoves.{IsLooked}
 use Rattle.lwkt_lane.proofs.PlaceMoves.{some_same, get_there, get_set_same, get_set_other}
 use Rattle.lwkt_drive.specs.declared.driven.Limits.{Limits}
 use Rattle.lwkt_machine.specs.Bodies.{Scripted, IsPolled}
-use Rattle.lwkt_machine.specs.Ended.{AreOver}
 use Rattle.lwkt_machine.specs.Machines.{Rig}
 use Rattle.lwkt_machine.specs.Turns.{TurnsAt}
 use Rattle.lwkt_machine.proofs.SightMoves.{zip_long, zip_get, sent_looked}
@@ -156,10 +155,6 @@ over_later cpu old new t u turned d is below =
     let G : List (Processor Scripted) → Type 0 = λ ps. AreOverBelow (cpu + 1) ps in
     let o = e.turns in
     subst G (sym o.cpus) (over_more e.seen cpu o.now (slice_get_within e.seen cpu o.before o.at_before) o.does.turns.1 (over_looked cpu old.cpus e.seen (sent_looked cpu old.cpus e.seen e.sees) below))
-
--- all of them
-pub over_all : (n : ℕ) (cpus : List (Processor Scripted)) → length cpus ≤ n → AreOverBelow n cpus → AreOver cpus
-over_all n cpus few below = λ k p at. below k p (omega (arith, few, slice_get_within cpus k p at)) at
 
 -- rounds keep the bank
 pub rounds_bank : (limit : ℕ) (x y : Scene) → HasMadeRounds limit x y → y.machine.bank ≡ x.machine.bank

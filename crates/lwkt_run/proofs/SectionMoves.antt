@@ -14,7 +14,7 @@ use Rattle.lwkt_core.specs.Tokens.{IsFree, IsOpen, IsSafeToken}
 use Rattle.lwkt_core.specs.Machine.{Machine, IsSafe}
 use Rattle.lwkt_core.specs.Trace.{Run}
 use Rattle.lwkt_table.specs.History.{events_in}
-use Rattle.lwkt_core.specs.Opening.{opening, opened_token, IsTokenWithin, AreWithin, AllOpenLawfully}
+use Rattle.lwkt_core.specs.Opening.{opening, opened_token, AreWithin, AllOpenLawfully}
 use Rattle.lwkt_core.specs.SectionChain.{RowsAt, AreInOrder, AreSectionChains}
 use Rattle.lwkt_core.specs.RunSections.{values_of, rows_of, sections_in}
 use Rattle.lwkt_core.proofs.ChainLemmas.{refutes}
@@ -39,10 +39,7 @@ rows_opened : (specs : List TokSpec) → opening_rows specs ≡ map values_of (m
 rows_opened [] = refl
 rows_opened (spec ∷ specs) = ap (λ (rows : RowsAt). (spec.cells, spec.generation) ∷ rows) (rows_opened specs)
 
--- a row has at most four cells, at the opening and at the close
-pub few_opened : (cpus : ℕ) (specs : List TokSpec) → All IsTokenWithin specs → All (λ spec. length spec.cells ≤ 4) specs
-few_opened cpus specs within = All-weaker IsTokenWithin (λ (spec : TokSpec). length spec.cells ≤ 4) (λ spec is. is.0) specs within
-
+-- the opening of a script within the limits, all of whose tokens open lawfully, is safe
 safe_opening : (script : Script) → AreWithin script.cpus script.tokens script.messages → AllOpenLawfully script.tokens → IsSafe (opening script.cpus script.tokens [])
 safe_opening script within lawful = IsSafe-opening script.cpus script.tokens [] (without_messages script.cpus script.tokens script.messages within) lawful
 

@@ -41,13 +41,6 @@ byte_read bytes text place byte d inside room is =
     ∙ ap (λ (n : ℕ). bytes_behind (take place bytes ++ byte ∷ []) (drop n text)) (let e : 2 * (place + 1) ≡ 2 * place + 2 = omega arith in e)
     ∙ sym (at_place (take place bytes) text place d (Some byte) inside is)
 
--- no byte
-pub byte_missed : (bytes text : List ℕ) (place d most : ℕ) → length text ≤ 2 * most → 2 * place + 1 < length text → byte_of (get_or text (2 * place) d) (get_or text (2 * place + 1) d) ≡ None
-    → bytes_behind (take place bytes) (drop (2 * place) text) ≡ bytes_behind [] text → blob_of most text ≡ None
-byte_missed bytes text place d most short inside is so_far =
-    let none : bytes_behind [] text ≡ None = sym so_far ∙ at_place (take place bytes) text place d None inside is in
-    rw (le-leb (length text) (2 * most) short, none) refl
-
 -- all bytes
 pub blob_read : (text bytes blob : List ℕ) (place count most : ℕ) → length text ≤ 2 * most → length text ≡ 2 * count → place ≡ count
     → bytes_behind (take place bytes) (drop (2 * place) text) ≡ bytes_behind [] text → blob ≡ kept_of (take count bytes) → Some blob ≡ blob_of most text

@@ -50,10 +50,7 @@ below_bound (suc k) threads few = step k (suc k) threads few (omega arith) (belo
 pub few_in_all : (cpus : ℕ) (threads : List ThreadSpec) → cpus ≤ 8 → AreFew cpus threads → length threads ≤ 128
 few_in_all cpus threads most few = omega (arith, few.below, below_bound cpus threads few.few)
 
--- no threads are few
-pub none_few : (cpus : ℕ) → AreFew cpus []
-none_few cpus = record { below = refl; few = λ cpu. omega arith }
-
+-- a count with one thread more, of its processor or of another one
 mark_cases : (cpu other count count_other : ℕ) → (cpu ≡ other → count ≡ count_other) → count_other < 16 → count ≤ 16 → count + mark (other == cpu) ≤ 16
 mark_cases cpu other count count_other same free few = grind (arith, nat_tests)
 

@@ -1,12 +1,10 @@
 -- How all that a seat holds is given up.
-use Rattle.std.proofs.Common.{◌≡◌, ◌≢◌, ◌⊎◌, ℕ, ◌+◌, ◌-◌, ◌<◌, ◌≤◌, ⊎_elim, Bool, true, false, cond, eqb, eq-eqb, ne_eqb, List, [], ◌∷◌, ◌++◌, refl, ap, sym, ◌∙◌, subst, arith, inl, inr}
+use Rattle.std.proofs.Common.{◌≡◌, ◌≢◌, ◌⊎◌, ℕ, ◌+◌, ◌-◌, ◌<◌, ◌≤◌, ⊎_elim, Bool, true, false, cond, eqb, eq-eqb, List, [], ◌∷◌, ◌++◌, refl, ap, sym, ◌∙◌, subst, arith, inl, inr}
 use Rattle.std.proofs.lemmas.Bool.{eqb-true, eqb-false, cases_Bool, cases_eq, cases_lt, false≢true}
 use Rattle.std.proofs.Math.Path.{fun_ext}
 use Rattle.std.specs.Prelude.{Option, Some, None}
 use Rattle.lwkt_base.specs.declared.names.TokId.{TokId}
 use Rattle.lwkt_base.specs.declared.names.Mode.TheVariants.{Exclusive, Shared}
-use Rattle.lwkt_base.specs.declared.laws.Law.{Law}
-use Rattle.lwkt_base.specs.declared.laws.Law.TheVariants.{Tally}
 use Rattle.lwkt_base.specs.declared.holdings.Held.{Held}
 use Rattle.lwkt_base.specs.declared.holdings.Held.TheVariants.{Nothing, Holds}
 use Rattle.lwkt_base.specs.Law.{Obeys}
@@ -60,13 +58,6 @@ gives_one_others s s' tok gives other away = elim gives [
   | inr g ↦ let asked = g.2.0 in gave_others asked s' tok g.2.1.1.0 g.2.1.1.1 other away ∙ g.2.1.0.changes.else_ other away
 ]
 
--- a section that has broken its law is no Tally token's
-lawful_tally : (law : Law) (param : ℕ) (row : List ℕ) (bytes : RecordOf) → law ≡ Tally → Obeys law param row (length_of bytes)
-lawful_tally law param row bytes is = let F : Law → Type 0 = λ l. Obeys l param row (length_of bytes) in subst F (sym is) tt
-
-pub broken_untallied : (s : CpuSeat) (tok : ℕ) → (¬ ObeysItsLaw s tok) → (plan_of (bank_of s) tok).law ≢ Tally
-broken_untallied s tok broken is = broken (lawful_tally (plan_of (bank_of s) tok).law (plan_of (bank_of s) tok).param (entry s tok).row (entry s tok).blob is)
-
 -- after a restore row and record are the first ones, and the same is held
 pub restored_holding : (s s' : CpuSeat) (tok : ℕ) (made : List (Option ℕ)) (bytes : RecordOf) → Restored s s' tok made bytes → holding s' ≡ holding s
 restored_holding s s' tok made bytes r = same_holding s s' tok _ _ r.changes refl
@@ -99,9 +90,6 @@ free_by_count (Holds mode further) none = absurd (omega arith)
 
 pub removed_here : (h : Holding) (tok : ℕ) → removed h tok tok ≡ one_less (h tok)
 removed_here h tok = ap (λ b. cond b (one_less (h tok)) (h tok)) (eq-eqb tok tok refl)
-
-pub removed_away : (h : Holding) (tok other : ℕ) → other ≢ tok → removed h tok other ≡ h other
-removed_away h tok other away = ap (λ b. cond b (one_less (h other)) (h other)) (ne_eqb other tok away)
 
 -- a holding by its mode
 pub mine_held : (held : Held) → is_exclusive held ≡ true → is_held held ≡ true

@@ -4,11 +4,10 @@ use Rattle.std.specs.Prelude.{slice_index_or}
 use Rattle.std.specs.Arc.{arc_value}
 use Rattle.lwkt_bank.specs.declared.banks.Bank.{Bank}
 use Rattle.lwkt_bank.specs.declared.seats.CpuSeat.{CpuSeat}
-use Rattle.lwkt_bank.specs.Seats.{BankId, cpus_of}
-use Rattle.std.proofs.lemmas.Option.{slice_get_within, get_or_from_slice_get}
+use Rattle.lwkt_bank.specs.Seats.{BankId}
 use Rattle.lwkt_bank.specs.Gathered.{AreHandedOut}
 use Rattle.lwkt_seats.specs.declared.spots.Spot.{Spot}
-use Rattle.lwkt_seats.specs.Spots.{AreSpotsOf, AreSpots}
+use Rattle.lwkt_seats.specs.Spots.{AreSpotsOf}
 
 at_end : (xs ys : List CpuSeat) (y s : CpuSeat) → slice_index_or (xs ++ y ∷ ys) (length xs) s ≡ y
 at_end [] ys y s = refl
@@ -62,13 +61,3 @@ kept bank spots new are of at k spot (inr here) = subst (λ (s : Spot). (arc_val
 
 pub pushed : (bank : Bank) (spots : List Spot) (new : Spot) → AreSpotsOf bank spots → arc_value new.bank ≡ bank → new.cpu.0 ≡ length spots → AreSpotsOf bank (spots ++ new ∷ [])
 pushed bank spots new are of at = λ k spot within. kept bank spots new are of at k spot (placed spots new k spot within)
-
-pub spots_of : (bank : Bank) (spots : List Spot) → cpus_of bank ≡ length spots → AreSpotsOf bank spots → AreSpots spots
-spots_of bank spots many are = λ i j a b at_i at_j.
-    let x = are i a (slice_get_within spots i a at_i) in
-    let y = are j b (slice_get_within spots j b at_j) in
-    let ea = get_or_from_slice_get spots i a a at_i in
-    let eb = get_or_from_slice_get spots j b b at_j in
-    let p : arc_value a.bank ≡ bank = ap (λ (s : Spot). arc_value s.bank) (sym ea) ∙ x.0 in
-    let q : arc_value b.bank ≡ bank = ap (λ (s : Spot). arc_value s.bank) (sym eb) ∙ y.0 in
-    (p ∙ sym q, ap (λ (s : Spot). s.cpu.0) (sym ea) ∙ x.1, ap (λ (b : Bank). cpus_of b) p ∙ many)

@@ -207,14 +207,6 @@ module _ {S : Type 0} (Done : S → Deed → S → Type 0) (first m n : S) (cpus
   unfolding chronicle_after
   Chronicle-noted = (chronicle_after, refl)
 
--- the same with what others have done since
-pub Chronicle-stepped : {S : Type 0} (Done : S → Deed → S → Type 0) (first m n : S) (cpus : ℕ) (pages : List Page) (id : ℕ) (p : Page) (cpu : CpuId) (d : Deed)
-    → AreSeated cpus (kinds_of pages) → get_elem? pages id ≡ some p → p.kind ≡ Of cpu → d.cpu ≡ cpu → (r : Chronicle Done first pages m) → Done m d n
-    → (between : List Deed) × (AreOthers cpu.0 between) × (r.history ≡ p.past ++ between) × ((q : Chronicle Done first (set pages id (noted_page p between d)) n) × (q.history ≡ r.history ++ d ∷ []))
-Chronicle-stepped Done first m n cpus pages id p cpu d seated here kind own r done =
-    let past = Chronicle-between Done first m pages id p cpu here kind r in
-    (past.0, past.1.1, past.1.0, Chronicle-noted Done first m n cpus pages id p cpu past.0 d seated here kind own r past.1.0 done)
-
 -- the clerk makes the seat of the next processor, which has seen nothing yet
 module _ {S : Type 0} (Done : S → Deed → S → Type 0) (first m : S) (cpus : ℕ) (pages : List Page) (id : ℕ) (p : Page) (made back : ℕ)
     (seated : AreSeated cpus (kinds_of pages)) (here : get_elem? pages id ≡ some p) (kind : p.kind ≡ Clerk made back) (r : Chronicle Done first pages m) where

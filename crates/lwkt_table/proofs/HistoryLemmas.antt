@@ -87,24 +87,12 @@ module _ {A : Type 0} (cpu : ℕ) (f : Deed → List A) where
   part_by-past history past is =
       ap (part_by cpu f) is.1.0 ∙ part_by-append past is.0 ∙ ap (λ l. part_by cpu f past ++ l) (part_by-others is.0 is.1.1) ∙ append-nil (part_by cpu f past)
 
--- the same of steps on words and of events
-pub steps_by-append : (cpu : ℕ) (xs ys : List Deed) → steps_by cpu (xs ++ ys) ≡ steps_by cpu xs ++ steps_by cpu ys
-steps_by-append cpu xs ys = part_by-append cpu (λ (d : Deed). d.steps) xs ys
-
-pub events_by-append : (cpu : ℕ) (xs ys : List Deed) → events_by cpu (xs ++ ys) ≡ events_by cpu xs ++ events_by cpu ys
-events_by-append cpu xs ys = part_by-append cpu (λ (d : Deed). d.events) xs ys
-
+-- events and steps on words of two histories, one behind the other
 pub events_in-append : (xs ys : List Deed) → events_in (xs ++ ys) ≡ events_in xs ++ events_in ys
 events_in-append xs ys = flat_map-append (λ (d : Deed). d.events) xs ys
 
 pub steps_in-append : (xs ys : List Deed) → steps_in (xs ++ ys) ≡ steps_in xs ++ steps_in ys
 steps_in-append xs ys = flat_map-append (λ (d : Deed). d.steps) xs ys
-
-pub steps_by-others : (cpu : ℕ) (deeds : List Deed) → AreOthers cpu deeds → steps_by cpu deeds ≡ []
-steps_by-others cpu deeds others = part_by-others cpu (λ (d : Deed). d.steps) deeds others
-
-pub events_by-others : (cpu : ℕ) (deeds : List Deed) → AreOthers cpu deeds → events_by cpu deeds ≡ []
-events_by-others cpu deeds others = part_by-others cpu (λ (d : Deed). d.events) deeds others
 
 pub steps_by-grows : (cpu : ℕ) (past deeds later : List Deed) → Grows cpu past deeds later → AreOwn cpu deeds → steps_by cpu later ≡ steps_by cpu past ++ steps_in deeds
 steps_by-grows cpu past deeds later grows owns = part_by-grows cpu (λ (d : Deed). d.steps) past deeds later grows owns
@@ -118,19 +106,10 @@ steps_by-past history cpu past is = part_by-past cpu (λ (d : Deed). d.steps) hi
 pub events_by-past : (history : List Deed) (cpu : ℕ) (past : List Deed) → IsPastOf history cpu past → events_by cpu history ≡ events_by cpu past
 events_by-past history cpu past is = part_by-past cpu (λ (d : Deed). d.events) history past is
 
--- what a processor has seen grows: by nothing, by one deed, and by some deeds and then others
-pub Grows-none : (cpu : ℕ) (past : List Deed) → Grows cpu past [] past
-Grows-none cpu past = refl
-
-pub Grows-one : (cpu : ℕ) (past between : List Deed) (d : Deed) → AreOthers cpu between → Grows cpu past (d ∷ []) (past ++ (between ++ d ∷ []))
-Grows-one cpu past between d others = (between, (others, refl))
-
+-- what a processor has seen grows by some deeds and then by others
 pub Grows-append : (cpu : ℕ) (a xs b ys c : List Deed) → Grows cpu a xs b → Grows cpu b ys c → Grows cpu a (xs ++ ys) c
 Grows-append cpu a [] b ys c one two = subst (λ (l : List Deed). Grows cpu l ys c) one two
 Grows-append cpu a (x ∷ xs) b ys c one two = (one.0, (one.1.0, Grows-append cpu (a ++ (one.0 ++ x ∷ [])) xs b ys c one.1.1 two))
-
-pub Grows-snoc : (cpu : ℕ) (a xs b between : List Deed) (d : Deed) → Grows cpu a xs b → AreOthers cpu between → Grows cpu a (xs ++ d ∷ []) (b ++ (between ++ d ∷ []))
-Grows-snoc cpu a xs b between d grows others = Grows-append cpu a xs b (d ∷ []) (b ++ (between ++ d ∷ [])) grows (Grows-one cpu b between d others)
 
 -- what had been seen stays a front of what is seen
 pub Grows-front : (cpu : ℕ) (past deeds later : List Deed) → Grows cpu past deeds later → (more : List Deed) × (later ≡ past ++ more)

@@ -1,5 +1,5 @@
 -- The numbers of a list, and the row that they are.
-use Rattle.std.proofs.Common.{◌≡◌, ℕ, ◌+◌, ◌<◌, ◌≤◌, List, [], ◌∷◌, ◌++◌, length, drop, take, slice_set, get_or, Option, Some, None, refl, sym, ◌∙◌, ap, arith, le-leb}
+use Rattle.std.proofs.Common.{◌≡◌, ℕ, ◌+◌, ◌<◌, ◌≤◌, List, [], ◌∷◌, ◌++◌, length, drop, take, slice_set, get_or, Option, Some, refl, sym, ◌∙◌, ap, arith, le-leb}
 use Rattle.std.proofs.lemmas.List.{take_more_set, drop_more, drop_all}
 use Rattle.serde_json.specs.View.{view, items_view}
 use Rattle.serde_json.specs.declared.value.Value.{Value}
@@ -25,11 +25,6 @@ pub number_read : (cells : List ℕ) (items : List Value) (place n : ℕ) (value
 number_read cells items place n value inside room is =
     ap (λ (before : List ℕ). numbers_behind before (items_view (drop (place + 1) items))) (take_more_set cells place n room)
     ∙ sym (at_next (take place cells) items place value inside ∙ numbers_next (take place cells) (get_or items place value) (drop (place + 1) items) (Some n) is)
-
--- no number
-pub number_missed : (cells : List ℕ) (items : List Value) (place : ℕ) (value : Value) → place < length items → whole (view (get_or items place value)) ≡ None → numbers_behind (take place cells) (items_view (drop place items)) ≡ None
-number_missed cells items place value inside is =
-    at_next (take place cells) items place value inside ∙ numbers_next (take place cells) (get_or items place value) (drop (place + 1) items) None is
 
 -- all numbers
 pub row_read : (items : List Value) (cells : List ℕ) (place : ℕ) (row : List ℕ) → length items ≤ 4 → length items ≤ place → place ≤ length items

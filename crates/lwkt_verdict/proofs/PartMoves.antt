@@ -1,7 +1,7 @@
 use Rattle.std.proofs.Common.{zero, suc, ◌≡◌, ℕ, ◌+◌, ◌<◌, ◌≤◌, List, [], ◌∷◌, length, drop, take, get_or, refl, sym, ap, ◌∙◌, subst}
 use Rattle.std.specs.Prelude.{◌↔◌, IsTrue, false}
 use Rattle.std.proofs.lemmas.Bool.{false≢true}
-use Rattle.std.proofs.lemmas.List.{drop_more, drop_all}
+use Rattle.std.proofs.lemmas.List.{drop_more}
 use Rattle.lwkt_core.specs.declared.events.Event.{Event}
 use Rattle.lwkt_core.specs.Machine.{Machine, Needs, after}
 use Rattle.lwkt_verdict.specs.Owns.{IsQuiet}
@@ -25,13 +25,6 @@ pub quiet_stops : (m : Machine) (P : Type 0) (events : List Event) (i : ℕ) (d 
 quiet_stops m P events i d inside unfit so_far p =
     let here : GoesQuietly m (get_or events i d ∷ drop (i + 1) events) = subst (λ (es : List Event). GoesQuietly m es) (drop_more events i d inside) (so_far.0 p) in
     unfit (here.0, here.1.0)
-
--- a loop's end: nothing is left
-pub quiet_all : (m : Machine) (P : Type 0) (events : List Event) (i : ℕ) → length events ≤ i → P ↔ GoesQuietly m (drop i events) → P
-quiet_all m P events i past so_far = so_far.1 (subst (λ (es : List Event). GoesQuietly m es) (sym (drop_all i events past)) tt)
-
-pub after_ends : (m end : Machine) (events : List Event) (i : ℕ) → length events ≤ i → end ≡ after_all m (drop i events) → m ≡ end
-after_ends m end events i past so_far = sym (so_far ∙ ap (λ (es : List Event). after_all m es) (drop_all i events past))
 
 -- what is refuted is decided by false
 pub never : {P : Type 0} → (P → ⊥) → IsTrue false ↔ P

@@ -62,10 +62,6 @@ pub record Led (start : Machine) (trace : List Event) (m : Machine) (rest : List
   pub whole : trace ≡ front ++ rest
   pub run : Run start front m
 
--- before the first event
-pub led_nowhere : (m : Machine) (trace : List Event) → Led m trace m trace
-led_nowhere m trace = record { front = []; whole = refl; run = refl }
-
 -- a part more
 pub led_on : (start : Machine) (trace : List Event) (m : Machine) (rest : List Event) (count : ℕ) (n : Machine) (part later : List Event) → Led start trace m rest → part ≡ take count rest → later ≡ drop count rest → Run m part n → Led start trace n later
 led_on start trace m rest count n part later led is_part is_later run =
