@@ -1,5 +1,5 @@
 //! The asks about messages, each as the call on the ports that it makes.
-ghost use Rattle.std.specs.Prelude.{◌≡◌, ℕ, ◌+◌, ◌<◌, ◌≤◌, Bool, List, false, true, length, Option, Result, vec_len, vec_capacity};
+ghost use Rattle.std.specs.Prelude.{◌≡◌, ℕ, ◌+◌, ◌<◌, ◌≤◌, Bool, List, false, true, Option, Result, vec_len, vec_capacity};
 ghost use Rattle.lwkt_base.specs.Holding.{holding_of};
 ghost use Rattle.lwkt_base.specs.declared.asks.Item.{Item};
 ghost use Rattle.lwkt_base.specs.declared.faults.Fault.{Fault};

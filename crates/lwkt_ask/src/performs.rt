@@ -1,5 +1,5 @@
 //! A body's ask, performed: one call for each.
-ghost use Rattle.std.specs.Prelude.{◌≡◌, ◌+◌, ◌<◌, ◌≤◌, length, All, vec_len, vec_capacity};
+ghost use Rattle.std.specs.Prelude.{◌≡◌, ◌+◌, ◌<◌, ◌≤◌, All, vec_len, vec_capacity};
 ghost use Rattle.lwkt_base.specs.Holding.{holding_of};
 ghost use Rattle.lwkt_bank.specs.Seats.{id_of, bank_of, tokens_of, holding};
 ghost use Rattle.lwkt_hold.specs.Holds.{seat_of};

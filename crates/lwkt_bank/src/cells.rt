@@ -1,7 +1,6 @@
 //! The cells of a token that is held.
-ghost use Rattle.std.specs.Prelude.{◌≡◌, ◌≢◌, ◌↔◌, ◌⊎◌, ◌+◌, ◌^◌, ◌<◌, ◌≤◌, ℕ, List, [], ◌∷◌, ◌++◌, length, true, false, None, Some, Ok, Err, OnOk, OnErr, IfOk, MatchOption, slice_index, slice_set};
+ghost use Rattle.std.specs.Prelude.{◌≡◌, ◌≢◌, ◌↔◌, ◌⊎◌, ◌+◌, ◌^◌, ◌<◌, ◌≤◌, ℕ, [], ◌∷◌, ◌++◌, true, false, None, Some, Ok, Err, OnOk, OnErr, IfOk, MatchOption, slice_index};
 ghost use Rattle.lwkt_base.specs.Holding.{is_held, is_exclusive};
-ghost use Rattle.lwkt_base.specs.Law.{MeetsLaw};
 ghost use Rattle.lwkt_bank.specs.Views.{amount, is_touched, read, stored, raised};
 ghost use Rattle.lwkt_bank.specs.Deeds.{reads, writes};
 ghost use Rattle.lwkt_bank.specs.Seats.{id_of, bank_of, tokens_of, plan_of, entry, holding, Changes, Knowing, IsUnchanged, first_load};

@@ -1,11 +1,8 @@
 //! The close: the closing values, from the words that are left and from what the seats had kept.
 ghost use Rattle.std.specs.Prelude.{◌≡◌, ◌≢◌, ℕ, ◌+◌, ◌*◌, ◌^◌, ◌<◌, ◌≤◌, List, [], ◌∷◌, ◌++◌, length, All, IfOk, IfErr, false, slice_index, slice_index_or, sum_by, vec_capacity};
-ghost use mathlib.Core.Option.{some};
-ghost use lib.ListN.{get_elem?};
 ghost use Rattle.std.specs.Slots.{slots_items, slots_len, slots_filled, IsFull};
 ghost use Rattle.lwkt_base.specs.declared.laws.Law.TheVariants.{Tally};
-ghost use Rattle.lwkt_bank.specs.Rule.{Bench, Rule, cell_word, plan_at, table_words};
-ghost use Rattle.lwkt_bank.specs.Notes.{note_at};
+ghost use Rattle.lwkt_bank.specs.Rule.{cell_word, plan_at, table_words};
 ghost use Rattle.lwkt_bank.specs.Views.{RecordOf};
 ghost use Rattle.lwkt_bank.specs.Closing.{shown_blob, kept_tally, kept_by, IsRead, AreRead, Left, IsReady, HasRoom, IsEmptyRoom};
 ghost use Rattle.lwkt_bank.specs.Seats.{id_of, id_of_desk, cpus_of};

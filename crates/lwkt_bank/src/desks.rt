@@ -1,10 +1,10 @@
 //! The clerk of a bank: it makes the seats.
-ghost use Rattle.std.specs.Prelude.{◌≡◌, ◌⊎◌, ◌↔◌, ℕ, ◌+◌, ◌<◌, ◌≤◌, [], ◌∷◌, length, All, IfOk, IfErr, OnOk, Err, slice_get, EachIndex, Some, replicate};
-ghost use Rattle.lwkt_core.specs.Opening.{IsTokenWithin, AreWithin, AllOpenLawfully};
+ghost use Rattle.std.specs.Prelude.{◌≡◌, ◌⊎◌, ◌↔◌, ℕ, ◌+◌, ◌<◌, ◌≤◌, [], ◌∷◌, length, IfOk, IfErr, OnOk, Err, Some, replicate};
+ghost use Rattle.lwkt_core.specs.Opening.{AreWithin, AllOpenLawfully};
 ghost use Rattle.lwkt_bank.specs.Notes.{no_note};
 ghost use Rattle.lwkt_bank.specs.Views.{blank, clerk_after, new_seat};
 ghost use Rattle.lwkt_bank.specs.Opened.{plans_of, opening_words, opening_slots};
-ghost use Rattle.lwkt_bank.specs.Seats.{id_of_desk, bank_of, entry, steps_of};
+ghost use Rattle.lwkt_bank.specs.Seats.{id_of_desk, bank_of};
 ghost use Rattle.lwkt_bank.specs.Gathered.{HasMade, IsNew, AreHandedOut, IsOpened};
 
 use crate::banks::Bank;

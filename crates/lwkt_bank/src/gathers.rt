@@ -1,10 +1,8 @@
 //! The close: the clerk takes back all seats.
-ghost use Rattle.std.specs.Prelude.{◌≡◌, ℕ, ◌+◌, ◌<◌, ◌≤◌, [], ◌∷◌, length, All, vec_len, vec_capacity};
+ghost use Rattle.std.specs.Prelude.{◌≡◌, ℕ, ◌+◌, ◌<◌, ◌≤◌, [], ◌∷◌, length, vec_capacity};
 ghost use Rattle.lwkt_base.specs.declared.holdings.Held.TheVariants.{Nothing};
-ghost use Rattle.lwkt_table.specs.Seating.{total};
-ghost use Rattle.lwkt_bank.specs.Views.{at, amount, joined};
-ghost use Rattle.lwkt_bank.specs.Notes.{clerk_number, note_at};
-ghost use Rattle.lwkt_bank.specs.Closing.{IsReady, Gathering};
+ghost use Rattle.lwkt_bank.specs.Views.{at, joined};
+ghost use Rattle.lwkt_bank.specs.Closing.{Gathering};
 
 use crate::banks::Bank;
 use crate::kept::{Kept, put_kept};

@@ -1,5 +1,5 @@
 //! Giving references back.
-ghost use Rattle.std.specs.Prelude.{◌≡◌, ◌≢◌, ◌⊎◌, ◌+◌, ◌<◌, ◌≤◌, length, true, false};
+ghost use Rattle.std.specs.Prelude.{◌≡◌, ◌≢◌, ◌⊎◌, ◌+◌, ◌<◌, ◌≤◌, true, false};
 ghost use Rattle.std.specs.List.{list_any};
 ghost use Rattle.lwkt_base.specs.Holding.{is_held, is_exclusive};
 ghost use Rattle.lwkt_bank.specs.Views.{less, ended, ended_section};

@@ -1,7 +1,6 @@
 //! The opening of a bank.
-ghost use Rattle.std.specs.Prelude.{◌≡◌, ◌⊎◌, ◌↔◌, ℕ, ◌+◌, ◌*◌, ◌<◌, ◌≤◌, [], ◌∷◌, length, All, IsTrue, IfOk, IfErr, OnOk, slice_index};
-ghost use Rattle.std.specs.List.{flat_map};
-ghost use Rattle.lwkt_core.specs.Opening.{IsTokenWithin, AreWithin, AllOpenLawfully};
+ghost use Rattle.std.specs.Prelude.{◌≡◌, ◌⊎◌, ◌↔◌, ℕ, ◌+◌, ◌*◌, ◌<◌, ◌≤◌, [], ◌∷◌, All, IsTrue, IfOk, slice_index};
+ghost use Rattle.lwkt_core.specs.Opening.{IsTokenWithin, AreWithin};
 ghost use Rattle.lwkt_bank.specs.Rule.{law_number};
 ghost use Rattle.lwkt_bank.specs.Opened.{plan_of_spec, plans_of, slot_of_spec, opening_slots, block, opening_words};
 

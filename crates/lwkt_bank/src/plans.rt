@@ -1,5 +1,4 @@
-ghost use Rattle.std.specs.Prelude.{◌≡◌, ◌+◌, ◌<◌, ◌≤◌, length, is_some};
-ghost use Rattle.lwkt_bank.specs.Rule.{plan_at};
+ghost use Rattle.std.specs.Prelude.{◌≡◌, ◌+◌, ◌<◌, ◌≤◌, is_some};
 
 use crate::banks::Bank;
 use crate::views::Plan;

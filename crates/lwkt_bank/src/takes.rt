@@ -1,9 +1,9 @@
 //! Taking tokens.
 ghost use Rattle.std.specs.Prelude.{◌≡◌, ℕ, ◌+◌, ◌%◌, ◌^◌, ◌<◌, Bool, true, false, [], ◌∷◌};
 ghost use Rattle.lwkt_base.specs.Holding.{is_held};
-ghost use Rattle.lwkt_bank.specs.Views.{more, looked};
+ghost use Rattle.lwkt_bank.specs.Views.{more};
 ghost use Rattle.lwkt_bank.specs.Deeds.{adds_one, marks};
-ghost use Rattle.lwkt_bank.specs.Seats.{id_of, bank_of, tokens_of, entry, holding, references, Changes, Looked, Took, Lost, Tried, Decides, Hit, Miss, Stepped, IsGuarded};
+ghost use Rattle.lwkt_bank.specs.Seats.{id_of, bank_of, tokens_of, entry, holding, references, Looked, Tried, Decides, Hit, Miss, Stepped, IsGuarded};
 
 use crate::answers::Try;
 use crate::banks::Bank;

@@ -1,4 +1,4 @@
-ghost use Rattle.std.specs.Prelude.{◌≡◌, ℕ, List, take, OnOk, IfErr};
+ghost use Rattle.std.specs.Prelude.{◌≡◌, ℕ, take, OnOk, IfErr};
 ghost use Rattle.lwkt_core.specs.Machine.{Machine};
 ghost use Rattle.lwkt_core.specs.Trace.{Run, Closes, CanHappen, IsLawfulTrace, StopsAt, FailsAt, StopRefutes, FailureRefutes, FailureIsOnly};
 

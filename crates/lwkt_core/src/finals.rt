@@ -1,4 +1,4 @@
-ghost use Rattle.std.specs.Prelude.{◌≡◌, ◌≤◌, ◌↔◌, ℕ, List, map, length, IsTrue};
+ghost use Rattle.std.specs.Prelude.{◌≡◌, ◌≤◌, ◌↔◌, ℕ, map, IsTrue};
 ghost use Rattle.lwkt_core.specs.Trace.{end_of, shown_tallies};
 
 use crate::messages::Message;

@@ -1,4 +1,4 @@
-ghost use Rattle.std.specs.Prelude.{◌≡◌, ◌↔◌, ◌<◌, ◌≤◌, ℕ, true, length, IsTrue, IsSomeAnd, All, slice_get};
+ghost use Rattle.std.specs.Prelude.{◌≡◌, ◌↔◌, ◌<◌, ◌≤◌, ℕ, true, IsTrue, IsSomeAnd, All, slice_get};
 ghost use Rattle.lwkt_core.specs.Machine.{references_of, changed, machine, Needs, IsSafe, after};
 ghost use Rattle.lwkt_core.specs.Messages.{MessageNeeds, IsSafeMessage, message_after};
 ghost use Rattle.lwkt_core.specs.Tokens.{TokenNeeds, IsSafeToken, token_after};

@@ -1,5 +1,5 @@
 ghost use Rattle.std.specs.Prelude.{◌≡◌, ◌<◌, ◌≤◌, ◌↔◌, ℕ, length, take, IsTrue, OnOk, IfErr, IfSome, slice_get, slice_set};
-ghost use Rattle.lwkt_core.specs.SectionChain.{generation_at, AreInOrder, AreSectionChains, GoesOn, GoOn, rows_after_all, SectionsFailAt, IsUpTo, SectionFailureRefutes, SectionFailureIsOnly};
+ghost use Rattle.lwkt_core.specs.SectionChain.{generation_at, AreInOrder, AreSectionChains, GoOn, rows_after_all, SectionsFailAt, IsUpTo, SectionFailureRefutes, SectionFailureIsOnly};
 
 use lwkt_base::{Fault, Row, Rows, Section};
 

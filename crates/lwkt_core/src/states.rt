@@ -1,4 +1,4 @@
-ghost use Rattle.std.specs.Prelude.{◌≡◌, ◌≢◌, ◌⊎◌, ◌↔◌, ◌<◌, ◌≤◌, ℕ, List, length, map, Option, Some, None, Ok, Err, IsTrue, MatchOption, IfSome, OnOk, OnErr, IfOk, IfErr, option_map, slice_get};
+ghost use Rattle.std.specs.Prelude.{◌≡◌, ◌≢◌, ◌⊎◌, ◌↔◌, ◌<◌, ◌≤◌, ℕ, length, map, Option, Some, None, Ok, Err, IsTrue, MatchOption, IfSome, OnOk, OnErr, IfOk, IfErr, option_map, slice_get};
 
 use crate::events::{Event, Place};
 use crate::finals::Final;

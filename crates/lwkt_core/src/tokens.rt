@@ -1,4 +1,4 @@
-ghost use Rattle.std.specs.Prelude.{◌≡◌, ◌↔◌, ℕ, ◌+◌, true, ◌<◌, ◌≤◌, ◌^◌, ◌-◌, length, slice_index, slice_set, IsTrue, Some, slice_get, option_and_then};
+ghost use Rattle.std.specs.Prelude.{◌≡◌, ◌↔◌, ℕ, ◌+◌, true, ◌<◌, ◌≤◌, ◌^◌, ◌-◌, length, slice_index, IsTrue, Some, slice_get, option_and_then};
 
 use crate::events::Event;
 use lwkt_base::blobs::{are_same, length_of};

@@ -1,7 +1,6 @@
 //! A processor: its seat under a hold, and its threads.
-ghost use Rattle.std.specs.Prelude.{◌≡◌, ◌≢◌, ◌⊎◌, ◌<◌, ◌≤◌, true, false, Bool, List, [], length, replicate, IfOk, IfSome, IsSomeAnd, OnErr, Err, Some, None, option_map, slice_get, vec_len};
+ghost use Rattle.std.specs.Prelude.{◌≡◌, ◌≢◌, ◌⊎◌, ◌<◌, ◌≤◌, true, false, [], length, replicate, IfOk, IfSome, OnErr, Err, Some, None, slice_get, vec_len};
 ghost use Rattle.lwkt_base.specs.Holding.{holds_nothing};
-ghost use Rattle.lwkt_base.specs.Refs.{IsLawfulList};
 ghost use Rattle.lwkt_bank.specs.Seats.{holding};
 ghost use Rattle.lwkt_msg.specs.Desks.{desk_cpu};
 ghost use Rattle.lwkt_cpu.specs.Fresh.{fresh};

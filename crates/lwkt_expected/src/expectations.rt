@@ -2,7 +2,7 @@
 ghost use Rattle.std.specs.Prelude.{◌≡◌};
 ghost use Rattle.std.specs.List.{list_all, list_any, find};
 ghost use Rattle.std.specs.Option.{option_copied};
-ghost use Rattle.lwkt_expected.specs.Expectations.{is_final, decides_by, decides, met_by, is_met_over_orders, status_of_text};
+ghost use Rattle.lwkt_expected.specs.Expectations.{is_final, decides_by, decides, is_met_over_orders, status_of_text};
 
 use lwkt_explore::{Found, Kind, Outcome, status_of_found};
 use lwkt_litmus::holds;

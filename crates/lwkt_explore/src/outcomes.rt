@@ -3,7 +3,7 @@ ghost use Rattle.std.specs.Prelude.{◌≡◌, ◌≢◌, ℕ, ◌+◌, ◌<◌,
 ghost use Rattle.std.specs.List.{Any};
 ghost use Rattle.std.specs.Option.{option_to_list};
 ghost use Rattle.lwkt_base.specs.Fault.{no_memory};
-ghost use Rattle.lwkt_run.specs.Run.{IsOrderRun, end_told};
+ghost use Rattle.lwkt_run.specs.Run.{end_told};
 ghost use Rattle.lwkt_explore.specs.Outcomes.{IsKind, IsOutcome, AreOutcomes, AreShort, HasEnded, RefusesSearch};
 ghost use Rattle.lwkt_explore.specs.Walks.{IsOrderOf};
 ghost use Rattle.lwkt_explore.specs.Verdicts.{IsOfVerdict};

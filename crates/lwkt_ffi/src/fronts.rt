@@ -1,5 +1,5 @@
 //! Texts and the buffers that they are put into.
-ghost use Rattle.std.specs.Prelude.{◌≡◌, ◌++◌, [], OnOk, IsTrue, is_some, vec_len, length};
+ghost use Rattle.std.specs.Prelude.{◌≡◌, ◌++◌, [], OnOk, IsTrue, is_some};
 ghost use Rattle.lwkt_ffi.specs.Answers.{buffer_with_text};
 
 use lwkt_report::Page;

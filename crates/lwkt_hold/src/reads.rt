@@ -1,5 +1,5 @@
 //! The cells of a token on the list: read, written, added to.
-ghost use Rattle.std.specs.Prelude.{◌≡◌, ◌≢◌, ◌⊎◌, ℕ, ◌+◌, ◌<◌, ◌≤◌, ◌↔◌, ◌^◌, [], ◌∷◌, ◌++◌, length, All, Some, None, Ok, Err, OnOk, OnErr, IfOk, vec_len, vec_capacity, slice_index, slice_set};
+ghost use Rattle.std.specs.Prelude.{◌≡◌, ◌≢◌, ◌⊎◌, ℕ, ◌+◌, ◌<◌, ◌≤◌, ◌↔◌, ◌^◌, [], ◌∷◌, ◌++◌, Some, None, Ok, Err, OnOk, OnErr, IfOk, vec_len, vec_capacity, slice_index, slice_set};
 ghost use Rattle.lwkt_base.specs.Holding.{holding_of};
 ghost use Rattle.lwkt_base.specs.Refs.{first_mode};
 ghost use Rattle.lwkt_base.specs.declared.laws.Law.TheVariants.{Tally};

@@ -1,6 +1,6 @@
 //! A whole list of references: taken, or not at all.
-ghost use Rattle.std.specs.Prelude.{◌≡◌, ℕ, ◌+◌, ◌<◌, ◌≤◌, [], ◌++◌, length, take, All, vec_len, vec_capacity};
-ghost use Rattle.lwkt_base.specs.Holding.{holding_of, holds_nothing};
+ghost use Rattle.std.specs.Prelude.{◌≡◌, ℕ, ◌+◌, ◌<◌, ◌≤◌, [], ◌++◌, take, All, vec_len, vec_capacity};
+ghost use Rattle.lwkt_base.specs.Holding.{holds_nothing};
 ghost use Rattle.lwkt_bank.specs.Seats.{id_of, bank_of, tokens_of, holding};
 ghost use Rattle.lwkt_hold.specs.Fronts.{IsFront};
 ghost use Rattle.lwkt_hold.specs.Runs.{Ran};

@@ -1,5 +1,5 @@
 //! A processor of a machine sees what has been sent to it.
-ghost use Rattle.std.specs.Prelude.{◌≡◌, ◌<◌, All, Some, length, slice_get};
+ghost use Rattle.std.specs.Prelude.{◌≡◌, ◌<◌, All, Some, length};
 ghost use Rattle.lwkt_cpu.specs.Sights.{AreLinked};
 ghost use Rattle.lwkt_machine.specs.Machines.{AreAllJoined, AreNumbered};
 ghost use Rattle.lwkt_machine.specs.Sights.{SeesEach, SeesSent};

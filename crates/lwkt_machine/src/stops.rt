@@ -1,5 +1,5 @@
 //! The stop of a machine.
-ghost use Rattle.std.specs.Prelude.{◌≡◌, ℕ, ◌<◌, All, OnOk, OnErr, Err, Some, slice_get};
+ghost use Rattle.std.specs.Prelude.{◌≡◌, ℕ, ◌<◌, All, OnOk, OnErr, Err, Some};
 ghost use Rattle.lwkt_bank.specs.Seats.{id_of};
 ghost use Rattle.lwkt_machine.specs.Machines.{IsOfMachine};
 ghost use Rattle.lwkt_machine.specs.Ended.{AreSameCpus, AreOver, AreStopped, AreStoppedShort, StopsAll, StopsShort};

@@ -1,5 +1,5 @@
 //! The calls of a seat, over the bare seat of a processor and a message that exists.
-ghost use Rattle.std.specs.Prelude.{◌≡◌, ◌⊎◌, ◌↔◌, ℕ, ◌<◌, length, true, IsTrue, MatchResult};
+ghost use Rattle.std.specs.Prelude.{◌≡◌, ◌⊎◌, ◌↔◌, ℕ, ◌<◌, length, IsTrue, MatchResult};
 ghost use Rattle.lwkt_base.specs.declared.message_words.MsgState.TheVariants as state;
 ghost use Rattle.lwkt_base.specs.MessageWord.{message_word};
 ghost use Rattle.lwkt_base.specs.declared.names.CpuId.{CpuId};

@@ -1,5 +1,5 @@
 //! The notes of closed ports.
-ghost use Rattle.std.specs.Prelude.{◌≡◌, ◌↔◌, ℕ, ◌+◌, ◌-◌, ◌<◌, ◌≤◌, true, false, IsTrue, length, All, vec_len, vec_capacity};
+ghost use Rattle.std.specs.Prelude.{◌≡◌, ◌↔◌, ℕ, ◌+◌, ◌-◌, ◌<◌, ◌≤◌, true, false, IsTrue, vec_len};
 ghost use Rattle.lwkt_port.specs.Chains.{Chain};
 ghost use Rattle.lwkt_port.specs.Queues.{HasNamed};
 ghost use Rattle.lwkt_port.specs.Works.{work, CanStep, MailroomStands};

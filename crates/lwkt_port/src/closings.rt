@@ -1,7 +1,6 @@
 //! The port of a thread that has ended is closed.
-ghost use Rattle.std.specs.Prelude.{◌≡◌, ℕ, ◌+◌, ◌<◌, ◌≤◌, true, vec_len, slice_set};
+ghost use Rattle.std.specs.Prelude.{◌≡◌, ℕ, ◌+◌, ◌<◌, ◌≤◌, true, vec_len};
 ghost use Rattle.lwkt_port.specs.Closings.{gone_mail, OwesGone, PostCloses};
-ghost use Rattle.lwkt_port.specs.Mails.{kept_mail_at};
 ghost use Rattle.lwkt_port.specs.Posts.{IsSamePost};
 
 use crate::mails::Mail;

@@ -2,7 +2,6 @@
 ghost use Rattle.std.specs.Prelude.{◌≡◌, ◌≤◌, is_some, length};
 ghost use Rattle.lwkt_lane.specs.Lane.{in_hand};
 ghost use Rattle.lwkt_port.specs.Counts.{owed_count, in_hand_count, kept_count, queued_count};
-ghost use Rattle.lwkt_port.specs.Queues.{queue_of};
 
 use crate::lines::{Lane, has_none_in_hand};
 use crate::posts::Ports;

@@ -1,6 +1,6 @@
 //! The steps on one message: each with what is kept of the message then, and its event.
-ghost use Rattle.std.specs.Prelude.{◌≡◌, ◌+◌, ◌<◌, ◌≤◌, true, vec_len, vec_capacity, ◌++◌, length, MatchOption};
-ghost use Rattle.lwkt_msg.specs.Desks.{desk_cpu, cpus_of};
+ghost use Rattle.std.specs.Prelude.{◌≡◌, ◌+◌, ◌<◌, ◌≤◌, true, vec_len, vec_capacity, ◌++◌, MatchOption};
+ghost use Rattle.lwkt_msg.specs.Desks.{cpus_of};
 ghost use Rattle.lwkt_port.specs.Works.{work, away_count, HasToldThese, CanStep, MailroomStands, IsTaken};
 ghost use Rattle.lwkt_port.specs.Sendings.{MaySend};
 ghost use Rattle.lwkt_port.specs.Deeds.{taken_mail, mails_taken, take_events, Takes, reaped_mail, mails_reaped, reap_events, Reaps, replied_mail, Replies, sent_mail, Sends, IsRefused};

@@ -1,7 +1,5 @@
 //! One note that came over a lane, and one lane.
-ghost use Rattle.std.specs.Prelude.{◌≡◌, ◌↔◌, ◌+◌, ◌<◌, ◌≤◌, true, false, length, All, None, Some, IsTrue, MatchOption, vec_len, vec_capacity};
-ghost use Rattle.lwkt_lane.specs.Lane.{received, in_lane};
-ghost use Rattle.lwkt_port.specs.Mails.{kept_mail_at};
+ghost use Rattle.std.specs.Prelude.{◌≡◌, ◌↔◌, ◌+◌, ◌<◌, ◌≤◌, true, false, None, Some, IsTrue, vec_len};
 ghost use Rattle.lwkt_port.specs.Works.{away_count, CanStep, standing, KeepsStanding};
 ghost use Rattle.lwkt_port.specs.Posts.{KeepsNamed};
 ghost use Rattle.lwkt_port.specs.Queues.{NamesBoth};

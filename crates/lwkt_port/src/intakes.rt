@@ -1,5 +1,5 @@
 //! The notes that came over the lanes are taken in.
-ghost use Rattle.std.specs.Prelude.{◌≡◌, ◌⊎◌, ℕ, ◌+◌, ◌-◌, ◌<◌, ◌≤◌, false, List, length, All, None, IsTrue, IfSome, vec_len, vec_capacity};
+ghost use Rattle.std.specs.Prelude.{◌≡◌, ◌⊎◌, ℕ, ◌+◌, ◌-◌, ◌<◌, ◌≤◌, false, List, All, None, IsTrue, IfSome, vec_len, vec_capacity};
 ghost use Rattle.lwkt_msg.specs.Desks.{desk_cpu};
 ghost use Rattle.lwkt_port.specs.declared.lines.Lane.{Lane};
 ghost use Rattle.lwkt_port.specs.declared.queues.Port.{Port};

@@ -1,5 +1,5 @@
 //! The two lanes that join a processor with another one, or with itself.
-ghost use Rattle.std.specs.Prelude.{◌≡◌, ◌++◌, ◌∷◌, [], ◌↔◌, None, IsTrue, IsSome, IfSome, Some, true, false, MatchOption};
+ghost use Rattle.std.specs.Prelude.{◌≡◌, ◌++◌, ◌∷◌, [], ◌↔◌, None, IsTrue, Some, true, false, MatchOption};
 ghost use Rattle.lwkt_lane.specs.Lane.{in_hand};
 ghost use Rattle.lwkt_port.specs.Lines.{IsRoomed, HasPosted, IsDrained, HasPopped, HasNone, HasFoundNote};
 

@@ -1,5 +1,5 @@
 //! What the ports of a processor keep of each message.
-ghost use Rattle.std.specs.Prelude.{◌≡◌, ◌<◌, vec_len, vec_capacity};
+ghost use Rattle.std.specs.Prelude.{◌≡◌, ◌<◌, vec_len};
 ghost use Rattle.lwkt_port.specs.Mails.{kept_mail_at};
 
 use lwkt_base::{Rec, ThreadId};

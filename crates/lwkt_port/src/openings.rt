@@ -1,8 +1,7 @@
 //! The ports as they are opened.
-ghost use Rattle.std.specs.Prelude.{◌≡◌, ◌⊎◌, ℕ, ◌<◌, ◌≤◌, [], false, length, All, IfOk, MatchResult, ◌↔◌, IsTrue, vec_len, map};
+ghost use Rattle.std.specs.Prelude.{◌≡◌, ◌⊎◌, ℕ, ◌<◌, ◌≤◌, [], false, IfOk, MatchResult, ◌↔◌, IsTrue, map};
 ghost use Rattle.lwkt_base.specs.declared.faults.Fault.TheVariants.{Limits};
-ghost use Rattle.lwkt_msg.specs.Desks.{desk_cpu, cpus_of, messages_of};
-ghost use Rattle.lwkt_port.specs.Mails.{kept_mail_at, AreMails};
+ghost use Rattle.lwkt_msg.specs.Desks.{desk_cpu};
 ghost use Rattle.lwkt_port.specs.Openings.{new_mail, AreNewPorts, new_line, ArePaired, KeepLimits, IsFresh, AreOrigins, IsOpenedPost};
 
 use crate::counters::Counters;

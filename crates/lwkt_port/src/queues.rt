@@ -1,7 +1,7 @@
 //! The queues of one thread's port.
-ghost use Rattle.std.specs.Prelude.{◌≡◌, ℕ, ◌<◌, ◌≤◌, true, false, List, [], ◌∷◌, ◌++◌, ◌↔◌, length, IsTrue, MatchOption, MatchBool};
+ghost use Rattle.std.specs.Prelude.{◌≡◌, ℕ, ◌<◌, ◌≤◌, true, false, List, [], ◌∷◌, ◌++◌, ◌↔◌, length, MatchOption};
 ghost use Rattle.lwkt_lane.specs.declared.notes.Note.{Note};
-ghost use Rattle.lwkt_port.specs.Queues.{urgent_of, ordinary_of, queue_of, IsPut, IsQueued, HasLeft, NamesMessage, HasNamed};
+ghost use Rattle.lwkt_port.specs.Queues.{queue_of, IsPut, IsQueued, HasLeft, NamesMessage, HasNamed};
 
 use arrayvec::ArrayVec;
 use lwkt_lane::Note;

@@ -1,5 +1,5 @@
 //! A thread replies to a message, and is given the reply that it waited for.
-ghost use Rattle.std.specs.Prelude.{◌≡◌, ◌↔◌, ◌+◌, ◌<◌, ◌≤◌, true, length, slice_set, All, vec_len, vec_capacity, None, IsTrue, OnOk, IfErr};
+ghost use Rattle.std.specs.Prelude.{◌≡◌, ◌↔◌, ◌+◌, ◌<◌, ◌≤◌, true, slice_set, vec_len, vec_capacity, None, IsTrue, OnOk, IfErr};
 ghost use Rattle.lwkt_msg.specs.Desks.{desk_cpu, messages_of};
 ghost use Rattle.lwkt_port.specs.Mails.{kept_mail_at};
 ghost use Rattle.lwkt_port.specs.Works.{work, Grew, CanStep, MailroomStands, KeepsPorts, IsTaken};

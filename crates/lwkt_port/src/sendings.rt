@@ -1,9 +1,7 @@
 //! A thread sends a message.
-ghost use Rattle.std.specs.Prelude.{◌≡◌, ◌↔◌, ◌+◌, ◌<◌, ◌≤◌, true, false, length, vec_len, vec_capacity, All, IsTrue, OnOk, IfErr, MatchResult};
+ghost use Rattle.std.specs.Prelude.{◌≡◌, ◌↔◌, ◌+◌, ◌<◌, ◌≤◌, true, false, vec_len, vec_capacity, IsTrue, OnOk, IfErr, MatchResult};
 ghost use Rattle.lwkt_msg.specs.Desks.{desk_cpu, cpus_of};
 ghost use Rattle.lwkt_msg.specs.Views.{no_flags};
-ghost use Rattle.lwkt_port.specs.Lines.{IsRoomed};
-ghost use Rattle.lwkt_port.specs.Mails.{kept_mail_at};
 ghost use Rattle.lwkt_port.specs.Works.{work, Grew, CanStep, MailroomStands, KeepsPorts};
 ghost use Rattle.lwkt_port.specs.Sendings.{IsPortName, MaySend, SendsOver, RefusesOver, HasSentNote, WhyUnsent, PostSends, PostRefuses};
 ghost use Rattle.lwkt_port.specs.Posts.{IsSamePost};

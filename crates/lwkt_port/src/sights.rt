@@ -1,5 +1,5 @@
 //! Where the ports of two processors are both at hand, the one sees what the other has sent, and what it has sent to itself.
-ghost use Rattle.std.specs.Prelude.{◌≡◌, ℕ, ◌<◌, All, slice_index_or, vec_len};
+ghost use Rattle.std.specs.Prelude.{◌≡◌, ℕ, ◌<◌};
 ghost use Rattle.lwkt_lane.specs.Lane.{IsLane};
 ghost use Rattle.lwkt_port.specs.Posts.{ChangesOne, AreStillLines, IsSamePost};
 ghost use Rattle.lwkt_port.specs.Sights.{AreEnds, SeesAll, LooksBeside, SeesOwnLine, SeesAllFrom, AreJoined, PostSees, PostSeesOwn};

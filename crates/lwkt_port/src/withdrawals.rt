@@ -1,9 +1,8 @@
 //! A thread drops a message of its own, asks for it to be aborted, or hears whether one that it was shown is to be aborted.
-ghost use Rattle.std.specs.Prelude.{◌≡◌, ◌↔◌, ◌+◌, ◌<◌, ◌≤◌, List, length, vec_len, vec_capacity, true, IsTrue, IsOk, OnOk, IfOk, IfErr};
+ghost use Rattle.std.specs.Prelude.{◌≡◌, ◌↔◌, ◌+◌, ◌<◌, ◌≤◌, List, vec_len, vec_capacity, true, IsTrue, IsOk, OnOk, IfOk, IfErr};
 ghost use Rattle.lwkt_core.specs.declared.events.Event.{Event};
 ghost use Rattle.lwkt_msg.specs.Desks.{desk_cpu, IsSameDesk};
 ghost use Rattle.lwkt_port.specs.Posts.{IsSamePost};
-ghost use Rattle.lwkt_port.specs.Sendings.{IsShownTo};
 ghost use Rattle.lwkt_port.specs.Tellings.{TellsDeeds};
 ghost use Rattle.lwkt_port.specs.Works.{work, Grew, CanStep, MailroomStands, IsTaken, HasOwn};
 ghost use Rattle.lwkt_port.specs.Withdrawals.{IsOwnOf, Requests, IsUnasked, Drops, IsUntouched, MayRefuseAbort, MayRefuseDrop, IsHeard, PostAborts, PostRefusesAbort, PostDrops, PostRefusesDrop, PostHears, PostRefusesHearing};

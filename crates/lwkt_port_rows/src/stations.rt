@@ -1,6 +1,6 @@
 //! A book and the ports of two processors, and tables of calls on them.
 ghost use Rattle.std.specs.Prelude.{◌≡◌, ℕ, ◌+◌, ◌<◌, ◌≤◌, ◌∷◌, [], length, map, vec_len, vec_capacity, IfOk, IfSome};
-ghost use Rattle.lwkt_msg.specs.Desks.{AreSeats, IsOpened, messages_of, cpus_of};
+ghost use Rattle.lwkt_msg.specs.Desks.{AreSeats, IsOpened};
 ghost use Rattle.lwkt_base.specs.declared.openings.MsgSpec.{MsgSpec};
 ghost use Rattle.lwkt_port.specs.Openings.{ArePaired};
 ghost use Rattle.lwkt_port_rows.specs.Stations.{AreOverSeat};

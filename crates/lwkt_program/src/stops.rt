@@ -1,7 +1,6 @@
 //! The stop of a machine.
 ghost use Rattle.std.specs.Prelude.{◌≡◌, All, Err, OnErr, OnOk, length};
 ghost use Rattle.lwkt_bank.specs.Seats.{id_of};
-ghost use Rattle.lwkt_cpu.specs.Processors.{AllOver};
 ghost use Rattle.lwkt_drive.specs.Course.{IsAtTables};
 ghost use Rattle.lwkt_program.specs.Ended.{IsStopped, AreStopped, AreStoppedShort};
 ghost use Rattle.lwkt_program.specs.Machines.{Lasts};

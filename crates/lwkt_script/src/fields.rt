@@ -1,5 +1,5 @@
 // The fields of a script's parts.
-ghost use Rattle.std.specs.Prelude.{◌≡◌, ◌≤◌, is_some, option_map, Err, IfOk, IfSome, OnErr};
+ghost use Rattle.std.specs.Prelude.{◌≡◌, ◌≤◌, is_some, Err, IfOk, IfSome, OnErr};
 ghost use Rattle.serde_json.specs.Find.{get};
 ghost use Rattle.serde_json.specs.View.{view, items_view};
 ghost use Rattle.lwkt_script.specs.Field.{has_members, item_count, number, number_in, list_in};

@@ -1,8 +1,7 @@
 //! References asked for, marked and given back.
-ghost use Rattle.std.specs.Prelude.{◌≡◌, ℕ, ◌+◌, ◌-◌, ◌*◌, ◌<◌, ◌≤◌, true, false, IsTrue};
+ghost use Rattle.std.specs.Prelude.{◌≡◌, ℕ, ◌+◌, ◌-◌, ◌*◌, ◌<◌, ◌≤◌, true, false};
 ghost use Rattle.lwkt_base.specs.Holding.{references_in};
 ghost use Rattle.lwkt_bank.specs.Seats.{id_of, bank_of, tokens_of, holding, references};
-ghost use Rattle.lwkt_bank.specs.Views.{count_from};
 ghost use Rattle.lwkt_seats.specs.Asks.{is_upgrade, has_no_reference, AsksFor, Furthers, MarksToken, GivesToken};
 ghost use Rattle.lwkt_seats.specs.Seated.{KeepsBankAndCpu};
 

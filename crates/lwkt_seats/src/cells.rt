@@ -1,6 +1,6 @@
 //! The cells of a token that a seat holds.
 ghost use Rattle.std.specs.Prelude.{◌≡◌, ◌<◌};
-ghost use Rattle.lwkt_bank.specs.Seats.{id_of, bank_of, tokens_of};
+ghost use Rattle.lwkt_bank.specs.Seats.{id_of, bank_of};
 ghost use Rattle.lwkt_seats.specs.Cells.{Loads, StoresInCell, AddsToCell, JudgesToken, Restores};
 ghost use Rattle.lwkt_seats.specs.Seated.{KeepsBankAndCpu};
 

@@ -1,5 +1,5 @@
 //! The opening of a bank for C.
-ghost use Rattle.std.specs.Prelude.{◌≡◌, ◌≢◌, ◌⊎◌, ◌↔◌, ℕ, ◌<◌, ◌≤◌, [], length, option_map, All, IsTrue, IfOk, IfErr, Err, OnOk, slice_get};
+ghost use Rattle.std.specs.Prelude.{◌≡◌, ◌≢◌, ◌⊎◌, ◌↔◌, ℕ, ◌<◌, ◌≤◌, [], length, option_map, All, IsTrue, IfOk, IfErr, Err};
 ghost use Rattle.std.specs.Arc.{arc_value};
 ghost use Rattle.lwkt_base.specs.Law.{OpensLawfully};
 ghost use Rattle.lwkt_core.specs.Opening.{AreWithin, AllOpenLawfully, IsTokenWithin};

@@ -1,6 +1,6 @@
 //! Arguments that name an order of turns.
-ghost use Rattle.std.specs.Prelude.{◌≡◌, ◌≤◌, ◌∷◌, ◌++◌, true, false, ℕ, List, IsTrue, IfOk, IfSome, IsSomeAnd, OnOk, OnErr, Some, codes, map, string_bytes};
-ghost use Rattle.std.specs.List.{list_all, flat_map};
+ghost use Rattle.std.specs.Prelude.{◌≡◌, ◌≤◌, ◌∷◌, ◌++◌, false, ℕ, List, IsTrue, IfOk, IfSome, IsSomeAnd, OnOk, OnErr, Some, codes, map, string_bytes};
+ghost use Rattle.std.specs.List.{list_all};
 ghost use Rattle.lwkt_scenes.specs.declared.reels.Counted.TheVariants.{Turns};
 ghost use Rattle.lwkt_show.specs.declared.options.Options.{Options};
 ghost use Rattle.lwkt_show.specs.Arguments.{Say, has_range, no_end};

@@ -1,8 +1,7 @@
-ghost use Rattle.std.specs.Prelude.{◌≡◌, ◌≤◌, ◌⊎◌, if◌then◌else◌, Err, IsTrue, IfOk, IfErr, IfSome, IsNone, length, map, string_bytes};
+ghost use Rattle.std.specs.Prelude.{◌≡◌, ◌≤◌, ◌⊎◌, if◌then◌else◌, Err, IsTrue, IfOk, IfErr, IfSome, IsNone, map, string_bytes};
 ghost use Rattle.std.specs.Option.{option_copied};
-ghost use Rattle.lwkt_run.specs.Run.{IsTurnsRun, Refuses};
-ghost use Rattle.lwkt_scenes.specs.Shown.{first_turn};
-ghost use Rattle.std.specs.Prelude.{ℕ, List, OnErr, false};
+ghost use Rattle.lwkt_run.specs.Run.{Refuses};
+ghost use Rattle.std.specs.Prelude.{ℕ, List, false};
 ghost use Rattle.lwkt_report.specs.Complaint.{IsSaid};
 ghost use Rattle.lwkt_scenes.specs.Shown.{MayBeRefused};
 ghost use Rattle.lwkt_show.specs.Arguments.{AreOptions, AskThreads};

@@ -1,7 +1,7 @@
 ghost use Rattle.std.specs.Prelude.{◌≡◌, ◌<◌, OnOk, OnErr, Err, IfOk};
 ghost use Rattle.lwkt_script.specs.Format.{threads_on};
 ghost use Rattle.lwkt_text.specs.Within.{IsDraft};
-ghost use Rattle.lwkt_text.specs.Drafting.{no_draft, blamed, crowded, closed, thread_begun, stepped, put, sentence_told, all_told};
+ghost use Rattle.lwkt_text.specs.Drafting.{no_draft, crowded, closed, thread_begun, stepped, put, sentence_told, all_told};
 ghost use Rattle.lwkt_text.specs.Outcome.{out_of_memory};
 
 use crate::claims::Expectation;

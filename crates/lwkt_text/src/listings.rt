@@ -1,5 +1,5 @@
 ghost use Rattle.std.specs.Prelude.{◌≡◌, ◌≤◌, ◌<◌, OnOk, OnErr, Err, IfOk};
-ghost use Rattle.lwkt_text.specs.Listing.{no_names, no_listing, new_name, names_read, wrong_noted, token_added, message_added, next_thread, thread_added, cpu_named, cpu_used, thread_used, HasCpus, token_listed, message_listed, thread_listed, cpus_listed, sentence_listed, all_listed, names_of};
+ghost use Rattle.lwkt_text.specs.Listing.{no_names, no_listing, new_name, names_read, token_added, message_added, next_thread, thread_added, cpu_named, cpu_used, thread_used, HasCpus, token_listed, message_listed, thread_listed, cpus_listed, sentence_listed, all_listed, names_of};
 ghost use Rattle.lwkt_text.specs.Looking.{number_at};
 ghost use Rattle.lwkt_text.specs.Parting.{cells_in};
 ghost use Rattle.lwkt_text.specs.Outcome.{out_of_memory};

@@ -1,7 +1,7 @@
 // What the words of a sentence say, by their places.
 ghost use Rattle.std.specs.Prelude.{◌≡◌, ◌≤◌, ◌+◌, length, option_and_then, IfSome, IfOk};
 ghost use Rattle.lwkt_script.specs.Field.{within};
-ghost use Rattle.lwkt_text.specs.Looking.{text_at, is_at, sentence_end, place_of_word, wrong_at, part_at, demand_at, ends_at, digit_added, digits, decimal_number, number_at, bytes_of, bytes_at, past_key, optional, is_name, name_at};
+ghost use Rattle.lwkt_text.specs.Looking.{text_at, is_at, sentence_end, place_of_word, wrong_at, demand_at, ends_at, digit_added, digits, decimal_number, number_at, bytes_of, bytes_at, past_key, optional, is_name, name_at};
 
 use crate::words::Word;
 use crate::wrongs::{What, Wrong};

@@ -1,4 +1,4 @@
-ghost use Rattle.std.specs.Prelude.{◌≡◌, ◌<◌, ◌≤◌, length, Ok, Err, IfOk, IfErr};
+ghost use Rattle.std.specs.Prelude.{◌≡◌, ◌<◌, ◌≤◌, Ok, Err, IfOk, IfErr};
 ghost use Rattle.lwkt_script.specs.Limits.{IsWithinLimits};
 ghost use Rattle.lwkt_text.specs.Within.{IsDraft};
 ghost use Rattle.lwkt_text.specs.Reading.{sealed, reading_of};

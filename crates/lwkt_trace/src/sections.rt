@@ -1,4 +1,4 @@
-ghost use Rattle.std.specs.Prelude.{◌≡◌, ◌≤◌, length};
+ghost use Rattle.std.specs.Prelude.{◌≡◌, ◌≤◌};
 ghost use Rattle.serde_json.specs.View.{view, items_view};
 ghost use Rattle.lwkt_trace.specs.Words.{row_of, row_item, section_items};
 

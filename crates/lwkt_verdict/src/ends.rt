@@ -1,6 +1,6 @@
 ghost use Rattle.std.specs.Prelude.{◌≡◌, ℕ, ◌<◌, ◌+◌, ◌*◌, ◌↔◌, IsTrue, length, MatchOption, IfSome, slice_get};
 ghost use Rattle.lwkt_verdict.specs.Threads.{EndsAs};
-ghost use Rattle.lwkt_verdict.specs.Homes.{IsHomeOf, AreHomes};
+ghost use Rattle.lwkt_verdict.specs.Homes.{AreHomes};
 ghost use Rattle.lwkt_verdict.specs.Progressed.{EndsAt};
 
 use crate::homes::{Home, THREAD_LIMIT, home_at};

@@ -1,4 +1,4 @@
-ghost use Rattle.std.specs.Prelude.{◌≡◌, ℕ, ◌<◌, ◌+◌, ◌*◌, ◌↔◌, IsTrue, length, MatchOption, slice_index_or, None};
+ghost use Rattle.std.specs.Prelude.{◌≡◌, ℕ, ◌<◌, ◌+◌, ◌*◌, ◌↔◌, length, MatchOption, slice_index_or, None};
 ghost use Rattle.lwkt_verdict.specs.Homes.{IsHomeOf, AreHomes};
 ghost use Rattle.lwkt_verdict.specs.Run.{IsPaired};
 

@@ -1,7 +1,6 @@
 ghost use Rattle.std.specs.Prelude.{◌≡◌, ◌≤◌, ◌↔◌, ◌+◌, ◌==◌, IsTrue, length, slice_get, Some};
 ghost use Rattle.lwkt_base.specs.declared.holdings.Held.TheVariants.{Holds};
 ghost use Rattle.lwkt_base.specs.declared.names.Mode.TheVariants.{Exclusive};
-ghost use Rattle.lwkt_core.specs.Values.{cell_at};
 ghost use Rattle.lwkt_verdict.specs.Owns.{can_break, MayEndBroken, MayStoreFirst, MayPutFirst, IsQuiet, agrees, agrees_with_record, is_read, is_write, is_record_read, is_record_write, is_raise, is_send_of, is_reply_of, is_abort_of, is_drop_of, is_own, is_send, first_send, own_place, ends_taking, has_blocked};
 
 use crate::asks::is_do;

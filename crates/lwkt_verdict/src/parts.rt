@@ -1,7 +1,7 @@
 ghost use Rattle.std.specs.Prelude.{◌≡◌, ◌↔◌, IsTrue, true};
 ghost use Rattle.lwkt_core.specs.Machine.{Needs, after};
 ghost use Rattle.lwkt_verdict.specs.Owns.{IsQuiet, is_own};
-ghost use Rattle.lwkt_verdict.specs.Parts.{after_all, GoesQuietly, must_make, may_make, HappensFrom, GoesFrom, IsPartOf};
+ghost use Rattle.lwkt_verdict.specs.Parts.{after_all, GoesQuietly, must_make, may_make, GoesFrom, IsPartOf};
 
 use crate::asks::{is_refused, makes_event};
 use crate::owns::{is_own, is_quiet, own_place};

@@ -1,5 +1,5 @@
 //! The polls of a run, packed: a short row for each, and lists of what is too long for a row.
-ghost use Rattle.std.specs.Prelude.{◌≡◌, length, IfOk, OnOk, OnErr, Some, None, [], ◌∷◌, ◌++◌, slice_get, is_some, option_map, if◌then◌else◌};
+ghost use Rattle.std.specs.Prelude.{◌≡◌, length, OnOk, OnErr, Some, None, [], ◌∷◌, ◌++◌, slice_get, is_some, option_map, if◌then◌else◌};
 ghost use Rattle.lwkt_core.specs.Machine.{changed};
 ghost use Rattle.lwkt_verdict.specs.Asks.{is_refused};
 

@@ -1,4 +1,4 @@
-ghost use Rattle.std.specs.Prelude.{◌≡◌, ℕ, ◌<◌, ◌+◌, ◌*◌, ◌-◌, ◌^◌, ◌↔◌, IsTrue, true, length, MatchOption, IfSome, slice_get, slice_set, slice_index_or, Some, None};
+ghost use Rattle.std.specs.Prelude.{◌≡◌, ℕ, ◌<◌, ◌+◌, ◌*◌, ◌-◌, ◌^◌, ◌↔◌, IsTrue, true, length, MatchOption, IfSome, slice_get, slice_set, Some, None};
 ghost use Rattle.lwkt_verdict.specs.Asks.{may_answer};
 ghost use Rattle.lwkt_verdict.specs.Threads.{slot_of, progress_after, Rests};
 ghost use Rattle.lwkt_verdict.specs.Run.{poll_of, asked_of_poll, PollFits, IdlesAt};

@@ -1,4 +1,4 @@
-ghost use Rattle.std.specs.Prelude.{◌≡◌, ◌≤◌, ℕ, List, false, true, length, map, string_bytes, IsTrue, Some};
+ghost use Rattle.std.specs.Prelude.{◌≡◌, ◌≤◌, ℕ, List, false, true, length, map, string_bytes, IsTrue};
 ghost use Rattle.lwkt_report.specs.declared.sources.TheConstants.{READ_LIMIT};
 ghost use Rattle.lwkt_show.specs.declared.options.Options.{Options};
 ghost use Rattle.lwkt_show.specs.Arguments.{AreOptions, AskThreads};
