@@ -20,7 +20,7 @@ const OTHER_CLOSE: &str =
     "{\"rows\":[[5,5],[3],[1]],\"gens\":[0,1,4],\"tallies\":[[],[0,0,0],[]],\"messages\":[[\"rest\",0,0],[\"rest\",1,2251799813685247]],\"records\":[null,null,\"61\"]}";
 
 // Events that can happen, that can't, and that are none.
-const EVENTS: [&[&str]; 14] = [
+const EVENTS: [&[&str]; 23] = [
     &[],
     &["[\"load\",2,2]"],
     &["[\"take\",0,0]", "[\"give_clean\",0,0]"],
@@ -49,6 +49,33 @@ const EVENTS: [&[&str]; 14] = [
     &["[\"share\",2,0]"],
     &["null"],
     &["\"take\""],
+    &[
+        "[\"share\", 2,0]",
+        "[\"again\",2 ,0]",
+        " [\"mark\",1,0]",
+        "[\"give_one\",2,0] ",
+        "[\"give_one\",2,0]",
+    ],
+    &[
+        "[\"\\u0074ake\",0,0]",
+        "[\"read\",0,0,1,5]",
+        "[\"give_written\",0,0,0,[5,5],[5,5]]",
+    ],
+    &[
+        "[\"send\",0,0,1,1]",
+        "[\"take_msg\",1,0,1]",
+        "[\"reply\",1,0]",
+        "[\"reap\",0,0]",
+        "[\"send\",0,0,2,2]",
+        "[\"abort\",0,0]",
+        "[\"drop\",0,0]",
+    ],
+    &["[\"take\",256,0]"],
+    &["[\"take\",0,-0]"],
+    &["[\"take\",0,0.0]"],
+    &["[\"send\",0,0,1,18446744073709551616]"],
+    &["[\"take\",0,0,1]"],
+    &["[\"read\",0,0,0,5,5]"],
 ];
 
 // Lines from the opening on, with what is said of them.
@@ -88,7 +115,7 @@ const PLACES: [(&str, &str); 11] = [
 ];
 
 // What stands behind an opening, with what is said of both.
-const PLACES_BEHIND: [(&str, &str); 11] = [
+const PLACES_BEHIND: [(&str, &str); 18] = [
     ("", "lawful\n"),
     ("\n", "lawful\n"),
     ("\n\n", "lwkt_check: fault 33 at 1000000\n"),
@@ -115,6 +142,13 @@ const PLACES_BEHIND: [(&str, &str); 11] = [
         "\n[\"load\",1,0]\n[\"load\",0]",
         "lwkt_check: fault 33 at 1000001\n",
     ),
+    ("\n[\"take\",00,0]", "lwkt_check: fault 33 at 1000000\n"),
+    ("\n[\"take\",0,0,]", "lwkt_check: fault 33 at 1000000\n"),
+    ("\n[\"take\",0,0]]", "lwkt_check: fault 33 at 1000000\n"),
+    ("\n[\"take\",0,0", "lwkt_check: fault 33 at 1000000\n"),
+    ("\n[\"take,0,0]", "lwkt_check: fault 33 at 1000000\n"),
+    ("\n[\"", "lwkt_check: fault 33 at 1000000\n"),
+    ("\n[\"take\"0,0]", "lwkt_check: fault 33 at 1000000\n"),
 ];
 
 // What is found of lines, or why nothing is, in words.

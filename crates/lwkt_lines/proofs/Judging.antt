@@ -1,6 +1,6 @@
 -- What a judge knows after a line.
 use Rattle.std.proofs.Common.{◌≡◌, ◌<◌, ◌≤◌, ℕ, List, length, Bool, true, false, Option, None, Some, Result, Ok, Err, refl, ap, sym, ◌∙◌, subst, lt-ltb}
-use Rattle.std.specs.Prelude.{IfOk, IfErr, MatchOption, String}
+use Rattle.std.specs.Prelude.{nat_lt, IfOk, IfErr, MatchOption, String}
 use Rattle.std.specs.Global.{Global}
 use Rattle.std.specs.Option.{is_some as has_some}
 use Rattle.serde_json.specs.Data.{Data}
@@ -8,11 +8,13 @@ use Rattle.serde_json.specs.Find.{as_object}
 use Rattle.lwkt_base.specs.declared.faults.Fault.{Fault as Refusal}
 use Rattle.lwkt_base.specs.declared.faults.Fault.TheVariants.{Script as ScriptFault, Memory}
 use Rattle.lwkt_core.specs.Machine.{Machine}
-use Rattle.lwkt_script.specs.Outcome.{◌>>=◌, ◌>>◌, part, IsFaultOf as IsRefused}
+use Rattle.lwkt_core.specs.declared.events.Event.{Event}
+use Rattle.lwkt_script.specs.Outcome.{◌>>=◌, ◌>>◌, part, demand, IsFaultOf as IsRefused}
 use Rattle.lwkt_trace.specs.declared.traces.Closing.{Closing}
 use Rattle.lwkt_trace.specs.declared.traces.Told.{Told}
 use Rattle.lwkt_trace.specs.declared.traces.Trace.{Trace}
 use Rattle.lwkt_trace.specs.Format.{closing_at, there}
+use Rattle.lwkt_trace.specs.Readback.{event_data}
 use Rattle.lwkt_trace.specs.Words.{event_of}
 use Rattle.lwkt_checker.specs.declared.judges.Finding.TheVariants.{Lawful, Unlawful}
 use Rattle.lwkt_lines.specs.Line.{value_of}
@@ -21,7 +23,9 @@ use Rattle.lwkt_lines.specs.Judged.{StandsWith, OpensTrace, OpensSo, IsJudgedTra
 use Rattle.lwkt_lines.specs.declared.judges.Judge.{Judge}
 use Rattle.lwkt_lines.specs.declared.standings.Standing.{Standing}
 use Rattle.lwkt_lines.specs.declared.standings.Standing.TheVariants.{Awaits, Plays, Fails, Declined}
+use Rattle.lwkt_lines.specs.Written.{IsWritten}
 use Rattle.lwkt_lines.proofs.Stops.{lawful}
+use Rattle.lwkt_lines.proofs.Writing.{written_value}
 
 -- no closing values have come
 pub none_of : (o : Option Closing) → has_some o ≡ false → o ≡ None
@@ -34,6 +38,27 @@ not_closed judge trace knows open_still = none_of trace.last (sym knows.closed �
 -- an event is taken where there is room for it
 pub event_taken : (trace : Trace) (d : Data) (x : Told) → length trace.events < 1000000000000000 → event_of d ≡ Some x → with_event trace d ≡ Ok (with_told trace x)
 event_taken trace d x room is = rw (lt-ltb (length trace.events) 1000000000000000 room) (ap (λ (o : Option Told). part (event_place (length trace.events)) o >>= λ e. Ok (with_told trace e)) is)
+
+refused_or : (b : Bool) (place : ℕ) (trace : Trace) → (demand place b >> (part place None >>= λ e. Ok (with_told trace e))) ≡ Err place
+refused_or true place trace = refl
+refused_or false place trace = refl
+
+-- what is no event is refused, whether there is room or not
+pub event_none : (trace : Trace) (d : Data) → event_of d ≡ None → with_event trace d ≡ Err (event_place (length trace.events))
+event_none trace d is =
+    ap (λ (o : Option Told). demand (event_place (length trace.events)) (nat_lt (length trace.events) 1000000000000000) >> (part (event_place (length trace.events)) o >>= λ e. Ok (with_told trace e))) is
+    ∙ refused_or (nat_lt (length trace.events) 1000000000000000) (event_place (length trace.events)) trace
+
+-- what is said of each value that tells so, is said of one
+pub given_lifts : (r : Result Judge Refusal) (judge : Judge) (x : Told) (d : Data) → event_of d ≡ Some x → IfOk r (λ after. (trace : Trace) (v : Data) → trace.last ≡ None → JudgeKnows judge trace → event_of v ≡ Some x → (u : Trace) × ((with_event trace v ≡ Ok u) × JudgeKnows after u))
+    → IfOk r (λ after. (trace : Trace) → trace.last ≡ None → JudgeKnows judge trace → (u : Trace) × ((with_event trace d ≡ Ok u) × JudgeKnows after u))
+given_lifts (Ok after) judge x d is told = λ (trace : Trace) (open_still : trace.last ≡ None) (knows : JudgeKnows judge trace). told trace d open_still knows is
+given_lifts (Err fault) judge x d is told = tt
+
+pub given_refused_lifts : (r : Result Judge Refusal) (judge : Judge) (x : Told) (d : Data) → event_of d ≡ Some x → IfErr r (λ fault. (trace : Trace) (v : Data) → JudgeKnows judge trace → event_of v ≡ Some x → IsRefused fault (with_event trace v))
+    → IfErr r (λ fault. (trace : Trace) → JudgeKnows judge trace → IsRefused fault (with_event trace d))
+given_refused_lifts (Ok after) judge x d is refused = tt
+given_refused_lifts (Err fault) judge x d is refused = λ (trace : Trace) (knows : JudgeKnows judge trace). refused trace d knows is
 
 -- closing values
 pub closing_taken : (trace : Trace) (d : Data) (closing : Closing) → closing_at d ≡ Ok closing → with_closing trace d ≡ Ok (with_last trace closing)
@@ -64,6 +89,11 @@ value_closing trace d is = rw is refl
 
 pub value_event : (trace : Trace) (d : Data) → has_some (as_object d) ≡ false → with_rest trace d ≡ with_event trace d
 value_event trace d is = rw is refl
+
+-- a line that is an event just as it is written
+pub written_line : (trace : Trace) (line : List ℕ) (e : Event) → has_some trace.last ≡ false → IsWritten line e → with_line trace line ≡ with_event trace (event_data e)
+written_line trace line e open_still is =
+    line_value trace line (event_data e) open_still (ap (part (event_place (length trace.events))) (written_value line e is)) ∙ value_event trace (event_data e) refl
 
 -- one that knows a trace awaits no opening
 begun_so : (trace : Trace) (standing : Standing) → StandsWith trace standing → awaits standing ≡ false

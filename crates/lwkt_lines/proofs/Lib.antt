@@ -1,4 +1,5 @@
 pub mod LineLemmas
 pub mod ToldLines
 pub mod Stops
+pub mod Writing
 pub mod Judging

@@ -5,15 +5,18 @@ ghost use Rattle.lwkt_checker.specs.Judgement.{DeclinesTrace};
 ghost use Rattle.lwkt_lines.specs.Line.{value_of};
 ghost use Rattle.lwkt_lines.specs.Format.{event_place, with_event, with_closing, with_line, next};
 ghost use Rattle.lwkt_lines.specs.Judged.{StandsWith, OpensSo, IsJudgedTrace, JudgeKnows, awaits, Judges, lines_left};
+ghost use Rattle.serde_json.specs.Data.{Data};
 ghost use Rattle.serde_json.specs.View.{view};
+ghost use Rattle.lwkt_trace.specs.Words.{event_of};
 
 use crate::openings::opened;
 use crate::standings::Standing;
 use crate::values::value_of;
+use crate::written::{told_alone, written_event};
 use lwkt_base::Fault;
 use lwkt_checker::Finding;
 use lwkt_core::State;
-use lwkt_trace::{Trace, closing_at, event_of};
+use lwkt_trace::{Told, Trace, closing_at, event_of};
 use serde_json::Value;
 use std::alloc::Global;
 
@@ -108,6 +111,33 @@ impl Judge {
         matches!(self.standing, Standing::Awaits)
     }
 
+    // Takes an event that is told so.
+    fn and_told(self, alloc: Global, told: &Told) -> Result<Judge, Fault>
+        requires { awaits self.standing ≡ false }
+        ensures told { IfOk result (λ judge. (trace : Trace) (d : Data) → trace.last ≡ None → JudgeKnows self trace → event_of d ≡ Some told.now → (after : Trace) × ((with_event trace d ≡ Ok after) × JudgeKnows judge after)) }
+        ensures fewer { IfOk result (λ judge. lines_left judge < lines_left self) }
+        ensures refused { IfErr result (λ fault. (trace : Trace) (d : Data) → JudgeKnows self trace → event_of d ≡ Some told.now → IsRefused fault (with_event trace d)) }
+    {
+        let Judge {
+            count,
+            closed,
+            standing,
+        } = self;
+        if count >= EVENT_LIMIT {
+            return Err(Fault::Script {
+                place: event_place(count),
+            });
+        }
+        match standing.and_event(alloc, count, told) {
+            Ok(standing) => Ok(Judge {
+                count: count + 1,
+                closed,
+                standing,
+            }),
+            Err(refused) => Err(Fault::Memory(refused)),
+        }
+    }
+
     // Takes an event.
     fn and_event(self, alloc: Global, value: &Value) -> Result<Judge, Fault>
         requires { awaits self.standing ≡ false }
@@ -115,25 +145,11 @@ impl Judge {
         ensures fewer { IfOk result (λ judge. lines_left judge < lines_left self) }
         ensures refused { IfErr result (λ fault. (trace : Trace) → JudgeKnows self trace → IsRefused fault (with_event trace (view value.now))) }
     {
-        let Judge {
-            count,
-            closed,
-            standing,
-        } = self;
-        let place = event_place(count);
-        if count >= EVENT_LIMIT {
-            return Err(Fault::Script { place });
-        }
-        let Some(told) = event_of(value) else {
-            return Err(Fault::Script { place });
-        };
-        match standing.and_event(alloc, count, &told) {
-            Ok(standing) => Ok(Judge {
-                count: count + 1,
-                closed,
-                standing,
+        match event_of(value) {
+            Some(told) => self.and_told(alloc, &told),
+            None => Err(Fault::Script {
+                place: event_place(self.count),
             }),
-            Err(refused) => Err(Fault::Memory(refused)),
         }
     }
 
@@ -162,16 +178,14 @@ impl Judge {
         }
     }
 
-    // Takes a line behind the opening.
+    // Takes a line behind the opening, before the closing values.
     fn and_line(self, alloc: Global, line: &[u8]) -> Result<Judge, Fault>
-        requires { awaits self.standing ≡ false }
+        requires begun { awaits self.standing ≡ false }
+        requires open { self.closed ≡ false }
         ensures told { IfOk result (λ judge. (trace : Trace) → JudgeKnows self trace → (after : Trace) × ((with_line trace line.now ≡ Ok after) × JudgeKnows judge after)) }
         ensures fewer { IfOk result (λ judge. lines_left judge < lines_left self) }
         ensures refused { IfErr result (λ fault. (trace : Trace) → JudgeKnows self trace → IsRefused fault (with_line trace line.now)) }
     {
-        if self.closed {
-            return Err(Fault::Script { place: 6 });
-        }
         let value = match value_at(alloc, event_place(self.count), line) {
             Ok(value) => value,
             Err(fault) => return Err(fault),
@@ -180,6 +194,22 @@ impl Judge {
             self.and_closing(alloc, &value)
         } else {
             self.and_event(alloc, &value)
+        }
+    }
+
+    // Takes a line behind the opening, which is read by its bytes alone where it is an event just as it is written.
+    fn and_further(self, alloc: Global, line: &[u8]) -> Result<Judge, Fault>
+        requires { awaits self.standing ≡ false }
+        ensures told { IfOk result (λ judge. (trace : Trace) → JudgeKnows self trace → (after : Trace) × ((with_line trace line.now ≡ Ok after) × JudgeKnows judge after)) }
+        ensures fewer { IfOk result (λ judge. lines_left judge < lines_left self) }
+        ensures refused { IfErr result (λ fault. (trace : Trace) → JudgeKnows self trace → IsRefused fault (with_line trace line.now)) }
+    {
+        if self.closed {
+            return Err(Fault::Script { place: 6 });
+        }
+        match written_event(line) {
+            Some(event) => self.and_told(alloc, &told_alone(&event)),
+            None => self.and_line(alloc, line),
         }
     }
 
@@ -204,7 +234,7 @@ impl Judge {
         if self.awaits() {
             opened_by(alloc, line)
         } else {
-            self.and_line(alloc, line)
+            self.and_further(alloc, line)
         }
     }
 

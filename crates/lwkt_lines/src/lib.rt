@@ -13,6 +13,7 @@ mod openings;
 mod programs;
 mod standings;
 mod values;
+mod written;
 
 pub use judges::Judge;
 pub use lines::{LINE_LIMIT, Lines};

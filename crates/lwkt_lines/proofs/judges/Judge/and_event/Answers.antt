@@ -1,23 +1,10 @@
-use Rattle.std.proofs.Common.{◌≡◌, ◌<◌, [], ◌∷◌, length, sym, arith, length-append}
+use Rattle.std.proofs.Common.{sym}
 use Rattle.serde_json.specs.View.{view}
-use Rattle.lwkt_lines.specs.Format.{with_told}
-use Rattle.lwkt_lines.proofs.Judging.{event_taken, opens_told}
+use Rattle.lwkt_lines.proofs.Judging.{given_lifts, given_refused_lifts}
 use Rattle.lwkt_lines.proofs.judges.Judge.and_event.Goals as goal
 
-pub returns-in-Ok-clause-told : goal.returns-in-Ok-clause-told
-returns-in-Ok-clause-told c = λ trace open_still knows.
-    let told = c.in-Some.told in
-    let same : c.args.self.count ≡ length trace.events = knows.counted in
-    let below : c.args.self.count < 1000000000000000 = c.if-count-ge-EVENT_LIMIT.false in
-    let room : length trace.events < 1000000000000000 = omega arith in (
-      with_told trace told,
-      (
-        event_taken trace (view c.args.value.now) told room (sym c.in-Some.ensures),
-        record {
-          counted = omega (arith, same, length-append trace.events (told ∷ []));
-          closed = knows.closed;
-          stands = c.in-Ok.ensures.stands trace open_still knows.counted knows.stands;
-          opens = opens_told trace told c.in-Ok.standing (c.in-Ok.ensures.opens trace knows.opens);
-        },
-      ),
-    )
+pub returns-in-Some-clause-told : goal.returns-in-Some-clause-told
+returns-in-Some-clause-told c = given_lifts c.and_told.result c.args.self c.in-Some.told (view c.args.value.now) (sym c.in-Some.ensures) c.and_told.ensures.told
+
+pub returns-in-Some-clause-refused : goal.returns-in-Some-clause-refused
+returns-in-Some-clause-refused c = given_refused_lifts c.and_told.result c.args.self c.in-Some.told (view c.args.value.now) (sym c.in-Some.ensures) c.and_told.ensures.refused

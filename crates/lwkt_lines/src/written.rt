@@ -1,0 +1,236 @@
+//! Lines that are written just as `lwkt_trace` writes an event. Such a line is read without a reader of JSON: what its bytes look
+//! like is written again, and only a line with the same bytes counts.
+ghost use Rattle.std.specs.Prelude.{◌≡◌, ◌++◌, IfSome};
+ghost use Rattle.lwkt_trace.specs.Readback.{event_data, told_alone, IsTellable};
+ghost use Rattle.lwkt_trace.specs.Printed.{HasWords};
+ghost use Rattle.lwkt_trace.specs.Written.{comma, rest_text, event_text};
+ghost use Rattle.lwkt_lines.specs.Written.{IsWritten};
+
+use arrayvec::ArrayVec;
+use itoa::Buffer;
+use lwkt_base::{CpuId, MsgId, Row, Section, TokId};
+use lwkt_core::Event;
+use lwkt_trace::Told;
+use lwkt_trace::words::event_word;
+
+// The most bytes of an event without a record and without a section.
+const TEXT_LIMIT: usize = 64;
+
+// The most numbers of such an event.
+const NUMBERS: usize = 4;
+
+/// The text of an event.
+type Text = ArrayVec<u8, TEXT_LIMIT>;
+
+// Appends bytes, if there is room.
+fn put(text: &mut Text, bytes: &[u8]) -> Option<()>
+    ensures { IfSome result (λ _. text.new.items ≡ text.old.items ++ bytes.now) }
+{
+    text.try_extend_from_slice(bytes).ok()
+}
+
+// Appends a number behind a comma.
+fn put_number(text: &mut Text, number: u64) -> Option<()>
+    ensures { IfSome result (λ _. text.new.items ≡ text.old.items ++ comma number) }
+{
+    put(text, b",")?;
+    put(text, Buffer::new().format(number).as_bytes())
+}
+
+// Appends what an event is at, and what else it says; of a written give not its section. None for an event with a record.
+fn put_rest(text: &mut Text, event: &Event) -> Option<()>
+    ensures { IfSome result (λ _. text.new.items ≡ text.old.items ++ rest_text event.now) }
+{
+    match *event {
+        Event::Load { tok, .. }
+        | Event::Take { tok, .. }
+        | Event::Share { tok, .. }
+        | Event::Again { tok, .. }
+        | Event::Mark { tok, .. }
+        | Event::GiveOne { tok, .. }
+        | Event::GiveClean { tok, .. }
+        | Event::GiveWritten { tok, .. } => put_number(text, u64::from(tok.0)),
+        Event::Read {
+            tok,
+            cell,
+            value,
+            ..
+        }
+        | Event::Write {
+            tok,
+            cell,
+            value,
+            ..
+        } => {
+            put_number(text, u64::from(tok.0))?;
+            put_number(text, u64::from(cell))?;
+            put_number(text, value)
+        }
+        Event::ReadBlob { .. } | Event::WriteBlob { .. } => None,
+        Event::Send { msg, to, round, .. } => {
+            put_number(text, u64::from(msg.0))?;
+            put_number(text, u64::from(to.0))?;
+            put_number(text, round)
+        }
+        Event::TakeMsg { msg, round, .. } => {
+            put_number(text, u64::from(msg.0))?;
+            put_number(text, round)
+        }
+        Event::DropMsg { msg, .. }
+        | Event::Reply { msg, .. }
+        | Event::Reap { msg, .. }
+        | Event::Abort { msg, .. } => put_number(text, u64::from(msg.0)),
+    }
+}
+
+// The text of an event. None for one with a record.
+fn text_of(event: &Event) -> Option<Text>
+    ensures { IfSome result (λ text. text.items ≡ event_text event.now) }
+{
+    let mut text = ArrayVec::new();
+    put(&mut text, b"[\"")?;
+    put(&mut text, event_word(event).as_bytes())?;
+    put(&mut text, b"\"")?;
+    put_number(&mut text, u64::from(event.cpu().0))?;
+    put_rest(&mut text, event)?;
+    put(&mut text, b"]")?;
+    Some(text)
+}
+
+// What stands between the first two quotation marks, and what stands behind them.
+fn parted(line: &[u8]) -> Option<(&[u8], &[u8])> {
+    let quoted = line.get(2..)?;
+    let end = quoted.iter().position(|byte| *byte == b'"')?;
+    Some((&quoted[..end], &quoted[end + 1..]))
+}
+
+// The numbers of bytes that have a comma before each, and how many there are.
+fn numbers_of(bytes: &[u8]) -> ([u64; NUMBERS], usize) {
+    let mut numbers = [0u64; NUMBERS];
+    let mut count = 0usize;
+    for byte in bytes {
+        if *byte == b',' {
+            count = count.saturating_add(1);
+        } else if byte.is_ascii_digit() && 0 < count && count <= NUMBERS {
+            let digit = u64::from(byte.wrapping_sub(b'0'));
+            numbers[count - 1] = numbers[count - 1].wrapping_mul(10).wrapping_add(digit);
+        }
+    }
+    (numbers, count)
+}
+
+// The event of a word with a processor and the number of what it is at.
+fn at_place(word: &[u8], cpu: CpuId, place: u8) -> Option<Event>
+    ensures { IfSome result (λ event. IsTellable event × HasWords (event_data event)) }
+{
+    let (tok, msg) = (TokId(place), MsgId(place));
+    let row = Row::of(&[]);
+    let section = Section {
+        before: row,
+        after: row,
+        generation: 0,
+        tok,
+    };
+    Some(match word {
+        b"take" => Event::Take { cpu, tok },
+        b"share" => Event::Share { cpu, tok },
+        b"again" => Event::Again { cpu, tok },
+        b"give_one" => Event::GiveOne { cpu, tok },
+        b"give_clean" => Event::GiveClean { cpu, tok },
+        b"give_written" => Event::GiveWritten { cpu, tok, section },
+        b"load" => Event::Load { cpu, tok },
+        b"mark" => Event::Mark { cpu, tok },
+        b"reply" => Event::Reply { cpu, msg },
+        b"reap" => Event::Reap { cpu, msg },
+        b"drop" => Event::DropMsg { cpu, msg },
+        b"abort" => Event::Abort { cpu, msg },
+        _ => return None,
+    })
+}
+
+// The event of a word with a processor, what it is at, and two numbers more.
+fn at_part(word: &[u8], cpu: CpuId, place: u8, part: u8, value: u64) -> Option<Event>
+    ensures { IfSome result (λ event. IsTellable event × HasWords (event_data event)) }
+{
+    let tok = TokId(place);
+    match word {
+        b"read" => Some(Event::Read {
+            cpu,
+            tok,
+            cell: part,
+            value,
+        }),
+        b"write" => Some(Event::Write {
+            cpu,
+            tok,
+            cell: part,
+            value,
+        }),
+        b"send" => Some(Event::Send {
+            cpu,
+            msg: MsgId(place),
+            to: CpuId(part),
+            round: value,
+        }),
+        _ => None,
+    }
+}
+
+// The event of a word with a processor, a message and a round.
+fn at_round(word: &[u8], cpu: CpuId, msg: u8, round: u64) -> Option<Event>
+    ensures { IfSome result (λ event. IsTellable event × HasWords (event_data event)) }
+{
+    let msg = MsgId(msg);
+    match word {
+        b"take_msg" => Some(Event::TakeMsg { cpu, msg, round }),
+        _ => None,
+    }
+}
+
+// A number as one of 8 bits.
+fn small(number: u64) -> Option<u8> {
+    u8::try_from(number).ok()
+}
+
+// The event that a line looks like.
+fn likely_event(line: &[u8]) -> Option<Event>
+    ensures { IfSome result (λ event. IsTellable event × HasWords (event_data event)) }
+{
+    let (word, rest) = parted(line)?;
+    let ([cpu, place, third, fourth], count) = numbers_of(rest);
+    let cpu = CpuId(small(cpu)?);
+    let place = small(place)?;
+    match count {
+        2 => at_place(word, cpu, place),
+        3 => at_round(word, cpu, place, third),
+        4 => at_part(word, cpu, place, small(third)?, fourth),
+        _ => None,
+    }
+}
+
+/// The event that a line is, if the line has just the bytes which `lwkt_trace` writes for it. None says nothing of the line: it
+/// may be an event that is written in another way, or one with a record or a section.
+pub fn written_event(line: &[u8]) -> Option<Event>
+    ensures { IfSome result (IsWritten line.now) }
+{
+    if line.len() > TEXT_LIMIT {
+        return None;
+    }
+    let event = likely_event(line)?;
+    let text = text_of(&event)?;
+    if text.as_slice() == line {
+        Some(event)
+    } else {
+        None
+    }
+}
+
+/// An event as a trace tells it where no section is told.
+pub fn told_alone(event: &Event) -> Told
+    ensures { result ≡ told_alone event.now }
+{
+    match *event {
+        Event::GiveWritten { cpu, tok, .. } => Told::Given { cpu, tok },
+        other => Told::Whole(other),
+    }
+}
