@@ -1,4 +1,4 @@
-ghost use Rattle.std.specs.Prelude.{◌≡◌, ℕ, ◌<◌, ◌≤◌, ◌+◌, ◌*◌, ◌-◌, ◌^◌, ◌%◌, ◌↔◌, IsTrue, List, [], ◌∷◌, ◌++◌, length, All, MatchOption, Some, None, if◌then◌else◌};
+ghost use Rattle.std.specs.Prelude.{◌≡◌, ℕ, ◌<◌, ◌≤◌, ◌+◌, ◌*◌, ◌-◌, ◌^◌, ◌%◌, ◌↔◌, IsTrue, List, [], ◌∷◌, ◌++◌, length, All, IfOk, MatchOption, Some, None, if◌then◌else◌};
 ghost use Rattle.std.specs.Option.{option_copied};
 ghost use Rattle.lwkt_core.specs.Events.{cpu_of};
 ghost use Rattle.lwkt_core.specs.Trace.{Run};
@@ -10,6 +10,7 @@ ghost use Rattle.lwkt_verdict.specs.Homes.{AreHomes};
 ghost use Rattle.lwkt_verdict.specs.Progressed.{ShowsProgress};
 
 use crate::ends::all_end;
+use crate::event_lists::EventList;
 use crate::homes::{Home, homes_of};
 use crate::owns::has_blocked;
 use crate::parts::{goes_quietly, is_part_of};
@@ -22,6 +23,7 @@ use crate::turns::{Pace, Poll, Turn, read_poll};
 use lwkt_core::{Event, State};
 use lwkt_report::ThreadLine;
 use lwkt_script::ThreadSpec;
+use std::alloc::AllocError;
 
 // Whether each event of a part is of this processor.
 fn are_of(cpu: usize, part: &[Event]) -> bool
@@ -140,7 +142,8 @@ fn closes(
     goes_quietly(state, stop) && all_end(plans, lines, homes, table)
 }
 
-// Whether the turns are those of a run, over a trace from this machine, which the trace then has led on.
+// Whether the turns are those of a run, over a trace from this machine, which the trace then has led on. Each turn's part of it is read
+// into `part`, in place of what that had.
 fn runs<'a>(
     plans: &[ThreadSpec],
     lines: &[ThreadLine],
@@ -150,32 +153,34 @@ fn runs<'a>(
     order: &[u8],
     polls: &'a PollList,
     turns: &[Turn],
-    trace: &[Event],
-) -> bool
+    trace: &EventList,
+    part: &mut Vec<Event>,
+) -> Result<bool, AllocError>
     requires named { length order.now ≡ length turns.now }
     requires processors { All (λ x. x < 8) order.now }
     requires homes { AreHomes plans.now lines.now homes.now }
     requires shows { ShowsProgress [] table.old }
-    ensures right { IsTrue result ↔ RunsThrough plans.now lines.now polls.now order.now state.old [] turns.now trace.now }
-    ensures led { IsTrue result → Run state.old trace.now state.new }
+    ensures right { IfOk result (λ yes. IsTrue yes ↔ RunsThrough plans.now lines.now polls.now order.now state.old [] turns.now trace.now) }
+    ensures led { IfOk result (λ yes. IsTrue yes → Run state.old trace.now state.new) }
 {
-    let mut rest = trace;
+    let mut made = 0;
     let mut room = Poll::unasked();
     for (i, turn) in turns.iter().enumerate() {
         let count = turn.events as usize;
-        if count > rest.len() {
-            return false;
+        if count > trace.len() - made {
+            return Ok(false);
         }
-        let (part, later) = rest.split_at(count);
+        trace.copy(made, count, part)?;
         let cpu = whose(order, i);
         if !fits(
             plans, lines, homes, table, state, cpu, polls, turn, &mut room, part,
         ) {
-            return false;
+            return Ok(false);
         }
-        rest = later;
+        made += count;
     }
-    closes(plans, lines, homes, table, state, rest)
+    trace.copy(made, trace.len() - made, part)?;
+    Ok(closes(plans, lines, homes, table, state, part))
 }
 
 // How far the threads have come before the first turn.
@@ -187,7 +192,10 @@ fn start<'a>() -> [Standing<'a>; 128]
 
 /// Whether these turns, with their polls, are a run of a script with these threads along this order of processors, at this pace,
 /// over this trace from the opening, which ends as the lines of the threads say. If so, the trace has led the opening to the
-/// state that is left. Takes no memory; the work is in proportion to turns and events.
+/// state that is left. Each turn's part of the trace is read into `part`, in place of what that had; the work is in proportion to turns
+/// and events.
+///
+/// `AllocError` if `part` lacks room for a turn's events and can't be given it. No other memory is taken.
 pub fn is_script_run(
     plans: &[ThreadSpec],
     pace: Pace,
@@ -195,31 +203,32 @@ pub fn is_script_run(
     state: &mut State,
     polls: &PollList,
     turns: &[Turn],
-    trace: &[Event],
+    trace: &EventList,
+    part: &mut Vec<Event>,
     lines: &[ThreadLine],
-) -> bool
-    ensures right { IsTrue result ↔ IsScriptRun plans.now pace order.now state.old polls.now turns.now trace.now lines.now }
-    ensures led { IsTrue result → Run state.old trace.now state.new }
+) -> Result<bool, AllocError>
+    ensures right { IfOk result (λ yes. IsTrue yes ↔ IsScriptRun plans.now pace order.now state.old polls.now turns.now trace.now lines.now) }
+    ensures led { IfOk result (λ yes. IsTrue yes → Run state.old trace.now state.new) }
 {
     let cpus = state.cpus();
     if !are_listed(cpus, lines) {
-        return false;
+        return Ok(false);
     }
     if order.len() != turns.len() {
-        return false;
+        return Ok(false);
     }
     if !are_processors(cpus, order) {
-        return false;
+        return Ok(false);
     }
     if !keeps_pace(pace, polls, cpus, order, turns, lines) {
-        return false;
+        return Ok(false);
     }
     match homes_of(plans, lines) {
-        None => false,
+        None => Ok(false),
         Some(homes) => {
             let mut table = start();
             runs(
-                plans, lines, &homes, &mut table, state, order, polls, turns, trace,
+                plans, lines, &homes, &mut table, state, order, polls, turns, trace, part,
             )
         }
     }

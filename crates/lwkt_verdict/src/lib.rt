@@ -10,6 +10,7 @@
 mod asks;
 mod checks;
 mod ends;
+mod event_lists;
 mod homes;
 pub mod laws;
 mod owns;
@@ -20,11 +21,13 @@ mod poll_lists;
 mod polls;
 mod progress;
 mod rounds;
+mod short_events;
 mod shorts;
 pub mod turns;
 
 pub use asks::entry_of;
 pub use checks::is_script_run;
+pub use event_lists::EventList;
 pub use poll_lists::PollList;
 pub use rounds::are_processors;
 pub use turns::{Pace, Poll, Turn};

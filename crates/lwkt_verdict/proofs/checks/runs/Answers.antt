@@ -1,35 +1,75 @@
-use Rattle.std.proofs.Common.{[], refl, subst, sym}
+use Rattle.std.proofs.Common.{◌≡◌, ◌∙◌, ◌+◌, ◌-◌, ◌≤◌, ℕ, List, [], length, take, drop, get_or, drop-drop, length-drop, refl, subst, sym, arith, None}
+use Rattle.std.specs.Prelude.{◌↔◌, IsTrue}
+use Rattle.std.proofs.lemmas.Bool.{false≢true}
+use Rattle.std.proofs.lemmas.List.{take_all}
+use Rattle.lwkt_core.specs.declared.events.Event.{Event}
 use Rattle.lwkt_core.specs.Machine.{Machine}
 use Rattle.lwkt_core.specs.Trace.{Run}
-use Rattle.lwkt_verdict.specs.Run.{RunsThrough}
-use Rattle.lwkt_verdict.proofs.RunMoves.{goes_next, goes_to_end}
+use Rattle.lwkt_verdict.specs.declared.turns.Turn.{Turn}
+use Rattle.lwkt_verdict.specs.Run.{poll_of, whose, TurnFits, EndsRun, RunsThrough}
+use Rattle.lwkt_verdict.proofs.RunMoves.{goes_next, goes_to_end, stops_unfit}
 use Rattle.lwkt_verdict.proofs.TraceMoves.{part_happens, quiet_happens, led_on, led_to_end}
 use Rattle.lwkt_verdict.proofs.checks.runs.Goals as goal
+
+abbrev none : Turn
+none = record { poll = None; events = 0 }
+
+pub returns-then-not-fits-clause-right : goal.returns-then-not-fits-clause-right
+returns-then-not-fits-clause-right c =
+    let P = RunsThrough c.args.plans.now c.args.lines.now c.args.polls.now c.args.order.now c.args.state.now [] c.args.turns.now c.args.trace.now in
+    let l = c.loop-i in
+    let goes = l.invariant.goes in
+    let t : Turn = get_or c.args.turns.now l.i none in
+    let rest : List Event = drop l.made c.args.trace.now in
+    let is_part : c.deref.result.now ≡ take t.events rest = c.deref.ensures.value ∙ c.in_ok-copy.ensures in
+    let E : List Event → Type 0 = λ es. TurnFits c.args.plans.now c.args.lines.now (whose c.args.order.now l.i) l.state goes.before (poll_of c.args.polls.now t) es in
+    let C : ℕ → Type 0 = λ k. TurnFits c.args.plans.now c.args.lines.now k l.state goes.before (poll_of c.args.polls.now t) c.deref.result.now in
+    let unfit : E (take t.events rest) → ⊥ = λ fits. false≢true (sym c.if-not-fits.true ∙ (c.fits.ensures.right goes.before goes.shows).1 (subst C (sym c.whose-cpu.ensures.value) (subst E (sym is_part) fits))) in (
+      (λ yes. absurd (false≢true yes)),
+      (λ p. absurd (stops_unfit P c.args.plans.now c.args.lines.now c.args.polls.now c.args.order.now l.state l.table c.args.turns.now l.i rest none goes c.loop-i-test.true unfit p)),
+    )
 
 pub loop-i-preserved : goal.loop-i-preserved
 loop-i-preserved c =
     let P = RunsThrough c.args.plans.now c.args.lines.now c.args.polls.now c.args.order.now c.args.state.now [] c.args.turns.now c.args.trace.now in
-    let goes = c.loop-i.invariant.0 in
+    let l = c.loop-i in
+    let goes = l.invariant.goes in
+    let t : Turn = get_or c.args.turns.now l.i none in
+    let rest : List Event = drop l.made c.args.trace.now in
+    let later : List Event = drop (l.made + t.events) c.args.trace.now in
+    let part : List Event = c.deref.result.now in
     let yes = c.if-not-fits.false in
     let fits = (c.fits.ensures.right goes.before goes.shows).0 yes in
-    let part = c.split_at.result.0.now in
-    let led : Run c.loop-i.state part c.fits.new.state = subst (λ (k : Machine). Run c.loop-i.state part k) (sym (c.fits.ensures.moved yes)) (part_happens c.loop-i.state _ part fits.makes) in (
-      goes_next P c.args.plans.now c.args.lines.now c.args.polls.now c.args.order.now c.loop-i.state c.loop-i.table c.args.turns.now c.loop-i.i c.loop-i.rest.now _ goes c.fits.new.state c.fits.new.table _ part c.split_at.result.1.now c.whose-cpu.result refl c.split_at.ensures.front c.split_at.ensures.back c.whose-cpu.ensures.value c.loop-i-test.true c.if-count-rest.false fits (c.fits.ensures.moved yes) (c.fits.ensures.noted goes.before goes.shows yes),
-      led_on c.args.state.now c.args.trace.now c.loop-i.state c.loop-i.rest.now _ c.fits.new.state part c.split_at.result.1.now c.loop-i.invariant.1 c.split_at.ensures.front c.split_at.ensures.back led,
-    )
+    let moved = c.fits.ensures.moved yes in
+    let is_part : part ≡ take t.events rest = c.deref.ensures.value ∙ c.in_ok-copy.ensures in
+    let is_later : later ≡ drop t.events rest = sym (drop-drop t.events l.made c.args.trace.now) in
+    let room : t.events ≤ length rest = omega (arith, length-drop l.made c.args.trace.now, c.if-count-len.false, c.len.ensures, l.invariant.within) in
+    let led : Run l.state part c.fits.new.state = subst (λ (k : Machine). Run l.state part k) (sym moved) (part_happens l.state _ part fits.makes) in
+    record {
+      within = omega (arith, c.if-count-len.false, c.len.ensures, l.invariant.within);
+      goes = goes_next P c.args.plans.now c.args.lines.now c.args.polls.now c.args.order.now l.state l.table c.args.turns.now l.i rest none goes c.fits.new.state c.fits.new.table _ part later c.whose-cpu.result refl is_part is_later c.whose-cpu.ensures.value c.loop-i-test.true room fits moved (c.fits.ensures.noted goes.before goes.shows yes);
+      led = led_on c.args.state.now c.args.trace.now l.state rest t.events c.fits.new.state part later l.invariant.led is_part is_later led;
+    }
 
 pub returns-clause-right : goal.returns-clause-right
 returns-clause-right c =
     let P = RunsThrough c.args.plans.now c.args.lines.now c.args.polls.now c.args.order.now c.args.state.now [] c.args.turns.now c.args.trace.now in
-    let goes = c.loop-i.invariant.0 in
-    let closes = c.closes.ensures.right goes.before goes.shows in
-    let end = goes_to_end P c.args.plans.now c.args.lines.now c.args.polls.now c.args.order.now c.loop-i.state c.loop-i.table c.args.turns.now c.loop-i.i c.loop-i.rest.now goes c.loop-i-test.false in
+    let l = c.loop-i in
+    let goes = l.invariant.goes in
+    let rest : List Event = drop l.made c.args.trace.now in
+    let is_rest : c.deref-2.result.now ≡ rest = c.deref-2.ensures.value ∙ c.in_ok-copy-2.ensures ∙ take_all (c.len-2.result - l.made) rest (omega (arith, length-drop l.made c.args.trace.now, c.len-2.ensures)) in
+    let E : List Event → Type 0 = λ es. IsTrue c.closes.result ↔ EndsRun c.args.plans.now c.args.lines.now l.state goes.before es in
+    let closes = subst E is_rest (c.closes.ensures.right goes.before goes.shows) in
+    let end = goes_to_end P c.args.plans.now c.args.lines.now c.args.polls.now c.args.order.now l.state l.table c.args.turns.now l.i rest goes c.loop-i-test.false in
     ((λ yes. end.1 (closes.0 yes)), (λ p. closes.1 (end.0 p)))
 
 pub returns-clause-led : goal.returns-clause-led
 returns-clause-led c = λ yes.
-    let goes = c.loop-i.invariant.0 in
-    let stop = c.loop-i.rest.now in
+    let l = c.loop-i in
+    let goes = l.invariant.goes in
+    let stop : List Event = c.deref-2.result.now in
+    let rest : List Event = drop l.made c.args.trace.now in
+    let is_rest : stop ≡ rest = c.deref-2.ensures.value ∙ c.in_ok-copy-2.ensures ∙ take_all (c.len-2.result - l.made) rest (omega (arith, length-drop l.made c.args.trace.now, c.len-2.ensures)) in
     let ends = (c.closes.ensures.right goes.before goes.shows).0 yes in
-    let run : Run c.loop-i.state stop c.closes.new.state = subst (λ (k : Machine). Run c.loop-i.state stop k) (sym (c.closes.ensures.moved yes)) (quiet_happens c.loop-i.state stop ends.quiet) in
-    led_to_end c.args.state.now c.args.trace.now c.loop-i.state c.closes.new.state stop c.loop-i.invariant.1 run
+    let run : Run l.state stop c.closes.new.state = subst (λ (k : Machine). Run l.state stop k) (sym (c.closes.ensures.moved yes)) (quiet_happens l.state stop ends.quiet) in
+    led_to_end c.args.state.now c.args.trace.now l.state c.closes.new.state rest l.invariant.led (subst (λ (es : List Event). Run l.state es c.closes.new.state) is_rest run)

@@ -1,0 +1,26 @@
+use Rattle.std.proofs.Common.{◌≡◌, ◌∙◌, ◌+◌, ◌<◌, List, length, get_or, ap, sym, arith}
+use Rattle.std.proofs.lemmas.List.{length-map}
+use Rattle.lwkt_core.specs.declared.events.Event.{Event}
+use Rattle.lwkt_verdict.specs.declared.short_events.CellSection.{CellSection}
+use Rattle.lwkt_verdict.specs.declared.short_events.ShortEvent.{ShortEvent}
+use Rattle.lwkt_verdict.specs.ShortEvents.{long_event}
+use Rattle.lwkt_verdict.proofs.EventMoves.{copied_more}
+use Rattle.lwkt_verdict.proofs.event_lists.EventList.copy.Goals as goal
+
+pub loop-i-preserved : goal.loop-i-preserved
+loop-i-preserved c =
+    let i = c.self.inside in
+    let l = c.loop-i in
+    let rows : List ShortEvent = i.rows.items in
+    let cells : List CellSection = i.cells.items in
+    let longs : List Event = i.longs.items in
+    let d : ShortEvent = c.index.result.now in
+    let many : length c.args.self.now ≡ length rows = sym (ap length c.self.view_is) ∙ length-map rows (long_event cells longs) in
+    let within : c.args.first + l.i < length rows = omega (arith, many, c.requires, c.loop-i-test.true, l.auto.i-end) in
+    let is : c.whole.result ≡ long_event cells longs (get_or rows (c.args.first + l.i) d) =
+    c.whole.ensures ∙ ap (λ (xs : List CellSection). long_event xs c.deref-in-loop-i.result.now d) c.deref.ensures.value ∙ ap (λ (xs : List Event). long_event cells xs d) c.deref-in-loop-i.ensures.value ∙ ap (long_event cells longs) c.index.ensures in
+    record {
+      room = copied_more cells longs rows c.args.self.now c.args.first l.i d l.room.items c.push_reserved.new.self.items c.whole.result c.self.view_is within l.invariant.room is c.push_reserved.ensures.items;
+      long = omega (arith, c.push_reserved.ensures.len, l.invariant.long);
+      left = omega (arith, c.push_reserved.ensures.capacity, l.invariant.left);
+    }

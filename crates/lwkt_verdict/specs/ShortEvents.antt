@@ -1,0 +1,44 @@
+-- Events without room for a section or a record, and the traces that are kept by them (own).
+use Rattle.std.specs.Prelude.{ℕ, ◌<◌, List, [], ◌∷◌, map, slice_get}
+use Rattle.std.specs.Option.{option_map_or}
+use Rattle.lwkt_base.specs.declared.names.CpuId.{CpuId}
+use Rattle.lwkt_base.specs.declared.names.TokId.{TokId}
+use Rattle.lwkt_core.specs.declared.events.Event.{Event}
+use Rattle.lwkt_core.specs.declared.events.Event.TheVariants.{Load, Take, Share, Again, Mark, GiveOne, GiveClean, GiveWritten, Read, Write, Send, TakeMsg, DropMsg, Reply, Reap, Abort}
+use Rattle.lwkt_verdict.specs.declared.short_events.CellSection.{CellSection}
+use Rattle.lwkt_verdict.specs.declared.short_events.ShortEvent.{ShortEvent}
+use Rattle.lwkt_verdict.specs.declared.short_events.ShortEvent.TheVariants.{Load as ShortLoad, Take as ShortTake, Share as ShortShare, Again as ShortAgain, Mark as ShortMark, GiveOne as ShortGiveOne, GiveClean as ShortGiveClean, GaveCell, Read as ShortRead, Write as ShortWrite, Send as ShortSend, TakeMsg as ShortTakeMsg, DropMsg as ShortDropMsg, Reply as ShortReply, Reap as ShortReap, Abort as ShortAbort, Long as LongEvent}
+
+-- the written give of a token with one cell that has this section
+abbrev pub gave_cell : CpuId → TokId → CellSection → Event
+gave_cell cpu tok c = GiveWritten cpu tok (record { before = c.before ∷ []; after = c.after ∷ []; generation = c.generation; tok = tok })
+
+-- the event that a short one stands for, where the short sections and the long events are these
+abbrev pub long_event : List CellSection → List Event → ShortEvent → Event
+long_event cells longs (ShortLoad cpu tok) = Load cpu tok
+long_event cells longs (ShortTake cpu tok) = Take cpu tok
+long_event cells longs (ShortShare cpu tok) = Share cpu tok
+long_event cells longs (ShortAgain cpu tok) = Again cpu tok
+long_event cells longs (ShortMark cpu tok) = Mark cpu tok
+long_event cells longs (ShortGiveOne cpu tok) = GiveOne cpu tok
+long_event cells longs (ShortGiveClean cpu tok) = GiveClean cpu tok
+long_event cells longs (GaveCell cpu tok place) = option_map_or (gave_cell cpu tok) (slice_get cells place) (Load cpu tok)
+long_event cells longs (ShortRead cpu tok cell value) = Read cpu tok cell value
+long_event cells longs (ShortWrite cpu tok cell value) = Write cpu tok cell value
+long_event cells longs (ShortSend cpu msg to round) = Send cpu msg to round
+long_event cells longs (ShortTakeMsg cpu msg round) = TakeMsg cpu msg round
+long_event cells longs (ShortDropMsg cpu msg) = DropMsg cpu msg
+long_event cells longs (ShortReply cpu msg) = Reply cpu msg
+long_event cells longs (ShortReap cpu msg) = Reap cpu msg
+long_event cells longs (ShortAbort cpu msg) = Abort cpu msg
+long_event cells longs (LongEvent place) = option_map_or (λ e. e) (slice_get longs place) (Load (record { 0 = 0 }) (record { 0 = 0 }))
+
+-- the place of a short event among so many short sections or long events is there
+abbrev pub IsEventIn : ℕ → ℕ → ShortEvent → Type 0
+IsEventIn cells longs (GaveCell cpu tok place) = place < cells
+IsEventIn cells longs (LongEvent place) = place < longs
+IsEventIn cells longs _ = Unit {0}
+
+-- the events that short ones stand for
+abbrev pub events_in : List CellSection → List Event → List ShortEvent → List Event
+events_in cells longs rows = map (long_event cells longs) rows

@@ -1,0 +1,207 @@
+//! Events without room for a section or a record, by which a trace is kept.
+//!
+//! An `Event` has room for a section or a record, so it is large. A written give of a token with one cell is kept by the place of a
+//! short section; any other written give, and a record that was read or stored, lie in a list of their own, and are kept short by their
+//! place there. All others are kept as they are.
+ghost use Rattle.std.specs.Prelude.{◌≡◌, length, IfSome, IfOk};
+ghost use Rattle.lwkt_verdict.specs.Shorts.{GrowsBehind};
+ghost use Rattle.lwkt_verdict.specs.ShortEvents.{gave_cell, long_event, IsEventIn};
+
+use lwkt_base::{CpuId, MsgId, Row, Section, TokId};
+use lwkt_core::Event;
+use std::alloc::AllocError;
+
+/// A written section of a token with one cell, of which the give names the token.
+#[derive(Clone, Copy)]
+pub struct CellSection {
+    /// The cell at its beginning.
+    pub before: u64,
+    /// The cell that it left.
+    pub after: u64,
+    /// The generation at which it began.
+    pub generation: u64,
+}
+
+/// An event, or the place of what is too long for it. Each other kind is that of `Event`.
+#[derive(Clone, Copy)]
+pub enum ShortEvent {
+    Load(CpuId, TokId),
+    Take(CpuId, TokId),
+    Share(CpuId, TokId),
+    Again(CpuId, TokId),
+    Mark(CpuId, TokId),
+    GiveOne(CpuId, TokId),
+    GiveClean(CpuId, TokId),
+    /// A written give of a token with one cell, whose section is the one at this place.
+    GaveCell(CpuId, TokId, usize),
+    Read(CpuId, TokId, u8, u64),
+    Write(CpuId, TokId, u8, u64),
+    Send(CpuId, MsgId, CpuId, u64),
+    TakeMsg(CpuId, MsgId, u64),
+    DropMsg(CpuId, MsgId),
+    Reply(CpuId, MsgId),
+    Reap(CpuId, MsgId),
+    Abort(CpuId, MsgId),
+    /// The event at this place of the long ones.
+    Long(usize),
+}
+
+// The written give of a token with one cell that has this section.
+fn gave(cpu: CpuId, tok: TokId, section: &CellSection) -> Event
+    ensures { result ≡ gave_cell cpu tok section.now }
+{
+    Event::GiveWritten {
+        cpu,
+        tok,
+        section: Section {
+            before: Row::of(&[section.before]),
+            after: Row::of(&[section.after]),
+            generation: section.generation,
+            tok,
+        },
+    }
+}
+
+// The short section of a written give, if its token has one cell.
+fn short_section(event: &Event) -> Option<(CpuId, TokId, CellSection)>
+    ensures { IfSome result (λ g. gave_cell g.0 g.1 g.2 ≡ event.now) }
+{
+    let Event::GiveWritten { cpu, tok, section } = *event else {
+        return None;
+    };
+    if section.tok != tok {
+        return None;
+    }
+    match (section.before.as_slice(), section.after.as_slice()) {
+        ([before], [after]) => {
+            let short = CellSection {
+                before: *before,
+                after: *after,
+                generation: section.generation,
+            };
+            Some((cpu, tok, short))
+        }
+        _ => None,
+    }
+}
+
+impl ShortEvent {
+    // An event that needs no other list.
+    fn of(event: &Event) -> Option<ShortEvent>
+        ensures same { IfSome result (λ short. (cells longs : _) → long_event cells longs short ≡ event.now) }
+        ensures inside { IfSome result (λ short. IsEventIn 0 0 short) }
+    {
+        match *event {
+            Event::Load { cpu, tok } => Some(ShortEvent::Load(cpu, tok)),
+            Event::Take { cpu, tok } => Some(ShortEvent::Take(cpu, tok)),
+            Event::Share { cpu, tok } => Some(ShortEvent::Share(cpu, tok)),
+            Event::Again { cpu, tok } => Some(ShortEvent::Again(cpu, tok)),
+            Event::Mark { cpu, tok } => Some(ShortEvent::Mark(cpu, tok)),
+            Event::GiveOne { cpu, tok } => Some(ShortEvent::GiveOne(cpu, tok)),
+            Event::GiveClean { cpu, tok } => Some(ShortEvent::GiveClean(cpu, tok)),
+            Event::GiveWritten { .. } | Event::ReadBlob { .. } | Event::WriteBlob { .. } => None,
+            Event::Read {
+                cpu,
+                tok,
+                cell,
+                value,
+            } => Some(ShortEvent::Read(cpu, tok, cell, value)),
+            Event::Write {
+                cpu,
+                tok,
+                cell,
+                value,
+            } => Some(ShortEvent::Write(cpu, tok, cell, value)),
+            Event::Send {
+                cpu,
+                msg,
+                to,
+                round,
+            } => Some(ShortEvent::Send(cpu, msg, to, round)),
+            Event::TakeMsg { cpu, msg, round } => Some(ShortEvent::TakeMsg(cpu, msg, round)),
+            Event::DropMsg { cpu, msg } => Some(ShortEvent::DropMsg(cpu, msg)),
+            Event::Reply { cpu, msg } => Some(ShortEvent::Reply(cpu, msg)),
+            Event::Reap { cpu, msg } => Some(ShortEvent::Reap(cpu, msg)),
+            Event::Abort { cpu, msg } => Some(ShortEvent::Abort(cpu, msg)),
+        }
+    }
+
+    /// The whole event, where the short sections and the long events are these.
+    #[inline(always)]
+    pub fn whole(&self, cells: &[CellSection], longs: &[Event]) -> Event
+        ensures { result ≡ long_event cells.now longs.now self.now }
+    {
+        match *self {
+            ShortEvent::Load(cpu, tok) => Event::Load { cpu, tok },
+            ShortEvent::Take(cpu, tok) => Event::Take { cpu, tok },
+            ShortEvent::Share(cpu, tok) => Event::Share { cpu, tok },
+            ShortEvent::Again(cpu, tok) => Event::Again { cpu, tok },
+            ShortEvent::Mark(cpu, tok) => Event::Mark { cpu, tok },
+            ShortEvent::GiveOne(cpu, tok) => Event::GiveOne { cpu, tok },
+            ShortEvent::GiveClean(cpu, tok) => Event::GiveClean { cpu, tok },
+            ShortEvent::GaveCell(cpu, tok, place) => match cells.get(place) {
+                None => Event::Load { cpu, tok },
+                Some(section) => gave(cpu, tok, section),
+            },
+            ShortEvent::Read(cpu, tok, cell, value) => Event::Read {
+                cpu,
+                tok,
+                cell,
+                value,
+            },
+            ShortEvent::Write(cpu, tok, cell, value) => Event::Write {
+                cpu,
+                tok,
+                cell,
+                value,
+            },
+            ShortEvent::Send(cpu, msg, to, round) => Event::Send {
+                cpu,
+                msg,
+                to,
+                round,
+            },
+            ShortEvent::TakeMsg(cpu, msg, round) => Event::TakeMsg { cpu, msg, round },
+            ShortEvent::DropMsg(cpu, msg) => Event::DropMsg { cpu, msg },
+            ShortEvent::Reply(cpu, msg) => Event::Reply { cpu, msg },
+            ShortEvent::Reap(cpu, msg) => Event::Reap { cpu, msg },
+            ShortEvent::Abort(cpu, msg) => Event::Abort { cpu, msg },
+            ShortEvent::Long(place) => match longs.get(place) {
+                None => Event::Load {
+                    cpu: CpuId(0),
+                    tok: TokId(0),
+                },
+                Some(long) => *long,
+            },
+        }
+    }
+}
+
+/// An event kept short: its section, or the event itself where it is long, lies behind the others then. Where memory for it is
+/// refused, nothing changes.
+pub fn keep_event(
+    cells: &mut Vec<CellSection>,
+    longs: &mut Vec<Event>,
+    event: &Event,
+) -> Result<ShortEvent, AllocError>
+    ensures same { IfOk result (λ short. long_event cells.new.items longs.new.items short ≡ event.now) }
+    ensures inside { IfOk result (λ short. IsEventIn (length cells.new.items) (length longs.new.items) short) }
+    ensures sections { GrowsBehind cells.old.items cells.new.items }
+    ensures grows { GrowsBehind longs.old.items longs.new.items }
+{
+    if let Some(short) = ShortEvent::of(event) {
+        return Ok(short);
+    }
+    match short_section(event) {
+        Some((cpu, tok, section)) => {
+            let place = cells.len();
+            cells.push(section)?;
+            Ok(ShortEvent::GaveCell(cpu, tok, place))
+        }
+        None => {
+            let place = longs.len();
+            longs.push(*event)?;
+            Ok(ShortEvent::Long(place))
+        }
+    }
+}
