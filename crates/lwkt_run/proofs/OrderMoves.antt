@@ -147,8 +147,8 @@ along cpus n x y turns =
 pub rounds_along : RoundsAreAnOrder
 rounds_along script lines kept trace last run =
     let has = opened_has script run.opened run.opens in
-    let x = scene run.opened run.first none_kept in
-    let y = scene run.made run.mid kept in
+    let x = scene run.opened [] none_kept in
+    let y = scene run.made run.told kept in
     let t = made_turned script.cpus script.turns x y has.as_many run.rounds in (
       round_list script.cpus t.0,
       (
@@ -156,13 +156,13 @@ rounds_along script lines kept trace last run =
         record {
           opened = run.opened;
           made = run.made;
-          first = run.first;
-          mid = run.mid;
-          whole = run.whole;
-          opens = run.opens;
+          told = run.told;
           none = run.none;
+          stops = run.stops;
+          opens = run.opens;
           along = along script.cpus t.0 x y t.1;
           shown = run.shown;
+          empty = run.empty;
           leaves = run.leaves;
           trace_is = run.trace_is;
           tells = run.tells;

@@ -95,7 +95,7 @@ has_turned cpus threads cpu old new t u turned d has =
     subst F (sym e.cpus) (has_set cpus threads d.seen cpu e.before e.now e.at_before (turn_long IsPolled old.bank e.before e.now t u turned e.does) (has_looked cpus threads old.cpus d.seen (sent_looked cpu old.cpus d.seen d.sees) has))
 
 has_turn : (cpus : ℕ) (threads : List ThreadSpec) (cpu : ℕ) (x y : Scene) → MakesTurnAt cpu x y → HasThreads cpus threads x.machine.cpus → HasThreads cpus threads y.machine.cpus
-has_turn cpus threads cpu x y turn has = has_turned cpus threads cpu x.machine y.machine x.trace y.trace turn.0 turn.1.makes has
+has_turn cpus threads cpu x y turn has = has_turned cpus threads cpu x.machine y.machine turn.1.room turn.1.part turn.0 turn.1.makes has
 
 -- what each turn keeps, a round keeps
 pub round_keeps : (P : Scene → Type 0) → ((cpu : ℕ) (x y : Scene) → MakesTurnAt cpu x y → P x → P y) → (over : Bool) (number : ℕ) (x y : Scene) → MakesKeptRound over number x y → P x → P y

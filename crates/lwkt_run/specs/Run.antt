@@ -1,5 +1,5 @@
 use Rattle.std.specs.Global.{Global}
-use Rattle.std.specs.Prelude.{codes, ◌<◌, length, All, string_bytes, String, Vec, ◌≡◌, ◌⊎◌, ℕ, Bool, true, false, List, [], map, take, Option, is_some, unwrap_or, IfSome, Result, Ok, Err}
+use Rattle.std.specs.Prelude.{codes, ◌<◌, length, All, string_bytes, String, Vec, ◌≡◌, ◌⊎◌, ℕ, Bool, true, false, List, [], ◌++◌, map, take, Option, is_some, unwrap_or, IfSome, Result, Ok, Err}
 use Rattle.std.specs.List.{list_all, range_with_len}
 use Rattle.std.specs.Io.KnownBytes.{Appends, Keeps}
 use Rattle.lwkt_base.specs.declared.faults.Fault.{Fault as Refusal}
@@ -73,15 +73,15 @@ pub record TellsOneRun (script : Script) (opened : Rig) (closed : ClosedMachine)
 pub record RunsInRounds (script : Script) (lines : List ThreadLine) (kept : Kept) (trace : List Event) (last : Final) : Type 0 where
   pub opened : Rig
   pub made : Rig
-  pub first : Vec Event Global
-  pub mid : Vec Event Global
-  pub whole : Vec Event Global
+  pub told : List Event
+  pub none : Vec Event Global
+  pub stops : Vec Event Global
   pub opens : IsOpenedMachine script opened
-  pub none : first.items ≡ []
-  pub rounds : HasMadeRounds script.turns (scene opened first none_kept) (scene made mid kept)
+  pub rounds : HasMadeRounds script.turns (scene opened [] none_kept) (scene made told kept)
   pub shown : ShowThreads lines made
-  pub leaves : Leaves made mid whole last
-  pub trace_is : trace ≡ whole.items
+  pub empty : none.items ≡ []
+  pub leaves : Leaves made none stops last
+  pub trace_is : trace ≡ told ++ stops.items
   pub tells : TellsOneRun script opened leaves.closed last trace
 
 -- the same of a run along an order of processors: the script's machine was opened, and made the turn of each processor that the
@@ -90,15 +90,15 @@ pub record RunsInRounds (script : Script) (lines : List ThreadLine) (kept : Kept
 pub record RunsAlong (script : Script) (order : List ℕ) (lines : List ThreadLine) (kept : Kept) (trace : List Event) (last : Final) : Type 0 where
   pub opened : Rig
   pub made : Rig
-  pub first : Vec Event Global
-  pub mid : Vec Event Global
-  pub whole : Vec Event Global
+  pub told : List Event
+  pub none : Vec Event Global
+  pub stops : Vec Event Global
   pub opens : IsOpenedMachine script opened
-  pub none : first.items ≡ []
-  pub along : MakesTurns order (scene opened first none_kept) (scene made mid kept)
+  pub along : MakesTurns order (scene opened [] none_kept) (scene made told kept)
   pub shown : ShowThreads lines made
-  pub leaves : Leaves made mid whole last
-  pub trace_is : trace ≡ whole.items
+  pub empty : none.items ≡ []
+  pub leaves : Leaves made none stops last
+  pub trace_is : trace ≡ told ++ stops.items
   pub tells : TellsOneRun script opened leaves.closed last trace
 
 -- the same of a run at a pace: in the rounds of the script, or along an order
@@ -157,14 +157,14 @@ pub record HasRun (bytes : List ℕ) (end : End) (text : List ℕ) : Type 0 wher
 pub record IsTurnsRun (bytes : List ℕ) (run : TurnsRun) : Type 0 where
   pub read : script_of bytes ≡ Ok run.script
   pub closes : MayClose (Rounds run.script.turns) run.script run.closing
-  pub judged : IsJudgedBy (Rounds run.script.turns) run.script run.closing run.order.items run.trace.items run.polls run.turns.items
+  pub judged : IsJudgedBy (Rounds run.script.turns) run.script run.closing run.order.items run.trace run.polls run.turns.items
 
 -- the script that these bytes are, with the order, a trace, turns and polls that the verdict of what is shown is on (own)
 pub record IsOrderRun (bytes : List ℕ) (order : List ℕ) (run : TurnsRun) : Type 0 where
   pub read : script_of bytes ≡ Ok run.script
   pub is_order : run.order.items ≡ order
   pub closes : MayClose Named run.script run.closing
-  pub judged : IsJudgedBy Named run.script run.closing run.order.items run.trace.items run.polls run.turns.items
+  pub judged : IsJudgedBy Named run.script run.closing run.order.items run.trace run.polls run.turns.items
 
 -- why a run of this script is refused: its machine isn't opened
 abbrev pub DeclinesRun : Script → Refusal → Type 0

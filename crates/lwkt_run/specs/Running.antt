@@ -1,5 +1,5 @@
 -- What the machine of a script does in a run, and how the lines of a report show its threads (own).
-use Rattle.std.specs.Prelude.{◌≡◌, ◌⊎◌, ℕ, ◌+◌, ◌<◌, Bool, true, false, if◌then◌else◌, List, [], length, map, All, IsSomeAnd, Option, Some, None, Vec, slice_get}
+use Rattle.std.specs.Prelude.{◌≡◌, ◌⊎◌, ℕ, ◌+◌, ◌<◌, Bool, true, false, if◌then◌else◌, List, [], ◌++◌, length, map, All, IsSomeAnd, Option, Some, None, Vec, slice_get}
 use Rattle.std.specs.declared.alloc.Global.{Global}
 use Rattle.lwkt_base.specs.declared.entries.Entry.{Entry}
 use Rattle.lwkt_core.specs.declared.events.Event.{Event}
@@ -70,22 +70,26 @@ HasPolled cpu m AllExited = Unit {0}
 -- a machine, the trace of its events, and what is kept of its turns
 pub record Scene : Type 0 where
   pub machine : Rig
-  pub trace : Vec Event Global
+  pub trace : List Event
   pub kept : Kept
 
-abbrev pub scene : Rig → Vec Event Global → Kept → Scene
+abbrev pub scene : Rig → List Event → Kept → Scene
 scene machine trace kept = record { machine = machine; trace = trace; kept = kept }
 
 -- what a record keeps
 abbrev pub kept_in_record : Record → Kept
 kept_in_record r = kept_as r.order.items r.turns.items r.polls
 
--- the processor of this number makes a turn, which says this; and it is kept as it was: with its processor, the number of events by
--- which the trace grew, and what it asked
+-- the processor of this number makes a turn, which says this; its events are told into an empty room, and are the part by which the
+-- trace grows; and it is kept as it was: with its processor, the number of its events, and what it asked
 pub record MakesKeptTurn (cpu : ℕ) (turned : Turned) (x y : Scene) : Type 0 where
-  pub makes : TurnsAt cpu x.machine y.machine x.trace y.trace turned
+  pub room : Vec Event Global
+  pub part : Vec Event Global
+  pub none : room.items ≡ []
+  pub makes : TurnsAt cpu x.machine y.machine room part turned
+  pub grown : y.trace ≡ x.trace ++ part.items
   pub events : ℕ
-  pub grown : length y.trace.items ≡ length x.trace.items + events
+  pub counted : length part.items ≡ events
   pub asks : Option Polled
   pub has_asked : HasBeenAsked cpu y.machine turned asks
   pub keeps : KeepsTurn cpu events asks x.kept y.kept

@@ -12,6 +12,7 @@ use lwkt_base::{CpuId, Fault, ThreadId};
 use lwkt_core::Event;
 use lwkt_cpu::Turned;
 use lwkt_machine::Machine;
+use lwkt_verdict::EventList;
 
 // What the last turn of a processor asked, which polled this thread.
 fn polled_at(machine: &Machine, cpu: usize, thread: usize) -> PolledRef<'_>
@@ -58,11 +59,13 @@ fn both(a: bool, b: bool) -> bool
     a && b
 }
 
-// Makes a turn of a processor, which is kept, and says whether all its threads have ended.
+// Makes a turn of a processor, which is kept, and says whether all its threads have ended. The turn's events are told into the room,
+// in place of what that had, and go behind the trace.
 fn make_turn(
     machine: &mut Machine,
     cpu: usize,
-    trace: &mut Vec<Event>,
+    room: &mut Vec<Event>,
+    trace: &mut EventList,
     kept: &mut Record,
 ) -> Result<bool, Fault>
     requires there { cpu < length machine.old.cpus }
@@ -71,10 +74,13 @@ fn make_turn(
     ensures as_many { length machine.new.cpus ≡ length machine.old.cpus }
     ensures only { OnErr result (result ≡ Err no_memory) }
 {
-    let before = trace.len();
-    let turned = machine.turn(cpu, trace)?;
+    room.clear();
+    let turned = machine.turn(cpu, room)?;
     let asks = asks_of(machine, cpu, turned);
-    let events = (trace.len() - before) as u16;
+    let events = room.len() as u16;
+    if let Err(refused) = trace.append(room.as_slice()) {
+        return Err(Fault::Memory(refused));
+    }
     match kept.keep(cpu as u8, events, asks) {
         Ok(()) => Ok(is_over(turned)),
         Err(refused) => Err(Fault::Memory(refused)),
@@ -84,7 +90,8 @@ fn make_turn(
 // Makes a round, one turn of each processor, and says whether all said that their threads have ended.
 fn make_round(
     machine: &mut Machine,
-    trace: &mut Vec<Event>,
+    room: &mut Vec<Event>,
+    trace: &mut EventList,
     kept: &mut Record,
 ) -> Result<bool, Fault>
     ensures ok { IfOk result (λ over. RoundTold (scene machine.old trace.old (kept_in_record kept.old)) (scene machine.new trace.new (kept_in_record kept.new)) over) }
@@ -92,21 +99,22 @@ fn make_round(
 {
     let mut over = true;
     for cpu in 0..machine.cpus() {
-        let ended = make_turn(machine, cpu, trace, kept)?;
+        let ended = make_turn(machine, cpu, room, trace, kept)?;
         over = both(over, ended);
     }
     Ok(over)
 }
 
-/// Makes the turn of each processor that an order names, one after another, and keeps each. That the processors are there is the
-/// caller's condition.
+/// Makes the turn of each processor that an order names, one after another, and keeps each. A turn's events are told into the room, in
+/// place of what that had, and go behind the trace. That the processors are there is the caller's condition.
 ///
 /// Refused with `Memory` if memory for a turn's events or for keeping it is refused. The turns before are made then, and nothing
 /// follows from what was kept.
 pub fn make_turns(
     machine: &mut Machine,
     order: &[u8],
-    trace: &mut Vec<Event>,
+    room: &mut Vec<Event>,
+    trace: &mut EventList,
     kept: &mut Record,
 ) -> Result<(), Fault>
     requires processors { All (λ x. x < length machine.old.cpus) order.now }
@@ -116,26 +124,27 @@ pub fn make_turns(
     ensures only { OnErr result (result ≡ Err no_memory) }
 {
     for at in 0..order.len() {
-        make_turn(machine, usize::from(order[at]), trace, kept)?;
+        make_turn(machine, usize::from(order[at]), room, trace, kept)?;
     }
     Ok(())
 }
 
 /// Makes `limit` rounds of one turn for each processor, by rising number, or fewer: up to the first in which each turn says that
-/// every thread of its processor has ended. Keeps each turn.
+/// every thread of its processor has ended. Keeps each turn, as `make_turns` does.
 ///
 /// Refused with `Memory` as `make_turns` is.
 pub fn make_rounds(
     machine: &mut Machine,
     limit: u32,
-    trace: &mut Vec<Event>,
+    room: &mut Vec<Event>,
+    trace: &mut EventList,
     kept: &mut Record,
 ) -> Result<(), Fault>
     ensures ok { OnOk result (HasMadeRounds limit (scene machine.old trace.old (kept_in_record kept.old)) (scene machine.new trace.new (kept_in_record kept.new))) }
     ensures only { OnErr result (result ≡ Err no_memory) }
 {
     for _round in 0..limit {
-        if make_round(machine, trace, kept)? {
+        if make_round(machine, room, trace, kept)? {
             return Ok(());
         }
     }

@@ -15,11 +15,11 @@ use crate::reports::{Done, conclude};
 use crate::rounds::{make_rounds, make_turns};
 use crate::verdicts::verdict_of;
 use lwkt_base::Fault;
-use lwkt_core::{Event, Final, State};
+use lwkt_core::{Final, State};
 use lwkt_machine::Machine;
 use lwkt_report::{Closing, RunFault, Sink, Source, ThreadLine, Verdict, read_capped, report};
 use lwkt_script::{Script, read_script};
-use lwkt_verdict::{Pace, PollList, Turn, are_processors};
+use lwkt_verdict::{EventList, Pace, PollList, Turn, are_processors};
 use std::alloc::{AllocError, Global};
 
 /// How a run ended, by its report.
@@ -42,7 +42,7 @@ pub struct TurnsRun {
     /// The script, as it was read.
     pub script: Script,
     /// The events of all turns in order, and after them those of the stop.
-    pub trace: Vec<Event>,
+    pub trace: EventList,
     /// The polls of all turns, in order, each with its answer if its thread was polled again.
     pub polls: PollList,
     /// The turns in order.
@@ -61,7 +61,7 @@ fn closing_of(
     opening: State,
     again: State,
     left: Left,
-    trace: &[Event],
+    trace: &EventList,
     kept: &Record,
 ) -> Result<Closing, AllocError>
     requires opening { opening ≡ opening_of_script script.now }
@@ -78,6 +78,7 @@ fn closing_of(
     let Left { last, threads } = left;
     let tokens = token_lines(alloc, script.tokens.as_slice(), &last)?;
     let verdict = verdict_of(
+        alloc,
         opening,
         again,
         pace,
@@ -87,7 +88,7 @@ fn closing_of(
         &last,
         trace,
         kept,
-    );
+    )?;
     let Final { messages, .. } = last;
     Ok(Closing {
         tokens,
@@ -116,7 +117,7 @@ fn opened(alloc: Global, script: &Script) -> Result<State, Fault>
 // What a run of a script left: its trace, its turns, and the machine's end.
 #[derive(Drop)]
 struct Made {
-    trace: Vec<Event>,
+    trace: EventList,
     kept: Record,
     left: Left,
 }
@@ -124,17 +125,22 @@ struct Made {
 // Makes the rounds of a script.
 fn run_of(alloc: Global, script: &Script) -> Result<Made, Fault>
     ensures values { IfOk result (λ made. AreValuesOf script.now.tokens made.left.last) }
-    ensures runs { IfOk result (λ made. RunsInRounds script.now made.left.threads.items (kept_in_record made.kept) made.trace.items made.left.last) }
+    ensures runs { IfOk result (λ made. RunsInRounds script.now made.left.threads.items (kept_in_record made.kept) made.trace made.left.last) }
     ensures threads { IfOk result (λ made. map (λ line. line.id) made.left.threads.items ≡ ids_of script.now.cpus script.now.threads) }
     ensures few { OnOk result (AreFew script.now.cpus script.now.threads) }
     ensures refused { IfErr result (λ fault. DeclinesRun script.now fault) }
 {
     let mut machine = Machine::open(alloc, script)?;
-    let mut trace = Vec::new(alloc);
+    let mut room = Vec::new(alloc);
+    let mut trace = EventList::new(alloc);
     let mut kept = Record::new(alloc);
-    make_rounds(&mut machine, script.turns, &mut trace, &mut kept)?;
-    let left = left_by(alloc, script, machine, &mut trace)?;
-    Ok(Made { trace, kept, left })
+    make_rounds(&mut machine, script.turns, &mut room, &mut trace, &mut kept)?;
+    room.clear();
+    let left = left_by(alloc, script, machine, &mut room)?;
+    match trace.append(room.as_slice()) {
+        Ok(()) => Ok(Made { trace, kept, left }),
+        Err(refused) => Err(Fault::Memory(refused)),
+    }
 }
 
 // Makes the turns of a script that an order names, each of a processor that is there.
@@ -142,29 +148,34 @@ fn run_along(alloc: Global, script: &Script, order: &[u8]) -> Result<Made, Fault
     requires processors { All (λ x. x < script.now.cpus) order.now }
     ensures values { IfOk result (λ made. AreValuesOf script.now.tokens made.left.last) }
     ensures order { IfOk result (λ made. made.kept.order.items ≡ order.now) }
-    ensures runs { IfOk result (λ made. RunsAlong script.now made.kept.order.items made.left.threads.items (kept_in_record made.kept) made.trace.items made.left.last) }
+    ensures runs { IfOk result (λ made. RunsAlong script.now made.kept.order.items made.left.threads.items (kept_in_record made.kept) made.trace made.left.last) }
     ensures threads { IfOk result (λ made. map (λ line. line.id) made.left.threads.items ≡ ids_of script.now.cpus script.now.threads) }
     ensures few { OnOk result (AreFew script.now.cpus script.now.threads) }
     ensures refused { IfErr result (λ fault. DeclinesRun script.now fault) }
 {
     let mut machine = Machine::open(alloc, script)?;
-    let mut trace = Vec::new(alloc);
+    let mut room = Vec::new(alloc);
+    let mut trace = EventList::new(alloc);
     let mut kept = Record::new(alloc);
-    make_turns(&mut machine, order, &mut trace, &mut kept)?;
-    let left = left_by(alloc, script, machine, &mut trace)?;
-    Ok(Made { trace, kept, left })
+    make_turns(&mut machine, order, &mut room, &mut trace, &mut kept)?;
+    room.clear();
+    let left = left_by(alloc, script, machine, &mut room)?;
+    match trace.append(room.as_slice()) {
+        Ok(()) => Ok(Made { trace, kept, left }),
+        Err(refused) => Err(Fault::Memory(refused)),
+    }
 }
 
 // What was made of a script at a pace, with the verdict on it.
 fn judged_run(alloc: Global, pace: Pace, script: Script, made: Made) -> Result<TurnsRun, Fault>
     requires values { AreValuesOf script.tokens made.left.last }
     requires threads { map (λ line. line.id) made.left.threads.items ≡ ids_of script.cpus script.threads }
-    requires runs { RunsAt pace script made.kept.order.items made.left.threads.items (kept_in_record made.kept) made.trace.items made.left.last }
+    requires runs { RunsAt pace script made.kept.order.items made.left.threads.items (kept_in_record made.kept) made.trace made.left.last }
     requires few { AreFew script.cpus script.threads }
     ensures script { IfOk result (λ run. run.script ≡ script) }
     ensures order { IfOk result (λ run. run.order ≡ made.kept.order) }
     ensures closes { IfOk result (λ run. MayClose pace script run.closing) }
-    ensures judged { IfOk result (λ run. IsJudgedBy pace script run.closing run.order.items run.trace.items run.polls run.turns.items) }
+    ensures judged { IfOk result (λ run. IsJudgedBy pace script run.closing run.order.items run.trace run.polls run.turns.items) }
     ensures refused { IfErr result (λ fault. DeclinesRun script fault) }
 {
     let opening = opened(alloc, &script)?;
@@ -196,7 +207,7 @@ fn judged_run(alloc: Global, pace: Pace, script: Script, made: Made) -> Result<T
 pub fn turns_run_of(alloc: Global, script: Script) -> Result<TurnsRun, Fault>
     ensures script { IfOk result (λ run. run.script ≡ script) }
     ensures closes { IfOk result (λ run. MayClose (Pace.Rounds script.turns) script run.closing) }
-    ensures judged { IfOk result (λ run. IsJudgedBy (Pace.Rounds script.turns) script run.closing run.order.items run.trace.items run.polls run.turns.items) }
+    ensures judged { IfOk result (λ run. IsJudgedBy (Pace.Rounds script.turns) script run.closing run.order.items run.trace run.polls run.turns.items) }
     ensures refused { IfErr result (λ fault. DeclinesRun script fault) }
 {
     let made = run_of(alloc, &script)?;
@@ -221,7 +232,7 @@ fn order_run_of(alloc: Global, script: Script, order: &[u8]) -> Result<TurnsRun,
     ensures order { IfOk result (λ run. run.order.items ≡ order.now) }
     ensures script { IfOk result (λ run. run.script ≡ script) }
     ensures closes { IfOk result (λ run. MayClose Pace.Named script run.closing) }
-    ensures judged { IfOk result (λ run. IsJudgedBy Pace.Named script run.closing run.order.items run.trace.items run.polls run.turns.items) }
+    ensures judged { IfOk result (λ run. IsJudgedBy Pace.Named script run.closing run.order.items run.trace run.polls run.turns.items) }
     ensures refused { IfErr result (λ fault. DeclinesAlong script order.now fault) }
 {
     if !are_processors(usize::from(script.cpus), order) {

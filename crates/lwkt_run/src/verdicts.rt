@@ -1,4 +1,4 @@
-ghost use Rattle.std.specs.Prelude.{◌≡◌, ◌⊎◌, ℕ, length};
+ghost use Rattle.std.specs.Prelude.{◌≡◌, ◌⊎◌, ℕ, length, IfOk};
 ghost use Rattle.lwkt_core.specs.Trace.{Closes, IsLawfulTrace, FailsAt};
 ghost use Rattle.lwkt_run.specs.Judging.{IsVerdict};
 
@@ -7,7 +7,8 @@ use lwkt_base::Fault;
 use lwkt_core::{Event, Final, State, check};
 use lwkt_report::{ThreadLine, Verdict};
 use lwkt_script::ThreadSpec;
-use lwkt_verdict::{Pace, is_script_run};
+use lwkt_verdict::{EventList, Pace, is_script_run};
+use std::alloc::{AllocError, Global};
 
 // The verdict on a trace whose turns are no run of the script.
 fn failure_of(opening: State, last: &Final, trace: &[Event]) -> Verdict
@@ -21,14 +22,14 @@ fn failure_of(opening: State, last: &Final, trace: &[Event]) -> Verdict
     }
 }
 
-// The verdict on a trace that has led its opening to this state, and whose turns are a run of the script.
-fn close_of(state: &State, last: &Final, trace: &[Event]) -> Verdict
-    ensures { (Closes state.now last.now × (result ≡ Verdict.Lawful)) ⊎ ((¬ Closes state.now last.now) × (result ≡ Verdict.Unlawful (length trace.now))) }
+// The verdict on a trace of so many events that has led its opening to this state, and whose turns are a run of the script.
+fn close_of(state: &State, last: &Final, events: usize) -> Verdict
+    ensures { (Closes state.now last.now × (result ≡ Verdict.Lawful)) ⊎ ((¬ Closes state.now last.now) × (result ≡ Verdict.Unlawful events)) }
 {
     if state.closes(last) {
         Verdict::Lawful
     } else {
-        Verdict::Unlawful { index: trace.len() }
+        Verdict::Unlawful { index: events }
     }
 }
 
@@ -36,7 +37,10 @@ fn close_of(state: &State, last: &Final, trace: &[Event]) -> Verdict
 /// threads along the order, at this pace, over it; else `Unlawful` with the index of the first event that can't happen, or the
 /// number of events if only the close or the turns differ. The check of the turns plays the trace; only if it says no is the trace
 /// played from `again`, the same opening, for the index.
+///
+/// `AllocError` if memory is refused, for the events of a turn, or for all of them where the check says no.
 pub fn verdict_of(
+    alloc: Global,
     opening: State,
     again: State,
     pace: Pace,
@@ -44,13 +48,14 @@ pub fn verdict_of(
     threads: &[ThreadSpec],
     lines: &[ThreadLine],
     last: &Final,
-    trace: &[Event],
+    trace: &EventList,
     kept: &Record,
-) -> Verdict
+) -> Result<Verdict, AllocError>
     requires { again ≡ opening }
-    ensures { IsVerdict result opening pace order.now threads.now lines.now last.now trace.now kept.now.polls kept.now.turns.items }
+    ensures { IfOk result (λ verdict. IsVerdict verdict opening pace order.now threads.now lines.now last.now trace.now kept.now.polls kept.now.turns.items) }
 {
     let mut state = opening;
+    let mut part = Vec::new(alloc);
     if is_script_run(
         threads,
         pace,
@@ -59,10 +64,11 @@ pub fn verdict_of(
         &kept.polls,
         &kept.turns,
         trace,
+        &mut part,
         lines,
-    ) {
-        close_of(&state, last, trace)
-    } else {
-        failure_of(again, last, trace)
+    )? {
+        return Ok(close_of(&state, last, trace.len()));
     }
+    let events = trace.whole(alloc)?;
+    Ok(failure_of(again, last, &events))
 }

@@ -1,6 +1,7 @@
 -- What the processors did, driven and stopped, are the parts of one run.
 use Rattle.std.proofs.Common.{◌≡◌, ◌≢◌, ℕ, zero, suc, ◌+◌, ◌<◌, ◌==◌, Bool, cond, List, [], ◌∷◌, ◌++◌, length, map, set, refl, ap, sym, ◌∙◌, subst, inl, inr, arith, append_assoc, append-nil, eq-eqb, ne_eqb, Option, Some, None}
 use Rattle.std.specs.Prelude.{All, Vec, slice_get, option_map}
+use Rattle.std.specs.Option.{option_map_or}
 use Rattle.std.specs.declared.alloc.Global.{Global}
 use Rattle.std.proofs.lemmas.Bool.{cases_eq}
 use Rattle.std.proofs.lemmas.List.{append_cancel_left, length-set}
@@ -97,18 +98,18 @@ told_driven answers limits bank k p q trace first w =
     let U : Vec Event Global → Type 0 = λ v. IsToldAt k q v.items in
     subst U w.trace_is (subst Q w.cpu (subst V (sym d.trace) now))
 
--- each processor of a stage is told by the events of its turns and by its own among those of the stops so far
-pub record AreTold (traces : List (Vec Event Global)) (x : Stage) : Type 0 where
-  pub as_many : length x.cpus ≡ length traces
-  pub each : (k : ℕ) (p : Processor Scripted) (trace : Vec Event Global) → slice_get x.cpus k ≡ Some p → slice_get traces k ≡ Some trace → IsToldAt k p (trace.items ++ of_cpu k x.trace.items)
+-- so many processors of a stage, each of which is told by a front and by its own among the events of the stage
+pub record AreTold (count : ℕ) (fronts : ℕ → List Event) (x : Stage) : Type 0 where
+  pub as_many : length x.cpus ≡ count
+  pub each : (k : ℕ) (p : Processor Scripted) → slice_get x.cpus k ≡ Some p → IsToldAt k p (fronts k ++ of_cpu k x.trace.items)
 
-of_cpu_more : (cpu : ℕ) (xs ys zs : List Event) → ys ≡ xs ++ zs → of_cpu cpu ys ≡ of_cpu cpu xs ++ of_cpu cpu zs
+pub of_cpu_more : (cpu : ℕ) (xs ys zs : List Event) → ys ≡ xs ++ zs → of_cpu cpu ys ≡ of_cpu cpu xs ++ of_cpu cpu zs
 of_cpu_more cpu xs ys zs is = ap (of_cpu cpu) is ∙ filter-append (λ (e : Event). cpu_of e == cpu) xs zs
 
 -- one processor does something, and what it did is told behind what was told before
-told_here : (P : Holding → Type 0) (most : ℕ) (traces : List (Vec Event Global)) (n : ℕ) (x y : Stage) (p q : Processor Scripted) → slice_get x.cpus n ≡ Some p → y.cpus ≡ set x.cpus n q → Ran P most p.seat q.seat x.trace y.trace → TellsMail p.post.seat q.post.seat x.trace.items y.trace.items → AreTold traces x
-    → (k : ℕ) (z : Processor Scripted) (trace : Vec Event Global) → slice_get y.cpus k ≡ Some z → slice_get traces k ≡ Some trace → IsToldAt k z (trace.items ++ of_cpu k y.trace.items)
-told_here P most traces n x y p q here cpus ran mail told k z trace at has =
+told_here : (P : Holding → Type 0) (most count : ℕ) (fronts : ℕ → List Event) (n : ℕ) (x y : Stage) (p q : Processor Scripted) → slice_get x.cpus n ≡ Some p → y.cpus ≡ set x.cpus n q → Ran P most p.seat q.seat x.trace y.trace → TellsMail p.post.seat q.post.seat x.trace.items y.trace.items → AreTold count fronts x
+    → (k : ℕ) (z : Processor Scripted) → slice_get y.cpus k ≡ Some z → IsToldAt k z (fronts k ++ of_cpu k y.trace.items)
+told_here P most count fronts n x y p q here cpus ran mail told k z at =
     let done = ran.done in
     let grown : y.trace.items ≡ x.trace.items ++ done = ran.trace in
     let F : List (Processor Scripted) → Type 0 = λ ps. slice_get ps k ≡ Some z in
@@ -118,67 +119,74 @@ told_here P most traces n x y p q here cpus ran mail told k z trace at has =
           let within : n < length x.cpus = slice_get_within x.cpus n p here in
           let G : ℕ → Type 0 = λ i. slice_get (set x.cpus n q) i ≡ Some z in
           let e : q ≡ z = some_same q z (Some q) refl (sym (get_set_same x.cpus n q within) ∙ subst G same at_set) in
-          let H : ℕ → Type 0 = λ i. slice_get traces i ≡ Some trace in
-          let before : IsToldAt n p (trace.items ++ of_cpu n x.trace.items) = told.each n p trace here (subst H same has) in
+          let front : List Event = fronts n in
+          let before : IsToldAt n p (front ++ of_cpu n x.trace.items) = told.each n p here in
           let O : ℕ → Type 0 = λ i. All (λ (e : Event). cpu_of e ≡ i) done in
           let own : of_cpu n done ≡ done = of_cpu_own n done (subst O before.seat ran.own) in
           let mine : of_cpu n y.trace.items ≡ of_cpu n x.trace.items ++ done = of_cpu_more n x.trace.items y.trace.items done grown ∙ ap (λ es. of_cpu n x.trace.items ++ es) own in
-          let whole : trace.items ++ of_cpu n y.trace.items ≡ (trace.items ++ of_cpu n x.trace.items) ++ done = ap (λ es. trace.items ++ es) mine ∙ sym (append_assoc trace.items (of_cpu n x.trace.items) done) in
+          let whole : front ++ of_cpu n y.trace.items ≡ (front ++ of_cpu n x.trace.items) ++ done = ap (λ es. front ++ es) mine ∙ sym (append_assoc front (of_cpu n x.trace.items) done) in
           let both : mail.done ≡ done = append_cancel_left x.trace.items mail.done done (sym mail.trace_is ∙ grown) in
-          let M : List Event → Type 0 = λ es. IsMailTold q.post.seat ((trace.items ++ of_cpu n x.trace.items) ++ es) in
-          let now : IsToldAt n q ((trace.items ++ of_cpu n x.trace.items) ++ done) = record {
+          let M : List Event → Type 0 = λ es. IsMailTold q.post.seat ((front ++ of_cpu n x.trace.items) ++ es) in
+          let now : IsToldAt n q ((front ++ of_cpu n x.trace.items) ++ done) = record {
             seat = ap (λ (c : CpuId). c.0) ran.cpu ∙ before.seat;
             desk = ap (λ (kind : SeatKind). (seat_cpu kind).0) mail.same.kind ∙ before.desk;
-            tokens = told_more P most p.seat q.seat x.trace y.trace ran (trace.items ++ of_cpu n x.trace.items) before.tokens;
-            mails = subst M both (mail_more p.post.seat q.post.seat x.trace.items y.trace.items mail (trace.items ++ of_cpu n x.trace.items) before.mails);
+            tokens = told_more P most p.seat q.seat x.trace y.trace ran (front ++ of_cpu n x.trace.items) before.tokens;
+            mails = subst M both (mail_more p.post.seat q.post.seat x.trace.items y.trace.items mail (front ++ of_cpu n x.trace.items) before.mails);
           } in
           let A : List Event → Type 0 = λ es. IsToldAt n q es in
-          let B : Processor Scripted → Type 0 = λ w. IsToldAt n w (trace.items ++ of_cpu n y.trace.items) in
-          let C : ℕ → Type 0 = λ i. IsToldAt i z (trace.items ++ of_cpu i y.trace.items) in
+          let B : Processor Scripted → Type 0 = λ w. IsToldAt n w (front ++ of_cpu n y.trace.items) in
+          let C : ℕ → Type 0 = λ i. IsToldAt i z (fronts i ++ of_cpu i y.trace.items) in
           subst C (sym same) (subst B e (subst A (sym whole) now))
       | inr apart ↦
           let was : slice_get x.cpus k ≡ Some z = sym (get_set_other x.cpus n k q apart) ∙ at_set in
-          let before : IsToldAt k z (trace.items ++ of_cpu k x.trace.items) = told.each k z trace was has in
-          let its = get_there traces n (omega (arith, slice_get_within x.cpus n p here, told.as_many)) in
-          let placed : p.seat.cpu.0 ≡ n = (told.each n p its.0 here its.1).seat in
+          let before : IsToldAt k z (fronts k ++ of_cpu k x.trace.items) = told.each k z was in
+          let placed : p.seat.cpu.0 ≡ n = (told.each n p here).seat in
           let O : ℕ → Type 0 = λ i. All (λ (e : Event). cpu_of e ≡ i) done in
           let none : of_cpu k done ≡ [] = of_cpu_other k n done (λ is. apart (sym is)) (subst O placed ran.own) in
           let mine : of_cpu k y.trace.items ≡ of_cpu k x.trace.items = of_cpu_more k x.trace.items y.trace.items done grown ∙ ap (λ es. of_cpu k x.trace.items ++ es) none ∙ append-nil (of_cpu k x.trace.items) in
-          let A : List Event → Type 0 = λ es. IsToldAt k z (trace.items ++ es) in
+          let A : List Event → Type 0 = λ es. IsToldAt k z (fronts k ++ es) in
           subst A (sym mine) before
     ]
 
-pub told_moved : (P : Holding → Type 0) (most : ℕ) (traces : List (Vec Event Global)) (n : ℕ) (x y : Stage) (p q : Processor Scripted) → slice_get x.cpus n ≡ Some p → y.cpus ≡ set x.cpus n q → Ran P most p.seat q.seat x.trace y.trace → TellsMail p.post.seat q.post.seat x.trace.items y.trace.items → AreTold traces x → AreTold traces y
-told_moved P most traces n x y p q here cpus ran mail told = record {
+pub told_moved : (P : Holding → Type 0) (most count : ℕ) (fronts : ℕ → List Event) (n : ℕ) (x y : Stage) (p q : Processor Scripted) → slice_get x.cpus n ≡ Some p → y.cpus ≡ set x.cpus n q → Ran P most p.seat q.seat x.trace y.trace → TellsMail p.post.seat q.post.seat x.trace.items y.trace.items → AreTold count fronts x → AreTold count fronts y
+told_moved P most count fronts n x y p q here cpus ran mail told = record {
   as_many = ap length cpus ∙ length-set x.cpus n q ∙ told.as_many;
-  each = told_here P most traces n x y p q here cpus ran mail told;
+  each = told_here P most count fronts n x y p q here cpus ran mail told;
 }
 
 -- one processor stops
-told_step : (traces : List (Vec Event Global)) (n : ℕ) (x y : Stage) → StopsCpu n x y → AreTold traces x → AreTold traces y
-told_step traces n x y stops told =
+told_step : (count : ℕ) (fronts : ℕ → List Event) (n : ℕ) (x y : Stage) → StopsCpu n x y → AreTold count fronts x → AreTold count fronts y
+told_step count fronts n x y stops told =
     let s = stops.1.1.1 in
-    told_moved (IsMailed stops.0.threads) s.most traces n x y stops.0 stops.1.0 stops.1.1.0 stops.1.1.2 s.ran s.told told
+    told_moved (IsMailed stops.0.threads) s.most count fronts n x y stops.0 stops.1.0 stops.1.1.0 stops.1.1.2 s.ran s.told told
 
-told_chain : (traces : List (Vec Event Global)) (n : ℕ) (x y : Stage) → Chain Stage StopsCpu n x y → AreTold traces x → AreTold traces y
+told_chain : (count : ℕ) (fronts : ℕ → List Event) (n : ℕ) (x y : Stage) → Chain Stage StopsCpu n x y → AreTold count fronts x → AreTold count fronts y
 unfolding Chain
-told_chain traces zero x y chain told = subst (AreTold traces) (sym chain) told
-told_chain traces (suc n) x y chain told = told_step traces n chain.0 y chain.2 (told_chain traces n x chain.0 chain.1 told)
+told_chain count fronts zero x y chain told = subst (AreTold count fronts) (sym chain) told
+told_chain count fronts (suc n) x y chain told = told_step count fronts n chain.0 y chain.2 (told_chain count fronts n x chain.0 chain.1 told)
+
+-- the events of a trace of its own, of each processor that has one
+abbrev fronts_of : List (Vec Event Global) → ℕ → List Event
+fronts_of traces k = option_map_or (λ (trace : Vec Event Global). trace.items) (slice_get traces k) []
+
+front_is : (traces : List (Vec Event Global)) (k : ℕ) (trace : Vec Event Global) → slice_get traces k ≡ Some trace → fronts_of traces k ≡ trace.items
+front_is traces k trace at = ap (λ (o : Option (Vec Event Global)). option_map_or (λ (t : Vec Event Global). t.items) o []) at
 
 -- what the processors did until none of them had stopped
-told_all : (answers : CpuId → ℕ → Bool → Type 0) (limits : Limits) (script : Script) (opened driven : Rig) (traces : List (Vec Event Global)) (t : Vec Event Global) → IsOpenedMachine script opened → IsDrivenMachine answers limits opened driven traces → t.items ≡ [] → AreTold traces (stage driven.cpus t)
+told_all : (answers : CpuId → ℕ → Bool → Type 0) (limits : Limits) (script : Script) (opened driven : Rig) (traces : List (Vec Event Global)) (t : Vec Event Global) → IsOpenedMachine script opened → IsDrivenMachine answers limits opened driven traces → t.items ≡ [] → AreTold (length opened.cpus) (fronts_of traces) (stage driven.cpus t)
 told_all answers limits script opened driven traces t opens drives none =
     let d = drives.cpus in
     record {
-      as_many = d.as_many ∙ sym d.traces_are;
-      each = λ k q trace at has.
+      as_many = d.as_many;
+      each = λ k q at.
           let within : k < length opened.cpus = omega (arith, slice_get_within driven.cpus k q at, d.as_many) in
           let p = get_there opened.cpus k within in
+          let trace = get_there traces k (omega (arith, within, d.traces_are)) in
           let first = told_opened opened.bank opened.book script.threads k p.0 (opens.each k p.0 p.1) in
-          let now = told_driven answers limits opened.bank k p.0 q trace first (d.each k p.0 q trace p.1 at has) in
+          let now = told_driven answers limits opened.bank k p.0 q trace.0 first (d.each k p.0 q trace.0 p.1 at trace.1) in
           let none_of : of_cpu k t.items ≡ [] = ap (of_cpu k) none in
           let E : List Event → Type 0 = λ es. IsToldAt k q es in
-          subst E (sym (append-nil trace.items) ∙ ap (λ es. trace.items ++ es) (sym none_of)) now;
+          subst E (sym (front_is traces k trace.0 trace.1) ∙ sym (append-nil (fronts_of traces k)) ∙ ap (λ es. fronts_of traces k ++ es) (sym none_of)) now;
     }
 
 -- a seat of each processor's
@@ -186,19 +194,17 @@ seat_at : {A : Type 0} (f : Processor Scripted → A) (cpus : List (Processor Sc
 seat_at f cpus k p at = slice_get-map f cpus k ∙ ap (option_map f) at
 
 -- what was told of processors when none of them had stopped, and what they did as they stopped, are the parts of such runs
-pub rest_tells : (opened made stopped : Rig) (traces : List (Vec Event Global)) (before after : Vec Event Global) (closed : Closed) → length traces ≡ length opened.cpus → made.bank ≡ opened.bank → made.book ≡ opened.book → AreTold traces (stage made.cpus before) → StopsAll made stopped before after → IsClosedMachine stopped closed → TellTheRuns opened closed (parts_from 0 traces after.items)
-rest_tells opened made stopped traces before after closed as_many banks books first stops closes =
-    let told : AreTold traces (stage stopped.cpus after) = told_chain traces (length made.cpus) (stage made.cpus before) (stage stopped.cpus after) stops.stopped first in
+pub rest_tells : (opened made stopped : Rig) (fronts : ℕ → List Event) (before after : Vec Event Global) (closed : Closed) (parts : List (List Event)) → made.bank ≡ opened.bank → made.book ≡ opened.book → AreTold (length opened.cpus) fronts (stage made.cpus before) → StopsAll made stopped before after → IsClosedMachine stopped closed → ((k : ℕ) (part : List Event) → slice_get parts k ≡ Some part → (k < length opened.cpus) × (part ≡ fronts k ++ of_cpu k after.items)) → TellTheRuns opened closed parts
+rest_tells opened made stopped fronts before after closed parts banks books first stops closes are =
+    let told : AreTold (length opened.cpus) fronts (stage stopped.cpus after) = told_chain (length opened.cpus) fronts (length made.cpus) (stage made.cpus before) (stage stopped.cpus after) stops.stopped first in
     let bank : stopped.bank ≡ opened.bank = stops.bank ∙ banks in
     let book : stopped.book ≡ opened.book = stops.book ∙ books in
-    let many : length stopped.cpus ≡ length opened.cpus = told.as_many ∙ as_many in
-    let parts = parts_from 0 traces after.items in
+    let many : length stopped.cpus ≡ length opened.cpus = told.as_many in
     let found : (cpu : ℕ) (part : List Event) → slice_get parts cpu ≡ Some part → (p : Processor Scripted) × ((slice_get stopped.cpus cpu ≡ Some p) × IsToldAt cpu p part) = λ cpu part at.
-    let x = parts_at 0 traces after.items cpu part at in
-    let z : 0 + cpu ≡ cpu = omega arith in
-    let p = get_there stopped.cpus cpu (omega (arith, slice_get_within traces cpu x.0 x.1.0, told.as_many)) in
+    let x = are cpu part at in
+    let p = get_there stopped.cpus cpu (omega (arith, x.0, many)) in
     let E : List Event → Type 0 = λ es. IsToldAt cpu p.0 es in
-    (p.0, (p.1, subst E (ap (λ (j : ℕ). x.0.items ++ of_cpu j after.items) (sym z) ∙ sym x.1.1) (told.each cpu p.0 x.0 p.1 x.1.0))) in
+    (p.0, (p.1, subst E (sym x.1) (told.each cpu p.0 p.1))) in
     let B : BankId → Type 0 = λ b. TellOneRun b (length opened.cpus) closed.tokens parts in
     let N : ℕ → Type 0 = λ n. TellOneRun stopped.bank n closed.tokens parts in
     let S : Shelf → Type 0 = λ b. TellOneMailRun b closed.messages.items parts in
@@ -213,4 +219,9 @@ rest_tells opened made stopped traces before after closed as_many banks books fi
 
 pub threads_tell : (answers : CpuId → ℕ → Bool → Type 0) (limits : Limits) (script : Script) (opened driven stopped : Rig) (traces : List (Vec Event Global)) (before after : Vec Event Global) (closed : Closed) → IsOpenedMachine script opened → IsDrivenMachine answers limits opened driven traces → before.items ≡ [] → StopsAll driven stopped before after → IsClosedMachine stopped closed → TellTheRuns opened closed (parts_from 0 traces after.items)
 threads_tell answers limits script opened driven stopped traces before after closed opens drives none stops closes =
-    rest_tells opened driven stopped traces before after closed drives.cpus.traces_are drives.bank drives.book (told_all answers limits script opened driven traces before opens drives none) stops closes
+    rest_tells opened driven stopped (fronts_of traces) before after closed (parts_from 0 traces after.items) drives.bank drives.book (told_all answers limits script opened driven traces before opens drives none) stops closes (λ k part at.
+        let x = parts_at 0 traces after.items k part at in
+        let z : 0 + k ≡ k = omega arith in (
+          omega (arith, slice_get_within traces k x.0 x.1.0, drives.cpus.traces_are),
+          x.1.1 ∙ ap (λ (j : ℕ). x.0.items ++ of_cpu j after.items) z ∙ ap (λ (es : List Event). es ++ of_cpu k after.items) (sym (front_is traces k x.0 x.1.0)),
+        ))

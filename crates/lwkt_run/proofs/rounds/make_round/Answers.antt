@@ -25,7 +25,7 @@ loop-cpu-preserved c =
       turns = chain_more Going TakesTurn l.cpu (going (scene c.args.machine.now c.args.trace.now (kept_in_record c.args.kept.now)) true) (going (scene l.machine l.trace (kept_in_record l.kept)) l.over) (going (scene c.make_turn.new.machine c.make_turn.new.trace (kept_in_record c.make_turn.new.kept)) c.both-over.result) l.invariant.turns (turned, (ok.1.0, is));
       over_is = λ so.
           let yes = both_true l.over (says_over turned) (sym is ∙ so) in
-          over_later l.cpu l.machine c.make_turn.new.machine l.trace c.make_turn.new.trace turned ok.1.0.makes (says_all turned yes.1) (l.invariant.over_is yes.0);
+          over_later l.cpu l.machine c.make_turn.new.machine ok.1.0.room ok.1.0.part turned ok.1.0.makes (says_all turned yes.1) (l.invariant.over_is yes.0);
     }
 
 pub returns-clause-ok : goal.returns-clause-ok

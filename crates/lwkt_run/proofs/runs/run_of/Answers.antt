@@ -1,7 +1,9 @@
-use Rattle.std.proofs.Common.{◌∙◌, ap, refl, subst}
+use Rattle.std.proofs.Common.{◌≡◌, ◌∙◌, ◌++◌, [], List, ap, subst, sym}
 use Rattle.lwkt_bank.specs.Seats.{BankId}
-use Rattle.lwkt_run.specs.Keeping.{Kept}
-use Rattle.lwkt_run.specs.Running.{kept_in_record, scene, HasMadeRounds}
+use Rattle.lwkt_core.specs.declared.events.Event.{Event}
+use Rattle.lwkt_run.specs.Keeping.{Kept, none_kept}
+use Rattle.lwkt_run.specs.Run.{TellsOneRun}
+use Rattle.lwkt_run.specs.Running.{Scene, kept_in_record, scene, HasMadeRounds}
 use Rattle.lwkt_run.proofs.IdMoves.{opened_has}
 use Rattle.lwkt_run.proofs.RoundMoves.{has_rounds, rounds_bank}
 use Rattle.lwkt_run.proofs.TurnMoves.{rounds_tell}
@@ -21,26 +23,30 @@ left_by-requires-clause-threads c =
     let r = c.in_ok-make_rounds.ensures.ok in
     has_rounds s.cpus s.threads s.turns (scene m c.new-trace.result (kept_in_record c.new-kept.result)) (scene c.make_rounds.new.machine c.make_rounds.new.trace (kept_in_record c.make_rounds.new.kept)) r (opened_has s m c.in_ok-machine.ensures.ok)
 
-pub returns-clause-runs : goal.returns-clause-runs
-returns-clause-runs c =
+pub returns-in-Ok-clause-runs : goal.returns-in-Ok-clause-runs
+returns-in-Ok-clause-runs c =
     let s = c.args.script.now in
     let opened = c.in_ok-machine in
     let made = c.make_rounds.new in
     let left = c.in_ok-left in
     let kept : Kept = kept_in_record made.kept in
-    let F : Kept → Type 0 = λ k. HasMadeRounds s.turns (scene opened.machine c.new-trace.result k) (scene made.machine made.trace kept) in
-    let rounds = subst F c.new-kept.ensures c.in_ok-make_rounds.ensures.ok in
+    let told : List Event = made.trace in
+    let stops : List Event = c.left_by.new.trace.items in
+    let F : List Event → Type 0 = λ es. HasMadeRounds s.turns (scene opened.machine es (kept_in_record c.new-kept.result)) (scene made.machine told kept) in
+    let G : Kept → Type 0 = λ k. HasMadeRounds s.turns (scene opened.machine [] k) (scene made.machine told kept) in
+    let rounds = subst G c.new-kept.ensures (subst F c.new-trace.ensures c.in_ok-make_rounds.ensures.ok) in
+    let whole : c.append.new.self ≡ told ++ stops = c.in-Ok.ensures ∙ ap (λ (es : List Event). told ++ es) c.as_slice.ensures.value in
     record {
       opened = opened.machine;
       made = made.machine;
-      first = c.new-trace.result;
-      mid = made.trace;
-      whole = c.left_by.new.trace;
+      told = told;
+      none = c.clear.new.self;
+      stops = c.left_by.new.trace;
       opens = opened.ensures.ok;
-      none = c.new-trace.ensures.items;
       rounds = rounds;
       shown = left.ensures.shown;
+      empty = c.clear.ensures.items;
       leaves = left.ensures.leaves;
-      trace_is = refl;
-      tells = rounds_tell s opened.machine made.machine c.new-trace.result made.trace c.left_by.new.trace kept left.left.last left.ensures.leaves opened.ensures.ok opened.ensures.within c.new-trace.ensures.items rounds;
+      trace_is = whole;
+      tells = subst (λ (es : List Event). TellsOneRun s opened.machine left.ensures.leaves.closed left.left.last es) (sym whole) (rounds_tell s opened.machine made.machine told c.clear.new.self c.left_by.new.trace kept left.left.last left.ensures.leaves opened.ensures.ok opened.ensures.within c.clear.ensures.items rounds);
     }
