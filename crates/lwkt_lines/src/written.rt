@@ -37,6 +37,15 @@ fn put_number(text: &mut Text, number: u64) -> Option<()>
     put(text, Buffer::new().format(number).as_bytes())
 }
 
+// Appends three numbers, each with a comma before it.
+fn put_three(text: &mut Text, first: u64, second: u64, third: u64) -> Option<()>
+    ensures { IfSome result (λ _. text.new.items ≡ text.old.items ++ (comma first ++ comma second ++ comma third)) }
+{
+    put_number(text, first)?;
+    put_number(text, second)?;
+    put_number(text, third)
+}
+
 // Appends what an event is at, and what else it says; of a written give not its section. None for an event with a record.
 fn put_rest(text: &mut Text, event: &Event) -> Option<()>
     ensures { IfSome result (λ _. text.new.items ≡ text.old.items ++ rest_text event.now) }
@@ -61,16 +70,10 @@ fn put_rest(text: &mut Text, event: &Event) -> Option<()>
             cell,
             value,
             ..
-        } => {
-            put_number(text, u64::from(tok.0))?;
-            put_number(text, u64::from(cell))?;
-            put_number(text, value)
-        }
+        } => put_three(text, u64::from(tok.0), u64::from(cell), value),
         Event::ReadBlob { .. } | Event::WriteBlob { .. } => None,
         Event::Send { msg, to, round, .. } => {
-            put_number(text, u64::from(msg.0))?;
-            put_number(text, u64::from(to.0))?;
-            put_number(text, round)
+            put_three(text, u64::from(msg.0), u64::from(to.0), round)
         }
         Event::TakeMsg { msg, round, .. } => {
             put_number(text, u64::from(msg.0))?;

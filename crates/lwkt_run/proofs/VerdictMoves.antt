@@ -1,6 +1,6 @@
 -- The verdict on a run, by what the check of its turns says.
 use Rattle.std.proofs.Common.{◌≡◌, ◌⊎◌, inl, inr, ℕ, List, [], ◌∷◌, length, take, refl, sym, ap, subst, arith}
-use Rattle.std.specs.Prelude.{slice_get, Option, Some, None, MatchOption}
+use Rattle.std.specs.Prelude.{slice_get, Option, None, MatchOption}
 use Rattle.lwkt_core.specs.declared.events.Event.{Event}
 use Rattle.lwkt_core.specs.declared.finals.Final.{Final}
 use Rattle.lwkt_core.specs.Machine.{Machine, Needs}

@@ -22,7 +22,6 @@ use Rattle.lwkt_report.specs.Stream.{AppendsFront, BlamesFailed}
 use Rattle.lwkt_report.specs.Complaint.{fault_line, complaint_of, IsSaid}
 use Rattle.lwkt_script.specs.declared.scripts.Script.{Script}
 use Rattle.lwkt_script.specs.Format.{script_of}
-use Rattle.lwkt_script.specs.declared.scripts.ThreadSpec.{ThreadSpec}
 use Rattle.lwkt_verdict.specs.declared.turns.Poll.{Poll}
 use Rattle.lwkt_verdict.specs.declared.turns.Turn.{Turn}
 use Rattle.lwkt_verdict.specs.declared.turns.Pace.{Pace}

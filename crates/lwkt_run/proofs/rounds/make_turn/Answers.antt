@@ -1,4 +1,4 @@
-use Rattle.std.proofs.Common.{◌≡◌, ◌∙◌, ◌++◌, List, ap, sym}
+use Rattle.std.proofs.Common.{◌∙◌, ◌++◌, List, ap, sym}
 use Rattle.lwkt_core.specs.declared.events.Event.{Event}
 use Rattle.std.specs.Prelude.{option_map}
 use Rattle.lwkt_run.specs.Keeping.{polled_of}

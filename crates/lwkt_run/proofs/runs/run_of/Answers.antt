@@ -1,9 +1,9 @@
 use Rattle.std.proofs.Common.{◌≡◌, ◌∙◌, ◌++◌, [], List, ap, subst, sym}
 use Rattle.lwkt_bank.specs.Seats.{BankId}
 use Rattle.lwkt_core.specs.declared.events.Event.{Event}
-use Rattle.lwkt_run.specs.Keeping.{Kept, none_kept}
+use Rattle.lwkt_run.specs.Keeping.{Kept}
 use Rattle.lwkt_run.specs.Run.{TellsOneRun}
-use Rattle.lwkt_run.specs.Running.{Scene, kept_in_record, scene, HasMadeRounds}
+use Rattle.lwkt_run.specs.Running.{kept_in_record, scene, HasMadeRounds}
 use Rattle.lwkt_run.proofs.IdMoves.{opened_has}
 use Rattle.lwkt_run.proofs.RoundMoves.{has_rounds, rounds_bank}
 use Rattle.lwkt_run.proofs.TurnMoves.{rounds_tell}
