@@ -6,7 +6,7 @@ use lwkt_base::{
 use lwkt_core::{Event, State};
 use lwkt_report::{Log, ThreadLine};
 use lwkt_script::{Parts, ThreadSpec};
-use lwkt_verdict::{Pace, Poll, PollList, Turn, is_script_run};
+use lwkt_verdict::{EventList, Pace, Poll, PollList, Turn, is_script_run};
 use std::alloc::{AllocError, Global};
 
 /// How a thread stands at the end of a run, and its log.
@@ -178,15 +178,20 @@ impl Sheet {
         let order = self.order(alloc)?;
         let polls = self.packed(alloc).map_err(Fault::Memory)?;
         let lines = self.reported(alloc).map_err(Fault::Memory)?;
-        Ok(is_script_run(
+        let mut trace = EventList::new(alloc);
+        trace.append(self.trace.as_slice()).map_err(Fault::Memory)?;
+        let mut part = Vec::new(alloc);
+        is_script_run(
             self.threads.as_slice(),
             Pace::Rounds(self.limit),
             order.as_slice(),
             &mut state,
             &polls,
             self.turns.as_slice(),
-            self.trace.as_slice(),
+            &trace,
+            &mut part,
             lines.as_slice(),
-        ))
+        )
+        .map_err(Fault::Memory)
     }
 }

@@ -82,9 +82,13 @@ fn why_of(alloc: Global, kind: Kind, run: &TurnsRun) -> Result<Option<String>, F
         Kind::Ended | Kind::Cut => return Ok(None),
         Kind::Stuck => {}
     }
+    let events = match run.trace.whole(alloc) {
+        Ok(events) => events,
+        Err(refused) => return Err(Fault::Memory(refused)),
+    };
     let reel = Reel {
         script: &run.script,
-        trace: &run.trace,
+        trace: &events,
         polls: &run.polls,
         turns: &run.turns,
         order: Some(&run.order),

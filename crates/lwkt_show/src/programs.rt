@@ -73,9 +73,10 @@ pub(crate) fn text_of(
     ensures shows { IfOk result (λ text. ShowsAs options.now (option_copied order.entry) run.now (string_bytes text)) }
     ensures refused { IfErr result (MayBeRefused run.now.script) }
 {
+    let events = run.trace.whole(alloc).map_err(Fault::Memory)?;
     let reel = Reel {
         script: &run.script,
-        trace: &run.trace,
+        trace: &events,
         polls: &run.polls,
         turns: &run.turns,
         order,

@@ -50,6 +50,7 @@ impl EventList {
     }
 
     /// An event more, behind the others. Where memory for it is refused, nothing changes.
+    #[inline(always)]
     pub fn push(&mut self, event: &Event) -> Result<(), AllocError>
         ensures ok { OnOk result (self.new ≡ self.old ++ event.now ∷ []) }
         ensures err { OnErr result (self.new ≡ self.old) }
@@ -79,7 +80,7 @@ impl EventList {
         room.clear();
         room.reserve(count)?;
         for i in 0..count {
-            room.push_reserved(self.rows[first + i].whole(&self.cells, &self.longs));
+            self.rows[first + i].put(&self.cells, &self.longs, room);
         }
         Ok(())
     }

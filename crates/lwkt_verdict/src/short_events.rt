@@ -3,7 +3,7 @@
 //! An `Event` has room for a section or a record, so it is large. A written give of a token with one cell is kept by the place of a
 //! short section; any other written give, and a record that was read or stored, lie in a list of their own, and are kept short by their
 //! place there. All others are kept as they are.
-ghost use Rattle.std.specs.Prelude.{◌≡◌, length, IfSome, IfOk};
+ghost use Rattle.std.specs.Prelude.{◌≡◌, ◌+◌, ◌<◌, [], ◌∷◌, ◌++◌, length, vec_len, vec_capacity, IfSome, IfOk};
 ghost use Rattle.lwkt_verdict.specs.Shorts.{GrowsBehind};
 ghost use Rattle.lwkt_verdict.specs.ShortEvents.{gave_cell, long_event, IsEventIn};
 
@@ -87,6 +87,7 @@ fn short_section(event: &Event) -> Option<(CpuId, TokId, CellSection)>
 
 impl ShortEvent {
     // An event that needs no other list.
+    #[inline(always)]
     fn of(event: &Event) -> Option<ShortEvent>
         ensures same { IfSome result (λ short. (cells longs : _) → long_event cells longs short ≡ event.now) }
         ensures inside { IfSome result (λ short. IsEventIn 0 0 short) }
@@ -126,52 +127,58 @@ impl ShortEvent {
         }
     }
 
-    /// The whole event, where the short sections and the long events are these.
+    /// Puts the whole event behind those of a room that has room for it, where the short sections and the long events are these. Each kind
+    /// is put by itself, since only a section or a record takes all the room of an event.
     #[inline(always)]
-    pub fn whole(&self, cells: &[CellSection], longs: &[Event]) -> Event
-        ensures { result ≡ long_event cells.now longs.now self.now }
+    pub fn put(&self, cells: &[CellSection], longs: &[Event], room: &mut Vec<Event>)
+        requires { vec_len room.old < vec_capacity room.old }
+        ensures items { room.new.items ≡ room.old.items ++ long_event cells.now longs.now self.now ∷ [] }
+        ensures len { vec_len room.new ≡ vec_len room.old + 1 }
+        ensures capacity { vec_capacity room.new ≡ vec_capacity room.old }
     {
         match *self {
-            ShortEvent::Load(cpu, tok) => Event::Load { cpu, tok },
-            ShortEvent::Take(cpu, tok) => Event::Take { cpu, tok },
-            ShortEvent::Share(cpu, tok) => Event::Share { cpu, tok },
-            ShortEvent::Again(cpu, tok) => Event::Again { cpu, tok },
-            ShortEvent::Mark(cpu, tok) => Event::Mark { cpu, tok },
-            ShortEvent::GiveOne(cpu, tok) => Event::GiveOne { cpu, tok },
-            ShortEvent::GiveClean(cpu, tok) => Event::GiveClean { cpu, tok },
+            ShortEvent::Load(cpu, tok) => room.push_reserved(Event::Load { cpu, tok }),
+            ShortEvent::Take(cpu, tok) => room.push_reserved(Event::Take { cpu, tok }),
+            ShortEvent::Share(cpu, tok) => room.push_reserved(Event::Share { cpu, tok }),
+            ShortEvent::Again(cpu, tok) => room.push_reserved(Event::Again { cpu, tok }),
+            ShortEvent::Mark(cpu, tok) => room.push_reserved(Event::Mark { cpu, tok }),
+            ShortEvent::GiveOne(cpu, tok) => room.push_reserved(Event::GiveOne { cpu, tok }),
+            ShortEvent::GiveClean(cpu, tok) => room.push_reserved(Event::GiveClean { cpu, tok }),
             ShortEvent::GaveCell(cpu, tok, place) => match cells.get(place) {
-                None => Event::Load { cpu, tok },
-                Some(section) => gave(cpu, tok, section),
+                None => room.push_reserved(Event::Load { cpu, tok }),
+                Some(section) => room.push_reserved(gave(cpu, tok, section)),
             },
-            ShortEvent::Read(cpu, tok, cell, value) => Event::Read {
+            ShortEvent::Read(cpu, tok, cell, value) => room.push_reserved(Event::Read {
                 cpu,
                 tok,
                 cell,
                 value,
-            },
-            ShortEvent::Write(cpu, tok, cell, value) => Event::Write {
+            }),
+            ShortEvent::Write(cpu, tok, cell, value) => room.push_reserved(Event::Write {
                 cpu,
                 tok,
                 cell,
                 value,
-            },
-            ShortEvent::Send(cpu, msg, to, round) => Event::Send {
+            }),
+            ShortEvent::Send(cpu, msg, to, round) => room.push_reserved(Event::Send {
                 cpu,
                 msg,
                 to,
                 round,
-            },
-            ShortEvent::TakeMsg(cpu, msg, round) => Event::TakeMsg { cpu, msg, round },
-            ShortEvent::DropMsg(cpu, msg) => Event::DropMsg { cpu, msg },
-            ShortEvent::Reply(cpu, msg) => Event::Reply { cpu, msg },
-            ShortEvent::Reap(cpu, msg) => Event::Reap { cpu, msg },
-            ShortEvent::Abort(cpu, msg) => Event::Abort { cpu, msg },
+            }),
+            ShortEvent::TakeMsg(cpu, msg, round) => {
+                room.push_reserved(Event::TakeMsg { cpu, msg, round });
+            }
+            ShortEvent::DropMsg(cpu, msg) => room.push_reserved(Event::DropMsg { cpu, msg }),
+            ShortEvent::Reply(cpu, msg) => room.push_reserved(Event::Reply { cpu, msg }),
+            ShortEvent::Reap(cpu, msg) => room.push_reserved(Event::Reap { cpu, msg }),
+            ShortEvent::Abort(cpu, msg) => room.push_reserved(Event::Abort { cpu, msg }),
             ShortEvent::Long(place) => match longs.get(place) {
-                None => Event::Load {
+                None => room.push_reserved(Event::Load {
                     cpu: CpuId(0),
                     tok: TokId(0),
-                },
-                Some(long) => *long,
+                }),
+                Some(long) => room.push_reserved(*long),
             },
         }
     }

@@ -17,10 +17,11 @@ loop-i-preserved c =
     let d : ShortEvent = c.index.result.now in
     let many : length c.args.self.now ≡ length rows = sym (ap length c.self.view_is) ∙ length-map rows (long_event cells longs) in
     let within : c.args.first + l.i < length rows = omega (arith, many, c.requires, c.loop-i-test.true, l.auto.i-end) in
-    let is : c.whole.result ≡ long_event cells longs (get_or rows (c.args.first + l.i) d) =
-    c.whole.ensures ∙ ap (λ (xs : List CellSection). long_event xs c.deref-in-loop-i.result.now d) c.deref.ensures.value ∙ ap (λ (xs : List Event). long_event cells xs d) c.deref-in-loop-i.ensures.value ∙ ap (long_event cells longs) c.index.ensures in
+    let e : Event = long_event c.deref.result.now c.deref-in-loop-i.result.now d in
+    let is : e ≡ long_event cells longs (get_or rows (c.args.first + l.i) d) =
+    ap (λ (xs : List CellSection). long_event xs c.deref-in-loop-i.result.now d) c.deref.ensures.value ∙ ap (λ (xs : List Event). long_event cells xs d) c.deref-in-loop-i.ensures.value ∙ ap (long_event cells longs) c.index.ensures in
     record {
-      room = copied_more cells longs rows c.args.self.now c.args.first l.i d l.room.items c.push_reserved.new.self.items c.whole.result c.self.view_is within l.invariant.room is c.push_reserved.ensures.items;
-      long = omega (arith, c.push_reserved.ensures.len, l.invariant.long);
-      left = omega (arith, c.push_reserved.ensures.capacity, l.invariant.left);
+      room = copied_more cells longs rows c.args.self.now c.args.first l.i d l.room.items c.put.new.room.items e c.self.view_is within l.invariant.room is c.put.ensures.items;
+      long = omega (arith, c.put.ensures.len, l.invariant.long);
+      left = omega (arith, c.put.ensures.capacity, l.invariant.left);
     }
