@@ -220,8 +220,8 @@ rest_tells opened made stopped fronts before after closed parts banks books firs
 pub threads_tell : (answers : CpuId → ℕ → Bool → Type 0) (limits : Limits) (script : Script) (opened driven stopped : Rig) (traces : List (Vec Event Global)) (before after : Vec Event Global) (closed : Closed) → IsOpenedMachine script opened → IsDrivenMachine answers limits opened driven traces → before.items ≡ [] → StopsAll driven stopped before after → IsClosedMachine stopped closed → TellTheRuns opened closed (parts_from 0 traces after.items)
 threads_tell answers limits script opened driven stopped traces before after closed opens drives none stops closes =
     rest_tells opened driven stopped (fronts_of traces) before after closed (parts_from 0 traces after.items) drives.bank drives.book (told_all answers limits script opened driven traces before opens drives none) stops closes (λ k part at.
-        let x = parts_at 0 traces after.items k part at in
-        let z : 0 + k ≡ k = omega arith in (
-          omega (arith, slice_get_within traces k x.0 x.1.0, drives.cpus.traces_are),
-          x.1.1 ∙ ap (λ (j : ℕ). x.0.items ++ of_cpu j after.items) z ∙ ap (λ (es : List Event). es ++ of_cpu k after.items) (sym (front_is traces k x.0 x.1.0)),
-        ))
+    let x = parts_at 0 traces after.items k part at in
+    let z : 0 + k ≡ k = omega arith in (
+      omega (arith, slice_get_within traces k x.0 x.1.0, drives.cpus.traces_are),
+      x.1.1 ∙ ap (λ (j : ℕ). x.0.items ++ of_cpu j after.items) z ∙ ap (λ (es : List Event). es ++ of_cpu k after.items) (sym (front_is traces k x.0 x.1.0)),
+    ))
