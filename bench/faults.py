@@ -22,11 +22,12 @@ def example(name):
         return file.read()
 
 
-# Builds a program by a call that reads nothing of a script, where it isn't there or is old. With AS_BUILT=1 it is taken as it is.
+# Builds a program by a call that reads an empty script or trace, where it isn't there or is old. With AS_BUILT=1 it is taken as it is.
 def build(program):
     if os.environ.get("AS_BUILT") and os.path.exists(os.path.join(TOP, program[1])):
         return
-    done = subprocess.run([os.path.join(TOP, program[0]), "no such word"], stdin=subprocess.DEVNULL, capture_output=True)
+    words = [] if program is CHECK else ["turns"]
+    done = subprocess.run([os.path.join(TOP, program[0])] + words, stdin=subprocess.DEVNULL, capture_output=True)
     if done.returncode != 1 or not os.path.exists(os.path.join(TOP, program[1])):
         fail("%s isn't built: %s" % (program[0], done.stderr.decode()[-300:]))
 
