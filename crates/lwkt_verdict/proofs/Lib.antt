@@ -8,4 +8,3 @@ pub mod LawMoves
 pub mod TraceMoves
 pub mod HistoryMoves
 pub mod ShortMoves
-pub mod EventMoves

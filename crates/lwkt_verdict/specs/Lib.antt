@@ -4,7 +4,6 @@ pub mod Parts
 pub mod Threads
 pub mod Run
 pub mod Shorts
-pub mod ShortEvents
 pub mod Homes
 pub mod Progressed
 pub mod Laws

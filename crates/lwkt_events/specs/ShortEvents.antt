@@ -1,13 +1,14 @@
 -- Events without room for a section or a record, and the traces that are kept by them (own).
-use Rattle.std.specs.Prelude.{ℕ, ◌<◌, List, [], ◌∷◌, map, slice_get}
+use Rattle.std.specs.Prelude.{◌≡◌, ℕ, ◌+◌, ◌-◌, ◌<◌, ◌≤◌, min, List, [], ◌∷◌, ◌++◌, map, slice_get, Vec, vec_len, vec_capacity}
+use Rattle.std.specs.declared.alloc.Global.{Global}
 use Rattle.std.specs.Option.{option_map_or}
 use Rattle.lwkt_base.specs.declared.names.CpuId.{CpuId}
 use Rattle.lwkt_base.specs.declared.names.TokId.{TokId}
 use Rattle.lwkt_core.specs.declared.events.Event.{Event}
 use Rattle.lwkt_core.specs.declared.events.Event.TheVariants.{Load, Take, Share, Again, Mark, GiveOne, GiveClean, GiveWritten, Read, Write, Send, TakeMsg, DropMsg, Reply, Reap, Abort}
-use Rattle.lwkt_verdict.specs.declared.short_events.CellSection.{CellSection}
-use Rattle.lwkt_verdict.specs.declared.short_events.ShortEvent.{ShortEvent}
-use Rattle.lwkt_verdict.specs.declared.short_events.ShortEvent.TheVariants.{Load as ShortLoad, Take as ShortTake, Share as ShortShare, Again as ShortAgain, Mark as ShortMark, GiveOne as ShortGiveOne, GiveClean as ShortGiveClean, GaveCell, Read as ShortRead, Write as ShortWrite, Send as ShortSend, TakeMsg as ShortTakeMsg, DropMsg as ShortDropMsg, Reply as ShortReply, Reap as ShortReap, Abort as ShortAbort, Long as LongEvent}
+use Rattle.lwkt_events.specs.declared.short_events.CellSection.{CellSection}
+use Rattle.lwkt_events.specs.declared.short_events.ShortEvent.{ShortEvent}
+use Rattle.lwkt_events.specs.declared.short_events.ShortEvent.TheVariants.{Load as ShortLoad, Take as ShortTake, Share as ShortShare, Again as ShortAgain, Mark as ShortMark, GiveOne as ShortGiveOne, GiveClean as ShortGiveClean, GaveCell, Read as ShortRead, Write as ShortWrite, Send as ShortSend, TakeMsg as ShortTakeMsg, DropMsg as ShortDropMsg, Reply as ShortReply, Reap as ShortReap, Abort as ShortAbort, Long as LongEvent}
 
 -- the written give of a token with one cell that has this section
 abbrev pub gave_cell : CpuId → TokId → CellSection → Event
@@ -42,3 +43,25 @@ IsEventIn cells longs _ = Unit {0}
 -- the events that short ones stand for
 abbrev pub events_in : List CellSection → List Event → List ShortEvent → List Event
 events_in cells longs rows = map (long_event cells longs) rows
+
+-- a list has more behind what it had, or nothing more
+pub record GrowsBehind {A : Type 0} (old new : List A) : Type 0 where
+  pub more : List A
+  pub is : new ≡ old ++ more
+
+-- a vector has at most one element more, and as much room
+abbrev pub TakesOne : {A : Type 0} → Vec A Global → Vec A Global → Type 0
+TakesOne old new = (vec_len new ≤ vec_len old + 1) × (vec_capacity new ≡ vec_capacity old)
+
+-- the events of a trace that is kept, and how many it may have in all before it asks for memory, of whatever kinds they are
+pub record KeptTrace : Type 0 where
+  pub items : List Event
+  pub capacity : ℕ
+
+-- how many elements more a vector takes before it asks for memory
+abbrev pub spare : {A : Type 0} → Vec A Global → ℕ
+spare v = vec_capacity v - vec_len v
+
+-- how many events have room in these lists, each of which may take the next one
+abbrev pub capacity_in : Vec ShortEvent Global → Vec CellSection Global → Vec Event Global → ℕ
+capacity_in rows cells longs = vec_len rows + min (spare rows) (min (spare cells) (spare longs))

@@ -7,11 +7,11 @@ use Rattle.std.proofs.lemmas.List.{map-append, length-map, length-drop, take_mor
 use Rattle.std.proofs.lemmas.List.Elements.{All-weaker}
 use Rattle.lwkt_core.specs.declared.events.Event.{Event}
 use Rattle.lwkt_core.specs.declared.events.Event.TheVariants.{Load}
-use Rattle.lwkt_verdict.specs.declared.short_events.CellSection.{CellSection}
-use Rattle.lwkt_verdict.specs.declared.short_events.ShortEvent.{ShortEvent}
-use Rattle.lwkt_verdict.specs.declared.short_events.ShortEvent.TheVariants.{Load as ShortLoad, Take as ShortTake, Share as ShortShare, Again as ShortAgain, Mark as ShortMark, GiveOne as ShortGiveOne, GiveClean as ShortGiveClean, GaveCell, Read as ShortRead, Write as ShortWrite, Send as ShortSend, TakeMsg as ShortTakeMsg, DropMsg as ShortDropMsg, Reply as ShortReply, Reap as ShortReap, Abort as ShortAbort, Long as LongEvent}
-use Rattle.lwkt_verdict.specs.Shorts.{GrowsBehind}
-use Rattle.lwkt_verdict.specs.ShortEvents.{gave_cell, long_event, IsEventIn, events_in}
+use Rattle.lwkt_events.specs.declared.short_events.CellSection.{CellSection}
+use Rattle.lwkt_events.specs.declared.short_events.ShortEvent.{ShortEvent}
+use Rattle.lwkt_events.specs.declared.short_events.ShortEvent.TheVariants.{Load as ShortLoad, Take as ShortTake, Share as ShortShare, Again as ShortAgain, Mark as ShortMark, GiveOne as ShortGiveOne, GiveClean as ShortGiveClean, GaveCell, Read as ShortRead, Write as ShortWrite, Send as ShortSend, TakeMsg as ShortTakeMsg, DropMsg as ShortDropMsg, Reply as ShortReply, Reap as ShortReap, Abort as ShortAbort, Long as LongEvent}
+use Rattle.lwkt_events.specs.ShortEvents.{GrowsBehind}
+use Rattle.lwkt_events.specs.ShortEvents.{gave_cell, long_event, IsEventIn, events_in}
 
 -- an element of a list is there still, where more come behind
 get_left : {A : Type 0} (xs ys : List A) (k : ℕ) → k < length xs → slice_get (xs ++ ys) k ≡ slice_get xs k
@@ -98,3 +98,8 @@ copied_more cells longs rows es first i d room new e view within so_far is pushe
     let here : get_or (drop first es) i e ≡ e =
     get_or-drop first es i e ∙ ap (λ (xs : List Event). get_or xs (first + i) e) (sym view) ∙ get_or-map (long_event cells longs) rows (first + i) d e within ∙ sym is in
     pushed ∙ ap (λ (xs : List Event). xs ++ e ∷ []) so_far ∙ ap (λ (x : Event). take i (drop first es) ++ x ∷ []) (sym here) ∙ sym (take_more (drop first es) i e inside)
+
+-- what holds of one holds of each of a list of it alone
+pub all_one : {A : Type 0} (P : A → Type 0) (x : A) → P x → All P (x ∷ [])
+all_one P x p zero d inside = p
+all_one P x p (suc k) d inside = absurd (omega arith)

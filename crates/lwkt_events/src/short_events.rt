@@ -3,13 +3,11 @@
 //! An `Event` has room for a section or a record, so it is large. A written give of a token with one cell is kept by the place of a
 //! short section; any other written give, and a record that was read or stored, lie in a list of their own, and are kept short by their
 //! place there. All others are kept as they are.
-ghost use Rattle.std.specs.Prelude.{◌≡◌, ◌+◌, ◌<◌, [], ◌∷◌, ◌++◌, length, vec_len, vec_capacity, IfSome, IfOk};
-ghost use Rattle.lwkt_verdict.specs.Shorts.{GrowsBehind};
-ghost use Rattle.lwkt_verdict.specs.ShortEvents.{gave_cell, long_event, IsEventIn};
+ghost use Rattle.std.specs.Prelude.{◌≡◌, ◌+◌, ◌<◌, [], ◌∷◌, ◌++◌, length, vec_len, vec_capacity, IfSome};
+ghost use Rattle.lwkt_events.specs.ShortEvents.{gave_cell, long_event, IsEventIn, GrowsBehind, TakesOne};
 
 use lwkt_base::{CpuId, MsgId, Row, Section, TokId};
 use lwkt_core::Event;
-use std::alloc::AllocError;
 
 /// A written section of a token with one cell, of which the give names the token.
 #[derive(Clone, Copy)]
@@ -184,31 +182,29 @@ impl ShortEvent {
     }
 }
 
-/// An event kept short: its section, or the event itself where it is long, lies behind the others then. Where memory for it is
-/// refused, nothing changes.
-pub fn keep_event(
-    cells: &mut Vec<CellSection>,
-    longs: &mut Vec<Event>,
-    event: &Event,
-) -> Result<ShortEvent, AllocError>
-    ensures same { IfOk result (λ short. long_event cells.new.items longs.new.items short ≡ event.now) }
-    ensures inside { IfOk result (λ short. IsEventIn (length cells.new.items) (length longs.new.items) short) }
-    ensures sections { GrowsBehind cells.old.items cells.new.items }
-    ensures grows { GrowsBehind longs.old.items longs.new.items }
+/// An event kept short: its section, or the event itself where it is long, lies behind the others then, which have room for it.
+#[inline(always)]
+pub fn keep_event(cells: &mut Vec<CellSection>, longs: &mut Vec<Event>, event: &Event) -> ShortEvent
+    requires cell { vec_len cells.old < vec_capacity cells.old }
+    requires long { vec_len longs.old < vec_capacity longs.old }
+    ensures same { long_event cells.new.items longs.new.items result ≡ event.now }
+    ensures inside { IsEventIn (length cells.new.items) (length longs.new.items) result }
+    ensures sections { GrowsBehind cells.old.items cells.new.items × TakesOne cells.old cells.new }
+    ensures grows { GrowsBehind longs.old.items longs.new.items × TakesOne longs.old longs.new }
 {
     if let Some(short) = ShortEvent::of(event) {
-        return Ok(short);
+        return short;
     }
     match short_section(event) {
         Some((cpu, tok, section)) => {
             let place = cells.len();
-            cells.push(section)?;
-            Ok(ShortEvent::GaveCell(cpu, tok, place))
+            cells.push_reserved(section);
+            ShortEvent::GaveCell(cpu, tok, place)
         }
         None => {
             let place = longs.len();
-            longs.push(*event)?;
-            Ok(ShortEvent::Long(place))
+            longs.push_reserved(*event);
+            ShortEvent::Long(place)
         }
     }
 }

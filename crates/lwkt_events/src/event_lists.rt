@@ -1,0 +1,126 @@
+//! A trace, packed: a short event for each, and lists of what is too long for it.
+ghost use Rattle.std.specs.Prelude.{◌≡◌, ◌+◌, ◌<◌, ◌≤◌, length, take, drop, vec_capacity, OnOk, OnErr, IfOk, [], ◌∷◌, ◌++◌};
+
+use crate::short_events::{CellSection, ShortEvent, keep_event};
+use lwkt_core::Event;
+use std::alloc::{AllocError, Global};
+use std::marker::Model;
+
+/// The events of a processor or of a run, in order, and how many of whatever kinds they may be without more memory.
+///
+/// Few events have a section or a record. So an event is kept in 16 bytes, the section of a token with one cell in 24, and all else that
+/// is longer in a list of its own.
+#[derive(Drop)]
+pub struct EventList {
+    rows: Vec<ShortEvent>,
+    // The sections of tokens with one cell, and the events that are too long for a row.
+    cells: Vec<CellSection>,
+    longs: Vec<Event>,
+}
+
+impl Model for EventList {
+    ghost use Rattle.std.specs.Prelude.{All, length};
+    ghost use Rattle.lwkt_events.specs.ShortEvents.{KeptTrace, events_in, IsEventIn, capacity_in};
+
+    ghost Value = { KeptTrace };
+
+    ghost view = { λ t. record { items = events_in t.cells.items t.longs.items t.rows.items; capacity = capacity_in t.rows t.cells t.longs } };
+
+    ghost invariant = { λ t. All (IsEventIn (length t.cells.items) (length t.longs.items)) t.rows.items };
+}
+
+impl EventList {
+    /// No events.
+    pub fn new(alloc: Global) -> Self
+        ensures { result.items ≡ [] }
+    {
+        EventList {
+            rows: Vec::new(alloc),
+            cells: Vec::new(alloc),
+            longs: Vec::new(alloc),
+        }
+    }
+
+    /// How many events there are.
+    pub fn len(&self) -> usize
+        ensures { result ≡ length self.now.items }
+    {
+        self.rows.len()
+    }
+
+    /// Gives the list room for so many events more, of whatever kinds.
+    ///
+    /// `AllocError` if it lacks that room and memory is refused: the events stay, and it has no less room than before.
+    pub fn reserve(&mut self, count: usize) -> Result<(), AllocError>
+        ensures items { self.new.items ≡ self.old.items }
+        ensures capacity { self.old.capacity ≤ self.new.capacity }
+        ensures ok { OnOk result (length self.old.items + count ≤ self.new.capacity) }
+        ensures full { OnErr result (self.new.capacity < length self.old.items + count) }
+    {
+        self.rows.reserve(count)?;
+        self.cells.reserve(count)?;
+        self.longs.reserve(count)
+    }
+
+    /// An event more, behind the others, in a list that has room for it.
+    #[inline(always)]
+    fn put(&mut self, event: &Event)
+        requires { length self.old.items < self.old.capacity }
+        ensures items { self.new.items ≡ self.old.items ++ event.now ∷ [] }
+        ensures capacity { self.old.capacity ≤ self.new.capacity }
+    {
+        let row = keep_event(&mut self.cells, &mut self.longs, event);
+        self.rows.push_reserved(row);
+    }
+
+    /// These events, behind the others, in a list that has room for them.
+    pub fn put_all(&mut self, events: &[Event])
+        requires { length self.old.items + length events.now ≤ self.old.capacity }
+        ensures items { self.new.items ≡ self.old.items ++ events.now }
+        ensures capacity { self.old.capacity ≤ self.new.capacity }
+    {
+        for event in events {
+            self.put(event);
+        }
+    }
+
+    /// These events, behind the others.
+    ///
+    /// `AllocError` if the list lacks room for them and memory is refused: the events stay, and it has no less room than before.
+    pub fn append(&mut self, events: &[Event]) -> Result<(), AllocError>
+        ensures ok { OnOk result (self.new.items ≡ self.old.items ++ events.now) }
+        ensures err { OnErr result (self.new.items ≡ self.old.items) }
+        ensures full { OnErr result (self.new.capacity < length self.old.items + length events.now) }
+        ensures capacity { self.old.capacity ≤ self.new.capacity }
+    {
+        self.reserve(events.len())?;
+        self.put_all(events);
+        Ok(())
+    }
+
+    /// Writes so many events, from a place on, into a room, in place of what it had. That they are there is the caller's condition.
+    ///
+    /// `AllocError` if the room lacks room for them and can't be given it.
+    pub fn copy(&self, first: usize, count: usize, room: &mut Vec<Event>) -> Result<(), AllocError>
+        requires { first + count ≤ length self.now.items }
+        ensures ok { OnOk result (room.new.items ≡ take count (drop first self.now.items)) }
+        ensures full { OnErr result (vec_capacity room.old < count) }
+        ensures capacity { vec_capacity room.old ≤ vec_capacity room.new }
+    {
+        room.clear();
+        room.reserve(count)?;
+        for i in 0..count {
+            self.rows[first + i].put(&self.cells, &self.longs, room);
+        }
+        Ok(())
+    }
+
+    /// All events, as whole ones.
+    pub fn whole(&self, alloc: Global) -> Result<Vec<Event>, AllocError>
+        ensures { IfOk result (λ events. events.items ≡ self.now.items) }
+    {
+        let mut events = Vec::new(alloc);
+        self.copy(0, self.rows.len(), &mut events)?;
+        Ok(events)
+    }
+}

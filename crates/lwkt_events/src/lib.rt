@@ -1,0 +1,10 @@
+//! Events kept packed: most in 16 bytes, the section of a token with one cell in 24 more, and all else in a list of its own.
+//!
+//! Words: a *short* event is kept without room for a section or a record; a *long* one is one that has neither a short form nor a
+//! short section; a list has *room* for so many events if it can take so many in all, of whatever kinds, without being refused memory.
+#![tactic(auto)]
+
+mod event_lists;
+mod short_events;
+
+pub use event_lists::EventList;
