@@ -1,5 +1,5 @@
 -- Polls that are kept short stand for the same, whatever long asks and answers come behind.
-use Rattle.std.proofs.Common.{zero, suc, ◌≡◌, ◌∙◌, ℕ, ◌≤◌, ◌+◌, List, [], ◌∷◌, ◌++◌, length, map, refl, sym, ap, subst, arith, length-append, append-nil, set}
+use Rattle.std.proofs.Common.{suc, ◌≡◌, ◌∙◌, ℕ, ◌≤◌, ◌+◌, List, [], ◌∷◌, ◌++◌, length, map, refl, sym, ap, subst, arith, length-append, append-nil, set}
 use Rattle.std.specs.Prelude.{Result, Ok, Err, Option, Some, None, option_map, slice_get, slice_set}
 use Rattle.std.specs.Option.{option_map_or}
 use Rattle.std.specs.Result.{OnErr}
@@ -11,6 +11,7 @@ use Rattle.lwkt_base.specs.declared.asks.Ask.{Ask}
 use Rattle.lwkt_base.specs.declared.asks.Ask.TheVariants.{Exit}
 use Rattle.lwkt_base.specs.declared.asks.Answer.{Answer}
 use Rattle.lwkt_base.specs.declared.asks.Answer.TheVariants.{Begin}
+use Rattle.lwkt_events.specs.ShortEvents.{GrowsBehind}
 use Rattle.lwkt_verdict.specs.declared.turns.Poll.{Poll}
 use Rattle.lwkt_verdict.specs.declared.shorts.ShortAsk.{ShortAsk}
 use Rattle.lwkt_verdict.specs.declared.shorts.ShortAsk.TheVariants.{Get as ShortGet, GetShared as ShortGetShared, TryGet as ShortTryGet, Rel as ShortRel, Swap as ShortSwap, Read as ShortRead, Write as ShortWrite, Add as ShortAdd, ReadBlob as ShortReadBlob, Send as ShortSend, Do as ShortDo, Reply as ShortReply, Abort as ShortAbort, IsAborted as ShortIsAborted, DropMsg as ShortDropMsg, GetPort as ShortGetPort, WaitPort as ShortWaitPort, Yield as ShortYield, Exit as ShortExit, Long as LongAsk}
@@ -19,7 +20,7 @@ use Rattle.lwkt_verdict.specs.declared.shorts.ShortAnswer.TheVariants.{NotYet, B
 use Rattle.lwkt_verdict.specs.declared.poll_lists.PollRow.{PollRow}
 use Rattle.lwkt_core.specs.Machine.{changed}
 use Rattle.lwkt_core.proofs.MachineMoves.{changed_at}
-use Rattle.lwkt_verdict.specs.Shorts.{long_ask, long_answer, IsAskIn, IsAnswerIn, IsRowIn, GrowsBehind, poll_in, polls_in}
+use Rattle.lwkt_verdict.specs.Shorts.{long_ask, long_answer, IsAskIn, IsAnswerIn, IsRowIn, poll_in, polls_in}
 
 -- an ask, where more long ones come behind
 ask_longer : (longs more : List Ask) (short : ShortAsk) → IsAskIn (length longs) short → long_ask (longs ++ more) short ≡ long_ask longs short
@@ -130,11 +131,6 @@ rows_grown asks asks' answers answers' rows one other all =
 pub polls_pushed : (asks : List Ask) (answers : List Answer) (rows new : List PollRow) (row : PollRow) (qs : List Poll) (q : Poll) → new ≡ rows ++ row ∷ [] → polls_in asks answers rows ≡ qs → poll_in asks answers row ≡ q → polls_in asks answers new ≡ qs ++ q ∷ []
 polls_pushed asks answers rows new row qs q is before one =
     ap (polls_in asks answers) is ∙ map-append (poll_in asks answers) rows (row ∷ []) ∙ ap (λ (xs : List Poll). xs ++ poll_in asks answers row ∷ []) before ∙ ap (λ (x : Poll). qs ++ x ∷ []) one
-
--- what holds of one element holds of each of a list of it
-pub all_one : {A : Type 0} (P : A → Type 0) (x : A) → P x → All P (x ∷ [])
-all_one P x p zero d inside = p
-all_one P x p (suc k) d inside = absurd (omega arith)
 
 -- one of a list is changed
 pub all_changed : {A : Type 0} (P : A → Type 0) (f : A → A) (xs : List A) (k : ℕ) → ((x : A) → P x → P (f x)) → All P xs → All P (changed f xs k)

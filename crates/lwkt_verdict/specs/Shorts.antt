@@ -1,5 +1,5 @@
 -- Asks and answers without room for a record, and the polls that are kept by them (own).
-use Rattle.std.specs.Prelude.{◌≡◌, ℕ, ◌<◌, Bool, true, false, if◌then◌else◌, List, [], ◌∷◌, length, map, ◌++◌, get_or, Option, Some, None}
+use Rattle.std.specs.Prelude.{ℕ, ◌<◌, Bool, true, false, if◌then◌else◌, List, [], ◌∷◌, length, map, ◌++◌, get_or, Option, Some, None}
 use Rattle.lwkt_base.specs.declared.asks.Ask.{Ask}
 use Rattle.lwkt_base.specs.declared.asks.Ask.TheVariants.{Get, GetShared, TryGet, Rel, Swap, Read, Write, Add, ReadBlob, WriteBlob, Send, Do, Reply, Abort, IsAborted, DropMsg, GetPort, WaitPort, Yield, Exit}
 use Rattle.lwkt_base.specs.declared.asks.Item.TheVariants.{Request, Answered}
@@ -98,8 +98,3 @@ polls_in asks answers rows = map (poll_in asks answers) rows
 pub record IsRowIn (asks answers : ℕ) (row : PollRow) : Type 0 where
   pub ask : IsAskIn asks row.ask
   pub answer : IsAnswerIn answers row.answer
-
--- a list has more behind what it had, or nothing more
-pub record GrowsBehind {A : Type 0} (old new : List A) : Type 0 where
-  pub more : List A
-  pub is : new ≡ old ++ more

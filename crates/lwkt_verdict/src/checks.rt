@@ -10,7 +10,6 @@ ghost use Rattle.lwkt_verdict.specs.Homes.{AreHomes};
 ghost use Rattle.lwkt_verdict.specs.Progressed.{ShowsProgress};
 
 use crate::ends::all_end;
-use crate::event_lists::EventList;
 use crate::homes::{Home, homes_of};
 use crate::owns::has_blocked;
 use crate::parts::{goes_quietly, is_part_of};
@@ -21,6 +20,7 @@ use crate::progress::Standing;
 use crate::rounds::{are_listed, are_processors, keeps_pace, whose};
 use crate::turns::{Pace, Poll, Turn, read_poll};
 use lwkt_core::{Event, State};
+use lwkt_events::EventList;
 use lwkt_report::ThreadLine;
 use lwkt_script::ThreadSpec;
 use std::alloc::AllocError;
@@ -160,8 +160,8 @@ fn runs<'a>(
     requires processors { All (λ x. x < 8) order.now }
     requires homes { AreHomes plans.now lines.now homes.now }
     requires shows { ShowsProgress [] table.old }
-    ensures right { IfOk result (λ yes. IsTrue yes ↔ RunsThrough plans.now lines.now polls.now order.now state.old [] turns.now trace.now) }
-    ensures led { IfOk result (λ yes. IsTrue yes → Run state.old trace.now state.new) }
+    ensures right { IfOk result (λ yes. IsTrue yes ↔ RunsThrough plans.now lines.now polls.now order.now state.old [] turns.now trace.now.items) }
+    ensures led { IfOk result (λ yes. IsTrue yes → Run state.old trace.now.items state.new) }
 {
     let mut made = 0;
     let mut room = Poll::unasked();
@@ -207,8 +207,8 @@ pub fn is_script_run(
     part: &mut Vec<Event>,
     lines: &[ThreadLine],
 ) -> Result<bool, AllocError>
-    ensures right { IfOk result (λ yes. IsTrue yes ↔ IsScriptRun plans.now pace order.now state.old polls.now turns.now trace.now lines.now) }
-    ensures led { IfOk result (λ yes. IsTrue yes → Run state.old trace.now state.new) }
+    ensures right { IfOk result (λ yes. IsTrue yes ↔ IsScriptRun plans.now pace order.now state.old polls.now turns.now trace.now.items lines.now) }
+    ensures led { IfOk result (λ yes. IsTrue yes → Run state.old trace.now.items state.new) }
 {
     let cpus = state.cpus();
     if !are_listed(cpus, lines) {

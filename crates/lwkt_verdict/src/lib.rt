@@ -1,16 +1,15 @@
 //! Checks that the turns of a run are those that its script asks for: which thread was polled when, what it asked and was
 //! answered, which events of the trace came of it, what was logged, and how the threads ended.
 //!
-//! Words: a *poll* is one call of a thread's body: what it asked, and the answer that it was given later; a *piece* is a
-//! turn's poll and its *part* of the trace; a turn *fits* if its piece is what the threads may do then; the *progress* of a
-//! thread is how far it is in its steps and its log; a *pace* says how turns follow one another; a *short* ask or answer is kept
-//! without room for a record, and a *long* one is one that has a record.
+//! Words: an *event* is something that a processor did, as its trace tells it; a *poll* is one call of a thread's body: what it
+//! asked, and the answer that it was given later; a *piece* is a turn's poll and its *part* of the trace; a turn *fits* if its
+//! piece is what the threads may do then; the *progress* of a thread is how far it is in its steps and its log; a *pace* says how
+//! turns follow one another; a *short* ask or answer is kept without room for a record, and a *long* one is one that has a record.
 #![tactic(auto)]
 
 mod asks;
 mod checks;
 mod ends;
-mod event_lists;
 mod homes;
 pub mod laws;
 mod owns;
@@ -21,13 +20,11 @@ mod poll_lists;
 mod polls;
 mod progress;
 mod rounds;
-mod short_events;
 mod shorts;
 pub mod turns;
 
 pub use asks::entry_of;
 pub use checks::is_script_run;
-pub use event_lists::EventList;
 pub use poll_lists::PollList;
 pub use rounds::are_processors;
 pub use turns::{Pace, Poll, Turn};

@@ -3,8 +3,9 @@
 //! An `Ask` and an `Answer` have room for a record, so they are large. A store of a record, an answer by one, and the record of a
 //! message that was taken back lie in lists of their own, and are kept short by their place there. All others are kept as they are.
 ghost use Rattle.std.specs.Prelude.{◌≡◌, ◌<◌, not, length, Some, IfSome, IfOk, OnErr, is_some};
+ghost use Rattle.lwkt_events.specs.ShortEvents.{GrowsBehind};
 ghost use Rattle.lwkt_verdict.specs.Asks.{is_refused};
-ghost use Rattle.lwkt_verdict.specs.Shorts.{long_ask, long_answer, is_long_ask, is_long_answer, ask_place, answer_place, kept_place, with_kept, IsAskIn, IsAnswerIn, GrowsBehind};
+ghost use Rattle.lwkt_verdict.specs.Shorts.{long_ask, long_answer, is_long_ask, is_long_answer, ask_place, answer_place, kept_place, with_kept, IsAskIn, IsAnswerIn};
 
 use lwkt_base::{Answer, Ask, Call, Fault, Flags, Item, MsgId, ThreadId, TokId};
 use std::alloc::AllocError;

@@ -10,8 +10,8 @@ returns-in-Some-clause-right c =
     let cpus = c.cpus-cpus.ensures.value in
     let plans = c.args.plans.now in
     let lines = c.args.lines.now in
-    let Through : Bool → Type 0 = λ b. IsTrue b ↔ RunsThrough plans lines c.args.polls.now c.args.order.now c.args.state.now [] c.args.turns.now c.args.trace.now in
-    let Runs : Bool → Type 0 = λ b. IsTrue b ↔ IsScriptRun plans c.args.pace c.args.order.now c.args.state.now c.args.polls.now c.args.turns.now c.args.trace.now lines in
+    let Through : Bool → Type 0 = λ b. IsTrue b ↔ RunsThrough plans lines c.args.polls.now c.args.order.now c.args.state.now [] c.args.turns.now c.args.trace.now.items in
+    let Runs : Bool → Type 0 = λ b. IsTrue b ↔ IsScriptRun plans c.args.pace c.args.order.now c.args.state.now c.args.polls.now c.args.turns.now c.args.trace.now.items lines in
     IfOk-weaker c.runs.result Through Runs (λ b through. (
       (λ yes. record {
         listed = subst (λ k. AreListed k 0 lines) cpus (c.are_listed.ensures.0 c.if-not-are_listed.false);

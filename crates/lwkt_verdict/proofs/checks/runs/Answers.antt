@@ -16,12 +16,12 @@ none = record { poll = None; events = 0 }
 
 pub returns-then-not-fits-clause-right : goal.returns-then-not-fits-clause-right
 returns-then-not-fits-clause-right c =
-    let P = RunsThrough c.args.plans.now c.args.lines.now c.args.polls.now c.args.order.now c.args.state.now [] c.args.turns.now c.args.trace.now in
+    let P = RunsThrough c.args.plans.now c.args.lines.now c.args.polls.now c.args.order.now c.args.state.now [] c.args.turns.now c.args.trace.now.items in
     let l = c.loop-i in
     let goes = l.invariant.goes in
     let t : Turn = get_or c.args.turns.now l.i none in
-    let rest : List Event = drop l.made c.args.trace.now in
-    let is_part : c.deref.result.now ≡ take t.events rest = c.deref.ensures.value ∙ c.in_ok-copy.ensures in
+    let rest : List Event = drop l.made c.args.trace.now.items in
+    let is_part : c.deref.result.now ≡ take t.events rest = c.deref.ensures.value ∙ c.in_ok-copy.ensures.ok in
     let E : List Event → Type 0 = λ es. TurnFits c.args.plans.now c.args.lines.now (whose c.args.order.now l.i) l.state goes.before (poll_of c.args.polls.now t) es in
     let C : ℕ → Type 0 = λ k. TurnFits c.args.plans.now c.args.lines.now k l.state goes.before (poll_of c.args.polls.now t) c.deref.result.now in
     let unfit : E (take t.events rest) → ⊥ = λ fits. false≢true (sym c.if-not-fits.true ∙ (c.fits.ensures.right goes.before goes.shows).1 (subst C (sym c.whose-cpu.ensures.value) (subst E (sym is_part) fits))) in (
@@ -31,33 +31,33 @@ returns-then-not-fits-clause-right c =
 
 pub loop-i-preserved : goal.loop-i-preserved
 loop-i-preserved c =
-    let P = RunsThrough c.args.plans.now c.args.lines.now c.args.polls.now c.args.order.now c.args.state.now [] c.args.turns.now c.args.trace.now in
+    let P = RunsThrough c.args.plans.now c.args.lines.now c.args.polls.now c.args.order.now c.args.state.now [] c.args.turns.now c.args.trace.now.items in
     let l = c.loop-i in
     let goes = l.invariant.goes in
     let t : Turn = get_or c.args.turns.now l.i none in
-    let rest : List Event = drop l.made c.args.trace.now in
-    let later : List Event = drop (l.made + t.events) c.args.trace.now in
+    let rest : List Event = drop l.made c.args.trace.now.items in
+    let later : List Event = drop (l.made + t.events) c.args.trace.now.items in
     let part : List Event = c.deref.result.now in
     let yes = c.if-not-fits.false in
     let fits = (c.fits.ensures.right goes.before goes.shows).0 yes in
     let moved = c.fits.ensures.moved yes in
-    let is_part : part ≡ take t.events rest = c.deref.ensures.value ∙ c.in_ok-copy.ensures in
-    let is_later : later ≡ drop t.events rest = sym (drop-drop t.events l.made c.args.trace.now) in
-    let room : t.events ≤ length rest = omega (arith, length-drop l.made c.args.trace.now, c.if-count-len.false, c.len.ensures, l.invariant.within) in
+    let is_part : part ≡ take t.events rest = c.deref.ensures.value ∙ c.in_ok-copy.ensures.ok in
+    let is_later : later ≡ drop t.events rest = sym (drop-drop t.events l.made c.args.trace.now.items) in
+    let room : t.events ≤ length rest = omega (arith, length-drop l.made c.args.trace.now.items, c.if-count-len.false, c.len.ensures, l.invariant.within) in
     let led : Run l.state part c.fits.new.state = subst (λ (k : Machine). Run l.state part k) (sym moved) (part_happens l.state _ part fits.makes) in
     record {
       within = omega (arith, c.if-count-len.false, c.len.ensures, l.invariant.within);
       goes = goes_next P c.args.plans.now c.args.lines.now c.args.polls.now c.args.order.now l.state l.table c.args.turns.now l.i rest none goes c.fits.new.state c.fits.new.table _ part later c.whose-cpu.result refl is_part is_later c.whose-cpu.ensures.value c.loop-i-test.true room fits moved (c.fits.ensures.noted goes.before goes.shows yes);
-      led = led_on c.args.state.now c.args.trace.now l.state rest t.events c.fits.new.state part later l.invariant.led is_part is_later led;
+      led = led_on c.args.state.now c.args.trace.now.items l.state rest t.events c.fits.new.state part later l.invariant.led is_part is_later led;
     }
 
 pub returns-clause-right : goal.returns-clause-right
 returns-clause-right c =
-    let P = RunsThrough c.args.plans.now c.args.lines.now c.args.polls.now c.args.order.now c.args.state.now [] c.args.turns.now c.args.trace.now in
+    let P = RunsThrough c.args.plans.now c.args.lines.now c.args.polls.now c.args.order.now c.args.state.now [] c.args.turns.now c.args.trace.now.items in
     let l = c.loop-i in
     let goes = l.invariant.goes in
-    let rest : List Event = drop l.made c.args.trace.now in
-    let is_rest : c.deref-2.result.now ≡ rest = c.deref-2.ensures.value ∙ c.in_ok-copy-2.ensures ∙ take_all (c.len-2.result - l.made) rest (omega (arith, length-drop l.made c.args.trace.now, c.len-2.ensures)) in
+    let rest : List Event = drop l.made c.args.trace.now.items in
+    let is_rest : c.deref-2.result.now ≡ rest = c.deref-2.ensures.value ∙ c.in_ok-copy-2.ensures.ok ∙ take_all (c.len-2.result - l.made) rest (omega (arith, length-drop l.made c.args.trace.now.items, c.len-2.ensures)) in
     let E : List Event → Type 0 = λ es. IsTrue c.closes.result ↔ EndsRun c.args.plans.now c.args.lines.now l.state goes.before es in
     let closes = subst E is_rest (c.closes.ensures.right goes.before goes.shows) in
     let end = goes_to_end P c.args.plans.now c.args.lines.now c.args.polls.now c.args.order.now l.state l.table c.args.turns.now l.i rest goes c.loop-i-test.false in
@@ -68,8 +68,8 @@ returns-clause-led c = λ yes.
     let l = c.loop-i in
     let goes = l.invariant.goes in
     let stop : List Event = c.deref-2.result.now in
-    let rest : List Event = drop l.made c.args.trace.now in
-    let is_rest : stop ≡ rest = c.deref-2.ensures.value ∙ c.in_ok-copy-2.ensures ∙ take_all (c.len-2.result - l.made) rest (omega (arith, length-drop l.made c.args.trace.now, c.len-2.ensures)) in
+    let rest : List Event = drop l.made c.args.trace.now.items in
+    let is_rest : stop ≡ rest = c.deref-2.ensures.value ∙ c.in_ok-copy-2.ensures.ok ∙ take_all (c.len-2.result - l.made) rest (omega (arith, length-drop l.made c.args.trace.now.items, c.len-2.ensures)) in
     let ends = (c.closes.ensures.right goes.before goes.shows).0 yes in
     let run : Run l.state stop c.closes.new.state = subst (λ (k : Machine). Run l.state stop k) (sym (c.closes.ensures.moved yes)) (quiet_happens l.state stop ends.quiet) in
-    led_to_end c.args.state.now c.args.trace.now l.state c.closes.new.state rest l.invariant.led (subst (λ (es : List Event). Run l.state es c.closes.new.state) is_rest run)
+    led_to_end c.args.state.now c.args.trace.now.items l.state c.closes.new.state rest l.invariant.led (subst (λ (es : List Event). Run l.state es c.closes.new.state) is_rest run)

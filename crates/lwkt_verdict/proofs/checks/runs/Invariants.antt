@@ -7,7 +7,7 @@ use Rattle.lwkt_verdict.proofs.checks.runs.Given as goal
 -- the turns so far fit, and the run is one exactly if the turns that are left go on from there; their events led there
 abbrev pub invariant-loop-i : goal.invariant-loop-i
 invariant-loop-i l = record {
-  within : l.made ≤ length l.fn.trace;
-  goes : Goes (RunsThrough l.fn.plans l.fn.lines l.fn.polls l.fn.order l.fn.state [] l.fn.turns l.fn.trace) l.fn.plans l.fn.lines l.fn.polls l.fn.order l.state l.table l.fn.turns l.i (drop l.made l.fn.trace);
-  led : Led l.fn.state l.fn.trace l.state (drop l.made l.fn.trace);
+  within : l.made ≤ length l.fn.trace.items;
+  goes : Goes (RunsThrough l.fn.plans l.fn.lines l.fn.polls l.fn.order l.fn.state [] l.fn.turns l.fn.trace.items) l.fn.plans l.fn.lines l.fn.polls l.fn.order l.state l.table l.fn.turns l.i (drop l.made l.fn.trace.items);
+  led : Led l.fn.state l.fn.trace.items l.state (drop l.made l.fn.trace.items);
 }

@@ -2,11 +2,12 @@ use Rattle.std.proofs.Common.{◌∙◌, List, [], ◌∷◌, length, ap, sym, s
 use Rattle.std.specs.List.{All}
 use Rattle.std.proofs.lemmas.List.Elements.{All-append}
 use Rattle.lwkt_base.specs.declared.asks.Ask.{Ask}
+use Rattle.lwkt_events.proofs.EventMoves.{all_one}
 use Rattle.lwkt_verdict.specs.declared.turns.Poll.{Poll}
 use Rattle.lwkt_verdict.specs.declared.poll_lists.PollRow.{PollRow}
 use Rattle.lwkt_verdict.specs.declared.shorts.ShortAnswer.TheVariants.{NotYet}
 use Rattle.lwkt_verdict.specs.Shorts.{IsRowIn, polls_in}
-use Rattle.lwkt_verdict.proofs.ShortMoves.{stays, polls_grown, rows_grown, polls_pushed, all_one, on_error}
+use Rattle.lwkt_verdict.proofs.ShortMoves.{stays, polls_grown, rows_grown, polls_pushed, on_error}
 use Rattle.lwkt_verdict.proofs.poll_lists.PollList.push.Goals as goal
 
 pub returns-in_err-ask-clause-err : goal.returns-in_err-ask-clause-err
