@@ -1,4 +1,4 @@
-ghost use Rattle.std.specs.Prelude.{◌≡◌, ℕ, ◌<◌, ◌≤◌, ◌+◌, ◌*◌, ◌-◌, ◌^◌, ◌%◌, ◌↔◌, IsTrue, List, [], ◌∷◌, ◌++◌, length, All, IfOk, MatchOption, Some, None, if◌then◌else◌};
+ghost use Rattle.std.specs.Prelude.{◌≡◌, ℕ, ◌<◌, ◌≤◌, ◌+◌, ◌*◌, ◌-◌, ◌^◌, ◌%◌, ◌↔◌, IsTrue, List, [], ◌∷◌, ◌++◌, length, vec_capacity, All, IfOk, OnErr, MatchOption, Some, None, if◌then◌else◌};
 ghost use Rattle.std.specs.Option.{option_copied};
 ghost use Rattle.lwkt_core.specs.Events.{cpu_of};
 ghost use Rattle.lwkt_core.specs.Trace.{Run};
@@ -162,6 +162,8 @@ fn runs<'a>(
     requires shows { ShowsProgress [] table.old }
     ensures right { IfOk result (λ yes. IsTrue yes ↔ RunsThrough plans.now lines.now polls.now order.now state.old [] turns.now trace.now.items) }
     ensures led { IfOk result (λ yes. IsTrue yes → Run state.old trace.now.items state.new) }
+    ensures full { OnErr result (vec_capacity part.old < length trace.now.items) }
+    ensures capacity { vec_capacity part.old ≤ vec_capacity part.new }
 {
     let mut made = 0;
     let mut room = Poll::unasked();
@@ -195,7 +197,8 @@ fn start<'a>() -> [Standing<'a>; 128]
 /// state that is left. Each turn's part of the trace is read into `part`, in place of what that had; the work is in proportion to turns
 /// and events.
 ///
-/// `AllocError` if `part` lacks room for a turn's events and can't be given it. No other memory is taken.
+/// `AllocError` if `part` lacks room for a turn's events and can't be given it, so only if it lacks room for all of the trace. No other
+/// memory is taken, and `part` has no less room than before.
 pub fn is_script_run(
     plans: &[ThreadSpec],
     pace: Pace,
@@ -209,6 +212,8 @@ pub fn is_script_run(
 ) -> Result<bool, AllocError>
     ensures right { IfOk result (λ yes. IsTrue yes ↔ IsScriptRun plans.now pace order.now state.old polls.now turns.now trace.now.items lines.now) }
     ensures led { IfOk result (λ yes. IsTrue yes → Run state.old trace.now.items state.new) }
+    ensures full { OnErr result (vec_capacity part.old < length trace.now.items) }
+    ensures capacity { vec_capacity part.old ≤ vec_capacity part.new }
 {
     let cpus = state.cpus();
     if !are_listed(cpus, lines) {

@@ -49,6 +49,7 @@ loop-i-preserved c =
       within = omega (arith, c.if-count-len.false, c.len.ensures, l.invariant.within);
       goes = goes_next P c.args.plans.now c.args.lines.now c.args.polls.now c.args.order.now l.state l.table c.args.turns.now l.i rest none goes c.fits.new.state c.fits.new.table _ part later c.whose-cpu.result refl is_part is_later c.whose-cpu.ensures.value c.loop-i-test.true room fits moved (c.fits.ensures.noted goes.before goes.shows yes);
       led = led_on c.args.state.now c.args.trace.now.items l.state rest t.events c.fits.new.state part later l.invariant.led is_part is_later led;
+      room = omega (arith, c.copy.ensures.capacity, l.invariant.room);
     }
 
 pub returns-clause-right : goal.returns-clause-right
