@@ -156,14 +156,14 @@ pub record HasRun (bytes : List ℕ) (end : End) (text : List ℕ) : Type 0 wher
 pub record IsTurnsRun (bytes : List ℕ) (run : TurnsRun) : Type 0 where
   pub read : script_of bytes ≡ Ok run.script
   pub closes : MayClose (Rounds run.script.turns) run.script run.closing
-  pub judged : IsJudgedBy (Rounds run.script.turns) run.script run.closing run.order.items run.trace run.polls run.turns.items
+  pub judged : IsJudgedBy (Rounds run.script.turns) run.script run.closing run.order.items run.trace.items run.polls run.turns.items
 
 -- the script that these bytes are, with the order, a trace, turns and polls that the verdict of what is shown is on (own)
 pub record IsOrderRun (bytes : List ℕ) (order : List ℕ) (run : TurnsRun) : Type 0 where
   pub read : script_of bytes ≡ Ok run.script
   pub is_order : run.order.items ≡ order
   pub closes : MayClose Named run.script run.closing
-  pub judged : IsJudgedBy Named run.script run.closing run.order.items run.trace run.polls run.turns.items
+  pub judged : IsJudgedBy Named run.script run.closing run.order.items run.trace.items run.polls run.turns.items
 
 -- why a run of this script is refused: its machine isn't opened
 abbrev pub DeclinesRun : Script → Refusal → Type 0

@@ -11,8 +11,8 @@ use crate::records::Record;
 use lwkt_base::{CpuId, Fault, ThreadId};
 use lwkt_core::Event;
 use lwkt_cpu::Turned;
+use lwkt_events::EventList;
 use lwkt_machine::Machine;
-use lwkt_verdict::EventList;
 
 // What the last turn of a processor asked, which polled this thread.
 fn polled_at(machine: &Machine, cpu: usize, thread: usize) -> PolledRef<'_>
@@ -70,7 +70,7 @@ fn make_turn(
 ) -> Result<bool, Fault>
     requires there { cpu < length machine.old.cpus }
     requires few { length machine.old.cpus ≤ 8 }
-    ensures ok { IfOk result (λ over. (turned : Turned) × (MakesKeptTurn cpu turned (scene machine.old trace.old (kept_in_record kept.old)) (scene machine.new trace.new (kept_in_record kept.new)) × (over ≡ says_over turned))) }
+    ensures ok { IfOk result (λ over. (turned : Turned) × (MakesKeptTurn cpu turned (scene machine.old trace.old.items (kept_in_record kept.old)) (scene machine.new trace.new.items (kept_in_record kept.new)) × (over ≡ says_over turned))) }
     ensures as_many { length machine.new.cpus ≡ length machine.old.cpus }
     ensures only { OnErr result (result ≡ Err no_memory) }
 {
@@ -94,7 +94,7 @@ fn make_round(
     trace: &mut EventList,
     kept: &mut Record,
 ) -> Result<bool, Fault>
-    ensures ok { IfOk result (λ over. RoundTold (scene machine.old trace.old (kept_in_record kept.old)) (scene machine.new trace.new (kept_in_record kept.new)) over) }
+    ensures ok { IfOk result (λ over. RoundTold (scene machine.old trace.old.items (kept_in_record kept.old)) (scene machine.new trace.new.items (kept_in_record kept.new)) over) }
     ensures only { OnErr result (result ≡ Err no_memory) }
 {
     let mut over = true;
@@ -119,7 +119,7 @@ pub fn make_turns(
 ) -> Result<(), Fault>
     requires processors { All (λ x. x < length machine.old.cpus) order.now }
     requires few { length machine.old.cpus ≤ 8 }
-    ensures ok { OnOk result (MakesTurns order.now (scene machine.old trace.old (kept_in_record kept.old)) (scene machine.new trace.new (kept_in_record kept.new))) }
+    ensures ok { OnOk result (MakesTurns order.now (scene machine.old trace.old.items (kept_in_record kept.old)) (scene machine.new trace.new.items (kept_in_record kept.new))) }
     ensures order { OnOk result (kept.new.order.items ≡ kept.old.order.items ++ order.now) }
     ensures only { OnErr result (result ≡ Err no_memory) }
 {
@@ -140,7 +140,7 @@ pub fn make_rounds(
     trace: &mut EventList,
     kept: &mut Record,
 ) -> Result<(), Fault>
-    ensures ok { OnOk result (HasMadeRounds limit (scene machine.old trace.old (kept_in_record kept.old)) (scene machine.new trace.new (kept_in_record kept.new))) }
+    ensures ok { OnOk result (HasMadeRounds limit (scene machine.old trace.old.items (kept_in_record kept.old)) (scene machine.new trace.new.items (kept_in_record kept.new))) }
     ensures only { OnErr result (result ≡ Err no_memory) }
 {
     for _round in 0..limit {

@@ -15,11 +15,12 @@ use crate::reports::{Done, conclude};
 use crate::rounds::{make_rounds, make_turns};
 use crate::verdicts::verdict_of;
 use lwkt_base::Fault;
-use lwkt_core::{Final, State};
+use lwkt_core::{Event, Final, State};
+use lwkt_events::EventList;
 use lwkt_machine::Machine;
 use lwkt_report::{Closing, RunFault, Sink, Source, ThreadLine, Verdict, read_capped, report};
 use lwkt_script::{Script, read_script};
-use lwkt_verdict::{EventList, Pace, PollList, Turn, are_processors};
+use lwkt_verdict::{Pace, PollList, Turn, are_processors};
 use std::alloc::{AllocError, Global};
 
 /// How a run ended, by its report.
@@ -53,7 +54,8 @@ pub struct TurnsRun {
     pub closing: Closing,
 }
 
-// The report's contents: what a run left, with the verdict on its trace and its turns.
+// The report's contents: what a run left, with the verdict on its trace and its turns. The events are read into the room, in place of
+// what that had.
 fn closing_of(
     alloc: Global,
     script: &Script,
@@ -63,6 +65,7 @@ fn closing_of(
     left: Left,
     trace: &EventList,
     kept: &Record,
+    room: &mut Vec<Event>,
 ) -> Result<Closing, AllocError>
     requires opening { opening ≡ opening_of_script script.now }
     requires again { again ≡ opening_of_script script.now }
@@ -70,15 +73,14 @@ fn closing_of(
     requires lawful { AllOpenLawfully script.now.tokens }
     requires values { AreValuesOf script.now.tokens left.last }
     requires threads { map (λ line. line.id) left.threads.items ≡ ids_of script.now.cpus script.now.threads }
-    requires runs { RunsAt pace script.now kept.now.order.items left.threads.items (kept_in_record kept.now) trace.now left.last }
+    requires runs { RunsAt pace script.now kept.now.order.items left.threads.items (kept_in_record kept.now) trace.now.items left.last }
     ensures kinds { IfOk result (λ closing. map (λ line. is_some line.tallies) closing.tokens.items ≡ map (λ spec. is_tally spec.law) script.now.tokens) }
     ensures threads { IfOk result (λ closing. map (λ line. line.id) closing.threads.items ≡ ids_of script.now.cpus script.now.threads) }
-    ensures judged { IfOk result (λ closing. IsJudgedBy pace script.now closing kept.now.order.items trace.now kept.now.polls kept.now.turns.items) }
+    ensures judged { IfOk result (λ closing. IsJudgedBy pace script.now closing kept.now.order.items trace.now.items kept.now.polls kept.now.turns.items) }
 {
     let Left { last, threads } = left;
     let tokens = token_lines(alloc, script.tokens.as_slice(), &last)?;
     let verdict = verdict_of(
-        alloc,
         opening,
         again,
         pace,
@@ -88,6 +90,7 @@ fn closing_of(
         &last,
         trace,
         kept,
+        room,
     )?;
     let Final { messages, .. } = last;
     Ok(Closing {
@@ -114,18 +117,19 @@ fn opened(alloc: Global, script: &Script) -> Result<State, Fault>
     )
 }
 
-// What a run of a script left: its trace, its turns, and the machine's end.
+// What a run of a script left: its trace, its turns, the machine's end, and the room that its turns were told into.
 #[derive(Drop)]
 struct Made {
     trace: EventList,
     kept: Record,
     left: Left,
+    room: Vec<Event>,
 }
 
 // Makes the rounds of a script.
 fn run_of(alloc: Global, script: &Script) -> Result<Made, Fault>
     ensures values { IfOk result (λ made. AreValuesOf script.now.tokens made.left.last) }
-    ensures runs { IfOk result (λ made. RunsInRounds script.now made.left.threads.items (kept_in_record made.kept) made.trace made.left.last) }
+    ensures runs { IfOk result (λ made. RunsInRounds script.now made.left.threads.items (kept_in_record made.kept) made.trace.items made.left.last) }
     ensures threads { IfOk result (λ made. map (λ line. line.id) made.left.threads.items ≡ ids_of script.now.cpus script.now.threads) }
     ensures few { OnOk result (AreFew script.now.cpus script.now.threads) }
     ensures refused { IfErr result (λ fault. DeclinesRun script.now fault) }
@@ -138,7 +142,12 @@ fn run_of(alloc: Global, script: &Script) -> Result<Made, Fault>
     room.clear();
     let left = left_by(alloc, script, machine, &mut room)?;
     match trace.append(room.as_slice()) {
-        Ok(()) => Ok(Made { trace, kept, left }),
+        Ok(()) => Ok(Made {
+            trace,
+            kept,
+            left,
+            room,
+        }),
         Err(refused) => Err(Fault::Memory(refused)),
     }
 }
@@ -148,7 +157,7 @@ fn run_along(alloc: Global, script: &Script, order: &[u8]) -> Result<Made, Fault
     requires processors { All (λ x. x < script.now.cpus) order.now }
     ensures values { IfOk result (λ made. AreValuesOf script.now.tokens made.left.last) }
     ensures order { IfOk result (λ made. made.kept.order.items ≡ order.now) }
-    ensures runs { IfOk result (λ made. RunsAlong script.now made.kept.order.items made.left.threads.items (kept_in_record made.kept) made.trace made.left.last) }
+    ensures runs { IfOk result (λ made. RunsAlong script.now made.kept.order.items made.left.threads.items (kept_in_record made.kept) made.trace.items made.left.last) }
     ensures threads { IfOk result (λ made. map (λ line. line.id) made.left.threads.items ≡ ids_of script.now.cpus script.now.threads) }
     ensures few { OnOk result (AreFew script.now.cpus script.now.threads) }
     ensures refused { IfErr result (λ fault. DeclinesRun script.now fault) }
@@ -161,7 +170,12 @@ fn run_along(alloc: Global, script: &Script, order: &[u8]) -> Result<Made, Fault
     room.clear();
     let left = left_by(alloc, script, machine, &mut room)?;
     match trace.append(room.as_slice()) {
-        Ok(()) => Ok(Made { trace, kept, left }),
+        Ok(()) => Ok(Made {
+            trace,
+            kept,
+            left,
+            room,
+        }),
         Err(refused) => Err(Fault::Memory(refused)),
     }
 }
@@ -170,18 +184,25 @@ fn run_along(alloc: Global, script: &Script, order: &[u8]) -> Result<Made, Fault
 fn judged_run(alloc: Global, pace: Pace, script: Script, made: Made) -> Result<TurnsRun, Fault>
     requires values { AreValuesOf script.tokens made.left.last }
     requires threads { map (λ line. line.id) made.left.threads.items ≡ ids_of script.cpus script.threads }
-    requires runs { RunsAt pace script made.kept.order.items made.left.threads.items (kept_in_record made.kept) made.trace made.left.last }
+    requires runs { RunsAt pace script made.kept.order.items made.left.threads.items (kept_in_record made.kept) made.trace.items made.left.last }
     requires few { AreFew script.cpus script.threads }
     ensures script { IfOk result (λ run. run.script ≡ script) }
     ensures order { IfOk result (λ run. run.order ≡ made.kept.order) }
     ensures closes { IfOk result (λ run. MayClose pace script run.closing) }
-    ensures judged { IfOk result (λ run. IsJudgedBy pace script run.closing run.order.items run.trace run.polls run.turns.items) }
+    ensures judged { IfOk result (λ run. IsJudgedBy pace script run.closing run.order.items run.trace.items run.polls run.turns.items) }
     ensures refused { IfErr result (λ fault. DeclinesRun script fault) }
 {
     let opening = opened(alloc, &script)?;
     let again = opened(alloc, &script)?;
-    let Made { trace, kept, left } = made;
-    let closing = match closing_of(alloc, &script, pace, opening, again, left, &trace, &kept) {
+    let Made {
+        trace,
+        kept,
+        left,
+        mut room,
+    } = made;
+    let closing = match closing_of(
+        alloc, &script, pace, opening, again, left, &trace, &kept, &mut room,
+    ) {
         Ok(closing) => closing,
         Err(refused) => return Err(Fault::Memory(refused)),
     };
@@ -207,7 +228,7 @@ fn judged_run(alloc: Global, pace: Pace, script: Script, made: Made) -> Result<T
 pub fn turns_run_of(alloc: Global, script: Script) -> Result<TurnsRun, Fault>
     ensures script { IfOk result (λ run. run.script ≡ script) }
     ensures closes { IfOk result (λ run. MayClose (Pace.Rounds script.turns) script run.closing) }
-    ensures judged { IfOk result (λ run. IsJudgedBy (Pace.Rounds script.turns) script run.closing run.order.items run.trace run.polls run.turns.items) }
+    ensures judged { IfOk result (λ run. IsJudgedBy (Pace.Rounds script.turns) script run.closing run.order.items run.trace.items run.polls run.turns.items) }
     ensures refused { IfErr result (λ fault. DeclinesRun script fault) }
 {
     let made = run_of(alloc, &script)?;
@@ -232,7 +253,7 @@ fn order_run_of(alloc: Global, script: Script, order: &[u8]) -> Result<TurnsRun,
     ensures order { IfOk result (λ run. run.order.items ≡ order.now) }
     ensures script { IfOk result (λ run. run.script ≡ script) }
     ensures closes { IfOk result (λ run. MayClose Pace.Named script run.closing) }
-    ensures judged { IfOk result (λ run. IsJudgedBy Pace.Named script run.closing run.order.items run.trace run.polls run.turns.items) }
+    ensures judged { IfOk result (λ run. IsJudgedBy Pace.Named script run.closing run.order.items run.trace.items run.polls run.turns.items) }
     ensures refused { IfErr result (λ fault. DeclinesAlong script order.now fault) }
 {
     if !are_processors(usize::from(script.cpus), order) {

@@ -1,14 +1,15 @@
-ghost use Rattle.std.specs.Prelude.{◌≡◌, ◌⊎◌, ℕ, length, IfOk};
+ghost use Rattle.std.specs.Prelude.{◌≡◌, ◌⊎◌, ◌<◌, ℕ, length, vec_capacity, IfOk, OnErr};
 ghost use Rattle.lwkt_core.specs.Trace.{Closes, IsLawfulTrace, FailsAt};
 ghost use Rattle.lwkt_run.specs.Judging.{IsVerdict};
 
 use crate::records::Record;
 use lwkt_base::Fault;
 use lwkt_core::{Event, Final, State, check};
+use lwkt_events::EventList;
 use lwkt_report::{ThreadLine, Verdict};
 use lwkt_script::ThreadSpec;
-use lwkt_verdict::{EventList, Pace, is_script_run};
-use std::alloc::{AllocError, Global};
+use lwkt_verdict::{Pace, is_script_run};
+use std::alloc::AllocError;
 
 // The verdict on a trace whose turns are no run of the script.
 fn failure_of(opening: State, last: &Final, trace: &[Event]) -> Verdict
@@ -36,11 +37,12 @@ fn close_of(state: &State, last: &Final, events: usize) -> Verdict
 /// The verdict on a run: `Lawful` if the trace leads from the opening to the closing values and the turns are a run of the script's
 /// threads along the order, at this pace, over it; else `Unlawful` with the index of the first event that can't happen, or the
 /// number of events if only the close or the turns differ. The check of the turns plays the trace; only if it says no is the trace
-/// played from `again`, the same opening, for the index.
+/// played from `again`, the same opening, for the index. The events of a turn, and then all of them, are read into `room`, in place of
+/// what that had.
 ///
-/// `AllocError` if memory is refused, for the events of a turn, or for all of them where the check says no.
+/// `AllocError` if `room` lacks room for the events of a turn, or for all of them where the check says no, and can't be given it. So only
+/// if it lacks room for all of them.
 pub fn verdict_of(
-    alloc: Global,
     opening: State,
     again: State,
     pace: Pace,
@@ -50,12 +52,13 @@ pub fn verdict_of(
     last: &Final,
     trace: &EventList,
     kept: &Record,
+    room: &mut Vec<Event>,
 ) -> Result<Verdict, AllocError>
     requires { again ≡ opening }
-    ensures { IfOk result (λ verdict. IsVerdict verdict opening pace order.now threads.now lines.now last.now trace.now kept.now.polls kept.now.turns.items) }
+    ensures verdict { IfOk result (λ verdict. IsVerdict verdict opening pace order.now threads.now lines.now last.now trace.now.items kept.now.polls kept.now.turns.items) }
+    ensures full { OnErr result (vec_capacity room.old < length trace.now.items) }
 {
     let mut state = opening;
-    let mut part = Vec::new(alloc);
     if is_script_run(
         threads,
         pace,
@@ -64,11 +67,11 @@ pub fn verdict_of(
         &kept.polls,
         &kept.turns,
         trace,
-        &mut part,
+        room,
         lines,
     )? {
         return Ok(close_of(&state, last, trace.len()));
     }
-    let events = trace.whole(alloc)?;
-    Ok(failure_of(again, last, &events))
+    trace.copy(0, trace.len(), room)?;
+    Ok(failure_of(again, last, room))
 }

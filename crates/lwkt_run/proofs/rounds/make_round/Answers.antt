@@ -10,7 +10,7 @@ use Rattle.lwkt_run.proofs.rounds.make_round.Goals as goal
 pub loop-cpu-init : goal.loop-cpu-init
 loop-cpu-init c = record {
   as_many = refl;
-  turns = chain_none Going TakesTurn (going (scene c.args.machine.now c.args.trace.now (kept_in_record c.args.kept.now)) true);
+  turns = chain_none Going TakesTurn (going (scene c.args.machine.now c.args.trace.now.items (kept_in_record c.args.kept.now)) true);
   over_is = λ is k p less at. absurd (omega (arith, less));
 }
 
@@ -22,7 +22,7 @@ loop-cpu-preserved c =
     let is : c.both-over.result ≡ both l.over (says_over turned) = c.both-over.ensures ∙ ap (λ (b : Bool). both l.over b) ok.1.1 in
     record {
       as_many = c.make_turn.ensures.as_many ∙ l.invariant.as_many;
-      turns = chain_more Going TakesTurn l.cpu (going (scene c.args.machine.now c.args.trace.now (kept_in_record c.args.kept.now)) true) (going (scene l.machine l.trace (kept_in_record l.kept)) l.over) (going (scene c.make_turn.new.machine c.make_turn.new.trace (kept_in_record c.make_turn.new.kept)) c.both-over.result) l.invariant.turns (turned, (ok.1.0, is));
+      turns = chain_more Going TakesTurn l.cpu (going (scene c.args.machine.now c.args.trace.now.items (kept_in_record c.args.kept.now)) true) (going (scene l.machine l.trace.items (kept_in_record l.kept)) l.over) (going (scene c.make_turn.new.machine c.make_turn.new.trace.items (kept_in_record c.make_turn.new.kept)) c.both-over.result) l.invariant.turns (turned, (ok.1.0, is));
       over_is = λ so.
           let yes = both_true l.over (says_over turned) (sym is ∙ so) in
           over_later l.cpu l.machine c.make_turn.new.machine ok.1.0.room ok.1.0.part turned ok.1.0.makes (says_all turned yes.1) (l.invariant.over_is yes.0);
@@ -34,6 +34,6 @@ returns-clause-ok c =
     let whole : l.cpu ≡ length c.args.machine.now.cpus = omega (arith, c.loop-cpu-test.false, l.auto.cpu-end, c.cpus-cpu-end.ensures.value) in
     let all : l.cpu ≡ length l.machine.cpus = whole ∙ sym l.invariant.as_many in
     record {
-      round = subst (λ n. Chain Going TakesTurn n (going (scene c.args.machine.now c.args.trace.now (kept_in_record c.args.kept.now)) true) (going (scene l.machine l.trace (kept_in_record l.kept)) l.over)) whole l.invariant.turns;
+      round = subst (λ n. Chain Going TakesTurn n (going (scene c.args.machine.now c.args.trace.now.items (kept_in_record c.args.kept.now)) true) (going (scene l.machine l.trace.items (kept_in_record l.kept)) l.over)) whole l.invariant.turns;
       over_is = λ is k p at. l.invariant.over_is is k p (subst (λ n. k < n) (sym all) (slice_get_within l.machine.cpus k p at)) at;
     }

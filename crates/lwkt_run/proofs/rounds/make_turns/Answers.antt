@@ -9,7 +9,7 @@ use Rattle.lwkt_run.proofs.rounds.make_turns.Goals as goal
 pub loop-at-init : goal.loop-at-init
 loop-at-init c = record {
   as_many = refl;
-  turns = chain_none Scene (λ k. MakesTurnAt (whose c.args.order.now k)) (scene c.args.machine.now c.args.trace.now (kept_in_record c.args.kept.now));
+  turns = chain_none Scene (λ k. MakesTurnAt (whose c.args.order.now k)) (scene c.args.machine.now c.args.trace.now.items (kept_in_record c.args.kept.now));
   order = sym (append-nil c.args.kept.now.order.items);
 }
 
@@ -20,12 +20,12 @@ loop-at-preserved c =
     let all = c.args.order.now in
     let before = c.args.kept.now.order.items in
     let named : c.from.result ≡ whose all l.at = c.from.ensures ∙ sym (unwrap_or-slice_get all l.at 0) in
-    let x : Scene = scene l.machine l.trace (kept_in_record l.kept) in
-    let y : Scene = scene c.make_turn.new.machine c.make_turn.new.trace (kept_in_record c.make_turn.new.kept) in
+    let x : Scene = scene l.machine l.trace.items (kept_in_record l.kept) in
+    let y : Scene = scene c.make_turn.new.machine c.make_turn.new.trace.items (kept_in_record c.make_turn.new.kept) in
     let more : take (l.at + 1) all ≡ take l.at all ++ c.from.result ∷ [] = take_more all l.at 0 c.loop-at-test.true ∙ ap (λ (n : ℕ). take l.at all ++ n ∷ []) (sym c.from.ensures) in
     record {
       as_many = c.make_turn.ensures.as_many ∙ l.invariant.as_many;
-      turns = chain_more Scene (λ k. MakesTurnAt (whose all k)) l.at (scene c.args.machine.now c.args.trace.now (kept_in_record c.args.kept.now)) x y l.invariant.turns (subst (λ k. MakesTurnAt k x y) named (ok.0, ok.1.0));
+      turns = chain_more Scene (λ k. MakesTurnAt (whose all k)) l.at (scene c.args.machine.now c.args.trace.now.items (kept_in_record c.args.kept.now)) x y l.invariant.turns (subst (λ k. MakesTurnAt k x y) named (ok.0, ok.1.0));
       order = ok.1.0.keeps.order ∙ ap (λ (os : List ℕ). os ++ c.from.result ∷ []) l.invariant.order ∙ append_assoc before (take l.at all) (c.from.result ∷ []) ∙ ap (λ (os : List ℕ). before ++ os) (sym more);
     }
 

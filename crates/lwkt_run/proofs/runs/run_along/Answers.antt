@@ -16,14 +16,14 @@ pub left_by-requires-clause-bank : goal.left_by-requires-clause-bank
 left_by-requires-clause-bank c =
     let m = c.in_ok-machine.machine in
     let r = c.in_ok-make_turns.ensures.ok in
-    ap (λ (bank : BankId). bank.plans) (turns_bank c.args.order.now (scene m c.new-trace.result (kept_in_record c.new-kept.result)) (scene c.make_turns.new.machine c.make_turns.new.trace (kept_in_record c.make_turns.new.kept)) r) ∙ c.in_ok-machine.ensures.ok.plans
+    ap (λ (bank : BankId). bank.plans) (turns_bank c.args.order.now (scene m c.new-trace.result.items (kept_in_record c.new-kept.result)) (scene c.make_turns.new.machine c.make_turns.new.trace.items (kept_in_record c.make_turns.new.kept)) r) ∙ c.in_ok-machine.ensures.ok.plans
 
 pub left_by-requires-clause-threads : goal.left_by-requires-clause-threads
 left_by-requires-clause-threads c =
     let s = c.args.script.now in
     let m = c.in_ok-machine.machine in
     let r = c.in_ok-make_turns.ensures.ok in
-    has_turns s.cpus s.threads c.args.order.now (scene m c.new-trace.result (kept_in_record c.new-kept.result)) (scene c.make_turns.new.machine c.make_turns.new.trace (kept_in_record c.make_turns.new.kept)) r (opened_has s m c.in_ok-machine.ensures.ok)
+    has_turns s.cpus s.threads c.args.order.now (scene m c.new-trace.result.items (kept_in_record c.new-kept.result)) (scene c.make_turns.new.machine c.make_turns.new.trace.items (kept_in_record c.make_turns.new.kept)) r (opened_has s m c.in_ok-machine.ensures.ok)
 
 pub returns-in-Ok-clause-order : goal.returns-in-Ok-clause-order
 returns-in-Ok-clause-order c = c.in_ok-make_turns.ensures.order ∙ ap (λ (k : Kept). k.order ++ c.args.order.now) c.new-kept.ensures
@@ -35,13 +35,13 @@ returns-in-Ok-clause-runs c =
     let made = c.make_turns.new in
     let left = c.in_ok-left in
     let kept : Kept = kept_in_record made.kept in
-    let told : List Event = made.trace in
+    let told : List Event = made.trace.items in
     let stops : List Event = c.left_by.new.trace.items in
     let F : List Event → Type 0 = λ es. MakesTurns c.args.order.now (scene opened.machine es (kept_in_record c.new-kept.result)) (scene made.machine told kept) in
     let G : Kept → Type 0 = λ k. MakesTurns c.args.order.now (scene opened.machine [] k) (scene made.machine told kept) in
     let along = subst G c.new-kept.ensures (subst F c.new-trace.ensures c.in_ok-make_turns.ensures.ok) in
-    let whole : c.append.new.self ≡ told ++ stops = c.in-Ok.ensures ∙ ap (λ (es : List Event). told ++ es) c.as_slice.ensures.value in
-    let R : List ℕ → Type 0 = λ os. RunsAlong s os left.left.threads.items kept c.append.new.self left.left.last in
+    let whole : c.append.new.self.items ≡ told ++ stops = c.in-Ok.ensures.ok ∙ ap (λ (es : List Event). told ++ es) c.as_slice.ensures.value in
+    let R : List ℕ → Type 0 = λ os. RunsAlong s os left.left.threads.items kept c.append.new.self.items left.left.last in
     subst R (sym (returns-in-Ok-clause-order c)) (record {
       opened = opened.machine;
       made = made.machine;

@@ -14,14 +14,14 @@ left_by-requires-clause-bank c =
     let s = c.args.script.now in
     let m = c.in_ok-machine.machine in
     let r = c.in_ok-make_rounds.ensures.ok in
-    ap (λ (bank : BankId). bank.plans) (rounds_bank s.turns (scene m c.new-trace.result (kept_in_record c.new-kept.result)) (scene c.make_rounds.new.machine c.make_rounds.new.trace (kept_in_record c.make_rounds.new.kept)) r) ∙ c.in_ok-machine.ensures.ok.plans
+    ap (λ (bank : BankId). bank.plans) (rounds_bank s.turns (scene m c.new-trace.result.items (kept_in_record c.new-kept.result)) (scene c.make_rounds.new.machine c.make_rounds.new.trace.items (kept_in_record c.make_rounds.new.kept)) r) ∙ c.in_ok-machine.ensures.ok.plans
 
 pub left_by-requires-clause-threads : goal.left_by-requires-clause-threads
 left_by-requires-clause-threads c =
     let s = c.args.script.now in
     let m = c.in_ok-machine.machine in
     let r = c.in_ok-make_rounds.ensures.ok in
-    has_rounds s.cpus s.threads s.turns (scene m c.new-trace.result (kept_in_record c.new-kept.result)) (scene c.make_rounds.new.machine c.make_rounds.new.trace (kept_in_record c.make_rounds.new.kept)) r (opened_has s m c.in_ok-machine.ensures.ok)
+    has_rounds s.cpus s.threads s.turns (scene m c.new-trace.result.items (kept_in_record c.new-kept.result)) (scene c.make_rounds.new.machine c.make_rounds.new.trace.items (kept_in_record c.make_rounds.new.kept)) r (opened_has s m c.in_ok-machine.ensures.ok)
 
 pub returns-in-Ok-clause-runs : goal.returns-in-Ok-clause-runs
 returns-in-Ok-clause-runs c =
@@ -30,12 +30,12 @@ returns-in-Ok-clause-runs c =
     let made = c.make_rounds.new in
     let left = c.in_ok-left in
     let kept : Kept = kept_in_record made.kept in
-    let told : List Event = made.trace in
+    let told : List Event = made.trace.items in
     let stops : List Event = c.left_by.new.trace.items in
     let F : List Event → Type 0 = λ es. HasMadeRounds s.turns (scene opened.machine es (kept_in_record c.new-kept.result)) (scene made.machine told kept) in
     let G : Kept → Type 0 = λ k. HasMadeRounds s.turns (scene opened.machine [] k) (scene made.machine told kept) in
     let rounds = subst G c.new-kept.ensures (subst F c.new-trace.ensures c.in_ok-make_rounds.ensures.ok) in
-    let whole : c.append.new.self ≡ told ++ stops = c.in-Ok.ensures ∙ ap (λ (es : List Event). told ++ es) c.as_slice.ensures.value in
+    let whole : c.append.new.self.items ≡ told ++ stops = c.in-Ok.ensures.ok ∙ ap (λ (es : List Event). told ++ es) c.as_slice.ensures.value in
     record {
       opened = opened.machine;
       made = made.machine;
