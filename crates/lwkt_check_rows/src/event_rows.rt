@@ -3,7 +3,7 @@ ghost use Rattle.std.specs.Prelude.{◌≤◌, length};
 
 use lwkt_base::{Blob, CpuId, MsgId, Row, Section, TokId};
 use lwkt_core::Event;
-use lwkt_verdict::EventList;
+use lwkt_events::EventList;
 use std::alloc::{AllocError, Global};
 use std::test::Fail;
 
@@ -88,7 +88,7 @@ fn parts_come_out(
     events: &[Event],
     room: &mut Vec<Event>,
 ) -> Result<bool, AllocError>
-    requires { length events.now ≤ length list.now }
+    requires { length events.now ≤ length list.now.items }
 {
     let mut all = true;
     for first in 0..events.len() {

@@ -6,7 +6,7 @@ use lwkt_base::{
 use lwkt_core::{Event, State};
 use lwkt_report::{Log, ThreadLine};
 use lwkt_script::{Parts, ThreadSpec};
-use lwkt_verdict::{EventList, Pace, Poll, PollList, Turn, is_script_run};
+use lwkt_verdict::{Pace, Poll, PollList, Turn, is_script_run};
 use std::alloc::{AllocError, Global};
 
 /// How a thread stands at the end of a run, and its log.

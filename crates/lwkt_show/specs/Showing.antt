@@ -35,7 +35,7 @@ ShowsLines options order run text = AreLinesOf (chosen_by options) order run.scr
 -- the script's opening, of all events and of what the report closes with; of the other views nothing is said
 abbrev pub ShowsBy : View → Options → Option (List ℕ) → TurnsRun → List ℕ → Type 0
 ShowsBy Lines options order run text = ShowsLines options order run text
-ShowsBy Trace options order run text = text ≡ trace_text run.script run.trace run.closing
+ShowsBy Trace options order run text = text ≡ trace_text run.script run.trace.items run.closing
 ShowsBy Picture options order run text = Unit {0}
 ShowsBy Chains options order run text = Unit {0}
 
