@@ -3,7 +3,6 @@ use Rattle.std.specs.Prelude.{Bool, true, false, ◌%◌, ◌^◌, Vec, slice_in
 use Rattle.std.proofs.Math.Nat.{mod-add-mod}
 use Rattle.std.specs.List.{All, AllZip}
 use Rattle.std.proofs.lemmas.List.Elements.{AllZip-get_or, length_all_zip}
-use Rattle.std.specs.declared.alloc.Global.{Global}
 use Rattle.std.proofs.lemmas.List.Sums.{fold-append}
 use Rattle.std.proofs.lemmas.List.{take-append-le, take_all}
 use lib.ListN.{length-append}
@@ -13,14 +12,16 @@ use Rattle.atomic_table.specs.Seated.{TableId}
 use Rattle.lwkt_base.specs.declared.names.CpuId.{CpuId}
 use Rattle.lwkt_base.specs.declared.asks.Ask.{Ask}
 use Rattle.lwkt_base.specs.declared.asks.Answer.{Answer}
+use Rattle.std.specs.declared.alloc.Global.{Global}
 use Rattle.lwkt_core.specs.declared.events.Event.{Event}
+use Rattle.lwkt_events.specs.ShortEvents.{KeptTrace}
 use Rattle.lwkt_bank.specs.Seats.{BankId}
 use Rattle.lwkt_cpu.specs.declared.answers.Turned.{Turned}
 use Rattle.lwkt_cpu.specs.declared.answers.Turned.TheVariants.{Ran, Idle, AllExited}
 use Rattle.lwkt_cpu.specs.declared.answers.Drove.{Drove}
 use Rattle.lwkt_cpu.specs.Processors.{Processor}
-use Rattle.lwkt_cpu.specs.Turning.{MakesTurn}
-use Rattle.lwkt_cpu.specs.Driving.{Made, with_turn, none_driven}
+use Rattle.lwkt_cpu.specs.Driving.{with_turn, none_driven}
+use Rattle.lwkt_drive.specs.Keeping.{KeepsTurn, KeepsTurns}
 use Rattle.lwkt_drive.specs.declared.driven.Driven.{Driven}
 use Rattle.lwkt_drive.specs.declared.driven.Limits.{Limits}
 use Rattle.lwkt_drive.specs.declared.driven.Said.{Said}
@@ -28,19 +29,19 @@ use Rattle.lwkt_drive.specs.declared.driven.Ending.{Ending}
 use Rattle.lwkt_drive.specs.Course.{IsAtTables, IsBelowLimits, MakesAnother, EndsBy, WasSilent, EndsSilent, agreed, heard, said_at_end, MakesOne, StaysAndWhy, IsDriven, EndedSilently, IsUnderWay, IsSo, ComesTo, GoesTo, DrivesOn, DrivesOut, drive_begun, counts}
 
 -- a turn more, after others
-pub made_more : {B : Type 0} (polled : B → Answer → Ask → B → Type 0) (bank : BankId) (old mid new : Processor B) (t v u : Vec Event Global) (turns : List Turned) (turned : Turned) → Made polled bank old mid t v turns → MakesTurn polled bank mid new v u turned → Made polled bank old new t u (turns ++ turned ∷ [])
+pub made_more : {B : Type 0} (polled : B → Answer → Ask → B → Type 0) (bank : BankId) (old mid new : Processor B) (t v u : List Event) (turns : List Turned) (turned : Turned) → KeepsTurns polled bank old mid t v turns → KeepsTurn polled bank mid new v u turned → KeepsTurns polled bank old new t u (turns ++ turned ∷ [])
 made_more {B} polled bank old mid new t v u [] turned made last =
-    let F : Processor B → Type 0 = λ p. MakesTurn polled bank p new v u turned in
-    let G : Vec Event Global → Type 0 = λ x. MakesTurn polled bank old new x u turned in
+    let F : Processor B → Type 0 = λ p. KeepsTurn polled bank p new v u turned in
+    let G : List Event → Type 0 = λ x. KeepsTurn polled bank old new x u turned in
     (new, (u, (subst G made.1 (subst F made.0 last), (refl, refl))))
 made_more polled bank old mid new t v u (x ∷ turns) turned made last =
     (made.0, (made.1.0, (made.1.1.0, made_more polled bank made.0 mid new made.1.0 v u turns turned made.1.1.1 last)))
 
 -- a silent turn more, after others
-ends_silent : {B : Type 0} (polled : B → Answer → Ask → B → Type 0) (bank : BankId) (old mid new : Processor B) (t v u : Vec Event Global) (turns : List Turned) (turned : Turned) (made : Made polled bank old mid t v turns) (last : MakesTurn polled bank mid new v u turned) → WasSilent turned v u → EndsSilent polled bank old new t u (turns ++ turned ∷ []) (made_more polled bank old mid new t v u turns turned made last)
+ends_silent : {B : Type 0} (polled : B → Answer → Ask → B → Type 0) (bank : BankId) (old mid new : Processor B) (t v u : List Event) (turns : List Turned) (turned : Turned) (made : KeepsTurns polled bank old mid t v turns) (last : KeepsTurn polled bank mid new v u turned) → WasSilent turned v u → EndsSilent polled bank old new t u (turns ++ turned ∷ []) (made_more polled bank old mid new t v u turns turned made last)
 unfolding made_more
 ends_silent polled bank old mid new t v u [] turned made last silent =
-    let F : Vec Event Global → Type 0 = λ x. WasSilent turned x u in
+    let F : List Event → Type 0 = λ x. WasSilent turned x u in
     subst F made.1 silent
 ends_silent polled bank old mid new t v u (x ∷ []) turned made last silent =
     ends_silent polled bank made.0 mid new made.1.0 v u [] turned made.1.1.1 last silent
@@ -48,21 +49,21 @@ ends_silent polled bank old mid new t v u (x ∷ y ∷ turns) turned made last s
     ends_silent polled bank made.0 mid new made.1.0 v u (y ∷ turns) turned made.1.1.1 last silent
 
 -- the last of some turns, where it was silent
-record LastOf {B : Type 0} (polled : B → Answer → Ask → B → Type 0) (bank : BankId) (old new : Processor B) (t u : Vec Event Global) (turns : List Turned) : Type 0 where
+record LastOf {B : Type 0} (polled : B → Answer → Ask → B → Type 0) (bank : BankId) (old new : Processor B) (t u : List Event) (turns : List Turned) : Type 0 where
   earlier : List Turned
   last : Turned
   turns_are : turns ≡ earlier ++ last ∷ []
   before : Processor B
-  trace : Vec Event Global
-  came : Made polled bank old before t trace earlier
-  makes : MakesTurn polled bank before new trace u last
+  trace : List Event
+  came : KeepsTurns polled bank old before t trace earlier
+  makes : KeepsTurn polled bank before new trace u last
   was_silent : WasSilent last trace u
 
-last_of : {B : Type 0} (polled : B → Answer → Ask → B → Type 0) (bank : BankId) (old new : Processor B) (t u : Vec Event Global) (turns : List Turned) (made : Made polled bank old new t u turns) → EndsSilent polled bank old new t u turns made → LastOf polled bank old new t u turns
+last_of : {B : Type 0} (polled : B → Answer → Ask → B → Type 0) (bank : BankId) (old new : Processor B) (t u : List Event) (turns : List Turned) (made : KeepsTurns polled bank old new t u turns) → EndsSilent polled bank old new t u turns made → LastOf polled bank old new t u turns
 last_of polled bank old new t u [] made ends = absurd ends
 last_of {B} polled bank old new t u (turned ∷ []) made ends =
-    let F : Processor B → Type 0 = λ p. MakesTurn polled bank old p t u turned in
-    let G : Vec Event Global → Type 0 = λ x. MakesTurn polled bank old made.0 t x turned in
+    let F : Processor B → Type 0 = λ p. KeepsTurn polled bank old p t u turned in
+    let G : List Event → Type 0 = λ x. KeepsTurn polled bank old made.0 t x turned in
     record {
       earlier = [];
       last = turned;
@@ -89,19 +90,17 @@ last_of polled bank old new t u (turned ∷ next ∷ turns) made ends =
 -- a drive that ends as quiet
 pub ended_silently : {B : Type 0} (polled : B → Answer → Ask → B → Type 0) (answers : CpuId → ℕ → Bool → Type 0) (bank : BankId) (limits : Limits) (old new : Driven B) → IsDriven polled answers bank limits old new Quiet → EndedSilently polled bank old new
 ended_silently polled answers bank limits old new d =
-    let l = last_of polled bank old.cpu new.cpu old.trace d.v d.turns d.made (d.silent d.ends) in
+    let l = last_of polled bank old.cpu new.cpu old.trace.items new.trace.items d.turns d.made (d.silent d.ends) in
     record {
       earlier = l.earlier;
       last = l.last;
       drove = d.drove ∙ ap counts l.turns_are;
       before = l.before;
       trace = l.trace;
-      left = d.v;
       came = l.came;
       makes = l.makes;
-      now = d.trace;
       ran_none = l.was_silent.0;
-      no_event = d.trace ∙ l.was_silent.1;
+      no_event = l.was_silent.1;
     }
 
 -- one yes more
@@ -162,14 +161,14 @@ under_more {B} polled answers bank limits old mid new turn total u m same =
     let T : Drove → Type 0 = λ d. d.ran + d.idle ≡ length (u.turns ++ m.turned ∷ []) in
     record {
       turns = u.turns ++ m.turned ∷ [];
-      made = made_more polled bank old.cpu mid.cpu new.cpu old.trace mid.trace new.trace u.turns m.turned u.made m.makes;
+      made = made_more polled bank old.cpu mid.cpu new.cpu old.trace.items mid.trace.items new.trace.items u.turns m.turned u.made m.makes;
       going = going_more answers limits old.id u.turns m.turned u.going last;
       drove = m.drove ∙ (ap (λ d. with_turn d m.turned) u.drove ∙ sym (fold-append with_turn none_driven u.turns (m.turned ∷ [])));
       all = subst T (sym m.drove) (omega (arith, counted_all mid.drove m.turned, u.all, length-append u.turns (m.turned ∷ [])));
-      silent = λ is. ends_silent polled bank old.cpu mid.cpu new.cpu old.trace mid.trace new.trace u.turns m.turned u.made m.makes (m.silent is);
+      silent = λ is. ends_silent polled bank old.cpu mid.cpu new.cpu old.trace.items mid.trace.items new.trace.items u.turns m.turned u.made m.makes (m.silent is);
       said = m.said ∙ (ap agreed u.said ∙ heard_more u.turns m.turned old.said);
       same = same ∙ u.same;
-      seat = m.makes.ran.cpu ∙ u.seat;
+      seat = m.makes.does.ran.cpu ∙ u.seat;
     }
 
 within_more : {B : Type 0} (polled : B → Answer → Ask → B → Type 0) (answers : CpuId → ℕ → Bool → Type 0) (bank : BankId) (limits : Limits) (mid new : Driven B) (turn : ℕ) → MakesOne polled answers bank limits turn mid new → IsBelowLimits limits new.drove
@@ -189,17 +188,16 @@ total_more polled answers bank limits mid new turn total m =
 driven_by : {B : Type 0} (polled : B → Answer → Ask → B → Type 0) (answers : CpuId → ℕ → Bool → Type 0) (bank : BankId) (limits : Limits) (old mid new : Driven B) (ending : Ending) (turn : ℕ) → mid.drove.ran + mid.drove.idle ≡ turn → IsUnderWay polled answers bank limits old mid → StaysAndWhy answers limits turn mid new ending → new.id ≡ mid.id → IsDriven polled answers bank limits old new ending
 driven_by {B} polled answers bank limits old mid new ending turn total u s same =
     let long : length u.turns ≡ turn = sym u.all ∙ total in
-    let M : Processor B → Type 0 = λ p. (made : Made polled bank old.cpu p old.trace mid.trace u.turns) × (new.silent ≡ true → EndsSilent polled bank old.cpu p old.trace mid.trace u.turns made) in
-    let made : M new.cpu = subst M (sym s.cpu) (u.made, λ is. u.silent (sym s.silent ∙ is)) in
-    let I : CpuId → Type 0 = λ id. EndsBy answers limits id turn mid.drove mid.silent new.trace ending in
-    let N : ℕ → Type 0 = λ n. EndsBy answers limits old.id n mid.drove mid.silent new.trace ending in
-    let D : Drove → Type 0 = λ d. EndsBy answers limits old.id (length u.turns) d mid.silent new.trace ending in
-    let Q : Bool → Type 0 = λ q. EndsBy answers limits old.id (length u.turns) new.drove q new.trace ending in
+    let M : Processor B → List Event → Type 0 = λ p t. (made : KeepsTurns polled bank old.cpu p old.trace.items t u.turns) × (new.silent ≡ true → EndsSilent polled bank old.cpu p old.trace.items t u.turns made) in
+    let one : M new.cpu mid.trace.items = subst (λ p. M p mid.trace.items) (sym s.cpu) (u.made, λ is. u.silent (sym s.silent ∙ is)) in
+    let made : M new.cpu new.trace.items = subst (λ t. M new.cpu t) (sym s.trace) one in
+    let I : CpuId → Type 0 = λ id. EndsBy answers limits id turn mid.drove mid.silent new.room new.trace ending in
+    let N : ℕ → Type 0 = λ n. EndsBy answers limits old.id n mid.drove mid.silent new.room new.trace ending in
+    let D : Drove → Type 0 = λ d. EndsBy answers limits old.id (length u.turns) d mid.silent new.room new.trace ending in
+    let Q : Bool → Type 0 = λ q. EndsBy answers limits old.id (length u.turns) new.drove q new.room new.trace ending in
     record {
       turns = u.turns;
-      v = mid.trace;
       made = made.0;
-      trace = s.trace;
       going = u.going;
       drove = s.drove ∙ u.drove;
       silent = made.1;
@@ -213,9 +211,7 @@ driven_by {B} polled answers bank limits old mid new ending turn total u s same 
 driven_out : {B : Type 0} (polled : B → Answer → Ask → B → Type 0) (answers : CpuId → ℕ → Bool → Type 0) (bank : BankId) (limits : Limits) (old new : Driven B) → limits.turns + limits.idle ≤ new.drove.ran + new.drove.idle → IsBelowLimits limits new.drove → IsUnderWay polled answers bank limits old new → IsDriven polled answers bank limits old new TurnsOut
 driven_out polled answers bank limits old new reached within u = record {
   turns = u.turns;
-  v = new.trace;
   made = u.made;
-  trace = refl;
   going = u.going;
   drove = u.drove;
   silent = u.silent;
@@ -253,15 +249,15 @@ going_out polled answers bank book limits first now turn reached g old u =
     let t = g.total in inr (driven_out polled answers bank limits old now (omega (arith, t, reached)) g.within (g.under old u))
 
 -- none ends as one that wasn't driven
-never : (answers : CpuId → ℕ → Bool → Type 0) (limits : Limits) (cpu : CpuId) (turns : ℕ) (drove : Drove) (silent : Bool) (trace : Vec Event Global) (ending : Ending) → ending ≡ NotDriven → EndsBy answers limits cpu turns drove silent trace ending → ⊥
-never answers limits cpu turns drove silent trace ending is ends =
-    let F : Ending → Type 0 = λ e. EndsBy answers limits cpu turns drove silent trace e in
+never : (answers : CpuId → ℕ → Bool → Type 0) (limits : Limits) (cpu : CpuId) (turns : ℕ) (drove : Drove) (silent : Bool) (room : Vec Event Global) (trace : KeptTrace) (ending : Ending) → ending ≡ NotDriven → EndsBy answers limits cpu turns drove silent room trace ending → ⊥
+never answers limits cpu turns drove silent room trace ending is ends =
+    let F : Ending → Type 0 = λ e. EndsBy answers limits cpu turns drove silent room trace e in
     subst F is ends
 
 pub comes_more : {B : Type 0} (polled : B → Answer → Ask → B → Type 0) (answers : CpuId → ℕ → Bool → Type 0) (bank : BankId) (book : TableId) (limits : Limits) (first mid new : Driven B) (turn : ℕ) (ending : Ending) → IsGoing polled answers bank book limits first mid turn → ComesTo polled answers bank limits turn mid new ending → ending ≡ NotDriven → first.drove.ran + first.drove.idle < new.drove.ran + new.drove.idle
 comes_more polled answers bank book limits first mid new turn ending g comes is = elim comes [
   | inl made ↦ let t = total_more polled answers bank limits mid new turn g.total made.1 in let l = g.least in omega (arith, t, l)
-  | inr stays ↦ absurd (never answers limits mid.id turn mid.drove mid.silent new.trace ending is stays.ends)
+  | inr stays ↦ absurd (never answers limits mid.id turn mid.drove mid.silent new.room new.trace ending is stays.ends)
 ]
 
 pub comes_within : {B : Type 0} (polled : B → Answer → Ask → B → Type 0) (answers : CpuId → ℕ → Bool → Type 0) (bank : BankId) (book : TableId) (limits : Limits) (first mid new : Driven B) (turn : ℕ) (ending : Ending) → IsGoing polled answers bank book limits first mid turn → ComesTo polled answers bank limits turn mid new ending → IsBelowLimits limits new.drove
@@ -275,7 +271,7 @@ under_noted : {B : Type 0} (polled : B → Answer → Ask → B → Type 0) (ans
 under_noted polled answers bank limits old new by u = record { turns = u.turns; made = u.made; going = u.going; drove = u.drove; all = u.all; silent = u.silent; said = u.said; same = u.same; seat = u.seat }
 
 driven_noted : {B : Type 0} (polled : B → Answer → Ask → B → Type 0) (answers : CpuId → ℕ → Bool → Type 0) (bank : BankId) (limits : Limits) (old new : Driven B) (by ending : Ending) → IsDriven polled answers bank limits old new ending → IsDriven polled answers bank limits old (record new { ending = by }) ending
-driven_noted polled answers bank limits old new by ending d = record { turns = d.turns; v = d.v; made = d.made; trace = d.trace; going = d.going; drove = d.drove; silent = d.silent; said = d.said; ends = d.ends; same = d.same; seat = d.seat }
+driven_noted polled answers bank limits old new by ending d = record { turns = d.turns; made = d.made; going = d.going; drove = d.drove; silent = d.silent; said = d.said; ends = d.ends; same = d.same; seat = d.seat }
 
 so_noted : {B : Type 0} (polled : B → Answer → Ask → B → Type 0) (answers : CpuId → ℕ → Bool → Type 0) (bank : BankId) (limits : Limits) (old new : Driven B) (by ending : Ending) → IsSo polled answers bank limits old new ending → IsSo polled answers bank limits old (record new { ending = by }) ending
 so_noted polled answers bank limits old new by ending so = elim so [
@@ -288,7 +284,7 @@ pub drives_more : {B : Type 0} (polled : B → Answer → Ask → B → Type 0) 
 drives_more polled answers bank limits mid new ending is goes more = record {
   so = λ old so. elim so [
     | inl under ↦ so_noted polled answers bank limits old new ending ending (goes old under.1)
-    | inr driven ↦ absurd (never answers limits old.id (length driven.turns) mid.drove mid.silent mid.trace mid.ending is driven.ends)
+    | inr driven ↦ absurd (never answers limits old.id (length driven.turns) mid.drove mid.silent mid.room mid.trace mid.ending is driven.ends)
   ];
   more = λ none. (is, more none);
 }

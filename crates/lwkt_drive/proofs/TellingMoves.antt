@@ -24,10 +24,12 @@ use Rattle.lwkt_core.specs.Trace.{end_of}
 use Rattle.lwkt_msg.specs.Book.{mail_at}
 use Rattle.lwkt_msg.specs.Desks.{Desk, Shelf, desk_cpu, past_of as mail_past, events_of as mail_of, IsOpened as IsOpenedDesk, AreClosed}
 use Rattle.lwkt_msg.specs.Views.{seat_cpu}
+use Rattle.lwkt_port.specs.Posts.{IsSamePost}
 use Rattle.lwkt_cpu.specs.declared.answers.Turned.{Turned}
+use Rattle.lwkt_cpu.proofs.WakeMoves.{post_none, post_then}
 use Rattle.lwkt_cpu.specs.Processors.{Processor}
 use Rattle.lwkt_cpu.specs.Turning.{IsOfThread}
-use Rattle.lwkt_cpu.specs.Driving.{Made}
+use Rattle.lwkt_drive.specs.Keeping.{KeepsTurns}
 use Rattle.lwkt_drive.specs.Telling.{TellsSeat, IsMailTold, TellOneMailRun, TracesTellOneRun}
 
 pub told_new : (s : CpuSeat) → IsNew s → TellsSeat s []
@@ -35,27 +37,6 @@ told_new s new = record {
   tells = let F : List Deed → Type 0 = λ past. Tells (events_by s.cpu.0 past) [] in subst F (sym new.past) refl;
   own = All-nil (λ (e : Event). cpu_of e ≡ s.cpu.0);
 }
-
-pub told_ran : (P : Holding → Type 0) (most : ℕ) (a b : CpuSeat) (t u : Vec Event Global) → Ran P most a b t u → TellsSeat a t.items → TellsSeat b u.items
-told_ran P most a b t u ran told =
-    let grown : events_of b ≡ events_of a ++ events_in ran.deeds = ap (λ (k : CpuId). events_by k.0 (past_of b)) ran.cpu ∙ events_by-grows a.cpu.0 (past_of a) ran.deeds (past_of b) ran.grows ran.mine in
-    let E : List Event → Type 0 = λ es. Tells es (filter is_of_token u.items) in
-    let T : List Event → Type 0 = λ xs. Tells (events_of a ++ events_in ran.deeds) (filter is_of_token xs) in
-    let S : List Event → Type 0 = λ xs. Tells (events_of a ++ events_in ran.deeds) xs in
-    let C : CpuId → Type 0 = λ k. All (λ (e : Event). cpu_of e ≡ k.0) u.items in
-    let X : List Event → Type 0 = λ xs. All (λ (e : Event). cpu_of e ≡ a.cpu.0) xs in
-    record {
-      tells = subst E (sym grown) (subst T (sym ran.trace) (subst S (sym (filter-append is_of_token t.items ran.done)) (Tells-append (events_of a) (events_in ran.deeds) (filter is_of_token t.items) (filter is_of_token ran.done) told.tells ran.tells)));
-      own = subst C (sym ran.cpu) (subst X (sym ran.trace) (All-append (λ (e : Event). cpu_of e ≡ a.cpu.0) t.items ran.done told.own ran.own));
-    }
-
-pub told_made : {B : Type 0} (polled : B → Answer → Ask → B → Type 0) (bank : BankId) (old new : Processor B) (t u : Vec Event Global) (turns : List Turned) → Made polled bank old new t u turns → TellsSeat old.seat t.items → TellsSeat new.seat u.items
-told_made {B} polled bank old new t u [] made told =
-    let F : Processor B → Type 0 = λ p. TellsSeat p.seat u.items in
-    let G : Vec Event Global → Type 0 = λ v. TellsSeat old.seat v.items in
-    subst F (sym made.0) (subst G (sym made.1) told)
-told_made polled bank old new t u (turned ∷ turns) made told =
-    told_made polled bank made.0 new made.1.0 u turns made.1.1.1 (told_ran (IsOfThread old.threads made.0.threads) 4096 old.seat made.0.seat t made.1.0 made.1.1.0.ran told)
 
 -- each processor's part of the history is what its trace tells
 pub told_part : (history : List Deed) (seats : List CpuSeat) (cpu : ℕ) (trace : List Event) (s : CpuSeat) → All (λ (x : CpuSeat). events_of x ≡ events_by x.cpu.0 history) seats → slice_get seats cpu ≡ Some s → s.cpu.0 ≡ cpu → TellsSeat s trace → Tells (events_by cpu history) (filter is_of_token trace) × All (λ e. cpu_of e ≡ cpu) trace
@@ -79,6 +60,27 @@ told_more P most a b t u ran trace told =
       own = subst C (sym ran.cpu) (All-append (λ (e : Event). cpu_of e ≡ a.cpu.0) trace ran.done told.own ran.own);
     }
 
+-- what was told into an empty room
+done_is : {P : Holding → Type 0} {most : ℕ} (a b : CpuSeat) (room part : Vec Event Global) → room.items ≡ [] → (r : Ran P most a b room part) → r.done ≡ part.items
+done_is a b room part none r = sym (r.trace ∙ ap (λ (es : List Event). es ++ r.done) none)
+
+-- what was done and told into an empty room is told behind a trace
+pub told_kept : (P : Holding → Type 0) (most : ℕ) (a b : CpuSeat) (room part : Vec Event Global) → room.items ≡ [] → Ran P most a b room part → (t u : List Event) → u ≡ t ++ part.items → TellsSeat a t → TellsSeat b u
+told_kept P most a b room part none ran t u grown told =
+    let F : List Event → Type 0 = λ es. TellsSeat b es in
+    subst F (ap (λ (es : List Event). t ++ es) (done_is a b room part none ran) ∙ sym grown) (told_more P most a b room part ran t told)
+
+-- turns, each told into an empty room and kept, are told
+pub told_made : {B : Type 0} (polled : B → Answer → Ask → B → Type 0) (bank : BankId) (old new : Processor B) (t u : List Event) (turns : List Turned) → KeepsTurns polled bank old new t u turns → TellsSeat old.seat t → TellsSeat new.seat u
+told_made {B} polled bank old new t u [] made told =
+    let F : Processor B → Type 0 = λ p. TellsSeat p.seat u in
+    let G : List Event → Type 0 = λ es. TellsSeat old.seat es in
+    subst F (sym made.0) (subst G (sym made.1) told)
+told_made polled bank old new t u (turned ∷ turns) made told =
+    let k = made.1.1.0 in
+    let step : TellsSeat made.0.seat made.1.0 = told_kept (IsOfThread old.threads made.0.threads) 4096 old.seat made.0.seat k.room k.part k.none k.does.ran t made.1.0 k.grown told in
+    told_made polled bank made.0 new made.1.0 u turns made.1.1.1 step
+
 -- the same of messages
 pub mail_more : (a b : Desk) (t u : List Event) (told : TellsMail a b t u) (trace : List Event) → IsMailTold a trace → IsMailTold b (trace ++ told.done)
 mail_more a b t u told trace before =
@@ -86,21 +88,24 @@ mail_more a b t u told trace before =
     let grown : mail_of b ≡ mail_of a ++ events_in told.deeds = ap (λ (k : CpuId). events_by k.0 (mail_past b)) same ∙ events_by-grows (desk_cpu a).0 (mail_past a) told.deeds (mail_past b) told.grows told.mine in
     filter-append is_of_message trace told.done ∙ ap (λ xs. xs ++ filter is_of_message told.done) before ∙ ap (λ xs. mail_of a ++ xs) told.told ∙ sym grown
 
-pub mail_stays : (a b : Desk) (t u : List Event) → TellsMail a b t u → IsMailTold a t → IsMailTold b u
-mail_stays a b t u told before =
-    let F : List Event → Type 0 = λ xs. IsMailTold b xs in
-    subst F (sym told.trace_is) (mail_more a b t u told t before)
-
 pub mail_new : (cpu : ℕ) (book : Shelf) (d : Desk) → IsOpenedDesk cpu book d → IsMailTold d []
 mail_new cpu book d new = sym new.no_events
 
-pub mail_made : {B : Type 0} (polled : B → Answer → Ask → B → Type 0) (bank : BankId) (old new : Processor B) (t u : Vec Event Global) (turns : List Turned) → Made polled bank old new t u turns → IsMailTold old.post.seat t.items → IsMailTold new.post.seat u.items
+-- the same of messages
+pub mail_kept : (a b : Desk) (room part : Vec Event Global) → room.items ≡ [] → TellsMail a b room.items part.items → (t u : List Event) → u ≡ t ++ part.items → IsMailTold a t → IsMailTold b u
+mail_kept a b room part none mail t u grown told =
+    let F : List Event → Type 0 = λ es. IsMailTold b es in
+    let done : mail.done ≡ part.items = sym (mail.trace_is ∙ ap (λ (es : List Event). es ++ mail.done) none) in
+    subst F (ap (λ (es : List Event). t ++ es) done ∙ sym grown) (mail_more a b room.items part.items mail t told)
+
+pub mail_made : {B : Type 0} (polled : B → Answer → Ask → B → Type 0) (bank : BankId) (old new : Processor B) (t u : List Event) (turns : List Turned) → KeepsTurns polled bank old new t u turns → IsMailTold old.post.seat t → IsMailTold new.post.seat u
 mail_made {B} polled bank old new t u [] made told =
-    let F : Processor B → Type 0 = λ p. IsMailTold p.post.seat u.items in
-    let G : Vec Event Global → Type 0 = λ v. IsMailTold old.post.seat v.items in
+    let F : Processor B → Type 0 = λ p. IsMailTold p.post.seat u in
+    let G : List Event → Type 0 = λ es. IsMailTold old.post.seat es in
     subst F (sym made.0) (subst G (sym made.1) told)
 mail_made polled bank old new t u (turned ∷ turns) made told =
-    mail_made polled bank made.0 new made.1.0 u turns made.1.1.1 (mail_stays old.post.seat made.0.post.seat t.items made.1.0.items made.1.1.0.told told)
+    let k = made.1.1.0 in
+    mail_made polled bank made.0 new made.1.0 u turns made.1.1.1 (mail_kept old.post.seat made.0.post.seat k.room k.part k.none k.does.told t made.1.0 k.grown told)
 
 -- each processor's part of the history are its trace's events of messages
 pub mail_part : (history : List Deed) (seats : List Desk) (cpu : ℕ) (trace : List Event) (d : Desk) → All (λ (x : Desk). mail_of x ≡ events_by (desk_cpu x).0 history) seats → slice_get seats cpu ≡ Some d → (desk_cpu d).0 ≡ cpu → IsMailTold d trace → filter is_of_message trace ≡ events_by cpu history
@@ -128,9 +133,9 @@ one_mail_run book seats ends traces is told = record {
 }
 
 -- the turns of a processor leave its seat at the book the same processor's
-pub mail_same : {B : Type 0} (polled : B → Answer → Ask → B → Type 0) (bank : BankId) (old new : Processor B) (t u : Vec Event Global) (turns : List Turned) → Made polled bank old new t u turns → desk_cpu new.post.seat ≡ desk_cpu old.post.seat
+pub mail_same : {B : Type 0} (polled : B → Answer → Ask → B → Type 0) (bank : BankId) (old new : Processor B) (t u : List Event) (turns : List Turned) → KeepsTurns polled bank old new t u turns → desk_cpu new.post.seat ≡ desk_cpu old.post.seat
 mail_same {B} polled bank old new t u [] made = ap (λ (p : Processor B). desk_cpu p.post.seat) made.0
-mail_same polled bank old new t u (turned ∷ turns) made = mail_same polled bank made.0 new made.1.0 u turns made.1.1.1 ∙ ap seat_cpu made.1.1.0.told.same.kind
+mail_same polled bank old new t u (turned ∷ turns) made = mail_same polled bank made.0 new made.1.0 u turns made.1.1.1 ∙ ap seat_cpu made.1.1.0.does.told.same.kind
 
 pub one_run : TracesTellOneRun
 one_run bank cpus seats closed traces is told = record {
@@ -142,3 +147,10 @@ one_run bank cpus seats closed traces is told = record {
   told = λ cpu trace at. let s = told cpu trace at in told_part is.history seats cpu trace s.0 is.is_history.events s.1.0 s.1.1 s.1.2;
   others = is.is_history.others;
 }
+
+-- turns that are kept leave the ports the same ones
+pub kept_ports : {B : Type 0} (polled : B → Answer → Ask → B → Type 0) (bank : BankId) (old new : Processor B) (t u : List Event) (turns : List Turned) → KeepsTurns polled bank old new t u turns → IsSamePost old.post new.post
+kept_ports {B} polled bank old new t u [] made =
+    let F : Processor B → Type 0 = λ p. IsSamePost old.post p.post in
+    subst F (sym made.0) (post_none old.post)
+kept_ports polled bank old new t u (turned ∷ turns) made = post_then old.post made.0.post new.post made.1.1.0.does.ports (kept_ports polled bank made.0 new made.1.0 u turns made.1.1.1)

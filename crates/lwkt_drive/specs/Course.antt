@@ -10,12 +10,13 @@ use Rattle.lwkt_cpu.specs.declared.answers.Turned.{Turned}
 use Rattle.lwkt_cpu.specs.declared.answers.Turned.TheVariants.{Ran, Idle, AllExited as TurnedAllExited}
 use Rattle.lwkt_cpu.specs.declared.answers.Drove.{Drove}
 use Rattle.lwkt_cpu.specs.Processors.{Processor}
-use Rattle.lwkt_cpu.specs.Turning.{LacksRoom, MakesTurn}
-use Rattle.lwkt_cpu.specs.Driving.{Made, with_turn, none_driven}
+use Rattle.lwkt_cpu.specs.Driving.{with_turn, none_driven}
+use Rattle.lwkt_events.specs.ShortEvents.{KeptTrace}
 use Rattle.lwkt_drive.specs.declared.driven.Driven.{Driven}
 use Rattle.lwkt_drive.specs.declared.driven.Limits.{Limits}
 use Rattle.lwkt_drive.specs.declared.driven.Said.{Said}
 use Rattle.lwkt_drive.specs.declared.driven.Ending.{Ending}
+use Rattle.lwkt_drive.specs.Keeping.{KeepsTurn, KeepsTurns, LacksMemory}
 use Rattle.lwkt_drive.specs.declared.driven.Ending.TheVariants.{NotDriven, Stopped, TurnsOut, IdleOut, AllExited, NoMemory, CalledOff, Quiet}
 
 -- a processor at this bank and book
@@ -62,18 +63,18 @@ said_at_end (NoMemory refused) said = agreed said
 said_at_end (CalledOff refused) said = said
 said_at_end Quiet said = said
 
--- after so many turns, counted so, a processor with this trace makes no other, and why; one that ends for want of memory was to make
--- another, for which its trace had no room. Nothing is claimed of the others: neither that their threads have ended, nor that they were
+-- after so many turns, counted so, a processor with this room and trace makes no other, and why; one that ends for want of memory was to
+-- make another, whose events its room or its trace had no place for. Nothing is claimed of the others: neither that their threads have ended, nor that they were
 -- refused memory, nor that no turn of theirs can change anything; but the last turn of one that ends as quiet was silent, by its mark
-abbrev pub EndsBy : (CpuId → ℕ → Bool → Type 0) → Limits → CpuId → ℕ → Drove → Bool → Vec Event Global → Ending → Type 0
-EndsBy answers limits cpu turns drove silent trace NotDriven = ⊥
-EndsBy answers limits cpu turns drove silent trace Stopped = answers cpu turns false
-EndsBy answers limits cpu turns drove silent trace TurnsOut = drove.ran ≡ limits.turns
-EndsBy answers limits cpu turns drove silent trace IdleOut = drove.idle ≡ limits.idle
-EndsBy answers limits cpu turns drove silent trace AllExited = drove.all_exited ≡ true
-EndsBy answers limits cpu turns drove silent trace (NoMemory refused) = MakesAnother answers limits cpu turns drove × LacksRoom trace
-EndsBy answers limits cpu turns drove silent trace (CalledOff refused) = Unit {0}
-EndsBy answers limits cpu turns drove silent trace Quiet = silent ≡ true
+abbrev pub EndsBy : (CpuId → ℕ → Bool → Type 0) → Limits → CpuId → ℕ → Drove → Bool → Vec Event Global → KeptTrace → Ending → Type 0
+EndsBy answers limits cpu turns drove silent room trace NotDriven = ⊥
+EndsBy answers limits cpu turns drove silent room trace Stopped = answers cpu turns false
+EndsBy answers limits cpu turns drove silent room trace TurnsOut = drove.ran ≡ limits.turns
+EndsBy answers limits cpu turns drove silent room trace IdleOut = drove.idle ≡ limits.idle
+EndsBy answers limits cpu turns drove silent room trace AllExited = drove.all_exited ≡ true
+EndsBy answers limits cpu turns drove silent room trace (NoMemory refused) = MakesAnother answers limits cpu turns drove × LacksMemory room trace
+EndsBy answers limits cpu turns drove silent room trace (CalledOff refused) = Unit {0}
+EndsBy answers limits cpu turns drove silent room trace Quiet = silent ≡ true
 
 -- a turn ran no thread
 abbrev pub RanNone : Turned → Type 0
@@ -82,11 +83,11 @@ RanNone Idle = Unit {0}
 RanNone TurnedAllExited = Unit {0}
 
 -- a turn was silent: it ran no thread and appended no event
-abbrev pub WasSilent : Turned → Vec Event Global → Vec Event Global → Type 0
-WasSilent turned t u = RanNone turned × (u.items ≡ t.items)
+abbrev pub WasSilent : Turned → List Event → List Event → Type 0
+WasSilent turned t u = RanNone turned × (u ≡ t)
 
 -- turns were made, and the last of them was silent
-abbrev pub EndsSilent : {B : Type 0} (polled : B → Answer → Ask → B → Type 0) (bank : BankId) (old new : Processor B) (t u : Vec Event Global) (turns : List Turned) → Made polled bank old new t u turns → Type 0
+abbrev pub EndsSilent : {B : Type 0} (polled : B → Answer → Ask → B → Type 0) (bank : BankId) (old new : Processor B) (t u : List Event) (turns : List Turned) → KeepsTurns polled bank old new t u turns → Type 0
 EndsSilent polled bank old new t u [] made = ⊥
 EndsSilent polled bank old new t u (turned ∷ []) made = WasSilent turned t u
 EndsSilent polled bank old new t u (turned ∷ next ∷ turns) made = EndsSilent polled bank made.0 new made.1.0 u (next ∷ turns) made.1.1.1
@@ -95,9 +96,9 @@ EndsSilent polled bank old new t u (turned ∷ next ∷ turns) made = EndsSilent
 pub record MakesOne {B : Type 0} (polled : B → Answer → Ask → B → Type 0) (answers : CpuId → ℕ → Bool → Type 0) (bank : BankId) (limits : Limits) (turn : ℕ) (old new : Driven B) : Type 0 where
   pub turned : Turned
   pub goes : MakesAnother answers limits old.id turn old.drove
-  pub makes : MakesTurn polled bank old.cpu new.cpu old.trace new.trace turned
+  pub makes : KeepsTurn polled bank old.cpu new.cpu old.trace.items new.trace.items turned
   pub drove : new.drove ≡ with_turn old.drove turned
-  pub silent : new.silent ≡ true → WasSilent turned old.trace new.trace
+  pub silent : new.silent ≡ true → WasSilent turned old.trace.items new.trace.items
   pub said : new.said ≡ agreed old.said
 
 -- a processor stays as it is, and why
@@ -107,21 +108,19 @@ pub record StaysAndWhy {B : Type 0} (answers : CpuId → ℕ → Bool → Type 0
   pub drove : new.drove ≡ old.drove
   pub silent : new.silent ≡ old.silent
   pub said : new.said ≡ said_at_end ending old.said
-  pub ends : EndsBy answers limits old.id turn old.drove old.silent new.trace ending
+  pub ends : EndsBy answers limits old.id turn old.drove old.silent new.room new.trace ending
 
 -- a processor was driven: it made these turns one after the other, each where it went on, until there was a reason to end, which is the
 -- gate's no where the gate has said no to it since this drive began; the gate said yes once to each turn, and once more only where the
 -- drive ends for want of memory; the trace grew by theirs; where the last turn is marked as silent, it was (own)
 pub record IsDriven {B : Type 0} (polled : B → Answer → Ask → B → Type 0) (answers : CpuId → ℕ → Bool → Type 0) (bank : BankId) (limits : Limits) (old new : Driven B) (ending : Ending) : Type 0 where
   pub turns : List Turned
-  pub v : Vec Event Global
-  pub made : Made polled bank old.cpu new.cpu old.trace v turns
-  pub trace : new.trace.items ≡ v.items
+  pub made : KeepsTurns polled bank old.cpu new.cpu old.trace.items new.trace.items turns
   pub going : (k : ℕ) → k < length turns → MakesAnother answers limits old.id k (counts (take k turns))
   pub drove : new.drove ≡ counts turns
-  pub silent : new.silent ≡ true → EndsSilent polled bank old.cpu new.cpu old.trace v turns made
+  pub silent : new.silent ≡ true → EndsSilent polled bank old.cpu new.cpu old.trace.items new.trace.items turns made
   pub said : new.said ≡ said_at_end ending (heard (length turns) old.said)
-  pub ends : EndsBy answers limits old.id (length turns) new.drove new.silent new.trace ending
+  pub ends : EndsBy answers limits old.id (length turns) new.drove new.silent new.room new.trace ending
   pub same : new.id ≡ old.id
   pub seat : new.cpu.seat.cpu ≡ old.cpu.seat.cpu
 
@@ -132,13 +131,11 @@ pub record EndedSilently {B : Type 0} (polled : B → Answer → Ask → B → T
   pub last : Turned
   pub drove : new.drove ≡ counts (earlier ++ last ∷ [])
   pub before : Processor B
-  pub trace : Vec Event Global
-  pub left : Vec Event Global
-  pub came : Made polled bank old.cpu before old.trace trace earlier
-  pub makes : MakesTurn polled bank before new.cpu trace left last
-  pub now : new.trace.items ≡ left.items
+  pub trace : List Event
+  pub came : KeepsTurns polled bank old.cpu before old.trace.items trace earlier
+  pub makes : KeepsTurn polled bank before new.cpu trace new.trace.items last
   pub ran_none : RanNone last
-  pub no_event : new.trace.items ≡ trace.items
+  pub no_event : new.trace.items ≡ trace
 
 -- a theorem: where a drive ends as quiet, it made a turn, and its last turn ran no thread and appended no event
 abbrev pub QuietEndsAreSilent : {B G : Type 0} → (B → Answer → Ask → B → Type 0) → (G → CpuId → ℕ → Bool → Type 0) → Type 0
@@ -152,11 +149,11 @@ drive_begun d = record d { said = said_at_start d.said; drove = none_driven; sil
 -- once to each, and not no, since this drive began; the trace grew by theirs; where the last one is marked as silent, it was (own)
 pub record IsUnderWay {B : Type 0} (polled : B → Answer → Ask → B → Type 0) (answers : CpuId → ℕ → Bool → Type 0) (bank : BankId) (limits : Limits) (old new : Driven B) : Type 0 where
   pub turns : List Turned
-  pub made : Made polled bank old.cpu new.cpu old.trace new.trace turns
+  pub made : KeepsTurns polled bank old.cpu new.cpu old.trace.items new.trace.items turns
   pub going : (k : ℕ) → k < length turns → MakesAnother answers limits old.id k (counts (take k turns))
   pub drove : new.drove ≡ counts turns
   pub all : new.drove.ran + new.drove.idle ≡ length turns
-  pub silent : new.silent ≡ true → EndsSilent polled bank old.cpu new.cpu old.trace new.trace turns made
+  pub silent : new.silent ≡ true → EndsSilent polled bank old.cpu new.cpu old.trace.items new.trace.items turns made
   pub said : new.said ≡ heard (length turns) old.said
   pub same : new.id ≡ old.id
   pub seat : new.cpu.seat.cpu ≡ old.cpu.seat.cpu

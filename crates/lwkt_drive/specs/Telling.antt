@@ -1,5 +1,4 @@
-use Rattle.std.specs.Prelude.{◌≡◌, ℕ, ◌≤◌, Bool, List, [], length, All, filter, Vec, Some, slice_get}
-use Rattle.std.specs.declared.alloc.Global.{Global}
+use Rattle.std.specs.Prelude.{◌≡◌, ℕ, ◌≤◌, Bool, List, [], length, All, filter, Some, slice_get}
 use Rattle.lwkt_base.specs.declared.asks.Ask.{Ask}
 use Rattle.lwkt_base.specs.declared.asks.Answer.{Answer}
 use Rattle.lwkt_base.specs.declared.names.CpuId.{CpuId}
@@ -9,24 +8,24 @@ use Rattle.lwkt_core.specs.Events.{cpu_of}
 use Rattle.lwkt_table.specs.History.{AreOthers, Passes, events_in, events_by}
 use Rattle.lwkt_core.specs.Machine.{Machine}
 use Rattle.lwkt_core.specs.Trace.{Run, end_of}
-use Rattle.lwkt_ask.specs.Telling.{is_of_message, TellsMail}
+use Rattle.lwkt_ask.specs.Telling.{is_of_message}
 use Rattle.lwkt_base.specs.declared.owners.MsgEnd.{MsgEnd}
 use Rattle.lwkt_bank.specs.declared.closed.Closed.{Closed}
 use Rattle.lwkt_bank.specs.declared.seats.CpuSeat.{CpuSeat}
 use Rattle.lwkt_bank.specs.Gathered.{IsNew, IsClosed, Ends}
 use Rattle.lwkt_bank.specs.Seats.{BankId, events_of}
 use Rattle.lwkt_bank.specs.Told.{IsDone, first_machine}
-use Rattle.lwkt_hold.specs.Runs.{Ran}
 use Rattle.lwkt_hold.specs.Steps.{is_of_token, Tells}
 use Rattle.lwkt_msg.specs.Book.{Mail, mail_at}
 use Rattle.lwkt_msg.specs.Desks.{Desk, Shelf, desk_cpu, events_of as mail_of, IsOpened as IsOpenedDesk, AreClosed}
 use Rattle.lwkt_msg.specs.Steps.{machine_of}
 use Rattle.lwkt_msg.specs.Told.{IsDone as IsMailDone, first_mails}
-use Rattle.lwkt_cpu.specs.declared.threads.Thread.{Thread}
-use Rattle.lwkt_cpu.specs.Turning.{IsMailed}
+use Rattle.lwkt_cpu.specs.declared.answers.Turned.{Turned}
+use Rattle.lwkt_cpu.specs.Processors.{Processor}
 use Rattle.lwkt_drive.specs.declared.driven.Driven.{Driven}
 use Rattle.lwkt_drive.specs.declared.driven.Limits.{Limits}
 use Rattle.lwkt_drive.specs.declared.driven.Ending.{Ending}
+use Rattle.lwkt_drive.specs.Keeping.{KeepsTurn, KeepsStop}
 use Rattle.lwkt_drive.specs.Course.{IsDriven}
 
 -- what a trace has of tokens are all events that a seat has done, in order, without looks at words and loads of cells that
@@ -39,9 +38,14 @@ pub record TellsSeat (s : CpuSeat) (trace : List Event) : Type 0 where
 abbrev pub NewIsTold : Type 0
 NewIsTold = (s : CpuSeat) → IsNew s → TellsSeat s []
 
--- a theorem: where a processor's trace told its seat before it was stopped, it tells it afterwards
-abbrev pub StopsAreTold : Type 0
-StopsAreTold = (threads : List Thread) (most : ℕ) (a b : CpuSeat) (t u : Vec Event Global) → Ran (IsMailed threads) most a b t u → TellsSeat a t.items → TellsSeat b u.items
+-- a theorem: where a trace told a processor's seat before a turn that is kept behind it, it tells it afterwards
+abbrev pub TurnsAreTold : {B : Type 0} → (B → Answer → Ask → B → Type 0) → Type 0
+TurnsAreTold {B} polled = (bank : BankId) (old new : Processor B) (t u : List Event) (turned : Turned) → KeepsTurn polled bank old new t u turned → TellsSeat old.seat t → TellsSeat new.seat u
+
+-- a theorem: where a trace told a processor's seat before a stop that is kept behind it, it tells it afterwards; the processor has bodies
+-- that are polled so
+abbrev pub StopsAreTold : {B : Type 0} → (B → Answer → Ask → B → Type 0) → Type 0
+StopsAreTold {B} polled = (old new : Processor B) (t u : List Event) → KeepsStop old new t u → TellsSeat old.seat t → TellsSeat new.seat u
 
 -- a theorem: where a processor's trace told its seat before it was driven, it tells it afterwards
 abbrev pub DrivesAreTold : {B G : Type 0} → (B → Answer → Ask → B → Type 0) → (G → CpuId → ℕ → Bool → Type 0) → Type 0
@@ -74,9 +78,13 @@ IsMailTold d trace = filter is_of_message trace ≡ mail_of d
 abbrev pub NewMailIsTold : Type 0
 NewMailIsTold = (cpu : ℕ) (book : Shelf) (d : Desk) → IsOpenedDesk cpu book d → IsMailTold d []
 
--- a theorem: where a trace told a seat at the book before the processor made a turn or was stopped, it tells it afterwards
-abbrev pub MailStaysTold : Type 0
-MailStaysTold = (a b : Desk) (t u : List Event) → TellsMail a b t u → IsMailTold a t → IsMailTold b u
+-- a theorem: where a trace told a processor's seat at the book before a turn that is kept behind it, it tells it afterwards
+abbrev pub MailTurnsAreTold : {B : Type 0} → (B → Answer → Ask → B → Type 0) → Type 0
+MailTurnsAreTold {B} polled = (bank : BankId) (old new : Processor B) (t u : List Event) (turned : Turned) → KeepsTurn polled bank old new t u turned → IsMailTold old.post.seat t → IsMailTold new.post.seat u
+
+-- a theorem: where a trace told a processor's seat at the book before a stop that is kept behind it, it tells it afterwards
+abbrev pub MailStopsAreTold : {B : Type 0} → (B → Answer → Ask → B → Type 0) → Type 0
+MailStopsAreTold {B} polled = (old new : Processor B) (t u : List Event) → KeepsStop old new t u → IsMailTold old.post.seat t → IsMailTold new.post.seat u
 
 -- a theorem: where a processor's trace told its seat at the book before it was driven, it tells it afterwards
 abbrev pub MailDrivesAreTold : {B G : Type 0} → (B → Answer → Ask → B → Type 0) → (G → CpuId → ℕ → Bool → Type 0) → Type 0

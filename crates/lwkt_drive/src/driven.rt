@@ -6,6 +6,7 @@ use crate::gates::Gate;
 use lwkt_base::CpuId;
 use lwkt_core::Event;
 use lwkt_cpu::{Cpu, Drove};
+use lwkt_events::EventList;
 use std::alloc::{AllocError, Global};
 
 /// Why a processor made no further turn. What is said of other processors no clause claims.
@@ -21,7 +22,8 @@ pub enum Ending {
     IdleOut,
     /// A turn has said that every thread of this processor has ended, and so has one of each other processor.
     AllExited,
-    /// Its trace had no room for the 4096 events of its next turn, and memory for them was refused: what the allocator said.
+    /// Memory for the 4096 events of its next turn was refused, to the room into which turns are told or to the trace: what the
+    /// allocator said.
     NoMemory(AllocError),
     /// Another processor was refused memory for its next turn: what the allocator said.
     CalledOff(AllocError),
@@ -73,8 +75,10 @@ pub struct Driven<B> {
     pub id: CpuId,
     /// The processor.
     pub cpu: Cpu<B>,
-    /// The events of all its turns so far, in order, those of earlier drives too.
-    pub trace: Vec<Event>,
+    /// The events of all its turns so far, in order, those of earlier drives too, packed.
+    pub trace: EventList,
+    /// The room into which the next turn is told. Its events are in the trace already.
+    pub(crate) room: Vec<Event>,
     /// What the gate has said to it.
     pub said: Said,
     /// How many turns the last drive made, by kind. All zero before the first drive.
@@ -91,6 +95,7 @@ impl<B> Driven<B> {
         ensures id { result.id ≡ id }
         ensures cpu { result.cpu ≡ cpu }
         ensures trace { result.trace.items ≡ [] }
+        ensures room { result.room.items ≡ [] }
         ensures said { result.said ≡ record { drives = 0; yeses = 0; no = false } }
         ensures drove { result.drove ≡ none_driven }
         ensures silent { result.silent ≡ false }
@@ -99,7 +104,8 @@ impl<B> Driven<B> {
         Driven {
             id,
             cpu,
-            trace: Vec::new(alloc),
+            trace: EventList::new(alloc),
+            room: Vec::new(alloc),
             said: Said {
                 drives: 0,
                 yeses: 0,

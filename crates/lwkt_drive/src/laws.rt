@@ -1,15 +1,16 @@
 //! What the traces of processors that were driven tell, and how one ends as quiet, as theorems.
 ghost use Rattle.lwkt_drive.specs.Course.{QuietEndsAreSilent};
-ghost use Rattle.lwkt_drive.specs.Telling.{NewIsTold, StopsAreTold, DrivesAreTold, TracesTellOneRun, NewMailIsTold, MailStaysTold, MailDrivesAreTold, TracesTellOneMailRun};
+ghost use Rattle.lwkt_drive.specs.Telling.{NewIsTold, TurnsAreTold, StopsAreTold, DrivesAreTold, TracesTellOneRun, NewMailIsTold, MailTurnsAreTold, MailStopsAreTold, MailDrivesAreTold, TracesTellOneMailRun};
 
 use crate::gates::Gate;
 use lwkt_cpu::Body;
 
-/// The theorem that a trace tells what its processor's seat has done at the bank: at the opening, and after it was driven or
-/// stopped if it did so before.
+/// The theorem that a trace tells what its processor's seat has done at the bank: at the opening, and after it was driven, made a
+/// turn or was stopped if it did so before.
 pub fn traces_tell_seats<B: Body, G: Gate>()
     ensures new { NewIsTold }
-    ensures stops { StopsAreTold }
+    ensures turns { TurnsAreTold B.polled }
+    ensures stops { StopsAreTold B.polled }
     ensures drives { DrivesAreTold B.polled G.answers }
 {}
 
@@ -23,7 +24,8 @@ pub fn traces_tell_one_run()
 /// driven, made a turn or was stopped if it did so before.
 pub fn traces_tell_desks<B: Body, G: Gate>()
     ensures new { NewMailIsTold }
-    ensures stays { MailStaysTold }
+    ensures turns { MailTurnsAreTold B.polled }
+    ensures stops { MailStopsAreTold B.polled }
     ensures drives { MailDrivesAreTold B.polled G.answers }
 {}
 

@@ -12,6 +12,7 @@ mod boards;
 pub mod driven;
 mod drives;
 mod gates;
+mod keeps;
 pub mod laws;
 mod slices;
 mod turns;

@@ -2,14 +2,13 @@
 ghost use Rattle.std.specs.Prelude.{◌≡◌, true, ◌+◌, ◌<◌, ◌≤◌, ◌^◌, IfOk, IfSome, OnErr, None};
 ghost use Rattle.lwkt_bank.specs.Seats.{id_of};
 ghost use Rattle.lwkt_cpu.specs.Driving.{with_turn};
-ghost use Rattle.lwkt_cpu.specs.Turning.{LacksRoom, MakesTurn};
+ghost use Rattle.lwkt_drive.specs.Keeping.{KeepsTurn, LacksMemory};
 ghost use Rattle.lwkt_drive.specs.Course.{IsAtTables, IsBelowLimits, MakesAnother, EndsBy, RanNone, WasSilent, agreed, said_at_end};
 
 use crate::driven::{Door, Driven, Ending, Limits};
 use crate::gates::Gate;
 use crate::watches::{Sight, Watch};
 use lwkt_bank::Bank;
-use lwkt_base::Fault;
 use lwkt_cpu::{Body, Turned};
 use lwkt_msg::MsgBook;
 use std::alloc::AllocError;
@@ -34,7 +33,7 @@ impl<B> Driven<B> {
         turn: u64,
     ) -> Option<Ending>
         requires { IsBelowLimits limits.now self.old.drove }
-        ensures some { IfSome result (λ ending. (self.new ≡ record self.old { said = said_at_end ending self.old.said }) × EndsBy (G.answers door.now.gate.now) limits.now self.old.id turn self.old.drove self.old.silent self.old.trace ending) }
+        ensures some { IfSome result (λ ending. (self.new ≡ record self.old { said = said_at_end ending self.old.said }) × EndsBy (G.answers door.now.gate.now) limits.now self.old.id turn self.old.drove self.old.silent self.old.room self.old.trace ending) }
         ensures none { result ≡ None → (self.new ≡ record self.old { said = agreed self.old.said }) × MakesAnother (G.answers door.now.gate.now) limits.now self.old.id turn self.old.drove }
         ensures few { result ≡ None → self.new.drove.ran + self.new.drove.idle + 1 < 2 ^ 64 }
     {
@@ -104,7 +103,7 @@ impl<B> Driven<B> {
 }
 
 impl<B: Body> Driven<B> {
-    /// Makes a turn, counts it, and marks it if it was silent. `AllocError` if memory is refused, as to `Cpu::turn`; nothing has
+    /// Makes a turn, counts it, and marks it if it was silent. `AllocError` if memory is refused, as to `Driven::turn`; nothing has
     /// changed then.
     pub(crate) fn advance(
         &mut self,
@@ -114,18 +113,14 @@ impl<B: Body> Driven<B> {
     ) -> Result<Turned, AllocError>
         requires at { IsAtTables (id_of bank.now) book.now.table self.old }
         requires few { self.old.drove.ran + self.old.drove.idle + 1 < 2 ^ 64 }
-        ensures ok { IfOk result (λ turned. MakesTurn B.polled (id_of bank.now) self.old.cpu self.new.cpu self.old.trace self.new.trace turned × (self.new.drove ≡ with_turn self.old.drove turned) × (self.new.silent ≡ true → WasSilent turned self.old.trace self.new.trace)) }
-        ensures err { OnErr result ((self.new.cpu ≡ self.old.cpu) × (self.new.trace.items ≡ self.old.trace.items) × (self.new.drove ≡ self.old.drove) × (self.new.silent ≡ self.old.silent) × LacksRoom self.new.trace) }
+        ensures ok { IfOk result (λ turned. KeepsTurn B.polled (id_of bank.now) self.old.cpu self.new.cpu self.old.trace.items self.new.trace.items turned × (self.new.drove ≡ with_turn self.old.drove turned) × (self.new.silent ≡ true → WasSilent turned self.old.trace.items self.new.trace.items)) }
+        ensures err { OnErr result ((self.new.cpu ≡ self.old.cpu) × (self.new.trace.items ≡ self.old.trace.items) × (self.new.drove ≡ self.old.drove) × (self.new.silent ≡ self.old.silent) × LacksMemory self.new.room self.new.trace) }
         ensures said { self.new.said ≡ self.old.said }
         ensures at { IsAtTables (id_of bank.now) book.now.table self.new }
         ensures same { self.new.id ≡ self.old.id }
     {
         let events = self.trace.len();
-        let turned = match self.cpu.turn(bank, book, &mut self.trace) {
-            Ok(turned) => turned,
-            Err(Fault::Memory(refused)) => return Err(refused),
-            Err(_) => unreachable!(),
-        };
+        let turned = self.turn(bank, book)?;
         self.note(watch, turned);
         self.silent = was_silent(turned, events, self.trace.len());
         Ok(turned)

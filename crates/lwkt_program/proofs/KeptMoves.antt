@@ -14,7 +14,7 @@ use Rattle.lwkt_cpu.specs.declared.answers.Turned.{Turned}
 use Rattle.lwkt_cpu.specs.declared.answers.Turned.TheVariants.{Ran, Idle, AllExited}
 use Rattle.lwkt_cpu.specs.Processors.{Processor}
 use Rattle.lwkt_cpu.specs.Turning.{Chooses, RunsOne, Turns, MakesTurn}
-use Rattle.lwkt_cpu.specs.Driving.{Made}
+use Rattle.lwkt_drive.specs.Keeping.{KeepsTurns}
 use Rattle.lwkt_drive.specs.declared.driven.Driven.{Driven}
 use Rattle.lwkt_drive.specs.declared.driven.Limits.{Limits}
 use Rattle.lwkt_drive.specs.Course.{IsDriven}
@@ -58,12 +58,13 @@ kept_turn {B} polled kept keeps bank old new t u turned turn before =
     kept_turns polled kept keeps bank turn.mid new turn.v u turned turn.turns (subst F (sym turn.mail.bodies) before)
 
 -- so do turns one after the other
-pub kept_made : {B : Type 0} (polled : B → Answer → Ask → B → Type 0) (kept : B → Type 0) → Keeps polled kept → (bank : BankId) (old new : Processor B) (t u : Vec Event Global) (turns : List Turned) → Made polled bank old new t u turns → Has kept old → Has kept new
+pub kept_made : {B : Type 0} (polled : B → Answer → Ask → B → Type 0) (kept : B → Type 0) → Keeps polled kept → (bank : BankId) (old new : Processor B) (t u : List Event) (turns : List Turned) → KeepsTurns polled bank old new t u turns → Has kept old → Has kept new
 kept_made {B} polled kept keeps bank old new t u [] made before =
     let F : Processor B → Type 0 = λ p. Has kept p in
     subst F (sym made.0) before
 kept_made polled kept keeps bank old new t u (turned ∷ turns) made before =
-    kept_made polled kept keeps bank made.0 new made.1.0 u turns made.1.1.1 (kept_turn polled kept keeps bank old made.0 t made.1.0 turned made.1.1.0 before)
+    let k = made.1.1.0 in
+    kept_made polled kept keeps bank made.0 new made.1.0 u turns made.1.1.1 (kept_turn polled kept keeps bank old made.0 k.room k.part turned k.does before)
 
 -- one processor of a list was driven
 abbrev pub WasDriven : {B : Type 0} → (B → Answer → Ask → B → Type 0) → (CpuId → ℕ → Bool → Type 0) → BankId → Limits → Driven B → Driven B → Type 0
@@ -75,4 +76,4 @@ kept_driven polled kept keeps answers bank limits [] [] zip before = before
 kept_driven polled kept keeps answers bank limits [] (y ∷ ys) zip before = absurd zip
 kept_driven polled kept keeps answers bank limits (x ∷ xs) [] zip before = absurd zip
 kept_driven polled kept keeps answers bank limits (x ∷ xs) (y ∷ ys) zip before =
-    All-cons (Lasts kept) y ys (kept_made polled kept keeps bank x.cpu y.cpu x.trace zip.0.v zip.0.turns zip.0.made (All-head (Lasts kept) x xs before)) (kept_driven polled kept keeps answers bank limits xs ys zip.1 (All-tail (Lasts kept) x xs before))
+    All-cons (Lasts kept) y ys (kept_made polled kept keeps bank x.cpu y.cpu x.trace.items y.trace.items zip.0.turns zip.0.made (All-head (Lasts kept) x xs before)) (kept_driven polled kept keeps answers bank limits xs ys zip.1 (All-tail (Lasts kept) x xs before))

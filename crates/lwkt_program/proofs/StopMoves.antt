@@ -38,4 +38,4 @@ stopped_over olds news stopped k d is =
     let within = slice_get_within news k d is in
     let less : k < length olds = omega (arith, within, stopped.as_many) in
     let was = get_there olds k less in
-    (stopped.below k was.0 d less was.1 is).stops.over
+    (stopped.below k was.0 d less was.1 is).stops.does.stops.over

@@ -2,15 +2,12 @@
 use Rattle.std.specs.Prelude.{◌≡◌, ℕ, ◌<◌, ◌≤◌, List, length, map, All, Vec, Some, slice_get}
 use Rattle.std.specs.declared.alloc.Global.{Global}
 use Rattle.lwkt_base.specs.Holding.{holds_nothing}
-use Rattle.lwkt_ask.specs.Telling.{TellsMail}
 use Rattle.lwkt_bank.specs.Gathered.{IsClosed}
 use Rattle.lwkt_bank.specs.Seats.{holding}
-use Rattle.lwkt_hold.specs.Runs.{Ran}
 use Rattle.lwkt_msg.specs.Desks.{AreClosed}
 use Rattle.lwkt_cpu.specs.Processors.{AllOver}
-use Rattle.lwkt_cpu.specs.Stopping.{Stops}
-use Rattle.lwkt_cpu.specs.Turning.{IsMailed}
 use Rattle.lwkt_drive.specs.declared.driven.Driven.{Driven}
+use Rattle.lwkt_drive.specs.Keeping.{KeepsStop}
 use Rattle.lwkt_program.specs.declared.closings.Closed.{Closed}
 use Rattle.lwkt_program.specs.declared.closings.Gathered.{Gathered}
 use Rattle.lwkt_program.specs.Machines.{Rig}
@@ -19,10 +16,8 @@ use Rattle.lwkt_program.specs.Turns.{DoesAt, StaysPut}
 -- a processor stops, and the events by which its trace grows are what its seats at bank and book did; what was told of its driving
 -- stays
 pub record IsStopped {B : Type 0} (old new : Driven B) : Type 0 where
-  pub stops : Stops old.cpu new.cpu old.trace new.trace
-  pub ran : Ran (IsMailed old.cpu.threads) 258 old.cpu.seat new.cpu.seat old.trace new.trace
-  pub told : TellsMail old.cpu.post.seat new.cpu.post.seat old.trace.items new.trace.items
-  pub rest : new ≡ record old { cpu = new.cpu; trace = new.trace }
+  pub stops : KeepsStop old.cpu new.cpu old.trace.items new.trace.items
+  pub rest : new ≡ record old { cpu = new.cpu; trace = new.trace; room = new.room }
 
 -- the processors below this number have stopped, each once, and the others are as before
 pub record HaveStopped {B : Type 0} (count : ℕ) (olds news : List (Driven B)) : Type 0 where

@@ -9,8 +9,8 @@ use crate::machines::Machine;
 use crate::stops::stop_all;
 use lwkt_bank::CpuSeat;
 use lwkt_base::{Fault, MsgEnd, TokId};
-use lwkt_core::Event;
 use lwkt_drive::Driven;
+use lwkt_events::EventList;
 use lwkt_msg::MsgSeat;
 use std::alloc::{AllocError, Global};
 
@@ -24,7 +24,7 @@ pub struct Closed<B> {
     /// The bodies by processor, then by the thread's number, each as its last poll left it.
     pub bodies: Vec<Vec<B>>,
     /// The events of all turns and of the stop, in order, by processor.
-    pub traces: Vec<Vec<Event>>,
+    pub traces: Vec<EventList>,
 }
 
 impl<B> Closed<B> {
@@ -62,7 +62,7 @@ struct Gathered<B> {
     seats: Vec<CpuSeat>,
     mails: Vec<MsgSeat>,
     bodies: Vec<Vec<B>>,
-    traces: Vec<Vec<Event>>,
+    traces: Vec<EventList>,
 }
 
 impl<B: Drop> Gathered<B> {

@@ -56,7 +56,7 @@ fn turn_one<B: Lasting>(
     ensures at { IsAtTables (id_of bank.now) book.now.table driven.new }
     ensures kept { Lasts B.kept driven.new }
 {
-    driven.cpu.turn(bank, book, &mut driven.trace)
+    driven.turn(bank, book).map_err(Fault::Memory)
 }
 
 /// A turn of the processor of this number.
@@ -84,8 +84,8 @@ impl<B: Lasting> Machine<B> {
 
     /// Makes a turn of the processor of this number, as `Cpu::turn` does. Its events are kept for the close.
     ///
-    /// Refused with `Limits` exactly if there is no such processor, and with `Memory` if its trace can't be given room for 4096
-    /// events; nothing has changed then.
+    /// Refused with `Limits` exactly if there is no such processor, and with `Memory` if memory for its 4096 events is
+    /// refused; nothing has changed then.
     pub fn turn(&mut self, cpu: CpuId) -> Result<Turned, Fault>
         ensures ok { IfOk result (λ turned. TurnsAt B.polled self.old.bank cpu.0 self.old.cpus self.new.cpus turned) }
         ensures refused { IfErr result (λ fault. DeclinesTurn cpu.0 self.old.cpus self.new.cpus fault) }

@@ -72,7 +72,7 @@ impl<B: Lasting> Machine<B> {
     /// Makes `rounds` rounds of one turn for each processor, by rising number, or fewer: up to the first in which each turn says that
     /// every thread of its processor has ended.
     ///
-    /// Refused with `Memory` if a processor's trace can't be given room for 4096 events; the turns before stand.
+    /// Refused with `Memory` if memory for 4096 events of a processor is refused; the turns before stand.
     pub fn run(&mut self, rounds: u32) -> Result<(), Fault>
         ensures ok { OnOk result (Runs B.polled self.old.bank rounds self.old.cpus self.new.cpus) }
         ensures err { OnErr result (RunsShort B.polled self.old.bank rounds self.old.cpus self.new.cpus) }

@@ -24,7 +24,7 @@ fn stop_one<B: Lasting>(bank: &Bank, book: &MsgBook, driven: &mut Driven<B>) -> 
     ensures at { IsAtTables (id_of bank.now) book.now.table driven.new }
     ensures kept { Lasts B.kept driven.new }
 {
-    driven.cpu.stop(bank, book, &mut driven.trace)
+    driven.stop(bank, book).map_err(Fault::Memory)
 }
 
 /// Each processor stops, by rising number.
@@ -54,7 +54,7 @@ impl<B: Lasting> Machine<B> {
     /// Stops the processors, by rising number: each thread that hasn't ended gives up what it holds and ends. The bodies stay as they
     /// are.
     ///
-    /// Refused with `Memory` if a processor's trace can't be given room for 4096 events; the processors of lower numbers have stopped
+    /// Refused with `Memory` if memory for 4096 events of a processor is refused; the processors of lower numbers have stopped
     /// then, and nothing else has changed.
     pub fn stop(&mut self) -> Result<(), Fault>
         ensures ok { OnOk result (AreStopped self.old.cpus self.new.cpus) }

@@ -10,12 +10,13 @@ use Rattle.lwkt_base.specs.declared.asks.Ask.{Ask}
 use Rattle.lwkt_base.specs.declared.asks.Answer.{Answer}
 use Rattle.lwkt_base.specs.declared.names.CpuId.{CpuId}
 use Rattle.lwkt_core.specs.declared.events.Event.{Event}
+use Rattle.lwkt_events.specs.ShortEvents.{KeptTrace}
 use Rattle.lwkt_bank.specs.Seats.{BankId}
 use Rattle.lwkt_port.specs.Chains.{Chain}
 use Rattle.lwkt_cpu.specs.declared.answers.Turned.{Turned}
 use Rattle.lwkt_cpu.specs.declared.answers.Turned.TheVariants.{Ran, Idle, AllExited}
 use Rattle.lwkt_cpu.specs.Processors.{Processor, AllOver}
-use Rattle.lwkt_cpu.specs.Driving.{Made}
+use Rattle.lwkt_drive.specs.Keeping.{KeepsTurns}
 use Rattle.lwkt_cpu.specs.Searches.{point}
 use Rattle.lwkt_cpu.specs.Turning.{Chooses, Turns, MakesTurn}
 use Rattle.lwkt_cpu.specs.Waking.{Ward, ward, WakesAt}
@@ -61,9 +62,12 @@ turns_long polled bank old new t u AllExited is = chooses_long old new t u old.r
 turn_long : {B : Type 0} (polled : B → Answer → Ask → B → Type 0) (bank : BankId) (old new : Processor B) (t u : Vec Event Global) (turned : Turned) → MakesTurn polled bank old new t u turned → length new.threads ≡ length old.threads
 turn_long polled bank old new t u turned m = turns_long polled bank m.mid new m.v u turned m.turns ∙ wakes_long (length old.threads) (ward m.mail.post old.threads m.mail.v) (ward m.mid.post m.mid.threads m.v) m.mail.wakes
 
-made_long : {B : Type 0} (polled : B → Answer → Ask → B → Type 0) (bank : BankId) (old new : Processor B) (t u : Vec Event Global) (turns : List Turned) → Made polled bank old new t u turns → length new.threads ≡ length old.threads
-made_long {B} polled bank old new t u [] made = ap (λ (p : Processor B). length p.threads) made.0
-made_long polled bank old new t u (turned ∷ turns) made = made_long polled bank made.0 new made.1.0 u turns made.1.1.1 ∙ turn_long polled bank old made.0 t made.1.0 turned made.1.1.0
+-- turns that are kept do
+kept_long : {B : Type 0} (polled : B → Answer → Ask → B → Type 0) (bank : BankId) (old new : Processor B) (t u : List Event) (turns : List Turned) → KeepsTurns polled bank old new t u turns → length new.threads ≡ length old.threads
+kept_long {B} polled bank old new t u [] made = ap (λ (p : Processor B). length p.threads) made.0
+kept_long polled bank old new t u (turned ∷ turns) made =
+    let k = made.1.1.0 in
+    kept_long polled bank made.0 new made.1.0 u turns made.1.1.1 ∙ turn_long polled bank old made.0 k.room k.part turned k.does
 
 -- one processor is another, with as many threads
 has_set : (cpus : ℕ) (threads : List ThreadSpec) (ps : List (Processor Scripted)) (k : ℕ) (p q : Processor Scripted) → slice_get ps k ≡ Some p → length q.threads ≡ length p.threads → HasThreads cpus threads ps → HasThreads cpus threads (set ps k q)
@@ -128,7 +132,7 @@ pub turns_bank : (order : List ℕ) (x y : Scene) → MakesTurns order x y → y
 turns_bank order x y turns = turns_keep (λ z. z.machine.bank ≡ x.machine.bank) (λ cpu v w turn h. turn.1.makes.turns.bank ∙ h) order x y turns refl
 
 -- a machine that was driven
-pub has_driven : (answers : CpuId → ℕ → Bool → Type 0) (limits : Limits) (bank : BankId) (cpus : ℕ) (threads : List ThreadSpec) (olds news : List (Processor Scripted)) (traces : List (Vec Event Global)) → AreDriven answers limits bank olds news traces → HasThreads cpus threads olds → HasThreads cpus threads news
+pub has_driven : (answers : CpuId → ℕ → Bool → Type 0) (limits : Limits) (bank : BankId) (cpus : ℕ) (threads : List ThreadSpec) (olds news : List (Processor Scripted)) (traces : List KeptTrace) → AreDriven answers limits bank olds news traces → HasThreads cpus threads olds → HasThreads cpus threads news
 has_driven answers limits bank cpus threads olds news traces d has = record {
   as_many = d.as_many ∙ has.as_many;
   each = λ k q at.
@@ -137,7 +141,7 @@ has_driven answers limits bank cpus threads olds news traces d has = record {
       let t = get_there traces k (omega (arith, d.traces_are, within)) in
       let w : WasDriven answers limits bank p.0 q t.0 = d.each k p.0 q t.0 p.1 at t.1 in
       let f : Processor Scripted → ℕ = λ x. length x.threads in
-      ap f (sym w.cpu) ∙ made_long IsPolled bank w.old.cpu w.new.cpu w.old.trace w.driven.v w.driven.turns w.driven.made ∙ ap f w.fresh.cpu ∙ has.each k p.0 p.1;
+      ap f (sym w.cpu) ∙ kept_long IsPolled bank w.old.cpu w.new.cpu w.old.trace.items w.new.trace.items w.driven.turns w.driven.made ∙ ap f w.fresh.cpu ∙ has.each k p.0 p.1;
 }
 
 -- processors that were looked at are over still

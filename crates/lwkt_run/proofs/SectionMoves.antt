@@ -8,6 +8,7 @@ use Rattle.lwkt_base.specs.declared.names.CpuId.{CpuId}
 use Rattle.lwkt_base.specs.declared.openings.TokSpec.{TokSpec}
 use Rattle.lwkt_base.specs.declared.sections.Section.{Section}
 use Rattle.lwkt_core.specs.declared.events.Event.{Event}
+use Rattle.lwkt_events.specs.ShortEvents.{KeptTrace}
 use Rattle.lwkt_core.specs.declared.finals.Final.{Final}
 use Rattle.lwkt_core.specs.declared.tokens.Token.{Token}
 use Rattle.lwkt_core.specs.Tokens.{IsFree, IsOpen, IsSafeToken}
@@ -93,7 +94,7 @@ closed_on Closed first last sections long on ordered chains = refl
 closed_on (Unlawful index) first last sections long on ordered chains = absurd (refutes first last sections index long on (ordered, chains))
 closed_on Lawful first last sections long on ordered chains = absurd on
 
-pub told_closed : (cpus : ℕ) (specs : List TokSpec) (traces : List (Vec Event Global)) (stops : List Event) (last : Final) (sections : List Section) (verdict : Verdict) → AreValuesOf specs last → TellChains (opening cpus specs []) traces stops last sections → IsVerdictOn verdict (opening_rows specs) (closing_rows last) sections → verdict ≡ Closed
+pub told_closed : (cpus : ℕ) (specs : List TokSpec) (traces : List KeptTrace) (stops : List Event) (last : Final) (sections : List Section) (verdict : Verdict) → AreValuesOf specs last → TellChains (opening cpus specs []) traces stops last sections → IsVerdictOn verdict (opening_rows specs) (closing_rows last) sections → verdict ≡ Closed
 told_closed cpus specs traces stops last sections verdict values told on =
     let long = as_many_rows specs last.rows.items last.gens.items values.rows (values.gens ∙ sym values.rows) in
     closed_on verdict (opening_rows specs) (closing_rows last) sections long on told.ordered

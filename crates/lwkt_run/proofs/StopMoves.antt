@@ -7,6 +7,7 @@ use Rattle.std.proofs.lemmas.List.Elements.{All-nil, All-append, All-weaker}
 use Rattle.std.proofs.lemmas.Option.{slice_get_within}
 use Rattle.lwkt_base.specs.declared.names.CpuId.{CpuId}
 use Rattle.lwkt_core.specs.declared.events.Event.{Event}
+use Rattle.lwkt_events.specs.ShortEvents.{KeptTrace}
 use Rattle.lwkt_core.specs.Events.{cpu_of}
 use Rattle.lwkt_port.specs.Chains.{Chain}
 use Rattle.lwkt_cpu.specs.Processors.{Processor}
@@ -26,7 +27,7 @@ record IsOfThem (n : ℕ) (x : Stage) : Type 0 where
   own : All (λ e. cpu_of e < n) x.trace.items
 
 -- a processor that was driven is at the number at which it was
-driven_number : (answers : CpuId → ℕ → Bool → Type 0) (limits : Limits) (script : Script) (opened driven : Rig) (traces : List (Vec Event Global)) → IsOpenedMachine script opened → IsDrivenMachine answers limits opened driven traces
+driven_number : (answers : CpuId → ℕ → Bool → Type 0) (limits : Limits) (script : Script) (opened driven : Rig) (traces : List KeptTrace) → IsOpenedMachine script opened → IsDrivenMachine answers limits opened driven traces
     → (k : ℕ) (q : Processor Scripted) → slice_get driven.cpus k ≡ Some q → q.seat.cpu.0 ≡ k
 driven_number answers limits script opened driven traces opens drives k q at =
     let d = drives.cpus in
@@ -70,7 +71,7 @@ unfolding Chain
 of_them_chain n zero x y chain of = subst (IsOfThem n) (sym chain) of
 of_them_chain n (suc k) x y chain of = of_them_step n k chain.0 y chain.2 (of_them_chain n k x chain.0 chain.1 of)
 
-pub stops_own : (answers : CpuId → ℕ → Bool → Type 0) (limits : Limits) (script : Script) (opened driven stopped : Rig) (traces : List (Vec Event Global)) (none stops : Vec Event Global) → IsOpenedMachine script opened → IsDrivenMachine answers limits opened driven traces → none.items ≡ [] → StopsAll driven stopped none stops
+pub stops_own : (answers : CpuId → ℕ → Bool → Type 0) (limits : Limits) (script : Script) (opened driven stopped : Rig) (traces : List KeptTrace) (none stops : Vec Event Global) → IsOpenedMachine script opened → IsDrivenMachine answers limits opened driven traces → none.items ≡ [] → StopsAll driven stopped none stops
     → All (λ e. cpu_of e < length traces) stops.items
 stops_own answers limits script opened driven stopped traces none stops opens drives empty all =
     let d = drives.cpus in

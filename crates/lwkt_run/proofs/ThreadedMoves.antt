@@ -6,6 +6,7 @@ use Rattle.lwkt_base.specs.declared.names.CpuId.{CpuId}
 use Rattle.lwkt_base.specs.declared.openings.MsgSpec.{MsgSpec}
 use Rattle.lwkt_base.specs.declared.sections.Section.{Section}
 use Rattle.lwkt_core.specs.declared.events.Event.{Event}
+use Rattle.lwkt_events.specs.ShortEvents.{KeptTrace}
 use Rattle.lwkt_core.specs.declared.finals.Final.{Final}
 use Rattle.lwkt_core.specs.declared.messages.Message.{Message}
 use Rattle.lwkt_core.specs.Machine.{Machine}
@@ -47,12 +48,12 @@ messages_from script m opens =
     ap (λ (specs : List MsgSpec). machine_of m.book.cpus (first_mails specs)) opens.specs ∙ ap (λ (n : ℕ). machine_of n (first_mails script.messages)) opens.desks_are ∙ ap F (mails_opened script.messages)
 
 -- a machine that was driven from its opening on has the script's threads
-pub driven_has : (answers : CpuId → ℕ → Bool → Type 0) (script : Script) (opened driven : Rig) (traces : List (Vec Event Global)) → IsOpenedMachine script opened → IsDrivenMachine answers (record { turns = script.turns; idle = script.idle }) opened driven traces → HasThreads script.cpus script.threads driven.cpus
+pub driven_has : (answers : CpuId → ℕ → Bool → Type 0) (script : Script) (opened driven : Rig) (traces : List KeptTrace) → IsOpenedMachine script opened → IsDrivenMachine answers (record { turns = script.turns; idle = script.idle }) opened driven traces → HasThreads script.cpus script.threads driven.cpus
 driven_has answers script opened driven traces opens drives =
     has_driven answers (record { turns = script.turns; idle = script.idle }) opened.bank script.cpus script.threads opened.cpus driven.cpus traces drives.cpus (opened_has script opened opens)
 
 -- what a run on threads left, with the sections that were told of it
-pub ended : (answers : CpuId → ℕ → Bool → Type 0) (script : Script) (lines : List ThreadLine) (last : Final) (opened driven : Rig) (traces : List (Vec Event Global)) (none stops : Vec Event Global) (told : List Event) (sections : List Section) → IsOpenedMachine script opened → AreWithin script.cpus script.tokens script.messages → IsDrivenMachine answers (record { turns = script.turns; idle = script.idle }) opened driven traces → none.items ≡ [] → ShowThreads lines driven → Leaves driven none stops last
+pub ended : (answers : CpuId → ℕ → Bool → Type 0) (script : Script) (lines : List ThreadLine) (last : Final) (opened driven : Rig) (traces : List KeptTrace) (none stops : Vec Event Global) (told : List Event) (sections : List Section) → IsOpenedMachine script opened → AreWithin script.cpus script.tokens script.messages → IsDrivenMachine answers (record { turns = script.turns; idle = script.idle }) opened driven traces → none.items ≡ [] → ShowThreads lines driven → Leaves driven none stops last
     → told ≡ stops.items → IsPermutation (sections_of_all traces told) sections → AreSorted sections → EndsOnThreads answers script lines last sections
 ended answers script lines last opened driven traces none stops told sections opens within drives empty shown leaves are same sorted =
     let tells = threads_tell answers (record { turns = script.turns; idle = script.idle }) script opened driven leaves.stopped traces none stops leaves.closed opens drives empty leaves.stops leaves.closes in

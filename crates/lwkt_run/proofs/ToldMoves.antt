@@ -7,6 +7,7 @@ use Rattle.std.proofs.lemmas.List.Concat.{flat_map-append}
 use Rattle.std.proofs.lemmas.List.Sorted.{IsPermutation-refl, IsPermutation-sym, IsPermutation-trans, IsPermutation-append_left, IsPermutation-append_right, IsPermutation-append_comm}
 use Rattle.lwkt_base.specs.declared.sections.Section.{Section}
 use Rattle.lwkt_core.specs.declared.events.Event.{Event}
+use Rattle.lwkt_events.specs.ShortEvents.{KeptTrace}
 use Rattle.lwkt_core.specs.declared.events.Event.TheVariants.{GiveWritten}
 use Rattle.lwkt_table.specs.declared.seats.Deed.{Deed}
 use Rattle.lwkt_core.specs.Events.{cpu_of}
@@ -63,18 +64,18 @@ four {B} a b c d =
     (IsPermutation-trans _ _ _ (IsPermutation-append_right a _ _ inner) (permutation_same (a ++ (c ++ (b ++ d))) ((a ++ c) ++ (b ++ d)) (sym (append_assoc a c (b ++ d)))))
 
 -- the parts of processors tell what their traces tell, and what the stops of each tell
-parts_apart : (n : ℕ) (traces : List (Vec Event Global)) (stops : List Event)
+parts_apart : (n : ℕ) (traces : List KeptTrace) (stops : List Event)
     → IsPermutation (flat_map sections_told (parts_from n traces stops)) (flat_map (λ t. sections_told t.items) traces ++ flat_map (λ k. sections_told (of_cpu k stops)) (range_with_len n (length traces)))
 parts_apart n [] stops = IsPermutation-refl []
 parts_apart n (trace ∷ traces) stops =
     let own : List Section = sections_told trace.items in
     let end : List Section = sections_told (of_cpu n stops) in
-    let others : List Section = flat_map (λ (t : Vec Event Global). sections_told t.items) traces in
+    let others : List Section = flat_map (λ (t : KeptTrace). sections_told t.items) traces in
     let ends : List Section = flat_map (λ k. sections_told (of_cpu k stops)) (range_with_len (n + 1) (length traces)) in
     IsPermutation-trans _ _ _ (permutation_same _ _ (ap (λ l. l ++ flat_map sections_told (parts_from (n + 1) traces stops)) (flat_map-append section_in trace.items (of_cpu n stops))))
     (IsPermutation-trans _ _ _ (IsPermutation-append_right (own ++ end) _ _ (parts_apart (n + 1) traces stops)) (four own end others ends))
 
-parts_long : (n : ℕ) (traces : List (Vec Event Global)) (stops : List Event) → length (parts_from n traces stops) ≡ length traces
+parts_long : (n : ℕ) (traces : List KeptTrace) (stops : List Event) → length (parts_from n traces stops) ≡ length traces
 parts_long n [] stops = refl
 parts_long n (trace ∷ traces) stops = let rest = parts_long (n + 1) traces stops in omega arith
 
@@ -87,7 +88,7 @@ stops_apart cpus stops own =
 
 -- where each processor's part of a run is told by its trace and by its events of the stops, what the processors tell of the run and
 -- what is told are the same sections
-pub told_by_all : (history : List Deed) (traces : List (Vec Event Global)) (stops : List Event) → ((cpu : ℕ) (part : List Event) → slice_get (parts_from 0 traces stops) cpu ≡ Some part → Tells (events_by cpu history) (filter is_of_token part)) → All (λ e. cpu_of e < length traces) stops
+pub told_by_all : (history : List Deed) (traces : List KeptTrace) (stops : List Event) → ((cpu : ℕ) (part : List Event) → slice_get (parts_from 0 traces stops) cpu ≡ Some part → Tells (events_by cpu history) (filter is_of_token part)) → All (λ e. cpu_of e < length traces) stops
     → IsPermutation (sections_by (length traces) history) (sections_of_all traces stops)
 told_by_all history traces stops told own =
     let parts = parts_from 0 traces stops in
@@ -97,4 +98,4 @@ told_by_all history traces stops told own =
     let placed : sections_by (length parts) history ≡ flat_map sections_told parts = by_place (λ k. sections_told (events_by k history)) sections_told parts 0 each in
     let counted : sections_by (length traces) history ≡ flat_map sections_told parts = ap (λ (n : ℕ). sections_by n history) (sym (parts_long 0 traces stops)) ∙ placed in
     IsPermutation-trans _ _ _ (permutation_same _ _ counted)
-    (IsPermutation-trans _ _ _ (parts_apart 0 traces stops) (IsPermutation-append_right (flat_map (λ (t : Vec Event Global). sections_told t.items) traces) _ _ (stops_apart (length traces) stops own)))
+    (IsPermutation-trans _ _ _ (parts_apart 0 traces stops) (IsPermutation-append_right (flat_map (λ (t : KeptTrace). sections_told t.items) traces) _ _ (stops_apart (length traces) stops own)))

@@ -1,11 +1,11 @@
 -- The written sections that the traces of a run on threads tell (own).
-use Rattle.std.specs.Prelude.{List, ◌++◌, flat_map, map, zip, Vec, IsPermutation}
+use Rattle.std.specs.Prelude.{List, ◌++◌, flat_map, map, zip, IsPermutation}
 use Rattle.std.specs.List.Sorted.{IsSortedBy}
 use Rattle.std.specs.Ordering.{is_lt, nat_cmp, ordering_then}
-use Rattle.std.specs.declared.alloc.Global.{Global}
 use Rattle.lwkt_base.specs.declared.openings.TokSpec.{TokSpec}
 use Rattle.lwkt_base.specs.declared.sections.Section.{Section}
 use Rattle.lwkt_core.specs.declared.events.Event.{Event}
+use Rattle.lwkt_events.specs.ShortEvents.{KeptTrace}
 use Rattle.lwkt_core.specs.declared.finals.Final.{Final}
 use Rattle.lwkt_core.specs.Machine.{Machine}
 use Rattle.lwkt_core.specs.RunSections.{rows_of, sections_told}
@@ -14,7 +14,7 @@ use Rattle.lwkt_report.specs.declared.closings.Verdict.{Verdict}
 use Rattle.lwkt_report.specs.declared.closings.Verdict.TheVariants.{Closed, Lawful, Unlawful}
 
 -- the written sections that traces tell, one trace's after another's, and then those that a stop tells
-abbrev pub sections_of_all : List (Vec Event Global) → List Event → List Section
+abbrev pub sections_of_all : List KeptTrace → List Event → List Section
 sections_of_all traces stops = flat_map (λ trace. sections_told trace.items) traces ++ sections_told stops
 
 -- the sections stand by token, and those of one token by generation
@@ -37,7 +37,7 @@ IsVerdictOn Lawful first last sections = ⊥
 
 -- sections are the written ones that traces and a stop tell, in order, and chains: of each token one, generation by generation, from
 -- its row in a machine to its closing row
-pub record TellChains (m : Machine) (traces : List (Vec Event Global)) (stops : List Event) (last : Final) (sections : List Section) : Type 0 where
+pub record TellChains (m : Machine) (traces : List KeptTrace) (stops : List Event) (last : Final) (sections : List Section) : Type 0 where
   pub told : IsPermutation (sections_of_all traces stops) sections
   pub ordered : AreInOrder sections
   pub chains : AreSectionChains (rows_of m) (closing_rows last) sections

@@ -2,8 +2,10 @@
 ghost use Rattle.std.specs.Prelude.{◌≡◌, Err, OnErr};
 ghost use Rattle.lwkt_base.specs.Fault.{no_memory};
 
+use crate::parts::{part_count, read_part};
 use lwkt_base::{CpuId, Fault};
 use lwkt_core::Event;
+use lwkt_events::EventList;
 use std::alloc::{AllocError, Global};
 
 // A section, and the processor that ended it by giving the token back.
@@ -28,15 +30,29 @@ fn add_given(given: &mut Vec<Given>, trace: &[Event]) -> Result<(), AllocError> 
     Ok(())
 }
 
+// Adds the sections that a packed trace tells, which is read through a room.
+fn add_kept(
+    given: &mut Vec<Given>,
+    trace: &EventList,
+    room: &mut Vec<Event>,
+) -> Result<(), AllocError> {
+    for number in 0..part_count(trace) {
+        read_part(trace, number, room)?;
+        add_given(given, room)?;
+    }
+    Ok(())
+}
+
 // The sections that traces and a stop tell, by token and then by generation.
 fn given_in_order(
     alloc: Global,
-    traces: &[Vec<Event>],
+    traces: &[EventList],
     stops: &[Event],
 ) -> Result<Vec<Given>, AllocError> {
     let mut given = Vec::new(alloc);
+    let mut room = Vec::new(alloc);
     for trace in traces {
-        add_given(&mut given, trace)?;
+        add_kept(&mut given, trace, &mut room)?;
     }
     add_given(&mut given, stops)?;
     given.sort_unstable_by_key(|one| (one.tok, one.generation));
@@ -59,7 +75,7 @@ fn cpus_of(alloc: Global, given: &[Given]) -> Result<Vec<CpuId>, AllocError> {
 pub fn givers_of(
     alloc: Global,
     are_wanted: bool,
-    traces: &[Vec<Event>],
+    traces: &[EventList],
     stops: &[Event],
 ) -> Result<Vec<CpuId>, Fault>
     ensures only { OnErr result (result ≡ Err no_memory) }

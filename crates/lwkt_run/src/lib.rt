@@ -9,6 +9,7 @@ mod endings;
 mod givers;
 pub mod laws;
 mod lines;
+mod parts;
 mod polled;
 mod programs;
 mod records;

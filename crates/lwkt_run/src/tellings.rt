@@ -3,8 +3,10 @@ ghost use Rattle.std.specs.Prelude.{◌≡◌, ◌≤◌, ◌++◌, All, length,
 ghost use Rattle.lwkt_core.specs.RunSections.{sections_told};
 ghost use Rattle.lwkt_run.specs.Telling.{sections_of_all, AreSorted, opening_rows, closing_rows, IsVerdictOn};
 
+use crate::parts::{part_count, read_part};
 use lwkt_base::{Fault, Row, Rows, Section, TokSpec};
 use lwkt_core::{Event, Final, check_sections};
+use lwkt_events::EventList;
 use lwkt_report::Verdict;
 use std::alloc::{AllocError, Global};
 
@@ -20,17 +22,33 @@ fn add_told(sections: &mut Vec<Section>, trace: &[Event]) -> Result<(), AllocErr
     Ok(())
 }
 
+// Adds the sections that a packed trace tells, which is read through a room.
+fn add_kept(
+    sections: &mut Vec<Section>,
+    trace: &EventList,
+    room: &mut Vec<Event>,
+) -> Result<(), AllocError>
+    ensures { OnOk result (sections.new.items ≡ sections.old.items ++ sections_told trace.now.items) }
+{
+    for number in 0..part_count(trace) {
+        read_part(trace, number, room)?;
+        add_told(sections, room)?;
+    }
+    Ok(())
+}
+
 // The sections that traces tell, one trace's after another's, and then those that a stop tells.
 fn gathered(
     alloc: Global,
-    traces: Vec<Vec<Event>>,
+    traces: Vec<EventList>,
     stops: &[Event],
 ) -> Result<Vec<Section>, AllocError>
     ensures { IfOk result (λ sections. sections.items ≡ sections_of_all traces.items stops.now) }
 {
     let mut sections = Vec::new(alloc);
+    let mut room = Vec::new(alloc);
     for trace in traces {
-        add_told(&mut sections, &trace)?;
+        add_kept(&mut sections, &trace, &mut room)?;
     }
     add_told(&mut sections, stops)?;
     Ok(sections)
@@ -41,7 +59,7 @@ fn gathered(
 /// `AllocError` if memory is refused.
 pub fn sections_in_order(
     alloc: Global,
-    traces: Vec<Vec<Event>>,
+    traces: Vec<EventList>,
     stops: &[Event],
 ) -> Result<Vec<Section>, AllocError>
     ensures told { IfOk result (λ sections. IsPermutation (sections_of_all traces.items stops.now) sections.items) }

@@ -1,13 +1,12 @@
 -- Processors that were driven make a machine again.
 use Rattle.std.proofs.Common.{◌≡◌, ℕ, zero, suc, ◌<◌, List, [], ◌∷◌, ◌++◌, length, map, get_or, refl, ap, sym, ◌∙◌, subst, arith, Option, Some, false}
-use Rattle.std.specs.Prelude.{All, Bool, Vec, slice_get, option_map, Result, Ok, Err, IfOk}
+use Rattle.std.specs.Prelude.{All, Bool, slice_get, option_map, Result, Ok, Err, IfOk}
 use Rattle.lwkt_base.specs.declared.faults.Fault.{Fault}
 use Rattle.std.specs.List.{AllZip}
-use Rattle.std.specs.declared.alloc.Global.{Global}
 use Rattle.std.proofs.lemmas.Option.{slice_get-map, slice_get_within, slice_get-get_or, get_or_from_slice_get}
 use Rattle.std.proofs.lemmas.List.{length-map, get_or-map}
 use Rattle.lwkt_base.specs.declared.names.CpuId.{CpuId}
-use Rattle.lwkt_core.specs.declared.events.Event.{Event}
+use Rattle.lwkt_events.specs.ShortEvents.{KeptTrace}
 use Rattle.lwkt_bank.specs.Seats.{BankId}
 use Rattle.lwkt_msg.specs.Desks.{Shelf}
 use Rattle.lwkt_hold.proofs.RunMoves.{AllZip-append}
@@ -15,11 +14,10 @@ use Rattle.lwkt_port.specs.Posts.{IsSamePost}
 use Rattle.lwkt_cpu.specs.Processors.{Processor}
 use Rattle.lwkt_lane.proofs.PlaceMoves.{some_same, get_there}
 use Rattle.lwkt_cpu.proofs.SightMoves.{joined_stay}
-use Rattle.lwkt_cpu.proofs.TurnMoves.{made_ports}
 use Rattle.lwkt_drive.specs.declared.driven.Driven.{Driven}
 use Rattle.lwkt_drive.specs.declared.driven.Limits.{Limits}
-use Rattle.lwkt_drive.specs.declared.driven.Ending.TheVariants.{NoMemory}
 use Rattle.lwkt_drive.specs.Course.{IsAtTables, IsDriven}
+use Rattle.lwkt_drive.proofs.TellingMoves.{kept_ports}
 use Rattle.lwkt_machine.specs.Bodies.{Scripted, IsPolled}
 use Rattle.lwkt_machine.specs.Machines.{IsOfMachine, AreAllJoined, AreOneMachine}
 use Rattle.lwkt_threads.specs.Driven.{IsUndriven, IsAmple, WasDriven, AreDriven}
@@ -81,12 +79,12 @@ module _ (answers : CpuId → ℕ → Bool → Type 0) (limits : Limits) (bank :
   pub driven_long : AllZip IsUndriven cpus olds → AllZip Drove olds news → length news ≡ length cpus
   driven_long fresh drove = zip_long Drove olds news drove ∙ zip_long IsUndriven cpus olds fresh
 
-  driven_each : AllZip IsUndriven cpus olds → AllZip Drove olds news → All (λ (d : Driven Scripted). IsAmple d.ending) news → (k : ℕ) (p q : Processor Scripted) (trace : Vec Event Global) → slice_get cpus k ≡ Some p → slice_get (map (λ (d : Driven Scripted). d.cpu) news) k ≡ Some q → slice_get (map (λ (d : Driven Scripted). d.trace) news) k ≡ Some trace → WasDriven answers limits bank p q trace
+  driven_each : AllZip IsUndriven cpus olds → AllZip Drove olds news → All (λ (d : Driven Scripted). IsAmple d.ending) news → (k : ℕ) (p q : Processor Scripted) (trace : KeptTrace) → slice_get cpus k ≡ Some p → slice_get (map (λ (d : Driven Scripted). d.cpu) news) k ≡ Some q → slice_get (map (λ (d : Driven Scripted). d.trace) news) k ≡ Some trace → WasDriven answers limits bank p q trace
   driven_each fresh drove ample k p q trace at to told =
       let within : k < length cpus = slice_get_within cpus k p at in
       let olds_within : k < length olds = omega (arith, zip_long IsUndriven cpus olds fresh, within) in
       let news_within : k < length news = omega (arith, driven_long fresh drove, within) in
-      let d : Driven Scripted = record { id = record { 0 = 0 }; cpu = p; trace = trace; said = record { drives = 0; yeses = 0; no = false }; drove = record { ran = 0; idle = 0; all_exited = false }; silent = false; ending = NoMemory (record {}) } in
+      let d : Driven Scripted = (get_there olds k olds_within).0 in
       let f : IsUndriven (get_or cpus k p) (get_or olds k d) = zip_at IsUndriven cpus olds fresh k p d within in
       let F : Processor Scripted → Type 0 = λ x. IsUndriven x (get_or olds k d) in
       record {
@@ -107,11 +105,11 @@ module _ (answers : CpuId → ℕ → Bool → Type 0) (limits : Limits) (bank :
   }
 
   -- the processors and the events of those that were driven, taken apart
-  pub apart_driven : {X : Type 0} (cpus_in : X → List (Processor Scripted)) (traces_in : X → List (Vec Event Global)) (r : Result X Fault) (xs : List (Driven Scripted)) → xs ≡ news → IfOk r (λ x. cpus_in x ≡ map (λ (d : Driven Scripted). d.cpu) xs) → IfOk r (λ x. traces_in x ≡ map (λ (d : Driven Scripted). d.trace) xs) → AllZip IsUndriven cpus olds → AllZip Drove olds news → All (λ (d : Driven Scripted). IsAmple d.ending) news → IfOk r (λ x. AreDriven answers limits bank cpus (cpus_in x) (traces_in x))
+  pub apart_driven : {X : Type 0} (cpus_in : X → List (Processor Scripted)) (traces_in : X → List KeptTrace) (r : Result X Fault) (xs : List (Driven Scripted)) → xs ≡ news → IfOk r (λ x. cpus_in x ≡ map (λ (d : Driven Scripted). d.cpu) xs) → IfOk r (λ x. traces_in x ≡ map (λ (d : Driven Scripted). d.trace) xs) → AllZip IsUndriven cpus olds → AllZip Drove olds news → All (λ (d : Driven Scripted). IsAmple d.ending) news → IfOk r (λ x. AreDriven answers limits bank cpus (cpus_in x) (traces_in x))
   apart_driven cpus_in traces_in r xs same cs ts fresh drove ample =
       ok_both r (λ x. cpus_in x ≡ map (λ (d : Driven Scripted). d.cpu) xs) (λ x. traces_in x ≡ map (λ (d : Driven Scripted). d.trace) xs) (λ x. AreDriven answers limits bank cpus (cpus_in x) (traces_in x)) (λ x c t.
       let C : List (Processor Scripted) → Type 0 = λ ps. AreDriven answers limits bank cpus ps (traces_in x) in
-      let T : List (Vec Event Global) → Type 0 = λ vs. AreDriven answers limits bank cpus (map (λ (d : Driven Scripted). d.cpu) xs) vs in
+      let T : List KeptTrace → Type 0 = λ vs. AreDriven answers limits bank cpus (map (λ (d : Driven Scripted). d.cpu) xs) vs in
       let N : List (Driven Scripted) → Type 0 = λ ds. AreDriven answers limits bank cpus (map (λ (d : Driven Scripted). d.cpu) ds) (map (λ (d : Driven Scripted). d.trace) ds) in
       subst C (sym c) (subst T (sym t) (subst N (sym same) (are_driven fresh drove ample)))) cs ts
 
@@ -133,7 +131,7 @@ apart_of bank book news xs cpus_in r same cs at =
     let N : List (Driven Scripted) → Type 0 = λ ds. All (IsOfMachine bank book) (map (λ (y : Driven Scripted). y.cpu) ds) in
     subst C (sym c) (subst N (sym same) (driven_of bank book news at))) cs cs
 
-numbered_again : (answers : CpuId → ℕ → Bool → Type 0) (limits : Limits) (bank : BankId) (olds news : List (Processor Scripted)) (traces : List (Vec Event Global)) → AreDriven answers limits bank olds news traces → ((k : ℕ) (p : Processor Scripted) → slice_get olds k ≡ Some p → p.seat.cpu.0 ≡ k) → (k : ℕ) (q : Processor Scripted) → slice_get news k ≡ Some q → q.seat.cpu.0 ≡ k
+numbered_again : (answers : CpuId → ℕ → Bool → Type 0) (limits : Limits) (bank : BankId) (olds news : List (Processor Scripted)) (traces : List KeptTrace) → AreDriven answers limits bank olds news traces → ((k : ℕ) (p : Processor Scripted) → slice_get olds k ≡ Some p → p.seat.cpu.0 ≡ k) → (k : ℕ) (q : Processor Scripted) → slice_get news k ≡ Some q → q.seat.cpu.0 ≡ k
 numbered_again answers limits bank olds news traces d numbered k q at =
     let within : k < length olds = omega (arith, slice_get_within news k q at, d.as_many) in
     let p = get_there olds k within in
@@ -143,14 +141,14 @@ numbered_again answers limits bank olds news traces d numbered k q at =
     ap (λ (x : CpuId). x.0) n ∙ numbered k p.0 p.1
 
 -- a processor that was driven is over the same lanes, and has the same number
-ports_again : (answers : CpuId → ℕ → Bool → Type 0) (limits : Limits) (bank : BankId) (p q : Processor Scripted) (trace : Vec Event Global) → WasDriven answers limits bank p q trace → IsSamePost p.post q.post × (q.seat.cpu ≡ p.seat.cpu)
+ports_again : (answers : CpuId → ℕ → Bool → Type 0) (limits : Limits) (bank : BankId) (p q : Processor Scripted) (trace : KeptTrace) → WasDriven answers limits bank p q trace → IsSamePost p.post q.post × (q.seat.cpu ≡ p.seat.cpu)
 ports_again answers limits bank p q trace w =
     let F : Processor Scripted × Processor Scripted → Type 0 = λ x. IsSamePost x.0.post x.1.post in (
-      subst F (λ k. (w.fresh.cpu k, w.cpu k)) (made_ports IsPolled bank w.old.cpu w.new.cpu w.old.trace w.driven.v w.driven.turns w.driven.made),
+      subst F (λ k. (w.fresh.cpu k, w.cpu k)) (kept_ports IsPolled bank w.old.cpu w.new.cpu w.old.trace.items w.new.trace.items w.driven.turns w.driven.made),
       ap (λ (x : Processor Scripted). x.seat.cpu) (sym w.cpu) ∙ w.driven.seat ∙ ap (λ (x : Processor Scripted). x.seat.cpu) w.fresh.cpu,
     )
 
-joined_again : (answers : CpuId → ℕ → Bool → Type 0) (limits : Limits) (bank : BankId) (olds news : List (Processor Scripted)) (traces : List (Vec Event Global)) → AreDriven answers limits bank olds news traces → AreAllJoined olds → AreAllJoined news
+joined_again : (answers : CpuId → ℕ → Bool → Type 0) (limits : Limits) (bank : BankId) (olds news : List (Processor Scripted)) (traces : List KeptTrace) → AreDriven answers limits bank olds news traces → AreAllJoined olds → AreAllJoined news
 joined_again answers limits bank olds news traces d joined i j s p at_s at_p =
     let long_s : i < length olds = omega (arith, slice_get_within news i s at_s, d.as_many) in
     let long_p : j < length olds = omega (arith, slice_get_within news j p at_p, d.as_many) in
@@ -163,7 +161,7 @@ joined_again answers limits bank olds news traces d joined i j s p at_s at_p =
     joined_stay a.0 s b.0 p one.1 two.1 one.0 two.0 (joined i j a.0 b.0 a.1 b.1)
 
 -- the parts of a machine whose processors were driven still belong together
-pub parts_again : (answers : CpuId → ℕ → Bool → Type 0) (limits : Limits) (seats : ℕ) (bank : BankId) (book : Shelf) (olds news : List (Processor Scripted)) (traces : List (Vec Event Global)) → AreOneMachine seats bank book olds → AreDriven answers limits bank olds news traces → All (IsOfMachine bank book) news → AreOneMachine seats bank book news
+pub parts_again : (answers : CpuId → ℕ → Bool → Type 0) (limits : Limits) (seats : ℕ) (bank : BankId) (book : Shelf) (olds news : List (Processor Scripted)) (traces : List KeptTrace) → AreOneMachine seats bank book olds → AreDriven answers limits bank olds news traces → All (IsOfMachine bank book) news → AreOneMachine seats bank book news
 parts_again answers limits seats bank book olds news traces parts d of = record {
   seats_are = parts.seats_are ∙ sym d.as_many;
   mails_are = parts.mails_are ∙ sym d.as_many;

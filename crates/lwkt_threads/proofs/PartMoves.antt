@@ -11,6 +11,7 @@ use Rattle.lwkt_base.specs.declared.names.CpuId.{CpuId}
 use Rattle.lwkt_base.specs.Holding.{Holding}
 use Rattle.lwkt_core.specs.declared.events.Event.{Event}
 use Rattle.lwkt_table.specs.declared.seats.SeatKind.{SeatKind}
+use Rattle.lwkt_events.specs.ShortEvents.{KeptTrace}
 use Rattle.lwkt_core.specs.Events.{cpu_of}
 use Rattle.lwkt_ask.specs.Telling.{TellsMail}
 use Rattle.lwkt_bank.specs.Seats.{BankId}
@@ -54,7 +55,7 @@ none_part : (part : List Event) → ◌≡◌ {A = Option (List Event)} None (So
 none_part part is = cc
 
 -- the part of a processor
-parts_at : (n : ℕ) (traces : List (Vec Event Global)) (stops : List Event) (k : ℕ) (part : List Event) → slice_get (parts_from n traces stops) k ≡ Some part → (trace : Vec Event Global) × ((slice_get traces k ≡ Some trace) × (part ≡ trace.items ++ of_cpu (n + k) stops))
+parts_at : (n : ℕ) (traces : List KeptTrace) (stops : List Event) (k : ℕ) (part : List Event) → slice_get (parts_from n traces stops) k ≡ Some part → (trace : KeptTrace) × ((slice_get traces k ≡ Some trace) × (part ≡ trace.items ++ of_cpu (n + k) stops))
 parts_at n [] stops k part at = absurd (none_part part at)
 parts_at n (trace ∷ traces) stops zero part at =
     let e : trace.items ++ of_cpu n stops ≡ part = cc in
@@ -81,22 +82,21 @@ told_opened bank book threads k p o = record {
 }
 
 -- a processor that was driven from its opening on is told by its trace
-told_driven : (answers : CpuId → ℕ → Bool → Type 0) (limits : Limits) (bank : BankId) (k : ℕ) (p q : Processor Scripted) (trace : Vec Event Global) → IsToldAt k p [] → WasDriven answers limits bank p q trace → IsToldAt k q trace.items
+told_driven : (answers : CpuId → ℕ → Bool → Type 0) (limits : Limits) (bank : BankId) (k : ℕ) (p q : Processor Scripted) (trace : KeptTrace) → IsToldAt k p [] → WasDriven answers limits bank p q trace → IsToldAt k q trace.items
 told_driven answers limits bank k p q trace first w =
     let d = w.driven in
     let P : Processor Scripted → Type 0 = λ x. IsToldAt k x [] in
     let T : List Event → Type 0 = λ es. IsToldAt k w.old.cpu es in
     let before : IsToldAt k w.old.cpu w.old.trace.items = subst T (sym w.fresh.trace) (subst P (sym w.fresh.cpu) first) in
-    let V : List Event → Type 0 = λ es. IsToldAt k w.new.cpu es in
-    let now : IsToldAt k w.new.cpu d.v.items = record {
+    let now : IsToldAt k w.new.cpu w.new.trace.items = record {
       seat = ap (λ (c : CpuId). c.0) d.seat ∙ before.seat;
-      desk = ap (λ (c : CpuId). c.0) (mail_same IsPolled bank w.old.cpu w.new.cpu w.old.trace d.v d.turns d.made) ∙ before.desk;
-      tokens = told_made IsPolled bank w.old.cpu w.new.cpu w.old.trace d.v d.turns d.made before.tokens;
-      mails = mail_made IsPolled bank w.old.cpu w.new.cpu w.old.trace d.v d.turns d.made before.mails;
+      desk = ap (λ (c : CpuId). c.0) (mail_same IsPolled bank w.old.cpu w.new.cpu w.old.trace.items w.new.trace.items d.turns d.made) ∙ before.desk;
+      tokens = told_made IsPolled bank w.old.cpu w.new.cpu w.old.trace.items w.new.trace.items d.turns d.made before.tokens;
+      mails = mail_made IsPolled bank w.old.cpu w.new.cpu w.old.trace.items w.new.trace.items d.turns d.made before.mails;
     } in
     let Q : Processor Scripted → Type 0 = λ x. IsToldAt k x w.new.trace.items in
-    let U : Vec Event Global → Type 0 = λ v. IsToldAt k q v.items in
-    subst U w.trace_is (subst Q w.cpu (subst V (sym d.trace) now))
+    let U : KeptTrace → Type 0 = λ v. IsToldAt k q v.items in
+    subst U w.trace_is (subst Q w.cpu now)
 
 -- so many processors of a stage, each of which is told by a front and by its own among the events of the stage
 pub record AreTold (count : ℕ) (fronts : ℕ → List Event) (x : Stage) : Type 0 where
@@ -166,14 +166,14 @@ told_chain count fronts zero x y chain told = subst (AreTold count fronts) (sym 
 told_chain count fronts (suc n) x y chain told = told_step count fronts n chain.0 y chain.2 (told_chain count fronts n x chain.0 chain.1 told)
 
 -- the events of a trace of its own, of each processor that has one
-abbrev fronts_of : List (Vec Event Global) → ℕ → List Event
-fronts_of traces k = option_map_or (λ (trace : Vec Event Global). trace.items) (slice_get traces k) []
+abbrev fronts_of : List KeptTrace → ℕ → List Event
+fronts_of traces k = option_map_or (λ (trace : KeptTrace). trace.items) (slice_get traces k) []
 
-front_is : (traces : List (Vec Event Global)) (k : ℕ) (trace : Vec Event Global) → slice_get traces k ≡ Some trace → fronts_of traces k ≡ trace.items
-front_is traces k trace at = ap (λ (o : Option (Vec Event Global)). option_map_or (λ (t : Vec Event Global). t.items) o []) at
+front_is : (traces : List KeptTrace) (k : ℕ) (trace : KeptTrace) → slice_get traces k ≡ Some trace → fronts_of traces k ≡ trace.items
+front_is traces k trace at = ap (λ (o : Option KeptTrace). option_map_or (λ (t : KeptTrace). t.items) o []) at
 
 -- what the processors did until none of them had stopped
-told_all : (answers : CpuId → ℕ → Bool → Type 0) (limits : Limits) (script : Script) (opened driven : Rig) (traces : List (Vec Event Global)) (t : Vec Event Global) → IsOpenedMachine script opened → IsDrivenMachine answers limits opened driven traces → t.items ≡ [] → AreTold (length opened.cpus) (fronts_of traces) (stage driven.cpus t)
+told_all : (answers : CpuId → ℕ → Bool → Type 0) (limits : Limits) (script : Script) (opened driven : Rig) (traces : List KeptTrace) (t : Vec Event Global) → IsOpenedMachine script opened → IsDrivenMachine answers limits opened driven traces → t.items ≡ [] → AreTold (length opened.cpus) (fronts_of traces) (stage driven.cpus t)
 told_all answers limits script opened driven traces t opens drives none =
     let d = drives.cpus in
     record {
@@ -217,7 +217,7 @@ rest_tells opened made stopped fronts before after closed parts banks books firs
           (f.0.post.seat, (seat_at (λ (p : Processor Scripted). p.post.seat) stopped.cpus cpu f.0 f.1.0, f.1.1.desk, f.1.1.mails))));
     }
 
-pub threads_tell : (answers : CpuId → ℕ → Bool → Type 0) (limits : Limits) (script : Script) (opened driven stopped : Rig) (traces : List (Vec Event Global)) (before after : Vec Event Global) (closed : Closed) → IsOpenedMachine script opened → IsDrivenMachine answers limits opened driven traces → before.items ≡ [] → StopsAll driven stopped before after → IsClosedMachine stopped closed → TellTheRuns opened closed (parts_from 0 traces after.items)
+pub threads_tell : (answers : CpuId → ℕ → Bool → Type 0) (limits : Limits) (script : Script) (opened driven stopped : Rig) (traces : List KeptTrace) (before after : Vec Event Global) (closed : Closed) → IsOpenedMachine script opened → IsDrivenMachine answers limits opened driven traces → before.items ≡ [] → StopsAll driven stopped before after → IsClosedMachine stopped closed → TellTheRuns opened closed (parts_from 0 traces after.items)
 threads_tell answers limits script opened driven stopped traces before after closed opens drives none stops closes =
     rest_tells opened driven stopped (fronts_of traces) before after closed (parts_from 0 traces after.items) drives.bank drives.book (told_all answers limits script opened driven traces before opens drives none) stops closes (λ k part at.
     let x = parts_at 0 traces after.items k part at in

@@ -1,8 +1,7 @@
 -- The machine of a script, driven on threads (own).
-use Rattle.std.specs.Prelude.{◌≡◌, ℕ, Bool, List, [], length, Vec, Some, slice_get}
-use Rattle.std.specs.declared.alloc.Global.{Global}
+use Rattle.std.specs.Prelude.{◌≡◌, ℕ, Bool, List, [], length, Some, slice_get}
 use Rattle.lwkt_base.specs.declared.names.CpuId.{CpuId}
-use Rattle.lwkt_core.specs.declared.events.Event.{Event}
+use Rattle.lwkt_events.specs.ShortEvents.{KeptTrace}
 use Rattle.lwkt_bank.specs.Seats.{BankId}
 use Rattle.lwkt_cpu.specs.Processors.{Processor}
 use Rattle.lwkt_drive.specs.declared.driven.Driven.{Driven}
@@ -26,7 +25,7 @@ IsAmple (CalledOff refused) = ⊥
 IsAmple _ = Unit {0}
 
 -- a processor was driven from its first turn on, with this trace, and not ended for want of memory
-pub record WasDriven (answers : CpuId → ℕ → Bool → Type 0) (limits : Limits) (bank : BankId) (p q : Processor Scripted) (trace : Vec Event Global) : Type 0 where
+pub record WasDriven (answers : CpuId → ℕ → Bool → Type 0) (limits : Limits) (bank : BankId) (p q : Processor Scripted) (trace : KeptTrace) : Type 0 where
   pub old : Driven Scripted
   pub new : Driven Scripted
   pub fresh : IsUndriven p old
@@ -36,13 +35,13 @@ pub record WasDriven (answers : CpuId → ℕ → Bool → Type 0) (limits : Lim
   pub trace_is : new.trace ≡ trace
 
 -- processors of a bank were driven, each with its trace
-pub record AreDriven (answers : CpuId → ℕ → Bool → Type 0) (limits : Limits) (bank : BankId) (olds news : List (Processor Scripted)) (traces : List (Vec Event Global)) : Type 0 where
+pub record AreDriven (answers : CpuId → ℕ → Bool → Type 0) (limits : Limits) (bank : BankId) (olds news : List (Processor Scripted)) (traces : List KeptTrace) : Type 0 where
   pub as_many : length news ≡ length olds
   pub traces_are : length traces ≡ length olds
-  pub each : (k : ℕ) (p q : Processor Scripted) (trace : Vec Event Global) → slice_get olds k ≡ Some p → slice_get news k ≡ Some q → slice_get traces k ≡ Some trace → WasDriven answers limits bank p q trace
+  pub each : (k : ℕ) (p q : Processor Scripted) (trace : KeptTrace) → slice_get olds k ≡ Some p → slice_get news k ≡ Some q → slice_get traces k ≡ Some trace → WasDriven answers limits bank p q trace
 
 -- the machine's processors were driven, each with its trace
-pub record IsDrivenMachine (answers : CpuId → ℕ → Bool → Type 0) (limits : Limits) (old new : Rig) (traces : List (Vec Event Global)) : Type 0 where
+pub record IsDrivenMachine (answers : CpuId → ℕ → Bool → Type 0) (limits : Limits) (old new : Rig) (traces : List KeptTrace) : Type 0 where
   pub bank : new.bank ≡ old.bank
   pub book : new.book ≡ old.book
   pub cpus : AreDriven answers limits old.bank old.cpus new.cpus traces

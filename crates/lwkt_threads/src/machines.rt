@@ -8,9 +8,9 @@ ghost use Rattle.lwkt_base.specs.Fault.{no_memory};
 
 use lwkt_bank::Bank;
 use lwkt_base::{CpuId, Fault};
-use lwkt_core::Event;
 use lwkt_cpu::Cpu;
 use lwkt_drive::{Driven, Ending, Gate, Limits, drive_on_threads};
+use lwkt_events::EventList;
 use lwkt_machine::{Machine, ScriptBody};
 use lwkt_msg::MsgBook;
 use std::alloc::{AllocError, Global};
@@ -21,8 +21,8 @@ use std::thread::Threads;
 pub struct Outcome {
     /// The machine after its processors' last turns. It isn't stopped.
     pub machine: Machine,
-    /// The events of each processor's turns, in order, by processor.
-    pub traces: Vec<Vec<Event>>,
+    /// The events of each processor's turns, in order and packed, by processor.
+    pub traces: Vec<EventList>,
 }
 
 // The processors of a machine, each with its number and without events.
@@ -47,7 +47,7 @@ fn undriven(alloc: Global, cpus: Vec<Cpu<ScriptBody>>) -> Result<Vec<Driven<Scri
 #[derive(Drop)]
 struct Apart {
     cpus: Vec<Cpu<ScriptBody>>,
-    traces: Vec<Vec<Event>>,
+    traces: Vec<EventList>,
 }
 
 fn take_apart(alloc: Global, all: Vec<Driven<ScriptBody>>) -> Result<Apart, Fault>
