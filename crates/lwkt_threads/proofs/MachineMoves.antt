@@ -1,5 +1,5 @@
 -- Processors that were driven make a machine again.
-use Rattle.std.proofs.Common.{◌≡◌, ℕ, zero, suc, ◌<◌, List, [], ◌∷◌, ◌++◌, length, map, get_or, refl, ap, sym, ◌∙◌, subst, arith, Option, Some, false}
+use Rattle.std.proofs.Common.{◌≡◌, ℕ, zero, suc, ◌<◌, List, [], ◌∷◌, ◌++◌, length, map, get_or, refl, ap, sym, ◌∙◌, subst, arith, Option, Some}
 use Rattle.std.specs.Prelude.{All, Bool, slice_get, option_map, Result, Ok, Err, IfOk}
 use Rattle.lwkt_base.specs.declared.faults.Fault.{Fault}
 use Rattle.std.specs.List.{AllZip}
