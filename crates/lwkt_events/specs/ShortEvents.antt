@@ -1,11 +1,12 @@
 -- Events without room for a section or a record, and the traces that are kept by them (own).
-use Rattle.std.specs.Prelude.{◌≡◌, ℕ, ◌+◌, ◌-◌, ◌<◌, ◌≤◌, min, List, [], ◌∷◌, ◌++◌, map, slice_get, Vec, vec_len, vec_capacity}
+use Rattle.std.specs.Prelude.{◌≡◌, ℕ, ◌+◌, ◌-◌, ◌<◌, ◌≤◌, ◌==◌, ◌&&◌, not, min, Bool, true, false, if◌then◌else◌, List, [], ◌∷◌, ◌++◌, map, slice_get, Vec, vec_len, vec_capacity}
 use Rattle.std.specs.declared.alloc.Global.{Global}
 use Rattle.std.specs.Option.{option_map_or}
 use Rattle.lwkt_base.specs.declared.names.CpuId.{CpuId}
 use Rattle.lwkt_base.specs.declared.names.TokId.{TokId}
+use Rattle.lwkt_base.specs.declared.sections.Section.{Section}
 use Rattle.lwkt_core.specs.declared.events.Event.{Event}
-use Rattle.lwkt_core.specs.declared.events.Event.TheVariants.{Load, Take, Share, Again, Mark, GiveOne, GiveClean, GiveWritten, Read, Write, Send, TakeMsg, DropMsg, Reply, Reap, Abort}
+use Rattle.lwkt_core.specs.declared.events.Event.TheVariants.{Load, Take, Share, Again, Mark, GiveOne, GiveClean, GiveWritten, Read, Write, ReadBlob, WriteBlob, Send, TakeMsg, DropMsg, Reply, Reap, Abort}
 use Rattle.lwkt_events.specs.declared.short_events.CellSection.{CellSection}
 use Rattle.lwkt_events.specs.declared.short_events.ShortEvent.{ShortEvent}
 use Rattle.lwkt_events.specs.declared.short_events.ShortEvent.TheVariants.{Load as ShortLoad, Take as ShortTake, Share as ShortShare, Again as ShortAgain, Mark as ShortMark, GiveOne as ShortGiveOne, GiveClean as ShortGiveClean, GaveCell, Read as ShortRead, Write as ShortWrite, Send as ShortSend, TakeMsg as ShortTakeMsg, DropMsg as ShortDropMsg, Reply as ShortReply, Reap as ShortReap, Abort as ShortAbort, Long as LongEvent}
@@ -13,6 +14,32 @@ use Rattle.lwkt_events.specs.declared.short_events.ShortEvent.TheVariants.{Load 
 -- the written give of a token with one cell that has this section
 abbrev pub gave_cell : CpuId → TokId → CellSection → Event
 gave_cell cpu tok c = GiveWritten cpu tok (record { before = c.before ∷ []; after = c.after ∷ []; generation = c.generation; tok = tok })
+
+-- a list has one element
+abbrev pub is_one : List ℕ → Bool
+is_one [] = false
+is_one (x ∷ []) = true
+is_one (x ∷ y ∷ more) = false
+
+-- a section of this token, which has one cell
+abbrev pub has_one_cell : TokId → Section → Bool
+has_one_cell tok section = (section.tok.0 == tok.0) && is_one section.before && is_one section.after
+
+-- the events that are kept with a short section: written gives of a token with one cell
+abbrev pub has_cell : Event → Bool
+has_cell (GiveWritten cpu tok section) = has_one_cell tok section
+has_cell _ = false
+
+-- the events that are kept whole: all other written gives, and records that are read or stored
+abbrev pub is_long_event : Event → Bool
+is_long_event (GiveWritten cpu tok section) = not (has_one_cell tok section)
+is_long_event (ReadBlob cpu tok blob) = true
+is_long_event (WriteBlob cpu tok blob) = true
+is_long_event _ = false
+
+-- how many there are with one more, if it is one of these
+abbrev pub counted : Bool → ℕ → ℕ
+counted is many = if is then many + 1 else many
 
 -- the event that a short one stands for, where the short sections and the long events are these
 abbrev pub long_event : List CellSection → List Event → ShortEvent → Event

@@ -3,8 +3,8 @@
 //! An `Event` has room for a section or a record, so it is large. A written give of a token with one cell is kept by the place of a
 //! short section; any other written give, and a record that was read or stored, lie in a list of their own, and are kept short by their
 //! place there. All others are kept as they are.
-ghost use Rattle.std.specs.Prelude.{◌≡◌, ◌+◌, ◌<◌, [], ◌∷◌, ◌++◌, length, vec_len, vec_capacity, IfSome};
-ghost use Rattle.lwkt_events.specs.ShortEvents.{gave_cell, long_event, IsEventIn, GrowsBehind, TakesOne};
+ghost use Rattle.std.specs.Prelude.{◌≡◌, ◌+◌, ◌<◌, [], ◌∷◌, ◌++◌, length, vec_len, vec_capacity, not, ◌||◌, is_some, IfSome};
+ghost use Rattle.lwkt_events.specs.ShortEvents.{gave_cell, long_event, has_cell, is_long_event, counted, IsEventIn, GrowsBehind, TakesOne};
 
 use lwkt_base::{CpuId, MsgId, Row, Section, TokId};
 use lwkt_core::Event;
@@ -62,7 +62,8 @@ fn gave(cpu: CpuId, tok: TokId, section: &CellSection) -> Event
 
 // The short section of a written give, if its token has one cell.
 fn short_section(event: &Event) -> Option<(CpuId, TokId, CellSection)>
-    ensures { IfSome result (λ g. gave_cell g.0 g.1 g.2 ≡ event.now) }
+    ensures same { IfSome result (λ g. gave_cell g.0 g.1 g.2 ≡ event.now) }
+    ensures short { is_some result ≡ has_cell event.now }
 {
     let Event::GiveWritten { cpu, tok, section } = *event else {
         return None;
@@ -89,6 +90,7 @@ impl ShortEvent {
     fn of(event: &Event) -> Option<ShortEvent>
         ensures same { IfSome result (λ short. (cells longs : _) → long_event cells longs short ≡ event.now) }
         ensures inside { IfSome result (λ short. IsEventIn 0 0 short) }
+        ensures short { is_some result ≡ not (has_cell event.now || is_long_event event.now) }
     {
         match *event {
             Event::Load { cpu, tok } => Some(ShortEvent::Load(cpu, tok)),
@@ -182,13 +184,16 @@ impl ShortEvent {
     }
 }
 
-/// An event kept short: its section, or the event itself where it is long, lies behind the others then, which have room for it.
+/// An event kept short: its section if it is of one cell, or the event itself if it is long, and nothing else, lies behind the others
+/// then, which have room for it.
 #[inline(always)]
 pub fn keep_event(cells: &mut Vec<CellSection>, longs: &mut Vec<Event>, event: &Event) -> ShortEvent
     requires cell { vec_len cells.old < vec_capacity cells.old }
     requires long { vec_len longs.old < vec_capacity longs.old }
     ensures same { long_event cells.new.items longs.new.items result ≡ event.now }
     ensures inside { IsEventIn (length cells.new.items) (length longs.new.items) result }
+    ensures cell { length cells.new.items ≡ counted (has_cell event.now) (length cells.old.items) }
+    ensures long { length longs.new.items ≡ counted (is_long_event event.now) (length longs.old.items) }
     ensures sections { GrowsBehind cells.old.items cells.new.items × TakesOne cells.old cells.new }
     ensures grows { GrowsBehind longs.old.items longs.new.items × TakesOne longs.old longs.new }
 {
