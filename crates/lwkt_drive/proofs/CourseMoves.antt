@@ -21,7 +21,7 @@ use Rattle.lwkt_cpu.specs.declared.answers.Turned.TheVariants.{Ran, Idle, AllExi
 use Rattle.lwkt_cpu.specs.declared.answers.Drove.{Drove}
 use Rattle.lwkt_cpu.specs.Processors.{Processor}
 use Rattle.lwkt_cpu.specs.Driving.{with_turn, none_driven}
-use Rattle.lwkt_drive.specs.Keeping.{KeepsTurn, KeepsTurns}
+use Rattle.lwkt_drive.specs.Appending.{AppendsTurn, AppendsTurns}
 use Rattle.lwkt_drive.specs.declared.driven.Driven.{Driven}
 use Rattle.lwkt_drive.specs.declared.driven.Limits.{Limits}
 use Rattle.lwkt_drive.specs.declared.driven.Said.{Said}
@@ -29,16 +29,16 @@ use Rattle.lwkt_drive.specs.declared.driven.Ending.{Ending}
 use Rattle.lwkt_drive.specs.Course.{IsAtTables, IsBelowLimits, MakesAnother, EndsBy, WasSilent, EndsSilent, agreed, heard, said_at_end, MakesOne, StaysAndWhy, IsDriven, EndedSilently, IsUnderWay, IsSo, ComesTo, GoesTo, DrivesOn, DrivesOut, drive_begun, counts}
 
 -- a turn more, after others
-pub made_more : {B : Type 0} (polled : B → Answer → Ask → B → Type 0) (bank : BankId) (old mid new : Processor B) (t v u : List Event) (turns : List Turned) (turned : Turned) → KeepsTurns polled bank old mid t v turns → KeepsTurn polled bank mid new v u turned → KeepsTurns polled bank old new t u (turns ++ turned ∷ [])
+pub made_more : {B : Type 0} (polled : B → Answer → Ask → B → Type 0) (bank : BankId) (old mid new : Processor B) (t v u : List Event) (turns : List Turned) (turned : Turned) → AppendsTurns polled bank old mid t v turns → AppendsTurn polled bank mid new v u turned → AppendsTurns polled bank old new t u (turns ++ turned ∷ [])
 made_more {B} polled bank old mid new t v u [] turned made last =
-    let F : Processor B → Type 0 = λ p. KeepsTurn polled bank p new v u turned in
-    let G : List Event → Type 0 = λ x. KeepsTurn polled bank old new x u turned in
+    let F : Processor B → Type 0 = λ p. AppendsTurn polled bank p new v u turned in
+    let G : List Event → Type 0 = λ x. AppendsTurn polled bank old new x u turned in
     (new, (u, (subst G made.1 (subst F made.0 last), (refl, refl))))
 made_more polled bank old mid new t v u (x ∷ turns) turned made last =
     (made.0, (made.1.0, (made.1.1.0, made_more polled bank made.0 mid new made.1.0 v u turns turned made.1.1.1 last)))
 
 -- a silent turn more, after others
-ends_silent : {B : Type 0} (polled : B → Answer → Ask → B → Type 0) (bank : BankId) (old mid new : Processor B) (t v u : List Event) (turns : List Turned) (turned : Turned) (made : KeepsTurns polled bank old mid t v turns) (last : KeepsTurn polled bank mid new v u turned) → WasSilent turned v u → EndsSilent polled bank old new t u (turns ++ turned ∷ []) (made_more polled bank old mid new t v u turns turned made last)
+ends_silent : {B : Type 0} (polled : B → Answer → Ask → B → Type 0) (bank : BankId) (old mid new : Processor B) (t v u : List Event) (turns : List Turned) (turned : Turned) (made : AppendsTurns polled bank old mid t v turns) (last : AppendsTurn polled bank mid new v u turned) → WasSilent turned v u → EndsSilent polled bank old new t u (turns ++ turned ∷ []) (made_more polled bank old mid new t v u turns turned made last)
 unfolding made_more
 ends_silent polled bank old mid new t v u [] turned made last silent =
     let F : List Event → Type 0 = λ x. WasSilent turned x u in
@@ -55,15 +55,15 @@ record LastOf {B : Type 0} (polled : B → Answer → Ask → B → Type 0) (ban
   turns_are : turns ≡ earlier ++ last ∷ []
   before : Processor B
   trace : List Event
-  came : KeepsTurns polled bank old before t trace earlier
-  makes : KeepsTurn polled bank before new trace u last
+  came : AppendsTurns polled bank old before t trace earlier
+  makes : AppendsTurn polled bank before new trace u last
   was_silent : WasSilent last trace u
 
-last_of : {B : Type 0} (polled : B → Answer → Ask → B → Type 0) (bank : BankId) (old new : Processor B) (t u : List Event) (turns : List Turned) (made : KeepsTurns polled bank old new t u turns) → EndsSilent polled bank old new t u turns made → LastOf polled bank old new t u turns
+last_of : {B : Type 0} (polled : B → Answer → Ask → B → Type 0) (bank : BankId) (old new : Processor B) (t u : List Event) (turns : List Turned) (made : AppendsTurns polled bank old new t u turns) → EndsSilent polled bank old new t u turns made → LastOf polled bank old new t u turns
 last_of polled bank old new t u [] made ends = absurd ends
 last_of {B} polled bank old new t u (turned ∷ []) made ends =
-    let F : Processor B → Type 0 = λ p. KeepsTurn polled bank old p t u turned in
-    let G : List Event → Type 0 = λ x. KeepsTurn polled bank old made.0 t x turned in
+    let F : Processor B → Type 0 = λ p. AppendsTurn polled bank old p t u turned in
+    let G : List Event → Type 0 = λ x. AppendsTurn polled bank old made.0 t x turned in
     record {
       earlier = [];
       last = turned;
@@ -188,7 +188,7 @@ total_more polled answers bank limits mid new turn total m =
 driven_by : {B : Type 0} (polled : B → Answer → Ask → B → Type 0) (answers : CpuId → ℕ → Bool → Type 0) (bank : BankId) (limits : Limits) (old mid new : Driven B) (ending : Ending) (turn : ℕ) → mid.drove.ran + mid.drove.idle ≡ turn → IsUnderWay polled answers bank limits old mid → StaysAndWhy answers limits turn mid new ending → new.id ≡ mid.id → IsDriven polled answers bank limits old new ending
 driven_by {B} polled answers bank limits old mid new ending turn total u s same =
     let long : length u.turns ≡ turn = sym u.all ∙ total in
-    let M : Processor B → List Event → Type 0 = λ p t. (made : KeepsTurns polled bank old.cpu p old.trace.items t u.turns) × (new.silent ≡ true → EndsSilent polled bank old.cpu p old.trace.items t u.turns made) in
+    let M : Processor B → List Event → Type 0 = λ p t. (made : AppendsTurns polled bank old.cpu p old.trace.items t u.turns) × (new.silent ≡ true → EndsSilent polled bank old.cpu p old.trace.items t u.turns made) in
     let one : M new.cpu mid.trace.items = subst (λ p. M p mid.trace.items) (sym s.cpu) (u.made, λ is. u.silent (sym s.silent ∙ is)) in
     let made : M new.cpu new.trace.items = subst (λ t. M new.cpu t) (sym s.trace) one in
     let I : CpuId → Type 0 = λ id. EndsBy answers limits id turn mid.drove mid.silent new.room new.trace ending in

@@ -29,7 +29,7 @@ use Rattle.lwkt_cpu.specs.declared.answers.Turned.{Turned}
 use Rattle.lwkt_cpu.proofs.WakeMoves.{post_none, post_then}
 use Rattle.lwkt_cpu.specs.Processors.{Processor}
 use Rattle.lwkt_cpu.specs.Turning.{IsOfThread}
-use Rattle.lwkt_drive.specs.Keeping.{KeepsTurns}
+use Rattle.lwkt_drive.specs.Appending.{AppendsTurns}
 use Rattle.lwkt_drive.specs.Telling.{TellsSeat, IsMailTold, TellOneMailRun, TracesTellOneRun}
 
 pub told_new : (s : CpuSeat) → IsNew s → TellsSeat s []
@@ -71,7 +71,7 @@ told_kept P most a b room part none ran t u grown told =
     subst F (ap (λ (es : List Event). t ++ es) (done_is a b room part none ran) ∙ sym grown) (told_more P most a b room part ran t told)
 
 -- turns, each told into an empty room and kept, are told
-pub told_made : {B : Type 0} (polled : B → Answer → Ask → B → Type 0) (bank : BankId) (old new : Processor B) (t u : List Event) (turns : List Turned) → KeepsTurns polled bank old new t u turns → TellsSeat old.seat t → TellsSeat new.seat u
+pub told_made : {B : Type 0} (polled : B → Answer → Ask → B → Type 0) (bank : BankId) (old new : Processor B) (t u : List Event) (turns : List Turned) → AppendsTurns polled bank old new t u turns → TellsSeat old.seat t → TellsSeat new.seat u
 told_made {B} polled bank old new t u [] made told =
     let F : Processor B → Type 0 = λ p. TellsSeat p.seat u in
     let G : List Event → Type 0 = λ es. TellsSeat old.seat es in
@@ -98,7 +98,7 @@ mail_kept a b room part none mail t u grown told =
     let done : mail.done ≡ part.items = sym (mail.trace_is ∙ ap (λ (es : List Event). es ++ mail.done) none) in
     subst F (ap (λ (es : List Event). t ++ es) done ∙ sym grown) (mail_more a b room.items part.items mail t told)
 
-pub mail_made : {B : Type 0} (polled : B → Answer → Ask → B → Type 0) (bank : BankId) (old new : Processor B) (t u : List Event) (turns : List Turned) → KeepsTurns polled bank old new t u turns → IsMailTold old.post.seat t → IsMailTold new.post.seat u
+pub mail_made : {B : Type 0} (polled : B → Answer → Ask → B → Type 0) (bank : BankId) (old new : Processor B) (t u : List Event) (turns : List Turned) → AppendsTurns polled bank old new t u turns → IsMailTold old.post.seat t → IsMailTold new.post.seat u
 mail_made {B} polled bank old new t u [] made told =
     let F : Processor B → Type 0 = λ p. IsMailTold p.post.seat u in
     let G : List Event → Type 0 = λ es. IsMailTold old.post.seat es in
@@ -133,7 +133,7 @@ one_mail_run book seats ends traces is told = record {
 }
 
 -- the turns of a processor leave its seat at the book the same processor's
-pub mail_same : {B : Type 0} (polled : B → Answer → Ask → B → Type 0) (bank : BankId) (old new : Processor B) (t u : List Event) (turns : List Turned) → KeepsTurns polled bank old new t u turns → desk_cpu new.post.seat ≡ desk_cpu old.post.seat
+pub mail_same : {B : Type 0} (polled : B → Answer → Ask → B → Type 0) (bank : BankId) (old new : Processor B) (t u : List Event) (turns : List Turned) → AppendsTurns polled bank old new t u turns → desk_cpu new.post.seat ≡ desk_cpu old.post.seat
 mail_same {B} polled bank old new t u [] made = ap (λ (p : Processor B). desk_cpu p.post.seat) made.0
 mail_same polled bank old new t u (turned ∷ turns) made = mail_same polled bank made.0 new made.1.0 u turns made.1.1.1 ∙ ap seat_cpu made.1.1.0.does.told.same.kind
 
@@ -149,7 +149,7 @@ one_run bank cpus seats closed traces is told = record {
 }
 
 -- turns that are kept leave the ports the same ones
-pub kept_ports : {B : Type 0} (polled : B → Answer → Ask → B → Type 0) (bank : BankId) (old new : Processor B) (t u : List Event) (turns : List Turned) → KeepsTurns polled bank old new t u turns → IsSamePost old.post new.post
+pub kept_ports : {B : Type 0} (polled : B → Answer → Ask → B → Type 0) (bank : BankId) (old new : Processor B) (t u : List Event) (turns : List Turned) → AppendsTurns polled bank old new t u turns → IsSamePost old.post new.post
 kept_ports {B} polled bank old new t u [] made =
     let F : Processor B → Type 0 = λ p. IsSamePost old.post p.post in
     subst F (sym made.0) (post_none old.post)

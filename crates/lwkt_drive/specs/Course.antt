@@ -16,7 +16,7 @@ use Rattle.lwkt_drive.specs.declared.driven.Driven.{Driven}
 use Rattle.lwkt_drive.specs.declared.driven.Limits.{Limits}
 use Rattle.lwkt_drive.specs.declared.driven.Said.{Said}
 use Rattle.lwkt_drive.specs.declared.driven.Ending.{Ending}
-use Rattle.lwkt_drive.specs.Keeping.{KeepsTurn, KeepsTurns, LacksMemory}
+use Rattle.lwkt_drive.specs.Appending.{AppendsTurn, AppendsTurns, LacksMemory}
 use Rattle.lwkt_drive.specs.declared.driven.Ending.TheVariants.{NotDriven, Stopped, TurnsOut, IdleOut, AllExited, NoMemory, CalledOff, Quiet}
 
 -- a processor at this bank and book
@@ -87,7 +87,7 @@ abbrev pub WasSilent : Turned → List Event → List Event → Type 0
 WasSilent turned t u = RanNone turned × (u ≡ t)
 
 -- turns were made, and the last of them was silent
-abbrev pub EndsSilent : {B : Type 0} (polled : B → Answer → Ask → B → Type 0) (bank : BankId) (old new : Processor B) (t u : List Event) (turns : List Turned) → KeepsTurns polled bank old new t u turns → Type 0
+abbrev pub EndsSilent : {B : Type 0} (polled : B → Answer → Ask → B → Type 0) (bank : BankId) (old new : Processor B) (t u : List Event) (turns : List Turned) → AppendsTurns polled bank old new t u turns → Type 0
 EndsSilent polled bank old new t u [] made = ⊥
 EndsSilent polled bank old new t u (turned ∷ []) made = WasSilent turned t u
 EndsSilent polled bank old new t u (turned ∷ next ∷ turns) made = EndsSilent polled bank made.0 new made.1.0 u (next ∷ turns) made.1.1.1
@@ -96,7 +96,7 @@ EndsSilent polled bank old new t u (turned ∷ next ∷ turns) made = EndsSilent
 pub record MakesOne {B : Type 0} (polled : B → Answer → Ask → B → Type 0) (answers : CpuId → ℕ → Bool → Type 0) (bank : BankId) (limits : Limits) (turn : ℕ) (old new : Driven B) : Type 0 where
   pub turned : Turned
   pub goes : MakesAnother answers limits old.id turn old.drove
-  pub makes : KeepsTurn polled bank old.cpu new.cpu old.trace.items new.trace.items turned
+  pub makes : AppendsTurn polled bank old.cpu new.cpu old.trace.items new.trace.items turned
   pub drove : new.drove ≡ with_turn old.drove turned
   pub silent : new.silent ≡ true → WasSilent turned old.trace.items new.trace.items
   pub said : new.said ≡ agreed old.said
@@ -115,7 +115,7 @@ pub record StaysAndWhy {B : Type 0} (answers : CpuId → ℕ → Bool → Type 0
 -- drive ends for want of memory; the trace grew by theirs; where the last turn is marked as silent, it was (own)
 pub record IsDriven {B : Type 0} (polled : B → Answer → Ask → B → Type 0) (answers : CpuId → ℕ → Bool → Type 0) (bank : BankId) (limits : Limits) (old new : Driven B) (ending : Ending) : Type 0 where
   pub turns : List Turned
-  pub made : KeepsTurns polled bank old.cpu new.cpu old.trace.items new.trace.items turns
+  pub made : AppendsTurns polled bank old.cpu new.cpu old.trace.items new.trace.items turns
   pub going : (k : ℕ) → k < length turns → MakesAnother answers limits old.id k (counts (take k turns))
   pub drove : new.drove ≡ counts turns
   pub silent : new.silent ≡ true → EndsSilent polled bank old.cpu new.cpu old.trace.items new.trace.items turns made
@@ -132,8 +132,8 @@ pub record EndedSilently {B : Type 0} (polled : B → Answer → Ask → B → T
   pub drove : new.drove ≡ counts (earlier ++ last ∷ [])
   pub before : Processor B
   pub trace : List Event
-  pub came : KeepsTurns polled bank old.cpu before old.trace.items trace earlier
-  pub makes : KeepsTurn polled bank before new.cpu trace new.trace.items last
+  pub came : AppendsTurns polled bank old.cpu before old.trace.items trace earlier
+  pub makes : AppendsTurn polled bank before new.cpu trace new.trace.items last
   pub ran_none : RanNone last
   pub no_event : new.trace.items ≡ trace
 
@@ -149,7 +149,7 @@ drive_begun d = record d { said = said_at_start d.said; drove = none_driven; sil
 -- once to each, and not no, since this drive began; the trace grew by theirs; where the last one is marked as silent, it was (own)
 pub record IsUnderWay {B : Type 0} (polled : B → Answer → Ask → B → Type 0) (answers : CpuId → ℕ → Bool → Type 0) (bank : BankId) (limits : Limits) (old new : Driven B) : Type 0 where
   pub turns : List Turned
-  pub made : KeepsTurns polled bank old.cpu new.cpu old.trace.items new.trace.items turns
+  pub made : AppendsTurns polled bank old.cpu new.cpu old.trace.items new.trace.items turns
   pub going : (k : ℕ) → k < length turns → MakesAnother answers limits old.id k (counts (take k turns))
   pub drove : new.drove ≡ counts turns
   pub all : new.drove.ran + new.drove.idle ≡ length turns

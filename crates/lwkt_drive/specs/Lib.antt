@@ -1,3 +1,3 @@
-pub mod Keeping
+pub mod Appending
 pub mod Course
 pub mod Telling

@@ -25,7 +25,7 @@ use Rattle.lwkt_cpu.specs.Processors.{Processor}
 use Rattle.lwkt_drive.specs.declared.driven.Driven.{Driven}
 use Rattle.lwkt_drive.specs.declared.driven.Limits.{Limits}
 use Rattle.lwkt_drive.specs.declared.driven.Ending.{Ending}
-use Rattle.lwkt_drive.specs.Keeping.{KeepsTurn, KeepsStop}
+use Rattle.lwkt_drive.specs.Appending.{AppendsTurn, AppendsStop}
 use Rattle.lwkt_drive.specs.Course.{IsDriven}
 
 -- what a trace has of tokens are all events that a seat has done, in order, without looks at words and loads of cells that
@@ -40,12 +40,12 @@ NewIsTold = (s : CpuSeat) → IsNew s → TellsSeat s []
 
 -- a theorem: where a trace told a processor's seat before a turn that is kept behind it, it tells it afterwards
 abbrev pub TurnsAreTold : {B : Type 0} → (B → Answer → Ask → B → Type 0) → Type 0
-TurnsAreTold {B} polled = (bank : BankId) (old new : Processor B) (t u : List Event) (turned : Turned) → KeepsTurn polled bank old new t u turned → TellsSeat old.seat t → TellsSeat new.seat u
+TurnsAreTold {B} polled = (bank : BankId) (old new : Processor B) (t u : List Event) (turned : Turned) → AppendsTurn polled bank old new t u turned → TellsSeat old.seat t → TellsSeat new.seat u
 
 -- a theorem: where a trace told a processor's seat before a stop that is kept behind it, it tells it afterwards; the processor has bodies
 -- that are polled so
 abbrev pub StopsAreTold : {B : Type 0} → (B → Answer → Ask → B → Type 0) → Type 0
-StopsAreTold {B} polled = (old new : Processor B) (t u : List Event) → KeepsStop old new t u → TellsSeat old.seat t → TellsSeat new.seat u
+StopsAreTold {B} polled = (old new : Processor B) (t u : List Event) → AppendsStop old new t u → TellsSeat old.seat t → TellsSeat new.seat u
 
 -- a theorem: where a processor's trace told its seat before it was driven, it tells it afterwards
 abbrev pub DrivesAreTold : {B G : Type 0} → (B → Answer → Ask → B → Type 0) → (G → CpuId → ℕ → Bool → Type 0) → Type 0
@@ -80,11 +80,11 @@ NewMailIsTold = (cpu : ℕ) (book : Shelf) (d : Desk) → IsOpenedDesk cpu book 
 
 -- a theorem: where a trace told a processor's seat at the book before a turn that is kept behind it, it tells it afterwards
 abbrev pub MailTurnsAreTold : {B : Type 0} → (B → Answer → Ask → B → Type 0) → Type 0
-MailTurnsAreTold {B} polled = (bank : BankId) (old new : Processor B) (t u : List Event) (turned : Turned) → KeepsTurn polled bank old new t u turned → IsMailTold old.post.seat t → IsMailTold new.post.seat u
+MailTurnsAreTold {B} polled = (bank : BankId) (old new : Processor B) (t u : List Event) (turned : Turned) → AppendsTurn polled bank old new t u turned → IsMailTold old.post.seat t → IsMailTold new.post.seat u
 
 -- a theorem: where a trace told a processor's seat at the book before a stop that is kept behind it, it tells it afterwards
 abbrev pub MailStopsAreTold : {B : Type 0} → (B → Answer → Ask → B → Type 0) → Type 0
-MailStopsAreTold {B} polled = (old new : Processor B) (t u : List Event) → KeepsStop old new t u → IsMailTold old.post.seat t → IsMailTold new.post.seat u
+MailStopsAreTold {B} polled = (old new : Processor B) (t u : List Event) → AppendsStop old new t u → IsMailTold old.post.seat t → IsMailTold new.post.seat u
 
 -- a theorem: where a processor's trace told its seat at the book before it was driven, it tells it afterwards
 abbrev pub MailDrivesAreTold : {B G : Type 0} → (B → Answer → Ask → B → Type 0) → (G → CpuId → ℕ → Bool → Type 0) → Type 0

@@ -5,14 +5,15 @@
 //! was reached, its threads have ended, memory was refused, or nothing can change any more; the *board* has what the
 //! processors tell one another of this; a *slice* is a part of a drive, where several processors share a thread. A turn is
 //! *silent* if it polled no thread and appended no event. It is *quiet* if it moved no note and ended no thread either:
-//! it changed nothing. A drive ends as quiet if no turn of any processor could change anything.
+//! it changed nothing. A drive ends as quiet if no turn of any processor could change anything. A *room* is what a turn is
+//! told into, before its events go behind the trace.
 #![tactic(auto)]
 
+mod appends;
 mod boards;
 pub mod driven;
 mod drives;
 mod gates;
-mod keeps;
 pub mod laws;
 mod slices;
 mod turns;

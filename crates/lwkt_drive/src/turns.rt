@@ -2,7 +2,7 @@
 ghost use Rattle.std.specs.Prelude.{◌≡◌, true, ◌+◌, ◌<◌, ◌≤◌, ◌^◌, IfOk, IfSome, OnErr, None};
 ghost use Rattle.lwkt_bank.specs.Seats.{id_of};
 ghost use Rattle.lwkt_cpu.specs.Driving.{with_turn};
-ghost use Rattle.lwkt_drive.specs.Keeping.{KeepsTurn, LacksMemory};
+ghost use Rattle.lwkt_drive.specs.Appending.{AppendsTurn, LacksMemory};
 ghost use Rattle.lwkt_drive.specs.Course.{IsAtTables, IsBelowLimits, MakesAnother, EndsBy, RanNone, WasSilent, agreed, said_at_end};
 
 use crate::driven::{Door, Driven, Ending, Limits};
@@ -113,7 +113,7 @@ impl<B: Body> Driven<B> {
     ) -> Result<Turned, AllocError>
         requires at { IsAtTables (id_of bank.now) book.now.table self.old }
         requires few { self.old.drove.ran + self.old.drove.idle + 1 < 2 ^ 64 }
-        ensures ok { IfOk result (λ turned. KeepsTurn B.polled (id_of bank.now) self.old.cpu self.new.cpu self.old.trace.items self.new.trace.items turned × (self.new.drove ≡ with_turn self.old.drove turned) × (self.new.silent ≡ true → WasSilent turned self.old.trace.items self.new.trace.items)) }
+        ensures ok { IfOk result (λ turned. AppendsTurn B.polled (id_of bank.now) self.old.cpu self.new.cpu self.old.trace.items self.new.trace.items turned × (self.new.drove ≡ with_turn self.old.drove turned) × (self.new.silent ≡ true → WasSilent turned self.old.trace.items self.new.trace.items)) }
         ensures err { OnErr result ((self.new.cpu ≡ self.old.cpu) × (self.new.trace.items ≡ self.old.trace.items) × (self.new.drove ≡ self.old.drove) × (self.new.silent ≡ self.old.silent) × LacksMemory self.new.room self.new.trace) }
         ensures said { self.new.said ≡ self.old.said }
         ensures at { IsAtTables (id_of bank.now) book.now.table self.new }

@@ -38,8 +38,8 @@ is_long_event (WriteBlob cpu tok blob) = true
 is_long_event _ = false
 
 -- how many there are with one more, if it is one of these
-abbrev pub counted : Bool → ℕ → ℕ
-counted is many = if is then many + 1 else many
+abbrev pub one_more_if : Bool → ℕ → ℕ
+one_more_if is many = if is then many + 1 else many
 
 -- the event that a short one stands for, where the short sections and the long events are these
 abbrev pub long_event : List CellSection → List Event → ShortEvent → Event
@@ -77,8 +77,8 @@ pub record GrowsBehind {A : Type 0} (old new : List A) : Type 0 where
   pub is : new ≡ old ++ more
 
 -- a vector has at most one element more, and as much room
-abbrev pub TakesOne : {A : Type 0} → Vec A Global → Vec A Global → Type 0
-TakesOne old new = (vec_len new ≤ vec_len old + 1) × (vec_capacity new ≡ vec_capacity old)
+abbrev pub TakesAtMostOne : {A : Type 0} → Vec A Global → Vec A Global → Type 0
+TakesAtMostOne old new = (vec_len new ≤ vec_len old + 1) × (vec_capacity new ≡ vec_capacity old)
 
 -- the events of a trace that is kept, and how many it may have in all before it asks for memory, of whatever kinds they are
 pub record KeptTrace : Type 0 where

@@ -4,7 +4,7 @@
 //! short section; any other written give, and a record that was read or stored, lie in a list of their own, and are kept short by their
 //! place there. All others are kept as they are.
 ghost use Rattle.std.specs.Prelude.{◌≡◌, ◌+◌, ◌<◌, [], ◌∷◌, ◌++◌, length, vec_len, vec_capacity, not, ◌||◌, is_some, IfSome};
-ghost use Rattle.lwkt_events.specs.ShortEvents.{gave_cell, long_event, has_cell, is_long_event, counted, IsEventIn, GrowsBehind, TakesOne};
+ghost use Rattle.lwkt_events.specs.ShortEvents.{gave_cell, long_event, has_cell, is_long_event, one_more_if, IsEventIn, GrowsBehind, TakesAtMostOne};
 
 use lwkt_base::{CpuId, MsgId, Row, Section, TokId};
 use lwkt_core::Event;
@@ -192,10 +192,10 @@ pub fn keep_event(cells: &mut Vec<CellSection>, longs: &mut Vec<Event>, event: &
     requires long { vec_len longs.old < vec_capacity longs.old }
     ensures same { long_event cells.new.items longs.new.items result ≡ event.now }
     ensures inside { IsEventIn (length cells.new.items) (length longs.new.items) result }
-    ensures cell { length cells.new.items ≡ counted (has_cell event.now) (length cells.old.items) }
-    ensures long { length longs.new.items ≡ counted (is_long_event event.now) (length longs.old.items) }
-    ensures sections { GrowsBehind cells.old.items cells.new.items × TakesOne cells.old cells.new }
-    ensures grows { GrowsBehind longs.old.items longs.new.items × TakesOne longs.old longs.new }
+    ensures cell { length cells.new.items ≡ one_more_if (has_cell event.now) (length cells.old.items) }
+    ensures long { length longs.new.items ≡ one_more_if (is_long_event event.now) (length longs.old.items) }
+    ensures sections { GrowsBehind cells.old.items cells.new.items × TakesAtMostOne cells.old cells.new }
+    ensures grows { GrowsBehind longs.old.items longs.new.items × TakesAtMostOne longs.old longs.new }
 {
     if let Some(short) = ShortEvent::of(event) {
         return short;

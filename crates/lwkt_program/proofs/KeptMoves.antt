@@ -14,7 +14,7 @@ use Rattle.lwkt_cpu.specs.declared.answers.Turned.{Turned}
 use Rattle.lwkt_cpu.specs.declared.answers.Turned.TheVariants.{Ran, Idle, AllExited}
 use Rattle.lwkt_cpu.specs.Processors.{Processor}
 use Rattle.lwkt_cpu.specs.Turning.{Chooses, RunsOne, Turns, MakesTurn}
-use Rattle.lwkt_drive.specs.Keeping.{KeepsTurn, KeepsTurns}
+use Rattle.lwkt_drive.specs.Appending.{AppendsTurn, AppendsTurns}
 use Rattle.lwkt_drive.specs.declared.driven.Driven.{Driven}
 use Rattle.lwkt_drive.specs.declared.driven.Limits.{Limits}
 use Rattle.lwkt_drive.specs.Course.{IsDriven}
@@ -58,14 +58,14 @@ kept_turn {B} polled kept keeps bank old new t u turned turn before =
     kept_turns polled kept keeps bank turn.mid new turn.v u turned turn.turns (subst F (sym turn.mail.bodies) before)
 
 -- so does a turn that is kept behind a trace, and one that is refused
-pub kept_either : {B E : Type 0} (polled : B → Answer → Ask → B → Type 0) (kept : B → Type 0) → Keeps polled kept → (bank : BankId) (r : Result Turned E) (old new : Driven B) → IfOk r (λ turned. KeepsTurn polled bank old.cpu new.cpu old.trace.items new.trace.items turned) → OnErr r ((new.cpu ≡ old.cpu) × (new.trace.items ≡ old.trace.items)) → Lasts kept old → Lasts kept new
+pub kept_either : {B E : Type 0} (polled : B → Answer → Ask → B → Type 0) (kept : B → Type 0) → Keeps polled kept → (bank : BankId) (r : Result Turned E) (old new : Driven B) → IfOk r (λ turned. AppendsTurn polled bank old.cpu new.cpu old.trace.items new.trace.items turned) → OnErr r ((new.cpu ≡ old.cpu) × (new.trace.items ≡ old.trace.items)) → Lasts kept old → Lasts kept new
 kept_either polled kept keeps bank (Ok turned) old new made none before = kept_turn polled kept keeps bank old.cpu new.cpu made.room made.part turned made.does before
 kept_either {B} polled kept keeps bank (Err e) old new made none before =
     let F : Processor B → Type 0 = λ p. Has kept p in
     subst F (sym none.0) before
 
 -- so do turns one after the other
-pub kept_made : {B : Type 0} (polled : B → Answer → Ask → B → Type 0) (kept : B → Type 0) → Keeps polled kept → (bank : BankId) (old new : Processor B) (t u : List Event) (turns : List Turned) → KeepsTurns polled bank old new t u turns → Has kept old → Has kept new
+pub kept_made : {B : Type 0} (polled : B → Answer → Ask → B → Type 0) (kept : B → Type 0) → Keeps polled kept → (bank : BankId) (old new : Processor B) (t u : List Event) (turns : List Turned) → AppendsTurns polled bank old new t u turns → Has kept old → Has kept new
 kept_made {B} polled kept keeps bank old new t u [] made before =
     let F : Processor B → Type 0 = λ p. Has kept p in
     subst F (sym made.0) before

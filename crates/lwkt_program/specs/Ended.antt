@@ -7,7 +7,7 @@ use Rattle.lwkt_bank.specs.Seats.{holding}
 use Rattle.lwkt_msg.specs.Desks.{AreClosed}
 use Rattle.lwkt_cpu.specs.Processors.{AllOver}
 use Rattle.lwkt_drive.specs.declared.driven.Driven.{Driven}
-use Rattle.lwkt_drive.specs.Keeping.{KeepsStop}
+use Rattle.lwkt_drive.specs.Appending.{AppendsStop}
 use Rattle.lwkt_program.specs.declared.closings.Closed.{Closed}
 use Rattle.lwkt_program.specs.declared.closings.Gathered.{Gathered}
 use Rattle.lwkt_program.specs.Machines.{Rig}
@@ -16,7 +16,7 @@ use Rattle.lwkt_program.specs.Turns.{DoesAt, StaysPut}
 -- a processor stops, and the events by which its trace grows are what its seats at bank and book did; what was told of its driving
 -- stays
 pub record IsStopped {B : Type 0} (old new : Driven B) : Type 0 where
-  pub stops : KeepsStop old.cpu new.cpu old.trace.items new.trace.items
+  pub stops : AppendsStop old.cpu new.cpu old.trace.items new.trace.items
   pub rest : new ≡ record old { cpu = new.cpu; trace = new.trace; room = new.room }
 
 -- the processors below this number have stopped, each once, and the others are as before

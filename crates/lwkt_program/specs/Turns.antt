@@ -7,7 +7,7 @@ use Rattle.lwkt_base.specs.declared.faults.Fault.TheVariants.{Memory, Limits}
 use Rattle.lwkt_bank.specs.Seats.{BankId}
 use Rattle.lwkt_cpu.specs.declared.answers.Turned.{Turned}
 use Rattle.lwkt_cpu.specs.declared.answers.Turned.TheVariants.{AllExited}
-use Rattle.lwkt_drive.specs.Keeping.{KeepsTurn}
+use Rattle.lwkt_drive.specs.Appending.{AppendsTurn}
 use Rattle.lwkt_drive.specs.declared.driven.Driven.{Driven}
 
 -- the processor of this number does something, and the others are as before
@@ -20,7 +20,7 @@ pub record DoesAt {B : Type 0} (R : Driven B → Driven B → Type 0) (cpu : ℕ
 
 -- a processor makes a turn, by which its trace grows, and returns this; what was told of its driving stays
 pub record Makes {B : Type 0} (polled : B → Answer → Ask → B → Type 0) (bank : BankId) (turned : Turned) (old new : Driven B) : Type 0 where
-  pub makes : KeepsTurn polled bank old.cpu new.cpu old.trace.items new.trace.items turned
+  pub makes : AppendsTurn polled bank old.cpu new.cpu old.trace.items new.trace.items turned
   pub rest : new ≡ record old { cpu = new.cpu; trace = new.trace; room = new.room }
 
 -- nothing has changed of a processor, whose trace and room may have more capacity; its room may be empty now

@@ -16,7 +16,7 @@ use Rattle.lwkt_port.specs.Chains.{Chain}
 use Rattle.lwkt_cpu.specs.declared.answers.Turned.{Turned}
 use Rattle.lwkt_cpu.specs.declared.answers.Turned.TheVariants.{Ran, Idle, AllExited}
 use Rattle.lwkt_cpu.specs.Processors.{Processor, AllOver}
-use Rattle.lwkt_drive.specs.Keeping.{KeepsTurns}
+use Rattle.lwkt_drive.specs.Appending.{AppendsTurns}
 use Rattle.lwkt_cpu.specs.Searches.{point}
 use Rattle.lwkt_cpu.specs.Turning.{Chooses, Turns, MakesTurn}
 use Rattle.lwkt_cpu.specs.Waking.{Ward, ward, WakesAt}
@@ -63,7 +63,7 @@ turn_long : {B : Type 0} (polled : B → Answer → Ask → B → Type 0) (bank 
 turn_long polled bank old new t u turned m = turns_long polled bank m.mid new m.v u turned m.turns ∙ wakes_long (length old.threads) (ward m.mail.post old.threads m.mail.v) (ward m.mid.post m.mid.threads m.v) m.mail.wakes
 
 -- turns that are kept do
-kept_long : {B : Type 0} (polled : B → Answer → Ask → B → Type 0) (bank : BankId) (old new : Processor B) (t u : List Event) (turns : List Turned) → KeepsTurns polled bank old new t u turns → length new.threads ≡ length old.threads
+kept_long : {B : Type 0} (polled : B → Answer → Ask → B → Type 0) (bank : BankId) (old new : Processor B) (t u : List Event) (turns : List Turned) → AppendsTurns polled bank old new t u turns → length new.threads ≡ length old.threads
 kept_long {B} polled bank old new t u [] made = ap (λ (p : Processor B). length p.threads) made.0
 kept_long polled bank old new t u (turned ∷ turns) made =
     let k = made.1.1.0 in

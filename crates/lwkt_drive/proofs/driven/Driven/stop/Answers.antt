@@ -2,7 +2,7 @@ use Rattle.std.proofs.Common.{◌≡◌, ◌∙◌, ◌++◌, List, ap, sym, sub
 use Rattle.lwkt_core.specs.declared.events.Event.{Event}
 use Rattle.lwkt_cpu.specs.Processors.{Processor}
 use Rattle.lwkt_drive.specs.declared.driven.Driven.{Driven}
-use Rattle.lwkt_drive.specs.Keeping.{TellsStop}
+use Rattle.lwkt_drive.specs.Appending.{TellsStop}
 use Rattle.lwkt_drive.proofs.driven.Driven.stop.Goals as goal
 
 pub returns-clause-ok : goal.returns-clause-ok

@@ -14,7 +14,7 @@ use Rattle.lwkt_cpu.specs.Stopping.{Stops}
 use Rattle.lwkt_cpu.specs.Turning.{IsMailed, LacksRoom, MakesTurn}
 
 -- something was done and told into an empty room, and the events that it left there went behind those before
-pub record IsKept (Does : Vec Event Global → Vec Event Global → Type 0) (old new : List Event) : Type 0 where
+pub record IsAppended (Does : Vec Event Global → Vec Event Global → Type 0) (old new : List Event) : Type 0 where
   pub room : Vec Event Global
   pub part : Vec Event Global
   pub none : room.items ≡ []
@@ -22,13 +22,13 @@ pub record IsKept (Does : Vec Event Global → Vec Event Global → Type 0) (old
   pub grown : new ≡ old ++ part.items
 
 -- a processor makes a turn, whose events are kept
-abbrev pub KeepsTurn : {B : Type 0} → (B → Answer → Ask → B → Type 0) → BankId → Processor B → Processor B → List Event → List Event → Turned → Type 0
-KeepsTurn polled bank old new t u turned = IsKept (λ room part. MakesTurn polled bank old new room part turned) t u
+abbrev pub AppendsTurn : {B : Type 0} → (B → Answer → Ask → B → Type 0) → BankId → Processor B → Processor B → List Event → List Event → Turned → Type 0
+AppendsTurn polled bank old new t u turned = IsAppended (λ room part. MakesTurn polled bank old new room part turned) t u
 
 -- turns made one after the other, the events of each of which are kept
-abbrev pub KeepsTurns : {B : Type 0} → (B → Answer → Ask → B → Type 0) → BankId → Processor B → Processor B → List Event → List Event → List Turned → Type 0
-KeepsTurns polled bank old new t u [] = (new ≡ old) × (u ≡ t)
-KeepsTurns {B} polled bank old new t u (turned ∷ turns) = (mid : Processor B) × ((v : List Event) × (KeepsTurn polled bank old mid t v turned × KeepsTurns polled bank mid new v u turns))
+abbrev pub AppendsTurns : {B : Type 0} → (B → Answer → Ask → B → Type 0) → BankId → Processor B → Processor B → List Event → List Event → List Turned → Type 0
+AppendsTurns polled bank old new t u [] = (new ≡ old) × (u ≡ t)
+AppendsTurns {B} polled bank old new t u (turned ∷ turns) = (mid : Processor B) × ((v : List Event) × (AppendsTurn polled bank old mid t v turned × AppendsTurns polled bank mid new v u turns))
 
 -- a processor stops, and the events by which a trace grows are what its seats at bank and book did
 pub record TellsStop {B : Type 0} (old new : Processor B) (t u : Vec Event Global) : Type 0 where
@@ -37,8 +37,8 @@ pub record TellsStop {B : Type 0} (old new : Processor B) (t u : Vec Event Globa
   pub told : TellsMail old.post.seat new.post.seat t.items u.items
 
 -- a processor stops, and its events are kept
-abbrev pub KeepsStop : {B : Type 0} → Processor B → Processor B → List Event → List Event → Type 0
-KeepsStop old new t u = IsKept (TellsStop old new) t u
+abbrev pub AppendsStop : {B : Type 0} → Processor B → Processor B → List Event → List Event → Type 0
+AppendsStop old new t u = IsAppended (TellsStop old new) t u
 
 -- a room has no place for the events of a turn, or a trace has none for as many
 abbrev pub LacksMemory : Vec Event Global → KeptTrace → Type 0

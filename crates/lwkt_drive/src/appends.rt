@@ -2,7 +2,7 @@
 ghost use Rattle.std.specs.Prelude.{◌≡◌, ◌+◌, ◌<◌, ◌≤◌, ◌++◌, [], length, IfOk, OnErr, OnOk};
 ghost use Rattle.lwkt_bank.specs.Seats.{id_of};
 ghost use Rattle.lwkt_drive.specs.Course.{IsAtTables};
-ghost use Rattle.lwkt_drive.specs.Keeping.{KeepsStop, KeepsTurn, LacksMemory};
+ghost use Rattle.lwkt_drive.specs.Appending.{AppendsStop, AppendsTurn, LacksMemory};
 
 use crate::driven::Driven;
 use lwkt_bank::Bank;
@@ -44,7 +44,7 @@ impl<B: Body> Driven<B> {
     /// its events are as before then.
     pub fn turn(&mut self, bank: &Bank, book: &MsgBook) -> Result<Turned, AllocError>
         requires at { IsAtTables (id_of bank.now) book.now.table self.old }
-        ensures ok { IfOk result (λ turned. KeepsTurn B.polled (id_of bank.now) self.old.cpu self.new.cpu self.old.trace.items self.new.trace.items turned) }
+        ensures ok { IfOk result (λ turned. AppendsTurn B.polled (id_of bank.now) self.old.cpu self.new.cpu self.old.trace.items self.new.trace.items turned) }
         ensures err { OnErr result ((self.new.cpu ≡ self.old.cpu) × (self.new.trace.items ≡ self.old.trace.items)) }
         ensures full { OnErr result (LacksMemory self.new.room self.new.trace) }
         ensures capacity { self.old.trace.capacity ≤ self.new.trace.capacity }
@@ -67,7 +67,7 @@ impl<B: Body> Driven<B> {
     /// `AllocError` if memory for 4096 events is refused, as for a turn; the processor and its events are as before then.
     pub fn stop(&mut self, bank: &Bank, book: &MsgBook) -> Result<(), AllocError>
         requires at { IsAtTables (id_of bank.now) book.now.table self.old }
-        ensures ok { OnOk result (KeepsStop self.old.cpu self.new.cpu self.old.trace.items self.new.trace.items) }
+        ensures ok { OnOk result (AppendsStop self.old.cpu self.new.cpu self.old.trace.items self.new.trace.items) }
         ensures err { OnErr result ((self.new.cpu ≡ self.old.cpu) × (self.new.trace.items ≡ self.old.trace.items)) }
         ensures capacity { self.old.trace.capacity ≤ self.new.trace.capacity }
         ensures rest { self.new ≡ record self.old { cpu = self.new.cpu; trace = self.new.trace; room = self.new.room } }
