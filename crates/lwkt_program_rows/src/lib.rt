@@ -7,3 +7,5 @@ mod cautious;
 mod listed;
 #[cfg(test)]
 mod rows;
+#[cfg(test)]
+mod trace_rows;
