@@ -1,8 +1,12 @@
 -- The written sections that the traces of a run tell, and rows with their generations.
-use Rattle.std.proofs.Common.{◌≡◌, ℕ, zero, suc, ◌+◌, ◌<◌, List, [], ◌∷◌, ◌++◌, length, take, get_or, refl, ap, ◌∙◌, arith}
-use Rattle.std.specs.Prelude.{zip}
-use Rattle.std.proofs.lemmas.List.{length-map}
+use Rattle.std.proofs.Common.{◌≡◌, ℕ, zero, suc, ◌+◌, ◌*◌, ◌<◌, List, [], ◌∷◌, ◌++◌, length, take, drop, get_or, refl, ap, sym, ◌∙◌, arith, inl, inr, take-add}
+use Rattle.std.specs.Prelude.{min, zip}
+use Rattle.std.proofs.lemmas.Bool.{cases_lt}
+use Rattle.std.proofs.lemmas.List.{length-map, take_all}
+use Rattle.std.proofs.lemmas.List.Concat.{flat_map-append}
 use Rattle.lwkt_base.specs.declared.openings.TokSpec.{TokSpec}
+use Rattle.lwkt_core.specs.declared.events.Event.{Event}
+use Rattle.lwkt_core.specs.RunSections.{section_in, sections_told}
 use Rattle.lwkt_run.specs.Telling.{opening_rows}
 
 -- one more of two lists side by side
@@ -27,3 +31,18 @@ as_many_rows specs rows gens opened many =
     let one = length-map specs F in
     let two = zip_long rows gens many in
     omega arith
+
+-- as many of a list as there are, where more are asked for
+pub take_least : {A : Type 0} (n : ℕ) (xs : List A) → take (min n (length xs)) xs ≡ take n xs
+take_least {A} n xs = elim (cases_lt n (length xs)) [
+  | inl less ↦ let e : min n (length xs) ≡ n = omega (arith, less) in ap (λ (k : ℕ). take k xs) e
+  | inr past ↦
+      let e : min n (length xs) ≡ length xs = omega (arith, past) in
+      ap (λ (k : ℕ). take k xs) e ∙ take_all (length xs) xs (omega arith) ∙ sym (take_all n xs past)
+]
+
+-- a part more of those that are read
+pub sections_more : (n : ℕ) (events part : List Event) → part ≡ take 64 (drop (64 * n) events) → sections_told (take (64 * (n + 1)) events) ≡ sections_told (take (64 * n) events) ++ sections_told part
+sections_more n events part is =
+    let e : 64 * (n + 1) ≡ 64 * n + 64 = omega arith in
+    ap (λ (k : ℕ). sections_told (take k events)) e ∙ ap sections_told (take-add (64 * n) 64 events) ∙ flat_map-append section_in (take (64 * n) events) (take 64 (drop (64 * n) events)) ∙ ap (λ (es : List Event). sections_told (take (64 * n) events) ++ sections_told es) (sym is)

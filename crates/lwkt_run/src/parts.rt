@@ -22,7 +22,7 @@ pub fn read_part(trace: &EventList, number: usize, room: &mut Vec<Event>) -> Res
     requires { 64 * number ≤ length trace.now.items }
     ensures { OnOk result (room.new.items ≡ take 64 (drop (64 * number) trace.now.items)) }
 {
+    let events = trace.len();
     let first = PART * number;
-    let rest = trace.len() - first;
-    trace.copy(first, rest.min(PART), room)
+    trace.copy(first, PART.min(events - first), room)
 }
