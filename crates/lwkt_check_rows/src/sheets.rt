@@ -4,6 +4,7 @@ use lwkt_base::{
     Answer, Ask, Cells, CpuId, Entry, Fault, Law, MsgSpec, ThreadId, ThreadState, TokList, TokSpec,
 };
 use lwkt_core::{Event, State};
+use lwkt_events::EventList;
 use lwkt_report::{Log, ThreadLine};
 use lwkt_script::{Parts, ThreadSpec};
 use lwkt_verdict::{Pace, Poll, PollList, Turn, is_script_run};
