@@ -60,6 +60,11 @@ told_more P most a b t u ran trace told =
       own = subst C (sym ran.cpu) (All-append (λ (e : Event). cpu_of e ≡ a.cpu.0) trace ran.done told.own ran.own);
     }
 
+pub told_ran : (P : Holding → Type 0) (most : ℕ) (a b : CpuSeat) (t u : Vec Event Global) → Ran P most a b t u → TellsSeat a t.items → TellsSeat b u.items
+told_ran P most a b t u ran told =
+    let F : List Event → Type 0 = λ es. TellsSeat b es in
+    subst F (sym ran.trace) (told_more P most a b t u ran t.items told)
+
 -- what was told into an empty room
 done_is : {P : Holding → Type 0} {most : ℕ} (a b : CpuSeat) (room part : Vec Event Global) → room.items ≡ [] → (r : Ran P most a b room part) → r.done ≡ part.items
 done_is a b room part none r = sym (r.trace ∙ ap (λ (es : List Event). es ++ r.done) none)
@@ -87,6 +92,11 @@ mail_more a b t u told trace before =
     let same : desk_cpu b ≡ desk_cpu a = ap seat_cpu told.same.kind in
     let grown : mail_of b ≡ mail_of a ++ events_in told.deeds = ap (λ (k : CpuId). events_by k.0 (mail_past b)) same ∙ events_by-grows (desk_cpu a).0 (mail_past a) told.deeds (mail_past b) told.grows told.mine in
     filter-append is_of_message trace told.done ∙ ap (λ xs. xs ++ filter is_of_message told.done) before ∙ ap (λ xs. mail_of a ++ xs) told.told ∙ sym grown
+
+pub mail_stays : (a b : Desk) (t u : List Event) → TellsMail a b t u → IsMailTold a t → IsMailTold b u
+mail_stays a b t u told before =
+    let F : List Event → Type 0 = λ es. IsMailTold b es in
+    subst F (sym told.trace_is) (mail_more a b t u told t before)
 
 pub mail_new : (cpu : ℕ) (book : Shelf) (d : Desk) → IsOpenedDesk cpu book d → IsMailTold d []
 mail_new cpu book d new = sym new.no_events

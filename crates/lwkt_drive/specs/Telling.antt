@@ -1,4 +1,5 @@
-use Rattle.std.specs.Prelude.{◌≡◌, ℕ, ◌≤◌, Bool, List, [], length, All, filter, Some, slice_get}
+use Rattle.std.specs.Prelude.{◌≡◌, ℕ, ◌≤◌, Bool, List, [], length, All, filter, Some, Vec, slice_get}
+use Rattle.std.specs.declared.alloc.Global.{Global}
 use Rattle.lwkt_base.specs.declared.asks.Ask.{Ask}
 use Rattle.lwkt_base.specs.declared.asks.Answer.{Answer}
 use Rattle.lwkt_base.specs.declared.names.CpuId.{CpuId}
@@ -8,20 +9,23 @@ use Rattle.lwkt_core.specs.Events.{cpu_of}
 use Rattle.lwkt_table.specs.History.{AreOthers, Passes, events_in, events_by}
 use Rattle.lwkt_core.specs.Machine.{Machine}
 use Rattle.lwkt_core.specs.Trace.{Run, end_of}
-use Rattle.lwkt_ask.specs.Telling.{is_of_message}
+use Rattle.lwkt_ask.specs.Telling.{is_of_message, TellsMail}
 use Rattle.lwkt_base.specs.declared.owners.MsgEnd.{MsgEnd}
 use Rattle.lwkt_bank.specs.declared.closed.Closed.{Closed}
 use Rattle.lwkt_bank.specs.declared.seats.CpuSeat.{CpuSeat}
 use Rattle.lwkt_bank.specs.Gathered.{IsNew, IsClosed, Ends}
 use Rattle.lwkt_bank.specs.Seats.{BankId, events_of}
 use Rattle.lwkt_bank.specs.Told.{IsDone, first_machine}
+use Rattle.lwkt_hold.specs.Runs.{Ran}
 use Rattle.lwkt_hold.specs.Steps.{is_of_token, Tells}
 use Rattle.lwkt_msg.specs.Book.{Mail, mail_at}
 use Rattle.lwkt_msg.specs.Desks.{Desk, Shelf, desk_cpu, events_of as mail_of, IsOpened as IsOpenedDesk, AreClosed}
 use Rattle.lwkt_msg.specs.Steps.{machine_of}
 use Rattle.lwkt_msg.specs.Told.{IsDone as IsMailDone, first_mails}
 use Rattle.lwkt_cpu.specs.declared.answers.Turned.{Turned}
+use Rattle.lwkt_cpu.specs.declared.threads.Thread.{Thread}
 use Rattle.lwkt_cpu.specs.Processors.{Processor}
+use Rattle.lwkt_cpu.specs.Turning.{IsMailed}
 use Rattle.lwkt_drive.specs.declared.driven.Driven.{Driven}
 use Rattle.lwkt_drive.specs.declared.driven.Limits.{Limits}
 use Rattle.lwkt_drive.specs.declared.driven.Ending.{Ending}
@@ -46,6 +50,11 @@ TurnsAreTold {B} polled = (bank : BankId) (old new : Processor B) (t u : List Ev
 -- that are polled so
 abbrev pub StopsAreTold : {B : Type 0} → (B → Answer → Ask → B → Type 0) → Type 0
 StopsAreTold {B} polled = (old new : Processor B) (t u : List Event) → AppendsStop old new t u → TellsSeat old.seat t → TellsSeat new.seat u
+
+-- a theorem: where a vector told a seat before something was done and told into it, as `Cpu::stop` tells a stop, it tells it afterwards;
+-- each list that was given up was the running thread's or one of these threads'
+abbrev pub RunsAreTold : Type 0
+RunsAreTold = (threads : List Thread) (most : ℕ) (a b : CpuSeat) (t u : Vec Event Global) → Ran (IsMailed threads) most a b t u → TellsSeat a t.items → TellsSeat b u.items
 
 -- a theorem: where a processor's trace told its seat before it was driven, it tells it afterwards
 abbrev pub DrivesAreTold : {B G : Type 0} → (B → Answer → Ask → B → Type 0) → (G → CpuId → ℕ → Bool → Type 0) → Type 0
@@ -85,6 +94,11 @@ MailTurnsAreTold {B} polled = (bank : BankId) (old new : Processor B) (t u : Lis
 -- a theorem: where a trace told a processor's seat at the book before a stop that is kept behind it, it tells it afterwards
 abbrev pub MailStopsAreTold : {B : Type 0} → (B → Answer → Ask → B → Type 0) → Type 0
 MailStopsAreTold {B} polled = (old new : Processor B) (t u : List Event) → AppendsStop old new t u → IsMailTold old.post.seat t → IsMailTold new.post.seat u
+
+-- a theorem: where a trace told a seat at the book before messages were handled and told behind it, as `Cpu::turn` and `Cpu::stop` tell
+-- them, it tells it afterwards
+abbrev pub MailStaysTold : Type 0
+MailStaysTold = (a b : Desk) (t u : List Event) → TellsMail a b t u → IsMailTold a t → IsMailTold b u
 
 -- a theorem: where a processor's trace told its seat at the book before it was driven, it tells it afterwards
 abbrev pub MailDrivesAreTold : {B G : Type 0} → (B → Answer → Ask → B → Type 0) → (G → CpuId → ℕ → Bool → Type 0) → Type 0

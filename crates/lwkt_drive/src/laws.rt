@@ -1,6 +1,6 @@
 //! What the traces of processors that were driven tell, and how one ends as quiet, as theorems.
 ghost use Rattle.lwkt_drive.specs.Course.{QuietEndsAreSilent};
-ghost use Rattle.lwkt_drive.specs.Telling.{NewIsTold, TurnsAreTold, StopsAreTold, DrivesAreTold, TracesTellOneRun, NewMailIsTold, MailTurnsAreTold, MailStopsAreTold, MailDrivesAreTold, TracesTellOneMailRun};
+ghost use Rattle.lwkt_drive.specs.Telling.{NewIsTold, TurnsAreTold, StopsAreTold, RunsAreTold, DrivesAreTold, TracesTellOneRun, NewMailIsTold, MailTurnsAreTold, MailStopsAreTold, MailStaysTold, MailDrivesAreTold, TracesTellOneMailRun};
 
 use crate::gates::Gate;
 use lwkt_cpu::Body;
@@ -11,6 +11,7 @@ pub fn traces_tell_seats<B: Body, G: Gate>()
     ensures new { NewIsTold }
     ensures turns { TurnsAreTold B.polled }
     ensures stops { StopsAreTold B.polled }
+    ensures runs { RunsAreTold }
     ensures drives { DrivesAreTold B.polled G.answers }
 {}
 
@@ -26,6 +27,7 @@ pub fn traces_tell_desks<B: Body, G: Gate>()
     ensures new { NewMailIsTold }
     ensures turns { MailTurnsAreTold B.polled }
     ensures stops { MailStopsAreTold B.polled }
+    ensures stays { MailStaysTold }
     ensures drives { MailDrivesAreTold B.polled G.answers }
 {}
 

@@ -1,4 +1,4 @@
-use Rattle.lwkt_drive.proofs.TellingMoves.{mail_new, mail_kept, mail_made}
+use Rattle.lwkt_drive.proofs.TellingMoves.{mail_new, mail_stays, mail_kept, mail_made}
 use Rattle.lwkt_drive.proofs.laws.traces_tell_desks.Goals as goal
 
 pub returns-clause-new : goal.returns-clause-new
@@ -9,6 +9,9 @@ returns-clause-turns g c = λ bank old new t u turned k told. mail_kept old.post
 
 pub returns-clause-stops : goal.returns-clause-stops
 returns-clause-stops g c = λ old new t u k told. mail_kept old.post.seat new.post.seat k.room k.part k.none k.does.told t u k.grown told
+
+pub returns-clause-stays : goal.returns-clause-stays
+returns-clause-stays g c = mail_stays
 
 pub returns-clause-drives : goal.returns-clause-drives
 returns-clause-drives g c = λ gate bank limits old new ending d told.

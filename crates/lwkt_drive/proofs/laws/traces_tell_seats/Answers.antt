@@ -1,5 +1,5 @@
 use Rattle.lwkt_cpu.specs.Turning.{IsMailed, IsOfThread}
-use Rattle.lwkt_drive.proofs.TellingMoves.{told_new, told_kept, told_made}
+use Rattle.lwkt_drive.proofs.TellingMoves.{told_new, told_ran, told_kept, told_made}
 use Rattle.lwkt_drive.proofs.laws.traces_tell_seats.Goals as goal
 
 pub returns-clause-new : goal.returns-clause-new
@@ -10,6 +10,9 @@ returns-clause-turns g c = λ bank old new t u turned k told. told_kept (IsOfThr
 
 pub returns-clause-stops : goal.returns-clause-stops
 returns-clause-stops g c = λ old new t u k told. told_kept (IsMailed old.threads) 258 old.seat new.seat k.room k.part k.none k.does.ran t u k.grown told
+
+pub returns-clause-runs : goal.returns-clause-runs
+returns-clause-runs g c = λ threads most a b t u ran told. told_ran (IsMailed threads) most a b t u ran told
 
 pub returns-clause-drives : goal.returns-clause-drives
 returns-clause-drives g c = λ gate bank limits old new ending d told.
