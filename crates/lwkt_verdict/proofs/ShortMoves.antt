@@ -1,11 +1,11 @@
--- Polls that are kept short stand for the same, whatever long asks and answers come behind.
-use Rattle.std.proofs.Common.{suc, ◌≡◌, ◌∙◌, ℕ, ◌≤◌, ◌+◌, List, [], ◌∷◌, ◌++◌, length, map, refl, sym, ap, subst, arith, length-append, append-nil, set}
+-- Polls that are kept short stand for the same, whatever comes behind in the lists beside their rows.
+use Rattle.std.proofs.Common.{zero, suc, ◌≡◌, ◌∙◌, ℕ, ◌<◌, ◌≤◌, ◌+◌, List, [], ◌∷◌, ◌++◌, length, map, refl, sym, ap, subst, arith, length-append, append-nil, set}
 use Rattle.std.specs.Prelude.{Result, Ok, Err, Option, Some, None, option_map, slice_get, slice_set}
 use Rattle.std.specs.Option.{option_map_or}
 use Rattle.std.specs.Result.{OnErr}
 use Rattle.std.specs.List.{All}
 use Rattle.std.proofs.lemmas.Option.{get_or_from_slice_get, slice_get-map, slice_get_within}
-use Rattle.std.proofs.lemmas.List.{get_or_append_left, map-append, map-set}
+use Rattle.std.proofs.lemmas.List.{map-append, map-set}
 use Rattle.std.proofs.lemmas.List.Elements.{All-set, All-weaker}
 use Rattle.lwkt_base.specs.declared.asks.Ask.{Ask}
 use Rattle.lwkt_base.specs.declared.asks.Ask.TheVariants.{Exit}
@@ -13,96 +13,18 @@ use Rattle.lwkt_base.specs.declared.asks.Answer.{Answer}
 use Rattle.lwkt_base.specs.declared.asks.Answer.TheVariants.{Begin}
 use Rattle.lwkt_events.specs.ShortEvents.{GrowsBehind}
 use Rattle.lwkt_verdict.specs.declared.turns.Poll.{Poll}
-use Rattle.lwkt_verdict.specs.declared.shorts.ShortAsk.{ShortAsk}
-use Rattle.lwkt_verdict.specs.declared.shorts.ShortAsk.TheVariants.{Get as ShortGet, GetShared as ShortGetShared, TryGet as ShortTryGet, Rel as ShortRel, Swap as ShortSwap, Read as ShortRead, Write as ShortWrite, Add as ShortAdd, ReadBlob as ShortReadBlob, Send as ShortSend, Do as ShortDo, Reply as ShortReply, Abort as ShortAbort, IsAborted as ShortIsAborted, DropMsg as ShortDropMsg, GetPort as ShortGetPort, WaitPort as ShortWaitPort, Yield as ShortYield, Exit as ShortExit, Long as LongAsk}
-use Rattle.lwkt_verdict.specs.declared.shorts.ShortAnswer.{ShortAnswer}
-use Rattle.lwkt_verdict.specs.declared.shorts.ShortAnswer.TheVariants.{NotYet, Begin as ShortBegin, Done as ShortDone, Value as ShortValue, Request as ShortRequest, Answered as ShortAnswered, NoMsg as ShortNoMsg, Refused as ShortRefused, Long as LongAnswer}
+use Rattle.lwkt_verdict.specs.declared.short_asks.AskLists.{AskLists}
+use Rattle.lwkt_verdict.specs.declared.short_asks.ShortAsk.{ShortAsk}
+use Rattle.lwkt_verdict.specs.declared.short_asks.ShortAsk.TheVariants.{Get as ShortGet, GetShared as ShortGetShared, TryGet as ShortTryGet, Rel as ShortRel, Swap as ShortSwap, Read as ShortRead, Write as ShortWrite, Add as ShortAdd, ReadBlob as ShortReadBlob, Abort as ShortAbort, IsAborted as ShortIsAborted, DropMsg as ShortDropMsg, GetPort as ShortGetPort, WaitPort as ShortWaitPort, Yield as ShortYield, Exit as ShortExit, Wide as AskIsWide, Long as AskIsLong}
+use Rattle.lwkt_verdict.specs.declared.short_asks.WideAsk.{WideAsk}
+use Rattle.lwkt_verdict.specs.declared.short_answers.AnswerLists.{AnswerLists}
+use Rattle.lwkt_verdict.specs.declared.short_answers.ShortAnswer.{ShortAnswer}
+use Rattle.lwkt_verdict.specs.declared.short_answers.ShortAnswer.TheVariants.{NotYet, Begin as ShortBegin, Done as ShortDone, Value as ShortValue, NoMsg as ShortNoMsg, Wide as AnswerIsWide, Long as AnswerIsLong}
+use Rattle.lwkt_verdict.specs.declared.short_answers.WideAnswer.{WideAnswer}
 use Rattle.lwkt_verdict.specs.declared.poll_lists.PollRow.{PollRow}
 use Rattle.lwkt_core.specs.Machine.{changed}
 use Rattle.lwkt_core.proofs.MachineMoves.{changed_at}
-use Rattle.lwkt_verdict.specs.Shorts.{long_ask, long_answer, IsAskIn, IsAnswerIn, IsRowIn, poll_in, polls_in}
-
--- an ask, where more long ones come behind
-ask_longer : (longs more : List Ask) (short : ShortAsk) → IsAskIn (length longs) short → long_ask (longs ++ more) short ≡ long_ask longs short
-ask_longer longs more (ShortGet tok) inside = refl
-ask_longer longs more (ShortGetShared tok) inside = refl
-ask_longer longs more (ShortTryGet tok) inside = refl
-ask_longer longs more (ShortRel tok) inside = refl
-ask_longer longs more ShortSwap inside = refl
-ask_longer longs more (ShortRead tok cell) inside = refl
-ask_longer longs more (ShortWrite tok cell value) inside = refl
-ask_longer longs more (ShortAdd tok sum) inside = refl
-ask_longer longs more (ShortReadBlob tok) inside = refl
-ask_longer longs more (ShortSend msg to flags call) inside = refl
-ask_longer longs more (ShortDo msg to call) inside = refl
-ask_longer longs more (ShortReply msg error outcome) inside = refl
-ask_longer longs more (ShortAbort msg) inside = refl
-ask_longer longs more (ShortIsAborted msg) inside = refl
-ask_longer longs more (ShortDropMsg msg) inside = refl
-ask_longer longs more ShortGetPort inside = refl
-ask_longer longs more ShortWaitPort inside = refl
-ask_longer longs more ShortYield inside = refl
-ask_longer longs more ShortExit inside = refl
-ask_longer longs more (LongAsk place) inside = get_or_append_left longs more Exit place inside
-
-ask_stays : (few many : ℕ) (short : ShortAsk) → few ≤ many → IsAskIn few short → IsAskIn many short
-ask_stays few many (ShortGet tok) less inside = tt
-ask_stays few many (ShortGetShared tok) less inside = tt
-ask_stays few many (ShortTryGet tok) less inside = tt
-ask_stays few many (ShortRel tok) less inside = tt
-ask_stays few many ShortSwap less inside = tt
-ask_stays few many (ShortRead tok cell) less inside = tt
-ask_stays few many (ShortWrite tok cell value) less inside = tt
-ask_stays few many (ShortAdd tok sum) less inside = tt
-ask_stays few many (ShortReadBlob tok) less inside = tt
-ask_stays few many (ShortSend msg to flags call) less inside = tt
-ask_stays few many (ShortDo msg to call) less inside = tt
-ask_stays few many (ShortReply msg error outcome) less inside = tt
-ask_stays few many (ShortAbort msg) less inside = tt
-ask_stays few many (ShortIsAborted msg) less inside = tt
-ask_stays few many (ShortDropMsg msg) less inside = tt
-ask_stays few many ShortGetPort less inside = tt
-ask_stays few many ShortWaitPort less inside = tt
-ask_stays few many ShortYield less inside = tt
-ask_stays few many ShortExit less inside = tt
-ask_stays few many (LongAsk place) less inside = omega arith
-
--- an answer, where more long ones come behind
-answer_longer : (longs more : List Answer) (short : ShortAnswer) → IsAnswerIn (length longs) short → long_answer (longs ++ more) short ≡ long_answer longs short
-answer_longer longs more NotYet inside = refl
-answer_longer longs more ShortBegin inside = refl
-answer_longer longs more ShortDone inside = refl
-answer_longer longs more (ShortValue value) inside = refl
-answer_longer longs more (ShortRequest msg call) inside = refl
-answer_longer longs more (ShortAnswered msg error outcome) inside = refl
-answer_longer longs more ShortNoMsg inside = refl
-answer_longer longs more (ShortRefused fault) inside = refl
-answer_longer longs more (LongAnswer place) inside = ap (λ (a : Answer). Some a) (get_or_append_left longs more Begin place inside)
-
-answer_stays : (few many : ℕ) (short : ShortAnswer) → few ≤ many → IsAnswerIn few short → IsAnswerIn many short
-answer_stays few many NotYet less inside = tt
-answer_stays few many ShortBegin less inside = tt
-answer_stays few many ShortDone less inside = tt
-answer_stays few many (ShortValue value) less inside = tt
-answer_stays few many (ShortRequest msg call) less inside = tt
-answer_stays few many (ShortAnswered msg error outcome) less inside = tt
-answer_stays few many ShortNoMsg less inside = tt
-answer_stays few many (ShortRefused fault) less inside = tt
-answer_stays few many (LongAnswer place) less inside = omega arith
-
-abbrev made : Option Answer → Ask → PollRow → Poll
-made answer ask row = record { answer = answer; ask = ask; thread = row.thread }
-
--- the poll of a row
-row_longer : (asks asks' : List Ask) (answers answers' : List Answer) (row : PollRow) → IsRowIn (length asks) (length answers) row → poll_in (asks ++ asks') (answers ++ answers') row ≡ poll_in asks answers row
-row_longer asks asks' answers answers' row is =
-    ap (λ (a : Option Answer). made a (long_ask (asks ++ asks') row.ask) row) (answer_longer answers answers' row.answer is.answer) ∙ ap (λ (a : Ask). made (long_answer answers row.answer) a row) (ask_longer asks asks' row.ask is.ask)
-
-pub row_stays : (asks answers asks' answers' : ℕ) → asks ≤ asks' → answers ≤ answers' → (row : PollRow) → IsRowIn asks answers row → IsRowIn asks' answers' row
-row_stays asks answers asks' answers' one other row is = record {
-  ask = ask_stays asks asks' row.ask one is.ask;
-  answer = answer_stays answers answers' row.answer other is.answer;
-}
+use Rattle.lwkt_verdict.specs.Shorts.{wide_ask, wide_answer, long_ask, long_answer, IsAskIn, IsAnswerIn, IsRowIn, poll_in, polls_in}
 
 -- lists that have grown
 pub stays : {A : Type 0} (xs : List A) → GrowsBehind xs xs
@@ -113,22 +35,129 @@ grown_long xs ys grows =
     let e : length ys ≡ length xs + length grows.more = ap length grows.is ∙ length-append xs grows.more in
     omega arith
 
+get_left : {A : Type 0} (xs ys : List A) (k : ℕ) → k < length xs → slice_get (xs ++ ys) k ≡ slice_get xs k
+get_left [] ys k less = absurd (omega (arith, less))
+get_left (x ∷ xs) ys zero less = refl
+get_left (x ∷ xs) ys (suc k) less = get_left xs ys k (omega (arith, less))
+
+-- an element of a list is there still, where it has grown
+grown_get : {A : Type 0} (xs ys : List A) → GrowsBehind xs ys → (k : ℕ) → k < length xs → slice_get ys k ≡ slice_get xs k
+grown_get xs ys grows k inside = ap (λ (l : List _). slice_get l k) grows.is ∙ get_left xs grows.more k inside
+
+-- the lists of asks have grown
+pub record GrowAsks (old new : AskLists) : Type 0 where
+  pub wides : GrowsBehind old.wides.items new.wides.items
+  pub longs : GrowsBehind old.longs.items new.longs.items
+
+-- the lists of answers have grown
+pub record GrowAnswers (old new : AnswerLists) : Type 0 where
+  pub wides : GrowsBehind old.wides.items new.wides.items
+  pub longs : GrowsBehind old.longs.items new.longs.items
+
+pub asks_stay : (l : AskLists) → GrowAsks l l
+asks_stay l = record { wides = stays l.wides.items; longs = stays l.longs.items }
+
+pub answers_stay : (l : AnswerLists) → GrowAnswers l l
+answers_stay l = record { wides = stays l.wides.items; longs = stays l.longs.items }
+
+abbrev ask_of : AskLists → ShortAsk → ℕ → Ask
+ask_of l short number = long_ask l.wides.items l.longs.items short number
+
+abbrev answer_of : AnswerLists → ShortAnswer → ℕ → Option Answer
+answer_of l short number = long_answer l.wides.items l.longs.items short number
+
+abbrev IsAskOf : AskLists → ShortAsk → ℕ → Type 0
+IsAskOf l short number = IsAskIn (length l.wides.items) (length l.longs.items) short number
+
+abbrev IsAnswerOf : AnswerLists → ShortAnswer → ℕ → Type 0
+IsAnswerOf l short number = IsAnswerIn (length l.wides.items) (length l.longs.items) short number
+
+-- an ask, where more come behind
+ask_longer : (l m : AskLists) → GrowAsks l m → (short : ShortAsk) (n : ℕ) → IsAskOf l short n → ask_of m short n ≡ ask_of l short n
+ask_longer l m grow (ShortGet tok) n inside = refl
+ask_longer l m grow (ShortGetShared tok) n inside = refl
+ask_longer l m grow (ShortTryGet tok) n inside = refl
+ask_longer l m grow (ShortRel tok) n inside = refl
+ask_longer l m grow ShortSwap n inside = refl
+ask_longer l m grow (ShortRead tok cell) n inside = refl
+ask_longer l m grow (ShortWrite tok cell) n inside = refl
+ask_longer l m grow (ShortAdd tok) n inside = refl
+ask_longer l m grow (ShortReadBlob tok) n inside = refl
+ask_longer l m grow (ShortAbort msg) n inside = refl
+ask_longer l m grow (ShortIsAborted msg) n inside = refl
+ask_longer l m grow (ShortDropMsg msg) n inside = refl
+ask_longer l m grow ShortGetPort n inside = refl
+ask_longer l m grow ShortWaitPort n inside = refl
+ask_longer l m grow ShortYield n inside = refl
+ask_longer l m grow ShortExit n inside = refl
+ask_longer l m grow AskIsWide n inside = ap (λ (o : Option WideAsk). option_map_or wide_ask o Exit) (grown_get l.wides.items m.wides.items grow.wides n inside)
+ask_longer l m grow AskIsLong n inside = ap (λ (o : Option Ask). option_map_or (λ a. a) o Exit) (grown_get l.longs.items m.longs.items grow.longs n inside)
+
+ask_stays : (l m : AskLists) → GrowAsks l m → (short : ShortAsk) (n : ℕ) → IsAskOf l short n → IsAskOf m short n
+ask_stays l m grow (ShortGet tok) n inside = tt
+ask_stays l m grow (ShortGetShared tok) n inside = tt
+ask_stays l m grow (ShortTryGet tok) n inside = tt
+ask_stays l m grow (ShortRel tok) n inside = tt
+ask_stays l m grow ShortSwap n inside = tt
+ask_stays l m grow (ShortRead tok cell) n inside = tt
+ask_stays l m grow (ShortWrite tok cell) n inside = tt
+ask_stays l m grow (ShortAdd tok) n inside = tt
+ask_stays l m grow (ShortReadBlob tok) n inside = tt
+ask_stays l m grow (ShortAbort msg) n inside = tt
+ask_stays l m grow (ShortIsAborted msg) n inside = tt
+ask_stays l m grow (ShortDropMsg msg) n inside = tt
+ask_stays l m grow ShortGetPort n inside = tt
+ask_stays l m grow ShortWaitPort n inside = tt
+ask_stays l m grow ShortYield n inside = tt
+ask_stays l m grow ShortExit n inside = tt
+ask_stays l m grow AskIsWide n inside = let less = grown_long l.wides.items m.wides.items grow.wides in omega (arith, less, inside)
+ask_stays l m grow AskIsLong n inside = let less = grown_long l.longs.items m.longs.items grow.longs in omega (arith, less, inside)
+
+-- an answer, where more come behind
+answer_longer : (l m : AnswerLists) → GrowAnswers l m → (short : ShortAnswer) (n : ℕ) → IsAnswerOf l short n → answer_of m short n ≡ answer_of l short n
+answer_longer l m grow NotYet n inside = refl
+answer_longer l m grow ShortBegin n inside = refl
+answer_longer l m grow ShortDone n inside = refl
+answer_longer l m grow ShortValue n inside = refl
+answer_longer l m grow ShortNoMsg n inside = refl
+answer_longer l m grow AnswerIsWide n inside = ap (λ (o : Option WideAnswer). Some (option_map_or wide_answer o Begin)) (grown_get l.wides.items m.wides.items grow.wides n inside)
+answer_longer l m grow AnswerIsLong n inside = ap (λ (o : Option Answer). Some (option_map_or (λ a. a) o Begin)) (grown_get l.longs.items m.longs.items grow.longs n inside)
+
+answer_stays : (l m : AnswerLists) → GrowAnswers l m → (short : ShortAnswer) (n : ℕ) → IsAnswerOf l short n → IsAnswerOf m short n
+answer_stays l m grow NotYet n inside = tt
+answer_stays l m grow ShortBegin n inside = tt
+answer_stays l m grow ShortDone n inside = tt
+answer_stays l m grow ShortValue n inside = tt
+answer_stays l m grow ShortNoMsg n inside = tt
+answer_stays l m grow AnswerIsWide n inside = let less = grown_long l.wides.items m.wides.items grow.wides in omega (arith, less, inside)
+answer_stays l m grow AnswerIsLong n inside = let less = grown_long l.longs.items m.longs.items grow.longs in omega (arith, less, inside)
+
+abbrev made : Option Answer → Ask → PollRow → Poll
+made answer ask row = record { answer = answer; ask = ask; thread = row.thread }
+
+-- the poll of a row
+row_longer : (asks asks' : AskLists) (answers answers' : AnswerLists) → GrowAsks asks asks' → GrowAnswers answers answers' → (row : PollRow) → IsRowIn asks answers row → poll_in asks' answers' row ≡ poll_in asks answers row
+row_longer asks asks' answers answers' one other row is =
+    ap (λ (a : Option Answer). made a (ask_of asks' row.ask row.ask_number) row) (answer_longer answers answers' other row.answer row.answer_number is.answer) ∙ ap (λ (a : Ask). made (answer_of answers row.answer row.answer_number) a row) (ask_longer asks asks' one row.ask row.ask_number is.ask)
+
+row_stays : (asks asks' : AskLists) (answers answers' : AnswerLists) → GrowAsks asks asks' → GrowAnswers answers answers' → (row : PollRow) → IsRowIn asks answers row → IsRowIn asks' answers' row
+row_stays asks asks' answers answers' one other row is = record {
+  ask = ask_stays asks asks' one row.ask row.ask_number is.ask;
+  answer = answer_stays answers answers' other row.answer row.answer_number is.answer;
+}
+
 -- the polls of rows
-polls_longer : (asks asks' : List Ask) (answers answers' : List Answer) (rows : List PollRow) → All (IsRowIn (length asks) (length answers)) rows → polls_in (asks ++ asks') (answers ++ answers') rows ≡ polls_in asks answers rows
-polls_longer asks asks' answers answers' [] all = refl
-polls_longer asks asks' answers answers' (row ∷ rows) all =
-    ap (λ (q : Poll). q ∷ polls_in (asks ++ asks') (answers ++ answers') rows) (row_longer asks asks' answers answers' row (all 0 row (omega arith))) ∙ ap (λ (qs : List Poll). poll_in asks answers row ∷ qs) (polls_longer asks asks' answers answers' rows (λ k d inside. all (suc k) d (omega arith)))
+pub polls_grown : (asks asks' : AskLists) (answers answers' : AnswerLists) → GrowAsks asks asks' → GrowAnswers answers answers' → (rows : List PollRow) → All (IsRowIn asks answers) rows → polls_in asks' answers' rows ≡ polls_in asks answers rows
+polls_grown asks asks' answers answers' one other [] all = refl
+polls_grown asks asks' answers answers' one other (row ∷ rows) all =
+    ap (λ (q : Poll). q ∷ polls_in asks' answers' rows) (row_longer asks asks' answers answers' one other row (all 0 row (omega arith))) ∙ ap (λ (qs : List Poll). poll_in asks answers row ∷ qs) (polls_grown asks asks' answers answers' one other rows (λ k d inside. all (suc k) d (omega arith)))
 
-pub polls_grown : (asks asks' : List Ask) (answers answers' : List Answer) (rows : List PollRow) → GrowsBehind asks asks' → GrowsBehind answers answers' → All (IsRowIn (length asks) (length answers)) rows → polls_in asks' answers' rows ≡ polls_in asks answers rows
-polls_grown asks asks' answers answers' rows one other all =
-    ap (λ (xs : List Ask). polls_in xs answers' rows) one.is ∙ ap (λ (ys : List Answer). polls_in (asks ++ one.more) ys rows) other.is ∙ polls_longer asks one.more answers other.more rows all
-
-pub rows_grown : (asks asks' : List Ask) (answers answers' : List Answer) (rows : List PollRow) → GrowsBehind asks asks' → GrowsBehind answers answers' → All (IsRowIn (length asks) (length answers)) rows → All (IsRowIn (length asks') (length answers')) rows
-rows_grown asks asks' answers answers' rows one other all =
-    All-weaker (IsRowIn (length asks) (length answers)) (IsRowIn (length asks') (length answers')) (row_stays (length asks) (length answers) (length asks') (length answers') (grown_long asks asks' one) (grown_long answers answers' other)) rows all
+pub rows_grown : (asks asks' : AskLists) (answers answers' : AnswerLists) → GrowAsks asks asks' → GrowAnswers answers answers' → (rows : List PollRow) → All (IsRowIn asks answers) rows → All (IsRowIn asks' answers') rows
+rows_grown asks asks' answers answers' one other rows all =
+    All-weaker (IsRowIn asks answers) (IsRowIn asks' answers') (row_stays asks asks' answers answers' one other) rows all
 
 -- one poll more
-pub polls_pushed : (asks : List Ask) (answers : List Answer) (rows new : List PollRow) (row : PollRow) (qs : List Poll) (q : Poll) → new ≡ rows ++ row ∷ [] → polls_in asks answers rows ≡ qs → poll_in asks answers row ≡ q → polls_in asks answers new ≡ qs ++ q ∷ []
+pub polls_pushed : (asks : AskLists) (answers : AnswerLists) (rows new : List PollRow) (row : PollRow) (qs : List Poll) (q : Poll) → new ≡ rows ++ row ∷ [] → polls_in asks answers rows ≡ qs → poll_in asks answers row ≡ q → polls_in asks answers new ≡ qs ++ q ∷ []
 polls_pushed asks answers rows new row qs q is before one =
     ap (polls_in asks answers) is ∙ map-append (poll_in asks answers) rows (row ∷ []) ∙ ap (λ (xs : List Poll). xs ++ poll_in asks answers row ∷ []) before ∙ ap (λ (x : Poll). qs ++ x ∷ []) one
 

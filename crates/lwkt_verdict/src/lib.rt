@@ -4,7 +4,8 @@
 //! Words: an *event* is something that a processor did, as its trace tells it; a *poll* is one call of a thread's body: what it
 //! asked, and the answer that it was given later; a *piece* is a turn's poll and its *part* of the trace; a turn *fits* if its
 //! piece is what the threads may do then; the *progress* of a thread is how far it is in its steps and its log; a *pace* says how
-//! turns follow one another; a *short* ask or answer is kept without room for a record, and a *long* one is one that has a record.
+//! turns follow one another; a *short* ask or answer lies in the row of its poll, a *wide* one in a list beside
+//! the rows, and a *long* one, which has a record, in another.
 #![tactic(auto)]
 
 mod asks;
@@ -20,7 +21,8 @@ mod poll_lists;
 mod polls;
 mod progress;
 mod rounds;
-mod shorts;
+mod short_answers;
+mod short_asks;
 pub mod turns;
 
 pub use asks::entry_of;

@@ -3,7 +3,8 @@ ghost use Rattle.std.specs.Prelude.{◌≡◌, length, OnOk, OnErr, Some, None, 
 ghost use Rattle.lwkt_core.specs.Machine.{changed};
 ghost use Rattle.lwkt_verdict.specs.Asks.{is_refused};
 
-use crate::shorts::{ShortAnswer, ShortAsk, keep_answer, keep_ask};
+use crate::short_answers::{AnswerLists, KeptAnswer, ShortAnswer};
+use crate::short_asks::{AskLists, ShortAsk};
 use crate::turns::Poll;
 use lwkt_base::{Answer, Ask, ThreadId};
 use std::alloc::{AllocError, Global};
@@ -12,43 +13,49 @@ use std::marker::Model;
 /// A poll as it is kept.
 #[derive(Clone, Copy)]
 pub struct PollRow {
-    /// Its answer, or where its record lies.
-    pub answer: ShortAnswer,
-    /// Its ask, or where its record lies.
+    /// The number beside the ask.
+    pub ask_number: u64,
+    /// The number beside the answer.
+    pub answer_number: u64,
+    /// Its ask, or in which list it lies.
     pub ask: ShortAsk,
+    /// Its answer, or in which list it lies.
+    pub answer: ShortAnswer,
     /// The thread that was polled.
     pub thread: ThreadId,
 }
 
 /// The polls of a run, in order.
 ///
-/// Few asks and answers have a record. So a poll is kept in a row of 56 bytes, and a record lies in a list of its own.
+/// A poll is kept in a row of 24 bytes. What a row has no room for lies in lists beside the rows: the asks and answers that say more,
+/// and the few that have a record.
 #[derive(Drop)]
 pub struct PollList {
     rows: Vec<PollRow>,
-    // The asks and the answers that are too long for a row.
-    asks: Vec<Ask>,
-    answers: Vec<Answer>,
+    asks: AskLists,
+    answers: AnswerLists,
 }
 
 impl Model for PollList {
-    ghost use Rattle.std.specs.Prelude.{List, All, length};
+    ghost use Rattle.std.specs.Prelude.{List, All};
     ghost use Rattle.lwkt_verdict.specs.declared.turns.Poll.{Poll};
     ghost use Rattle.lwkt_verdict.specs.Shorts.{polls_in, IsRowIn};
 
     ghost Value = { List Poll };
 
-    ghost view = { λ p. polls_in p.asks.items p.answers.items p.rows.items };
+    ghost view = { λ p. polls_in p.asks p.answers p.rows.items };
 
-    ghost invariant = { λ p. All (IsRowIn (length p.asks.items) (length p.answers.items)) p.rows.items };
+    ghost invariant = { λ p. All (IsRowIn p.asks p.answers) p.rows.items };
 }
 
 // The row at a place, if there is one, gets this answer.
-fn answer_row(rows: &mut Vec<PollRow>, place: usize, answer: ShortAnswer)
-    ensures { rows.new.items ≡ changed (λ r. record r { answer = answer }) rows.old.items place }
+fn answer_row(rows: &mut Vec<PollRow>, place: usize, kept: KeptAnswer)
+    ensures { rows.new.items ≡ changed (λ r. record r { answer_number = kept.number; answer = kept.short }) rows.old.items place }
 {
     if place < rows.len() {
-        rows[place].answer = answer;
+        let row = &mut rows[place];
+        row.answer_number = kept.number;
+        row.answer = kept.short;
     }
 }
 
@@ -59,8 +66,8 @@ impl PollList {
     {
         PollList {
             rows: Vec::new(alloc),
-            asks: Vec::new(alloc),
-            answers: Vec::new(alloc),
+            asks: AskLists::new(alloc),
+            answers: AnswerLists::new(alloc),
         }
     }
 
@@ -79,8 +86,9 @@ impl PollList {
         match self.rows.get(place) {
             None => false,
             Some(row) => {
-                row.answer.write(&self.answers, &mut poll.answer);
-                row.ask.write(&self.asks, &mut poll.ask);
+                self.answers
+                    .write(row.answer, row.answer_number, &mut poll.answer);
+                self.asks.write(row.ask, row.ask_number, &mut poll.ask);
                 poll.thread = row.thread;
                 true
             }
@@ -105,7 +113,7 @@ impl PollList {
     {
         match self.rows.get(place) {
             None => None,
-            Some(row) => Some(row.answer.is_there()),
+            Some(row) => Some(row.answer.is_there(row.answer_number)),
         }
     }
 
@@ -115,7 +123,7 @@ impl PollList {
     {
         match self.rows.get(place) {
             None => None,
-            Some(row) => Some(row.answer.is_refusal(&self.answers)),
+            Some(row) => Some(self.answers.is_refusal(row.answer, row.answer_number)),
         }
     }
 
@@ -124,10 +132,12 @@ impl PollList {
         ensures ok { OnOk result (self.new ≡ self.old ++ record { answer = None; ask = ask.now; thread = thread } ∷ []) }
         ensures err { OnErr result (self.new ≡ self.old) }
     {
-        let ask = keep_ask(&mut self.asks, ask)?;
+        let kept = self.asks.keep(ask)?;
         self.rows.push(PollRow {
+            ask_number: kept.number,
+            answer_number: 0,
+            ask: kept.short,
             answer: ShortAnswer::NotYet,
-            ask,
             thread,
         })?;
         Ok(())
@@ -139,8 +149,8 @@ impl PollList {
         ensures ok { OnOk result (self.new ≡ changed (λ q. record q { answer = Some answer.now }) self.old place) }
         ensures err { OnErr result (self.new ≡ self.old) }
     {
-        let answer = keep_answer(&mut self.answers, answer)?;
-        answer_row(&mut self.rows, place, answer);
+        let kept = self.answers.keep(answer)?;
+        answer_row(&mut self.rows, place, kept);
         Ok(())
     }
 }

@@ -1,0 +1,201 @@
+//! Asks as polls are kept by them: short, in a row, or in a list beside the rows.
+//!
+//! An `Ask` has room for a record, so it is large. A row has the kind of an ask with its small numbers, and beside it one number more:
+//! the value of a write or an addition. A send, a call and a reply say more than that, so they are *wide* and lie in a list of their
+//! own. A store of a record is *long* and lies in a list of whole asks. Of these the row's number is the place there.
+ghost use Rattle.std.specs.Prelude.{◌≡◌, ◌||◌, [], not, length, map, IfSome, IfOk, OnErr, is_some};
+ghost use Rattle.lwkt_events.specs.ShortEvents.{GrowsBehind};
+ghost use Rattle.lwkt_verdict.specs.Shorts.{wide_ask, long_ask, is_wide_ask, is_long_ask, wide_ask_place, long_ask_place, kept_place, with_kept, IsAskIn};
+
+use lwkt_base::{Ask, Call, Flags, MsgId, ThreadId, TokId};
+use std::alloc::{AllocError, Global};
+
+/// An ask as a row has it, with a number beside it. Each kind but the last two is that of `Ask`.
+#[derive(Clone, Copy)]
+pub enum ShortAsk {
+    Get(TokId),
+    GetShared(TokId),
+    TryGet(TokId),
+    Rel(TokId),
+    Swap,
+    Read(TokId, u8),
+    /// The number is the value.
+    Write(TokId, u8),
+    /// The number is what is added.
+    Add(TokId),
+    ReadBlob(TokId),
+    Abort(MsgId),
+    IsAborted(MsgId),
+    DropMsg(MsgId),
+    GetPort,
+    WaitPort,
+    Yield,
+    Exit,
+    /// The number is the place of a wide ask.
+    Wide,
+    /// The number is the place of a long ask.
+    Long,
+}
+
+/// An ask that a row has no room for, without a record. Each kind is that of `Ask`.
+#[derive(Clone, Copy)]
+pub enum WideAsk {
+    Send(MsgId, ThreadId, Flags, Call),
+    Do(MsgId, ThreadId, Call),
+    Reply(MsgId, u32, u64),
+}
+
+/// What a row has of an ask.
+#[derive(Clone, Copy)]
+pub struct KeptAsk {
+    /// The number beside the ask, 0 if its kind has none.
+    pub number: u64,
+    pub short: ShortAsk,
+}
+
+/// The asks that rows have no room for.
+#[derive(Drop)]
+pub struct AskLists {
+    pub wides: Vec<WideAsk>,
+    pub longs: Vec<Ask>,
+}
+
+impl WideAsk {
+    // A wide ask.
+    fn of(ask: &Ask) -> Option<WideAsk>
+        ensures same { IfSome result (λ wide. wide_ask wide ≡ ask.now) }
+        ensures wide { is_some result ≡ is_wide_ask ask.now }
+    {
+        match *ask {
+            Ask::Send(msg, to, call, flags) => Some(WideAsk::Send(msg, to, flags, call)),
+            Ask::Do(msg, to, call) => Some(WideAsk::Do(msg, to, call)),
+            Ask::Reply(msg, error, outcome) => Some(WideAsk::Reply(msg, error, outcome)),
+            _ => None,
+        }
+    }
+
+    // Writes the whole ask.
+    fn write(&self, ask: &mut Ask)
+        ensures { ask.new ≡ wide_ask self.now }
+    {
+        match *self {
+            WideAsk::Send(msg, to, flags, call) => *ask = Ask::Send(msg, to, call, flags),
+            WideAsk::Do(msg, to, call) => *ask = Ask::Do(msg, to, call),
+            WideAsk::Reply(msg, error, outcome) => *ask = Ask::Reply(msg, error, outcome),
+        }
+    }
+}
+
+impl KeptAsk {
+    // What a row has of an ask of this kind, with this number.
+    fn with(short: ShortAsk, number: u64) -> Option<KeptAsk>
+        ensures { result ≡ Some (record { number = number; short = short }) }
+    {
+        Some(KeptAsk { number, short })
+    }
+
+    // What a row has of an ask that it has room for.
+    fn of(ask: &Ask) -> Option<KeptAsk>
+        ensures same { IfSome result (λ kept. (wides longs : _) → long_ask wides longs kept.short kept.number ≡ ask.now) }
+        ensures inside { IfSome result (λ kept. IsAskIn 0 0 kept.short kept.number) }
+        ensures short { is_some result ≡ not (is_wide_ask ask.now || is_long_ask ask.now) }
+    {
+        match *ask {
+            Ask::Get(tok) => KeptAsk::with(ShortAsk::Get(tok), 0),
+            Ask::GetShared(tok) => KeptAsk::with(ShortAsk::GetShared(tok), 0),
+            Ask::TryGet(tok) => KeptAsk::with(ShortAsk::TryGet(tok), 0),
+            Ask::Rel(tok) => KeptAsk::with(ShortAsk::Rel(tok), 0),
+            Ask::Swap => KeptAsk::with(ShortAsk::Swap, 0),
+            Ask::Read(tok, cell) => KeptAsk::with(ShortAsk::Read(tok, cell), 0),
+            Ask::Write(tok, cell, value) => KeptAsk::with(ShortAsk::Write(tok, cell), value),
+            Ask::Add(tok, more) => KeptAsk::with(ShortAsk::Add(tok), more),
+            Ask::ReadBlob(tok) => KeptAsk::with(ShortAsk::ReadBlob(tok), 0),
+            Ask::Abort(msg) => KeptAsk::with(ShortAsk::Abort(msg), 0),
+            Ask::IsAborted(msg) => KeptAsk::with(ShortAsk::IsAborted(msg), 0),
+            Ask::DropMsg(msg) => KeptAsk::with(ShortAsk::DropMsg(msg), 0),
+            Ask::GetPort => KeptAsk::with(ShortAsk::GetPort, 0),
+            Ask::WaitPort => KeptAsk::with(ShortAsk::WaitPort, 0),
+            Ask::Yield => KeptAsk::with(ShortAsk::Yield, 0),
+            Ask::Exit => KeptAsk::with(ShortAsk::Exit, 0),
+            Ask::Send(..) | Ask::Do(..) | Ask::Reply(..) | Ask::WriteBlob(..) => None,
+        }
+    }
+}
+
+impl AskLists {
+    /// None.
+    pub fn new(alloc: Global) -> Self
+        ensures wides { result.wides.items ≡ [] }
+        ensures longs { result.longs.items ≡ [] }
+    {
+        AskLists {
+            wides: Vec::new(alloc),
+            longs: Vec::new(alloc),
+        }
+    }
+
+    /// Keeps an ask. A wide one lies behind the other wide ones then, a long one behind the other long ones, and any other in the row
+    /// alone. Where memory for it is refused, nothing changes.
+    pub fn keep(&mut self, ask: &Ask) -> Result<KeptAsk, AllocError>
+        ensures same { IfOk result (λ kept. long_ask self.new.wides.items self.new.longs.items kept.short kept.number ≡ ask.now) }
+        ensures inside { IfOk result (λ kept. IsAskIn (length self.new.wides.items) (length self.new.longs.items) kept.short kept.number) }
+        ensures wide { IfOk result (λ kept. wide_ask_place kept.short kept.number ≡ kept_place (is_wide_ask ask.now) self.old.wides.items) }
+        ensures long { IfOk result (λ kept. long_ask_place kept.short kept.number ≡ kept_place (is_long_ask ask.now) self.old.longs.items) }
+        ensures added_wide { IfOk result (λ kept. map wide_ask self.new.wides.items ≡ with_kept (is_wide_ask ask.now) (map wide_ask self.old.wides.items) ask.now) }
+        ensures added_long { IfOk result (λ kept. self.new.longs.items ≡ with_kept (is_long_ask ask.now) self.old.longs.items ask.now) }
+        ensures refused { OnErr result ((self.new.wides.items ≡ self.old.wides.items) × (self.new.longs.items ≡ self.old.longs.items)) }
+        ensures grow_wides { GrowsBehind self.old.wides.items self.new.wides.items }
+        ensures grow_longs { GrowsBehind self.old.longs.items self.new.longs.items }
+    {
+        if let Some(kept) = KeptAsk::of(ask) {
+            return Ok(kept);
+        }
+        if let Some(wide) = WideAsk::of(ask) {
+            let place = self.wides.len();
+            self.wides.push(wide)?;
+            return Ok(KeptAsk {
+                number: place as u64,
+                short: ShortAsk::Wide,
+            });
+        }
+        let place = self.longs.len();
+        self.longs.push(*ask)?;
+        Ok(KeptAsk {
+            number: place as u64,
+            short: ShortAsk::Long,
+        })
+    }
+
+    /// Writes the whole ask of which a row has this. Each kind is written by itself, since only a record takes all the room.
+    #[inline(always)]
+    pub fn write(&self, short: ShortAsk, number: u64, ask: &mut Ask)
+        ensures { ask.new ≡ long_ask self.now.wides.items self.now.longs.items short number }
+    {
+        match short {
+            ShortAsk::Get(tok) => *ask = Ask::Get(tok),
+            ShortAsk::GetShared(tok) => *ask = Ask::GetShared(tok),
+            ShortAsk::TryGet(tok) => *ask = Ask::TryGet(tok),
+            ShortAsk::Rel(tok) => *ask = Ask::Rel(tok),
+            ShortAsk::Swap => *ask = Ask::Swap,
+            ShortAsk::Read(tok, cell) => *ask = Ask::Read(tok, cell),
+            ShortAsk::Write(tok, cell) => *ask = Ask::Write(tok, cell, number),
+            ShortAsk::Add(tok) => *ask = Ask::Add(tok, number),
+            ShortAsk::ReadBlob(tok) => *ask = Ask::ReadBlob(tok),
+            ShortAsk::Abort(msg) => *ask = Ask::Abort(msg),
+            ShortAsk::IsAborted(msg) => *ask = Ask::IsAborted(msg),
+            ShortAsk::DropMsg(msg) => *ask = Ask::DropMsg(msg),
+            ShortAsk::GetPort => *ask = Ask::GetPort,
+            ShortAsk::WaitPort => *ask = Ask::WaitPort,
+            ShortAsk::Yield => *ask = Ask::Yield,
+            ShortAsk::Exit => *ask = Ask::Exit,
+            ShortAsk::Wide => match self.wides.get(number as usize) {
+                None => *ask = Ask::Exit,
+                Some(wide) => wide.write(ask),
+            },
+            ShortAsk::Long => match self.longs.get(number as usize) {
+                None => *ask = Ask::Exit,
+                Some(long) => *ask = *long,
+            },
+        }
+    }
+}
