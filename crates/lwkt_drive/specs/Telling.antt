@@ -25,7 +25,7 @@ use Rattle.lwkt_msg.specs.Told.{IsDone as IsMailDone, first_mails}
 use Rattle.lwkt_cpu.specs.declared.answers.Turned.{Turned}
 use Rattle.lwkt_cpu.specs.declared.threads.Thread.{Thread}
 use Rattle.lwkt_cpu.specs.Processors.{Processor}
-use Rattle.lwkt_cpu.specs.Turning.{IsMailed}
+use Rattle.lwkt_cpu.specs.Turning.{IsMailed, MakesTurn}
 use Rattle.lwkt_drive.specs.declared.driven.Driven.{Driven}
 use Rattle.lwkt_drive.specs.declared.driven.Limits.{Limits}
 use Rattle.lwkt_drive.specs.declared.driven.Ending.{Ending}
@@ -51,10 +51,13 @@ TurnsAreTold {B} polled = (bank : BankId) (old new : Processor B) (t u : List Ev
 abbrev pub StopsAreTold : {B : Type 0} → (B → Answer → Ask → B → Type 0) → Type 0
 StopsAreTold {B} polled = (old new : Processor B) (t u : List Event) → AppendsStop old new t u → TellsSeat old.seat t → TellsSeat new.seat u
 
--- a theorem: where a vector told a seat before something was done and told into it, as `Cpu::stop` tells a stop, it tells it afterwards;
--- each list that was given up was the running thread's or one of these threads'
-abbrev pub RunsAreTold : Type 0
-RunsAreTold = (threads : List Thread) (most : ℕ) (a b : CpuSeat) (t u : Vec Event Global) → Ran (IsMailed threads) most a b t u → TellsSeat a t.items → TellsSeat b u.items
+-- a theorem: where a vector told a processor's seat before a turn that was told into it, it tells it afterwards
+abbrev pub VectorTurnsAreTold : {B : Type 0} → (B → Answer → Ask → B → Type 0) → Type 0
+VectorTurnsAreTold {B} polled = (bank : BankId) (old new : Processor B) (t u : Vec Event Global) (turned : Turned) → MakesTurn polled bank old new t u turned → TellsSeat old.seat t.items → TellsSeat new.seat u.items
+
+-- a theorem: the same of a stop, in which the lists that are given up are the running thread's and those of threads that hold something
+abbrev pub VectorStopsAreTold : Type 0
+VectorStopsAreTold = (threads : List Thread) (most : ℕ) (a b : CpuSeat) (t u : Vec Event Global) → Ran (IsMailed threads) most a b t u → TellsSeat a t.items → TellsSeat b u.items
 
 -- a theorem: where a processor's trace told its seat before it was driven, it tells it afterwards
 abbrev pub DrivesAreTold : {B G : Type 0} → (B → Answer → Ask → B → Type 0) → (G → CpuId → ℕ → Bool → Type 0) → Type 0

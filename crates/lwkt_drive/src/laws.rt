@@ -1,17 +1,18 @@
 //! What the traces of processors that were driven tell, and how one ends as quiet, as theorems.
 ghost use Rattle.lwkt_drive.specs.Course.{QuietEndsAreSilent};
-ghost use Rattle.lwkt_drive.specs.Telling.{NewIsTold, TurnsAreTold, StopsAreTold, RunsAreTold, DrivesAreTold, TracesTellOneRun, NewMailIsTold, MailTurnsAreTold, MailStopsAreTold, MailStaysTold, MailDrivesAreTold, TracesTellOneMailRun};
+ghost use Rattle.lwkt_drive.specs.Telling.{NewIsTold, TurnsAreTold, StopsAreTold, VectorTurnsAreTold, VectorStopsAreTold, DrivesAreTold, TracesTellOneRun, NewMailIsTold, MailTurnsAreTold, MailStopsAreTold, MailStaysTold, MailDrivesAreTold, TracesTellOneMailRun};
 
 use crate::gates::Gate;
 use lwkt_cpu::Body;
 
 /// The theorem that a trace tells what its processor's seat has done at the bank: at the opening, and after it was driven, made a
-/// turn or was stopped if it did so before.
+/// turn or was stopped if it did so before. It holds of a vector, too, into which `Cpu::turn` or `Cpu::stop` tells what it does.
 pub fn traces_tell_seats<B: Body, G: Gate>()
     ensures new { NewIsTold }
     ensures turns { TurnsAreTold B.polled }
     ensures stops { StopsAreTold B.polled }
-    ensures runs { RunsAreTold }
+    ensures vector_turns { VectorTurnsAreTold B.polled }
+    ensures vector_stops { VectorStopsAreTold }
     ensures drives { DrivesAreTold B.polled G.answers }
 {}
 
@@ -22,7 +23,8 @@ pub fn traces_tell_one_run()
 {}
 
 /// The theorem that a trace has, of messages, what its processor's seat has done at the book: at the opening, and after it was
-/// driven, made a turn or was stopped if it did so before.
+/// driven, made a turn or was stopped if it did so before. It holds of a vector, too, into which `Cpu::turn` or `Cpu::stop` tells
+/// what it does.
 pub fn traces_tell_desks<B: Body, G: Gate>()
     ensures new { NewMailIsTold }
     ensures turns { MailTurnsAreTold B.polled }
