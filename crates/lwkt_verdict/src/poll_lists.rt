@@ -113,7 +113,7 @@ impl PollList {
     {
         match self.rows.get(place) {
             None => None,
-            Some(row) => Some(row.answer.is_there(row.answer_number)),
+            Some(row) => Some(row.answer.is_there()),
         }
     }
 

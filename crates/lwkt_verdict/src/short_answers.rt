@@ -112,8 +112,8 @@ impl KeptAnswer {
 
 impl ShortAnswer {
     /// Whether there is an answer.
-    pub fn is_there(self, number: u64) -> bool
-        ensures { (wides longs : _) → is_some (long_answer wides longs self number) ≡ result }
+    pub fn is_there(self) -> bool
+        ensures { (wides longs number : _) → is_some (long_answer wides longs self number) ≡ result }
     {
         !matches!(self, ShortAnswer::NotYet)
     }
