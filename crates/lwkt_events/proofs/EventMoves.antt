@@ -1,15 +1,18 @@
 -- Events that are kept short stand for the same, whatever sections and long events come behind.
 use Rattle.std.proofs.Common.{zero, suc, ◌≡◌, ◌∙◌, ℕ, ◌<◌, ◌≤◌, ◌+◌, ◌-◌, List, [], ◌∷◌, ◌++◌, length, take, drop, get_or, refl, sym, ap, arith, length-append}
-use Rattle.std.specs.Prelude.{slice_get, Option}
+use Rattle.std.specs.Prelude.{slice_get, Option, Some, option_map}
 use Rattle.std.specs.Option.{option_map_or}
 use Rattle.std.specs.List.{All}
 use Rattle.std.proofs.lemmas.List.{map-append, length-map, length-drop, take_more, get_or-drop, get_or-map}
 use Rattle.std.proofs.lemmas.List.Elements.{All-weaker}
+use Rattle.std.proofs.lemmas.Option.{slice_get-map, slice_get-get_or}
 use Rattle.lwkt_core.specs.declared.events.Event.{Event}
 use Rattle.lwkt_core.specs.declared.events.Event.TheVariants.{Load}
 use Rattle.lwkt_events.specs.declared.short_events.CellSection.{CellSection}
 use Rattle.lwkt_events.specs.declared.short_events.ShortEvent.{ShortEvent}
 use Rattle.lwkt_events.specs.declared.short_events.ShortEvent.TheVariants.{Load as ShortLoad, Take as ShortTake, Share as ShortShare, Again as ShortAgain, Mark as ShortMark, GiveOne as ShortGiveOne, GiveClean as ShortGiveClean, GaveCell, Read as ShortRead, Write as ShortWrite, Send as ShortSend, TakeMsg as ShortTakeMsg, DropMsg as ShortDropMsg, Reply as ShortReply, Reap as ShortReap, Abort as ShortAbort, Long as LongEvent}
+use Rattle.lwkt_events.specs.declared.gives.Give.{Give}
+use Rattle.lwkt_events.specs.Gives.{give_of}
 use Rattle.lwkt_events.specs.ShortEvents.{GrowsBehind}
 use Rattle.lwkt_events.specs.ShortEvents.{gave_cell, long_event, IsEventIn, events_in}
 
@@ -103,3 +106,8 @@ copied_more cells longs rows es first i d room new e view within so_far is pushe
 pub all_one : {A : Type 0} (P : A → Type 0) (x : A) → P x → All P (x ∷ [])
 all_one P x p zero d inside = p
 all_one P x p (suc k) d inside = absurd (omega arith)
+
+-- the written give at a place
+pub give_at : (cells : List CellSection) (longs : List Event) (rows : List ShortEvent) (es : List Event) (place : ℕ) (d : ShortEvent) (give : Option Give) → events_in cells longs rows ≡ es → place < length rows → give ≡ give_of (long_event cells longs (get_or rows place d)) → option_map give_of (slice_get es place) ≡ Some give
+give_at cells longs rows es place d give view within is =
+    ap (λ (xs : List Event). option_map give_of (slice_get xs place)) (sym view) ∙ ap (option_map give_of) (slice_get-map (long_event cells longs) rows place ∙ ap (option_map (long_event cells longs)) (slice_get-get_or rows place d within)) ∙ ap Some (sym is)

@@ -1,1 +1,2 @@
+pub mod Gives
 pub mod ShortEvents

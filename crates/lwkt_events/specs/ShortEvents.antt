@@ -11,9 +11,13 @@ use Rattle.lwkt_events.specs.declared.short_events.CellSection.{CellSection}
 use Rattle.lwkt_events.specs.declared.short_events.ShortEvent.{ShortEvent}
 use Rattle.lwkt_events.specs.declared.short_events.ShortEvent.TheVariants.{Load as ShortLoad, Take as ShortTake, Share as ShortShare, Again as ShortAgain, Mark as ShortMark, GiveOne as ShortGiveOne, GiveClean as ShortGiveClean, GaveCell, Read as ShortRead, Write as ShortWrite, Send as ShortSend, TakeMsg as ShortTakeMsg, DropMsg as ShortDropMsg, Reply as ShortReply, Reap as ShortReap, Abort as ShortAbort, Long as LongEvent}
 
+-- the whole section of a token with one cell
+abbrev pub section_of_cell : TokId → CellSection → Section
+section_of_cell tok c = record { before = c.before ∷ []; after = c.after ∷ []; generation = c.generation; tok = tok }
+
 -- the written give of a token with one cell that has this section
 abbrev pub gave_cell : CpuId → TokId → CellSection → Event
-gave_cell cpu tok c = GiveWritten cpu tok (record { before = c.before ∷ []; after = c.after ∷ []; generation = c.generation; tok = tok })
+gave_cell cpu tok c = GiveWritten cpu tok (section_of_cell tok c)
 
 -- a list has one element
 abbrev pub is_one : List ℕ → Bool

@@ -1,6 +1,8 @@
 //! A trace, packed: a short event for each, and lists of what is too long for it.
-ghost use Rattle.std.specs.Prelude.{◌≡◌, ◌+◌, ◌<◌, ◌≤◌, length, take, drop, vec_capacity, OnOk, OnErr, IfOk, [], ◌∷◌, ◌++◌};
+ghost use Rattle.std.specs.Prelude.{◌≡◌, ◌+◌, ◌<◌, ◌≤◌, length, take, drop, slice_get, option_map, Some, vec_capacity, OnOk, OnErr, IfOk, [], ◌∷◌, ◌++◌};
+ghost use Rattle.lwkt_events.specs.Gives.{give_of};
 
+use crate::gives::Give;
 use crate::short_events::{CellSection, ShortEvent, keep_event};
 use lwkt_core::Event;
 use std::alloc::{AllocError, Global};
@@ -100,10 +102,11 @@ impl EventList {
 
     /// Writes so many events, from a place on, into a room, in place of what it had. That they are there is the caller's condition.
     ///
-    /// `AllocError` if the room lacks room for them and can't be given it.
+    /// `AllocError` if the room lacks room for them and can't be given it; it is empty then.
     pub fn copy(&self, first: usize, count: usize, room: &mut Vec<Event>) -> Result<(), AllocError>
         requires { first + count ≤ length self.now.items }
         ensures ok { OnOk result (room.new.items ≡ take count (drop first self.now.items)) }
+        ensures err { OnErr result (room.new.items ≡ []) }
         ensures full { OnErr result (vec_capacity room.old < count) }
         ensures capacity { vec_capacity room.old ≤ vec_capacity room.new }
     {
@@ -113,6 +116,15 @@ impl EventList {
             self.rows[first + i].put(&self.cells, &self.longs, room);
         }
         Ok(())
+    }
+
+    /// The written give at a place, from 0 on; None if another event is there. That one is there is the caller's condition.
+    #[inline(always)]
+    pub fn give(&self, place: usize) -> Option<Give>
+        requires { place < length self.now.items }
+        ensures { option_map give_of (slice_get self.now.items place) ≡ Some result }
+    {
+        self.rows[place].give(&self.cells, &self.longs)
     }
 
     /// All events, as whole ones.

@@ -5,6 +5,8 @@
 #![tactic(auto)]
 
 mod event_lists;
+mod gives;
 mod short_events;
 
 pub use event_lists::EventList;
+pub use gives::{Give, give_of};

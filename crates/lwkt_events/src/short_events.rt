@@ -4,8 +4,10 @@
 //! short section; any other written give, and a record that was read or stored, lie in a list of their own, and are kept short by their
 //! place there. All others are kept as they are.
 ghost use Rattle.std.specs.Prelude.{◌≡◌, ◌+◌, ◌<◌, [], ◌∷◌, ◌++◌, length, vec_len, vec_capacity, not, ◌||◌, is_some, IfSome};
-ghost use Rattle.lwkt_events.specs.ShortEvents.{gave_cell, long_event, has_cell, is_long_event, one_more_if, IsEventIn, GrowsBehind, TakesAtMostOne};
+ghost use Rattle.lwkt_events.specs.Gives.{give_of};
+ghost use Rattle.lwkt_events.specs.ShortEvents.{section_of_cell, gave_cell, long_event, has_cell, is_long_event, one_more_if, IsEventIn, GrowsBehind, TakesAtMostOne};
 
+use crate::gives::{Give, give_of};
 use lwkt_base::{CpuId, MsgId, Row, Section, TokId};
 use lwkt_core::Event;
 
@@ -44,19 +46,27 @@ pub enum ShortEvent {
     Long(usize),
 }
 
+// The whole section of a token with one cell.
+#[inline(always)]
+fn whole_section(tok: TokId, short: &CellSection) -> Section
+    ensures { result ≡ section_of_cell tok short.now }
+{
+    Section {
+        before: Row::of(&[short.before]),
+        after: Row::of(&[short.after]),
+        generation: short.generation,
+        tok,
+    }
+}
+
 // The written give of a token with one cell that has this section.
-fn gave(cpu: CpuId, tok: TokId, section: &CellSection) -> Event
-    ensures { result ≡ gave_cell cpu tok section.now }
+fn gave(cpu: CpuId, tok: TokId, short: &CellSection) -> Event
+    ensures { result ≡ gave_cell cpu tok short.now }
 {
     Event::GiveWritten {
         cpu,
         tok,
-        section: Section {
-            before: Row::of(&[section.before]),
-            after: Row::of(&[section.after]),
-            generation: section.generation,
-            tok,
-        },
+        section: whole_section(tok, short),
     }
 }
 
@@ -180,6 +190,27 @@ impl ShortEvent {
                 }),
                 Some(long) => room.push_reserved(*long),
             },
+        }
+    }
+}
+
+impl ShortEvent {
+    /// The written give that it stands for, where the short sections and the long events are these; None if it stands for another
+    /// event.
+    #[inline(always)]
+    pub fn give(&self, cells: &[CellSection], longs: &[Event]) -> Option<Give>
+        ensures { result ≡ give_of (long_event cells.now longs.now self.now) }
+    {
+        match *self {
+            ShortEvent::GaveCell(cpu, tok, place) => {
+                let short = cells.get(place)?;
+                Some(Give {
+                    cpu,
+                    section: whole_section(tok, short),
+                })
+            }
+            ShortEvent::Long(place) => give_of(longs.get(place)?),
+            _ => None,
         }
     }
 }

@@ -1,11 +1,14 @@
 -- The written sections that the traces of a run tell, and rows with their generations.
-use Rattle.std.proofs.Common.{◌≡◌, ℕ, zero, suc, ◌+◌, ◌*◌, ◌<◌, List, [], ◌∷◌, ◌++◌, length, take, drop, get_or, refl, ap, sym, ◌∙◌, arith, inl, inr, take-add}
-use Rattle.std.specs.Prelude.{min, zip}
-use Rattle.std.proofs.lemmas.Bool.{cases_lt}
-use Rattle.std.proofs.lemmas.List.{length-map, take_all}
-use Rattle.std.proofs.lemmas.List.Concat.{flat_map-append}
+use Rattle.std.proofs.Common.{◌≡◌, ℕ, zero, suc, ◌+◌, ◌<◌, List, [], ◌∷◌, ◌++◌, length, take, get_or, refl, ap, sym, ◌∙◌, arith, append_assoc, append-nil, Some}
+use Rattle.std.specs.Prelude.{zip, slice_get, Option, None, option_map}
+use Rattle.std.proofs.lemmas.Option.{none-some, same_Some}
+use Rattle.std.proofs.lemmas.List.{length-map}
 use Rattle.lwkt_base.specs.declared.openings.TokSpec.{TokSpec}
+use Rattle.lwkt_base.specs.declared.sections.Section.{Section}
 use Rattle.lwkt_core.specs.declared.events.Event.{Event}
+use Rattle.lwkt_core.specs.declared.events.Event.TheVariants.{GiveWritten}
+use Rattle.lwkt_events.specs.declared.gives.Give.{Give}
+use Rattle.lwkt_events.specs.Gives.{give_of}
 use Rattle.lwkt_core.specs.RunSections.{section_in, sections_told}
 use Rattle.lwkt_run.specs.Telling.{opening_rows}
 
@@ -32,17 +35,26 @@ as_many_rows specs rows gens opened many =
     let two = zip_long rows gens many in
     omega arith
 
--- as many of a list as there are, where more are asked for
-pub take_least : {A : Type 0} (n : ℕ) (xs : List A) → take (min n (length xs)) xs ≡ take n xs
-take_least {A} n xs = elim (cases_lt n (length xs)) [
-  | inl less ↦ let e : min n (length xs) ≡ n = omega (arith, less) in ap (λ (k : ℕ). take k xs) e
-  | inr past ↦
-      let e : min n (length xs) ≡ length xs = omega (arith, past) in
-      ap (λ (k : ℕ). take k xs) e ∙ take_all (length xs) xs (omega arith) ∙ sym (take_all n xs past)
-]
+-- the section of a written give, if there is one
+abbrev given : Option Give → List Section
+given None = []
+given (Some give) = give.section ∷ []
 
--- a part more of those that are read
-pub sections_more : (n : ℕ) (events part : List Event) → part ≡ take 64 (drop (64 * n) events) → sections_told (take (64 * (n + 1)) events) ≡ sections_told (take (64 * n) events) ++ sections_told part
-sections_more n events part is =
-    let e : 64 * (n + 1) ≡ 64 * n + 64 = omega arith in
-    ap (λ (k : ℕ). sections_told (take k events)) e ∙ ap sections_told (take-add (64 * n) 64 events) ∙ flat_map-append section_in (take (64 * n) events) (take 64 (drop (64 * n) events)) ∙ ap (λ (es : List Event). sections_told (take (64 * n) events) ++ sections_told es) (sym is)
+event_given : (e : Event) → section_in e ≡ given (give_of e)
+event_given (GiveWritten cpu tok section) = refl
+event_given e = refl
+
+-- one event more of those that are read
+told_more : (events : List Event) (place : ℕ) (give : Option Give) → option_map give_of (slice_get events place) ≡ Some give → sections_told (take (place + 1) events) ≡ sections_told (take place events) ++ given give
+told_more [] place give is = absurd (none-some give is)
+told_more (e ∷ events) zero give is =
+    append-nil (section_in e) ∙ event_given e ∙ ap given (same_Some (give_of e) give is)
+told_more (e ∷ events) (suc place) give is =
+    let s : suc place + 1 ≡ suc (place + 1) = omega arith in
+    ap (λ (n : ℕ). sections_told (take n (e ∷ events))) s ∙ ap (λ (l : List Section). section_in e ++ l) (told_more events place give is) ∙ sym (append_assoc (section_in e) (sections_told (take place events)) (given give))
+
+pub none_more : (events : List Event) (place : ℕ) → option_map give_of (slice_get events place) ≡ Some None → sections_told (take (place + 1) events) ≡ sections_told (take place events)
+none_more events place is = told_more events place None is ∙ append-nil (sections_told (take place events))
+
+pub one_more : (events : List Event) (place : ℕ) (give : Give) → option_map give_of (slice_get events place) ≡ Some (Some give) → sections_told (take (place + 1) events) ≡ sections_told (take place events) ++ give.section ∷ []
+one_more events place give is = told_more events place (Some give) is

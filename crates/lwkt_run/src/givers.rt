@@ -2,10 +2,9 @@
 ghost use Rattle.std.specs.Prelude.{◌≡◌, Err, OnErr};
 ghost use Rattle.lwkt_base.specs.Fault.{no_memory};
 
-use crate::parts::{part_count, read_part};
 use lwkt_base::{CpuId, Fault};
 use lwkt_core::Event;
-use lwkt_events::EventList;
+use lwkt_events::{EventList, Give, give_of};
 use std::alloc::{AllocError, Global};
 
 // A section, and the processor that ended it by giving the token back.
@@ -16,45 +15,47 @@ struct Given {
     cpu: CpuId,
 }
 
-// Adds the sections that a trace tells.
-fn add_given(given: &mut Vec<Given>, trace: &[Event]) -> Result<(), AllocError> {
-    for event in trace {
-        if let Event::GiveWritten { cpu, section, .. } = *event {
-            given.push(Given {
-                tok: section.tok.0,
-                generation: section.generation,
-                cpu,
-            })?;
+// Adds a written give.
+fn add(given: &mut Vec<Given>, give: &Give) -> Result<(), AllocError> {
+    given.push(Given {
+        tok: give.section.tok.0,
+        generation: give.section.generation,
+        cpu: give.cpu,
+    })?;
+    Ok(())
+}
+
+// Adds the written gives of a packed trace.
+fn add_kept(given: &mut Vec<Given>, trace: &EventList) -> Result<(), AllocError> {
+    for place in 0..trace.len() {
+        if let Some(give) = trace.give(place) {
+            add(given, &give)?;
         }
     }
     Ok(())
 }
 
-// Adds the sections that a packed trace tells, which is read through a room.
-fn add_kept(
-    given: &mut Vec<Given>,
-    trace: &EventList,
-    room: &mut Vec<Event>,
-) -> Result<(), AllocError> {
-    for number in 0..part_count(trace) {
-        read_part(trace, number, room)?;
-        add_given(given, room)?;
+// Adds those among events.
+fn add_told(given: &mut Vec<Given>, events: &[Event]) -> Result<(), AllocError> {
+    for event in events {
+        if let Some(give) = give_of(event) {
+            add(given, &give)?;
+        }
     }
     Ok(())
 }
 
-// The sections that traces and a stop tell, by token and then by generation.
+// The written gives of traces and of a stop, by token and then by generation.
 fn given_in_order(
     alloc: Global,
     traces: &[EventList],
     stops: &[Event],
 ) -> Result<Vec<Given>, AllocError> {
     let mut given = Vec::new(alloc);
-    let mut room = Vec::new(alloc);
     for trace in traces {
-        add_kept(&mut given, trace, &mut room)?;
+        add_kept(&mut given, trace)?;
     }
-    add_given(&mut given, stops)?;
+    add_told(&mut given, stops)?;
     given.sort_unstable_by_key(|one| (one.tok, one.generation));
     Ok(given)
 }

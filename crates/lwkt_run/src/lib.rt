@@ -9,7 +9,6 @@ mod endings;
 mod givers;
 pub mod laws;
 mod lines;
-mod parts;
 mod polled;
 mod programs;
 mod records;

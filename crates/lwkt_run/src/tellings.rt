@@ -3,18 +3,17 @@ ghost use Rattle.std.specs.Prelude.{◌≡◌, ◌≤◌, ◌++◌, All, length,
 ghost use Rattle.lwkt_core.specs.RunSections.{sections_told};
 ghost use Rattle.lwkt_run.specs.Telling.{sections_of_all, AreSorted, opening_rows, closing_rows, IsVerdictOn};
 
-use crate::parts::{part_count, read_part};
 use lwkt_base::{Fault, Row, Rows, Section, TokSpec};
 use lwkt_core::{Event, Final, check_sections};
 use lwkt_events::EventList;
 use lwkt_report::Verdict;
 use std::alloc::{AllocError, Global};
 
-// Adds the sections that a trace tells to those told before.
-fn add_told(sections: &mut Vec<Section>, trace: &[Event]) -> Result<(), AllocError>
-    ensures { OnOk result (sections.new.items ≡ sections.old.items ++ sections_told trace.now) }
+// Adds the sections that events tell to those told before.
+fn add_told(sections: &mut Vec<Section>, events: &[Event]) -> Result<(), AllocError>
+    ensures { OnOk result (sections.new.items ≡ sections.old.items ++ sections_told events.now) }
 {
-    for event in trace {
+    for event in events {
         if let Event::GiveWritten { section, .. } = *event {
             sections.push(section)?;
         }
@@ -22,17 +21,14 @@ fn add_told(sections: &mut Vec<Section>, trace: &[Event]) -> Result<(), AllocErr
     Ok(())
 }
 
-// Adds the sections that a packed trace tells, which is read through a room.
-fn add_kept(
-    sections: &mut Vec<Section>,
-    trace: &EventList,
-    room: &mut Vec<Event>,
-) -> Result<(), AllocError>
+// Adds the sections that a packed trace tells.
+fn add_kept(sections: &mut Vec<Section>, trace: &EventList) -> Result<(), AllocError>
     ensures { OnOk result (sections.new.items ≡ sections.old.items ++ sections_told trace.now.items) }
 {
-    for number in 0..part_count(trace) {
-        read_part(trace, number, room)?;
-        add_told(sections, room)?;
+    for place in 0..trace.len() {
+        if let Some(give) = trace.give(place) {
+            sections.push(give.section)?;
+        }
     }
     Ok(())
 }
@@ -46,9 +42,8 @@ fn gathered(
     ensures { IfOk result (λ sections. sections.items ≡ sections_of_all traces.items stops.now) }
 {
     let mut sections = Vec::new(alloc);
-    let mut room = Vec::new(alloc);
     for trace in traces {
-        add_kept(&mut sections, &trace, &mut room)?;
+        add_kept(&mut sections, &trace)?;
     }
     add_told(&mut sections, stops)?;
     Ok(sections)

@@ -1,16 +1,27 @@
-use Rattle.std.proofs.Common.{◌≡◌, ◌∙◌, ◌*◌, ◌++◌, List, take, drop, ap, sym, append_assoc}
+use Rattle.std.proofs.Common.{◌≡◌, ◌∙◌, ◌+◌, ◌++◌, ◌∷◌, [], List, Vec, Some, None, Option, take, ap, sym, subst, append_assoc}
+use Rattle.std.specs.Prelude.{slice_get, option_map}
+use Rattle.std.specs.declared.alloc.Global.{Global}
 use Rattle.lwkt_base.specs.declared.sections.Section.{Section}
 use Rattle.lwkt_core.specs.declared.events.Event.{Event}
 use Rattle.lwkt_core.specs.RunSections.{sections_told}
-use Rattle.lwkt_run.proofs.GatherMoves.{sections_more}
+use Rattle.lwkt_events.specs.declared.gives.Give.{Give}
+use Rattle.lwkt_events.specs.Gives.{give_of}
+use Rattle.lwkt_run.proofs.GatherMoves.{none_more, one_more}
 use Rattle.lwkt_run.proofs.tellings.add_kept.Goals as goal
+use Rattle.lwkt_run.proofs.tellings.add_kept.Goals.{in-Some+in_ok-push, in_default}
 
-pub loop-number-preserved : goal.loop-number-preserved
-loop-number-preserved c =
-    let l = c.loop-number in
+pub loop-place-preserved : goal.loop-place-preserved
+loop-place-preserved c =
     let events : List Event = c.args.trace.now.items in
     let before : List Section = c.args.sections.now.items in
-    let earlier : List Section = sections_told (take (64 * l.number) events) in
-    let part : List Event = c.deref.result.now in
-    let is : part ≡ take 64 (drop (64 * l.number) events) = c.deref.ensures.value ∙ c.in_ok-read_part.ensures in
-    c.in_ok-add_told.ensures ∙ ap (λ (xs : List Section). xs ++ sections_told part) l.invariant ∙ append_assoc before earlier (sections_told part) ∙ ap (λ (xs : List Section). before ++ xs) (sym (sections_more l.number events part is))
+    let so_far : List Section = sections_told (take c.loop-place.place events) in
+    let S : Vec Section Global → Type 0 = λ v. v.items ≡ before ++ sections_told (take (c.loop-place.place + 1) events) in
+    elim c.match-give.branch [
+      | in-Some+in_ok-push w ↦
+          let give : Give = w.in-Some.give in
+          let is : option_map give_of (slice_get events c.loop-place.place) ≡ Some (Some give) = c.give.ensures ∙ ap (λ (o : Option Give). Some o) w.in-Some.is in
+          subst S (sym w.sections-is) (w.in_ok-push.ensures.items ∙ ap (λ (xs : List Section). xs ++ give.section ∷ []) c.loop-place.invariant ∙ append_assoc before so_far (give.section ∷ []) ∙ ap (λ (xs : List Section). before ++ xs) (sym (one_more events c.loop-place.place give is)))
+      | in_default w ↦
+          let is : option_map give_of (slice_get events c.loop-place.place) ≡ Some None = c.give.ensures ∙ ap (λ (o : Option Give). Some o) w.in_default.is in
+          subst S (sym w.sections-is) (c.loop-place.invariant ∙ ap (λ (xs : List Section). before ++ xs) (sym (none_more events c.loop-place.place is)))
+    ]
