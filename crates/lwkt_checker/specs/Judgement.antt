@@ -52,6 +52,16 @@ FindsWhy m told last finding = Finds m (events_told m told) last finding × Says
 abbrev pub IsFound : Trace → Finding → Type 0
 IsFound trace finding = (last : Option Final) × (AreClosing trace.last last × FindsWhy (opening_of trace) trace.events last finding)
 
+-- an opening keeps the limits and the laws, so that it isn't refused
+pub record OpensTrace (trace : Trace) : Type 0 where
+  pub within : AreWithin trace.cpus trace.tokens trace.messages
+  pub lawful : AllOpenLawfully trace.tokens
+
+-- what is found of a trace whose opening isn't refused
+pub record IsJudgedTrace (trace : Trace) (finding : Finding) : Type 0 where
+  pub opens : OpensTrace trace
+  pub found : IsFound trace finding
+
 -- why a trace is refused
 abbrev pub DeclinesTrace : Trace → Refusal → Type 0
 DeclinesTrace trace (Memory refused) = Unit {0}
@@ -77,11 +87,11 @@ abbrev pub finding_text : Finding → List ℕ
 finding_text Lawful = codes "lawful\n"
 finding_text (Unlawful index why) = codes "unlawful " ++ decimal index ++ 10 ∷ string_bytes why
 
--- these bytes are a trace, and the text is what is found of it
+-- these bytes are a trace whose opening isn't refused, and the text is what is found of it
 pub record HasFinding (bytes : List ℕ) (lawful : Bool) (text : List ℕ) : Type 0 where
   pub trace : Trace
   pub read : trace_of bytes ≡ Ok trace
   pub finding : Finding
-  pub found : IsFound trace finding
+  pub judged : IsJudgedTrace trace finding
   pub is_text : text ≡ finding_text finding
   pub is_kind : lawful ≡ is_lawful finding

@@ -1,6 +1,6 @@
-ghost use Rattle.std.specs.Prelude.{◌≡◌, ◌<◌, None, Some, IfOk, IfErr, MatchOption, length, slice_get, string_bytes};
+ghost use Rattle.std.specs.Prelude.{◌≡◌, ◌<◌, None, Some, IfOk, OnOk, IfErr, MatchOption, length, slice_get, string_bytes};
 ghost use Rattle.lwkt_checker.specs.Said.{IsReason, IsDifference};
-ghost use Rattle.lwkt_checker.specs.Judgement.{opening_of, AreClosing, FindsWhy, IsFound, DeclinesTrace, finding_text};
+ghost use Rattle.lwkt_checker.specs.Judgement.{opening_of, AreClosing, FindsWhy, OpensTrace, IsJudgedTrace, DeclinesTrace, finding_text};
 
 use crate::differences::difference;
 use crate::lacks::reason;
@@ -23,6 +23,7 @@ pub enum Finding {
 // The opening state of a trace.
 fn opened(alloc: Global, trace: &Trace) -> Result<State, Fault>
     ensures ok { IfOk result (λ state. state ≡ opening_of trace.now) }
+    ensures opens { OnOk result (OpensTrace trace.now) }
     ensures refused { IfErr result (λ fault. DeclinesTrace trace.now fault) }
 {
     State::open(
@@ -124,7 +125,7 @@ fn found(
 ///
 /// Refused with `Limits` or `LawBroken` for its opening, and with `Memory` if an allocation is.
 pub fn judge(alloc: Global, trace: Trace) -> Result<Finding, Fault>
-    ensures ok { IfOk result (λ finding. IsFound trace finding) }
+    ensures ok { IfOk result (λ finding. IsJudgedTrace trace finding) }
     ensures refused { IfErr result (λ fault. DeclinesTrace trace fault) }
 {
     let opening = opened(alloc, &trace)?;

@@ -1,4 +1,4 @@
-ghost use Rattle.std.specs.Prelude.{◌≡◌, ◌≢◌, ◌⊎◌, [], Err, IsTrue, IfOk, IfErr, string_bytes};
+ghost use Rattle.std.specs.Prelude.{◌≡◌, ◌≢◌, ◌⊎◌, [], Err, IsTrue, IfOk, IfErr, OnOk, string_bytes};
 ghost use Rattle.lwkt_checker.specs.Judgement.{HasFinding, RefusesTrace};
 ghost use Rattle.lwkt_report.specs.Complaint.{fault_line, IsSaid};
 ghost use Rattle.lwkt_checker.specs.Output.{TellsFinding, status_of, Complains, ChecksAs};
@@ -47,6 +47,8 @@ pub fn check_stream<S: Source, K: Sink>(
 ) -> Result<bool, RunFault>
     ensures tells { TellsFinding (S.left source.old) (K.contents sink.old) (K.contents sink.new) result }
     ensures stream { result ≡ Err RunFault.Stream → IsTrue (S.has_failed source.new) ⊎ IsTrue (K.has_failed sink.new) }
+    ensures flushed { OnOk result (K.is_flushed sink.new) }
+    ensures unfailed { OnOk result ((S.has_failed source.new ≡ S.has_failed source.old) × (K.has_failed sink.new ≡ K.has_failed sink.old)) }
 {
     let bytes = match read_up_to(alloc, source, LENGTH_LIMIT + 1) {
         Ok(bytes) => bytes,

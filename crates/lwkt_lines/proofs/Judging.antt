@@ -19,7 +19,8 @@ use Rattle.lwkt_trace.specs.Words.{event_of}
 use Rattle.lwkt_checker.specs.declared.judges.Finding.TheVariants.{Lawful, Unlawful}
 use Rattle.lwkt_lines.specs.Line.{value_of}
 use Rattle.lwkt_lines.specs.Format.{event_place, with_told, with_last, with_event, with_closing, with_rest, with_line, next}
-use Rattle.lwkt_lines.specs.Judged.{StandsWith, OpensTrace, OpensSo, IsJudgedTrace, JudgeKnows, awaits, Judges}
+use Rattle.lwkt_checker.specs.Judgement.{OpensTrace, IsJudgedTrace}
+use Rattle.lwkt_lines.specs.Judged.{StandsWith, OpensSo, JudgeKnows, awaits, Judges}
 use Rattle.lwkt_lines.specs.declared.judges.Judge.{Judge}
 use Rattle.lwkt_lines.specs.declared.standings.Standing.{Standing}
 use Rattle.lwkt_lines.specs.declared.standings.Standing.TheVariants.{Awaits, Plays, Fails, Declined}

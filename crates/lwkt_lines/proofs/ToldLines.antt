@@ -14,12 +14,12 @@ use Rattle.lwkt_report.specs.declared.streams.RunFault.TheVariants.{Fault as Fau
 use Rattle.lwkt_script.specs.Outcome.{◌>>=◌, ◌>>◌, part, demand, IsFaultOf as IsRefused}
 use Rattle.lwkt_trace.specs.declared.traces.Trace.{Trace}
 use Rattle.lwkt_trace.specs.Format.{there}
-use Rattle.lwkt_checker.specs.Judgement.{DeclinesTrace}
+use Rattle.lwkt_checker.specs.Judgement.{IsJudgedTrace, DeclinesTrace}
 use Rattle.lwkt_checker.specs.declared.judges.Finding.{Finding}
 use Rattle.lwkt_lines.specs.Line.{lines_of, value_of}
 use Rattle.lwkt_lines.specs.Format.{opened, event_place, with_rest, with_line, next, told, lined_trace_of}
 use Rattle.lwkt_lines.specs.Reading.{IsNextLine}
-use Rattle.lwkt_lines.specs.Judged.{IsJudgedTrace, Judges}
+use Rattle.lwkt_lines.specs.Judged.{Judges}
 use Rattle.lwkt_lines.specs.Output.{AreAll, KnowsAll, RefusesLines, FindsInLines, Declares, DeclaresIn}
 use Rattle.lwkt_lines.specs.declared.judges.Judge.{Judge}
 use Rattle.lwkt_lines.proofs.LineLemmas.{lines-fed, lines-bare, begins_with, value-long}

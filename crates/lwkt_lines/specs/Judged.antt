@@ -2,13 +2,11 @@
 use Rattle.std.specs.Prelude.{◌≡◌, ℕ, ◌+◌, ◌-◌, Bool, true, false, length, is_some, if◌then◌else◌, Option, None, Some}
 use Rattle.lwkt_core.specs.declared.finals.Final.{Final}
 use Rattle.lwkt_core.specs.Machine.{Machine}
-use Rattle.lwkt_core.specs.Opening.{AreWithin, AllOpenLawfully}
 use Rattle.lwkt_core.specs.Trace.{Run, Closes}
 use Rattle.lwkt_trace.specs.declared.traces.Closing.{Closing}
 use Rattle.lwkt_trace.specs.declared.traces.Trace.{Trace}
-use Rattle.lwkt_checker.specs.Judgement.{opening_of, AreValues, IsFound, DeclinesTrace}
+use Rattle.lwkt_checker.specs.Judgement.{opening_of, AreValues, IsFound, OpensTrace, DeclinesTrace}
 use Rattle.lwkt_checker.specs.Told.{events_told}
-use Rattle.lwkt_checker.specs.declared.judges.Finding.{Finding}
 use Rattle.lwkt_checker.specs.declared.judges.Finding.TheVariants.{Unlawful}
 use Rattle.lwkt_lines.specs.declared.standings.Standing.{Standing}
 use Rattle.lwkt_lines.specs.declared.standings.Standing.TheVariants.{Awaits, Plays, Fails, Declined}
@@ -27,22 +25,12 @@ StandsWith trace (Plays state) = Run (opening_of trace) (events_told (opening_of
 StandsWith trace (Fails index why) = IsFound trace (Unlawful index why)
 StandsWith trace (Declined fault) = DeclinesTrace trace fault
 
--- an opening keeps the limits and the laws, so that it isn't refused
-pub record OpensTrace (trace : Trace) : Type 0 where
-  pub within : AreWithin trace.cpus trace.tokens trace.messages
-  pub lawful : AllOpenLawfully trace.tokens
-
 -- so it is wherever a judge stands but where it awaits the opening or refuses it
 abbrev pub OpensSo : Trace → Standing → Type 0
 OpensSo trace Awaits = Unit {0}
 OpensSo trace (Plays state) = OpensTrace trace
 OpensSo trace (Fails index why) = OpensTrace trace
 OpensSo trace (Declined fault) = Unit {0}
-
--- what is found of a trace whose opening isn't refused
-pub record IsJudgedTrace (trace : Trace) (finding : Finding) : Type 0 where
-  pub opens : OpensTrace trace
-  pub found : IsFound trace finding
 
 -- a judge knows how many events there are, whether closing values have come, and where it stands
 pub record JudgeKnows (judge : Judge) (trace : Trace) : Type 0 where

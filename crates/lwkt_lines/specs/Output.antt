@@ -7,11 +7,11 @@ use Rattle.lwkt_report.specs.declared.streams.RunFault.{RunFault}
 use Rattle.lwkt_report.specs.declared.streams.RunFault.TheVariants.{Fault, Stream}
 use Rattle.lwkt_report.specs.Stream.{AppendsFront}
 use Rattle.lwkt_trace.specs.declared.traces.Trace.{Trace}
-use Rattle.lwkt_checker.specs.Judgement.{DeclinesTrace, finding_text, is_lawful}
+use Rattle.lwkt_checker.specs.Judgement.{IsJudgedTrace, DeclinesTrace, finding_text, is_lawful}
 use Rattle.lwkt_checker.specs.declared.judges.Finding.{Finding}
 use Rattle.lwkt_lines.specs.Line.{lines_of}
 use Rattle.lwkt_lines.specs.Format.{told, lined_trace_of}
-use Rattle.lwkt_lines.specs.Judged.{IsJudgedTrace, Judges}
+use Rattle.lwkt_lines.specs.Judged.{Judges}
 use Rattle.lwkt_lines.specs.declared.judges.Judge.{Judge}
 
 -- these bytes are all that was left of a source, where that is known

@@ -1,10 +1,10 @@
 ghost use Rattle.std.specs.Prelude.{◌≡◌, ◌+◌, ◌<◌, ℕ, [], false, Option, Some, None, Result, Ok, IfOk, IfErr, MatchOption};
 ghost use Rattle.lwkt_script.specs.Outcome.{Gives, IsFaultOf as IsRefused, part};
 ghost use Rattle.lwkt_trace.specs.declared.traces.Trace.{Trace};
-ghost use Rattle.lwkt_checker.specs.Judgement.{DeclinesTrace};
+ghost use Rattle.lwkt_checker.specs.Judgement.{IsJudgedTrace, DeclinesTrace};
 ghost use Rattle.lwkt_lines.specs.Line.{value_of};
 ghost use Rattle.lwkt_lines.specs.Format.{event_place, with_event, with_closing, with_line, next};
-ghost use Rattle.lwkt_lines.specs.Judged.{StandsWith, OpensSo, IsJudgedTrace, JudgeKnows, awaits, Judges, lines_left};
+ghost use Rattle.lwkt_lines.specs.Judged.{StandsWith, OpensSo, JudgeKnows, awaits, Judges, lines_left};
 ghost use Rattle.serde_json.specs.Data.{Data};
 ghost use Rattle.serde_json.specs.View.{view};
 ghost use Rattle.lwkt_trace.specs.Words.{event_of};

@@ -1,4 +1,4 @@
-ghost use Rattle.std.specs.Prelude.{◌≡◌, ◌⊎◌, Err, IsTrue, IfOk, IfErr};
+ghost use Rattle.std.specs.Prelude.{◌≡◌, ◌⊎◌, Err, IsTrue, IfOk, IfErr, OnOk};
 ghost use Rattle.lwkt_lines.specs.Reading.{left_of};
 ghost use Rattle.lwkt_lines.specs.Output.{KnowsAll, FindsInLines, DeclaresIn, TellsOfLines};
 
@@ -18,6 +18,7 @@ fn tell_lines<S: Source>(
     ensures told { IfOk result (λ judge. KnowsAll (left_of lines.old (S.left source.old)) judge) }
     ensures refused { IfErr result (λ why. DeclaresIn (left_of lines.old (S.left source.old)) why) }
     ensures stream { result ≡ Err RunFault.Stream → IsTrue (S.has_failed source.new) }
+    ensures ok { OnOk result (S.has_failed source.new ≡ S.has_failed source.old) }
 {
     let mut judge = Judge::new();
     loop {
@@ -51,6 +52,7 @@ pub fn judge_lines<S: Source>(
     ensures found { IfOk result (λ finding. FindsInLines (left_of lines.old (S.left source.old)) finding) }
     ensures refused { IfErr result (λ why. DeclaresIn (left_of lines.old (S.left source.old)) why) }
     ensures stream { result ≡ Err RunFault.Stream → IsTrue (S.has_failed source.new) }
+    ensures ok { OnOk result (S.has_failed source.new ≡ S.has_failed source.old) }
 {
     match tell_lines(alloc, lines, source)?.finding() {
         Ok(finding) => Ok(finding),
@@ -72,6 +74,8 @@ pub fn check_lines<S: Source, K: Sink>(
 ) -> Result<bool, RunFault>
     ensures tells { TellsOfLines (left_of lines.old (S.left source.old)) (K.contents sink.old) (K.contents sink.new) result }
     ensures stream { result ≡ Err RunFault.Stream → IsTrue (S.has_failed source.new) ⊎ IsTrue (K.has_failed sink.new) }
+    ensures flushed { OnOk result (K.is_flushed sink.new) }
+    ensures unfailed { OnOk result ((S.has_failed source.new ≡ S.has_failed source.old) × (K.has_failed sink.new ≡ K.has_failed sink.old)) }
 {
     let finding = judge_lines(alloc, lines, source)?;
     let text = match finding_text(alloc, &finding) {

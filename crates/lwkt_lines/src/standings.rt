@@ -1,9 +1,9 @@
 ghost use Rattle.std.specs.Prelude.{◌≡◌, false, None, IfOk, length};
 ghost use Rattle.lwkt_trace.specs.declared.traces.Closing.{Closing};
 ghost use Rattle.lwkt_trace.specs.declared.traces.Trace.{Trace};
-ghost use Rattle.lwkt_checker.specs.Judgement.{AreValues};
+ghost use Rattle.lwkt_checker.specs.Judgement.{AreValues, OpensTrace};
 ghost use Rattle.lwkt_lines.specs.Format.{with_told, with_last};
-ghost use Rattle.lwkt_lines.specs.Judged.{StandsWith, OpensTrace, OpensSo, awaits};
+ghost use Rattle.lwkt_lines.specs.Judged.{StandsWith, OpensSo, awaits};
 
 use lwkt_base::Fault;
 use lwkt_checker::{difference, event_told, reason};
