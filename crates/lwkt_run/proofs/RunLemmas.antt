@@ -2,13 +2,16 @@ use Rattle.std.proofs.Common.{inl, inr, ◌≡◌, ◌⊎◌, ℕ, List, [], tak
 use Rattle.std.specs.Prelude.{string_bytes, IfOk, IfErr}
 use Rattle.std.specs.Io.KnownBytes.{Keeps}
 use Rattle.lwkt_base.specs.declared.faults.Fault.{Fault as Refusal}
+use Rattle.lwkt_base.specs.declared.faults.Fault.TheVariants.{NoPort, Memory, Limits, LawBroken}
 use Rattle.lwkt_base.specs.Fault.{no_memory}
 use Rattle.lwkt_report.specs.declared.streams.RunFault.{RunFault}
 use Rattle.lwkt_report.specs.declared.streams.RunFault.TheVariants.{Fault, Stream}
 use Rattle.lwkt_report.specs.declared.sources.TheConstants.{READ_LIMIT}
+use Rattle.lwkt_script.specs.declared.scripts.Script.{Script}
+use Rattle.lwkt_script.specs.Format.{script_of}
 use Rattle.lwkt_run.specs.declared.reports.Done.{Done}
 use Rattle.lwkt_run.specs.declared.runs.End.{End}
-use Rattle.lwkt_run.specs.Run.{AreBytesRead, Refuses, TellsBy, Concludes}
+use Rattle.lwkt_run.specs.Run.{AreBytesRead, DeclinesAlong, Refuses, RefusesAlong, TellsBy, Concludes}
 
 -- what was written stays what it is
 keeps_itself : (o : Option (List ℕ)) → Keeps o o
@@ -40,3 +43,11 @@ tells_concluded Run left old new bytes read (Err refusal) (Ok end) same are run 
 tells_concluded Run left old new bytes read (Err refusal) (Err Stream) same are run refused none = absurd none
 tells_concluded Run left old new bytes read (Err refusal) (Err (Fault fault)) same are run refused keeps =
     (keeps.1, (bytes, (are, subst (λ f. Refuses bytes f) (sym keeps.0) (subst (λ b. Refuses b refusal) same refused))))
+
+-- why a run along an order of the script that these bytes are is refused
+pub along_refused : (bytes order : List ℕ) (script : Script) (fault : Refusal) → script_of bytes ≡ Ok script → DeclinesAlong script order fault → RefusesAlong bytes order fault
+along_refused bytes order script NoPort read declines = (script, (read, declines))
+along_refused bytes order script Limits read declines = (script, (read, declines))
+along_refused bytes order script LawBroken read declines = (script, (read, declines))
+along_refused bytes order script (Memory refused) read declines = tt
+along_refused bytes order script _ read declines = absurd declines

@@ -177,14 +177,22 @@ Refuses bytes Limits = (script : Script) × ((script_of bytes ≡ Ok script) × 
 Refuses bytes LawBroken = (script : Script) × ((script_of bytes ≡ Ok script) × DeclinesRun script LawBroken)
 Refuses bytes _ = ⊥
 
--- why a run of this script along an order is refused: its machine isn't opened, or the order names a processor that isn't there
+-- an order names processors of this script alone
+abbrev pub AreThere : Script → List ℕ → Type 0
+AreThere script order = All (λ x. x < script.cpus) order
+
+-- why a run of this script along an order is refused: the order names a processor that isn't there; or else its machine isn't opened
 abbrev pub DeclinesAlong : Script → List ℕ → Refusal → Type 0
-DeclinesAlong script order NoPort = ¬ All (λ x. x < script.cpus) order
+DeclinesAlong script order NoPort = ¬ AreThere script order
+DeclinesAlong script order Limits = AreThere script order × DeclinesRun script Limits
+DeclinesAlong script order LawBroken = AreThere script order × DeclinesRun script LawBroken
 DeclinesAlong script order fault = DeclinesRun script fault
 
 -- why a run of these bytes along an order is refused
 abbrev pub RefusesAlong : List ℕ → List ℕ → Refusal → Type 0
-RefusesAlong bytes order NoPort = (script : Script) × ((script_of bytes ≡ Ok script) × (¬ All (λ x. x < script.cpus) order))
+RefusesAlong bytes order NoPort = (script : Script) × ((script_of bytes ≡ Ok script) × DeclinesAlong script order NoPort)
+RefusesAlong bytes order Limits = (script : Script) × ((script_of bytes ≡ Ok script) × DeclinesAlong script order Limits)
+RefusesAlong bytes order LawBroken = (script : Script) × ((script_of bytes ≡ Ok script) × DeclinesAlong script order LawBroken)
 RefusesAlong bytes order fault = Refuses bytes fault
 
 -- these are the bytes that are read of a source that has so many left, where that is known

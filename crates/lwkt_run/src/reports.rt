@@ -1,5 +1,5 @@
 //! The report of a run written, whichever way its processors were driven.
-ghost use Rattle.std.specs.Prelude.{◌≡◌, Err, IsTrue};
+ghost use Rattle.std.specs.Prelude.{◌≡◌, Err, IsTrue, OnOk};
 ghost use Rattle.lwkt_run.specs.Run.{Concludes};
 
 use crate::runs::End;
@@ -22,6 +22,8 @@ pub struct Done {
 pub fn conclude<K: Sink>(sink: &mut K, outcome: Result<Done, Fault>) -> Result<End, RunFault>
     ensures concludes { Concludes (K.contents sink.old) (K.contents sink.new) outcome result }
     ensures stream { result ≡ Err RunFault.Stream → IsTrue (K.has_failed sink.new) }
+    ensures flushed { OnOk result (K.is_flushed sink.new) }
+    ensures unfailed { OnOk result (K.has_failed sink.new ≡ K.has_failed sink.old) }
 {
     let done = match outcome {
         Ok(done) => done,

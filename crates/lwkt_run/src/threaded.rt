@@ -164,6 +164,8 @@ pub fn run_threads_gated<R: Threads + Sync, G: Gate + Sync, S: Source, K: Sink>(
 ) -> Result<End, RunFault>
     ensures tells { TellsOnThreads (G.answers gate.now) (S.left source.old) (K.contents sink.old) (K.contents sink.new) result }
     ensures stream { result ≡ Err RunFault.Stream → IsTrue (S.has_failed source.new) ⊎ IsTrue (K.has_failed sink.new) }
+    ensures flushed { OnOk result (K.is_flushed sink.new) }
+    ensures unfailed { OnOk result ((S.has_failed source.new ≡ S.has_failed source.old) × (K.has_failed sink.new ≡ K.has_failed sink.old)) }
 {
     let bytes = match read_capped(alloc, source) {
         Ok(bytes) => bytes,
@@ -183,6 +185,8 @@ pub fn run_threads<R: Threads + Sync, S: Source, K: Sink>(
 ) -> Result<End, RunFault>
     ensures tells { TellsOnThreads lets_all (S.left source.old) (K.contents sink.old) (K.contents sink.new) result }
     ensures stream { result ≡ Err RunFault.Stream → IsTrue (S.has_failed source.new) ⊎ IsTrue (K.has_failed sink.new) }
+    ensures flushed { OnOk result (K.is_flushed sink.new) }
+    ensures unfailed { OnOk result ((S.has_failed source.new ≡ S.has_failed source.old) × (K.has_failed sink.new ≡ K.has_failed sink.old)) }
 {
     run_threads_gated(rt, alloc, source, sink, &OpenGate)
 }
