@@ -1,4 +1,4 @@
-use Rattle.std.proofs.Common.{inl, inr, ◌≡◌, ◌⊎◌, ℕ, List, [], take, rules, refl, sym, Option, None, Some, IsNone, Result, Err, Ok, subst, ◌∙◌}
+use Rattle.std.proofs.Common.{inl, inr, ◌≡◌, ◌⊎◌, ℕ, ◌<◌, List, [], take, rules, refl, sym, Option, None, Some, IsNone, Result, Err, Ok, subst, ◌∙◌}
 use Rattle.std.specs.Io.KnownBytes.{Appends, Keeps}
 use Rattle.lwkt_base.specs.declared.faults.Fault.{Fault as Refusal}
 use Rattle.lwkt_base.specs.Fault.{no_memory}
@@ -12,7 +12,7 @@ use Rattle.lwkt_run.specs.Run.{AreBytesRead, IsOrderRun, end_told, Refuses, Refu
 use Rattle.lwkt_show.specs.declared.options.Options.{Options}
 use Rattle.lwkt_show.specs.declared.programs.Outcome.TheVariants.{Past}
 use Rattle.lwkt_run.specs.declared.runs.TurnsRun.{TurnsRun}
-use Rattle.lwkt_show.specs.Showing.{ShowsAs, IsPastIn, TellsShown, IsShownAlong, IsPastAlong, TellsAlong}
+use Rattle.lwkt_show.specs.Showing.{ShowsAs, IsPast, IsPastIn, TellsShown, IsShownAlong, IsPastAlong, TellsAlong}
 
 -- what was written stays what it is
 keeps_itself : (o : Option (List ℕ)) → Keeps o o
@@ -77,10 +77,11 @@ no_lack is = search rules
 
 -- a run along an order, shown along what was kept of the order
 pub along_shown : (order : List ℕ) (options : Options) (bytes : List ℕ) (run : TurnsRun) (kept : List ℕ) (end : End) (text : List ℕ)
-    → IsOrderRun bytes order run → kept ≡ run.order.items → end ≡ end_told run.closing → ShowsAs options (Some kept) run text → IsShownAlong order options bytes end text
-along_shown order options bytes run kept end text is_run same is_end shows = record {
+    → IsOrderRun bytes order run → (0 < options.first → ¬ IsPast options run) → kept ≡ run.order.items → end ≡ end_told run.closing → ShowsAs options (Some kept) run text → IsShownAlong order options bytes end text
+along_shown order options bytes run kept end text is_run not_past same is_end shows = record {
   run = run;
   is_run = is_run;
+  not_past = not_past;
   is_end = is_end;
   shows = subst (λ o. ShowsAs options (Some o) run text) (same ∙ is_run.is_order) shows;
 }

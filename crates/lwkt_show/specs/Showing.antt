@@ -1,5 +1,5 @@
 -- What the program shows of a run (own).
-use Rattle.std.specs.Prelude.{◌≡◌, ◌≤◌, ℕ, Bool, length, List, codes, Option, None, Some, Result, Ok, Err}
+use Rattle.std.specs.Prelude.{◌≡◌, ◌<◌, ◌≤◌, ℕ, Bool, length, List, codes, Option, None, Some, Result, Ok, Err}
 use Rattle.std.specs.Io.KnownBytes.{Appends, Keeps}
 use Rattle.lwkt_report.specs.declared.streams.RunFault.{RunFault}
 use Rattle.lwkt_report.specs.declared.streams.RunFault.TheVariants.{Fault, Stream}
@@ -43,16 +43,18 @@ ShowsBy Chains options order run text = Unit {0}
 abbrev pub ShowsAs : Options → Option (List ℕ) → TurnsRun → List ℕ → Type 0
 ShowsAs options order run text = ShowsBy options.view options order run text
 
--- there is a run of the script that these bytes are, with all that was kept of it, that ends so, and the text shows it as the options say
-pub record IsShown (options : Options) (bytes : List ℕ) (end : End) (text : List ℕ) : Type 0 where
-  pub run : TurnsRun
-  pub is_run : IsTurnsRun bytes run
-  pub is_end : end ≡ end_told run.closing
-  pub shows : ShowsAs options None run text
-
 -- a run ended before the first turn that was chosen
 abbrev pub IsPast : Options → TurnsRun → Type 0
 IsPast options run = length run.turns.items ≤ first_turn options.counted options.first run.script.cpus
+
+-- there is a run of the script that these bytes are, with all that was kept of it, that ends so, and the text shows it as the options say;
+-- it hadn't ended before the first turn that was chosen
+pub record IsShown (options : Options) (bytes : List ℕ) (end : End) (text : List ℕ) : Type 0 where
+  pub run : TurnsRun
+  pub is_run : IsTurnsRun bytes run
+  pub not_past : ¬ IsPast options run
+  pub is_end : end ≡ end_told run.closing
+  pub shows : ShowsAs options None run text
 
 -- there is a run of the script that these bytes are that ended before the first turn that was chosen
 pub record IsPastIn (options : Options) (bytes : List ℕ) : Type 0 where
@@ -93,15 +95,18 @@ abbrev pub IsShowingThreads : Bool → Bool → Option (List ℕ) → Option (Li
 IsShowingThreads source_failed sink_failed left old new status = (outcome : Result End RunFault) × (TellsBy IsShownOnThreads left old new outcome × (BlamesFailed source_failed sink_failed outcome × (status ≡ exit_status outcome)))
 
 -- there is a run along this order of the script that these bytes are, with all that was kept of it, that ends so, and the text shows it
--- as the options say
+-- as the options say; it hadn't ended before the first turn that was chosen, unless that is the first of all
 pub record IsShownAlong (order : List ℕ) (options : Options) (bytes : List ℕ) (end : End) (text : List ℕ) : Type 0 where
   pub run : TurnsRun
   pub is_run : IsOrderRun bytes order run
+  pub not_past : 0 < options.first → ¬ IsPast options run
   pub is_end : end ≡ end_told run.closing
   pub shows : ShowsAs options (Some order) run text
 
--- there is a run along this order of the script that these bytes are that ended before the first turn that was chosen
+-- there is a run along this order of the script that these bytes are that ended before the first turn that was chosen, which isn't the
+-- first of all
 pub record IsPastAlong (order : List ℕ) (options : Options) (bytes : List ℕ) : Type 0 where
+  pub some : 0 < options.first
   pub run : TurnsRun
   pub is_run : IsOrderRun bytes order run
   pub is_past : IsPast options run

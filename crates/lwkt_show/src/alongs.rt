@@ -1,5 +1,6 @@
 //! A run along an order, shown.
-ghost use Rattle.std.specs.Prelude.{◌≡◌, ◌⊎◌, Err, IsTrue, IfOk, IfErr, IfSome, IsNone, string_bytes};
+ghost use Rattle.std.specs.Prelude.{◌≡◌, ◌⊎◌, Ok, Err, IsTrue, IfOk, IfErr, OnOk, IfSome, IsNone, string_bytes};
+ghost use Rattle.lwkt_run.specs.declared.runs.End.{End};
 ghost use Rattle.lwkt_run.specs.Run.{RefusesAlong};
 ghost use Rattle.lwkt_show.specs.Showing.{IsShownAlong, IsPastAlong, TellsAlong};
 
@@ -54,6 +55,8 @@ pub fn show_along<S: Source, K: Sink, E: Sink>(
 ) -> Result<Outcome, RunFault>
     ensures tells { TellsAlong along.order.items along.options (S.left source.old) (K.contents sink.old) (K.contents sink.new) result }
     ensures stream { result ≡ Err RunFault.Stream → IsTrue (S.has_failed source.new) ⊎ IsTrue (K.has_failed sink.new) }
+    ensures flushed { (end : End) → result ≡ Ok (Outcome.Shown end) → K.is_flushed sink.new }
+    ensures unfailed { OnOk result ((S.has_failed source.new ≡ S.has_failed source.old) × (K.has_failed sink.new ≡ K.has_failed sink.old)) }
 {
     let bytes = match read_capped(alloc, source) {
         Ok(bytes) => bytes,

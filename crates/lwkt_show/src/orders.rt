@@ -23,14 +23,14 @@ pub struct Along {
 fn is_digit(byte: u8) -> bool
     ensures { result ≡ is_digit byte }
 {
-    48 <= byte && byte <= 57
+    b'0' <= byte && byte <= b'9'
 }
 
 // Whether a byte may stand in the text of an order: a digit, or a blank, a comma or a dash.
 fn is_part(byte: u8) -> bool
     ensures { result ≡ is_part byte }
 {
-    is_digit(byte) || byte == 32 || byte == 44 || byte == 45
+    is_digit(byte) || byte == b' ' || byte == b',' || byte == b'-'
 }
 
 // Whether bytes are the text of an order.
@@ -45,7 +45,7 @@ fn add_turn(order: &mut Vec<u8>, byte: u8) -> Result<(), AllocError>
     ensures { OnOk result (order.new.items ≡ order.old.items ++ turn_of_byte byte) }
 {
     if is_digit(byte) {
-        order.push(byte - 48)?;
+        order.push(byte - b'0')?;
     }
     Ok(())
 }
@@ -103,6 +103,7 @@ fn asked(words: &[String]) -> Option<(&str, Options)>
 /// Whether the arguments name an order of turns, as `along_of` reads it.
 pub fn asks_along(words: &[String]) -> bool
     ensures asked { (options : Options) (order : List ℕ) → AreAlong (map string_bytes words.now) options order → IsTrue result }
+    ensures only { IsTrue result → (options : Options) × ((order : List ℕ) × AreAlong (map string_bytes words.now) options order) }
     ensures misused { AreMisused (map string_bytes words.now) → result ≡ false }
 {
     asked(words).is_some()

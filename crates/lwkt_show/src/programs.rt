@@ -1,4 +1,4 @@
-ghost use Rattle.std.specs.Prelude.{◌≡◌, ◌≤◌, ◌⊎◌, if◌then◌else◌, Err, IsTrue, IfOk, IfErr, IfSome, IsNone, map, string_bytes};
+ghost use Rattle.std.specs.Prelude.{◌≡◌, ◌↔◌, ◌≤◌, ◌⊎◌, if◌then◌else◌, Ok, Err, IsTrue, IfOk, IfErr, OnOk, IfSome, IsNone, map, string_bytes};
 ghost use Rattle.std.specs.Option.{option_copied};
 ghost use Rattle.lwkt_run.specs.Run.{Refuses};
 ghost use Rattle.std.specs.Prelude.{ℕ, List, false};
@@ -58,7 +58,7 @@ fn chosen_of(options: &Options) -> Chosen
 
 // Whether a run ended before the first turn that was chosen.
 pub(crate) fn is_past(options: &Options, run: &TurnsRun) -> bool
-    ensures { IsTrue result → IsPast options.now run.now }
+    ensures { IsTrue result ↔ IsPast options.now run.now }
 {
     chosen_of(options).is_past(run.script.cpus, run.turns.len())
 }
@@ -132,6 +132,8 @@ pub fn show_stream<S: Source, K: Sink, E: Sink>(
 ) -> Result<Outcome, RunFault>
     ensures tells { TellsShown options.now (S.left source.old) (K.contents sink.old) (K.contents sink.new) result }
     ensures stream { result ≡ Err RunFault.Stream → IsTrue (S.has_failed source.new) ⊎ IsTrue (K.has_failed sink.new) }
+    ensures flushed { (end : End) → result ≡ Ok (Outcome.Shown end) → K.is_flushed sink.new }
+    ensures unfailed { OnOk result ((S.has_failed source.new ≡ S.has_failed source.old) × (K.has_failed sink.new ≡ K.has_failed sink.old)) }
 {
     let bytes = match read_capped(alloc, source) {
         Ok(bytes) => bytes,

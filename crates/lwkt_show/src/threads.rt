@@ -1,5 +1,5 @@
 //! The written sections of a run on threads, shown.
-ghost use Rattle.std.specs.Prelude.{◌≡◌, ◌⊎◌, Err, IsTrue, IfOk, IfErr, string_bytes};
+ghost use Rattle.std.specs.Prelude.{◌≡◌, ◌⊎◌, Err, IsTrue, IfOk, IfErr, OnOk, string_bytes};
 ghost use Rattle.lwkt_run.specs.Run.{Refuses, TellsBy};
 ghost use Rattle.lwkt_show.specs.Showing.{IsShownOnThreads};
 
@@ -43,6 +43,8 @@ pub fn show_threads<R: Threads + Sync, S: Source, K: Sink, E: Sink>(
 ) -> Result<End, RunFault>
     ensures tells { TellsBy IsShownOnThreads (S.left source.old) (K.contents sink.old) (K.contents sink.new) result }
     ensures stream { result ≡ Err RunFault.Stream → IsTrue (S.has_failed source.new) ⊎ IsTrue (K.has_failed sink.new) }
+    ensures flushed { OnOk result (K.is_flushed sink.new) }
+    ensures unfailed { OnOk result ((S.has_failed source.new ≡ S.has_failed source.old) × (K.has_failed sink.new ≡ K.has_failed sink.old)) }
 {
     let bytes = match read_capped(alloc, source) {
         Ok(bytes) => bytes,
