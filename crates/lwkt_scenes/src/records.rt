@@ -37,7 +37,7 @@ pub(crate) fn show_digits(out: &mut Page, blob: &Blob)
 fn is_shown(byte: u8) -> bool
     ensures { result ≡ is_shown byte }
 {
-    32 <= byte && byte < 127 && !(byte == 34 || byte == 38 || byte == 60 || byte == 62)
+    b' ' <= byte && byte < 127 && !(byte == b'"' || byte == b'&' || byte == b'<' || byte == b'>')
 }
 
 // Whether bytes are shown as text.
@@ -86,7 +86,7 @@ fn show_bytes(out: &mut Page, bytes: &[u8])
 fn show_cut(out: &mut Page, blob: &Blob)
     ensures { GrowsBy out.old out.new (cut_words blob.now) }
 {
-    if blob.len() > 24 {
+    if blob.len() > SHOWN {
         out.number(".., ", u64::from(blob.len()));
         out.add(" bytes")
     } else {

@@ -1,10 +1,11 @@
 use crate::events::{show_event, stood_before};
 use crate::pages::Page;
+use crate::records::show_record;
 use crate::scenes::Scene;
 use crate::stories::{Doing, Outcome, Story, doing_after};
 use crate::tokens::Runners;
 use crate::tries::{held_after, taker};
-use lwkt_base::{Answer, Ask, Fault, MsgId, ThreadId, ThreadState, TokId};
+use lwkt_base::{Answer, Ask, Blob, Fault, Law, MsgId, ThreadId, ThreadState, TokId};
 use lwkt_core::{Event, State};
 use lwkt_refusals::show_breach;
 use lwkt_report::ThreadLine;
@@ -43,6 +44,26 @@ fn spec_of(script: &Script, id: ThreadId) -> Option<&ThreadSpec> {
         }
     }
     None
+}
+
+// Appends how long the record is, where the law asks for its length.
+fn show_length(out: &mut Page, law: Law, blob: &Option<Blob>) {
+    if let (Law::Len, Some(blob)) = (law, blob) {
+        out.number(", which has ", u64::from(blob.len()));
+        out.add(" bytes");
+    }
+}
+
+// Appends that the first record was stored again, where another one was there.
+fn show_first_record(out: &mut Page, blob: &Option<Blob>, first: &Option<Blob>) {
+    let (Some(blob), Some(first)) = (blob, first) else {
+        return;
+    };
+    if !blob.is_same(first) {
+        out.add("; the first ");
+        show_record(out, first);
+        out.add(" was stored again");
+    }
 }
 
 // What is told of a thread before the first turn.
@@ -196,9 +217,13 @@ impl Replay {
         out.number("token ", u64::from(tok.0));
         out.add(": ");
         show_breach(out, token.law, token.param, token.row.as_slice());
-        out.add("; first row");
-        out.numbers(token.first.as_slice());
-        out.add(" was stored again");
+        show_length(out, token.law, &token.blob);
+        if token.row.as_slice() != token.first.as_slice() {
+            out.add("; first row");
+            out.numbers(token.first.as_slice());
+            out.add(" was stored again");
+        }
+        show_first_record(out, &token.blob, &token.first_blob);
     }
 
     // Notes for whom an event's processor holds tokens, which so far has so many references of this turn; says how many it
@@ -211,7 +236,7 @@ impl Replay {
         held_after(held, event)
     }
 
-    // If an event stores again a cell of a section that broke its law, notes that and tells it.
+    // If an event stores again a cell or the record of a section that broke its law, notes that and tells it.
     fn note_broken(
         &self,
         why: &mut Page,
@@ -219,14 +244,16 @@ impl Replay {
         stores: bool,
         broken: Option<TokId>,
     ) -> Option<TokId> {
-        match *event {
-            Event::Write { tok, .. } if !stores && broken != Some(tok) => {
-                why.clear();
-                self.show_broken(why, tok);
-                Some(tok)
-            }
-            _ => broken,
+        let tok = match *event {
+            Event::Write { tok, .. } | Event::WriteBlob { tok, .. } => tok,
+            _ => return broken,
+        };
+        if stores || broken == Some(tok) {
+            return broken;
         }
+        why.clear();
+        self.show_broken(why, tok);
+        Some(tok)
     }
 
     /// Makes events happen, those of a turn or of the stop, and appends each by what it changed. What is told of a section
