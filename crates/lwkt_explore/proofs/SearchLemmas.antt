@@ -1,11 +1,11 @@
-use Rattle.std.proofs.Common.{◌≡◌, ◌⊎◌, ℕ, ◌≤◌, Bool, true, List, length, ⊎_elim, sym, subst, arith}
+use Rattle.std.proofs.Common.{◌≡◌, ◌⊎◌, ℕ, ◌≤◌, Bool, true, List, length, ⊎_elim, sym, subst, ◌∙◌, arith}
 use Rattle.std.specs.Prelude.{Contains, Vec}
 use Rattle.std.specs.declared.alloc.Global.{Global}
 use Rattle.lwkt_explore.specs.declared.graphs.Graph.{Graph}
 use Rattle.lwkt_explore.specs.declared.outcomes.Outcomes.{Outcomes}
 use Rattle.lwkt_explore.specs.declared.searches.Bounds.{Bounds}
 use Rattle.lwkt_explore.specs.declared.walks.Walk.{Walk}
-use Rattle.lwkt_explore.specs.Outcomes.{AreOutcomes, AreShort, HasEnded}
+use Rattle.lwkt_explore.specs.Outcomes.{AreOutcomes, AreShort, AreWhole, HasEnded}
 use Rattle.lwkt_explore.specs.Walks.{WalkGoesOn, IsSearching}
 use Rattle.lwkt_explore.proofs.WalkLemmas.{walk_stays}
 
@@ -23,22 +23,24 @@ search_goes bytes old new outcomes goes is =
       found = is.found;
       short = short_at old.bounds new.bounds outcomes (sym goes.stays.bounds) is.short;
       ended = subst E (sym goes.stays.ends) is.ended;
+      whole = λ complete. is.whole (goes.stays.complete complete);
     }
 
 -- a search with one outcome more
-pub search_finds : (bytes : List ℕ) (walk : Walk) (old new : Outcomes) → AreOutcomes bytes new → AreShort walk.bounds.turns new → (HasEnded old → HasEnded new) → IsSearching bytes walk old → IsSearching bytes walk new
-search_finds bytes walk old new found short more is = record {
+pub search_finds : (bytes : List ℕ) (walk : Walk) (old new : Outcomes) → AreOutcomes bytes new → AreShort walk.bounds.turns new → (HasEnded old → HasEnded new) → (walk.is_complete ≡ true → AreWhole old → AreWhole new) → IsSearching bytes walk old → IsSearching bytes walk new
+search_finds bytes walk old new found short more whole is = record {
   walk_is = is.walk_is;
   some = is.some;
   found = found;
   short = short;
   ended = λ has. more (is.ended has);
+  whole = λ complete. whole complete (is.whole complete);
 }
 
 -- a search that noted of one state more whether it is an end
-pub search_notes : (bytes : List ℕ) (old new : Walk) (outcomes : Outcomes) (is_end : Bool) → new.script ≡ old.script → new.bounds ≡ old.bounds → new.graph ≡ old.graph
+pub search_notes : (bytes : List ℕ) (old new : Walk) (outcomes : Outcomes) (is_end : Bool) → new.script ≡ old.script → new.bounds ≡ old.bounds → new.graph ≡ old.graph → new.is_complete ≡ old.is_complete
     → (Contains new.ends.items true → Contains old.ends.items true ⊎ (is_end ≡ true)) → (is_end ≡ true → HasEnded outcomes) → IsSearching bytes old outcomes → IsSearching bytes new outcomes
-search_notes bytes old new outcomes is_end script bounds graph noted ends is =
+search_notes bytes old new outcomes is_end script bounds graph same noted ends is =
     let S : Graph → Type 0 = λ g. 1 ≤ length g.nodes.items in
     record {
       walk_is = walk_stays bytes old new script bounds graph is.walk_is;
@@ -46,4 +48,5 @@ search_notes bytes old new outcomes is_end script bounds graph noted ends is =
       found = is.found;
       short = short_at old.bounds new.bounds outcomes (sym bounds) is.short;
       ended = λ has. ⊎_elim is.ended ends (noted has);
+      whole = λ complete. is.whole (sym same ∙ complete);
     }

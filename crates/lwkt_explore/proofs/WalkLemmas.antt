@@ -60,6 +60,7 @@ stays_on a b c first next = record {
   script = next.script ∙ first.script;
   bounds = next.bounds ∙ first.bounds;
   ends = next.ends ∙ first.ends;
+  complete = λ is. first.complete (next.complete is);
 }
 
 pub stays_there_on : (a b c : Walk) → StaysThere a b → StaysThere b c → StaysThere a c

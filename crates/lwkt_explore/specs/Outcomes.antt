@@ -1,5 +1,5 @@
 -- Outcomes of a script (own).
-use Rattle.std.specs.Prelude.{◌≡◌, ℕ, ◌≤◌, List, All, length, string_bytes}
+use Rattle.std.specs.Prelude.{◌≡◌, ◌≢◌, ℕ, ◌≤◌, List, All, length, string_bytes}
 use Rattle.std.specs.List.{Any}
 use Rattle.lwkt_base.specs.declared.faults.Fault.{Fault}
 use Rattle.lwkt_base.specs.declared.faults.Fault.TheVariants.{Unlawful}
@@ -37,6 +37,10 @@ AreOutcomes bytes outcomes = All (IsOutcome bytes) outcomes.all.items
 -- the order of each of these has at most so many turns
 abbrev pub AreShort : ℕ → Outcomes → Type 0
 AreShort turns outcomes = All (λ outcome. length outcome.order.items ≤ turns) outcomes.all.items
+
+-- none of these was cut off
+abbrev pub AreWhole : Outcomes → Type 0
+AreWhole outcomes = All (λ outcome. outcome.kind ≢ Cut) outcomes.all.items
 
 -- one of these is ended
 abbrev pub HasEnded : Outcomes → Type 0

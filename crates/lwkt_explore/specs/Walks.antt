@@ -5,7 +5,7 @@ use Rattle.lwkt_script.specs.Format.{script_of}
 use Rattle.lwkt_explore.specs.declared.outcomes.Outcomes.{Outcomes}
 use Rattle.lwkt_explore.specs.declared.walks.Walk.{Walk}
 use Rattle.lwkt_explore.specs.Graphs.{AreNodes}
-use Rattle.lwkt_explore.specs.Outcomes.{AreOutcomes, AreShort, HasEnded}
+use Rattle.lwkt_explore.specs.Outcomes.{AreOutcomes, AreShort, AreWhole, HasEnded}
 
 -- an order names processors of the script that these bytes are
 pub record IsOrderOf (bytes order : List ℕ) : Type 0 where
@@ -22,11 +22,12 @@ pub record IsWalk (bytes : List ℕ) (walk : Walk) : Type 0 where
   pub nodes : AreNodes walk.script.cpus walk.bounds.turns walk.graph
   pub few : length walk.graph.nodes.items ≤ max 1 walk.bounds.states
 
--- what a walk is of stays, and which states are ends
+-- what a walk is of stays, and which states are ends; if a bound was met before, not every order is tried
 pub record WalkStays (old new : Walk) : Type 0 where
   pub script : new.script ≡ old.script
   pub bounds : new.bounds ≡ old.bounds
   pub ends : new.ends ≡ old.ends
+  pub complete : new.is_complete ≡ true → old.is_complete ≡ true
 
 -- the states stay, too
 pub record StaysThere (old new : Walk) : Type 0 where
@@ -39,11 +40,12 @@ pub record WalkGoesOn (bytes : List ℕ) (old new : Walk) : Type 0 where
   pub walk : IsWalk bytes new
   pub states : length old.graph.nodes.items ≤ length new.graph.nodes.items
 
--- a search of these bytes that is under way: its outcomes are those of the script, and if a state that it went on from is an end, one of them
--- is ended
+-- a search of these bytes that is under way: its outcomes are those of the script; if a state that it went on from is an end, one of them
+-- is ended; and if every order was tried so far, none was cut off
 pub record IsSearching (bytes : List ℕ) (walk : Walk) (outcomes : Outcomes) : Type 0 where
   pub walk_is : IsWalk bytes walk
   pub some : 1 ≤ length walk.graph.nodes.items
   pub found : AreOutcomes bytes outcomes
   pub short : AreShort walk.bounds.turns outcomes
   pub ended : Contains walk.ends.items true → HasEnded outcomes
+  pub whole : walk.is_complete ≡ true → AreWhole outcomes

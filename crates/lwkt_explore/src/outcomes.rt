@@ -1,10 +1,10 @@
 //! Outcomes: reports of runs along orders, each once.
-ghost use Rattle.std.specs.Prelude.{◌≡◌, ◌≢◌, ℕ, ◌+◌, ◌<◌, ◌≤◌, [], ◌∷◌, ◌++◌, length, sum, IfOk, IfErr, OnOk, OnErr, IfSome, OnSome};
+ghost use Rattle.std.specs.Prelude.{◌≡◌, ◌≢◌, ℕ, ◌+◌, ◌<◌, ◌≤◌, [], ◌∷◌, ◌++◌, false, length, sum, IfOk, IfErr, OnOk, OnErr, IfSome, OnSome};
 ghost use Rattle.std.specs.List.{Any};
 ghost use Rattle.std.specs.Option.{option_to_list};
 ghost use Rattle.lwkt_base.specs.Fault.{no_memory};
 ghost use Rattle.lwkt_run.specs.Run.{end_told};
-ghost use Rattle.lwkt_explore.specs.Outcomes.{IsKind, IsOutcome, AreOutcomes, AreShort, HasEnded, RefusesSearch};
+ghost use Rattle.lwkt_explore.specs.Outcomes.{IsKind, IsOutcome, AreOutcomes, AreShort, AreWhole, HasEnded, RefusesSearch};
 ghost use Rattle.lwkt_explore.specs.Walks.{IsOrderOf};
 ghost use Rattle.lwkt_explore.specs.Verdicts.{IsOfVerdict};
 
@@ -56,6 +56,7 @@ fn kind_of(run: &TurnsRun, is_cut: bool) -> Result<Kind, Fault>
     ensures lawful { OnOk result (run.now.closing.verdict ≡ Verdict.Lawful) }
     ensures unlawful { IfErr result (λ fault. IsOfVerdict run.now.closing.verdict fault) }
     ensures kind { IfOk result (λ kind. IsKind kind (end_told run.now.closing)) }
+    ensures whole { IfOk result (λ kind. is_cut ≡ false → kind ≢ Kind.Cut) }
 {
     match run.closing.verdict {
         Verdict::Lawful => {}
@@ -107,6 +108,7 @@ fn outcome_of(alloc: Global, bytes: &[u8], order: Vec<u8>, is_cut: bool) -> Resu
     requires { IsOrderOf bytes.now order.items }
     ensures ok { IfOk result (λ outcome. IsOutcome bytes.now outcome) }
     ensures order { IfOk result (λ outcome. outcome.order.items ≡ order.items) }
+    ensures whole { IfOk result (λ outcome. is_cut ≡ false → outcome.kind ≢ Kind.Cut) }
     ensures refused { IfErr result (λ fault. RefusesSearch bytes.now fault) }
 {
     let run = order_run(alloc, bytes, order)?;
@@ -217,6 +219,7 @@ impl Outcomes {
         ensures found { AreOutcomes bytes.now self.new }
         ensures short { (turns : ℕ) → length order.items ≤ turns → AreShort turns self.old → AreShort turns self.new }
         ensures ended { HasEnded self.old → HasEnded self.new }
+        ensures whole { is_cut ≡ false → AreWhole self.old → AreWhole self.new }
         ensures kind { IfOk result (λ kind. kind ≡ Kind.Ended → HasEnded self.new) }
         ensures counts { sum self.new.counts.items ≤ sum self.old.counts.items + 1 }
         ensures refused { IfErr result (λ fault. RefusesSearch bytes.now fault) }

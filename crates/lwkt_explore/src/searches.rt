@@ -1,12 +1,12 @@
 //! The search: over states, breadth first, so that orders are shortest.
 ghost use Rattle.std.specs.Prelude.{◌≡◌, ◌+◌, ◌≤◌, ◌<◌, true, false, None, length, IfOk, IfErr, OnOk};
-ghost use Rattle.lwkt_explore.specs.Outcomes.{AreOutcomes, AreShort, HasEnded, RefusesSearch};
+ghost use Rattle.lwkt_explore.specs.Outcomes.{AreOutcomes, AreShort, AreWhole, HasEnded, RefusesSearch};
 ghost use Rattle.lwkt_explore.specs.Tries.{HasTriedStates};
 ghost use Rattle.lwkt_explore.specs.Walks.{IsSearching};
 
 use crate::losses::Lost;
 use crate::outcomes::{Kind, Outcomes};
-use crate::walks::{Walk, memory};
+use crate::walks::{Leads, Walk, memory};
 use crate::watches::Watch;
 use lwkt_base::Fault;
 use lwkt_run::read_script;
@@ -70,12 +70,13 @@ fn expand(
     ensures ends { OnOk result (length walk.new.ends.items ≡ length walk.old.ends.items + 1) }
     ensures refused { IfErr result (λ fault. RefusesSearch bytes.now fault) }
 {
-    let quiet = walk.go_on(alloc, bytes, at)?;
-    if !quiet && !walk.is_far(at) {
-        return walk.note_end(false);
-    }
+    let is_cut = match walk.go_on(alloc, bytes, at)? {
+        Leads::Nowhere => false,
+        Leads::Off if walk.is_far(at) => true,
+        Leads::On | Leads::Off => return walk.note_end(false),
+    };
     let order = memory(walk.graph.order(alloc, at))?;
-    let kind = outcomes.add(alloc, bytes, order, !quiet)?;
+    let kind = outcomes.add(alloc, bytes, order, is_cut)?;
     walk.note_end(kind == Kind::Ended)
 }
 
@@ -132,6 +133,9 @@ pub fn explore<W: Watch>(
 
     // If every order was tried and no state is lost, there is an end.
     ensures ended { IfOk result (λ found. found.is_complete ≡ true → found.lost ≡ None → HasEnded found.outcomes) }
+
+    // If every order was tried, none was cut off.
+    ensures whole { IfOk result (λ found. found.is_complete ≡ true → AreWhole found.outcomes) }
 
     // Lost states are told only if every order was tried.
     ensures lost { IfOk result (λ found. found.is_complete ≡ false → found.lost ≡ None) }

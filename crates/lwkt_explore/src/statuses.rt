@@ -13,7 +13,7 @@ fn is_stuck(outcome: &Outcome) -> bool
     matches!(outcome.kind, Kind::Stuck)
 }
 
-// Whether an outcome is stuck.
+// Whether some outcome is stuck.
 fn has_stuck(outcomes: &Outcomes) -> bool
     ensures { result ≡ list_any is_stuck outcomes.now.all.items }
 {

@@ -67,21 +67,36 @@ pub(crate) fn number_in_order(cpu: usize) -> u8
 // How large a block is allocated and freed before the first machine is made.
 const BLOCK: usize = 1048576;
 
-// Allocates a large block and frees it. The C library's allocator gives the end of its memory back to the system where more is
-// free than twice the largest block that was freed, and a machine is made and given up for each turn that is made.
+// Allocates a large block and frees it. The C library's allocator gives memory back to the system if more is free than twice the
+// largest block that was freed. A walk makes a machine for each turn and gives it up, so this raises that threshold first.
 fn keep_memory(alloc: Global) {
     let block: Result<Vec<u8>, AllocError> = Vec::with_capacity(alloc, BLOCK);
     let _ = block;
 }
 
-// Whether the turn of no processor leads to another state.
-fn is_quiet(row: &Row, at: usize, cpus: usize) -> bool {
+/// Where the turns from a state lead.
+#[derive(Clone, Copy, Debug, PartialEq, Eq)]
+pub(crate) enum Leads {
+    /// No turn changes anything.
+    Nowhere,
+    /// Some turn changes something, and each state that was reached is kept.
+    On,
+    /// Some turn leads to a state that isn't kept, since a bound was met.
+    Off,
+}
+
+// Where the turns of these processors lead.
+fn leads_of(row: &Row, at: usize, cpus: usize) -> Leads {
+    let mut leads = Leads::Nowhere;
     for (cpu, number) in row.iter().enumerate() {
+        if cpu < cpus && *number == NONE {
+            return Leads::Off;
+        }
         if cpu < cpus && *number as usize != at {
-            return false;
+            leads = Leads::On;
         }
     }
-    true
+    leads
 }
 
 impl Walk {
@@ -381,16 +396,21 @@ impl Walk {
         row
     }
 
-    /// Tries turns from a state, and says whether no processor's turn changes anything.
-    pub(crate) fn go_on(&mut self, alloc: Global, bytes: &[u8], at: usize) -> Result<bool, Fault>
+    /// Tries turns from a state, and says where they lead.
+    pub(crate) fn go_on(&mut self, alloc: Global, bytes: &[u8], at: usize) -> Result<Leads, Fault>
         requires { IsWalk bytes.now self.old }
         ensures goes { WalkGoesOn bytes.now self.old self.new }
+        ensures off { IfOk result (λ leads. leads ≡ Leads.Off → self.new.is_complete ≡ false) }
         ensures refused { IfErr result (λ fault. RefusesSearch bytes.now fault) }
     {
         let mut row = self.first_row(at);
         self.try_sets(alloc, bytes, at, &mut row)?;
         memory(self.graph.note(&row))?;
-        Ok(is_quiet(&row, at, usize::from(self.script.cpus)))
+        let leads = leads_of(&row, at, usize::from(self.script.cpus));
+        if leads == Leads::Off {
+            self.is_complete = false;
+        }
+        Ok(leads)
     }
 
     // Whether no turn changes anything behind an order.
@@ -455,6 +475,7 @@ impl Walk {
         ensures script { self.new.script ≡ self.old.script }
         ensures bounds { self.new.bounds ≡ self.old.bounds }
         ensures graph { self.new.graph ≡ self.old.graph }
+        ensures complete { self.new.is_complete ≡ self.old.is_complete }
     {
         match self.ends.push(is_end) {
             Ok(()) => Ok(()),

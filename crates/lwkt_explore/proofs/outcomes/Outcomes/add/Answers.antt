@@ -1,10 +1,10 @@
 use Rattle.std.proofs.Common.{◌≡◌, ◌≤◌, ℕ, length, sym, subst, List, [], ◌∷◌, ◌∙◌}
 use Rattle.std.proofs.lemmas.List.Elements.{All-push}
 use Rattle.std.proofs.lemmas.List.Quantifiers.{Any-push}
-use Rattle.std.specs.Prelude.{All, Vec}
+use Rattle.std.specs.Prelude.{◌≢◌, All, Vec}
 use Rattle.std.specs.List.{Any}
 use Rattle.std.specs.declared.alloc.Global.{Global}
-use Rattle.lwkt_explore.specs.declared.outcomes.Kind.TheVariants.{Ended}
+use Rattle.lwkt_explore.specs.declared.outcomes.Kind.TheVariants.{Ended, Cut}
 use Rattle.lwkt_explore.specs.declared.outcomes.Outcome.{Outcome}
 use Rattle.lwkt_explore.specs.Outcomes.{IsOutcome}
 use Rattle.lwkt_explore.proofs.EndLemmas.{Any-append, Any-weaker}
@@ -46,6 +46,12 @@ returns-in_ok-keep-in-None-clause-short c = λ turns few all.
     let F : List Outcome → Type 0 = λ xs. All P xs in
     let G : List ℕ → Type 0 = λ order. length order ≤ turns in
     subst F (sym c.in_ok-keep-in-None.ensures.ok) (All-push P c.args.self.now.all.items c.in_ok-outcome.outcome all (subst G (sym c.in_ok-outcome.ensures.order) few))
+
+pub returns-in_ok-keep-in-None-clause-whole : goal.returns-in_ok-keep-in-None-clause-whole
+returns-in_ok-keep-in-None-clause-whole c = λ uncut all.
+    let P : Outcome → Type 0 = λ outcome. outcome.kind ≢ Cut in
+    let F : List Outcome → Type 0 = λ xs. All P xs in
+    subst F (sym c.in_ok-keep-in-None.ensures.ok) (All-push P c.args.self.now.all.items c.in_ok-outcome.outcome all (c.in_ok-outcome.ensures.whole uncut))
 
 pub returns-in_ok-keep-in-None-clause-ended : goal.returns-in_ok-keep-in-None-clause-ended
 returns-in_ok-keep-in-None-clause-ended c =

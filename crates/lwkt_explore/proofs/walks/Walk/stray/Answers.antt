@@ -28,10 +28,22 @@ loop-preserved c =
     let G : List ℕ → Type 0 = λ order. All P order in
     let more : length c.push.new.self.items ≡ length c.loop.order.items + 1 = ap (λ (xs : List ℕ). length xs) items ∙ length-append c.loop.order.items (c.number_in_order.result ∷ []) in
     record {
-      there = record { stays = record { script = joined.stays.script; bounds = joined.stays.bounds; ends = joined.stays.ends }; graph = joined.graph };
+      there = record { stays = record { script = joined.stays.script; bounds = joined.stays.bounds; ends = joined.stays.ends; complete = joined.stays.complete }; graph = joined.graph };
       cpus = cpus;
       place = c.turn.ensures.as_many ∙ c.loop.invariant.place;
       order = subst G (sym items) (All-push P c.loop.order.items c.number_in_order.result c.loop.invariant.order there);
       short = omega (arith, more, c.loop.invariant.short);
       end = refl;
     }
+
+pub returns-in-Err-clause-stays : goal.returns-in-Err-clause-stays
+returns-in-Err-clause-stays c =
+    let first = c.args.self.now in
+    let F : Walk → Type 0 = λ walk. StaysThere first walk in
+    let joined : StaysThere first c.if-idle-cpus.self =
+    elim c.if-idle-cpus.branch [
+      | then-idle-cpus+in_ok-is_quiet+else-branch w ↦ subst F (sym w.self-is) (stays_there_on first c.loop.self w.is_quiet.new.self c.loop.invariant.there w.is_quiet.ensures.stays)
+      | else-idle-cpus w ↦ subst F (sym w.self-is) c.loop.invariant.there
+    ]
+    in
+    record { stays = record { script = joined.stays.script; bounds = joined.stays.bounds; ends = joined.stays.ends; complete = joined.stays.complete }; graph = joined.graph }
