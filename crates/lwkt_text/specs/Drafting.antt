@@ -48,9 +48,9 @@ said_by_sentence names ws = demand_at ws 1000 whats.Long (nat_le (length ws) 100
     if is_at ws 0 (codes "idle") then (setting ws 100000000 >>= λ n. Ok (saids.Idle n)) else (
     if is_at ws 0 (codes "cpus") then (setting ws 8 >>= λ n. Ok saids.Cpus) else part_said names ws)))
 
--- before the first sentence: 10000 turns, 1000 idle ones, and what is wrong with the names
+-- before the first sentence: 10000 turns, 100000000 idle ones, and what is wrong with the names
 abbrev pub no_draft : List Wrong → Draft
-no_draft faults = record { turns = 10000; idle = 1000; tokens = []; messages = []; threads = []; head = None; steps = []; expectations = []; faults = faults }
+no_draft faults = record { turns = 10000; idle = 100000000; tokens = []; messages = []; threads = []; head = None; steps = []; expectations = []; faults = faults }
 
 -- one more fault
 abbrev pub blamed : Wrong → Draft → Draft

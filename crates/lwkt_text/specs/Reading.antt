@@ -1,5 +1,5 @@
 -- What a text is: a script, its names and what is said of its outcomes, or all that is wrong with it (own).
-use Rattle.std.specs.Prelude.{◌≡◌, ℕ, ◌==◌, List, length, if◌then◌else◌, Result, Ok, Err}
+use Rattle.std.specs.Prelude.{◌≡◌, ℕ, ◌==◌, List, [], length, if◌then◌else◌, Result, Ok, Err}
 use Rattle.lwkt_script.specs.declared.scripts.Script.{Script}
 use Rattle.lwkt_text.specs.declared.drafts.Draft.{Draft}
 use Rattle.lwkt_text.specs.declared.listings.Listing.{Listing}
@@ -29,9 +29,9 @@ reading_of_sentences sentences = told_with sentences (all_listed sentences no_li
 unfoldable pub reading_of : List ℕ → Result Reading (List Wrong)
 reading_of bytes = reading_of_sentences (sentences_of bytes)
 
--- a text that is a script
+-- a text that is a script, and expects nothing
 abbrev pub HasScript : Script → Result Reading (List Wrong) → Type 0
-HasScript s (Ok reading) = reading.script ≡ s
+HasScript s (Ok reading) = (reading.script ≡ s) × (reading.expectations ≡ [])
 HasScript s (Err wrongs) = ⊥
 
 abbrev pub IsTextOf : Script → List ℕ → Type 0

@@ -62,7 +62,7 @@ impl Draft {
     {
         Draft {
             turns: 10_000,
-            idle: 1000,
+            idle: 100_000_000,
             tokens: Many::new(alloc),
             messages: Many::new(alloc),
             threads: Many::new(alloc),

@@ -29,11 +29,12 @@ impl<T> Many<T> {
         }
     }
 
-    /// Puts an item at the end. Refused only with `Memory`.
+    /// Puts an item at the end. Refused only with `Memory`; the items stay then.
     pub fn push(&mut self, item: T) -> Result<(), Slip>
     where
         T: Drop,
         ensures ok { OnOk result (self.new ≡ self.old ++ item ∷ []) }
+        ensures err { OnErr result (self.new ≡ self.old) }
         ensures only { OnErr result (result ≡ Err out_of_memory) }
     {
         match self.items.push(item) {

@@ -235,19 +235,21 @@ fn written(alloc: Global, script: &Script) -> Result<String, AllocError> {
     Ok(page.into_string())
 }
 
-// Whether a text is one of a script: it is read again.
+// Whether a text is one of a script, and expects nothing: it is read again.
 fn is_text_of(alloc: Global, text: &str, script: &Script) -> Result<bool, Unsaid>
     ensures { IfOk result (λ is. IsTrue is → IsTextOf script.now text.now) }
 {
     match read_text(alloc, text.as_bytes()) {
-        Ok(reading) => Ok(same_script(&reading.script, script)),
+        Ok(reading) => {
+            Ok(reading.expectations.as_slice().is_empty() && same_script(&reading.script, script))
+        }
         Err(Refusal::Memory(refused)) => Err(Unsaid::Memory(refused)),
         Err(Refusal::Wrongs(_)) => Ok(false),
     }
 }
 
 /// A script as a text of the language: each token is named `t` and its number, each message `m` and its number, each thread `p`
-/// and its place among all threads. What was written is read again and compared, so that it is the same script.
+/// and its place among all threads. What was written is read again and compared, so that it is the same script, and nothing is expected of it.
 ///
 /// Refused with `Memory` if an allocation is, and with `Limits` if the script doesn't keep the limits of the format.
 pub fn text_of(alloc: Global, script: &Script) -> Result<String, Unsaid>

@@ -31,7 +31,7 @@ fn first_step(alloc: Global, text: &str) -> Option<Ask> {
 fn defaults(rt: HostRuntime) -> Result<(), Fail> {
     let script = script_of(rt.alloc(), "# nothing").ok_or("refused")?;
     assert_eq!(rt; script.turns, 10_000);
-    assert_eq!(rt; script.idle, 1000);
+    assert_eq!(rt; script.idle, 100_000_000);
     assert_eq!(rt; script.cpus, 1);
     assert!(rt; script.tokens.as_slice().is_empty());
     assert!(rt; script.threads.as_slice().is_empty());
