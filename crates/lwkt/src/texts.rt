@@ -17,7 +17,7 @@ use std::alloc::{AllocError, Global};
 use std::thread::Threads;
 
 // Says what was made to be said, or that there was no memory to make it.
-fn say<E: Sink>(alloc: Global, errors: &mut E, made: Result<String, AllocError>) {
+fn say<E: Sink>(errors: &mut E, made: Result<String, AllocError>) {
     match made {
         Ok(text) => {
             let _ = write_whole(errors, text.as_bytes());
@@ -63,7 +63,7 @@ fn read_told<E: Sink>(alloc: Global, bytes: &[u8], errors: &mut E) -> Result<Rea
         Ok(reading) => Ok(reading),
         Err(Refusal::Memory(refused)) => Err(Fault::Memory(refused)),
         Err(Refusal::Wrongs(wrongs)) => {
-            say(alloc, errors, wrongs_said(alloc, None, bytes, wrongs));
+            say(errors, wrongs_said(alloc, None, bytes, wrongs));
             Err(Fault::Script { place: 0 })
         }
     }
@@ -89,7 +89,7 @@ fn account_of_bytes<R: Threads + Sync, E: Sink>(
         Ok(closing) => closing,
         Err(Fault::Memory(refused)) => return Err(Fault::Memory(refused)),
         Err(fault) => {
-            say(alloc, errors, opening_line(alloc, bytes, fault));
+            say(errors, opening_line(alloc, bytes, fault));
             return Err(fault);
         }
     };

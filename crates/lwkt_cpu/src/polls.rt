@@ -24,7 +24,7 @@ use lwkt_hold::Hold;
 use lwkt_msg::MsgBook;
 use lwkt_port::Ports;
 
-// A list of references is always a lawful one.
+// Recalls that a list of references is a lawful one. It computes nothing.
 #[inline]
 fn is_lawful(list: &TokList)
     ensures { IsLawfulList list.now }

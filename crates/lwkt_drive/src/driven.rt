@@ -123,7 +123,7 @@ impl<B> Driven<B> {
 
     ghost use Rattle.lwkt_drive.specs.Course.{agreed, drive_begun, said_at_end};
 
-    /// Has made no turn, and hasn't ended.
+    /// Begins a drive: no turn of it is made yet, and it hasn't ended.
     pub(crate) fn begin(&mut self)
         ensures { self.new ≡ drive_begun self.old }
     {

@@ -133,15 +133,6 @@ impl ScriptBody {
         self.log.as_slice()
     }
 
-    /// The log, of a body that isn't needed any more.
-    pub fn into_log(self) -> Vec<Entry>
-        ensures log { result.items ≡ self.log }
-        ensures few { length self.log ≤ 32 }
-    {
-        let ScriptBody { log, .. } = self;
-        log
-    }
-
     // What the body asks next.
     #[inline(always)]
     fn next(&self) -> Asked

@@ -132,6 +132,22 @@ fn record_under_len(rt: HostRuntime) -> Result<(), Fault> {
 }
 
 #[test]
+fn a_cap_and_a_tally(rt: HostRuntime) -> Result<(), Fault> {
+    let alloc = rt.alloc();
+    let capped = makers::cap(alloc, &[1], 3)?;
+    let mut machine = two(alloc, capped, writing(4), writing(3))?;
+    machine.run(12)?;
+    let closed = machine.close(alloc)?;
+    // The first section passes the cap, and is undone.
+    assert_eq!(rt; (closed.cell(TOKEN, 0), closed.generation(TOKEN)), (3, 1));
+    let mut machine = two(alloc, makers::tally(alloc, 7)?, unheld(), unheld())?;
+    machine.run(9)?;
+    let closed = machine.close(alloc)?;
+    assert_eq!(rt; (closed.cell(TOKEN, 0), closed.generation(TOKEN)), (7, 0));
+    Ok(())
+}
+
+#[test]
 fn a_refusal_is_told_as_one(rt: HostRuntime) -> Result<(), Fault> {
     let alloc = rt.alloc();
     let mut alone = Stepper::new(Cautious { refusals: 0 });

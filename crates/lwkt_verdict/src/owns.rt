@@ -100,7 +100,17 @@ pub fn is_quiet(state: &State, event: &Event) -> bool
             None => false,
             Some(token) => may_put_first(token, *cpu, blob),
         },
-        _ => true,
+        Event::Load { .. }
+        | Event::Take { .. }
+        | Event::Share { .. }
+        | Event::Again { .. }
+        | Event::Mark { .. }
+        | Event::GiveOne { .. }
+        | Event::GiveClean { .. }
+        | Event::GiveWritten { .. }
+        | Event::TakeMsg { .. }
+        | Event::Reply { .. }
+        | Event::Reap { .. } => true,
     }
 }
 
