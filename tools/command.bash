@@ -59,10 +59,11 @@ wants_help() {
 }
 
 # The words that are the program's into `words`, and into `file` what stands behind them: the last word that is no mode,
-# no option and no option's value, if there is one (`has_file`). `is_known` says whether the program will read.
+# no option and no option's value, if there is one (`has_file`). `is_known` says whether the program will read, and
+# `odd` what is odd about words that it won't take, where that can be said.
 sort_words() {
     local word behind='' value='' plain=() first=0 at before=$#
-    words=() file='' has_file='' is_known=yes
+    words=() file='' has_file='' is_known=yes odd=''
     for word in "$@"; do
         if [[ -n $value ]]; then
             value=
@@ -72,8 +73,10 @@ sort_words() {
         elif [[ -z $behind && $word = -?* ]]; then
             if is_among "$word" "${valued[@]}"; then
                 value=yes
+            elif [[ -n $tells && $word = --all ]]; then
+                is_known='' odd='--all has to come first'
             elif ! is_among "$word" "${flags[@]}"; then
-                is_known=
+                is_known='' odd="no such option: $word"
             fi
         else
             plain+=("${#words[@]}")
@@ -84,10 +87,12 @@ sort_words() {
     if ((${#plain[@]} > 0 && plain[0] < before)) && is_among "${words[${plain[0]}]}" "${choices[@]}"; then
         first=1
     fi
-    if ((${#plain[@]} < first || ${#plain[@]} > first + 1)); then
+    if ((${#plain[@]} > 0 && first == 1)) && ! is_among "${words[${plain[0]}]}" "${modes[@]}" "${choices[@]}"; then
+        is_known='' odd=${odd:-"${words[${plain[0]}]}: one of these has to come first: ${modes[*]}"}
+    elif ((${#plain[@]} < first)); then
         is_known=
-    elif ((first == 1)) && ! is_among "${words[${plain[0]}]}" "${modes[@]}" "${choices[@]}"; then
-        is_known=
+    elif ((${#plain[@]} > first + 1)); then
+        is_known='' odd=${odd:-"more than one file: ${words[${plain[first]}]}, ${words[${plain[-1]}]}"}
     fi
     ((${#plain[@]} > first)) || return 0
     at=${plain[-1]}
@@ -99,7 +104,7 @@ sort_words() {
 # Makes the file standard input. It is opened once, since a pipe can't be opened twice.
 open_file() {
     local told
-    [[ -z $opens_file && -n $has_file && $file != - ]] || return 0
+    [[ -n $is_known && -z $opens_file && -n $has_file && $file != - ]] || return 0
     if [[ -d $file ]]; then
         told='Is a directory'
     elif { exec <"$file"; } 2>/dev/null; then
@@ -119,6 +124,7 @@ choose_notice() {
 
 # Starts the program $1 on the words.
 start_program() {
+    [[ -z $odd ]] || say "$odd"
     [[ -z $notice ]] || say "$notice"
     [[ -z $tells || ! -t 2 ]] || start_watched "$1"
     exec "$1" "${words[@]}"
@@ -159,9 +165,17 @@ wants_all() {
 # Calls the command $1 on each script and each text of the folder $3, with the options behind it; a file passes where the status is 0.
 # What is said of one that doesn't is shown.
 try_all() {
-    local command=$1 folder=${3:-} file said status passed=0 failed=0
-    if [[ ! -d $folder ]]; then
+    local command=$1 folder=${3:-} file='' said status passed=0 failed=0
+    if [[ -z $folder || $folder = -* ]]; then
         say "--all wants a folder behind it"
+        exit 1
+    elif [[ ! -d $folder ]]; then
+        say "$folder: no such folder"
+        exit 1
+    fi
+    sort_words "${@:4}"
+    if [[ -z $is_known || -n $has_file ]]; then
+        say "${odd:-"$file: --all takes no file"}"
         exit 1
     fi
     for file in "$folder"/*.lwkt "$folder"/*.json; do
@@ -175,6 +189,10 @@ try_all() {
             printf '%s: status %s\n%s\n' "${file##*/}" "$status" "$said"
         fi
     done
+    if ((passed + failed == 0)); then
+        say "$folder: no file there ends in .lwkt or .json"
+        exit 1
+    fi
     echo "$passed passed, $failed failed"
     ((failed == 0)) || exit 5
     exit 0
