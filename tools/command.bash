@@ -124,7 +124,7 @@ choose_notice() {
 
 # Starts the program $1 on the words.
 start_program() {
-    [[ -z $odd ]] || say "$odd"
+    [[ -z $odd || -n $opens_file ]] || say "$odd"
     [[ -z $notice ]] || say "$notice"
     [[ -z $tells || ! -t 2 ]] || start_watched "$1"
     exec "$1" "${words[@]}"
