@@ -13,7 +13,7 @@ use crate::runs::run_said;
 use crate::scripts::{File, form_said, read_file};
 use lwkt_refusals::has_no_reader;
 use lwkt_report::{NotedWriter, Sink, WriterSink, words_of};
-use lwkt_text::{json_of, text_of};
+use lwkt_text::{is_text, json_of, text_of};
 use std::alloc::Global;
 use std::process::ExitCode;
 use std::{fs, io};
@@ -48,19 +48,27 @@ fn done_with<K: Sink, E: Sink>(
     }
 }
 
+// The path of standard input.
+const STANDARD_INPUT: &str = "/dev/stdin";
+
 // What the options ask for, done.
 fn done<E: Sink>(rt: &HostRuntime, alloc: Global, options: &Options, errors: &mut E) -> Status {
     let path = options.path.as_str();
-    let bytes: Vec<u8> = match fs::read(rt, path) {
+    let place = if path == "-" { STANDARD_INPUT } else { path };
+    let bytes: Vec<u8> = match fs::read(rt, place) {
         Ok(bytes) => bytes,
         Err(error) => {
             say_failure(alloc, errors, path, &error);
             return Status::Failed;
         }
     };
+    let Ok(is_text) = is_text(alloc, &bytes) else {
+        return Status::Memory;
+    };
     let file = File {
         path,
         bytes: bytes.as_slice(),
+        is_text,
     };
     let mut sink = WriterSink::new(NotedWriter::new(rt.stdout()));
     let status = done_with(alloc, options.mode, file, &mut sink, errors);

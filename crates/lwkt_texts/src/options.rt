@@ -22,7 +22,7 @@ pub enum Mode {
 /// What the arguments say.
 #[derive(Debug, Drop)]
 pub struct Options {
-    /// The path of the file.
+    /// The path of the file, or `-` for standard input.
     pub path: String,
     pub mode: Mode,
 }
@@ -37,13 +37,17 @@ fn mode_of(word: &str) -> Option<Mode> {
     }
 }
 
-/// What the arguments say, if they are a file and one word of the program's.
+/// What the arguments say, if they are a file and one word of the program's, in either order. If both could be the word, the first one
+/// is the file.
 pub fn options_of(mut words: Vec<String>) -> Option<Options> {
     if words.len() != 2 {
         return None;
     }
-    let word = words.pop()?;
-    let path = words.pop()?;
-    let mode = mode_of(word.as_str())?;
-    Some(Options { path, mode })
+    let last = words.pop()?;
+    let first = words.pop()?;
+    if let Some(mode) = mode_of(last.as_str()) {
+        return Some(Options { path: first, mode });
+    }
+    let mode = mode_of(first.as_str())?;
+    Some(Options { path: last, mode })
 }

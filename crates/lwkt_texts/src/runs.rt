@@ -36,12 +36,12 @@ fn reported<K: Sink, E: Sink>(
 
 // Says why the opening of a file's script is refused.
 fn say_opening<E: Sink>(alloc: Global, file: File<'_>, fault: Fault, errors: &mut E) -> Status {
-    let why = if file.is_json() {
-        refusal(alloc, Document::Script, file.bytes, fault)
-    } else {
+    let why = if file.is_text {
         opening_said(alloc, file.bytes, fault)
+    } else {
+        refusal(alloc, Document::Script, file.bytes, fault)
     };
-    refused(errors, why)
+    refused(errors, file.path, why)
 }
 
 /// Runs a file's script in rounds, writes the report, and says of each expectation whether it holds.

@@ -16,6 +16,8 @@ pub struct File<'f> {
     pub path: &'f str,
     /// Its bytes.
     pub bytes: &'f [u8],
+    /// Whether they are taken for a text, as every program takes them; else they are read as JSON.
+    pub is_text: bool,
 }
 
 /// What a file is.
@@ -27,23 +29,15 @@ pub struct Read {
     pub expectations: Many<Expectation>,
 }
 
-impl File<'_> {
-    /// Whether it is JSON: whether its first byte that is no blank is a brace. No text of the language begins so.
-    pub fn is_json(self) -> bool {
-        for byte in self.bytes {
-            if !matches!(*byte, b' ' | b'\t' | b'\r' | b'\n') {
-                return *byte == b'{';
-            }
-        }
-        false
-    }
-}
-
-/// Says why something is refused, and that it is.
-pub fn refused<E: Sink>(errors: &mut E, why: Result<String, AllocError>) -> Status {
+/// Says why a file's script is refused, and that it is.
+pub fn refused<E: Sink>(errors: &mut E, path: &str, why: Result<String, AllocError>) -> Status {
     match why {
         Ok(words) => {
-            say_line(errors, words.as_str());
+            say(errors, "lwkt_text: ");
+            say(errors, path);
+            say(errors, ": ");
+            say(errors, words.as_str());
+            say(errors, "\n");
             Status::Refused
         }
         Err(_) => Status::Memory,
@@ -51,14 +45,17 @@ pub fn refused<E: Sink>(errors: &mut E, why: Result<String, AllocError>) -> Stat
 }
 
 // A file of JSON.
-fn read_json<E: Sink>(alloc: Global, bytes: &[u8], errors: &mut E) -> Result<Read, Status> {
-    match read_script(alloc, bytes) {
+fn read_json<E: Sink>(alloc: Global, file: File<'_>, errors: &mut E) -> Result<Read, Status> {
+    match read_script(alloc, file.bytes) {
         Ok(script) => Ok(Read {
             script,
             expectations: Many::new(alloc),
         }),
         Err(Fault::Memory(_)) => Err(Status::Memory),
-        Err(fault) => Err(refused(errors, refusal(alloc, Document::Script, bytes, fault))),
+        Err(fault) => {
+            let why = refusal(alloc, Document::Script, file.bytes, fault);
+            Err(refused(errors, file.path, why))
+        }
     }
 }
 
@@ -80,8 +77,8 @@ fn say_wrongs<E: Sink>(
 
 /// What a file is; or how the program ends, after it was said what is wrong with the file.
 pub fn read_file<E: Sink>(alloc: Global, file: File<'_>, errors: &mut E) -> Result<Read, Status> {
-    if file.is_json() {
-        return read_json(alloc, file.bytes, errors);
+    if !file.is_text {
+        return read_json(alloc, file, errors);
     }
     match read_text(alloc, file.bytes) {
         Ok(reading) => {
