@@ -86,7 +86,7 @@ fn show_bytes(out: &mut Page, bytes: &[u8])
 fn show_cut(out: &mut Page, blob: &Blob)
     ensures { GrowsBy out.old out.new (cut_words blob.now) }
 {
-    if blob.len() > SHOWN {
+    if blob.len() > 24 {
         out.number(".., ", u64::from(blob.len()));
         out.add(" bytes")
     } else {
