@@ -1,1 +1,3 @@
 pub mod EventMoves
+pub mod StretchMoves
+pub mod StretchChains

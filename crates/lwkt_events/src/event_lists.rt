@@ -1,9 +1,13 @@
 //! A trace, packed: a short event for each, and lists of what is too long for it.
-ghost use Rattle.std.specs.Prelude.{◌≡◌, ◌+◌, ◌<◌, ◌≤◌, length, take, drop, slice_get, option_map, Some, vec_capacity, OnOk, OnErr, IfOk, [], ◌∷◌, ◌++◌};
+ghost use Rattle.std.specs.Prelude.{◌≡◌, ◌+◌, ◌<◌, ◌≤◌, length, List, take, drop, slice_get, option_map, Some, vec_capacity, OnOk, OnErr, IfOk, [], ◌∷◌, ◌++◌};
+ghost use Rattle.lwkt_base.specs.declared.sections.Section.{Section};
+ghost use Rattle.lwkt_core.specs.RunSections.{sections_told};
 ghost use Rattle.lwkt_events.specs.Gives.{give_of};
+ghost use Rattle.lwkt_events.specs.Stretches.{StandFor};
 
 use crate::gives::Give;
 use crate::short_events::{CellSection, ShortEvent, keep_event};
+use crate::stretches::Stretches;
 use lwkt_core::Event;
 use std::alloc::{AllocError, Global};
 use std::marker::Model;
@@ -125,6 +129,18 @@ impl EventList {
         ensures { option_map give_of (slice_get self.now.items place) ≡ Some result }
     {
         self.rows[place].give(&self.cells, &self.longs)
+    }
+
+    /// Adds the written sections that the events tell to stretches, in the order of the list.
+    ///
+    /// `AllocError` if memory is refused.
+    pub fn tell_stretches(&self, stretches: &mut Stretches) -> Result<(), AllocError>
+        ensures { OnOk result ((sections : List Section) → StandFor stretches.old sections → StandFor stretches.new (sections ++ sections_told self.now.items)) }
+    {
+        for row in &self.rows {
+            row.tell(&self.cells, &self.longs, stretches)?;
+        }
+        Ok(())
     }
 
     /// All events, as whole ones.

@@ -4,9 +4,13 @@
 //! short section; a list has *room* for so many events if it can take so many in all, of whatever kinds, without being refused memory.
 #![tactic(auto)]
 
+mod chains;
 mod event_lists;
 mod gives;
 mod short_events;
+mod stretches;
 
+pub use chains::are_chains;
 pub use event_lists::EventList;
 pub use gives::{Give, give_of};
+pub use stretches::{Stretch, Stretches};

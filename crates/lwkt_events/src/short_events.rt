@@ -3,13 +3,18 @@
 //! An `Event` has room for a section or a record, so it is large. A written give of a token with one cell is kept by the place of a
 //! short section; any other written give, and a record that was read or stored, lie in a list of their own, and are kept short by their
 //! place there. All others are kept as they are.
-ghost use Rattle.std.specs.Prelude.{◌≡◌, ◌+◌, ◌<◌, [], ◌∷◌, ◌++◌, length, vec_len, vec_capacity, not, ◌||◌, is_some, IfSome};
+ghost use Rattle.std.specs.Prelude.{◌≡◌, ◌+◌, ◌<◌, [], ◌∷◌, ◌++◌, length, vec_len, vec_capacity, not, ◌||◌, is_some, IfSome, OnOk, List};
+ghost use Rattle.lwkt_base.specs.declared.sections.Section.{Section};
+ghost use Rattle.lwkt_core.specs.RunSections.{section_in};
 ghost use Rattle.lwkt_events.specs.Gives.{give_of};
+ghost use Rattle.lwkt_events.specs.Stretches.{StandFor};
 ghost use Rattle.lwkt_events.specs.ShortEvents.{section_of_cell, gave_cell, long_event, has_cell, is_long_event, one_more_if, IsEventIn, GrowsBehind, TakesAtMostOne};
 
 use crate::gives::{Give, give_of};
+use crate::stretches::Stretches;
 use lwkt_base::{CpuId, MsgId, Row, Section, TokId};
 use lwkt_core::Event;
+use std::alloc::AllocError;
 
 /// A written section of a token with one cell, of which the give names the token.
 #[derive(Clone, Copy)]
@@ -211,6 +216,35 @@ impl ShortEvent {
             }
             ShortEvent::Long(place) => give_of(longs.get(place)?),
             _ => None,
+        }
+    }
+}
+
+impl ShortEvent {
+    /// Adds the section of the written give that it stands for to stretches, where the short sections and the long events are these. If
+    /// it stands for another event, nothing is added.
+    ///
+    /// `AllocError` if memory is refused.
+    #[inline(always)]
+    #[tactic(auto, using(crate::proofs::StretchMoves::no_more))]
+    pub fn tell(
+        &self,
+        cells: &[CellSection],
+        longs: &[Event],
+        stretches: &mut Stretches,
+    ) -> Result<(), AllocError>
+        ensures { OnOk result ((sections : List Section) → StandFor stretches.old sections → StandFor stretches.new (sections ++ section_in (long_event cells.now longs.now self.now))) }
+    {
+        match *self {
+            ShortEvent::GaveCell(_, tok, place) => match cells.get(place) {
+                Some(short) => stretches.add(&whole_section(tok, short)),
+                None => Ok(()),
+            },
+            ShortEvent::Long(place) => match longs.get(place) {
+                Some(event) => stretches.add_event(event),
+                None => Ok(()),
+            },
+            _ => Ok(()),
         }
     }
 }
