@@ -1,5 +1,5 @@
 -- Where stretches lead tokens from one list of rows and generations to another, the sections that they stand for are chains.
-use Rattle.std.proofs.Common.{◌≡◌, ◌≢◌, ◌∙◌, ⊎_elim, ℕ, zero, suc, ◌+◌, ◌<◌, List, [], ◌∷◌, ◌++◌, length, set, swap, get_or, map, flat_map, refl, sym, ap, subst, arith, IsPermutation, get_or-set_same, get_or-set_other}
+use Rattle.std.proofs.Common.{◌≡◌, ◌≢◌, ◌∙◌, ⊎_elim, ℕ, zero, suc, ◌+◌, ◌<◌, List, [], ◌∷◌, ◌++◌, length, set, swap, get_or, map, refl, sym, ap, subst, arith, IsPermutation, get_or-set_same, get_or-set_other}
 use Rattle.std.specs.List.{All}
 use Rattle.std.proofs.lemmas.Bool.{cases_eq}
 use Rattle.std.proofs.lemmas.List.{length-map, length-set, get_or-map}
@@ -79,15 +79,15 @@ come_chain rows (s ∷ sections) last come t low =
     let rest : IsSectionChain (row_at after t) (generation_at after t) closing end (sections_at t sections) = come_chain after sections last come.1.1.1 t (omega (arith, long, low)) in
     ⊎_elim
     (λ (own : s.tok.0 ≡ t).
-        let there : get_or after t ([], 0) ≡ new = ap (λ (u : ℕ). get_or after u ([], 0)) (sym own) ∙ get_or-set_same rows s.tok.0 new ([], 0) come.0 in
-        let on : IsSectionChain s.after (s.generation + 1) closing end (sections_at t sections) =
-        chain_as (row_at after t) s.after (generation_at after t) (s.generation + 1) closing end (sections_at t sections) (sections_at t sections) (ap (λ (r : List ℕ × ℕ). r.0) there) (ap (λ (r : List ℕ × ℕ). r.1) there) refl rest in
-        let rises = on.rises in
-        chain_as s.before (row_at rows t) s.generation (generation_at rows t) closing end (s ∷ sections_at t sections) (sections_at t (s ∷ sections)) (come.1.0 ∙ ap (row_at rows) own) (come.1.1.0 ∙ ap (generation_at rows) own) (sym (sections_at-own t s sections own))
-        (chain-cons s closing end (sections_at t sections) (omega (arith, rises)) on))
+    let there : get_or after t ([], 0) ≡ new = ap (λ (u : ℕ). get_or after u ([], 0)) (sym own) ∙ get_or-set_same rows s.tok.0 new ([], 0) come.0 in
+    let on : IsSectionChain s.after (s.generation + 1) closing end (sections_at t sections) =
+    chain_as (row_at after t) s.after (generation_at after t) (s.generation + 1) closing end (sections_at t sections) (sections_at t sections) (ap (λ (r : List ℕ × ℕ). r.0) there) (ap (λ (r : List ℕ × ℕ). r.1) there) refl rest in
+    let rises = on.rises in
+    chain_as s.before (row_at rows t) s.generation (generation_at rows t) closing end (s ∷ sections_at t sections) (sections_at t (s ∷ sections)) (come.1.0 ∙ ap (row_at rows) own) (come.1.1.0 ∙ ap (generation_at rows) own) (sym (sections_at-own t s sections own))
+    (chain-cons s closing end (sections_at t sections) (omega (arith, rises)) on))
     (λ (differ : s.tok.0 ≢ t).
-        let there : get_or after t ([], 0) ≡ get_or rows t ([], 0) = get_or-set_other rows s.tok.0 t new ([], 0) (λ e. differ (sym e)) in
-        chain_as (row_at after t) (row_at rows t) (generation_at after t) (generation_at rows t) closing end (sections_at t sections) (sections_at t (s ∷ sections)) (ap (λ (r : List ℕ × ℕ). r.0) there) (ap (λ (r : List ℕ × ℕ). r.1) there) (sym (sections_at-other t s sections differ)) rest)
+    let there : get_or after t ([], 0) ≡ get_or rows t ([], 0) = get_or-set_other rows s.tok.0 t new ([], 0) (λ e. differ (sym e)) in
+    chain_as (row_at after t) (row_at rows t) (generation_at after t) (generation_at rows t) closing end (sections_at t sections) (sections_at t (s ∷ sections)) (ap (λ (r : List ℕ × ℕ). r.0) there) (ap (λ (r : List ℕ × ℕ). r.1) there) (sym (sections_at-other t s sections differ)) rest)
     (cases_eq s.tok.0 t)
 
 -- so those that stretches stand for are chains

@@ -13,6 +13,7 @@ pub mod RoundMoves
 pub mod RunLemmas
 pub mod SectionMoves
 pub mod StopMoves
+pub mod StretchLemmas
 pub mod ThreadedLemmas
 pub mod ThreadedMoves
 pub mod ToldMoves

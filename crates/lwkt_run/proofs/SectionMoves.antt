@@ -1,9 +1,9 @@
 -- What is told of a run on threads, in order, is its written sections, and passes the checker of sections.
-use Rattle.std.proofs.Common.{◌≡◌, ℕ, ◌≤◌, List, [], ◌∷◌, length, map, All, refl, ap, sym, ◌∙◌, subst, arith}
+use Rattle.std.proofs.Common.{◌≡◌, ℕ, ◌≤◌, List, [], ◌∷◌, length, map, All, IsPermutation, refl, ap, sym, ◌∙◌, subst, arith}
 use Rattle.std.specs.Prelude.{Bool, Vec}
 use Rattle.std.specs.declared.alloc.Global.{Global}
 use Rattle.std.proofs.lemmas.List.Elements.{All-map, All-weaker}
-use Rattle.std.proofs.lemmas.List.Sorted.{IsPermutation-trans}
+use Rattle.std.proofs.lemmas.List.Sorted.{IsPermutation-sym, IsPermutation-trans}
 use Rattle.lwkt_base.specs.declared.names.CpuId.{CpuId}
 use Rattle.lwkt_base.specs.declared.openings.TokSpec.{TokSpec}
 use Rattle.lwkt_base.specs.declared.sections.Section.{Section}
@@ -14,21 +14,26 @@ use Rattle.lwkt_core.specs.declared.tokens.Token.{Token}
 use Rattle.lwkt_core.specs.Tokens.{IsFree, IsOpen, IsSafeToken}
 use Rattle.lwkt_core.specs.Machine.{Machine, IsSafe}
 use Rattle.lwkt_core.specs.Trace.{Run}
-use Rattle.lwkt_table.specs.History.{events_in}
+use Rattle.lwkt_table.specs.declared.seats.Deed.{Deed}
+use Rattle.lwkt_table.specs.History.{events_in, AreOthers}
+use Rattle.lwkt_table.specs.Sections.{sections_by}
 use Rattle.lwkt_core.specs.Opening.{opening, opened_token, AreWithin, AllOpenLawfully}
-use Rattle.lwkt_core.specs.SectionChain.{RowsAt, AreInOrder, AreSectionChains}
-use Rattle.lwkt_core.specs.RunSections.{values_of, rows_of, sections_in}
+use Rattle.lwkt_core.specs.SectionChain.{RowsAt, AreInOrder, AreSectionChains, SectionsFailAt}
+use Rattle.lwkt_core.specs.RunSections.{values_of, rows_of, section_in, sections_in, sections_told}
 use Rattle.lwkt_core.proofs.ChainLemmas.{refutes}
 use Rattle.lwkt_core.proofs.OpeningLemmas.{IsSafe-opening}
-use Rattle.lwkt_table.proofs.OrderLemmas.{in_order_as_written}
-use Rattle.lwkt_core.proofs.RunChainLemmas.{open_settled}
+use Rattle.lwkt_table.proofs.OrderLemmas.{in_order_as_written, told_are_written}
+use Rattle.lwkt_table.proofs.SectionParts.{chains_in_any_order, deeds_below, parts_are_all}
+use Rattle.lwkt_core.proofs.RunChainLemmas.{IsSettled, open_settled}
 use Rattle.lwkt_core.proofs.SafetyLemmas.{stays}
+use Rattle.lwkt_report.specs.declared.closings.Closing.{Closing}
 use Rattle.lwkt_report.specs.declared.closings.ThreadLine.{ThreadLine}
 use Rattle.lwkt_report.specs.declared.closings.Verdict.{Verdict}
 use Rattle.lwkt_report.specs.declared.closings.Verdict.TheVariants.{Closed, Lawful, Unlawful}
 use Rattle.lwkt_script.specs.declared.scripts.Script.{Script}
-use Rattle.lwkt_run.specs.Telling.{TellChains, opening_rows, closing_rows, IsVerdictOn}
-use Rattle.lwkt_run.specs.Threaded.{RunsOnThreads, EndsOnThreads}
+use Rattle.lwkt_run.specs.Judging.{ids_of}
+use Rattle.lwkt_run.specs.Telling.{sections_of_all, AreSorted, TellChains, opening_rows, closing_rows, IsVerdictOn, IsVerdictOnAll}
+use Rattle.lwkt_run.specs.Threaded.{RunsOnThreads, TellARun, ShowsLeft, MayCloseOnThreads, IsThreadRecord}
 use Rattle.lwkt_run.specs.Values.{AreValuesOf}
 use Rattle.lwkt_run.proofs.ChainMoves.{opens_open, free_open, without_messages, tokens_chain}
 use Rattle.lwkt_run.proofs.GatherMoves.{as_many_rows}
@@ -45,57 +50,130 @@ safe_opening : (script : Script) → AreWithin script.cpus script.tokens script.
 safe_opening script within lawful = IsSafe-opening script.cpus script.tokens [] (without_messages script.cpus script.tokens script.messages within) lawful
 
 module _ (answers : CpuId → ℕ → Bool → Type 0) (script : Script) (lines : List ThreadLine) (last : Final) (within : AreWithin script.cpus script.tokens script.messages) (lawful : AllOpenLawfully script.tokens) (runs : RunsOnThreads answers script lines last) where
-  run : Run (opening script.cpus script.tokens []) (events_in runs.tells.tokens.history) runs.tells.tokens.last
-  run = subst (λ (x : Machine). Run x (events_in runs.tells.tokens.history) runs.tells.tokens.last) runs.tokens_from runs.tells.tokens.run
+  abbrev from : Machine
+  from = opening script.cpus script.tokens []
+
+  abbrev history : List Deed
+  history = runs.tells.tokens.history
+
+  abbrev to : Machine
+  to = runs.tells.tokens.last
+
+  abbrev pub written : List Section
+  written = sections_in from (events_in history)
+
+  abbrev told : List Section
+  told = sections_of_all runs.traces runs.stops.items
+
+  run : Run from (events_in history) to
+  run = subst (λ (x : Machine). Run x (events_in history) to) runs.tokens_from runs.tells.tokens.run
+
+  safe_last : IsSafe to
+  safe_last = stays from (events_in history) to (safe_opening script within lawful) run
 
   pub few_closed : All (λ (row : List ℕ). length row ≤ 4) last.rows.items
   few_closed =
-      let n : Machine = runs.tells.tokens.last in
-      let safe : IsSafe n = stays (opening script.cpus script.tokens []) (events_in runs.tells.tokens.history) n (safe_opening script within lawful) run in
       let P : List ℕ → Type 0 = λ row. length row ≤ 4 in
-      let rows : last.rows.items ≡ map (λ (tok : Token). tok.row) n.tokens = ap (λ (v : Vec (List ℕ) Global). v.items) runs.leaves.rows ∙ runs.tells.tokens.ends.rows in
-      subst (All P) (sym rows) (All-map P (λ (tok : Token). tok.row) n.tokens (All-weaker (IsSafeToken n.cpus) (λ (tok : Token). length tok.row ≤ 4) (λ tok is. is.few_cells) n.tokens safe.each_token))
+      let rows : last.rows.items ≡ map (λ (tok : Token). tok.row) to.tokens = ap (λ (v : Vec (List ℕ) Global). v.items) runs.leaves.rows ∙ runs.tells.tokens.ends.rows in
+      subst (All P) (sym rows) (All-map P (λ (tok : Token). tok.row) to.tokens (All-weaker (IsSafeToken to.cpus) (λ (tok : Token). length tok.row ≤ 4) (λ tok is. is.few_cells) to.tokens safe_last.each_token))
 
--- what is told, by token and generation, is what the run has written
-module _ (answers : CpuId → ℕ → Bool → Type 0) (script : Script) (lines : List ThreadLine) (last : Final) (sections : List Section) (within : AreWithin script.cpus script.tokens script.messages) (lawful : AllOpenLawfully script.tokens) (ends : EndsOnThreads answers script lines last sections) where
-  pub told_is_written : sections ≡ sections_in (opening script.cpus script.tokens []) (events_in ends.runs.tells.tokens.history)
-  told_is_written =
-      let r = ends.runs in
-      let t = r.tells.tokens in
-      let m : Machine = opening script.cpus script.tokens [] in
-      let n : Machine = t.last in
-      let d = r.drives.cpus in
-      let safe : IsSafe m = safe_opening script within lawful in
-      let ran = run answers script lines last within lawful r in
-      let safe_last : IsSafe n = stays m (events_in t.history) n safe ran in
-      let settled = open_settled m safe (opens_open script.tokens) in
-      let settled_last = open_settled n safe_last (All-weaker IsFree IsOpen free_open n.tokens t.ends.free) in
-      let own = stops_own answers (record { turns = script.turns; idle = script.idle }) script r.opened r.driven r.leaves.stopped r.traces r.none r.stops r.opens r.drives r.empty r.leaves.stops in
-      let same = told_by_all t.history r.traces r.stops.items (λ cpu part at. (t.told cpu part at).0) own in
-      in_order_as_written m t.history n (length r.traces) sections ran settled settled_last
-      (λ cpu past. t.others cpu (omega (arith, past, d.traces_are)))
-      (IsPermutation-trans _ _ _ same ends.told) ends.sorted
+  settled : All IsSettled from.tokens
+  settled = open_settled from (safe_opening script within lawful) (opens_open script.tokens)
 
-  -- so it is in order, and chains
-  pub told_in_order : TellChains (opening script.cpus script.tokens []) ends.runs.traces ends.runs.stops.items last sections
-  told_in_order =
-      let r = ends.runs in
-      let m : Machine = opening script.cpus script.tokens [] in
-      let chains = tokens_chain script.cpus script.tokens script.messages _ _ _ _ last within lawful r.tokens_from r.tells.tokens.run r.tells.tokens.ends r.leaves.rows r.leaves.gens in
-      record {
-        told = ends.told;
-        ordered = subst AreInOrder (sym told_is_written) chains.0;
-        chains = subst (λ (xs : List Section). AreSectionChains (rows_of m) (closing_rows last) xs) (sym told_is_written) chains.1;
-      }
+  settled_last : All IsSettled to.tokens
+  settled_last = open_settled to safe_last (All-weaker IsFree IsOpen free_open to.tokens runs.tells.tokens.ends.free)
 
--- the verdict on sections that are chains in order
-closed_on : (verdict : Verdict) (first last : RowsAt) (sections : List Section) → length first ≡ length last → IsVerdictOn verdict first last sections → AreInOrder sections → AreSectionChains first last sections → verdict ≡ Closed
-closed_on Closed first last sections long on ordered chains = refl
-closed_on (Unlawful index) first last sections long on ordered chains = absurd (refutes first last sections index long on (ordered, chains))
-closed_on Lawful first last sections long on ordered chains = absurd on
+  others : (cpu : ℕ) → length runs.traces ≤ cpu → AreOthers cpu history
+  others cpu past = let d = runs.drives.cpus in runs.tells.tokens.others cpu (omega (arith, past, d.traces_are))
 
-pub told_closed : (cpus : ℕ) (specs : List TokSpec) (traces : List KeptTrace) (stops : List Event) (last : Final) (sections : List Section) (verdict : Verdict) → AreValuesOf specs last → TellChains (opening cpus specs []) traces stops last sections → IsVerdictOn verdict (opening_rows specs) (closing_rows last) sections → verdict ≡ Closed
-told_closed cpus specs traces stops last sections verdict values told on =
-    let long = as_many_rows specs last.rows.items last.gens.items values.rows (values.gens ∙ sym values.rows) in
-    closed_on verdict (opening_rows specs) (closing_rows last) sections long on told.ordered
-    (subst (λ (rows : RowsAt). AreSectionChains rows (closing_rows last) sections) (sym (rows_opened specs)) told.chains)
+  -- what traces and stop tell are the sections of the history, one processor's after another's
+  told_by_cpus : IsPermutation (sections_by (length runs.traces) history) told
+  told_by_cpus =
+      let own = stops_own answers (record { turns = script.turns; idle = script.idle }) script runs.opened runs.driven runs.leaves.stopped runs.traces runs.none runs.stops runs.opens runs.drives runs.empty runs.leaves.stops in
+      told_by_all history runs.traces runs.stops.items (λ cpu part at. (runs.tells.tokens.told cpu part at).0) own
+
+  -- and so are those that the run has written
+  written_told : IsPermutation told written
+  written_told =
+      let all : IsPermutation (sections_told (events_in history)) (sections_by (length runs.traces) history) = parts_are_all section_in (length runs.traces) history (deeds_below (length runs.traces) history others) in
+      IsPermutation-trans _ _ _ (IsPermutation-sym _ _ told_by_cpus) (IsPermutation-trans _ _ _ (IsPermutation-sym _ _ all) (told_are_written from (events_in history) to run settled settled_last))
+
+  -- which are in order, and chains
+  written_chains : AreInOrder written × AreSectionChains (rows_of from) (closing_rows last) written
+  written_chains = tokens_chain script.cpus script.tokens script.messages _ _ _ _ last within lawful runs.tokens_from runs.tells.tokens.run runs.tells.tokens.ends runs.leaves.rows runs.leaves.gens
+
+  pub written_in_order : TellChains from runs.traces runs.stops.items last written
+  written_in_order = record { told = written_told; ordered = written_chains.0; chains = written_chains.1 }
+
+  -- what is told, by token and generation, is what the run has written
+  pub sorted_are_written : (sections : List Section) → IsPermutation told sections → AreSorted sections → sections ≡ written
+  sorted_are_written sections same sorted = in_order_as_written from history to (length runs.traces) sections run settled settled_last others (IsPermutation-trans _ _ _ told_by_cpus same) sorted
+
+  -- so the verdict on it is that bank and book were closed
+  pub told_closed : (verdict : Verdict) → AreValuesOf script.tokens last → IsVerdictOnAll verdict (opening_rows script.tokens) (closing_rows last) told → verdict ≡ Closed
+  told_closed Closed values on = refl
+  told_closed (Unlawful index) values on =
+      let long = as_many_rows script.tokens last.rows.items last.gens.items values.rows (values.gens ∙ sym values.rows) in
+      let is : on.0 ≡ written = sorted_are_written on.0 on.1.0 on.1.1.0 in
+      let fails : SectionsFailAt (opening_rows script.tokens) (closing_rows last) written index = subst (λ (xs : List Section). SectionsFailAt (opening_rows script.tokens) (closing_rows last) xs index) is on.1.1.1 in
+      absurd (refutes (opening_rows script.tokens) (closing_rows last) written index long fails
+      (written_chains.0, subst (λ (rows : RowsAt). AreSectionChains rows (closing_rows last) written) (sym (rows_opened script.tokens)) written_chains.1))
+  told_closed Lawful values on = absurd on
+
+-- a verdict on sections in order is one on them in whatever order
+pub on_all : (verdict : Verdict) (first last : RowsAt) (told sections : List Section) → IsPermutation told sections → AreSorted sections → IsVerdictOn verdict first last sections → IsVerdictOnAll verdict first last told
+on_all Closed first last told sections same sorted on = chains_in_any_order first last sections told (IsPermutation-sym told sections same) on.1
+on_all (Unlawful index) first last told sections same sorted on = (sections, (same, (sorted, on)))
+on_all Lawful first last told sections same sorted on = absurd on
+
+-- what a report shows, if its verdict is one on what was told of a run on threads with its lines
+module _ (answers : CpuId → ℕ → Bool → Type 0) (script : Script) (last : Final) (traces : List KeptTrace) (stops : List Event) (verdict : Verdict) (closing : Closing) (within : AreWithin script.cpus script.tokens script.messages) (lawful : AllOpenLawfully script.tokens) (values : AreValuesOf script.tokens last)
+    (ids : map (λ line. line.id) closing.threads.items ≡ ids_of script.cpus script.threads) (tells : TellARun answers script closing.threads.items last traces stops) (shows : ShowsLeft script.tokens closing.threads.items last verdict closing) where
+  abbrev r : RunsOnThreads answers script closing.threads.items last
+  r = tells.runs
+
+  same_told : sections_of_all r.traces r.stops.items ≡ sections_of_all traces stops
+  same_told = λ i. sections_of_all (tells.traces_are i) (tells.stops_are i)
+
+  abbrev closes_so : IsVerdictOnAll verdict (opening_rows script.tokens) (closing_rows last) (sections_of_all traces stops) → MayCloseOnThreads answers script closing
+  closes_so on = record {
+    within = within;
+    lawful_opening = lawful;
+    kinds = shows.kinds;
+    threads = ids;
+    closed = shows.verdict_is ∙ told_closed answers script closing.threads.items last within lawful r verdict values (subst (λ (xs : List Section). IsVerdictOnAll verdict (opening_rows script.tokens) (closing_rows last) xs) (sym same_told) on);
+    last = last;
+    shows = shows.shows;
+    runs = r;
+    chains = tokens_chain script.cpus script.tokens script.messages _ _ _ _ last within lawful r.tokens_from r.tells.tokens.run r.tells.tokens.ends r.leaves.rows r.leaves.gens;
+    sections = written answers script closing.threads.items last within lawful r;
+    told = written_in_order answers script closing.threads.items last within lawful r;
+    written = refl;
+  }
+
+  records_so : (sections : Vec Section Global) (givers : Vec CpuId Global) → IsPermutation (sections_of_all traces stops) sections.items → AreSorted sections.items → IsVerdictOn verdict (opening_rows script.tokens) (closing_rows last) sections.items → IsThreadRecord answers script (record { closing = closing; sections = sections; givers = givers })
+  records_so sections givers same sorted on = record {
+    closes = closes_so (on_all verdict (opening_rows script.tokens) (closing_rows last) (sections_of_all traces stops) sections.items same sorted on);
+    sections_are = sorted_are_written answers script closing.threads.items last within lawful r sections.items (subst (λ (xs : List Section). IsPermutation xs sections.items) (sym same_told) same) sorted;
+  }
+
+-- the same, where the lines are those that the run has left
+module _ (answers : CpuId → ℕ → Bool → Type 0) (script : Script) (lines : List ThreadLine) (last : Final) (traces : List KeptTrace) (stops : List Event) (verdict : Verdict) (closing : Closing) (within : AreWithin script.cpus script.tokens script.messages) (lawful : AllOpenLawfully script.tokens) (values : AreValuesOf script.tokens last)
+    (ids : map (λ line. line.id) lines ≡ ids_of script.cpus script.threads) (tells : TellARun answers script lines last traces stops) (shows : ShowsLeft script.tokens lines last verdict closing) where
+  abbrev Ids : List ThreadLine → Type 0
+  Ids l = map (λ line. line.id) l ≡ ids_of script.cpus script.threads
+
+  own_ids : Ids closing.threads.items
+  own_ids = subst Ids (sym shows.threads) ids
+
+  own_tells : TellARun answers script closing.threads.items last traces stops
+  own_tells = subst (λ (l : List ThreadLine). TellARun answers script l last traces stops) (sym shows.threads) tells
+
+  own_shows : ShowsLeft script.tokens closing.threads.items last verdict closing
+  own_shows = subst (λ (l : List ThreadLine). ShowsLeft script.tokens l last verdict closing) (sym shows.threads) shows
+
+  pub closes_on_threads : IsVerdictOnAll verdict (opening_rows script.tokens) (closing_rows last) (sections_of_all traces stops) → MayCloseOnThreads answers script closing
+  closes_on_threads = closes_so answers script last traces stops verdict closing within lawful values own_ids own_tells own_shows
+
+  pub records_on_threads : (sections : Vec Section Global) (givers : Vec CpuId Global) → IsPermutation (sections_of_all traces stops) sections.items → AreSorted sections.items → IsVerdictOn verdict (opening_rows script.tokens) (closing_rows last) sections.items → IsThreadRecord answers script (record { closing = closing; sections = sections; givers = givers })
+  records_on_threads = records_so answers script last traces stops verdict closing within lawful values own_ids own_tells own_shows

@@ -1,10 +1,9 @@
 -- What stands of a run on threads at its end.
-use Rattle.std.proofs.Common.{◌≡◌, ℕ, List, [], ◌∷◌, length, map, refl, ap, subst, ◌∙◌, IsPermutation}
+use Rattle.std.proofs.Common.{◌≡◌, ℕ, List, [], ◌∷◌, length, map, refl, ap, ◌∙◌}
 use Rattle.std.specs.Prelude.{Bool, Vec}
 use Rattle.std.specs.declared.alloc.Global.{Global}
 use Rattle.lwkt_base.specs.declared.names.CpuId.{CpuId}
 use Rattle.lwkt_base.specs.declared.openings.MsgSpec.{MsgSpec}
-use Rattle.lwkt_base.specs.declared.sections.Section.{Section}
 use Rattle.lwkt_core.specs.declared.events.Event.{Event}
 use Rattle.lwkt_events.specs.ShortEvents.{KeptTrace}
 use Rattle.lwkt_core.specs.declared.finals.Final.{Final}
@@ -27,8 +26,7 @@ use Rattle.lwkt_threads.specs.Parts.{parts_from}
 use Rattle.lwkt_threads.proofs.PartMoves.{threads_tell}
 use Rattle.lwkt_run.specs.Leaving.{Leaves}
 use Rattle.lwkt_run.specs.Running.{HasThreads, ShowThreads}
-use Rattle.lwkt_run.specs.Telling.{sections_of_all, AreSorted}
-use Rattle.lwkt_run.specs.Threaded.{EndsOnThreads}
+use Rattle.lwkt_run.specs.Threaded.{TellARun}
 use Rattle.lwkt_run.proofs.JoinMoves.{one_run}
 use Rattle.lwkt_run.proofs.IdMoves.{opened_has}
 use Rattle.lwkt_run.proofs.RoundMoves.{has_driven}
@@ -52,10 +50,10 @@ pub driven_has : (answers : CpuId → ℕ → Bool → Type 0) (script : Script)
 driven_has answers script opened driven traces opens drives =
     has_driven answers (record { turns = script.turns; idle = script.idle }) opened.bank script.cpus script.threads opened.cpus driven.cpus traces drives.cpus (opened_has script opened opens)
 
--- what a run on threads left, with the sections that were told of it
-pub ended : (answers : CpuId → ℕ → Bool → Type 0) (script : Script) (lines : List ThreadLine) (last : Final) (opened driven : Rig) (traces : List KeptTrace) (none stops : Vec Event Global) (told : List Event) (sections : List Section) → IsOpenedMachine script opened → AreWithin script.cpus script.tokens script.messages → IsDrivenMachine answers (record { turns = script.turns; idle = script.idle }) opened driven traces → none.items ≡ [] → ShowThreads lines driven → Leaves driven none stops last
-    → told ≡ stops.items → IsPermutation (sections_of_all traces told) sections → AreSorted sections → EndsOnThreads answers script lines last sections
-ended answers script lines last opened driven traces none stops told sections opens within drives empty shown leaves are same sorted =
+-- what a run on threads left and told
+pub ended : (answers : CpuId → ℕ → Bool → Type 0) (script : Script) (lines : List ThreadLine) (last : Final) (opened driven : Rig) (traces : List KeptTrace) (none stops : Vec Event Global) → IsOpenedMachine script opened → AreWithin script.cpus script.tokens script.messages → IsDrivenMachine answers (record { turns = script.turns; idle = script.idle }) opened driven traces → none.items ≡ [] → ShowThreads lines driven → Leaves driven none stops last
+    → TellARun answers script lines last traces stops.items
+ended answers script lines last opened driven traces none stops opens within drives empty shown leaves =
     let tells = threads_tell answers (record { turns = script.turns; idle = script.idle }) script opened driven leaves.stopped traces none stops leaves.closed opens drives empty leaves.stops leaves.closes in
     let tokens = tokens_from script opened opens within in
     let messages = messages_from script opened opens in
@@ -76,6 +74,6 @@ ended answers script lines last opened driven traces none stops told sections op
         messages_from = messages;
         one = one_run script.cpus script.tokens script.messages opened leaves.closed last (parts_from 0 traces stops.items) tells tokens messages leaves.rows leaves.gens leaves.tallies leaves.blobs leaves.messages;
       };
-      told = subst (λ (events : List Event). IsPermutation (sections_of_all traces events) sections) are same;
-      sorted = sorted;
+      traces_are = refl;
+      stops_are = refl;
     }

@@ -35,6 +35,12 @@ IsVerdictOn Closed first last sections = AreInOrder sections × AreSectionChains
 IsVerdictOn (Unlawful index) first last sections = SectionsFailAt first last sections index
 IsVerdictOn Lawful first last sections = ⊥
 
+-- what a verdict says of sections in whatever order: that they are chains, or at which index they fail once they are in order
+abbrev pub IsVerdictOnAll : Verdict → RowsAt → RowsAt → List Section → Type 0
+IsVerdictOnAll Closed first last told = AreSectionChains first last told
+IsVerdictOnAll (Unlawful index) first last told = (sections : List Section) × (IsPermutation told sections × (AreSorted sections × SectionsFailAt first last sections index))
+IsVerdictOnAll Lawful first last told = ⊥
+
 -- sections are the written ones that traces and a stop tell, in order, and chains: of each token one, generation by generation, from
 -- its row in a machine to its closing row
 pub record TellChains (m : Machine) (traces : List KeptTrace) (stops : List Event) (last : Final) (sections : List Section) : Type 0 where

@@ -1,10 +1,11 @@
 -- What a run on threads writes and answers (own).
 use Rattle.std.specs.Global.{Global}
-use Rattle.std.specs.Prelude.{codes, length, All, string_bytes, String, Vec, ◌≡◌, ℕ, Bool, true, List, [], map, is_some, Option, Result, Ok, IsPermutation}
+use Rattle.std.specs.Prelude.{codes, length, All, string_bytes, String, Vec, ◌≡◌, ℕ, Bool, true, List, [], map, is_some, Option, Result, Ok}
 use Rattle.lwkt_base.specs.declared.names.CpuId.{CpuId}
 use Rattle.lwkt_core.specs.declared.events.Event.{Event}
 use Rattle.lwkt_events.specs.ShortEvents.{KeptTrace}
 use Rattle.lwkt_core.specs.declared.finals.Final.{Final}
+use Rattle.lwkt_base.specs.declared.openings.TokSpec.{TokSpec}
 use Rattle.lwkt_base.specs.declared.sections.Section.{Section}
 use Rattle.lwkt_table.specs.History.{events_in}
 use Rattle.lwkt_core.specs.RunSections.{sections_in}
@@ -18,6 +19,7 @@ use Rattle.lwkt_threads.specs.Driven.{IsDrivenMachine}
 use Rattle.lwkt_threads.specs.Parts.{parts_from, TellTheRuns}
 use Rattle.lwkt_report.specs.declared.closings.Closing.{Closing}
 use Rattle.lwkt_report.specs.declared.closings.ThreadLine.{ThreadLine}
+use Rattle.lwkt_report.specs.declared.closings.Verdict.{Verdict}
 use Rattle.lwkt_report.specs.declared.closings.Verdict.TheVariants.{Closed}
 use Rattle.lwkt_report.specs.declared.streams.RunFault.{RunFault}
 use Rattle.lwkt_report.specs.Report.{report_text}
@@ -28,7 +30,7 @@ use Rattle.lwkt_run.specs.declared.runs.End.{End}
 use Rattle.lwkt_run.specs.declared.threaded.ThreadRecord.{ThreadRecord}
 use Rattle.lwkt_run.specs.Chains.{WritesChains}
 use Rattle.lwkt_run.specs.Joining.{AreOneRun}
-use Rattle.lwkt_run.specs.Telling.{sections_of_all, AreSorted, TellChains}
+use Rattle.lwkt_run.specs.Telling.{TellChains}
 use Rattle.lwkt_run.specs.Judging.{ids_of}
 use Rattle.lwkt_run.specs.Leaving.{Leaves}
 use Rattle.lwkt_run.specs.Running.{ShowThreads}
@@ -56,12 +58,18 @@ pub record RunsOnThreads (answers : CpuId → ℕ → Bool → Type 0) (script :
   pub messages_from : machine_of opened.book.cpus (first_mails opened.book.specs) ≡ opening script.cpus [] script.messages
   pub one : AreOneRun script.cpus script.tokens script.messages last (parts_from 0 traces stops.items)
 
--- what stands of a run on threads at its end: its closing values, the lines of its threads, and the written sections that its traces
--- and its stop tell, by token and generation
-pub record EndsOnThreads (answers : CpuId → ℕ → Bool → Type 0) (script : Script) (lines : List ThreadLine) (last : Final) (sections : List Section) : Type 0 where
+-- what was told of a run on threads that has these closing values and lines: the traces of its processors, and the events of its stop
+pub record TellARun (answers : CpuId → ℕ → Bool → Type 0) (script : Script) (lines : List ThreadLine) (last : Final) (traces : List KeptTrace) (stops : List Event) : Type 0 where
   pub runs : RunsOnThreads answers script lines last
-  pub told : IsPermutation (sections_of_all runs.traces runs.stops.items) sections
-  pub sorted : AreSorted sections
+  pub traces_are : runs.traces ≡ traces
+  pub stops_are : runs.stops.items ≡ stops
+
+-- what a report shows with these lines of threads, closing values of tokens that are opened so, and verdict
+pub record ShowsLeft (specs : List TokSpec) (lines : List ThreadLine) (last : Final) (verdict : Verdict) (closing : Closing) : Type 0 where
+  pub kinds : map (λ line. is_some line.tallies) closing.tokens.items ≡ map (λ spec. is_tally spec.law) specs
+  pub threads : closing.threads.items ≡ lines
+  pub verdict_is : closing.verdict ≡ verdict
+  pub shows : ShowsClosing closing last
 
 -- the values may be those of a run of the script on threads: its opening was accepted, a tally line stands exactly under a Tally
 -- token, each thread has its line, they are those of such a run, the written sections of that run are chains from the opening rows to

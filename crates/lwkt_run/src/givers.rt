@@ -1,8 +1,5 @@
 //! Which processor ended each written section, for whoever shows them.
-ghost use Rattle.std.specs.Prelude.{◌≡◌, Err, OnErr};
-ghost use Rattle.lwkt_base.specs.Fault.{no_memory};
-
-use lwkt_base::{CpuId, Fault};
+use lwkt_base::CpuId;
 use lwkt_core::Event;
 use lwkt_events::{EventList, Give, give_of};
 use std::alloc::{AllocError, Global};
@@ -70,20 +67,14 @@ fn cpus_of(alloc: Global, given: &[Given]) -> Result<Vec<CpuId>, AllocError> {
 }
 
 /// Of each written section in traces and in the events of a stop, by token and then by generation, the processor that ended it, 0
-/// to 7; of none if they aren't wanted.
+/// to 7.
 ///
-/// Refused with `Memory` if memory is refused.
+/// `AllocError` if memory is refused.
 pub fn givers_of(
     alloc: Global,
-    are_wanted: bool,
     traces: &[EventList],
     stops: &[Event],
-) -> Result<Vec<CpuId>, Fault>
-    ensures only { OnErr result (result ≡ Err no_memory) }
-{
-    if !are_wanted {
-        return Ok(Vec::new(alloc));
-    }
-    let given = given_in_order(alloc, traces, stops).map_err(Fault::Memory)?;
-    cpus_of(alloc, &given).map_err(Fault::Memory)
+) -> Result<Vec<CpuId>, AllocError> {
+    let given = given_in_order(alloc, traces, stops)?;
+    cpus_of(alloc, &given)
 }

@@ -1,13 +1,15 @@
 //! The written sections that a run's traces tell: gathered, put in order, and checked.
 ghost use Rattle.std.specs.Prelude.{◌≡◌, ◌≤◌, ◌++◌, All, length, IfOk, OnOk, IsPermutation};
 ghost use Rattle.lwkt_core.specs.RunSections.{sections_told};
-ghost use Rattle.lwkt_run.specs.Telling.{sections_of_all, AreSorted, opening_rows, closing_rows, IsVerdictOn};
+ghost use Rattle.lwkt_run.specs.Telling.{sections_of_all, AreSorted, opening_rows, closing_rows, IsVerdictOn, IsVerdictOnAll};
 
+use crate::stretches::stretches_of;
 use lwkt_base::{Fault, Row, Rows, Section, TokSpec};
 use lwkt_core::{Event, Final, check_sections};
-use lwkt_events::EventList;
+use lwkt_events::{EventList, are_chains};
 use lwkt_report::Verdict;
 use std::alloc::{AllocError, Global};
+use std::thread::Threads;
 
 // Adds the sections that events tell to those told before.
 fn add_told(sections: &mut Vec<Section>, events: &[Event]) -> Result<(), AllocError>
@@ -123,4 +125,32 @@ pub fn judged(
     let first = rows_opened(alloc, specs)?;
     let closing = rows_closed(alloc, last)?;
     Ok(verdict_on(&first, &closing, sections))
+}
+
+/// The verdict on the written sections in traces and in the events of a stop, as that of `judged` on them in order. Their stretches are
+/// checked first, which are found by a thread for each trace, if one can be made. Only if these aren't chains are the sections gathered and put in order, for the index.
+///
+/// `AllocError` if memory is refused.
+pub fn judged_told<R: Threads + Sync>(
+    rt: &R,
+    alloc: Global,
+    specs: &[TokSpec],
+    last: &Final,
+    traces: Vec<EventList>,
+    stops: &[Event],
+) -> Result<Verdict, AllocError>
+    requires opened { length last.now.rows.items ≡ length specs.now }
+    requires as_many { length last.now.gens.items ≡ length last.now.rows.items }
+    requires few { All (λ spec. length spec.cells ≤ 4) specs.now }
+    requires few_closed { All (λ row. length row ≤ 4) last.now.rows.items }
+    ensures { IfOk result (λ verdict. IsVerdictOnAll verdict (opening_rows specs.now) (closing_rows last.now) (sections_of_all traces.items stops.now)) }
+{
+    let first = rows_opened(alloc, specs)?;
+    let closing = rows_closed(alloc, last)?;
+    let stretches = stretches_of(rt, alloc, traces.as_slice(), stops)?;
+    if are_chains(alloc, &first, &closing, stretches)? {
+        return Ok(Verdict::Closed);
+    }
+    let sections = sections_in_order(alloc, traces, stops)?;
+    Ok(verdict_on(&first, &closing, &sections))
 }

@@ -4,18 +4,19 @@ ghost use Rattle.lwkt_core.specs.Opening.{AreWithin, AllOpenLawfully};
 ghost use Rattle.lwkt_run.specs.Judging.{ids_of};
 ghost use Rattle.lwkt_run.specs.Values.{AreValuesOf};
 ghost use Rattle.lwkt_run.specs.Run.{DeclinesRun, Refuses};
-ghost use Rattle.lwkt_run.specs.Threaded.{EndsOnThreads, IsThreadRecord, HasThreadedRun, TellsOnThreads, lets_all};
+ghost use Rattle.lwkt_run.specs.Threaded.{TellARun, ShowsLeft, MayCloseOnThreads, IsThreadRecord, HasThreadedRun, TellsOnThreads, lets_all};
 
 use crate::endings::{Left, left_by};
 use crate::givers::givers_of;
 use crate::lines::token_lines;
 use crate::reports::{Done, conclude};
 use crate::runs::{End, end_told};
-use crate::tellings::{judged, sections_in_order};
+use crate::tellings::{judged, judged_told, sections_in_order};
 use lwkt_base::{CpuId, Fault, Section};
-use lwkt_core::Final;
+use lwkt_core::{Event, Final};
+use lwkt_events::EventList;
 use lwkt_machine::Machine;
-use lwkt_report::{Closing, RunFault, Sink, Source, read_capped, report};
+use lwkt_report::{Closing, RunFault, Sink, Source, Verdict, read_capped, report};
 use lwkt_script::{Script, read_script};
 use lwkt_threads::{Gate, Limits, OpenGate, Outcome, drive_machine};
 use std::alloc::{AllocError, Global};
@@ -33,24 +34,23 @@ pub struct ThreadRecord {
     pub givers: Vec<CpuId>,
 }
 
-// What a run on threads left, with the written sections that its processors told, by token and generation.
+// What a run on threads left, and what its processors and its stop told.
 #[derive(Drop)]
 struct Told {
     left: Left,
-    sections: Vec<Section>,
-    givers: Vec<CpuId>,
+    traces: Vec<EventList>,
+    stops: Vec<Event>,
 }
 
-// Drives the processors of a script on threads, and closes their machine. Who ended a section is told where it is wanted.
+// Drives the processors of a script on threads, and closes their machine.
 fn told_of<R: Threads + Sync, G: Gate + Sync>(
     rt: &R,
     alloc: Global,
     gate: &G,
     script: &Script,
-    with_givers: bool,
 ) -> Result<Told, Fault>
     ensures values { IfOk result (λ told. AreValuesOf script.now.tokens told.left.last) }
-    ensures ends { IfOk result (λ told. EndsOnThreads (G.answers gate.now) script.now told.left.threads.items told.left.last told.sections.items) }
+    ensures tells { IfOk result (λ told. TellARun (G.answers gate.now) script.now told.left.threads.items told.left.last told.traces.items told.stops.items) }
     ensures threads { IfOk result (λ told. map (λ line. line.id) told.left.threads.items ≡ ids_of script.now.cpus script.now.threads) }
     ensures within { OnOk result (AreWithin script.now.cpus script.now.tokens script.now.messages) }
     ensures lawful { OnOk result (AllOpenLawfully script.now.tokens) }
@@ -64,18 +64,66 @@ fn told_of<R: Threads + Sync, G: Gate + Sync>(
     let Outcome { machine, traces } = drive_machine(rt, alloc, gate, &limits, machine)?;
     let mut stops = Vec::new(alloc);
     let left = left_by(alloc, script, machine, &mut stops)?;
-    let givers = givers_of(alloc, with_givers, traces.as_slice(), stops.as_slice())?;
-    match sections_in_order(alloc, traces, &stops) {
-        Ok(sections) => Ok(Told {
-            left,
-            sections,
-            givers,
-        }),
-        Err(refused) => Err(Fault::Memory(refused)),
-    }
+    Ok(Told {
+        left,
+        traces,
+        stops,
+    })
 }
 
-// What is kept of a run on threads: what its report shows, with the verdict on the sections that were told.
+// What a report shows of what a run left, with this verdict.
+fn closing_of(
+    alloc: Global,
+    script: &Script,
+    left: Left,
+    verdict: Verdict,
+) -> Result<Closing, AllocError>
+    requires { AreValuesOf script.now.tokens left.last }
+    ensures { IfOk result (λ closing. ShowsLeft script.now.tokens left.threads.items left.last verdict closing) }
+{
+    let Left { last, threads } = left;
+    let tokens = token_lines(alloc, script.tokens.as_slice(), &last)?;
+    let Final { messages, .. } = last;
+    Ok(Closing {
+        tokens,
+        messages,
+        threads,
+        verdict,
+    })
+}
+
+// What the report of a run on threads shows, with the verdict on the sections that were told.
+fn judged_closing<R: Threads + Sync, G: Gate>(
+    rt: &R,
+    alloc: Global,
+    gate: &G,
+    script: &Script,
+    told: Told,
+) -> Result<Closing, AllocError>
+    requires within { AreWithin script.now.cpus script.now.tokens script.now.messages }
+    requires lawful { AllOpenLawfully script.now.tokens }
+    requires values { AreValuesOf script.now.tokens told.left.last }
+    requires threads { map (λ line. line.id) told.left.threads.items ≡ ids_of script.now.cpus script.now.threads }
+    requires tells { TellARun (G.answers gate.now) script.now told.left.threads.items told.left.last told.traces.items told.stops.items }
+    ensures { IfOk result (λ closing. MayCloseOnThreads (G.answers gate.now) script.now closing) }
+{
+    let Told {
+        left,
+        traces,
+        stops,
+    } = told;
+    let verdict = judged_told(
+        rt,
+        alloc,
+        script.tokens.as_slice(),
+        &left.last,
+        traces,
+        &stops,
+    )?;
+    closing_of(alloc, script, left, verdict)
+}
+
+// What is kept of a run on threads: what its report shows, and the sections that were told, with the verdict on these.
 fn record_of<G: Gate>(
     alloc: Global,
     gate: &G,
@@ -86,45 +134,37 @@ fn record_of<G: Gate>(
     requires lawful { AllOpenLawfully script.now.tokens }
     requires values { AreValuesOf script.now.tokens told.left.last }
     requires threads { map (λ line. line.id) told.left.threads.items ≡ ids_of script.now.cpus script.now.threads }
-    requires ends { EndsOnThreads (G.answers gate.now) script.now told.left.threads.items told.left.last told.sections.items }
+    requires tells { TellARun (G.answers gate.now) script.now told.left.threads.items told.left.last told.traces.items told.stops.items }
     ensures { IfOk result (λ kept. IsThreadRecord (G.answers gate.now) script.now kept) }
 {
     let Told {
         left,
-        sections,
-        givers,
+        traces,
+        stops,
     } = told;
-    let Left { last, threads } = left;
-    let verdict = judged(alloc, script.tokens.as_slice(), &last, &sections)?;
-    let tokens = token_lines(alloc, script.tokens.as_slice(), &last)?;
-    let Final { messages, .. } = last;
-    let closing = Closing {
-        tokens,
-        messages,
-        threads,
-        verdict,
-    };
+    let givers = givers_of(alloc, traces.as_slice(), &stops)?;
+    let sections = sections_in_order(alloc, traces, &stops)?;
+    let verdict = judged(alloc, script.tokens.as_slice(), &left.last, &sections)?;
     Ok(ThreadRecord {
-        closing,
+        closing: closing_of(alloc, script, left, verdict)?,
         sections,
         givers,
     })
 }
 
-// Runs a script on threads, and keeps what its report shows and the sections that were told.
-fn record_of_script<R: Threads + Sync, G: Gate + Sync>(
+// Runs a script on threads, for what its report shows.
+fn closing_of_script<R: Threads + Sync, G: Gate + Sync>(
     rt: &R,
     alloc: Global,
     gate: &G,
     script: &Script,
-    with_givers: bool,
-) -> Result<ThreadRecord, Fault>
-    ensures ok { IfOk result (λ kept. IsThreadRecord (G.answers gate.now) script.now kept) }
+) -> Result<Closing, Fault>
+    ensures ok { IfOk result (λ closing. MayCloseOnThreads (G.answers gate.now) script.now closing) }
     ensures refused { IfErr result (λ fault. DeclinesRun script.now fault) }
 {
-    let told = told_of(rt, alloc, gate, script, with_givers)?;
-    match record_of(alloc, gate, script, told) {
-        Ok(kept) => Ok(kept),
+    let told = told_of(rt, alloc, gate, script)?;
+    match judged_closing(rt, alloc, gate, script, told) {
+        Ok(closing) => Ok(closing),
         Err(refused) => Err(Fault::Memory(refused)),
     }
 }
@@ -140,7 +180,7 @@ fn done_of_bytes<R: Threads + Sync, G: Gate + Sync>(
     ensures refused { IfErr result (λ fault. Refuses bytes.now fault) }
 {
     let script = read_script(alloc, bytes)?;
-    let ThreadRecord { closing, .. } = record_of_script(rt, alloc, gate, &script, false)?;
+    let closing = closing_of_script(rt, alloc, gate, &script)?;
     let end = end_told(&closing);
     let text = report(alloc, &closing)?;
     Ok(Done { text, end })
@@ -191,6 +231,20 @@ pub fn run_threads<R: Threads + Sync, S: Source, K: Sink>(
     run_threads_gated(rt, alloc, source, sink, &OpenGate)
 }
 
+/// Runs a script on threads, and gives what its report shows.
+///
+/// Refused with `Limits` or `LawBroken` for the script's opening, and with `Memory` if memory is refused.
+pub fn close_threads<R: Threads + Sync>(
+    rt: &R,
+    alloc: Global,
+    script: &Script,
+) -> Result<Closing, Fault>
+    ensures ok { IfOk result (λ closing. MayCloseOnThreads lets_all script.now closing) }
+    ensures refused { IfErr result (λ fault. DeclinesRun script.now fault) }
+{
+    closing_of_script(rt, alloc, &OpenGate, script)
+}
+
 /// Runs a script on threads, and keeps what its report shows and the written sections that its processors reported, in order, each
 /// with its processor.
 ///
@@ -203,5 +257,9 @@ pub fn record_threads<R: Threads + Sync>(
     ensures ok { IfOk result (λ kept. IsThreadRecord lets_all script.now kept) }
     ensures refused { IfErr result (λ fault. DeclinesRun script.now fault) }
 {
-    record_of_script(rt, alloc, &OpenGate, script, true)
+    let told = told_of(rt, alloc, &OpenGate, script)?;
+    match record_of(alloc, &OpenGate, script, told) {
+        Ok(kept) => Ok(kept),
+        Err(refused) => Err(Fault::Memory(refused)),
+    }
 }

@@ -1,6 +1,5 @@
-use Rattle.std.proofs.Common.{◌≡◌, ◌∙◌, List, ap, sym, subst, refl}
+use Rattle.std.proofs.Common.{◌≡◌, ◌∙◌, List, sym, subst}
 use Rattle.std.proofs.lemmas.Bool.{false≢true}
-use Rattle.lwkt_base.specs.declared.sections.Section.{Section}
 use Rattle.lwkt_core.specs.SectionChain.{RowsAt}
 use Rattle.lwkt_events.specs.declared.stretches.Stretch.{Stretch}
 use Rattle.lwkt_events.specs.Stretches.{Lead}

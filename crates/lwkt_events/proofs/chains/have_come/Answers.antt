@@ -1,4 +1,4 @@
-use Rattle.std.proofs.Common.{◌≡◌, ◌∙◌, ◌+◌, ◌<◌, ◌++◌, ◌∷◌, [], ℕ, List, length, take, get_or, ap, sym, arith}
+use Rattle.std.proofs.Common.{◌≡◌, ◌∙◌, ◌<◌, ◌++◌, ◌∷◌, [], ℕ, List, length, get_or, sym, arith}
 use Rattle.std.proofs.lemmas.List.{take_more, get_or_default}
 use Rattle.lwkt_core.specs.SectionChain.{RowsAt}
 use Rattle.lwkt_events.proofs.chains.have_come.Goals as goal

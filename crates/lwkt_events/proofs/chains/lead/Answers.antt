@@ -1,4 +1,4 @@
-use Rattle.std.proofs.Common.{◌≡◌, ◌∙◌, ◌+◌, ◌<◌, ◌++◌, ◌∷◌, [], ℕ, List, length, set, take, get_or, ap, sym, subst, arith, refl}
+use Rattle.std.proofs.Common.{◌≡◌, ◌∙◌, ◌+◌, ◌++◌, ◌∷◌, [], ℕ, List, set, take, get_or, ap, sym, subst}
 use Rattle.std.proofs.lemmas.List.{take_more}
 use Rattle.lwkt_core.specs.SectionChain.{RowsAt}
 use Rattle.lwkt_events.specs.declared.stretches.Stretch.{Stretch}

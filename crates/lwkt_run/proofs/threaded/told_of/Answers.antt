@@ -6,10 +6,10 @@ left_by-requires-clause-threads g c =
     let o = c.in_ok-machine-2 in
     driven_has (g.G.Gate.answers c.args.gate.now) c.args.script.now c.in_ok-machine.machine o.field-0.machine o.field-0.traces.items c.in_ok-machine.ensures.ok o.ensures.ok
 
-pub returns-in-Ok-clause-ends : goal.returns-in-Ok-clause-ends
-returns-in-Ok-clause-ends g c =
+pub returns-clause-tells : goal.returns-clause-tells
+returns-clause-tells g c =
     let opened = c.in_ok-machine in
     let o = c.in_ok-machine-2 in
     let left = c.in_ok-left in
-    ended (g.G.Gate.answers c.args.gate.now) c.args.script.now left.left.threads.items left.left.last opened.machine o.field-0.machine o.field-0.traces.items c.new-stops.result c.left_by.new.trace c.deref.result.now c.in-Ok.sections.items
-    opened.ensures.ok opened.ensures.within o.ensures.ok c.new-stops.ensures.items left.ensures.shown left.ensures.leaves c.deref.ensures.value c.in-Ok.ensures.told c.in-Ok.ensures.sorted
+    ended (g.G.Gate.answers c.args.gate.now) c.args.script.now left.left.threads.items left.left.last opened.machine o.field-0.machine o.field-0.traces.items c.new-stops.result c.left_by.new.trace
+    opened.ensures.ok opened.ensures.within o.ensures.ok c.new-stops.ensures.items left.ensures.shown left.ensures.leaves

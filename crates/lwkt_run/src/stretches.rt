@@ -1,0 +1,75 @@
+//! The stretches of the written sections that the traces of a run tell.
+ghost use Rattle.std.specs.Prelude.{◌≡◌, ◌<◌, ℕ, length, IfOk, slice_index_or, flat_map};
+ghost use Rattle.lwkt_core.specs.RunSections.{sections_told};
+ghost use Rattle.lwkt_events.specs.ShortEvents.{KeptTrace};
+ghost use Rattle.lwkt_events.specs.Stretches.{StandFor};
+ghost use Rattle.lwkt_run.specs.Telling.{sections_of_all};
+
+use lwkt_core::Event;
+use lwkt_events::{EventList, Stretch, Stretches};
+use std::alloc::{AllocError, Global};
+use std::thread;
+use std::thread::Threads;
+
+// The stretches of the sections that a trace tells.
+fn stretches_in(alloc: Global, trace: &EventList) -> Result<Vec<Stretch>, AllocError>
+    ensures { IfOk result (λ stretches. StandFor stretches.items (sections_told trace.now.items)) }
+{
+    let mut stretches = Stretches::new(alloc);
+    trace.tell_stretches(&mut stretches)?;
+    Ok(stretches.into_vec())
+}
+
+// The same of each trace, on a thread of its own if one can be made.
+fn stretches_by_trace<R: Threads + Sync>(
+    rt: &R,
+    alloc: Global,
+    traces: &[EventList],
+) -> Result<Vec<Result<Vec<Stretch>, AllocError>>, AllocError>
+    ensures len { IfOk result (λ told. length told.items ≡ length traces.now) }
+    ensures each { IfOk result (λ told. (i : ℕ) (d : _) (t : KeptTrace) → i < length traces.now → IfOk (slice_index_or told.items i d) (λ stretches. StandFor stretches.items (sections_told (slice_index_or traces.now i t).items))) }
+{
+    thread::map_indices(
+        rt,
+        alloc,
+        traces.len(),
+        &|at| stretches_in(alloc, &traces[at]),
+    )
+}
+
+// The stretches of the sections that traces tell, one trace's after another's.
+fn stretches_of_traces<R: Threads + Sync>(
+    rt: &R,
+    alloc: Global,
+    traces: &[EventList],
+) -> Result<Vec<Stretch>, AllocError>
+    ensures { IfOk result (λ all. StandFor all.items (flat_map (λ trace. sections_told trace.items) traces.now)) }
+{
+    let told = stretches_by_trace(rt, alloc, traces)?;
+    let mut all = Vec::new(alloc);
+    for at in 0..told.len() {
+        match &told[at] {
+            Ok(stretches) => all.extend_from_slice(stretches.as_slice())?,
+            Err(refused) => return Err(*refused),
+        }
+    }
+    Ok(all)
+}
+
+/// The stretches of the written sections that traces tell, one trace's after another's, and then of those that a stop tells.
+///
+/// `AllocError` if memory is refused.
+pub fn stretches_of<R: Threads + Sync>(
+    rt: &R,
+    alloc: Global,
+    traces: &[EventList],
+    stops: &[Event],
+) -> Result<Vec<Stretch>, AllocError>
+    ensures { IfOk result (λ stretches. StandFor stretches.items (sections_of_all traces.now stops.now)) }
+{
+    let mut all = stretches_of_traces(rt, alloc, traces)?;
+    let mut last = Stretches::new(alloc);
+    last.add_told(stops)?;
+    all.extend_from_slice(last.into_vec().as_slice())?;
+    Ok(all)
+}
