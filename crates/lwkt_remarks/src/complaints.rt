@@ -1,9 +1,13 @@
 // What is wrong with a text, in words.
-use crate::lines::{Place, add_head, place_of};
-use crate::proposals::proposal;
+use crate::lines::{Place, add_head, part_from, part_of, place_from};
+use crate::proposals::{NAME_LIMIT, proposal};
+use crate::views::{add_line, add_mark};
 use lwkt_refusals::Page;
 use lwkt_text::{Many, Names, Wanted, What, Wrong, names_of};
 use std::alloc::{AllocError, Global};
+
+// Of how many places it is said what is wrong there.
+const FAULT_LIMIT: usize = 100;
 
 // The word that is wanted.
 fn word_of(wanted: Wanted) -> &'static str {
@@ -63,40 +67,6 @@ fn add_limits(page: &mut Page, what: What) {
     }
 }
 
-// The characters of a line up to a place, with tabs as they are and a blank for every other one.
-fn add_blanks(page: &mut Page, bytes: &[u8]) {
-    for byte in bytes {
-        page.add(if *byte == b'\t' { "\t" } else { " " });
-    }
-}
-
-// The characters of a line; those that are no ASCII as question marks.
-fn add_line(page: &mut Page, bytes: &[u8]) {
-    for byte in bytes {
-        let shown = if *byte < 128 { *byte } else { b'?' };
-        page.letter(shown as char);
-    }
-}
-
-// The bytes of a text from one place to another.
-fn part_of(bytes: &[u8], from: usize, to: usize) -> &[u8] {
-    if from <= to && to <= bytes.len() {
-        &bytes[from..to]
-    } else {
-        &[]
-    }
-}
-
-// The line, and a mark under the place.
-fn add_mark(page: &mut Page, bytes: &[u8], place: Place) {
-    let at = place.start.saturating_add(place.before);
-    page.add("    ");
-    add_line(page, part_of(bytes, place.start, place.end));
-    page.add("\n    ");
-    add_blanks(page, part_of(bytes, place.start, at));
-    page.add("^\n");
-}
-
 // How many bytes a word has that these bytes begin with.
 fn word_length(bytes: &[u8]) -> usize {
     let mut count = 0usize;
@@ -109,9 +79,9 @@ fn word_length(bytes: &[u8]) -> usize {
     count
 }
 
-// The word that begins at a place.
+// The word that begins at a place; of one that is too long for a proposal its beginning, which is too long too.
 fn word_at(alloc: Global, bytes: &[u8], at: usize) -> Result<String, AllocError> {
-    let rest = part_of(bytes, at, bytes.len());
+    let rest = part_from(bytes, at, NAME_LIMIT.saturating_add(1));
     let mut word = Page::new(alloc);
     add_line(&mut word, part_of(rest, 0, word_length(rest)));
     word.whole()
@@ -142,8 +112,8 @@ fn add_wrong(
     bytes: &[u8],
     names: &Names,
     wrong: Wrong,
+    place: Place,
 ) -> Result<(), AllocError> {
-    let place = place_of(bytes, wrong.at);
     add_head(page, path, place);
     page.size(":", place.before.saturating_add(1));
     page.add(": ");
@@ -155,8 +125,17 @@ fn add_wrong(
     Ok(())
 }
 
-/// All that is wrong with a text, in the order of the places: of each `FILE:LINE:COLUMN: WORDS`, then the line and a mark under the
-/// place; without the file where none is named.
+// How many more faults there are than those that are told.
+fn add_rest(page: &mut Page, count: usize) {
+    if count > FAULT_LIMIT {
+        page.size("and ", count.saturating_sub(FAULT_LIMIT));
+        page.add(" more\n");
+    }
+}
+
+/// What is wrong with a text, in the order of the places: of each `FILE:LINE:COLUMN: WORDS`, then the line and a mark under the
+/// place; without the file where none is named. Of a line of more than 120 bytes what surrounds the place is shown, with `..` where
+/// it is cut. Of more than 100 places the first 100, and `and N more` for the others.
 ///
 /// Refused if memory is.
 pub fn wrongs_said(
@@ -169,8 +148,11 @@ pub fn wrongs_said(
     let mut wrongs = wrongs.into_vec();
     wrongs.sort_unstable_by_key(|wrong| wrong.at);
     let mut page = Page::new(alloc);
-    for wrong in wrongs.as_slice() {
-        add_wrong(alloc, &mut page, path, bytes, &names, *wrong)?;
+    let mut place = Place::FIRST;
+    for wrong in wrongs.iter().take(FAULT_LIMIT) {
+        place = place_from(bytes, place, wrong.at);
+        add_wrong(alloc, &mut page, path, bytes, &names, *wrong, place)?;
     }
+    add_rest(&mut page, wrongs.len());
     page.whole()
 }

@@ -12,6 +12,7 @@ mod lines;
 mod openings;
 mod proposals;
 mod verdicts;
+mod views;
 
 pub use accounts::{Account, account_of};
 pub use complaints::wrongs_said;

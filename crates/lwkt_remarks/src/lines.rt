@@ -10,36 +10,53 @@ pub struct Place {
     pub before: usize,
     /// How many bytes of the text stand before the line.
     pub start: usize,
-    /// How many bytes of the text stand before its end.
-    pub end: usize,
 }
 
-// Where the line's end is.
-fn end_from(bytes: &[u8], at: usize) -> usize {
-    let mut end = bytes.len();
-    for (i, byte) in bytes.iter().enumerate() {
-        if i >= at && *byte == b'\n' && i < end {
-            end = i;
-        }
+impl Place {
+    /// The start of a text.
+    pub const FIRST: Place = Place {
+        line: 1,
+        before: 0,
+        start: 0,
+    };
+
+    /// How many bytes of the text stand before.
+    pub fn at(self) -> usize {
+        self.start.saturating_add(self.before)
     }
-    end
 }
 
-/// The place of the byte that so many others stand before.
-pub fn place_of(bytes: &[u8], at: usize) -> Place {
-    let mut line = 1usize;
-    let mut start = 0usize;
-    for (i, byte) in bytes.iter().enumerate() {
-        if i < at && *byte == b'\n' {
+/// The bytes of a text from one place to another.
+pub fn part_of(bytes: &[u8], from: usize, to: usize) -> &[u8] {
+    if from <= to && to <= bytes.len() {
+        &bytes[from..to]
+    } else {
+        &[]
+    }
+}
+
+/// The bytes of a text from a place on, at most so many.
+pub fn part_from(bytes: &[u8], from: usize, most: usize) -> &[u8] {
+    part_of(bytes, from, from.saturating_add(most).min(bytes.len()))
+}
+
+/// The place of the byte that so many others stand before. Only the bytes behind `last`, a place of the same text, are looked at,
+/// if it isn't before that.
+pub fn place_from(bytes: &[u8], last: Place, at: usize) -> Place {
+    let last = if last.at() <= at { last } else { Place::FIRST };
+    let from = last.at();
+    let mut line = last.line;
+    let mut start = last.start;
+    for (i, byte) in part_of(bytes, from, at).iter().enumerate() {
+        if *byte == b'\n' {
             line = line.saturating_add(1);
-            start = i.saturating_add(1);
+            start = from.saturating_add(i).saturating_add(1);
         }
     }
     Place {
         line,
         before: at.saturating_sub(start),
         start,
-        end: end_from(bytes, at),
     }
 }
 

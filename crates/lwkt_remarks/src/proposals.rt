@@ -36,6 +36,12 @@ const KEYWORDS: [&str; 29] = [
     "exit",
 ];
 
+/// The most characters of a word for which a name is proposed, and of such a name.
+pub const NAME_LIMIT: usize = 64;
+
+// How many names of a kind are looked at: as many as a text has threads at most, of which it can have more than of other parts.
+const COUNT_LIMIT: usize = 128;
+
 // A name, and how many changes lead to it.
 #[derive(Clone, Copy)]
 struct Near<'n> {
@@ -50,6 +56,9 @@ fn nearer<'n>(
     best: Option<Near<'n>>,
     name: &'n str,
 ) -> Result<Option<Near<'n>>, AllocError> {
+    if name.len() > NAME_LIMIT {
+        return Ok(best);
+    }
     let changes = levenshtein(alloc, text, name)?;
     let limit = match best {
         Some(near) => near.changes,
@@ -68,7 +77,7 @@ fn nearest<'n>(
     names: &'n [Name],
 ) -> Result<Option<&'n str>, AllocError> {
     let mut best = None;
-    for name in names {
+    for name in names.iter().take(COUNT_LIMIT) {
         best = nearer(alloc, text, best, name.as_str())?;
     }
     Ok(best.map(|near| near.name))
@@ -83,13 +92,16 @@ fn nearest_keyword(alloc: Global, text: &str) -> Result<Option<&'static str>, Al
     Ok(best.map(|near| near.name))
 }
 
-/// A name that is nearly what was written where another part was wanted, if there is one.
+/// A name that is nearly what was written where another part was wanted, if there is one. None for a word of more than 64 characters.
 pub fn proposal<'n>(
     alloc: Global,
     names: &'n Names,
     what: What,
     text: &str,
 ) -> Result<Option<&'n str>, AllocError> {
+    if text.len() > NAME_LIMIT {
+        return Ok(None);
+    }
     match what {
         What::Keyword => nearest_keyword(alloc, text),
         What::Token | What::Quantity => nearest(alloc, text, names.tokens.as_slice()),

@@ -1,5 +1,5 @@
 // Which expectations hold.
-use crate::lines::{add_head, place_of};
+use crate::lines::{Place, add_head, place_from};
 use lwkt_litmus::is_met;
 use lwkt_refusals::Page;
 use lwkt_report::Closing;
@@ -18,9 +18,11 @@ pub fn verdicts_said(
     outcome: &Closing,
 ) -> Result<String, AllocError> {
     let mut page = Page::new(alloc);
+    let mut place = Place::FIRST;
     for expectation in expectations {
         let is_so = is_met(expectation, std::slice::from_ref(outcome));
-        add_head(&mut page, path, place_of(bytes, expectation.at));
+        place = place_from(bytes, place, expectation.at);
+        add_head(&mut page, path, place);
         page.add(if is_so {
             ": holds\n"
         } else {
