@@ -6,6 +6,7 @@
 # place of the one that is built here, so that the next start is the quick one; it is started from where it lies where
 # this can't be done.
 # shellcheck disable=SC2034,SC2154 # `top` and `program_name` are set where this is read.
+unset CDPATH
 help_folder=$top/man
 # shellcheck source=tools/command.bash
 source "$top/tools/command.bash"
