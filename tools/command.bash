@@ -5,25 +5,27 @@
 # shellcheck disable=SC2154 # These two are set where this is read.
 
 # What a command reads, and whether it opens its file itself; the words of which one has to stand first, and those of which one
-# may; its options without a value and with one; whether it can tell how far it is, and be ended with what it found (`tells`).
-modes=() choices=() flags=() valued=() opens_file='' tells=''
+# may; its options without a value, and those with one: a number, a range of them, an order of turns, or a path; whether it can tell
+# how far it is, and be ended with what it found (`tells`).
+modes=() choices=() flags=() numbers=() ranges=() orders=() paths=() opens_file='' tells=''
 case $program_name in
     lwkt_run)
         reads=script modes=(turns threads)
         ;;
     lwkt_show)
-        reads=script modes=(turns threads) flags=(--svg --trace --chains) valued=(--turns --rounds --order)
+        reads=script modes=(turns threads) flags=(--svg --trace --chains) ranges=(--turns --rounds) orders=(--order)
         ;;
     lwkt_check)
         reads=trace choices=(lines)
         ;;
     lwkt_explore)
-        reads=script flags=(--plain --progress) valued=(--states --turns --random --seed --stop) tells=yes
+        reads=script flags=(--plain --progress) numbers=(--states --turns --random --seed) paths=(--stop) tells=yes
         ;;
     lwkt_text)
         reads=script flags=(--run --json --text) opens_file=yes
         ;;
 esac
+valued=("${numbers[@]}" "${ranges[@]}" "${orders[@]}" "${paths[@]}")
 # A small input that a program says `lawful` of, by which is tried whether it runs here.
 small_script='{"version":1,"turns":1,"idle":1,"cpus":1,"tokens":[],"messages":[],"threads":[]}'
 small_trace='{"version":1,"cpus":1,"tokens":[],"messages":[],"events":[],"last":null}'
@@ -58,32 +60,31 @@ wants_help() {
     return 1
 }
 
-# The words that are the program's into `words`, and into `file` what stands behind them: the last word that is no mode,
-# no option and no option's value, if there is one (`has_file`). `is_known` says whether the program will read, and
-# `odd` what is odd about words that it won't take, where that can be said.
-sort_words() {
-    local word behind='' value='' plain=() first=0 at before=$#
-    words=() file='' has_file='' is_known=yes odd=''
-    for word in "$@"; do
-        if [[ -n $value ]]; then
-            value=
-        elif [[ -z $behind && $word = -- ]]; then
-            behind=yes before=${#words[@]}
-            continue
-        elif [[ -z $behind && $word = -?* ]]; then
-            if is_among "$word" "${valued[@]}"; then
-                value=yes
-            elif [[ -n $tells && $word = --all ]]; then
-                is_known='' odd='--all has to come first'
-            elif ! is_among "$word" "${flags[@]}"; then
-                is_known='' odd="no such option: $word"
-            fi
-        else
-            plain+=("${#words[@]}")
-        fi
-        words+=("$word")
-    done
-    ((${#modes[@]} == 0)) || first=1
+# Whether a program reads the word $1 as a whole number.
+is_number() {
+    local digits=${1#+}
+    [[ $digits =~ ^0*([0-9]+)$ ]] || return
+    digits=${BASH_REMATCH[1]}
+    # shellcheck disable=SC2071 # They are compared as texts.
+    ((${#digits} < 20)) || [[ ${#digits} -eq 20 && ! $digits > 18446744073709551615 ]]
+}
+
+# What the option $1 wants as its value, where $2 is none, into `odd`.
+judge_value() {
+    local wanted=
+    if is_among "$1" "${numbers[@]}"; then
+        is_number "$2" || wanted='a whole number below 2^64 is wanted'
+    elif is_among "$1" "${ranges[@]}"; then
+        [[ $2 =~ ^(\+?[0-9]+)?\.\.(\+?[0-9]+)?$ ]] || wanted='a range is wanted, as 1..5'
+    elif is_among "$1" "${orders[@]}"; then
+        [[ $2 != *[!0-9\ ,-]* ]] || wanted='an order is wanted, as 0 1 0'
+    fi
+    [[ -z $wanted ]] || is_known='' odd=${odd:-"$1 $2: $wanted"}
+}
+
+# What is odd about the words that are neither options nor their values, into `odd`. `first` of them have to stand before the
+# file, and `before` words stand before `--`.
+judge_plain() {
     if ((${#plain[@]} > 0 && plain[0] < before)) && is_among "${words[${plain[0]}]}" "${choices[@]}"; then
         first=1
     fi
@@ -94,6 +95,59 @@ sort_words() {
     elif ((${#plain[@]} > first + 1)); then
         is_known='' odd=${odd:-"more than one file: ${words[${plain[first]}]}, ${words[${plain[-1]}]}"}
     fi
+}
+
+# What is odd about the words of a program that opens its file itself, into `odd`: it takes one file and one option, in either
+# order, and then nothing is.
+judge_pair() {
+    local word options=()
+    if ((${#words[@]} == 2)) && { is_among "${words[1]}" "${flags[@]}" || is_among "${words[0]}" "${flags[@]}"; }; then
+        odd=
+        return
+    fi
+    for word in "${words[@]}"; do
+        ! is_among "$word" "${flags[@]}" || options+=("$word")
+    done
+    if ((${#options[@]} > 1)); then
+        odd=${odd:-"more than one option: ${options[0]}, ${options[-1]}"}
+    elif ((${#options[@]} == 0 && ${#plain[@]} == 1)); then
+        odd=${odd:-"${words[${plain[0]}]}: one of these has to stand beside it: ${flags[*]}"}
+    elif ((${#options[@]} == 1 && ${#plain[@]} == 0)); then
+        odd=${odd:-"${options[0]} wants a file beside it"}
+    fi
+}
+
+# The words that are the program's into `words`, and into `file` what stands behind them: the last word that is no mode,
+# no option and no option's value, if there is one (`has_file`). `is_known` says whether the program will read, and
+# `odd` what is odd about words that it won't take, where that can be said; `idle` which of them does nothing.
+sort_words() {
+    local word behind='' value='' named='' plain=() first=0 at before=$#
+    words=() file='' has_file='' is_known=yes odd='' idle=''
+    for word in "$@"; do
+        if [[ -n $value ]]; then
+            judge_value "$value" "$word"
+            value=
+        elif [[ -z $behind && $word = -- ]]; then
+            behind=yes before=${#words[@]}
+            continue
+        elif [[ -z $behind && $word = -?* ]]; then
+            if is_among "$word" "${valued[@]}"; then
+                value=$word named+=" $word"
+            elif [[ -n $tells && $word = --all ]]; then
+                is_known='' odd='--all has to come first'
+            elif ! is_among "$word" "${flags[@]}"; then
+                is_known='' odd="no such option: $word"
+            fi
+        else
+            plain+=("${#words[@]}")
+        fi
+        words+=("$word")
+    done
+    [[ -z $value ]] || is_known='' odd=${odd:-"$value wants a value behind it"}
+    [[ $named != *' --seed'* || $named = *' --random'* ]] || idle='--seed does nothing without --random'
+    ((${#modes[@]} == 0)) || first=1
+    judge_plain
+    [[ -z $opens_file ]] || judge_pair
     ((${#plain[@]} > first)) || return 0
     at=${plain[-1]}
     file=${words[at]}
@@ -124,7 +178,8 @@ choose_notice() {
 
 # Starts the program $1 on the words.
 start_program() {
-    [[ -z $odd || -n $opens_file ]] || say "$odd"
+    [[ -z $odd ]] || say "$odd"
+    [[ -z $idle || -z $is_known ]] || say "$idle"
     [[ -z $notice ]] || say "$notice"
     [[ -z $tells || ! -t 2 ]] || start_watched "$1"
     exec "$1" "${words[@]}"
