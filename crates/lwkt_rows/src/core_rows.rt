@@ -175,10 +175,9 @@ impl Events {
 
 // Two processors and a token, events, its closing cells, generation and tallies, and the first event that isn't lawful, or
 // the number of events.
-#[derive(Clone, Copy)]
 struct Trace(
-    Opened,
-    Events,
+    &'static Opened,
+    &'static Events,
     &'static [u64],
     u64,
     &'static [u64],
@@ -198,18 +197,27 @@ fn open(alloc: Global, opened: Opened) -> Option<State> {
     State::open(alloc, &specs, &[], 2).ok()
 }
 
+// Whether the checker refuses these events of a token at this index, or doesn't refuse them. False without memory.
+fn goes(
+    opening: Option<State>,
+    events: Result<Vec<Event>, AllocError>,
+    last: Result<Final, AllocError>,
+    refused: Option<usize>,
+) -> bool {
+    match (opening, events, last) {
+        (Some(opening), Ok(events), Ok(last)) => refused_at(opening, &events, &last) == refused,
+        _ => false,
+    }
+}
+
 impl Row for Trace {
     fn is_right(&self, alloc: Global) -> bool {
-        let Some(opening) = open(alloc, self.0) else {
-            return false;
-        };
-        let Ok(events) = self.1.list(alloc) else {
-            return false;
-        };
-        match token_final(alloc, self.2, self.3, self.4) {
-            Ok(last) => refused_at(opening, &events, &last) == self.5,
-            Err(_) => false,
-        }
+        goes(
+            open(alloc, *self.0),
+            self.1.list(alloc),
+            token_final(alloc, self.2, self.3, self.4),
+            self.5,
+        )
     }
 }
 
@@ -359,12 +367,12 @@ const WRITES_7: &[Happening] = &[FIRST_TAKES, FIRST_WRITES_7];
 const WROTE_7: Option<Written> = Some(Written(FIRST, 0, &[0], &[7]));
 
 const CHECKER_VERDICTS: [Trace; 4] = [
-    Trace(PLAIN, Events(WRITES_7, WROTE_7), &[7], 1, &[], None),
-    Trace(PLAIN, Events(WRITES_7, WROTE_7), &[7], 0, &[], Some(3)),
-    Trace(PLAIN, Events(WRITES_7, None), &[7], 0, &[], Some(2)),
+    Trace(&PLAIN, &Events(WRITES_7, WROTE_7), &[7], 1, &[], None),
+    Trace(&PLAIN, &Events(WRITES_7, WROTE_7), &[7], 0, &[], Some(3)),
+    Trace(&PLAIN, &Events(WRITES_7, None), &[7], 0, &[], Some(2)),
     Trace(
-        PLAIN,
-        Events(&[FIRST_TAKES, SECOND_SHARES, FIRST_WRITES_7], WROTE_7),
+        &PLAIN,
+        &Events(&[FIRST_TAKES, SECOND_SHARES, FIRST_WRITES_7], WROTE_7),
         &[7],
         1,
         &[],
@@ -373,24 +381,29 @@ const CHECKER_VERDICTS: [Trace; 4] = [
 ];
 
 // A written give of `PLAIN` that tells another section than that of generation 0, from row 0 to row 7.
-struct Told(Written);
+struct Told(&'static Written);
 
 impl Row for Told {
     fn is_right(&self, alloc: Global) -> bool {
-        let events = Events(WRITES_7, Some(self.0));
-        Trace(PLAIN, events, &[7], 1, &[], Some(2)).is_right(alloc)
+        let events = Events(WRITES_7, Some(*self.0));
+        goes(
+            open(alloc, PLAIN),
+            events.list(alloc),
+            token_final(alloc, &[7], 1, &[]),
+            Some(2),
+        )
     }
 }
 
 const OTHER_SECTIONS: [Told; 8] = [
-    Told(Written(FIRST, 1, &[0], &[7])),
-    Told(Written(FIRST, LAST_GENERATION, &[0], &[7])),
-    Told(Written(FIRST, 0, &[1], &[7])),
-    Told(Written(FIRST, 0, &[7], &[7])),
-    Told(Written(FIRST, 0, &[0], &[0])),
-    Told(Written(FIRST, 0, &[0], &[8])),
-    Told(Written(FIRST, 0, &[], &[7])),
-    Told(Written(FIRST, 0, &[0], &[7, 0])),
+    Told(&Written(FIRST, 1, &[0], &[7])),
+    Told(&Written(FIRST, LAST_GENERATION, &[0], &[7])),
+    Told(&Written(FIRST, 0, &[1], &[7])),
+    Told(&Written(FIRST, 0, &[7], &[7])),
+    Told(&Written(FIRST, 0, &[0], &[0])),
+    Told(&Written(FIRST, 0, &[0], &[8])),
+    Told(&Written(FIRST, 0, &[], &[7])),
+    Told(&Written(FIRST, 0, &[0], &[7, 0])),
 ];
 
 // The give of a section that names another token.
@@ -431,8 +444,12 @@ struct Deeds(&'static [Happening], Option<usize>);
 
 impl Row for Deeds {
     fn is_right(&self, alloc: Global) -> bool {
-        let opened = Opened(Law::Any, 0, 3, &[5, 6]);
-        Trace(opened, Events(self.0, None), &[5, 6], 3, &[], self.1).is_right(alloc)
+        goes(
+            open(alloc, Opened(Law::Any, 0, 3, &[5, 6])),
+            events_of(alloc, self.0),
+            token_final(alloc, &[5, 6], 3, &[]),
+            self.1,
+        )
     }
 }
 
@@ -498,8 +515,8 @@ const TOKEN_EVENTS: [Deeds; 20] = [
 
 // A section of the same token that was not written isn't given so.
 const UNWRITTEN: [Trace; 1] = [Trace(
-    Opened(Law::Any, 0, 3, &[5, 6]),
-    Events(&[FIRST_TAKES], Some(Written(FIRST, 3, &[5, 6], &[5, 6]))),
+    &Opened(Law::Any, 0, 3, &[5, 6]),
+    &Events(&[FIRST_TAKES], Some(Written(FIRST, 3, &[5, 6], &[5, 6]))),
     &[5, 6],
     3,
     &[],
@@ -521,12 +538,12 @@ const ADDED: Events = Events(
 
 // Laws and tallies at the end of a section and at the close.
 const TALLIES: [Trace; 4] = [
-    Trace(TALLY, ADDED, &[15], 1, &[0, 5], None),
-    Trace(TALLY, ADDED, &[15], 1, &[5, 0], Some(3)),
-    Trace(TALLY, ADDED, &[15], 1, &[0, 5, 0], Some(3)),
+    Trace(&TALLY, &ADDED, &[15], 1, &[0, 5], None),
+    Trace(&TALLY, &ADDED, &[15], 1, &[5, 0], Some(3)),
+    Trace(&TALLY, &ADDED, &[15], 1, &[0, 5, 0], Some(3)),
     Trace(
-        TALLY,
-        Events(&[SECOND_TAKES, SECOND_WRITES_9], None),
+        &TALLY,
+        &Events(&[SECOND_TAKES, SECOND_WRITES_9], None),
         &[15],
         1,
         &[0, 0],
@@ -545,10 +562,10 @@ const MOVED: Events = Events(
 
 // At the last generation no section begins, and a token can still be shared.
 const SUMS: [Trace; 4] = [
-    Trace(SUM, MOVED, &[4, 6], 1, &[], None),
+    Trace(&SUM, &MOVED, &[4, 6], 1, &[], None),
     Trace(
-        SUM,
-        Events(
+        &SUM,
+        &Events(
             &[FIRST_TAKES, FIRST_WRITES_4],
             Some(Written(FIRST, 0, &[5, 5], &[4, 5])),
         ),
@@ -557,10 +574,10 @@ const SUMS: [Trace; 4] = [
         &[],
         Some(2),
     ),
-    Trace(WORN_SUM, MOVED, &[4, 6], LAST_GENERATION, &[], Some(0)),
+    Trace(&WORN_SUM, &MOVED, &[4, 6], LAST_GENERATION, &[], Some(0)),
     Trace(
-        WORN_SUM,
-        Events(&[FIRST_SHARES, FIRST_GIVES_ONE], None),
+        &WORN_SUM,
+        &Events(&[FIRST_SHARES, FIRST_GIVES_ONE], None),
         &[4, 6],
         LAST_GENERATION,
         &[],
@@ -733,7 +750,7 @@ fn shows(state: &State, want: &[Option<u64>; 5]) -> bool {
 const HELD: [Option<u64>; 5] = [Some(6), Some(5), Some(3), Some(1), Some(0)];
 
 // An event that can't happen, and changes nothing.
-struct Placeless(Happening);
+struct Placeless(&'static Happening);
 
 fn is_refused(state: &mut State, event: &Event) -> bool {
     !state.allows(event) && state.step(event) == Err(Fault::Unlawful { index: 0 })
@@ -767,166 +784,166 @@ const FAR_MESSAGE: MsgId = MsgId(64);
 
 // Events that name a processor, token, cell or message that is not there.
 const PLACELESS: [Placeless; 35] = [
-    Placeless(Happening::Load {
+    Placeless(&Happening::Load {
         cpu: FAR,
         tok: TOKEN,
     }),
-    Placeless(Happening::Take {
+    Placeless(&Happening::Take {
         cpu: FAR,
         tok: TOKEN,
     }),
-    Placeless(Happening::Share {
+    Placeless(&Happening::Share {
         cpu: FAR,
         tok: TOKEN,
     }),
-    Placeless(Happening::Again {
+    Placeless(&Happening::Again {
         cpu: FAR,
         tok: TOKEN,
     }),
-    Placeless(Happening::Mark {
+    Placeless(&Happening::Mark {
         cpu: FAR,
         tok: TOKEN,
     }),
-    Placeless(Happening::GiveOne {
+    Placeless(&Happening::GiveOne {
         cpu: FAR,
         tok: TOKEN,
     }),
-    Placeless(Happening::GiveClean {
+    Placeless(&Happening::GiveClean {
         cpu: FAR,
         tok: TOKEN,
     }),
-    Placeless(Happening::Read {
+    Placeless(&Happening::Read {
         cpu: FAR,
         tok: TOKEN,
         cell: 0,
         value: 6,
     }),
-    Placeless(Happening::Write {
+    Placeless(&Happening::Write {
         cpu: FAR,
         tok: TOKEN,
         cell: 0,
         value: 7,
     }),
-    Placeless(Happening::Load {
+    Placeless(&Happening::Load {
         cpu: FIRST,
         tok: FAR_TOKEN,
     }),
-    Placeless(Happening::Take {
+    Placeless(&Happening::Take {
         cpu: FIRST,
         tok: FAR_TOKEN,
     }),
-    Placeless(Happening::Mark {
+    Placeless(&Happening::Mark {
         cpu: FIRST,
         tok: FAR_TOKEN,
     }),
-    Placeless(Happening::Read {
+    Placeless(&Happening::Read {
         cpu: FIRST,
         tok: TOKEN,
         cell: 4,
         value: 0,
     }),
-    Placeless(Happening::Write {
+    Placeless(&Happening::Write {
         cpu: FIRST,
         tok: TOKEN,
         cell: 4,
         value: 0,
     }),
-    Placeless(Happening::Send {
+    Placeless(&Happening::Send {
         cpu: FIRST,
         msg: MESSAGE,
         to: FAR,
         round: 8,
     }),
-    Placeless(Happening::Send {
+    Placeless(&Happening::Send {
         cpu: FAR,
         msg: MESSAGE,
         to: SECOND,
         round: 8,
     }),
-    Placeless(Happening::Send {
+    Placeless(&Happening::Send {
         cpu: FIRST,
         msg: FAR_MESSAGE,
         to: SECOND,
         round: 8,
     }),
-    Placeless(Happening::TakeMsg {
+    Placeless(&Happening::TakeMsg {
         cpu: FAR,
         msg: MESSAGE,
         round: 7,
     }),
-    Placeless(Happening::Reap {
+    Placeless(&Happening::Reap {
         cpu: FIRST,
         msg: FAR_MESSAGE,
     }),
-    Placeless(Happening::Abort {
+    Placeless(&Happening::Abort {
         cpu: FAR,
         msg: MESSAGE,
     }),
-    Placeless(Happening::Share {
+    Placeless(&Happening::Share {
         cpu: FIRST,
         tok: FAR_TOKEN,
     }),
-    Placeless(Happening::Again {
+    Placeless(&Happening::Again {
         cpu: FIRST,
         tok: FAR_TOKEN,
     }),
-    Placeless(Happening::GiveOne {
+    Placeless(&Happening::GiveOne {
         cpu: FIRST,
         tok: FAR_TOKEN,
     }),
-    Placeless(Happening::GiveClean {
+    Placeless(&Happening::GiveClean {
         cpu: FIRST,
         tok: FAR_TOKEN,
     }),
-    Placeless(Happening::Read {
+    Placeless(&Happening::Read {
         cpu: FIRST,
         tok: FAR_TOKEN,
         cell: 0,
         value: 6,
     }),
-    Placeless(Happening::Write {
+    Placeless(&Happening::Write {
         cpu: FIRST,
         tok: FAR_TOKEN,
         cell: 0,
         value: 7,
     }),
-    Placeless(Happening::TakeMsg {
+    Placeless(&Happening::TakeMsg {
         cpu: FIRST,
         msg: FAR_MESSAGE,
         round: 7,
     }),
-    Placeless(Happening::DropMsg {
+    Placeless(&Happening::DropMsg {
         cpu: FAR,
         msg: MESSAGE,
     }),
-    Placeless(Happening::DropMsg {
+    Placeless(&Happening::DropMsg {
         cpu: FIRST,
         msg: FAR_MESSAGE,
     }),
-    Placeless(Happening::Reply {
+    Placeless(&Happening::Reply {
         cpu: FAR,
         msg: MESSAGE,
     }),
-    Placeless(Happening::Reply {
+    Placeless(&Happening::Reply {
         cpu: FIRST,
         msg: FAR_MESSAGE,
     }),
-    Placeless(Happening::Reap {
+    Placeless(&Happening::Reap {
         cpu: FAR,
         msg: MESSAGE,
     }),
-    Placeless(Happening::Abort {
+    Placeless(&Happening::Abort {
         cpu: FIRST,
         msg: FAR_MESSAGE,
     }),
-    Placeless(Happening::GiveWritten {
+    Placeless(&Happening::GiveWritten {
         cpu: FAR,
         tok: TOKEN,
         generation: 3,
         before: &[5],
         after: &[6],
     }),
-    Placeless(Happening::GiveWritten {
+    Placeless(&Happening::GiveWritten {
         cpu: FIRST,
         tok: FAR_TOKEN,
         generation: 3,
@@ -997,7 +1014,7 @@ fn readers_of_a_state(rt: HostRuntime) {
 }
 
 // An event, its processor, its place, and whether it adds a reference.
-struct Parts(Happening, CpuId, Place, bool);
+struct Parts(&'static Happening, CpuId, Place, bool);
 
 impl Row for Parts {
     fn is_right(&self, _alloc: Global) -> bool {
@@ -1007,11 +1024,11 @@ impl Row for Parts {
 }
 
 const PARTS: [Parts; 5] = [
-    Parts(SECOND_TAKES, SECOND, Place::AtToken(0), true),
-    Parts(FIRST_SHARES, FIRST, Place::AtToken(0), true),
-    Parts(SECOND_TAKES_AGAIN, SECOND, Place::AtToken(0), true),
-    Parts(FIRST_WRITES_4, FIRST, Place::AtToken(0), false),
-    Parts(SENT, FIRST, Place::AtMessage(0), false),
+    Parts(&SECOND_TAKES, SECOND, Place::AtToken(0), true),
+    Parts(&FIRST_SHARES, FIRST, Place::AtToken(0), true),
+    Parts(&SECOND_TAKES_AGAIN, SECOND, Place::AtToken(0), true),
+    Parts(&FIRST_WRITES_4, FIRST, Place::AtToken(0), false),
+    Parts(&SENT, FIRST, Place::AtMessage(0), false),
 ];
 
 // A token of 10 under Tally, to which the second processor has added 5.

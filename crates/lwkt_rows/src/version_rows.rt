@@ -145,13 +145,25 @@ fn stores(ask: &Option<Ask>, bytes: &[u8]) -> bool {
     }
 }
 
+// A step that stores these bytes in token 5.
+struct Stored(&'static str, &'static [u8]);
+
+impl Row for Stored {
+    fn is_right(&self, alloc: Global) -> bool {
+        stores(&step_of(alloc, self.0), self.1)
+    }
+}
+
+const STORED: [Stored; 3] = [
+    Stored("[\"wrec\",5,\"\"]", b""),
+    Stored("[\"wrec\",5,\"68656c6c6f\"]", b"hello"),
+    Stored("[\"wrec\",5,\"00ff\"]", &[0, 255]),
+];
+
 #[test]
 fn steps_on_records(rt: HostRuntime) {
-    let alloc = rt.alloc();
-    assert!(rt; step_of(alloc, "[\"rrec\",7]") == Some(Ask::ReadBlob(TokId(7))));
-    assert!(rt; stores(&step_of(alloc, "[\"wrec\",5,\"\"]"), b""));
-    assert!(rt; stores(&step_of(alloc, "[\"wrec\",5,\"68656c6c6f\"]"), b"hello"));
-    assert!(rt; stores(&step_of(alloc, "[\"wrec\",5,\"00ff\"]"), &[0, 255]));
+    assert!(rt; step_of(rt.alloc(), "[\"rrec\",7]") == Some(Ask::ReadBlob(TokId(7))));
+    play(&rt, rt.alloc(), &STORED);
 }
 
 // So many times `61`, in a step that stores them in token 5.
@@ -172,12 +184,20 @@ fn length_stored(ask: &Option<Ask>) -> Option<u8> {
     }
 }
 
+// How many bytes a step stores, and the length of the record that it reads as.
+struct Long(u32, Option<u8>);
+
+impl Row for Long {
+    fn is_right(&self, alloc: Global) -> bool {
+        length_stored(&long_step(alloc, self.0)) == self.1
+    }
+}
+
+const LONG: [Long; 3] = [Long(64, Some(64)), Long(65, Some(65)), Long(66, None)];
+
 #[test]
 fn long_records(rt: HostRuntime) {
-    let alloc = rt.alloc();
-    assert!(rt; length_stored(&long_step(alloc, 64)) == Some(64));
-    assert!(rt; length_stored(&long_step(alloc, 65)) == Some(65));
-    assert!(rt; length_stored(&long_step(alloc, 66)) == None);
+    play(&rt, rt.alloc(), &LONG);
 }
 
 // Whether a send has these flags: dropable, abortable, priority.
@@ -190,39 +210,52 @@ fn sends(ask: Option<Ask>, dropable: bool, abortable: bool, priority: bool) -> b
     }
 }
 
+// A send with its flags: dropable, abortable, priority.
+struct Flagged(&'static str, bool, bool, bool);
+
+impl Row for Flagged {
+    fn is_right(&self, alloc: Global) -> bool {
+        sends(step_of(alloc, self.0), self.1, self.2, self.3)
+    }
+}
+
+const FLAGGED: [Flagged; 6] = [
+    Flagged("[\"send\",0,0,0,1,1,0]", false, false, false),
+    Flagged("[\"send\",0,0,0,1,1,3]", true, true, false),
+    Flagged("[\"send\",0,0,0,1,1,4]", false, false, true),
+    Flagged("[\"send\",0,0,0,1,1,5]", true, false, true),
+    Flagged("[\"send\",0,0,0,1,1,6]", false, true, true),
+    Flagged("[\"send\",0,0,0,1,1,7]", true, true, true),
+];
+
 #[test]
 fn flags_of_sends(rt: HostRuntime) {
-    let alloc = rt.alloc();
-    assert!(rt;
-        sends(
-            step_of(alloc, "[\"send\",0,0,0,1,1,0]"),
-            false,
-            false,
-            false
-        )
-    );
-    assert!(rt; sends(step_of(alloc, "[\"send\",0,0,0,1,1,3]"), true, true, false));
-    assert!(rt; sends(step_of(alloc, "[\"send\",0,0,0,1,1,4]"), false, false, true));
-    assert!(rt; sends(step_of(alloc, "[\"send\",0,0,0,1,1,5]"), true, false, true));
-    assert!(rt; sends(step_of(alloc, "[\"send\",0,0,0,1,1,6]"), false, true, true));
-    assert!(rt; sends(step_of(alloc, "[\"send\",0,0,0,1,1,7]"), true, true, true));
+    play(&rt, rt.alloc(), &FLAGGED);
+}
+
+fn is_letters(blob: &Option<Blob>) -> bool {
+    match blob {
+        Some(blob) => blob.is_same(&Blob::of(b"abc")),
+        None => false,
+    }
+}
+
+// Whether the first token of LETTERS is under Len with its record.
+fn has_record(script: &Script) -> bool {
+    match script.tokens.as_slice().first() {
+        Some(token) => token.law == Law::Len && is_letters(&token.blob),
+        None => false,
+    }
+}
+
+fn keeps_record(alloc: Global) -> bool {
+    match read_script(alloc, LETTERS.as_bytes()) {
+        Ok(script) => has_record(&script),
+        Err(_) => false,
+    }
 }
 
 #[test]
 fn tokens_with_records(rt: HostRuntime) {
-    let script = read_script(rt.alloc(), LETTERS.as_bytes());
-    let Ok(script) = script else {
-        assert!(rt; false);
-        return;
-    };
-    let Some(token) = script.tokens.as_slice().first() else {
-        assert!(rt; false);
-        return;
-    };
-    assert!(rt; token.law == Law::Len);
-    assert!(rt;
-        token
-            .blob
-            .is_some_and(|blob| blob.is_same(&Blob::of(b"abc")))
-    );
+    assert!(rt; keeps_record(rt.alloc()));
 }
