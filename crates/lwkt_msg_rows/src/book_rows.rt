@@ -70,7 +70,7 @@ enum Ask {
 }
 
 // What a call answered.
-#[derive(Clone, Copy, Debug, PartialEq, Eq)]
+#[derive(Clone, Copy, PartialEq, Eq)]
 enum Told {
     Sent(u64),
     Taken(Taken),
@@ -225,8 +225,8 @@ enum Miss {
     Fault(Fault),
     /// There are other seats, messages or processors.
     Seats,
-    /// Another answer than was wanted.
-    Line { at: usize, told: Told },
+    /// The call of this place has another answer than was wanted.
+    Line { at: usize },
     /// Another end.
     End,
 }
@@ -257,27 +257,51 @@ fn play_lines(
     ensures second { second.new.table ≡ second.old.table }
 {
     for (at, line) in lines.iter().enumerate() {
-        let told = tell(book, first, second, *line);
-        if told != line.2 {
-            return Err(Miss::Line { at, told });
+        if tell(book, first, second, *line) != line.2 {
+            return Err(Miss::Line { at });
         }
     }
     Ok(())
 }
 
-fn play_row(alloc: Global, row: &Played) -> Result<(), Miss> {
-    let (book, seats) = opened(alloc, 0, row.round).map_err(Miss::Fault)?;
-    let Some((mut first, mut second)) = both(seats, &book) else {
-        return Err(Miss::Seats);
-    };
+// Plays the calls of a row, if there are one message and two processors.
+fn play_all(
+    book: &MsgBook,
+    first: &mut MsgSeat,
+    second: &mut MsgSeat,
+    row: &Played,
+) -> Result<(), Miss>
+    requires first { first.old.table ≡ book.now.table }
+    requires second { second.old.table ≡ book.now.table }
+    ensures first { first.new.table ≡ first.old.table }
+    ensures second { second.new.table ≡ second.old.table }
+{
     if first.messages() != 1 || first.cpus() != 2 {
         return Err(Miss::Seats);
     }
-    play_lines(&book, &mut first, &mut second, row.lines)?;
-    if !ends_as(alloc, book, first, second, row.end) {
-        return Err(Miss::End);
+    play_lines(book, first, second, row.lines)
+}
+
+fn play_with(alloc: Global, book: MsgBook, seats: Vec<MsgSeat>, row: &Played) -> Result<(), Miss>
+    requires two { book.cpus ≡ 2 }
+    requires seats { AreSeats 2 book seats.items }
+{
+    let Some((mut first, mut second)) = both(seats, &book) else {
+        return Err(Miss::Seats);
+    };
+    let played = play_all(&book, &mut first, &mut second, row);
+    let is_end = ends_as(alloc, book, first, second, row.end);
+    match played {
+        Ok(()) if !is_end => Err(Miss::End),
+        other => other,
     }
-    Ok(())
+}
+
+fn play_row(alloc: Global, row: &Played) -> Result<(), Miss> {
+    match opened(alloc, 0, row.round) {
+        Ok((book, seats)) => play_with(alloc, book, seats, row),
+        Err(fault) => Err(Miss::Fault(fault)),
+    }
 }
 
 // Fails where a row goes otherwise, and says where.

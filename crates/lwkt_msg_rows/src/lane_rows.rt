@@ -31,7 +31,7 @@ enum Ask {
 }
 
 // What a call answered.
-#[derive(Clone, Copy, Debug, PartialEq, Eq)]
+#[derive(Clone, Copy, PartialEq, Eq)]
 enum Told {
     Room(bool),
     Pushed,
@@ -90,8 +90,8 @@ struct Played {
 enum Miss {
     /// No such lane can be made.
     Lane,
-    /// Another answer than was wanted.
-    Line { at: usize, told: Told },
+    /// The call of this place has another answer than was wanted.
+    Line { at: usize },
     /// Other notes are left.
     Left,
 }
@@ -101,9 +101,8 @@ fn play_lines(out: &mut LaneOut, into: &mut LaneIn, lines: &[Line]) -> Result<()
     ensures { IsLane out.new into.new }
 {
     for (at, line) in lines.iter().enumerate() {
-        let told = call(out, into, line.0);
-        if told != line.1 {
-            return Err(Miss::Line { at, told });
+        if call(out, into, line.0) != line.1 {
+            return Err(Miss::Line { at });
         }
     }
     Ok(())
@@ -249,7 +248,7 @@ fn notes_cross_two_threads_in_order(rt: HostRuntime) -> Result<(), Fail> {
     let (out, into) = lane(rt.alloc(), 32)?;
     let pusher = thread::spawn(&rt, move || push_all(out))?;
     let popper = thread::spawn(&rt, move || pop_all(into))?;
-    assert_eq!(rt; pusher.join(&rt), (NOTES, true));
-    assert_eq!(rt; popper.join(&rt), NOTES);
+    assert!(rt; pusher.join(&rt) == (NOTES, true));
+    assert!(rt; popper.join(&rt) == NOTES);
     Ok(())
 }

@@ -343,7 +343,7 @@ fn each_round_is_taken_or_dropped(rt: HostRuntime) {
         fates.dropped >= 3333 && fates.answered >= 3333,
         "{fates:?}"
     );
-    assert_eq!(rt; fates.dropped.wrapping_add(fates.answered), ROUNDS);
+    assert!(rt; fates.dropped.wrapping_add(fates.answered) == ROUNDS);
 }
 
 #[test]
