@@ -171,6 +171,7 @@ fn settle(mail: &mut Mail)
 
 impl Mailroom {
     /// Replies to a message that this processor has taken.
+    #[inline(always)]
     #[tactic(auto, using(crate::proofs::Deeding::replied_keeps))]
     pub(crate) fn reply(
         &mut self,
@@ -199,7 +200,7 @@ impl Mailroom {
 }
 
 // A message was sent.
-#[inline]
+#[inline(always)]
 fn go_out(mail: &mut Mail, sync: bool)
     ensures { mail.new ≡ sent_mail sync mail.old }
 {
@@ -227,6 +228,7 @@ pub struct Sending {
 
 impl Mailroom {
     /// Sends an own message that is at rest, and answers its round. None if it is at its last round.
+    #[inline(always)]
     #[tactic(auto, using(crate::proofs::Deeding::sent_keeps))]
     pub(crate) fn send(
         &mut self,

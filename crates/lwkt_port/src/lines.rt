@@ -14,6 +14,7 @@ pub struct Lane {
 }
 
 /// Moves a note in hand on if there is room, and says whether the next one can be sent.
+#[inline(always)]
 pub(crate) fn has_room(line: &mut Lane) -> bool
     ensures roomed { IsRoomed line.old line.new }
     ensures value { IsTrue result ↔ (in_hand line.new.out ≡ None) }

@@ -26,6 +26,7 @@ pub struct Mail {
 }
 
 /// What is kept of the message of this number.
+#[inline(always)]
 pub(crate) fn mail_of(mails: &Vec<Mail>, m: usize) -> Mail
     requires { m < vec_len mails.now }
     ensures { result ≡ kept_mail_at mails.now.items m }

@@ -18,6 +18,7 @@ use lwkt_lane::{Note, NoteKind};
 use lwkt_msg::MsgBook;
 
 // The note that tells of an answer.
+#[inline(always)]
 fn answer_of(msg: MsgId, mail: &Mail) -> Note
     ensures { result ≡ answer_note msg mail.now }
 {
@@ -32,6 +33,7 @@ fn answer_of(msg: MsgId, mail: &Mail) -> Note
 
 impl Mailroom {
     // Replies to a message over a line. False if the line is full.
+    #[inline(always)]
     #[tactic(auto, using(crate::proofs::Posting::posted_over))]
     fn reply_over(
         &mut self,
@@ -59,6 +61,7 @@ impl Mailroom {
 
 impl Office {
     /// Replies to a message that this processor has taken, over the lane to the message's origin. False if that lane is full.
+    #[inline(always)]
     #[tactic(auto, using(crate::proofs::Dispatching::answered_over, crate::proofs::Dispatching::line_is_there))]
     pub(crate) fn answer(
         &mut self,
@@ -81,7 +84,8 @@ impl Office {
     }
 }
 
-// Whether the thread was shown the message as a request, and hasn't replied yet.
+/// Whether the thread was shown the message as a request, and hasn't replied yet.
+#[inline(always)]
 pub(crate) fn is_shown_to(mails: &Vec<Mail>, thread: u8, msg: MsgId) -> bool
     ensures { IsTrue result ↔ IsShownTo thread msg mails.now.items }
 {

@@ -19,6 +19,7 @@ use lwkt_lane::{Note, NoteKind};
 use lwkt_msg::{MsgBook, MsgSeat};
 
 // Whether there may be such a port.
+#[inline(always)]
 fn is_port_name(seat: &MsgSeat, to: ThreadId) -> bool
     ensures { IsTrue result ↔ IsPortName (cpus_of seat.now) to }
 {
@@ -26,6 +27,7 @@ fn is_port_name(seat: &MsgSeat, to: ThreadId) -> bool
 }
 
 // Whether the thread may send the message.
+#[inline(always)]
 fn may_send(mails: &Vec<Mail>, sending: &Sending) -> bool
     ensures { IsTrue result ↔ MaySend sending.now mails.now.items }
 {
@@ -39,6 +41,7 @@ fn may_send(mails: &Vec<Mail>, sending: &Sending) -> bool
 
 impl Mailroom {
     // Sends a message over the line to its target.
+    #[inline(always)]
     #[tactic(auto, using(crate::proofs::Posting::posted_over))]
     fn send_over(
         &mut self,
@@ -74,6 +77,7 @@ impl Mailroom {
 
 impl Office {
     // Sends a message of a thread.
+    #[inline(always)]
     #[tactic(auto, using(crate::proofs::Dispatching::dispatched, crate::proofs::Dispatching::not_dispatched))]
     fn dispatch(
         &mut self,
