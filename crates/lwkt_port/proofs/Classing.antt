@@ -3,7 +3,7 @@ use Rattle.std.proofs.Common.{◌≡◌, ℕ, Bool, true, false, true≢false, L
 use Rattle.std.proofs.lemmas.Bool.{eqb-true}
 use Rattle.std.proofs.lemmas.List.{append-nil, append_cancel_right}
 use Rattle.std.proofs.lemmas.List.Elements.{All-head, All-tail, All-nil, All-cons, All-append}
-use Rattle.std.specs.Prelude.{◌⊎◌, ◌==◌, All, if◌then◌else◌, Option, Some, None, slice_get, drop}
+use Rattle.std.specs.Prelude.{◌⊎◌, ◌==◌, All, if◌then◌else◌, Option, Some, None, MatchOption, slice_get, drop}
 use Rattle.lwkt_lane.specs.declared.notes.Note.{Note}
 use Rattle.lwkt_port.specs.declared.queues.Port.{Port}
 use Rattle.lwkt_port.specs.Laws.{LeavingChains, NotesComeLast}
@@ -127,6 +127,17 @@ first_is (first ∷ urgent) ordinary note is =
     let e : ◌≡◌ {A = Option Note} (Some note) (Some first) = is in
     let same : first ≡ note = cc in
     (urgent ++ ordinary, ap (λ (n : Note). n ∷ (urgent ++ ordinary)) same)
+
+first_of : (notes : List Note) → MatchOption (slice_get notes 0) (notes ≡ []) (λ note. (rest : List Note) × (notes ≡ note ∷ rest))
+first_of [] = refl
+first_of (first ∷ others) = (others, refl)
+
+-- where no note is urgent, it is the first of the others
+pub other_is : (urgent ordinary : List Note) (found : Option Note) → None ≡ slice_get urgent 0 → found ≡ slice_get ordinary 0 → MatchOption found (urgent ++ ordinary ≡ []) (λ note. (rest : List Note) × (urgent ++ ordinary ≡ note ∷ rest))
+other_is [] ordinary found none is =
+    let F : Option Note → Type 0 = λ o. MatchOption o (ordinary ≡ []) (λ note. (rest : List Note) × (ordinary ≡ note ∷ rest)) in
+    subst F (sym is) (first_of ordinary)
+other_is (first ∷ urgent) ordinary found none is = absurd (let no : ◌≡◌ {A = Option Note} None (Some first) = none in cc)
 
 -- notes left, and then more
 pub leaving_chains : LeavingChains

@@ -7,10 +7,10 @@ use Rattle.lwkt_port.specs.declared.queues.Port.{Port}
 
 -- the urgent notes of a port, and the others, the oldest first
 abbrev pub urgent_of : Port → List Note
-urgent_of port = port.urgent.items
+urgent_of port = port.urgent
 
 abbrev pub ordinary_of : Port → List Note
-ordinary_of port = port.ordinary.items
+ordinary_of port = port.ordinary
 
 -- the notes of a port, in the order in which they are served
 abbrev pub queue_of : Port → List Note

@@ -5,6 +5,7 @@ use crate::counters::Counters;
 use crate::lines::Lane;
 use crate::mailrooms::Mailroom;
 use crate::mails::Mail;
+use crate::note_queues::NoteQueue;
 use crate::offices::Office;
 use crate::posts::Ports;
 use crate::queues::Port;
@@ -75,19 +76,26 @@ fn add_mail(words: &mut Vec<u64>, mail: &Mail) -> Result<(), AllocError> {
     add_record(words, mail.done)
 }
 
-// The notes of a queue.
-fn add_queue(words: &mut Vec<u64>, queue: &[Note]) -> Result<(), AllocError> {
-    for note in queue {
+fn add_notes(words: &mut Vec<u64>, notes: &[Note]) -> Result<(), AllocError> {
+    for note in notes {
         add_note(words, *note)?;
     }
+    Ok(())
+}
+
+// The notes of a queue.
+fn add_queue(words: &mut Vec<u64>, queue: &NoteQueue) -> Result<(), AllocError> {
+    let (first, others) = queue.as_slices();
+    add_notes(words, first)?;
+    add_notes(words, others)?;
     add(words, NO_MORE)
 }
 
 // The notes of a port, and whether it is closed.
 fn add_port(words: &mut Vec<u64>, port: &Port) -> Result<(), AllocError> {
     add(words, u64::from(port.closed))?;
-    add_queue(words, port.urgent.as_slice())?;
-    add_queue(words, port.ordinary.as_slice())
+    add_queue(words, &port.urgent)?;
+    add_queue(words, &port.ordinary)
 }
 
 // The notes that wait in a lane, which are received, and those that are kept at its ends.

@@ -20,6 +20,7 @@ pub mod laws;
 pub mod lines;
 mod mailrooms;
 pub mod mails;
+pub mod note_queues;
 mod offices;
 pub mod openings;
 pub mod posts;

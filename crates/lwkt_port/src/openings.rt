@@ -51,7 +51,8 @@ fn new_ports(alloc: Global, threads: usize) -> Result<Vec<Port>, AllocError>
 {
     let mut ports = Vec::with_capacity(alloc, PORTS)?;
     for number in 0..PORTS {
-        ports.push(empty_port(threads <= number))?;
+        let port = empty_port(alloc, threads <= number)?;
+        ports.push(port)?;
     }
     Ok(ports)
 }

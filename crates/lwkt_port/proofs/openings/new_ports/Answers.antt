@@ -8,10 +8,10 @@ use Rattle.lwkt_port.proofs.openings.new_ports.Goals as goal
 pub loop-number-preserved : goal.loop-number-preserved
 loop-number-preserved c =
     let l = c.loop-number in
-    let port = c.empty_port.result in
+    let port = c.in_ok-port.port in
     let grown : c.push.new.self.items ≡ l.ports.items ++ port ∷ [] = grind (arith, common_steps) in
     let long = length-append l.ports.items (port ∷ []) in
     let more = ap length grown in
     let F : ℕ → Type 0 = λ n. IsNewPort c.args.threads n port in
     let G : List Port → Type 0 = λ xs. AreNew c.args.threads xs in
-    (omega (arith, long, more, l.invariant.0), subst G (sym grown) (new_more c.args.threads l.ports.items port l.invariant.1 (subst F (sym l.invariant.0) c.empty_port.ensures)))
+    (omega (arith, long, more, l.invariant.0), subst G (sym grown) (new_more c.args.threads l.ports.items port l.invariant.1 (subst F (sym l.invariant.0) c.in_ok-port.ensures)))

@@ -1,0 +1,86 @@
+//! Notes that wait, the oldest first.
+ghost use Rattle.std.specs.Prelude.{◌≡◌, ◌==◌, ◌≤◌, [], false, length, drop, slice_get, IfOk};
+ghost use Rattle.lwkt_port.specs.Queues.{IsPut};
+
+use circular_buffer::HeapCircularBuffer;
+use lwkt_lane::Note;
+use std::alloc::{AllocError, Global};
+use std::marker::Model;
+
+/// The most notes in each of the two queues of a port.
+pub const QUEUE_LIMIT: usize = 64;
+
+/// Notes that wait, at most 64, the oldest first.
+#[derive(Drop)]
+pub struct NoteQueue {
+    ring: HeapCircularBuffer<Note>,
+}
+
+impl Model for NoteQueue {
+    ghost use Rattle.std.specs.Prelude.{◌≡◌, List};
+    ghost use Rattle.lwkt_lane.specs.declared.notes.Note.{Note};
+
+    ghost Value = { List Note };
+
+    ghost view = { λ q. q.ring.items };
+
+    ghost invariant = { λ q. q.ring.capacity ≡ 64 };
+}
+
+impl NoteQueue {
+    /// A queue without notes.
+    pub(crate) fn new(alloc: Global) -> Result<NoteQueue, AllocError>
+        ensures { IfOk result (λ q. q ≡ []) }
+    {
+        let ring = HeapCircularBuffer::with_capacity(alloc, QUEUE_LIMIT)?;
+        Ok(NoteQueue { ring })
+    }
+
+    /// How many notes wait.
+    #[inline(always)]
+    pub(crate) fn len(&self) -> usize
+        ensures count { result ≡ length self.now }
+        ensures few { result ≤ 64 }
+    {
+        self.ring.len()
+    }
+
+    /// Whether no note waits.
+    #[inline(always)]
+    pub(crate) fn is_empty(&self) -> bool
+        ensures { result ≡ (length self.now == 0) }
+    {
+        self.ring.is_empty()
+    }
+
+    /// The oldest note.
+    #[inline(always)]
+    pub(crate) fn first(&self) -> Option<Note>
+        ensures { result ≡ slice_get self.now 0 }
+    {
+        self.ring.front().copied()
+    }
+
+    /// Takes the oldest note off, if there is one.
+    #[inline(always)]
+    pub(crate) fn drop_first(&mut self)
+        ensures { self.new ≡ drop 1 self.old }
+    {
+        let _note = self.ring.pop_front();
+    }
+
+    /// Puts a note behind the others, if there is room.
+    #[inline(always)]
+    pub(crate) fn put(&mut self, note: Note) -> bool
+        ensures { IsPut note self.old self.new result }
+    {
+        let few = self.len() <= QUEUE_LIMIT;
+        prove!(few);
+        self.ring.try_push_back(note).is_ok()
+    }
+
+    /// The notes, the oldest first, in two slices one after the other.
+    pub(crate) fn as_slices(&self) -> (&[Note], &[Note]) {
+        self.ring.as_slices()
+    }
+}
