@@ -6,7 +6,7 @@ ghost use Rattle.lwkt_port.specs.Queues.{NamesBoth};
 ghost use Rattle.lwkt_port.specs.Intakes.{desks, IsSyncAnswer, Handles, Pops, Empties};
 
 use crate::counters::Counters;
-use crate::lines::{Lane, pop};
+use crate::lines::{Lane, has_note, pop};
 use crate::mails::{Mail, mail_of};
 use crate::queues::enqueue;
 use lwkt_core::Event;
@@ -101,7 +101,7 @@ impl Counters {
 impl Counters {
     /// Empties the lane from a processor, as far as the limit and the queues of its notes' ports allow, the note that was kept
     /// first. Answers how many notes were popped.
-    #[inline]
+    #[inline(never)]
     pub(crate) fn empty(
         &mut self,
         book: &MsgBook,
@@ -124,5 +124,53 @@ impl Counters {
         };
         line.kept = None;
         self.pop_all(book, line, most, trace)
+    }
+}
+
+impl Counters {
+    /// The same. Where no note is kept it is done in place, and not by a call.
+    #[inline(always)]
+    pub(crate) fn empty_in_place(
+        &mut self,
+        book: &MsgBook,
+        line: &mut Lane,
+        most: usize,
+        trace: &mut Vec<Event>,
+    ) -> usize
+        requires ready { CanStep (away_count self.old.room.mails.items + 1) self.old.room book.now trace.old }
+        requires line { KeepsNamed (vec_len self.old.room.mails) line.old }
+        ensures empties { Empties most result line.old line.new (desks self.old trace.old) (desks self.new trace.new) }
+        ensures within { result ≤ most }
+        ensures keeps { KeepsStanding (standing self.old trace.old) (standing self.new trace.new) }
+        ensures line { KeepsNamed (vec_len self.new.room.mails) line.new }
+    {
+        let Some(_note) = line.kept else {
+            return self.pop_all(book, line, most, trace);
+        };
+        self.empty(book, line, most, trace)
+    }
+}
+
+impl Counters {
+    /// The same, where the lane mostly has no note: a look at it comes before the call.
+    #[inline(always)]
+    pub(crate) fn empty_seldom(
+        &mut self,
+        book: &MsgBook,
+        line: &mut Lane,
+        most: usize,
+        trace: &mut Vec<Event>,
+    ) -> usize
+        requires ready { CanStep (away_count self.old.room.mails.items + 1) self.old.room book.now trace.old }
+        requires line { KeepsNamed (vec_len self.old.room.mails) line.old }
+        ensures empties { Empties most result line.old line.new (desks self.old trace.old) (desks self.new trace.new) }
+        ensures within { result ≤ most }
+        ensures keeps { KeepsStanding (standing self.old trace.old) (standing self.new trace.new) }
+        ensures line { KeepsNamed (vec_len self.new.room.mails) line.new }
+    {
+        if !has_note(line) {
+            return 0;
+        }
+        self.empty(book, line, most, trace)
     }
 }
