@@ -1,9 +1,9 @@
 //! The steps on one message: each with what is kept of the message then, and its event.
 ghost use Rattle.std.specs.Prelude.{◌≡◌, ◌+◌, ◌<◌, ◌≤◌, true, vec_len, vec_capacity, ◌++◌, MatchOption};
 ghost use Rattle.lwkt_msg.specs.Desks.{cpus_of};
-ghost use Rattle.lwkt_port.specs.Works.{work, away_count, HasToldThese, CanStep, MailroomStands, IsTaken};
+ghost use Rattle.lwkt_port.specs.Works.{work, away_count, HasTold, HasToldThese, CanStep, MailroomStands, IsTaken};
 ghost use Rattle.lwkt_port.specs.Sendings.{MaySend};
-ghost use Rattle.lwkt_port.specs.Deeds.{taken_mail, mails_taken, take_events, Takes, reaped_mail, mails_reaped, reap_events, Reaps, replied_mail, Replies, sent_mail, Sends, IsRefused};
+ghost use Rattle.lwkt_port.specs.Deeds.{taken_mail, mails_taken, take_events, Takes, reaped_mail, mails_reaped, Reaps, replied_mail, Replies, sent_mail, Sends, IsRefused};
 
 use crate::mailrooms::Mailroom;
 use crate::mails::Mail;
@@ -109,29 +109,22 @@ fn come_home(mail: &mut Mail, keep: bool, rec: Rec)
     }
 }
 
-// Keeps what a reap answered.
+// Keeps that a message was reaped, and its record if that is wanted.
 #[inline(always)]
-fn keep_reaped(mails: &mut Vec<Mail>, keep: bool, note: Note, answer: Reaped)
+fn keep_reaped(mails: &mut Vec<Mail>, keep: bool, note: Note, rec: Rec)
     requires { note.msg.0 < vec_len mails.old }
-    ensures items { mails.new.items ≡ mails_reaped keep note answer mails.old.items }
+    ensures items { mails.new.items ≡ mails_reaped keep note (Reaped.Done rec) mails.old.items }
 {
-    let m = usize::from(note.msg.0);
-    match answer {
-        Reaped::Done { rec } => come_home(&mut mails[m], keep, rec),
-        Reaped::Stale => {}
-    }
+    come_home(&mut mails[usize::from(note.msg.0)], keep, rec);
 }
 
 // The event of a reap, at the end of the trace.
 #[inline(always)]
-fn tell_reaped(trace: &mut Vec<Event>, cpu: CpuId, note: Note, answer: Reaped)
+fn tell_reap(trace: &mut Vec<Event>, cpu: CpuId, msg: MsgId)
     requires { vec_len trace.old < vec_capacity trace.old }
-    ensures { HasToldThese cpu (reap_events cpu note answer) trace.old trace.new }
+    ensures { HasTold (Event.Reap cpu msg) trace.old trace.new }
 {
-    match answer {
-        Reaped::Done { .. } => note_event(trace, Event::Reap { cpu, msg: note.msg }),
-        Reaped::Stale => {}
-    }
+    note_event(trace, Event::Reap { cpu, msg });
 }
 
 impl Mailroom {
@@ -153,10 +146,14 @@ impl Mailroom {
         ensures away { away_count self.new.mails.items + vec_len trace.new ≡ away_count self.old.mails.items + vec_len trace.old }
     {
         let cpu = self.seat.cpu();
-        let answer = self.seat.reap(book, note.msg, note.round);
-        keep_reaped(&mut self.mails, keep, note, answer);
-        tell_reaped(trace, cpu, note, answer);
-        answer
+        match self.seat.reap(book, note.msg, note.round) {
+            Reaped::Done { rec } => {
+                keep_reaped(&mut self.mails, keep, note, rec);
+                tell_reap(trace, cpu, note.msg);
+                Reaped::Done { rec }
+            }
+            Reaped::Stale => Reaped::Stale,
+        }
     }
 }
 
@@ -167,6 +164,16 @@ fn settle(mail: &mut Mail)
 {
     mail.owed = None;
     mail.shown = None;
+}
+
+// The event of a reply, at the end of the trace. It is made by a function of its own, since a function clears the room of all its values
+// where it begins: so this room is cleared where it is written to.
+#[inline(always)]
+fn tell_reply(trace: &mut Vec<Event>, cpu: CpuId, msg: MsgId)
+    requires { vec_len trace.old < vec_capacity trace.old }
+    ensures { HasTold (Event.Reply cpu msg) trace.old trace.new }
+{
+    note_event(trace, Event::Reply { cpu, msg });
 }
 
 impl Mailroom {
@@ -191,7 +198,7 @@ impl Mailroom {
         match self.seat.reply(book, msg, error, outcome) {
             Ok(()) => {
                 settle(&mut self.mails[m]);
-                note_event(trace, Event::Reply { cpu, msg });
+                tell_reply(trace, cpu, msg);
             }
             // The seat has taken the message, so this can't be.
             Err(_fault) => {}
@@ -207,6 +214,23 @@ fn go_out(mail: &mut Mail, sync: bool)
     mail.home = false;
     mail.done = None;
     mail.sync = sync;
+}
+
+// The event of a send, at the end of the trace.
+#[inline(always)]
+fn tell_send(trace: &mut Vec<Event>, cpu: CpuId, msg: MsgId, to: CpuId, round: u64)
+    requires { vec_len trace.old < vec_capacity trace.old }
+    ensures { HasTold (Event.Send cpu msg to round) trace.old trace.new }
+{
+    note_event(
+        trace,
+        Event::Send {
+            cpu,
+            msg,
+            to,
+            round,
+        },
+    );
 }
 
 /// What a thread sends, and to which thread.
@@ -255,15 +279,7 @@ impl Mailroom {
         match self.seat.send(book, msg, to.cpu, call, flags, sync) {
             Ok(round) => {
                 go_out(&mut self.mails[m], sync);
-                note_event(
-                    trace,
-                    Event::Send {
-                        cpu,
-                        msg,
-                        to: to.cpu,
-                        round,
-                    },
-                );
+                tell_send(trace, cpu, msg, to.cpu, round);
                 Some(round)
             }
             Err(_fault) => None,
