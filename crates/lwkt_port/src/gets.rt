@@ -132,6 +132,7 @@ impl Ports {
     /// `Again`: another processor's step on the first note's message came between; the note stays first.
     ///
     /// That there is such a thread, and that the trace has room for 128 events, are the caller's conditions.
+    #[inline(always)]
     pub fn get(
         &mut self,
         book: &MsgBook,

@@ -104,6 +104,7 @@ impl Ports {
     /// `LaneFull`: the lane to the processor of the message's origin has no room. A refusal makes neither event nor note.
     ///
     /// That the trace has room for 256 events is the caller's condition.
+    #[inline(always)]
     #[tactic(auto, using(crate::proofs::Dispatching::shown_is_taken))]
     pub fn reply(
         &mut self,

@@ -112,6 +112,7 @@ impl Ports {
     /// `RoundsOut`: the message is at its last round. A refusal makes neither event nor note.
     ///
     /// That the trace has room for 256 events is the caller's condition.
+    #[inline(always)]
     pub fn send(
         &mut self,
         book: &MsgBook,
@@ -150,6 +151,7 @@ impl Ports {
     /// Refused as `send` is; after `NoPort` comes `SelfDo`: the target is the thread's own port.
     ///
     /// That the trace has room for 256 events is the caller's condition.
+    #[inline(always)]
     pub fn send_sync(
         &mut self,
         book: &MsgBook,
