@@ -7,7 +7,8 @@ use lwkt_explore::{Found, explore, sample, status_of_found, text_of};
 use lwkt_refusals::Speaker;
 use lwkt_remarks::opening_said;
 use lwkt_report::{
-    NotedReader, NotedWriter, ReaderSource, Sink, Source, WriterSink, read_capped, write_whole,
+    NotedReader, NotedWriter, ReaderSource, RunFault, Sink, Source, WriterSink, read_capped,
+    write_whole,
 };
 use lwkt_text::is_text;
 use std::alloc::{AllocError, Global};
@@ -159,6 +160,13 @@ fn explore_text<R: Clock + Files, K: Sink, E: Sink>(
     }
 }
 
+// Says that there was no memory to read; of a stream that failed it is said elsewhere.
+fn say_unread<E: Sink>(errors: &mut E, fault: RunFault) {
+    if let RunFault::Fault(Fault::Memory(_)) = fault {
+        Speaker::Explore.say_memory(errors);
+    }
+}
+
 // Does what the options ask for, and answers the status.
 fn run_explore<R: Clock + Files, S: Source, K: Sink, E: Sink>(
     rt: &R,
@@ -170,7 +178,10 @@ fn run_explore<R: Clock + Files, S: Source, K: Sink, E: Sink>(
 ) -> u8 {
     let bytes = match read_capped(alloc, source) {
         Ok(bytes) => bytes,
-        Err(_) => return 3,
+        Err(fault) => {
+            say_unread(errors, fault);
+            return 3;
+        }
     };
     match is_text(alloc, bytes.as_slice()) {
         Ok(true) => explore_text(rt, alloc, options, bytes.as_slice(), sink, errors),
