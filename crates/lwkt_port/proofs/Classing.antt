@@ -7,7 +7,7 @@ use Rattle.std.specs.Prelude.{◌⊎◌, ◌==◌, All, if◌then◌else◌, Opt
 use Rattle.lwkt_lane.specs.declared.notes.Note.{Note}
 use Rattle.lwkt_port.specs.declared.queues.Port.{Port}
 use Rattle.lwkt_port.specs.Laws.{LeavingChains, NotesComeLast}
-use Rattle.lwkt_port.specs.Queues.{urgent_of, ordinary_of, queue_of, IsPut, IsQueuedAs, LeavesInOrder, HasLeft, NamesMessage, Belongs, HasNamed}
+use Rattle.lwkt_port.specs.Queues.{urgent_of, ordinary_of, queue_of, IsPut, IsQueuedAs, IsQueued, LeavesInOrder, HasLeft, NamesMessage, Belongs, HasNamed}
 
 -- what holds of all elements holds of the last ones
 all_after : (P : Note → Type 0) (xs ys : List Note) → All P (xs ++ ys) → All P ys
@@ -58,17 +58,27 @@ named_put n class note notes notes' true is put names all =
     subst F (sym put.0) (All-append (Belongs n class) notes (note ∷ []) all (All-cons (Belongs n class) note [] (names, is) (All-nil (Belongs n class))))
 named_put n class note notes notes' false is put names all = let F : List Note → Type 0 = All (Belongs n class) in subst F (sym put.0) all
 
-pub urgent_put : (n : ℕ) (note : Note) (port port' : Port) (done : Bool) → note.urgent ≡ true → IsPut note (urgent_of port) (urgent_of port') done → ordinary_of port' ≡ ordinary_of port → NamesMessage n note → HasNamed n port → HasNamed n port'
+urgent_put : (n : ℕ) (note : Note) (port port' : Port) (done : Bool) → note.urgent ≡ true → IsPut note (urgent_of port) (urgent_of port') done → ordinary_of port' ≡ ordinary_of port → NamesMessage n note → HasNamed n port → HasNamed n port'
 unfolding HasNamed
 urgent_put n note port port' done is put same names named =
     let O : List Note → Type 0 = All (Belongs n false) in
     (named_put n true note (urgent_of port) (urgent_of port') done is put names named.0, subst O (sym same) named.1)
 
-pub ordinary_put : (n : ℕ) (note : Note) (port port' : Port) (done : Bool) → note.urgent ≡ false → IsPut note (ordinary_of port) (ordinary_of port') done → urgent_of port' ≡ urgent_of port → NamesMessage n note → HasNamed n port → HasNamed n port'
+ordinary_put : (n : ℕ) (note : Note) (port port' : Port) (done : Bool) → note.urgent ≡ false → IsPut note (ordinary_of port) (ordinary_of port') done → urgent_of port' ≡ urgent_of port → NamesMessage n note → HasNamed n port → HasNamed n port'
 unfolding HasNamed
 ordinary_put n note port port' done is put same names named =
     let U : List Note → Type 0 = All (Belongs n true) in
     (subst U (sym same) named.0, named_put n false note (ordinary_of port) (ordinary_of port') done is put names named.1)
+
+queued_as : (class : Bool) (n : ℕ) (note : Note) (port port' : Port) (done : Bool) → note.urgent ≡ class → IsQueuedAs class note port port' done → NamesMessage n note → HasNamed n port → HasNamed n port'
+queued_as true n note port port' true is queued names named = urgent_put n note port port' true is (queued.0, queued.1) queued.2 names named
+queued_as false n note port port' true is queued names named = ordinary_put n note port port' true is (queued.0, queued.1) queued.2 names named
+queued_as true n note port port' false is queued names named = let F : Port → Type 0 = HasNamed n in subst F (sym queued.0) named
+queued_as false n note port port' false is queued names named = let F : Port → Type 0 = HasNamed n in subst F (sym queued.0) named
+
+-- a port whose notes name messages, and that such a note was put into
+pub queued_named : (n : ℕ) (note : Note) (port port' : Port) (done : Bool) → IsQueued note port port' done → NamesMessage n note → HasNamed n port → HasNamed n port'
+queued_named n note port port' done queued names named = queued_as note.urgent n note port port' done refl queued names named
 
 -- nothing left
 pub leaves_none : (port : Port) → LeavesInOrder port port

@@ -1,7 +1,7 @@
 -- A lane is emptied, a note at a time.
-use Rattle.std.proofs.Common.{◌≡◌, ℕ, ◌+◌, ◌<◌, List, [], ◌∷◌, ◌++◌, length, refl, ap, sym, ◌∙◌, subst, arith, append_assoc, length-append}
+use Rattle.std.proofs.Common.{◌≡◌, ⊎_elim, ℕ, ◌+◌, ◌<◌, List, [], ◌∷◌, ◌++◌, length, refl, ap, sym, ◌∙◌, subst, arith, append_assoc, length-append}
 use Rattle.std.proofs.lemmas.List.{append-nil}
-use Rattle.std.specs.Prelude.{Option, Some, None, MatchOption, option_to_list}
+use Rattle.std.specs.Prelude.{Option, Some, None, IfSome, MatchOption, option_to_list}
 use Rattle.lwkt_base.specs.declared.names.CpuId.{CpuId}
 use Rattle.lwkt_lane.specs.declared.notes.Note.{Note}
 use mathlib.Core.List.{IsPrefix}
@@ -11,9 +11,11 @@ use Rattle.lwkt_msg.specs.Desks.{desk_cpu}
 use Rattle.lwkt_port.specs.declared.handlings.Fate.{Fate}
 use Rattle.lwkt_lane.specs.declared.ins.LaneIn.{LaneIn}
 use Rattle.lwkt_port.specs.declared.lines.Lane.{Lane}
-use Rattle.lwkt_port.specs.Intakes.{Desks, desks, Handles, HandlesAll, Pops}
+use Rattle.lwkt_port.specs.Intakes.{Desks, desks, Handles, HandlesAll, Pops, EmptiesKept}
 use Rattle.lwkt_port.specs.Lines.{IsDrained, HasPopped}
-use Rattle.lwkt_port.specs.Works.{Grew, Standing, KeepsStanding}
+use Rattle.lwkt_port.specs.Posts.{KeepsNamed}
+use Rattle.lwkt_port.specs.Queues.{NamesBoth}
+use Rattle.lwkt_port.specs.Works.{Work, Grew, Standing, KeepsStanding}
 use Rattle.lwkt_port.proofs.Growing.{grew_none, grew_then, same_none, same_then}
 
 abbrev pub desks_at : Standing → Desks
@@ -112,3 +114,24 @@ popped_full most turn line s line1 s1 line2 line3 s2 note within i pop handles i
       out_same = pop.out_same ∙ i.out_same;
       lane_same = pop.lane_same ∙ i.lane_same;
     }
+
+-- a note that found its port's queue full names a message and a port, and so does the one that is kept after a lane was emptied
+full_named : (n : ℕ) (note : Note) (x y : Desks) → n ≡ length y.work.mails → Handles note x y None → NamesBoth n note
+full_named n note x y same h =
+    let F : Work → Type 0 = λ w. NamesBoth (length w.mails) note in
+    let G : ℕ → Type 0 = λ k. NamesBoth k note in
+    subst G (sym same) (subst F (sym h.2) h.0)
+
+last_named : (n : ℕ) (kept : Option Note) (x y : Desks) → n ≡ length y.work.mails → MatchOption kept (y ≡ x) (λ note. Handles note x y None) → IfSome kept (NamesBoth n)
+last_named n None x y same last = tt
+last_named n (Some note) x y same last = full_named n note x y same last
+
+emptied_named : (kept : Option Note) (most count n : ℕ) (line line' : Lane) (x y : Desks) → line.kept ≡ kept → n ≡ length y.work.mails → EmptiesKept kept most count line line' x y → KeepsNamed n line'
+emptied_named None most count n line line' x y is same e = last_named n line'.kept e.between y same e.last
+emptied_named (Some note) most count n line line' x y is same e = ⊎_elim
+    (λ (s : Handles note x y None × (line' ≡ line) × (count ≡ 0)). let F : Option Note → Type 0 = λ o. IfSome o (NamesBoth n) in subst F (sym (ap (λ (l : Lane). l.kept) s.1 ∙ is)) (full_named n note x y same s.0))
+    (λ (s : (z : Desks) × (how : Fate) × Handles note x z (Some how) × Pops most count (record line { kept = None }) line' z y). last_named n line'.kept s.3.between y same s.3.last)
+    e
+
+pub line_named_after : (most count n : ℕ) (line line' : Lane) (x y : Desks) → n ≡ length y.work.mails → EmptiesKept line.kept most count line line' x y → KeepsNamed n line'
+line_named_after most count n line line' x y same e = emptied_named line.kept most count n line line' x y refl same e

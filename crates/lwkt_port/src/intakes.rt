@@ -82,7 +82,7 @@ impl Office {
             let most = limit - count;
             count += self
                 .counters
-                .empty_seldom(book, &mut self.lanes[sender], most, trace);
+                .empty(book, &mut self.lanes[sender], most, trace);
         }
         count
     }
@@ -122,7 +122,7 @@ impl Office {
     {
         let taken = self
             .counters
-            .empty_in_place(book, &mut self.lanes[first], limit, trace);
+            .empty(book, &mut self.lanes[first], limit, trace);
         let count = self.empty_all(book, first + 1, taken, limit, trace);
         let cleared = self.counters.uncleared;
         self.counters.clear_all(book, trace);

@@ -1,5 +1,5 @@
 //! Notes that wait, the oldest first.
-ghost use Rattle.std.specs.Prelude.{◌≡◌, ◌==◌, ◌≤◌, [], false, length, drop, slice_get, IfOk};
+ghost use Rattle.std.specs.Prelude.{◌≡◌, ◌≤◌, [], length, drop, slice_get, IfOk};
 ghost use Rattle.lwkt_port.specs.Queues.{IsPut};
 
 use circular_buffer::HeapCircularBuffer;
@@ -43,14 +43,6 @@ impl NoteQueue {
         ensures few { result ≤ 64 }
     {
         self.ring.len()
-    }
-
-    /// Whether no note waits.
-    #[inline(always)]
-    pub(crate) fn is_empty(&self) -> bool
-        ensures { result ≡ (length self.now == 0) }
-    {
-        self.ring.is_empty()
     }
 
     /// The oldest note.

@@ -1,7 +1,7 @@
 //! The queues of one thread's port.
-ghost use Rattle.std.specs.Prelude.{◌≡◌, ℕ, ◌<◌, ◌≤◌, true, false, List, [], ◌∷◌, ◌++◌, ◌↔◌, length, MatchOption, IfOk};
+ghost use Rattle.std.specs.Prelude.{◌≡◌, ◌<◌, ◌≤◌, List, [], ◌∷◌, length, MatchOption, IfOk};
 ghost use Rattle.lwkt_lane.specs.declared.notes.Note.{Note};
-ghost use Rattle.lwkt_port.specs.Queues.{queue_of, IsQueued, HasLeft, NamesMessage, HasNamed};
+ghost use Rattle.lwkt_port.specs.Queues.{queue_of, IsQueued, HasLeft};
 
 use crate::note_queues::NoteQueue;
 use lwkt_lane::Note;
@@ -57,7 +57,7 @@ pub(crate) fn drop_front(port: &mut Port)
     requires { 0 < length (queue_of port.old) }
     ensures { (note : Note) → (rest : List Note) → queue_of port.old ≡ note ∷ rest → HasLeft rest port.old port.new }
 {
-    if port.urgent.is_empty() {
+    if port.urgent.len() == 0 {
         port.ordinary.drop_first();
     } else {
         port.urgent.drop_first();
@@ -67,8 +67,7 @@ pub(crate) fn drop_front(port: &mut Port)
 /// Puts a note at the end of the queue of its class, if that has room.
 #[inline(always)]
 pub(crate) fn enqueue(port: &mut Port, note: Note) -> bool
-    ensures queued { IsQueued note port.old port.new result }
-    ensures named { (n : ℕ) → NamesMessage n note → HasNamed n port.old → HasNamed n port.new }
+    ensures { IsQueued note port.old port.new result }
 {
     if note.urgent {
         port.urgent.put(note)

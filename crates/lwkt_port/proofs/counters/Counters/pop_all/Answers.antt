@@ -1,7 +1,6 @@
-use Rattle.std.proofs.Common.{◌≡◌, ◌∙◌, ℕ, length, refl, sym, subst, rules, vec_len}
+use Rattle.std.proofs.Common.{refl}
 use Rattle.std.specs.Prelude.{Some}
 use Rattle.lwkt_port.specs.declared.lines.Lane.{Lane}
-use Rattle.lwkt_port.specs.Queues.{NamesBoth}
 use Rattle.lwkt_port.specs.Works.{Standing, standing}
 use Rattle.lwkt_port.proofs.Emptying.{keeps_none, popping_none, popping_more, popped_full}
 use Rattle.lwkt_port.proofs.counters.Counters.pop_all.Goals as goal
@@ -29,12 +28,3 @@ loop-popped-preserved c =
     let s1 : Standing = standing l.self l.trace in
     let s2 : Standing = standing c.handle.new.self c.handle.new.trace in
     popping_more l.popped c.args.line.now s l.line s1 c.pop.new.line s2 c.in-Some.note c.in-Some-handle._fate l.invariant e h.handles h.keeps
-
-pub returns-in_default-handle-clause-line : goal.returns-in_default-handle-clause-line
-returns-in_default-handle-clause-line c =
-    let l = c.loop-popped in
-    let h = c.in_default-handle.ensures in
-    let n = c.handle.new.self.room.mails in
-    let before : vec_len l.self.room.mails ≡ length l.self.room.mails.items = search rules in
-    let F : ℕ → Type 0 = λ k. NamesBoth k c.in-Some.note in
-    subst F (sym before ∙ sym h.keeps.len) h.handles.0

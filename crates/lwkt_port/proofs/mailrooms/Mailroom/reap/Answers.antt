@@ -13,4 +13,4 @@ pub invariant_of-self : goal.invariant_of-self
 invariant_of-self c =
     let r = c.args.self.now in
     let there : c.args.note.msg.0 < length r.mails.items = search rules in
-    record { kept = reaped_keeps c.args.keep c.args.note r.seat c.reap.new.self r.mails.items c.keep_reaped.new.mails.items (reaped_.Done c.in-Done.rec) c.in-Done.ensures.seat c.in-Done.ensures.answer c.keep_reaped.ensures.items there r.kept }
+    record { kept = reaped_keeps c.args.keep c.args.note r.seat c.reap.new.self r.mails.items (slice_set r.mails.items c.args.note.msg.0 c.come_home.new.mail) (reaped_.Done c.in-Done.rec) c.in-Done.ensures.seat c.in-Done.ensures.answer home there r.kept }

@@ -6,7 +6,7 @@ use Rattle.lwkt_port.specs.Hints.{OwesNone}
 use Rattle.lwkt_port.specs.Intakes.{Intake, intake, desks, untaken, EmptiesFrom}
 use Rattle.lwkt_port.specs.Works.{Work, work, MailroomStands, Standing, standing, KeepsStanding}
 use Rattle.lwkt_port.proofs.Dispatching.{line_named}
-use Rattle.lwkt_port.proofs.Emptying.{keeps_then}
+use Rattle.lwkt_port.proofs.Emptying.{keeps_then, line_named_after}
 use Rattle.lwkt_port.proofs.Growing.{stands_none, stands_is}
 use Rattle.lwkt_port.proofs.Hinting.{emptied_owes, line_owes}
 use Rattle.lwkt_port.proofs.Intaking.{stands_in_all}
@@ -16,17 +16,18 @@ use Rattle.lwkt_port.proofs.offices.Office.take_rest.Goals as goal
 pub invariant_of-self : goal.invariant_of-self
 invariant_of-self c =
     let o = c.args.self.now in
-    let e = c.empty_in_place-taken.ensures in
-    let n = c.empty_in_place-taken.new in record {
+    let e = c.empty-taken.ensures in
+    let n = c.empty-taken.new in
+    let mails : vec_len n.self.room.mails ≡ length n.self.room.mails.items = search rules in record {
       as_many = o.as_many ∙ sym e.keeps.same.cpus;
       keep = line_named (vec_len o.counters.room.mails) (vec_len n.self.room.mails) o.lanes.items c.args.first n.line e.keeps.len o.keep e.line;
-      hint = λ unset. line_owes c.args.limit c.empty_in_place-taken.result c.index_mut.result.now n.line (desks o.counters c.args.trace.now) (desks n.self n.trace) e.empties (o.hint unset);
+      hint = λ unset. line_owes c.args.limit c.empty-taken.result c.index_mut.result.now n.line (desks o.counters c.args.trace.now) (desks n.self n.trace) e.empties (o.hint unset);
     }
 
 pub returns-clause-takes : goal.returns-clause-takes
 returns-clause-takes c = λ before front hands.
     let o = c.args.self.now in
-    let f = c.empty_in_place-taken in
+    let f = c.empty-taken in
     let e = c.empty_all-count in
     let n = c.clear_all.new in
     let w : Work = work o.counters.room c.args.trace.now in
@@ -41,7 +42,7 @@ returns-clause-takes c = λ before front hands.
 
 pub returns-clause-stands : goal.returns-clause-stands
 returns-clause-stands c =
-    let f = c.empty_in_place-taken in
+    let f = c.empty-taken in
     let e = c.empty_all-count in
     let r = c.args.self.now.counters.room in
     let t = c.args.trace.now in
@@ -57,7 +58,7 @@ may_owe-self-requires c = record {
   hint = λ owing cleared.
       let F : List Mail → Type 0 = OwesNone in
       let o = c.args.self.now in
-      let f = c.empty_in_place-taken in
+      let f = c.empty-taken in
       let e = c.empty_all-count in
       let before : List Lane = c.requires.front.0 in
       let w : Work = work o.counters.room c.args.trace.now in
