@@ -47,6 +47,9 @@ static void try_refused(const char *script, uint32_t fault, uint32_t place, cons
 }
 
 static void try_traces(void) {
+    static const char taken_twice[] =
+        "{\"version\":1,\"cpus\":2,\"tokens\":[{\"cells\":[0],\"law\":\"any\",\"param\":0,\"gen\":0}],\"messages\":[],"
+        "\"events\":[[\"take\",0,0],[\"take\",1,0]],\"last\":null}";
     static const char good[] = "{\"version\":1,\"cpus\":1,\"tokens\":[],\"messages\":[],\"events\":[],\"last\":null}";
     uint8_t text[64];
     lwkt_answer answer;
@@ -54,6 +57,8 @@ static void try_traces(void) {
     count(status == 0 && answer.fault == 0 && answer.length == 7 && memcmp(text, "lawful\n", 7) == 0, "a lawful trace");
     status = lwkt_check_trace(bytes(good), strlen(good) - 1, text, sizeof text, &answer);
     count(status == 1 && answer.fault == 33, "a trace that is cut off");
+    status = lwkt_check_trace(bytes(taken_twice), strlen(taken_twice), text, sizeof text, &answer);
+    count(status == 4 && answer.fault == 0 && answer.place == 0 && memcmp(text, "unlawful 1\n", 11) == 0, "a token that two take");
 }
 
 // Arguments of `lwkt_show`: the status and the fault.
@@ -106,6 +111,11 @@ int main(void) {
     try_arguments("", 1, "no arguments");
     try_arguments("threads --chains", 1, "threads --chains");
     try_arguments("turns --turns 1000..", 1, "a range past the end");
+    try_arguments("turns --order 0000", 0, "an order");
+    try_arguments("turns --order 0,0,0,0 --svg", 0, "an order with commas, as a picture");
+    try_arguments("turns --order 0 --trace", 2, "an order that ends early");
+    try_arguments("turns --order - --turns 5..", 1, "a range past an order of no turns");
+    try_arguments("turns --order 0 --rounds 0..1", 1, "rounds of a run along an order");
     try_arguments("turns \xff", 1, "arguments that aren't UTF-8");
     try_threads();
     printf("%d passed, %d failed\n", passed, failed);

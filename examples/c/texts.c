@@ -12,6 +12,11 @@ static const char report[] = "token 0 gen 1 cells 7\nthread 0.0 exited list - lo
 static const char wrong[] = "token word: any, cells 5\nthread only on 0:\n  get wort\n  wriet word.0 1\n";
 static const char crossed[] =
     "message one of here; message other of there\nthread here on 0:\n  do one -> there\nthread there on 1:\n  do other -> here\n";
+static const char script[] =
+    "{\"version\":1,\"turns\":50,\"idle\":100000000,\"cpus\":1,\"tokens\":[{\"cells\":[5],\"law\":\"any\",\"param\":0,\"gen\":0}],"
+    "\"messages\":[],\"threads\":[{\"cpu\":0,\"repeat\":1,\"steps\":[[\"get\",0],[\"write\",0,0,7],[\"rel\",0]]}]}";
+static const char without_turns[] =
+    "{\"version\":1,\"turns\":0,\"idle\":1,\"cpus\":1,\"tokens\":[],\"messages\":[],\"threads\":[]}";
 
 static int passed, failed;
 
@@ -61,7 +66,7 @@ static void try_forms(void) {
     count(lwkt_is_text(bytes(wrong), strlen(wrong)) == 1, "one that is refused too");
     count(lwkt_is_text(bytes(json), strlen(json)) == 0, "JSON is none");
     count(lwkt_is_text(bytes("true"), 4) == 0, "nor is a word of JSON");
-    count(lwkt_is_text(bytes("[["), 2) == 0, "nor what begins as JSON");
+    count(lwkt_is_text(bytes("["), 1) == 0, "nor what begins as JSON");
     count(lwkt_is_text(bytes(""), 0) == 0, "nor nothing");
 }
 
@@ -89,6 +94,15 @@ static void try_long(void) {
     free(json);
 }
 
+// Whether a text has these words.
+static int has_words(const uint8_t *text, size_t length, const char *words) {
+    size_t size = strlen(words);
+    for (size_t at = 0; at + size <= length; at += 1) {
+        if (memcmp(text + at, words, size) == 0) return 1;
+    }
+    return 0;
+}
+
 static void try_orders(void) {
     static uint8_t text[4096];
     static const char part[] = "; a part\n4: holds of what was found\n5: holds of what was found\n";
@@ -100,6 +114,12 @@ static void try_orders(void) {
     count(status == 5 && memcmp(text, "outcome 1 cut, order 0\n", 23) == 0, "a bound on turns");
     status = lwkt_explore_orders(bytes(good), strlen(good), 0, 0, text, sizeof text, &answer);
     count(status == 5, "bounds of nothing");
+    status = lwkt_explore_orders(bytes(good), strlen(good), 0, 1000, text, sizeof text, &answer);
+    count(status == 5 && has_words(text, answer.length, "0 outcomes; 1 state, "), "a bound of no states");
+    status = lwkt_explore_orders(bytes(without_turns), strlen(without_turns), 1000, 1000, text, sizeof text, &answer);
+    count(status == 1 && answer.fault == 33 && answer.place == 3 && memcmp(text, "lwkt_explore: ", 14) == 0, "a script of no turns");
+    status = lwkt_explore_orders(bytes(good), strlen(good), 1000, 1000, text, sizeof text, &answer);
+    count(status == 5 && has_words(text, answer.length, "complete\n4: holds\n5: doesn't hold, order 0 0 0"), "every order, and what is expected of it");
 }
 
 // A run along an order, and one along an order that names a processor that isn't there.
@@ -132,6 +152,7 @@ int main(void) {
     try_call(lwkt_run_text, "token sums: sum 10, cells 5 6", 1, 40, "lwkt_run: the opening of token sums: ");
     try_call(explore, "token sums: sum 10, cells 5 6", 1, 40, "lwkt_explore: the opening of token sums: ");
     try_call(explore, "[", 1, 33, "lwkt_explore: ");
+    try_call(explore, script, 0, 0, "outcome 1 ended, order 0 0 0");
     for (size_t room = 0; room < 200; room += 7) {
         try_room(lwkt_text_json, room);
         try_room(lwkt_run_text, room);

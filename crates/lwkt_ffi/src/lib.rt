@@ -13,8 +13,6 @@ mod readings;
 mod runs;
 mod shows;
 mod tellings;
-#[cfg(test)]
-mod tests;
 mod words;
 
 pub use answers::LwktAnswer;
