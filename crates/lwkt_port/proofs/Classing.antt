@@ -1,9 +1,8 @@
 -- The two queues of a port: what leaves them, and what comes.
-use Rattle.std.proofs.Common.{◌≡◌, ℕ, Bool, true, false, true≢false, List, [], ◌∷◌, ◌++◌, length, refl, ap, sym, ◌∙◌, subst, append_assoc, inl, inr, ⊎_elim, arith}
-use Rattle.std.proofs.lemmas.Bool.{eqb-true}
+use Rattle.std.proofs.Common.{◌≡◌, ℕ, Bool, true, false, List, [], ◌∷◌, ◌++◌, length, refl, ap, sym, ◌∙◌, subst, append_assoc, inl, inr, ⊎_elim, arith}
 use Rattle.std.proofs.lemmas.List.{append-nil, append_cancel_right}
 use Rattle.std.proofs.lemmas.List.Elements.{All-head, All-tail, All-nil, All-cons, All-append}
-use Rattle.std.specs.Prelude.{◌⊎◌, ◌==◌, All, if◌then◌else◌, Option, Some, None, MatchOption, slice_get, drop}
+use Rattle.std.specs.Prelude.{◌⊎◌, All, if◌then◌else◌, Option, Some, None, MatchOption, slice_get, drop}
 use Rattle.lwkt_lane.specs.declared.notes.Note.{Note}
 use Rattle.lwkt_port.specs.declared.queues.Port.{Port}
 use Rattle.lwkt_port.specs.Laws.{LeavingChains, NotesComeLast}
@@ -111,20 +110,20 @@ ordinary_left port port' note first rest others is none front left same closed =
     } in
     ((λ i. (same ∙ none) i ++ left i) ∙ tail, closed, leaves)
 
-some_of : (notes : List Note) → false ≡ (length notes == 0) → (first : Note) × (others : List Note) × (notes ≡ first ∷ others)
-some_of [] is = absurd (true≢false (sym is))
+some_of : (notes : List Note) → (length notes ≡ 0 → ⊥) → (first : Note) × (others : List Note) × (notes ≡ first ∷ others)
+some_of [] is = absurd (is refl)
 some_of (first ∷ others) is = (first, others, refl)
 
-none_of : (notes : List Note) → true ≡ (length notes == 0) → notes ≡ []
+none_of : (notes : List Note) → length notes ≡ 0 → notes ≡ []
 none_of [] is = refl
-none_of (first ∷ others) is = absurd (let none : length (first ∷ others) ≡ 0 = eqb-true (length (first ∷ others)) 0 (sym is) in omega arith)
+none_of (first ∷ others) is = absurd (let none : length (first ∷ others) ≡ 0 = is in omega arith)
 
-pub urgent_off : (port port' : Port) → false ≡ (length (urgent_of port) == 0) → urgent_of port' ≡ drop 1 (urgent_of port) → ordinary_of port' ≡ ordinary_of port → port'.closed ≡ port.closed → (note : Note) (rest : List Note) → queue_of port ≡ note ∷ rest → HasLeft rest port port'
+pub urgent_off : (port port' : Port) → (length (urgent_of port) ≡ 0 → ⊥) → urgent_of port' ≡ drop 1 (urgent_of port) → ordinary_of port' ≡ ordinary_of port → port'.closed ≡ port.closed → (note : Note) (rest : List Note) → queue_of port ≡ note ∷ rest → HasLeft rest port port'
 urgent_off port port' has off same closed note rest is =
     let s = some_of (urgent_of port) has in
     urgent_left port port' note s.0 rest s.1 is s.2 (off ∙ ap (λ (q : List Note). drop 1 q) s.2) same closed
 
-pub ordinary_off : (port port' : Port) → true ≡ (length (urgent_of port) == 0) → ordinary_of port' ≡ drop 1 (ordinary_of port) → urgent_of port' ≡ urgent_of port → port'.closed ≡ port.closed → (note : Note) (rest : List Note) → queue_of port ≡ note ∷ rest → HasLeft rest port port'
+pub ordinary_off : (port port' : Port) → length (urgent_of port) ≡ 0 → ordinary_of port' ≡ drop 1 (ordinary_of port) → urgent_of port' ≡ urgent_of port → port'.closed ≡ port.closed → (note : Note) (rest : List Note) → queue_of port ≡ note ∷ rest → HasLeft rest port port'
 ordinary_off port port' has off same closed note rest is =
     let none = none_of (urgent_of port) has in
     let front : ordinary_of port ≡ note ∷ rest = ap (λ (q : List Note). q ++ ordinary_of port) (sym none) ∙ is in

@@ -1,8 +1,7 @@
 -- A thread has ended: what is kept of the messages that it was shown fits the seat still, and its port is in order.
-use Rattle.std.proofs.Common.{◌≡◌, ℕ, ◌+◌, ◌<◌, ◌==◌, Bool, true, false, cond, true≢false, List, length, set, refl, ap, sym, ◌∙◌, subst, arith}
+use Rattle.std.proofs.Common.{◌≡◌, ℕ, ◌<◌, ◌==◌, Bool, true, false, cond, true≢false, List, length, set, refl, ap, sym, ◌∙◌, subst, arith}
 use Rattle.std.specs.Prelude.{slice_index_or, All, IsSome, is_some, Option, Some, None}
 use Rattle.std.proofs.lemmas.List.Elements.{All-set, All-get_or}
-use native.Mathlib.Decide.{ℕ_discrete}
 use Rattle.lwkt_msg.specs.Desks.{Desk}
 use Rattle.lwkt_port.specs.declared.mails.Mail.{Mail}
 use Rattle.lwkt_port.specs.declared.queues.Port.{Port}

@@ -137,9 +137,10 @@ impl Mailroom {
         ensures away { away_count self.new.mails.items + vec_len trace.new ≡ away_count self.old.mails.items + vec_len trace.old }
     {
         let cpu = self.seat.cpu();
+        let m = usize::from(note.msg.0);
         match self.seat.reap(book, note.msg, note.round) {
             Reaped::Done { rec } => {
-                come_home(&mut self.mails[usize::from(note.msg.0)], keep, rec);
+                come_home(&mut self.mails[m], keep, rec);
                 tell_reap(trace, cpu, note.msg);
                 Reaped::Done { rec }
             }

@@ -46,7 +46,6 @@ fn is_sync_answer(mails: &Vec<Mail>, note: Note) -> bool
 impl Counters {
     // Handles a note that came over a lane. None if its port's queue is full.
     #[inline(always)]
-    #[tactic(auto, using(crate::proofs::Classing::queued_named))]
     fn handle(&mut self, book: &MsgBook, note: Note, trace: &mut Vec<Event>) -> Option<Fate>
         requires ready { CanStep (away_count self.old.room.mails.items + 1) self.old.room book.now trace.old }
         ensures handles { Handles note (desks self.old trace.old) (desks self.new trace.new) result }

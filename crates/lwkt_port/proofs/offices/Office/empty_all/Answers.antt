@@ -41,6 +41,6 @@ invariant_of-self-in-loop-sender c =
     let n = c.empty-count.new in
     let mails : vec_len n.self.room.mails ≡ length n.self.room.mails.items = search rules in record {
       as_many = l.self.as_many ∙ sym e.keeps.same.cpus;
-      keep = line_named (vec_len l.self.counters.room.mails) (vec_len n.self.room.mails) l.self.lanes.items l.sender n.line e.keeps.len l.self.keep e.line;
+      keep = line_named (vec_len l.self.counters.room.mails) (vec_len n.self.room.mails) l.self.lanes.items l.sender n.line e.keeps.len l.self.keep (line_named_after (c.args.limit - l.count) c.empty-count.result (vec_len n.self.room.mails) c.index_mut.result.now n.line (desks l.self.counters l.trace) (desks n.self n.trace) mails e.empties);
       hint = λ unset. line_owes (c.args.limit - l.count) c.empty-count.result c.index_mut.result.now n.line (desks l.self.counters l.trace) (desks n.self n.trace) e.empties (l.self.hint unset);
     }

@@ -20,7 +20,7 @@ invariant_of-self c =
     let n = c.empty-taken.new in
     let mails : vec_len n.self.room.mails ≡ length n.self.room.mails.items = search rules in record {
       as_many = o.as_many ∙ sym e.keeps.same.cpus;
-      keep = line_named (vec_len o.counters.room.mails) (vec_len n.self.room.mails) o.lanes.items c.args.first n.line e.keeps.len o.keep e.line;
+      keep = line_named (vec_len o.counters.room.mails) (vec_len n.self.room.mails) o.lanes.items c.args.first n.line e.keeps.len o.keep (line_named_after c.args.limit c.empty-taken.result (vec_len n.self.room.mails) c.index_mut.result.now n.line (desks o.counters c.args.trace.now) (desks n.self n.trace) mails e.empties);
       hint = λ unset. line_owes c.args.limit c.empty-taken.result c.index_mut.result.now n.line (desks o.counters c.args.trace.now) (desks n.self n.trace) e.empties (o.hint unset);
     }
 
