@@ -90,7 +90,7 @@ fn show_text(alloc: Global, out: &mut Page, document: Document, bytes: &[u8]) {
     }
     if has_mark(bytes) {
         return out.add(
-            "line 1, column 1: the text begins with a byte order mark, which JSON doesn't have",
+            "line 1, column 1: the text begins with a byte order mark, which no script and no trace has",
         );
     }
     match Value::from_slice(alloc, bytes) {
