@@ -89,7 +89,8 @@ uint32_t lwkt_is_text(const uint8_t *script, size_t script_length);
 uint32_t lwkt_text_json(const uint8_t *script, size_t script_length, uint8_t *text, size_t room, lwkt_answer *answer);
 
 // Runs a text in rounds, on this thread, as `lwkt_run turns` does with a text. What is made is the report, and behind that a line for
-// each expectation, in the order of the text: `LINE: holds` or `LINE: doesn't hold`.
+// each expectation, in the order of the text: `LINE: holds` or `LINE: doesn't hold`. Bytes that aren't taken for a text are read as one
+// all the same, also where they are none or more than 1048576; without a sentence they make a machine without threads.
 //
 // The status: 0 all expectations hold, or there are none and every thread ended; 2 there are none, and the turns were used up; 5 an
 // expectation doesn't hold; 4 the run was unlawful; 1 the text was refused, with the fault 33 and words as of `lwkt_text_json`, or its

@@ -109,12 +109,13 @@ fn add_sum(out: &mut String, found: &Found) -> Result<(), AllocError> {
     write!(out, "{count} {noun}; ")?;
     add_tried(out, found.tried)?;
     let turns = found.turns;
+    let made = if turns == 1 { "turn" } else { "turns" };
     let whole = if found.is_complete {
         "complete"
     } else {
         "a part"
     };
-    write!(out, ", {turns} turns; {whole}\n")
+    write!(out, ", {turns} {made}; {whole}\n")
 }
 
 /// The text of what was found: each outcome once, numbered from 1, the ended ones first, then the stuck ones, then those that were
