@@ -4,15 +4,40 @@ use lwkt_explore::{Found, Outcome, order_text};
 use lwkt_text::claims::Expectation;
 use std::alloc::{AllocError, Global};
 
-// The line of a text in which something stands.
-fn line_at(bytes: &[u8], at: usize) -> usize {
-    let mut line = 1usize;
-    for (place, byte) in bytes.iter().enumerate() {
-        if place < at && *byte == b'\n' {
+// A place of a text, and the line that it stands in, counted from 1.
+#[derive(Clone, Copy)]
+struct Place {
+    // How many bytes of the text stand before it.
+    at: usize,
+    // The line's number.
+    line: usize,
+}
+
+impl Place {
+    // The start of a text.
+    const FIRST: Place = Place { at: 0, line: 1 };
+}
+
+// The bytes of a text from one place to another.
+fn part_of(bytes: &[u8], from: usize, to: usize) -> &[u8] {
+    if from <= to && to <= bytes.len() {
+        &bytes[from..to]
+    } else {
+        &[]
+    }
+}
+
+// The place that so many bytes stand before. Only the bytes behind `last`, a place of the same text, are looked at, if it isn't
+// before that.
+fn place_from(bytes: &[u8], last: Place, at: usize) -> Place {
+    let last = if last.at <= at { last } else { Place::FIRST };
+    let mut line = last.line;
+    for byte in part_of(bytes, last.at, at) {
+        if *byte == b'\n' {
             line = line.saturating_add(1);
         }
     }
-    line
+    Place { at, line }
 }
 
 // Whether an expectation holds; where not every order was tried, one that no outcome decides may still turn out otherwise.
@@ -29,14 +54,13 @@ fn words_of(is_met: bool, is_known: bool) -> &'static str {
 fn add_line(
     alloc: Global,
     out: &mut String,
-    bytes: &[u8],
+    line: usize,
     expectation: &Expectation,
     found: &Found,
 ) -> Result<(), AllocError> {
     let outcomes = found.outcomes.all.as_slice();
     let decided = deciding(expectation, outcomes);
     let is_known = found.is_complete || decided.is_some();
-    let line = line_at(bytes, expectation.at);
     let words = words_of(is_met_over_orders(expectation, outcomes), is_known);
     write!(out, "{line}: {words}")?;
     if let Some(outcome) = decided {
@@ -64,8 +88,10 @@ pub fn verdicts_of(
     found: &Found,
 ) -> Result<String, AllocError> {
     let mut out = String::new(alloc);
+    let mut place = Place::FIRST;
     for expectation in expectations {
-        add_line(alloc, &mut out, bytes, expectation, found)?;
+        place = place_from(bytes, place, expectation.at);
+        add_line(alloc, &mut out, place.line, expectation, found)?;
     }
     Ok(out)
 }
