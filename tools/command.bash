@@ -43,6 +43,16 @@ is_among() {
     return 1
 }
 
+# Runs the command $1 with the words behind it and ends: with status 0, or with 3 where what the command writes can't be written,
+# which is said unless nobody reads it any more.
+end_with() {
+    local told
+    { told=$("$@" 2>&1 >&3); } 3>&1 && exit
+    told=${told##*: }
+    [[ -z $told || $told = 'Broken pipe' ]] || say "this could not be written: $told"
+    exit 3
+}
+
 show_help() {
     cat -- "$help_folder/$program_name.txt"
 }

@@ -5,13 +5,14 @@ help_folder=$home
 # shellcheck source=tools/command.bash
 source "$home/command.bash"
 
+show_version() {
+    cat -- "$home/$program_name.version" && echo "program: installed, $home/$program_name"
+}
+
 if wants_help "$@"; then
-    show_help
-    exit
+    end_with show_help
 elif (($# == 1)) && [[ $1 = --version ]]; then
-    cat -- "$home/$program_name.version"
-    echo "program: installed, $home/$program_name"
-    exit
+    end_with show_version
 elif wants_all "$@"; then
     try_all "$file" "$@"
 fi

@@ -75,11 +75,9 @@ show_version() {
 }
 
 if wants_help "$@"; then
-    show_help
-    exit
+    end_with show_help
 elif (($# == 1)) && [[ $1 = --version ]]; then
-    show_version
-    exit
+    end_with show_version
 elif wants_all "$@"; then
     try_all "$file" "$@"
 fi
