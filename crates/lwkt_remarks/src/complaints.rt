@@ -1,6 +1,8 @@
 // What is wrong with a text, in words.
-use crate::lines::{Place, add_head, part_from, part_of, place_from};
-use crate::proposals::{NAME_LIMIT, proposal};
+use crate::forms::{claim_form, sentence_form};
+use crate::lines::{Place, add_head, part_of, place_from};
+use crate::proposals::{NAME_LIMIT, is_keyword, proposal};
+use crate::sentences::{has_sentence, place_in_sentence, word_from};
 use crate::views::{add_line, add_mark};
 use lwkt_refusals::Page;
 use lwkt_text::{Many, Names, Wanted, What, Wrong, names_of};
@@ -8,6 +10,19 @@ use std::alloc::{AllocError, Global};
 
 // Of how many places it is said what is wrong there.
 const FAULT_LIMIT: usize = 100;
+
+// A text that something is wrong with.
+#[derive(Clone, Copy)]
+struct Faulty<'t> {
+    // What it is called, where that is known.
+    path: Option<&'t str>,
+    // What it is.
+    bytes: &'t [u8],
+    // The names that it gives.
+    names: &'t Names,
+    // Whether one of its sentences says how many processors there are.
+    says_cpus: bool,
+}
 
 // The word that is wanted.
 fn word_of(wanted: Wanted) -> &'static str {
@@ -45,7 +60,7 @@ fn words_of(what: What) -> &'static str {
             "a number or a cell is wanted here, or gen, round or tally and what it is of",
         What::Relation => "=, !=, <, <=, > or >= is wanted here",
         What::Long => "a sentence has at most 1000 words",
-        What::Further => "nothing more may stand in this sentence",
+        What::Further => " may not stand here",
         What::NoThread => "a step stands behind the head of its thread",
         What::Crowd =>
             "there are too many: at most 64 tokens, 64 messages, 16 threads of a processor, 256 steps of a thread",
@@ -67,36 +82,52 @@ fn add_limits(page: &mut Page, what: What) {
     }
 }
 
-// How many bytes a word has that these bytes begin with.
-fn word_length(bytes: &[u8]) -> usize {
-    let mut count = 0usize;
-    for byte in bytes {
-        if !matches!(*byte, b'0'..=b'9' | b'A'..=b'Z' | b'a'..=b'z' | b'_') {
-            return count;
-        }
-        count = count.saturating_add(1);
-    }
-    count
-}
-
 // The word that begins at a place; of one that is too long for a proposal its beginning, which is too long too.
 fn word_at(alloc: Global, bytes: &[u8], at: usize) -> Result<String, AllocError> {
-    let rest = part_from(bytes, at, NAME_LIMIT.saturating_add(1));
     let mut word = Page::new(alloc);
-    add_line(&mut word, part_of(rest, 0, word_length(rest)));
+    add_line(
+        &mut word,
+        word_from(bytes, at, NAME_LIMIT.saturating_add(1)),
+    );
     word.whole()
+}
+
+// How many processors a text has that says nothing of them, where a thread's head is on one that isn't there.
+fn add_cpus(
+    alloc: Global,
+    page: &mut Page,
+    text: &Faulty<'_>,
+    wrong: Wrong,
+) -> Result<(), AllocError> {
+    if text.says_cpus || !matches!(wrong.what, What::Number { low: 0, .. }) {
+        return Ok(());
+    }
+    let first = word_at(
+        alloc,
+        text.bytes,
+        place_in_sentence(text.bytes, wrong.at, 0),
+    )?;
+    if first.as_str() == "thread" {
+        page.number(": by its threads the text has ", u64::from(text.names.cpus));
+        page.add(if text.names.cpus == 1 {
+            " processor"
+        } else {
+            " processors"
+        });
+        page.add(", and no `cpus` sentence says otherwise");
+    }
+    Ok(())
 }
 
 // A name that is nearly the word.
 fn add_proposal(
     alloc: Global,
     page: &mut Page,
-    bytes: &[u8],
-    names: &Names,
+    text: &Faulty<'_>,
     wrong: Wrong,
 ) -> Result<(), AllocError> {
-    let word = word_at(alloc, bytes, wrong.at)?;
-    if let Some(name) = proposal(alloc, names, wrong.what, word.as_str())? {
+    let word = word_at(alloc, text.bytes, wrong.at)?;
+    if let Some(name) = proposal(alloc, text.names, wrong.what, word.as_str())? {
         page.add(" (");
         page.add(name);
         page.add("?)");
@@ -104,24 +135,73 @@ fn add_proposal(
     Ok(())
 }
 
+// The word that begins at a place; of a long one its beginning.
+fn add_quoted(page: &mut Page, bytes: &[u8], at: usize) {
+    let word = word_from(bytes, at, NAME_LIMIT.saturating_add(1));
+    page.add("`");
+    add_line(page, part_of(word, 0, word.len().min(NAME_LIMIT)));
+    page.add(if word.len() > NAME_LIMIT { "..`" } else { "`" });
+}
+
+// How the sentence of a place is written, or the claim in it.
+fn add_form(alloc: Global, page: &mut Page, bytes: &[u8], at: usize) -> Result<(), AllocError> {
+    let first = word_at(alloc, bytes, place_in_sentence(bytes, at, 0))?;
+    if let Some(form) = sentence_form(first.as_str()) {
+        page.add(": the sentence is written `");
+        page.add(form);
+        page.add("`");
+        return Ok(());
+    }
+    let subject = word_at(alloc, bytes, place_in_sentence(bytes, at, 1))?;
+    let verb = word_at(alloc, bytes, place_in_sentence(bytes, at, 2))?;
+    page.add(": the claim is written `");
+    page.add(claim_form(subject.as_str(), verb.as_str()));
+    page.add("`");
+    Ok(())
+}
+
+// The word that stands behind the end of a sentence, and how the sentence is written.
+fn add_further(alloc: Global, page: &mut Page, bytes: &[u8], at: usize) -> Result<(), AllocError> {
+    add_quoted(page, bytes, at);
+    page.add(words_of(What::Further));
+    add_form(alloc, page, bytes, at)?;
+    let word = word_at(alloc, bytes, at)?;
+    if is_keyword(word.as_str()) {
+        page.add(", and `;` ends it");
+    }
+    Ok(())
+}
+
+// What is wrong at a place of a text, in words.
+fn add_words(
+    alloc: Global,
+    page: &mut Page,
+    text: &Faulty<'_>,
+    wrong: Wrong,
+) -> Result<(), AllocError> {
+    if wrong.what == What::Further {
+        return add_further(alloc, page, text.bytes, wrong.at);
+    }
+    page.add(words_of(wrong.what));
+    add_limits(page, wrong.what);
+    add_cpus(alloc, page, text, wrong)?;
+    add_proposal(alloc, page, text, wrong)
+}
+
 // What is wrong at a place of a text: `FILE:LINE:COLUMN: WORDS`, then the line and a mark under the place.
 fn add_wrong(
     alloc: Global,
     page: &mut Page,
-    path: Option<&str>,
-    bytes: &[u8],
-    names: &Names,
+    text: &Faulty<'_>,
     wrong: Wrong,
     place: Place,
 ) -> Result<(), AllocError> {
-    add_head(page, path, place);
+    add_head(page, text.path, place);
     page.size(":", place.before.saturating_add(1));
     page.add(": ");
-    page.add(words_of(wrong.what));
-    add_limits(page, wrong.what);
-    add_proposal(alloc, page, bytes, names, wrong)?;
+    add_words(alloc, page, text, wrong)?;
     page.add("\n");
-    add_mark(page, bytes, place);
+    add_mark(page, text.bytes, place);
     Ok(())
 }
 
@@ -145,13 +225,19 @@ pub fn wrongs_said(
     wrongs: Many<Wrong>,
 ) -> Result<String, AllocError> {
     let names = names_of(alloc, bytes)?;
+    let text = Faulty {
+        path,
+        bytes,
+        names: &names,
+        says_cpus: has_sentence(bytes, "cpus"),
+    };
     let mut wrongs = wrongs.into_vec();
     wrongs.sort_unstable_by_key(|wrong| wrong.at);
     let mut page = Page::new(alloc);
     let mut place = Place::FIRST;
     for wrong in wrongs.iter().take(FAULT_LIMIT) {
         place = place_from(bytes, place, wrong.at);
-        add_wrong(alloc, &mut page, path, bytes, &names, *wrong, place)?;
+        add_wrong(alloc, &mut page, &text, *wrong, place)?;
     }
     add_rest(&mut page, wrongs.len());
     page.whole()

@@ -8,9 +8,11 @@
 
 mod accounts;
 mod complaints;
+mod forms;
 mod lines;
 mod openings;
 mod proposals;
+mod sentences;
 mod verdicts;
 mod views;
 

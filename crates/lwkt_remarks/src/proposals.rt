@@ -92,6 +92,11 @@ fn nearest_keyword(alloc: Global, text: &str) -> Result<Option<&'static str>, Al
     Ok(best.map(|near| near.name))
 }
 
+/// Whether a sentence may begin with this word.
+pub fn is_keyword(text: &str) -> bool {
+    KEYWORDS.contains(&text)
+}
+
 /// A name that is nearly what was written where another part was wanted, if there is one. None for a word of more than 64 characters.
 pub fn proposal<'n>(
     alloc: Global,
