@@ -43,14 +43,20 @@ is_among() {
     return 1
 }
 
-# Runs the command $1 with the words behind it and ends: with status 0, or with 3 where what the command writes can't be written,
-# which is said unless nobody reads it any more.
-end_with() {
+# Runs the command $1 with the words behind it. Where what it writes can't be written, that is the end, with status 3; it is said
+# unless nobody reads it any more.
+put() {
     local told
-    { told=$("$@" 2>&1 >&3); } 3>&1 && exit
+    { told=$("$@" 2>&1 >&3); } 3>&1 && return
     told=${told##*: }
     [[ -z $told || $told = 'Broken pipe' ]] || say "this could not be written: $told"
     exit 3
+}
+
+# Runs the command $1 with the words behind it, and ends.
+end_with() {
+    put "$@"
+    exit
 }
 
 show_help() {
@@ -251,14 +257,14 @@ try_all() {
             passed=$((passed + 1))
         else
             failed=$((failed + 1))
-            printf '%s: status %s\n%s\n' "${file##*/}" "$status" "$said"
+            put printf '%s: status %s\n%s\n' "${file##*/}" "$status" "$said"
         fi
     done
     if ((passed + failed == 0)); then
         say "$folder: no file there ends in .lwkt or .json"
         exit 1
     fi
-    echo "$passed passed, $failed failed"
+    put echo "$passed passed, $failed failed"
     ((failed == 0)) || exit 5
     exit 0
 }

@@ -92,31 +92,19 @@ fn word_at(alloc: Global, bytes: &[u8], at: usize) -> Result<String, AllocError>
     word.whole()
 }
 
-// How many processors a text has that says nothing of them, where a thread's head is on one that isn't there.
-fn add_cpus(
-    alloc: Global,
-    page: &mut Page,
-    text: &Faulty<'_>,
-    wrong: Wrong,
-) -> Result<(), AllocError> {
+// What is wrong at a place, with the range that holds there. A text that doesn't say how many processors it has gets as many as its
+// threads name, at most 8, so any of these may be named.
+fn wrong_there(alloc: Global, text: &Faulty<'_>, wrong: Wrong) -> Result<What, AllocError> {
     if text.says_cpus || !matches!(wrong.what, What::Number { low: 0, .. }) {
-        return Ok(());
+        return Ok(wrong.what);
     }
-    let first = word_at(
-        alloc,
-        text.bytes,
-        place_in_sentence(text.bytes, wrong.at, 0),
-    )?;
-    if first.as_str() == "thread" {
-        page.number(": by its threads the text has ", u64::from(text.names.cpus));
-        page.add(if text.names.cpus == 1 {
-            " processor"
-        } else {
-            " processors"
-        });
-        page.add(", and no `cpus` sentence says otherwise");
-    }
-    Ok(())
+    let start = place_in_sentence(text.bytes, wrong.at, 0);
+    let first = word_at(alloc, text.bytes, start)?;
+    Ok(if first.as_str() == "thread" {
+        What::Number { low: 0, high: 7 }
+    } else {
+        wrong.what
+    })
 }
 
 // A name that is nearly the word.
@@ -183,8 +171,7 @@ fn add_words(
         return add_further(alloc, page, text.bytes, wrong.at);
     }
     page.add(words_of(wrong.what));
-    add_limits(page, wrong.what);
-    add_cpus(alloc, page, text, wrong)?;
+    add_limits(page, wrong_there(alloc, text, wrong)?);
     add_proposal(alloc, page, text, wrong)
 }
 

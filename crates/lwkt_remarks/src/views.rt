@@ -62,11 +62,20 @@ fn add_blanks(page: &mut Page, bytes: &[u8]) {
     }
 }
 
-/// Appends the characters of a line; those that are no ASCII as question marks.
+// What is shown in place of a byte, so that no text tells a terminal anything: printed ASCII and tabs as they are, a blank for a
+// carriage return, and a question mark for any other.
+fn shown(byte: u8) -> u8 {
+    match byte {
+        b'\t' | b' '..=b'~' => byte,
+        b'\r' => b' ',
+        _ => b'?',
+    }
+}
+
+/// Appends the characters of a line; those that are no printed ASCII as question marks.
 pub fn add_line(page: &mut Page, bytes: &[u8]) {
     for byte in bytes {
-        let shown = if *byte < 128 { *byte } else { b'?' };
-        page.letter(shown as char);
+        page.letter(shown(*byte) as char);
     }
 }
 
