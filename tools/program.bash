@@ -2,7 +2,8 @@
 # program that is shipped in dist/. Read by tools/start.bash, tools/build, tools/ship, tools/install and check, with the
 # tree in `top`; `choose_program` chooses one. The stamp's first line is the digest; the paths of the sources follow, and
 # last `by` and the kit that built the program here, or `from` and the place that it was taken from. The stamp's time is
-# that of the sources: what is newer has changed since.
+# that of the sources: what is newer has changed since. Beside it lies the list of these paths once more, for one command
+# that looks at the times of all.
 # shellcheck disable=SC2034,SC2154 # Of these names some are used, and some are set, where this is read.
 
 # The programs, each with its crate.
@@ -13,8 +14,10 @@ declare -gA crate_of=([lwkt_run]=lwkt [lwkt_check]=lwkt_judge [lwkt_show]=lwkt_v
 choose_program() {
     program_name=$1
     program_crate=${crate_of[$1]}
-    program=$top/crates/$program_crate/out/$program_name
+    place=crates/$program_crate/out/$program_name
+    program=$top/$place
     stamp=$program.stamp
+    listed=$program.sources
     shipped=$top/dist/x86_64-linux/$program_name
 }
 
@@ -77,14 +80,25 @@ source_digest() {
     } | sha256sum
 }
 
-# Whether the program is there and no source is newer than its stamp, which names them all. (Its last line names no file,
-# and so nothing newer.)
-is_current() {
+# Whether no source that the stamp names is newer than it. (Its last line names no file, and so nothing newer.)
+is_newest() {
     local lines=() path
-    [[ -x $program && -r $stamp ]] && { mapfile -t lines <"$stamp"; } 2>/dev/null && ((${#lines[@]} > 1)) || return 1
+    { mapfile -t lines <"$stamp"; } 2>/dev/null && ((${#lines[@]} > 1)) || return 1
     for path in "${lines[@]:1}"; do
         [[ ! $top/$path -nt $stamp ]] || return 1
     done
+}
+
+# Whether the program is there and no source is newer than its stamp. One command looks at all of them, by their list; a find
+# that can't read one (before findutils 4.9), or that misses a file, leaves it to the slower way.
+is_current() {
+    local newer
+    [[ -x $program && -s $stamp && -s $listed ]] || return 1
+    if newer=$(cd -- "$top" && exec find -files0-from "$place.sources" -maxdepth 0 -newer "$place.stamp" -print -quit 2>/dev/null); then
+        [[ -z $newer ]]
+    else
+        [[ -z $newer ]] && is_newest
+    fi
 }
 
 # Whether the program is there and its sources have the stamp's digest, whatever their times. They then count as old.
@@ -94,6 +108,7 @@ is_same() {
     since=$(date +%s.%N)
     read_crates "$top"
     [[ $(source_digest "$top") = "$said" ]] || return 1
+    [[ -s $listed ]] || write_list "$top"
     touch -c -d "@$since" "$stamp" 2>/dev/null
     return 0
 }
@@ -136,12 +151,17 @@ lacking() {
     fi
 }
 
+# Writes the list of the sources of the tree $1. It is whole once it is there.
+write_list() {
+    { source_paths "$1" | tr '\n' '\0' >"$listed.new" && mv "$listed.new" "$listed"; } 2>/dev/null
+}
+
 # Puts the program $1 in its place, of the sources of the tree $2 with the digest $3 at the time $4, with what the stamp
 # ends with in $5. At no moment does a stamp stand beside another program than its own.
 install_program() {
     mkdir -p "${program%/*}" && cp "$1" "$program.new" && chmod 755 "$program.new" || return
     rm -f "$stamp"
-    mv "$program.new" "$program" || return
+    mv "$program.new" "$program" && write_list "$2" || return
     {
         printf '%s\n' "$3"
         source_paths "$2"
