@@ -1,5 +1,14 @@
-//! The worked rows of message ports, and other examples that no contract can say, as tests over two processors.
+//! The worked rows of the message book, of lanes and of message ports, and other examples that no contract can say, as tests.
 #![tactic(auto)]
+
+#[cfg(test)]
+mod book_rows;
+#[cfg(test)]
+mod full_books;
+#[cfg(test)]
+mod lane_rows;
+#[cfg(test)]
+mod race_rows;
 
 // A call by the first or by the second processor, with the answer that is wanted.
 #[cfg(test)]

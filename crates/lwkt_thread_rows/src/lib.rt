@@ -1,4 +1,4 @@
-//! Runs on threads: worked rows, and gates, as tests over the crates below.
+//! Machines of scripts, in rounds and on threads: worked rows, and gates, as tests over the crates below.
 #![tactic(auto)]
 
 #[cfg(test)]
@@ -8,7 +8,11 @@ mod few_rows;
 #[cfg(test)]
 mod gates;
 #[cfg(test)]
+mod machine_rows;
+#[cfg(test)]
 mod section_rows;
+#[cfg(test)]
+mod sheets;
 #[cfg(test)]
 mod stop_rows;
 #[cfg(test)]
