@@ -85,17 +85,37 @@ is_number() {
     ((${#digits} < 20)) || [[ ${#digits} -eq 20 && ! $digits > 18446744073709551615 ]]
 }
 
-# What the option $1 wants as its value, where $2 is none, into `odd`.
-judge_value() {
-    local wanted=
-    if is_among "$1" "${numbers[@]}"; then
-        is_number "$2" || wanted='a whole number below 2^64 is wanted'
-    elif is_among "$1" "${ranges[@]}"; then
-        [[ $2 =~ ^(\+?[0-9]+)?\.\.(\+?[0-9]+)?$ ]] || wanted='a range is wanted, as 1..5'
-    elif is_among "$1" "${orders[@]}"; then
-        [[ $2 != *[!0-9\ ,-]* ]] || wanted='an order is wanted, as 0 1 0'
+# Whether the whole number $1 is greater than the whole number $2: it has more digits, or greater ones.
+is_greater() {
+    local one=${1#+} other=${2#+}
+    one=${one#"${one%%[!0]*}"} other=${other#"${other%%[!0]*}"}
+    # shellcheck disable=SC2071 # They are compared as texts.
+    ((${#one} > ${#other})) || [[ ${#one} -eq ${#other} && $one > $other ]]
+}
+
+# What is wrong with the range $1, into `wrong`.
+judge_range() {
+    local from=${1%%..*} to=${1#*..}
+    if [[ ! $1 =~ ^(\+?[0-9]+)?\.\.(\+?[0-9]+)?$ ]]; then
+        wrong='a range is wanted, as 1..5'
+    elif ! is_number "${from:-0}" || ! is_number "${to:-0}"; then
+        wrong='whole numbers below 2^64 are wanted'
+    elif [[ -n $to ]] && is_greater "${from:-0}" "$to"; then
+        wrong='the first number is greater than the last'
     fi
-    [[ -z $wanted ]] || is_known='' odd=${odd:-"$1 $2: $wanted"}
+}
+
+# What is wrong with $2 as the value of the option $1, into `odd`.
+judge_value() {
+    local wrong=
+    if is_among "$1" "${numbers[@]}"; then
+        is_number "$2" || wrong='a whole number below 2^64 is wanted'
+    elif is_among "$1" "${ranges[@]}"; then
+        judge_range "$2"
+    elif is_among "$1" "${orders[@]}"; then
+        [[ $2 != *[!0-9\ ,-]* ]] || wrong='an order is wanted, as 0 1 0'
+    fi
+    [[ -z $wrong ]] || is_known='' odd=${odd:-"$1 $2: $wrong"}
 }
 
 # What is odd about the words that are neither options nor their values, into `odd`. `first` of them have to stand before the
@@ -108,6 +128,8 @@ judge_plain() {
         is_known='' odd=${odd:-"${words[${plain[0]}]}: one of these has to come first: ${modes[*]}"}
     elif ((${#plain[@]} < first)); then
         is_known=
+    elif ((${#plain[@]} == 2 && first == 0 && plain[1] < before)) && is_among "${words[${plain[1]}]}" "${choices[@]}"; then
+        is_known='' odd=${odd:-"${words[${plain[1]}]} has to stand before the file"}
     elif ((${#plain[@]} > first + 1)); then
         is_known='' odd=${odd:-"more than one file: ${words[${plain[first]}]}, ${words[${plain[-1]}]}"}
     fi
