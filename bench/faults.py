@@ -9,6 +9,7 @@ TOP = os.path.dirname(os.path.dirname(os.path.abspath(__file__)))
 RUN = ("lwkt_run", "crates/lwkt/out/lwkt_run", True)
 CHECK = ("lwkt_check", "crates/lwkt_judge/out/lwkt_check", False)
 SHOW = ("lwkt_show", "crates/lwkt_view/out/lwkt_show", False)
+TEXT = ("lwkt_text", "crates/lwkt_texts/out/lwkt_text", False)
 # How long a run may take, in seconds.
 LONGEST = int(os.environ.get("LONGEST", "60"))
 
@@ -22,11 +23,11 @@ def example(name):
         return file.read()
 
 
-# Builds a program by a call that reads an empty script or trace, where it isn't there or is old. With AS_BUILT=1 it is taken as it is.
+# Builds a program by a call that reads an empty script, text or trace, where it isn't there or is old. With AS_BUILT=1 it is taken as it is.
 def build(program):
     if os.environ.get("AS_BUILT") and os.path.exists(os.path.join(TOP, program[1])):
         return
-    words = [] if program is CHECK else ["turns"]
+    words = [] if program is CHECK else ["-", "--json"] if program is TEXT else ["turns"]
     done = subprocess.run([os.path.join(TOP, program[0])] + words, stdin=subprocess.DEVNULL, capture_output=True)
     if done.returncode != 1 or not os.path.exists(os.path.join(TOP, program[1])):
         fail("%s isn't built: %s" % (program[0], done.stderr.decode()[-300:]))

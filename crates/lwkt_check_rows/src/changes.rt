@@ -1,7 +1,8 @@
 //! Traces with one event changed: what the program finds of each is what `State::step` finds, event by event.
-use crate::outputs::said;
 use lwkt_base::{Fault, Row, Section, TokId};
+use lwkt_checker::run_checker;
 use lwkt_core::{Event, State};
+use lwkt_report::Page;
 use lwkt_trace::{Closing, Told, Trace, read_trace};
 use std::alloc::{AllocError, Global};
 use std::test::Fail;
@@ -228,9 +229,9 @@ fn steps(state: &mut State, told: Told) -> bool {
     state.step(&event).is_ok()
 }
 
-/// The index at which a trace fails, event by event: the first one that `State::step` refuses, or their number where the
-/// state doesn't close with the values.
-pub fn failing_at(alloc: Global, bytes: &[u8]) -> Result<Option<usize>, Fault> {
+// The index at which a trace fails, event by event: the first one that `State::step` refuses, or their number where the
+// state doesn't close with the values.
+fn failing_at(alloc: Global, bytes: &[u8]) -> Result<Option<usize>, Fault> {
     let Trace {
         cpus,
         tokens,
@@ -273,12 +274,15 @@ fn front_of(alloc: Global, index: Option<usize>) -> Result<String, AllocError> {
     }
 }
 
-/// Whether the program finds of a trace that it fails at an index, or is lawful.
-pub fn is_found(alloc: Global, text: &str, index: Option<usize>) -> Result<bool, AllocError> {
+// Whether the program finds of a trace that it fails at an index, or is lawful.
+fn is_found(alloc: Global, text: &str, index: Option<usize>) -> Result<bool, AllocError> {
     let front = front_of(alloc, index)?;
-    let said = said(alloc, text.as_bytes(), 0)?;
-    let status = if index.is_none() { 0 } else { 4 };
-    Ok(said.text.starts_with(front.as_bytes()) && said.status == status)
+    let mut source = text.as_bytes();
+    let mut page = Page::with_room(alloc, 0)?;
+    let mut errors = Page::with_room(alloc, 0)?;
+    let status = run_checker(alloc, &[], &mut source, &mut page, &mut errors);
+    let wanted = if index.is_none() { 0 } else { 4 };
+    Ok(page.text.starts_with(front.as_bytes()) && status == wanted)
 }
 
 // What was found, with a trace more, whose event at a place was changed.
