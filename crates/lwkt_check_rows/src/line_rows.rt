@@ -49,7 +49,7 @@ const CLOSES: [&str; 4] = [
 ];
 
 // Lines from the opening on.
-const LINES: [&str; 11] = [
+const LINES: [&str; 29] = [
     "",
     "\n",
     "{\n}\n",
@@ -61,28 +61,24 @@ const LINES: [&str; 11] = [
     "{\"version\":1,\"cpus\":1,\"tokens\":[],\"messages\":[{\"of\":[1,0],\"round\":0}]}",
     "{\"version\":1,\"cpus\":1,\"tokens\":[{\"cells\":[5,6],\"law\":\"sum\",\"param\":10,\"gen\":0}],\"messages\":[]}\n",
     "{\"version\":1,\"cpus\":1,\"tokens\":[{\"cells\":[5,6],\"law\":\"sum\",\"param\":10,\"gen\":0}],\"messages\":[]}\n[\"load\",0,0]\n[]\n",
-];
-
-// What stands behind a small opening.
-const LINES_BEHIND: [&str; 18] = [
-    "",
-    "\n",
-    "\n\n",
-    "\r\n",
-    "\n[\"load\",0,0]\n\n",
-    "\n[\"load\",0,0] [\"load\",0,0]",
-    "\n{}",
-    "\n{\"rows\":[],\"gens\":[],\"tallies\":[],\"messages\":[]}",
-    "\n{\"rows\":[],\"gens\":[],\"tallies\":[],\"messages\":[]}\n\n",
-    "\n{\"rows\":[],\"gens\":[],\"tallies\":[],\"messages\":[]}\n[\"load\",0,0]",
-    "\n[\"load\",1,0]\n[\"load\",0]",
-    "\n[\"take\",00,0]",
-    "\n[\"take\",0,0,]",
-    "\n[\"take\",0,0]]",
-    "\n[\"take\",0,0",
-    "\n[\"take,0,0]",
-    "\n[\"",
-    "\n[\"take\"0,0]",
+    "{\"version\":1,\"cpus\":1,\"tokens\":[],\"messages\":[]}",
+    "{\"version\":1,\"cpus\":1,\"tokens\":[],\"messages\":[]}\n",
+    "{\"version\":1,\"cpus\":1,\"tokens\":[],\"messages\":[]}\n\n",
+    "{\"version\":1,\"cpus\":1,\"tokens\":[],\"messages\":[]}\r\n",
+    "{\"version\":1,\"cpus\":1,\"tokens\":[],\"messages\":[]}\n[\"load\",0,0]\n\n",
+    "{\"version\":1,\"cpus\":1,\"tokens\":[],\"messages\":[]}\n[\"load\",0,0] [\"load\",0,0]",
+    "{\"version\":1,\"cpus\":1,\"tokens\":[],\"messages\":[]}\n{}",
+    "{\"version\":1,\"cpus\":1,\"tokens\":[],\"messages\":[]}\n{\"rows\":[],\"gens\":[],\"tallies\":[],\"messages\":[]}",
+    "{\"version\":1,\"cpus\":1,\"tokens\":[],\"messages\":[]}\n{\"rows\":[],\"gens\":[],\"tallies\":[],\"messages\":[]}\n\n",
+    "{\"version\":1,\"cpus\":1,\"tokens\":[],\"messages\":[]}\n{\"rows\":[],\"gens\":[],\"tallies\":[],\"messages\":[]}\n[\"load\",0,0]",
+    "{\"version\":1,\"cpus\":1,\"tokens\":[],\"messages\":[]}\n[\"load\",1,0]\n[\"load\",0]",
+    "{\"version\":1,\"cpus\":1,\"tokens\":[],\"messages\":[]}\n[\"take\",00,0]",
+    "{\"version\":1,\"cpus\":1,\"tokens\":[],\"messages\":[]}\n[\"take\",0,0,]",
+    "{\"version\":1,\"cpus\":1,\"tokens\":[],\"messages\":[]}\n[\"take\",0,0]]",
+    "{\"version\":1,\"cpus\":1,\"tokens\":[],\"messages\":[]}\n[\"take\",0,0",
+    "{\"version\":1,\"cpus\":1,\"tokens\":[],\"messages\":[]}\n[\"take,0,0]",
+    "{\"version\":1,\"cpus\":1,\"tokens\":[],\"messages\":[]}\n[\"",
+    "{\"version\":1,\"cpus\":1,\"tokens\":[],\"messages\":[]}\n[\"take\"0,0]",
 ];
 
 // What is found of lines, or why nothing is, in words.
@@ -150,12 +146,6 @@ fn one_byte_at_a_time(rt: HostRuntime) -> Result<(), Fail> {
     }
     for lines in LINES {
         expect_same(&rt, alloc, lines)?;
-    }
-    for behind in LINES_BEHIND {
-        let lines = format!(in alloc;
-            "{{\"version\":1,\"cpus\":1,\"tokens\":[],\"messages\":[]}}{behind}"
-        )?;
-        expect_same(&rt, alloc, lines.as_str())?;
     }
     Ok(())
 }
