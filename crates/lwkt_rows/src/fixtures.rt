@@ -1,4 +1,4 @@
-//! What the rows share: the player of tables, scripts with a change, readers and writers that fail.
+//! What the rows share: the player of tables, a script, readers and writers that fail.
 
 use lwkt_fixtures::{Row, first_wrong};
 use std::alloc::Global;
@@ -11,43 +11,9 @@ pub fn play<T: Row>(rt: &impl Abort, alloc: Global, rows: &[T]) {
     assert_eq!(rt; first_wrong(alloc, rows), None);
 }
 
-/// The token of `TALLY_ADD`.
-pub const TOKEN: &str = "{\"cells\":[10],\"law\":\"tally\",\"param\":10,\"gen\":0}";
-
-/// The thread of `TALLY_ADD`.
-pub const THREAD: &str =
-    "{\"cpu\":0,\"repeat\":1,\"steps\":[[\"get\",0],[\"add\",0,5],[\"rel\",0]]}";
-
 /// One token of 10 under Tally, to which one thread adds 5.
 pub const TALLY_ADD: &str =
     "{\"version\":1,\"turns\":50,\"idle\":5,\"cpus\":1,\"tokens\":[{\"cells\":[10],\"law\":\"tally\",\"param\":10,\"gen\":0}],\"messages\":[],\"threads\":[{\"cpu\":0,\"repeat\":1,\"steps\":[[\"get\",0],[\"add\",0,5],[\"rel\",0]]}]}";
-
-/// TALLY_ADD with `new` where `old` stands first. None if it doesn't, or without memory.
-pub fn replaced(alloc: Global, old: &str, new: &str) -> Option<String> {
-    let (front, back) = TALLY_ADD.split_once(old)?;
-    let mut text = String::from_str(alloc, front).ok()?;
-    text.push_str(new).ok()?;
-    text.push_str(back).ok()?;
-    Some(text)
-}
-
-/// So many times the item, with commas between.
-pub fn listed(alloc: Global, item: &str, count: u32) -> Option<String> {
-    let mut text = String::new(alloc);
-    for i in 0..count {
-        if i > 0 {
-            text.push_str(",").ok()?;
-        }
-        text.push_str(item).ok()?;
-    }
-    Some(text)
-}
-
-/// TALLY_ADD with so many times the item in place of the item.
-pub fn repeated(alloc: Global, item: &str, count: u32) -> Option<String> {
-    let items = listed(alloc, item, count)?;
-    replaced(alloc, item, items.as_str())
-}
 
 /// Gives one byte a call, and fails at the call `bad`, the first being call 1.
 #[derive(Drop)]

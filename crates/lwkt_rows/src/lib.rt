@@ -5,8 +5,6 @@
 #[cfg(test)]
 mod base_rows;
 #[cfg(test)]
-mod call_script_rows;
-#[cfg(test)]
 mod core_rows;
 #[cfg(test)]
 mod fixtures;
@@ -15,10 +13,4 @@ mod report_rows;
 #[cfg(test)]
 mod run_rows;
 #[cfg(test)]
-mod script_rows;
-#[cfg(test)]
 mod section_rows;
-#[cfg(test)]
-mod spoil_rows;
-#[cfg(test)]
-mod version_rows;

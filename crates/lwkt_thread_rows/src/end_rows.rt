@@ -38,7 +38,7 @@ const HELD_FOR_GOOD_REPORT: &[u8] =
 pub const CROSSED_CALLS: &[u8] =
     b"{\"version\":1,\"turns\":50,\"idle\":100000000,\"cpus\":2,\"tokens\":[],\"messages\":[{\"of\":[0,0],\"round\":0},{\"of\":[1,0],\"round\":0}],\"threads\":[{\"cpu\":0,\"repeat\":1,\"steps\":[[\"do\",0,1,0,1,10],[\"wait\"],[\"reply\",1,0,21]]},{\"cpu\":1,\"repeat\":1,\"steps\":[[\"wait\"],[\"reply\",0,0,11],[\"do\",1,0,0,2,20]]}]}";
 
-const CROSSED_CALLS_REPORT: &[u8] =
+pub const CROSSED_CALLS_REPORT: &[u8] =
     b"message 0 round 1 rest\nmessage 1 round 1 rest\nthread 0.0 exited list - log r=0:0:11 q=1:2:20\nthread 1.0 exited list - log q=0:1:10 r=1:0:21\nclosed\n";
 
 // Each of three asks the next one, and serves the one before.

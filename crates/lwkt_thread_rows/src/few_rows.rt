@@ -2,7 +2,6 @@
 
 use crate::end_rows::{CALLS_THAT_WAIT, CROSSED_CALLS, FEW, ROUND_OF_CALLS, YIELDS_ON};
 use crate::gates::Counting;
-use crate::thread_rows::FOUR_PROCESSORS_TALLY;
 use lwkt_base::{Fault, ThreadState};
 use lwkt_machine::Machine;
 use lwkt_script::read_script;
@@ -10,6 +9,9 @@ use lwkt_threads::{Limits, Outcome, drive_machine_on_threads};
 use std::alloc::Global;
 use std::test::Fail;
 use std::thread::Threads;
+
+const FOUR_PROCESSORS_TALLY: &[u8] =
+    b"{\"version\":1,\"turns\":10000,\"idle\":100000000,\"cpus\":4,\"tokens\":[{\"cells\":[0],\"law\":\"tally\",\"param\":0,\"gen\":0}],\"messages\":[],\"threads\":[{\"cpu\":0,\"repeat\":1000,\"steps\":[[\"get\",0],[\"add\",0,3],[\"rel\",0]]},{\"cpu\":1,\"repeat\":1000,\"steps\":[[\"get\",0],[\"add\",0,3],[\"rel\",0]]},{\"cpu\":2,\"repeat\":1000,\"steps\":[[\"get\",0],[\"add\",0,3],[\"rel\",0]]},{\"cpu\":3,\"repeat\":1000,\"steps\":[[\"get\",0],[\"add\",0,3],[\"rel\",0]]}]}";
 
 // Whether the first thread of a processor stands so.
 fn stands(machine: &Machine, cpu: usize, want: ThreadState) -> bool {

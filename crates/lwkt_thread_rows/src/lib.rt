@@ -10,8 +10,6 @@ mod gates;
 #[cfg(test)]
 mod machine_rows;
 #[cfg(test)]
-mod section_rows;
-#[cfg(test)]
 mod sheets;
 #[cfg(test)]
 mod stop_rows;
