@@ -193,9 +193,14 @@ sort_words() {
     [[ -n $opens_file ]] || words=("${words[@]:0:at}" "${words[@]:at+1}")
 }
 
-# Makes the file standard input. It is opened once, since a pipe can't be opened twice.
+# Makes the file standard input. It is opened once, since a pipe can't be opened twice. A program that opens its file itself would
+# look for standard input by a name, which isn't there where that is closed.
 open_file() {
     local told
+    if [[ -n $opens_file && -n $has_file && $file = - && ! -e /dev/stdin ]]; then
+        say 'the script could not be read: Bad file descriptor (os error 9)'
+        exit 3
+    fi
     [[ -n $is_known && -z $opens_file && -n $has_file && $file != - ]] || return 0
     if [[ -d $file ]]; then
         told='Is a directory'
