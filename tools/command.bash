@@ -173,6 +173,8 @@ sort_words() {
                 value=$word named+=" $word"
             elif [[ -n $tells && $word = --all ]]; then
                 is_known='' odd='--all has to come first'
+            elif [[ $word = --version ]]; then
+                is_known='' odd='--version has to stand alone'
             elif ! is_among "$word" "${flags[@]}"; then
                 is_known='' odd="no such option: $word"
             fi
