@@ -1,5 +1,5 @@
-//! The worked rows of the model and of the program, and other examples that no contract can say, as tests over the crates
-//! below.
+//! The worked rows of the model, runs over streams that fail, and other examples that no contract can say, as tests over the
+//! crates below. What the program says of whole scripts stands in `examples/rows`.
 #![tactic(auto)]
 
 #[cfg(test)]
