@@ -52,6 +52,7 @@ IsNoted-same plan cpu e e' note held first row added touched first_blob blob not
   own = λ other away. ap (amount other) added ∙ noted'.own other away;
   long = λ is. let l = noted'.long (sym (ap is_held held) ∙ is) in (ap length first ∙ l.0, ap length row ∙ l.1);
   references = noted'.references ∙ sym (ap references_in held);
+  few = noted'.few;
   mode = λ is. ap is_exclusive held ∙ noted'.mode (sym (ap is_held held) ∙ is);
   touched = λ cell is.
       let F : List ℕ → List ℕ → Type 0 = λ f r. IsTouched (touch_at note cell) (slice_index note.first cell) (slice_index f cell) (slice_index r cell) in
@@ -80,6 +81,7 @@ IsNoted-nothing plan cpu e e' note held added noted' = record {
   own = λ other away. ap (amount other) added ∙ noted'.own other away;
   long = λ is. absurd (false≢true (sym (ap is_held held) ∙ is));
   references = sym (ap references_in held);
+  few = omega arith;
   mode = λ is. absurd (false≢true (sym (ap is_held held) ∙ is));
   touched = λ cell is. absurd (false≢true (sym (ap is_exclusive held) ∙ is));
   stored_to = λ cell inside is. absurd (false≢true (sym (ap is_exclusive held) ∙ is));
@@ -89,8 +91,8 @@ IsNoted-nothing plan cpu e e' note held added noted' = record {
 }
 
 -- another holding of a token that is held, in the same mode
-pub IsNoted-held : (plan : Plan) (cpu : ℕ) (e : TokenEntry) (h : Held) (references : ℕ) (note : TokenNote) → is_held e.held ≡ true → (is_held h ≡ true → is_exclusive h ≡ is_exclusive e.held) → references ≡ references_in h → IsNoted plan cpu e note → IsNoted plan cpu (record e { held = h }) (record note { references = references })
-IsNoted-held plan cpu e h references note was same count noted' = record {
+pub IsNoted-held : (plan : Plan) (cpu : ℕ) (e : TokenEntry) (h : Held) (references : ℕ) (note : TokenNote) → is_held e.held ≡ true → (is_held h ≡ true → is_exclusive h ≡ is_exclusive e.held) → references ≡ references_in h → references ≤ 256 → IsNoted plan cpu e note → IsNoted plan cpu (record e { held = h }) (record note { references = references })
+IsNoted-held plan cpu e h references note was same count few noted' = record {
   record_touched = λ is. noted'.record_touched (sym (same (exclusive_held h is)) ∙ is);
   guarded = λ is. noted'.guarded was;
   short = λ is. noted'.short was;
@@ -100,6 +102,7 @@ IsNoted-held plan cpu e h references note was same count noted' = record {
   own = noted'.own;
   long = λ is. noted'.long was;
   references = count;
+  few = few;
   mode = λ is. same is ∙ noted'.mode was;
   touched = λ cell is. noted'.touched cell (sym (same (exclusive_held h is)) ∙ is);
   stored_to = λ cell inside is. noted'.stored_to cell inside (sym (same (exclusive_held h is)) ∙ is);
@@ -132,12 +135,13 @@ more_is (Holds Shared f) held = (refl, refl)
 pub IsNoted-less : (plan : Plan) (cpu : ℕ) (e : TokenEntry) (note : TokenNote) → is_held e.held ≡ true → IsNoted plan cpu e note → IsNoted plan cpu (less e) (record note { references = note.references - 1 })
 IsNoted-less plan cpu e note held noted' =
     let l = less_is e.held held in
-    IsNoted-held plan cpu e (one_less e.held) (note.references - 1) note held l.0 (ap (λ (k : ℕ). k - 1) noted'.references ∙ l.1) noted'
+    let few = noted'.few in
+    IsNoted-held plan cpu e (one_less e.held) (note.references - 1) note held l.0 (ap (λ (k : ℕ). k - 1) noted'.references ∙ l.1) (omega (arith, few)) noted'
 
-pub IsNoted-more : (plan : Plan) (cpu : ℕ) (e : TokenEntry) (note : TokenNote) → is_held e.held ≡ true → IsNoted plan cpu e note → IsNoted plan cpu (more e) (record note { references = note.references + 1 })
-IsNoted-more plan cpu e note held noted' =
+pub IsNoted-more : (plan : Plan) (cpu : ℕ) (e : TokenEntry) (note : TokenNote) → is_held e.held ≡ true → note.references < 256 → IsNoted plan cpu e note → IsNoted plan cpu (more e) (record note { references = note.references + 1 })
+IsNoted-more plan cpu e note held few noted' =
     let m = more_is e.held held in
-    IsNoted-held plan cpu e (one_more e.held Shared) (note.references + 1) note held (λ is. m.0) (ap (λ (k : ℕ). k + 1) noted'.references ∙ m.1) noted'
+    IsNoted-held plan cpu e (one_more e.held Shared) (note.references + 1) note held (λ is. m.0) (ap (λ (k : ℕ). k + 1) noted'.references ∙ m.1) (omega (arith, few)) noted'
 
 -- what is noted of a holding tells it
 mode_told : (m mode : Mode) (f : ℕ) → is_exclusive (Holds m f) ≡ is_exclusive (Holds mode 0) → mode ≡ m
@@ -172,7 +176,7 @@ untouched_at (suc (suc (suc (suc cell)))) = refl
 
 -- a token that was taken with this row
 pub IsNoted-taken : (plan : Plan) (cpu : ℕ) (e : TokenEntry) (word : ℕ) (mode : Mode) (row : List ℕ) (blob : RecordOf) (note : TokenNote) → length row ≡ plan.cells → is_some blob ≡ is_some plan.blob → IsShort blob → IsNoted plan cpu e note → IsNoted plan cpu (taken e word mode row blob) (begun note mode)
-IsNoted-taken plan cpu e word Exclusive row blob note long guard short noted' =
+IsNoted-taken plan cpu e word mode row blob note long guard short noted' =
     let k = seen-keeps e (generation_in word) in
     record {
       record_touched = λ is. record { first_kept = λ s. absurd (false≢true s); same = λ s. refl; other = λ o. absurd (false≢true o) };
@@ -184,6 +188,7 @@ IsNoted-taken plan cpu e word Exclusive row blob note long guard short noted' =
       own = λ other away. ap (amount other) k.5 ∙ noted'.own other away;
       long = λ is. (long, long);
       references = refl;
+      few = omega arith;
       mode = λ is. refl;
       touched = λ cell is.
           let F : Touch → Type 0 = λ t. IsTouched t (slice_index note.first cell) (slice_index row cell) (slice_index row cell) in
@@ -192,25 +197,6 @@ IsNoted-taken plan cpu e word Exclusive row blob note long guard short noted' =
       lasts = noted'.lasts;
       latest = λ cell is stored_to. absurd (false≢true (sym (ap is_stored (untouched_at cell)) ∙ stored_to));
       covered = λ tally is stored_to. absurd (false≢true stored_to);
-    }
-IsNoted-taken plan cpu e word Shared row blob note long guard short noted' =
-    let k = seen-keeps e (generation_in word) in
-    record {
-      record_touched = λ is. absurd (false≢true is);
-      guarded = λ is. (guard, guard);
-      short = λ is bytes its. let F : RecordOf → Type 0 = λ o. IsShort o in subst F its short;
-      four = noted'.four;
-      firsts = noted'.firsts;
-      tally = noted'.tally ∙ sym (ap (amount cpu) k.5);
-      own = λ other away. ap (amount other) k.5 ∙ noted'.own other away;
-      long = λ is. (long, long);
-      references = refl;
-      mode = λ is. refl;
-      touched = λ cell is. absurd (false≢true is);
-      stored_to = λ cell inside is. absurd (false≢true is);
-      lasts = noted'.lasts;
-      latest = λ cell is stored_to. absurd (false≢true is);
-      covered = λ tally is stored_to. absurd (false≢true is);
     }
 
 -- after an entry of a token that exists has changed, no other token is held
@@ -370,6 +356,7 @@ module _ (plan : Plan) (cpu : ℕ) (e : TokenEntry) (note : TokenNote) (noted' :
     own = noted'.own;
     long = λ h. let l = noted'.long h in (l.0, length-set e.row cell change.last ∙ l.1);
     references = noted'.references;
+    few = noted'.few;
     mode = noted'.mode;
     touched = λ k h. touched_there k;
     stored_to = λ k there h. stored_there k there;
@@ -399,6 +386,7 @@ IsNoted-raised plan cpu e note noted' is within change k inside first_is last_is
           omega arith;
       long = λ h. let l = noted'.long h in (l.0, length-set e.row 0 (slice_index e.row 0 + k) ∙ l.1);
       references = noted'.references;
+      few = noted'.few;
       mode = noted'.mode;
       stored_to = λ j there h. stored_there plan cpu.0 e note noted' is within 0 change inside first_is j there;
       lasts = length-set note.last 0 change.last ∙ noted'.lasts;
@@ -417,24 +405,7 @@ IsNoted-raised plan cpu e note noted' is within change k inside first_is last_is
 
 -- a note that was written before an exchange that lost, and taken back
 pub IsNoted-missed : (plan : Plan) (cpu : ℕ) (e : TokenEntry) (mode : Mode) (note : TokenNote) → e.held ≡ Nothing → IsNoted plan cpu e note → IsNoted plan cpu e (record (begun note mode) { references = 0 })
-IsNoted-missed plan cpu e Shared note held noted' = record {
-  record_touched = λ is. absurd (false≢true (sym (ap is_exclusive held) ∙ is));
-  guarded = λ is. absurd (false≢true (sym (ap is_held held) ∙ is));
-  short = λ is. absurd (false≢true (sym (ap is_held held) ∙ is));
-  four = noted'.four;
-  firsts = noted'.firsts;
-  tally = noted'.tally;
-  own = noted'.own;
-  long = λ is. absurd (false≢true (sym (ap is_held held) ∙ is));
-  references = sym (ap references_in held);
-  mode = λ is. absurd (false≢true (sym (ap is_held held) ∙ is));
-  touched = λ cell is. absurd (false≢true (sym (ap is_exclusive held) ∙ is));
-  stored_to = λ cell inside is. absurd (false≢true (sym (ap is_exclusive held) ∙ is));
-  lasts = noted'.lasts;
-  latest = λ cell is stored_to. absurd (false≢true (sym (ap is_exclusive held) ∙ is));
-  covered = λ tally is stored_to. absurd (false≢true (sym (ap is_exclusive held) ∙ is));
-}
-IsNoted-missed plan cpu e Exclusive note held noted' = record {
+IsNoted-missed plan cpu e mode note held noted' = record {
   record_touched = λ is. absurd (false≢true (sym (ap is_exclusive held) ∙ is));
   guarded = λ is. absurd (false≢true (sym (ap is_held held) ∙ is));
   short = λ is. absurd (false≢true (sym (ap is_held held) ∙ is));
@@ -444,6 +415,7 @@ IsNoted-missed plan cpu e Exclusive note held noted' = record {
   own = noted'.own;
   long = λ is. absurd (false≢true (sym (ap is_held held) ∙ is));
   references = sym (ap references_in held);
+  few = omega arith;
   mode = λ is. absurd (false≢true (sym (ap is_held held) ∙ is));
   touched = λ cell is. absurd (false≢true (sym (ap is_exclusive held) ∙ is));
   stored_to = λ cell inside is. absurd (false≢true (sym (ap is_exclusive held) ∙ is));
@@ -470,6 +442,7 @@ IsNoted-wrote plan cpu e note old new touch noted' held blob_is apart =
       own = noted'.own;
       long = noted'.long;
       references = noted'.references;
+      few = noted'.few;
       mode = noted'.mode;
       touched = noted'.touched;
       stored_to = noted'.stored_to;

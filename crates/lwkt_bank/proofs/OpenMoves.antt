@@ -193,6 +193,7 @@ Keeps-new cpu v w kind is =
             own = λ other away. refl;
             long = λ held. absurd (false≢true held);
             references = refl;
+            few = omega arith;
             mode = λ held. absurd (false≢true held);
             touched = λ cell held. absurd (false≢true held);
             stored_to = λ cell inside held. absurd (false≢true held);

@@ -1,7 +1,7 @@
 use Rattle.std.specs.Prelude.{◌≡◌, ◌≢◌, ℕ, ◌+◌, ◌-◌, ◌<◌, ◌≤◌, ◌==◌, if◌then◌else◌, Bool, true, false, List, [], ◌∷◌, length, slice_index, slice_index_or, slice_set, Some, is_some}
 use Rattle.lwkt_base.specs.declared.names.CpuId.{CpuId}
 use Rattle.lwkt_base.specs.declared.names.Mode.{Mode}
-use Rattle.lwkt_base.specs.declared.names.Mode.TheVariants.{Exclusive, Shared}
+use Rattle.lwkt_base.specs.declared.names.Mode.TheVariants.{Exclusive}
 use Rattle.lwkt_base.specs.declared.laws.Law.TheVariants.{Tally}
 use Rattle.lwkt_base.specs.declared.holdings.Held.{Held}
 use Rattle.lwkt_base.specs.declared.holdings.Held.TheVariants.{Nothing, Holds}
@@ -49,8 +49,7 @@ touch_of change = if change.first == change.last then Same else Other
 
 -- the note after the token was taken, and after a store to a cell
 abbrev pub begun : TokenNote → Mode → TokenNote
-begun note Exclusive = record note { record_ = Untouched; cells = Untouched ∷ Untouched ∷ Untouched ∷ Untouched ∷ []; mode = Exclusive; references = 1 }
-begun note Shared = record note { mode = Shared; references = 1 }
+begun note mode = record note { record_ = Untouched; cells = Untouched ∷ Untouched ∷ Untouched ∷ Untouched ∷ []; mode = mode; references = 1 }
 
 abbrev pub note_changed : TokenNote → ℕ → Change → TokenNote
 note_changed note cell change = record note { first = slice_set note.first cell change.first; last = slice_set note.last cell change.last; cells = slice_set note.cells cell (touch_of change) }
@@ -106,6 +105,7 @@ pub record IsNoted (plan : Plan) (cpu : ℕ) (e : TokenEntry) (note : TokenNote)
   pub own : (other : ℕ) → other ≢ cpu → amount other e.added ≡ 0
   pub long : is_held e.held ≡ true → (length e.first ≡ plan.cells) × (length e.row ≡ plan.cells)
   pub references : note.references ≡ references_in e.held
+  pub few : note.references ≤ 256
   pub mode : is_held e.held ≡ true → is_exclusive e.held ≡ is_exclusive (Holds note.mode 0)
   pub touched : (cell : ℕ) → is_exclusive e.held ≡ true → IsTouched (touch_at note cell) (slice_index note.first cell) (slice_index e.first cell) (slice_index e.row cell)
   pub stored_to : (cell : ℕ) → cell < plan.cells → is_exclusive e.held ≡ true → is_stored (touch_at note cell) ≡ is_touched e cell

@@ -1,4 +1,4 @@
-ghost use Rattle.std.specs.Prelude.{◌≡◌, ◌≢◌, ◌↔◌, ◌+◌, ◌-◌, ◌^◌, ◌<◌, length, true, false, IsTrue, MatchOption};
+ghost use Rattle.std.specs.Prelude.{◌≡◌, ◌≢◌, ◌↔◌, ◌+◌, ◌-◌, ◌^◌, ◌<◌, ◌≤◌, length, true, false, IsTrue, MatchOption};
 ghost use Rattle.lwkt_base.specs.Holding.{is_held};
 ghost use Rattle.lwkt_core.specs.Tokens.{IsNotLastExclusive};
 ghost use Rattle.lwkt_bank.specs.Notes.{no_note, held_in, touch_of, begun, note_changed, IsToldApart, Overwrites};
@@ -88,26 +88,27 @@ fn touch_of_record(first: &Blob, blob: &Blob) -> Touch
     }
 }
 
-/// What a seat keeps of one token.
+/// What a seat keeps of one token. What a take writes lies side by side in eight bytes, so that it is one write: the exchange
+/// behind it waits for each.
 #[derive(Clone, Copy)]
 pub struct TokenNote {
     /// The section's first record. It counts only while the token is held exclusively and the record was written. It stands
-    /// first, so that it lies on a multiple of 16 bytes where the seat does.
+    /// first, so that it lies on a multiple of 8 bytes where the seat does.
     pub first_blob: Blob,
-    /// How each cell stands. It counts only while the token is held exclusively.
-    pub cells: [Touch; 4],
-    /// How the record stands. It counts only while the token is held exclusively.
-    pub record_: Touch,
-    /// The mode of the first reference that the seat has.
-    pub mode: Mode,
-    /// How many references it has.
-    pub references: u8,
     /// The first values of the cells that were stored to since the section began.
     pub first: [u64; 4],
     /// Their values now. They count only while the token is held exclusively.
     pub last: [u64; 4],
     /// What this processor has added to the cell of a Tally token.
     pub tally: u64,
+    /// How each cell stands. It counts only while the token is held exclusively.
+    pub cells: [Touch; 4],
+    /// How the record stands. It counts only while the token is held exclusively.
+    pub record_: Touch,
+    /// The mode of the first reference that the seat has.
+    pub mode: Mode,
+    /// How many references it has, 0 to 256.
+    pub references: u16,
 }
 
 impl TokenNote {
@@ -116,11 +117,11 @@ impl TokenNote {
         ensures { result ≡ no_note }
     {
         TokenNote {
+            first_blob: Blob::of(&[]),
             first: [0; 4],
             last: [0; 4],
             tally: 0,
             cells: [Touch::Untouched; 4],
-            first_blob: Blob::of(&[]),
             record_: Touch::Untouched,
             mode: Mode::Exclusive,
             references: 0,
@@ -130,12 +131,13 @@ impl TokenNote {
     /// What the seat holds.
     #[inline]
     pub(crate) fn held(&self) -> Held
+        requires { self.now.references ≤ 256 }
         ensures { result ≡ held_in self.now }
     {
         if self.references == 0 {
             Held::Nothing
         } else {
-            Held::Holds(self.mode, self.references - 1)
+            Held::Holds(self.mode, (self.references - 1) as u8)
         }
     }
 
@@ -153,10 +155,8 @@ impl TokenNote {
     pub(crate) fn take(&mut self, mode: Mode)
         ensures { self.new ≡ begun self.old mode }
     {
-        if matches!(mode, Mode::Exclusive) {
-            self.cells = [Touch::Untouched; 4];
-            self.record_ = Touch::Untouched;
-        }
+        self.cells = [Touch::Untouched; 4];
+        self.record_ = Touch::Untouched;
         self.mode = mode;
         self.references = 1;
     }
@@ -164,7 +164,7 @@ impl TokenNote {
     /// One reference more.
     #[inline]
     pub(crate) fn one_more(&mut self)
-        requires { self.old.references + 1 < 256 }
+        requires { self.old.references < 256 }
         ensures { self.new ≡ record self.old { references = self.old.references + 1 } }
     {
         self.references += 1;
