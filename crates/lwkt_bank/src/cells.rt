@@ -36,8 +36,11 @@ impl CpuSeat {
         requires first { change.first ≡ slice_index (entry self.old tok.0).first cell }
         ensures { Changes self.old self.new tok.0 (stored (entry self.old tok.0) cell change.last) (writes self.old.cpu tok.0 cell change.last ∷ []) }
     {
-        self.notes[tok.0 as usize].change(cell as usize, change);
+        // How the cell stands is noted behind the store, which waits for the writes before it.
+        let note = &mut self.notes[tok.0 as usize];
+        note.keep(cell as usize, change);
         steps::store_cell(bank, &mut self.seat, tok, cell, change.last);
+        note.touch(cell as usize, change);
     }
 
     // Stores a value in a cell of a token that keeps no tallies.
