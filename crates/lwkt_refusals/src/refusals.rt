@@ -7,7 +7,8 @@ use crate::words::Words;
 use lwkt_base::blobs::length_of;
 use lwkt_base::{Fault, TokSpec};
 use lwkt_script::Version;
-use lwkt_script::tokens::tokens_of;
+use lwkt_script::fields::has;
+use lwkt_script::tokens::token;
 use serde_json::Value;
 use std::alloc::{AllocError, Global};
 
@@ -112,21 +113,41 @@ fn show_part(alloc: Global, out: &mut Page, document: Document, bytes: &[u8], pl
     show_words(out, bytes, &words);
 }
 
-// The tokens of a list.
-fn tokens_in(alloc: Global, version: Version, list: Part<'_>) -> Option<Vec<TokSpec>> {
-    let value = Value::from_str(alloc, list.written()).ok()?;
-    tokens_of(alloc, version, value.as_array()?.as_slice()).ok()
-}
-
-// Appends the first token whose opening breaks its law, if there is one.
-fn show_opening(alloc: Global, out: &mut Words, whole: Part<'_>) -> Option<()> {
-    let list = whole.member("tokens")?;
-    let version = if is_second(whole) {
+// The version of scripts that a token is written in: a script says it once, and in a trace each token that names its record is of
+// version 2.
+fn version_of(document: Document, whole: Part<'_>, value: &Value) -> Version {
+    let is_second = match document {
+        Document::Script => is_second(whole),
+        Document::Trace => has(value, "record"),
+    };
+    if is_second {
         Version::Second
     } else {
         Version::First
-    };
-    let tokens = tokens_in(alloc, version, list)?;
+    }
+}
+
+// The tokens of a list.
+fn tokens_in(
+    alloc: Global,
+    document: Document,
+    whole: Part<'_>,
+    list: Part<'_>,
+) -> Option<Vec<TokSpec>> {
+    let value = Value::from_str(alloc, list.written()).ok()?;
+    let mut tokens = Vec::new(alloc);
+    for item in value.as_array()?.as_slice() {
+        let version = version_of(document, whole, item);
+        let spec = token(alloc, version, tokens.as_slice(), item).ok()?;
+        tokens.push(spec).ok()?;
+    }
+    Some(tokens)
+}
+
+// Appends the first token whose opening breaks its law, if there is one.
+fn show_opening(alloc: Global, out: &mut Words, document: Document, whole: Part<'_>) -> Option<()> {
+    let list = whole.member("tokens")?;
+    let tokens = tokens_in(alloc, document, whole, list)?;
     for (number, spec) in tokens.iter().enumerate() {
         if !spec
             .law
@@ -143,9 +164,9 @@ fn show_opening(alloc: Global, out: &mut Words, whole: Part<'_>) -> Option<()> {
 }
 
 // Appends why the opening is refused.
-fn show_opening_fault(alloc: Global, out: &mut Page, bytes: &[u8]) {
+fn show_opening_fault(alloc: Global, out: &mut Page, document: Document, bytes: &[u8]) {
     let mut words = Words::new(alloc);
-    match show_opening(alloc, &mut words, Part::whole(bytes)) {
+    match show_opening(alloc, &mut words, document, Part::whole(bytes)) {
         Some(()) => show_words(out, bytes, &words),
         None => out.fault("", Fault::LawBroken),
     }
@@ -165,7 +186,7 @@ pub fn refusal(
     match fault {
         Fault::Script { place: 0 } => show_text(alloc, &mut out, document, bytes),
         Fault::Script { place } => show_part(alloc, &mut out, document, bytes, place),
-        Fault::LawBroken => show_opening_fault(alloc, &mut out, bytes),
+        Fault::LawBroken => show_opening_fault(alloc, &mut out, document, bytes),
         _ => out.fault("", fault),
     }
     out.whole()
