@@ -5,15 +5,19 @@
 # shellcheck disable=SC2154 # These two are set where this is read.
 
 # What a command reads, and whether it opens its file itself; the words of which one has to stand first, and those of which one
-# may; its options without a value, and those with one: a number, a range of them, an order of turns, or a path; whether it can tell
-# how far it is, and be ended with what it found (`tells`).
-modes=() choices=() flags=() numbers=() ranges=() orders=() paths=() opens_file='' tells=''
+# may; its options without a value, and those with one: a number, a range of them, an order of turns, or a path; of which words two
+# don't go together (`A..B` is a range that leaves something out), and which wants another beside it; whether an option may stand
+# only `once`; whether it can tell how far it is, and be ended with what it found (`tells`).
+modes=() choices=() flags=() numbers=() ranges=() orders=() paths=() apart=() beside=() once='' opens_file='' tells=''
 case $program_name in
     lwkt_run)
         reads=script modes=(turns threads)
         ;;
     lwkt_show)
         reads=script modes=(turns threads) flags=(--svg --trace --chains) ranges=(--turns --rounds) orders=(--order)
+        apart=(threads+--order threads+--turns threads+--rounds threads+--svg threads+--trace --order+--rounds --turns+--rounds
+            --svg+--trace --svg+--chains --trace+--chains A..B+--trace A..B+--chains)
+        beside=(threads+--chains) once=yes
         ;;
     lwkt_check)
         reads=trace choices=(lines)
@@ -93,6 +97,12 @@ is_greater() {
     ((${#one} > ${#other})) || [[ ${#one} -eq ${#other} && $one > $other ]]
 }
 
+# Whether the range $1 leaves nothing out.
+is_whole() {
+    local from=${1%%..*} to=${1#*..}
+    ! is_greater "${from:-0}" 0 && ! is_greater 18446744073709551615 "${to:-18446744073709551615}"
+}
+
 # What is wrong with the range $1, into `wrong`.
 judge_range() {
     local from=${1%%..*} to=${1#*..}
@@ -105,17 +115,38 @@ judge_range() {
     fi
 }
 
-# What is wrong with $2 as the value of the option $1, into `odd`.
+# What is wrong with $2 as the value of the option $1, into `odd`; a range that leaves something out, with its option, into `part`.
 judge_value() {
     local wrong=
     if is_among "$1" "${numbers[@]}"; then
         is_number "$2" || wrong='a whole number below 2^64 is wanted'
     elif is_among "$1" "${ranges[@]}"; then
         judge_range "$2"
+        [[ -n $wrong ]] || is_whole "$2" || named+=' A..B' part="$1 $2"
     elif is_among "$1" "${orders[@]}"; then
         [[ $2 != *[!0-9\ ,-]* ]] || wrong='an order is wanted, as 0 1 0'
     fi
     [[ -z $wrong ]] || is_known='' odd=${odd:-"$1 $2: $wrong"}
+}
+
+# Whether the option or the mode $1 is named.
+is_named() {
+    [[ "$named " = *" $1 "* ]]
+}
+
+# What is odd about the option $1, into `odd`; it is named from here on, and its value awaited.
+judge_option() {
+    if is_among "$1" "${valued[@]}"; then
+        value=$1
+    elif [[ -n $tells && $1 = --all ]]; then
+        is_known='' odd='--all has to come first'
+    elif [[ $1 = --version ]]; then
+        is_known='' odd='--version has to stand alone'
+    elif ! is_among "$1" "${flags[@]}"; then
+        is_known='' odd="no such option: $1"
+    fi
+    [[ -z $once ]] || ! is_named "$1" || is_known='' odd=${odd:-"$1 stands twice"}
+    named+=" $1"
 }
 
 # What is odd about the words that are neither options nor their values, into `odd`. `first` of them have to stand before the
@@ -126,8 +157,11 @@ judge_plain() {
     fi
     if ((${#plain[@]} > 0 && first == 1)) && ! is_among "${words[${plain[0]}]}" "${modes[@]}" "${choices[@]}"; then
         is_known='' odd=${odd:-"${words[${plain[0]}]}: one of these has to come first: ${modes[*]}"}
+    elif ((${#plain[@]} > 0 && first == 1 && plain[0] > 0)); then
+        is_known='' odd=${odd:-"${words[${plain[0]}]} has to come first"}
     elif ((${#plain[@]} < first)); then
-        is_known=
+        is_known=''
+        [[ -z $named ]] || odd=${odd:-"one of these has to come first: ${modes[*]}"}
     elif ((${#plain[@]} == 2 && first == 0 && plain[1] < before)) && is_among "${words[${plain[1]}]}" "${choices[@]}"; then
         is_known='' odd=${odd:-"${words[${plain[1]}]} has to stand before the file"}
     elif ((${#plain[@]} > first + 1)); then
@@ -135,14 +169,40 @@ judge_plain() {
     fi
 }
 
+# Whether the word $1 is the second one, the file left out.
+stands_second() {
+    local at=1
+    ((${#plain[@]} < 2 || plain[1] != 1)) || at=2
+    [[ ${words[at]:-} = "$1" ]]
+}
+
+# What is odd about the words that are named beside each other, into `odd`: two don't go together, one lacks another, or an order
+# doesn't stand right behind the mode.
+judge_named() {
+    local pair one other
+    ((first == 0 || ${#plain[@]} == 0)) || named+=" ${words[${plain[0]}]}"
+    for pair in "${apart[@]}"; do
+        one=${pair%+*} other=${pair#*+}
+        ! is_named "$one" || ! is_named "$other" || is_known='' odd=${odd:-"${one/A..B/$part} and $other don't go together"}
+    done
+    for pair in "${beside[@]}"; do
+        one=${pair%+*} other=${pair#*+}
+        ! is_named "$one" || is_named "$other" || is_known='' odd=${odd:-"$one wants $other beside it"}
+    done
+    for one in "${orders[@]}"; do
+        ! is_named "$one" || stands_second "$one" || is_known='' odd=${odd:-"$one has to stand right behind ${modes[0]}"}
+    done
+}
+
 # What is odd about the words of a program that opens its file itself, into `odd`: it takes one file and one option, in either
 # order, and then nothing is.
 judge_pair() {
     local word options=()
     if ((${#words[@]} == 2)) && { is_among "${words[1]}" "${flags[@]}" || is_among "${words[0]}" "${flags[@]}"; }; then
-        odd=
+        odd='' is_known=yes
         return
     fi
+    is_known=
     for word in "${words[@]}"; do
         ! is_among "$word" "${flags[@]}" || options+=("$word")
     done
@@ -159,7 +219,7 @@ judge_pair() {
 # no option and no option's value, if there is one (`has_file`). `is_known` says whether the program will read, and
 # `odd` what is odd about words that it won't take, where that can be said; `idle` which of them does nothing.
 sort_words() {
-    local word behind='' value='' named='' plain=() first=0 at before=$#
+    local word behind='' value='' named='' part='' plain=() first=0 at before=$#
     words=() file='' has_file='' is_known=yes odd='' idle=''
     for word in "$@"; do
         if [[ -n $value ]]; then
@@ -169,15 +229,7 @@ sort_words() {
             behind=yes before=${#words[@]}
             continue
         elif [[ -z $behind && $word = -?* ]]; then
-            if is_among "$word" "${valued[@]}"; then
-                value=$word named+=" $word"
-            elif [[ -n $tells && $word = --all ]]; then
-                is_known='' odd='--all has to come first'
-            elif [[ $word = --version ]]; then
-                is_known='' odd='--version has to stand alone'
-            elif ! is_among "$word" "${flags[@]}"; then
-                is_known='' odd="no such option: $word"
-            fi
+            judge_option "$word"
         else
             plain+=("${#words[@]}")
         fi
@@ -187,6 +239,7 @@ sort_words() {
     [[ $named != *' --seed'* || $named = *' --random'* ]] || idle='--seed does nothing without --random'
     ((${#modes[@]} == 0)) || first=1
     judge_plain
+    judge_named
     [[ -z $opens_file ]] || judge_pair
     ((${#plain[@]} > first)) || return 0
     at=${plain[-1]}
