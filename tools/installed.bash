@@ -9,6 +9,18 @@ show_version() {
     cat -- "$home/$program_name.version" && echo "program: installed, $home/$program_name"
 }
 
+# Starts the program on words that it won't take, and ends. The program says how it is called; its example has the path that leads to
+# the command in a tree, which is left out. Comes back only where standard output is closed.
+start_refused() {
+    local told status
+    [[ -e /dev/stdout ]] || return 0
+    [[ -z $odd ]] || say "$odd"
+    { told=$("$home/$program_name" "${words[@]}" 2>&1 >&3 3>&-); } 3>&1
+    status=$?
+    [[ -z $told ]] || printf '%s\n' "${told/$'\n'example: .\//$'\n'example: }" >&2
+    exit "$status"
+}
+
 if wants_help "$@"; then
     end_with show_help
 elif (($# == 1)) && [[ $1 = --version ]]; then
@@ -17,6 +29,7 @@ elif wants_all "$@"; then
     try_all "$file" "$@"
 fi
 sort_words "$@"
+[[ -n $is_known ]] || start_refused
 open_file
 choose_notice
 start_program "$home/$program_name"
