@@ -1,9 +1,9 @@
 //! Runs on threads that can't go on: each ends long before its idle turns are used up, and none ends while it can go on.
 
 use crate::gates::{Counting, Slow, Stops};
+use crate::thread_rows::run;
 use lwkt_base::CpuId;
-use lwkt_report::Page;
-use lwkt_run::{End, Gate, RunFault, run_threads_gated};
+use lwkt_run::{End, Gate};
 use std::alloc::Global;
 use std::test::Fail;
 use std::thread::Threads;
@@ -54,21 +54,6 @@ const CALLS_AN_ENDED_ONE: &[u8] =
 
 const CALLS_AN_ENDED_ONE_REPORT: &[u8] =
     b"message 0 round 1 rest\nthread 0.0 exited list - log r=0:30:0\nthread 1.0 exited list - log -\nclosed\n";
-
-// A run through a gate: how it ends, and its report.
-fn run<R: Threads + Sync, G: Gate + Sync>(
-    rt: &R,
-    alloc: Global,
-    script: &[u8],
-    gate: &G,
-) -> (Result<End, RunFault>, Option<Page>) {
-    let mut source = script;
-    let Ok(mut page) = Page::with_room(alloc, 4096) else {
-        return (Err(RunFault::Stream), None);
-    };
-    let end = run_threads_gated(rt, alloc, &mut source, &mut page, gate);
-    (end, Some(page))
-}
 
 // Whether a run through a gate ends so, with this report.
 fn ends_as<R: Threads + Sync, G: Gate + Sync>(
