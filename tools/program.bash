@@ -10,6 +10,9 @@
 programs=(lwkt_run lwkt_check lwkt_show lwkt_text lwkt_explore)
 declare -gA crate_of=([lwkt_run]=lwkt [lwkt_check]=lwkt_judge [lwkt_show]=lwkt_view [lwkt_text]=lwkt_texts [lwkt_explore]=lwkt_explorer)
 
+# What is said where there is no `rt`.
+no_rt="rt, the command of the Rattle kit, isn't on the PATH"
+
 # Chooses the program of this name.
 choose_program() {
     program_name=$1
@@ -142,10 +145,18 @@ is_shipped_whole() {
     [[ $(sha256sum <"$shipped") = "$shipped_digest  -" ]]
 }
 
+# The kit that made the program that is there, into `program_kit`; nothing where that isn't known.
+find_kit() {
+    program_kit=$(sed -n '$s/^by //p' "$stamp" 2>/dev/null)
+    if is_from_shipped && read_shipped && [[ $(sha256sum <"$program") = "$shipped_digest  -" ]]; then
+        program_kit=$shipped_kit
+    fi
+}
+
 # What a build lacks, if anything.
 lacking() {
     if ! command -v rt >/dev/null; then
-        echo "rt, the command of the Rattle kit, isn't on the PATH"
+        echo "$no_rt"
     elif [[ ! -w ${program%/*/*} || -d ${program%/*} && ! -w ${program%/*} ]]; then
         echo "this tree can't be written"
     fi

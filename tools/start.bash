@@ -44,10 +44,12 @@ start_shipped() {
     [[ -n $lack ]] || start_program "${place:-$shipped}"
 }
 
-# Which program would be started.
+# Which program would be started, and by which kit it was made, where that is known.
 tell_program() {
-    local lack origin='built here' where=crates/$program_crate/out/$program_name
+    local lack origin='built here' program_kit where=crates/$program_crate/out/$program_name
     ! is_from_shipped || origin=shipped
+    find_kit
+    where+=${program_kit:+, by $program_kit}
     if is_current || is_same; then
         echo "$origin, $where"
         return
@@ -67,11 +69,19 @@ tell_program() {
     fi
 }
 
+# Which kit `rt` is of.
+tell_kit() {
+    if ! command -v rt >/dev/null; then
+        echo "$no_rt"
+    else
+        rt version 2>/dev/null || echo "unknown, rt version failed"
+    fi
+}
+
 show_version() {
-    local commit=unknown kit
+    local commit=unknown
     [[ ! -e $top/.git ]] || commit=$(git -C "$top" rev-parse --short HEAD 2>/dev/null) || commit=unknown
-    kit=$(rt version 2>/dev/null) || kit='not found'
-    printf '%s: commit %s\nkit: %s\nprogram: %s\n' "$program_name" "$commit" "$kit" "$(tell_program)"
+    printf '%s: commit %s\nkit: %s\nprogram: %s\n' "$program_name" "$commit" "$(tell_kit)" "$(tell_program)"
 }
 
 if wants_help "$@"; then
