@@ -1,8 +1,8 @@
 # How the commands lwkt_run, lwkt_check, lwkt_show, lwkt_text and lwkt_explore understand their words, in the tree and
-# installed: help, a file in place of standard input, the line for a terminal. Read with the command's name in `program_name`
-# and the folder of its help in `help_folder`; "$@" are the words of the call. lwkt_text opens its file itself, since it says
-# its name.
-# shellcheck disable=SC2154 # These two are set where this is read.
+# installed: a file in place of standard input, the line for a terminal, and whether they ask for what a command answers itself.
+# Read with the command's name in `program_name`; "$@" are the words of the call. lwkt_text opens its file itself, since it
+# says its name.
+# shellcheck disable=SC2034,SC2154 # Of these names some are used, and some are set, where this is read.
 
 # What a command reads, and whether it opens its file itself; the words of which one has to stand first, and those of which one
 # may; its options without a value, and those with one: a number, a range of them, an order of turns, or a path; of which words two
@@ -30,9 +30,6 @@ case $program_name in
         ;;
 esac
 valued=("${numbers[@]}" "${ranges[@]}" "${orders[@]}" "${paths[@]}")
-# A small input that a program says `lawful` of, by which is tried whether it runs here.
-small_script='{"version":1,"turns":1,"idle":1,"cpus":1,"tokens":[],"messages":[],"threads":[]}'
-small_trace='{"version":1,"cpus":1,"tokens":[],"messages":[],"events":[],"last":null}'
 
 say() {
     printf '%s: %s\n' "$program_name" "$*" >&2
@@ -45,26 +42,6 @@ is_among() {
         [[ $1 != "$word" ]] || return 0
     done
     return 1
-}
-
-# Runs the command $1 with the words behind it. Where what it writes can't be written, that is the end, with status 3; it is said
-# unless nobody reads it any more.
-put() {
-    local told
-    { told=$("$@" 2>&1 >&3); } 3>&1 && return
-    told=${told##*: }
-    [[ -z $told || $told = 'Broken pipe' ]] || say "this could not be written: $told"
-    exit 3
-}
-
-# Runs the command $1 with the words behind it, and ends.
-end_with() {
-    put "$@"
-    exit
-}
-
-show_help() {
-    cat -- "$help_folder/$program_name.txt"
 }
 
 # Whether these words ask for the help.
@@ -315,51 +292,8 @@ wants_all() {
     [[ -n $tells && ${1:-} = --all ]]
 }
 
-# Calls the command $1 on each script and each text of the folder $3, with the options behind it; a file passes where the status is 0.
-# What is said of one that doesn't is shown.
-try_all() {
-    local command=$1 folder=${3:-} file='' said status passed=0 failed=0
-    if [[ -z $folder || $folder = -* ]]; then
-        say "--all wants a folder behind it"
-        exit 1
-    elif [[ ! -d $folder ]]; then
-        say "$folder: no such folder"
-        exit 1
-    fi
-    sort_words "${@:4}"
-    if [[ -z $is_known || -n $has_file ]]; then
-        say "${odd:-"$file: --all takes no file"}"
-        exit 1
-    fi
-    for file in "$folder"/*.lwkt "$folder"/*.json; do
-        [[ -e $file ]] || continue
-        status=0
-        said=$("$command" "${@:4}" -- "$file" 2>&1) || status=$?
-        if ((status == 0)); then
-            passed=$((passed + 1))
-        else
-            failed=$((failed + 1))
-            put printf '%s: status %s\n%s\n' "${file##*/}" "$status" "$said"
-        fi
-    done
-    if ((passed + failed == 0)); then
-        say "$folder: no file there ends in .lwkt or .json"
-        exit 1
-    fi
-    put echo "$passed passed, $failed failed"
-    ((failed == 0)) || exit 5
-    exit 0
-}
-
-# Whether the program $1 works on this machine. A program that the system can't load may end with status 1 too, so it has
-# to do some work.
-runs_here() {
-    local said input=$small_script try=("$1")
-    [[ -x $1 ]] || return
-    ((${#modes[@]} == 0)) || try+=("${modes[0]}")
-    [[ -z $opens_file ]] || try+=(/dev/stdin --run)
-    [[ $reads = script ]] || input=$small_trace
-    { said=$(printf '%s' "$input" | "${try[@]}"); } 2>/dev/null
-    # (what tells how far it is ends with what it searched)
-    [[ ${said##*$'\n'} = lawful || (-n $tells && $said = *'; complete') ]]
+# Whether these words ask for what a command answers itself, by tools/answers.bash: its help, its version, a run of each file of a
+# folder.
+wants_answer() {
+    wants_help "$@" || wants_all "$@" || [[ $# -eq 1 && $1 = --version ]]
 }

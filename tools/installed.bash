@@ -21,12 +21,10 @@ start_refused() {
     exit "$status"
 }
 
-if wants_help "$@"; then
-    end_with show_help
-elif (($# == 1)) && [[ $1 = --version ]]; then
-    end_with show_version
-elif wants_all "$@"; then
-    try_all "$file" "$@"
+if wants_answer "$@"; then
+    # shellcheck source=tools/answers.bash
+    source "$home/answers.bash"
+    answer "$@"
 fi
 sort_words "$@"
 [[ -n $is_known ]] || start_refused

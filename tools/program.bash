@@ -1,28 +1,16 @@
 # The programs of this tree: a program's sources, their digest, the stamp beside the program that names both, and the
-# program that is shipped in dist/. Read by tools/start.bash, tools/build, tools/ship, tools/install and check, with the
+# program that is shipped in dist/. Read by tools/slow_start.bash, tools/build, tools/ship, tools/install and check, with the
 # tree in `top`; `choose_program` chooses one. The stamp's first line is the digest; the paths of the sources follow, and
 # last `by` and the kit that built the program here, or `from` and the place that it was taken from. The stamp's time is
 # that of the sources: what is newer has changed since. Beside it lies the list of these paths once more, for one command
 # that looks at the times of all.
 # shellcheck disable=SC2034,SC2154 # Of these names some are used, and some are set, where this is read.
 
-# The programs, each with its crate.
-programs=(lwkt_run lwkt_check lwkt_show lwkt_text lwkt_explore)
-declare -gA crate_of=([lwkt_run]=lwkt [lwkt_check]=lwkt_judge [lwkt_show]=lwkt_view [lwkt_text]=lwkt_texts [lwkt_explore]=lwkt_explorer)
+# shellcheck source=tools/current.bash
+source "$top/tools/current.bash"
 
 # What is said where there is no `rt`.
 no_rt="rt, the command of the Rattle kit, isn't on the PATH"
-
-# Chooses the program of this name.
-choose_program() {
-    program_name=$1
-    program_crate=${crate_of[$1]}
-    place=crates/$program_crate/out/$program_name
-    program=$top/$place
-    stamp=$program.stamp
-    listed=$program.sources
-    shipped=$top/dist/x86_64-linux/$program_name
-}
 
 declare -gA below=() line_of=()
 crates=()
@@ -81,27 +69,6 @@ source_digest() {
         done
         (cd "$1" && find "${folders[@]}" -type f -print0 | LC_ALL=C sort -z | xargs -0 sha256sum)
     } | sha256sum
-}
-
-# Whether no source that the stamp names is newer than it. (Its last line names no file, and so nothing newer.)
-is_newest() {
-    local lines=() path
-    { mapfile -t lines <"$stamp"; } 2>/dev/null && ((${#lines[@]} > 1)) || return 1
-    for path in "${lines[@]:1}"; do
-        [[ ! $top/$path -nt $stamp ]] || return 1
-    done
-}
-
-# Whether the program is there and no source is newer than its stamp. One command looks at all of them, by their list; a find
-# that can't read one (before findutils 4.9), or that misses a file, leaves it to the slower way.
-is_current() {
-    local newer
-    [[ -x $program && -s $stamp && -s $listed ]] || return 1
-    if newer=$(cd -- "$top" && exec find -files0-from "$place.sources" -maxdepth 0 -newer "$place.stamp" -print -quit 2>/dev/null); then
-        [[ -z $newer ]]
-    else
-        [[ -z $newer ]] && is_newest
-    fi
 }
 
 # Whether the program is there and its sources have the stamp's digest, whatever their times. They then count as old.
