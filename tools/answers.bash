@@ -6,8 +6,10 @@
 # Runs the command $1 with the words behind it. Where what it writes can't be written, that is the end, with status 3; it is said
 # unless nobody reads it any more.
 put() {
-    local told
-    { told=$("$@" 2>&1 >&3); } 3>&1 && return
+    local told='Bad file descriptor'
+    if { : 3>&1; } 2>/dev/null; then
+        { told=$("$@" 2>&1 >&3); } 3>&1 && return
+    fi
     told=${told##*: }
     [[ -z $told || $told = 'Broken pipe' ]] || say "this could not be written: $told"
     exit 3

@@ -83,14 +83,20 @@ is_same() {
     return 0
 }
 
+# Whether the stamp's last line is this one.
+is_stamped() {
+    local lines=()
+    { mapfile -t lines <"$stamp"; } 2>/dev/null && ((${#lines[@]} > 0)) && [[ ${lines[-1]} = "$1" ]]
+}
+
 # Whether the program that is there is the shipped one, and wasn't built here.
 is_from_shipped() {
-    grep -qsxF -- "from ${shipped#"$top"/}" "$stamp"
+    is_stamped "from ${shipped#"$top"/}"
 }
 
 # Whether the program that is there was built here by the kit $1.
 is_made_by() {
-    grep -qsxF -- "by $1" "$stamp"
+    is_stamped "by $1"
 }
 
 # What is said of the shipped program: the digests of its sources and of itself, and the kit that made it.
