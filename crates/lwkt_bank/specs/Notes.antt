@@ -51,14 +51,8 @@ touch_of change = if change.first == change.last then Same else Other
 abbrev pub begun : TokenNote → Mode → TokenNote
 begun note mode = record note { record_ = Untouched; cells = Untouched ∷ Untouched ∷ Untouched ∷ Untouched ∷ []; mode = mode; references = 1 }
 
-abbrev pub values_kept : TokenNote → ℕ → Change → TokenNote
-values_kept note cell change = record note { first = slice_set note.first cell change.first; last = slice_set note.last cell change.last }
-
-abbrev pub cell_touched : TokenNote → ℕ → Change → TokenNote
-cell_touched note cell change = record note { cells = slice_set note.cells cell (touch_of change) }
-
 abbrev pub note_changed : TokenNote → ℕ → Change → TokenNote
-note_changed note cell change = cell_touched (values_kept note cell change) cell change
+note_changed note cell change = record note { first = slice_set note.first cell change.first; last = slice_set note.last cell change.last; cells = slice_set note.cells cell (touch_of change) }
 
 -- the note after the record was written: its first one is kept, and whether it is another now
 abbrev pub note_wrote : TokenNote → List ℕ → Touch → TokenNote

@@ -36,11 +36,10 @@ impl CpuSeat {
         requires first { change.first ≡ slice_index (entry self.old tok.0).first cell }
         ensures { Changes self.old self.new tok.0 (stored (entry self.old tok.0) cell change.last) (writes self.old.cpu tok.0 cell change.last ∷ []) }
     {
-        // How the cell stands is noted behind the store, which waits for the writes before it.
+        // Noted behind the store, which waits for the writes before it.
         let note = &mut self.notes[tok.0 as usize];
-        note.keep(cell as usize, change);
         steps::store_cell(bank, &mut self.seat, tok, cell, change.last);
-        note.touch(cell as usize, change);
+        note.change(cell as usize, change);
     }
 
     // Stores a value in a cell of a token that keeps no tallies.
@@ -130,8 +129,9 @@ impl CpuSeat {
         requires under { amount self.old.cpu.0 (entry self.old tok.0).added ≤ slice_index (entry self.old tok.0).row 0 }
         ensures { Changes self.old self.new tok.0 (raised (entry self.old tok.0) self.old.cpu k) (writes self.old.cpu tok.0 0 change.last ∷ []) }
     {
-        self.notes[tok.0 as usize].raise(change, k);
+        let note = &mut self.notes[tok.0 as usize];
         steps::raise_cell(bank, &mut self.seat, tok, change.last);
+        note.raise(change, k);
     }
 
     // The value of the cell of a Tally token, loaded; it is at least what this processor has added.

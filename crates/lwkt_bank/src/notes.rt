@@ -1,7 +1,7 @@
 ghost use Rattle.std.specs.Prelude.{◌≡◌, ◌≢◌, ◌↔◌, ◌+◌, ◌-◌, ◌^◌, ◌<◌, ◌≤◌, length, true, false, IsTrue, MatchOption};
 ghost use Rattle.lwkt_base.specs.Holding.{is_held};
 ghost use Rattle.lwkt_core.specs.Tokens.{IsNotLastExclusive};
-ghost use Rattle.lwkt_bank.specs.Notes.{no_note, held_in, touch_of, begun, values_kept, cell_touched, note_changed, IsToldApart, Overwrites};
+ghost use Rattle.lwkt_bank.specs.Notes.{no_note, held_in, touch_of, begun, note_changed, IsToldApart, Overwrites};
 
 use lwkt_base::{Blob, Held, Mode};
 
@@ -187,23 +187,16 @@ impl TokenNote {
         self.references = 0;
     }
 
-    /// The cell's first value, and the one that is about to be stored, are kept.
+    /// The cell was stored to: its first value and the stored one are kept, and how it stands.
     #[inline]
-    pub(crate) fn keep(&mut self, cell: usize, change: Change)
+    pub(crate) fn change(&mut self, cell: usize, change: Change)
         requires first { cell < length self.old.first }
         requires last { cell < length self.old.last }
-        ensures { self.new ≡ values_kept self.old cell change }
+        requires inside { cell < length self.old.cells }
+        ensures { self.new ≡ note_changed self.old cell change }
     {
         self.first[cell] = change.first;
         self.last[cell] = change.last;
-    }
-
-    /// The cell was stored to.
-    #[inline]
-    pub(crate) fn touch(&mut self, cell: usize, change: Change)
-        requires { cell < length self.old.cells }
-        ensures { self.new ≡ cell_touched self.old cell change }
-    {
         self.cells[cell] = change.touch();
     }
 
@@ -232,8 +225,7 @@ impl TokenNote {
         requires fits { self.old.tally + k < 2 ^ 64 }
         ensures { self.new ≡ record (note_changed self.old 0 change) { tally = self.old.tally + k } }
     {
-        self.keep(0, change);
-        self.touch(0, change);
+        self.change(0, change);
         self.tally += k;
     }
 }

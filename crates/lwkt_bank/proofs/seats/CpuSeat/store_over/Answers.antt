@@ -1,6 +1,5 @@
-use Rattle.std.proofs.Common.{refl, ap, length-set, ◌∙◌}
-use Rattle.lwkt_bank.specs.declared.notes.TokenNote.{TokenNote}
-use Rattle.lwkt_bank.specs.Notes.{note_at, cell_touched, note_changed}
+use Rattle.std.proofs.Common.{refl, length-set, ◌∙◌}
+use Rattle.lwkt_bank.specs.Notes.{note_at, note_changed}
 use Rattle.lwkt_bank.specs.Views.{stored}
 use Rattle.lwkt_bank.specs.Deeds.{writes}
 use Rattle.lwkt_bank.specs.Seats.{entry}
@@ -15,7 +14,7 @@ invariant_of-self c =
     let e = entry s t in
     let noted' = IsNoted-stored _ s.cpu.0 e (note_at s.notes t) (s.kept.each t c.requires.there) c.requires.held (short_row c.args.bank.now s t c.requires.of) c.args.cell c.args.change c.requires.inside c.requires.first c.requires.untallied in
     record {
-      kept = keeps_changed s c.store_cell.new.seat.me.0 t (stored e c.args.cell c.args.change.last) c.store_cell.ensures.stores.0 _ (λ m. note_changed m c.args.cell c.args.change) _ c.touch.new.self (room_of c.args.bank.now s t c.requires.of c.requires.there) c.store_cell.ensures.stores.1.1 c.requires.there (entry_tok s t) (c.touch.ensures ∙ ap (λ (m : TokenNote). cell_touched m c.args.cell c.args.change) c.keep.ensures) noted';
+      kept = keeps_changed s c.store_cell.new.seat.me.0 t (stored e c.args.cell c.args.change.last) c.store_cell.ensures.stores.0 _ (λ m. note_changed m c.args.cell c.args.change) _ c.change.new.self (room_of c.args.bank.now s t c.requires.of c.requires.there) c.store_cell.ensures.stores.1.1 c.requires.there (entry_tok s t) c.change.ensures noted';
       hands = still_hands s c.store_cell.new.seat c.args.tok.0 (stored e c.args.cell c.args.change.last) c.store_cell.ensures.stores.0 _ c.store_cell.ensures.same.slots c.store_cell.ensures.stores.1.1 (entry_tok s c.args.tok.0) refl refl;
       sized = length-set s.notes t _ ∙ s.sized;
     }
