@@ -50,8 +50,8 @@ pub(crate) fn show_member(out: &mut Words, part: Part<'_>, within: Bounds) -> bo
     true
 }
 
-/// Appends which of these members a part lacks, or which other one it has; says whether it does.
-pub(crate) fn show_members(out: &mut Words, part: Part<'_>, names: &[&'static str]) -> bool {
+// Appends which of these members a part lacks; says whether it lacks one.
+fn show_lacking(out: &mut Words, part: Part<'_>, names: &[&'static str]) -> bool {
     out.point(part);
     if !part.is_object() {
         out.add("it is no object");
@@ -63,14 +63,49 @@ pub(crate) fn show_members(out: &mut Words, part: Part<'_>, names: &[&'static st
             return true;
         }
     }
-    let Some(stranger) = part.stranger(names) else {
-        return false;
-    };
+    false
+}
+
+// Appends that a part has this member, and has to have exactly these.
+fn show_stranger(out: &mut Words, stranger: Part<'_>, names: &[&'static str]) {
     out.point(stranger);
     out.add("it has a member ");
     out.part(stranger);
     out.add(", and has to have exactly");
     out.names(names);
+}
+
+/// Appends which of these members a part lacks, or which other one it has; says whether it does.
+pub(crate) fn show_members(out: &mut Words, part: Part<'_>, names: &[&'static str]) -> bool {
+    if show_lacking(out, part, names) {
+        return true;
+    }
+    let Some(stranger) = part.stranger(names) else {
+        return false;
+    };
+    show_stranger(out, stranger, names);
+    true
+}
+
+/// Appends which of these members a part lacks, or which other one it has, where one more may stand beside them and is the last of
+/// `all`; says whether it does.
+pub(crate) fn show_members_beside(
+    out: &mut Words,
+    part: Part<'_>,
+    names: &[&'static str],
+    all: &[&'static str],
+) -> bool {
+    if show_lacking(out, part, names) {
+        return true;
+    }
+    let Some(stranger) = part.stranger(all) else {
+        return false;
+    };
+    show_stranger(out, stranger, names);
+    if let Some(beside) = all.last() {
+        out.add(", or these and ");
+        out.add(*beside);
+    }
     true
 }
 

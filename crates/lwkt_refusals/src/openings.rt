@@ -1,5 +1,7 @@
 //! What is bad of tokens and messages.
-use crate::members::{WHOLE, range, show_list, show_member, show_members, show_numbers};
+use crate::members::{
+    WHOLE, range, show_list, show_member, show_members, show_members_beside, show_numbers,
+};
 use crate::parts::Part;
 use crate::records::show_record;
 use crate::words::Words;
@@ -73,11 +75,13 @@ pub(crate) fn show_token(out: &mut Words, token: Part<'_>, guarding: Guarding) -
 
 // Appends what is bad of the members of a token; says whether something is.
 fn show_token_members(out: &mut Words, token: Part<'_>, guarding: Guarding) -> bool {
-    let names_one = guarding == Guarding::Maybe && token.member("record").is_some();
-    if guarding == Guarding::Always || names_one {
-        return show_members(out, token, &["cells", "law", "param", "gen", "record"]);
+    let all = ["cells", "law", "param", "gen", "record"];
+    let names = ["cells", "law", "param", "gen"];
+    match guarding {
+        Guarding::Always => show_members(out, token, &all),
+        Guarding::Maybe => show_members_beside(out, token, &names, &all),
+        Guarding::Never => show_members(out, token, &names),
     }
-    show_members(out, token, &["cells", "law", "param", "gen"])
 }
 
 // The processor and the thread that a message is of, if it names just these.

@@ -113,14 +113,18 @@ fn show_part(alloc: Global, out: &mut Page, document: Document, bytes: &[u8], pl
     show_words(out, bytes, &words);
 }
 
-// The version of scripts that a token is written in: a script says it once, and in a trace each token that names its record is of
-// version 2.
-fn version_of(document: Document, whole: Part<'_>, value: &Value) -> Version {
-    let is_second = match document {
-        Document::Script => is_second(whole),
-        Document::Trace => has(value, "record"),
-    };
-    if is_second {
+// The version of scripts that all tokens of a script are written in; a trace has none.
+fn version_in(document: Document, whole: Part<'_>) -> Option<Version> {
+    match document {
+        Document::Script if is_second(whole) => Some(Version::Second),
+        Document::Script => Some(Version::First),
+        Document::Trace => None,
+    }
+}
+
+// The version of scripts that a token of a trace is written in: one that names its record is of version 2.
+fn version_of(value: &Value) -> Version {
+    if has(value, "record") {
         Version::Second
     } else {
         Version::First
@@ -135,9 +139,10 @@ fn tokens_in(
     list: Part<'_>,
 ) -> Option<Vec<TokSpec>> {
     let value = Value::from_str(alloc, list.written()).ok()?;
+    let version = version_in(document, whole);
     let mut tokens = Vec::new(alloc);
     for item in value.as_array()?.as_slice() {
-        let version = version_of(document, whole, item);
+        let version = version.unwrap_or(version_of(item));
         let spec = token(alloc, version, tokens.as_slice(), item).ok()?;
         tokens.push(spec).ok()?;
     }

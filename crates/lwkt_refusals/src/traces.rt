@@ -1,5 +1,7 @@
 //! What is bad at a place of a trace.
-use crate::members::{range, show_list, show_member, show_members, show_numbers};
+use crate::members::{
+    range, show_list, show_member, show_members, show_members_beside, show_numbers,
+};
 use crate::openings::{Guarding, show_message_at, show_token_at};
 use crate::parts::Part;
 use crate::records::show_no_record;
@@ -79,11 +81,9 @@ fn show_last(out: &mut Words, last: Closing<'_>) -> bool {
 
 // Appends what is bad of the members of the closing values; says whether something is.
 fn show_last_members(out: &mut Words, last: Part<'_>) -> bool {
-    if last.member("records").is_some() {
-        let names = ["rows", "gens", "tallies", "messages", "records"];
-        return show_members(out, last, &names);
-    }
-    show_members(out, last, &["rows", "gens", "tallies", "messages"])
+    let names = ["rows", "gens", "tallies", "messages"];
+    let all = ["rows", "gens", "tallies", "messages", "records"];
+    show_members_beside(out, last, &names, &all)
 }
 
 // Appends what is bad of the generations; says whether something is.
