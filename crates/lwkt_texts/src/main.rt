@@ -29,6 +29,11 @@ fn say_failure<E: Sink>(alloc: Global, errors: &mut E, text: &str, error: &io::E
     say(errors, "\n");
 }
 
+// What is said where a script that was read isn't written again: of the limits of the format its form can pass this one alone.
+const LONG_JSON: &str = "as JSON the script has more than 1048576 bytes, and isn't written";
+
+const LONG_TEXT: &str = "as text the script has more than 1048576 bytes, and isn't written";
+
 // What the options ask for, done with what the file holds.
 fn done_with<K: Sink, E: Sink>(
     alloc: Global,
@@ -42,8 +47,8 @@ fn done_with<K: Sink, E: Sink>(
         Err(status) => return status,
     };
     match mode {
-        Mode::Json => form_said(json_of(alloc, &read.script), sink, errors),
-        Mode::Text => form_said(text_of(alloc, &read.script), sink, errors),
+        Mode::Json => form_said(json_of(alloc, &read.script), LONG_JSON, sink, errors),
+        Mode::Text => form_said(text_of(alloc, &read.script), LONG_TEXT, sink, errors),
         Mode::Run => run_said(alloc, file, read, sink, errors),
     }
 }

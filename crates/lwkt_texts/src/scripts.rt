@@ -97,18 +97,22 @@ pub fn read_file<E: Sink>(alloc: Global, file: File<'_>, errors: &mut E) -> Resu
     }
 }
 
-/// Writes a script in one of its forms, if it has it.
+// The most bytes of a script, in either form.
+const LENGTH_LIMIT: usize = 1_048_576;
+
+/// Writes a script in one of its forms, or says that it is too long for it.
 pub fn form_said<K: Sink, E: Sink>(
     form: Result<String, Unsaid>,
+    long: &str,
     sink: &mut K,
     errors: &mut E,
 ) -> Status {
     match form {
-        Ok(text) => written(sink, text.as_str(), Status::Done),
-        Err(Unsaid::Memory(_)) => Status::Memory,
-        Err(Unsaid::Limits) => {
-            say_line(errors, "the script doesn't keep the limits of the format");
+        Ok(text) if text.len() <= LENGTH_LIMIT => written(sink, text.as_str(), Status::Done),
+        Ok(_) | Err(Unsaid::Limits) => {
+            say_line(errors, long);
             Status::Refused
         }
+        Err(Unsaid::Memory(_)) => Status::Memory,
     }
 }
