@@ -2,20 +2,11 @@
 # tools/start.bash and tools/program.bash, with the tree in `top`; tools/program.bash says what a stamp and its list are.
 # shellcheck disable=SC2034,SC2154 # Of these names some are used, and some are set, where this is read.
 
-# The programs, each with its crate.
+# The programs.
 programs=(lwkt_run lwkt_check lwkt_show lwkt_text lwkt_explore)
-declare -gA crate_of=([lwkt_run]=lwkt [lwkt_check]=lwkt_judge [lwkt_show]=lwkt_view [lwkt_text]=lwkt_texts [lwkt_explore]=lwkt_explorer)
 
-# Chooses the program of this name.
-choose_program() {
-    program_name=$1
-    program_crate=${crate_of[$1]}
-    place=crates/$program_crate/out/$program_name
-    program=$top/$place
-    stamp=$program.stamp
-    listed=$program.sources
-    shipped=$top/dist/x86_64-linux/$program_name
-}
+# shellcheck source=tools/places.sh
+source "$top/tools/places.sh"
 
 # Whether no source that the stamp names is newer than it. (Its last line names no file, and so nothing newer.)
 is_newest() {

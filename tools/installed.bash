@@ -1,6 +1,11 @@
-# Starts an installed program. Read by the commands that tools/install puts into bin, with the programs' folder in `home`
-# and the program's name in `program_name`.
-# shellcheck disable=SC2034,SC2154 # These two are set where this is read.
+# Starts the installed program whose name is $1, on the words behind it. Run by the commands that tools/install puts into bin, which
+# have started it already where the words are plain; it lies beside this.
+# shellcheck disable=SC2034 # Some of these names are used by what is read here.
+set -u
+home=${BASH_SOURCE[0]%/*}
+program_name=$1
+shift
+file=$home/../../bin/$program_name
 help_folder=$home
 # shellcheck source=tools/command.bash
 source "$home/command.bash"

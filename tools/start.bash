@@ -1,11 +1,15 @@
-# Starts a program of this tree: the one that was built here, or the shipped one, or else it is built first. Read by
-# lwkt_run, lwkt_check, lwkt_show, lwkt_text and lwkt_explore at the root, with the tree in `top` and the program's name in `program_name`.
+# Starts a program of this tree, whose name is $1, on the words behind it: the one that was built here, or the shipped one, or else it
+# is built first. Run by tools/start.sh, which has started it already where the words are plain and it is current.
 #
-# A program that is there and no source of which is newer than its stamp is started at once: this is the quick start, for which
-# no more is read than it needs, and the sources are looked at meanwhile. All else is in tools/slow_start.bash.
-# shellcheck disable=SC2034,SC2154 # `top` and `program_name` are set where this is read.
+# A program that is there and no source of which is newer than its stamp is started at once: for this quick start no more is read
+# than it needs, and the sources are looked at meanwhile. All else is in tools/slow_start.bash.
+set -u
 unset CDPATH
-help_folder=$top/man
+top=${BASH_SOURCE[0]%/tools/*}
+program_name=$1
+shift
+# shellcheck disable=SC2034 # These are used by tools/answers.bash.
+file=$top/$program_name help_folder=$top/man
 # shellcheck source=tools/current.bash
 source "$top/tools/current.bash"
 choose_program "$program_name"
