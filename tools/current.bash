@@ -8,17 +8,17 @@ programs=(lwkt_run lwkt_check lwkt_show lwkt_text lwkt_explore)
 # shellcheck source=tools/places.sh
 source "$top/tools/places.sh"
 
-# Whether no source that the stamp names is newer than it. (Its last line names no file, and so nothing newer.)
+# Whether nothing of the code that the stamp names is newer than it. (Its last line names no file, and so nothing newer.)
 is_newest() {
     local lines=() path
-    { mapfile -t lines <"$stamp"; } 2>/dev/null && ((${#lines[@]} > 1)) || return 1
-    for path in "${lines[@]:1}"; do
+    { mapfile -t lines <"$stamp"; } 2>/dev/null && ((${#lines[@]} > 2)) || return 1
+    for path in "${lines[@]:2}"; do
         [[ ! $top/$path -nt $stamp ]] || return 1
     done
 }
 
-# Begins to look whether a source is newer than the stamp, while what calls this goes on. One command looks at all of them, by
-# their list. Status 1 where a part is missing.
+# Begins to look whether the code is newer than the stamp, while what calls this goes on. One command looks at all of it, by
+# its list. Status 1 where a part is missing.
 begin_look() {
     [[ -x $program && -s $stamp && -s $listed ]] || return 1
     exec {look}< <(cd -- "$top" && exec find -files0-from "$place.sources" -maxdepth 0 -newer "$place.stamp" -print -quit 2>/dev/null)
@@ -32,7 +32,7 @@ forget_look() {
     unset look
 }
 
-# Whether the program is there and no source is newer than its stamp, by the look that was begun, or else by a new one. A find
+# Whether the program is there and no code is newer than its stamp, by the look that was begun, or else by a new one. A find
 # that can't read the list (before findutils 4.9), or that misses a file, leaves it to the slower way, and so does a bash that
 # can't wait for it (before 4.4).
 is_current() {

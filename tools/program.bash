@@ -1,9 +1,10 @@
 # The programs of this tree: a program's sources, their digest, the stamp beside the program that names both, and the
 # program that is shipped in dist/. Read by tools/slow_start.bash, tools/build, tools/ship, tools/install and check, with the
-# tree in `top`; `choose_program` chooses one. The stamp's first line is the digest; the paths of the sources follow, and
-# last `by` and the kit that built the program here, or `from` and the place that it was taken from. The stamp's time is
-# that of the sources: what is newer has changed since. Beside it lies the list of these paths once more, for one command
-# that looks at the times of all.
+# tree in `top`; `choose_program` chooses one. The stamp's first line is the digest of all sources: code, definitions and
+# proofs; the second one that of the code. The paths of the code follow, and last `by` and the kit that built the program here, or `from` and the place that it
+# was taken from. The stamp's time is that of the sources: code that is newer has changed since. Beside it lies the list of
+# these paths once more, for one command that looks at the times of all. Definitions and proofs aren't among them: they say
+# what is proved of the code, and what a program does doesn't change with them.
 # shellcheck disable=SC2034,SC2154 # Of these names some are used, and some are set, where this is read.
 
 # shellcheck source=tools/current.bash
@@ -41,28 +42,28 @@ read_crates() {
     add_crate "$program_crate"
 }
 
-# The folders of the crates' sources under the folder $1, which are there.
+# Those folders of these names that the crates have under the folder $1.
 source_folders() {
     local name part
     for name in "${crates[@]}"; do
-        for part in src specs proofs; do
+        for part in "${@:2}"; do
             [[ ! -d $1/crates/$name/$part ]] || printf '%s\n' "crates/$name/$part"
         done
     done
 }
 
-# What changes where a source of the tree $1 does: files, and the folders that they lie in.
-source_paths() {
+# What changes where the code in the tree $1 does: files, and the folders that they lie in.
+code_paths() {
     local folders
-    mapfile -t folders < <(source_folders "$1")
+    mapfile -t folders < <(source_folders "$1" src)
     printf '%s\n' crates.txt "${crates[@]/#/crates/}"
     (cd "$1" && find "${folders[@]}" | LC_ALL=C sort)
 }
 
-# A digest of the sources of the tree $1: the crates' lines, and each file by its path.
-source_digest() {
+# A digest of those folders of the crates in the tree $1 that are named behind it: the crates' lines, and each file by its path.
+folders_digest() {
     local folders name
-    mapfile -t folders < <(source_folders "$1")
+    mapfile -t folders < <(source_folders "$@")
     {
         for name in "${crates[@]}"; do
             printf '%s\n' "${line_of[$name]}"
@@ -71,16 +72,37 @@ source_digest() {
     } | sha256sum
 }
 
-# Whether the program is there and its sources have the stamp's digest, whatever their times. They then count as old.
+# The digest of all sources of the tree $1.
+source_digest() {
+    folders_digest "$1" src specs proofs
+}
+
+# That of the code in the tree $1.
+code_digest() {
+    folders_digest "$1" src
+}
+
+# The digests that the stamp names, of all sources and of the code, into `of_sources` and `of_code`.
+read_stamp() {
+    [[ -x $program && -r $stamp ]] && { read -r of_sources && read -r of_code; } <"$stamp" 2>/dev/null
+}
+
+# Whether the program is there and the tree's code has the stamp's digest, whatever its times. It then counts as old.
 is_same() {
-    local since said
-    [[ -x $program && -r $stamp ]] && { read -r said <"$stamp"; } 2>/dev/null || return 1
+    local since of_sources of_code
+    read_stamp || return 1
     since=$(date +%s.%N)
     read_crates "$top"
-    [[ $(source_digest "$top") = "$said" ]] || return 1
+    [[ $(code_digest "$top") = "$of_code" ]] || return 1
     [[ -s $listed ]] || write_list "$top"
     touch -c -d "@$since" "$stamp" 2>/dev/null
     return 0
+}
+
+# Whether the program is there and all sources of the tree have the stamp's digest.
+is_exact() {
+    local of_sources of_code
+    read_stamp && read_crates "$top" && [[ $(source_digest "$top") = "$of_sources" ]]
 }
 
 # Whether the stamp's last line is this one.
@@ -99,14 +121,15 @@ is_made_by() {
     is_stamped "by $1"
 }
 
-# What is said of the shipped program: the digests of its sources and of itself, and the kit that made it.
+# What is said of the shipped program: the digests of its sources, of its code and of itself, and the kit that made it.
 read_shipped() {
     local word rest
-    shipped_sources='' shipped_kit='' shipped_digest=''
+    shipped_sources='' shipped_code='' shipped_kit='' shipped_digest=''
     [[ -f $shipped && -r $shipped.from ]] || return 1
     while read -r word rest; do
         case $word in
             sources) shipped_sources=$rest ;;
+            code) shipped_code=$rest ;;
             kit) shipped_kit=$rest ;;
             program) shipped_digest=$rest ;;
         esac
@@ -135,20 +158,20 @@ lacking() {
     fi
 }
 
-# Writes the list of the sources of the tree $1. It is whole once it is there.
+# Writes the list of the code in the tree $1. It is whole once it is there.
 write_list() {
-    { source_paths "$1" | tr '\n' '\0' >"$listed.new" && mv "$listed.new" "$listed"; } 2>/dev/null
+    { code_paths "$1" | tr '\n' '\0' >"$listed.new" && mv "$listed.new" "$listed"; } 2>/dev/null
 }
 
-# Puts the program $1 in its place, of the sources of the tree $2 with the digest $3 at the time $4, with what the stamp
-# ends with in $5. At no moment does a stamp stand beside another program than its own.
+# Puts the program $1 in its place, of the sources with the digest $3 and of the code in the tree $2, at the time $4, with what
+# the stamp ends with in $5. At no moment does a stamp stand beside another program than its own.
 install_program() {
     mkdir -p "${program%/*}" && cp "$1" "$program.new" && chmod 755 "$program.new" || return
     rm -f "$stamp"
     mv "$program.new" "$program" && write_list "$2" || return
     {
-        printf '%s\n' "$3"
-        source_paths "$2"
+        printf '%s\n' "$3" "$(code_digest "$2")"
+        code_paths "$2"
         printf '%s\n' "$5"
     } >"$stamp.new" && touch -d "@$4" "$stamp.new" && mv "$stamp.new" "$stamp"
 }

@@ -1,8 +1,8 @@
 # What the start of a program of this tree does if it isn't the quick one. Read by tools/start.bash.
 #
-# The digest of the sources decides: whether the program that is there is of them, or the shipped one is. The shipped one is put
+# The digest of the code decides: whether the program that is there is of it, or the shipped one is. The shipped one is put
 # in the place of the one that is built here, so that the next start is the quick one; it is started from where it lies where
-# this can't be done. Where neither is of these sources, the program is built. Words that a command answers itself are answered.
+# this can't be done. Where neither is of this code, the program is built. Words that a command answers itself are answered.
 # shellcheck disable=SC2034,SC2154 # Some names are set where this is read.
 # shellcheck source=tools/program.bash
 source "$top/tools/program.bash"
@@ -28,8 +28,8 @@ runs_here() {
 find_shipped_lack() {
     local where=${shipped#"$top"/}
     lack=
-    if [[ $(source_digest "$top") != "$shipped_sources  -" ]]; then
-        lack="the shipped program, $where, is of other sources"
+    if [[ $(code_digest "$top") != "$shipped_code  -" ]]; then
+        lack="the shipped program, $where, is of other code"
     elif ! is_shipped_whole; then
         lack="the shipped program, $where, isn't the one that $where.from names"
     elif [[ $(uname -sm) != 'Linux x86_64' ]] || ! runs_here "$shipped"; then
@@ -54,19 +54,22 @@ start_shipped() {
     [[ -n $lack ]] || start_program "${place:-$shipped}"
 }
 
-# Which program would be started, and by which kit it was made, where that is known.
+# Which program would be started, by which kit it was made, where that is known, and whether it is of the tree's code alone.
 tell_program() {
     local lack origin='built here' program_kit where=crates/$program_crate/out/$program_name
+    local others='; definitions or proofs have changed since'
     ! is_from_shipped || origin=shipped
     find_kit
     where+=${program_kit:+, by $program_kit}
+    ! is_exact || others=
     if is_current || is_same; then
-        echo "$origin, $where"
+        echo "$origin, $where$others"
         return
     fi
     read_crates "$top"
     if read_shipped && find_shipped_lack && [[ -z $lack ]]; then
-        echo "shipped, ${shipped#"$top"/}, by $shipped_kit"
+        [[ $(source_digest "$top") != "$shipped_sources  -" ]] || others=
+        echo "shipped, ${shipped#"$top"/}, by $shipped_kit$others"
         return
     fi
     lack=$(lacking)
