@@ -9,6 +9,7 @@
 mod choices;
 mod doings;
 mod graphs;
+mod laws;
 mod lines;
 mod lists;
 mod losses;
@@ -26,6 +27,7 @@ mod touches;
 mod walks;
 mod watches;
 
+pub use laws::{outcomes_are_numbered, outcomes_are_written_once};
 pub use lines::{order_text, text_of};
 pub use losses::Lost;
 pub use outcomes::{Kind, Outcome, Outcomes};

@@ -1,10 +1,16 @@
 //! What is written of a search.
+ghost use Rattle.std.specs.Prelude.{◌≡◌, ◌+◌, ◌≤◌, ◌++◌, OnOk, IfOk, length, string_bytes};
+ghost use Rattle.lwkt_report.specs.Report.{numbered_lines};
+ghost use Rattle.lwkt_explore.specs.Texts.{order_bytes, kind_text, count_text, outcome_lines, of_kind, lost_line, tried_text, sum_line, text_of_found};
+
 use crate::losses::Lost;
 use crate::outcomes::{Kind, Outcome};
 use crate::searches::{Found, Tried};
 use std::alloc::{AllocError, Global};
 
-fn kind_word(kind: Kind) -> &'static str {
+fn kind_word(kind: Kind) -> &'static str
+    ensures { result.now ≡ kind_text kind }
+{
     match kind {
         Kind::Ended => "ended",
         Kind::Stuck => "stuck",
@@ -13,7 +19,9 @@ fn kind_word(kind: Kind) -> &'static str {
 }
 
 // The processors of an order, or a line for none.
-fn add_order(out: &mut String, order: &[u8]) -> Result<(), AllocError> {
+fn add_order(out: &mut String, order: &[u8]) -> Result<(), AllocError>
+    ensures { OnOk result (string_bytes out.new ≡ string_bytes out.old ++ order_bytes order.now) }
+{
     if order.is_empty() {
         return out.push_str(" -");
     }
@@ -26,14 +34,18 @@ fn add_order(out: &mut String, order: &[u8]) -> Result<(), AllocError> {
 /// The processors of an order, each after a blank: ` 0 1 0`; ` -` for an order without turns.
 ///
 /// `AllocError` if memory is refused.
-pub fn order_text(alloc: Global, order: &[u8]) -> Result<String, AllocError> {
+pub fn order_text(alloc: Global, order: &[u8]) -> Result<String, AllocError>
+    ensures { IfOk result (λ text. string_bytes text ≡ order_bytes order.now) }
+{
     let mut out = String::new(alloc);
     add_order(&mut out, order)?;
     Ok(out)
 }
 
 // How many random orders led to an outcome.
-fn add_count(out: &mut String, tried: Tried, count: u64) -> Result<(), AllocError> {
+fn add_count(out: &mut String, tried: Tried, count: u64) -> Result<(), AllocError>
+    ensures { OnOk result (string_bytes out.new ≡ string_bytes out.old ++ count_text tried count) }
+{
     match tried {
         Tried::States(_) => Ok(()),
         Tried::Orders(_) if count == 1 => out.push_str(", once"),
@@ -47,7 +59,9 @@ fn add_outcome(
     outcome: &Outcome,
     tried: Tried,
     count: u64,
-) -> Result<(), AllocError> {
+) -> Result<(), AllocError>
+    ensures { OnOk result (string_bytes out.new ≡ string_bytes out.old ++ outcome_lines tried number (outcome.now, count)) }
+{
     let word = kind_word(outcome.kind);
     write!(out, "outcome {number} {word}")?;
     add_count(out, tried, count)?;
@@ -62,12 +76,11 @@ fn add_outcome(
 }
 
 // The outcomes of a kind, behind so many of others; says how many there are then.
-fn add_kind(
-    out: &mut String,
-    found: &Found,
-    kind: Kind,
-    before: usize,
-) -> Result<usize, AllocError> {
+fn add_kind(out: &mut String, found: &Found, kind: Kind, before: usize) -> Result<usize, AllocError>
+    requires { before + length (of_kind kind found.now.outcomes) ≤ 18446744073709551615 }
+    ensures text { OnOk result (string_bytes out.new ≡ string_bytes out.old ++ numbered_lines (outcome_lines found.now.tried) (before + 1) (of_kind kind found.now.outcomes)) }
+    ensures number { IfOk result (λ number. number ≡ before + length (of_kind kind found.now.outcomes)) }
+{
     let mut number = before;
     for (place, outcome) in found.outcomes.all.iter().enumerate() {
         if outcome.kind == kind {
@@ -79,7 +92,9 @@ fn add_kind(
     Ok(number)
 }
 
-fn add_lost(out: &mut String, lost: &Lost) -> Result<(), AllocError> {
+fn add_lost(out: &mut String, lost: &Lost) -> Result<(), AllocError>
+    ensures { OnOk result (string_bytes out.new ≡ string_bytes out.old ++ lost_line lost.now) }
+{
     let count = lost.count;
     if count == 1 {
         out.push_str("lost: 1 state, from which no end can be reached; after order")?;
@@ -94,7 +109,9 @@ fn add_lost(out: &mut String, lost: &Lost) -> Result<(), AllocError> {
 }
 
 // What was tried.
-fn add_tried(out: &mut String, tried: Tried) -> Result<(), AllocError> {
+fn add_tried(out: &mut String, tried: Tried) -> Result<(), AllocError>
+    ensures { OnOk result (string_bytes out.new ≡ string_bytes out.old ++ tried_text tried) }
+{
     match tried {
         Tried::States(1) => out.push_str("1 state"),
         Tried::States(states) => write!(out, "{states} states"),
@@ -103,7 +120,9 @@ fn add_tried(out: &mut String, tried: Tried) -> Result<(), AllocError> {
     }
 }
 
-fn add_sum(out: &mut String, found: &Found) -> Result<(), AllocError> {
+fn add_sum(out: &mut String, found: &Found) -> Result<(), AllocError>
+    ensures { OnOk result (string_bytes out.new ≡ string_bytes out.old ++ sum_line found.now) }
+{
     let count = found.outcomes.all.len();
     let noun = if count == 1 { "outcome" } else { "outcomes" };
     write!(out, "{count} {noun}; ")?;
@@ -122,7 +141,9 @@ fn add_sum(out: &mut String, found: &Found) -> Result<(), AllocError> {
 /// cut; then the lost states, if there are any, and what was searched (docs/EXPLORE.md).
 ///
 /// `AllocError` if memory is refused.
-pub fn text_of(alloc: Global, found: &Found) -> Result<String, AllocError> {
+pub fn text_of(alloc: Global, found: &Found) -> Result<String, AllocError>
+    ensures { IfOk result (λ text. string_bytes text ≡ text_of_found found.now) }
+{
     let mut out = String::new(alloc);
     let ended = add_kind(&mut out, found, Kind::Ended, 0)?;
     let stuck = add_kind(&mut out, found, Kind::Stuck, ended)?;
