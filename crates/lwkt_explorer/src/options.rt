@@ -1,3 +1,7 @@
+ghost use Rattle.std.specs.Prelude.{◌≡◌, ◌∷◌, ◌++◌, ℕ, List, [], None, Some, false, true, IfSome, IfNone, map, string_bytes};
+ghost use Rattle.std.specs.Option.{option_map};
+ghost use Rattle.lwkt_explorer.specs.Asking.{IsWaiting, asked_behind, asked_by, asked_by_none, asked_in, asked_with, number_of, stands_alone, with_value, with_word};
+
 use lwkt_explore::{Bounds, Method};
 
 /// What the arguments ask for.
@@ -18,7 +22,9 @@ pub struct Options<'a> {
 }
 
 // Without options.
-fn plain<'a>() -> Options<'a> {
+fn plain<'a>() -> Options<'a>
+    ensures { asked_by result ≡ asked_by_none }
+{
     Options {
         bounds: Bounds {
             states: 1_000_000,
@@ -32,16 +38,22 @@ fn plain<'a>() -> Options<'a> {
     }
 }
 
-fn size(text: &str) -> Option<usize> {
+fn size(text: &str) -> Option<usize>
+    ensures { result ≡ number_of text.now }
+{
     text.parse::<usize>().ok()
 }
 
-fn number(text: &str) -> Option<u64> {
+fn number(text: &str) -> Option<u64>
+    ensures { result ≡ number_of text.now }
+{
     text.parse::<u64>().ok()
 }
 
 // The options with one more that has a value; none if it is no option of the program.
-fn with_value<'a>(options: Options<'a>, word: &str, text: &'a str) -> Option<Options<'a>> {
+fn with_value<'a>(options: Options<'a>, word: &str, text: &'a str) -> Option<Options<'a>>
+    ensures { option_map asked_by result ≡ with_value word.now text.now (asked_by options.entry) }
+{
     let mut options = options;
     match word {
         "--states" => options.bounds.states = size(text)?,
@@ -55,7 +67,10 @@ fn with_value<'a>(options: Options<'a>, word: &str, text: &'a str) -> Option<Opt
 }
 
 // The options with one more that has no value.
-fn with_word<'a>(options: Options<'a>, word: &str) -> Option<Options<'a>> {
+fn with_word<'a>(options: Options<'a>, word: &str) -> Option<Options<'a>>
+    ensures some { IfSome result (λ more. (stands_alone word.now ≡ true) × (asked_by more ≡ with_word word.now (asked_by options.entry))) }
+    ensures none { result ≡ None → stands_alone word.now ≡ false }
+{
     let mut options = options;
     match word {
         "--plain" => options.method = Method::Plain,
@@ -73,7 +88,12 @@ struct Reading<'a> {
 }
 
 // The same with one more argument.
-fn with_argument<'a>(reading: Reading<'a>, word: &'a str) -> Option<Reading<'a>> {
+fn with_argument<'a>(reading: Reading<'a>, word: &'a str) -> Option<Reading<'a>>
+    requires { IsWaiting reading }
+    ensures waiting { IfSome result (λ next. IsWaiting next) }
+    ensures some { IfSome result (λ next. (words : List (List ℕ)) → asked_behind next words ≡ asked_behind reading.entry (word.now ∷ words)) }
+    ensures none { result ≡ None → (words : List (List ℕ)) → asked_behind reading.entry (word.now ∷ words) ≡ None }
+{
     if let Some(name) = reading.before {
         return Some(Reading {
             options: with_value(reading.options, name, word)?,
@@ -94,7 +114,9 @@ fn with_argument<'a>(reading: Reading<'a>, word: &'a str) -> Option<Reading<'a>>
 
 /// The options that the arguments are. `None` if one isn't the program's, or its value is missing or no number. Of an option that
 /// stands twice the last one counts.
-pub fn options_of(words: &[String]) -> Option<Options<'_>> {
+pub fn options_of(words: &[String]) -> Option<Options<'_>>
+    ensures { option_map asked_by result ≡ asked_in (map string_bytes words.now) }
+{
     let mut reading = Reading {
         options: plain(),
         before: None,

@@ -1,3 +1,12 @@
+ghost use Rattle.std.specs.Prelude.{◌≡◌, ◌⊎◌, List, None, false, if◌then◌else◌, map, string_bytes, IfErr, IfOk, IfSome, IsTrue, ℕ};
+ghost use Rattle.std.specs.Io.KnownBytes.{Appends, Keeps};
+ghost use Rattle.lwkt_report.specs.Stream.{AppendsFront};
+ghost use Rattle.lwkt_explore.specs.Outcomes.{RefusesSearch};
+ghost use Rattle.lwkt_explore.specs.Statuses.{status_of_found};
+ghost use Rattle.lwkt_explore.specs.Texts.{text_of_found};
+ghost use Rattle.lwkt_explorer.specs.Asking.{asked_by, asked_in};
+ghost use Rattle.lwkt_explorer.specs.Exploring.{ExploresBytes, ExploresJson, ExploresRead, ExploresText, IsFound, SaysFound, status_of_refusal};
+
 use crate::options::{Options, options_of};
 use crate::texts::{Told, read_told};
 use crate::tickers::Ticker;
@@ -22,7 +31,9 @@ const USAGE: &str =
 
 /// Says on `errors` that the arguments are none of the program's, and how it is called; or, if `memory` is true, that memory for
 /// them was refused. The answer is the exit status: 3 if `memory` is true, else 1.
-pub fn refuse_arguments<E: Sink>(errors: &mut E, memory: bool) -> u8 {
+pub fn refuse_arguments<E: Sink>(errors: &mut E, memory: bool) -> u8
+    ensures { result ≡ (if memory then 3 else 1) }
+{
     if !memory {
         let _ = write_whole(errors, USAGE.as_bytes());
     }
@@ -31,13 +42,9 @@ pub fn refuse_arguments<E: Sink>(errors: &mut E, memory: bool) -> u8 {
 }
 
 // Why nothing was found of a script, and the status; of a text the opening is told by its names.
-fn refused<E: Sink>(
-    alloc: Global,
-    errors: &mut E,
-    bytes: &[u8],
-    is_text: bool,
-    fault: Fault,
-) -> u8 {
+fn refused<E: Sink>(alloc: Global, errors: &mut E, bytes: &[u8], is_text: bool, fault: Fault) -> u8
+    ensures { result ≡ status_of_refusal fault }
+{
     match fault {
         Fault::Memory(_) => {
             Speaker::Explore.say_memory(errors);
@@ -82,7 +89,10 @@ fn found_of<R: Clock + Files, E: Sink>(
     options: &Options,
     bytes: &[u8],
     errors: &mut E,
-) -> Result<Found, Fault> {
+) -> Result<Found, Fault>
+    ensures found { IfOk result (λ found. IsFound (asked_by options.now) bytes.now found) }
+    ensures refused { IfErr result (λ fault. RefusesSearch bytes.now fault) }
+{
     let mut ticker = Ticker::new(rt, alloc, errors, *options);
     match options.random {
         Some(count) => sample(
@@ -98,12 +108,12 @@ fn found_of<R: Clock + Files, E: Sink>(
 }
 
 // Writes what was found, and answers whether it could be.
-fn is_written<K: Sink, E: Sink>(
-    alloc: Global,
-    found: &Found,
-    sink: &mut K,
-    errors: &mut E,
-) -> bool {
+fn is_written<K: Sink, E: Sink>(alloc: Global, found: &Found, sink: &mut K, errors: &mut E) -> bool
+    ensures whole { IsTrue result → Appends (K.contents sink.old) (K.contents sink.new) (text_of_found found.now) }
+    ensures flushed { IsTrue result → K.is_flushed sink.new }
+    ensures failed { IsTrue result → K.has_failed sink.new ≡ K.has_failed sink.old }
+    ensures front { result ≡ false → Keeps (K.contents sink.old) (K.contents sink.new) ⊎ (IsTrue (K.has_failed sink.new) × AppendsFront (K.contents sink.old) (K.contents sink.new) (text_of_found found.now)) }
+{
     let Ok(text) = text_of(alloc, found) else {
         Speaker::Explore.say_memory(errors);
         return false;
@@ -119,7 +129,11 @@ fn explore_json<R: Clock + Files, K: Sink, E: Sink>(
     bytes: &[u8],
     sink: &mut K,
     errors: &mut E,
-) -> u8 {
+) -> u8
+    ensures explores { ExploresJson (asked_by options.now) status_of_found bytes.now (K.has_failed sink.new) (K.contents sink.old) (K.contents sink.new) result }
+    ensures flushed { SaysFound result → K.is_flushed sink.new }
+    ensures failed_sink { K.has_failed sink.old ≡ false → IsTrue (K.has_failed sink.new) → result ≡ 3 }
+{
     match found_of(rt, alloc, options, bytes, errors) {
         Ok(found) if is_written(alloc, &found, sink, errors) => status_of_found(&found),
         Ok(_) => 3,
@@ -145,7 +159,11 @@ fn explore_text<R: Clock + Files, K: Sink, E: Sink>(
     bytes: &[u8],
     sink: &mut K,
     errors: &mut E,
-) -> u8 {
+) -> u8
+    ensures explores { ExploresText (asked_by options.now) bytes.now (K.has_failed sink.new) (K.contents sink.old) (K.contents sink.new) result }
+    ensures flushed { SaysFound result → K.is_flushed sink.new }
+    ensures failed_sink { K.has_failed sink.old ≡ false → IsTrue (K.has_failed sink.new) → result ≡ 3 }
+{
     let told = match read_told(alloc, bytes, errors) {
         Ok(told) => told,
         Err(status) => return status,
@@ -175,7 +193,12 @@ fn run_explore<R: Clock + Files, S: Source, K: Sink, E: Sink>(
     source: &mut S,
     sink: &mut K,
     errors: &mut E,
-) -> u8 {
+) -> u8
+    ensures explores { ExploresRead (asked_by options.now) (K.has_failed sink.new) (S.left source.old) (K.contents sink.old) (K.contents sink.new) result }
+    ensures failed_source { S.has_failed source.old ≡ false → IsTrue (S.has_failed source.new) → result ≡ 3 }
+    ensures flushed { SaysFound result → K.is_flushed sink.new }
+    ensures failed_sink { K.has_failed sink.old ≡ false → IsTrue (K.has_failed sink.new) → result ≡ 3 }
+{
     let bytes = match read_capped(alloc, source) {
         Ok(bytes) => bytes,
         Err(fault) => {
@@ -206,7 +229,13 @@ pub fn explore_told<R: Clock + Files, I: Read, O: Write, E: Sink>(
     source: &mut ReaderSource<NotedReader<I>>,
     sink: &mut WriterSink<NotedWriter<O>>,
     errors: &mut E,
-) -> u8 {
+) -> u8
+    ensures explores { IfSome (asked_in (map string_bytes words.now)) (λ asked. ExploresRead asked sink.new.failed (I.remaining source.old.reader.reader) (O.contents sink.old.writer.writer) (O.contents sink.new.writer.writer) result) }
+    ensures failed_source { source.old.failed ≡ false → IsTrue source.new.failed → result ≡ 3 }
+    ensures flushed { SaysFound result → IsTrue sink.new.flushed }
+    ensures failed_sink { sink.old.failed ≡ false → IsTrue sink.new.failed → result ≡ 3 }
+    ensures usage { asked_in (map string_bytes words.now) ≡ None → (result ≡ 1) × ((source.new ≡ source.old) × (sink.new ≡ sink.old)) }
+{
     let Some(options) = options_of(words) else {
         return refuse_arguments(errors, false);
     };

@@ -1,4 +1,7 @@
 //! A text: its script in JSON, and what it says of the outcomes.
+ghost use Rattle.std.specs.Prelude.{IfErr, IfOk};
+ghost use Rattle.lwkt_explorer.specs.Exploring.{DeclinesText, IsTold};
+
 use lwkt_refusals::Speaker;
 use lwkt_remarks::wrongs_said;
 use lwkt_report::{Sink, write_whole};
@@ -33,7 +36,10 @@ fn say_wrongs<E: Sink>(alloc: Global, bytes: &[u8], wrongs: Many<Wrong>, errors:
 ///
 /// The exit status if it is refused: 1 if something is wrong with it, 3 if memory is refused or its script has more than 1048576
 /// bytes as JSON.
-pub fn read_told<E: Sink>(alloc: Global, bytes: &[u8], errors: &mut E) -> Result<Told, u8> {
+pub fn read_told<E: Sink>(alloc: Global, bytes: &[u8], errors: &mut E) -> Result<Told, u8>
+    ensures told { IfOk result (λ told. IsTold bytes.now told) }
+    ensures declined { IfErr result (λ status. DeclinesText bytes.now status) }
+{
     let Reading {
         script,
         names: _,

@@ -1,3 +1,5 @@
+ghost use Rattle.std.specs.Prelude.{◌≡◌, None, false, IsTrue};
+
 use crate::options::Options;
 use lwkt_explore::{Seen, Watch};
 use lwkt_report::{Sink, write_whole};
@@ -37,7 +39,11 @@ impl<'a, R: Clock + Files, E: Sink> Ticker<'a, R, E> {
         alloc: Global,
         errors: &'a mut E,
         options: Options<'a>,
-    ) -> Ticker<'a, R, E> {
+    ) -> Ticker<'a, R, E>
+        ensures options { result.options ≡ options.entry }
+        ensures turns { result.turns ≡ 0 }
+        ensures errors { result.errors.now ≡ errors.entry.now }
+    {
         Ticker {
             rt,
             alloc,
@@ -49,7 +55,11 @@ impl<'a, R: Clock + Files, E: Sink> Ticker<'a, R, E> {
     }
 
     // Whether a second has passed since it looked last; then it looks again.
-    fn is_due(&mut self) -> bool {
+    fn is_due(&mut self) -> bool
+        ensures quiet { self.new.errors.now ≡ self.old.errors.now }
+        ensures options { self.new.options ≡ self.old.options }
+        ensures turns { self.new.turns ≡ self.old.turns }
+    {
         let (Some(last), Ok(now)) = (self.last, Instant::now(self.rt)) else {
             return false;
         };
@@ -61,7 +71,11 @@ impl<'a, R: Clock + Files, E: Sink> Ticker<'a, R, E> {
     }
 
     // Tells how far the search is.
-    fn tell(&mut self, seen: Seen) {
+    fn tell(&mut self, seen: Seen)
+        ensures quiet { self.old.options.progress ≡ false → self.new.errors.now ≡ self.old.errors.now }
+        ensures options { self.new.options ≡ self.old.options }
+        ensures turns { self.new.turns ≡ seen.turns }
+    {
         let turns = seen.turns.saturating_sub(self.turns);
         self.turns = seen.turns;
         if self.options.progress {
@@ -72,7 +86,9 @@ impl<'a, R: Clock + Files, E: Sink> Ticker<'a, R, E> {
     }
 
     // Whether the file is there that ends the search.
-    fn is_stopped(&self) -> bool {
+    fn is_stopped(&self) -> bool
+        ensures { self.now.options.stop ≡ None → result ≡ false }
+    {
         match self.options.stop {
             Some(path) => matches!(fs::exists(self.rt, path), Ok(true)),
             None => false,
@@ -81,7 +97,11 @@ impl<'a, R: Clock + Files, E: Sink> Ticker<'a, R, E> {
 }
 
 impl<'a, R: Clock + Files, E: Sink> Watch for Ticker<'a, R, E> {
-    fn goes_on(&mut self, seen: Seen) -> bool {
+    fn goes_on(&mut self, seen: Seen) -> bool
+        ensures on { self.old.options.stop ≡ None → IsTrue result }
+        ensures quiet { self.old.options.progress ≡ false → self.new.errors.now ≡ self.old.errors.now }
+        ensures options { self.new.options ≡ self.old.options }
+    {
         if !self.is_due() {
             return true;
         }

@@ -1,3 +1,6 @@
+ghost use Rattle.std.specs.Prelude.{◌≡◌, IfSome};
+ghost use Rattle.lwkt_texts.specs.Arguments.{mode_word, AreOptions};
+
 /// How the program is called.
 pub const USAGE: &str = "\
 usage: lwkt_text FILE --run    run a script in rounds, write its report, and say which of its
@@ -28,7 +31,10 @@ pub struct Options {
 }
 
 // What a word asks for.
-fn mode_of(word: &str) -> Option<Mode> {
+fn mode_of(word: &str) -> Option<Mode>
+    ensures some { IfSome result (λ mode. word.now ≡ mode_word mode) }
+    ensures only { (mode : Mode) → word.now ≡ mode_word mode → result ≡ Some mode }
+{
     match word {
         "--json" => Some(Mode::Json),
         "--text" => Some(Mode::Text),
@@ -39,7 +45,10 @@ fn mode_of(word: &str) -> Option<Mode> {
 
 /// What the arguments say, if they are a file and one word of the program's, in either order. If both could be the word, the first one
 /// is the file.
-pub fn options_of(mut words: Vec<String>) -> Option<Options> {
+pub fn options_of(mut words: Vec<String>) -> Option<Options>
+    ensures some { IfSome result (λ options. AreOptions words.items options) }
+    ensures only { (options : Options) → AreOptions words.items options → result ≡ Some options }
+{
     if words.len() != 2 {
         return None;
     }

@@ -1,3 +1,8 @@
+ghost use Rattle.std.specs.Prelude.{◌≡◌, ◌≢◌};
+ghost use Rattle.lwkt_refusals.specs.Sayings.{SaysMore};
+ghost use Rattle.lwkt_report.specs.Stream.{AppendsFront};
+ghost use Rattle.lwkt_texts.specs.Text.{exit_status, Writes};
+
 use lwkt_litmus::Judgement;
 use lwkt_report::{Sink, write_whole};
 
@@ -18,7 +23,9 @@ pub enum Status {
 
 impl Status {
     /// The exit status.
-    pub fn code(self) -> u8 {
+    pub fn code(self) -> u8
+        ensures { result ≡ exit_status self }
+    {
         match self {
             Status::Done => 0,
             Status::Judged(judgement) => judgement.status(),
@@ -29,19 +36,27 @@ impl Status {
 }
 
 /// Says something where nobody is told whether it could be said.
-pub fn say<K: Sink>(sink: &mut K, text: &str) {
+pub fn say<K: Sink>(sink: &mut K, text: &str)
+    ensures front { AppendsFront (K.contents sink.old) (K.contents sink.new) text.now }
+    ensures more { SaysMore (K.has_failed sink.old) (K.has_failed sink.new) (K.contents sink.old) (K.contents sink.new) }
+{
     let _ = write_whole(sink, text.as_bytes());
 }
 
 /// Says something behind the program's name.
-pub fn say_line<K: Sink>(sink: &mut K, text: &str) {
+pub fn say_line<K: Sink>(sink: &mut K, text: &str)
+    ensures { SaysMore (K.has_failed sink.old) (K.has_failed sink.new) (K.contents sink.old) (K.contents sink.new) }
+{
     say(sink, "lwkt_text: ");
     say(sink, text);
     say(sink, "\n");
 }
 
 /// Writes a text, and says how the program ends: as it should, unless the text could not be written.
-pub fn written<K: Sink>(sink: &mut K, text: &str, status: Status) -> Status {
+pub fn written<K: Sink>(sink: &mut K, text: &str, status: Status) -> Status
+    ensures writes { Writes status text.now (K.has_failed sink.new) (K.contents sink.old) (K.contents sink.new) result }
+    ensures flushed { result ≢ Status.Failed → K.is_flushed sink.new }
+{
     match write_whole(sink, text.as_bytes()) {
         Ok(()) => status,
         Err(_) => Status::Failed,

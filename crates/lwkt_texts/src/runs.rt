@@ -1,4 +1,10 @@
 // A file's script, run.
+ghost use Rattle.std.specs.Prelude.{◌≡◌, ◌⊎◌};
+ghost use Rattle.std.specs.Io.KnownBytes.{Keeps};
+ghost use Rattle.lwkt_litmus.specs.Judgements.{judgement_of};
+ghost use Rattle.lwkt_report.specs.Report.{report_text};
+ghost use Rattle.lwkt_texts.specs.Text.{HasWritten, RunsAs, Writes};
+
 use crate::outputs::{Status, say, written};
 use crate::scripts::{File, Read, refused};
 use lwkt_base::Fault;
@@ -17,7 +23,10 @@ fn reported<K: Sink, E: Sink>(
     outcome: &Closing,
     sink: &mut K,
     errors: &mut E,
-) -> Status {
+) -> Status
+    ensures reports { Writes (Status.Judged (judgement_of expectations.now outcome.now)) (report_text outcome.now) (K.has_failed sink.new) (K.contents sink.old) (K.contents sink.new) result ⊎ ((result ≡ Status.Memory) × Keeps (K.contents sink.old) (K.contents sink.new)) }
+    ensures flushed { HasWritten result → K.is_flushed sink.new }
+{
     let path = Some(file.path);
     let Ok(account) = account_of(alloc, path, file.bytes, expectations, outcome) else {
         return Status::Memory;
@@ -35,7 +44,9 @@ fn reported<K: Sink, E: Sink>(
 }
 
 // Says why the opening of a file's script is refused.
-fn say_opening<E: Sink>(alloc: Global, file: File<'_>, fault: Fault, errors: &mut E) -> Status {
+fn say_opening<E: Sink>(alloc: Global, file: File<'_>, fault: Fault, errors: &mut E) -> Status
+    ensures { (result ≡ Status.Refused) ⊎ (result ≡ Status.Memory) }
+{
     let why = if file.is_text {
         opening_said(alloc, file.bytes, fault)
     } else {
@@ -51,7 +62,10 @@ pub fn run_said<K: Sink, E: Sink>(
     read: Read,
     sink: &mut K,
     errors: &mut E,
-) -> Status {
+) -> Status
+    ensures runs { RunsAs read (K.has_failed sink.new) (K.contents sink.old) (K.contents sink.new) result }
+    ensures flushed { HasWritten result → K.is_flushed sink.new }
+{
     let Read {
         script,
         expectations,

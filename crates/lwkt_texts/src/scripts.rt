@@ -1,4 +1,8 @@
 // A file's script, and what the file says of outcomes.
+ghost use Rattle.std.specs.Prelude.{◌≡◌, false, true, Err, IfErr, IfOk, OnErr, OnOk};
+ghost use Rattle.lwkt_text.specs.Reading.{reading_of};
+ghost use Rattle.lwkt_texts.specs.Text.{EndsUnread, HasWritten, Holds, WritesForm};
+
 use crate::outputs::{Status, say, say_line, written};
 use lwkt_base::Fault;
 use lwkt_refusals::{Document, refusal};
@@ -30,7 +34,10 @@ pub struct Read {
 }
 
 /// Says why a file's script is refused, and that it is.
-pub fn refused<E: Sink>(errors: &mut E, path: &str, why: Result<String, AllocError>) -> Status {
+pub fn refused<E: Sink>(errors: &mut E, path: &str, why: Result<String, AllocError>) -> Status
+    ensures ok { OnOk why (result ≡ Status.Refused) }
+    ensures err { OnErr why (result ≡ Status.Memory) }
+{
     match why {
         Ok(words) => {
             say(errors, "lwkt_text: ");
@@ -45,7 +52,10 @@ pub fn refused<E: Sink>(errors: &mut E, path: &str, why: Result<String, AllocErr
 }
 
 // A file of JSON.
-fn read_json<E: Sink>(alloc: Global, file: File<'_>, errors: &mut E) -> Result<Read, Status> {
+fn read_json<E: Sink>(alloc: Global, file: File<'_>, errors: &mut E) -> Result<Read, Status>
+    ensures ok { IfOk result (λ read. Holds false file.entry.bytes.now read) }
+    ensures unread { IfErr result (λ status. EndsUnread false file.entry.bytes.now status) }
+{
     match read_script(alloc, file.bytes) {
         Ok(script) => Ok(Read {
             script,
@@ -60,12 +70,10 @@ fn read_json<E: Sink>(alloc: Global, file: File<'_>, errors: &mut E) -> Result<R
 }
 
 // Says all that is wrong with a text.
-fn say_wrongs<E: Sink>(
-    alloc: Global,
-    file: File<'_>,
-    wrongs: Many<Wrong>,
-    errors: &mut E,
-) -> Status {
+fn say_wrongs<E: Sink>(alloc: Global, file: File<'_>, wrongs: Many<Wrong>, errors: &mut E) -> Status
+    requires { reading_of file.bytes.now ≡ Err wrongs }
+    ensures { EndsUnread true file.entry.bytes.now result }
+{
     match wrongs_said(alloc, Some(file.path), file.bytes, wrongs) {
         Ok(page) => {
             say(errors, page.as_str());
@@ -76,7 +84,10 @@ fn say_wrongs<E: Sink>(
 }
 
 /// What a file is; or how the program ends, after it was said what is wrong with the file.
-pub fn read_file<E: Sink>(alloc: Global, file: File<'_>, errors: &mut E) -> Result<Read, Status> {
+pub fn read_file<E: Sink>(alloc: Global, file: File<'_>, errors: &mut E) -> Result<Read, Status>
+    ensures ok { IfOk result (λ read. Holds file.entry.is_text file.entry.bytes.now read) }
+    ensures unread { IfErr result (λ status. EndsUnread file.entry.is_text file.entry.bytes.now status) }
+{
     if !file.is_text {
         return read_json(alloc, file, errors);
     }
@@ -106,7 +117,10 @@ pub fn form_said<K: Sink, E: Sink>(
     long: &str,
     sink: &mut K,
     errors: &mut E,
-) -> Status {
+) -> Status
+    ensures writes { WritesForm form (K.has_failed sink.new) (K.contents sink.old) (K.contents sink.new) result }
+    ensures flushed { HasWritten result → K.is_flushed sink.new }
+{
     match form {
         Ok(text) if text.len() <= LENGTH_LIMIT => written(sink, text.as_str(), Status::Done),
         Ok(_) | Err(Unsaid::Limits) => {
