@@ -1,10 +1,11 @@
 # The programs of this tree: a program's sources, their digest, the stamp beside the program that names both, and the
 # program that is shipped in dist/. Read by tools/slow_start.bash, tools/build, tools/ship, tools/install and check, with the
 # tree in `top`; `choose_program` chooses one. The stamp's first line is the digest of all sources: code, definitions and
-# proofs; the second one that of the code. The paths of the code follow, and last `by` and the kit that built the program here, or `from` and the place that it
-# was taken from. The stamp's time is that of the sources: code that is newer has changed since. Beside it lies the list of
-# these paths once more, for one command that looks at the times of all. Definitions and proofs aren't among them: they say
-# what is proved of the code, and what a program does doesn't change with them.
+# proofs; the second one is that of the code. The paths of the code follow, and last `by` and the kit that built the program
+# here, or `from` and the place that it was taken from. The stamp's time is that of the sources: code that is newer has
+# changed since. Beside it lies the list of these paths once more, for one command that looks at the times of all.
+# Definitions and proofs aren't among them: they say what is proved of the code, and what a program does doesn't change with
+# them.
 # shellcheck disable=SC2034,SC2154 # Of these names some are used, and some are set, where this is read.
 
 # shellcheck source=tools/current.bash
