@@ -16,5 +16,6 @@ choose_program() {
     program=$top/$place
     stamp=$program.stamp
     listed=$program.sources
+    worded=$program.code
     shipped=$top/dist/x86_64-linux/$program_name
 }

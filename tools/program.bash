@@ -3,7 +3,8 @@
 # tree in `top`; `choose_program` chooses one. The stamp's first line is the digest of all sources: code, definitions and
 # proofs; the second one is that of the code. The paths of the code follow, and last `by` and the kit that built the program
 # here, or `from` and the place that it was taken from. The stamp's time is that of the sources: code that is newer has
-# changed since. Beside it lies the list of these paths once more, for one command that looks at the times of all.
+# changed since. Beside it lies the list of these paths twice more: for one command that looks at the times of all, and as a word of
+# the system's shell.
 # Definitions and proofs aren't among them: they say what is proved of the code, and what a program does doesn't change with
 # them.
 # shellcheck disable=SC2034,SC2154 # Of these names some are used, and some are set, where this is read.
@@ -95,7 +96,7 @@ is_same() {
     since=$(date +%s.%N)
     read_crates "$top"
     [[ $(code_digest "$top") = "$of_code" ]] || return 1
-    [[ -s $listed ]] || write_list "$top"
+    [[ -s $listed && -s $worded ]] || write_list "$top"
     touch -c -d "@$since" "$stamp" 2>/dev/null
     return 0
 }
@@ -159,9 +160,28 @@ lacking() {
     fi
 }
 
-# Writes the list of the code in the tree $1. It is whole once it is there.
+# Whether the system's shell tells the times of two files apart that were written within one second.
+tells_times() {
+    local early=$worded.early late=$worded.late told=no
+    touch -d @1.25 "$early" && touch -d @1.75 "$late" &&
+        sh -c '[ "$2" -nt "$1" ] && [ ! "$1" -nt "$2" ] && [ ! "$1" -nt "$1" ]' sh "$early" "$late" && told=yes
+    rm -f "$early" "$late"
+    [[ $told = yes ]]
+}
+
+# Writes the code in the tree $1 as one word of the system's shell, if the paths are plain and the shell can tell whether one is
+# newer. It is whole once it is there.
+write_words() {
+    local paths
+    rm -f "$worded"
+    paths=$(code_paths "$1" | tr '\n' ' ')
+    [[ $paths != *[^A-Za-z0-9_./\ -]* ]] && tells_times || return 0
+    printf "code='%s'\n" "$paths" >"$worded.new" && mv "$worded.new" "$worded"
+}
+
+# Writes both lists of the code in the tree $1. Each is whole once it is there.
 write_list() {
-    { code_paths "$1" | tr '\n' '\0' >"$listed.new" && mv "$listed.new" "$listed"; } 2>/dev/null
+    { code_paths "$1" | tr '\n' '\0' >"$listed.new" && mv "$listed.new" "$listed" && write_words "$1"; } 2>/dev/null
 }
 
 # Puts the program $1 in its place, of the sources with the digest $3 and of the code in the tree $2, at the time $4, with what

@@ -10,12 +10,17 @@ unset CDPATH
 # shellcheck source=tools/plain.sh
 . "$top/tools/plain.sh"
 
-# Whether the program is there and no code is newer than its stamp. One command looks at all of it, by its list; one that can't
-# read the list (before findutils 4.9), or that misses a file, leaves it to bash.
+# Whether the program is there and no code is newer than its stamp. The shell looks at each path itself, which takes less time than
+# to start a command that does. (Of a file that has gone the folder is newer.) Where the list isn't there, it is left to bash.
 looks_current() {
-    [ -x "$program" ] && [ -s "$stamp" ] && [ -s "$listed" ] || return 1
-    newer=$(cd -- "$top" && exec find -files0-from "$place.sources" -maxdepth 0 -newer "$place.stamp" -print -quit 2>/dev/null) &&
-        [ -z "$newer" ]
+    [ -x "$program" ] && [ -s "$stamp" ] && [ -s "$worded" ] || return 1
+    code=
+    # shellcheck source=/dev/null
+    . "$worded"
+    [ "$code" ] || return 1
+    for path in $code; do
+        [ ! "$top/$path" -nt "$stamp" ] || return 1
+    done
 }
 
 if is_plain "$@"; then

@@ -5,7 +5,7 @@ ghost use Rattle.lwkt_machine.specs.Bodies.{unpolled, next_ask, entry_for, entry
 
 use lwkt_ask::Body;
 use lwkt_base::{Answer, Ask, Entry};
-use lwkt_verdict::entry_of;
+use lwkt_verdict::{Spot, entry_of, spot_of};
 use std::alloc::{AllocError, Global};
 use std::marker::Model;
 
@@ -32,6 +32,8 @@ pub struct ScriptBody {
     end: Ask,
     repeat: u32,
     polls: u64,
+    // Where the next ask may stand.
+    spot: Spot,
     asked: Asked,
     told: Option<Answer>,
     log: Vec<Entry>,
@@ -93,6 +95,7 @@ impl ScriptBody {
             end: Ask::Exit,
             repeat,
             polls: 0,
+            spot: Spot::first(),
             asked: Asked::Nothing,
             told: None,
             log,
@@ -139,10 +142,14 @@ impl ScriptBody {
         ensures { asked_last self.now.steps result ≡ Some (next_ask self.now) }
     {
         let count = self.steps.len() as u64;
-        if count == 0 || self.polls / count >= u64::from(self.repeat) {
+        if count == 0 {
             return Asked::Exit;
         }
-        Asked::Step((self.polls % count) as usize)
+        let spot = spot_of(count, self.polls, self.spot);
+        if spot.rounds >= u64::from(self.repeat) {
+            return Asked::Exit;
+        }
+        Asked::Step(spot.step as usize)
     }
 
     // The ask that is told so, `Exit` if none is.
@@ -192,6 +199,7 @@ impl Body for ScriptBody {
         self.keep();
         let next = self.next();
         self.polls = self.polls.saturating_add(1);
+        self.spot = self.spot.next(self.steps.len() as u64);
         self.asked = next;
         *self.ask_of(next)
     }

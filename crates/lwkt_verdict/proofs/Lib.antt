@@ -8,3 +8,4 @@ pub mod LawMoves
 pub mod TraceMoves
 pub mod HistoryMoves
 pub mod ShortMoves
+pub mod SpotMoves

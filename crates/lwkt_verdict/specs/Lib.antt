@@ -2,6 +2,7 @@ pub mod Asks
 pub mod Owns
 pub mod Parts
 pub mod Threads
+pub mod Spots
 pub mod Run
 pub mod Shorts
 pub mod Homes

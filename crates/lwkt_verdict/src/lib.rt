@@ -3,7 +3,8 @@
 //!
 //! Words: an *event* is something that a processor did, as its trace tells it; a *poll* is one call of a thread's body: what it
 //! asked, and the answer that it was given later; a *piece* is a turn's poll and its *part* of the trace; a turn *fits* if its
-//! piece is what the threads may do then; the *progress* of a thread is how far it is in its steps and its log; a *pace* says how
+//! piece is what the threads may do then; the *progress* of a thread is how far it is in its steps and its log, the
+//! *spot* of an ask how many rounds of all steps were made before it, and which step it is; a *pace* says how
 //! turns follow one another; a *short* ask or answer lies in the row of its poll, a *wide* one in a list beside
 //! the rows, and a *long* one, which has a record, in another.
 #![tactic(auto)]
@@ -23,10 +24,12 @@ mod progress;
 mod rounds;
 mod short_answers;
 mod short_asks;
+mod spots;
 pub mod turns;
 
 pub use asks::entry_of;
 pub use checks::is_script_run;
 pub use poll_lists::PollList;
 pub use rounds::are_processors;
+pub use spots::{Spot, spot_of};
 pub use turns::{Pace, Poll, Turn};

@@ -16,8 +16,8 @@ fn goes_quietly_by_one(state: &mut State, event: &Event) -> bool
     is_quiet(state, event) && state.step(event).is_ok()
 }
 
-/// Makes events happen, if they can and each may happen unasked.
-pub fn goes_quietly(state: &mut State, events: &[Event]) -> bool
+// Makes events happen, if they can and each may happen unasked.
+fn go_quietly(state: &mut State, events: &[Event]) -> bool
     ensures right { IsTrue result ↔ GoesQuietly state.old events.now }
     ensures moved { IsTrue result → state.new ≡ after_all state.old events.now }
 {
@@ -27,6 +27,15 @@ pub fn goes_quietly(state: &mut State, events: &[Event]) -> bool
         }
     }
     true
+}
+
+/// Makes events happen, if they can and each may happen unasked. Most often there are none.
+#[inline(always)]
+pub fn goes_quietly(state: &mut State, events: &[Event]) -> bool
+    ensures right { IsTrue result ↔ GoesQuietly state.old events.now }
+    ensures moved { IsTrue result → state.new ≡ after_all state.old events.now }
+{
+    events.is_empty() || go_quietly(state, events)
 }
 
 // Whether the event of an ask has to be there.

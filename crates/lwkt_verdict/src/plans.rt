@@ -2,6 +2,7 @@ ghost use Rattle.std.specs.Prelude.{◌≡◌, ◌<◌, ◌^◌, ◌↔◌, IsTr
 ghost use Rattle.lwkt_base.specs.declared.asks.Ask.TheVariants.{WriteBlob, Exit};
 ghost use Rattle.lwkt_verdict.specs.Threads.{plan_of_thread, line_of, slot_of, ask_in, ask_at};
 
+use crate::spots::{Spot, spot_of};
 use lwkt_base::{Ask, Blob, ThreadId, TokId};
 use lwkt_report::ThreadLine;
 use lwkt_script::ThreadSpec;
@@ -54,25 +55,26 @@ fn is_step(steps: &[Ask], place: usize, ask: &Ask) -> bool
     }
 }
 
-// Whether an ask is ask k of a thread that makes these steps so many times over.
-fn is_ask_in(repeat: u64, steps: &[Ask], k: u64, ask: &Ask) -> bool
+// Whether an ask is ask k of a thread that makes these steps so many times over, which may stand at `near`.
+fn is_ask_in(repeat: u64, steps: &[Ask], k: u64, near: Spot, ask: &Ask) -> bool
     ensures { IsTrue result ↔ (ask_in repeat steps.now k ≡ Some ask.now) }
 {
     let count = steps.len() as u64;
     if count == 0 {
         return k == 0 && is_last(ask);
     }
-    if k / count < repeat {
-        return is_step(steps, (k % count) as usize, ask);
+    let spot = spot_of(count, k, near);
+    if spot.rounds < repeat {
+        return is_step(steps, spot.step as usize, ask);
     }
-    k / count == repeat && k % count == 0 && is_last(ask)
+    spot.rounds == repeat && spot.step == 0 && is_last(ask)
 }
 
-/// Whether an ask is ask k of a thread.
-pub fn is_ask_at(plan: &ThreadSpec, k: u64, ask: &Ask) -> bool
+/// Whether an ask is ask k of a thread, which may stand at `near`.
+pub fn is_ask_at(plan: &ThreadSpec, k: u64, near: Spot, ask: &Ask) -> bool
     ensures { IsTrue result ↔ (ask_at plan.now k ≡ Some ask.now) }
 {
-    is_ask_in(u64::from(plan.repeat), plan.steps.as_slice(), k, ask)
+    is_ask_in(u64::from(plan.repeat), plan.steps.as_slice(), k, near, ask)
 }
 
 /// Where in a script thread number n of a processor stands.

@@ -45,6 +45,16 @@ fn poll_fits(
         && is_logged(&lines[home.line], standing, poll)
 }
 
+// How many steps a thread has, 0 if it isn't there.
+fn step_count(plans: &[ThreadSpec], home: Option<Home>) -> u64
+    requires { IfSome home (λ h. h.plan < length plans.now) }
+{
+    match home {
+        None => 0,
+        Some(home) => plans[home.plan].steps.as_slice().len() as u64,
+    }
+}
+
 /// How far a thread has come.
 pub fn standing_at<'t, 'a>(table: &'t [Standing<'a>], slot: usize) -> &'t Standing<'a>
     requires { slot < length table.now }
@@ -81,7 +91,8 @@ pub fn note_poll<'a>(
     if !poll_fits(plans, lines, home, cpu, standing, poll) {
         return false;
     }
-    let next = progress_after(standing, place, poll, blocked);
+    let steps = step_count(plans, home);
+    let next = progress_after(standing, place, poll, blocked, steps);
     table[slot] = next;
     true
 }

@@ -8,6 +8,7 @@ ghost use Rattle.lwkt_verdict.specs.Threads.{logged_by, progress_after, MayAsk, 
 use crate::asks::{entry_of, is_exit, is_refused, may_block, may_wait};
 use crate::places::PollPlace;
 use crate::plans::is_ask_at;
+use crate::spots::Spot;
 use crate::turns::Poll;
 use lwkt_base::{Answer, Ask, Blob, Entry, ThreadState};
 use lwkt_report::ThreadLine;
@@ -43,6 +44,8 @@ pub struct Progress {
 #[derive(Drop)]
 pub struct Standing<'a> {
     polls: u64,
+    // Where the next ask may stand.
+    spot: Spot,
     last: Option<PollPlace<'a>>,
     // Whether the last poll's part shows that it blocked the thread.
     blocked: bool,
@@ -65,6 +68,7 @@ impl<'a> Default for Standing<'a> {
     fn default() -> Self {
         Standing {
             polls: 0,
+            spot: Spot::first(),
             last: None,
             blocked: false,
             logged: 0,
@@ -112,12 +116,13 @@ fn logged_after(logged: usize, poll: &Poll) -> usize
     }
 }
 
-/// How far a thread has come after one more poll.
+/// How far a thread with so many steps has come after one more poll.
 pub fn progress_after<'a>(
     standing: &Standing<'a>,
     place: PollPlace<'a>,
     poll: &Poll,
     blocked: bool,
+    steps: u64,
 ) -> Standing<'a>
     requires few { standing.now.polls < 2 ^ 64 - 1 }
     requires placed { poll_of place.polls.now place.turn ≡ Some poll.now }
@@ -125,6 +130,7 @@ pub fn progress_after<'a>(
 {
     Standing {
         polls: standing.polls + 1,
+        spot: standing.spot.next(steps),
         last: Some(place),
         blocked,
         logged: logged_after(standing.logged, poll),
@@ -188,7 +194,7 @@ fn is_unanswered(standing: &Standing<'_>) -> bool
 pub fn may_ask(plan: &ThreadSpec, standing: &Standing<'_>, ask: &Ask) -> bool
     ensures { IsTrue result ↔ MayAsk plan.now standing.now ask.now }
 {
-    is_ask_at(plan, standing.polls, ask) && is_answered(standing)
+    is_ask_at(plan, standing.polls, standing.spot, ask) && is_answered(standing)
 }
 
 // Whether an entry is that of this record.

@@ -59,15 +59,25 @@ fn ends_early(
         && all_ended(lines)
 }
 
+// The processor after this one, round so many.
+fn after(cpus: usize, cpu: usize) -> usize
+    requires { cpu < cpus }
+    ensures { result ≡ (cpu + 1) % cpus }
+{
+    if cpu + 1 == cpus { 0 } else { cpu + 1 }
+}
+
 // Whether an order goes round the processors.
 fn goes_round(cpus: usize, order: &[u8]) -> bool
     requires { 0 < cpus }
     ensures { IsTrue result ↔ GoesRound cpus 0 order.now }
 {
-    for (k, cpu) in order.iter().enumerate() {
-        if usize::from(*cpu) != k % cpus {
+    let mut next = 0;
+    for cpu in order {
+        if usize::from(*cpu) != next {
             return false;
         }
+        next = after(cpus, next);
     }
     true
 }

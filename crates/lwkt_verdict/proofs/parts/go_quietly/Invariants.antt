@@ -1,7 +1,7 @@
 use Rattle.std.proofs.Common.{◌≡◌, drop}
 use Rattle.std.specs.Prelude.{◌↔◌}
 use Rattle.lwkt_verdict.specs.Parts.{after_all, GoesQuietly}
-use Rattle.lwkt_verdict.proofs.parts.goes_quietly.Given as goal
+use Rattle.lwkt_verdict.proofs.parts.go_quietly.Given as goal
 
 -- the events are quiet exactly if those that are left are, and what they leave is what those leave
 abbrev pub invariant-loop-event : goal.invariant-loop-event

@@ -5,7 +5,7 @@ use Rattle.lwkt_core.specs.Machine.{Needs, after}
 use Rattle.lwkt_verdict.specs.Owns.{IsQuiet}
 use Rattle.lwkt_verdict.specs.Parts.{after_all, GoesQuietly}
 use Rattle.lwkt_verdict.proofs.PartMoves.{quiet_on, after_on, quiet_stops, never}
-use Rattle.lwkt_verdict.proofs.parts.goes_quietly.Goals as goal
+use Rattle.lwkt_verdict.proofs.parts.go_quietly.Goals as goal
 
 pub returns-then-not-goes_quietly_by_one-clause-right : goal.returns-then-not-goes_quietly_by_one-clause-right
 returns-then-not-goes_quietly_by_one-clause-right c =
