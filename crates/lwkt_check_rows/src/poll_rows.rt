@@ -188,3 +188,51 @@ fn an_answer_takes_the_place_of_another(rt: HostRuntime) -> Result<(), Fail> {
     assert!(rt; comes_out(&list, 2, &unanswered));
     Ok(())
 }
+
+// Numbers just below, at and above the first one that a row has no room for, and the last.
+const NUMBERS: [u64; 4] = [4_294_967_295, 4_294_967_296, 4_294_967_297, u64::MAX];
+
+// Appends a write of a number and an addition of it, with each number as the answer.
+fn add_numbered(polls: &mut Vec<Poll>, number: u64) -> Result<(), AllocError> {
+    for told in &NUMBERS {
+        let answer = Some(Answer::Value(*told));
+        let written = Ask::Write(TokId(1), 2, number);
+        let added = Ask::Add(TokId(3), number);
+        polls.push(Poll {
+            answer,
+            ask: written,
+            thread: TO,
+        })?;
+        polls.push(Poll {
+            answer,
+            ask: added,
+            thread: TO,
+        })?;
+    }
+    Ok(())
+}
+
+// Polls with each number, and one that asks and is told none between them.
+fn numbered(alloc: Global) -> Result<Vec<Poll>, AllocError> {
+    let mut polls = Vec::new(alloc);
+    for number in &NUMBERS {
+        add_numbered(&mut polls, *number)?;
+        polls.push(Poll {
+            answer: Some(Answer::Done),
+            ask: Ask::Yield,
+            thread: TO,
+        })?;
+    }
+    Ok(polls)
+}
+
+#[test]
+fn numbers_come_out_whole(rt: HostRuntime) -> Result<(), Fail> {
+    let alloc = rt.alloc();
+    let polls = numbered(alloc)?;
+    let list = packed(alloc, polls.as_slice())?;
+    assert!(rt; list.len() == 36);
+    assert!(rt; all_come_out(&list, polls.as_slice()));
+    assert!(rt; is_past(&list, 36));
+    Ok(())
+}

@@ -22,6 +22,7 @@ mod poll_lists;
 mod polls;
 mod progress;
 mod rounds;
+mod row_numbers;
 mod short_answers;
 mod short_asks;
 mod spots;

@@ -13,10 +13,10 @@ use std::marker::Model;
 /// A poll as it is kept.
 #[derive(Clone, Copy)]
 pub struct PollRow {
-    /// The number beside the ask.
-    pub ask_number: u64,
-    /// The number beside the answer.
-    pub answer_number: u64,
+    /// The number beside the ask: a value that fits 32 bits, or the ask's place in the list in which it lies.
+    pub ask_number: u32,
+    /// The number beside the answer: a value that fits 32 bits, or the answer's place in the list in which it lies.
+    pub answer_number: u32,
     /// Its ask, or in which list it lies.
     pub ask: ShortAsk,
     /// Its answer, or in which list it lies.
@@ -27,8 +27,8 @@ pub struct PollRow {
 
 /// The polls of a run, in order.
 ///
-/// A poll is kept in a row of 24 bytes. What a row has no room for lies in lists beside the rows: the asks and answers that say more,
-/// and the few that have a record.
+/// A poll is kept in a row of 16 bytes. What a row has no room for lies in lists beside the rows: the asks and answers that say more,
+/// or have a value that doesn't fit 32 bits, and the few that have a record.
 #[derive(Drop)]
 pub struct PollList {
     rows: Vec<PollRow>,

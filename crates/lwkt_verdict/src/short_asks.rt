@@ -1,16 +1,19 @@
 //! Asks as polls are kept by them: short, in a row, or in a list beside the rows.
 //!
-//! An `Ask` has room for a record, so it is large. A row has the kind of an ask with its small numbers, and beside it one number more:
-//! the value of a write or an addition. A send, a call and a reply say more than that, so they are *wide* and lie in a list of their
-//! own. A store of a record is *long* and lies in a list of whole asks. Of these the row's number is the place there.
+//! An `Ask` has room for a record, so it is large. A row has the kind of an ask with its small numbers, and beside it one number of 32
+//! bits more: the value of a write or an addition. A send, a call and a reply say more than that, as do a write and an addition with a
+//! larger number, so they are *wide* and lie in a list of their own. A store of a record is *long* and lies in a list of whole asks.
+//! Of these the row's number is the place there.
 ghost use Rattle.std.specs.Prelude.{◌≡◌, ◌||◌, [], not, length, map, IfSome, IfOk, OnErr, is_some};
 ghost use Rattle.lwkt_events.specs.ShortEvents.{GrowsBehind};
 ghost use Rattle.lwkt_verdict.specs.Shorts.{wide_ask, long_ask, is_wide_ask, is_long_ask, wide_ask_place, long_ask_place, kept_place, with_kept, IsAskIn};
 
+use crate::row_numbers::{fits_row, keep_behind};
 use lwkt_base::{Ask, Call, Flags, MsgId, ThreadId, TokId};
 use std::alloc::{AllocError, Global};
 
-/// An ask as a row has it, with a number beside it. Each kind but the last two is that of `Ask`.
+/// An ask as a row has it, with a number beside it. Each kind but the last two is that of `Ask`. Where a kind doesn't say what the number
+/// is, it is 0.
 #[derive(Clone, Copy)]
 pub enum ShortAsk {
     Get(TokId),
@@ -19,9 +22,9 @@ pub enum ShortAsk {
     Rel(TokId),
     Swap,
     Read(TokId, u8),
-    /// The number is the value.
+    /// The number is the value, which fits 32 bits.
     Write(TokId, u8),
-    /// The number is what is added.
+    /// The number is what is added, which fits 32 bits.
     Add(TokId),
     ReadBlob(TokId),
     Abort(MsgId),
@@ -31,9 +34,9 @@ pub enum ShortAsk {
     WaitPort,
     Yield,
     Exit,
-    /// The number is the place of a wide ask.
+    /// A wide ask. The number is its place among the wide ones.
     Wide,
-    /// The number is the place of a long ask.
+    /// A long ask. The number is its place among the long ones.
     Long,
 }
 
@@ -43,13 +46,17 @@ pub enum WideAsk {
     Send(MsgId, ThreadId, Flags, Call),
     Do(MsgId, ThreadId, Call),
     Reply(MsgId, u32, u64),
+    /// A value that doesn't fit 32 bits is written.
+    Write(TokId, u8, u64),
+    /// A number that doesn't fit 32 bits is added.
+    Add(TokId, u64),
 }
 
 /// What a row has of an ask.
 #[derive(Clone, Copy)]
 pub struct KeptAsk {
     /// The number beside the ask, 0 if its kind has none.
-    pub number: u64,
+    pub number: u32,
     pub short: ShortAsk,
 }
 
@@ -70,6 +77,10 @@ impl WideAsk {
             Ask::Send(msg, to, call, flags) => Some(WideAsk::Send(msg, to, flags, call)),
             Ask::Do(msg, to, call) => Some(WideAsk::Do(msg, to, call)),
             Ask::Reply(msg, error, outcome) => Some(WideAsk::Reply(msg, error, outcome)),
+            Ask::Write(tok, cell, value) if !fits_row(value) => {
+                Some(WideAsk::Write(tok, cell, value))
+            }
+            Ask::Add(tok, more) if !fits_row(more) => Some(WideAsk::Add(tok, more)),
             _ => None,
         }
     }
@@ -82,13 +93,15 @@ impl WideAsk {
             WideAsk::Send(msg, to, flags, call) => *ask = Ask::Send(msg, to, call, flags),
             WideAsk::Do(msg, to, call) => *ask = Ask::Do(msg, to, call),
             WideAsk::Reply(msg, error, outcome) => *ask = Ask::Reply(msg, error, outcome),
+            WideAsk::Write(tok, cell, value) => *ask = Ask::Write(tok, cell, value),
+            WideAsk::Add(tok, more) => *ask = Ask::Add(tok, more),
         }
     }
 }
 
 impl KeptAsk {
     // What a row has of an ask of this kind, with this number.
-    fn with(short: ShortAsk, number: u64) -> Option<KeptAsk>
+    fn with(short: ShortAsk, number: u32) -> Option<KeptAsk>
         ensures { result ≡ Some (record { number = number; short = short }) }
     {
         Some(KeptAsk { number, short })
@@ -107,8 +120,12 @@ impl KeptAsk {
             Ask::Rel(tok) => KeptAsk::with(ShortAsk::Rel(tok), 0),
             Ask::Swap => KeptAsk::with(ShortAsk::Swap, 0),
             Ask::Read(tok, cell) => KeptAsk::with(ShortAsk::Read(tok, cell), 0),
-            Ask::Write(tok, cell, value) => KeptAsk::with(ShortAsk::Write(tok, cell), value),
-            Ask::Add(tok, more) => KeptAsk::with(ShortAsk::Add(tok), more),
+            Ask::Write(tok, cell, value) if fits_row(value) => {
+                KeptAsk::with(ShortAsk::Write(tok, cell), value as u32)
+            }
+            Ask::Add(tok, more) if fits_row(more) => {
+                KeptAsk::with(ShortAsk::Add(tok), more as u32)
+            }
             Ask::ReadBlob(tok) => KeptAsk::with(ShortAsk::ReadBlob(tok), 0),
             Ask::Abort(msg) => KeptAsk::with(ShortAsk::Abort(msg), 0),
             Ask::IsAborted(msg) => KeptAsk::with(ShortAsk::IsAborted(msg), 0),
@@ -117,6 +134,7 @@ impl KeptAsk {
             Ask::WaitPort => KeptAsk::with(ShortAsk::WaitPort, 0),
             Ask::Yield => KeptAsk::with(ShortAsk::Yield, 0),
             Ask::Exit => KeptAsk::with(ShortAsk::Exit, 0),
+            Ask::Write(..) | Ask::Add(..) => None,
             Ask::Send(..) | Ask::Do(..) | Ask::Reply(..) | Ask::WriteBlob(..) => None,
         }
     }
@@ -151,24 +169,20 @@ impl AskLists {
             return Ok(kept);
         }
         if let Some(wide) = WideAsk::of(ask) {
-            let place = self.wides.len();
-            self.wides.push(wide)?;
             return Ok(KeptAsk {
-                number: place as u64,
+                number: keep_behind(&mut self.wides, wide)?,
                 short: ShortAsk::Wide,
             });
         }
-        let place = self.longs.len();
-        self.longs.push(*ask)?;
         Ok(KeptAsk {
-            number: place as u64,
+            number: keep_behind(&mut self.longs, *ask)?,
             short: ShortAsk::Long,
         })
     }
 
     /// Writes the whole ask of which a row has this. Each kind is written by itself, since only a record takes all the room.
     #[inline(always)]
-    pub fn write(&self, short: ShortAsk, number: u64, ask: &mut Ask)
+    pub fn write(&self, short: ShortAsk, number: u32, ask: &mut Ask)
         ensures { ask.new ≡ long_ask self.now.wides.items self.now.longs.items short number }
     {
         match short {
@@ -178,8 +192,8 @@ impl AskLists {
             ShortAsk::Rel(tok) => *ask = Ask::Rel(tok),
             ShortAsk::Swap => *ask = Ask::Swap,
             ShortAsk::Read(tok, cell) => *ask = Ask::Read(tok, cell),
-            ShortAsk::Write(tok, cell) => *ask = Ask::Write(tok, cell, number),
-            ShortAsk::Add(tok) => *ask = Ask::Add(tok, number),
+            ShortAsk::Write(tok, cell) => *ask = Ask::Write(tok, cell, u64::from(number)),
+            ShortAsk::Add(tok) => *ask = Ask::Add(tok, u64::from(number)),
             ShortAsk::ReadBlob(tok) => *ask = Ask::ReadBlob(tok),
             ShortAsk::Abort(msg) => *ask = Ask::Abort(msg),
             ShortAsk::IsAborted(msg) => *ask = Ask::IsAborted(msg),
