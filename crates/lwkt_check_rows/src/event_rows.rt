@@ -1,4 +1,4 @@
-//! The trace of a run as it is kept: what was put in comes out, with sections and records and without.
+//! The trace of a run as it is kept: what was put in comes out, with sections, records and large numbers and without.
 ghost use Rattle.std.specs.Prelude.{◌≤◌, length};
 
 use lwkt_base::{Blob, CpuId, MsgId, Row, Section, TokId};
@@ -82,6 +82,45 @@ fn events(alloc: Global) -> Result<Vec<Event>, AllocError> {
     )
 }
 
+// A read, a write, a send and a take with each of these numbers: those about the first that a row has no room for.
+fn numbered(alloc: Global) -> Result<Vec<Event>, AllocError> {
+    let (cpu, tok, msg) = (CPU, TOK, MSG);
+    let (cell, to) = (3, CpuId(1));
+    let mut events = Vec::new(alloc);
+    for number in [
+        0xffff_fffe,
+        0xffff_ffff,
+        0x1_0000_0000,
+        0x1_0000_0001,
+        u64::MAX,
+    ] {
+        events.push(Event::Read {
+            cpu,
+            tok,
+            cell,
+            value: number,
+        })?;
+        events.push(Event::Write {
+            cpu,
+            tok,
+            cell,
+            value: number,
+        })?;
+        events.push(Event::Send {
+            cpu,
+            msg,
+            to,
+            round: number,
+        })?;
+        events.push(Event::TakeMsg {
+            cpu,
+            msg,
+            round: number,
+        })?;
+    }
+    Ok(events)
+}
+
 // Whether each part of a list, from each place on, comes out as it was put in.
 fn parts_come_out(
     list: &EventList,
@@ -99,15 +138,26 @@ fn parts_come_out(
     Ok(all)
 }
 
+// Whether events come out of a list as they were put in, all of them and each part.
+fn come_out(alloc: Global, events: &[Event]) -> Result<bool, AllocError> {
+    let mut list = EventList::new(alloc);
+    list.append(events)?;
+    let whole = list.whole(alloc)?;
+    let mut room = Vec::new(alloc);
+    let parts = parts_come_out(&list, events, &mut room)?;
+    Ok(parts && list.len() == events.len() && whole.as_slice() == events)
+}
+
 #[test]
 fn events_come_out_as_they_were_put_in(rt: HostRuntime) -> Result<(), Fail> {
     let alloc = rt.alloc();
-    let events = events(alloc)?;
-    let mut list = EventList::new(alloc);
-    list.append(events.as_slice())?;
-    assert!(rt; list.len() == events.len());
-    assert!(rt; list.whole(alloc)?.as_slice() == events.as_slice());
-    let mut room = Vec::new(alloc);
-    assert!(rt; parts_come_out(&list, events.as_slice(), &mut room)?);
+    assert!(rt; come_out(alloc, events(alloc)?.as_slice())?);
+    Ok(())
+}
+
+#[test]
+fn large_numbers_come_out_as_they_were_put_in(rt: HostRuntime) -> Result<(), Fail> {
+    let alloc = rt.alloc();
+    assert!(rt; come_out(alloc, numbered(alloc)?.as_slice())?);
     Ok(())
 }

@@ -7,7 +7,11 @@ use Rattle.std.proofs.lemmas.List.Sorted.{IsPermutation-refl, IsPermutation-tran
 use Rattle.lwkt_base.specs.declared.sections.Section.{Section}
 use Rattle.lwkt_core.specs.declared.events.Event.{Event}
 use Rattle.lwkt_core.specs.RunSections.{section_in, sections_told}
+use Rattle.lwkt_events.specs.declared.short_events.CellSection.{CellSection}
+use Rattle.lwkt_events.specs.declared.short_events.ShortEvent.{ShortEvent}
 use Rattle.lwkt_events.specs.declared.stretches.Stretch.{Stretch}
+use Rattle.lwkt_events.specs.declared.wide_events.WideEvent.{WideEvent}
+use Rattle.lwkt_events.specs.ShortEvents.{long_event, events_in}
 use Rattle.lwkt_events.specs.Stretches.{LeadTo, IsStretchOf, StandFor, GoesOnFrom, longer, stretch_of}
 use Rattle.lwkt_events.proofs.EventMoves.{all_one}
 
@@ -95,3 +99,16 @@ told_next events i e done low is =
     ∙ ap (λ (x : Event). sections_told (take i events) ++ (section_in x ++ [])) is
     ∙ ap (λ (l : List Section). sections_told (take i events) ++ l) (append-nil (section_in e)) in
     append_assoc done (sections_told (take i events)) (section_in e) ∙ ap (λ (l : List Section). done ++ l) (sym one)
+
+-- what one event more tells, of events that are kept short
+pub told_row : (cells : List CellSection) (wides : List WideEvent) (longs : List Event) (rows : List ShortEvent) (i : ℕ) (d : ShortEvent) (done : List Section) → i < length rows → (done ++ sections_told (events_in cells wides longs (take i rows))) ++ section_in (long_event cells wides longs (get_or rows i d)) ≡ done ++ sections_told (events_in cells wides longs (take (i + 1) rows))
+told_row cells wides longs rows i d done low =
+    let f : ShortEvent → Event = long_event cells wides longs in
+    let before : List Section = sections_told (map f (take i rows)) in
+    let e : Event = f (get_or rows i d) in
+    let one : sections_told (map f (take (i + 1) rows)) ≡ before ++ section_in e =
+    ap (λ (l : List ShortEvent). sections_told (map f l)) (take_more rows i d low)
+    ∙ ap (λ (l : List Event). sections_told l) (map-append f (take i rows) (get_or rows i d ∷ []))
+    ∙ flat_map-append section_in (map f (take i rows)) (e ∷ [])
+    ∙ ap (λ (l : List Section). before ++ l) (append-nil (section_in e)) in
+    append_assoc done before (section_in e) ∙ ap (λ (l : List Section). done ++ l) (sym one)

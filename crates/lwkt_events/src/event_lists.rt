@@ -3,25 +3,49 @@ ghost use Rattle.std.specs.Prelude.{◌≡◌, ◌+◌, ◌<◌, ◌≤◌, leng
 ghost use Rattle.lwkt_base.specs.declared.sections.Section.{Section};
 ghost use Rattle.lwkt_core.specs.RunSections.{sections_told};
 ghost use Rattle.lwkt_events.specs.Gives.{give_of};
+ghost use Rattle.lwkt_events.specs.ShortEvents.{spare_places};
 ghost use Rattle.lwkt_events.specs.Stretches.{StandFor};
 
 use crate::gives::Give;
 use crate::short_events::{CellSection, ShortEvent, keep_event};
 use crate::stretches::Stretches;
+use crate::wide_events::WideEvent;
 use lwkt_core::Event;
 use std::alloc::{AllocError, Global};
 use std::marker::Model;
 
 /// The events of a processor or of a run, in order, and how many of whatever kinds they may be without more memory.
 ///
-/// Few events have a section or a record. So an event is kept in 16 bytes, the section of a token with one cell in 24, and all else that
-/// is longer in a list of its own.
+/// Few events have a section, a record or a number of more than 32 bits. So an event is kept in 8 bytes, one with such a number in 16
+/// more, the section of a token with one cell in 24 more, and all else that is longer in a list of its own.
 #[derive(Drop)]
 pub struct EventList {
     rows: Vec<ShortEvent>,
-    // The sections of tokens with one cell, and the events that are too long for a row.
+    // The sections of tokens with one cell, the events with a number that a row has no room for, and those that are too long for it. A
+    // row has the place of each in 32 bits.
     cells: Vec<CellSection>,
+    wides: Vec<WideEvent>,
     longs: Vec<Event>,
+}
+
+// How many places there are in 32 bits.
+const PLACES: usize = 0x1_0000_0000;
+
+// Gives a list room for so many elements more, whose places fit 32 bits.
+//
+// `AllocError` if it lacks that room and memory is refused. Where so many have no place in 32 bits, the list is to be given room that no
+// list has, so that it is refused.
+#[inline(always)]
+fn give_room<T>(list: &mut Vec<T>, count: usize) -> Result<(), AllocError>
+    ensures items { list.new.items ≡ list.old.items }
+    ensures capacity { spare_places list.old ≤ spare_places list.new }
+    ensures ok { OnOk result (count ≤ spare_places list.new) }
+    ensures full { OnErr result (spare_places list.new < count) }
+{
+    if PLACES.saturating_sub(list.len()) < count {
+        return list.reserve(usize::MAX);
+    }
+    list.reserve(count)
 }
 
 impl Model for EventList {
@@ -30,9 +54,9 @@ impl Model for EventList {
 
     ghost Value = { KeptTrace };
 
-    ghost view = { λ t. record { items = events_in t.cells.items t.longs.items t.rows.items; capacity = capacity_in t.rows t.cells t.longs } };
+    ghost view = { λ t. record { items = events_in t.cells.items t.wides.items t.longs.items t.rows.items; capacity = capacity_in t.rows t.cells t.wides t.longs } };
 
-    ghost invariant = { λ t. All (IsEventIn (length t.cells.items) (length t.longs.items)) t.rows.items };
+    ghost invariant = { λ t. All (IsEventIn (length t.cells.items) (length t.wides.items) (length t.longs.items)) t.rows.items };
 }
 
 impl EventList {
@@ -43,6 +67,7 @@ impl EventList {
         EventList {
             rows: Vec::new(alloc),
             cells: Vec::new(alloc),
+            wides: Vec::new(alloc),
             longs: Vec::new(alloc),
         }
     }
@@ -64,8 +89,9 @@ impl EventList {
         ensures full { OnErr result (self.new.capacity < length self.old.items + count) }
     {
         self.rows.reserve(count)?;
-        self.cells.reserve(count)?;
-        self.longs.reserve(count)
+        give_room(&mut self.cells, count)?;
+        give_room(&mut self.wides, count)?;
+        give_room(&mut self.longs, count)
     }
 
     /// An event more, behind the others, in a list that has room for it.
@@ -75,7 +101,7 @@ impl EventList {
         ensures items { self.new.items ≡ self.old.items ++ event.now ∷ [] }
         ensures capacity { self.old.capacity ≤ self.new.capacity }
     {
-        let row = keep_event(&mut self.cells, &mut self.longs, event);
+        let row = keep_event(&mut self.cells, &mut self.wides, &mut self.longs, event);
         self.rows.push_reserved(row);
     }
 
@@ -117,7 +143,7 @@ impl EventList {
         room.clear();
         room.reserve(count)?;
         for i in 0..count {
-            self.rows[first + i].put(&self.cells, &self.longs, room);
+            self.rows[first + i].put(&self.cells, &self.wides, &self.longs, room);
         }
         Ok(())
     }

@@ -2,16 +2,20 @@
 //!
 //! An `Event` has room for a section or a record, so it is large. A written give of a token with one cell is kept by the place of a
 //! short section; any other written give, and a record that was read or stored, lie in a list of their own, and are kept short by their
-//! place there. All others are kept as they are.
+//! place there. So is an event with a number of more than 32 bits, by its place in another list. All others are kept as they are.
+//!
+//! A short event has a kind, three small numbers and a number or a place of 32 bits: 8 bytes.
 ghost use Rattle.std.specs.Prelude.{◌≡◌, ◌+◌, ◌<◌, [], ◌∷◌, ◌++◌, length, vec_len, vec_capacity, not, ◌||◌, is_some, IfSome, OnOk, List};
 ghost use Rattle.lwkt_base.specs.declared.sections.Section.{Section};
 ghost use Rattle.lwkt_core.specs.RunSections.{section_in};
 ghost use Rattle.lwkt_events.specs.Gives.{give_of};
 ghost use Rattle.lwkt_events.specs.Stretches.{StandFor};
-ghost use Rattle.lwkt_events.specs.ShortEvents.{section_of_cell, gave_cell, long_event, has_cell, is_long_event, one_more_if, IsEventIn, GrowsBehind, TakesAtMostOne};
+ghost use Rattle.lwkt_events.specs.ShortEvents.{section_of_cell, gave_cell, long_event, has_cell, is_wide_event, is_long_event, one_more_if, IsEventIn, GrowsBehind, HasPlace, TakesAtMostOne};
+ghost use Rattle.lwkt_events.specs.declared.wide_events.WideEvent.{WideEvent};
 
 use crate::gives::{Give, give_of};
 use crate::stretches::Stretches;
+use crate::wide_events::{WideEvent, short_number};
 use lwkt_base::{CpuId, MsgId, Row, Section, TokId};
 use lwkt_core::Event;
 use std::alloc::AllocError;
@@ -27,7 +31,7 @@ pub struct CellSection {
     pub generation: u64,
 }
 
-/// An event, or the place of what is too long for it. Each other kind is that of `Event`.
+/// An event, or the place of what a row has no room for. Each other kind is that of `Event`, with a number of 32 bits.
 #[derive(Clone, Copy)]
 pub enum ShortEvent {
     Load(CpuId, TokId),
@@ -38,17 +42,19 @@ pub enum ShortEvent {
     GiveOne(CpuId, TokId),
     GiveClean(CpuId, TokId),
     /// A written give of a token with one cell, whose section is the one at this place.
-    GaveCell(CpuId, TokId, usize),
-    Read(CpuId, TokId, u8, u64),
-    Write(CpuId, TokId, u8, u64),
-    Send(CpuId, MsgId, CpuId, u64),
-    TakeMsg(CpuId, MsgId, u64),
+    GaveCell(CpuId, TokId, u32),
+    Read(CpuId, TokId, u8, u32),
+    Write(CpuId, TokId, u8, u32),
+    Send(CpuId, MsgId, CpuId, u32),
+    TakeMsg(CpuId, MsgId, u32),
     DropMsg(CpuId, MsgId),
     Reply(CpuId, MsgId),
     Reap(CpuId, MsgId),
     Abort(CpuId, MsgId),
+    /// The event at this place of the wide ones.
+    Wide(u32),
     /// The event at this place of the long ones.
-    Long(usize),
+    Long(u32),
 }
 
 // The whole section of a token with one cell.
@@ -103,9 +109,9 @@ impl ShortEvent {
     // An event that needs no other list.
     #[inline(always)]
     fn of(event: &Event) -> Option<ShortEvent>
-        ensures same { IfSome result (λ short. (cells longs : _) → long_event cells longs short ≡ event.now) }
-        ensures inside { IfSome result (λ short. IsEventIn 0 0 short) }
-        ensures short { is_some result ≡ not (has_cell event.now || is_long_event event.now) }
+        ensures same { IfSome result (λ short. (cells wides longs : _) → long_event cells wides longs short ≡ event.now) }
+        ensures inside { IfSome result (λ short. IsEventIn 0 0 0 short) }
+        ensures short { is_some result ≡ not (has_cell event.now || is_wide_event event.now || is_long_event event.now) }
     {
         match *event {
             Event::Load { cpu, tok } => Some(ShortEvent::Load(cpu, tok)),
@@ -121,20 +127,22 @@ impl ShortEvent {
                 tok,
                 cell,
                 value,
-            } => Some(ShortEvent::Read(cpu, tok, cell, value)),
+            } => Some(ShortEvent::Read(cpu, tok, cell, short_number(value)?)),
             Event::Write {
                 cpu,
                 tok,
                 cell,
                 value,
-            } => Some(ShortEvent::Write(cpu, tok, cell, value)),
+            } => Some(ShortEvent::Write(cpu, tok, cell, short_number(value)?)),
             Event::Send {
                 cpu,
                 msg,
                 to,
                 round,
-            } => Some(ShortEvent::Send(cpu, msg, to, round)),
-            Event::TakeMsg { cpu, msg, round } => Some(ShortEvent::TakeMsg(cpu, msg, round)),
+            } => Some(ShortEvent::Send(cpu, msg, to, short_number(round)?)),
+            Event::TakeMsg { cpu, msg, round } => {
+                Some(ShortEvent::TakeMsg(cpu, msg, short_number(round)?))
+            }
             Event::DropMsg { cpu, msg } => Some(ShortEvent::DropMsg(cpu, msg)),
             Event::Reply { cpu, msg } => Some(ShortEvent::Reply(cpu, msg)),
             Event::Reap { cpu, msg } => Some(ShortEvent::Reap(cpu, msg)),
@@ -142,12 +150,18 @@ impl ShortEvent {
         }
     }
 
-    /// Puts the whole event behind those of a room that has room for it, where the short sections and the long events are these. Each kind
-    /// is put by itself, since only a section or a record takes all the room of an event.
+    /// Puts the whole event behind those of a room that has room for it, where the short sections, the wide events and the long events
+    /// are these. Each kind is put by itself, since only a section or a record takes all the room of an event.
     #[inline(always)]
-    pub fn put(&self, cells: &[CellSection], longs: &[Event], room: &mut Vec<Event>)
+    pub fn put(
+        &self,
+        cells: &[CellSection],
+        wides: &[WideEvent],
+        longs: &[Event],
+        room: &mut Vec<Event>,
+    )
         requires { vec_len room.old < vec_capacity room.old }
-        ensures items { room.new.items ≡ room.old.items ++ long_event cells.now longs.now self.now ∷ [] }
+        ensures items { room.new.items ≡ room.old.items ++ long_event cells.now wides.now longs.now self.now ∷ [] }
         ensures len { vec_len room.new ≡ vec_len room.old + 1 }
         ensures capacity { vec_capacity room.new ≡ vec_capacity room.old }
     {
@@ -159,7 +173,7 @@ impl ShortEvent {
             ShortEvent::Mark(cpu, tok) => room.push_reserved(Event::Mark { cpu, tok }),
             ShortEvent::GiveOne(cpu, tok) => room.push_reserved(Event::GiveOne { cpu, tok }),
             ShortEvent::GiveClean(cpu, tok) => room.push_reserved(Event::GiveClean { cpu, tok }),
-            ShortEvent::GaveCell(cpu, tok, place) => match cells.get(place) {
+            ShortEvent::GaveCell(cpu, tok, place) => match cells.get(place as usize) {
                 None => room.push_reserved(Event::Load { cpu, tok }),
                 Some(section) => room.push_reserved(gave(cpu, tok, section)),
             },
@@ -167,28 +181,37 @@ impl ShortEvent {
                 cpu,
                 tok,
                 cell,
-                value,
+                value: u64::from(value),
             }),
             ShortEvent::Write(cpu, tok, cell, value) => room.push_reserved(Event::Write {
                 cpu,
                 tok,
                 cell,
-                value,
+                value: u64::from(value),
             }),
             ShortEvent::Send(cpu, msg, to, round) => room.push_reserved(Event::Send {
                 cpu,
                 msg,
                 to,
-                round,
+                round: u64::from(round),
             }),
-            ShortEvent::TakeMsg(cpu, msg, round) => {
-                room.push_reserved(Event::TakeMsg { cpu, msg, round });
-            }
+            ShortEvent::TakeMsg(cpu, msg, round) => room.push_reserved(Event::TakeMsg {
+                cpu,
+                msg,
+                round: u64::from(round),
+            }),
             ShortEvent::DropMsg(cpu, msg) => room.push_reserved(Event::DropMsg { cpu, msg }),
             ShortEvent::Reply(cpu, msg) => room.push_reserved(Event::Reply { cpu, msg }),
             ShortEvent::Reap(cpu, msg) => room.push_reserved(Event::Reap { cpu, msg }),
             ShortEvent::Abort(cpu, msg) => room.push_reserved(Event::Abort { cpu, msg }),
-            ShortEvent::Long(place) => match longs.get(place) {
+            ShortEvent::Wide(place) => match wides.get(place as usize) {
+                None => room.push_reserved(Event::Load {
+                    cpu: CpuId(0),
+                    tok: TokId(0),
+                }),
+                Some(wide) => wide.put(room),
+            },
+            ShortEvent::Long(place) => match longs.get(place as usize) {
                 None => room.push_reserved(Event::Load {
                     cpu: CpuId(0),
                     tok: TokId(0),
@@ -204,17 +227,17 @@ impl ShortEvent {
     /// event.
     #[inline(always)]
     pub fn give(&self, cells: &[CellSection], longs: &[Event]) -> Option<Give>
-        ensures { result ≡ give_of (long_event cells.now longs.now self.now) }
+        ensures { (wides : List WideEvent) → result ≡ give_of (long_event cells.now wides longs.now self.now) }
     {
         match *self {
             ShortEvent::GaveCell(cpu, tok, place) => {
-                let short = cells.get(place)?;
+                let short = cells.get(place as usize)?;
                 Some(Give {
                     cpu,
                     section: whole_section(tok, short),
                 })
             }
-            ShortEvent::Long(place) => give_of(longs.get(place)?),
+            ShortEvent::Long(place) => give_of(longs.get(place as usize)?),
             _ => None,
         }
     }
@@ -233,14 +256,14 @@ impl ShortEvent {
         longs: &[Event],
         stretches: &mut Stretches,
     ) -> Result<(), AllocError>
-        ensures { OnOk result ((sections : List Section) → StandFor stretches.old sections → StandFor stretches.new (sections ++ section_in (long_event cells.now longs.now self.now))) }
+        ensures { (wides : List WideEvent) → OnOk result ((sections : List Section) → StandFor stretches.old sections → StandFor stretches.new (sections ++ section_in (long_event cells.now wides longs.now self.now))) }
     {
         match *self {
-            ShortEvent::GaveCell(_, tok, place) => match cells.get(place) {
+            ShortEvent::GaveCell(_, tok, place) => match cells.get(place as usize) {
                 Some(short) => stretches.add(&whole_section(tok, short)),
                 None => Ok(()),
             },
-            ShortEvent::Long(place) => match longs.get(place) {
+            ShortEvent::Long(place) => match longs.get(place as usize) {
                 Some(event) => stretches.add_event(event),
                 None => Ok(()),
             },
@@ -249,30 +272,43 @@ impl ShortEvent {
     }
 }
 
-/// An event kept short: its section if it is of one cell, or the event itself if it is long, and nothing else, lies behind the others
+/// An event kept short: its section if it is of one cell, the event itself if it is wide or long, and nothing else, lies behind the others
 /// then, which have room for it.
 #[inline(always)]
-pub fn keep_event(cells: &mut Vec<CellSection>, longs: &mut Vec<Event>, event: &Event) -> ShortEvent
-    requires cell { vec_len cells.old < vec_capacity cells.old }
-    requires long { vec_len longs.old < vec_capacity longs.old }
-    ensures same { long_event cells.new.items longs.new.items result ≡ event.now }
-    ensures inside { IsEventIn (length cells.new.items) (length longs.new.items) result }
+pub fn keep_event(
+    cells: &mut Vec<CellSection>,
+    wides: &mut Vec<WideEvent>,
+    longs: &mut Vec<Event>,
+    event: &Event,
+) -> ShortEvent
+    requires cell { HasPlace cells.old }
+    requires wide { HasPlace wides.old }
+    requires long { HasPlace longs.old }
+    ensures same { long_event cells.new.items wides.new.items longs.new.items result ≡ event.now }
+    ensures inside { IsEventIn (length cells.new.items) (length wides.new.items) (length longs.new.items) result }
     ensures cell { length cells.new.items ≡ one_more_if (has_cell event.now) (length cells.old.items) }
+    ensures wide { length wides.new.items ≡ one_more_if (is_wide_event event.now) (length wides.old.items) }
     ensures long { length longs.new.items ≡ one_more_if (is_long_event event.now) (length longs.old.items) }
     ensures sections { GrowsBehind cells.old.items cells.new.items × TakesAtMostOne cells.old cells.new }
+    ensures numbers { GrowsBehind wides.old.items wides.new.items × TakesAtMostOne wides.old wides.new }
     ensures grows { GrowsBehind longs.old.items longs.new.items × TakesAtMostOne longs.old longs.new }
 {
     if let Some(short) = ShortEvent::of(event) {
         return short;
     }
-    match short_section(event) {
-        Some((cpu, tok, section)) => {
-            let place = cells.len();
-            cells.push_reserved(section);
-            ShortEvent::GaveCell(cpu, tok, place)
+    if let Some((cpu, tok, section)) = short_section(event) {
+        let place = cells.len() as u32;
+        cells.push_reserved(section);
+        return ShortEvent::GaveCell(cpu, tok, place);
+    }
+    match WideEvent::of(event) {
+        Some(wide) => {
+            let place = wides.len() as u32;
+            wides.push_reserved(wide);
+            ShortEvent::Wide(place)
         }
         None => {
-            let place = longs.len();
+            let place = longs.len() as u32;
             longs.push_reserved(*event);
             ShortEvent::Long(place)
         }
