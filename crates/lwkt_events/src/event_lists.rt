@@ -133,6 +133,7 @@ impl EventList {
     /// Writes so many events, from a place on, into a room, in place of what it had. That they are there is the caller's condition.
     ///
     /// `AllocError` if the room lacks room for them and can't be given it; it is empty then.
+    #[inline(always)]
     pub fn copy(&self, first: usize, count: usize, room: &mut Vec<Event>) -> Result<(), AllocError>
         requires { first + count ≤ length self.now.items }
         ensures ok { OnOk result (room.new.items ≡ take count (drop first self.now.items)) }
