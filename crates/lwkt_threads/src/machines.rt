@@ -50,22 +50,31 @@ struct Apart {
     traces: Vec<EventList>,
 }
 
-fn take_apart(alloc: Global, all: Vec<Driven<ScriptBody>>) -> Result<Apart, Fault>
+// Takes processors that were driven and their events apart.
+fn parts_of(alloc: Global, all: Vec<Driven<ScriptBody>>) -> Result<Apart, AllocError>
     ensures cpus { IfOk result (λ parts. parts.cpus.items ≡ map (λ d. d.cpu) all.items) }
     ensures traces { IfOk result (λ parts. parts.traces.items ≡ map (λ d. d.trace) all.items) }
-    ensures only { OnErr result (result ≡ Err no_memory) }
 {
     let mut cpus = Vec::new(alloc);
     let mut traces = Vec::new(alloc);
     for driven in all {
         let Driven { cpu, trace, .. } = driven;
-        cpus.push(cpu)
-            .map_err(|refused| Fault::Memory(refused.into()))?;
-        traces
-            .push(trace)
-            .map_err(|refused| Fault::Memory(refused.into()))?;
+        cpus.push(cpu)?;
+        traces.push(trace)?;
     }
     Ok(Apart { cpus, traces })
+}
+
+// The same, where refused memory is told as a fault.
+fn take_apart(alloc: Global, all: Vec<Driven<ScriptBody>>) -> Result<Apart, Fault>
+    ensures cpus { IfOk result (λ parts. parts.cpus.items ≡ map (λ d. d.cpu) all.items) }
+    ensures traces { IfOk result (λ parts. parts.traces.items ≡ map (λ d. d.trace) all.items) }
+    ensures only { OnErr result (result ≡ Err no_memory) }
+{
+    match parts_of(alloc, all) {
+        Ok(parts) => Ok(parts),
+        Err(refused) => Err(Fault::Memory(refused)),
+    }
 }
 
 // What the allocator said, where this is an end for want of memory.
