@@ -25,7 +25,10 @@ const REC: Rec = Rec {
     error: 4,
 };
 
-// One ask of each kind, and a second one with a record.
+// The first number that doesn't fit 32 bits, so that a row has no room for it.
+const WIDE: u64 = 4_294_967_296;
+
+// One ask of each kind, a second one with a record, and those with a number with one just below, at and above what a row has room for.
 fn asks(alloc: Global) -> Result<Vec<Ask>, AllocError> {
     Vec::from_slice(
         alloc,
@@ -39,6 +42,12 @@ fn asks(alloc: Global) -> Result<Vec<Ask>, AllocError> {
             Ask::Read(TokId(6), 7),
             Ask::Write(TokId(8), 9, 10),
             Ask::Add(TokId(11), 12),
+            Ask::Write(TokId(30), 31, WIDE - 1),
+            Ask::Write(TokId(32), 33, WIDE),
+            Ask::Write(TokId(34), 35, WIDE + 1),
+            Ask::Add(TokId(36), WIDE - 1),
+            Ask::Add(TokId(37), WIDE),
+            Ask::Add(TokId(38), u64::MAX),
             Ask::ReadBlob(TokId(13)),
             Ask::WriteBlob(TokId(14), Blob::of(&[9])),
             Ask::Send(MsgId(15), TO, CALL, FLAGS),
@@ -55,7 +64,7 @@ fn asks(alloc: Global) -> Result<Vec<Ask>, AllocError> {
     )
 }
 
-// One answer of each kind and none, and a second one with a record.
+// One answer of each kind and none, a second one with a record, and values just below, at and above what a row has room for.
 fn answers(alloc: Global) -> Result<Vec<Option<Answer>>, AllocError> {
     Vec::from_slice(
         alloc,
@@ -65,6 +74,9 @@ fn answers(alloc: Global) -> Result<Vec<Option<Answer>>, AllocError> {
             Some(Answer::Done),
             None,
             Some(Answer::Value(23)),
+            Some(Answer::Value(WIDE - 1)),
+            Some(Answer::Value(WIDE)),
+            Some(Answer::Value(WIDE + 1)),
             Some(Answer::Dropped(MsgId(24), REC)),
             Some(Answer::Got(Item::Request(MsgId(25), CALL))),
             Some(Answer::Got(Item::Answered(MsgId(26), 27, 28))),
@@ -186,53 +198,5 @@ fn an_answer_takes_the_place_of_another(rt: HostRuntime) -> Result<(), Fail> {
     assert!(rt; list.len() == 3);
     assert!(rt; comes_out(&list, 0, &unanswered));
     assert!(rt; comes_out(&list, 2, &unanswered));
-    Ok(())
-}
-
-// Numbers just below, at and above the first one that a row has no room for, and the last.
-const NUMBERS: [u64; 4] = [4_294_967_295, 4_294_967_296, 4_294_967_297, u64::MAX];
-
-// Appends a write of a number and an addition of it, with each number as the answer.
-fn add_numbered(polls: &mut Vec<Poll>, number: u64) -> Result<(), AllocError> {
-    for told in &NUMBERS {
-        let answer = Some(Answer::Value(*told));
-        let written = Ask::Write(TokId(1), 2, number);
-        let added = Ask::Add(TokId(3), number);
-        polls.push(Poll {
-            answer,
-            ask: written,
-            thread: TO,
-        })?;
-        polls.push(Poll {
-            answer,
-            ask: added,
-            thread: TO,
-        })?;
-    }
-    Ok(())
-}
-
-// Polls with each number, and one that asks and is told none between them.
-fn numbered(alloc: Global) -> Result<Vec<Poll>, AllocError> {
-    let mut polls = Vec::new(alloc);
-    for number in &NUMBERS {
-        add_numbered(&mut polls, *number)?;
-        polls.push(Poll {
-            answer: Some(Answer::Done),
-            ask: Ask::Yield,
-            thread: TO,
-        })?;
-    }
-    Ok(polls)
-}
-
-#[test]
-fn numbers_come_out_whole(rt: HostRuntime) -> Result<(), Fail> {
-    let alloc = rt.alloc();
-    let polls = numbered(alloc)?;
-    let list = packed(alloc, polls.as_slice())?;
-    assert!(rt; list.len() == 36);
-    assert!(rt; all_come_out(&list, polls.as_slice()));
-    assert!(rt; is_past(&list, 36));
     Ok(())
 }
