@@ -1,5 +1,5 @@
 //! Processors of these bodies, put at their seats.
-ghost use Rattle.std.specs.Prelude.{◌≡◌, ◌+◌, ◌<◌, ◌≤◌, All, Err, IfOk, OnErr, length, map};
+ghost use Rattle.std.specs.Prelude.{◌≡◌, ◌+◌, ◌<◌, ◌≤◌, [], ◌∷◌, ◌++◌, All, Err, IfOk, OnErr, OnOk, length, map};
 ghost use Rattle.lwkt_base.specs.declared.openings.MsgSpec.{MsgSpec};
 ghost use Rattle.lwkt_base.specs.Fault.{no_memory};
 ghost use Rattle.lwkt_bank.specs.Seats.{id_of};
@@ -41,6 +41,17 @@ fn seat_next<B: Drop>(
     Ok(Driven::new(alloc, id, cpu))
 }
 
+// Adds a processor behind the others.
+fn add_driven<B: Drop>(cpus: &mut Vec<Driven<B>>, driven: Driven<B>) -> Result<(), Fault>
+    ensures ok { OnOk result (cpus.new.items ≡ cpus.old.items ++ driven ∷ []) }
+    ensures only { OnErr result (result ≡ Err no_memory) }
+{
+    match cpus.push(driven) {
+        Ok(()) => Ok(()),
+        Err(refused) => Err(Fault::Memory(refused.into())),
+    }
+}
+
 /// All the processors, each with a thread for each body of its list.
 pub(crate) fn seat_all<B: Drop>(
     alloc: Global,
@@ -64,8 +75,7 @@ pub(crate) fn seat_all<B: Drop>(
     for number in 0..left.len() {
         let bodies = left.remove(0);
         let driven = seat_next(alloc, bank, book, rest, origins, bodies, number)?;
-        cpus.push(driven)
-            .map_err(|refused| Fault::Memory(refused.into()))?;
+        add_driven(&mut cpus, driven)?;
     }
     Ok(cpus)
 }

@@ -2,7 +2,6 @@ use Rattle.std.proofs.Common.{◌≡◌, ◌<◌, ◌∷◌, [], ◌++◌, List,
 use Rattle.std.specs.Prelude.{slice_get}
 use Rattle.std.proofs.lemmas.List.{length-map}
 use Rattle.std.proofs.lemmas.Option.{slice_get_read, slice_get_within}
-use Rattle.std.proofs.lemmas.Grind.{common_steps}
 use Rattle.lwkt_bank.specs.Seats.{id_of}
 use Rattle.lwkt_lane.specs.Crossed.{IsLeft}
 use Rattle.lwkt_lane.proofs.CrossedMoves.{none_gone, first_gone, more_gone}
@@ -34,7 +33,7 @@ loop-number-preserved g c =
     let ins = c.args.rest.now.ins.items in
     let some : 0 < length l.left.items = omega (arith, c.loop-number-test.true, l.auto.number-end, l.invariant.left_are) in
     let first : slice_get l.left.items 0 ≡ Some v = slice_get_read l.left.items (length l.left.items) 0 v refl some c.remove-bodies.ensures.value in
-    let grown : c.push.new.self.items ≡ l.cpus.items ++ d ∷ [] = grind (arith, common_steps) in
+    let grown : c.add_driven.new.cpus.items ≡ l.cpus.items ++ d ∷ [] = c.in_ok-add_driven.ensures.ok in
     let long = length-append l.cpus.items (d ∷ []) in
     let more = ap length grown in
     let F : ℕ → Type 0 = λ n. IsOpenedDriven {B = g.row.B.Denot} bank book n v.items d in
