@@ -18,8 +18,9 @@ looks_current() {
     # shellcheck source=/dev/null
     . "$worded"
     [ "$code" ] || return 1
-    for path in $code; do
-        [ ! "$top/$path" -nt "$stamp" ] || return 1
+    for one in $code; do
+        # shellcheck disable=SC3013 # Whether this shell knows -nt was tried when the list was written; one that doesn't fails here.
+        [ ! "$top/$one" -nt "$stamp" ] || return 1
     done
 }
 
