@@ -1,5 +1,5 @@
 -- Events without room for a section or a record, and the traces that are kept by them (own).
-use Rattle.std.specs.Prelude.{◌≡◌, ℕ, ◌+◌, ◌-◌, ◌<◌, ◌≤◌, ◌==◌, ◌&&◌, nat_lt, not, min, Bool, true, false, if◌then◌else◌, List, [], ◌∷◌, ◌++◌, map, slice_get, Vec, vec_len, vec_capacity}
+use Rattle.std.specs.Prelude.{◌≡◌, ℕ, ◌+◌, ◌-◌, ◌<◌, ◌≤◌, ◌==◌, ◌&&◌, nat_lt, not, min, Bool, true, false, if◌then◌else◌, List, [], ◌∷◌, ◌++◌, All, length, map, slice_get, Vec, vec_len, vec_capacity}
 use Rattle.std.specs.declared.alloc.Global.{Global}
 use Rattle.std.specs.Option.{option_map_or}
 use Rattle.lwkt_base.specs.declared.names.CpuId.{CpuId}
@@ -128,6 +128,15 @@ spare v = vec_capacity v - vec_len v
 abbrev pub spare_places : {A : Type 0} → Vec A Global → ℕ
 spare_places v = min (spare v) (4294967296 - vec_len v)
 
+-- how many more each of the lists beside the rows takes before it asks for memory
+abbrev pub room_beside : Vec CellSection Global → Vec WideEvent Global → Vec Event Global → ℕ
+room_beside cells wides longs = min (spare_places cells) (min (spare_places wides) (spare_places longs))
+
 -- how many events have room in these lists, each of which may take the next one; of what lies beside the rows the places fit 32 bits
 abbrev pub capacity_in : Vec ShortEvent Global → Vec CellSection Global → Vec WideEvent Global → Vec Event Global → ℕ
-capacity_in rows cells wides longs = vec_len rows + min (spare rows) (min (spare_places cells) (min (spare_places wides) (spare_places longs)))
+capacity_in rows cells wides longs = vec_len rows + min (spare rows) (room_beside cells wides longs)
+
+-- the lists by which a trace is kept: what a row has the place of is there, and each of those beside the rows takes so many more
+pub record AreKept (rows : Vec ShortEvent Global) (cells : Vec CellSection Global) (wides : Vec WideEvent Global) (longs : Vec Event Global) (beside : ℕ) : Type 0 where
+  pub inside : All (IsEventIn (length cells.items) (length wides.items) (length longs.items)) rows.items
+  pub room : beside ≤ room_beside cells wides longs

@@ -3,10 +3,10 @@ ghost use Rattle.std.specs.Prelude.{◌≡◌, ◌+◌, ◌<◌, ◌≤◌, leng
 ghost use Rattle.lwkt_base.specs.declared.sections.Section.{Section};
 ghost use Rattle.lwkt_core.specs.RunSections.{sections_told};
 ghost use Rattle.lwkt_events.specs.Gives.{give_of};
-ghost use Rattle.lwkt_events.specs.ShortEvents.{spare_places};
 ghost use Rattle.lwkt_events.specs.Stretches.{StandFor};
 
 use crate::gives::Give;
+use crate::rooms::{give_room, spare_places};
 use crate::short_events::{CellSection, ShortEvent, keep_event};
 use crate::stretches::Stretches;
 use crate::wide_events::WideEvent;
@@ -26,37 +26,18 @@ pub struct EventList {
     cells: Vec<CellSection>,
     wides: Vec<WideEvent>,
     longs: Vec<Event>,
-}
-
-// How many places there are in 32 bits.
-const PLACES: usize = 0x1_0000_0000;
-
-// Gives a list room for so many elements more, whose places fit 32 bits.
-//
-// `AllocError` if it lacks that room and memory is refused. Where so many have no place in 32 bits, the list is to be given room that no
-// list has, so that it is refused.
-#[inline(always)]
-fn give_room<T>(list: &mut Vec<T>, count: usize) -> Result<(), AllocError>
-    ensures items { list.new.items ≡ list.old.items }
-    ensures capacity { spare_places list.old ≤ spare_places list.new }
-    ensures ok { OnOk result (count ≤ spare_places list.new) }
-    ensures full { OnErr result (spare_places list.new < count) }
-{
-    if PLACES.saturating_sub(list.len()) < count {
-        return list.reserve(usize::MAX);
-    }
-    list.reserve(count)
+    // Each of these three lists takes at least so many more before it asks for memory.
+    beside: usize,
 }
 
 impl Model for EventList {
-    ghost use Rattle.std.specs.Prelude.{All, length};
-    ghost use Rattle.lwkt_events.specs.ShortEvents.{KeptTrace, events_in, IsEventIn, capacity_in};
+    ghost use Rattle.lwkt_events.specs.ShortEvents.{KeptTrace, events_in, capacity_in, AreKept};
 
     ghost Value = { KeptTrace };
 
     ghost view = { λ t. record { items = events_in t.cells.items t.wides.items t.longs.items t.rows.items; capacity = capacity_in t.rows t.cells t.wides t.longs } };
 
-    ghost invariant = { λ t. All (IsEventIn (length t.cells.items) (length t.wides.items) (length t.longs.items)) t.rows.items };
+    ghost invariant = { λ t. AreKept t.rows t.cells t.wides t.longs t.beside };
 }
 
 impl EventList {
@@ -69,6 +50,7 @@ impl EventList {
             cells: Vec::new(alloc),
             wides: Vec::new(alloc),
             longs: Vec::new(alloc),
+            beside: 0,
         }
     }
 
@@ -81,8 +63,25 @@ impl EventList {
 
     /// Gives the list room for so many events more, of whatever kinds.
     ///
-    /// `AllocError` if it lacks that room and memory is refused: the events stay, and it has no less room than before.
+    /// `AllocError` if it lacks that room and memory is refused: the events stay, and it has no less room than before. A list beside the
+    /// rows takes no more than 2^32 elements. Where it would come to more, that is refused as memory is.
+    #[inline(always)]
     pub fn reserve(&mut self, count: usize) -> Result<(), AllocError>
+        ensures items { self.new.items ≡ self.old.items }
+        ensures capacity { self.old.capacity ≤ self.new.capacity }
+        ensures ok { OnOk result (length self.old.items + count ≤ self.new.capacity) }
+        ensures full { OnErr result (self.new.capacity < length self.old.items + count) }
+    {
+        if count <= self.beside && count <= self.rows.capacity() - self.rows.len() {
+            return Ok(());
+        }
+        self.make_room(count)
+    }
+
+    // What `reserve` does where a list may lack room.
+    #[cold]
+    #[inline(never)]
+    fn make_room(&mut self, count: usize) -> Result<(), AllocError>
         ensures items { self.new.items ≡ self.old.items }
         ensures capacity { self.old.capacity ≤ self.new.capacity }
         ensures ok { OnOk result (length self.old.items + count ≤ self.new.capacity) }
@@ -91,7 +90,11 @@ impl EventList {
         self.rows.reserve(count)?;
         give_room(&mut self.cells, count)?;
         give_room(&mut self.wides, count)?;
-        give_room(&mut self.longs, count)
+        give_room(&mut self.longs, count)?;
+        self.beside = spare_places(&self.cells)
+            .min(spare_places(&self.wides))
+            .min(spare_places(&self.longs));
+        Ok(())
     }
 
     /// An event more, behind the others, in a list that has room for it.
@@ -101,7 +104,13 @@ impl EventList {
         ensures items { self.new.items ≡ self.old.items ++ event.now ∷ [] }
         ensures capacity { self.old.capacity ≤ self.new.capacity }
     {
-        let row = keep_event(&mut self.cells, &mut self.wides, &mut self.longs, event);
+        let row = keep_event(
+            &mut self.cells,
+            &mut self.wides,
+            &mut self.longs,
+            &mut self.beside,
+            event,
+        );
         self.rows.push_reserved(row);
     }
 

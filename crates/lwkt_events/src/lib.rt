@@ -9,6 +9,7 @@
 mod chains;
 mod event_lists;
 mod gives;
+mod rooms;
 mod short_events;
 mod stretches;
 mod wide_events;

@@ -5,15 +5,16 @@
 //! place there. So is an event with a number of more than 32 bits, by its place in another list. All others are kept as they are.
 //!
 //! A short event has a kind, three small numbers and a number or a place of 32 bits: 8 bytes.
-ghost use Rattle.std.specs.Prelude.{◌≡◌, ◌+◌, ◌<◌, [], ◌∷◌, ◌++◌, length, vec_len, vec_capacity, not, ◌||◌, is_some, IfSome, OnOk, List};
+ghost use Rattle.std.specs.Prelude.{◌≡◌, ◌+◌, ◌<◌, ◌≤◌, min, [], ◌∷◌, ◌++◌, length, vec_len, vec_capacity, not, ◌||◌, is_some, IfSome, OnOk, List};
 ghost use Rattle.lwkt_base.specs.declared.sections.Section.{Section};
 ghost use Rattle.lwkt_core.specs.RunSections.{section_in};
 ghost use Rattle.lwkt_events.specs.Gives.{give_of};
 ghost use Rattle.lwkt_events.specs.Stretches.{StandFor};
-ghost use Rattle.lwkt_events.specs.ShortEvents.{section_of_cell, gave_cell, long_event, has_cell, is_wide_event, is_long_event, one_more_if, IsEventIn, GrowsBehind, HasPlace, TakesAtMostOne};
+ghost use Rattle.lwkt_events.specs.ShortEvents.{section_of_cell, gave_cell, long_event, has_cell, is_wide_event, is_long_event, one_more_if, IsEventIn, GrowsBehind, HasPlace, TakesAtMostOne, room_beside};
 ghost use Rattle.lwkt_events.specs.declared.wide_events.WideEvent.{WideEvent};
 
 use crate::gives::{Give, give_of};
+use crate::rooms::spare_places;
 use crate::stretches::Stretches;
 use crate::wide_events::{WideEvent, short_number};
 use lwkt_base::{CpuId, MsgId, Row, Section, TokId};
@@ -273,17 +274,19 @@ impl ShortEvent {
 }
 
 /// An event kept short: its section if it is of one cell, the event itself if it is wide or long, and nothing else, lies behind the others
-/// then, which have room for it.
+/// then, which have room for it. Each of these lists takes so many more as the number says; it is less then if the list has less room.
 #[inline(always)]
 pub fn keep_event(
     cells: &mut Vec<CellSection>,
     wides: &mut Vec<WideEvent>,
     longs: &mut Vec<Event>,
+    beside: &mut usize,
     event: &Event,
 ) -> ShortEvent
     requires cell { HasPlace cells.old }
     requires wide { HasPlace wides.old }
     requires long { HasPlace longs.old }
+    requires room { beside.old ≤ room_beside cells.old wides.old longs.old }
     ensures same { long_event cells.new.items wides.new.items longs.new.items result ≡ event.now }
     ensures inside { IsEventIn (length cells.new.items) (length wides.new.items) (length longs.new.items) result }
     ensures cell { length cells.new.items ≡ one_more_if (has_cell event.now) (length cells.old.items) }
@@ -292,6 +295,7 @@ pub fn keep_event(
     ensures sections { GrowsBehind cells.old.items cells.new.items × TakesAtMostOne cells.old cells.new }
     ensures numbers { GrowsBehind wides.old.items wides.new.items × TakesAtMostOne wides.old wides.new }
     ensures grows { GrowsBehind longs.old.items longs.new.items × TakesAtMostOne longs.old longs.new }
+    ensures room { beside.new ≡ min beside.old (room_beside cells.new wides.new longs.new) }
 {
     if let Some(short) = ShortEvent::of(event) {
         return short;
@@ -299,17 +303,20 @@ pub fn keep_event(
     if let Some((cpu, tok, section)) = short_section(event) {
         let place = cells.len() as u32;
         cells.push_reserved(section);
+        *beside = (*beside).min(spare_places(cells));
         return ShortEvent::GaveCell(cpu, tok, place);
     }
     match WideEvent::of(event) {
         Some(wide) => {
             let place = wides.len() as u32;
             wides.push_reserved(wide);
+            *beside = (*beside).min(spare_places(wides));
             ShortEvent::Wide(place)
         }
         None => {
             let place = longs.len() as u32;
             longs.push_reserved(*event);
+            *beside = (*beside).min(spare_places(longs));
             ShortEvent::Long(place)
         }
     }
