@@ -21,24 +21,24 @@ section_of_cell tok c = record { before = c.before ∷ []; after = c.after ∷ [
 abbrev pub gave_cell : CpuId → TokId → CellSection → Event
 gave_cell cpu tok c = GiveWritten cpu tok (section_of_cell tok c)
 
--- a list has one element
-abbrev pub is_one : List ℕ → Bool
-is_one [] = false
-is_one (x ∷ []) = true
-is_one (x ∷ y ∷ more) = false
-
--- a section of this token, which has one cell
-abbrev pub has_one_cell : TokId → Section → Bool
-has_one_cell tok section = (section.tok.0 == tok.0) && is_one section.before && is_one section.after
-
--- the events that are kept with a short section: written gives of a token with one cell
-abbrev pub has_cell : Event → Bool
-has_cell (GiveWritten cpu tok section) = has_one_cell tok section
-has_cell _ = false
-
 -- a number that a row has no room for: it is of more than 32 bits
 abbrev pub is_wide : ℕ → Bool
 is_wide number = nat_lt 4294967295 number
+
+-- a list has one element, which fits 32 bits
+abbrev pub is_one_short : List ℕ → Bool
+is_one_short [] = false
+is_one_short (x ∷ []) = not (is_wide x)
+is_one_short (x ∷ y ∷ more) = false
+
+-- a section of this token, which has one cell, and each number of it fits 32 bits
+abbrev pub is_short_section : TokId → Section → Bool
+is_short_section tok section = (section.tok.0 == tok.0) && is_one_short section.before && is_one_short section.after && not (is_wide section.generation)
+
+-- the events that are kept with a short section: written gives of a token with one cell, by numbers of 32 bits
+abbrev pub has_cell : Event → Bool
+has_cell (GiveWritten cpu tok section) = is_short_section tok section
+has_cell _ = false
 
 -- the events that are kept wide: those with a number that a row has no room for
 abbrev pub is_wide_event : Event → Bool
@@ -50,7 +50,7 @@ is_wide_event _ = false
 
 -- the events that are kept whole: all other written gives, and records that are read or stored
 abbrev pub is_long_event : Event → Bool
-is_long_event (GiveWritten cpu tok section) = not (has_one_cell tok section)
+is_long_event (GiveWritten cpu tok section) = not (is_short_section tok section)
 is_long_event (ReadBlob cpu tok blob) = true
 is_long_event (WriteBlob cpu tok blob) = true
 is_long_event _ = false

@@ -21,15 +21,15 @@ use lwkt_base::{CpuId, MsgId, Row, Section, TokId};
 use lwkt_core::Event;
 use std::alloc::AllocError;
 
-/// A written section of a token with one cell, of which the give names the token.
+/// A written section of a token with one cell, of which the give names the token, and each number fits 32 bits.
 #[derive(Clone, Copy)]
 pub struct CellSection {
     /// The cell at its beginning.
-    pub before: u64,
+    pub before: u32,
     /// The cell that it left.
-    pub after: u64,
+    pub after: u32,
     /// The generation at which it began.
-    pub generation: u64,
+    pub generation: u32,
 }
 
 /// An event, or the place of what a row has no room for. Each other kind is that of `Event`, with a number of 32 bits.
@@ -64,9 +64,9 @@ fn whole_section(tok: TokId, short: &CellSection) -> Section
     ensures { result ≡ section_of_cell tok short.now }
 {
     Section {
-        before: Row::of(&[short.before]),
-        after: Row::of(&[short.after]),
-        generation: short.generation,
+        before: Row::of(&[u64::from(short.before)]),
+        after: Row::of(&[u64::from(short.after)]),
+        generation: u64::from(short.generation),
         tok,
     }
 }
@@ -82,7 +82,7 @@ fn gave(cpu: CpuId, tok: TokId, short: &CellSection) -> Event
     }
 }
 
-// The short section of a written give, if its token has one cell.
+// The short section of a written give, if its token has one cell and each number fits 32 bits.
 fn short_section(event: &Event) -> Option<(CpuId, TokId, CellSection)>
     ensures same { IfSome result (λ g. gave_cell g.0 g.1 g.2 ≡ event.now) }
     ensures short { is_some result ≡ has_cell event.now }
@@ -96,9 +96,9 @@ fn short_section(event: &Event) -> Option<(CpuId, TokId, CellSection)>
     match (section.before.as_slice(), section.after.as_slice()) {
         ([before], [after]) => {
             let short = CellSection {
-                before: *before,
-                after: *after,
-                generation: section.generation,
+                before: short_number(*before)?,
+                after: short_number(*after)?,
+                generation: short_number(section.generation)?,
             };
             Some((cpu, tok, short))
         }
