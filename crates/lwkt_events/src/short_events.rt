@@ -14,9 +14,9 @@ ghost use Rattle.lwkt_events.specs.ShortEvents.{section_of_cell, gave_cell, long
 ghost use Rattle.lwkt_events.specs.declared.wide_events.WideEvent.{WideEvent};
 
 use crate::gives::{Give, give_of};
-use crate::rooms::spare_places;
+use crate::rooms::lower;
 use crate::stretches::Stretches;
-use crate::wide_events::{WideEvent, short_number};
+use crate::wide_events::{WideEvent, is_wide, short_number};
 use lwkt_base::{CpuId, MsgId, Row, Section, TokId};
 use lwkt_core::Event;
 use std::alloc::AllocError;
@@ -122,32 +122,32 @@ impl ShortEvent {
             Event::Mark { cpu, tok } => Some(ShortEvent::Mark(cpu, tok)),
             Event::GiveOne { cpu, tok } => Some(ShortEvent::GiveOne(cpu, tok)),
             Event::GiveClean { cpu, tok } => Some(ShortEvent::GiveClean(cpu, tok)),
-            Event::GiveWritten { .. } | Event::ReadBlob { .. } | Event::WriteBlob { .. } => None,
             Event::Read {
                 cpu,
                 tok,
                 cell,
                 value,
-            } => Some(ShortEvent::Read(cpu, tok, cell, short_number(value)?)),
+            } if !is_wide(value) => Some(ShortEvent::Read(cpu, tok, cell, value as u32)),
             Event::Write {
                 cpu,
                 tok,
                 cell,
                 value,
-            } => Some(ShortEvent::Write(cpu, tok, cell, short_number(value)?)),
+            } if !is_wide(value) => Some(ShortEvent::Write(cpu, tok, cell, value as u32)),
             Event::Send {
                 cpu,
                 msg,
                 to,
                 round,
-            } => Some(ShortEvent::Send(cpu, msg, to, short_number(round)?)),
-            Event::TakeMsg { cpu, msg, round } => {
-                Some(ShortEvent::TakeMsg(cpu, msg, short_number(round)?))
+            } if !is_wide(round) => Some(ShortEvent::Send(cpu, msg, to, round as u32)),
+            Event::TakeMsg { cpu, msg, round } if !is_wide(round) => {
+                Some(ShortEvent::TakeMsg(cpu, msg, round as u32))
             }
             Event::DropMsg { cpu, msg } => Some(ShortEvent::DropMsg(cpu, msg)),
             Event::Reply { cpu, msg } => Some(ShortEvent::Reply(cpu, msg)),
             Event::Reap { cpu, msg } => Some(ShortEvent::Reap(cpu, msg)),
             Event::Abort { cpu, msg } => Some(ShortEvent::Abort(cpu, msg)),
+            _ => None,
         }
     }
 
@@ -303,20 +303,20 @@ pub fn keep_event(
     if let Some((cpu, tok, section)) = short_section(event) {
         let place = cells.len() as u32;
         cells.push_reserved(section);
-        *beside = (*beside).min(spare_places(cells));
+        lower(beside, cells);
         return ShortEvent::GaveCell(cpu, tok, place);
     }
     match WideEvent::of(event) {
         Some(wide) => {
             let place = wides.len() as u32;
             wides.push_reserved(wide);
-            *beside = (*beside).min(spare_places(wides));
+            lower(beside, wides);
             ShortEvent::Wide(place)
         }
         None => {
             let place = longs.len() as u32;
             longs.push_reserved(*event);
-            *beside = (*beside).min(spare_places(longs));
+            lower(beside, longs);
             ShortEvent::Long(place)
         }
     }

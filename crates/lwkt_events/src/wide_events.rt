@@ -17,9 +17,9 @@ pub enum WideEvent {
     TakeMsg(CpuId, MsgId, u64),
 }
 
-// Whether a row has no room for the number.
+/// Whether a row has no room for the number.
 #[inline(always)]
-fn is_wide(number: u64) -> bool
+pub fn is_wide(number: u64) -> bool
     ensures { result ≡ is_wide number }
 {
     number > 0xffff_ffff
