@@ -121,6 +121,37 @@ fn numbered(alloc: Global) -> Result<Vec<Event>, AllocError> {
     Ok(events)
 }
 
+// A written give of the token, which has one cell.
+fn gave_by(before: u64, after: u64, generation: u64) -> Event {
+    Event::GiveWritten {
+        cpu: CPU,
+        tok: TOK,
+        section: Section {
+            before: Row::of(&[before]),
+            after: Row::of(&[after]),
+            generation,
+            tok: TOK,
+        },
+    }
+}
+
+// Written gives with each of these numbers as one of the section's: those about the first that a short section has no room for.
+fn sectioned(alloc: Global) -> Result<Vec<Event>, AllocError> {
+    let mut events = Vec::new(alloc);
+    for number in [
+        0xffff_fffe,
+        0xffff_ffff,
+        0x1_0000_0000,
+        0x1_0000_0001,
+        u64::MAX,
+    ] {
+        events.push(gave_by(number, 1, 2))?;
+        events.push(gave_by(1, number, 2))?;
+        events.push(gave_by(1, 2, number))?;
+    }
+    Ok(events)
+}
+
 // Whether each part of a list, from each place on, comes out as it was put in.
 fn parts_come_out(
     list: &EventList,
@@ -159,5 +190,12 @@ fn events_come_out_as_they_were_put_in(rt: HostRuntime) -> Result<(), Fail> {
 fn large_numbers_come_out_as_they_were_put_in(rt: HostRuntime) -> Result<(), Fail> {
     let alloc = rt.alloc();
     assert!(rt; come_out(alloc, numbered(alloc)?.as_slice())?);
+    Ok(())
+}
+
+#[test]
+fn sections_of_large_numbers_come_out_as_they_were_put_in(rt: HostRuntime) -> Result<(), Fail> {
+    let alloc = rt.alloc();
+    assert!(rt; come_out(alloc, sectioned(alloc)?.as_slice())?);
     Ok(())
 }

@@ -100,6 +100,28 @@ fn sections_that_go_on_are_one_stretch(rt: HostRuntime) -> Result<(), Fail> {
 }
 
 #[test]
+fn sections_of_large_numbers_go_on_from_those_of_small_ones(rt: HostRuntime) -> Result<(), Fail> {
+    let told = told(
+        rt.alloc(),
+        &[
+            gave(0, 0xffff_fffe, 1, 0xffff_ffff),
+            gave(0, 0xffff_ffff, 0xffff_ffff, 0x1_0000_0000),
+            gave(0, 0x1_0000_0000, 0x1_0000_0000, 0),
+            gave(0, 0x1_0000_0001, 0, 1),
+            gave(1, 0, 0, 1),
+            gave(1, 0x1_0000_0001, 1, 2),
+        ],
+    )?;
+    let wanted = [
+        stretch(0, 0xffff_fffe, 0x1_0000_0001, 1, 1),
+        stretch(1, 0, 0, 0, 1),
+        stretch(1, 0x1_0000_0001, 0x1_0000_0001, 1, 2),
+    ];
+    assert!(rt; told.as_slice() == wanted.as_slice());
+    Ok(())
+}
+
+#[test]
 fn stretches_are_chains_in_whatever_order(rt: HostRuntime) -> Result<(), Fail> {
     let alloc = rt.alloc();
     let first = &[(0, 1), (5, 7)];
