@@ -16,17 +16,18 @@ use std::marker::Model;
 
 /// The events of a processor or of a run, in order, and how many of whatever kinds they may be without more memory.
 ///
-/// Few events have a section, a record or a number of more than 32 bits. So an event is kept in 8 bytes, one with such a number in 16
-/// more, the section of a token with one cell in 24 more, and all else that is longer in a list of its own.
+/// Few events have a section, a record or a number of more than 32 bits. So an event is kept in 8 bytes, one with such a value or round in
+/// 16 more, the section of a token with one cell in 12 more if its numbers fit 32 bits, and all else that is longer in a list of its own.
 #[derive(Drop)]
 pub struct EventList {
     rows: Vec<ShortEvent>,
-    // The sections of tokens with one cell, the events with a number that a row has no room for, and those that are too long for it. A
-    // row has the place of each in 32 bits.
+    // The short sections of tokens with one cell, the events with a number that a row has no room for, and those that are too long for
+    // it. A row has the place of each in 32 bits.
     cells: Vec<CellSection>,
     wides: Vec<WideEvent>,
     longs: Vec<Event>,
-    // Each of these three lists takes at least so many more before it asks for memory.
+    // Each of these three lists takes at least so many more before it asks for memory. It is no sum: an event without an element there
+    // leaves it as it is.
     beside: usize,
 }
 
@@ -78,7 +79,7 @@ impl EventList {
         self.make_room(count)
     }
 
-    // What `reserve` does where a list may lack room.
+    // What `reserve` does where a list may lack room: each is looked at. No list is asked for more than so many.
     #[cold]
     #[inline(never)]
     fn make_room(&mut self, count: usize) -> Result<(), AllocError>

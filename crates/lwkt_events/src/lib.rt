@@ -1,9 +1,10 @@
-//! Events kept packed: most in 8 bytes, one with a number of more than 32 bits in 16 more, the section of a token with one cell in 24
-//! more, and all else in a list of its own.
+//! Events kept packed: most in 8 bytes, one with a value or a round of more than 32 bits in 16 more, the section of a token with one
+//! cell in 12 more if its numbers fit 32 bits, and all else in a list of its own.
 //!
-//! Words: a *short* event is kept without room for a section, a record or a number of more than 32 bits; a *wide* one has such a number;
-//! a *long* one is one that is not wide and has neither a short form nor a short section; a list has *room* for so many events if it can
-//! take so many in all, of whatever kinds, without being refused memory.
+//! Words: a *short* event is kept without room for a section, a record or a number of more than 32 bits; a *wide* one has a value or a
+//! round of more; a *short section* is of one cell, by numbers of 32 bits; a *long* event is one that is not wide and has neither a short
+//! form nor a short section; a list has *room* for so many events if it can take so many in all, of whatever kinds, without being refused
+//! memory.
 #![tactic(auto)]
 
 mod chains;

@@ -1,8 +1,9 @@
 //! Events without room for a section or a record, by which a trace is kept.
 //!
 //! An `Event` has room for a section or a record, so it is large. A written give of a token with one cell is kept by the place of a
-//! short section; any other written give, and a record that was read or stored, lie in a list of their own, and are kept short by their
-//! place there. So is an event with a number of more than 32 bits, by its place in another list. All others are kept as they are.
+//! short section, if its numbers fit 32 bits; any other written give, and a record that was read or stored, lie in a list of their own,
+//! and are kept short by their place there. So is an event with a value or a round of more than 32 bits, by its place in another list.
+//! All others are kept as they are.
 //!
 //! A short event has a kind, three small numbers and a number or a place of 32 bits: 8 bytes.
 ghost use Rattle.std.specs.Prelude.{◌≡◌, ◌+◌, ◌<◌, ◌≤◌, min, [], ◌∷◌, ◌++◌, length, vec_len, vec_capacity, not, ◌||◌, is_some, IfSome, OnOk, List};
@@ -21,7 +22,7 @@ use lwkt_base::{CpuId, MsgId, Row, Section, TokId};
 use lwkt_core::Event;
 use std::alloc::AllocError;
 
-/// A written section of a token with one cell, of which the give names the token, and each number fits 32 bits.
+/// A written section of a token with one cell, by numbers of 32 bits. The give names the token.
 #[derive(Clone, Copy)]
 pub struct CellSection {
     /// The cell at its beginning.
@@ -82,7 +83,7 @@ fn gave(cpu: CpuId, tok: TokId, short: &CellSection) -> Event
     }
 }
 
-// The short section of a written give, if its token has one cell and each number fits 32 bits.
+// The short section of a written give, if its token has one cell and its numbers fit 32 bits.
 fn short_section(event: &Event) -> Option<(CpuId, TokId, CellSection)>
     ensures same { IfSome result (λ g. gave_cell g.0 g.1 g.2 ≡ event.now) }
     ensures short { is_some result ≡ has_cell event.now }
@@ -273,8 +274,8 @@ impl ShortEvent {
     }
 }
 
-/// An event kept short: its section if it is of one cell, the event itself if it is wide or long, and nothing else, lies behind the others
-/// then, which have room for it. Each of these lists takes so many more as the number says; it is less then if the list has less room.
+/// An event kept short: its short section if it has one, the event itself if it is wide or long, and nothing else, lies behind the others
+/// then, which have room for it. Each of these lists takes at least `beside` more; that number is taken down where a list has fewer left.
 #[inline(always)]
 pub fn keep_event(
     cells: &mut Vec<CellSection>,
