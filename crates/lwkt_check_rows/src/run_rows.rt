@@ -8,6 +8,7 @@ use lwkt_base::{
     ThreadState, TokId,
 };
 use lwkt_core::Event;
+use lwkt_verdict::TurnRow;
 use lwkt_verdict::laws::{
     all_but_the_last_are_answered, asks_are_those_of_the_script, logs_are_the_first_entries,
     no_turns_are_no_run, runs_begin_with_an_ask, traces_of_runs_happen,
@@ -350,7 +351,7 @@ fn laws_and_polls(rt: HostRuntime) -> Result<(), Fail> {
     ];
     for (place, want) in asked {
         let turn = sheet.turns.get(place).ok_or("the run has this turn")?;
-        let poll = poll_of(&polls, turn);
+        let poll = poll_of(&polls, &TurnRow::of(turn.poll, turn.events));
         assert_eq!(rt; poll.map(|poll| poll.ask), want, "turn {place}");
     }
     Ok(())

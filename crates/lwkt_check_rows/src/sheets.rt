@@ -7,7 +7,7 @@ use lwkt_core::{Event, State};
 use lwkt_events::EventList;
 use lwkt_report::{Log, ThreadLine};
 use lwkt_script::{Parts, ThreadSpec};
-use lwkt_verdict::{Pace, Poll, PollList, Turn, is_script_run};
+use lwkt_verdict::{Pace, Poll, PollList, Turn, TurnRow, is_script_run};
 use std::alloc::{AllocError, Global};
 
 /// How a thread stands at the end of a run, and its log.
@@ -142,6 +142,15 @@ impl Sheet {
         Ok(list)
     }
 
+    // The turns as a run keeps them.
+    fn rows(&self, alloc: Global) -> Result<Vec<TurnRow>, AllocError> {
+        let mut rows = Vec::new(alloc);
+        for turn in &self.turns {
+            rows.push(TurnRow::of(turn.poll, turn.events))?;
+        }
+        Ok(rows)
+    }
+
     // The order of the turns, in rounds.
     fn order(&self, alloc: Global) -> Result<Vec<u8>, Fault> {
         let mut order = Vec::new(alloc);
@@ -178,6 +187,7 @@ impl Sheet {
         )?;
         let order = self.order(alloc)?;
         let polls = self.packed(alloc).map_err(Fault::Memory)?;
+        let turns = self.rows(alloc).map_err(Fault::Memory)?;
         let lines = self.reported(alloc).map_err(Fault::Memory)?;
         let mut trace = EventList::new(alloc);
         trace.append(self.trace.as_slice()).map_err(Fault::Memory)?;
@@ -188,7 +198,7 @@ impl Sheet {
             order.as_slice(),
             &mut state,
             &polls,
-            self.turns.as_slice(),
+            turns.as_slice(),
             &trace,
             &mut part,
             lines.as_slice(),

@@ -4,7 +4,7 @@ ghost use Rattle.lwkt_run.specs.Keeping.{last_place};
 
 use crate::polled::PolledRef;
 use lwkt_base::Answer;
-use lwkt_verdict::{PollList, Turn};
+use lwkt_verdict::{PollList, TurnRow};
 use std::alloc::{AllocError, Global};
 
 // As many threads as there can be, 16 of each of 8 processors.
@@ -18,7 +18,7 @@ pub struct Record {
     /// The polls, in order, each with its answer if its thread was polled again.
     pub polls: PollList,
     /// The turns, in order: as many as `order` has.
-    pub turns: Vec<Turn>,
+    pub turns: Vec<TurnRow>,
     // Of each thread the place of its last poll, 16 threads for each processor.
     last: [Option<usize>; THREAD_LIMIT],
     ghost places: { (slot : ℕ) → slot < 128 → slice_get last slot ≡ Some (last_place slot polls) },
@@ -102,7 +102,7 @@ impl Record {
                 Some(place_behind(before))
             }
         };
-        self.turns.push(Turn { poll, events })?;
+        self.turns.push(TurnRow::of(poll, events))?;
         self.order.push(cpu)?;
         Ok(())
     }

@@ -20,7 +20,7 @@ use lwkt_events::EventList;
 use lwkt_machine::Machine;
 use lwkt_report::{Closing, RunFault, Sink, Source, ThreadLine, Verdict, read_capped, report};
 use lwkt_script::{Script, read_script};
-use lwkt_verdict::{Pace, PollList, Turn, are_processors};
+use lwkt_verdict::{Pace, PollList, TurnRow, are_processors};
 use std::alloc::{AllocError, Global};
 
 /// How a run ended, by its report.
@@ -47,7 +47,7 @@ pub struct TurnsRun {
     /// The polls of all turns, in order, each with its answer if its thread was polled again.
     pub polls: PollList,
     /// The turns in order.
-    pub turns: Vec<Turn>,
+    pub turns: Vec<TurnRow>,
     /// The processor of each turn, in order, 0 to 7.
     pub order: Vec<u8>,
     /// What the report shows; its verdict is that on this trace and these turns.

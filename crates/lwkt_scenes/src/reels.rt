@@ -2,7 +2,7 @@ use crate::scenes::round_length;
 use lwkt_core::Event;
 use lwkt_report::Closing;
 use lwkt_script::Script;
-use lwkt_verdict::{PollList, Turn};
+use lwkt_verdict::{PollList, TurnRow};
 
 /// A run of a script, in rounds or along an order of its processors: what was kept of it, and what its report shows.
 #[derive(Clone, Copy)]
@@ -14,7 +14,7 @@ pub struct Reel<'a> {
     /// The polls of all turns, in order.
     pub polls: &'a PollList,
     /// The turns in order.
-    pub turns: &'a [Turn],
+    pub turns: &'a [TurnRow],
     /// Of a run along an order the processor of each turn, 0 to 7; of a run in rounds nothing.
     pub order: Option<&'a [u8]>,
     /// What the report shows.

@@ -1,6 +1,7 @@
-use Rattle.std.proofs.Common.{◌≡◌, ℕ, ◌+◌, ◌-◌, ◌*◌, ◌/◌, ◌%◌, ◌<◌, ◌≤◌, List, ◌∷◌, length, drop, get_or, refl, sym, ap, ◌∙◌, subst, arith}
-use Rattle.std.specs.Prelude.{◌↔◌}
+use Rattle.std.proofs.Common.{◌≡◌, ℕ, ◌+◌, ◌-◌, ◌*◌, ◌/◌, ◌%◌, ◌<◌, ◌≤◌, List, [], ◌∷◌, length, drop, get_or, refl, sym, ap, ◌∙◌, subst, arith}
+use Rattle.std.specs.Prelude.{◌↔◌, All}
 use Rattle.std.proofs.lemmas.List.{drop_more}
+use Rattle.std.proofs.lemmas.List.Elements.{All-nil, All-cons}
 use Rattle.std.proofs.lemmas.Nat.{mul-le, div-add-mod', div-mul-add, mod-mul-add, mod_below}
 use native.Mathlib.Nat.{mod-add-mod, add-mul}
 use Rattle.lwkt_verdict.specs.declared.spots.Spot.{Spot}
@@ -50,3 +51,9 @@ pub round_left : (P : Type 0) (cpus i : ℕ) (order : List ℕ) (d : ℕ) → i 
 round_left P cpus i order d inside is so_far =
     let here : P ↔ GoesRound cpus i (get_or order i d ∷ drop (i + 1) order) = subst (λ xs. P ↔ GoesRound cpus i xs) (drop_more order i d inside) so_far in
     ((λ p. (here.0 p).1), (λ q. here.1 (is, q)))
+
+-- each processor of an order that goes round is there
+pub round_within : (cpus k : ℕ) (order : List ℕ) → 0 < cpus → GoesRound cpus k order → All (λ x. x < cpus) order
+round_within cpus k [] some round = All-nil (λ x. x < cpus)
+round_within cpus k (cpu ∷ order) some round =
+    All-cons (λ x. x < cpus) cpu order (subst (λ x. x < cpus) (sym round.0) (mod_below k cpus some)) (round_within cpus (k + 1) order some round.1)

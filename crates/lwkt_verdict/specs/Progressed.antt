@@ -7,11 +7,11 @@ use Rattle.lwkt_verdict.specs.declared.progress.Asked.{Asked}
 use Rattle.lwkt_verdict.specs.declared.progress.Progress.{Progress}
 use Rattle.lwkt_verdict.specs.declared.progress.Piece.{Piece}
 use Rattle.lwkt_verdict.specs.Threads.{plan_of_thread, line_of, EndsAsTold}
-use Rattle.lwkt_verdict.specs.Run.{poll_of, asked_of_poll, came}
+use Rattle.lwkt_verdict.specs.Run.{asked_of_poll, came}
 
 -- what a thread last asked, if anything, by where its poll lies and whether its part shows that it blocked the thread
 abbrev pub last_asked : Option PollPlace → Bool → Option Asked
-last_asked last blocked = option_and_then (λ p. option_map (λ q. asked_of_poll q blocked) (poll_of p.polls.now p.turn)) last
+last_asked last blocked = option_and_then (λ p. option_map (λ q. asked_of_poll q blocked) (slice_get p.polls.now p.place)) last
 
 -- a table says how far each thread has come after some turns, 16 for each of 8 processors
 pub record ShowsProgress (before : List Piece) (table : List Progress) : Type 0 where

@@ -1,4 +1,4 @@
-ghost use Rattle.std.specs.Prelude.{◌≡◌, ℕ, ◌<◌, ◌≤◌, ◌+◌, ◌*◌, ◌-◌, ◌^◌, ◌%◌, ◌↔◌, IsTrue, List, [], ◌∷◌, ◌++◌, length, vec_capacity, All, IfOk, OnErr, MatchOption, Some, None, if◌then◌else◌};
+ghost use Rattle.std.specs.Prelude.{◌≡◌, ℕ, ◌<◌, ◌≤◌, ◌+◌, ◌*◌, ◌-◌, ◌^◌, ◌%◌, ◌↔◌, IsTrue, List, [], ◌∷◌, ◌++◌, length, slice_get, vec_capacity, All, IfOk, OnErr, MatchOption, Some, None, if◌then◌else◌};
 ghost use Rattle.std.specs.Option.{option_copied};
 ghost use Rattle.lwkt_core.specs.Events.{cpu_of};
 ghost use Rattle.lwkt_core.specs.Trace.{Run};
@@ -17,8 +17,8 @@ use crate::places::PollPlace;
 use crate::poll_lists::PollList;
 use crate::polls::{idles, note_poll};
 use crate::progress::Standing;
-use crate::rounds::{are_listed, are_processors, keeps_pace, whose};
-use crate::turns::{Pace, Poll, Turn, read_poll};
+use crate::rounds::{are_listed, are_within, keeps_pace, whose};
+use crate::turns::{Pace, Poll, TurnRow, place_of, read_poll};
 use lwkt_core::{Event, State};
 use lwkt_events::EventList;
 use lwkt_report::ThreadLine;
@@ -65,7 +65,7 @@ fn asks<'a>(
     blocked: bool,
 ) -> bool
     requires processor { cpu < 8 }
-    requires placed { poll_of place.polls.now place.turn ≡ option_copied poll }
+    requires placed { (q : Poll) → option_copied poll ≡ Some q → slice_get place.polls.now place.place ≡ Some q }
     requires homes { AreHomes plans.now lines.now homes.now }
     requires shows { (before : List Piece) × (ShowsProgress before table.old × (length before < 2 ^ 64 - 1)) }
     ensures right { (before : List Piece) → ShowsProgress before table.old → (IsTrue result ↔ MatchOption (option_copied poll.entry) (Idles plans.now cpu (came before)) (λ q. PollFits plans.now lines.now cpu (came before (slot_of q.thread)) q)) }
@@ -93,7 +93,7 @@ fn fits<'a>(
     state: &mut State,
     cpu: usize,
     polls: &'a PollList,
-    turn: &Turn,
+    turn: &TurnRow,
     room: &mut Poll,
     part: &[Event],
 ) -> bool
@@ -112,14 +112,13 @@ fn fits<'a>(
     if !makes(state, poll, part) {
         return false;
     }
-    let place = PollPlace { polls, turn: *turn };
     asks(
         plans,
         lines,
         homes,
         table,
         cpu,
-        place,
+        place_of(polls, turn),
         poll,
         blocked_by(poll, part),
     )
@@ -152,7 +151,7 @@ fn runs<'a>(
     state: &mut State,
     order: &[u8],
     polls: &'a PollList,
-    turns: &[Turn],
+    turns: &[TurnRow],
     trace: &EventList,
     part: &mut Vec<Event>,
 ) -> Result<bool, AllocError>
@@ -168,7 +167,7 @@ fn runs<'a>(
     let mut made = 0;
     let mut room = Poll::unasked();
     for (i, turn) in turns.iter().enumerate() {
-        let count = turn.events as usize;
+        let count = usize::from(turn.events());
         if count > trace.len() - made {
             return Ok(false);
         }
@@ -205,7 +204,7 @@ pub fn is_script_run(
     order: &[u8],
     state: &mut State,
     polls: &PollList,
-    turns: &[Turn],
+    turns: &[TurnRow],
     trace: &EventList,
     part: &mut Vec<Event>,
     lines: &[ThreadLine],
@@ -222,10 +221,10 @@ pub fn is_script_run(
     if order.len() != turns.len() {
         return Ok(false);
     }
-    if !are_processors(cpus, order) {
+    if !keeps_pace(pace, polls, cpus, order, turns, lines) {
         return Ok(false);
     }
-    if !keeps_pace(pace, polls, cpus, order, turns, lines) {
+    if !are_within(pace, cpus, order) {
         return Ok(false);
     }
     match homes_of(plans, lines) {

@@ -33,4 +33,4 @@ pub use checks::is_script_run;
 pub use poll_lists::PollList;
 pub use rounds::are_processors;
 pub use spots::{Spot, spot_of};
-pub use turns::{Pace, Poll, Turn};
+pub use turns::{Pace, Poll, Turn, TurnRow};

@@ -1,8 +1,9 @@
 ghost use Rattle.std.specs.Prelude.{◌≡◌, ◌<◌, ◌^◌, ◌↔◌, IsTrue, Some, length, slice_get, option_and_then, IfSome};
 ghost use Rattle.lwkt_base.specs.declared.asks.Ask.TheVariants.{WriteBlob, Exit};
+ghost use Rattle.lwkt_verdict.specs.Spots.{spot_at};
 ghost use Rattle.lwkt_verdict.specs.Threads.{plan_of_thread, line_of, slot_of, ask_in, ask_at};
 
-use crate::spots::{Spot, spot_of};
+use crate::spots::Spot;
 use lwkt_base::{Ask, Blob, ThreadId, TokId};
 use lwkt_report::ThreadLine;
 use lwkt_script::ThreadSpec;
@@ -55,26 +56,26 @@ fn is_step(steps: &[Ask], place: usize, ask: &Ask) -> bool
     }
 }
 
-// Whether an ask is ask k of a thread that makes these steps so many times over, which may stand at `near`.
-fn is_ask_in(repeat: u64, steps: &[Ask], k: u64, near: Spot, ask: &Ask) -> bool
+// Whether an ask is ask k of a thread that makes these steps so many times over. If there are steps, it stands at this spot.
+fn is_ask_in(repeat: u64, steps: &[Ask], k: u64, spot: Spot, ask: &Ask) -> bool
+    requires { 0 < length steps.now → spot ≡ spot_at (length steps.now) k }
     ensures { IsTrue result ↔ (ask_in repeat steps.now k ≡ Some ask.now) }
 {
-    let count = steps.len() as u64;
-    if count == 0 {
+    if steps.is_empty() {
         return k == 0 && is_last(ask);
     }
-    let spot = spot_of(count, k, near);
     if spot.rounds < repeat {
         return is_step(steps, spot.step as usize, ask);
     }
     spot.rounds == repeat && spot.step == 0 && is_last(ask)
 }
 
-/// Whether an ask is ask k of a thread, which may stand at `near`.
-pub fn is_ask_at(plan: &ThreadSpec, k: u64, near: Spot, ask: &Ask) -> bool
+/// Whether an ask is ask k of a thread. If it has steps, the ask stands at this spot.
+pub fn is_ask_at(plan: &ThreadSpec, k: u64, spot: Spot, ask: &Ask) -> bool
+    requires { 0 < length plan.now.steps → spot ≡ spot_at (length plan.now.steps) k }
     ensures { IsTrue result ↔ (ask_at plan.now k ≡ Some ask.now) }
 {
-    is_ask_in(u64::from(plan.repeat), plan.steps.as_slice(), k, near, ask)
+    is_ask_in(u64::from(plan.repeat), plan.steps.as_slice(), k, spot, ask)
 }
 
 /// Where in a script thread number n of a processor stands.

@@ -1,7 +1,7 @@
 ghost use Rattle.std.specs.Prelude.{◌≡◌, ℕ, ◌<◌, ◌+◌, ◌*◌, ◌-◌, ◌^◌, ◌↔◌, IsTrue, true, length, MatchOption, IfSome, slice_get, slice_set, Some, None};
 ghost use Rattle.lwkt_verdict.specs.Asks.{may_answer};
 ghost use Rattle.lwkt_verdict.specs.Threads.{slot_of, progress_after, Rests};
-ghost use Rattle.lwkt_verdict.specs.Run.{poll_of, asked_of_poll, PollFits, IdlesAt};
+ghost use Rattle.lwkt_verdict.specs.Run.{asked_of_poll, PollFits, IdlesAt};
 ghost use Rattle.lwkt_verdict.specs.Homes.{IsHomeOf, AreHomes};
 
 use crate::asks::may_answer;
@@ -75,7 +75,7 @@ pub fn note_poll<'a>(
     blocked: bool,
 ) -> bool
     requires processor { cpu < 8 }
-    requires placed { poll_of place.polls.now place.turn ≡ Some poll.now }
+    requires placed { slice_get place.polls.now place.place ≡ Some poll.now }
     requires homes { AreHomes plans.now lines.now homes.now }
     requires room { length table.old ≡ 128 }
     requires few { (k : ℕ) → k < 128 → IfSome (slice_get table.old k) (λ p. p.polls < 2 ^ 64 - 1) }

@@ -2,13 +2,14 @@ ghost use Rattle.std.specs.Prelude.{◌≡◌, ◌<◌, ◌+◌, ◌^◌, ◌-�
 ghost use Rattle.std.specs.Option.{option_map_or};
 ghost use Rattle.lwkt_base.specs.declared.entries.Entry.TheVariants.{Bytes};
 ghost use Rattle.lwkt_verdict.specs.Asks.{entry_of};
-ghost use Rattle.lwkt_verdict.specs.Run.{poll_of, asked_of_poll};
+ghost use Rattle.lwkt_verdict.specs.Spots.{spot_at};
+ghost use Rattle.lwkt_verdict.specs.Run.{asked_of_poll};
 ghost use Rattle.lwkt_verdict.specs.Threads.{logged_by, progress_after, MayAsk, IsLogged, is_blocked, Rests, may_fault, may_end_after, may_end, EndsAs};
 
 use crate::asks::{entry_of, is_exit, is_refused, may_block, may_wait};
 use crate::places::PollPlace;
 use crate::plans::is_ask_at;
-use crate::spots::Spot;
+use crate::spots::{Spot, spot_of};
 use crate::turns::Poll;
 use lwkt_base::{Answer, Ask, Blob, Entry, ThreadState};
 use lwkt_report::ThreadLine;
@@ -44,7 +45,8 @@ pub struct Progress {
 #[derive(Drop)]
 pub struct Standing<'a> {
     polls: u64,
-    // Where the next ask may stand.
+    // How many steps the thread has, 1 where it has none or was never polled, and where its next ask stands among so many.
+    count: u64,
     spot: Spot,
     last: Option<PollPlace<'a>>,
     // Whether the last poll's part shows that it blocked the thread.
@@ -53,12 +55,16 @@ pub struct Standing<'a> {
 }
 
 impl<'a> Model for Standing<'a> {
+    ghost use Rattle.std.specs.Prelude.{◌≡◌, ◌<◌};
     ghost use Rattle.lwkt_verdict.specs.declared.progress.Progress.{Progress};
     ghost use Rattle.lwkt_verdict.specs.Progressed.{last_asked};
+    ghost use Rattle.lwkt_verdict.specs.Spots.{spot_at};
 
     ghost Value = { Progress };
 
     ghost view = { λ s. record { polls = s.polls; last = last_asked s.last s.blocked; logged = s.logged } };
+
+    ghost invariant = { λ s. (0 < s.count) × (s.spot ≡ spot_at s.count s.polls) };
 }
 
 // That of a thread that was never polled.
@@ -68,6 +74,7 @@ impl<'a> Default for Standing<'a> {
     fn default() -> Self {
         Standing {
             polls: 0,
+            count: 1,
             spot: Spot::first(),
             last: None,
             blocked: false,
@@ -116,6 +123,18 @@ fn logged_after(logged: usize, poll: &Poll) -> usize
     }
 }
 
+// Where the next ask of a thread stands among so many steps.
+#[inline(always)]
+fn spot_among(standing: &Standing<'_>, count: u64) -> Spot
+    requires { 0 < count }
+    ensures { result ≡ spot_at count standing.now.polls }
+{
+    if standing.count == count {
+        return standing.spot;
+    }
+    spot_of(count, standing.polls, standing.spot)
+}
+
 /// How far a thread with so many steps has come after one more poll.
 pub fn progress_after<'a>(
     standing: &Standing<'a>,
@@ -125,12 +144,14 @@ pub fn progress_after<'a>(
     steps: u64,
 ) -> Standing<'a>
     requires few { standing.now.polls < 2 ^ 64 - 1 }
-    requires placed { poll_of place.polls.now place.turn ≡ Some poll.now }
+    requires placed { slice_get place.polls.now place.place ≡ Some poll.now }
     ensures { result ≡ progress_after standing.now (asked_of_poll poll.now blocked) }
 {
+    let count = steps.max(1);
     Standing {
         polls: standing.polls + 1,
-        spot: standing.spot.next(steps),
+        count,
+        spot: spot_among(standing, count).next(count),
         last: Some(place),
         blocked,
         logged: logged_after(standing.logged, poll),
@@ -194,7 +215,9 @@ fn is_unanswered(standing: &Standing<'_>) -> bool
 pub fn may_ask(plan: &ThreadSpec, standing: &Standing<'_>, ask: &Ask) -> bool
     ensures { IsTrue result ↔ MayAsk plan.now standing.now ask.now }
 {
-    is_ask_at(plan, standing.polls, standing.spot, ask) && is_answered(standing)
+    let count = plan.steps.as_slice().len() as u64;
+    let spot = spot_among(standing, count.max(1));
+    is_ask_at(plan, standing.polls, spot, ask) && is_answered(standing)
 }
 
 // Whether an entry is that of this record.

@@ -1,11 +1,14 @@
-ghost use Rattle.std.specs.Prelude.{◌≡◌, ◌<◌, ◌≤◌, ◌+◌, ◌*◌, ◌-◌, ◌%◌, ◌↔◌, IsTrue, true, false, All, length, is_some};
+ghost use Rattle.std.specs.Prelude.{◌≡◌, ◌<◌, ◌≤◌, ◌+◌, ◌*◌, ◌-◌, ◌%◌, ◌↔◌, IsTrue, true, false, All, List, length, is_some};
 ghost use Rattle.lwkt_base.specs.Threads.{has_ended};
+ghost use Rattle.lwkt_report.specs.declared.closings.ThreadLine.{ThreadLine};
+ghost use Rattle.lwkt_verdict.specs.declared.turns.Poll.{Poll};
+ghost use Rattle.lwkt_verdict.specs.declared.turns.Turn.{Turn};
 ghost use Rattle.lwkt_verdict.specs.Threads.{slot_of};
 ghost use Rattle.lwkt_verdict.specs.Run.{poll_of, whose, AreListed, EndsEarly, GoesRound, AreRounds, KeepsPace};
 
 use crate::plans::slot_of;
 use crate::poll_lists::PollList;
-use crate::turns::{Pace, Turn, poll_of};
+use crate::turns::{Pace, TurnRow, poll_of};
 use lwkt_report::ThreadLine;
 
 // Whether a line is of a thread that can be, and comes after those before it.
@@ -37,7 +40,7 @@ fn all_ended(lines: &[ThreadLine]) -> bool
 }
 
 // Whether no turn has an ask.
-fn none_asked(polls: &PollList, turns: &[Turn]) -> bool
+fn none_asked(polls: &PollList, turns: &[TurnRow]) -> bool
     ensures { IsTrue result ↔ All (λ turn. is_some (poll_of polls.now turn) ≡ false) turns.now }
 {
     turns.iter().all(|turn| poll_of(polls, turn).is_none())
@@ -48,7 +51,7 @@ fn ends_early(
     polls: &PollList,
     cpus: usize,
     limit: u32,
-    turns: &[Turn],
+    turns: &[TurnRow],
     lines: &[ThreadLine],
 ) -> bool
     requires { cpus ≤ 8 }
@@ -88,7 +91,7 @@ fn are_rounds(
     cpus: usize,
     limit: u32,
     order: &[u8],
-    turns: &[Turn],
+    turns: &[TurnRow],
     lines: &[ThreadLine],
 ) -> bool
     requires { cpus ≤ 8 }
@@ -109,7 +112,7 @@ pub fn keeps_pace(
     polls: &PollList,
     cpus: usize,
     order: &[u8],
-    turns: &[Turn],
+    turns: &[TurnRow],
     lines: &[ThreadLine],
 ) -> bool
     requires { cpus ≤ 8 }
@@ -126,6 +129,17 @@ pub fn are_processors(cpus: usize, order: &[u8]) -> bool
     ensures { IsTrue result ↔ All (λ x. x < cpus) order.now }
 {
     order.iter().all(|cpu| usize::from(*cpu) < cpus)
+}
+
+/// Whether each number of an order that keeps its pace is that of a processor. In rounds it is, and isn't looked at again.
+pub fn are_within(pace: Pace, cpus: usize, order: &[u8]) -> bool
+    requires { (polls : List Poll) × ((turns : List Turn) × ((lines : List ThreadLine) × KeepsPace pace polls cpus order.now turns lines)) }
+    ensures { IsTrue result ↔ All (λ x. x < cpus) order.now }
+{
+    match pace {
+        Pace::Rounds(_) => true,
+        Pace::Named => are_processors(cpus, order),
+    }
 }
 
 /// The processor of the turn of this number.

@@ -17,7 +17,7 @@ returns-in-Some-clause-right c =
         listed = subst (λ k. AreListed k 0 lines) cpus (c.are_listed.ensures.0 c.if-not-are_listed.false);
         paired = homes_paired plans lines c.in-Some.homes c.in-Some.ensures;
         named = c.if-order-turns.false;
-        within = subst (λ k. All (λ x. x < k) c.args.order.now) cpus (c.are_processors.ensures.0 c.if-not-are_processors.false);
+        within = subst (λ k. All (λ x. x < k) c.args.order.now) cpus (c.are_within.ensures.0 c.if-not-are_within.false);
         paced = subst (λ k. KeepsPace c.args.pace c.args.polls.now k c.args.order.now c.args.turns.now lines) cpus (c.keeps_pace.ensures.0 c.if-not-keeps_pace.false);
         runs = through.0 yes;
       }),
