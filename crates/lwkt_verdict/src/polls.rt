@@ -7,7 +7,7 @@ ghost use Rattle.lwkt_verdict.specs.Homes.{IsHomeOf, AreHomes};
 use crate::asks::may_answer;
 use crate::homes::{Home, home_at};
 use crate::places::PollPlace;
-use crate::progress::{Standing, is_logged, may_ask, progress_after, rests};
+use crate::progress::{Standing, is_logged, may_ask, rests};
 use crate::turns::Poll;
 use lwkt_base::{Answer, Ask};
 use lwkt_report::ThreadLine;
@@ -91,9 +91,7 @@ pub fn note_poll<'a>(
     if !poll_fits(plans, lines, home, cpu, standing, poll) {
         return false;
     }
-    let steps = step_count(plans, home);
-    let next = progress_after(standing, place, poll, blocked, steps);
-    table[slot] = next;
+    table[slot].go_on(place, poll, blocked, step_count(plans, home));
     true
 }
 

@@ -135,26 +135,21 @@ fn spot_among(standing: &Standing<'_>, count: u64) -> Spot
     spot_of(count, standing.polls, standing.spot)
 }
 
-/// How far a thread with so many steps has come after one more poll.
-pub fn progress_after<'a>(
-    standing: &Standing<'a>,
-    place: PollPlace<'a>,
-    poll: &Poll,
-    blocked: bool,
-    steps: u64,
-) -> Standing<'a>
-    requires few { standing.now.polls < 2 ^ 64 - 1 }
-    requires placed { slice_get place.polls.now place.place ≡ Some poll.now }
-    ensures { result ≡ progress_after standing.now (asked_of_poll poll.now blocked) }
-{
-    let count = steps.max(1);
-    Standing {
-        polls: standing.polls + 1,
-        count,
-        spot: spot_among(standing, count).next(count),
-        last: Some(place),
-        blocked,
-        logged: logged_after(standing.logged, poll),
+impl<'a> Standing<'a> {
+    /// A thread with so many steps has come one poll further.
+    #[inline(always)]
+    pub fn go_on(&mut self, place: PollPlace<'a>, poll: &Poll, blocked: bool, steps: u64)
+        requires few { self.old.polls < 2 ^ 64 - 1 }
+        requires placed { slice_get place.polls.now place.place ≡ Some poll.now }
+        ensures { self.new ≡ progress_after self.old (asked_of_poll poll.now blocked) }
+    {
+        let count = steps.max(1);
+        self.spot = spot_among(self, count).next(count);
+        self.count = count;
+        self.polls += 1;
+        self.last = Some(place);
+        self.blocked = blocked;
+        self.logged = logged_after(self.logged, poll);
     }
 }
 
