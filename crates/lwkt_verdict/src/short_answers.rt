@@ -127,6 +127,16 @@ impl ShortAnswer {
     }
 }
 
+// Writes that an ask is done, where that doesn't stand there. Most answers say so.
+#[inline(always)]
+fn write_done(answer: &mut Option<Answer>)
+    ensures { answer.new ≡ Some Answer.Done }
+{
+    if !matches!(answer, Some(Answer::Done)) {
+        *answer = Some(Answer::Done);
+    }
+}
+
 impl AnswerLists {
     /// None.
     pub fn new(alloc: Global) -> Self
@@ -176,7 +186,7 @@ impl AnswerLists {
         match short {
             ShortAnswer::NotYet => *answer = None,
             ShortAnswer::Begin => *answer = Some(Answer::Begin),
-            ShortAnswer::Done => *answer = Some(Answer::Done),
+            ShortAnswer::Done => write_done(answer),
             ShortAnswer::Value => *answer = Some(Answer::Value(u64::from(number))),
             ShortAnswer::NoMsg => *answer = Some(Answer::NoMsg),
             ShortAnswer::Wide => match self.wides.get(number as usize) {
