@@ -1,4 +1,4 @@
-ghost use Rattle.std.specs.Prelude.{◌≡◌, ◌<◌, ◌≤◌, ◌+◌, ◌*◌, ◌-◌, ◌%◌, ◌↔◌, IsTrue, true, false, All, List, length, is_some};
+ghost use Rattle.std.specs.Prelude.{◌≡◌, ◌<◌, ◌≤◌, ◌+◌, ◌*◌, ◌-◌, ◌%◌, ◌↔◌, IsTrue, true, false, ℕ, All, List, length, slice_index_or, is_some};
 ghost use Rattle.lwkt_base.specs.Threads.{has_ended};
 ghost use Rattle.lwkt_report.specs.declared.closings.ThreadLine.{ThreadLine};
 ghost use Rattle.lwkt_verdict.specs.declared.turns.Poll.{Poll};
@@ -62,12 +62,27 @@ fn ends_early(
         && all_ended(lines)
 }
 
-// The processor after this one, round so many.
-fn after(cpus: usize, cpu: usize) -> usize
-    requires { cpu < cpus }
-    ensures { result ≡ (cpu + 1) % cpus }
+// Whether an order begins with the processors by rising number, as far as it goes.
+fn begins(cpus: usize, order: &[u8]) -> bool
+    ensures { IsTrue result ↔ ((k d : ℕ) → k < cpus → k < length order.now → slice_index_or order.now k d ≡ k) }
 {
-    if cpu + 1 == cpus { 0 } else { cpu + 1 }
+    for at in 0..order.len().min(cpus) {
+        if usize::from(order[at]) != at {
+            return false;
+        }
+    }
+    true
+}
+
+// Whether each processor of an order is the one that stands so many places before it. All are looked at, many at a time.
+fn repeats(cpus: usize, order: &[u8]) -> bool
+    ensures { IsTrue result ↔ ((k d : ℕ) → k + cpus < length order.now → slice_index_or order.now (k + cpus) d ≡ slice_index_or order.now k d) }
+{
+    let mut same = true;
+    for at in cpus..order.len() {
+        same = same & (order[at] == order[at - cpus]);
+    }
+    same
 }
 
 // Whether an order goes round the processors.
@@ -75,14 +90,7 @@ fn goes_round(cpus: usize, order: &[u8]) -> bool
     requires { 0 < cpus }
     ensures { IsTrue result ↔ GoesRound cpus 0 order.now }
 {
-    let mut next = 0;
-    for cpu in order {
-        if usize::from(*cpu) != next {
-            return false;
-        }
-        next = after(cpus, next);
-    }
-    true
+    begins(cpus, order) && repeats(cpus, order)
 }
 
 // Whether the turns of an order are whole rounds, at least one, and the script's or fewer.

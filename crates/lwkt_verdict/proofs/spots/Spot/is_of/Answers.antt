@@ -1,6 +1,6 @@
-use Rattle.std.proofs.Common.{◌≡◌, ℕ, ◌+◌, ◌-◌, ◌*◌, ◌<◌, ◌≤◌, ◌∙◌, sym, arith}
+use Rattle.std.proofs.Common.{◌≡◌, ◌-◌, ◌*◌, ◌∙◌, sym, arith}
 use Rattle.std.proofs.lemmas.Bool.{eqb-true, eq-eqb}
-use Rattle.lwkt_verdict.proofs.SpotMoves.{stands_at, step_below, number_of}
+use Rattle.lwkt_verdict.proofs.SpotMoves.{stands_at, number_of}
 use Rattle.lwkt_verdict.proofs.PartMoves.{never}
 use Rattle.lwkt_verdict.proofs.spots.Spot.is_of.Goals as goal
 

@@ -1,4 +1,4 @@
-use Rattle.std.proofs.Common.{◌≡◌, ℕ, ◌+◌, ◌%◌, ◌<◌, ◌≤◌, ◌∙◌, ap, arith}
+use Rattle.std.proofs.Common.{◌≡◌, ℕ, ◌+◌, ◌%◌, ◌<◌, ◌∙◌, ap, arith}
 use native.Mathlib.Nat.{mod-eq_of_lt}
 use Rattle.lwkt_verdict.specs.declared.spots.Spot.{Spot}
 use Rattle.lwkt_verdict.proofs.SpotMoves.{next_in_round, next_round, few_rounds}
