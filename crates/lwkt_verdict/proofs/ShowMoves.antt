@@ -1,5 +1,5 @@
 use Rattle.std.proofs.Common.{zero, suc, inl, inr, ◌≡◌, ℕ, ◌+◌, ◌-◌, ◌<◌, ◌≤◌, List, [], ◌∷◌, ◌++◌, length, refl, sym, ap, ◌∙◌, subst, arith, rules, Option, Some, None, append-nil, append_assoc, length-append}
-use Rattle.std.specs.Prelude.{◌==◌, Bool, min, slice_get, slice_index_or, slice_set, true, false, if◌then◌else◌, MatchOption, IfSome}
+use Rattle.std.specs.Prelude.{◌==◌, ◌↔◌, Bool, min, slice_get, slice_index_or, slice_set, true, false, if◌then◌else◌, MatchOption, IfSome}
 use Rattle.std.specs.List.{cons_option}
 use Rattle.std.specs.Option.{option_map_or}
 use Rattle.std.proofs.lemmas.Bool.{cases_eq}
@@ -7,6 +7,7 @@ use Rattle.std.proofs.lemmas.List.{length_push}
 use Rattle.std.proofs.lemmas.Option.{slice_get-get_or}
 use Rattle.std.proofs.lemmas.List.Elements.{filter_map-append}
 use Rattle.lwkt_base.specs.declared.entries.Entry.{Entry}
+use Rattle.lwkt_base.specs.declared.names.ThreadId.{ThreadId}
 use Rattle.lwkt_verdict.specs.declared.turns.Poll.{Poll}
 use Rattle.lwkt_script.specs.declared.scripts.ThreadSpec.{ThreadSpec}
 use Rattle.lwkt_report.specs.declared.closings.ThreadLine.{ThreadLine}
@@ -138,6 +139,16 @@ inside_by plans lines cpu (Some p) q small right =
     let here = right.here in
     let few = right.numbered in
     omega arith
+
+-- a poll fits by a table of how far the threads have come exactly if it fits how far its thread has come
+pub fits_shown : (plans : List ThreadSpec) (lines : List ThreadLine) (cpu : ℕ) (before : List Piece) (table : List Progress) (q : Poll) (thread : ThreadId) → cpu < 8 → ShowsProgress before table → q.thread ≡ thread → MatchOption (slice_get table (slot_of thread)) ⊥ (λ p. PollFits plans lines cpu p q) ↔ PollFits plans lines cpu (came before (slot_of q.thread)) q
+fits_shown plans lines cpu before table q thread small shows is =
+    let slot = slot_of q.thread in
+    let F : Option Progress → Type 0 = λ o. MatchOption o ⊥ (λ p. PollFits plans lines cpu p q) in
+    let T : ThreadId → Type 0 = λ t. F (slice_get table (slot_of t)) in (
+      (λ right. let here : F (slice_get table slot) = subst T (sym is) right in subst F (shows.at slot (inside_by plans lines cpu (slice_get table slot) q small here)) here),
+      (λ fits. subst T is (subst F (sym (shows.at slot (inside_by plans lines cpu (Some (came before slot)) q small fits))) fits)),
+    )
 
 -- no thread was asked more often than there were turns
 asked_few : (slot : ℕ) (before : List Piece) → length (asked_by slot before) ≤ length before

@@ -1,24 +1,25 @@
-ghost use Rattle.std.specs.Prelude.{◌≡◌, ℕ, ◌<◌, ◌≤◌, ◌+◌, ◌*◌, ◌-◌, ◌^◌, ◌%◌, ◌↔◌, IsTrue, List, [], ◌∷◌, ◌++◌, length, slice_get, vec_capacity, All, IfOk, OnErr, MatchOption, Some, None, if◌then◌else◌};
-ghost use Rattle.std.specs.Option.{option_copied};
+ghost use Rattle.std.specs.Prelude.{◌≡◌, ℕ, ◌<◌, ◌≤◌, ◌+◌, ◌*◌, ◌-◌, ◌^◌, ◌%◌, ◌↔◌, IsTrue, List, [], ◌∷◌, ◌++◌, length, vec_capacity, All, IfOk, OnErr, Some, slice_get, option_map};
+ghost use Rattle.lwkt_base.specs.declared.asks.Ask.TheVariants.{Exit};
 ghost use Rattle.lwkt_core.specs.Events.{cpu_of};
 ghost use Rattle.lwkt_core.specs.Trace.{Run};
 ghost use Rattle.lwkt_verdict.specs.declared.progress.Piece.{Piece};
-ghost use Rattle.lwkt_verdict.specs.Parts.{after_all};
+ghost use Rattle.lwkt_verdict.specs.declared.turns.Poll.{Poll};
+ghost use Rattle.lwkt_verdict.specs.Parts.{after_all, IsPartOf};
 ghost use Rattle.lwkt_verdict.specs.Threads.{slot_of};
-ghost use Rattle.lwkt_verdict.specs.Run.{poll_of, piece, came, MakesPart, Idles, PollFits, TurnFits, RunsThrough, EndsRun, IsScriptRun};
+ghost use Rattle.lwkt_verdict.specs.Run.{poll_of, piece, came, PollFits, TurnFits, RunsThrough, EndsRun, IsScriptRun};
 ghost use Rattle.lwkt_verdict.specs.Homes.{AreHomes};
 ghost use Rattle.lwkt_verdict.specs.Progressed.{ShowsProgress};
 
 use crate::ends::all_end;
 use crate::homes::{Home, homes_of};
-use crate::owns::has_blocked;
 use crate::parts::{goes_quietly, is_part_of};
 use crate::places::PollPlace;
 use crate::poll_lists::PollList;
 use crate::polls::{idles, note_poll};
 use crate::progress::Standing;
 use crate::rounds::{are_listed, are_within, keeps_pace, whose};
-use crate::turns::{Pace, Poll, TurnRow, place_of, read_poll};
+use crate::turns::{Pace, TurnRow, place_of, thread_of};
+use lwkt_base::{Answer, Ask, ThreadId};
 use lwkt_core::{Event, State};
 use lwkt_events::EventList;
 use lwkt_report::ThreadLine;
@@ -32,56 +33,35 @@ fn are_of(cpu: usize, part: &[Event]) -> bool
     part.iter().all(|event| usize::from(event.cpu().0) == cpu)
 }
 
-// Whether the part of a turn shows that its poll, if it has one, blocked the thread.
-fn blocked_by(poll: Option<&Poll>, part: &[Event]) -> bool
-    ensures { result ≡ (piece (option_copied poll.entry) part.now).blocked }
-{
-    match poll {
-        None => false,
-        Some(poll) => has_blocked(&poll.ask, part),
-    }
-}
-
-// Makes the events of a turn's part happen, if they can and are what the turn can have made.
-fn makes(state: &mut State, poll: Option<&Poll>, part: &[Event]) -> bool
-    ensures right { IsTrue result ↔ MakesPart state.old (option_copied poll.entry) part.now }
-    ensures moved { IsTrue result → state.new ≡ after_all state.old part.now }
-{
-    match poll {
-        None => goes_quietly(state, part),
-        Some(poll) => is_part_of(state, &poll.ask, &poll.answer, part),
-    }
-}
-
-// Whether a turn's poll, or its want of one, fits the turns before it; how far its thread has come is then noted.
+// Whether a turn that polled this thread fits the turns before it, and its part the machine that it finds; both then go on.
 fn asks<'a>(
     plans: &[ThreadSpec],
     lines: &[ThreadLine],
     homes: &[Option<Home>],
     table: &mut [Standing<'a>],
+    state: &mut State,
     cpu: usize,
     place: PollPlace<'a>,
-    poll: Option<&Poll>,
-    blocked: bool,
+    thread: ThreadId,
+    end: &Ask,
+    room: &mut Option<Answer>,
+    part: &[Event],
 ) -> bool
     requires processor { cpu < 8 }
-    requires placed { (q : Poll) → option_copied poll ≡ Some q → slice_get place.polls.now place.place ≡ Some q }
+    requires placed { option_map (λ q. q.thread) (slice_get place.polls.now place.place) ≡ Some thread }
+    requires end { end.now ≡ Exit }
     requires homes { AreHomes plans.now lines.now homes.now }
     requires shows { (before : List Piece) × (ShowsProgress before table.old × (length before < 2 ^ 64 - 1)) }
-    ensures right { (before : List Piece) → ShowsProgress before table.old → (IsTrue result ↔ MatchOption (option_copied poll.entry) (Idles plans.now cpu (came before)) (λ q. PollFits plans.now lines.now cpu (came before (slot_of q.thread)) q)) }
-    ensures moved { (before : List Piece) → ShowsProgress before table.old → IsTrue result → ShowsProgress (before ++ record { poll = option_copied poll.entry; blocked = blocked } ∷ []) table.new }
+    ensures right { (before : List Piece) → ShowsProgress before table.old → (q : Poll) → slice_get place.entry.polls.now place.entry.place ≡ Some q → (IsTrue result ↔ (IsPartOf state.old q.ask q.answer part.now × PollFits plans.now lines.now cpu (came before (slot_of q.thread)) q)) }
+    ensures moved { IsTrue result → state.new ≡ after_all state.old part.now }
+    ensures noted { (before : List Piece) → ShowsProgress before table.old → (q : Poll) → slice_get place.entry.polls.now place.entry.place ≡ Some q → IsTrue result → ShowsProgress (before ++ piece (Some q) part.now ∷ []) table.new }
 {
-    match poll {
-        None => idles(plans, lines, homes, table, cpu),
-        Some(poll) => note_poll(plans, lines, homes, table, cpu, place, poll, blocked),
+    match note_poll(
+        plans, lines, homes, table, cpu, place, thread, end, room, part,
+    ) {
+        None => false,
+        Some(ask) => is_part_of(state, ask, room, part),
     }
-}
-
-// The poll that was read, if one was.
-fn poll_read(polled: bool, room: &Poll) -> Option<&Poll>
-    ensures { option_copied result ≡ (if polled then Some room.now else None) }
-{
-    if polled { Some(room) } else { None }
 }
 
 // Whether a turn fits the turns before it, and its part the machine that it finds; both then go on.
@@ -94,10 +74,12 @@ fn fits<'a>(
     cpu: usize,
     polls: &'a PollList,
     turn: &TurnRow,
-    room: &mut Poll,
+    end: &Ask,
+    room: &mut Option<Answer>,
     part: &[Event],
 ) -> bool
     requires processor { cpu < 8 }
+    requires end { end.now ≡ Exit }
     requires homes { AreHomes plans.now lines.now homes.now }
     requires shows { (before : List Piece) × (ShowsProgress before table.old × (length before < 2 ^ 64 - 1)) }
     ensures right { (before : List Piece) → ShowsProgress before table.old → (IsTrue result ↔ TurnFits plans.now lines.now cpu state.old before (poll_of polls.now turn.now) part.now) }
@@ -107,21 +89,15 @@ fn fits<'a>(
     if !are_of(cpu, part) {
         return false;
     }
-    let polled = read_poll(polls, turn, room);
-    let poll = poll_read(polled, room);
-    if !makes(state, poll, part) {
-        return false;
+    match thread_of(polls, turn) {
+        None => goes_quietly(state, part) && idles(plans, lines, homes, table, cpu),
+        Some(thread) => {
+            let place = place_of(polls, turn);
+            asks(
+                plans, lines, homes, table, state, cpu, place, thread, end, room, part,
+            )
+        }
     }
-    asks(
-        plans,
-        lines,
-        homes,
-        table,
-        cpu,
-        place_of(polls, turn),
-        poll,
-        blocked_by(poll, part),
-    )
 }
 
 // Whether what is left of a trace after the last turn is the end of a run.
@@ -165,7 +141,8 @@ fn runs<'a>(
     ensures capacity { vec_capacity part.old ≤ vec_capacity part.new }
 {
     let mut made = 0;
-    let mut room = Poll::unasked();
+    let end = Ask::Exit;
+    let mut room = None;
     for (i, turn) in turns.iter().enumerate() {
         let count = usize::from(turn.events());
         if count > trace.len() - made {
@@ -174,7 +151,7 @@ fn runs<'a>(
         trace.copy(made, count, part)?;
         let cpu = whose(order, i);
         if !fits(
-            plans, lines, homes, table, state, cpu, polls, turn, &mut room, part,
+            plans, lines, homes, table, state, cpu, polls, turn, &end, &mut room, part,
         ) {
             return Ok(false);
         }

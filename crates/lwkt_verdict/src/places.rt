@@ -1,10 +1,11 @@
 //! Where polls lie.
-ghost use Rattle.std.specs.Prelude.{◌≡◌, is_some, option_map, slice_get};
+ghost use Rattle.std.specs.Prelude.{◌≡◌, ◌↔◌, IsTrue, Some, is_some, option_map, slice_get};
 ghost use Rattle.lwkt_verdict.specs.Asks.{is_refused};
 ghost use Rattle.lwkt_verdict.specs.Run.{asked_of_poll};
 
 use crate::poll_lists::PollList;
 use crate::progress::Asked;
+use lwkt_base::{Answer, Ask};
 
 /// Where a poll lies: the polls of the run, and its place among them.
 #[derive(Clone, Copy)]
@@ -28,6 +29,15 @@ impl PollPlace<'_> {
                 blocked,
             }),
         }
+    }
+
+    /// Whether the poll is there and has this ask. If so, its answer is written.
+    #[inline(always)]
+    pub fn has_asked(&self, ask: &Ask, answer: &mut Option<Answer>) -> bool
+        ensures right { IsTrue result ↔ (option_map (λ q. q.ask) (slice_get self.now.polls.now self.now.place) ≡ Some ask.now) }
+        ensures read { IsTrue result → option_map (λ q. q.answer) (slice_get self.now.polls.now self.now.place) ≡ Some answer.new }
+    {
+        self.polls.has_asked(self.place as usize, ask, answer)
     }
 
     /// Whether the poll has its answer.

@@ -1,10 +1,11 @@
-ghost use Rattle.std.specs.Prelude.{◌≡◌, ◌<◌, ◌^◌, ◌↔◌, IsTrue, Some, length, slice_get, option_and_then, IfSome};
-ghost use Rattle.lwkt_base.specs.declared.asks.Ask.TheVariants.{WriteBlob, Exit};
+ghost use Rattle.std.specs.Prelude.{◌≡◌, ◌<◌, ◌^◌, Some, None, if◌then◌else◌, length, slice_get, option_and_then, IfSome};
+ghost use Rattle.std.specs.Option.{option_copied};
+ghost use Rattle.lwkt_base.specs.declared.asks.Ask.TheVariants.{Exit};
 ghost use Rattle.lwkt_verdict.specs.Spots.{spot_at};
 ghost use Rattle.lwkt_verdict.specs.Threads.{plan_of_thread, line_of, slot_of, ask_in, ask_at};
 
 use crate::spots::Spot;
-use lwkt_base::{Ask, Blob, ThreadId, TokId};
+use lwkt_base::{Ask, ThreadId};
 use lwkt_report::ThreadLine;
 use lwkt_script::ThreadSpec;
 
@@ -16,66 +17,39 @@ pub fn slot_of(id: ThreadId) -> usize
     16 * usize::from(id.cpu.0) + usize::from(id.thread)
 }
 
-// Whether an ask stores this record in this token.
-fn is_storing(ask: &Ask, tok: TokId, blob: &Blob) -> bool
-    ensures { IsTrue result ↔ (ask.now ≡ WriteBlob tok blob.now) }
+// The ask after the last step, if it is the next one.
+#[inline(always)]
+fn end_if(next: bool, end: &Ask) -> Option<&Ask>
+    ensures { option_copied result ≡ (if next then Some end.now else None) }
 {
-    match ask {
-        Ask::WriteBlob(other, stored) => *other == tok && stored.is_same(blob),
-        _ => false,
-    }
+    if next { Some(end) } else { None }
 }
 
-// Whether two asks are one.
-fn is_same(one: &Ask, other: &Ask) -> bool
-    ensures { IsTrue result ↔ (one.now ≡ other.now) }
-{
-    match one {
-        Ask::WriteBlob(tok, blob) => is_storing(other, *tok, blob),
-        _ => *one == *other,
-    }
-}
-
-// Whether an ask is the one that ends a thread.
-fn is_last(ask: &Ask) -> bool
-    ensures { IsTrue result ↔ (ask.now ≡ Exit) }
-{
-    match ask {
-        Ask::Exit => true,
-        _ => false,
-    }
-}
-
-// Whether an ask stands at a place of some steps.
-fn is_step(steps: &[Ask], place: usize, ask: &Ask) -> bool
-    ensures { IsTrue result ↔ (slice_get steps.now place ≡ Some ask.now) }
-{
-    match steps.get(place) {
-        None => false,
-        Some(step) => is_same(step, ask),
-    }
-}
-
-// Whether an ask is ask k of a thread that makes these steps so many times over. If there are steps, it stands at this spot.
-fn is_ask_in(repeat: u64, steps: &[Ask], k: u64, spot: Spot, ask: &Ask) -> bool
-    requires { 0 < length steps.now → spot ≡ spot_at (length steps.now) k }
-    ensures { IsTrue result ↔ (ask_in repeat steps.now k ≡ Some ask.now) }
+// Ask k of a thread that makes these steps so many times over, and then the ask that ends it. If there are steps, it stands at this
+// spot.
+#[inline(always)]
+fn ask_in<'p>(repeat: u64, steps: &'p [Ask], k: u64, spot: Spot, end: &'p Ask) -> Option<&'p Ask>
+    requires spot { 0 < length steps.now → spot ≡ spot_at (length steps.now) k }
+    requires end { end.now ≡ Exit }
+    ensures { option_copied result ≡ ask_in repeat steps.now k }
 {
     if steps.is_empty() {
-        return k == 0 && is_last(ask);
+        return end_if(k == 0, end);
     }
     if spot.rounds < repeat {
-        return is_step(steps, spot.step as usize, ask);
+        return steps.get(spot.step as usize);
     }
-    spot.rounds == repeat && spot.step == 0 && is_last(ask)
+    end_if(spot.rounds == repeat && spot.step == 0, end)
 }
 
-/// Whether an ask is ask k of a thread. If it has steps, the ask stands at this spot.
-pub fn is_ask_at(plan: &ThreadSpec, k: u64, spot: Spot, ask: &Ask) -> bool
-    requires { 0 < length plan.now.steps → spot ≡ spot_at (length plan.now.steps) k }
-    ensures { IsTrue result ↔ (ask_at plan.now k ≡ Some ask.now) }
+/// Ask k of a thread, if it has so many; `end` is the ask that ends a thread. If the thread has steps, its ask k stands at this spot.
+#[inline(always)]
+pub fn ask_at<'p>(plan: &'p ThreadSpec, k: u64, spot: Spot, end: &'p Ask) -> Option<&'p Ask>
+    requires spot { 0 < length plan.now.steps → spot ≡ spot_at (length plan.now.steps) k }
+    requires end { end.now ≡ Exit }
+    ensures { option_copied result ≡ ask_at plan.now k }
 {
-    is_ask_in(u64::from(plan.repeat), plan.steps.as_slice(), k, spot, ask)
+    ask_in(u64::from(plan.repeat), plan.steps.as_slice(), k, spot, end)
 }
 
 /// Where in a script thread number n of a processor stands.

@@ -1,5 +1,5 @@
 //! The polls of a run, packed: a short row for each, and lists of what is too long for a row.
-ghost use Rattle.std.specs.Prelude.{◌≡◌, length, OnOk, OnErr, Some, None, [], ◌∷◌, ◌++◌, slice_get, is_some, option_map, if◌then◌else◌};
+ghost use Rattle.std.specs.Prelude.{◌≡◌, ◌↔◌, IsTrue, length, OnOk, OnErr, Some, None, [], ◌∷◌, ◌++◌, slice_get, is_some, option_map, if◌then◌else◌};
 ghost use Rattle.lwkt_core.specs.Machine.{changed};
 ghost use Rattle.lwkt_verdict.specs.Asks.{is_refused};
 
@@ -78,18 +78,30 @@ impl PollList {
         self.rows.len()
     }
 
-    /// Writes the poll at a place, if there is one, and says whether there is.
+    /// The thread that was polled at a place, if there is a poll.
     #[inline(always)]
-    pub(crate) fn read(&self, place: usize, poll: &mut Poll) -> bool
-        ensures { slice_get self.now place ≡ (if result then Some poll.new else None) }
+    pub(crate) fn thread(&self, place: usize) -> Option<ThreadId>
+        ensures { result ≡ option_map (λ q. q.thread) (slice_get self.now place) }
+    {
+        match self.rows.get(place) {
+            None => None,
+            Some(row) => Some(row.thread),
+        }
+    }
+
+    /// Whether there is a poll at a place that has this ask. If so, its answer is written.
+    #[inline(always)]
+    pub(crate) fn has_asked(&self, place: usize, ask: &Ask, answer: &mut Option<Answer>) -> bool
+        ensures right { IsTrue result ↔ (option_map (λ q. q.ask) (slice_get self.now place) ≡ Some ask.now) }
+        ensures read { IsTrue result → option_map (λ q. q.answer) (slice_get self.now place) ≡ Some answer.new }
     {
         match self.rows.get(place) {
             None => false,
             Some(row) => {
-                self.answers
-                    .write(row.answer, row.answer_number, &mut poll.answer);
-                self.asks.write(row.ask, row.ask_number, &mut poll.ask);
-                poll.thread = row.thread;
+                if !self.asks.is(row.ask, row.ask_number, ask) {
+                    return false;
+                }
+                self.answers.write(row.answer, row.answer_number, answer);
                 true
             }
         }
@@ -99,11 +111,15 @@ impl PollList {
     pub fn get(&self, place: usize) -> Option<Poll>
         ensures { result ≡ slice_get self.now place }
     {
-        let mut poll = Poll::unasked();
-        if self.read(place, &mut poll) {
-            Some(poll)
-        } else {
-            None
+        match self.rows.get(place) {
+            None => None,
+            Some(row) => {
+                let mut poll = Poll::unasked(row.thread);
+                self.asks.write(row.ask, row.ask_number, &mut poll.ask);
+                self.answers
+                    .write(row.answer, row.answer_number, &mut poll.answer);
+                Some(poll)
+            }
         }
     }
 

@@ -1,15 +1,20 @@
-ghost use Rattle.std.specs.Prelude.{◌≡◌, ℕ, ◌<◌, ◌+◌, ◌*◌, ◌-◌, ◌^◌, ◌↔◌, IsTrue, true, length, MatchOption, IfSome, slice_get, slice_set, Some, None};
+ghost use Rattle.std.specs.Prelude.{◌≡◌, ℕ, ◌<◌, ◌+◌, ◌*◌, ◌-◌, ◌^◌, ◌↔◌, IsTrue, true, length, MatchOption, IfSome, is_some, option_map, slice_get, slice_set, Some, None};
+ghost use Rattle.std.specs.Option.{option_copied};
+ghost use Rattle.lwkt_base.specs.declared.asks.Ask.TheVariants.{Exit};
 ghost use Rattle.lwkt_verdict.specs.Asks.{may_answer};
+ghost use Rattle.lwkt_verdict.specs.declared.turns.Poll.{Poll};
+ghost use Rattle.lwkt_verdict.specs.Owns.{has_blocked};
 ghost use Rattle.lwkt_verdict.specs.Threads.{slot_of, progress_after, Rests};
 ghost use Rattle.lwkt_verdict.specs.Run.{asked_of_poll, PollFits, IdlesAt};
 ghost use Rattle.lwkt_verdict.specs.Homes.{IsHomeOf, AreHomes};
 
 use crate::asks::may_answer;
 use crate::homes::{Home, home_at};
+use crate::owns::has_blocked;
 use crate::places::PollPlace;
-use crate::progress::{Standing, is_logged, may_ask, rests};
-use crate::turns::Poll;
-use lwkt_base::{Answer, Ask};
+use crate::progress::{Standing, is_answered, is_logged, next_ask, rests};
+use lwkt_base::{Answer, Ask, ThreadId};
+use lwkt_core::Event;
 use lwkt_report::ThreadLine;
 use lwkt_script::ThreadSpec;
 
@@ -23,26 +28,41 @@ fn fits_ask(ask: &Ask, answer: &Option<Answer>) -> bool
     }
 }
 
-// Whether a poll fits a thread of this processor that has come so far.
-fn poll_fits(
-    plans: &[ThreadSpec],
+// The ask of a poll that lies here, if the poll fits a thread of this processor that has come so far. Its answer is then written.
+#[inline(always)]
+fn fitting_ask<'p>(
+    plans: &'p [ThreadSpec],
     lines: &[ThreadLine],
     home: Option<Home>,
-    cpu: usize,
     standing: &Standing<'_>,
-    poll: &Poll,
-) -> bool
-    requires here { poll.now.thread.cpu.0 ≡ cpu }
-    requires numbered { poll.now.thread.thread < 16 }
-    requires home { IsHomeOf plans.now lines.now cpu poll.now.thread.thread home }
-    ensures { IsTrue result ↔ PollFits plans.now lines.now cpu standing.now poll.now }
+    place: PollPlace<'_>,
+    end: &'p Ask,
+    answer: &mut Option<Answer>,
+    cpu: usize,
+    thread: ThreadId,
+) -> Option<&'p Ask>
+    requires end { end.now ≡ Exit }
+    requires here { thread.cpu.0 ≡ cpu }
+    requires numbered { thread.thread < 16 }
+    requires home { IsHomeOf plans.now lines.now cpu thread.thread home }
+    ensures right { (q : Poll) → slice_get place.entry.polls.now place.entry.place ≡ Some q → q.thread ≡ thread → ((is_some result ≡ true) ↔ PollFits plans.now lines.now cpu standing.now q) }
+    ensures asked { (q : Poll) → slice_get place.entry.polls.now place.entry.place ≡ Some q → IfSome (option_copied result) (λ ask. (ask ≡ q.ask) × (answer.new ≡ q.answer)) }
 {
     let Some(home) = home else {
-        return false;
+        return None;
     };
-    may_ask(&plans[home.plan], standing, &poll.ask)
-        && fits_ask(&poll.ask, &poll.answer)
-        && is_logged(&lines[home.line], standing, poll)
+    let Some(ask) = next_ask(&plans[home.plan], standing, end) else {
+        return None;
+    };
+    if is_answered(standing)
+        && place.has_asked(ask, answer)
+        && fits_ask(ask, answer)
+        && is_logged(&lines[home.line], standing, ask, answer)
+    {
+        Some(ask)
+    } else {
+        None
+    }
 }
 
 // How many steps a thread has, 0 if it isn't there.
@@ -63,36 +83,44 @@ pub fn standing_at<'t, 'a>(table: &'t [Standing<'a>], slot: usize) -> &'t Standi
     &table[slot]
 }
 
-/// Whether a poll fits the turns before it; how far its thread has come is then noted.
-pub fn note_poll<'a>(
-    plans: &[ThreadSpec],
+/// The ask of a poll of this thread that lies here, if the poll fits the turns before it. Its answer is then written, and how far its
+/// thread has come is noted.
+pub fn note_poll<'p, 'a>(
+    plans: &'p [ThreadSpec],
     lines: &[ThreadLine],
     homes: &[Option<Home>],
     table: &mut [Standing<'a>],
     cpu: usize,
     place: PollPlace<'a>,
-    poll: &Poll,
-    blocked: bool,
-) -> bool
+    thread: ThreadId,
+    end: &'p Ask,
+    answer: &mut Option<Answer>,
+    part: &[Event],
+) -> Option<&'p Ask>
     requires processor { cpu < 8 }
-    requires placed { slice_get place.polls.now place.place ≡ Some poll.now }
+    requires placed { option_map (λ q. q.thread) (slice_get place.polls.now place.place) ≡ Some thread }
+    requires end { end.now ≡ Exit }
     requires homes { AreHomes plans.now lines.now homes.now }
     requires room { length table.old ≡ 128 }
     requires few { (k : ℕ) → k < 128 → IfSome (slice_get table.old k) (λ p. p.polls < 2 ^ 64 - 1) }
-    ensures right { IsTrue result ↔ MatchOption (slice_get table.old (slot_of poll.now.thread)) ⊥ (λ p. PollFits plans.now lines.now cpu p poll.now) }
-    ensures moved { IsTrue result → MatchOption (slice_get table.old (slot_of poll.now.thread)) ⊥ (λ p. table.new ≡ slice_set table.old (slot_of poll.now.thread) (progress_after p (asked_of_poll poll.now blocked))) }
+    ensures right { (q : Poll) → slice_get place.entry.polls.now place.entry.place ≡ Some q → ((is_some result ≡ true) ↔ MatchOption (slice_get table.old (slot_of thread)) ⊥ (λ p. PollFits plans.now lines.now cpu p q)) }
+    ensures asked { (q : Poll) → slice_get place.entry.polls.now place.entry.place ≡ Some q → IfSome (option_copied result) (λ ask. (ask ≡ q.ask) × (answer.new ≡ q.answer)) }
+    ensures moved { (q : Poll) → slice_get place.entry.polls.now place.entry.place ≡ Some q → is_some result ≡ true → MatchOption (slice_get table.old (slot_of thread)) ⊥ (λ p. table.new ≡ slice_set table.old (slot_of thread) (progress_after p (asked_of_poll q (has_blocked q.ask part.now)))) }
 {
-    if usize::from(poll.thread.cpu.0) != cpu || poll.thread.thread >= 16 {
-        return false;
+    if usize::from(thread.cpu.0) != cpu || thread.thread >= 16 {
+        return None;
     }
-    let slot = 16 * cpu + usize::from(poll.thread.thread);
-    let standing = standing_at(table, slot);
+    let slot = 16 * cpu + usize::from(thread.thread);
     let home = home_at(homes, slot);
-    if !poll_fits(plans, lines, home, cpu, standing, poll) {
-        return false;
-    }
-    table[slot].go_on(place, poll, blocked, step_count(plans, home));
-    true
+    let standing = standing_at(table, slot);
+    let Some(ask) = fitting_ask(
+        plans, lines, home, standing, place, end, answer, cpu, thread,
+    ) else {
+        return None;
+    };
+    let blocked = has_blocked(ask, part);
+    table[slot].go_on(place, ask, answer, blocked, step_count(plans, home));
+    Some(ask)
 }
 
 // Whether a thread, if it is there, may rest.

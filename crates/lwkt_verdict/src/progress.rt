@@ -1,14 +1,15 @@
-ghost use Rattle.std.specs.Prelude.{◌≡◌, ◌<◌, ◌+◌, ◌^◌, ◌-◌, ◌↔◌, IsTrue, true, false, Some, None, slice_get, is_some, min, MatchOption, option_map};
-ghost use Rattle.std.specs.Option.{option_map_or};
+ghost use Rattle.std.specs.Prelude.{◌≡◌, ◌<◌, ◌+◌, ◌^◌, ◌-◌, ◌↔◌, IsTrue, true, false, Some, None, slice_get, is_some, min, MatchOption, option_map, option_and_then};
+ghost use Rattle.std.specs.Option.{option_copied, option_map_or};
+ghost use Rattle.lwkt_base.specs.declared.asks.Ask.TheVariants.{Exit};
 ghost use Rattle.lwkt_base.specs.declared.entries.Entry.TheVariants.{Bytes};
 ghost use Rattle.lwkt_verdict.specs.Asks.{entry_of};
 ghost use Rattle.lwkt_verdict.specs.Spots.{spot_at};
 ghost use Rattle.lwkt_verdict.specs.Run.{asked_of_poll};
-ghost use Rattle.lwkt_verdict.specs.Threads.{logged_by, progress_after, MayAsk, IsLogged, is_blocked, Rests, may_fault, may_end_after, may_end, EndsAs};
+ghost use Rattle.lwkt_verdict.specs.Threads.{ask_at, progress_after, IsLogged, is_blocked, Rests, may_fault, may_end_after, may_end, EndsAs};
 
 use crate::asks::{entry_of, is_exit, is_refused, may_block, may_wait};
 use crate::places::PollPlace;
-use crate::plans::is_ask_at;
+use crate::plans::ask_at;
 use crate::spots::{Spot, spot_of};
 use crate::turns::Poll;
 use lwkt_base::{Answer, Ask, Blob, Entry, ThreadState};
@@ -99,21 +100,21 @@ fn makes_entry(ask: &Ask, answer: &Answer) -> bool
     !matches!(answer, Answer::Begin | Answer::Done)
 }
 
-// Whether a poll's answer, if it has one, puts an entry in the log.
-fn makes_logged(poll: &Poll) -> bool
-    ensures { result ≡ is_some (logged_by (asked_of_poll poll.now false)) }
+// Whether an answer, if there is one, puts an entry in the log.
+fn makes_logged(ask: &Ask, answer: &Option<Answer>) -> bool
+    ensures { result ≡ is_some (option_and_then (entry_of ask.now) answer.now) }
 {
-    match &poll.answer {
+    match answer {
         None => false,
-        Some(answer) => makes_entry(&poll.ask, answer),
+        Some(answer) => makes_entry(ask, answer),
     }
 }
 
 // How many entries a log has after one more poll, at most 32.
-fn logged_after(logged: usize, poll: &Poll) -> usize
-    ensures { result ≡ option_map_or (λ e. min 32 (logged + 1)) (logged_by (asked_of_poll poll.now false)) logged }
+fn logged_after(logged: usize, ask: &Ask, answer: &Option<Answer>) -> usize
+    ensures { result ≡ option_map_or (λ e. min 32 (logged + 1)) (option_and_then (entry_of ask.now) answer.now) logged }
 {
-    if !makes_logged(poll) {
+    if !makes_logged(ask, answer) {
         return logged;
     }
     if logged < LOG_LIMIT {
@@ -136,12 +137,19 @@ fn spot_among(standing: &Standing<'_>, count: u64) -> Spot
 }
 
 impl<'a> Standing<'a> {
-    /// A thread with so many steps has come one poll further.
+    /// A thread with so many steps has come one poll further, which lies here and has this ask and answer.
     #[inline(always)]
-    pub fn go_on(&mut self, place: PollPlace<'a>, poll: &Poll, blocked: bool, steps: u64)
+    pub fn go_on(
+        &mut self,
+        place: PollPlace<'a>,
+        ask: &Ask,
+        answer: &Option<Answer>,
+        blocked: bool,
+        steps: u64,
+    )
         requires few { self.old.polls < 2 ^ 64 - 1 }
-        requires placed { slice_get place.polls.now place.place ≡ Some poll.now }
-        ensures { self.new ≡ progress_after self.old (asked_of_poll poll.now blocked) }
+        requires placed { option_map (λ q. asked_of_poll q blocked) (slice_get place.polls.now place.place) ≡ Some (record { ask = ask.now; answer = answer.now; blocked = blocked }) }
+        ensures { self.new ≡ progress_after self.old (record { ask = ask.now; answer = answer.now; blocked = blocked }) }
     {
         let count = steps.max(1);
         self.spot = spot_among(self, count).next(count);
@@ -149,7 +157,7 @@ impl<'a> Standing<'a> {
         self.polls += 1;
         self.last = Some(place);
         self.blocked = blocked;
-        self.logged = logged_after(self.logged, poll);
+        self.logged = logged_after(self.logged, ask, answer);
     }
 }
 
@@ -186,8 +194,8 @@ fn blocks(standing: &Standing<'_>) -> Option<bool>
     }
 }
 
-// Whether what was asked last, if anything was, has its answer.
-fn is_answered(standing: &Standing<'_>) -> bool
+/// Whether what was asked last, if anything was, has its answer.
+pub fn is_answered(standing: &Standing<'_>) -> bool
     ensures { IsTrue result ↔ MatchOption standing.now.last (Unit {0}) (λ a. is_some a.answer ≡ true) }
 {
     match answered(standing) {
@@ -206,13 +214,15 @@ fn is_unanswered(standing: &Standing<'_>) -> bool
     }
 }
 
-/// Whether a thread that has come so far may be polled with this ask.
-pub fn may_ask(plan: &ThreadSpec, standing: &Standing<'_>, ask: &Ask) -> bool
-    ensures { IsTrue result ↔ MayAsk plan.now standing.now ask.now }
+/// The next ask of a thread that has come so far, if it has one more; `end` is the ask that ends a thread.
+#[inline(always)]
+pub fn next_ask<'p>(plan: &'p ThreadSpec, standing: &Standing<'_>, end: &'p Ask) -> Option<&'p Ask>
+    requires { end.now ≡ Exit }
+    ensures { option_copied result ≡ ask_at plan.now standing.now.polls }
 {
     let count = plan.steps.as_slice().len() as u64;
     let spot = spot_among(standing, count.max(1));
-    is_ask_at(plan, standing.polls, spot, ask) && is_answered(standing)
+    ask_at(plan, standing.polls, spot, end)
 }
 
 // Whether an entry is that of this record.
@@ -258,21 +268,26 @@ fn is_entry_at(log: &[Entry], place: usize, ask: &Ask, answer: &Answer) -> bool
     }
 }
 
-// Whether the entry of a poll's answer, if it has one, stands at a place of the thread's log.
-fn is_logged_at(line: &ThreadLine, place: usize, poll: &Poll) -> bool
-    ensures { IsTrue result ↔ MatchOption (logged_by (asked_of_poll poll.now false)) (Unit {0}) (λ e. slice_get line.now.log place ≡ Some e) }
+// Whether the entry of an answer, if there is one and it has one, stands at a place of the thread's log.
+fn is_logged_at(line: &ThreadLine, place: usize, ask: &Ask, answer: &Option<Answer>) -> bool
+    ensures { IsTrue result ↔ MatchOption (option_and_then (entry_of ask.now) answer.now) (Unit {0}) (λ e. slice_get line.now.log place ≡ Some e) }
 {
-    match &poll.answer {
+    match answer {
         None => true,
-        Some(answer) => is_entry_at(line.log.as_slice(), place, &poll.ask, answer),
+        Some(answer) => is_entry_at(line.log.as_slice(), place, ask, answer),
     }
 }
 
-/// Whether the entry of a poll's answer, if it has one and is among the first 32, stands in the thread's log.
-pub fn is_logged(line: &ThreadLine, standing: &Standing<'_>, poll: &Poll) -> bool
-    ensures { IsTrue result ↔ IsLogged line.now standing.now (asked_of_poll poll.now false) }
+/// Whether the entry of an answer, if there is one and it has one that is among the first 32, stands in the thread's log.
+pub fn is_logged(
+    line: &ThreadLine,
+    standing: &Standing<'_>,
+    ask: &Ask,
+    answer: &Option<Answer>,
+) -> bool
+    ensures { IsTrue result ↔ IsLogged line.now standing.now (record { ask = ask.now; answer = answer.now; blocked = false }) }
 {
-    standing.logged >= LOG_LIMIT || is_logged_at(line, standing.logged, poll)
+    standing.logged >= LOG_LIMIT || is_logged_at(line, standing.logged, ask, answer)
 }
 
 // Whether a thread is blocked by what it asked.

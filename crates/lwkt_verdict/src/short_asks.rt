@@ -4,12 +4,14 @@
 //! bits more: the value of a write or an addition. A send, a call and a reply say more than that, as do a write and an addition with a
 //! larger number, so they are *wide* and lie in a list of their own. A store of a record is *long* and lies in a list of whole asks.
 //! Of these the row's number is the place there.
-ghost use Rattle.std.specs.Prelude.{◌≡◌, ◌||◌, [], not, length, map, IfSome, IfOk, OnErr, is_some};
+ghost use Rattle.std.specs.Prelude.{◌≡◌, ◌||◌, ◌↔◌, IsTrue, [], not, length, map, IfSome, IfOk, OnErr, is_some};
+ghost use Rattle.lwkt_base.specs.declared.asks.Ask.TheVariants.{WriteBlob};
 ghost use Rattle.lwkt_events.specs.ShortEvents.{GrowsBehind};
 ghost use Rattle.lwkt_verdict.specs.Shorts.{wide_ask, long_ask, is_wide_ask, is_long_ask, wide_ask_place, long_ask_place, kept_place, with_kept, IsAskIn};
 
+use crate::asks::is_exit;
 use crate::row_numbers::{fits_row, keep_behind};
-use lwkt_base::{Ask, Call, Flags, MsgId, ThreadId, TokId};
+use lwkt_base::{Ask, Blob, Call, Flags, MsgId, ThreadId, TokId};
 use std::alloc::{AllocError, Global};
 
 /// An ask as a row has it, with a number beside it. Each kind but the last two is that of `Ask`. Where a kind doesn't say what the number
@@ -67,6 +69,26 @@ pub struct AskLists {
     pub longs: Vec<Ask>,
 }
 
+// Whether an ask stores this record in this token.
+fn is_storing(ask: &Ask, tok: TokId, blob: &Blob) -> bool
+    ensures { IsTrue result ↔ (ask.now ≡ WriteBlob tok blob.now) }
+{
+    match ask {
+        Ask::WriteBlob(other, stored) => *other == tok && stored.is_same(blob),
+        _ => false,
+    }
+}
+
+// Whether two asks are one.
+fn is_same(one: &Ask, other: &Ask) -> bool
+    ensures { IsTrue result ↔ (one.now ≡ other.now) }
+{
+    match one {
+        Ask::WriteBlob(tok, blob) => is_storing(other, *tok, blob),
+        _ => *one == *other,
+    }
+}
+
 impl WideAsk {
     // A wide ask.
     fn of(ask: &Ask) -> Option<WideAsk>
@@ -95,6 +117,19 @@ impl WideAsk {
             WideAsk::Reply(msg, error, outcome) => *ask = Ask::Reply(msg, error, outcome),
             WideAsk::Write(tok, cell, value) => *ask = Ask::Write(tok, cell, value),
             WideAsk::Add(tok, more) => *ask = Ask::Add(tok, more),
+        }
+    }
+
+    // Whether this is an ask, kept as a wide one.
+    fn is(&self, ask: &Ask) -> bool
+        ensures { IsTrue result ↔ (wide_ask self.now ≡ ask.now) }
+    {
+        match *self {
+            WideAsk::Send(msg, to, flags, call) => *ask == Ask::Send(msg, to, call, flags),
+            WideAsk::Do(msg, to, call) => *ask == Ask::Do(msg, to, call),
+            WideAsk::Reply(msg, error, outcome) => *ask == Ask::Reply(msg, error, outcome),
+            WideAsk::Write(tok, cell, value) => *ask == Ask::Write(tok, cell, value),
+            WideAsk::Add(tok, more) => *ask == Ask::Add(tok, more),
         }
     }
 }
@@ -209,6 +244,41 @@ impl AskLists {
             ShortAsk::Long => match self.longs.get(number as usize) {
                 None => *ask = Ask::Exit,
                 Some(long) => *ask = *long,
+            },
+        }
+    }
+
+    /// Whether the ask of which a row has this is that one. Each kind is compared by itself, so that no ask is written for it.
+    #[inline(always)]
+    pub fn is(&self, short: ShortAsk, number: u32, ask: &Ask) -> bool
+        ensures { IsTrue result ↔ (long_ask self.now.wides.items self.now.longs.items short number ≡ ask.now) }
+    {
+        match short {
+            ShortAsk::Get(tok) => matches!(ask, Ask::Get(t) if *t == tok),
+            ShortAsk::GetShared(tok) => matches!(ask, Ask::GetShared(t) if *t == tok),
+            ShortAsk::TryGet(tok) => matches!(ask, Ask::TryGet(t) if *t == tok),
+            ShortAsk::Rel(tok) => matches!(ask, Ask::Rel(t) if *t == tok),
+            ShortAsk::Swap => matches!(ask, Ask::Swap),
+            ShortAsk::Read(tok, cell) => matches!(ask, Ask::Read(t, c) if *t == tok && *c == cell),
+            ShortAsk::Write(tok, cell) =>
+                matches!(ask, Ask::Write(t, c, v) if *t == tok && *c == cell && *v == u64::from(number)),
+            ShortAsk::Add(tok) =>
+                matches!(ask, Ask::Add(t, m) if *t == tok && *m == u64::from(number)),
+            ShortAsk::ReadBlob(tok) => matches!(ask, Ask::ReadBlob(t) if *t == tok),
+            ShortAsk::Abort(msg) => matches!(ask, Ask::Abort(m) if *m == msg),
+            ShortAsk::IsAborted(msg) => matches!(ask, Ask::IsAborted(m) if *m == msg),
+            ShortAsk::DropMsg(msg) => matches!(ask, Ask::DropMsg(m) if *m == msg),
+            ShortAsk::GetPort => matches!(ask, Ask::GetPort),
+            ShortAsk::WaitPort => matches!(ask, Ask::WaitPort),
+            ShortAsk::Yield => matches!(ask, Ask::Yield),
+            ShortAsk::Exit => matches!(ask, Ask::Exit),
+            ShortAsk::Wide => match self.wides.get(number as usize) {
+                None => is_exit(ask),
+                Some(wide) => wide.is(ask),
+            },
+            ShortAsk::Long => match self.longs.get(number as usize) {
+                None => is_exit(ask),
+                Some(long) => is_same(long, ask),
             },
         }
     }

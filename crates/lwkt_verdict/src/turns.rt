@@ -1,9 +1,9 @@
-ghost use Rattle.std.specs.Prelude.{◌≡◌, Some, None, if◌then◌else◌, slice_get};
+ghost use Rattle.std.specs.Prelude.{◌≡◌, Some, slice_get, option_map};
 ghost use Rattle.lwkt_verdict.specs.Run.{poll_of};
 
 use crate::places::PollPlace;
 use crate::poll_lists::PollList;
-use lwkt_base::{Answer, Ask, CpuId, ThreadId};
+use lwkt_base::{Answer, Ask, ThreadId};
 use std::marker::Model;
 
 /// One poll of a thread: what it asked, and what this was answered, if the thread was polled again.
@@ -18,15 +18,14 @@ pub struct Poll {
 }
 
 impl Poll {
-    /// A poll that nobody made, as room for another.
-    pub(crate) fn unasked() -> Self {
+    /// A poll of a thread that nobody made, as room for another.
+    pub(crate) fn unasked(thread: ThreadId) -> Self
+        ensures { result.thread ≡ thread }
+    {
         Poll {
             answer: None,
             ask: Ask::Exit,
-            thread: ThreadId {
-                cpu: CpuId(0),
-                thread: 0,
-            },
+            thread,
         }
     }
 }
@@ -113,14 +112,14 @@ pub enum Pace {
     Named,
 }
 
-/// Writes the poll of a turn, if it has one, and says whether it has.
+/// The thread that a turn polled, if it polled one.
 #[inline(always)]
-pub(crate) fn read_poll(polls: &PollList, turn: &TurnRow, poll: &mut Poll) -> bool
-    ensures { poll_of polls.now turn.now ≡ (if result then Some poll.new else None) }
+pub(crate) fn thread_of(polls: &PollList, turn: &TurnRow) -> Option<ThreadId>
+    ensures { result ≡ option_map (λ q. q.thread) (poll_of polls.now turn.now) }
 {
     match turn.poll() {
-        None => false,
-        Some(place) => polls.read(place as usize, poll),
+        None => None,
+        Some(place) => polls.thread(place as usize),
     }
 }
 
