@@ -248,6 +248,26 @@ impl AskLists {
         }
     }
 
+    // Whether the wide ask at a place is that one.
+    fn is_wide(&self, number: u32, ask: &Ask) -> bool
+        ensures { IsTrue result ↔ (long_ask self.now.wides.items self.now.longs.items ShortAsk.Wide number ≡ ask.now) }
+    {
+        match self.wides.get(number as usize) {
+            None => is_exit(ask),
+            Some(wide) => wide.is(ask),
+        }
+    }
+
+    // Whether the long ask at a place is that one.
+    fn is_long(&self, number: u32, ask: &Ask) -> bool
+        ensures { IsTrue result ↔ (long_ask self.now.wides.items self.now.longs.items ShortAsk.Long number ≡ ask.now) }
+    {
+        match self.longs.get(number as usize) {
+            None => is_exit(ask),
+            Some(long) => is_same(long, ask),
+        }
+    }
+
     /// Whether the ask of which a row has this is that one. Each kind is compared by itself, so that no ask is written for it.
     #[inline(always)]
     pub fn is(&self, short: ShortAsk, number: u32, ask: &Ask) -> bool
@@ -272,14 +292,8 @@ impl AskLists {
             ShortAsk::WaitPort => matches!(ask, Ask::WaitPort),
             ShortAsk::Yield => matches!(ask, Ask::Yield),
             ShortAsk::Exit => matches!(ask, Ask::Exit),
-            ShortAsk::Wide => match self.wides.get(number as usize) {
-                None => is_exit(ask),
-                Some(wide) => wide.is(ask),
-            },
-            ShortAsk::Long => match self.longs.get(number as usize) {
-                None => is_exit(ask),
-                Some(long) => is_same(long, ask),
-            },
+            ShortAsk::Wide => self.is_wide(number, ask),
+            ShortAsk::Long => self.is_long(number, ask),
         }
     }
 }
