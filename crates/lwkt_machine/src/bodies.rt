@@ -1,11 +1,11 @@
 //! The bodies of a script's threads.
-ghost use Rattle.std.specs.Prelude.{◌≡◌, ◌<◌, ◌≤◌, length, false, IfOk, Option, Some, None, unwrap_or};
+ghost use Rattle.std.specs.Prelude.{◌≡◌, ◌+◌, ◌<◌, ◌≤◌, length, min, false, IfOk, Option, Some, None, unwrap_or};
 ghost use Rattle.std.specs.Option.{option_copied};
 ghost use Rattle.lwkt_machine.specs.Bodies.{unpolled, next_ask, entry_for, entry_told, logged, asked_last};
 
 use lwkt_ask::Body;
 use lwkt_base::{Answer, Ask, Entry};
-use lwkt_verdict::{Spot, entry_of, spot_of};
+use lwkt_verdict::{Spot, entry_of};
 use std::alloc::{AllocError, Global};
 use std::marker::Model;
 
@@ -32,7 +32,7 @@ pub struct ScriptBody {
     end: Ask,
     repeat: u32,
     polls: u64,
-    // Where the next ask may stand.
+    // Where the next ask stands, if there are steps.
     spot: Spot,
     asked: Asked,
     told: Option<Answer>,
@@ -40,15 +40,16 @@ pub struct ScriptBody {
 }
 
 impl Model for ScriptBody {
-    ghost use Rattle.std.specs.Prelude.{◌≡◌, ◌≤◌, length, vec_capacity};
+    ghost use Rattle.std.specs.Prelude.{◌≡◌, ◌<◌, ◌≤◌, length, vec_capacity};
     ghost use Rattle.lwkt_base.specs.declared.asks.Ask.TheVariants.{Exit};
+    ghost use Rattle.lwkt_verdict.specs.Spots.{spot_at};
     ghost use Rattle.lwkt_machine.specs.Bodies.{Scripted, asked_last};
 
     ghost Value = { Scripted };
 
     ghost view = { λ b. record { steps = b.steps.items; repeat = b.repeat; polls = b.polls; asked = asked_last b.steps.items b.asked; told = b.told; log = b.log.items } };
 
-    ghost invariant = { λ b. (length b.log.items ≤ 32) × (32 ≤ vec_capacity b.log) × (b.end ≡ Exit) };
+    ghost invariant = { λ b. (length b.log.items ≤ 32) × (32 ≤ vec_capacity b.log) × (b.end ≡ Exit) × (0 < length b.steps.items → b.spot ≡ spot_at (length b.steps.items) b.polls) };
 }
 
 // What an answer puts in the log, by the ask that it answers.
@@ -141,15 +142,21 @@ impl ScriptBody {
     fn next(&self) -> Asked
         ensures { asked_last self.now.steps result ≡ Some (next_ask self.now) }
     {
-        let count = self.steps.len() as u64;
-        if count == 0 {
+        if self.steps.is_empty() || self.spot.rounds >= u64::from(self.repeat) {
             return Asked::Exit;
         }
-        let spot = spot_of(count, self.polls, self.spot);
-        if spot.rounds >= u64::from(self.repeat) {
-            return Asked::Exit;
+        Asked::Step(self.spot.step as usize)
+    }
+
+    // Counts a poll, and goes on to where the ask after it stands. The last number that is counted to stays, and so does its spot.
+    #[inline(always)]
+    fn count_poll(&mut self)
+        ensures { self.new ≡ record self.old { polls = min (self.old.polls + 1) 18446744073709551615 } }
+    {
+        if self.polls < u64::MAX {
+            self.polls += 1;
+            self.spot = self.spot.next(self.steps.len() as u64);
         }
-        Asked::Step(spot.step as usize)
     }
 
     // The ask that is told so, `Exit` if none is.
@@ -198,8 +205,7 @@ impl Body for ScriptBody {
         self.told = Some(last);
         self.keep();
         let next = self.next();
-        self.polls = self.polls.saturating_add(1);
-        self.spot = self.spot.next(self.steps.len() as u64);
+        self.count_poll();
         self.asked = next;
         *self.ask_of(next)
     }
