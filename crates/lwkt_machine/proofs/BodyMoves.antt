@@ -1,8 +1,11 @@
 -- Polls of a body, one after another.
-use Rattle.std.proofs.Common.{◌≡◌, ℕ, zero, suc, ◌+◌, ◌≤◌, Bool, true, false, List, [], ◌∷◌, ◌++◌, length, take, refl, ap, sym, ◌∙◌, subst, arith, min, Option, Some, None, append_assoc, length-append}
+use Rattle.std.proofs.Common.{◌≡◌, ℕ, zero, suc, ◌+◌, ◌*◌, ◌/◌, ◌%◌, ◌<◌, ◌≤◌, Bool, true, false, List, [], ◌∷◌, ◌++◌, length, take, refl, ap, sym, ◌∙◌, subst, arith, min, Option, Some, None, append_assoc, length-append}
 use Rattle.std.specs.Prelude.{option_to_list, slice_get, unwrap_or, nat_lt}
 use Rattle.std.proofs.lemmas.Bool.{ltb-true, ltb-false}
 use Rattle.std.proofs.lemmas.Bool.Decides.{nat_tests}
+use Rattle.std.proofs.Math.Nat.{mul-zero}
+use Rattle.std.proofs.lemmas.Nat.{div_below, mod_below}
+use Rattle.std.proofs.lemmas.Option.{slice_get_cases}
 use Rattle.lwkt_base.specs.declared.asks.Ask.{Ask}
 use Rattle.lwkt_base.specs.declared.asks.Ask.TheVariants.{Exit}
 use Rattle.lwkt_base.specs.declared.asks.Answer.{Answer}
@@ -12,6 +15,20 @@ use Rattle.lwkt_verdict.specs.Threads.{ask_in}
 use Rattle.lwkt_machine.specs.Bodies.{Scripted, unpolled, entry_for, entry_told, logged, after_poll}
 use Rattle.lwkt_lane.proofs.PlaceMoves.{refilled_front}
 use Rattle.lwkt_machine.specs.Laws.{ArePolls, entries_made, AsksAreTheScripts, LogsAreFirstEntries}
+
+-- where polls are fewer than the asks that the steps make, there are steps, and one more poll can be counted
+pub is_counted : (repeat count polls : ℕ) → polls < min (repeat * count) 18446744073709551615 → (polls + 1 ≡ min (polls + 1) 18446744073709551615) × (polls < repeat * count) × (0 < count)
+is_counted repeat zero polls below = absurd (omega (arith, below, mul-zero repeat))
+is_counted repeat (suc n) polls below = (omega (arith, below), omega (arith, below), omega arith)
+
+-- the ask after them is then the step of the number that is left over
+pub small_step : (steps : List Ask) (repeat polls step : ℕ) → polls < min (repeat * length steps) 18446744073709551615 → (0 < length steps → step ≡ polls % length steps) → (step < length steps) × (slice_get steps step ≡ Some (unwrap_or (ask_in repeat steps polls) Exit))
+small_step steps repeat polls step below at =
+    let small = is_counted repeat (length steps) polls below in
+    let rounds : polls / length steps < repeat = div_below polls (length steps) repeat small.2 small.1 in
+    let is : step ≡ polls % length steps = at small.2 in
+    let inside : polls % length steps < length steps = mod_below polls (length steps) small.2 in
+    grind (arith, nat_tests, slice_get_cases)
 
 asks_from : (steps : List Ask) (repeat : ℕ) (polls : List (Answer × Ask)) (old b : Scripted) → old.steps ≡ steps → old.repeat ≡ repeat → old.polls + length polls ≤ 18446744073709551615 → ArePolls old polls b → (k : ℕ) (q : Answer × Ask) → slice_get polls k ≡ Some q → q.1 ≡ unwrap_or (ask_in repeat steps (old.polls + k)) Exit
 asks_from steps repeat [] old b is many few are k q at = absurd (let e : ◌≡◌ {A = Option (Answer × Ask)} None (Some q) = at in cc)

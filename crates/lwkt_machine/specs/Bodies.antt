@@ -1,5 +1,5 @@
 -- The body of a script's thread (own).
-use Rattle.std.specs.Prelude.{◌≡◌, ℕ, ◌+◌, nat_lt, if◌then◌else◌, List, [], ◌∷◌, ◌++◌, length, min, Option, Some, None, unwrap_or, option_and_then, slice_get}
+use Rattle.std.specs.Prelude.{◌≡◌, ℕ, ◌+◌, ◌*◌, nat_lt, if◌then◌else◌, List, [], ◌∷◌, ◌++◌, length, min, Option, Some, None, unwrap_or, option_and_then, slice_get}
 use Rattle.lwkt_base.specs.declared.asks.Ask.{Ask}
 use Rattle.lwkt_base.specs.declared.asks.Ask.TheVariants.{Exit}
 use Rattle.lwkt_base.specs.declared.asks.Answer.{Answer}
@@ -32,6 +32,14 @@ unpolled steps repeat = record { steps = steps; repeat = repeat; polls = 0; aske
 -- what a body asks next: the script's ask of that number, and Exit after the last
 abbrev pub next_ask : Scripted → Ask
 next_ask b = unwrap_or (ask_in b.repeat b.steps b.polls) Exit
+
+-- a body that has asked what is next
+abbrev pub after_ask : Scripted → Scripted
+after_ask b = record b { polls = min (b.polls + 1) 18446744073709551615; asked = Some (next_ask b) }
+
+-- how many asks the steps make in all, so many times over, as far as polls are counted
+abbrev pub total_asks : ℕ → List Ask → ℕ
+total_asks repeat steps = min (repeat * length steps) 18446744073709551615
 
 -- what an answer puts in the log, by the ask that it answers; nothing, if nothing was asked
 abbrev pub entry_for : Option Ask → Answer → Option Entry

@@ -1,11 +1,11 @@
 //! The bodies of a script's threads.
-ghost use Rattle.std.specs.Prelude.{◌≡◌, ◌+◌, ◌<◌, ◌≤◌, length, min, false, IfOk, Option, Some, None, unwrap_or};
+ghost use Rattle.std.specs.Prelude.{◌≡◌, ℕ, ◌+◌, ◌%◌, ◌<◌, ◌≤◌, length, min, false, IfOk, Option, Some, None, IsSome};
 ghost use Rattle.std.specs.Option.{option_copied};
-ghost use Rattle.lwkt_machine.specs.Bodies.{unpolled, next_ask, entry_for, entry_told, logged, asked_last};
+ghost use Rattle.lwkt_machine.specs.Bodies.{unpolled, next_ask, after_ask, entry_for, entry_told, logged, asked_last};
 
 use lwkt_ask::Body;
 use lwkt_base::{Answer, Ask, Entry};
-use lwkt_verdict::{Spot, entry_of};
+use lwkt_verdict::entry_of;
 use std::alloc::{AllocError, Global};
 use std::marker::Model;
 
@@ -32,24 +32,25 @@ pub struct ScriptBody {
     end: Ask,
     repeat: u32,
     polls: u64,
-    // Where the next ask stands, if there are steps.
-    spot: Spot,
+    // How many asks the steps make in all, and 18446744073709551615 where they make more.
+    total: u64,
+    // Which step the next ask is, as long as it is one.
+    step: usize,
     asked: Asked,
     told: Option<Answer>,
     log: Vec<Entry>,
 }
 
 impl Model for ScriptBody {
-    ghost use Rattle.std.specs.Prelude.{◌≡◌, ◌<◌, ◌≤◌, length, vec_capacity};
+    ghost use Rattle.std.specs.Prelude.{◌≡◌, ◌%◌, ◌<◌, ◌≤◌, length, vec_capacity};
     ghost use Rattle.lwkt_base.specs.declared.asks.Ask.TheVariants.{Exit};
-    ghost use Rattle.lwkt_verdict.specs.Spots.{spot_at};
-    ghost use Rattle.lwkt_machine.specs.Bodies.{Scripted, asked_last};
+    ghost use Rattle.lwkt_machine.specs.Bodies.{Scripted, asked_last, total_asks};
 
     ghost Value = { Scripted };
 
     ghost view = { λ b. record { steps = b.steps.items; repeat = b.repeat; polls = b.polls; asked = asked_last b.steps.items b.asked; told = b.told; log = b.log.items } };
 
-    ghost invariant = { λ b. (length b.log.items ≤ 32) × (32 ≤ vec_capacity b.log) × (b.end ≡ Exit) × (0 < length b.steps.items → b.spot ≡ spot_at (length b.steps.items) b.polls) };
+    ghost invariant = { λ b. (length b.log.items ≤ 32) × (32 ≤ vec_capacity b.log) × (b.end ≡ Exit) × (b.total ≡ total_asks b.repeat b.steps.items) × (0 < length b.steps.items → b.step ≡ b.polls % length b.steps.items) };
 }
 
 // What an answer puts in the log, by the ask that it answers.
@@ -81,6 +82,26 @@ fn may_log(told: &Option<Answer>) -> bool
     !matches!(told, None | Some(Answer::Begin | Answer::Done))
 }
 
+// Which of so many steps ask k is, as long as it is one.
+fn step_of(count: usize, k: u64) -> usize
+    ensures { 0 < count → result ≡ k % count }
+{
+    if count == 0 {
+        return 0;
+    }
+    (k % count as u64) as usize
+}
+
+// Which of so many steps comes after this one: the next, or the first.
+#[inline(always)]
+fn step_after(step: usize, count: usize) -> usize
+    requires { step < count }
+    ensures { (k : ℕ) → step ≡ k % count → result ≡ (k + 1) % count }
+{
+    let after = step + 1;
+    if after < count { after } else { 0 }
+}
+
 impl ScriptBody {
     /// A body that makes these steps `repeat` times, 0 to 4294967295, and was never polled. Its log has room for its 32 entries
     /// from the beginning.
@@ -91,12 +112,14 @@ impl ScriptBody {
     {
         let log = Vec::with_capacity(alloc, LOG_LIMIT)?;
         let steps = Vec::from_slice(alloc, steps)?;
+        let total = u64::from(repeat).saturating_mul(steps.len() as u64);
         Ok(ScriptBody {
             steps,
             end: Ask::Exit,
             repeat,
             polls: 0,
-            spot: Spot::first(),
+            total,
+            step: 0,
             asked: Asked::Nothing,
             told: None,
             log,
@@ -138,37 +161,55 @@ impl ScriptBody {
     }
 
     // What the body asks next.
-    #[inline(always)]
     fn next(&self) -> Asked
         ensures { asked_last self.now.steps result ≡ Some (next_ask self.now) }
     {
-        if self.steps.is_empty() || self.spot.rounds >= u64::from(self.repeat) {
+        let count = self.steps.len() as u64;
+        if count == 0 || self.polls / count >= u64::from(self.repeat) {
             return Asked::Exit;
         }
-        Asked::Step(self.spot.step as usize)
+        Asked::Step((self.polls % count) as usize)
     }
 
-    // Counts a poll, and goes on to where the ask after it stands. The last number that is counted to stays, and so does its spot.
-    #[inline(always)]
-    fn count_poll(&mut self)
-        ensures { self.new ≡ record self.old { polls = min (self.old.polls + 1) 18446744073709551615 } }
+    // Asks what is next, whatever that is. It divides, so it is for what comes after the steps.
+    #[cold]
+    #[inline(never)]
+    fn ask_any(&mut self) -> Asked
+        ensures next { asked_last self.old.steps result ≡ Some (next_ask self.old) }
+        ensures goes { self.new ≡ after_ask self.old }
     {
-        if self.polls < u64::MAX {
-            self.polls += 1;
-            self.spot = self.spot.next(self.steps.len() as u64);
-        }
+        let next = self.next();
+        self.polls = self.polls.saturating_add(1);
+        self.step = step_of(self.steps.len(), self.polls);
+        self.asked = next;
+        next
     }
 
-    // The ask that is told so, `Exit` if none is.
+    // Asks what is next: of a step it neither divides nor multiplies.
+    #[inline(always)]
+    #[tactic(auto, using(crate::proofs::BodyMoves::small_step, crate::proofs::BodyMoves::is_counted))]
+    fn ask_next(&mut self) -> Asked
+        ensures next { asked_last self.old.steps result ≡ Some (next_ask self.old) }
+        ensures goes { self.new ≡ after_ask self.old }
+    {
+        if self.polls >= self.total {
+            return self.ask_any();
+        }
+        let step = self.step;
+        self.step = step_after(step, self.steps.len());
+        self.polls += 1;
+        self.asked = Asked::Step(step);
+        Asked::Step(step)
+    }
+
+    // The ask that is kept so.
     #[inline(always)]
     fn ask_of(&self, asked: Asked) -> &Ask
-        ensures { result.now ≡ unwrap_or (asked_last self.now.steps asked) Ask.Exit }
+        requires { IsSome (asked_last self.now.steps asked) }
+        ensures { Some result.now ≡ asked_last self.now.steps asked }
     {
         match asked {
-            Asked::Step(at) => match self.steps.get(at) {
-                Some(ask) => ask,
-                None => &self.end,
-            },
+            Asked::Step(at) => &self.steps[at],
             Asked::Nothing | Asked::Exit => &self.end,
         }
     }
@@ -193,6 +234,20 @@ impl ScriptBody {
             self.add_entry();
         }
     }
+
+    // Keeps an answer, and what it puts in the log. `Done`, the most common one, puts nothing there and is made anew, since an
+    // answer that is copied takes its room for a record along.
+    #[inline(always)]
+    fn tell(&mut self, last: Answer)
+        ensures { self.new ≡ record self.old { told = Some last; log = logged self.old.log (entry_for self.old.asked last) } }
+    {
+        if let Answer::Done = last {
+            self.told = Some(Answer::Done);
+            return;
+        }
+        self.told = Some(last);
+        self.keep();
+    }
 }
 
 impl Body for ScriptBody {
@@ -202,11 +257,8 @@ impl Body for ScriptBody {
 
     #[inline(always)]
     fn poll(&mut self, last: Answer) -> Ask {
-        self.told = Some(last);
-        self.keep();
-        let next = self.next();
-        self.count_poll();
-        self.asked = next;
+        self.tell(last);
+        let next = self.ask_next();
         *self.ask_of(next)
     }
 }
