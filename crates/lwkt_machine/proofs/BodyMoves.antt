@@ -6,6 +6,7 @@ use Rattle.std.proofs.lemmas.Bool.Decides.{nat_tests}
 use Rattle.std.proofs.Math.Nat.{mul-zero}
 use Rattle.std.proofs.lemmas.Nat.{div_below, mod_below}
 use Rattle.std.proofs.lemmas.Option.{slice_get_cases}
+use Rattle.std.proofs.lemmas.List.{length-take-le}
 use Rattle.lwkt_base.specs.declared.asks.Ask.{Ask}
 use Rattle.lwkt_base.specs.declared.asks.Ask.TheVariants.{Exit}
 use Rattle.lwkt_base.specs.declared.asks.Answer.{Answer}
@@ -21,13 +22,49 @@ pub is_counted : (repeat count polls : ℕ) → polls < min (repeat * count) 184
 is_counted repeat zero polls below = absurd (omega (arith, below, mul-zero repeat))
 is_counted repeat (suc n) polls below = (omega (arith, below), omega (arith, below), omega arith)
 
--- the ask after them is then the step of the number that is left over
+-- the next ask is then the step of the number that is left over
 pub small_step : (steps : List Ask) (repeat polls step : ℕ) → polls < min (repeat * length steps) 18446744073709551615 → (0 < length steps → step ≡ polls % length steps) → (step < length steps) × (slice_get steps step ≡ Some (unwrap_or (ask_in repeat steps polls) Exit))
 small_step steps repeat polls step below at =
     let small = is_counted repeat (length steps) polls below in
     let rounds : polls / length steps < repeat = div_below polls (length steps) repeat small.2 small.1 in
     let is : step ≡ polls % length steps = at small.2 in
     let inside : polls % length steps < length steps = mod_below polls (length steps) small.2 in
+    grind (arith, nat_tests, slice_get_cases)
+
+-- the steps of a body lie before its last ask
+pub length_steps : (asks : List Ask) (count : ℕ) → length asks ≡ count + 1 → length (take count asks) ≡ count
+length_steps asks count is = length-take-le count asks (omega (arith, is))
+
+pub ask_at_end : (steps : List Ask) (k : ℕ) → k ≡ length steps → slice_get (steps ++ Exit ∷ []) k ≡ Some Exit
+ask_at_end [] zero is = refl
+ask_at_end [] (suc k) is = absurd (omega (arith, is))
+ask_at_end (s ∷ steps) zero is = absurd (omega (arith, is))
+ask_at_end (s ∷ steps) (suc k) is = ask_at_end steps k (omega (arith, is))
+
+pub ask_at_step : (steps : List Ask) (k : ℕ) → k < length steps → slice_get (steps ++ Exit ∷ []) k ≡ slice_get steps k
+ask_at_step [] k below = absurd (omega (arith, below))
+ask_at_step (s ∷ steps) zero below = refl
+ask_at_step (s ∷ steps) (suc k) below = ask_at_step steps k (omega (arith, below))
+
+-- where the next ask of a body stands: without steps, after all of them, and before that
+pub next_without_steps : (asks : List Ask) (repeat count polls : ℕ) → length asks ≡ count + 1 → count ≡ 0 → slice_get (take count asks ++ Exit ∷ []) count ≡ Some (unwrap_or (ask_in repeat (take count asks) polls) Exit)
+next_without_steps asks repeat count polls is none =
+    let long = length_steps asks count is in
+    let last = ask_at_end (take count asks) count (sym long) in
+    grind (arith, nat_tests)
+
+pub next_at_end : (asks : List Ask) (repeat count polls : ℕ) → length asks ≡ count + 1 → 0 < count → repeat ≤ polls / count → slice_get (take count asks ++ Exit ∷ []) count ≡ Some (unwrap_or (ask_in repeat (take count asks) polls) Exit)
+next_at_end asks repeat count polls is some done =
+    let long = length_steps asks count is in
+    let last = ask_at_end (take count asks) count (sym long) in
+    grind (arith, nat_tests)
+
+pub next_at_step : (asks : List Ask) (repeat count polls : ℕ) → length asks ≡ count + 1 → 0 < count → polls / count < repeat → slice_get (take count asks ++ Exit ∷ []) (polls % count) ≡ Some (unwrap_or (ask_in repeat (take count asks) polls) Exit)
+next_at_step asks repeat count polls is some more =
+    let long = length_steps asks count is in
+    let inside : polls % count < count = mod_below polls count some in
+    let inside_steps : polls % count < length (take count asks) = omega (arith, long, inside) in
+    let same = ask_at_step (take count asks) (polls % count) inside_steps in
     grind (arith, nat_tests, slice_get_cases)
 
 asks_from : (steps : List Ask) (repeat : ℕ) (polls : List (Answer × Ask)) (old b : Scripted) → old.steps ≡ steps → old.repeat ≡ repeat → old.polls + length polls ≤ 18446744073709551615 → ArePolls old polls b → (k : ℕ) (q : Answer × Ask) → slice_get polls k ≡ Some q → q.1 ≡ unwrap_or (ask_in repeat steps (old.polls + k)) Exit

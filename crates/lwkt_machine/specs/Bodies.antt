@@ -1,11 +1,9 @@
 -- The body of a script's thread (own).
-use Rattle.std.specs.Prelude.{◌≡◌, ℕ, ◌+◌, ◌*◌, nat_lt, if◌then◌else◌, List, [], ◌∷◌, ◌++◌, length, min, Option, Some, None, unwrap_or, option_and_then, slice_get}
+use Rattle.std.specs.Prelude.{◌≡◌, ℕ, ◌+◌, ◌*◌, nat_lt, if◌then◌else◌, List, [], ◌∷◌, ◌++◌, length, min, Option, Some, None, unwrap_or, option_and_then}
 use Rattle.lwkt_base.specs.declared.asks.Ask.{Ask}
 use Rattle.lwkt_base.specs.declared.asks.Ask.TheVariants.{Exit}
 use Rattle.lwkt_base.specs.declared.asks.Answer.{Answer}
 use Rattle.lwkt_base.specs.declared.entries.Entry.{Entry}
-use Rattle.lwkt_machine.specs.declared.bodies.Asked.{Asked}
-use Rattle.lwkt_machine.specs.declared.bodies.Asked.TheVariants.{Nothing, Step, Exit as AskedExit}
 use Rattle.lwkt_verdict.specs.Asks.{entry_of}
 use Rattle.lwkt_verdict.specs.Threads.{ask_in}
 
@@ -19,11 +17,9 @@ pub record Scripted : Type 0 where
   pub told : Option Answer
   pub log : List Entry
 
--- what a body asked last, of its steps
-abbrev pub asked_last : List Ask → Asked → Option Ask
-asked_last steps Nothing = None
-asked_last steps (Step at) = slice_get steps at
-asked_last steps AskedExit = Some Exit
+-- the steps of a body, and Exit after them
+abbrev pub asks_of : List Ask → List Ask
+asks_of steps = steps ++ Exit ∷ []
 
 -- a body that was never polled
 abbrev pub unpolled : List Ask → ℕ → Scripted
@@ -37,9 +33,9 @@ next_ask b = unwrap_or (ask_in b.repeat b.steps b.polls) Exit
 abbrev pub after_ask : Scripted → Scripted
 after_ask b = record b { polls = min (b.polls + 1) 18446744073709551615; asked = Some (next_ask b) }
 
--- how many asks the steps make in all, so many times over, as far as polls are counted
-abbrev pub total_asks : ℕ → List Ask → ℕ
-total_asks repeat steps = min (repeat * length steps) 18446744073709551615
+-- how many asks so many steps make in all, so many times over, as far as polls are counted
+abbrev pub total_asks : ℕ → ℕ → ℕ
+total_asks repeat count = min (repeat * count) 18446744073709551615
 
 -- what an answer puts in the log, by the ask that it answers; nothing, if nothing was asked
 abbrev pub entry_for : Option Ask → Answer → Option Entry

@@ -1,7 +1,7 @@
 //! The bodies of a script's threads.
-ghost use Rattle.std.specs.Prelude.{◌≡◌, ℕ, ◌+◌, ◌%◌, ◌<◌, ◌≤◌, length, min, false, IfOk, Option, Some, None, IsSome};
+ghost use Rattle.std.specs.Prelude.{◌≡◌, ℕ, ◌+◌, ◌%◌, ◌<◌, ◌≤◌, length, min, false, IfOk, Option, Some, None, IsSome, slice_get};
 ghost use Rattle.std.specs.Option.{option_copied};
-ghost use Rattle.lwkt_machine.specs.Bodies.{unpolled, next_ask, after_ask, entry_for, entry_told, logged, asked_last};
+ghost use Rattle.lwkt_machine.specs.Bodies.{unpolled, next_ask, after_ask, entry_for, entry_told, logged, asks_of};
 
 use lwkt_ask::Body;
 use lwkt_base::{Answer, Ask, Entry};
@@ -12,45 +12,35 @@ use std::marker::Model;
 /// The most entries of a log. Later answers make none.
 pub const LOG_LIMIT: usize = 32;
 
-/// What a body asked last. A step is told by its place, so that an ask, which has room for a record, isn't copied.
-#[derive(Clone, Copy)]
-enum Asked {
-    /// Nothing yet.
-    Nothing,
-    /// The step of this number.
-    Step(usize),
-    /// To end, after the last step.
-    Exit,
-}
-
 /// The body of a script's thread: it asks its steps in order, so many times over, and then `Exit`, and `Exit` ever after. Its
 /// log has the first 32 entries that its answers make; an answer `Done` makes none.
 #[derive(Drop)]
 pub struct ScriptBody {
-    steps: Vec<Ask>,
-    // The ask after the last step. It has its place here, so that each ask is copied from where it stands.
-    end: Ask,
+    // The steps, and `Exit` after them, so that each ask is copied from where it stands.
+    asks: Vec<Ask>,
+    // How many steps there are.
+    count: usize,
     repeat: u32,
     polls: u64,
     // How many asks the steps make in all, and 18446744073709551615 where they make more.
     total: u64,
-    // Which step the next ask is, as long as it is one.
+    // Where the next ask stands, as long as it is a step.
     step: usize,
-    asked: Asked,
+    // Where the last ask stands.
+    asked: Option<usize>,
     told: Option<Answer>,
     log: Vec<Entry>,
 }
 
 impl Model for ScriptBody {
-    ghost use Rattle.std.specs.Prelude.{◌≡◌, ◌%◌, ◌<◌, ◌≤◌, length, vec_capacity};
-    ghost use Rattle.lwkt_base.specs.declared.asks.Ask.TheVariants.{Exit};
-    ghost use Rattle.lwkt_machine.specs.Bodies.{Scripted, asked_last, total_asks};
+    ghost use Rattle.std.specs.Prelude.{◌≡◌, ◌+◌, ◌%◌, ◌<◌, ◌≤◌, length, take, vec_capacity, option_and_then, slice_get};
+    ghost use Rattle.lwkt_machine.specs.Bodies.{Scripted, asks_of, total_asks};
 
     ghost Value = { Scripted };
 
-    ghost view = { λ b. record { steps = b.steps.items; repeat = b.repeat; polls = b.polls; asked = asked_last b.steps.items b.asked; told = b.told; log = b.log.items } };
+    ghost view = { λ b. record { steps = take b.count b.asks.items; repeat = b.repeat; polls = b.polls; asked = option_and_then (slice_get b.asks.items) b.asked; told = b.told; log = b.log.items } };
 
-    ghost invariant = { λ b. (length b.log.items ≤ 32) × (32 ≤ vec_capacity b.log) × (b.end ≡ Exit) × (b.total ≡ total_asks b.repeat b.steps.items) × (0 < length b.steps.items → b.step ≡ b.polls % length b.steps.items) };
+    ghost invariant = { λ b. (length b.log.items ≤ 32) × (32 ≤ vec_capacity b.log) × (b.asks.items ≡ asks_of (take b.count b.asks.items)) × (length b.asks.items ≡ b.count + 1) × (b.total ≡ total_asks b.repeat b.count) × (0 < b.count → b.step ≡ b.polls % b.count) };
 }
 
 // What an answer puts in the log, by the ask that it answers.
@@ -111,16 +101,18 @@ impl ScriptBody {
         ensures { IfOk result (λ body. body ≡ unpolled steps.now repeat) }
     {
         let log = Vec::with_capacity(alloc, LOG_LIMIT)?;
-        let steps = Vec::from_slice(alloc, steps)?;
-        let total = u64::from(repeat).saturating_mul(steps.len() as u64);
+        let count = steps.len();
+        let mut asks = Vec::with_capacity(alloc, count + 1)?;
+        asks.extend_from_slice(steps)?;
+        asks.push(Ask::Exit)?;
         Ok(ScriptBody {
-            steps,
-            end: Ask::Exit,
+            asks,
+            count,
             repeat,
             polls: 0,
-            total,
+            total: u64::from(repeat).saturating_mul(count as u64),
             step: 0,
-            asked: Asked::Nothing,
+            asked: None,
             told: None,
             log,
         })
@@ -138,9 +130,8 @@ impl ScriptBody {
         ensures { option_copied result ≡ self.now.asked }
     {
         match self.asked {
-            Asked::Nothing => None,
-            Asked::Step(at) => self.steps.get(at),
-            Asked::Exit => Some(&self.end),
+            None => None,
+            Some(at) => self.asks.get(at),
         }
     }
 
@@ -160,58 +151,59 @@ impl ScriptBody {
         self.log.as_slice()
     }
 
-    // What the body asks next.
-    fn next(&self) -> Asked
-        ensures { asked_last self.now.steps result ≡ Some (next_ask self.now) }
+    // Where the next ask stands.
+    #[tactic(auto, using(crate::proofs::BodyMoves::next_without_steps, crate::proofs::BodyMoves::next_at_end, crate::proofs::BodyMoves::next_at_step))]
+    fn next(&self) -> usize
+        ensures { slice_get (asks_of self.now.steps) result ≡ Some (next_ask self.now) }
     {
-        let count = self.steps.len() as u64;
-        if count == 0 || self.polls / count >= u64::from(self.repeat) {
-            return Asked::Exit;
+        let count = self.count as u64;
+        if count == 0 {
+            return self.count;
         }
-        Asked::Step((self.polls % count) as usize)
+        if self.polls / count >= u64::from(self.repeat) {
+            return self.count;
+        }
+        (self.polls % count) as usize
     }
 
     // Asks what is next, whatever that is. It divides, so it is for what comes after the steps.
     #[cold]
     #[inline(never)]
-    fn ask_any(&mut self) -> Asked
-        ensures next { asked_last self.old.steps result ≡ Some (next_ask self.old) }
+    fn ask_any(&mut self) -> usize
+        ensures next { slice_get (asks_of self.old.steps) result ≡ Some (next_ask self.old) }
         ensures goes { self.new ≡ after_ask self.old }
     {
         let next = self.next();
         self.polls = self.polls.saturating_add(1);
-        self.step = step_of(self.steps.len(), self.polls);
-        self.asked = next;
+        self.step = step_of(self.count, self.polls);
+        self.asked = Some(next);
         next
     }
 
-    // Asks what is next: of a step it neither divides nor multiplies.
+    // Asks what is next, and says where it stands: of a step it neither divides nor multiplies.
     #[inline(always)]
-    #[tactic(auto, using(crate::proofs::BodyMoves::small_step, crate::proofs::BodyMoves::is_counted))]
-    fn ask_next(&mut self) -> Asked
-        ensures next { asked_last self.old.steps result ≡ Some (next_ask self.old) }
+    #[tactic(auto, using(crate::proofs::BodyMoves::small_step, crate::proofs::BodyMoves::is_counted, crate::proofs::BodyMoves::length_steps, crate::proofs::BodyMoves::ask_at_step))]
+    fn ask_next(&mut self) -> usize
+        ensures next { slice_get (asks_of self.old.steps) result ≡ Some (next_ask self.old) }
         ensures goes { self.new ≡ after_ask self.old }
     {
         if self.polls >= self.total {
             return self.ask_any();
         }
         let step = self.step;
-        self.step = step_after(step, self.steps.len());
+        self.step = step_after(step, self.count);
         self.polls += 1;
-        self.asked = Asked::Step(step);
-        Asked::Step(step)
+        self.asked = Some(step);
+        step
     }
 
-    // The ask that is kept so.
+    // The ask that stands there.
     #[inline(always)]
-    fn ask_of(&self, asked: Asked) -> &Ask
-        requires { IsSome (asked_last self.now.steps asked) }
-        ensures { Some result.now ≡ asked_last self.now.steps asked }
+    fn ask_at(&self, at: usize) -> &Ask
+        requires { IsSome (slice_get (asks_of self.now.steps) at) }
+        ensures { Some result.now ≡ slice_get (asks_of self.now.steps) at }
     {
-        match asked {
-            Asked::Step(at) => &self.steps[at],
-            Asked::Nothing | Asked::Exit => &self.end,
-        }
+        &self.asks[at]
     }
 
     // Keeps what the answer that was told puts in the log, which has room for it.
@@ -259,6 +251,6 @@ impl Body for ScriptBody {
     fn poll(&mut self, last: Answer) -> Ask {
         self.tell(last);
         let next = self.ask_next();
-        *self.ask_of(next)
+        *self.ask_at(next)
     }
 }
