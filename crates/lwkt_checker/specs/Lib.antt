@@ -3,3 +3,4 @@ pub mod Judgement
 pub mod Output
 pub mod Said
 pub mod Shown
+pub mod Stands

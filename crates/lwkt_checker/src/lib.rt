@@ -6,15 +6,19 @@
 #![tactic(auto)]
 
 mod differences;
+mod framed;
 mod holdings;
 mod judges;
 mod lacks;
 mod plays;
 mod programs;
+mod standings;
 mod words;
 
 pub use differences::difference;
+pub use framed::found_written;
 pub use judges::{Finding, finding_text, judge};
 pub use lacks::reason;
 pub use plays::{event_told, play_told, play_told_to_close, told_is_only};
 pub use programs::{check_stream, run_checker, say_outcome, status_of};
+pub use standings::Standing;

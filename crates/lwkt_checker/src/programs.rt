@@ -1,8 +1,11 @@
-ghost use Rattle.std.specs.Prelude.{◌≡◌, ◌≢◌, ◌⊎◌, [], Err, IsTrue, IfOk, IfErr, OnOk, string_bytes};
-ghost use Rattle.lwkt_checker.specs.Judgement.{HasFinding, RefusesTrace};
+ghost use Rattle.std.specs.Prelude.{◌≡◌, ◌≢◌, ◌⊎◌, ◌×◌, [], Ok, Err, IsTrue, IfOk, IfErr, OnOk, string_bytes};
+ghost use Rattle.lwkt_trace.specs.declared.traces.Trace.{Trace};
+ghost use Rattle.lwkt_trace.specs.Format.{trace_of};
+ghost use Rattle.lwkt_checker.specs.Judgement.{HasFinding, IsJudgedTrace, RefusesTrace};
 ghost use Rattle.lwkt_report.specs.Complaint.{fault_line, IsSaid};
 ghost use Rattle.lwkt_checker.specs.Output.{TellsFinding, status_of, Complains, ChecksAs};
 
+use crate::framed::found_written;
 use crate::judges::{Finding, finding_text, judge};
 use lwkt_base::Fault;
 use lwkt_report::{
@@ -18,13 +21,24 @@ struct Done {
     lawful: bool,
 }
 
+// What the trace that the bytes are is found to be: as its events are read, where it is written so that they can be; else of
+// the whole trace.
+fn finding_of(alloc: Global, bytes: &[u8]) -> Result<Finding, Fault>
+    ensures found { IfOk result (λ finding. (trace : Trace) × ((trace_of bytes.now ≡ Ok trace) × IsJudgedTrace trace finding)) }
+    ensures refused { IfErr result (λ fault. RefusesTrace bytes.now fault) }
+{
+    match found_written(alloc, bytes)? {
+        Some(finding) => Ok(finding),
+        None => judge(alloc, read_trace(alloc, bytes)?),
+    }
+}
+
 // Checks the trace that the bytes are, to the text of what is found.
 fn done_of_bytes(alloc: Global, bytes: &[u8]) -> Result<Done, Fault>
     ensures ok { IfOk result (λ done. HasFinding bytes.now done.lawful (string_bytes done.text)) }
     ensures refused { IfErr result (λ fault. RefusesTrace bytes.now fault) }
 {
-    let trace = read_trace(alloc, bytes)?;
-    let finding = judge(alloc, trace)?;
+    let finding = finding_of(alloc, bytes)?;
     match finding_text(alloc, &finding) {
         Ok(text) => Ok(Done {
             text,

@@ -18,14 +18,15 @@ use Rattle.lwkt_trace.specs.Readback.{event_data}
 use Rattle.lwkt_trace.specs.Words.{event_of}
 use Rattle.lwkt_checker.specs.declared.judges.Finding.TheVariants.{Lawful, Unlawful}
 use Rattle.lwkt_lines.specs.Line.{value_of}
-use Rattle.lwkt_lines.specs.Format.{event_place, with_told, with_last, with_event, with_closing, with_rest, with_line, next}
+use Rattle.lwkt_checker.specs.Stands.{with_told, with_last, StandsWith, OpensSo, awaits}
+use Rattle.lwkt_lines.specs.Format.{event_place, with_event, with_closing, with_rest, with_line, next}
 use Rattle.lwkt_checker.specs.Judgement.{OpensTrace, IsJudgedTrace}
-use Rattle.lwkt_lines.specs.Judged.{StandsWith, OpensSo, JudgeKnows, awaits, Judges}
+use Rattle.lwkt_lines.specs.Judged.{JudgeKnows, Judges}
 use Rattle.lwkt_lines.specs.declared.judges.Judge.{Judge}
-use Rattle.lwkt_lines.specs.declared.standings.Standing.{Standing}
-use Rattle.lwkt_lines.specs.declared.standings.Standing.TheVariants.{Awaits, Plays, Fails, Declined}
-use Rattle.lwkt_lines.specs.Written.{IsWritten}
-use Rattle.lwkt_lines.proofs.Stops.{lawful}
+use Rattle.lwkt_checker.specs.declared.standings.Standing.{Standing}
+use Rattle.lwkt_checker.specs.declared.standings.Standing.TheVariants.{Awaits, Plays, Fails, Declined}
+use Rattle.lwkt_trace.specs.Recognised.{IsWritten}
+use Rattle.lwkt_checker.proofs.Stops.{lawful}
 use Rattle.lwkt_lines.proofs.Writing.{written_value}
 
 -- no closing values have come

@@ -12,7 +12,7 @@ use Rattle.lwkt_trace.specs.Written.{event_text}
 use Rattle.lwkt_trace.proofs.Lexemes.{value_onto, text_is}
 use Rattle.lwkt_trace.proofs.PartTexts.{event_tells}
 use Rattle.lwkt_lines.specs.Line.{value_of}
-use Rattle.lwkt_lines.specs.Written.{IsWritten}
+use Rattle.lwkt_trace.specs.Recognised.{IsWritten}
 
 -- the text of an event is a text of its value
 text_read : (e : Event) → HasWords (event_data e) → read (event_text e) ≡ Some (event_data e)

@@ -1,15 +1,14 @@
 -- A trace in lines, version 1 (own): what it says, and the place of its first bad part.
-use Rattle.std.specs.Prelude.{ℕ, ◌+◌, ◌&&◌, min, nat_lt, List, [], ◌∷◌, ◌++◌, length, codes, Bool, not, is_some, if◌then◌else◌, Option, Some, None, Result, Ok}
+use Rattle.std.specs.Prelude.{ℕ, ◌+◌, ◌&&◌, min, nat_lt, List, [], ◌∷◌, length, codes, Bool, not, is_some, if◌then◌else◌, Option, Some, None, Result, Ok}
 use Rattle.serde_json.specs.Data.{Data}
 use Rattle.serde_json.specs.Find.{get, as_object}
 use Rattle.lwkt_script.specs.Field.{has_members, number_in, list_in}
 use Rattle.lwkt_script.specs.Outcome.{◌>>=◌, ◌>>◌, part, demand, each}
-use Rattle.lwkt_trace.specs.declared.traces.Closing.{Closing}
-use Rattle.lwkt_trace.specs.declared.traces.Told.{Told}
 use Rattle.lwkt_trace.specs.declared.traces.Trace.{Trace}
 use Rattle.lwkt_trace.specs.Format.{message_behind, closing_at, there}
 use Rattle.lwkt_trace.specs.Guard.{guarded}
 use Rattle.lwkt_trace.specs.Words.{event_of}
+use Rattle.lwkt_checker.specs.Stands.{with_told, with_last}
 use Rattle.lwkt_lines.specs.Line.{lines_of, value_of}
 
 -- an object with exactly the four members
@@ -31,14 +30,6 @@ opened d = do
 -- the place of the event of an index
 abbrev pub event_place : ℕ → ℕ
 event_place index = 1000000 + min index 50000000
-
--- a trace with one event more
-abbrev pub with_told : Trace → Told → Trace
-with_told trace event = record { cpus = trace.cpus; tokens = trace.tokens; messages = trace.messages; events = trace.events ++ event ∷ []; last = trace.last }
-
--- a trace with these closing values
-abbrev pub with_last : Trace → Closing → Trace
-with_last trace closing = record { cpus = trace.cpus; tokens = trace.tokens; messages = trace.messages; events = trace.events; last = Some closing }
 
 -- the event behind those of a trace, of which there are at most 10^15
 abbrev pub with_event : Trace → Data → Result Trace ℕ

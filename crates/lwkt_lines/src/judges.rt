@@ -4,19 +4,17 @@ ghost use Rattle.lwkt_trace.specs.declared.traces.Trace.{Trace};
 ghost use Rattle.lwkt_checker.specs.Judgement.{IsJudgedTrace, DeclinesTrace};
 ghost use Rattle.lwkt_lines.specs.Line.{value_of};
 ghost use Rattle.lwkt_lines.specs.Format.{event_place, with_event, with_closing, with_line, next};
-ghost use Rattle.lwkt_lines.specs.Judged.{StandsWith, OpensSo, JudgeKnows, awaits, Judges, lines_left};
+ghost use Rattle.lwkt_checker.specs.Stands.{StandsWith, OpensSo, awaits};
+ghost use Rattle.lwkt_lines.specs.Judged.{JudgeKnows, Judges, lines_left};
 ghost use Rattle.serde_json.specs.Data.{Data};
 ghost use Rattle.serde_json.specs.View.{view};
 ghost use Rattle.lwkt_trace.specs.Words.{event_of};
 
 use crate::openings::opened;
-use crate::standings::Standing;
 use crate::values::value_of;
-use crate::written::{told_alone, written_event};
 use lwkt_base::Fault;
-use lwkt_checker::Finding;
-use lwkt_core::State;
-use lwkt_trace::{Told, Trace, closing_at, event_of};
+use lwkt_checker::{Finding, Standing};
+use lwkt_trace::{Told, Trace, closing_at, event_of, told_alone, written_event};
 use serde_json::Value;
 use std::alloc::Global;
 
@@ -44,27 +42,6 @@ fn event_place(index: usize) -> u32
     1_000_000 + index.min(PLACE_LIMIT) as u32
 }
 
-// Where a judge stands with a trace in which nothing has happened yet.
-fn standing_of(alloc: Global, trace: &Trace) -> Result<Standing, Fault>
-    requires events { trace.now.events ≡ [] }
-    requires last { trace.now.last ≡ None }
-    ensures stands { IfOk result (λ standing. StandsWith trace.now standing) }
-    ensures begun { IfOk result (λ standing. awaits standing ≡ false) }
-    ensures opens { IfOk result (λ standing. OpensSo trace.now standing) }
-    ensures memory { IfErr result (λ fault. (read : Result (Option Trace) ℕ) → IsRefused fault read) }
-{
-    match State::open(
-        alloc,
-        trace.tokens.as_slice(),
-        trace.messages.as_slice(),
-        usize::from(trace.cpus),
-    ) {
-        Ok(state) => Ok(Standing::Plays(state)),
-        Err(Fault::Memory(refused)) => Err(Fault::Memory(refused)),
-        Err(fault) => Ok(Standing::Declined(fault)),
-    }
-}
-
 // The value that a line is, or the fault of one that is none, at a place.
 fn value_at(alloc: Global, place: u32, line: &[u8]) -> Result<Value, Fault>
     ensures { Gives view result (part place (value_of line.now)) }
@@ -84,7 +61,10 @@ fn opened_by(alloc: Global, line: &[u8]) -> Result<Judge, Fault>
 {
     let value = value_at(alloc, 0, line)?;
     let trace = opened(alloc, &value)?;
-    let standing = standing_of(alloc, &trace)?;
+    let standing = match Standing::opened(alloc, &trace) {
+        Ok(standing) => standing,
+        Err(refused) => return Err(Fault::Memory(refused)),
+    };
     Ok(Judge {
         count: 0,
         closed: false,

@@ -11,11 +11,9 @@ mod judges;
 mod lines;
 mod openings;
 mod programs;
-mod standings;
 mod values;
-mod written;
 
 pub use judges::Judge;
 pub use lines::{LINE_LIMIT, Lines};
 pub use programs::{check_lines, judge_lines};
-pub use standings::Standing;
+pub use lwkt_checker::Standing;

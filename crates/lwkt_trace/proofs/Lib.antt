@@ -12,3 +12,5 @@ pub mod Lexemes
 pub mod JsonTexts
 pub mod PartTexts
 pub mod WrittenTexts
+pub mod FramedTexts
+pub mod NextTexts

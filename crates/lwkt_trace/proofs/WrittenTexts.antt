@@ -1,5 +1,5 @@
 -- The text of a trace is a text of its value, and is read as the trace.
-use Rattle.std.proofs.Common.{◌≡◌, ℕ, ◌<◌, ◌≤◌, ◌^◌, List, [], ◌++◌, Bool, true, false, Some, decimal, IsAscii, refl, sym, ap, ◌∙◌, subst, arith, append_assoc}
+use Rattle.std.proofs.Common.{◌≡◌, ℕ, ◌<◌, ◌≤◌, ◌^◌, List, [], ◌++◌, length, Bool, true, false, Some, decimal, IsAscii, refl, sym, ap, ◌∙◌, subst, arith, append_assoc}
 use Rattle.std.specs.Prelude.{codes, if◌then◌else◌}
 use Rattle.std.specs.List.{list_any}
 use Rattle.std.proofs.lemmas.Fmt.{decimal_digit}
@@ -12,6 +12,7 @@ use Rattle.lwkt_core.specs.declared.events.Event.{Event}
 use Rattle.lwkt_report.specs.declared.closings.Closing as report
 use Rattle.lwkt_report.specs.declared.closings.TokenLine.{TokenLine}
 use Rattle.lwkt_script.specs.declared.scripts.Script.{Script}
+use Rattle.lwkt_trace.specs.Format.{trace, trace_of}
 use Rattle.lwkt_trace.specs.Written.{member_name, parted, comma_at, line_at, row_text, generation_text, tally_text, last_record_text, has_record, token_text, message_text, event_text, end_text, listed_text, cpus_text, tokens_text, messages_text, events_text, rows_text, generations_text, all_tallies_text, ends_text, closing_text, trace_text}
 use Rattle.lwkt_trace.specs.Readback.{items_as, event_data, end_data, ends_data, message_data}
 use Rattle.lwkt_trace.specs.Values.{token_data, row_data, generation_data, tally_data, record_data, closing_data, trace_data}
@@ -145,9 +146,13 @@ pub text_is_of_value : TextIsOfValue
 text_is_of_value script events c words =
     ap read (trace_grouped script events c) ∙ text_ends (codes "{" ++ trace_members script events c) (trace_data script events c) (trace_tells script events c words)
 
-pub written_read_back : WrittenIsReadBack
-written_read_back script events c is words short =
+-- at most 268435456 bytes that a trace is written as are read as their value is
+pub value_read : (script : Script) (events : List Event) (c : report.Closing) → HasWords (trace_data script events c) → length (trace_text script events c) ≤ 268435456 → trace_of (trace_text script events c) ≡ trace (trace_data script events c)
+value_read script events c words short =
     let inside = trace_tells script events c words in
     let ascii : IsAscii (trace_text script events c) =
     subst IsAscii (sym (trace_grouped script events c)) (IsAscii-append (codes "{" ++ trace_members script events c) (codes "\n") inside.ascii (ascii_from (codes "\n") refl)) in
-    text_read (trace_text script events c) (trace_data script events c) short (IsUtf8-from_ascii (trace_text script events c) ascii) (text_is_of_value script events c words) ∙ trace_read_back script events c is
+    text_read (trace_text script events c) (trace_data script events c) short (IsUtf8-from_ascii (trace_text script events c) ascii) (text_is_of_value script events c words)
+
+pub written_read_back : WrittenIsReadBack
+written_read_back script events c is words short = value_read script events c words short ∙ trace_read_back script events c is

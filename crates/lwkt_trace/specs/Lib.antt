@@ -5,3 +5,4 @@ pub mod Written
 pub mod Readback
 pub mod Values
 pub mod Printed
+pub mod Recognised

@@ -8,17 +8,21 @@
 
 mod closings;
 mod events;
+mod frames;
 mod guards;
 mod laws;
 mod openings;
+mod ranges;
 mod readers;
 mod sections;
 mod traces;
 pub mod words;
 mod writers;
+mod written;
 
 pub use closings::closing_at;
 pub use events::event_of;
+pub use frames::{frame_of, parts_of};
 pub use guards::guarded_of;
 pub use laws::{
     events_are_read_back, messages_are_read_back, traces_are_read_back,
@@ -28,3 +32,4 @@ pub use openings::messages_of;
 pub use readers::{LENGTH_LIMIT, read_trace};
 pub use traces::{Closing, Told, Trace};
 pub use writers::trace_text;
+pub use written::{next_written, told_alone, written_event};

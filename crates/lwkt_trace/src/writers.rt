@@ -2,7 +2,7 @@
 ghost use Rattle.std.specs.Prelude.{◌≡◌, ◌++◌, OnOk, IfOk, string_bytes};
 ghost use Rattle.std.specs.Fmt.{decimal};
 ghost use Rattle.std.specs.List.{list_any};
-ghost use Rattle.lwkt_trace.specs.Written.{comma_at, line_at, member_name, parted, list_text, blob_text, guard_text, cells_text, law_member_text, param_text, gen_text, token_text, message_text, rest_text, event_text, owner_json, end_text, tallies_text, last_blob_text, row_text, generation_text, tally_text, last_record_text, has_record, records_text, listed_text, cpus_text, tokens_text, messages_text, events_text, rows_text, generations_text, all_tallies_text, ends_text, closing_text, trace_text};
+ghost use Rattle.lwkt_trace.specs.Written.{comma_at, line_at, member_name, parted, list_text, blob_text, guard_text, cells_text, law_member_text, param_text, gen_text, token_text, message_text, rest_text, event_text, owner_json, end_text, tallies_text, last_blob_text, row_text, generation_text, tally_text, last_record_text, has_record, records_text, listed_text, cpus_text, tokens_text, messages_text, events_text, rows_text, generations_text, all_tallies_text, ends_text, closing_text, trace_text, front_text, back_text};
 
 use crate::words::{event_word, law_name};
 use lwkt_base::hexes::show_hex;
@@ -476,6 +476,38 @@ pub fn trace_text(
     show_tokens(&mut out, script.tokens.as_slice())?;
     show_messages(&mut out, script.messages.as_slice())?;
     show_events(&mut out, events)?;
+    show_closing(&mut out, closing)?;
+    out.push_str("}\n")?;
+    Ok(out)
+}
+
+/// The same text up to its events.
+#[tactic(auto, unfolding(crate::specs::Written::front_text))]
+pub fn front_text(
+    alloc: Global,
+    cpus: u8,
+    tokens: &[TokSpec],
+    messages: &[MsgSpec],
+) -> Result<String, AllocError>
+    ensures { IfOk result (λ text. string_bytes text ≡ front_text cpus tokens.now messages.now) }
+{
+    let mut out = String::new(alloc);
+    out.push_str("{")?;
+    show_cpus(&mut out, cpus)?;
+    show_tokens(&mut out, tokens)?;
+    show_messages(&mut out, messages)?;
+    show_name(&mut out, "events")?;
+    out.push_str("[")?;
+    Ok(out)
+}
+
+/// The same text behind its events.
+#[tactic(auto, unfolding(crate::specs::Written::back_text))]
+pub fn back_text(alloc: Global, closing: &Closing) -> Result<String, AllocError>
+    ensures { IfOk result (λ text. string_bytes text ≡ back_text closing.now) }
+{
+    let mut out = String::new(alloc);
+    out.push_str("],\n")?;
     show_closing(&mut out, closing)?;
     out.push_str("}\n")?;
     Ok(out)

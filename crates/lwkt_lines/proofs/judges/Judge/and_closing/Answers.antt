@@ -1,7 +1,7 @@
 use Rattle.std.proofs.Common.{refl}
 use Rattle.serde_json.specs.View.{view}
 use Rattle.lwkt_checker.specs.Judgement.{AreValues}
-use Rattle.lwkt_lines.specs.Format.{with_last}
+use Rattle.lwkt_checker.specs.Stands.{with_last}
 use Rattle.lwkt_lines.proofs.Judging.{closing_taken, opens_last}
 use Rattle.lwkt_lines.proofs.judges.Judge.and_closing.Goals as goal
 

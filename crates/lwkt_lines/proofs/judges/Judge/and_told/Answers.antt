@@ -1,5 +1,5 @@
 use Rattle.std.proofs.Common.{◌≡◌, ◌<◌, [], ◌∷◌, length, arith, length-append}
-use Rattle.lwkt_lines.specs.Format.{with_told}
+use Rattle.lwkt_checker.specs.Stands.{with_told}
 use Rattle.lwkt_lines.proofs.Judging.{event_taken, opens_told}
 use Rattle.lwkt_lines.proofs.judges.Judge.and_told.Goals as goal
 

@@ -1,20 +1,22 @@
-ghost use Rattle.std.specs.Prelude.{◌≡◌, false, None, IfOk, length};
+ghost use Rattle.std.specs.Prelude.{◌≡◌, [], false, None, IfOk, IfErr, length};
 ghost use Rattle.lwkt_trace.specs.declared.traces.Closing.{Closing};
 ghost use Rattle.lwkt_trace.specs.declared.traces.Trace.{Trace};
-ghost use Rattle.lwkt_checker.specs.Judgement.{AreValues, OpensTrace};
-ghost use Rattle.lwkt_lines.specs.Format.{with_told, with_last};
-ghost use Rattle.lwkt_lines.specs.Judged.{StandsWith, OpensSo, awaits};
+ghost use Rattle.lwkt_checker.specs.Judgement.{AreValues, OpensTrace, IsJudgedTrace, DeclinesTrace};
+ghost use Rattle.lwkt_checker.specs.Stands.{with_told, with_last, StandsWith, OpensSo, awaits};
 
+use crate::differences::difference;
+use crate::judges::Finding;
+use crate::lacks::reason;
+use crate::plays::event_told;
 use lwkt_base::Fault;
-use lwkt_checker::{difference, event_told, reason};
 use lwkt_core::{Final, State};
-use lwkt_trace::Told;
+use lwkt_trace::{Told, Trace};
 use std::alloc::{AllocError, Global};
 
-/// Where a judge stands with the trace of the lines that it was told.
+/// Where a judge stands with a trace that is told to it piece by piece.
 #[derive(Debug, Drop)]
 pub enum Standing {
-    /// No line has come yet.
+    /// The opening wasn't told yet.
     Awaits,
     /// All events so far can happen one after another, and lead to this state, which closes as the closing values say, where they
     /// have come.
@@ -27,6 +29,28 @@ pub enum Standing {
 }
 
 impl Standing {
+    /// Where the judge stands with a trace in which nothing has happened yet.
+    ///
+    /// Refused if memory is.
+    pub fn opened(alloc: Global, trace: &Trace) -> Result<Standing, AllocError>
+        requires events { trace.now.events ≡ [] }
+        requires last { trace.now.last ≡ None }
+        ensures stands { IfOk result (λ standing. StandsWith trace.now standing) }
+        ensures begun { IfOk result (λ standing. awaits standing ≡ false) }
+        ensures opens { IfOk result (λ standing. OpensSo trace.now standing) }
+    {
+        match State::open(
+            alloc,
+            trace.tokens.as_slice(),
+            trace.messages.as_slice(),
+            usize::from(trace.cpus),
+        ) {
+            Ok(state) => Ok(Standing::Plays(state)),
+            Err(Fault::Memory(refused)) => Err(refused),
+            Err(fault) => Ok(Standing::Declined(fault)),
+        }
+    }
+
     /// Where the judge stands with one event more, which has this index.
     ///
     /// Refused if memory is.
@@ -57,6 +81,21 @@ impl Standing {
         match self {
             Standing::Plays(state) => closed(alloc, state, count, last),
             other => Ok(other),
+        }
+    }
+
+    /// What the trace is: lawful, or the index at which it fails and why.
+    ///
+    /// Refused with `Limits` or `LawBroken` for its opening, and with `Script` and place 0 where that wasn't told.
+    pub fn finding(self) -> Result<Finding, Fault>
+        ensures found { IfOk result (λ finding. (trace : Trace) → StandsWith trace self → OpensSo trace self → IsJudgedTrace trace finding) }
+        ensures refused { IfErr result (λ fault. (trace : Trace) → StandsWith trace self → DeclinesTrace trace fault) }
+    {
+        match self {
+            Standing::Awaits => Err(Fault::Script { place: 0 }),
+            Standing::Plays(_) => Ok(Finding::Lawful),
+            Standing::Fails { index, why } => Ok(Finding::Unlawful { index, why }),
+            Standing::Declined(fault) => Err(fault),
         }
     }
 }

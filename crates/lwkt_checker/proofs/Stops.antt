@@ -19,10 +19,9 @@ use Rattle.lwkt_checker.specs.Said.{IsReason, IsDifference, IsDifferenceOf, Says
 use Rattle.lwkt_checker.specs.Judgement.{opening_of, AreValues, AreClosing, Finds, IsFound}
 use Rattle.lwkt_checker.specs.declared.judges.Finding.TheVariants.{Lawful, Unlawful}
 use Rattle.lwkt_checker.proofs.ToldRuns.{length-events_told, ran_whole}
-use Rattle.lwkt_lines.specs.Format.{with_told, with_last}
-use Rattle.lwkt_lines.specs.Judged.{ClosesSo, StandsWith}
-use Rattle.lwkt_lines.specs.declared.standings.Standing.{Standing}
-use Rattle.lwkt_lines.specs.declared.standings.Standing.TheVariants.{Awaits, Plays, Fails, Declined}
+use Rattle.lwkt_checker.specs.Stands.{with_told, with_last, ClosesSo, StandsWith}
+use Rattle.lwkt_checker.specs.declared.standings.Standing.{Standing}
+use Rattle.lwkt_checker.specs.declared.standings.Standing.TheVariants.{Awaits, Plays, Fails, Declined}
 
 -- the events of one that is told behind others are theirs and its own
 events_told-more : (m : Machine) (told : List Told) (x : Told) (mid : Machine) → Run m (events_told m told) mid → events_told m (told ++ x ∷ []) ≡ events_told m told ++ event_told mid x ∷ []

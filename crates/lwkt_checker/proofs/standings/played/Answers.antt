@@ -3,8 +3,8 @@ use Rattle.std.specs.Prelude.{string_bytes}
 use Rattle.lwkt_core.specs.Machine.{Machine, Needs, Happens}
 use Rattle.lwkt_core.specs.declared.events.Event.{Event}
 use Rattle.lwkt_checker.specs.Said.{IsReason}
-use Rattle.lwkt_lines.proofs.Stops.{plays_more, fails_more}
-use Rattle.lwkt_lines.proofs.standings.played.Goals as goal
+use Rattle.lwkt_checker.proofs.Stops.{plays_more, fails_more}
+use Rattle.lwkt_checker.proofs.standings.played.Goals as goal
 
 pub returns-in-Ok-clause-stands : goal.returns-in-Ok-clause-stands
 returns-in-Ok-clause-stands c = λ trace open_still counted so.

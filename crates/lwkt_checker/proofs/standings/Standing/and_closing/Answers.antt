@@ -1,6 +1,6 @@
 use Rattle.std.proofs.Common.{refl}
-use Rattle.lwkt_lines.proofs.Stops.{stays_last}
-use Rattle.lwkt_lines.proofs.standings.Standing.and_closing.Goals as goal
+use Rattle.lwkt_checker.proofs.Stops.{stays_last}
+use Rattle.lwkt_checker.proofs.standings.Standing.and_closing.Goals as goal
 
 pub returns-in_default : goal.returns-in_default
 returns-in_default c = record {

@@ -1,17 +1,17 @@
-//! Lines that are written just as `lwkt_trace` writes an event. Such a line is read without a reader of JSON: what its bytes look
-//! like is written again, and only a line with the same bytes counts.
+//! Events that are written just as `writers` writes them. Such an event is read without a reader of JSON: what its bytes look
+//! like is written again, and only the same bytes count.
 ghost use Rattle.std.specs.Prelude.{◌≡◌, ◌++◌, IfSome};
 ghost use Rattle.lwkt_trace.specs.Readback.{event_data, told_alone, IsTellable};
 ghost use Rattle.lwkt_trace.specs.Printed.{HasWords};
-ghost use Rattle.lwkt_trace.specs.Written.{comma, rest_text, event_text};
-ghost use Rattle.lwkt_lines.specs.Written.{IsWritten};
+ghost use Rattle.lwkt_trace.specs.Written.{comma, line_at, rest_text, event_text};
+ghost use Rattle.lwkt_trace.specs.Recognised.{IsWritten, IsNextWritten};
 
+use crate::traces::Told;
+use crate::words::event_word;
 use arrayvec::ArrayVec;
 use itoa::Buffer;
 use lwkt_base::{CpuId, MsgId, Row, Section, TokId};
 use lwkt_core::Event;
-use lwkt_trace::Told;
-use lwkt_trace::words::event_word;
 
 // The most bytes of an event without a record and without a section.
 const TEXT_LIMIT: usize = 64;
@@ -211,7 +211,7 @@ fn likely_event(line: &[u8]) -> Option<Event>
     }
 }
 
-/// The event that a line is, if the line has just the bytes which `lwkt_trace` writes for it. None says nothing of the line: it
+/// The event that a line is, if the line has just the bytes which this crate writes for it. None says nothing of the line: it
 /// may be an event that is written in another way, or one with a record or a section.
 pub fn written_event(line: &[u8]) -> Option<Event>
     ensures { IfSome result (IsWritten line.now) }
@@ -236,4 +236,27 @@ pub fn told_alone(event: &Event) -> Told
         Event::GiveWritten { cpu, tok, .. } => Told::Given { cpu, tok },
         other => Told::Whole(other),
     }
+}
+
+// What stands before the event of a number, each on a line of its own.
+fn break_before(number: usize) -> &'static [u8]
+    ensures { result.now ≡ line_at number }
+{
+    if number == 0 { b"\n" } else { b",\n" }
+}
+
+/// The event of a number, which a text begins with just as this crate writes a list of events, and how many bytes it and what
+/// stands before it are. None says nothing of the text.
+pub fn next_written(text: &[u8], number: usize) -> Option<(Event, usize)>
+    ensures { IfSome result (λ found. IsNextWritten text.now number found.0 found.1) }
+{
+    let before = break_before(number);
+    let (first, behind) = text.split_at_checked(before.len())?;
+    if first != before {
+        return None;
+    }
+    let end = behind.iter().position(|byte| *byte == b']')?;
+    let (line, _) = behind.split_at_checked(end.saturating_add(1))?;
+    let event = written_event(line)?;
+    Some((event, before.len() + line.len()))
 }

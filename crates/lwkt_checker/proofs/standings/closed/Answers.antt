@@ -1,6 +1,6 @@
 use Rattle.std.proofs.lemmas.Bool.{iff_false}
-use Rattle.lwkt_lines.proofs.Stops.{plays_last, fails_last}
-use Rattle.lwkt_lines.proofs.standings.closed.Goals as goal
+use Rattle.lwkt_checker.proofs.Stops.{plays_last, fails_last}
+use Rattle.lwkt_checker.proofs.standings.closed.Goals as goal
 
 pub returns-then-closes-clause-stands : goal.returns-then-closes-clause-stands
 returns-then-closes-clause-stands c = λ trace closing open_still counted values so.

@@ -1,0 +1,159 @@
+//! Traces that are written just as `trace_text` writes one, whose events are read one after another, without a reader of JSON.
+//!
+//! Words: the *front* and the *back* of a text are what stands before and behind its events, and *frame* them.
+ghost use Rattle.std.specs.Prelude.{◌≡◌, ◌++◌, Ok, IsTrue, IfOk, IfSome};
+ghost use Rattle.lwkt_trace.specs.Format.{trace_of};
+ghost use Rattle.lwkt_trace.specs.Written.{front_text, back_text};
+ghost use Rattle.lwkt_trace.specs.Recognised.{Frames};
+
+use crate::ranges::{words_of_closing, words_of_opening};
+use crate::readers::read_trace;
+use crate::traces::{Closing, Trace};
+use crate::writers::{back_text, front_text};
+use lwkt_base::{Cells, Fault};
+use lwkt_report::{Closing as Reported, TokenLine, Verdict};
+use std::alloc::{AllocError, Global};
+
+// What a front ends with, and a back begins with.
+const FRONT_END: &[u8] = b"\"events\":[";
+
+const BACK_BEGIN: &[u8] = b"],\n\"last\":{";
+
+// How many bytes of a text a front or a back may have, that is looked for.
+const LIMIT: usize = 65_536;
+
+// Where the front of a text likely ends, if it has one.
+fn front_end(bytes: &[u8]) -> Option<usize> {
+    let near = &bytes[..LIMIT.min(bytes.len())];
+    let place = near
+        .windows(FRONT_END.len())
+        .position(|part| part == FRONT_END)?;
+    place.checked_add(FRONT_END.len())
+}
+
+// Where the back of a text likely begins, if it has one.
+fn back_begin(bytes: &[u8]) -> Option<usize> {
+    let far = bytes.len() - LIMIT.min(bytes.len());
+    let place = bytes[far..]
+        .windows(BACK_BEGIN.len())
+        .position(|part| part == BACK_BEGIN)?;
+    place.checked_add(far)
+}
+
+/// A text in three parts, of which the middle one is likely to have the events, and the others are at most 65536 bytes long. None
+/// where no such parts are found.
+pub fn parts_of(bytes: &[u8]) -> Option<(&[u8], &[u8], &[u8])>
+    ensures { IfSome result (λ parts. bytes.now ≡ parts.0.now ++ (parts.1.now ++ parts.2.now)) }
+{
+    let (front, rest) = bytes.split_at_checked(front_end(bytes)?)?;
+    let (events, back) = rest.split_at_checked(back_begin(rest)?)?;
+    Some((front, events, back))
+}
+
+// Two texts as one.
+fn joined(alloc: Global, front: &[u8], back: &[u8]) -> Result<Vec<u8>, AllocError>
+    ensures { IfOk result (λ bytes. bytes.items ≡ front.now ++ back.now) }
+{
+    let mut bytes = Vec::new(alloc);
+    bytes.extend_from_slice(front)?;
+    bytes.extend_from_slice(back)?;
+    Ok(bytes)
+}
+
+// The trace that a front and a back are with nothing between them, if they are one.
+fn bare_trace(alloc: Global, front: &[u8], back: &[u8]) -> Result<Option<Trace>, AllocError>
+    ensures { IfOk result (λ found. IfSome found (λ trace. trace_of (front.now ++ back.now) ≡ Ok trace)) }
+{
+    let bytes = joined(alloc, front, back)?;
+    match read_trace(alloc, bytes.as_slice()) {
+        Ok(trace) => Ok(Some(trace)),
+        Err(Fault::Memory(refused)) => Err(refused),
+        Err(_) => Ok(None),
+    }
+}
+
+// What a token is at the close, as a report has it, if all is given.
+fn line_of(
+    alloc: Global,
+    closing: &Closing,
+    place: usize,
+    cells: &Cells,
+) -> Result<Option<TokenLine>, AllocError> {
+    let generation = closing.gens.as_slice().get(place);
+    let tallies = closing.tallies.as_slice().get(place);
+    let blob = closing.blobs.as_slice().get(place);
+    match (generation, tallies, blob) {
+        (Some(generation), Some(tallies), Some(blob)) => Ok(Some(TokenLine {
+            generation: *generation,
+            cells: cells.try_clone(alloc)?,
+            tallies: Some(tallies.try_clone(alloc)?),
+            blob: *blob,
+        })),
+        _ => Ok(None),
+    }
+}
+
+// The closing values as a report has them, if there are some.
+fn reported(alloc: Global, last: &Option<Closing>) -> Result<Option<Reported>, AllocError> {
+    let Some(closing) = last else {
+        return Ok(None);
+    };
+    let mut tokens = Vec::new(alloc);
+    for (place, cells) in closing.rows.as_slice().iter().enumerate() {
+        let Some(line) = line_of(alloc, closing, place, cells)? else {
+            return Ok(None);
+        };
+        tokens.push(line)?;
+    }
+    Ok(Some(Reported {
+        tokens,
+        messages: Vec::from_slice(alloc, closing.messages.as_slice())?,
+        threads: Vec::new(alloc),
+        verdict: Verdict::Closed,
+    }))
+}
+
+// Whether the front of a text is just as it is written for this trace.
+fn is_front(alloc: Global, front: &[u8], trace: &Trace) -> Result<bool, AllocError>
+    ensures { IfOk result (λ is. IsTrue is → front.now ≡ front_text trace.now.cpus trace.now.tokens trace.now.messages) }
+{
+    let text = front_text(
+        alloc,
+        trace.cpus,
+        trace.tokens.as_slice(),
+        trace.messages.as_slice(),
+    )?;
+    Ok(text.as_bytes() == front)
+}
+
+// Whether the back of a text is just as it is written for these closing values.
+fn is_back(alloc: Global, back: &[u8], closing: &Reported) -> Result<bool, AllocError>
+    ensures { IfOk result (λ is. IsTrue is → back.now ≡ back_text closing.now) }
+{
+    let text = back_text(alloc, closing)?;
+    Ok(text.as_bytes() == back)
+}
+
+/// The trace without events that these two parts of a text are, if they are just as `trace_text` writes them: whatever events
+/// are written between them, the whole is this trace with these events. None says nothing of the text.
+///
+/// Refused if memory is.
+pub fn frame_of(alloc: Global, front: &[u8], back: &[u8]) -> Result<Option<Trace>, AllocError>
+    ensures { IfOk result (λ found. IfSome found (Frames front.now back.now)) }
+{
+    let Some(trace) = bare_trace(alloc, front, back)? else {
+        return Ok(None);
+    };
+    let Some(closing) = reported(alloc, &trace.last)? else {
+        return Ok(None);
+    };
+    words_of_opening(&trace);
+    words_of_closing(&closing);
+    if !is_front(alloc, front, &trace)? {
+        return Ok(None);
+    }
+    if !is_back(alloc, back, &closing)? {
+        return Ok(None);
+    }
+    Ok(Some(trace))
+}
