@@ -1,6 +1,6 @@
 //! Judges a trace that is written just as `trace_text` writes one: its events are judged one after another as they are read,
 //! and none is kept.
-ghost use Rattle.std.specs.Prelude.{◌≡◌, ◌≤◌, ◌×◌, Ok, IfOk, IfErr, IfSome, length};
+ghost use Rattle.std.specs.Prelude.{◌≡◌, ◌≤◌, Ok, IfOk, IfErr, IfSome, length};
 ghost use Rattle.lwkt_core.specs.declared.events.Event.{Event};
 ghost use Rattle.lwkt_trace.specs.declared.traces.Trace.{Trace};
 ghost use Rattle.lwkt_trace.specs.Format.{trace_of};

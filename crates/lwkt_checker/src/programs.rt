@@ -1,4 +1,4 @@
-ghost use Rattle.std.specs.Prelude.{◌≡◌, ◌≢◌, ◌⊎◌, ◌×◌, [], Ok, Err, IsTrue, IfOk, IfErr, OnOk, string_bytes};
+ghost use Rattle.std.specs.Prelude.{◌≡◌, ◌≢◌, ◌⊎◌, [], Ok, Err, IsTrue, IfOk, IfErr, OnOk, string_bytes};
 ghost use Rattle.lwkt_trace.specs.declared.traces.Trace.{Trace};
 ghost use Rattle.lwkt_trace.specs.Format.{trace_of};
 ghost use Rattle.lwkt_checker.specs.Judgement.{HasFinding, IsJudgedTrace, RefusesTrace};
