@@ -1,5 +1,5 @@
 -- What is said of a close that differs, where neither a token nor a message does.
-use Rattle.std.proofs.Common.{inl, inr, ◌≡◌, ℕ, List, ◌++◌, Bool, false, Result, Ok, Err, OnOk, refl, ap, ◌∙◌, subst}
+use Rattle.std.proofs.Common.{inr, ◌≡◌, ℕ, List, ◌++◌, Bool, false, Result, Ok, Err, OnOk, refl, ap, ◌∙◌, subst}
 use Rattle.lwkt_core.specs.Machine.{Machine}
 use Rattle.lwkt_core.specs.declared.finals.Final.{Final}
 use Rattle.lwkt_checker.specs.Said.{SaysToken, SaysMessage, SaysClose, given_in_all_said}
