@@ -1,5 +1,5 @@
 -- What a judge knows after a line.
-use Rattle.std.proofs.Common.{◌≡◌, ◌<◌, ◌≤◌, ℕ, List, length, Bool, true, false, Option, None, Some, Result, Ok, Err, refl, ap, sym, ◌∙◌, subst, lt-ltb}
+use Rattle.std.proofs.Common.{◌≡◌, ◌<◌, ℕ, List, length, Bool, true, false, Option, None, Some, Result, Ok, Err, refl, ap, sym, ◌∙◌, subst, lt-ltb}
 use Rattle.std.specs.Prelude.{nat_lt, IfOk, IfErr, MatchOption, String}
 use Rattle.std.specs.Global.{Global}
 use Rattle.std.specs.Option.{is_some as has_some}

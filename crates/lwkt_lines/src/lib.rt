@@ -15,5 +15,5 @@ mod values;
 
 pub use judges::Judge;
 pub use lines::{LINE_LIMIT, Lines};
-pub use programs::{check_lines, judge_lines};
 pub use lwkt_checker::Standing;
+pub use programs::{check_lines, judge_lines};

@@ -3,7 +3,7 @@ use Rattle.serde_json.specs.View.{view}
 use Rattle.lwkt_script.specs.Outcome.{part, IsFaultOf as IsRefused}
 use Rattle.lwkt_lines.specs.Line.{value_of}
 use Rattle.lwkt_lines.specs.Format.{event_place, with_event, with_closing}
-use Rattle.lwkt_lines.proofs.Judging.{not_closed, line_closed, line_refused, line_is, value_closing, value_event, told_lifts, refused_lifts, each_lifts}
+use Rattle.lwkt_lines.proofs.Judging.{not_closed, line_refused, line_is, value_closing, value_event, told_lifts, refused_lifts, each_lifts}
 use Rattle.lwkt_lines.proofs.judges.Judge.and_line.Goals as goal
 
 pub returns-in-Err-clause-refused : goal.returns-in-Err-clause-refused
