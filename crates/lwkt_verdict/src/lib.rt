@@ -32,5 +32,4 @@ pub use asks::entry_of;
 pub use checks::is_script_run;
 pub use poll_lists::PollList;
 pub use rounds::are_processors;
-pub use spots::{Spot, spot_of};
 pub use turns::{Pace, Poll, Turn, TurnRow};

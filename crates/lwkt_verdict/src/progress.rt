@@ -10,7 +10,7 @@ ghost use Rattle.lwkt_verdict.specs.Threads.{ask_at, progress_after, IsLogged, i
 use crate::asks::{entry_of, is_exit, is_refused, may_block, may_wait};
 use crate::places::PollPlace;
 use crate::plans::ask_at;
-use crate::spots::{Spot, spot_of};
+use crate::spots::Spot;
 use crate::turns::Poll;
 use lwkt_base::{Answer, Ask, Blob, Entry, ThreadState};
 use lwkt_report::ThreadLine;
@@ -133,7 +133,7 @@ fn spot_among(standing: &Standing<'_>, count: u64) -> Spot
     if standing.count == count {
         return standing.spot;
     }
-    spot_of(count, standing.polls, standing.spot)
+    Spot::of(count, standing.polls)
 }
 
 impl<'a> Standing<'a> {

@@ -1,7 +1,7 @@
 //! Where the asks of a thread stand that makes its steps over and over.
 //!
-//! A division for each ask would be dear. So the spot of the next ask is kept, and looked at by a multiplication before it is used.
-ghost use Rattle.std.specs.Prelude.{◌≡◌, ℕ, ◌<◌, ◌≤◌, ◌+◌, ◌^◌, ◌↔◌, IsTrue};
+//! A division for each ask would be dear. So the spot of the next ask is kept, which follows from the one before by counting.
+ghost use Rattle.std.specs.Prelude.{◌≡◌, ℕ, ◌<◌, ◌+◌, ◌^◌};
 ghost use Rattle.lwkt_verdict.specs.Spots.{spot_at};
 
 /// Where an ask stands of a thread that makes its steps over and over.
@@ -22,26 +22,14 @@ impl Spot {
         Spot { rounds: 0, step: 0 }
     }
 
-    // Whether the step is one of so many, and its number no greater than that of ask k.
-    #[inline(always)]
-    fn is_within(self, count: u64, k: u64) -> bool
-        ensures { IsTrue result ↔ ((self.step < count) × (self.step ≤ k)) }
-    {
-        self.step < count && self.step <= k
-    }
-
-    // Whether ask k of a thread with so many steps stands here.
-    #[inline(always)]
-    fn is_of(self, count: u64, k: u64) -> bool
+    /// Where ask k stands of a thread with so many steps.
+    pub fn of(count: u64, k: u64) -> Spot
         requires { 0 < count }
-        ensures { IsTrue result ↔ (self ≡ spot_at count k) }
+        ensures { result ≡ spot_at count k }
     {
-        if !self.is_within(count, k) {
-            return false;
-        }
-        match self.rounds.checked_mul(count) {
-            None => false,
-            Some(before) => before == k - self.step,
+        Spot {
+            rounds: k / count,
+            step: k % count,
         }
     }
 
@@ -60,20 +48,5 @@ impl Spot {
             rounds: self.rounds.wrapping_add(1),
             step: 0,
         }
-    }
-}
-
-/// Where ask k stands of a thread with so many steps. It is quick where that is the spot `near`, and right in any case.
-#[inline(always)]
-pub fn spot_of(count: u64, k: u64, near: Spot) -> Spot
-    requires { 0 < count }
-    ensures { result ≡ spot_at count k }
-{
-    if near.is_of(count, k) {
-        return near;
-    }
-    Spot {
-        rounds: k / count,
-        step: k % count,
     }
 }
