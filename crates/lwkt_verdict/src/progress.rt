@@ -255,20 +255,30 @@ fn is_entry(log: &[Entry], place: usize, entry: &Entry) -> bool
     }
 }
 
-// Whether the entry of an answer, if it has one, stands at a place of a log.
+// Whether the entry of an answer, if it has one, stands at a place of a log, whatever the answer.
+#[inline(never)]
+fn is_any_entry_at(log: &[Entry], place: usize, ask: &Ask, answer: &Answer) -> bool
+    ensures { IsTrue result ↔ MatchOption (entry_of ask.now answer.now) (Unit {0}) (λ e. slice_get log.now place ≡ Some e) }
+{
+    match entry_of(*ask, *answer) {
+        None => true,
+        Some(entry) => is_entry(log, place, &entry),
+    }
+}
+
+// Whether the entry of an answer, if it has one, stands at a place of a log. Most answers have none.
+#[inline(always)]
 fn is_entry_at(log: &[Entry], place: usize, ask: &Ask, answer: &Answer) -> bool
     ensures { IsTrue result ↔ MatchOption (entry_of ask.now answer.now) (Unit {0}) (λ e. slice_get log.now place ≡ Some e) }
 {
     match answer {
         Answer::Begin | Answer::Done => true,
-        _ => match entry_of(*ask, *answer) {
-            None => true,
-            Some(entry) => is_entry(log, place, &entry),
-        },
+        _ => is_any_entry_at(log, place, ask, answer),
     }
 }
 
 // Whether the entry of an answer, if there is one and it has one, stands at a place of the thread's log.
+#[inline(always)]
 fn is_logged_at(line: &ThreadLine, place: usize, ask: &Ask, answer: &Option<Answer>) -> bool
     ensures { IsTrue result ↔ MatchOption (option_and_then (entry_of ask.now) answer.now) (Unit {0}) (λ e. slice_get line.now.log place ≡ Some e) }
 {
@@ -279,6 +289,7 @@ fn is_logged_at(line: &ThreadLine, place: usize, ask: &Ask, answer: &Option<Answ
 }
 
 /// Whether the entry of an answer, if there is one and it has one that is among the first 32, stands in the thread's log.
+#[inline(always)]
 pub fn is_logged(
     line: &ThreadLine,
     standing: &Standing<'_>,
