@@ -933,7 +933,8 @@ static inline void lwkt_record_put(lwkt_record_page *page, const char *text)
     }
 }
 
-// What a text has between two parts that each stand on a line of their own, and lines haven't.
+// What a text has between two parts that each stand on a line of their own, and lines haven't. A text is laid out byte for byte as
+// `lwkt_show --trace` lays one out, so lwkt_check judges its events as it reads them, in little memory.
 static inline void lwkt_record_put_break(lwkt_record_page *page, const char *text)
 {
     if (!page->in_lines)
@@ -989,7 +990,7 @@ static inline void lwkt_record_put_tokens(const lwkt_record *recorder, lwkt_reco
     for (each = 0; each < recorder->tokens; each++) {
         const lwkt_record_token_spec *token = &recorder->token[each];
         lwkt_record_put(page, lwkt_record_comma(each));
-        lwkt_record_put_break(page, each == 0 ? "" : "\n  ");
+        lwkt_record_put_break(page, "\n");
         lwkt_record_put_row(page, "{\"cells\":", token->cells, token->count);
         lwkt_record_put(page, ",\"law\":\"");
         lwkt_record_put(page, lwkt_record_law_word(token->law));
@@ -1005,7 +1006,7 @@ static inline void lwkt_record_put_messages(const lwkt_record *recorder, lwkt_re
     for (each = 0; each < recorder->messages; each++) {
         const lwkt_record_message_spec *message = &recorder->message[each];
         lwkt_record_put(page, lwkt_record_comma(each));
-        lwkt_record_put_break(page, each == 0 ? "" : "\n  ");
+        lwkt_record_put_break(page, "\n");
         lwkt_record_put_number(page, "{\"of\":[", message->processor);
         lwkt_record_put_number(page, ",", message->thread);
         lwkt_record_put_number(page, "],\"round\":", message->round);
@@ -1017,14 +1018,14 @@ static inline void lwkt_record_put_opening(const lwkt_record *recorder, lwkt_rec
 {
     lwkt_record_put_number(page, "{\"version\":1,\"cpus\":", recorder->processors);
     lwkt_record_put(page, ",");
-    lwkt_record_put_break(page, "\n ");
+    lwkt_record_put_break(page, "\n");
     lwkt_record_put(page, "\"tokens\":[");
     lwkt_record_put_tokens(recorder, page);
     lwkt_record_put(page, "],");
-    lwkt_record_put_break(page, "\n ");
+    lwkt_record_put_break(page, "\n");
     lwkt_record_put(page, "\"messages\":[");
     lwkt_record_put_messages(recorder, page);
-    lwkt_record_put(page, page->in_lines ? "]}" : "],\n \"events\":[");
+    lwkt_record_put(page, page->in_lines ? "]}" : "],\n\"events\":[");
 }
 
 static inline void lwkt_record_put_event(lwkt_record_page *page, unsigned processor, int kind, const lwkt_record_event *event)
@@ -1125,6 +1126,7 @@ static inline void lwkt_record_put_end_messages(const lwkt_record *recorder, lwk
     for (each = 0; each < recorder->messages; each++) {
         unsigned state = recorder->model.state[each];
         lwkt_record_put(page, lwkt_record_comma(each));
+        lwkt_record_put_break(page, "\n");
         lwkt_record_put_number(page, words[state], recorder->message[each].processor);
         if (state != LWKT_RECORD_AT_REST)
             lwkt_record_put_number(page, ",", recorder->model.target[each]);
@@ -1133,9 +1135,17 @@ static inline void lwkt_record_put_end_messages(const lwkt_record *recorder, lwk
     }
 }
 
+// Puts what ends a member, and begins the next one on a line of its own.
+static inline void lwkt_record_put_member(lwkt_record_page *page, const char *end, const char *begin)
+{
+    lwkt_record_put(page, end);
+    lwkt_record_put_break(page, "\n");
+    lwkt_record_put(page, begin);
+}
+
 static inline void lwkt_record_put_end(const lwkt_record *recorder, lwkt_record_page *page, bool has_values)
 {
-    lwkt_record_put_break(page, "],\n \"last\":");
+    lwkt_record_put_break(page, "],\n\"last\":");
     if (!has_values) {
         lwkt_record_put_break(page, "null}");
         lwkt_record_put(page, "\n");
@@ -1144,11 +1154,11 @@ static inline void lwkt_record_put_end(const lwkt_record *recorder, lwkt_record_
     lwkt_record_put(page, page->in_lines ? "\n" : "");
     lwkt_record_put(page, "{\"rows\":[");
     lwkt_record_put_end_rows(recorder, page);
-    lwkt_record_put(page, "],\"gens\":[");
+    lwkt_record_put_member(page, "],", "\"gens\":[");
     lwkt_record_put_end_generations(recorder, page);
-    lwkt_record_put(page, "],\"tallies\":[");
+    lwkt_record_put_member(page, "],", "\"tallies\":[");
     lwkt_record_put_end_tallies(recorder, page);
-    lwkt_record_put(page, "],\"messages\":[");
+    lwkt_record_put_member(page, "],", "\"messages\":[");
     lwkt_record_put_end_messages(recorder, page);
     lwkt_record_put(page, page->in_lines ? "]}\n" : "]}}\n");
 }
