@@ -9,3 +9,6 @@ pub mod TraceMoves
 pub mod HistoryMoves
 pub mod ShortMoves
 pub mod SpotMoves
+pub mod ExpectedMoves
+pub mod KnownMoves
+pub mod FollowMoves

@@ -54,12 +54,12 @@ progress_push xs a =
     ap (λ n. made n (slice_get ys (length ys - 1)) (min 32 (length (entries_of ys)))) polls ∙ ap (λ (o : Option Asked). made (length xs + 1) o (min 32 (length (entries_of ys)))) last ∙ ap (λ n. made (length xs + 1) (Some a) n) (logged_push xs a)
 
 -- a turn that polls another thread, or none, leaves a thread where it was
-came_other : (slot : ℕ) (before : List Piece) (p : Piece) → asked_in slot p ≡ [] → came (before ++ p ∷ []) slot ≡ came before slot
+pub came_other : (slot : ℕ) (before : List Piece) (p : Piece) → asked_in slot p ≡ [] → came (before ++ p ∷ []) slot ≡ came before slot
 came_other slot before p none =
     ap progress_of (asked_push slot before p ∙ ap (λ (ys : List Asked). asked_by slot before ++ ys) none ∙ append-nil (asked_by slot before))
 
 -- a turn that polls a thread takes it further
-came_next : (slot : ℕ) (before : List Piece) (p : Piece) (a : Asked) → asked_in slot p ≡ a ∷ [] → came (before ++ p ∷ []) slot ≡ progress_after (came before slot) a
+pub came_next : (slot : ℕ) (before : List Piece) (p : Piece) (a : Asked) → asked_in slot p ≡ a ∷ [] → came (before ++ p ∷ []) slot ≡ progress_after (came before slot) a
 came_next slot before p a one =
     ap progress_of (asked_push slot before p ∙ ap (λ (ys : List Asked). asked_by slot before ++ ys) one) ∙ progress_push (asked_by slot before) a
 
@@ -71,19 +71,19 @@ pub asked_there : (slot : ℕ) (q : Poll) (blocked : Bool) → (slot_of q.thread
 asked_there slot q blocked not = search rules
 
 -- an element after a write, to its place and to another
-get_set : {A : Type 0} (xs : List A) (i : ℕ) (v : A) → i < length xs → slice_get (slice_set xs i v) i ≡ Some v
+pub get_set : {A : Type 0} (xs : List A) (i : ℕ) (v : A) → i < length xs → slice_get (slice_set xs i v) i ≡ Some v
 get_set [] i v inside = absurd (omega arith)
 get_set (x ∷ xs) zero v inside = refl
 get_set (x ∷ xs) (suc i) v inside = get_set xs i v (omega arith)
 
-get_set_other : {A : Type 0} (xs : List A) (i j : ℕ) (v : A) → (i ≡ j → ⊥) → slice_get (slice_set xs i v) j ≡ slice_get xs j
+pub get_set_other : {A : Type 0} (xs : List A) (i j : ℕ) (v : A) → (i ≡ j → ⊥) → slice_get (slice_set xs i v) j ≡ slice_get xs j
 get_set_other [] i j v apart = refl
 get_set_other (x ∷ xs) zero zero v apart = absurd (apart refl)
 get_set_other (x ∷ xs) zero (suc j) v apart = refl
 get_set_other (x ∷ xs) (suc i) zero v apart = refl
 get_set_other (x ∷ xs) (suc i) (suc j) v apart = get_set_other xs i j v (λ is. apart (ap suc is))
 
-length_set : {A : Type 0} (xs : List A) (i : ℕ) (v : A) → length (slice_set xs i v) ≡ length xs
+pub length_set : {A : Type 0} (xs : List A) (i : ℕ) (v : A) → length (slice_set xs i v) ≡ length xs
 length_set [] i v = refl
 length_set (x ∷ xs) zero v = refl
 length_set (x ∷ xs) (suc i) v = ap suc (length_set xs i v)

@@ -9,3 +9,6 @@ pub mod Shorts
 pub mod Homes
 pub mod Progressed
 pub mod Laws
+pub mod Follow
+pub mod Followed
+pub mod Kinds

@@ -26,8 +26,8 @@ use lwkt_report::ThreadLine;
 use lwkt_script::ThreadSpec;
 use std::alloc::AllocError;
 
-// Whether each event of a part is of this processor.
-fn are_of(cpu: usize, part: &[Event]) -> bool
+/// Whether each event of a part is of this processor.
+pub fn are_of(cpu: usize, part: &[Event]) -> bool
     ensures { IsTrue result ↔ All (λ e. cpu_of e ≡ cpu) part.now }
 {
     part.iter().all(|event| usize::from(event.cpu().0) == cpu)

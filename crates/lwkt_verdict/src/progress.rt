@@ -235,8 +235,8 @@ fn is_of_record(entry: &Entry, blob: &Blob) -> bool
     }
 }
 
-// Whether two entries are one.
-fn is_same(one: &Entry, other: &Entry) -> bool
+/// Whether two entries are one.
+pub fn is_same(one: &Entry, other: &Entry) -> bool
     ensures { IsTrue result ↔ (one.now ≡ other.now) }
 {
     match one {
@@ -325,8 +325,8 @@ fn may_fault(number: u8, ask: &Ask) -> bool
     (number == 19 && (is_exit(ask) || may_block(ask))) || (number == 20 && may_block(ask))
 }
 
-// Whether a thread may be in this state that asked this last.
-fn may_end_after(state: ThreadState, asked: &Asked) -> bool
+/// Whether a thread may be in this state that asked this last.
+pub fn may_end_after(state: ThreadState, asked: &Asked) -> bool
     ensures { result ≡ may_end_after state asked.now }
 {
     match state {

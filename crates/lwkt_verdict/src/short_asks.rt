@@ -79,8 +79,8 @@ fn is_storing(ask: &Ask, tok: TokId, blob: &Blob) -> bool
     }
 }
 
-// Whether two asks are one.
-fn is_same(one: &Ask, other: &Ask) -> bool
+/// Whether two asks are one.
+pub fn is_same(one: &Ask, other: &Ask) -> bool
     ensures { IsTrue result ↔ (one.now ≡ other.now) }
 {
     match one {

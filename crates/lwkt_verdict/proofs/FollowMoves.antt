@@ -1,0 +1,298 @@
+use Rattle.std.proofs.Common.{inl, inr, ◌≡◌, ℕ, ◌+◌, ◌*◌, ◌/◌, ◌<◌, ◌≤◌, List, [], ◌∷◌, ◌++◌, length, get_or, take, drop, refl, sym, ap, ◌∙◌, subst, arith, Option, Some, None}
+use Rattle.std.specs.Prelude.{true, false, slice_get, slice_set, if◌then◌else◌, MatchOption, All, is_some, option_map, Result, Ok, Err, IfOk}
+use Rattle.std.proofs.lemmas.Bool.{cases_eq, eq-eqb, ne_eqb}
+use Rattle.std.proofs.lemmas.List.{take_at}
+use Rattle.std.proofs.lemmas.Option.{none-some, slice_get-get_or}
+use Rattle.lwkt_base.specs.declared.asks.Ask.{Ask}
+use Rattle.lwkt_base.specs.declared.asks.Answer.{Answer}
+use Rattle.lwkt_base.specs.declared.names.ThreadId.{ThreadId}
+use Rattle.lwkt_core.specs.declared.events.Event.{Event}
+use Rattle.lwkt_core.specs.Events.{cpu_of}
+use Rattle.lwkt_core.specs.Machine.{Machine}
+use Rattle.lwkt_script.specs.declared.scripts.ThreadSpec.{ThreadSpec}
+use Rattle.lwkt_report.specs.declared.closings.ThreadLine.{ThreadLine}
+use Rattle.lwkt_verdict.specs.declared.turns.Poll.{Poll}
+use Rattle.lwkt_verdict.specs.declared.progress.Asked.{Asked}
+use Rattle.lwkt_verdict.specs.declared.progress.Progress.{Progress}
+use Rattle.lwkt_verdict.specs.declared.progress.Piece.{Piece}
+use Rattle.lwkt_verdict.specs.Owns.{has_blocked}
+use Rattle.lwkt_verdict.specs.Parts.{after_all, GoesQuietly}
+use Rattle.lwkt_verdict.specs.Threads.{slot_of, plan_of_thread, line_of, progress_after, ask_at, MayAsk, IsLogged, Rests, EndsAsTold}
+use Rattle.lwkt_verdict.specs.Run.{piece, came, asked_of_poll, PollFits, Idles, AreListed}
+use Rattle.lwkt_verdict.specs.Follow.{Awaited, Known, Follow, asked_so, come, Bears, AllBear, AreShown, AreThreads, answered_at, none_answered, GoesOnByPoll, GoesOnUnasked, EndsHere}
+use Rattle.lwkt_verdict.specs.Followed.{IsPolled, IsKept, MayRest, IsEnded, AllThreads, AllPairs, KeepsPlans, AreKept, MayAllRest}
+use Rattle.lwkt_verdict.proofs.EndMoves.{slot_cpu}
+use Rattle.lwkt_verdict.proofs.ShowMoves.{came_other, came_next, asked_here, asked_there, get_set, get_set_other}
+
+abbrev follow : List ThreadSpec → List Known → Machine → Follow
+follow plans table machine = record { plans = plans; table = table; machine = machine }
+
+-- what holds of what is there
+here : {A : Type 0} (P : A → Type 0) (o : Option A) (x : A) → o ≡ Some x → P x → MatchOption o ⊥ P
+here {A = A} P o x is p = let F : Option A → Type 0 = λ q. MatchOption q ⊥ P in subst F (sym is) p
+
+there : {A : Type 0} (P : A → Type 0) (o : Option A) (x : A) → o ≡ Some x → MatchOption o ⊥ P → P x
+there {A = A} P o x is p = let F : Option A → Type 0 = λ q. MatchOption q ⊥ P in subst F is p
+
+some_at : {A : Type 0} (P : A → Type 0) (o : Option A) → MatchOption o ⊥ P → (x : A) × ((o ≡ Some x) × P x)
+some_at P None p = absurd p
+some_at P (Some x) p = (x, (refl, p))
+
+not_none : {A : Type 0} (P : A → Type 0) (o : Option A) → MatchOption o ⊥ P → o ≡ None → ⊥
+not_none P None p is = p
+not_none P (Some x) p is = none-some x (sym is)
+
+mapped : {A : Type 0} (P Q : A → Type 0) (o : Option A) → ((x : A) → P x → Q x) → MatchOption o ⊥ P → MatchOption o ⊥ Q
+mapped P Q None f p = p
+mapped P Q (Some x) f p = f x p
+
+-- the answers, with one in the place of a thread: of this and of another
+told_here : (slot : ℕ) (told : Option Answer) (answers : ℕ → Option Answer) → answered_at slot told answers slot ≡ told
+told_here slot told answers = ap (λ b. if b then told else answers slot) (eq-eqb slot slot refl)
+
+told_there : (slot k : ℕ) (told : Option Answer) (answers : ℕ → Option Answer) → (slot ≡ k → ⊥) → answered_at slot told answers k ≡ answers k
+told_there slot k told answers apart = ap (λ b. if b then told else answers k) (ne_eqb k slot (λ is. apart (sym is)))
+
+-- what a thread's line bears, if it has one; else the thread isn't there
+abbrev BearsAt : Option ThreadLine → Option Answer → Known → Type 0
+BearsAt line answer t = MatchOption line (t.plan ≡ None) (Bears t answer)
+
+-- a thread that is there has its line
+lined : (o : Option ThreadLine) (answer : Option Answer) (u : Known) → (u.plan ≡ None → ⊥) → BearsAt o answer u → (line : ThreadLine) × ((o ≡ Some line) × Bears u answer line)
+lined None answer u some bears = absurd (some bears)
+lined (Some line) answer u some bears = (line, (refl, bears))
+
+-- what was told is an answer
+told_last : (told : Answer) (o : Option Awaited) → MatchOption (option_map (λ w. asked_so w (Some told)) o) (Unit {0}) (λ a. is_some a.answer ≡ true)
+told_last told None = tt
+told_last told (Some w) = refl
+
+-- what a line bears of a thread after its poll, it bore before
+bears_told : (m : Machine) (told : Answer) (asked : Ask) (part : List Event) (t u : Known) (o : Option ThreadLine) (answer : Option Answer) → u.plan ≡ t.plan → IsPolled m told asked part t u → BearsAt o answer u → BearsAt o (Some told) t
+bears_told m told asked part t u None answer same polled bears = sym same ∙ bears
+bears_told m told asked part t u (Some line) answer same polled bears = polled.bears answer line bears
+
+bear_by : (m : Machine) (told : Answer) (asked : Ask) (part : List Event) (table : List Known) (slot : ℕ) (t u : Known) → slot < 128 → slot < length table → slice_get table slot ≡ Some t → u.plan ≡ t.plan → IsPolled m told asked part t u → (answers : ℕ → Option Answer) (lines : List ThreadLine) → AllBear (slice_set table slot u) answers lines → AllBear table (answered_at slot (Some told) answers) lines
+bear_by m told asked part table slot t u small inside at same polled answers lines bear k below =
+    let G : ℕ → Type 0 = λ j. MatchOption (slice_get table j) ⊥ (BearsAt (line_of j lines) (answered_at slot (Some told) answers j)) in
+    elim (cases_eq slot k) [
+      | inl is ↦ (let new : BearsAt (line_of slot lines) (answers slot) u = there (BearsAt (line_of slot lines) (answers slot)) (slice_get (slice_set table slot u) slot) u (get_set table slot u inside) (bear slot small) in
+          let A : Option Answer → Type 0 = λ a. BearsAt (line_of slot lines) a t in
+          let old : A (answered_at slot (Some told) answers slot) = subst A (sym (told_here slot (Some told) answers)) (bears_told m told asked part t u (line_of slot lines) (answers slot) same polled new) in
+          subst G is (here (BearsAt (line_of slot lines) (answered_at slot (Some told) answers slot)) (slice_get table slot) t at old))
+      | inr apart ↦ (let A : Option Answer → Type 0 = λ a. MatchOption (slice_get table k) ⊥ (BearsAt (line_of k lines) a) in
+          let O : Option Known → Type 0 = λ o. MatchOption o ⊥ (BearsAt (line_of k lines) (answers k)) in
+          subst A (sym (told_there slot k (Some told) answers apart)) (subst O (get_set_other table slot k u apart) (bear k below)))
+    ]
+
+-- how far a thread has come that was polled, by what is shown
+came_told : (told : Answer) (table : List Known) (slot : ℕ) (t : Known) (before : List Piece) (answers : ℕ → Option Answer) → slot < 128 → slice_get table slot ≡ Some t → AreShown before table (answered_at slot (Some told) answers) → came before slot ≡ come t (Some told)
+came_told told table slot t before answers small at shown =
+    there (λ x. came before slot ≡ come x (answered_at slot (Some told) answers slot)) (slice_get table slot) t at (shown slot small) ∙ ap (λ (a : Option Answer). come t a) (told_here slot (Some told) answers)
+
+shown_by : (m : Machine) (told : Answer) (part : List Event) (table : List Known) (slot : ℕ) (t u : Known) (q : Poll) → slot_of q.thread ≡ slot → slot < 128 → slot < length table → slice_get table slot ≡ Some t → IsPolled m told q.ask part t u → (answers : ℕ → Option Answer) → q.answer ≡ answers slot → (before : List Piece) → AreShown before table (answered_at slot (Some told) answers) → AreShown (before ++ piece (Some q) part ∷ []) (slice_set table slot u) answers
+shown_by m told part table slot t u q whose small inside at polled answers answered before shown k below =
+    let p : Piece = piece (Some q) part in
+    let a : Asked = asked_of_poll q (has_blocked q.ask part) in
+    let G : ℕ → Type 0 = λ j. MatchOption (slice_get (slice_set table slot u) j) ⊥ (λ x. came (before ++ p ∷ []) j ≡ come x (answers j)) in
+    elim (cases_eq slot k) [
+      | inl is ↦ (let next : came (before ++ p ∷ []) slot ≡ progress_after (came before slot) a = came_next slot before p a (asked_here slot q (has_blocked q.ask part) whose) in
+          let from : progress_after (came before slot) a ≡ progress_after (come t (Some told)) a = ap (λ (x : Progress). progress_after x a) (came_told told table slot t before answers small at shown) in
+          let to : come u q.answer ≡ progress_after (come t (Some told)) a = polled.came q.answer in
+          let now : came (before ++ p ∷ []) slot ≡ come u (answers slot) = next ∙ from ∙ sym to ∙ ap (λ (x : Option Answer). come u x) answered in
+          subst G is (here (λ x. came (before ++ p ∷ []) slot ≡ come x (answers slot)) (slice_get (slice_set table slot u) slot) u (get_set table slot u inside) now))
+      | inr apart ↦ (let stays : came (before ++ p ∷ []) k ≡ came before k = came_other k before p (asked_there k q (has_blocked q.ask part) (λ is. apart (sym whose ∙ is))) in
+          let O : Option Known → Type 0 = λ o. MatchOption o ⊥ (λ x. came (before ++ p ∷ []) k ≡ come x (answers k)) in
+          let then_so : (x : Known) → came before k ≡ come x (answered_at slot (Some told) answers k) → came (before ++ p ∷ []) k ≡ come x (answers k) = λ x e. stays ∙ e ∙ ap (λ (b : Option Answer). come x b) (told_there slot k (Some told) answers apart) in
+          subst O (sym (get_set_other table slot k u apart)) (mapped (λ x. came before k ≡ come x (answered_at slot (Some told) answers k)) (λ x. came (before ++ p ∷ []) k ≡ come x (answers k)) (slice_get table k) then_so (shown k below)))
+    ]
+
+-- the poll of a thread fits how far the thread has come
+poll_fits : (m : Machine) (told : Answer) (asked : Ask) (part : List Event) (plans : List ThreadSpec) (lines : List ThreadLine) (cpu : ℕ) (thread : ThreadId) (t u : Known) (line : ThreadLine) (answer : Option Answer) → thread.cpu.0 ≡ cpu → thread.thread < 16 → t.plan ≡ plan_of_thread cpu thread.thread plans → line_of (slot_of thread) lines ≡ Some line → IsPolled m told asked part t u → Bears u answer line → PollFits plans lines cpu (come t (Some told)) (record { answer = answer; ask = asked; thread = thread })
+poll_fits m told asked part plans lines cpu thread t u line answer own few planned at polled bears =
+    let May : ThreadSpec → Type 0 = λ plan. MayAsk plan (come t (Some told)) asked in
+    let M : Option ThreadSpec → Type 0 = λ o. MatchOption o ⊥ May in
+    let L : ℕ → Type 0 = λ c. MatchOption (line_of (16 * c + thread.thread) lines) ⊥ (λ l. IsLogged l (come t (Some told)) (record { ask = asked; answer = answer; blocked = false })) in
+    record {
+      here = own;
+      numbered = few;
+      asks = subst M planned (mapped (λ plan. ask_at plan t.polls ≡ Some asked) May t.plan (λ plan is. (is, told_last told t.last)) polled.asks);
+      answers = polled.answers answer line bears;
+      logs = subst L own (here (λ l. IsLogged l (come t (Some told)) (record { ask = asked; answer = answer; blocked = false })) (line_of (slot_of thread) lines) line at (polled.logs answer line bears));
+    }
+
+-- a check goes on by a turn that polled a thread
+pub goes_by_poll : (cpu : ℕ) (thread : ThreadId) (told : Answer) (asked : Ask) (part : List Event) (old new : Follow) (t u : Known) → cpu < 8 → thread.cpu.0 ≡ cpu → thread.thread < 16 → All (λ e. cpu_of e ≡ cpu) part → AreThreads old.plans old.table → slice_get old.table (slot_of thread) ≡ Some t → new ≡ record { plans = old.plans; table = slice_set old.table (slot_of thread) u; machine = after_all old.machine part } → u.plan ≡ t.plan → IsPolled old.machine told asked part t u → GoesOnByPoll cpu thread told asked part old new
+goes_by_poll cpu thread told asked part old new t u processor own few events threads at is same polled =
+    let slot = slot_of thread in
+    let small : slot < 128 = omega (arith, own) in
+    let inside : slot < length old.table = omega (arith, small, threads.0) in
+    let P : ℕ → Type 0 = λ c. MatchOption (slice_get old.table (16 * c + thread.thread)) ⊥ (λ x. x.plan ≡ plan_of_thread cpu thread.thread old.plans) in
+    let planned : t.plan ≡ plan_of_thread cpu thread.thread old.plans = there (λ x. x.plan ≡ plan_of_thread cpu thread.thread old.plans) (slice_get old.table slot) t at (subst P (sym own) (threads.1 cpu thread.thread processor few)) in
+    let present : u.plan ≡ None → ⊥ = λ none. not_none (λ plan. ask_at plan t.polls ≡ Some asked) t.plan polled.asks (sym same ∙ none) in
+    let N : Follow = record { plans = old.plans; table = slice_set old.table slot u; machine = after_all old.machine part } in
+    let F : Follow → Type 0 = λ f. GoesOnByPoll cpu thread told asked part old f in
+    subst F (sym is) (record {
+      plans = refl;
+      machine = refl;
+      bear = bear_by old.machine told asked part old.table slot t u small inside at same polled;
+      fits = λ answers lines bear before shown. (
+          let now : BearsAt (line_of slot lines) (answers slot) u = there (BearsAt (line_of slot lines) (answers slot)) (slice_get N.table slot) u (get_set old.table slot u inside) (bear slot small) in
+          let line = lined (line_of slot lines) (answers slot) u present now in
+          let q : Poll = record { answer = answers slot; ask = asked; thread = thread } in
+          let Fits : Progress → Type 0 = λ p. PollFits old.plans lines cpu p q in
+          record {
+            own = events;
+            makes = polled.makes (answers slot) line.0 line.1.1;
+            polls = subst Fits (sym (came_told told old.table slot t before answers small at shown)) (poll_fits old.machine told asked part old.plans lines cpu thread t u line.0 (answers slot) own few planned line.1.0 polled line.1.1);
+          });
+      shown = λ answers lines bear before shown. shown_by old.machine told part old.table slot t u (record { answer = answers slot; ask = asked; thread = thread }) refl small inside at polled answers refl before shown;
+    })
+
+-- what follows from two facts of what a call returned, if it returned
+pub ok_both : {X Y : Type 0} (r : Result X Y) (P Q R : X → Type 0) → ((x : X) → P x → Q x → R x) → IfOk r P → IfOk r Q → IfOk r R
+ok_both (Ok x) P Q R f p q = f x p q
+ok_both (Err e) P Q R f p q = tt
+
+-- the same, by the place in the table that was written
+pub goes_at : (cpu : ℕ) (thread : ThreadId) (told : Answer) (asked : Ask) (part : List Event) (plans : List ThreadSpec) (table : List Known) (m n : Machine) (place : ℕ) (t u : Known) → cpu < 8 → thread.cpu.0 ≡ cpu → thread.thread < 16 → place ≡ 16 * cpu + thread.thread → All (λ e. cpu_of e ≡ cpu) part → AreThreads plans table → t ≡ get_or table place t → u.plan ≡ t.plan → IsPolled m told asked part t u → n ≡ after_all m part → GoesOnByPoll cpu thread told asked part (record { plans = plans; table = table; machine = m }) (record { plans = plans; table = slice_set table place u; machine = n })
+goes_at cpu thread told asked part plans table m n place t u processor own few is_place events threads is same polled moved =
+    let old : Follow = record { plans = plans; table = table; machine = m } in
+    let slot : place ≡ slot_of thread = is_place ∙ ap (λ k. 16 * k + thread.thread) (sym own) in
+    let inside : place < length table = omega (arith, is_place, threads.0) in
+    let at : slice_get table place ≡ Some t = slice_get-get_or table place t inside ∙ ap (λ (x : Known). Some x) (sym is) in
+    let made : Follow = record { plans = plans; table = slice_set table place u; machine = n } in
+    let is : made ≡ record { plans = plans; table = slice_set table (slot_of thread) u; machine = after_all m part } =
+    ap (λ k. follow plans (slice_set table k u) n) slot ∙ ap (λ (k : Machine). follow plans (slice_set table (slot_of thread) u) k) moved in
+    goes_by_poll cpu thread told asked part old made t u processor own few events threads (ap (λ k. slice_get table k) (sym slot) ∙ at) is same polled
+
+-- what is known of two threads that are there
+pair_at : {A : Type 0} (P : A → A → Type 0) (one other : Option A) (t : A) → one ≡ Some t → MatchOption one ⊥ (λ x. MatchOption other ⊥ (P x)) → (u : A) × ((other ≡ Some u) × P t u)
+pair_at P one other t at pair = some_at (P t) other (there (λ x. MatchOption other ⊥ (P x)) one t at pair)
+
+-- what a line bears of a thread that is kept, it bore before
+bears_kept : (t u : Known) (o : Option ThreadLine) (answer : Option Answer) → IsKept t u → BearsAt o answer u → BearsAt o answer t
+bears_kept t u None answer kept bears = sym kept.plan ∙ bears
+bears_kept t u (Some line) answer kept bears = kept.bears answer line bears
+
+bear_kept : (table after : List Known) → AreKept table after → (answers : ℕ → Option Answer) (lines : List ThreadLine) → AllBear after answers lines → AllBear table answers lines
+bear_kept table after kept answers lines bear k below =
+    let one = some_at (λ t. MatchOption (slice_get after k) ⊥ (IsKept t)) (slice_get table k) (kept k below) in
+    let other = some_at (IsKept one.0) (slice_get after k) one.1.1 in
+    let P : Known → Type 0 = BearsAt (line_of k lines) (answers k) in
+    here P (slice_get table k) one.0 one.1.0 (bears_kept one.0 other.0 (line_of k lines) (answers k) other.1.1 (there P (slice_get after k) other.0 other.1.0 (bear k below)))
+
+-- how far the threads have come that are kept
+shown_kept : (table after : List Known) (part : List Event) → AreKept table after → (answers : ℕ → Option Answer) (before : List Piece) → AreShown before table answers → AreShown (before ++ piece None part ∷ []) after answers
+shown_kept table after part kept answers before shown k below =
+    let one = some_at (λ t. MatchOption (slice_get after k) ⊥ (IsKept t)) (slice_get table k) (kept k below) in
+    let other = some_at (IsKept one.0) (slice_get after k) one.1.1 in
+    let came_so = there (λ t. came before k ≡ come t (answers k)) (slice_get table k) one.0 one.1.0 (shown k below) in
+    here (λ u. came (before ++ piece None part ∷ []) k ≡ come u (answers k)) (slice_get after k) other.0 other.1.0 (came_other k before (piece None part) refl ∙ came_so ∙ sym (other.1.1.came (answers k)))
+
+-- a thread may rest that is there, whatever its last ask is answered
+rests_by : (t u : Known) (plan : Option ThreadSpec) (o : Option ThreadLine) (answer : Option Answer) (p : Progress) → t.plan ≡ plan → IsKept t u → MayRest t u → BearsAt o answer u → p ≡ come t answer → MatchOption plan (Unit {0}) (λ s. Rests p)
+rests_by t u None o answer p is kept may bears came_so = tt
+rests_by t u (Some s) o answer p is kept may bears came_so =
+    let line = lined o answer u (λ none. none-some s (sym none ∙ kept.plan ∙ is)) bears in
+    let F : Option ThreadSpec → Type 0 = λ q. MatchOption q (Unit {0}) (λ plan. (a : Option Answer) (l : ThreadLine) → Bears u a l → Rests (come t a)) in
+    let rests : F (Some s) = subst F is may in
+    subst Rests (sym came_so) (rests answer line.0 line.1.1)
+
+idles_by : (cpu : ℕ) (plans : List ThreadSpec) (table after : List Known) → cpu < 8 → AreThreads plans table → AreKept table after → MayAllRest cpu table after → (answers : ℕ → Option Answer) (lines : List ThreadLine) → AllBear after answers lines → (before : List Piece) → AreShown before table answers → Idles plans cpu (came before)
+idles_by cpu plans table after processor threads kept rests answers lines bear before shown n few =
+    let k = 16 * cpu + n in
+    let below : k < 128 = omega arith in
+    let one = some_at (λ t. t.plan ≡ plan_of_thread cpu n plans) (slice_get table k) (threads.1 cpu n processor few) in
+    let other = pair_at IsKept (slice_get table k) (slice_get after k) one.0 one.1.0 (kept k below) in
+    let resting = there (λ u. k / 16 ≡ cpu → MayRest one.0 u) (slice_get after k) other.0 other.1.0 (there (λ t. MatchOption (slice_get after k) ⊥ (λ u. k / 16 ≡ cpu → MayRest t u)) (slice_get table k) one.0 one.1.0 (rests k below)) in
+    rests_by one.0 other.0 (plan_of_thread cpu n plans) (line_of k lines) (answers k) (came before k) one.1.1 other.1.1 (resting (slot_cpu cpu n few)) (there (BearsAt (line_of k lines) (answers k)) (slice_get after k) other.0 other.1.0 (bear k below)) (there (λ t. came before k ≡ come t (answers k)) (slice_get table k) one.0 one.1.0 (shown k below))
+
+-- a check goes on by a turn that polled no thread
+pub goes_unasked : (cpu : ℕ) (part : List Event) (plans : List ThreadSpec) (table after : List Known) (m n : Machine) → cpu < 8 → All (λ e. cpu_of e ≡ cpu) part → AreThreads plans table → GoesQuietly m part → n ≡ after_all m part → AreKept table after → MayAllRest cpu table after → GoesOnUnasked cpu part (follow plans table m) (follow plans after n)
+goes_unasked cpu part plans table after m n processor events threads quiet moved kept rests = record {
+  plans = refl;
+  machine = moved;
+  bear = bear_kept table after kept;
+  fits = λ answers lines bear before shown. record { own = events; makes = quiet; polls = idles_by cpu plans table after processor threads kept rests answers lines bear before shown };
+  shown = λ answers lines bear before shown. shown_kept table after part kept answers before shown;
+}
+
+-- the threads stay in their places
+pub threads_kept : (plans : List ThreadSpec) (table after : List Known) → AreThreads plans table → KeepsPlans table after → AreThreads plans after
+threads_kept plans table after threads keeps = (
+  keeps.0 ∙ threads.0,
+  λ cpu n processor few. (
+      let k = 16 * cpu + n in
+      let one = some_at (λ t. t.plan ≡ plan_of_thread cpu n plans) (slice_get table k) (threads.1 cpu n processor few) in
+      let other = pair_at (λ t u. u.plan ≡ t.plan) (slice_get table k) (slice_get after k) one.0 one.1.0 (keeps.1 k (omega arith)) in
+      here (λ u. u.plan ≡ plan_of_thread cpu n plans) (slice_get after k) other.0 other.1.0 (other.1.1 ∙ one.1.1)),
+)
+
+-- a thread that ends as its line says is there exactly if the line is
+paired_by : (plan : Option ThreadSpec) (line : Option ThreadLine) (p : Progress) → EndsAsTold plan line p → is_some plan ≡ is_some line
+paired_by None None p ends = refl
+paired_by None (Some line) p ends = absurd ends
+paired_by (Some plan) None p ends = absurd ends
+paired_by (Some plan) (Some line) p ends = refl
+
+-- the run ends where each thread ends as its line says
+pub ends_here : (plans : List ThreadSpec) (table : List Known) (m : Machine) (lines : List ThreadLine) (stop : List Event) → AreThreads plans table → AreListed m.cpus 0 lines → AllThreads (λ k t. IsEnded t (line_of k lines)) table → GoesQuietly m stop → EndsHere (follow plans table m) lines stop
+ends_here plans table m lines stop threads listed ended quiet =
+    let ends : (before : List Piece) → AreShown before table none_answered → (cpu n : ℕ) → cpu < 8 → n < 16 → EndsAsTold (plan_of_thread cpu n plans) (line_of (16 * cpu + n) lines) (came before (16 * cpu + n)) = λ before shown cpu n processor few. (
+    let k = 16 * cpu + n in
+    let below : k < 128 = omega arith in
+    let one = some_at (λ t. t.plan ≡ plan_of_thread cpu n plans) (slice_get table k) (threads.1 cpu n processor few) in
+    let is = there (λ t. IsEnded t (line_of k lines)) (slice_get table k) one.0 one.1.0 (ended k below) in
+    let came_so = there (λ t. came before k ≡ come t None) (slice_get table k) one.0 one.1.0 (shown k below) in
+    let P : Option ThreadSpec → Type 0 = λ o. EndsAsTold o (line_of k lines) (come one.0 None) in
+    let Q : Progress → Type 0 = λ p. EndsAsTold (plan_of_thread cpu n plans) (line_of k lines) p in
+    subst Q (sym came_so) (subst P one.1.1 is.ends)) in
+    record {
+      listed = listed;
+      paired = λ cpu n processor few. (
+          let k = 16 * cpu + n in
+          let one = some_at (λ t. t.plan ≡ plan_of_thread cpu n plans) (slice_get table k) (threads.1 cpu n processor few) in
+          let is = there (λ t. IsEnded t (line_of k lines)) (slice_get table k) one.0 one.1.0 (ended k (omega arith)) in
+          sym (ap (λ (o : Option ThreadSpec). is_some o) one.1.1) ∙ paired_by one.0.plan (line_of k lines) (come one.0 None) is.ends);
+      bear = λ k below. mapped (λ t. IsEnded t (line_of k lines)) (BearsAt (line_of k lines) None) (slice_get table k) (λ t is. is.bears) (ended k below);
+      ends = λ before shown. record { quiet = quiet; ends = ends before shown };
+    }
+
+-- a number below the one after another, and not that one, is below that
+below_but : (k n : ℕ) → (n ≡ k → ⊥) → k < n + 1 → k < n
+below_but k n apart below = omega (arith, λ (is : n ≡ k). apart is)
+
+-- one thread more of a processor rests
+abbrev pub Rested : ℕ → ℕ → List Known → List Known → Type 0
+Rested cpu n old table = AllPairs (λ k t u. 16 * cpu ≤ k → k < 16 * cpu + n → MayRest t u) old table
+
+abbrev pub Left : ℕ → ℕ → List Known → List Known → Type 0
+Left cpu n old table = (k : ℕ) → 16 * cpu + n ≤ k → slice_get table k ≡ slice_get old k
+
+written : (P : Known → Known → Type 0) (old table : List Known) (place k : ℕ) (t u : Known) → place < length table → slice_get old place ≡ Some t → P t u → ((place ≡ k → ⊥) → MatchOption (slice_get old k) ⊥ (λ x. MatchOption (slice_get table k) ⊥ (P x))) → MatchOption (slice_get old k) ⊥ (λ x. MatchOption (slice_get (slice_set table place u) k) ⊥ (P x))
+written P old table place k t u inside at now others =
+    let G : ℕ → Type 0 = λ j. MatchOption (slice_get old j) ⊥ (λ x. MatchOption (slice_get (slice_set table place u) j) ⊥ (P x)) in
+    elim (cases_eq place k) [
+      | inl is ↦ subst G is (here (λ x. MatchOption (slice_get (slice_set table place u) place) ⊥ (P x)) (slice_get old place) t at (here (P t) (slice_get (slice_set table place u) place) u (get_set table place u inside) now))
+      | inr apart ↦ (let O : Option Known → Type 0 = λ o. MatchOption (slice_get old k) ⊥ (λ x. MatchOption o ⊥ (P x)) in
+          subst O (sym (get_set_other table place k u apart)) (others apart))
+    ]
+
+pub rest_more : (cpu n : ℕ) (old table : List Known) (t u : Known) → cpu < 8 → n < 16 → length table ≡ 128 → t ≡ get_or table (16 * cpu + n) t → IsKept (get_or table (16 * cpu + n) t) u → MayRest (get_or table (16 * cpu + n) t) u → AreKept old table → Rested cpu n old table → Left cpu n old table → AreKept old (slice_set table (16 * cpu + n) u) × (Rested cpu (n + 1) old (slice_set table (16 * cpu + n) u) × Left cpu (n + 1) old (slice_set table (16 * cpu + n) u))
+rest_more cpu n old table t u processor few room is is_kept may_rest so_far rested left =
+    let place = 16 * cpu + n in
+    let kept : IsKept t u = subst (λ (x : Known). IsKept x u) (sym is) is_kept in
+    let may : MayRest t u = subst (λ (x : Known). MayRest x u) (sym is) may_rest in
+    let inside : place < length table = omega (arith, room) in
+    let at : slice_get old place ≡ Some t = sym (left place (omega arith)) ∙ slice_get-get_or table place t inside ∙ ap (λ (x : Known). Some x) (sym is) in (
+      (λ k below. written IsKept old table place k t u inside at kept (λ apart. so_far k below)),
+      (
+        (λ k below. written (λ x y. 16 * cpu ≤ k → k < 16 * cpu + (n + 1) → MayRest x y) old table place k t u inside at (λ from to. may) (λ apart. mapped (λ x. MatchOption (slice_get table k) ⊥ (λ y. 16 * cpu ≤ k → k < 16 * cpu + n → MayRest x y)) (λ x. MatchOption (slice_get table k) ⊥ (λ y. 16 * cpu ≤ k → k < 16 * cpu + (n + 1) → MayRest x y)) (slice_get old k) (λ x p. mapped (λ y. 16 * cpu ≤ k → k < 16 * cpu + n → MayRest x y) (λ y. 16 * cpu ≤ k → k < 16 * cpu + (n + 1) → MayRest x y) (slice_get table k) (λ y f from to. f from (below_but k place apart (omega (arith, to)))) p) (rested k below))),
+        (λ k past. get_set_other table place k u (λ same. omega arith) ∙ left k (omega arith)),
+      ),
+    )
+
+-- a vector that was written whole has what was written
+pub filled : (new items : List Known) (n : ℕ) → length new ≡ n → take n (new ++ drop (length new) items) ≡ new
+filled new items n is = take_at new (drop (length new) items) n is

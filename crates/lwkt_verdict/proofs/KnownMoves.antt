@@ -1,0 +1,96 @@
+use Rattle.std.proofs.Common.{zero, suc, inl, inr, ◌≡◌, ℕ, ◌+◌, ◌<◌, ◌≤◌, List, [], ◌∷◌, ◌++◌, length, take, refl, sym, ap, ◌∙◌, subst, arith, Option, Some, None}
+use Rattle.std.specs.Prelude.{nat_lt, min, slice_get, if◌then◌else◌, MatchOption}
+use Rattle.std.specs.Option.{option_map_or}
+use Rattle.std.proofs.lemmas.Bool.{cases_lt, lt-ltb, le-ltb}
+use Rattle.std.proofs.lemmas.List.{take-take, take_at, length_push}
+use Rattle.lwkt_base.specs.declared.asks.Ask.{Ask}
+use Rattle.lwkt_base.specs.declared.asks.Answer.{Answer}
+use Rattle.lwkt_base.specs.declared.entries.Entry.{Entry}
+use Rattle.lwkt_core.specs.declared.events.Event.{Event}
+use Rattle.lwkt_core.specs.Machine.{Machine}
+use Rattle.lwkt_verdict.specs.declared.progress.Asked.{Asked}
+use Rattle.lwkt_verdict.specs.declared.progress.Progress.{Progress}
+use Rattle.lwkt_verdict.specs.Owns.{has_blocked}
+use Rattle.lwkt_verdict.specs.Threads.{ask_at, logged_by}
+use Rattle.lwkt_verdict.specs.Follow.{Awaited, Known, asked_so, entry_so}
+use Rattle.lwkt_verdict.specs.Followed.{log_with, Hears, after_asking, Asks, IsPolled, IsKept}
+
+-- a test of two numbers in order, and not in order
+if_below : {A : Type 0} (m n : ℕ) (x y : A) → m < n → (if nat_lt m n then x else y) ≡ x
+if_below m n x y below = ap (λ b. if b then x else y) (lt-ltb m n below)
+
+if_past : {A : Type 0} (m n : ℕ) (x y : A) → n ≤ m → (if nat_lt m n then x else y) ≡ y
+if_past m n x y past = ap (λ b. if b then x else y) (le-ltb m n past)
+
+-- how long a log is with an entry more, or none
+long_with : (log : List Entry) (o : Option Entry) → length log ≤ 32 → length (log_with log o) ≡ option_map_or (λ (e : Entry). min 32 (length log + 1)) o (length log)
+long_with log None few = refl
+long_with log (Some e) few = elim (cases_lt (length log) 32) [
+  | inl below ↦ (let least : min 32 (length log + 1) ≡ length log + 1 = omega arith in
+      ap (λ (es : List Entry). length es) (if_below (length log) 32 (log ++ e ∷ []) log below) ∙ length_push log e ∙ sym least)
+  | inr past ↦ (let least : length log ≡ min 32 (length log + 1) = omega arith in
+      ap (λ (es : List Entry). length es) (if_past (length log) 32 (log ++ e ∷ []) log past) ∙ least)
+]
+
+-- an element of a list's front
+get_of_front : (ys : List Entry) (n k : ℕ) → k < n → slice_get (take n ys) k ≡ slice_get ys k
+get_of_front ys zero k below = absurd (omega arith)
+get_of_front [] (suc n) k below = refl
+get_of_front (y ∷ ys) (suc n) zero below = refl
+get_of_front (y ∷ ys) (suc n) (suc k) below = get_of_front ys n k (omega arith)
+
+-- the last of a list with one element more
+get_last : (xs : List Entry) (e : Entry) → slice_get (xs ++ e ∷ []) (length xs) ≡ Some e
+get_last [] e = refl
+get_last (x ∷ xs) e = get_last xs e
+
+-- what begins with a list and one element more, begins with that list
+begins_before : (xs ys : List Entry) (e : Entry) → take (length (xs ++ e ∷ [])) ys ≡ xs ++ e ∷ [] → (take (length xs) ys ≡ xs) × (slice_get ys (length xs) ≡ Some e)
+begins_before xs ys e is =
+    let long = length_push xs e in
+    let n = length (xs ++ e ∷ []) in
+    let fewer : length xs ≤ n = omega (arith, long) in
+    let inside : length xs < n = omega (arith, long) in (
+      sym (take-take (length xs) n ys fewer) ∙ ap (λ (es : List Entry). take (length xs) es) is ∙ take_at xs (e ∷ []) (length xs) refl,
+      sym (get_of_front ys n (length xs) inside) ∙ ap (λ (es : List Entry). slice_get es (length xs)) is ∙ get_last xs e,
+    )
+
+-- the same of a log with an entry more, or none
+front_of : (log : List Entry) (o : Option Entry) (whole : List Entry) → take (length (log_with log o)) whole ≡ log_with log o → (take (length log) whole ≡ log) × MatchOption o (Unit {0}) (λ e. length log < 32 → slice_get whole (length log) ≡ Some e)
+front_of log None whole is = (is, tt)
+front_of log (Some e) whole is =
+    let F : List Entry → Type 0 = λ es. take (length es) whole ≡ es in
+    elim (cases_lt (length log) 32) [
+      | inl below ↦ (let both = begins_before log whole e (subst F (if_below (length log) 32 (log ++ e ∷ []) log below) is) in
+          (both.0, λ few. both.1))
+      | inr past ↦ (subst F (if_past (length log) 32 (log ++ e ∷ []) log past) is, λ few. absurd (omega arith))
+    ]
+
+abbrev gone : ℕ → Option Asked → Option Entry → ℕ → Progress
+gone polls last entry n = record { polls = polls; last = last; logged = option_map_or (λ (e : Entry). min 32 (n + 1)) entry n }
+
+-- what a thread told and asked this leaves of what is known of it
+abbrev told_on : Answer → Known → Awaited → Known
+told_on told t w = record { plan = t.plan; polls = t.polls + 1; last = Some w; log = log_with t.log (entry_so t (Some told)) }
+
+-- a thread that heard an answer and asked its next ask
+pub is_polled : (m : Machine) (told : Answer) (asked : Ask) (part : List Event) (old mid new : Known) → length old.log ≤ 32 → Hears told old mid → MatchOption mid.plan ⊥ (λ plan. ask_at plan mid.polls ≡ Some asked) → Asks m asked part mid new → IsPolled m told asked part old new
+is_polled m told asked part old mid new few hears next asks =
+    let w : Awaited = record { ask = asked; blocked = has_blocked asked part; expected = asks.expected } in
+    let long = long_with old.log (entry_so old (Some told)) few in
+    let is : new ≡ told_on told old w = asks.noted ∙ ap (λ (t : Known). after_asking t w) hears.logged in
+    let P : Known → Type 0 = λ t. IsPolled m told asked part old t in
+    let Next : Known → Type 0 = λ t. MatchOption t.plan ⊥ (λ plan. ask_at plan t.polls ≡ Some asked) in
+    subst P (sym is) (record {
+      asks = subst Next hears.logged next;
+      came = λ answer. ap (λ n. gone (old.polls + 1) (Some (asked_so w answer)) (logged_by (asked_so w answer)) n) long;
+      bears = λ answer line b. (let front = front_of old.log (entry_so old (Some told)) line.log b.entries in
+          record { expected = hears.expected; answers = hears.answers; entries = front.0; entry = front.1 });
+      answers = λ answer line b. b.answers;
+      logs = λ answer line b. (let F : ℕ → Type 0 = λ n. MatchOption (logged_by (asked_so w answer)) (Unit {0}) (λ e. n < 32 → slice_get line.log n ≡ Some e) in subst F long b.entry);
+      makes = λ answer line b. asks.makes answer b.expected;
+    })
+
+-- a thread of which nothing more is known
+pub same_kept : (t : Known) → IsKept t t
+same_kept t = record { plan = refl; came = λ answer. refl; bears = λ answer line b. b }

@@ -1,0 +1,105 @@
+-- What a turn leaves of what a check knows of one thread that follows a run (own).
+use Rattle.std.specs.Prelude.{◌≡◌, ℕ, ◌+◌, ◌/◌, ◌<◌, nat_lt, Bool, true, false, List, [], ◌∷◌, ◌++◌, length, max, slice_get, if◌then◌else◌, Option, Some, None, MatchOption, option_map}
+use Rattle.lwkt_base.specs.declared.asks.Ask.{Ask}
+use Rattle.lwkt_base.specs.declared.asks.Answer.{Answer}
+use Rattle.lwkt_base.specs.declared.entries.Entry.{Entry}
+use Rattle.lwkt_core.specs.declared.events.Event.{Event}
+use Rattle.lwkt_core.specs.declared.events.Event.TheVariants.{Read, ReadBlob}
+use Rattle.lwkt_core.specs.Machine.{Machine}
+use Rattle.lwkt_script.specs.declared.scripts.ThreadSpec.{ThreadSpec}
+use Rattle.lwkt_report.specs.declared.closings.ThreadLine.{ThreadLine}
+use Rattle.lwkt_verdict.specs.declared.expected.Expected.{Expected}
+use Rattle.lwkt_verdict.specs.declared.expected.Expected.TheVariants.{Any, NoRefusal, Refusal, Value, Bytes}
+use Rattle.lwkt_verdict.specs.Asks.{may_answer, makes_event}
+use Rattle.lwkt_verdict.specs.Owns.{has_blocked}
+use Rattle.lwkt_verdict.specs.Parts.{IsPartOf}
+use Rattle.lwkt_verdict.specs.Threads.{ask_at, progress_after, IsLogged, Rests, EndsAsTold}
+use Rattle.lwkt_verdict.specs.Follow.{is_expected, Awaited, Known, entry_so, come, Bears}
+
+-- which answers an ask can have that made this event
+abbrev pub expected_by : Event → Expected
+expected_by (Read cpu tok cell value) = Value value
+expected_by (ReadBlob cpu tok blob) = Bytes blob
+expected_by _ = NoRefusal
+
+-- which answers an ask can have whose event isn't there
+abbrev pub expected_without : Ask → Expected
+expected_without ask = if makes_event ask then Refusal else Any
+
+-- how many steps a thread has: 1 where it has none or isn't there
+abbrev pub count_of : Option ThreadSpec → ℕ
+count_of None = 1
+count_of (Some plan) = max (length plan.steps) 1
+
+-- a thread, or none, that was never polled
+abbrev pub unpolled : Option ThreadSpec → Known
+unpolled plan = record { plan = plan; polls = 0; last = None; log = [] }
+
+-- a log with an entry behind it, if there is one and there is room for it
+abbrev pub log_with : List Entry → Option Entry → List Entry
+log_with log None = log
+log_with log (Some e) = if nat_lt (length log) 32 then (log ++ e ∷ []) else log
+
+-- what is known of a thread's last ask, if there is one
+abbrev pub awaited : Option Ask → Bool → Expected → Option Awaited
+awaited last blocked expected = option_map (λ ask. record { ask = ask; blocked = blocked; expected = expected }) last
+
+-- the thread was told this, which the ask before can have been answered
+pub record Hears (told : Answer) (old new : Known) : Type 0 where
+  pub expected : MatchOption old.last (Unit {0}) (λ w. is_expected w.expected (Some told) ≡ true)
+  pub answers : MatchOption old.last (Unit {0}) (λ w. may_answer w.ask told ≡ true)
+  pub logged : new ≡ record { plan = old.plan; polls = old.polls; last = old.last; log = log_with old.log (entry_so old (Some told)) }
+
+-- what is known of a thread once it has asked this
+abbrev pub after_asking : Known → Awaited → Known
+after_asking t w = record { plan = t.plan; polls = t.polls + 1; last = Some w; log = t.log }
+
+-- the thread has asked this, by this part of the trace: which answers it can have, and whether it is blocked
+pub record Asks (m : Machine) (asked : Ask) (part : List Event) (old new : Known) : Type 0 where
+  pub expected : Expected
+  pub noted : new ≡ after_asking old (record { ask = asked; blocked = has_blocked asked part; expected = expected })
+  pub makes : (answer : Option Answer) → is_expected expected answer ≡ true → IsPartOf m asked answer part
+
+-- the thread was polled, was told this, the answer to the ask before, and asked this: whatever that is answered, if its line bears it
+pub record IsPolled (m : Machine) (told : Answer) (asked : Ask) (part : List Event) (old new : Known) : Type 0 where
+  pub asks : MatchOption old.plan ⊥ (λ plan. ask_at plan old.polls ≡ Some asked)
+  pub came : (answer : Option Answer) → come new answer ≡ progress_after (come old (Some told)) (record { ask = asked; answer = answer; blocked = has_blocked asked part })
+  pub bears : (answer : Option Answer) (line : ThreadLine) → Bears new answer line → Bears old (Some told) line
+  pub answers : (answer : Option Answer) (line : ThreadLine) → Bears new answer line → MatchOption answer (Unit {0}) (λ a. may_answer asked a ≡ true)
+  pub logs : (answer : Option Answer) (line : ThreadLine) → Bears new answer line → IsLogged line (come old (Some told)) (record { ask = asked; answer = answer; blocked = false })
+  pub makes : (answer : Option Answer) (line : ThreadLine) → Bears new answer line → IsPartOf m asked answer part
+
+-- the thread has come as far as before, with no more answers that its last ask can have
+pub record IsKept (old new : Known) : Type 0 where
+  pub plan : new.plan ≡ old.plan
+  pub came : (answer : Option Answer) → come new answer ≡ come old answer
+  pub bears : (answer : Option Answer) (line : ThreadLine) → Bears new answer line → Bears old answer line
+
+-- the thread, if it is there, may rest, whatever its last ask is answered, if its line bears that
+abbrev pub MayRest : Known → Known → Type 0
+MayRest old new = MatchOption old.plan (Unit {0}) (λ plan. (answer : Option Answer) (line : ThreadLine) → Bears new answer line → Rests (come old answer))
+
+-- the thread ends as its line says, if it is there
+pub record IsEnded (t : Known) (line : Option ThreadLine) : Type 0 where
+  pub bears : MatchOption line (t.plan ≡ None) (Bears t None)
+  pub ends : EndsAsTold t.plan line (come t None)
+
+-- what holds of each thread of a table, by its number
+abbrev pub AllThreads : (ℕ → Known → Type 0) → List Known → Type 0
+AllThreads P table = (k : ℕ) → k < 128 → MatchOption (slice_get table k) ⊥ (P k)
+
+-- what holds of each thread of a table before and after something, by its number
+abbrev pub AllPairs : (ℕ → Known → Known → Type 0) → List Known → List Known → Type 0
+AllPairs P old new = (k : ℕ) → k < 128 → MatchOption (slice_get old k) ⊥ (λ t. MatchOption (slice_get new k) ⊥ (P k t))
+
+-- the threads stay in their places
+abbrev pub KeepsPlans : List Known → List Known → Type 0
+KeepsPlans old new = (length new ≡ length old) × AllPairs (λ k t u. u.plan ≡ t.plan) old new
+
+-- each thread has come as far as before
+abbrev pub AreKept : List Known → List Known → Type 0
+AreKept old new = AllPairs (λ k. IsKept) old new
+
+-- each thread of a processor may rest
+abbrev pub MayAllRest : ℕ → List Known → List Known → Type 0
+MayAllRest cpu old new = AllPairs (λ k t u. k / 16 ≡ cpu → MayRest t u) old new

@@ -1,0 +1,241 @@
+//! A check that follows a run turn by turn, and keeps no turn.
+ghost use Rattle.std.specs.Prelude.{◌≡◌, ℕ, ◌<◌, ◌+◌, ◌*◌, ◌/◌, ◌%◌, ◌^◌, ◌-◌, ◌≤◌, ◌↔◌, IsTrue, IfOk, IfSome, MatchOption, length, slice_get, Some, is_some, option_map};
+ghost use Rattle.std.specs.Option.{option_copied};
+ghost use Rattle.lwkt_base.specs.declared.asks.Ask.TheVariants.{Exit};
+ghost use Rattle.lwkt_verdict.specs.Parts.{after_all, GoesQuietly};
+ghost use Rattle.lwkt_verdict.specs.Threads.{plan_of_thread, line_of};
+ghost use Rattle.lwkt_verdict.specs.Follow.{Follow, Begins, GoesOnByPoll, GoesOnUnasked, EndsHere, AreThreads};
+ghost use Rattle.lwkt_verdict.specs.Followed.{unpolled, Asks, IsPolled, IsKept, MayRest, IsEnded, AllThreads, KeepsPlans, AreKept, MayAllRest};
+
+use crate::checks::are_of;
+use crate::followed::Followed;
+use crate::homes::THREAD_LIMIT;
+use crate::owns::has_blocked;
+use crate::parts::{expected_of, goes_quietly};
+use crate::plans::{find_line, find_thread};
+use crate::rounds::are_listed;
+use crate::short_asks::is_same;
+use lwkt_base::{Answer, Ask, ThreadId};
+use lwkt_core::{Event, State};
+use lwkt_report::ThreadLine;
+use lwkt_script::ThreadSpec;
+use std::alloc::{AllocError, Global};
+use std::marker::Model;
+
+/// A check that follows a run of a script turn by turn, as it is made. Of the turns it keeps nothing but, for each thread, what it asked
+/// last and the first 32 entries of its log.
+///
+/// What it says of a turn holds for each answer that the turn's ask can have later. It says no more often than `is_script_run`: where a
+/// thread whose processor had a turn without an ask is told a refusal, and where an ask is refused whose turn has an event as the ask makes it.
+#[derive(Drop)]
+pub struct Follower<'p> {
+    plans: &'p [ThreadSpec],
+    // The ask that ends a thread.
+    end: &'p Ask,
+    // 16 threads for each of 8 processors.
+    table: Vec<Followed<'p>>,
+    // The machine that the trace so far leads to.
+    state: State,
+}
+
+impl<'p> Model for Follower<'p> {
+    ghost use Rattle.std.specs.Prelude.{◌≡◌};
+    ghost use Rattle.lwkt_base.specs.declared.asks.Ask.TheVariants.{Exit};
+    ghost use Rattle.lwkt_verdict.specs.Follow.{Follow, AreThreads};
+
+    ghost Value = { Follow };
+
+    ghost view = { λ f. record { plans = f.plans.now; table = f.table.items; machine = f.state } };
+
+    ghost invariant = { λ f. AreThreads f.plans.now f.table.items × (f.end.now ≡ Exit) };
+}
+
+// The thread of this number, 16 for each processor, if the script has it.
+fn thread_at(plans: &[ThreadSpec], slot: usize) -> Option<&ThreadSpec>
+    requires { slot < 128 }
+    ensures { option_copied result ≡ plan_of_thread (slot / 16) (slot % 16) plans.now }
+{
+    match find_thread((slot / 16) as u8, (slot % 16) as u8, plans) {
+        None => None,
+        Some(at) => plans.get(at),
+    }
+}
+
+// The line of the thread of this number, if there is one.
+fn line_at(lines: &[ThreadLine], slot: usize) -> Option<&ThreadLine>
+    ensures { option_copied result ≡ line_of slot lines.now }
+{
+    match find_line(slot, lines) {
+        None => None,
+        Some(at) => lines.get(at),
+    }
+}
+
+// The threads, none of which was polled yet.
+fn unpolled_threads<'p>(
+    alloc: Global,
+    plans: &'p [ThreadSpec],
+) -> Result<Vec<Followed<'p>>, AllocError>
+    ensures { IfOk result (λ table. (length table.items ≡ 128) × AllThreads (λ k t. t ≡ unpolled (plan_of_thread (k / 16) (k % 16) plans.now)) table.items) }
+{
+    let mut table = Vec::with_capacity(alloc, THREAD_LIMIT)?;
+    for slot in 0..THREAD_LIMIT {
+        table.push(Followed::unpolled(alloc, thread_at(plans, slot)))?;
+    }
+    Ok(table)
+}
+
+// Whether a thread may ask this, whose next ask it is, by this part of the trace; it and the machine then go on.
+#[inline(always)]
+fn goes_on<'p>(followed: &mut Followed<'p>, state: &mut State, ask: &'p Ask, part: &[Event]) -> bool
+    requires few { followed.old.polls < 2 ^ 64 - 1 }
+    ensures plan { followed.new.plan ≡ followed.old.plan }
+    ensures asked { IsTrue result → Asks state.old ask.now part.now followed.old followed.new }
+    ensures moved { IsTrue result → state.new ≡ after_all state.old part.now }
+{
+    match expected_of(state, ask, part) {
+        None => false,
+        Some(shown) => {
+            followed.go_on(ask, has_blocked(ask, part), shown);
+            true
+        }
+    }
+}
+
+// Whether a thread that was told this may be polled with this ask and this part of the trace; it and the machine then go on.
+#[inline(always)]
+fn asks<'p>(
+    followed: &mut Followed<'p>,
+    state: &mut State,
+    end: &'p Ask,
+    told: &Answer,
+    asked: &Ask,
+    part: &[Event],
+) -> Result<bool, AllocError>
+    requires end { end.now ≡ Exit }
+    ensures plan { followed.new.plan ≡ followed.old.plan }
+    ensures polled { IfOk result (λ yes. IsTrue yes → IsPolled state.old told.now asked.now part.now followed.old followed.new) }
+    ensures moved { IfOk result (λ yes. IsTrue yes → state.new ≡ after_all state.old part.now) }
+{
+    if !followed.hear(told)? {
+        return Ok(false);
+    }
+    let Some(ask) = followed.next_ask(end) else {
+        return Ok(false);
+    };
+    Ok(is_same(ask, asked) && goes_on(followed, state, ask, part))
+}
+
+// Whether each thread of a processor rests.
+fn all_rest(table: &mut [Followed<'_>], cpu: usize) -> bool
+    requires processor { cpu < 8 }
+    requires room { length table.old ≡ 128 }
+    ensures plans { KeepsPlans table.old table.new }
+    ensures kept { IsTrue result → AreKept table.old table.new }
+    ensures rests { IsTrue result → MayAllRest cpu table.old table.new }
+{
+    for n in 0..16 {
+        if !table[16 * cpu + n].rest() {
+            return false;
+        }
+    }
+    true
+}
+
+// Whether each thread ends as its line says.
+fn all_end(table: &[Followed<'_>], lines: &[ThreadLine]) -> bool
+    requires room { length table.now ≡ 128 }
+    ensures { IsTrue result → AllThreads (λ k t. IsEnded t (line_of k lines.now)) table.now }
+{
+    for slot in 0..THREAD_LIMIT {
+        if !table[slot].ends_as(line_at(lines, slot)) {
+            return false;
+        }
+    }
+    true
+}
+
+impl<'p> Follower<'p> {
+    /// A check of a run of a script with these threads, from this opening on; `end` is the ask that ends a thread.
+    ///
+    /// `AllocError` if memory is refused.
+    pub fn new(
+        alloc: Global,
+        plans: &'p [ThreadSpec],
+        opening: State,
+        end: &'p Ask,
+    ) -> Result<Follower<'p>, AllocError>
+        requires end { end.now ≡ Exit }
+        ensures { IfOk result (λ f. Begins plans.now opening f) }
+    {
+        let table = unpolled_threads(alloc, plans)?;
+        Ok(Follower {
+            plans,
+            end,
+            table,
+            state: opening,
+        })
+    }
+
+    /// Whether a turn of this processor that polled this thread fits the turns before it, with this part of the trace. The thread was
+    /// told the answer to what it had asked before, and asked this. If it fits, the check goes on by it; else nothing follows from the
+    /// check any more.
+    ///
+    /// `AllocError` if memory for the thread's log is refused. Nothing follows from the check then.
+    #[inline]
+    pub fn poll(
+        &mut self,
+        cpu: usize,
+        thread: ThreadId,
+        told: &Answer,
+        asked: &Ask,
+        part: &[Event],
+    ) -> Result<bool, AllocError>
+        requires processor { cpu < 8 }
+        ensures { IfOk result (λ yes. IsTrue yes → GoesOnByPoll cpu thread told.now asked.now part.now self.old self.new) }
+    {
+        if usize::from(thread.cpu.0) != cpu || thread.thread >= 16 || !are_of(cpu, part) {
+            return Ok(false);
+        }
+        let slot = 16 * cpu + usize::from(thread.thread);
+        asks(
+            &mut self.table[slot],
+            &mut self.state,
+            self.end,
+            told,
+            asked,
+            part,
+        )
+    }
+
+    /// Whether a turn of this processor that polled no thread fits the turns before it, with this part of the trace. If it fits, the
+    /// check goes on by it; else nothing follows from the check any more.
+    pub fn rest(&mut self, cpu: usize, part: &[Event]) -> bool
+        requires processor { cpu < 8 }
+        ensures { IsTrue result → GoesOnUnasked cpu part.now self.old self.new }
+    {
+        if !are_of(cpu, part) {
+            return false;
+        }
+        if !goes_quietly(&mut self.state, part) {
+            return false;
+        }
+        all_rest(self.table.as_mut_slice(), cpu)
+    }
+
+    /// Whether the run ends here as these lines say, with these events of the stop. If so, the machine that they lead to.
+    pub fn ends(self, lines: &[ThreadLine], stop: &[Event]) -> Option<State>
+        ensures ends { IfSome result (λ state. EndsHere self.entry lines.now stop.now) }
+        ensures moved { IfSome result (λ state. state ≡ after_all self.entry.machine stop.now) }
+    {
+        if !are_listed(self.state.cpus(), lines) || !all_end(self.table.as_slice(), lines) {
+            return None;
+        }
+        let mut state = self.state;
+        if goes_quietly(&mut state, stop) {
+            Some(state)
+        } else {
+            None
+        }
+    }
+}
