@@ -10,7 +10,7 @@ use lwkt_litmus::Judgement;
 use lwkt_refusals::Speaker;
 use lwkt_remarks::{Account, account_of, opening_said, wrongs_said};
 use lwkt_report::{Closing, RunFault, Sink, write_whole};
-use lwkt_run::{TurnsRun, close_threads, turns_run_of};
+use lwkt_run::{close_threads, close_turns};
 use lwkt_script::Script;
 use lwkt_text::{Reading, Refusal, read_text};
 use std::alloc::{AllocError, Global};
@@ -43,10 +43,7 @@ fn closing_by<R: Threads + Sync>(
     ensures refused { IfErr result (λ fault. DeclinesRun script fault) }
 {
     match mode {
-        Mode::Turns => {
-            let TurnsRun { closing, .. } = turns_run_of(alloc, script)?;
-            Ok(closing)
-        }
+        Mode::Turns => close_turns(alloc, script),
         Mode::Threads => close_threads(rt, alloc, &script),
     }
 }

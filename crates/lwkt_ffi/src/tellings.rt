@@ -1,7 +1,5 @@
 //! Texts of the language for scripts, run.
 ghost use Rattle.std.specs.Prelude.{◌≡◌, [], IfOk, IfErr, string_bytes};
-ghost use Rattle.lwkt_run.specs.Run.{MayClose, DeclinesRun};
-ghost use Rattle.lwkt_verdict.specs.declared.turns.Pace.{Pace};
 ghost use Rattle.lwkt_ffi.specs.Texts.{HasTextReport, RefusesTextRun, TellsTextRun, AnswersText, status_of_text_run};
 
 use crate::answers::{LwktAnswer, status_of_fault};
@@ -11,9 +9,8 @@ use lwkt_base::Fault;
 use lwkt_litmus::Judgement;
 use lwkt_refusals::Speaker;
 use lwkt_remarks::{Account, account_of, opening_said};
-use lwkt_report::{Closing, Page};
-use lwkt_run::{TurnsRun, turns_run_of};
-use lwkt_script::Script;
+use lwkt_report::Page;
+use lwkt_run::close_turns;
 use lwkt_text::Reading;
 use std::alloc::{AllocError, Global};
 
@@ -31,15 +28,6 @@ fn say_opening(alloc: Global, text: &[u8], fault: Fault, page: &mut Page) {
     put_said(Speaker::Run, page, opening_line(alloc, text, fault));
 }
 
-// Runs a script in rounds, to what its report shows.
-fn closing_of(alloc: Global, script: Script) -> Result<Closing, Fault>
-    ensures ok { IfOk result (λ closing. MayClose (Pace.Rounds script.turns) script closing) }
-    ensures refused { IfErr result (λ fault. DeclinesRun script fault) }
-{
-    let TurnsRun { closing, .. } = turns_run_of(alloc, script)?;
-    Ok(closing)
-}
-
 // Runs a text, to all that is told of its run; why it is refused is put on a page.
 fn account_onto(alloc: Global, text: &[u8], page: &mut Page) -> Result<Account, Fault>
     ensures ok { IfOk result (λ account. HasTextReport text.now account.judgement (string_bytes account.report)) }
@@ -53,7 +41,7 @@ fn account_onto(alloc: Global, text: &[u8], page: &mut Page) -> Result<Account, 
         Ok(reading) => reading,
         Err(fault) => return Err(fault),
     };
-    let closing = match closing_of(alloc, script) {
+    let closing = match close_turns(alloc, script) {
         Ok(closing) => closing,
         Err(fault) => {
             say_opening(alloc, text, fault, page);

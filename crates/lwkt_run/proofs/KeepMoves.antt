@@ -81,7 +81,7 @@ pushed_other slot (x ∷ polls) q apart =
     ap F (pushed_other slot polls q apart)
 
 -- the place of a thread's last poll, where a poll is answered
-place_changed : (slot : ℕ) (told : Answer) (polls : List Poll) (place : ℕ) → last_place slot (changed (with_answer told) polls place) ≡ last_place slot polls
+pub place_changed : (slot : ℕ) (told : Answer) (polls : List Poll) (place : ℕ) → last_place slot (changed (with_answer told) polls place) ≡ last_place slot polls
 place_changed slot told polls place = go (slice_get polls place) refl
   where
     go : (o : Option Poll) → slice_get polls place ≡ o → last_place slot (changed (with_answer told) polls place) ≡ last_place slot polls

@@ -1,6 +1,9 @@
 pub mod ArriveMoves
 pub mod ChainMoves
 pub mod CloseMoves
+pub mod FillMoves
+pub mod FollowMoves
+pub mod FollowedMoves
 pub mod GatherMoves
 pub mod IdMoves
 pub mod JoinMoves
@@ -12,10 +15,12 @@ pub mod PollMoves
 pub mod RoundMoves
 pub mod RunLemmas
 pub mod SectionMoves
+pub mod StandMoves
 pub mod StopMoves
 pub mod StretchLemmas
 pub mod ThreadedLemmas
 pub mod ThreadedMoves
 pub mod ToldMoves
+pub mod TrackMoves
 pub mod TurnMoves
 pub mod VerdictMoves

@@ -50,7 +50,7 @@ one_round over number cpus count x y same round =
     chain_maps Going Scene f TakesTurn T cpus does cpus (going x true) (going y over) few chain
 
 -- a turn keeps the number of processors
-turn_keeps : (cpus cpu : ℕ) (x y : Scene) → MakesTurnAt cpu x y → length x.machine.cpus ≡ cpus → length y.machine.cpus ≡ cpus
+pub turn_keeps : (cpus cpu : ℕ) (x y : Scene) → MakesTurnAt cpu x y → length x.machine.cpus ≡ cpus → length y.machine.cpus ≡ cpus
 turn_keeps cpus cpu x y turn same =
     let d = turn.1.makes in
     ap length d.turns.cpus ∙ length-set d.seen cpu d.turns.now ∙ zip_long _ x.machine.cpus d.seen (sent_looked cpu x.machine.cpus d.seen d.sees) ∙ same
@@ -106,7 +106,7 @@ list_long cpus (suc n) =
     let e : n + 1 ≡ suc n = omega arith in
     length_push (round_list cpus n) (n % cpus) ∙ ap (λ j. j + 1) (list_long cpus n) ∙ e
 
-goes_more : (cpus k : ℕ) (xs : List ℕ) (x : ℕ) → GoesRound cpus k xs → x ≡ (k + length xs) % cpus → GoesRound cpus k (xs ++ x ∷ [])
+pub goes_more : (cpus k : ℕ) (xs : List ℕ) (x : ℕ) → GoesRound cpus k xs → x ≡ (k + length xs) % cpus → GoesRound cpus k (xs ++ x ∷ [])
 goes_more cpus k [] x goes is =
     let e : k + zero ≡ k = omega arith in
     (is ∙ ap (λ j. j % cpus) e, record {})

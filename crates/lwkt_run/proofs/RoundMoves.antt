@@ -36,7 +36,7 @@ use Rattle.lwkt_verdict.specs.Run.{whose}
 use Rattle.lwkt_run.specs.Running.{HasThreads, Scene, Going, going, says_over, both, TakesTurn, MakesTurnAt, MakesTurns, MakesKeptRound, HasMadeRounds}
 
 -- what each step of a chain keeps, the chain keeps
-chain_keeps : (A : Type 0) (Step : ℕ → A → A → Type 0) (P : A → Type 0) → ((k : ℕ) (x y : A) → Step k x y → P x → P y) → (n : ℕ) (x y : A) → Chain A Step n x y → P x → P y
+pub chain_keeps : (A : Type 0) (Step : ℕ → A → A → Type 0) (P : A → Type 0) → ((k : ℕ) (x y : A) → Step k x y → P x → P y) → (n : ℕ) (x y : A) → Chain A Step n x y → P x → P y
 unfolding Chain
 chain_keeps A Step P keeps zero x y chain p = subst P (sym chain) p
 chain_keeps A Step P keeps (suc n) x y chain p = keeps n chain.0 y chain.2 (chain_keeps A Step P keeps n x chain.0 chain.1 p)
@@ -92,7 +92,7 @@ has_looked cpus threads olds news zip has = record {
       ap (λ (y : Processor Scripted). length y.threads) x.1.1.else_same ∙ has.each k x.0 x.1.0;
 }
 
-has_turned : (cpus : ℕ) (threads : List ThreadSpec) (cpu : ℕ) (old new : Rig) (t u : Vec Event Global) (turned : Turned) → TurnsAt cpu old new t u turned → HasThreads cpus threads old.cpus → HasThreads cpus threads new.cpus
+pub has_turned : (cpus : ℕ) (threads : List ThreadSpec) (cpu : ℕ) (old new : Rig) (t u : Vec Event Global) (turned : Turned) → TurnsAt cpu old new t u turned → HasThreads cpus threads old.cpus → HasThreads cpus threads new.cpus
 has_turned cpus threads cpu old new t u turned d has =
     let F : List (Processor Scripted) → Type 0 = λ ps. HasThreads cpus threads ps in
     let e = d.turns in

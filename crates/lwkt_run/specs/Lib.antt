@@ -1,5 +1,6 @@
 pub mod Arriving
 pub mod Chains
+pub mod Following
 pub mod Joining
 pub mod Keeping
 pub mod Judging

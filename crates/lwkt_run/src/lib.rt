@@ -6,6 +6,8 @@
 #![tactic(auto)]
 
 mod endings;
+mod followed;
+mod follows;
 mod givers;
 pub mod laws;
 mod lines;
@@ -20,6 +22,7 @@ mod tellings;
 mod threaded;
 mod verdicts;
 
+pub use followed::close_turns;
 pub use lwkt_report::{RunFault, Verdict};
 pub use lwkt_script::{Script, read_script};
 pub use lwkt_threads::{Gate, OpenGate};

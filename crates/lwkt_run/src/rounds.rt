@@ -33,7 +33,7 @@ fn polled_at(machine: &Machine, cpu: usize, thread: usize) -> PolledRef<'_>
 }
 
 // What the last turn of a processor asked, which says this.
-fn asks_of(machine: &Machine, cpu: usize, turned: Turned) -> Option<PolledRef<'_>>
+pub(crate) fn asks_of(machine: &Machine, cpu: usize, turned: Turned) -> Option<PolledRef<'_>>
     requires processor { cpu < 8 }
     requires polled { HasPolled cpu machine.now turned }
     ensures asked { HasBeenAsked cpu machine.now turned (option_map polled_of result) }
@@ -46,14 +46,14 @@ fn asks_of(machine: &Machine, cpu: usize, turned: Turned) -> Option<PolledRef<'_
 }
 
 // Whether a turn says that every thread has ended.
-fn is_over(turned: Turned) -> bool
+pub(crate) fn is_over(turned: Turned) -> bool
     ensures { result ≡ says_over turned }
 {
     matches!(turned, Turned::AllExited)
 }
 
 // Whether both are so.
-fn both(a: bool, b: bool) -> bool
+pub(crate) fn both(a: bool, b: bool) -> bool
     ensures { result ≡ both_so a b }
 {
     a && b

@@ -9,6 +9,7 @@ ghost use Rattle.lwkt_run.specs.Values.{is_tally, AreValuesOf};
 ghost use Rattle.lwkt_run.specs.Run.{opening_of_script, RunsInRounds, RunsAlong, RunsAt, IsJudgedBy, MayClose, IsTurnsRun, IsOrderRun, DeclinesAlong, RefusesAlong, end_told, HasRun, DeclinesRun, Refuses, TellsRounds};
 
 use crate::endings::{Left, left_by};
+use crate::followed::close_turns;
 use crate::lines::token_lines;
 use crate::records::Record;
 use crate::reports::{Done, conclude};
@@ -102,7 +103,7 @@ fn closing_of(
 }
 
 // The opening state of a script.
-fn opened(alloc: Global, script: &Script) -> Result<State, Fault>
+pub(crate) fn opened(alloc: Global, script: &Script) -> Result<State, Fault>
     requires few { AreFew script.now.cpus script.now.threads }
     ensures ok { IfOk result (λ state. state ≡ opening_of_script script.now) }
     ensures within { OnOk result (AreWithin script.now.cpus script.now.tokens script.now.messages) }
@@ -288,7 +289,7 @@ pub fn end_told(closing: &Closing) -> End
 }
 
 // Whether every thread had ended.
-fn all_ended(lines: &[ThreadLine]) -> bool
+pub(crate) fn all_ended(lines: &[ThreadLine]) -> bool
     ensures { result ≡ list_all (λ line. has_ended line.state) lines.now }
 {
     lines.iter().all(|line| line.state.has_ended())
@@ -299,9 +300,10 @@ fn done_of_bytes(alloc: Global, bytes: &[u8]) -> Result<Done, Fault>
     ensures ok { IfOk result (λ done. HasRun bytes.now done.end (string_bytes done.text)) }
     ensures refused { IfErr result (λ fault. Refuses bytes.now fault) }
 {
-    let run = turns_run(alloc, bytes)?;
-    let end = end_told(&run.closing);
-    let text = report(alloc, &run.closing)?;
+    let script = read_script(alloc, bytes)?;
+    let closing = close_turns(alloc, script)?;
+    let end = end_told(&closing);
+    let text = report(alloc, &closing)?;
     Ok(Done { text, end })
 }
 

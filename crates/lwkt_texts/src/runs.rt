@@ -11,7 +11,7 @@ use lwkt_base::Fault;
 use lwkt_refusals::{Document, refusal};
 use lwkt_remarks::{Account, account_of, opening_said};
 use lwkt_report::{Closing, Sink};
-use lwkt_run::turns_run_of;
+use lwkt_run::close_turns;
 use lwkt_text::claims::Expectation;
 use std::alloc::Global;
 
@@ -70,15 +70,8 @@ pub fn run_said<K: Sink, E: Sink>(
         script,
         expectations,
     } = read;
-    match turns_run_of(alloc, script) {
-        Ok(run) => reported(
-            alloc,
-            file,
-            expectations.as_slice(),
-            &run.closing,
-            sink,
-            errors,
-        ),
+    match close_turns(alloc, script) {
+        Ok(closing) => reported(alloc, file, expectations.as_slice(), &closing, sink, errors),
         Err(Fault::Memory(_)) => Status::Memory,
         Err(fault) => say_opening(alloc, file, fault, errors),
     }

@@ -6,8 +6,8 @@ pub returns-in-Ok-account_of-clause-ok : goal.returns-in-Ok-account_of-clause-ok
 returns-in-Ok-account_of-clause-ok c = record {
   reading = c.in-Ok.reading;
   read = c.in-Ok.ensures.ok;
-  closing = c.in-Ok-closing_of.closing;
-  closes = c.in-Ok-closing_of.ensures.ok;
+  closing = c.in-Ok-close_turns.closing;
+  closes = c.in-Ok-close_turns.ensures.closes;
   is_report = c.in-Ok-account_of.ensures.report;
-  is_judgement = c.in-Ok-account_of.ensures.judgement ∙ ap (λ said. judgement_of said c.in-Ok-closing_of.closing) c.as_slice.ensures;
+  is_judgement = c.in-Ok-account_of.ensures.judgement ∙ ap (λ said. judgement_of said c.in-Ok-close_turns.closing) c.as_slice.ensures;
 }

@@ -1,0 +1,125 @@
+-- A run that a check has followed so far, whatever comes of it: what its last asks are answered, and which turns follow.
+use Rattle.std.proofs.Common.{◌≡◌, ℕ, ◌+◌, ◌<◌, ◌≤◌, List, [], ◌∷◌, ◌++◌, length, take, drop, min, refl, ap, sym, ◌∙◌, subst, arith, Option, Some, None, append_assoc, length-append}
+use Rattle.std.specs.Prelude.{slice_get, unwrap_or}
+use Rattle.std.proofs.Math.Seq.{drop-append_seam}
+use Rattle.std.proofs.lemmas.List.{length_push}
+use Rattle.lwkt_base.specs.declared.asks.Answer.{Answer}
+use Rattle.lwkt_core.specs.declared.events.Event.{Event}
+use Rattle.lwkt_core.specs.Machine.{Machine}
+use Rattle.lwkt_script.specs.declared.scripts.ThreadSpec.{ThreadSpec}
+use Rattle.lwkt_report.specs.declared.closings.ThreadLine.{ThreadLine}
+use Rattle.lwkt_verdict.specs.declared.turns.Poll.{Poll}
+use Rattle.lwkt_verdict.specs.declared.turns.Turn.{Turn}
+use Rattle.lwkt_verdict.specs.declared.progress.Piece.{Piece}
+use Rattle.lwkt_verdict.specs.Parts.{after_all}
+use Rattle.lwkt_verdict.specs.Run.{whose, poll_of, piece, TurnFits, RunsThrough}
+use Rattle.lwkt_verdict.specs.Threads.{slot_of}
+use Rattle.lwkt_verdict.specs.Follow.{Follow, AllBear, AreShown, GoesOn, answered_at, Begins}
+use Rattle.lwkt_run.specs.Keeping.{Kept, kept_as, none_kept, polls_after, turn_of}
+use Rattle.lwkt_run.specs.Following.{GoesOnBy}
+use Rattle.lwkt_run.specs.declared.polled.Polled.{Polled}
+use Rattle.lwkt_run.proofs.FillMoves.{answered, filled, filled_long, filled_after}
+
+-- a list begins with another one
+abbrev pub IsFront : {A : Type 0} → List A → List A → Type 0
+IsFront front whole = (rest : List _) × (whole ≡ front ++ rest)
+
+-- one item less
+less_front : (A : Type 0) (front whole : List A) (x : A) → IsFront (front ++ x ∷ []) whole → IsFront front whole
+less_front A front whole x is = (x ∷ is.0, is.1 ∙ append_assoc front (x ∷ []) is.0)
+
+-- the item at the end of a front
+push_get : (A : Type 0) (front rest : List A) (x : A) → slice_get (front ++ x ∷ rest) (length front) ≡ Some x
+push_get A [] rest x = refl
+push_get A (y ∷ front) rest x = push_get A front rest x
+
+front_get : (A : Type 0) (front whole : List A) (x : A) → IsFront (front ++ x ∷ []) whole → slice_get whole (length front) ≡ Some x
+front_get A front whole x is =
+    ap (λ xs. slice_get xs (length front)) (is.1 ∙ append_assoc front (x ∷ []) is.0) ∙ push_get A front is.0 x
+
+-- so far these turns made this trace: with these answers to the last asks, these lines, polls and this order they lead to where the check
+-- stands, and what runs from there on, ran from the opening on
+pub record Track (plans : List ThreadSpec) (opening : Machine) (turns : List Turn) (trace : List Event) (f : Follow) (answers : ℕ → Option Answer) (lines : List ThreadLine) (polls : List Poll) (order : List ℕ) : Type 0 where
+  pub before : List Piece
+  pub shown : AreShown before f.table answers
+  pub long : length before ≡ length turns
+  pub on : (later : List Turn) (events : List Event) → RunsThrough plans lines polls order f.machine before later events → RunsThrough plans lines polls order opening [] (turns ++ later) (trace ++ events)
+
+-- the same of all answers, lines, polls and orders that can still come of it
+abbrev pub Tracks : List ThreadSpec → Machine → Kept → List Event → Follow → Type 0
+Tracks plans opening kept trace f = (answers : ℕ → Option Answer) (lines : List ThreadLine) (polls : List Poll) (order : List ℕ) → AllBear f.table answers lines → IsFront (filled answers kept.polls) polls → IsFront kept.order order → Track plans opening kept.turns trace f answers lines polls order
+
+-- before the first turn
+pub tracks_none : (plans : List ThreadSpec) (opening : Machine) (f : Follow) → Begins plans opening f → Tracks plans opening none_kept [] f
+tracks_none plans opening f begins answers lines polls order bear fronts named = record {
+  before = [];
+  shown = begins.shown answers;
+  long = refl;
+  on = λ later events runs. subst (λ m. RunsThrough plans lines polls order m [] later events) begins.machine runs;
+}
+
+take_front : (xs ys : List Event) → take (length xs) (xs ++ ys) ≡ xs
+take_front [] ys = refl
+take_front (x ∷ xs) ys = ap (λ zs. x ∷ zs) (take_front xs ys)
+
+-- a turn and what runs after it
+runs_on : (plans : List ThreadSpec) (lines : List ThreadLine) (polls : List Poll) (order : List ℕ) (m : Machine) (before : List Piece) (t : Turn) (later : List Turn) (poll : Option Poll) (part events : List Event) → t.events ≡ length part → poll_of polls t ≡ poll → TurnFits plans lines (whose order (length before)) m before poll part → RunsThrough plans lines polls order (after_all m part) (before ++ piece poll part ∷ []) later events
+    → RunsThrough plans lines polls order m before (t ∷ later) (part ++ events)
+runs_on plans lines polls order m before t later poll part events count is fits runs =
+    let front : take t.events (part ++ events) ≡ part = ap (λ n. take n (part ++ events)) count ∙ take_front part events in
+    let back : drop t.events (part ++ events) ≡ events = ap (λ n. drop n (part ++ events)) count ∙ drop-append_seam part events in
+    let few : t.events ≤ length (part ++ events) = omega (arith, count, length-append part events) in
+    let F : Option Poll → List Event → List Event → Type 0 = λ p es fs. TurnFits plans lines (whose order (length before)) m before p es × RunsThrough plans lines polls order (after_all m es) (before ++ piece p es ∷ []) later fs in
+    let a : F poll part (drop t.events (part ++ events)) = subst (λ fs. F poll part fs) (sym back) (fits, runs) in
+    let b : F poll (take t.events (part ++ events)) (drop t.events (part ++ events)) = subst (λ es. F poll es (drop t.events (part ++ events))) (sym front) a in
+    (few, subst (λ p. F p (take t.events (part ++ events)) (drop t.events (part ++ events))) (sym is) b)
+
+-- a turn more
+track_on : (plans : List ThreadSpec) (opening : Machine) (turns : List Turn) (trace : List Event) (f g : Follow) (cpu : ℕ) (part : List Event) (poll : (ℕ → Option Answer) → Option Poll) (former : (ℕ → Option Answer) → ℕ → Option Answer) (answers : ℕ → Option Answer) (lines : List ThreadLine) (polls : List Poll) (order : List ℕ) (t : Turn) → f.plans ≡ plans → GoesOn cpu part poll former f g → AllBear g.table answers lines → whose order (length turns) ≡ cpu → t.events ≡ length part → poll_of polls t ≡ poll answers
+    → Track plans opening turns trace f (former answers) lines polls order → Track plans opening (turns ++ t ∷ []) (trace ++ part) g answers lines polls order
+track_on plans opening turns trace f g cpu part poll former answers lines polls order t threads goes bear named count is track =
+    let more : List Piece = track.before ++ piece (poll answers) part ∷ [] in
+    let e : length more ≡ length (turns ++ t ∷ []) = length_push track.before (piece (poll answers) part) ∙ ap (λ n. n + 1) track.long ∙ sym (length_push turns t) in
+    let here : whose order (length track.before) ≡ cpu = ap (whose order) track.long ∙ named in
+    let fits : TurnFits f.plans lines cpu f.machine track.before (poll answers) part = goes.fits answers lines bear track.before track.shown in
+    let fits_here : TurnFits plans lines (whose order (length track.before)) f.machine track.before (poll answers) part = subst (λ c. TurnFits plans lines c f.machine track.before (poll answers) part) (sym here) (subst (λ ps. TurnFits ps lines cpu f.machine track.before (poll answers) part) threads fits) in
+    record {
+      before = more;
+      shown = goes.shown answers lines bear track.before track.shown;
+      long = e;
+      on = λ later events runs.
+          let next : RunsThrough plans lines polls order (after_all f.machine part) more later events = subst (λ m. RunsThrough plans lines polls order m more later events) goes.machine runs in
+          let whole = track.on (t ∷ later) (part ++ events) (runs_on plans lines polls order f.machine track.before t later (poll answers) part events count is fits_here next) in
+          let R : List Turn → List Event → Type 0 = λ ts es. RunsThrough plans lines polls order opening [] ts es in
+          subst (λ ts. R ts ((trace ++ part) ++ events)) (sym (append_assoc turns (t ∷ []) later)) (subst (λ es. R (turns ++ t ∷ later) es) (sym (append_assoc trace part events)) whole);
+    }
+
+-- what is kept after a turn more
+abbrev pub kept_after : ℕ → ℕ → Option Polled → Kept → Kept
+kept_after cpu events asks kept = kept_as (kept.order ++ cpu ∷ []) (kept.turns ++ turn_of asks events (length kept.polls) ∷ []) (polls_after asks kept.polls)
+
+whose_named : (order whole : List ℕ) (cpu : ℕ) → IsFront (order ++ cpu ∷ []) whole → whose whole (length order) ≡ cpu
+whose_named order whole cpu is = ap (λ o. unwrap_or o 0) (front_get ℕ order whole cpu is)
+
+-- the poll of a turn that is kept now
+poll_kept : (answers : ℕ → Option Answer) (p : Polled) (events : ℕ) (kept polls : List Poll) → length kept < 4294967295 → IsFront (filled answers (polls_after (Some p) kept)) polls
+    → (IsFront (filled (answered_at (slot_of p.thread) (Some p.told) answers) kept) polls × (poll_of polls (turn_of (Some p) events (length kept)) ≡ Some (record { answer = answers (slot_of p.thread); ask = p.asked; thread = p.thread })))
+poll_kept answers p events kept polls few front =
+    let new : Poll = record { answer = None; ask = p.asked; thread = p.thread } in
+    let older : List Poll = filled (answered_at (slot_of p.thread) (Some p.told) answers) kept in
+    let e = filled_after (slot_of p.thread) p.told answers new kept refl in
+    let is : IsFront (older ++ answered (answers (slot_of p.thread)) new ∷ []) polls = subst (λ qs. IsFront qs polls) e front in
+    let place : min (length kept) 4294967295 ≡ length older = omega (arith, few, filled_long (answered_at (slot_of p.thread) (Some p.told) answers) kept) in
+    (less_front Poll older polls _ is, ap (λ k. slice_get polls k) place ∙ front_get Poll older polls _ is)
+
+-- a turn more that is kept
+pub tracks_on : (plans : List ThreadSpec) (opening : Machine) (kept : Kept) (trace : List Event) (f g : Follow) (cpu : ℕ) (asks : Option Polled) (part : List Event) → f.plans ≡ plans → length kept.order ≡ length kept.turns → length kept.polls < 4294967295 → GoesOnBy cpu asks part f g → Tracks plans opening kept trace f → Tracks plans opening (kept_after cpu (length part) asks kept) (trace ++ part) g
+tracks_on plans opening kept trace f g cpu None part threads long few goes tracks answers lines polls order bear fronts named =
+    let here : whose order (length kept.turns) ≡ cpu = ap (whose order) (sym long) ∙ whose_named kept.order order cpu named in
+    track_on plans opening kept.turns trace f g cpu part _ _ answers lines polls order (turn_of None (length part) (length kept.polls)) threads goes bear here refl refl
+    (tracks answers lines polls order (goes.bear answers lines bear) fronts (less_front ℕ kept.order order cpu named))
+tracks_on plans opening kept trace f g cpu (Some p) part threads long few goes tracks answers lines polls order bear fronts named =
+    let here : whose order (length kept.turns) ≡ cpu = ap (whose order) (sym long) ∙ whose_named kept.order order cpu named in
+    let q = poll_kept answers p (length part) kept.polls polls few fronts in
+    track_on plans opening kept.turns trace f g cpu part _ _ answers lines polls order (turn_of (Some p) (length part) (length kept.polls)) threads goes bear here refl q.1
+    (tracks (answered_at (slot_of p.thread) (Some p.told) answers) lines polls order (goes.bear answers lines bear) q.0 (less_front ℕ kept.order order cpu named))

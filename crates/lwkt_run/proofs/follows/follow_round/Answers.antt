@@ -1,0 +1,40 @@
+use Rattle.std.proofs.Common.{◌≡◌, ◌<◌, length, refl, ◌∙◌, ap, subst, sym, arith}
+use Rattle.std.proofs.lemmas.Option.{slice_get_within}
+use Rattle.lwkt_port.specs.Chains.{Chain}
+use Rattle.std.specs.Prelude.{Bool, true}
+use Rattle.lwkt_port.proofs.Chaining.{chain_none, chain_more}
+use Rattle.lwkt_run.specs.Following.{Walk, pair, walk, FollowsStep}
+use Rattle.lwkt_run.specs.Running.{says_over, both}
+use Rattle.lwkt_run.proofs.RoundMoves.{over_later, both_true, says_all}
+use Rattle.lwkt_run.proofs.follows.follow_round.Goals as goal
+
+pub loop-cpu-init : goal.loop-cpu-init
+loop-cpu-init c = record {
+  as_many = refl;
+  turns = chain_none Walk FollowsStep (walk (pair c.args.machine.now c.args.follower.now) true);
+  over_is = λ is k p less at. absurd (omega (arith, less));
+}
+
+pub loop-cpu-preserved : goal.loop-cpu-preserved
+loop-cpu-preserved c =
+    let l = c.loop-cpu in
+    let ok = rw c.in-Some.is at c.in_ok-follow_turn.ensures.ok in
+    let turned = ok.0 in
+    let is : c.both-over.result ≡ both l.over (says_over turned) = c.both-over.ensures ∙ ap (λ (b : Bool). both l.over b) ok.1.1 in
+    record {
+      as_many = c.follow_turn.ensures.as_many ∙ l.invariant.as_many;
+      turns = chain_more Walk FollowsStep l.cpu (walk (pair c.args.machine.now c.args.follower.now) true) (walk (pair l.machine l.follower) l.over) (walk (pair c.follow_turn.new.machine c.follow_turn.new.follower) c.both-over.result) l.invariant.turns (turned, (ok.1.0, is));
+      over_is = λ so.
+          let yes = both_true l.over (says_over turned) (sym is ∙ so) in
+          over_later l.cpu l.machine c.follow_turn.new.machine ok.1.0.room ok.1.0.part turned ok.1.0.makes (says_all turned yes.1) (l.invariant.over_is yes.0);
+    }
+
+pub returns-clause-ok : goal.returns-clause-ok
+returns-clause-ok c =
+    let l = c.loop-cpu in
+    let whole : l.cpu ≡ length c.args.machine.now.cpus = omega (arith, c.loop-cpu-test.false, l.auto.cpu-end, c.cpus-cpu-end.ensures.value) in
+    let all : l.cpu ≡ length l.machine.cpus = whole ∙ sym l.invariant.as_many in
+    record {
+      round = subst (λ n. Chain Walk FollowsStep n (walk (pair c.args.machine.now c.args.follower.now) true) (walk (pair l.machine l.follower) l.over)) whole l.invariant.turns;
+      over_is = λ is k p at. l.invariant.over_is is k p (subst (λ n. k < n) (sym all) (slice_get_within l.machine.cpus k p at)) at;
+    }

@@ -1,0 +1,132 @@
+//! A run of a script in rounds that a check follows to its end, so that nothing is kept of it, and what its report shows.
+ghost use Rattle.std.specs.Prelude.{◌≡◌, ◌↔◌, IsTrue, IfOk, IfSome, IfErr, OnErr, Err};
+ghost use Rattle.lwkt_base.specs.declared.asks.Ask.TheVariants.{Exit};
+ghost use Rattle.lwkt_base.specs.Fault.{no_memory};
+ghost use Rattle.lwkt_verdict.specs.Follow.{Begins};
+ghost use Rattle.lwkt_run.specs.Run.{opening_of_script, MayClose, DeclinesRun};
+ghost use Rattle.lwkt_run.specs.Following.{IsShortRun, EndsSo, LeavesLawfully};
+
+use crate::endings::{Left, left_by};
+use crate::follows::follow_rounds;
+use crate::lines::token_lines;
+use crate::runs::{TurnsRun, all_ended, opened, turns_run_of};
+use lwkt_base::{Ask, Fault};
+use lwkt_core::{Event, Final, State};
+use lwkt_machine::Machine;
+use lwkt_report::{Closing, Verdict};
+use lwkt_script::Script;
+use lwkt_verdict::{Follower, Pace};
+use std::alloc::Global;
+
+// Whether a script asks for a turn at least, and for so few that the place of each poll fits 32 bits.
+fn is_short(script: &Script) -> bool
+    ensures { IsTrue result ↔ IsShortRun script.now }
+{
+    script.turns > 0
+        && script.cpus > 0
+        && u64::from(script.turns) * u64::from(script.cpus) <= u64::from(u32::MAX)
+}
+
+// A check of a run of a script from this opening on; `end` is the ask that ends a thread.
+fn follower_of<'p>(
+    alloc: Global,
+    script: &'p Script,
+    opening: State,
+    end: &'p Ask,
+) -> Result<Follower<'p>, Fault>
+    requires end { end.now ≡ Exit }
+    ensures begins { IfOk result (λ f. Begins script.now.threads opening f) }
+    ensures only { OnErr result (result ≡ Err no_memory) }
+{
+    match Follower::new(alloc, script.threads.as_slice(), opening, end) {
+        Ok(follower) => Ok(follower),
+        Err(refused) => Err(Fault::Memory(refused)),
+    }
+}
+
+// Whether the check of a run says that the run ends so: with these events of the stop, with what is left, and, where its rounds ended
+// early, with each thread ended.
+fn ends_so(follower: Follower<'_>, early: bool, left: &Left, stops: &[Event]) -> bool
+    ensures { IsTrue result → EndsSo follower.entry early left.now stops.now }
+{
+    if early && !all_ended(&left.threads) {
+        return false;
+    }
+    match follower.ends(&left.threads, stops) {
+        Some(state) => state.closes(&left.last),
+        None => false,
+    }
+}
+
+// What a run of a script in rounds left that a check has followed to its end; `None` where the check says no.
+fn left_followed(alloc: Global, script: &Script) -> Result<Option<Left>, Fault>
+    ensures leaves { IfOk result (λ o. IfSome o (λ left. LeavesLawfully script.now left)) }
+    ensures refused { IfErr result (λ fault. DeclinesRun script.now fault) }
+{
+    if !is_short(script) {
+        return Ok(None);
+    }
+    let mut machine = Machine::open(alloc, script)?;
+    let opening = opened(alloc, script)?;
+    let end = Ask::Exit;
+    let mut follower = follower_of(alloc, script, opening, &end)?;
+    let mut room = Vec::new(alloc);
+    let Some(early) = follow_rounds(&mut machine, script.turns, &mut room, &mut follower)? else {
+        return Ok(None);
+    };
+    room.clear();
+    let left = left_by(alloc, script, machine, &mut room)?;
+    if ends_so(follower, early, &left, room.as_slice()) {
+        Ok(Some(left))
+    } else {
+        Ok(None)
+    }
+}
+
+// The report's contents of a run of a script in rounds that a check has followed to its end.
+fn lawful_closing(alloc: Global, script: &Script, left: Left) -> Result<Closing, Fault>
+    requires { LeavesLawfully script.now left }
+    ensures closes { IfOk result (λ closing. MayClose (Pace.Rounds script.now.turns) script.now closing) }
+    ensures only { OnErr result (result ≡ Err no_memory) }
+{
+    let Left { last, threads } = left;
+    let tokens = match token_lines(alloc, script.tokens.as_slice(), &last) {
+        Ok(tokens) => tokens,
+        Err(refused) => return Err(Fault::Memory(refused)),
+    };
+    let Final { messages, .. } = last;
+    Ok(Closing {
+        tokens,
+        messages,
+        threads,
+        verdict: Verdict::Lawful,
+    })
+}
+
+// The report's contents of a run of a script in rounds, in which a check follows the run; `None` where the check says no.
+fn closing_followed(alloc: Global, script: &Script) -> Result<Option<Closing>, Fault>
+    ensures closes { IfOk result (λ o. IfSome o (λ closing. MayClose (Pace.Rounds script.now.turns) script.now closing)) }
+    ensures refused { IfErr result (λ fault. DeclinesRun script.now fault) }
+{
+    match left_followed(alloc, script)? {
+        None => Ok(None),
+        Some(left) => Ok(Some(lawful_closing(alloc, script, left)?)),
+    }
+}
+
+/// Runs a script in rounds, on one thread, and gives what its report shows. A check follows the run as it is made, and nothing is kept
+/// of it; where the check says no, the run is made once more and kept, and is checked then.
+///
+/// Refused with `Limits` or `LawBroken` for the script's opening, and with `Memory` if memory is refused.
+pub fn close_turns(alloc: Global, script: Script) -> Result<Closing, Fault>
+    ensures closes { IfOk result (λ closing. MayClose (Pace.Rounds script.turns) script closing) }
+    ensures refused { IfErr result (λ fault. DeclinesRun script fault) }
+{
+    match closing_followed(alloc, &script)? {
+        Some(closing) => Ok(closing),
+        None => {
+            let TurnsRun { closing, .. } = turns_run_of(alloc, script)?;
+            Ok(closing)
+        }
+    }
+}
