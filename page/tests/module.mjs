@@ -127,6 +127,8 @@ function tryLong() {
   const got = call("lwkt_run_turns", script);
   console.log(`a million turns: ${(performance.now() - since).toFixed(0)} ms; the module has ${bytes.length} bytes`);
   same(got.text, callProgram("lwkt_run_turns", script).text, "a million turns");
+  check(library.instance !== null, "which aren't kept, so that the module is");
+  compare("lwkt_show_turns", script, "turns --turns 5..9", "a million turns, of which five are shown");
   check(library.instance === null, "after which the module is made anew");
 }
 
