@@ -1,5 +1,5 @@
-use Rattle.std.proofs.Common.{inl, inr, ◌≡◌, ℕ, ◌<◌, List, [], ◌∷◌, length, drop, get_or, arith, refl, ap, subst, Option, Some, None}
-use Rattle.std.specs.Prelude.{Bool, true, false, not, ◌==◌, ◌&&◌, is_some, if◌then◌else◌, IfSome}
+use Rattle.std.proofs.Common.{inl, inr, ◌≡◌, ℕ, ◌<◌, List, [], ◌∷◌, length, drop, get_or, arith, refl, ap, ◌∙◌, subst, Option, Some, None}
+use Rattle.std.specs.Prelude.{◌⊎◌, Bool, true, false, not, ◌==◌, ◌&&◌, is_some, if◌then◌else◌, IfSome}
 use Rattle.std.proofs.lemmas.Bool.{false≢true, and_parts}
 use Rattle.lwkt_base.specs.declared.asks.Ask.{Ask}
 use Rattle.lwkt_base.specs.declared.asks.Ask.TheVariants.{Get, GetShared, TryGet, Rel, Swap, Read as ReadAsk, Write as WriteAsk, Add as AddAsk, ReadBlob as ReadBlobAsk, WriteBlob as WriteBlobAsk, Send as SendAsk, Do as DoAsk, Reply as ReplyAsk, Abort as AbortAsk, IsAborted, DropMsg as DropAsk, GetPort, WaitPort, Yield, Exit}
@@ -11,8 +11,8 @@ use Rattle.lwkt_core.specs.Machine.{Machine, Needs, after}
 use Rattle.lwkt_verdict.specs.declared.expected.Expected.{Expected}
 use Rattle.lwkt_verdict.specs.declared.expected.Expected.TheVariants.{Any, Refusal}
 use Rattle.lwkt_verdict.specs.Asks.{is_refused, makes_event}
-use Rattle.lwkt_verdict.specs.Owns.{agrees, agrees_with_record, is_own, is_read, is_record_read}
-use Rattle.lwkt_verdict.specs.Parts.{GoesQuietly, may_make, GoesFrom}
+use Rattle.lwkt_verdict.specs.Owns.{IsQuiet, agrees, agrees_with_record, is_own, is_read, is_record_read}
+use Rattle.lwkt_verdict.specs.Parts.{GoesQuietly, must_make, may_make, GoesFrom}
 use Rattle.lwkt_verdict.specs.Follow.{is_expected}
 use Rattle.lwkt_verdict.specs.Followed.{expected_by, expected_without}
 
@@ -50,26 +50,26 @@ record_unrefused (Some (Got item)) blob is = refl
 record_unrefused (Some NoMsg) blob is = refl
 record_unrefused (Some (Refused fault)) blob is = absurd (false≢true is)
 
--- an ask that made this event isn't refused
-pub unrefused_by : (e : Event) (answer : Option Answer) → is_expected (expected_by e) answer ≡ true → is_refused answer ≡ false
-unrefused_by (Load cpu t) answer is = not_refused (is_refused answer) is
-unrefused_by (Take cpu t) answer is = not_refused (is_refused answer) is
-unrefused_by (Share cpu t) answer is = not_refused (is_refused answer) is
-unrefused_by (Again cpu t) answer is = not_refused (is_refused answer) is
-unrefused_by (Mark cpu t) answer is = not_refused (is_refused answer) is
-unrefused_by (GiveOne cpu t) answer is = not_refused (is_refused answer) is
-unrefused_by (GiveClean cpu t) answer is = not_refused (is_refused answer) is
-unrefused_by (GiveWritten cpu t section) answer is = not_refused (is_refused answer) is
-unrefused_by (Read cpu t c value) answer is = value_unrefused answer value is
-unrefused_by (Write cpu t c value) answer is = not_refused (is_refused answer) is
-unrefused_by (ReadBlob cpu t blob) answer is = record_unrefused answer blob is
-unrefused_by (WriteBlob cpu t blob) answer is = not_refused (is_refused answer) is
-unrefused_by (Send cpu msg to round) answer is = not_refused (is_refused answer) is
-unrefused_by (TakeMsg cpu msg round) answer is = not_refused (is_refused answer) is
-unrefused_by (DropMsg cpu msg) answer is = not_refused (is_refused answer) is
-unrefused_by (Reply cpu msg) answer is = not_refused (is_refused answer) is
-unrefused_by (Reap cpu msg) answer is = not_refused (is_refused answer) is
-unrefused_by (Abort cpu msg) answer is = not_refused (is_refused answer) is
+-- an ask that made this event isn't refused, or the event may have happened unasked
+pub unrefused_by : (e : Event) (answer : Option Answer) → is_expected (expected_by e) answer ≡ true → (is_refused answer ≡ false) ⊎ ((m : Machine) → IsQuiet m e)
+unrefused_by (Load cpu t) answer is = inl (not_refused (is_refused answer) is)
+unrefused_by (Take cpu t) answer is = inl (not_refused (is_refused answer) is)
+unrefused_by (Share cpu t) answer is = inl (not_refused (is_refused answer) is)
+unrefused_by (Again cpu t) answer is = inl (not_refused (is_refused answer) is)
+unrefused_by (Mark cpu t) answer is = inl (not_refused (is_refused answer) is)
+unrefused_by (GiveOne cpu t) answer is = inl (not_refused (is_refused answer) is)
+unrefused_by (GiveClean cpu t) answer is = inl (not_refused (is_refused answer) is)
+unrefused_by (GiveWritten cpu t section) answer is = inl (not_refused (is_refused answer) is)
+unrefused_by (Read cpu t c value) answer is = inl (value_unrefused answer value is)
+unrefused_by (Write cpu t c value) answer is = inl (not_refused (is_refused answer) is)
+unrefused_by (ReadBlob cpu t blob) answer is = inl (record_unrefused answer blob is)
+unrefused_by (WriteBlob cpu t blob) answer is = inl (not_refused (is_refused answer) is)
+unrefused_by (Send cpu msg to round) answer is = inl (not_refused (is_refused answer) is)
+unrefused_by (TakeMsg cpu msg round) answer is = inl (not_refused (is_refused answer) is)
+unrefused_by (DropMsg cpu msg) answer is = inl (not_refused (is_refused answer) is)
+unrefused_by (Reply cpu msg) answer is = inr (λ m. tt)
+unrefused_by (Reap cpu msg) answer is = inl (not_refused (is_refused answer) is)
+unrefused_by (Abort cpu msg) answer is = inl (not_refused (is_refused answer) is)
 
 both : (a b : Bool) → a ≡ true → b ≡ true → (a && b) ≡ true
 both true b one other = other
@@ -143,17 +143,42 @@ own_by m WaitPort answer e own is = own
 own_by m Yield answer e own is = own
 own_by m Exit answer e own is = own
 
+-- what isn't so makes no conjunction true
+never : (makes has : Bool) → (makes && (has && not true)) ≡ false
+never true true = refl
+never true false = refl
+never false has = refl
+
 -- an ask whose event isn't there needn't have made it, whatever it is answered then
 not_made : (makes : Bool) (answer : Option Answer) → is_expected (if makes then Refusal else Any) answer ≡ true → (makes && (is_some answer && not (is_refused answer))) ≡ false
 not_made false answer is = refl
 not_made true None is = refl
 not_made true (Some a) is = ap not is
 
+-- whether an ask is refused or not
+refused_or_not : (b : Bool) → (b ≡ true) ⊎ (b ≡ false)
+refused_or_not true = inl refl
+refused_or_not false = inr refl
+
+-- an ask that is refused needn't have made its event
+need_not_make : (ask : Ask) (answer : Option Answer) → is_refused answer ≡ true → must_make ask answer ≡ false
+need_not_make ask answer is = ap (λ b. makes_event ask && (is_some answer && not b)) is ∙ never (makes_event ask) (is_some answer)
+
+-- from an ask's own event on, where the ask isn't refused
+from_made : (m : Machine) (ask : Ask) (answer : Option Answer) (e : Event) (es : List Event) → makes_event ask ≡ true → is_own m ask None e ≡ true → is_expected (expected_by e) answer ≡ true → is_refused answer ≡ false → Needs m e × GoesQuietly (after m e) es → GoesFrom m ask answer (e ∷ es)
+from_made m ask answer e es makes own is not_so happens =
+    let may : may_make ask answer ≡ true = both (makes_event ask) (not (is_refused answer)) makes (ap not not_so) in
+    inl (may, own_by m ask answer e own is, happens.0, happens.1)
+
 -- from an ask's own event on, whatever the ask is answered
 pub from_own : (m : Machine) (ask : Ask) (answer : Option Answer) (e : Event) (es : List Event) → makes_event ask ≡ true → is_own m ask None e ≡ true → is_expected (expected_by e) answer ≡ true → Needs m e × GoesQuietly (after m e) es → GoesFrom m ask answer (e ∷ es)
-from_own m ask answer e es makes own is happens =
-    let may : may_make ask answer ≡ true = both (makes_event ask) (not (is_refused answer)) makes (ap not (unrefused_by e answer is)) in
-    inl (may, own_by m ask answer e own is, happens.0, happens.1)
+from_own m ask answer e es makes own is happens = elim (unrefused_by e answer is) [
+  | inl not_so ↦ from_made m ask answer e es makes own is not_so happens
+  | inr quiet ↦ elim (refused_or_not (is_refused answer)) [
+    | inl refused ↦ inr (need_not_make ask answer refused, (happens.0, (quiet m, happens.1)))
+    | inr not_so ↦ from_made m ask answer e es makes own is not_so happens
+  ]
+]
 
 -- the same of events of which that is the first
 pub from_first : (m : Machine) (ask : Ask) (answer : Option Answer) (x : Expected) (e : Event) (events rest : List Event) → 0 < length events → e ≡ get_or events 0 e → rest ≡ drop 1 events → makes_event ask ≡ true → is_own m ask None e ≡ true → x ≡ expected_by e → Needs m e × GoesQuietly (after m e) rest → is_expected x answer ≡ true → GoesFrom m ask answer events

@@ -4,7 +4,7 @@ use Rattle.lwkt_base.specs.declared.asks.Ask.{Ask}
 use Rattle.lwkt_base.specs.declared.asks.Answer.{Answer}
 use Rattle.lwkt_base.specs.declared.entries.Entry.{Entry}
 use Rattle.lwkt_core.specs.declared.events.Event.{Event}
-use Rattle.lwkt_core.specs.declared.events.Event.TheVariants.{Read, ReadBlob}
+use Rattle.lwkt_core.specs.declared.events.Event.TheVariants.{Read, ReadBlob, Reply}
 use Rattle.lwkt_core.specs.Machine.{Machine}
 use Rattle.lwkt_script.specs.declared.scripts.ThreadSpec.{ThreadSpec}
 use Rattle.lwkt_report.specs.declared.closings.ThreadLine.{ThreadLine}
@@ -16,10 +16,11 @@ use Rattle.lwkt_verdict.specs.Parts.{IsPartOf}
 use Rattle.lwkt_verdict.specs.Threads.{ask_at, progress_after, IsLogged, Rests, EndsAsTold}
 use Rattle.lwkt_verdict.specs.Follow.{is_expected, Awaited, Known, entry_so, come, Bears}
 
--- which answers an ask can have that made this event
+-- which answers an ask can have that stands at this event of its own: any at a reply, which may have happened unasked as well
 abbrev pub expected_by : Event → Expected
 expected_by (Read cpu tok cell value) = Value value
 expected_by (ReadBlob cpu tok blob) = Bytes blob
+expected_by (Reply cpu msg) = Any
 expected_by _ = NoRefusal
 
 -- which answers an ask can have whose event isn't there

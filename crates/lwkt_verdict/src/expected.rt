@@ -14,7 +14,7 @@ use std::marker::Model;
 /// its part. Only proofs have values of it.
 #[derive(Clone, Copy, Debug, PartialEq, Eq)]
 pub enum Expected {
-    /// Any: the ask makes no event of its own.
+    /// Any: the ask makes no event of its own, or its event may have happened unasked too.
     Any,
     /// No refusal: the event of the ask is there; or it makes none, and a turn of its processor without an ask found its thread blocked.
     NoRefusal,

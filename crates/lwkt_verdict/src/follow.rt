@@ -22,11 +22,12 @@ use lwkt_script::ThreadSpec;
 use std::alloc::{AllocError, Global};
 use std::marker::Model;
 
-/// A check that follows a run of a script turn by turn, as it is made. Of the turns it keeps nothing but, for each thread, what it asked
-/// last and the first 32 entries of its log.
+/// A check that follows a run of a script turn by turn, as it is made. It keeps no turn. Of each thread it keeps how many times it was
+/// polled, what it asked last, which answers that can have, and the first 32 entries of its log; and beside the threads the machine that
+/// the trace so far leads to.
 ///
-/// What it says of a turn holds for each answer that the turn's ask can have later. It says no more often than `is_script_run`: where a
-/// thread whose processor had a turn without an ask is told a refusal, and where an ask is refused whose turn has an event as the ask makes it.
+/// What it says of a turn holds for each of these answers. It may say no where `is_script_run` says yes: of an ask to write that is
+/// refused although the events of its turn have the write that it asks for.
 #[derive(Drop)]
 pub struct Follower<'p> {
     plans: &'p [ThreadSpec],
@@ -177,9 +178,9 @@ impl<'p> Follower<'p> {
         })
     }
 
-    /// Whether a turn of this processor that polled this thread fits the turns before it, with this part of the trace. The thread was
-    /// told the answer to what it had asked before, and asked this. If it fits, the check goes on by it; else nothing follows from the
-    /// check any more.
+    /// Whether a turn of this processor, 0 to 7, that polled this thread fits the turns before it, with this part of the trace. The
+    /// thread was told the answer to what it had asked before, and asked this. What it was told at its first poll isn't looked at. If the
+    /// turn fits, the check goes on by it; else nothing follows from the check any more.
     ///
     /// `AllocError` if memory for the thread's log is refused. Nothing follows from the check then.
     #[inline]
@@ -208,7 +209,7 @@ impl<'p> Follower<'p> {
         )
     }
 
-    /// Whether a turn of this processor that polled no thread fits the turns before it, with this part of the trace. If it fits, the
+    /// Whether a turn of this processor, 0 to 7, that polled no thread fits the turns before it, with this part of the trace. If it fits, the
     /// check goes on by it; else nothing follows from the check any more.
     pub fn rest(&mut self, cpu: usize, part: &[Event]) -> bool
         requires processor { cpu < 8 }

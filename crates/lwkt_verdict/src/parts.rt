@@ -98,6 +98,7 @@ fn expected_by(event: &Event) -> Shown<'_>
     match event {
         Event::Read { value, .. } => Shown::Value(*value),
         Event::ReadBlob { blob, .. } => Shown::Bytes(blob),
+        Event::Reply { .. } => Shown::Any,
         _ => Shown::NoRefusal,
     }
 }
