@@ -1,13 +1,16 @@
 -- What a run left that a check has followed to its end.
 use Rattle.std.proofs.Common.{◌≡◌, ◌∙◌, ℕ, List, [], ◌++◌, length, map, refl, sym}
-use Rattle.std.specs.Prelude.{Bool, true, false, Vec}
+use Rattle.std.specs.Prelude.{Bool, true, false, All, Vec}
 use Rattle.std.specs.declared.alloc.Global.{Global}
+use Rattle.std.proofs.lemmas.Bool.{false≢true}
+use Rattle.lwkt_base.specs.Threads.{has_ended}
 use Rattle.lwkt_core.specs.declared.events.Event.{Event}
 use Rattle.lwkt_core.specs.Opening.{AreWithin, AllOpenLawfully}
 use Rattle.lwkt_cpu.specs.declared.answers.Turned.{Turned}
 use Rattle.lwkt_machine.specs.Machines.{Rig}
 use Rattle.lwkt_machine.specs.Opened.{IsOpenedMachine}
 use Rattle.lwkt_report.specs.declared.closings.Closing.{Closing}
+use Rattle.lwkt_report.specs.declared.closings.ThreadLine.{ThreadLine}
 use Rattle.lwkt_report.specs.declared.closings.TokenLine.{TokenLine}
 use Rattle.lwkt_report.specs.declared.closings.Verdict.TheVariants.{Lawful}
 use Rattle.lwkt_script.specs.declared.scripts.Script.{Script}
@@ -22,6 +25,7 @@ use Rattle.lwkt_run.specs.Run.{opening_of_script, ShowsClosing, MayClose}
 use Rattle.lwkt_run.specs.Running.{HasThreads, ShowThreads}
 use Rattle.lwkt_run.specs.Values.{AreValuesOf, ShowTokens}
 use Rattle.lwkt_run.specs.declared.endings.Left.{Left}
+use Rattle.lwkt_run.proofs.EndedMoves.{lines_ended}
 use Rattle.lwkt_run.proofs.FollowMoves.{Whole, followed_whole}
 use Rattle.lwkt_run.proofs.JudgeMoves.{judged}
 use Rattle.lwkt_run.proofs.RoundMoves.{chain_keeps, has_turned}
@@ -48,8 +52,13 @@ pub followed_bank : (limit : ℕ) (early : Bool) (x y : Pair) → HasFollowed li
 followed_bank limit early x y rounds =
     followed_keep (λ m. m.bank ≡ x.machine.bank) (λ cpu turned v w turn h. turn.makes.turns.bank ∙ h) limit early x y rounds refl
 
+-- where rounds that are followed ended early, each thread has ended, as its line says
+ended_early : (limit : ℕ) (early : Bool) (x y : Pair) (lines : List ThreadLine) → HasFollowed limit early x y → ShowThreads lines y.machine → early ≡ true → All (λ line. has_ended line.state ≡ true) lines
+ended_early limit false x y lines followed shown is = absurd (false≢true is)
+ended_early limit true x y lines followed shown is = lines_ended lines y.machine shown followed.1.1.over
+
 -- what a run left that a check has followed to its end is left of a lawful run
-pub leaves_lawfully : (script : Script) (opened made : Rig) (f g : Follow) (early : Bool) (left : Left) (none stops : Vec Event Global) → IsShortRun script → IsOpenedMachine script opened → AreWithin script.cpus script.tokens script.messages → AllOpenLawfully script.tokens → AreValuesOf script.tokens left.last → map (λ line. line.id) left.threads.items ≡ ids_of script.cpus script.threads → ShowThreads left.threads.items made → none.items ≡ [] → Leaves made none stops left.last → Begins script.threads (opening_of_script script) f → HasFollowed script.turns early (pair opened f) (pair made g) → EndsSo g early left stops.items → LeavesLawfully script left
+pub leaves_lawfully : (script : Script) (opened made : Rig) (f g : Follow) (early : Bool) (left : Left) (none stops : Vec Event Global) → IsShortRun script → IsOpenedMachine script opened → AreWithin script.cpus script.tokens script.messages → AllOpenLawfully script.tokens → AreValuesOf script.tokens left.last → map (λ line. line.id) left.threads.items ≡ ids_of script.cpus script.threads → ShowThreads left.threads.items made → none.items ≡ [] → Leaves made none stops left.last → Begins script.threads (opening_of_script script) f → HasFollowed script.turns early (pair opened f) (pair made g) → EndsSo g left stops.items → LeavesLawfully script left
 leaves_lawfully script opened made f g early left none stops short opens within lawful values ids shown empty leaves begins followed so = record {
   within = within;
   lawful_opening = lawful;
@@ -75,7 +84,7 @@ leaves_lawfully script opened made f g early left none stops short opens within 
 }
   where
     w : Whole script.threads script.turns (opening_of_script script) opened made g left.threads.items stops.items
-    w = followed_whole script.threads script.turns (opening_of_script script) opened made f g early left.threads.items stops.items opens.as_many within.some_processor short.some_turns short.few begins followed so.ended so.ends
+    w = followed_whole script.threads script.turns (opening_of_script script) opened made f g early left.threads.items stops.items opens.as_many within.some_processor short.some_turns short.few begins followed (ended_early script.turns early (pair opened f) (pair made g) left.threads.items followed shown) so.ends
 
 -- a report of it, by the lines of its tokens
 abbrev pub lawful_closing : Left → Vec TokenLine Global → Closing

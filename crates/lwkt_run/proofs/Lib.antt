@@ -1,6 +1,7 @@
 pub mod ArriveMoves
 pub mod ChainMoves
 pub mod CloseMoves
+pub mod EndedMoves
 pub mod FillMoves
 pub mod FollowMoves
 pub mod FollowedMoves

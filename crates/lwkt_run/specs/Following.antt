@@ -1,7 +1,6 @@
 -- A run in rounds that a check follows turn by turn, so that nothing is kept of it (own).
-use Rattle.std.specs.Prelude.{◌≡◌, ℕ, ◌*◌, ◌<◌, ◌≤◌, Bool, true, false, List, [], length, map, All, Option, Some, None, Vec}
+use Rattle.std.specs.Prelude.{◌≡◌, ℕ, ◌*◌, ◌<◌, ◌≤◌, Bool, true, false, List, [], length, map, Option, Some, None, Vec}
 use Rattle.std.specs.declared.alloc.Global.{Global}
-use Rattle.lwkt_base.specs.Threads.{has_ended}
 use Rattle.lwkt_core.specs.declared.events.Event.{Event}
 use Rattle.lwkt_core.specs.Opening.{AreWithin, AllOpenLawfully}
 use Rattle.lwkt_core.specs.Trace.{Closes}
@@ -84,13 +83,10 @@ HasFollowed limit true x y = (count : ℕ) × ((count < limit) × EndFollowed co
 -- a script asks for a turn at least, and for so few that the place of each poll fits 32 bits
 pub record IsShortRun (script : Script) : Type 0 where
   pub some_turns : 0 < script.turns
-  pub some_cpus : 0 < script.cpus
   pub few : script.turns * script.cpus ≤ 4294967295
 
--- a check that has followed a run says that it ends so: with what is left, and with these events of the stop; and if its rounds ended
--- early, each thread had ended
-pub record EndsSo (f : Follow) (early : Bool) (left : Left) (stop : List Event) : Type 0 where
-  pub ended : early ≡ true → All (λ line. has_ended line.state ≡ true) left.threads.items
+-- a check that has followed a run says that it ends so: with what is left, and with these events of the stop
+pub record EndsSo (f : Follow) (left : Left) (stop : List Event) : Type 0 where
   pub ends : EndsHere f left.threads.items stop
   pub closes : Closes (after_all f.machine stop) left.last
 

@@ -9,7 +9,7 @@ ghost use Rattle.lwkt_run.specs.Following.{IsShortRun, EndsSo, LeavesLawfully};
 use crate::endings::{Left, left_by};
 use crate::follows::follow_rounds;
 use crate::lines::token_lines;
-use crate::runs::{TurnsRun, all_ended, opened, turns_run_of};
+use crate::runs::{TurnsRun, opened, turns_run_of};
 use lwkt_base::{Ask, Fault};
 use lwkt_core::{Event, Final, State};
 use lwkt_machine::Machine;
@@ -22,9 +22,7 @@ use std::alloc::Global;
 fn is_short(script: &Script) -> bool
     ensures { IsTrue result ↔ IsShortRun script.now }
 {
-    script.turns > 0
-        && script.cpus > 0
-        && u64::from(script.turns) * u64::from(script.cpus) <= u64::from(u32::MAX)
+    script.turns > 0 && u64::from(script.turns) * u64::from(script.cpus) <= u64::from(u32::MAX)
 }
 
 // A check of a run of a script from this opening on; `end` is the ask that ends a thread.
@@ -44,14 +42,10 @@ fn follower_of<'p>(
     }
 }
 
-// Whether the check of a run says that the run ends so: with these events of the stop, with what is left, and, where its rounds ended
-// early, with each thread ended.
-fn ends_so(follower: Follower<'_>, early: bool, left: &Left, stops: &[Event]) -> bool
-    ensures { IsTrue result → EndsSo follower.entry early left.now stops.now }
+// Whether the check of a run says that the run ends so: with these events of the stop, and with what is left.
+fn ends_so(follower: Follower<'_>, left: &Left, stops: &[Event]) -> bool
+    ensures { IsTrue result → EndsSo follower.entry left.now stops.now }
 {
-    if early && !all_ended(&left.threads) {
-        return false;
-    }
     match follower.ends(&left.threads, stops) {
         Some(state) => state.closes(&left.last),
         None => false,
@@ -76,7 +70,7 @@ fn left_followed(alloc: Global, script: &Script) -> Result<Option<Left>, Fault>
     };
     room.clear();
     let left = left_by(alloc, script, machine, &mut room)?;
-    if ends_so(follower, early, &left, room.as_slice()) {
+    if ends_so(follower, &left, room.as_slice()) {
         Ok(Some(left))
     } else {
         Ok(None)
@@ -115,7 +109,8 @@ fn closing_followed(alloc: Global, script: &Script) -> Result<Option<Closing>, F
 }
 
 /// Runs a script in rounds, on one thread, and gives what its report shows. A check follows the run as it is made, and nothing is kept
-/// of it; where the check says no, the run is made once more and kept, and is checked then.
+/// of it; where the check says no, the run is made once more and kept, and is checked then. A script whose turns times its processors are
+/// 0 or more than 4294967295 has its run kept at once.
 ///
 /// Refused with `Limits` or `LawBroken` for the script's opening, and with `Memory` if memory is refused.
 pub fn close_turns(alloc: Global, script: Script) -> Result<Closing, Fault>

@@ -289,7 +289,7 @@ pub fn end_told(closing: &Closing) -> End
 }
 
 // Whether every thread had ended.
-pub(crate) fn all_ended(lines: &[ThreadLine]) -> bool
+fn all_ended(lines: &[ThreadLine]) -> bool
     ensures { result ≡ list_all (λ line. has_ended line.state) lines.now }
 {
     lines.iter().all(|line| line.state.has_ended())

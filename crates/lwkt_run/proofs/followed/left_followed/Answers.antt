@@ -30,7 +30,7 @@ returns-then-ends_so-clause-leaves c =
     let made = c.follow_rounds.new in
     let followed = rw c.in-Some.is at c.in_ok-early.ensures.ok in
     let B : Machine → Type 0 = λ m. Begins s.threads m follower.follower in
-    let E : List Event → Type 0 = λ es. EndsSo made.follower c.in-Some.early left.left es in
+    let E : List Event → Type 0 = λ es. EndsSo made.follower left.left es in
     leaves_lawfully s opened.machine made.machine follower.follower made.follower c.in-Some.early left.left c.clear.new.self c.left_by.new.trace
     (c.is_short.ensures.0 c.if-not-is_short.false) opened.ensures.ok opened.ensures.within opened.ensures.lawful left.ensures.values left.ensures.threads left.ensures.shown c.clear.ensures.items left.ensures.leaves
     (subst B c.in_ok-opening.ensures.ok follower.ensures.begins) followed (subst E c.as_slice.ensures.value (c.ends_so.ensures c.if-ends_so.true))
