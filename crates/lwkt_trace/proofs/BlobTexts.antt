@@ -80,6 +80,10 @@ kept_short blob few =
     let none : length blob - 64 ≡ 0 = omega (arith, few) in
     ap (λ (n : ℕ). take 64 blob ++ replicate n 0) none ∙ append-nil (take 64 blob) ∙ take_all 64 blob few
 
+-- a record of at most 64 bytes is one that an event may have
+pub told_short : (blob : List ℕ) → length blob ≤ 64 → AreBytes blob → IsToldBlob blob
+told_short blob few bytes = record { short = omega (arith, few); bytes = bytes; kept = kept_short blob few }
+
 -- a record of at most 64 bytes is read from its digits, where so many may stand
 pub guard_digits : (most : ℕ) (blob : List ℕ) → length blob ≤ most → length blob ≤ 64 → AreBytes blob → blob_of most (hex_text (take 64 blob) ++ past_text blob) ≡ Some blob
 guard_digits most blob within few bytes =

@@ -12,7 +12,7 @@ use Rattle.lwkt_trace.specs.declared.traces.Trace.{Trace}
 -- the bytes of a line are the text of an event whose parts are of their types
 pub record IsWritten (line : List ℕ) (event : Event) : Type 0 where
   pub text : line ≡ event_text event
-  pub short : length line ≤ 64
+  pub short : length line ≤ 160
   pub tellable : IsTellable event
   pub words : HasWords (event_data event)
 

@@ -1,7 +1,7 @@
-//! That all numbers of an opening and of closing values have 64 bits, as their types say. Nothing is done for it when a program
-//! runs but to look at each number.
+//! That all numbers of an opening and of closing values have 64 bits, and the bytes of a record 8, as their types say. Nothing is
+//! done for it when a program runs but to look at each number.
 ghost use Rattle.lwkt_trace.specs.Printed.{HasWords, ItemsHaveWords};
-ghost use Rattle.lwkt_trace.specs.Readback.{number_data, message_data, ends_data, end_data, messages_data, items_as};
+ghost use Rattle.lwkt_trace.specs.Readback.{number_data, message_data, ends_data, end_data, messages_data, items_as, AreBytes};
 ghost use Rattle.lwkt_trace.specs.Values.{token_data, row_data, generation_data, tally_data, tallies_data, record_data, closing_data};
 
 use crate::traces::Trace;
@@ -14,6 +14,15 @@ fn words_of_numbers(numbers: &[u64])
 {
     for number in numbers {
         let _number = *number;
+    }
+}
+
+/// Bytes.
+pub fn words_of_bytes(bytes: &[u8])
+    ensures { AreBytes bytes.now }
+{
+    for byte in bytes {
+        let _byte = *byte;
     }
 }
 

@@ -1,36 +1,43 @@
 //! Events that are written just as `writers` writes them. Such an event is read without a reader of JSON: what its bytes look
 //! like is written again, and only the same bytes count.
-ghost use Rattle.std.specs.Prelude.{◌≡◌, ◌++◌, IfSome};
-ghost use Rattle.lwkt_trace.specs.Readback.{event_data, told_alone, IsTellable};
+ghost use Rattle.std.specs.Prelude.{◌≡◌, ◌++◌, IfSome, IsTrue, codes};
+ghost use Rattle.lwkt_base.specs.Hex.{byte_text, hex_text};
+ghost use Rattle.lwkt_trace.specs.Readback.{event_data, told_alone, IsTellable, IsToldBlob};
 ghost use Rattle.lwkt_trace.specs.Printed.{HasWords};
-ghost use Rattle.lwkt_trace.specs.Written.{comma, line_at, rest_text, event_text};
+ghost use Rattle.lwkt_trace.specs.Written.{comma, line_at, past_text, blob_text, rest_text, event_text};
 ghost use Rattle.lwkt_trace.specs.Recognised.{IsWritten, IsNextWritten};
 
+use crate::ranges::words_of_bytes;
 use crate::traces::Told;
 use crate::words::event_word;
 use arrayvec::ArrayVec;
 use itoa::Buffer;
-use lwkt_base::{CpuId, MsgId, Row, Section, TokId};
+use lwkt_base::hexes::digits_of;
+use lwkt_base::{Blob, CpuId, MsgId, Row, Section, TokId};
 use lwkt_core::Event;
+use lwkt_script::records::blob_of;
+
+// The most bytes of an event with a record of at most 64 bytes.
+const TEXT_LIMIT: usize = 160;
 
 // The most bytes of an event without a record and without a section.
-const TEXT_LIMIT: usize = 64;
+const SHORT_LIMIT: usize = 64;
 
-// The most numbers of such an event.
+// The most numbers of an event.
 const NUMBERS: usize = 4;
 
-/// The text of an event.
-type Text = ArrayVec<u8, TEXT_LIMIT>;
+// The most bytes of a record.
+const RECORD: usize = 64;
 
 // Appends bytes, if there is room.
-fn put(text: &mut Text, bytes: &[u8]) -> Option<()>
+fn put<const SIZE: usize>(text: &mut ArrayVec<u8, SIZE>, bytes: &[u8]) -> Option<()>
     ensures { IfSome result (λ _. text.new.items ≡ text.old.items ++ bytes.now) }
 {
     text.try_extend_from_slice(bytes).ok()
 }
 
 // Appends a number behind a comma.
-fn put_number(text: &mut Text, number: u64) -> Option<()>
+fn put_number<const SIZE: usize>(text: &mut ArrayVec<u8, SIZE>, number: u64) -> Option<()>
     ensures { IfSome result (λ _. text.new.items ≡ text.old.items ++ comma number) }
 {
     put(text, b",")?;
@@ -38,7 +45,12 @@ fn put_number(text: &mut Text, number: u64) -> Option<()>
 }
 
 // Appends three numbers, each with a comma before it.
-fn put_three(text: &mut Text, first: u64, second: u64, third: u64) -> Option<()>
+fn put_three<const SIZE: usize>(
+    text: &mut ArrayVec<u8, SIZE>,
+    first: u64,
+    second: u64,
+    third: u64,
+) -> Option<()>
     ensures { IfSome result (λ _. text.new.items ≡ text.old.items ++ (comma first ++ comma second ++ comma third)) }
 {
     put_number(text, first)?;
@@ -46,8 +58,44 @@ fn put_three(text: &mut Text, first: u64, second: u64, third: u64) -> Option<()>
     put_number(text, third)
 }
 
-// Appends what an event is at, and what else it says; of a written give not its section. None for an event with a record.
-fn put_rest(text: &mut Text, event: &Event) -> Option<()>
+// Appends a byte by its two digits.
+fn put_byte<const SIZE: usize>(text: &mut ArrayVec<u8, SIZE>, byte: u8) -> Option<()>
+    ensures { IfSome result (λ _. text.new.items ≡ text.old.items ++ byte_text byte) }
+{
+    let (high, low) = digits_of(byte);
+    put(text, high.as_bytes())?;
+    put(text, low.as_bytes())
+}
+
+// Appends bytes, each by its two digits.
+fn put_digits<const SIZE: usize>(text: &mut ArrayVec<u8, SIZE>, bytes: &[u8]) -> Option<()>
+    ensures { IfSome result (λ _. text.new.items ≡ text.old.items ++ hex_text bytes.now) }
+{
+    for byte in bytes {
+        put_byte(text, *byte)?;
+    }
+    Some(())
+}
+
+// What stands behind the digits of a record's first 64 bytes.
+fn record_end(blob: &Blob) -> &'static [u8]
+    ensures { result.now ≡ past_text blob.now ++ codes "\"" }
+{
+    if blob.len() > 64 { b"00\"" } else { b"\"" }
+}
+
+// Appends a record behind a comma.
+#[tactic(auto, unfolding(crate::specs::Written::blob_text))]
+fn put_record<const SIZE: usize>(text: &mut ArrayVec<u8, SIZE>, blob: &Blob) -> Option<()>
+    ensures { IfSome result (λ _. text.new.items ≡ text.old.items ++ (codes "," ++ blob_text blob.now)) }
+{
+    put(text, b",\"")?;
+    put_digits(text, blob.as_slice())?;
+    put(text, record_end(blob))
+}
+
+// Appends what an event is at, and what else it says; of a written give not its section.
+fn put_rest<const SIZE: usize>(text: &mut ArrayVec<u8, SIZE>, event: &Event) -> Option<()>
     ensures { IfSome result (λ _. text.new.items ≡ text.old.items ++ rest_text event.now) }
 {
     match *event {
@@ -71,7 +119,10 @@ fn put_rest(text: &mut Text, event: &Event) -> Option<()>
             value,
             ..
         } => put_three(text, u64::from(tok.0), u64::from(cell), value),
-        Event::ReadBlob { .. } | Event::WriteBlob { .. } => None,
+        Event::ReadBlob { tok, blob, .. } | Event::WriteBlob { tok, blob, .. } => {
+            put_number(text, u64::from(tok.0))?;
+            put_record(text, &blob)
+        }
         Event::Send { msg, to, round, .. } => {
             put_three(text, u64::from(msg.0), u64::from(to.0), round)
         }
@@ -86,18 +137,16 @@ fn put_rest(text: &mut Text, event: &Event) -> Option<()>
     }
 }
 
-// The text of an event. None for one with a record.
-fn text_of(event: &Event) -> Option<Text>
-    ensures { IfSome result (λ text. text.items ≡ event_text event.now) }
+// Appends the text of an event.
+fn put_event<const SIZE: usize>(text: &mut ArrayVec<u8, SIZE>, event: &Event) -> Option<()>
+    ensures { IfSome result (λ _. text.new.items ≡ text.old.items ++ event_text event.now) }
 {
-    let mut text = ArrayVec::new();
-    put(&mut text, b"[\"")?;
-    put(&mut text, event_word(event).as_bytes())?;
-    put(&mut text, b"\"")?;
-    put_number(&mut text, u64::from(event.cpu().0))?;
-    put_rest(&mut text, event)?;
-    put(&mut text, b"]")?;
-    Some(text)
+    put(text, b"[\"")?;
+    put(text, event_word(event).as_bytes())?;
+    put(text, b"\"")?;
+    put_number(text, u64::from(event.cpu().0))?;
+    put_rest(text, event)?;
+    put(text, b"]")
 }
 
 // What stands between the first two quotation marks, and what stands behind them.
@@ -105,6 +154,14 @@ fn parted(line: &[u8]) -> Option<(&[u8], &[u8])> {
     let quoted = line.get(2..)?;
     let end = quoted.iter().position(|byte| *byte == b'"')?;
     Some((&quoted[..end], &quoted[end + 1..]))
+}
+
+// What stands between the first two quotation marks of bytes that begin with any.
+fn quoted(bytes: &[u8]) -> Option<&[u8]> {
+    let begin = bytes.iter().position(|byte| *byte == b'"')?;
+    let behind = bytes.get(begin.saturating_add(1)..)?;
+    let end = behind.iter().position(|byte| *byte == b'"')?;
+    behind.get(..end)
 }
 
 // The numbers of bytes that have a comma before each, and how many there are.
@@ -190,6 +247,38 @@ fn at_round(word: &[u8], cpu: CpuId, msg: u8, round: u64) -> Option<Event>
     }
 }
 
+// The record of at most 64 bytes that digits are.
+fn record_of(digits: &[u8]) -> Option<Blob>
+    ensures { IfSome result IsToldBlob }
+{
+    let blob = blob_of(RECORD, digits)?;
+    words_of_bytes(blob.as_slice());
+    Some(blob)
+}
+
+// The event of a word with a processor, a token, and a record in quotation marks.
+fn at_record(word: &[u8], cpu: CpuId, tok: u8, rest: &[u8]) -> Option<Event>
+    ensures { IfSome result (λ event. IsTellable event × HasWords (event_data event)) }
+{
+    let tok = TokId(tok);
+    let blob = record_of(quoted(rest)?)?;
+    match word {
+        b"read_record" => Some(Event::ReadBlob { cpu, tok, blob }),
+        b"write_record" => Some(Event::WriteBlob { cpu, tok, blob }),
+        _ => None,
+    }
+}
+
+// The event of a word with a processor, what it is at, and a round or a record.
+fn at_third(word: &[u8], cpu: CpuId, place: u8, round: u64, rest: &[u8]) -> Option<Event>
+    ensures { IfSome result (λ event. IsTellable event × HasWords (event_data event)) }
+{
+    match at_round(word, cpu, place, round) {
+        Some(event) => Some(event),
+        None => at_record(word, cpu, place, rest),
+    }
+}
+
 // A number as one of 8 bits.
 fn small(number: u64) -> Option<u8> {
     u8::try_from(number).ok()
@@ -205,14 +294,47 @@ fn likely_event(line: &[u8]) -> Option<Event>
     let place = small(place)?;
     match count {
         2 => at_place(word, cpu, place),
-        3 => at_round(word, cpu, place, third),
+        3 => at_third(word, cpu, place, third, rest),
         4 => at_part(word, cpu, place, small(third)?, fourth),
         _ => None,
     }
 }
 
+// Whether a line is the text of an event, which has no record, or a small one, then.
+fn is_short_text(line: &[u8], event: &Event) -> bool
+    ensures { IsTrue result → line.now ≡ event_text event.now }
+{
+    let mut text: ArrayVec<u8, SHORT_LIMIT> = ArrayVec::new();
+    match put_event(&mut text, event) {
+        Some(()) => text.as_slice() == line,
+        None => false,
+    }
+}
+
+// Whether a line is the text of an event, which has a record of at most 64 bytes, or none, then.
+fn is_long_text(line: &[u8], event: &Event) -> bool
+    ensures { IsTrue result → line.now ≡ event_text event.now }
+{
+    let mut text: ArrayVec<u8, TEXT_LIMIT> = ArrayVec::new();
+    match put_event(&mut text, event) {
+        Some(()) => text.as_slice() == line,
+        None => false,
+    }
+}
+
+// Whether a line is the text of an event. Room for a long one is taken only for a long line.
+fn is_text(line: &[u8], event: &Event) -> bool
+    ensures { IsTrue result → line.now ≡ event_text event.now }
+{
+    if line.len() <= SHORT_LIMIT {
+        is_short_text(line, event)
+    } else {
+        is_long_text(line, event)
+    }
+}
+
 /// The event that a line is, if the line has just the bytes which this crate writes for it. None says nothing of the line: it
-/// may be an event that is written in another way, or one with a record or a section.
+/// may be an event that is written in another way, or one with a section or a record of more than 64 bytes.
 pub fn written_event(line: &[u8]) -> Option<Event>
     ensures { IfSome result (IsWritten line.now) }
 {
@@ -220,8 +342,7 @@ pub fn written_event(line: &[u8]) -> Option<Event>
         return None;
     }
     let event = likely_event(line)?;
-    let text = text_of(&event)?;
-    if text.as_slice() == line {
+    if is_text(line, &event) {
         Some(event)
     } else {
         None
