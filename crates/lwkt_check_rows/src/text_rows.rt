@@ -51,6 +51,53 @@ const OTHERS: [&str; 12] = [
     "\n[\"give_written\",0,0,0,[5],[5]]",
 ];
 
+const GUARDED_FRONT: &str =
+    "{\"version\":1,\"cpus\":2,\n\"tokens\":[\n{\"cells\":[5],\"law\":\"any\",\"param\":0,\"gen\":0,\"record\":\"0a0b\"}],\n\"messages\":[],\n\"events\":[";
+
+const GUARDED_BACK: &str =
+    "],\n\"last\":{\"rows\":[[5]],\n\"gens\":[1],\n\"tallies\":[[]],\n\"records\":[\"ff00\"],\n\"messages\":[]}}\n";
+
+// Events with records as they are written, and what is found of them.
+const GUARDED: [(&str, &str); 6] = [
+    (
+        "\n[\"take\",0,0],\n[\"read_record\",0,0,\"0a0b\"],\n[\"write_record\",0,0,\"ff00\"],\n[\"give_written\",0,0]",
+        "lawful\n",
+    ),
+    (
+        "\n[\"take\",0,0],\n[\"read_record\",0,0,\"0a0c\"],\n[\"give_clean\",0,0]",
+        "unlawful 1\n",
+    ),
+    (
+        "\n[\"take\",1,0],\n[\"write_record\",1,0,\"ff01\"],\n[\"give_written\",1,0]",
+        "unlawful 3\n",
+    ),
+    (
+        "\n[\"take\",0,0],\n[\"write_record\",0,0,\"\"],\n[\"read_record\",0,0,\"\"],\n[\"write_record\",0,0,\"ff00\"],\n[\"give_written\",0,0]",
+        "lawful\n",
+    ),
+    (
+        "\n[\"take\",0,0],\n[\"write_record\",0,0,\"0123456789abcdef0123456789abcdef0123456789abcdef0123456789abcdef0123456789abcdef0123456789abcdef0123456789abcdef0123456789abcdef\"],\n[\"read_record\",0,0,\"0123456789abcdef0123456789abcdef0123456789abcdef0123456789abcdef0123456789abcdef0123456789abcdef0123456789abcdef0123456789abcdef\"],\n[\"write_record\",0,0,\"ff00\"],\n[\"give_written\",0,0]",
+        "lawful\n",
+    ),
+    (
+        "\n[\"take\",0,0],\n[\"read_record\",0,1,\"0a0b\"]",
+        "unlawful 1\n",
+    ),
+];
+
+// Events with records that are written in another way, or are none.
+const GUARDED_OTHERS: [&str; 9] = [
+    "\n[\"take\",0,0],\n[\"write_record\",0,0,\"FF00\"]",
+    "\n[\"take\",0,0],\n[\"write_record\",0,0,\"ff0\"]",
+    "\n[\"take\",0,0],\n[\"write_record\",0,0, \"ff00\"]",
+    "\n[\"take\",0,0],\n[\"write_record\",0,0,\"ff 00\"]",
+    "\n[\"take\",0,0],\n[\"write_record\",0,0,\"ff00\",0]",
+    "\n[\"take\",0,0],\n[\"write_record\",0,0,ff00]",
+    "\n[\"take\",0,0],\n[\"write\",0,0,\"ff00\"]",
+    "\n[\"take\",0,0],\n[\"write_record\",0,256,\"ff00\"]",
+    "\n[\"take\",0,0],\n[\"write_record\",0,0,\"0123456789abcdef0123456789abcdef0123456789abcdef0123456789abcdef0123456789abcdef0123456789abcdef0123456789abcdef0123456789abcdef00\"]",
+];
+
 // What is found, or why nothing is, in words.
 fn said(alloc: Global, found: Result<Finding, Fault>) -> Result<String, AllocError> {
     match found {
@@ -125,4 +172,24 @@ fn written_in_another_way(rt: HostRuntime) -> Result<(), Fail> {
     expect_other(&rt, alloc, longer.as_str())?;
     let bare = format!(in alloc; "{FRONT}{events}],\n\"last\":null}}\n")?;
     expect_other(&rt, alloc, bare.as_str())
+}
+
+#[test]
+fn records_written_just_so(rt: HostRuntime) -> Result<(), Fail> {
+    let alloc = rt.alloc();
+    for (events, begin) in GUARDED {
+        let text = format!(in alloc; "{GUARDED_FRONT}{events}{GUARDED_BACK}")?;
+        expect_written(&rt, alloc, text.as_str(), begin)?;
+    }
+    Ok(())
+}
+
+#[test]
+fn records_written_in_another_way(rt: HostRuntime) -> Result<(), Fail> {
+    let alloc = rt.alloc();
+    for events in GUARDED_OTHERS {
+        let text = format!(in alloc; "{GUARDED_FRONT}{events}{GUARDED_BACK}")?;
+        expect_other(&rt, alloc, text.as_str())?;
+    }
+    Ok(())
 }
