@@ -20,6 +20,14 @@ TellsFinding left old new (Ok lawful) = (bytes : List ℕ) × (IsTraceRead left 
 TellsFinding left old new (Err (Fault fault)) = Keeps old new × ((bytes : List ℕ) × (IsTraceRead left bytes × RefusesTrace bytes fault))
 TellsFinding left old new (Err Stream) = Keeps old new ⊎ ((bytes : List ℕ) × (IsTraceRead left bytes × ((lawful : Bool) × ((text : List ℕ) × (HasFinding bytes lawful text × AppendsFront old new text)))))
 
+-- what a check leaves of what was left to read, beside its answer: all that it read, if it found something; and if it refuses
+-- the trace, bytes that are refused so. Where memory lacked or a stream failed, nothing is said of them
+abbrev pub LeavesRead : Option (List ℕ) → List ℕ → Result Bool RunFault → Type 0
+LeavesRead left bytes (Ok lawful) = IsTraceRead left bytes
+LeavesRead left bytes (Err (Fault (Memory refused))) = Unit {0}
+LeavesRead left bytes (Err (Fault fault)) = IsTraceRead left bytes × RefusesTrace bytes fault
+LeavesRead left bytes (Err Stream) = Unit {0}
+
 -- the exit status of the program
 abbrev pub status_of : Result Bool RunFault → ℕ
 status_of (Ok true) = 0

@@ -20,5 +20,5 @@ pub use framed::found_written;
 pub use judges::{Finding, finding_text, judge};
 pub use lacks::reason;
 pub use plays::{event_told, play_told, play_told_to_close, told_is_only};
-pub use programs::{check_stream, run_checker, say_outcome, status_of};
+pub use programs::{check_keeping, check_stream, run_checker, say_outcome, status_of};
 pub use standings::Standing;

@@ -3,7 +3,7 @@ ghost use Rattle.lwkt_trace.specs.declared.traces.Trace.{Trace};
 ghost use Rattle.lwkt_trace.specs.Format.{trace_of};
 ghost use Rattle.lwkt_checker.specs.Judgement.{HasFinding, IsJudgedTrace, RefusesTrace};
 ghost use Rattle.lwkt_report.specs.Complaint.{fault_line, IsSaid};
-ghost use Rattle.lwkt_checker.specs.Output.{TellsFinding, status_of, Complains, ChecksAs};
+ghost use Rattle.lwkt_checker.specs.Output.{TellsFinding, LeavesRead, status_of, Complains, ChecksAs};
 
 use crate::framed::found_written;
 use crate::judges::{Finding, finding_text, judge};
@@ -48,6 +48,34 @@ fn done_of_bytes(alloc: Global, bytes: &[u8]) -> Result<Done, Fault>
     }
 }
 
+/// As `check_stream`, and what it read is in `read` then, so that the caller can say of it why it is refused. Where it can't be
+/// read, nothing is said of what `read` has.
+pub fn check_keeping<S: Source, K: Sink>(
+    alloc: Global,
+    source: &mut S,
+    sink: &mut K,
+    read: &mut Vec<u8>,
+) -> Result<bool, RunFault>
+    ensures tells { TellsFinding (S.left source.old) (K.contents sink.old) (K.contents sink.new) result }
+    ensures leaves { LeavesRead (S.left source.old) read.new.items result }
+    ensures stream { result ≡ Err RunFault.Stream → IsTrue (S.has_failed source.new) ⊎ IsTrue (K.has_failed sink.new) }
+    ensures flushed { OnOk result (K.is_flushed sink.new) }
+    ensures unfailed { OnOk result ((S.has_failed source.new ≡ S.has_failed source.old) × (K.has_failed sink.new ≡ K.has_failed sink.old)) }
+{
+    match read_up_to(alloc, source, LENGTH_LIMIT + 1) {
+        Ok(bytes) => *read = bytes,
+        Err(fault) => return Err(fault),
+    }
+    let done = match done_of_bytes(alloc, read) {
+        Ok(done) => done,
+        Err(fault) => return Err(RunFault::Fault(fault)),
+    };
+    match write_whole(sink, done.text.as_bytes()) {
+        Ok(()) => Ok(done.lawful),
+        Err(_) => Err(RunFault::Stream),
+    }
+}
+
 /// Reads a trace to its end, or to 268435457 bytes, checks it, and writes what was found of it, which is whole in memory
 /// before its first byte is written. The answer is whether it is lawful.
 ///
@@ -64,18 +92,8 @@ pub fn check_stream<S: Source, K: Sink>(
     ensures flushed { OnOk result (K.is_flushed sink.new) }
     ensures unfailed { OnOk result ((S.has_failed source.new ≡ S.has_failed source.old) × (K.has_failed sink.new ≡ K.has_failed sink.old)) }
 {
-    let bytes = match read_up_to(alloc, source, LENGTH_LIMIT + 1) {
-        Ok(bytes) => bytes,
-        Err(fault) => return Err(fault),
-    };
-    let done = match done_of_bytes(alloc, &bytes) {
-        Ok(done) => done,
-        Err(fault) => return Err(RunFault::Fault(fault)),
-    };
-    match write_whole(sink, done.text.as_bytes()) {
-        Ok(()) => Ok(done.lawful),
-        Err(_) => Err(RunFault::Stream),
-    }
+    let mut read = Vec::new(alloc);
+    check_keeping(alloc, source, sink, &mut read)
 }
 
 /// The exit status of what came of a check: 0 lawful; 4 unlawful; 1 a trace or opening that was refused; 3 want of memory, or a

@@ -2,7 +2,7 @@ use Rattle.std.proofs.Common.{inl, inr, ◌≡◌, ◌⊎◌}
 use Rattle.lwkt_base.specs.Fault.{no_memory}
 use Rattle.lwkt_report.specs.declared.streams.RunFault.TheVariants.{Fault, Stream}
 use Rattle.lwkt_checker.proofs.Tellings.{tells_unread, tells_refused, tells_done, tells_front}
-use Rattle.lwkt_checker.proofs.programs.check_stream.Goals as goal
+use Rattle.lwkt_checker.proofs.programs.check_keeping.Goals as goal
 
 pub returns-in-Err-clause-tells : goal.returns-in-Err-clause-tells
 returns-in-Err-clause-tells g c =
