@@ -3,34 +3,25 @@
 
 mod tellings;
 
-use crate::tellings::{asks_lines, check_told};
+use crate::tellings::check_told;
 use lwkt_refusals::Speaker;
 use lwkt_report::{
     NotedReader, NotedWriter, Program, ReaderSource, WriterSink, refusal_of, refuse_arguments,
     words_of,
 };
 use std::alloc::Global;
-use std::io::Read;
 use std::process::ExitCode;
-
-// The reader of a trace. Of a trace in lines no copy is kept.
-fn reader_of<R: Read>(alloc: Global, reader: R, in_lines: bool) -> NotedReader<R> {
-    if in_lines {
-        return NotedReader {
-            reader,
-            given: None,
-            error: None,
-        };
-    }
-    NotedReader::new(alloc, reader)
-}
 
 fn main(rt: HostRuntime) -> ExitCode {
     let alloc: Global = rt.alloc();
     let mut errors = WriterSink::new(rt.stderr());
     let status = match words_of(&rt) {
         Ok(words) => {
-            let mut source = ReaderSource::new(reader_of(alloc, rt.stdin(), asks_lines(&words)));
+            let mut source = ReaderSource::new(NotedReader {
+                reader: rt.stdin(),
+                given: None,
+                error: None,
+            });
             let mut sink = WriterSink::new(NotedWriter::new(rt.stdout()));
             check_told(alloc, &words, &mut source, &mut sink, &mut errors)
         }

@@ -7,7 +7,7 @@ ghost use Rattle.lwkt_refusals.specs.Sayings.{SaysMore};
 ghost use Rattle.lwkt_judge.specs.Told.{IsSaidFirst, ComplainsFirst, IsUnread, ChecksAloud, AsksLines, IsMisused};
 
 use lwkt_base::Fault;
-use lwkt_checker::{check_stream, say_outcome, status_of};
+use lwkt_checker::{check_keeping, say_outcome, status_of};
 use lwkt_lines::{Lines, check_lines};
 use lwkt_refusals::{Speaker, has_no_reader};
 use lwkt_report::{
@@ -17,34 +17,31 @@ use lwkt_report::{
 use std::alloc::Global;
 use std::io::{Read, Write};
 
-// Says why the trace is refused with this fault: of a trace in lines by the line that is, or by its opening; else by what the
-// reader kept.
-fn say_refusal<E: Sink>(
-    alloc: Global,
-    errors: &mut E,
-    fault: Fault,
-    lines: Option<&Lines>,
-    given: &Option<Vec<u8>>,
-)
+// What was read of a trace, of which is said why it is refused.
+#[derive(Drop)]
+enum Given<'g> {
+    // Of a trace in lines its opening, and the line that was read last.
+    Lines(&'g Lines),
+    // The whole text of any other.
+    Text(&'g [u8]),
+}
+
+// Says why the trace is refused with this fault: of a trace in lines by the line that is, or by its opening; else by its text.
+fn say_refusal<E: Sink>(alloc: Global, errors: &mut E, fault: Fault, given: &Given)
     ensures { SaysMore (E.has_failed errors.old) (E.has_failed errors.new) (E.contents errors.old) (E.contents errors.new) }
 {
-    let Some(lines) = lines else {
-        return Speaker::Check.say_refusal(
-            alloc,
-            errors,
-            given.as_ref().map(|bytes| bytes.as_slice()),
-            fault,
-        );
-    };
-    match fault {
-        Fault::Script { place } => Speaker::Check.say_line_refusal(
+    match (given, fault) {
+        (Given::Text(text), fault) => Speaker::Check.say_refusal(alloc, errors, Some(text), fault),
+        (Given::Lines(lines), Fault::Script { place }) => Speaker::Check.say_line_refusal(
             alloc,
             errors,
             lines.number,
             lines.line.as_slice(),
             place,
         ),
-        _ => Speaker::Check.say_refusal(alloc, errors, Some(lines.opening_line()), fault),
+        (Given::Lines(lines), fault) => {
+            Speaker::Check.say_refusal(alloc, errors, Some(lines.opening_line()), fault)
+        }
     }
 }
 
@@ -53,7 +50,7 @@ fn say_why<I, O, E: Sink>(
     alloc: Global,
     errors: &mut E,
     fault: RunFault,
-    lines: Option<&Lines>,
+    given: &Given,
     source: &ReaderSource<NotedReader<I>>,
     sink: &WriterSink<NotedWriter<O>>,
 )
@@ -61,7 +58,7 @@ fn say_why<I, O, E: Sink>(
 {
     match fault {
         RunFault::Fault(Fault::Memory(_)) => Speaker::Check.say_memory(errors),
-        RunFault::Fault(fault) => { say_refusal(alloc, errors, fault, lines, &source.reader.given) }
+        RunFault::Fault(fault) => { say_refusal(alloc, errors, fault, given) }
         RunFault::Stream if source.failed => {
             Speaker::Check.say_unread(alloc, errors, &source.reader.error)
         }
@@ -74,7 +71,7 @@ fn say_all<I, O, E: Sink>(
     alloc: Global,
     errors: &mut E,
     outcome: &Result<bool, RunFault>,
-    lines: Option<&Lines>,
+    given: &Given,
     source: &ReaderSource<NotedReader<I>>,
     sink: &WriterSink<NotedWriter<O>>,
 )
@@ -82,7 +79,7 @@ fn say_all<I, O, E: Sink>(
 {
     say_outcome(errors, outcome);
     if let Err(fault) = *outcome {
-        say_why(alloc, errors, fault, lines, source, sink);
+        say_why(alloc, errors, fault, given, source, sink);
     }
 }
 
@@ -98,7 +95,7 @@ fn conclude<I, O, E: Sink>(
     alloc: Global,
     errors: &mut E,
     outcome: &Result<bool, RunFault>,
-    lines: Option<&Lines>,
+    given: &Given,
     source: &ReaderSource<NotedReader<I>>,
     sink: &WriterSink<NotedWriter<O>>,
 ) -> u8
@@ -106,13 +103,13 @@ fn conclude<I, O, E: Sink>(
     ensures status { result ≡ status_of outcome.now }
 {
     if !is_unread(sink) {
-        say_all(alloc, errors, outcome, lines, source, sink);
+        say_all(alloc, errors, outcome, given, source, sink);
     }
     status_of(outcome)
 }
 
-/// Whether the arguments are the one word `lines`: a trace in lines is then read.
-pub fn asks_lines(words: &[String]) -> bool
+// Whether the arguments are the one word `lines`: a trace in lines is then read.
+fn asks_lines(words: &[String]) -> bool
     ensures { IsTrue result ↔ AsksLines words.now }
 {
     words.len() == 1 && words.iter().all(|word| word.as_str() == "lines")
@@ -140,13 +137,14 @@ pub fn check_told<I: Read, O: Write, E: Sink>(
     if asks_lines(words) {
         let mut lines = Lines::new(alloc);
         let outcome = check_lines(alloc, &mut lines, source, sink);
-        return conclude(alloc, errors, &outcome, Some(&lines), source, sink);
+        return conclude(alloc, errors, &outcome, &Given::Lines(&lines), source, sink);
     }
     if !words.is_empty() {
         complain(errors, Program::Check, Complaint::Usage);
         Speaker::Check.say_usage(errors);
         return 1;
     }
-    let outcome = check_stream(alloc, source, sink);
-    conclude(alloc, errors, &outcome, None, source, sink)
+    let mut text = Vec::new(alloc);
+    let outcome = check_keeping(alloc, source, sink, &mut text);
+    conclude(alloc, errors, &outcome, &Given::Text(&text), source, sink)
 }
