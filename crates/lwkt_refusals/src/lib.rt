@@ -1,6 +1,7 @@
 //! Why a script or a trace is refused, in words: what is bad of it, and at which line and column.
 #![tactic(auto)]
 
+mod hints;
 mod members;
 mod openings;
 mod pages;

@@ -1,3 +1,4 @@
+use crate::hints::begins_text;
 use crate::pages::{Page, show_breach};
 use crate::parts::Part;
 use crate::scripts::{is_second, show_script_place};
@@ -257,6 +258,9 @@ fn show_no_value(alloc: Global, out: &mut Page, number: usize, line: &[u8]) -> b
     show_column(out, number, error.column().saturating_sub(1));
     show_index(out, number);
     show_line_error(alloc, out, &error);
+    if begins_text(number, line, &error) {
+        out.add("; a trace of one text is read without the word lines");
+    }
     true
 }
 

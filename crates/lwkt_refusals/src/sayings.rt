@@ -2,6 +2,7 @@
 ghost use Rattle.std.specs.Prelude.{◌↔◌, IsTrue};
 ghost use Rattle.lwkt_refusals.specs.Sayings.{SaysMore, HasNoReader};
 
+use crate::hints::is_in_lines;
 use crate::pages::Page;
 use crate::refusals::{Document, line_refusal, refusal};
 use lwkt_base::Fault;
@@ -130,6 +131,12 @@ impl Speaker {
             show_number(&mut out, fault);
         }
         out.add(refusal(alloc, self.document(), bytes, fault)?.as_str());
+        if self == Speaker::Check
+            && fault == (Fault::Script { place: 0 })
+            && is_in_lines(alloc, bytes)
+        {
+            out.add("; a trace in lines wants the word lines");
+        }
         out.whole()
     }
 
