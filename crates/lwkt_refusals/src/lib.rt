@@ -15,6 +15,6 @@ mod texts;
 mod traces;
 mod words;
 
-pub use pages::{Page, show_breach};
+pub use pages::{Page, show_breach, show_opening_breach};
 pub use refusals::{Document, line_refusal, refusal};
 pub use sayings::{Speaker, has_no_reader};

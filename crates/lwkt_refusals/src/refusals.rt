@@ -1,5 +1,5 @@
 use crate::hints::begins_text;
-use crate::pages::{Page, show_breach};
+use crate::pages::{Page, show_opening_breach};
 use crate::parts::Part;
 use crate::scripts::{is_second, show_script_place};
 use crate::texts::{byte_at, line_of, place_of};
@@ -162,7 +162,7 @@ fn show_opening(alloc: Global, out: &mut Words, document: Document, whole: Part<
             out.point(list.item(number)?);
             out.size("the opening of token ", number);
             out.add(": ");
-            show_breach(&mut out.page, spec.law, spec.param, spec.cells.as_slice());
+            show_opening_breach(&mut out.page, spec);
             return Some(());
         }
     }

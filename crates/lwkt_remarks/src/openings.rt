@@ -1,7 +1,7 @@
 // Why an opening is refused.
 use lwkt_base::blobs::length_of;
 use lwkt_base::{Fault, TokSpec};
-use lwkt_refusals::{Page, show_breach};
+use lwkt_refusals::{Page, show_opening_breach};
 use lwkt_text::{Name, Reading, Refusal, read_text};
 use std::alloc::{AllocError, Global};
 
@@ -18,7 +18,7 @@ fn add_breach(page: &mut Page, tokens: &[TokSpec], names: &[Name]) -> bool {
             page.add("the opening of token ");
             page.add(names.get(number).map_or("", |name| name.as_str()));
             page.add(": ");
-            show_breach(page, spec.law, spec.param, spec.cells.as_slice());
+            show_opening_breach(page, spec);
             return true;
         }
     }
