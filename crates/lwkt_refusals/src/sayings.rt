@@ -30,6 +30,8 @@ usage: lwkt_show turns [--turns A..B | --rounds A..B] [--svg] [FILE]
        lwkt_show turns --trace | --chains [FILE]
                       the same, and write its trace for lwkt_check, or the
                       written sections of each token
+       lwkt_show turns --order ORDER .. [FILE]
+                      the same of the run along an order of turns, as 0,1,0
        lwkt_show threads --chains [FILE]
                       the sections of a run with a thread for each processor
        lwkt_show --help
@@ -43,6 +45,8 @@ usage: lwkt_explore [--states N] [--turns N] [FILE]
                       outcome once with a shortest order that leads to it
        lwkt_explore --random N [--seed S] [--turns N] [FILE]
                       the same of N random orders
+       lwkt_explore --all FOLDER
+                      try each .lwkt and .json file of a folder, and count
        lwkt_explore --help
                       say more
 example: ./lwkt_explore examples/crossed_lists.json
