@@ -62,8 +62,17 @@ fn words_of(what: What) -> &'static str {
         What::Long => "a sentence has at most 1000 words",
         What::Further => " may not stand here",
         What::NoThread => "a step stands behind the head of its thread",
-        What::Crowd =>
-            "there are too many: at most 64 tokens, 64 messages, 16 threads of a processor, 256 steps of a thread",
+        What::Crowd => "there are too many ",
+    }
+}
+
+// What there is too much of, where this word begins its sentence, and how many of it there may be.
+fn crowd_of(word: &str) -> &'static str {
+    match word {
+        "token" => "tokens: at most 64",
+        "message" => "messages: at most 64",
+        "thread" => "threads of this processor: at most 16",
+        _ => "steps of this thread: at most 256",
     }
 }
 
@@ -160,6 +169,14 @@ fn add_further(alloc: Global, page: &mut Page, bytes: &[u8], at: usize) -> Resul
     Ok(())
 }
 
+// What there is too much of, by the sentence that begins at a place.
+fn add_crowd(alloc: Global, page: &mut Page, bytes: &[u8], at: usize) -> Result<(), AllocError> {
+    let first = word_at(alloc, bytes, at)?;
+    page.add(words_of(What::Crowd));
+    page.add(crowd_of(first.as_str()));
+    Ok(())
+}
+
 // What is wrong at a place of a text, in words.
 fn add_words(
     alloc: Global,
@@ -169,6 +186,9 @@ fn add_words(
 ) -> Result<(), AllocError> {
     if wrong.what == What::Further {
         return add_further(alloc, page, text.bytes, wrong.at);
+    }
+    if wrong.what == What::Crowd {
+        return add_crowd(alloc, page, text.bytes, wrong.at);
     }
     page.add(words_of(wrong.what));
     add_limits(page, wrong_there(alloc, text, wrong)?);
