@@ -1,9 +1,10 @@
--- Where notes were taken in, or what is owed was paid, a note is in hand only where no place is known to be free.
+-- Where notes were taken in, or what is owed was paid, a note is in hand only where no place is known to be free; and where none was in
+-- hand, none is after what leaves the sending ends alone.
 use Rattle.std.proofs.Common.{◌≡◌, ⊎_elim, ℕ, zero, suc, ◌<◌, Bool, true, false, List, length, set, get_or, ap, sym, ◌∙◌, subst, arith, length-set, get_or-set_same, get_or-set_other}
 use Rattle.std.proofs.lemmas.List.Elements.{All-set, All-get_or}
 use mathlib.Core.Logic.{dite}
 use native.Mathlib.Decide.{ℕ_discrete}
-use Rattle.std.specs.Prelude.{All, Option, Some, None, IsSome}
+use Rattle.std.specs.Prelude.{All, Option, Some, None, IsSome, slice_index_or, slice_set}
 use Rattle.lwkt_base.specs.declared.names.MsgId.{MsgId}
 use Rattle.lwkt_lane.specs.declared.notes.Note.{Note}
 use Rattle.lwkt_lane.specs.declared.outs.LaneOut.{LaneOut}
@@ -13,7 +14,7 @@ use Rattle.lwkt_port.specs.declared.lines.Lane.{Lane}
 use Rattle.lwkt_port.specs.Chains.{Chain}
 use Rattle.lwkt_port.specs.Intakes.{Payer, PaysOwed, Pays, Desks, Handles, Pops, EmptiesKept, Intake, EmptiesFrom}
 use Rattle.lwkt_port.specs.Laws.{HandsWaitForRoom, PaidHandsWaitForRoom}
-use Rattle.lwkt_port.specs.Lines.{WaitsForRoom, IsRoomed}
+use Rattle.lwkt_port.specs.Lines.{HasNoneInHand, WaitsForRoom, IsRoomed, HasFoundNote, IsLineLooked}
 use Rattle.lwkt_port.specs.Mails.{kept_mail_at}
 use Rattle.lwkt_port.specs.Posts.{ChangesOne, work_of}
 use Rattle.lwkt_port.specs.Sendings.{ReplyMeans, Answers}
@@ -105,3 +106,33 @@ taken_wait limit count x y t =
 
 pub paid_wait : PaidHandsWaitForRoom
 paid_wait p p' t u h = all_pay_wait (length p.mails) (record { work = work_of p t; lanes = h.roomed }) (record { work = work_of p' u; lanes = p'.lanes }) h.owed (rooms_wait p.lanes h.roomed h.rooms)
+
+-- one line changed, which has none in hand if it had none
+pub hands_put : (lanes : List Lane) (j : ℕ) (old new : Lane) → j < length lanes → old ≡ slice_index_or lanes j old → (HasNoneInHand old → HasNoneInHand new) → All HasNoneInHand lanes → All HasNoneInHand (slice_set lanes j new)
+hands_put lanes j old new there was keeps all =
+    let F : Lane → Type 0 = HasNoneInHand in
+    let before : HasNoneInHand old = subst F (sym was) (All-get_or HasNoneInHand lanes j old there all) in
+    All-set HasNoneInHand lanes j new (keeps before) all
+
+-- one line changed, which has none in hand
+pub hands_then : (lanes : List Lane) (j : ℕ) (new : Lane) → HasNoneInHand new → All HasNoneInHand lanes → All HasNoneInHand (slice_set lanes j new)
+hands_then lanes j new none all = All-set HasNoneInHand lanes j new none all
+
+-- steps on one line that leave it without a note in hand
+pub out_none : (line line' : Lane) → line'.out ≡ line.out → HasNoneInHand line → HasNoneInHand line'
+out_none line line' same none = ap (λ out. in_hand out) same ∙ none
+
+pub room_none : (line line' : Lane) → IsRoomed line line' → HasNoneInHand line → HasNoneInHand line'
+room_none line line' r none = ⊎_elim
+    (λ (gone : HasNoneInHand line'). gone)
+    (λ (same : in_hand line'.out ≡ in_hand line.out). same ∙ none)
+    r.hand
+
+pub found_none : (line line' : Lane) → HasFoundNote line line' → HasNoneInHand line → HasNoneInHand line'
+found_none line line' found none = ⊎_elim
+    (λ (same : line' ≡ line). out_none line line' (ap (λ (l : Lane). l.out) same) none)
+    (λ (l : IsLineLooked line line'). out_none line line' l.out_same none)
+    found
+
+pub emptied_none : (most count : ℕ) (line line' : Lane) (x y : Desks) → EmptiesKept line.kept most count line line' x y → HasNoneInHand line → HasNoneInHand line'
+emptied_none most count line line' x y e none = out_none line line' (emptied_out line.kept most count line line' x y e) none

@@ -8,6 +8,7 @@ use Rattle.lwkt_port.specs.declared.lines.Lane.{Lane}
 use Rattle.lwkt_port.specs.declared.mails.Mail.{Mail}
 use Rattle.lwkt_port.specs.declared.queues.Port.{Port}
 use Rattle.lwkt_core.specs.declared.events.Event.{Event}
+use Rattle.lwkt_port.specs.Lines.{HasNoneInHand}
 use Rattle.lwkt_port.specs.Mails.{AreMails}
 use Rattle.lwkt_port.specs.Queues.{NamesBoth, HasNamed, all-prop}
 use Rattle.lwkt_port.specs.Works.{Work}
@@ -66,10 +67,11 @@ pub record AreSameLanes (lanes lanes' : List Lane) : Type 0 where
   pub outs : out_lanes lanes' ≡ out_lanes lanes
   pub ins : in_lanes lanes' ≡ in_lanes lanes
 
--- lines are as many as they were, and the notes that they keep name messages and ports as they did
+-- lines are as many as they were, and the notes that they keep name messages and ports as they did; none is in hand where none was
 pub record AreStillLines (lanes lanes' : Vec Lane Global) : Type 0 where
   pub as_many : vec_len lanes' ≡ vec_len lanes
   pub named : (n : ℕ) → All (KeepsNamed n) lanes.items → All (KeepsNamed n) lanes'.items
+  pub hands : All HasNoneInHand lanes.items → All HasNoneInHand lanes'.items
 
 -- the ports are still those that they were: over the same seat and the same lanes, for as many threads
 pub record IsSamePost (p p' : Post) : Type 0 where

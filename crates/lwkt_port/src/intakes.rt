@@ -31,6 +31,13 @@ fn make_room(lanes: &mut Vec<Lane>)
     }
 }
 
+// Whether no note is in hand at any sending end.
+fn have_none_in_hand(lanes: &Vec<Lane>) -> bool
+    ensures { IsTrue result → All HasNoneInHand lanes.now.items }
+{
+    lanes.iter().all(has_none_in_hand)
+}
+
 impl Office {
     // Makes the replies that are owed, as lanes have room, if there may be one.
     fn pay_owed(&mut self, book: &MsgBook, trace: &mut Vec<Event>)
@@ -146,16 +153,9 @@ impl Office {
         let cleared = self.counters.uncleared;
         self.counters.clear_all(book, trace);
         self.owing = may_owe(self.owing, cleared, &self.counters.room.mails);
+        self.holding = !have_none_in_hand(&self.lanes);
         count
     }
-}
-
-// Whether no note is in hand at any sending end.
-#[inline(always)]
-fn have_none_in_hand(lanes: &Vec<Lane>) -> bool
-    ensures { IsTrue result → All HasNoneInHand lanes.now.items }
-{
-    lanes.iter().all(has_none_in_hand)
 }
 
 impl Office {
@@ -166,7 +166,7 @@ impl Office {
         ensures takes { TakesIn limit (hall self.old trace.old) (hall self.new trace.new) result }
         ensures stands { MailroomStands 256 self.old.counters.room trace.old self.new.counters.room trace.new }
     {
-        if self.owing || self.counters.uncleared || !have_none_in_hand(&self.lanes) {
+        if self.owing || self.counters.uncleared || self.holding {
             return self.take_all(book, limit, trace);
         }
         let Some(first) = pass_empty(&mut self.lanes) else {
@@ -213,5 +213,6 @@ impl Ports {
         make_room(&mut self.office.lanes);
         self.office.pay_owed(book, trace);
         self.office.owing = may_owe(self.office.owing, false, &self.office.counters.room.mails);
+        self.office.holding = !have_none_in_hand(&self.office.lanes);
     }
 }

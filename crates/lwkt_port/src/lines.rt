@@ -1,7 +1,7 @@
 //! The two lanes that join a processor with another one, or with itself.
 ghost use Rattle.std.specs.Prelude.{◌≡◌, ◌++◌, ◌∷◌, [], ◌↔◌, None, IsTrue, Some, true, false, MatchOption};
 ghost use Rattle.lwkt_lane.specs.Lane.{in_hand};
-ghost use Rattle.lwkt_port.specs.Lines.{IsRoomed, HasPosted, IsDrained, HasPopped, HasNone, HasFoundNote};
+ghost use Rattle.lwkt_port.specs.Lines.{HasNoneInHand, IsRoomed, HasPosted, IsDrained, HasPopped, HasNone, HasFoundNote};
 
 use lwkt_lane::{LaneIn, LaneOut, Note};
 
@@ -28,6 +28,15 @@ pub(crate) fn has_none_in_hand(line: &Lane) -> bool
     ensures { IsTrue result ↔ (in_hand line.now.out ≡ None) }
 {
     line.out.has_none_in_hand()
+}
+
+/// Whether a note may be in hand at a sending end: only where one might be before, or where this line has one now.
+#[inline(always)]
+pub(crate) fn may_hold(holding: bool, line: &Lane) -> bool
+    ensures before { result ≡ false → holding ≡ false }
+    ensures now { result ≡ false → HasNoneInHand line.now }
+{
+    holding || !has_none_in_hand(line)
 }
 
 /// Sends a note over a lane that has room for it.

@@ -151,6 +151,7 @@ impl Ports {
             counters,
             lanes,
             owing: false,
+            holding: true,
         };
         Ok(Ports { office, threads })
     }

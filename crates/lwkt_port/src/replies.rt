@@ -7,7 +7,7 @@ ghost use Rattle.lwkt_port.specs.Posts.{IsSamePost};
 ghost use Rattle.lwkt_port.specs.Sendings.{answer_note, ReplyMeans, Answers, IsShownTo, PostReplies, PostRefusesReply};
 ghost use Rattle.lwkt_port.specs.Tellings.{TellsDeeds};
 
-use crate::lines::{Lane, has_room, post};
+use crate::lines::{Lane, has_room, may_hold, post};
 use crate::mailrooms::Mailroom;
 use crate::mails::{Mail, mail_of};
 use crate::offices::Office;
@@ -78,9 +78,11 @@ impl Office {
     {
         let mail = mail_of(&self.counters.room.mails, usize::from(msg.0));
         let at = usize::from(mail.origin.cpu.0);
-        self.counters
-            .room
-            .reply_over(book, &mut self.lanes[at], msg, error, outcome, trace)
+        let line = &mut self.lanes[at];
+        let room = &mut self.counters.room;
+        let made = room.reply_over(book, line, msg, error, outcome, trace);
+        self.holding = may_hold(self.holding, line);
+        made
     }
 }
 

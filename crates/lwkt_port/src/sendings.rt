@@ -8,7 +8,7 @@ ghost use Rattle.lwkt_port.specs.Posts.{IsSamePost};
 ghost use Rattle.lwkt_port.specs.Tellings.{TellsDeeds};
 
 use crate::deeds::Sending;
-use crate::lines::{Lane, has_room, post};
+use crate::lines::{Lane, has_room, may_hold, post};
 use crate::mailrooms::Mailroom;
 use crate::mails::{Mail, mail_of};
 use crate::offices::Office;
@@ -95,9 +95,10 @@ impl Office {
             return Err(Fault::NotOwner);
         }
         let at = usize::from(sending.to.cpu.0);
-        self.counters
-            .room
-            .send_over(book, &mut self.lanes[at], sending, trace)
+        let line = &mut self.lanes[at];
+        let sent = self.counters.room.send_over(book, line, sending, trace);
+        self.holding = may_hold(self.holding, line);
+        sent
     }
 }
 

@@ -4,10 +4,11 @@ use Rattle.lwkt_port.specs.Lines.{IsRoomed}
 use Rattle.lwkt_port.specs.Posts.{ChangesOne}
 use Rattle.lwkt_port.proofs.Chaining.{chain_none, chain_more}
 use Rattle.lwkt_port.proofs.Dispatching.{changed, line_kept}
+use Rattle.lwkt_port.proofs.HandMoves.{hands_put, room_none}
 use Rattle.lwkt_port.proofs.intakes.make_room.Goals as goal
 
 pub loop-at-init : goal.loop-at-init
-loop-at-init c = record { rooms = chain_none (List Lane) (λ i x y. ChangesOne IsRoomed i x y) c.args.lanes.now.items; len = refl; named = λ n h. h }
+loop-at-init c = record { rooms = chain_none (List Lane) (λ i x y. ChangesOne IsRoomed i x y) c.args.lanes.now.items; len = refl; named = λ n h. h; hands = λ h. h }
 
 pub loop-at-preserved : goal.loop-at-preserved
 loop-at-preserved c =
@@ -18,4 +19,5 @@ loop-at-preserved c =
       rooms = chain_more (List Lane) Step l.at c.args.lanes.now.items l.lanes.items _ l.invariant.rooms (changed Lane IsRoomed l.at l.at l.lanes.items c.index_mut.result.now c.has_room.new.line there c.index_mut.ensures.value refl does);
       len = l.invariant.len;
       named = λ n h. line_kept n l.lanes.items l.at c.index_mut.result.now c.has_room.new.line there c.index_mut.ensures.value does.kept_same (l.invariant.named n h);
+      hands = λ h. hands_put l.lanes.items l.at c.index_mut.result.now c.has_room.new.line there c.index_mut.ensures.value (room_none c.index_mut.result.now c.has_room.new.line does) (l.invariant.hands h);
     }

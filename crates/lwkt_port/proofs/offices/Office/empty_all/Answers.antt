@@ -5,6 +5,7 @@ use Rattle.lwkt_port.specs.Works.{work, Standing, standing}
 use Rattle.lwkt_port.proofs.Chaining.{chain_more}
 use Rattle.lwkt_port.proofs.Dispatching.{changed, line_named}
 use Rattle.lwkt_port.proofs.Emptying.{keeps_none, keeps_then, line_named_after}
+use Rattle.lwkt_port.proofs.HandMoves.{hands_put, emptied_none}
 use Rattle.lwkt_port.proofs.Hinting.{line_owes}
 use Rattle.lwkt_port.proofs.offices.Office.empty_all.Goals as goal
 
@@ -39,8 +40,10 @@ invariant_of-self-in-loop-sender c =
     let l = c.loop-sender in
     let e = c.empty-count.ensures in
     let n = c.empty-count.new in
+    let there : l.sender < length l.self.lanes.items = search rules in
     let mails : vec_len n.self.room.mails ≡ length n.self.room.mails.items = search rules in record {
       as_many = l.self.as_many ∙ sym e.keeps.same.cpus;
       keep = line_named (vec_len l.self.counters.room.mails) (vec_len n.self.room.mails) l.self.lanes.items l.sender n.line e.keeps.len l.self.keep (line_named_after (c.args.limit - l.count) c.empty-count.result (vec_len n.self.room.mails) c.index_mut.result.now n.line (desks l.self.counters l.trace) (desks n.self n.trace) mails e.empties);
       hint = λ unset. line_owes (c.args.limit - l.count) c.empty-count.result c.index_mut.result.now n.line (desks l.self.counters l.trace) (desks n.self n.trace) e.empties (l.self.hint unset);
+      hands = λ unset. hands_put l.self.lanes.items l.sender c.index_mut.result.now n.line there c.index_mut.ensures.value (emptied_none (c.args.limit - l.count) c.empty-count.result c.index_mut.result.now n.line (desks l.self.counters l.trace) (desks n.self n.trace) e.empties) (l.self.hands unset);
     }

@@ -1,4 +1,4 @@
-use Rattle.std.proofs.Common.{◌≡◌, ℕ, ◌∙◌, List, length, sym, subst, refl, rules, arith, vec_len}
+use Rattle.std.proofs.Common.{◌≡◌, ℕ, ◌<◌, ◌∙◌, List, length, sym, subst, refl, rules, arith, vec_len}
 use Rattle.lwkt_port.specs.declared.mails.Mail.{Mail}
 use Rattle.lwkt_port.specs.declared.lines.Lane.{Lane}
 use Rattle.lwkt_port.specs.Chains.{Chain}
@@ -8,6 +8,7 @@ use Rattle.lwkt_port.specs.Works.{Work, work, MailroomStands, Standing, standing
 use Rattle.lwkt_port.proofs.Dispatching.{line_named}
 use Rattle.lwkt_port.proofs.Emptying.{keeps_then, line_named_after}
 use Rattle.lwkt_port.proofs.Growing.{stands_none, stands_is}
+use Rattle.lwkt_port.proofs.HandMoves.{hands_put, emptied_none}
 use Rattle.lwkt_port.proofs.Hinting.{emptied_owes, line_owes}
 use Rattle.lwkt_port.proofs.Intaking.{stands_in_all}
 use Rattle.lwkt_port.proofs.Passing.{front_emptied, calm_takes}
@@ -18,10 +19,12 @@ invariant_of-self c =
     let o = c.args.self.now in
     let e = c.empty-taken.ensures in
     let n = c.empty-taken.new in
+    let there : c.args.first < length o.lanes.items = search rules in
     let mails : vec_len n.self.room.mails ≡ length n.self.room.mails.items = search rules in record {
       as_many = o.as_many ∙ sym e.keeps.same.cpus;
       keep = line_named (vec_len o.counters.room.mails) (vec_len n.self.room.mails) o.lanes.items c.args.first n.line e.keeps.len o.keep (line_named_after c.args.limit c.empty-taken.result (vec_len n.self.room.mails) c.index_mut.result.now n.line (desks o.counters c.args.trace.now) (desks n.self n.trace) mails e.empties);
       hint = λ unset. line_owes c.args.limit c.empty-taken.result c.index_mut.result.now n.line (desks o.counters c.args.trace.now) (desks n.self n.trace) e.empties (o.hint unset);
+      hands = λ unset. hands_put o.lanes.items c.args.first c.index_mut.result.now n.line there c.index_mut.ensures.value (emptied_none c.args.limit c.empty-taken.result c.index_mut.result.now n.line (desks o.counters c.args.trace.now) (desks n.self n.trace) e.empties) (o.hands unset);
     }
 
 pub returns-clause-takes : goal.returns-clause-takes

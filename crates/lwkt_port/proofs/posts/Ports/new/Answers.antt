@@ -1,4 +1,4 @@
-use Rattle.std.proofs.Common.{◌≡◌, ◌∙◌, ℕ, List, length, subst, sym, rules, vec_len}
+use Rattle.std.proofs.Common.{◌≡◌, ◌∙◌, ℕ, List, length, subst, sym, true≢false, rules, vec_len}
 use Rattle.std.specs.Prelude.{All}
 use Rattle.lwkt_port.specs.declared.mails.Mail.{Mail}
 use Rattle.lwkt_port.specs.Hints.{OwesNone}
@@ -40,4 +40,5 @@ invariant_of-office c =
       as_many = lanes ∙ post.lanes_are;
       keep = subst F (sym mails) post.kept;
       hint = λ unset. subst G (sym c.in-Ok-open_mails.ensures) (owes_first c.cpu-own.result c.args.origins.now);
+      hands = λ unset. absurd (true≢false unset);
     }
