@@ -44,7 +44,7 @@ extern "C" {
 typedef struct lwkt_answer {
     // The length of the whole text in bytes.
     size_t length;
-    // 0, or the fault for which the call was refused, as docs/FORMATS.md numbers them: 30 an order names a processor that isn't
+    // 0, or the fault for which the call was refused, as docs/tables/faults.md numbers them: 30 an order names a processor that isn't
     // there; 32 memory was refused; 33 what was given is no script, no text or no trace; 35 a run along an order wasn't lawful; 39 a
     // limit was passed; 40 an opening row breaks its law.
     uint32_t fault;
@@ -124,7 +124,7 @@ uint32_t lwkt_explore_orders(const uint8_t *script, size_t script_length, size_t
 // Held shared, the count is the number of all references; held exclusively, that of the references beyond the first. Each word is
 // one that these calls take. A token that nobody holds at generation g has the word g << 18.
 //
-// A call answers 0 and stores the next word; or it answers a fault, as docs/FORMATS.md numbers them, and stores nothing. Which
+// A call answers 0 and stores the next word; or it answers a fault, as docs/tables/faults.md numbers them, and stores nothing. Which
 // references a processor has is not in the word: the caller knows it. In the model of docs/MODEL.md these steps are the events
 // Take, Share, Again, Mark, GiveOne, GiveClean and GiveWritten, which docs/C.md says more of.
 #define LWKT_WORD_EXCLUSIVE UINT64_C(1)
@@ -179,7 +179,7 @@ uint32_t lwkt_word_give_written(uint64_t word, uint64_t *next);
 //     lwkt_closing closing;
 //     status = lwkt_bank_close(bank, &closing, 1);
 //
-// Status. 0 where the call did what it says; else a number, as docs/FORMATS.md has the faults, but for 50, 51 and 52:
+// Status. 0 where the call did what it says; else a number, as docs/tables/faults.md has the faults, but for 50, 51 and 52:
 //
 //     10 the seat has 32 references              19 row or record break the law of the token
 //     11 exclusive, where it is held shared      20 the token is at its last generation, 70368744177663

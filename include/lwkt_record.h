@@ -1,5 +1,5 @@
 // lwkt_record: records what the threads of a kernel or of a threaded program do with their own tokens and messages, and
-// writes it as a trace that `lwkt_check` judges (docs/TRACES.md). C11 or C++17; one file, nothing to link.
+// writes it as a trace that `lwkt_check` judges (docs/RECORDING.md). C11 or C++17; one file, nothing to link.
 //
 //     static lwkt_record recorder;
 //     static const uint64_t cells[2] = {60, 40};
@@ -326,7 +326,7 @@ static inline const char *lwkt_record_words(int error);
 // How it is done: the buffers
 
 // The count of all events gives each its stamp. It orders nothing else: the order of two stamps is that in which the recorded
-// program orders its own steps, where it does (docs/TRACES.md).
+// program orders its own steps, where it does (docs/RECORDING.md).
 static inline uint64_t lwkt_record_stamp(lwkt_record *recorder)
 {
     return LWKT_RECORD_IN(atomic_fetch_add_explicit)(&recorder->next, 1, LWKT_RECORD_IN(memory_order_relaxed));

@@ -166,7 +166,7 @@ function readOpenings(text) {
   return tokens;
 }
 
-// The parts of a token's word, as docs/FORMATS.md lays it out.
+// The parts of a token's word, as docs/MODEL.md lays it out.
 function partsOf(word) {
   const bits = BigInt(word);
   return { exclusive: Number(bits & 1n), mark: Number((bits >> 1n) & 1n), count: Number((bits >> 2n) & 0xffffn), generation: String(bits >> 18n) };
