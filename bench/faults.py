@@ -1,15 +1,18 @@
-"""What bench/refused, bench/failing and bench/spoil share: the programs, and runs of them over bench/faults.c."""
+"""The program for benches, and what bench/refused, bench/failing and bench/spoil share: its names, and runs of it over bench/faults.c."""
 
 import os
 import subprocess
 import sys
 
 TOP = os.path.dirname(os.path.dirname(os.path.abspath(__file__)))
-# Each program by its name, the file that is run, and whether its line about a failure goes to standard output.
-RUN = ("lwkt_run", "crates/lwkt/out/lwkt_run", True)
-CHECK = ("lwkt_check", "crates/lwkt_judge/out/lwkt_check", False)
-SHOW = ("lwkt_show", "crates/lwkt_view/out/lwkt_show", False)
-TEXT = ("lwkt_text", "crates/lwkt_texts/out/lwkt_text", False)
+# The program that the environment names, or that was built or is shipped, whichever is newer, as ./lwkt chooses, or "".
+PLACES = [os.path.join(TOP, place, "lwkt") for place in ("crates/lwkt/out", "dist/x86_64-linux")]
+PROGRAM = os.environ.get("PROGRAM") or max(filter(os.path.exists, PLACES), key=os.path.getmtime, default="")
+# Each name of the program, what is run, and whether its line about a failure goes to standard output.
+RUN = ("lwkt_run", (PROGRAM, "lwkt_run"), True)
+CHECK = ("lwkt_check", (PROGRAM, "lwkt_check"), False)
+SHOW = ("lwkt_show", (PROGRAM, "lwkt_show"), False)
+TEXT = ("lwkt_text", (PROGRAM, "lwkt_text"), False)
 # How long a run may take, in seconds.
 LONGEST = int(os.environ.get("LONGEST", "60"))
 
@@ -23,14 +26,9 @@ def example(name):
         return file.read()
 
 
-# Builds a program by a call that reads an empty script, text or trace, where it isn't there or is old. With AS_BUILT=1 it is taken as it is.
-def build(program):
-    if os.environ.get("AS_BUILT") and os.path.exists(os.path.join(TOP, program[1])):
-        return
-    words = [] if program is CHECK else ["-", "--json"] if program is TEXT else ["turns"]
-    done = subprocess.run([os.path.join(TOP, program[0])] + words, stdin=subprocess.DEVNULL, capture_output=True)
-    if done.returncode != 1 or not os.path.exists(os.path.join(TOP, program[1])):
-        fail("%s isn't built: %s" % (program[0], done.stderr.decode()[-300:]))
+def need_program():
+    if not PROGRAM:
+        fail("there is no program; `make` builds it")
 
 
 class Answer:
@@ -51,7 +49,7 @@ class Answer:
 # One run without faults.
 def run(program, words, given):
     try:
-        done = subprocess.run([os.path.join(TOP, program[1])] + words, input=given, capture_output=True, timeout=LONGEST)
+        done = subprocess.run([*program[1], *words], input=given, capture_output=True, timeout=LONGEST)
     except subprocess.TimeoutExpired:
         return Answer(None, b"", b"", None)
     return Answer(done.returncode, done.stdout, done.stderr, None)
@@ -84,7 +82,7 @@ class Faults:
             faults.update(LAST=str(last))
         if os.path.exists(self.counts):
             os.remove(self.counts)
-        command = [os.path.join(TOP, program[1])] + words
+        command = [*program[1], *words]
         try:
             done = subprocess.run(command, input=given, capture_output=True, timeout=LONGEST, env=faults)
         except subprocess.TimeoutExpired:

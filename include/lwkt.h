@@ -13,8 +13,9 @@
 //
 // Status. It is the exit status of the program that does the same: 0, 1, 2, 3, 4 or 5, as each function says.
 //
-// Scripts. A script is JSON (docs/FORMATS.md) or a text of the language for scripts (docs/LANGUAGE.md). `lwkt_run_turns` and
-// `lwkt_show_turns` take JSON; `lwkt_text_json` makes that of a text.
+// Scripts. A script is JSON (docs/FORMATS.md) or a text of the language for scripts (docs/LANGUAGE.md). `lwkt_show_turns` and
+// `lwkt_explore_orders` take either form, of at most 1048576 bytes; `lwkt_run_turns` takes JSON, and `lwkt_run_text` a text;
+// `lwkt_text_json` makes JSON of a text.
 //
 // What the caller owes. Nothing checks it, and a call that breaks it is undefined:
 //
@@ -66,18 +67,18 @@ uint32_t lwkt_run_turns(const uint8_t *script, size_t script_length, uint8_t *te
 // with the fault 32. With 1 and 3 the text says why, in words, or is empty.
 uint32_t lwkt_check_trace(const uint8_t *trace, size_t trace_length, uint8_t *text, size_t room, lwkt_answer *answer);
 
-// Runs a script in rounds or along an order and shows the run, as `lwkt_show` with these arguments does. The arguments are words with
-// one blank between each two, as `turns`, `turns --svg`, `turns --rounds 0..9 --svg` or `turns --order 0110 --svg`, in UTF-8; an order
-// is one word here, without blanks; `threads --chains` isn't one of them. The text is what that program writes.
+// Runs a script in either form, in rounds or along an order, and shows the run, as `lwkt_show` with these arguments does. The arguments
+// are words with one blank between each two, as `turns`, `turns --svg`, `turns --rounds 0..9 --svg` or `turns --order 0110 --svg`, in
+// UTF-8; an order is one word here, without blanks; `threads --chains` isn't one of them. The text is what that program writes.
 //
 // The status: as of `lwkt_run_turns`, 2 along an order where not every thread had ended; 1 with the fault 30 where the order names a
 // processor that the script doesn't have; and 1, with no fault, for other arguments, and for a run that ended before the first turn
-// that the arguments choose. With 1 and 3 the text says why, in words, or is empty.
+// that the arguments choose. With 1 and 3 the text says why, in words, or is empty; of a text with the fault 33 as of `lwkt_text_json`.
 uint32_t lwkt_show_turns(const uint8_t *script, size_t script_length, const uint8_t *arguments, size_t arguments_length,
                          uint8_t *text, size_t room, lwkt_answer *answer);
 
-// Whether a script is taken for a text of the language, as the programs do: it is no JSON, begins, behind white space, with a letter,
-// `_` or `#`, and has at most 1048576 bytes. It answers 1 for a text, 0 for all else, 3 where memory was refused.
+// Whether a script is taken for a text of the language, as the programs do: it is no JSON, has at most 1048576 bytes, and one of its
+// sentences declares a token, a message or a thread. It answers 1 for a text, 0 for all else, 3 where memory was refused.
 uint32_t lwkt_is_text(const uint8_t *script, size_t script_length);
 
 // The script of a text in JSON, as `lwkt_text FILE --json` writes it. Bytes that aren't taken for a text are read as one all the same.

@@ -1,5 +1,5 @@
 "use strict";
-// For the tests of the page alone: in the place of the module, the programs of this tree, asked from the test's own server.
+// For the tests of the page alone: in the place of the module, the program of this tree, asked from the test's own server.
 class Library {
   call(name, texts, numbers = []) {
     const request = new XMLHttpRequest();

@@ -81,15 +81,19 @@ static void try_json(void) {
     count(status == 0 && answer.length == length && memcmp(text, report, length) == 0, "the JSON of a text, run");
 }
 
-// A text of more than 1048576 bytes is none; what it says can be read all the same.
+// Bytes without a sentence that declares something aren't taken for a text, nor are more than 1048576; what they say can be read all the
+// same.
 static void try_long(void) {
+    static const char token[] = "token word: any, cells 0\n";
     size_t size = 1048577;
     uint8_t *text = malloc(size), *json = malloc(size);
     lwkt_answer answer = {7, 7, 7};
     if (text == NULL || json == NULL) exit(3);
     memset(text, '#', size);
+    count(lwkt_is_text(text, size - 1) == 0, "a comment declares nothing");
+    memcpy(text, token, strlen(token));
     count(lwkt_is_text(text, size - 1) == 1 && lwkt_is_text(text, size) == 0, "a text that is too long");
-    count(lwkt_text_json(text, size, json, size, &answer) == 0, "a comment is a text without a sentence");
+    count(lwkt_text_json(text, size, json, size, &answer) == 0, "one of more bytes than a script in JSON");
     free(text);
     free(json);
 }
@@ -132,6 +136,8 @@ static void try_along(void) {
     size_t length = answer.length;
     uint32_t status = lwkt_show_turns(json, length, bytes(along), strlen(along), text, sizeof text, &answer);
     count(status == 0 && answer.fault == 0 && memcmp(text, first, strlen(first)) == 0, "a run along an order");
+    status = lwkt_show_turns(bytes(good), strlen(good), bytes(along), strlen(along), text, sizeof text, &answer);
+    count(status == 0 && answer.fault == 0 && memcmp(text, first, strlen(first)) == 0, "that of a text");
     status = lwkt_show_turns(json, length, bytes(absent), strlen(absent), text, sizeof text, &answer);
     count(status == 1 && answer.fault == 30 && answer.length == strlen(why) && memcmp(text, why, answer.length) == 0, "a processor that isn't there");
 }

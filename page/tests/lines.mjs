@@ -1,4 +1,4 @@
-// The reading of lines and scripts, on what the programs of this tree write.
+// The reading of lines and scripts, on what the program of this tree writes.
 import { join } from "node:path";
 import { callProgram, check, exampleNames, examples, finish, namesIn, read, same, statusOf } from "./tools.mjs";
 import { load } from "./tools.mjs";

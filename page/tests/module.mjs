@@ -1,4 +1,4 @@
-// The module of a page on all examples, beside the programs of this tree: module.mjs PAGE.
+// The module of a page on all examples, beside the program of this tree: module.mjs PAGE.
 import { readFileSync } from "node:fs";
 import { callProgram, check, exampleNames, examples, finish, load, namesIn, read, same, statusOf } from "./tools.mjs";
 

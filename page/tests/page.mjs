@@ -1,4 +1,4 @@
-// The page in a browser: page.mjs BROWSER PAGE [STANDIN]. With a third word the module's place is taken by the programs of this tree.
+// The page in a browser: page.mjs BROWSER PAGE [STANDIN]. With a third word the module's place is taken by the program of this tree.
 import { readFileSync } from "node:fs";
 import { createServer } from "node:http";
 import { fileURLToPath } from "node:url";

@@ -1,4 +1,4 @@
-// A page whose module's place is taken by the programs of this tree.
+// A page whose module's place is taken by the program of this tree.
 import { mkdtempSync, readFileSync, rmSync, writeFileSync } from "node:fs";
 import { tmpdir } from "node:os";
 import { join } from "node:path";

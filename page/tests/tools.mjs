@@ -1,4 +1,4 @@
-// What the tests share: counting, the parts of a page, and the programs of this tree.
+// What the tests share: counting, the parts of a page, and the program of this tree.
 import { spawnSync } from "node:child_process";
 import { existsSync, mkdtempSync, readFileSync, readdirSync, rmSync, writeFileSync } from "node:fs";
 import { createServer } from "node:http";
@@ -56,11 +56,9 @@ export function statusOf(name) {
   return existsSync(file) ? Number(readFileSync(file, "utf8")) : 0;
 }
 
-// The programs that page/check names, else the shipped ones.
-const named = (process.env.PAGE_PROGRAMS || "").split(":");
-const shipped = ["lwkt_run", "lwkt_check", "lwkt_show", "lwkt_text", "lwkt_explore"].map((name) => join(top, "dist/x86_64-linux", name));
-const [runner, judge, shower, texter, explorer] = named.length === 5 ? named : shipped;
-const programs = { lwkt_run_turns: runner, lwkt_run_text: runner, lwkt_check_trace: judge, lwkt_show_turns: shower, lwkt_text_json: texter, lwkt_explore_orders: explorer };
+// The program that page/check names, else that of this tree; and by which of its names it answers as a call of the library does.
+const program = process.env.PAGE_PROGRAM || join(top, "lwkt");
+const names = { lwkt_run_turns: "lwkt_run", lwkt_run_text: "lwkt_run", lwkt_check_trace: "lwkt_check", lwkt_show_turns: "lwkt_show", lwkt_text_json: "lwkt_text", lwkt_explore_orders: "lwkt_explore" };
 
 // Whether bytes are taken for a text, as docs/LANGUAGE.md says.
 function isText(script) {
@@ -74,19 +72,19 @@ function isText(script) {
   }
 }
 
-// The arguments of a program for a call of the library: of a search its two bounds, else words with a blank between each two.
+// The arguments of the program for a call of the library: of a search its two bounds, else words with a blank between each two.
 function argumentsOf(name, words, file) {
   if (name === "lwkt_text_json") return [file, "--json"];
   if (name === "lwkt_explore_orders") return ["--states", words.split(" ")[0], "--turns", words.split(" ")[1]];
   return words ? words.split(" ") : [];
 }
 
-// What a program of this tree answers, as a call of the library would. lwkt_text alone reads no standard input.
+// What the program answers, as a call of the library would. By the name lwkt_text alone it reads no standard input.
 export function callProgram(name, script, words = name.startsWith("lwkt_run") ? "turns" : "") {
   if (name === "lwkt_is_text") return { status: isText(Buffer.from(script)), fault: 0, place: 0, text: "" };
   const room = name === "lwkt_text_json" ? mkdtempSync(join(tmpdir(), "page-text-")) : null, file = room && join(room, "text.lwkt");
   if (room) writeFileSync(file, script);
-  const ran = spawnSync(programs[name], argumentsOf(name, words, file), { input: script, maxBuffer: 1 << 30 });
+  const ran = spawnSync(program, [names[name], ...argumentsOf(name, words, file)], { input: script, maxBuffer: 1 << 30 });
   if (room) rmSync(room, { recursive: true });
   const [out, told] = [ran.stdout.toString(), ran.stderr.toString().replaceAll(`${file}:`, "")];
   const isRefused = ran.status === 1 || ran.status === 3;
@@ -95,7 +93,7 @@ export function callProgram(name, script, words = name.startsWith("lwkt_run") ? 
   return { status: ran.status, fault: isRefused && fault ? Number(fault[1]) : 0, place: isRefused && fault ? Number(fault[2] || 0) : 0, text: isRefused ? told : isAll ? out + told : out };
 }
 
-// A server on this machine that answers the stand-in for the module by these programs. A script that holds `trap` traps.
+// A server on this machine that answers the stand-in for the module by the program. A script that holds `trap` traps.
 export function serve(answers) {
   const server = createServer((request, response) => {
     const parts = [];

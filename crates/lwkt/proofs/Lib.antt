@@ -1,1 +1,2 @@
-mod Telling
+mod Formats
+mod Tellings

@@ -1,1 +1,4 @@
-pub mod Text
+pub mod Making
+pub mod Failing
+pub mod Performing
+pub mod Checking

@@ -1,36 +1,53 @@
-//! The program: reads a script from standard input, in JSON or as a text, runs it, and writes its report to standard output. Why
-//! there is none it says on standard error, and of a text which of its expectations hold.
+//! The program `lwkt`: runs a script, shows the run, translates it or tries its orders, and checks a trace.
 //!
-//! Words: a *mode* is what the program does with a script: runs it in rounds on one thread, or on threads; a *text* is a script in
-//! the language for scripts.
+//! Words: a *task* is what the command line asks for; *input* is a script that was read, in JSON or as a text, with what is expected of
+//! it; a task *makes* a text of input, and the exit status that goes with it.
 #![tactic(auto)]
 
-mod modes;
-mod tellings;
+mod answering;
+mod checks;
+mod errors;
+mod explores;
+mod failures;
+mod files;
+mod folders;
+mod performing;
+mod reads;
+mod runs;
+mod shows;
 mod texts;
+mod tickers;
+mod written;
 
-use crate::tellings::run_told;
-use lwkt_refusals::Speaker;
-use lwkt_report::{
-    NotedReader, NotedWriter, Program, ReaderSource, WriterSink, refusal_of, refuse_arguments,
-    words_of,
-};
+use crate::answering::answer;
+use crate::errors::put;
+use lwkt_report::{WriterSink, refusal_of, words_of};
 use std::alloc::Global;
 use std::process::ExitCode;
 
 fn main(rt: HostRuntime) -> ExitCode {
     let alloc: Global = rt.alloc();
-    let mut sink = WriterSink::new(NotedWriter::new(rt.stdout()));
     let mut errors = WriterSink::new(rt.stderr());
     let status = match words_of(&rt) {
-        Ok(words) => {
-            let mut source = ReaderSource::new(NotedReader::new(alloc, rt.stdin()));
-            run_told(&rt, alloc, &words, &mut source, &mut sink, &mut errors)
-        }
+        Ok(words) => answer(
+            &rt,
+            alloc,
+            words.as_slice(),
+            rt.stdin(),
+            rt.stdout(),
+            &mut errors,
+        ),
         Err(error) => {
-            let refused = refusal_of(&error);
-            Speaker::Run.say_arguments(&mut errors, refused.is_some());
-            refuse_arguments(&mut sink, Program::Run, refused)
+            if refusal_of(&error).is_some() {
+                put(&mut errors, "lwkt: out of memory\n");
+                3
+            } else {
+                put(
+                    &mut errors,
+                    "lwkt: an argument isn't UTF-8; give such a file as standard input, by < FILE\n",
+                );
+                1
+            }
         }
     };
     ExitCode::from(status)

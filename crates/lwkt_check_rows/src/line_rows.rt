@@ -1,7 +1,7 @@
 //! Traces in lines from a source that gives one byte at a time: what is found of them is what is found of a source that gives all
 //! at once. And from a source that fails: nothing but that is said.
 use lwkt_base::Fault;
-use lwkt_lines::{Lines, check_lines};
+use lwkt_checker::{Lines, check_lines};
 use lwkt_report::{Page, ReaderSource, RunFault, Source};
 use std::alloc::{AllocError, Global};
 use std::io;

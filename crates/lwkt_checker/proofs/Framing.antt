@@ -4,7 +4,6 @@ use Rattle.std.specs.Prelude.{IfSome}
 use Rattle.std.proofs.lemmas.List.{take_all, take-append-drop, length-append, length-map, length-take-le, length-drop}
 use Rattle.std.proofs.Math.Seq.{take-append-add}
 use Rattle.lwkt_base.specs.declared.faults.Fault.{Fault as Refusal}
-use Rattle.lwkt_base.specs.declared.faults.Fault.TheVariants.{Script as ScriptFault, Memory, Limits, LawBroken}
 use Rattle.lwkt_core.specs.declared.events.Event.{Event}
 use Rattle.lwkt_core.specs.Machine.{Machine}
 use Rattle.lwkt_trace.specs.Format.{trace_of}
@@ -18,8 +17,8 @@ use Rattle.lwkt_checker.specs.Judgement.{IsJudgedTrace, DeclinesTrace, RefusesTr
 use Rattle.lwkt_checker.specs.declared.judges.Finding.TheVariants.{Lawful}
 use Rattle.lwkt_checker.specs.Stands.{StandsWith, OpensSo, with_told, opening_alone, closed_so, StandsBehind, StandsFramed}
 use Rattle.lwkt_checker.specs.declared.standings.Standing.{Standing}
-use Rattle.lwkt_checker.specs.declared.standings.Standing.TheVariants.{Awaits, Plays, Fails, Declined}
-use Rattle.lwkt_checker.proofs.Stops.{lawful}
+use Rattle.lwkt_checker.specs.declared.standings.Standing.TheVariants.{Plays}
+use Rattle.lwkt_checker.proofs.Stops.{lawful, opens_with, refuses_declined}
 
 -- a longer front of a text
 front_more : (text : List ℕ) (from size : ℕ) → from ≤ length text → take (from + size) text ≡ take from text ++ take size (drop from text)
@@ -56,12 +55,6 @@ goes_on opened standing after text from size number e x told within room so is s
 pub stays_within : (text : List ℕ) (from size number : ℕ) (e : Event) → from ≤ length text → IsNextWritten (drop from text) number e size → from + size ≤ length text
 stays_within text from size number e within is = let inside = is.within in omega (arith, inside, length-drop from text)
 
-opens_same : (trace : Trace) (told : List Told) (s : Standing) → OpensSo (opening_alone trace) s → OpensSo (with_events trace told) s
-opens_same trace told Awaits opens = tt
-opens_same trace told (Plays state) opens = record { within = opens.within; lawful = opens.lawful }
-opens_same trace told (Fails index why) opens = record { within = opens.within; lawful = opens.lawful }
-opens_same trace told (Declined fault) opens = tt
-
 -- the whole text was read, and the closing values were told
 pub ends_with : (trace opening : Trace) (last : Option Closing) (opened standing after : Standing) (text : List ℕ) (count : ℕ) → opening ≡ opening_alone trace → last ≡ trace.last → StandsWith opening opened → OpensSo opening opened
     → StandsBehind opened text standing count → ((t : Trace) → t.last ≡ None → count ≡ length t.events → StandsWith t standing → StandsWith (closed_so t last) after) → ((t : Trace) → OpensSo t standing → OpensSo t after) → StandsFramed trace text after
@@ -74,7 +67,7 @@ ends_with trace opening last opened standing after text count is_opening is_last
       written = so.written;
       few = (let few = so.few in let counted = so.counted in omega arith);
       stands = subst (λ (l : Option Closing). StandsWith (closed_so t l) after) is_last (stands t refl (so.counted ∙ sym (length-map so.events told_alone)) (so.stands trace (subst (λ (o : Trace). StandsWith o opened) is_opening first)));
-      opens = opens whole (so.opens whole (opens_same trace told opened (subst (λ (o : Trace). OpensSo o opened) is_opening begins)));
+      opens = opens whole (so.opens whole (opens_with (opening_alone trace) told trace.last opened (subst (λ (o : Trace). OpensSo o opened) is_opening begins)));
     }
 
 -- all events could happen
@@ -83,11 +76,7 @@ plays_found trace s mid is so opens = record { opens = subst (λ (x : Standing).
 
 -- an opening is refused
 pub refuses : (bytes : List ℕ) (s : Standing) (fault : Refusal) → (t : Trace) × ((trace_of bytes ≡ Ok t) × (StandsWith t s × OpensSo t s)) → ((t : Trace) → StandsWith t s → DeclinesTrace t fault) → RefusesTrace bytes fault
-refuses bytes s (ScriptFault place) found declines = absurd (declines found.0 found.1.1.0)
-refuses bytes s (Memory refused) found declines = tt
-refuses bytes s Limits found declines = (found.0, (found.1.0, declines found.0 found.1.1.0))
-refuses bytes s LawBroken found declines = (found.0, (found.1.0, declines found.0 found.1.1.0))
-refuses bytes s _ found declines = absurd (declines found.0 found.1.1.0)
+refuses bytes s fault found declines = refuses_declined (trace_of bytes) found.0 fault found.1.0 (declines found.0 found.1.1.0)
 
 -- the rest of a text, as it is sliced
 rest_of : (text : List ℕ) (from : ℕ) → take (length text - from) (drop from text) ≡ drop from text

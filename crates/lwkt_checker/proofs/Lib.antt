@@ -4,3 +4,7 @@ pub mod Sayings
 pub mod Closings
 pub mod Stops
 pub mod Framing
+pub mod LineLemmas
+pub mod ToldLines
+pub mod LineWriting
+pub mod LineJudging

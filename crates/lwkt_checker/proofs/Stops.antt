@@ -1,10 +1,11 @@
 -- Where a judge stands after an event more, or with the closing values.
-use Rattle.std.proofs.Common.{◌≡◌, ◌<◌, ℕ, List, [], ◌∷◌, ◌++◌, length, get_or, take, Option, None, Some, refl, ap, sym, ◌∙◌, subst, arith, length-append}
+use Rattle.std.proofs.Common.{◌≡◌, ◌<◌, ℕ, List, [], ◌∷◌, ◌++◌, length, get_or, take, Option, None, Some, Result, Ok, refl, ap, sym, ◌∙◌, subst, arith, length-append}
 use Rattle.std.specs.Prelude.{slice_get, MatchOption, IfSome, String, string_bytes}
 use Rattle.std.specs.Global.{Global}
 use Rattle.std.proofs.Math.Seq.{take-append_seam, get_or-append_seam}
 use Rattle.std.proofs.lemmas.List.{take-append-le, get_or_append_left}
 use Rattle.std.proofs.lemmas.Option.{slice_get-get_or, slice_get_past, MatchOption-at_some}
+use Rattle.lwkt_base.specs.declared.faults.Fault.{Fault as Refusal}
 use Rattle.lwkt_base.specs.declared.faults.Fault.TheVariants.{Memory, Limits, LawBroken}
 use Rattle.lwkt_core.specs.declared.events.Event.{Event}
 use Rattle.lwkt_core.specs.declared.finals.Final.{Final}
@@ -16,10 +17,10 @@ use Rattle.lwkt_trace.specs.declared.traces.Told.{Told}
 use Rattle.lwkt_trace.specs.declared.traces.Trace.{Trace}
 use Rattle.lwkt_checker.specs.Told.{event_told, events_told}
 use Rattle.lwkt_checker.specs.Said.{IsReason, IsDifference, IsDifferenceOf, SaysWhy}
-use Rattle.lwkt_checker.specs.Judgement.{opening_of, AreValues, AreClosing, Finds, IsFound}
+use Rattle.lwkt_checker.specs.Judgement.{opening_of, AreValues, AreClosing, Finds, IsFound, DeclinesTrace, RefusesRead}
 use Rattle.lwkt_checker.specs.declared.judges.Finding.TheVariants.{Lawful, Unlawful}
 use Rattle.lwkt_checker.proofs.ToldRuns.{length-events_told, ran_whole}
-use Rattle.lwkt_checker.specs.Stands.{with_told, with_last, ClosesSo, StandsWith}
+use Rattle.lwkt_checker.specs.Stands.{with_told, with_last, ClosesSo, StandsWith, OpensSo}
 use Rattle.lwkt_checker.specs.declared.standings.Standing.{Standing}
 use Rattle.lwkt_checker.specs.declared.standings.Standing.TheVariants.{Awaits, Plays, Fails, Declined}
 
@@ -225,3 +226,17 @@ lawful_so trace (Some closing) mid is run so = (Some so.0, (subst (λ (o : Optio
 
 pub lawful : (trace : Trace) (mid : Machine) → StandsWith trace (Plays mid) → IsFound trace Lawful
 lawful trace mid so = lawful_so trace trace.last mid refl so.0 so.1
+
+-- an opening is as it was, whatever events and closing values stand behind it
+pub opens_with : (trace : Trace) (events : List Told) (last : Option Closing) (s : Standing) → OpensSo trace s → OpensSo (record { cpus = trace.cpus; tokens = trace.tokens; messages = trace.messages; events = events; last = last }) s
+opens_with trace events last Awaits opens = tt
+opens_with trace events last (Plays state) opens = record { within = opens.within; lawful = opens.lawful }
+opens_with trace events last (Fails index why) opens = record { within = opens.within; lawful = opens.lawful }
+opens_with trace events last (Declined fault) opens = tt
+
+-- a trace whose opening is refused is refused
+pub refuses_declined : (read : Result Trace ℕ) (trace : Trace) (fault : Refusal) → read ≡ Ok trace → DeclinesTrace trace fault → RefusesRead read fault
+refuses_declined read trace (Memory why) is declines = tt
+refuses_declined read trace Limits is declines = (trace, (is, declines))
+refuses_declined read trace LawBroken is declines = (trace, (is, declines))
+refuses_declined read trace _ is declines = absurd declines

@@ -1,15 +1,18 @@
 use Rattle.std.proofs.Common.{Result, inl, inr, ◌≡◌, ◌⊎◌, ℕ, List, [], Bool, take, refl, rules, Option, None, Some, Err, Ok, sym, subst}
-use Rattle.std.specs.Io.KnownBytes.{Appends, Keeps}
+use Rattle.std.specs.Io.KnownBytes.{Keeps}
 use Rattle.lwkt_base.specs.declared.faults.Fault.{Fault as Refusal}
+use Rattle.lwkt_base.specs.declared.faults.Fault.TheVariants.{Memory}
 use Rattle.lwkt_base.specs.Fault.{no_memory}
 use Rattle.lwkt_report.specs.declared.streams.RunFault.{RunFault}
 use Rattle.lwkt_report.specs.declared.streams.RunFault.TheVariants.{Fault, Stream}
-use Rattle.lwkt_report.specs.Stream.{AppendsFront}
 use Rattle.lwkt_report.specs.declared.complaints.Complaint.{Complaint}
 use Rattle.lwkt_report.specs.declared.complaints.Program.TheVariants.{Check}
 use Rattle.lwkt_report.specs.Complaint.{fault_line, complaint_of, IsSaid}
-use Rattle.lwkt_checker.specs.Judgement.{HasFinding, RefusesTrace}
-use Rattle.lwkt_checker.specs.Output.{IsTraceRead, TellsFinding, Complains}
+use Rattle.lwkt_trace.specs.declared.traces.Trace.{Trace}
+use Rattle.lwkt_trace.specs.Format.{trace_of}
+use Rattle.lwkt_checker.specs.Judgement.{HasFinding, IsJudgedTrace, RefusesTrace, finding_text, is_lawful}
+use Rattle.lwkt_checker.specs.Output.{IsTraceRead, WritesFinding, TellsFinding, LeavesRead, Complains}
+use Rattle.lwkt_checker.specs.declared.judges.Finding.{Finding}
 
 -- what was written stays what it is
 keeps_itself : (o : Option (List ℕ)) → Keeps o o
@@ -34,15 +37,25 @@ pub tells_refused : (left old : Option (List ℕ)) (bytes read : List ℕ) (faul
 tells_refused left old bytes read fault same are refuses =
     (keeps_itself old, (bytes, (are, subst (λ b. RefusesTrace b fault) same refuses)))
 
--- a text that was written whole
-pub tells_done : (left old new : Option (List ℕ)) (bytes read text written : List ℕ) (lawful : Bool) → read ≡ bytes → written ≡ text → IsTraceRead left bytes → HasFinding read lawful text → Appends old new written → TellsFinding left old new (Ok lawful)
-tells_done left old new bytes read text written lawful same same_text are found appends =
-    (bytes, (are, (text, (subst (λ b. HasFinding b lawful text) same found, subst (λ t. Appends old new t) same_text appends))))
+-- what was found of the bytes is written
+has_finding : (bytes : List ℕ) (finding : Finding) (lawful : Bool) → lawful ≡ is_lawful finding → (trace : Trace) × ((trace_of bytes ≡ Ok trace) × IsJudgedTrace trace finding) → HasFinding bytes lawful (finding_text finding)
+has_finding bytes finding lawful kind found = record { trace = found.0; read = found.1.0; finding = finding; judged = found.1.1; is_text = refl; is_kind = kind }
 
--- a text of which a front was written
-pub tells_front : (left old new : Option (List ℕ)) (bytes read text written : List ℕ) (lawful : Bool) → read ≡ bytes → written ≡ text → IsTraceRead left bytes → HasFinding read lawful text → AppendsFront old new written → TellsFinding left old new (Err Stream)
-tells_front left old new bytes read text written lawful same same_text are found front =
-    inr (bytes, (are, (lawful, (text, (subst (λ b. HasFinding b lawful text) same found, subst (λ t. AppendsFront old new t) same_text front)))))
+written_found : (left old new : Option (List ℕ)) (bytes : List ℕ) (finding : Finding) (outcome : Result Bool RunFault) → IsTraceRead left bytes → (trace : Trace) × ((trace_of bytes ≡ Ok trace) × IsJudgedTrace trace finding) → WritesFinding finding old new outcome → TellsFinding left old new outcome
+written_found left old new bytes finding (Ok lawful) are found written = (bytes, (are, (finding_text finding, (has_finding bytes finding lawful written.0 found, written.1))))
+written_found left old new bytes finding (Err (Fault (Memory refused))) are found written = (written, (bytes, (are, tt)))
+written_found left old new bytes finding (Err (Fault _)) are found written = absurd written
+written_found left old new bytes finding (Err Stream) are found written = inr (bytes, (are, (is_lawful finding, (finding_text finding, (has_finding bytes finding (is_lawful finding) refl found, written)))))
+
+pub tells_found : (left old new : Option (List ℕ)) (bytes read : List ℕ) (finding : Finding) (outcome : Result Bool RunFault) → read ≡ bytes → IsTraceRead left bytes → (trace : Trace) × ((trace_of read ≡ Ok trace) × IsJudgedTrace trace finding) → WritesFinding finding old new outcome → TellsFinding left old new outcome
+tells_found left old new bytes read finding outcome same are found written =
+    written_found left old new bytes finding outcome are (subst (λ (b : List ℕ). (trace : Trace) × ((trace_of b ≡ Ok trace) × IsJudgedTrace trace finding)) same found) written
+
+pub leaves_found : (left old new : Option (List ℕ)) (bytes : List ℕ) (finding : Finding) (outcome : Result Bool RunFault) → IsTraceRead left bytes → WritesFinding finding old new outcome → LeavesRead left bytes outcome
+leaves_found left old new bytes finding (Ok lawful) are written = are
+leaves_found left old new bytes finding (Err (Fault (Memory refused))) are written = tt
+leaves_found left old new bytes finding (Err (Fault _)) are written = absurd written
+leaves_found left old new bytes finding (Err Stream) are written = tt
 
 -- a line that is said where a check can't be made
 pub complains : (failed : Bool) (old new : Option (List ℕ)) (outcome : Result Bool RunFault) (fault : RunFault) (complaint : Complaint) → outcome ≡ Err fault → complaint ≡ complaint_of fault → IsSaid failed old new (fault_line Check complaint) → Complains failed old new outcome

@@ -1,5 +1,5 @@
 -- What a trace is found to be (own).
-use Rattle.std.specs.Prelude.{◌≡◌, ℕ, List, Bool, true, false, ◌++◌, ◌∷◌, codes, string_bytes, Option, None, Some, Ok, Err}
+use Rattle.std.specs.Prelude.{◌≡◌, ℕ, List, Bool, true, false, ◌++◌, ◌∷◌, codes, string_bytes, Option, None, Some, Result, Ok, Err}
 use Rattle.std.specs.Fmt.{decimal}
 use Rattle.lwkt_base.specs.declared.faults.Fault.{Fault as Refusal}
 use Rattle.lwkt_base.specs.declared.faults.Fault.TheVariants.{Script as ScriptFault, Memory, Limits, LawBroken}
@@ -69,13 +69,17 @@ DeclinesTrace trace Limits = ¬ AreWithin trace.cpus trace.tokens trace.messages
 DeclinesTrace trace LawBroken = AreWithin trace.cpus trace.tokens trace.messages × ¬ AllOpenLawfully trace.tokens
 DeclinesTrace trace _ = ⊥
 
+-- why bytes that are read as a trace, or have a first bad part, are refused: for that part; or for the opening of the trace
+abbrev pub RefusesRead : Result Trace ℕ → Refusal → Type 0
+RefusesRead read (ScriptFault place) = read ≡ Err place
+RefusesRead read (Memory refused) = Unit {0}
+RefusesRead read Limits = (trace : Trace) × ((read ≡ Ok trace) × DeclinesTrace trace Limits)
+RefusesRead read LawBroken = (trace : Trace) × ((read ≡ Ok trace) × DeclinesTrace trace LawBroken)
+RefusesRead read _ = ⊥
+
 -- why bytes are refused
 abbrev pub RefusesTrace : List ℕ → Refusal → Type 0
-RefusesTrace bytes (ScriptFault place) = trace_of bytes ≡ Err place
-RefusesTrace bytes (Memory refused) = Unit {0}
-RefusesTrace bytes Limits = (trace : Trace) × ((trace_of bytes ≡ Ok trace) × DeclinesTrace trace Limits)
-RefusesTrace bytes LawBroken = (trace : Trace) × ((trace_of bytes ≡ Ok trace) × DeclinesTrace trace LawBroken)
-RefusesTrace bytes _ = ⊥
+RefusesTrace bytes fault = RefusesRead (trace_of bytes) fault
 
 -- whether a finding is that of a lawful trace
 abbrev pub is_lawful : Finding → Bool

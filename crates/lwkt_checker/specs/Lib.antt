@@ -4,3 +4,8 @@ pub mod Output
 pub mod Said
 pub mod Shown
 pub mod Stands
+pub mod Line
+pub mod LineFormat
+pub mod LineReading
+pub mod LineJudged
+pub mod LineOutput

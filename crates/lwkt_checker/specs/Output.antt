@@ -7,11 +7,20 @@ use Rattle.lwkt_report.specs.declared.complaints.Program.TheVariants.{Check}
 use Rattle.lwkt_report.specs.declared.streams.RunFault.{RunFault}
 use Rattle.lwkt_report.specs.declared.streams.RunFault.TheVariants.{Fault, Stream}
 use Rattle.lwkt_report.specs.Stream.{AppendsFront, BlamesFailed}
-use Rattle.lwkt_checker.specs.Judgement.{HasFinding, RefusesTrace}
+use Rattle.lwkt_checker.specs.Judgement.{HasFinding, RefusesTrace, finding_text, is_lawful}
+use Rattle.lwkt_checker.specs.declared.judges.Finding.{Finding}
 
 -- these are the bytes that are read of a source that has so many left, where that is known
 abbrev pub IsTraceRead : Option (List ℕ) → List ℕ → Type 0
 IsTraceRead left bytes = IfSome left (λ all. bytes ≡ take 268435457 all)
+
+-- what the writing of a finding says by its answer, of what was written before and after it: its text, and whether it is lawful; or
+-- nothing written, for want of memory; or, where the stream failed, a front of its text
+abbrev pub WritesFinding : Finding → Option (List ℕ) → Option (List ℕ) → Result Bool RunFault → Type 0
+WritesFinding finding old new (Ok lawful) = (lawful ≡ is_lawful finding) × Appends old new (finding_text finding)
+WritesFinding finding old new (Err (Fault (Memory refused))) = Keeps old new
+WritesFinding finding old new (Err (Fault fault)) = ⊥
+WritesFinding finding old new (Err Stream) = AppendsFront old new (finding_text finding)
 
 -- what a check says by its answer, of what was left to read and of what was written before and after it: what was found of
 -- the trace that was read; or nothing written, and why; or, where a stream failed, a front of it

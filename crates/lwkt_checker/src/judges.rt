@@ -20,8 +20,10 @@ pub enum Finding {
     Unlawful { index: usize, why: String },
 }
 
-// The opening state of a trace.
-fn opened(alloc: Global, trace: &Trace) -> Result<State, Fault>
+/// The opening state of a trace.
+///
+/// Refused with `Limits` or `LawBroken` for its opening, and with `Memory` if an allocation is.
+pub fn opened(alloc: Global, trace: &Trace) -> Result<State, Fault>
     ensures ok { IfOk result (λ state. state ≡ opening_of trace.now) }
     ensures opens { OnOk result (OpensTrace trace.now) }
     ensures refused { IfErr result (λ fault. DeclinesTrace trace.now fault) }

@@ -1,9 +1,9 @@
-ghost use Rattle.std.specs.Prelude.{◌≡◌, ◌≢◌, ◌⊎◌, [], Ok, Err, IsTrue, IfOk, IfErr, OnOk, string_bytes};
+ghost use Rattle.std.specs.Prelude.{◌≡◌, ◌≢◌, ◌⊎◌, [], Ok, Err, IsTrue, IfOk, IfErr, OnOk};
 ghost use Rattle.lwkt_trace.specs.declared.traces.Trace.{Trace};
 ghost use Rattle.lwkt_trace.specs.Format.{trace_of};
-ghost use Rattle.lwkt_checker.specs.Judgement.{HasFinding, IsJudgedTrace, RefusesTrace};
+ghost use Rattle.lwkt_checker.specs.Judgement.{IsJudgedTrace, RefusesTrace};
 ghost use Rattle.lwkt_report.specs.Complaint.{fault_line, IsSaid};
-ghost use Rattle.lwkt_checker.specs.Output.{TellsFinding, LeavesRead, status_of, Complains, ChecksAs};
+ghost use Rattle.lwkt_checker.specs.Output.{WritesFinding, TellsFinding, LeavesRead, status_of, Complains, ChecksAs};
 
 use crate::framed::found_written;
 use crate::judges::{Finding, finding_text, judge};
@@ -13,13 +13,6 @@ use lwkt_report::{
 };
 use lwkt_trace::{LENGTH_LIMIT, read_trace};
 use std::alloc::Global;
-
-// What was found of a trace: the text to write, and whether it is lawful.
-#[derive(Drop)]
-struct Done {
-    text: String,
-    lawful: bool,
-}
 
 // What the trace that the bytes are is found to be: as its events are read, where it is written so that they can be; else of
 // the whole trace.
@@ -33,18 +26,28 @@ fn finding_of(alloc: Global, bytes: &[u8]) -> Result<Finding, Fault>
     }
 }
 
-// Checks the trace that the bytes are, to the text of what is found.
-fn done_of_bytes(alloc: Global, bytes: &[u8]) -> Result<Done, Fault>
-    ensures ok { IfOk result (λ done. HasFinding bytes.now done.lawful (string_bytes done.text)) }
-    ensures refused { IfErr result (λ fault. RefusesTrace bytes.now fault) }
+/// Writes what was found of a trace, which is whole in memory before its first byte is written. The answer is whether it is
+/// lawful.
+///
+/// Refused with `Memory` and nothing written if an allocation is; with `Stream` only if a call of the sink failed, and then a
+/// front of the text stands.
+pub fn write_finding<K: Sink>(
+    alloc: Global,
+    sink: &mut K,
+    finding: &Finding,
+) -> Result<bool, RunFault>
+    ensures writes { WritesFinding finding.now (K.contents sink.old) (K.contents sink.new) result }
+    ensures stream { result ≡ Err RunFault.Stream → IsTrue (K.has_failed sink.new) }
+    ensures flushed { OnOk result (K.is_flushed sink.new) }
+    ensures unfailed { OnOk result (K.has_failed sink.new ≡ K.has_failed sink.old) }
 {
-    let finding = finding_of(alloc, bytes)?;
-    match finding_text(alloc, &finding) {
-        Ok(text) => Ok(Done {
-            text,
-            lawful: matches!(finding, Finding::Lawful),
-        }),
-        Err(refused) => Err(Fault::Memory(refused)),
+    let text = match finding_text(alloc, finding) {
+        Ok(text) => text,
+        Err(refused) => return Err(RunFault::Fault(Fault::Memory(refused))),
+    };
+    match write_whole(sink, text.as_bytes()) {
+        Ok(()) => Ok(matches!(finding, Finding::Lawful)),
+        Err(_) => Err(RunFault::Stream),
     }
 }
 
@@ -66,13 +69,9 @@ pub fn check_keeping<S: Source, K: Sink>(
         Ok(bytes) => *read = bytes,
         Err(fault) => return Err(fault),
     }
-    let done = match done_of_bytes(alloc, read) {
-        Ok(done) => done,
-        Err(fault) => return Err(RunFault::Fault(fault)),
-    };
-    match write_whole(sink, done.text.as_bytes()) {
-        Ok(()) => Ok(done.lawful),
-        Err(_) => Err(RunFault::Stream),
+    match finding_of(alloc, read) {
+        Ok(finding) => write_finding(alloc, sink, &finding),
+        Err(fault) => Err(RunFault::Fault(fault)),
     }
 }
 

@@ -1,11 +1,11 @@
-ghost use Rattle.std.specs.Prelude.{◌≡◌, [], false, None, IfOk, IfErr, length};
+ghost use Rattle.std.specs.Prelude.{◌≡◌, [], true, false, None, Err, IfOk, IfErr, length};
 ghost use Rattle.lwkt_trace.specs.declared.traces.Closing.{Closing};
 ghost use Rattle.lwkt_trace.specs.declared.traces.Trace.{Trace};
 ghost use Rattle.lwkt_checker.specs.Judgement.{AreValues, OpensTrace, IsJudgedTrace, DeclinesTrace};
 ghost use Rattle.lwkt_checker.specs.Stands.{with_told, with_last, StandsWith, OpensSo, awaits};
 
 use crate::differences::difference;
-use crate::judges::Finding;
+use crate::judges::{Finding, opened};
 use crate::lacks::reason;
 use crate::plays::event_told;
 use lwkt_base::Fault;
@@ -39,12 +39,7 @@ impl Standing {
         ensures begun { IfOk result (λ standing. awaits standing ≡ false) }
         ensures opens { IfOk result (λ standing. OpensSo trace.now standing) }
     {
-        match State::open(
-            alloc,
-            trace.tokens.as_slice(),
-            trace.messages.as_slice(),
-            usize::from(trace.cpus),
-        ) {
+        match opened(alloc, trace) {
             Ok(state) => Ok(Standing::Plays(state)),
             Err(Fault::Memory(refused)) => Err(refused),
             Err(fault) => Ok(Standing::Declined(fault)),
@@ -90,6 +85,7 @@ impl Standing {
     pub fn finding(self) -> Result<Finding, Fault>
         ensures found { IfOk result (λ finding. (trace : Trace) → StandsWith trace self → OpensSo trace self → IsJudgedTrace trace finding) }
         ensures refused { IfErr result (λ fault. (trace : Trace) → StandsWith trace self → DeclinesTrace trace fault) }
+        ensures untold { awaits self ≡ true → result ≡ Err (Fault.Script 0) }
     {
         match self {
             Standing::Awaits => Err(Fault::Script { place: 0 }),

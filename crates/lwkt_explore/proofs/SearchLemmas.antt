@@ -1,6 +1,7 @@
-use Rattle.std.proofs.Common.{◌≡◌, ◌⊎◌, ℕ, ◌≤◌, Bool, true, List, length, ⊎_elim, sym, subst, ◌∙◌, arith}
+use Rattle.std.proofs.Common.{◌≡◌, ◌⊎◌, ℕ, ◌≤◌, Bool, true, length, ⊎_elim, sym, subst, ◌∙◌, arith}
 use Rattle.std.specs.Prelude.{Contains, Vec}
 use Rattle.std.specs.declared.alloc.Global.{Global}
+use Rattle.lwkt_script.specs.declared.scripts.Script.{Script}
 use Rattle.lwkt_explore.specs.declared.graphs.Graph.{Graph}
 use Rattle.lwkt_explore.specs.declared.outcomes.Outcomes.{Outcomes}
 use Rattle.lwkt_explore.specs.declared.searches.Bounds.{Bounds}
@@ -14,8 +15,8 @@ pub short_at : (a b : Bounds) (outcomes : Outcomes) → a ≡ b → AreShort a.t
 short_at a b outcomes same short = let F : Bounds → Type 0 = λ bounds. AreShort bounds.turns outcomes in subst F same short
 
 -- a search whose walk went on
-pub search_goes : (bytes : List ℕ) (old new : Walk) (outcomes : Outcomes) → WalkGoesOn bytes old new → IsSearching bytes old outcomes → IsSearching bytes new outcomes
-search_goes bytes old new outcomes goes is =
+pub search_goes : (script : Script) (old new : Walk) (outcomes : Outcomes) → WalkGoesOn script old new → IsSearching script old outcomes → IsSearching script new outcomes
+search_goes script old new outcomes goes is =
     let E : Vec Bool Global → Type 0 = λ ends. Contains ends.items true → HasEnded outcomes in
     record {
       walk_is = goes.walk;
@@ -27,8 +28,8 @@ search_goes bytes old new outcomes goes is =
     }
 
 -- a search with one outcome more
-pub search_finds : (bytes : List ℕ) (walk : Walk) (old new : Outcomes) → AreOutcomes bytes new → AreShort walk.bounds.turns new → (HasEnded old → HasEnded new) → (walk.is_complete ≡ true → AreWhole old → AreWhole new) → IsSearching bytes walk old → IsSearching bytes walk new
-search_finds bytes walk old new found short more whole is = record {
+pub search_finds : (script : Script) (walk : Walk) (old new : Outcomes) → AreOutcomes script new → AreShort walk.bounds.turns new → (HasEnded old → HasEnded new) → (walk.is_complete ≡ true → AreWhole old → AreWhole new) → IsSearching script walk old → IsSearching script walk new
+search_finds script walk old new found short more whole is = record {
   walk_is = is.walk_is;
   some = is.some;
   found = found;
@@ -38,12 +39,12 @@ search_finds bytes walk old new found short more whole is = record {
 }
 
 -- a search that noted of one state more whether it is an end
-pub search_notes : (bytes : List ℕ) (old new : Walk) (outcomes : Outcomes) (is_end : Bool) → new.script ≡ old.script → new.bounds ≡ old.bounds → new.graph ≡ old.graph → new.is_complete ≡ old.is_complete
-    → (Contains new.ends.items true → Contains old.ends.items true ⊎ (is_end ≡ true)) → (is_end ≡ true → HasEnded outcomes) → IsSearching bytes old outcomes → IsSearching bytes new outcomes
-search_notes bytes old new outcomes is_end script bounds graph same noted ends is =
+pub search_notes : (script : Script) (old new : Walk) (outcomes : Outcomes) (is_end : Bool) → new.bounds ≡ old.bounds → new.graph ≡ old.graph → new.is_complete ≡ old.is_complete
+    → (Contains new.ends.items true → Contains old.ends.items true ⊎ (is_end ≡ true)) → (is_end ≡ true → HasEnded outcomes) → IsSearching script old outcomes → IsSearching script new outcomes
+search_notes script old new outcomes is_end bounds graph same noted ends is =
     let S : Graph → Type 0 = λ g. 1 ≤ length g.nodes.items in
     record {
-      walk_is = walk_stays bytes old new script bounds graph is.walk_is;
+      walk_is = walk_stays script old new bounds graph is.walk_is;
       some = subst S (sym graph) is.some;
       found = is.found;
       short = short_at old.bounds new.bounds outcomes (sym bounds) is.short;

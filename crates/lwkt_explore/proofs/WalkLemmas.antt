@@ -1,63 +1,49 @@
-use Rattle.std.proofs.Common.{◌≡◌, ℕ, ◌<◌, ◌≤◌, ◌∙◌, List, [], ◌++◌, All, Option, None, Some, Ok, append-nil, max, length, sym, subst, arith}
+use Rattle.std.proofs.Common.{◌≡◌, ℕ, ◌<◌, ◌≤◌, ◌∙◌, List, [], ◌++◌, All, Option, None, Some, append-nil, max, length, sym, subst, arith}
 use Rattle.std.specs.Prelude.{IfSome}
 use Rattle.std.specs.Option.{option_to_list}
 use Rattle.std.proofs.lemmas.List.Elements.{All-nil, All-push}
 use Rattle.lwkt_script.specs.declared.scripts.Script.{Script}
-use Rattle.lwkt_script.specs.Format.{script_of}
-use Rattle.lwkt_script.specs.Limits.{IsWithinLimits}
+use Rattle.lwkt_run.specs.Run.{AreThere}
 use Rattle.lwkt_explore.specs.declared.graphs.Graph.{Graph}
 use Rattle.lwkt_explore.specs.declared.graphs.Node.{Node}
 use Rattle.lwkt_explore.specs.declared.searches.Bounds.{Bounds}
 use Rattle.lwkt_explore.specs.declared.walks.Walk.{Walk}
 use Rattle.lwkt_explore.specs.Graphs.{IsNode, AreNodes}
-use Rattle.lwkt_explore.specs.Walks.{IsOrderOf, IsWalk, WalkStays, StaysThere, WalkGoesOn}
+use Rattle.lwkt_explore.specs.Walks.{IsWalk, WalkStays, StaysThere, WalkGoesOn}
 
 -- a walk with other states that are within the bounds
-pub walk_grown : (bytes : List ℕ) (old new : Walk) → new.script ≡ old.script → new.bounds ≡ old.bounds → IsWalk bytes old → AreNodes old.script.cpus old.bounds.turns new.graph → length new.graph.nodes.items ≤ max 1 old.bounds.states → IsWalk bytes new
-walk_grown bytes old new script bounds is nodes few =
-    let R : Script → Type 0 = λ s. script_of bytes ≡ Ok s in
-    let S : Script → Type 0 = λ s. 1 ≤ s.cpus in
-    let T : Script → Type 0 = λ s. s.cpus ≤ 8 in
-    let N : Script → Type 0 = λ s. AreNodes s.cpus old.bounds.turns new.graph in
-    let M : Bounds → Type 0 = λ b. AreNodes new.script.cpus b.turns new.graph in
+pub walk_grown : (script : Script) (old new : Walk) → new.bounds ≡ old.bounds → IsWalk script old → AreNodes script.cpus old.bounds.turns new.graph → length new.graph.nodes.items ≤ max 1 old.bounds.states → IsWalk script new
+walk_grown script old new bounds is nodes few =
+    let M : Bounds → Type 0 = λ b. AreNodes script.cpus b.turns new.graph in
     let F : Bounds → Type 0 = λ b. length new.graph.nodes.items ≤ max 1 b.states in
     record {
-      read = subst R (sym script) is.read;
-      some_cpus = subst S (sym script) is.some_cpus;
-      few_cpus = subst T (sym script) is.few_cpus;
-      nodes = subst M (sym bounds) (subst N (sym script) nodes);
+      some_cpus = is.some_cpus;
+      few_cpus = is.few_cpus;
+      nodes = subst M (sym bounds) nodes;
       few = subst F (sym bounds) few;
     }
 
 -- a walk whose states stay
-pub walk_stays : (bytes : List ℕ) (old new : Walk) → new.script ≡ old.script → new.bounds ≡ old.bounds → new.graph ≡ old.graph → IsWalk bytes old → IsWalk bytes new
-walk_stays bytes old new script bounds graph is =
-    let N : Graph → Type 0 = λ g. AreNodes old.script.cpus old.bounds.turns g in
+pub walk_stays : (script : Script) (old new : Walk) → new.bounds ≡ old.bounds → new.graph ≡ old.graph → IsWalk script old → IsWalk script new
+walk_stays script old new bounds graph is =
+    let N : Graph → Type 0 = λ g. AreNodes script.cpus old.bounds.turns g in
     let F : Graph → Type 0 = λ g. length g.nodes.items ≤ max 1 old.bounds.states in
-    walk_grown bytes old new script bounds is (subst N (sym graph) is.nodes) (subst F (sym graph) is.few)
+    walk_grown script old new bounds is (subst N (sym graph) is.nodes) (subst F (sym graph) is.few)
 
 -- a walk on which only what was tried changes
-pub walk_there : (bytes : List ℕ) (old new : Walk) → StaysThere old new → IsWalk bytes old → IsWalk bytes new
-walk_there bytes old new there is = walk_stays bytes old new there.stays.script there.stays.bounds there.graph is
+pub walk_there : (script : Script) (old new : Walk) → StaysThere old new → IsWalk script old → IsWalk script new
+walk_there script old new there is = walk_stays script old new there.stays.bounds there.graph is
 
--- a walk that has no state yet
-pub walk_new : (bytes : List ℕ) (walk : Walk) → script_of bytes ≡ Ok walk.script → IsWithinLimits walk.script → walk.graph.nodes.items ≡ [] → IsWalk bytes walk
-walk_new bytes walk read limits none =
-    let P : Node → Type 0 = IsNode walk.script.cpus walk.bounds.turns in
+-- where no state was kept, there is none that isn't one
+pub none_kept : (cpus turns : ℕ) (graph : Graph) → graph.nodes.items ≡ [] → AreNodes cpus turns graph
+none_kept cpus turns graph none =
+    let P : Node → Type 0 = IsNode cpus turns in
     let N : List Node → Type 0 = λ nodes. All P nodes in
-    let F : List Node → Type 0 = λ nodes. length nodes ≤ max 1 walk.bounds.states in
-    record {
-      read = read;
-      some_cpus = limits.some_cpus;
-      few_cpus = limits.few_cpus;
-      nodes = subst N (sym none) (All-nil P);
-      few = subst F (sym none) (omega arith);
-    }
+    subst N (sym none) (All-nil P)
 
 -- what stays over two steps
 pub stays_on : (a b c : Walk) → WalkStays a b → WalkStays b c → WalkStays a c
 stays_on a b c first next = record {
-  script = next.script ∙ first.script;
   bounds = next.bounds ∙ first.bounds;
   ends = next.ends ∙ first.ends;
   complete = λ is. first.complete (next.complete is);
@@ -70,14 +56,24 @@ stays_there_on a b c first next = record {
 }
 
 -- a walk that goes on, and goes on again, goes on
-pub goes_on : (bytes : List ℕ) (a b c : Walk) → WalkGoesOn bytes a b → WalkGoesOn bytes b c → WalkGoesOn bytes a c
-goes_on bytes a b c first next = record {
+pub goes_on : (script : Script) (a b c : Walk) → WalkGoesOn script a b → WalkGoesOn script b c → WalkGoesOn script a c
+goes_on script a b c first next = record {
   stays = stays_on a b c first.stays next.stays;
   walk = next.walk;
   states = omega (arith, first.states, next.states);
 }
 
--- an order of a walk's processors, with the turn of one more, if there is one
-pub turn_behind : (bytes : List ℕ) (walk : Walk) (order : List ℕ) (cpu : Option ℕ) → IsWalk bytes walk → All (λ x. x < walk.script.cpus) order → IfSome cpu (λ x. x < walk.script.cpus) → IsOrderOf bytes (order ++ option_to_list cpu)
-turn_behind bytes walk order None is there none = record { script = walk.script; read = is.read; there = subst (λ (xs : List ℕ). All (λ x. x < walk.script.cpus) xs) (sym (append-nil order)) there }
-turn_behind bytes walk order (Some cpu) is there below = record { script = walk.script; read = is.read; there = All-push (λ x. x < walk.script.cpus) order cpu there below }
+-- a walk whose states stay goes on
+pub goes_there : (script : Script) (old new : Walk) → StaysThere old new → IsWalk script old → WalkGoesOn script old new
+goes_there script old new there is =
+    let S : Graph → Type 0 = λ g. length old.graph.nodes.items ≤ length g.nodes.items in
+    record {
+      stays = there.stays;
+      walk = walk_there script old new there is;
+      states = subst S (sym there.graph) (omega arith);
+    }
+
+-- an order of a script's processors, with the turn of one more, if there is one
+pub turn_behind : (script : Script) (order : List ℕ) (cpu : Option ℕ) → AreThere script order → IfSome cpu (λ x. x < script.cpus) → AreThere script (order ++ option_to_list cpu)
+turn_behind script order None there none = subst (AreThere script) (sym (append-nil order)) there
+turn_behind script order (Some cpu) there below = All-push (λ x. x < script.cpus) order cpu there below

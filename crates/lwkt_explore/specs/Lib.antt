@@ -1,6 +1,11 @@
+pub mod Claims
+pub mod Expectations
 pub mod Graphs
+pub mod Judgements
+pub mod Judging
 pub mod Laws
 pub mod Outcomes
+pub mod Readings
 pub mod Statuses
 pub mod Texts
 pub mod Tries

@@ -8,7 +8,8 @@ use Rattle.lwkt_report.specs.Report.{front_text}
 use Rattle.lwkt_run.specs.declared.runs.End.{End}
 use Rattle.lwkt_run.specs.declared.runs.End.TheVariants.{Ended as EndedRun, TurnsOut}
 use Rattle.lwkt_run.specs.declared.runs.TurnsRun.{TurnsRun}
-use Rattle.lwkt_run.specs.Run.{IsOrderRun, Refuses, end_told}
+use Rattle.lwkt_run.specs.Run.{DeclinesRun, IsOrderRun, end_told}
+use Rattle.lwkt_script.specs.declared.scripts.Script.{Script}
 use Rattle.lwkt_explore.specs.declared.outcomes.Kind.{Kind}
 use Rattle.lwkt_explore.specs.declared.outcomes.Kind.TheVariants.{Ended, Stuck, Cut}
 use Rattle.lwkt_explore.specs.declared.outcomes.Outcome.{Outcome}
@@ -20,19 +21,18 @@ IsKind Ended end = end ≡ EndedRun
 IsKind Stuck end = end ≡ TurnsOut
 IsKind Cut end = Unit {0}
 
--- an outcome of the script that these bytes are is the report, without its verdict, of the run along its order, and that verdict is
--- `lawful`
-pub record IsOutcome (bytes : List ℕ) (outcome : Outcome) : Type 0 where
+-- an outcome of a script is the report, without its verdict, of the run along its order, and that verdict is `lawful`
+pub record IsOutcome (script : Script) (outcome : Outcome) : Type 0 where
   pub run : TurnsRun
-  pub is_run : IsOrderRun bytes outcome.order.items run
+  pub is_run : IsOrderRun script outcome.order.items run
   pub is_closing : outcome.closing ≡ run.closing
   pub lawful : run.closing.verdict ≡ Lawful
   pub shows : string_bytes outcome.text ≡ front_text run.closing
   pub kind : IsKind outcome.kind (end_told run.closing)
 
 -- each of these is one
-abbrev pub AreOutcomes : List ℕ → Outcomes → Type 0
-AreOutcomes bytes outcomes = All (IsOutcome bytes) outcomes.all.items
+abbrev pub AreOutcomes : Script → Outcomes → Type 0
+AreOutcomes script outcomes = All (IsOutcome script) outcomes.all.items
 
 -- the order of each of these has at most so many turns
 abbrev pub AreShort : ℕ → Outcomes → Type 0
@@ -46,14 +46,14 @@ AreWhole outcomes = All (λ outcome. outcome.kind ≢ Cut) outcomes.all.items
 abbrev pub HasEnded : Outcomes → Type 0
 HasEnded outcomes = Any (λ outcome. outcome.kind ≡ Ended) outcomes.all.items
 
--- the run along some order of the script that these bytes are has the verdict `unlawful at` this index
-pub record HasUnlawfulRun (bytes : List ℕ) (index : ℕ) : Type 0 where
+-- the run of the script along some order has the verdict `unlawful at` this index
+pub record HasUnlawfulRun (script : Script) (index : ℕ) : Type 0 where
   pub order : List ℕ
   pub run : TurnsRun
-  pub is_run : IsOrderRun bytes order run
+  pub is_run : IsOrderRun script order run
   pub unlawful : run.closing.verdict ≡ UnlawfulVerdict index
 
--- why a search of these bytes is refused: the verdict on a run along some order isn't `lawful`, or a run of them is refused so
-abbrev pub RefusesSearch : List ℕ → Fault → Type 0
-RefusesSearch bytes (Unlawful index) = HasUnlawfulRun bytes index
-RefusesSearch bytes fault = Refuses bytes fault
+-- why a search of a script is refused: the verdict on a run along some order isn't `lawful`, or its machine isn't opened
+abbrev pub RefusesSearch : Script → Fault → Type 0
+RefusesSearch script (Unlawful index) = HasUnlawfulRun script index
+RefusesSearch script fault = DeclinesRun script fault

@@ -32,7 +32,8 @@ pub(crate) struct Graph {
     states: Lists,
     /// Of each state that was gone on from the states after it, by processor.
     next: Vec<u32>,
-    cpus: usize,
+    /// How many processors the script has.
+    pub cpus: usize,
 }
 
 impl Graph {

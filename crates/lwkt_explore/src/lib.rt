@@ -1,14 +1,24 @@
 //! Every order of turns of a script: which outcomes there are, each once with a shortest order, and from which states no end can
-//! be reached.
+//! be reached; and which expectations of a text hold, of one run and over all orders.
 //!
 //! Words: a *state* is a machine between turns, as a list of *parts* that are each kept once; an *outcome* is a report
 //! without its verdict; a state is *stuck* if no turn changes it and a thread hasn't ended, and *lost* if no end can be
 //! reached from it.
+//!
+//! Of a text: a *claim* holds of an outcome or doesn't; a *reading* is a number that a claim takes from it; an *expectation* says
+//! that a claim holds of each outcome, of one at least, or of none. A *judgement* is what one run came to by its expectations, an
+//! *account* what is told of it. Over all orders an outcome is *final* if no turn changes anything any more, and only such ones are
+//! judged; one *decides* an expectation if it breaks what is said of each or of none, or shows what is said of one.
 #![tactic(auto)]
 
+mod accounts;
 mod choices;
+mod claims;
 mod doings;
+mod expectations;
 mod graphs;
+mod judgements;
+mod judging;
 mod laws;
 mod lines;
 mod lists;
@@ -19,19 +29,28 @@ mod outcomes;
 mod packs;
 mod parts;
 mod places;
+mod readings;
 mod samples;
 mod searches;
 mod states;
 mod statuses;
 mod touches;
+mod verdicts;
 mod walks;
 mod watches;
 
+pub use accounts::{Account, account_of};
+pub use claims::holds;
+pub use expectations::{deciding, is_met_over_orders, status_of_text};
+pub use judgements::{Judgement, judgement_of};
+pub use judging::is_met;
 pub use laws::{outcomes_are_numbered, outcomes_are_written_once};
 pub use lines::{order_text, text_of};
 pub use losses::Lost;
 pub use outcomes::{Kind, Outcome, Outcomes};
+pub use readings::{reading, sum_of};
 pub use samples::sample;
 pub use searches::{Bounds, Found, Method, Tried, explore};
 pub use statuses::status_of_found;
+pub use verdicts::verdicts_of;
 pub use watches::{Seen, Unwatched, Watch};

@@ -3,16 +3,16 @@ ghost use Rattle.std.specs.Prelude.{◌≡◌, ◌≢◌, ℕ, ◌+◌, ◌<◌,
 ghost use Rattle.std.specs.List.{Any};
 ghost use Rattle.std.specs.Option.{option_to_list};
 ghost use Rattle.lwkt_base.specs.Fault.{no_memory};
-ghost use Rattle.lwkt_run.specs.Run.{end_told};
+ghost use Rattle.lwkt_run.specs.Run.{AreThere, end_told};
 ghost use Rattle.lwkt_explore.specs.Outcomes.{IsKind, IsOutcome, AreOutcomes, AreShort, AreWhole, HasEnded, RefusesSearch};
-ghost use Rattle.lwkt_explore.specs.Walks.{IsOrderOf};
 ghost use Rattle.lwkt_explore.specs.Verdicts.{IsOfVerdict};
 
 use crate::walks::{memory, number_in_order};
 use lwkt_base::Fault;
 use lwkt_report::{Closing, Verdict, report_front};
-use lwkt_run::{End, TurnsRun, end_told, order_run};
+use lwkt_run::{End, TurnsRun, end_told, order_run_of};
 use lwkt_scenes::{Reel, whys_of};
+use lwkt_script::Script;
 use std::alloc::Global;
 
 /// How a run along an order stood when it stopped.
@@ -76,7 +76,12 @@ fn kind_of(run: &TurnsRun, is_cut: bool) -> Result<Kind, Fault>
 }
 
 // Why the threads of a run haven't ended, where it is stuck.
-fn why_of(alloc: Global, kind: Kind, run: &TurnsRun) -> Result<Option<String>, Fault>
+fn why_of(
+    alloc: Global,
+    script: &Script,
+    kind: Kind,
+    run: &TurnsRun,
+) -> Result<Option<String>, Fault>
     ensures { OnErr result (result ≡ Err no_memory) }
 {
     match kind {
@@ -88,7 +93,7 @@ fn why_of(alloc: Global, kind: Kind, run: &TurnsRun) -> Result<Option<String>, F
         Err(refused) => return Err(Fault::Memory(refused)),
     };
     let reel = Reel {
-        script: &run.script,
+        script,
         trace: &events,
         polls: &run.polls,
         turns: &run.turns,
@@ -104,20 +109,25 @@ fn why_of(alloc: Global, kind: Kind, run: &TurnsRun) -> Result<Option<String>, F
 }
 
 // The outcome of a run along an order.
-fn outcome_of(alloc: Global, bytes: &[u8], order: Vec<u8>, is_cut: bool) -> Result<Outcome, Fault>
-    requires { IsOrderOf bytes.now order.items }
-    ensures ok { IfOk result (λ outcome. IsOutcome bytes.now outcome) }
+fn outcome_of(
+    alloc: Global,
+    script: &Script,
+    order: Vec<u8>,
+    is_cut: bool,
+) -> Result<Outcome, Fault>
+    requires { AreThere script.now order.items }
+    ensures ok { IfOk result (λ outcome. IsOutcome script.now outcome) }
     ensures order { IfOk result (λ outcome. outcome.order.items ≡ order.items) }
     ensures whole { IfOk result (λ outcome. is_cut ≡ false → outcome.kind ≢ Kind.Cut) }
-    ensures refused { IfErr result (λ fault. RefusesSearch bytes.now fault) }
+    ensures refused { IfErr result (λ fault. RefusesSearch script.now fault) }
 {
-    let run = order_run(alloc, bytes, order)?;
+    let run = order_run_of(alloc, script, order.as_slice())?;
     let kind = kind_of(&run, is_cut)?;
     let text = report_front(alloc, &run.closing)?;
-    let why = why_of(alloc, kind, &run)?;
+    let why = why_of(alloc, script, kind, &run)?;
     Ok(Outcome {
         kind,
-        order: run.order,
+        order,
         closing: run.closing,
         text,
         why,
@@ -127,13 +137,13 @@ fn outcome_of(alloc: Global, bytes: &[u8], order: Vec<u8>, is_cut: bool) -> Resu
 /// Makes the run along an order and the turn of a processor behind it, and refuses if the verdict on it isn't `lawful`.
 pub(crate) fn judge(
     alloc: Global,
-    bytes: &[u8],
+    script: &Script,
     order: &[u8],
     cpu: Option<usize>,
 ) -> Result<(), Fault>
-    requires order { IsOrderOf bytes.now (order.now ++ option_to_list cpu) }
+    requires order { AreThere script.now (order.now ++ option_to_list cpu) }
     requires cpu { IfSome cpu (λ cpu. cpu < 8) }
-    ensures { IfErr result (λ fault. RefusesSearch bytes.now fault) }
+    ensures { IfErr result (λ fault. RefusesSearch script.now fault) }
 {
     let mut whole = memory(Vec::from_slice(alloc, order))?;
     if let Some(cpu) = cpu {
@@ -141,7 +151,7 @@ pub(crate) fn judge(
             return Err(Fault::Memory(refused.into()));
         }
     }
-    outcome_of(alloc, bytes, whole, true)?;
+    outcome_of(alloc, script, whole, true)?;
     Ok(())
 }
 
@@ -210,21 +220,21 @@ impl Outcomes {
     pub(crate) fn add(
         &mut self,
         alloc: Global,
-        bytes: &[u8],
+        script: &Script,
         order: Vec<u8>,
         is_cut: bool,
     ) -> Result<Kind, Fault>
-        requires order { IsOrderOf bytes.now order.items }
-        requires outcomes { AreOutcomes bytes.now self.old }
-        ensures found { AreOutcomes bytes.now self.new }
+        requires order { AreThere script.now order.items }
+        requires outcomes { AreOutcomes script.now self.old }
+        ensures found { AreOutcomes script.now self.new }
         ensures short { (turns : ℕ) → length order.items ≤ turns → AreShort turns self.old → AreShort turns self.new }
         ensures ended { HasEnded self.old → HasEnded self.new }
         ensures whole { is_cut ≡ false → AreWhole self.old → AreWhole self.new }
         ensures kind { IfOk result (λ kind. kind ≡ Kind.Ended → HasEnded self.new) }
         ensures counts { sum self.new.counts.items ≤ sum self.old.counts.items + 1 }
-        ensures refused { IfErr result (λ fault. RefusesSearch bytes.now fault) }
+        ensures refused { IfErr result (λ fault. RefusesSearch script.now fault) }
     {
-        let outcome = outcome_of(alloc, bytes, order, is_cut)?;
+        let outcome = outcome_of(alloc, script, order, is_cut)?;
         let kind = outcome.kind;
         match self.place_of(&outcome) {
             Some(place) => self.count(place),

@@ -1,6 +1,7 @@
 //! A script's machine under way, made along an order.
-ghost use Rattle.std.specs.Prelude.{◌≡◌, ◌<◌, All, length, IfOk, IfErr, OnErr};
+ghost use Rattle.std.specs.Prelude.{◌≡◌, ◌<◌, All, length, IfOk, IfErr, OnErr, OnOk};
 ghost use Rattle.lwkt_base.specs.Fault.{no_memory};
+ghost use Rattle.lwkt_core.specs.Opening.{AreWithin};
 ghost use Rattle.lwkt_run.specs.Run.{DeclinesRun};
 
 use crate::doings::Doings;
@@ -71,6 +72,7 @@ impl Place {
     /// The machine of a script as it is opened.
     pub(crate) fn open(alloc: Global, script: &Script) -> Result<Place, Fault>
         ensures ok { IfOk result (λ place. length place.machine.cpus ≡ script.now.cpus) }
+        ensures within { OnOk result (AreWithin script.now.cpus script.now.tokens script.now.messages) }
         ensures refused { IfErr result (λ fault. DeclinesRun script.now fault) }
     {
         let machine = Machine::open(alloc, script)?;

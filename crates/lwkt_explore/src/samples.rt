@@ -9,7 +9,7 @@ use crate::searches::{Bounds, Found, Method, Tried};
 use crate::walks::Walk;
 use crate::watches::Watch;
 use lwkt_base::Fault;
-use lwkt_run::read_script;
+use lwkt_script::Script;
 use std::alloc::Global;
 
 /// Numbers that look random, the same for a seed on every machine: Steele, Lea and Flood's SplitMix64.
@@ -45,23 +45,23 @@ impl Dice {
 // Makes one random order, and keeps its outcome.
 fn add_one(
     alloc: Global,
-    bytes: &[u8],
+    script: &Script,
     walk: &mut Walk,
     outcomes: &mut Outcomes,
     dice: &mut Dice,
 ) -> Result<(), Fault>
-    requires walk { IsWalk bytes.now walk.old }
-    requires outcomes { AreOutcomes bytes.now outcomes.old }
+    requires walk { IsWalk script.now walk.old }
+    requires outcomes { AreOutcomes script.now outcomes.old }
     requires short { AreShort walk.old.bounds.turns outcomes.old }
-    ensures walk { IsWalk bytes.now walk.new }
+    ensures walk { IsWalk script.now walk.new }
     ensures bounds { walk.new.bounds ≡ walk.old.bounds }
-    ensures found { AreOutcomes bytes.now outcomes.new }
+    ensures found { AreOutcomes script.now outcomes.new }
     ensures short { AreShort walk.old.bounds.turns outcomes.new }
     ensures counts { sum outcomes.new.counts.items ≤ sum outcomes.old.counts.items + 1 }
-    ensures refused { IfErr result (λ fault. RefusesSearch bytes.now fault) }
+    ensures refused { IfErr result (λ fault. RefusesSearch script.now fault) }
 {
-    let (order, quiet) = walk.stray(alloc, bytes, dice)?;
-    match outcomes.add(alloc, bytes, order, !quiet) {
+    let (order, quiet) = walk.stray(alloc, script, dice)?;
+    match outcomes.add(alloc, script, order, !quiet) {
         Ok(_) => Ok(()),
         Err(fault) => Err(fault),
     }
@@ -70,62 +70,61 @@ fn add_one(
 // Makes so many random orders.
 fn add_all<W: Watch>(
     alloc: Global,
-    bytes: &[u8],
+    script: &Script,
     walk: &mut Walk,
     outcomes: &mut Outcomes,
     dice: &mut Dice,
     count: u64,
     watch: &mut W,
 ) -> Result<(), Fault>
-    requires walk { IsWalk bytes.now walk.old }
-    requires outcomes { AreOutcomes bytes.now outcomes.old }
+    requires walk { IsWalk script.now walk.old }
+    requires outcomes { AreOutcomes script.now outcomes.old }
     requires short { AreShort walk.old.bounds.turns outcomes.old }
     requires none { sum outcomes.old.counts.items ≡ 0 }
-    ensures found { AreOutcomes bytes.now outcomes.new }
+    ensures found { AreOutcomes script.now outcomes.new }
     ensures short { AreShort walk.old.bounds.turns outcomes.new }
     ensures counts { sum outcomes.new.counts.items ≤ count }
-    ensures refused { IfErr result (λ fault. RefusesSearch bytes.now fault) }
+    ensures refused { IfErr result (λ fault. RefusesSearch script.now fault) }
 {
     for made in 0..count {
         if !watch.goes_on(walk.strayed(made)) {
             return Ok(());
         }
-        add_one(alloc, bytes, walk, outcomes, dice)?;
+        add_one(alloc, script, walk, outcomes, dice)?;
     }
     Ok(())
 }
 
-/// Makes `count` random orders of turns of the script that the bytes are, or fewer if memory is refused or who looks on ends it.
+/// Makes `count` random orders of turns of a script, or fewer if memory is refused or who looks on ends it.
 /// Each goes on until no turn changes anything, or the bound on turns is met. A seed gives the same orders on every machine. Each
 /// outcome is the report of the run along its order, whose verdict is `lawful`. What is found is never complete.
 ///
-/// Refused with `Script` and the place of the script's first bad part, with `Limits` or `LawBroken` for its opening, with `Memory`
+/// Refused with `Limits` or `LawBroken` for the script's opening, with `Memory`
 /// if memory is refused before the first order, and with `Unlawful` if the verdict on a run isn't `lawful`.
 pub fn sample<W: Watch>(
     alloc: Global,
-    bytes: &[u8],
+    script: &Script,
     bounds: Bounds,
     count: u64,
     seed: u64,
     watch: &mut W,
 ) -> Result<Found, Fault>
     // Each outcome is one of the script.
-    ensures found { IfOk result (λ found. AreOutcomes bytes.now found.outcomes) }
+    ensures found { IfOk result (λ found. AreOutcomes script.now found.outcomes) }
 
     // Its order has no more turns than the bound allows.
     ensures short { IfOk result (λ found. AreShort bounds.turns found.outcomes) }
     ensures part { IfOk result (λ found. found.is_complete ≡ false) }
     ensures lost { IfOk result (λ found. found.lost ≡ None) }
     ensures tried { IfOk result (λ found. HasTriedOrders count found.tried) }
-    ensures refused { IfErr result (λ fault. RefusesSearch bytes.now fault) }
+    ensures refused { IfErr result (λ fault. RefusesSearch script.now fault) }
 {
-    let script = read_script(alloc, bytes)?;
-    let mut walk = Walk::begin(alloc, bytes, script, bounds, Method::Plain)?;
+    let mut walk = Walk::begin(alloc, script, bounds, Method::Plain)?;
     let mut outcomes = Outcomes::new(alloc);
     let mut dice = Dice::new(seed);
     let made = add_all(
         alloc,
-        bytes,
+        script,
         &mut walk,
         &mut outcomes,
         &mut dice,

@@ -9,7 +9,7 @@ use crate::outcomes::{Kind, Outcomes};
 use crate::walks::{Leads, Walk, memory};
 use crate::watches::Watch;
 use lwkt_base::Fault;
-use lwkt_run::read_script;
+use lwkt_script::Script;
 use std::alloc::Global;
 
 /// What a search may take. If a bound is met, not every order is tried.
@@ -59,41 +59,41 @@ pub struct Found {
 // Goes on from a state; where nothing changes any more, or a bound is met, there is an outcome.
 fn expand(
     alloc: Global,
-    bytes: &[u8],
+    script: &Script,
     walk: &mut Walk,
     outcomes: &mut Outcomes,
     at: usize,
 ) -> Result<(), Fault>
-    requires { IsSearching bytes.now walk.old outcomes.old }
-    ensures search { IsSearching bytes.now walk.new outcomes.new }
+    requires { IsSearching script.now walk.old outcomes.old }
+    ensures search { IsSearching script.now walk.new outcomes.new }
     ensures bounds { walk.new.bounds ≡ walk.old.bounds }
     ensures ends { OnOk result (length walk.new.ends.items ≡ length walk.old.ends.items + 1) }
-    ensures refused { IfErr result (λ fault. RefusesSearch bytes.now fault) }
+    ensures refused { IfErr result (λ fault. RefusesSearch script.now fault) }
 {
-    let is_cut = match walk.go_on(alloc, bytes, at)? {
+    let is_cut = match walk.go_on(alloc, script, at)? {
         Leads::Nowhere => false,
         Leads::Off if walk.is_far(at) => true,
         Leads::On | Leads::Off => return walk.note_end(false),
     };
     let order = memory(walk.graph.order(alloc, at))?;
-    let kind = outcomes.add(alloc, bytes, order, is_cut)?;
+    let kind = outcomes.add(alloc, script, order, is_cut)?;
     walk.note_end(kind == Kind::Ended)
 }
 
 // Goes on from each state, in the order in which they are found.
 fn search<W: Watch>(
     alloc: Global,
-    bytes: &[u8],
+    script: &Script,
     walk: &mut Walk,
     outcomes: &mut Outcomes,
     states: usize,
     watch: &mut W,
 ) -> Result<(), Fault>
-    requires { IsSearching bytes.now walk.old outcomes.old }
-    ensures search { IsSearching bytes.now walk.new outcomes.new }
+    requires { IsSearching script.now walk.old outcomes.old }
+    ensures search { IsSearching script.now walk.new outcomes.new }
     ensures bounds { walk.new.bounds ≡ walk.old.bounds }
     ensures ends { OnOk result (walk.new.is_complete ≡ true → 0 < length walk.new.ends.items) }
-    ensures refused { IfErr result (λ fault. RefusesSearch bytes.now fault) }
+    ensures refused { IfErr result (λ fault. RefusesSearch script.now fault) }
 {
     for at in 0..states {
         if at >= walk.graph.len() {
@@ -103,7 +103,7 @@ fn search<W: Watch>(
             walk.is_complete = false;
             return Ok(());
         }
-        expand(alloc, bytes, walk, outcomes, at)?;
+        expand(alloc, script, walk, outcomes, at)?;
     }
     // (no state may be kept, and the opening is one)
     if walk.graph.len() > states {
@@ -112,21 +112,21 @@ fn search<W: Watch>(
     Ok(())
 }
 
-/// Tries every order of turns of the script that the bytes are, within bounds. Each outcome is the report of the run along its
+/// Tries every order of turns of a script, within bounds. Each outcome is the report of the run along its
 /// order, whose verdict is `lawful`. If memory is refused during the search, or who looks on ends it, what was found till then is
 /// given, and `is_complete` is false.
 ///
-/// Refused with `Script` and the place of the script's first bad part, with `Limits` or `LawBroken` for its opening, with `Memory`
+/// Refused with `Limits` or `LawBroken` for the script's opening, with `Memory`
 /// if memory is refused before the search or after a complete one, and with `Unlawful` if the verdict on a run isn't `lawful`.
 pub fn explore<W: Watch>(
     alloc: Global,
-    bytes: &[u8],
+    script: &Script,
     bounds: Bounds,
     method: Method,
     watch: &mut W,
 ) -> Result<Found, Fault>
     // Each outcome is one of the script.
-    ensures found { IfOk result (λ found. AreOutcomes bytes.now found.outcomes) }
+    ensures found { IfOk result (λ found. AreOutcomes script.now found.outcomes) }
 
     // Its order has no more turns than the bound allows.
     ensures short { IfOk result (λ found. AreShort bounds.turns found.outcomes) }
@@ -140,12 +140,18 @@ pub fn explore<W: Watch>(
     // Lost states are told only if every order was tried.
     ensures lost { IfOk result (λ found. found.is_complete ≡ false → found.lost ≡ None) }
     ensures tried { IfOk result (λ found. HasTriedStates bounds.states found.tried) }
-    ensures refused { IfErr result (λ fault. RefusesSearch bytes.now fault) }
+    ensures refused { IfErr result (λ fault. RefusesSearch script.now fault) }
 {
-    let script = read_script(alloc, bytes)?;
-    let mut walk = Walk::begin(alloc, bytes, script, bounds, method)?;
+    let mut walk = Walk::begin(alloc, script, bounds, method)?;
     let mut outcomes = Outcomes::new(alloc);
-    match search(alloc, bytes, &mut walk, &mut outcomes, bounds.states, watch) {
+    match search(
+        alloc,
+        script,
+        &mut walk,
+        &mut outcomes,
+        bounds.states,
+        watch,
+    ) {
         Ok(()) => {}
         Err(Fault::Memory(_)) => walk.is_complete = false,
         Err(fault) => return Err(fault),

@@ -1,8 +1,6 @@
 //! A walk over the states of a script.
 ghost use Rattle.std.specs.Prelude.{◌≡◌, ◌⊎◌, ℕ, ◌+◌, ◌<◌, ◌≤◌, true, false, List, [], length, All, Ok, Err, None, Contains, IsFalse, IfOk, IfErr, OnOk, OnErr, IfSome};
 ghost use Rattle.lwkt_base.specs.Fault.{no_memory};
-ghost use Rattle.lwkt_script.specs.Format.{script_of};
-ghost use Rattle.lwkt_script.specs.Limits.{IsWithinLimits};
 ghost use Rattle.lwkt_explore.specs.Graphs.{depth_at, IsOrder};
 ghost use Rattle.lwkt_explore.specs.Outcomes.{RefusesSearch};
 ghost use Rattle.lwkt_explore.specs.Walks.{IsWalk, WalkStays, StaysThere, WalkGoesOn};
@@ -29,7 +27,6 @@ use std::alloc::{AllocError, Global};
 /// A walk: the states that it found, and which of those that it went on from are ends.
 #[derive(Drop)]
 pub(crate) struct Walk {
-    script: Script,
     mails: Mails,
     bounds: Bounds,
     method: Method,
@@ -100,41 +97,38 @@ fn leads_of(row: &Row, at: usize, cpus: usize) -> Leads {
 }
 
 impl Walk {
-    /// A walk that has the opening state of the script that the bytes are.
+    /// A walk that has the opening state of a script.
     pub(crate) fn begin(
         alloc: Global,
-        bytes: &[u8],
-        script: Script,
+        script: &Script,
         bounds: Bounds,
         method: Method,
     ) -> Result<Walk, Fault>
-        requires read { script_of bytes.now ≡ Ok script }
-        requires limits { IsWithinLimits script }
-        ensures walk { IfOk result (λ walk. IsWalk bytes.now walk) }
+        ensures walk { IfOk result (λ walk. IsWalk script.now walk) }
         ensures bounds { IfOk result (λ walk. walk.bounds ≡ bounds) }
         ensures some { IfOk result (λ walk. 1 ≤ length walk.graph.nodes.items) }
         ensures none_ends { IfOk result (λ walk. walk.ends.items ≡ []) }
-        ensures refused { IfErr result (λ fault. RefusesSearch bytes.now fault) }
+        ensures refused { IfErr result (λ fault. RefusesSearch script.now fault) }
     {
         keep_memory(alloc);
-        let cpus = usize::from(script.cpus);
-        let mails = memory(Mails::of(alloc, &script))?;
-        let layout = Layout::of(&script);
+        let opened = Place::open(alloc, script)?;
+        let mails = memory(Mails::of(alloc, script))?;
+        let layout = Layout::of(script);
         let mut walk = Walk {
-            script,
             mails,
             bounds,
             method,
             layout,
             parts: memory(Parts::new(alloc, layout))?,
             memos: memory(Memos::new(alloc))?,
-            graph: memory(Graph::new(alloc, cpus))?,
+            graph: memory(Graph::new(alloc, usize::from(script.cpus)))?,
             ends: Vec::new(alloc),
             turns: 0,
             is_complete: true,
             trace: Vec::new(alloc),
         };
-        let opening = walk.make(alloc, bytes, &[], None)?;
+        let written = memory(opened.write(alloc, script))?;
+        let opening = memory(walk.parts.numbers_of(alloc, &written))?;
         let choice = walk.choice_at(opening.as_slice());
         memory(walk.graph.add(alloc, 0, 0, opening.as_slice(), choice))?;
         Ok(walk)
@@ -142,7 +136,7 @@ impl Walk {
 
     // Of which processors the turns are tried at a state.
     fn choice_at(&self, state: &[u32]) -> Choice {
-        let cpus = usize::from(self.script.cpus);
+        let cpus = self.graph.cpus;
         match self.method {
             Method::Plain => Choice::all(cpus),
             Method::Reduced => Choice::of(&self.parts.doings(&self.mails, state), cpus),
@@ -154,61 +148,44 @@ impl Walk {
     fn write(
         &mut self,
         alloc: Global,
-        bytes: &[u8],
+        script: &Script,
         order: &[u8],
         cpu: Option<usize>,
     ) -> Result<Written, Fault>
-        requires walk { IsWalk bytes.now self.old }
-        requires order { All (λ cpu. cpu < self.old.script.cpus) order.now }
-        requires cpu { IfSome cpu (λ cpu. cpu < self.old.script.cpus) }
+        requires walk { IsWalk script.now self.old }
+        requires order { All (λ cpu. cpu < script.now.cpus) order.now }
+        requires cpu { IfSome cpu (λ cpu. cpu < script.now.cpus) }
         ensures stays { StaysThere self.old self.new }
-        ensures refused { IfErr result (λ fault. RefusesSearch bytes.now fault) }
+        ensures refused { IfErr result (λ fault. RefusesSearch script.now fault) }
     {
-        let mut place = Place::open(alloc, &self.script)?;
+        let mut place = Place::open(alloc, script)?;
         place.go(order, &mut self.trace)?;
         if let Some(cpu) = cpu {
             place.turn(cpu, &mut self.trace)?;
             self.turns = self.turns.saturating_add(1);
         }
         if !place.is_lawful {
-            judge(alloc, bytes, order, cpu)?;
+            judge(alloc, script, order, cpu)?;
         }
-        memory(place.write(alloc, &self.script))
-    }
-
-    // The same; gives the state's parts.
-    fn make(
-        &mut self,
-        alloc: Global,
-        bytes: &[u8],
-        order: &[u8],
-        cpu: Option<usize>,
-    ) -> Result<Vec<u32>, Fault>
-        requires walk { IsWalk bytes.now self.old }
-        requires order { All (λ cpu. cpu < self.old.script.cpus) order.now }
-        requires cpu { IfSome cpu (λ cpu. cpu < self.old.script.cpus) }
-        ensures stays { StaysThere self.old self.new }
-        ensures refused { IfErr result (λ fault. RefusesSearch bytes.now fault) }
-    {
-        let written = self.write(alloc, bytes, order, cpu)?;
-        memory(self.parts.numbers_of(alloc, &written))
+        memory(place.write(alloc, script))
     }
 
     // Makes the turn of a processor from a state.
     fn make_turn(
         &mut self,
         alloc: Global,
-        bytes: &[u8],
+        script: &Script,
         at: usize,
         cpu: usize,
     ) -> Result<Vec<u32>, Fault>
-        requires walk { IsWalk bytes.now self.old }
-        requires cpu { cpu < self.old.script.cpus }
+        requires walk { IsWalk script.now self.old }
+        requires cpu { cpu < script.now.cpus }
         ensures stays { StaysThere self.old self.new }
-        ensures refused { IfErr result (λ fault. RefusesSearch bytes.now fault) }
+        ensures refused { IfErr result (λ fault. RefusesSearch script.now fault) }
     {
         let order = memory(self.graph.order(alloc, at))?;
-        self.make(alloc, bytes, order.as_slice(), Some(cpu))
+        let written = self.write(alloc, script, order.as_slice(), Some(cpu))?;
+        memory(self.parts.numbers_of(alloc, &written))
     }
 
     // Makes the turn of a processor from a state, unless one like it was made: from a state that has the same parts where the turn
@@ -216,15 +193,15 @@ impl Walk {
     fn turn_like(
         &mut self,
         alloc: Global,
-        bytes: &[u8],
+        script: &Script,
         at: usize,
         doings: &Doings,
         cpu: usize,
     ) -> Result<Vec<u32>, Fault>
-        requires walk { IsWalk bytes.now self.old }
-        requires cpu { cpu < self.old.script.cpus }
+        requires walk { IsWalk script.now self.old }
+        requires cpu { cpu < script.now.cpus }
         ensures stays { StaysThere self.old self.new }
-        ensures refused { IfErr result (λ fault. RefusesSearch bytes.now fault) }
+        ensures refused { IfErr result (λ fault. RefusesSearch script.now fault) }
     {
         let mut state = memory(Vec::from_slice(alloc, self.graph.parts(at)))?;
         let places = memory(self.layout.touched(alloc, cpu, doings.next(cpu)))?;
@@ -234,7 +211,7 @@ impl Walk {
             self.turns = self.turns.saturating_add(1);
             return Ok(state);
         }
-        let made = self.make_turn(alloc, bytes, at, cpu)?;
+        let made = self.make_turn(alloc, script, at, cpu)?;
         let after = memory(picked(alloc, made.as_slice(), places.as_slice()))?;
         put_back(state.as_mut_slice(), places.as_slice(), after.as_slice());
         // (a turn that changed another part would be made each time)
@@ -278,9 +255,8 @@ impl Walk {
         cpu: usize,
         state: &[u32],
     ) -> Result<u32, Fault>
-        requires cpu { cpu < self.old.script.cpus }
         ensures stays { WalkStays self.old self.new }
-        ensures walk { (bytes : List ℕ) → IsWalk bytes self.old → IsWalk bytes self.new }
+        ensures walk { (script : Script) → cpu < script.cpus → IsWalk script self.old → IsWalk script self.new }
         ensures states { length self.old.graph.nodes.items ≤ length self.new.graph.nodes.items }
         ensures only { OnErr result (result ≡ Err no_memory) }
     {
@@ -315,22 +291,22 @@ impl Walk {
     fn next(
         &mut self,
         alloc: Global,
-        bytes: &[u8],
+        script: &Script,
         at: usize,
         doings: &Doings,
         cpu: usize,
     ) -> Result<u32, Fault>
-        requires walk { IsWalk bytes.now self.old }
-        requires cpu { cpu < self.old.script.cpus }
-        ensures goes { WalkGoesOn bytes.now self.old self.new }
-        ensures refused { IfErr result (λ fault. RefusesSearch bytes.now fault) }
+        requires walk { IsWalk script.now self.old }
+        requires cpu { cpu < script.now.cpus }
+        ensures goes { WalkGoesOn script.now self.old self.new }
+        ensures refused { IfErr result (λ fault. RefusesSearch script.now fault) }
     {
         if let Some(number) = self.known(at, cpu) {
             return Ok(number);
         }
         let state = match self.method {
-            Method::Plain => self.make_turn(alloc, bytes, at, cpu)?,
-            Method::Reduced => self.turn_like(alloc, bytes, at, doings, cpu)?,
+            Method::Plain => self.make_turn(alloc, script, at, cpu)?,
+            Method::Reduced => self.turn_like(alloc, script, at, doings, cpu)?,
         };
         self.number_of(alloc, at, cpu, state.as_slice())
     }
@@ -340,22 +316,22 @@ impl Walk {
     fn try_set(
         &mut self,
         alloc: Global,
-        bytes: &[u8],
+        script: &Script,
         at: usize,
         doings: &Doings,
         set: u8,
         row: &mut Row,
     ) -> Result<bool, Fault>
-        requires { IsWalk bytes.now self.old }
-        ensures goes { WalkGoesOn bytes.now self.old self.new }
-        ensures refused { IfErr result (λ fault. RefusesSearch bytes.now fault) }
+        requires { IsWalk script.now self.old }
+        ensures goes { WalkGoesOn script.now self.old self.new }
+        ensures refused { IfErr result (λ fault. RefusesSearch script.now fault) }
     {
-        let cpus = usize::from(self.script.cpus);
+        let cpus = usize::from(script.cpus);
         let mut leads_on = false;
         for cpu in 0..cpus {
             if has(set, cpu) {
                 if row[cpu] == UNTRIED {
-                    row[cpu] = self.next(alloc, bytes, at, doings, cpu)?;
+                    row[cpu] = self.next(alloc, script, at, doings, cpu)?;
                 }
                 leads_on = leads_on || row[cpu] as usize > at;
             }
@@ -367,17 +343,17 @@ impl Walk {
     fn try_sets(
         &mut self,
         alloc: Global,
-        bytes: &[u8],
+        script: &Script,
         at: usize,
         row: &mut Row,
     ) -> Result<(), Fault>
-        requires { IsWalk bytes.now self.old }
-        ensures goes { WalkGoesOn bytes.now self.old self.new }
-        ensures refused { IfErr result (λ fault. RefusesSearch bytes.now fault) }
+        requires { IsWalk script.now self.old }
+        ensures goes { WalkGoesOn script.now self.old self.new }
+        ensures refused { IfErr result (λ fault. RefusesSearch script.now fault) }
     {
         let doings = self.parts.doings(&self.mails, self.graph.parts(at));
         for set in self.graph.choice(at).sets {
-            if self.try_set(alloc, bytes, at, &doings, set, row)? {
+            if self.try_set(alloc, script, at, &doings, set, row)? {
                 return Ok(());
             }
         }
@@ -397,16 +373,21 @@ impl Walk {
     }
 
     /// Tries turns from a state, and says where they lead.
-    pub(crate) fn go_on(&mut self, alloc: Global, bytes: &[u8], at: usize) -> Result<Leads, Fault>
-        requires { IsWalk bytes.now self.old }
-        ensures goes { WalkGoesOn bytes.now self.old self.new }
+    pub(crate) fn go_on(
+        &mut self,
+        alloc: Global,
+        script: &Script,
+        at: usize,
+    ) -> Result<Leads, Fault>
+        requires { IsWalk script.now self.old }
+        ensures goes { WalkGoesOn script.now self.old self.new }
         ensures off { IfOk result (λ leads. leads ≡ Leads.Off → self.new.is_complete ≡ false) }
-        ensures refused { IfErr result (λ fault. RefusesSearch bytes.now fault) }
+        ensures refused { IfErr result (λ fault. RefusesSearch script.now fault) }
     {
         let mut row = self.first_row(at);
-        self.try_sets(alloc, bytes, at, &mut row)?;
+        self.try_sets(alloc, script, at, &mut row)?;
         memory(self.graph.note(&row))?;
-        let leads = leads_of(&row, at, usize::from(self.script.cpus));
+        let leads = leads_of(&row, at, usize::from(script.cpus));
         if leads == Leads::Off {
             self.is_complete = false;
         }
@@ -414,15 +395,15 @@ impl Walk {
     }
 
     // Whether no turn changes anything behind an order.
-    fn is_quiet(&mut self, alloc: Global, bytes: &[u8], order: &[u8]) -> Result<bool, Fault>
-        requires walk { IsWalk bytes.now self.old }
-        requires order { All (λ cpu. cpu < self.old.script.cpus) order.now }
+    fn is_quiet(&mut self, alloc: Global, script: &Script, order: &[u8]) -> Result<bool, Fault>
+        requires walk { IsWalk script.now self.old }
+        requires order { All (λ cpu. cpu < script.now.cpus) order.now }
         ensures stays { StaysThere self.old self.new }
-        ensures refused { IfErr result (λ fault. RefusesSearch bytes.now fault) }
+        ensures refused { IfErr result (λ fault. RefusesSearch script.now fault) }
     {
-        let here = self.write(alloc, bytes, order, None)?;
-        for cpu in 0..usize::from(self.script.cpus) {
-            let next = self.write(alloc, bytes, order, Some(cpu))?;
+        let here = self.write(alloc, script, order, None)?;
+        for cpu in 0..usize::from(script.cpus) {
+            let next = self.write(alloc, script, order, Some(cpu))?;
             if next.words.as_slice() != here.words.as_slice() {
                 return Ok(false);
             }
@@ -434,21 +415,21 @@ impl Walk {
     pub(crate) fn stray(
         &mut self,
         alloc: Global,
-        bytes: &[u8],
+        script: &Script,
         dice: &mut Dice,
     ) -> Result<(Vec<u8>, bool), Fault>
-        requires { IsWalk bytes.now self.old }
+        requires { IsWalk script.now self.old }
         ensures stays { StaysThere self.old self.new }
-        ensures order { IfOk result (λ made. IsOrder self.old.script.cpus self.old.bounds.turns made.0.items) }
-        ensures refused { IfErr result (λ fault. RefusesSearch bytes.now fault) }
+        ensures order { IfOk result (λ made. IsOrder script.now.cpus self.old.bounds.turns made.0.items) }
+        ensures refused { IfErr result (λ fault. RefusesSearch script.now fault) }
     {
-        let cpus = u64::from(self.script.cpus);
-        let mut place = Place::open(alloc, &self.script)?;
+        let cpus = u64::from(script.cpus);
+        let mut place = Place::open(alloc, script)?;
         let mut order = Vec::new(alloc);
         let mut idle = 0u64;
         for _ in 0..self.bounds.turns {
             if idle >= 4 * cpus {
-                if self.is_quiet(alloc, bytes, order.as_slice())? {
+                if self.is_quiet(alloc, script, order.as_slice())? {
                     return Ok((order, true));
                 }
                 idle = 0;
@@ -472,7 +453,6 @@ impl Walk {
         ensures one_more { OnOk result (length self.new.ends.items ≡ length self.old.ends.items + 1) }
         ensures end { Contains self.new.ends.items true → Contains self.old.ends.items true ⊎ (is_end ≡ true) }
         ensures only { OnErr result (result ≡ Err no_memory) }
-        ensures script { self.new.script ≡ self.old.script }
         ensures bounds { self.new.bounds ≡ self.old.bounds }
         ensures graph { self.new.graph ≡ self.old.graph }
         ensures complete { self.new.is_complete ≡ self.old.is_complete }
@@ -492,7 +472,6 @@ impl Walk {
         if !self.is_complete {
             return Ok(None);
         }
-        let cpus = usize::from(self.script.cpus);
-        memory(lost_of(alloc, &self.graph, self.ends.as_slice(), cpus))
+        memory(lost_of(alloc, &self.graph, self.ends.as_slice(), self.graph.cpus))
     }
 }

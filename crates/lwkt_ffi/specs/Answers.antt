@@ -10,12 +10,16 @@ use Rattle.lwkt_base.specs.Fault.{number_of}
 use Rattle.lwkt_report.specs.declared.sources.TheConstants.{READ_LIMIT}
 use Rattle.lwkt_run.specs.declared.runs.End.{End}
 use Rattle.lwkt_run.specs.declared.runs.End.TheVariants.{Ended, TurnsOut, Unlawful}
-use Rattle.lwkt_run.specs.Run.{HasRun, Refuses, RefusesAlong}
+use Rattle.lwkt_run.specs.Run.{HasRun, Refuses}
 use Rattle.lwkt_checker.specs.Judgement.{HasFinding, RefusesTrace as IsNoTrace}
-use Rattle.lwkt_show.specs.Arguments.{AreOptions}
-use Rattle.lwkt_show.specs.Orders.{AreAlong}
-use Rattle.lwkt_show.specs.Showing.{IsShown, IsPastIn, IsShownAlong, IsPastAlong}
+use Rattle.lwkt_show.specs.Showing.{DeclinesShow, EndsBeforeChosen, IsShown}
 use Rattle.lwkt_show.specs.declared.options.Options.{Options}
+use Rattle.lwkt_text.specs.declared.inputs.Input.{Input}
+use Rattle.lwkt_text.specs.declared.inputs.Unread.{Unread}
+use Rattle.lwkt_text.specs.declared.inputs.Unread.TheVariants.{Memory as MemoryOfInput, Json, Wrongs}
+use Rattle.lwkt_text.specs.Inputs.{IsUnread, input_of}
+use Rattle.lwkt_ffi.specs.Alongs.{AreAlong}
+use Rattle.lwkt_ffi.specs.Arguments.{AreOptions}
 use Rattle.lwkt_ffi.specs.declared.answers.LwktAnswer.{LwktAnswer}
 use Rattle.lwkt_ffi.specs.declared.shows.Showing.{Showing}
 use Rattle.lwkt_ffi.specs.declared.shows.Showing.TheVariants.{Shown, Past, Misused}
@@ -49,6 +53,16 @@ status_of_fault _ = 1
 pub record Fills (old new : List ℕ) (answer : LwktAnswer) (whole : List ℕ) (fault : Option Fault) : Type 0 where
   pub is_text : new ≡ buffer_with_text old whole
   pub is_answer : answer ≡ call_answer (length whole) fault
+
+-- the fault of input that isn't read: of a text that something is wrong with, that of bytes that are no JSON
+abbrev pub fault_of : Unread → Fault
+fault_of (MemoryOfInput refused) = Memory refused
+fault_of (Json place) = Script place
+fault_of (Wrongs wrongs) = Script 0
+
+-- why a script in either form isn't read
+abbrev pub RefusesInput : List ℕ → Fault → Type 0
+RefusesInput script fault = (unread : Unread) × (IsUnread unread (input_of None script) × (fault ≡ fault_of unread))
 
 -- the front of what was given that is read
 abbrev pub read_front : List ℕ → List ℕ
@@ -107,20 +121,26 @@ AskNothing words = ((options : Options) → ¬ AreOptions words options) × ((op
 abbrev pub AskForNoRun : List ℕ → Type 0
 AskForNoRun arguments = IsUtf8 arguments → AskNothing (words_in arguments)
 
--- what came of a script that was to be shown with these options: a run of it ended so, and the text shows it; or it ended before the
--- first turn that was chosen; or it is refused for this fault
-abbrev pub Displays : Options → List ℕ → Result Showing Fault → List ℕ → Type 0
-Displays options script (Ok (Shown end)) whole = IsShown options (read_front script) end whole
-Displays options script (Ok Past) whole = IsPastIn options (read_front script)
-Displays options script (Ok Misused) whole = ⊥
-Displays options script (Err fault) whole = Refuses (read_front script) fault
+-- a run of this script in either form, in rounds or along this order, ended so, and the text shows it as the options say
+abbrev pub ShowsIn : Options → Option (List ℕ) → List ℕ → End → List ℕ → Type 0
+ShowsIn options order script end text = (input : Input) × ((input_of None script ≡ Ok input) × IsShown options order input.script end text)
 
--- the same of a script that was to be run along this order; it is also refused where the order names a processor that isn't there
-abbrev pub DisplaysAlong : List ℕ → Options → List ℕ → Result Showing Fault → List ℕ → Type 0
-DisplaysAlong order options script (Ok (Shown end)) whole = IsShownAlong order options (read_front script) end whole
-DisplaysAlong order options script (Ok Past) whole = IsPastAlong order options (read_front script)
-DisplaysAlong order options script (Ok Misused) whole = ⊥
-DisplaysAlong order options script (Err fault) whole = RefusesAlong (read_front script) order fault
+-- such a run ended before the first turn that was chosen
+abbrev pub EndsBeforeIn : Options → Option (List ℕ) → List ℕ → Type 0
+EndsBeforeIn options order script = (input : Input) × ((input_of None script ≡ Ok input) × EndsBeforeChosen options order input.script)
+
+-- why such a run isn't made: the script isn't read; or it is, and its machine isn't opened, or the order names a processor that isn't
+-- there
+abbrev pub RefusesShow : List ℕ → Option (List ℕ) → Fault → Type 0
+RefusesShow script order fault = RefusesInput script fault ⊎ ((input : Input) × ((input_of None script ≡ Ok input) × DeclinesShow input.script order fault))
+
+-- what came of a script that was to be shown with these options, in rounds or along this order: a run of it ended so, and the text
+-- shows it; or it ended before the first turn that was chosen; or it is refused for this fault
+abbrev pub Displays : Options → Option (List ℕ) → List ℕ → Result Showing Fault → List ℕ → Type 0
+Displays options order script (Ok (Shown end)) whole = ShowsIn options order script end whole
+Displays options order script (Ok Past) whole = EndsBeforeIn options order script
+Displays options order script (Ok Misused) whole = ⊥
+Displays options order script (Err fault) whole = RefusesShow script order fault
 
 abbrev pub status_of_show : Result Showing Fault → ℕ
 status_of_show (Ok (Shown end)) = status_of_end end
@@ -133,8 +153,8 @@ status_of_show (Err fault) = status_of_fault fault
 pub record AnswersShow (script arguments old new : List ℕ) (answer : LwktAnswer) (status : ℕ) : Type 0 where
   pub outcome : Result Showing Fault
   pub whole : List ℕ
-  pub shows : IsUtf8 arguments → (options : Options) → AreOptions (words_in arguments) options → Displays options script outcome whole
-  pub along : IsUtf8 arguments → (options : Options) (order : List ℕ) → AreAlong (words_in arguments) options order → DisplaysAlong order options script outcome whole
+  pub shows : IsUtf8 arguments → (options : Options) → AreOptions (words_in arguments) options → Displays options None script outcome whole
+  pub along : IsUtf8 arguments → (options : Options) (order : List ℕ) → AreAlong (words_in arguments) options order → Displays options (Some order) script outcome whole
   pub misused : AskForNoRun arguments → (outcome ≡ Ok Misused) ⊎ (outcome ≡ Err no_memory)
   pub fills : Fills old new answer whole (result_err outcome)
   pub is_status : status ≡ status_of_show outcome

@@ -1,2 +1,4 @@
+pub mod Alongs
 pub mod Answers
+pub mod Arguments
 pub mod Texts

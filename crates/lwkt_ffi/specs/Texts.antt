@@ -4,25 +4,26 @@ use Rattle.std.specs.Result.{result_err}
 use Rattle.lwkt_base.specs.declared.faults.Fault.{Fault}
 use Rattle.lwkt_base.specs.declared.faults.Fault.TheVariants.{Script as ScriptFault, Limits, Unlawful}
 use Rattle.lwkt_base.specs.Fault.{no_memory}
-use Rattle.lwkt_expected.specs.Expectations.{status_of_text as status_of_text_search}
+use Rattle.lwkt_explore.specs.Expectations.{status_of_text as status_of_text_search}
 use Rattle.lwkt_explore.specs.declared.searches.Found.{Found}
 use Rattle.lwkt_explore.specs.Outcomes.{AreOutcomes, AreShort, HasEnded, RefusesSearch}
-use Rattle.lwkt_explore.specs.Statuses.{status_of_found}
 use Rattle.lwkt_explore.specs.Tries.{HasTriedStates}
-use Rattle.lwkt_litmus.specs.declared.judgements.Judgement.{Judgement}
-use Rattle.lwkt_litmus.specs.Judgements.{judgement_of, status_of_judgement}
+use Rattle.lwkt_explore.specs.declared.judgements.Judgement.{Judgement}
+use Rattle.lwkt_explore.specs.Judgements.{judgement_of, status_of_judgement}
 use Rattle.lwkt_report.specs.declared.closings.Closing.{Closing}
 use Rattle.lwkt_report.specs.Report.{report_text}
 use Rattle.lwkt_run.specs.Run.{MayClose, DeclinesRun}
+use Rattle.lwkt_script.specs.declared.scripts.Script.{Script}
 use Rattle.lwkt_script.specs.Format.{script_of}
 use Rattle.lwkt_text.specs.declared.readers.Reading.{Reading}
 use Rattle.lwkt_text.specs.declared.wrongs.Wrong.{Wrong}
-use Rattle.lwkt_text.specs.Beginning.{is_text, ByForm}
+use Rattle.lwkt_text.specs.declared.inputs.Input.{Input}
+use Rattle.lwkt_text.specs.Inputs.{input_of, is_text}
 use Rattle.lwkt_text.specs.Reading.{reading_of}
 use Rattle.lwkt_verdict.specs.declared.turns.Pace.TheVariants.{Rounds}
 use Rattle.lwkt_ffi.specs.declared.answers.LwktAnswer.{LwktAnswer}
 use Rattle.lwkt_ffi.specs.declared.orders.Search.{Search}
-use Rattle.lwkt_ffi.specs.Answers.{Fills, status_of_fault}
+use Rattle.lwkt_ffi.specs.Answers.{Fills, RefusesInput, status_of_fault}
 
 -- what `lwkt_is_text` answers: whether the bytes are taken for a text, or want of memory
 abbrev pub TellsForm : List ℕ → ℕ → Type 0
@@ -88,40 +89,25 @@ pub record AnswersText (text old new : List ℕ) (answer : LwktAnswer) (status :
   pub fills : Fills old new answer whole (result_err outcome)
   pub is_status : status ≡ status_of_text_run outcome
 
--- what a search of a script in JSON within these bounds finds: outcomes of it, whose orders are short enough; an ended one, if every
--- order was tried and no state is lost; lost states only if every order was tried; and how many states were kept
-pub record AreFoundWithin (script : List ℕ) (states turns : ℕ) (found : Found) : Type 0 where
+-- what a search of a script within these bounds finds: outcomes of it, whose orders are short enough; an ended one, if every order
+-- was tried and no state is lost; lost states only if every order was tried; and how many states were kept
+pub record AreFoundWithin (script : Script) (states turns : ℕ) (found : Found) : Type 0 where
   pub are : AreOutcomes script found.outcomes
   pub short : AreShort turns found.outcomes
   pub ended : found.is_complete ≡ true → found.lost ≡ None → HasEnded found.outcomes
   pub part : found.is_complete ≡ false → found.lost ≡ None
   pub tried : HasTriedStates states found.tried
 
--- what came of a script in JSON: what was found of it, and the status by that
-pub record IsSearchOfJson (script : List ℕ) (states turns : ℕ) (search : Search) : Type 0 where
-  pub is_found : AreFoundWithin script states turns search.found
-  pub is_status : search.status ≡ status_of_found search.found
+-- what came of a script in either form: what was found of it, and the status by what a text says of that; JSON says nothing
+pub record IsSearch (script : List ℕ) (states turns : ℕ) (search : Search) : Type 0 where
+  pub input : Input
+  pub read : input_of None script ≡ Ok input
+  pub is_found : AreFoundWithin input.script states turns search.found
+  pub is_status : search.status ≡ status_of_text_search input.expectations search.found
 
--- what came of a text: what was found of its script, and the status by what the text says of that
-pub record IsSearchOfText (text : List ℕ) (states turns : ℕ) (search : Search) : Type 0 where
-  pub reading : Reading
-  pub read : reading_of text ≡ Ok reading
-  pub json : List ℕ
-  pub is_json : script_of json ≡ Ok reading.script
-  pub is_found : AreFoundWithin json states turns search.found
-  pub is_status : search.status ≡ status_of_text_search reading.expectations search.found
-
--- what came of a script in either form
-abbrev pub IsSearch : List ℕ → ℕ → ℕ → Search → Type 0
-IsSearch script states turns search = ByForm (is_text script) (IsSearchOfText script states turns search) (IsSearchOfJson script states turns search)
-
--- why a search of a text is refused: there is no JSON of it; or there is, and a search of that is refused
-abbrev pub RefusesTextSearch : List ℕ → Fault → Type 0
-RefusesTextSearch text fault = RefusesJson text fault ⊎ ((json : List ℕ) × (IsJsonOf text json × RefusesSearch json fault))
-
--- why a search of a script in either form is refused
+-- why a search of a script in either form is refused: it isn't read; or it is, and a search of it is refused
 abbrev pub RefusesOrders : List ℕ → Fault → Type 0
-RefusesOrders script fault = ByForm (is_text script) (RefusesTextSearch script fault) (RefusesSearch script fault)
+RefusesOrders script fault = RefusesInput script fault ⊎ ((input : Input) × ((input_of None script ≡ Ok input) × RefusesSearch input.script fault))
 
 -- what came of a script whose orders were tried within these bounds: what was found; or it is refused for this fault
 abbrev pub TellsSearch : List ℕ → ℕ → ℕ → Result Search Fault → Type 0

@@ -1,8 +1,6 @@
 //! The two forms of scripts: whether bytes are a text, and the JSON of one.
-ghost use Rattle.std.specs.Prelude.{◌≡◌, ◌⊎◌, [], Ok, IfOk, IfErr, string_bytes};
-ghost use Rattle.lwkt_script.specs.Format.{script_of};
+ghost use Rattle.std.specs.Prelude.{◌≡◌, [], IfOk, IfErr, string_bytes};
 ghost use Rattle.lwkt_ffi.specs.Texts.{IsJsonOf, RefusesJson, TellsForm, TellsJson, AnswersJson, status_of_made};
-ghost use Rattle.lwkt_base.specs.Fault.{no_memory};
 
 use crate::answers::{LwktAnswer, status_of_fault};
 use crate::fronts::{blank, fill};
@@ -10,7 +8,6 @@ use crate::readings::read_onto;
 use lwkt_base::Fault;
 use lwkt_refusals::Speaker;
 use lwkt_report::{Page, write_whole};
-use lwkt_script::Script;
 use lwkt_text::{Unsaid, is_text, json_of};
 use std::alloc::Global;
 
@@ -30,31 +27,6 @@ pub extern "C" fn lwkt_is_text(alloc: Global, script: &[u8]) -> u32
     }
 }
 
-/// The JSON of a script; why there is none is put on a page.
-///
-/// Refused with `Limits` where it would have more bytes than a script in JSON may have, and with `Memory`.
-pub fn json_told(
-    alloc: Global,
-    speaker: Speaker,
-    script: &Script,
-    page: &mut Page,
-) -> Result<String, Fault>
-    ensures ok { IfOk result (λ json. script_of (string_bytes json) ≡ Ok script.now) }
-    ensures refused { IfErr result (λ fault. (fault ≡ no_memory) ⊎ (fault ≡ Fault.Limits)) }
-{
-    match json_of(alloc, script) {
-        Ok(json) => Ok(json),
-        Err(Unsaid::Memory(refused)) => {
-            speaker.say_memory(page);
-            Err(Fault::Memory(refused))
-        }
-        Err(Unsaid::Limits) => {
-            let _ = write_whole(page, LONG.as_bytes());
-            Err(Fault::Limits)
-        }
-    }
-}
-
 // The script of a text, in JSON; why there is none is put on a page.
 fn json_of_text(alloc: Global, text: &[u8], page: &mut Page) -> Result<String, Fault>
     ensures ok { IfOk result (λ json. IsJsonOf text.now (string_bytes json)) }
@@ -64,7 +36,17 @@ fn json_of_text(alloc: Global, text: &[u8], page: &mut Page) -> Result<String, F
         Ok(reading) => reading,
         Err(fault) => return Err(fault),
     };
-    json_told(alloc, Speaker::Run, &reading.script, page)
+    match json_of(alloc, &reading.script) {
+        Ok(json) => Ok(json),
+        Err(Unsaid::Memory(refused)) => {
+            Speaker::Run.say_memory(page);
+            Err(Fault::Memory(refused))
+        }
+        Err(Unsaid::Limits) => {
+            let _ = write_whole(page, LONG.as_bytes());
+            Err(Fault::Limits)
+        }
+    }
 }
 
 // Puts the script of a text, in JSON, on an empty page, or why there is none.

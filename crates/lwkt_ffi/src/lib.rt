@@ -4,7 +4,9 @@
 //! text and why the call was refused; its *status* is that of the program that does the same.
 #![tactic(auto)]
 
+mod alongs;
 mod answers;
+mod arguments;
 mod checks;
 mod forms;
 mod fronts;

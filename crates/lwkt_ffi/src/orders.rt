@@ -2,20 +2,19 @@
 ghost use Rattle.std.specs.Prelude.{◌≡◌, [], IfOk, IfErr};
 ghost use Rattle.std.specs.Result.{result_err};
 ghost use Rattle.lwkt_explore.specs.Outcomes.{RefusesSearch};
-ghost use Rattle.lwkt_ffi.specs.Texts.{AreFoundWithin, IsSearch, IsSearchOfText, IsSearchOfJson, RefusesTextSearch, RefusesOrders, TellsSearch, AnswersOrders, status_of_orders};
+ghost use Rattle.lwkt_ffi.specs.Texts.{AreFoundWithin, IsSearch, RefusesOrders, TellsSearch, AnswersOrders, status_of_orders};
 
 use crate::answers::{LwktAnswer, status_of_fault};
-use crate::forms::json_told;
 use crate::fronts::{blank, fill, put_both};
-use crate::readings::{put_said, read_onto};
+use crate::readings::input_onto;
 use lwkt_base::Fault;
-use lwkt_expected::{status_of_text, verdicts_of};
-use lwkt_explore::{Bounds, Found, Method, Unwatched, explore, status_of_found, text_of};
-use lwkt_refusals::Speaker;
-use lwkt_remarks::opening_said;
+use lwkt_explore::{
+    Bounds, Found, Method, Unwatched, explore, status_of_text, text_of, verdicts_of,
+};
+use lwkt_refusals::{Speaker, say_opening};
 use lwkt_report::{Page, write_whole};
-use lwkt_text::is_text;
-use std::alloc::{AllocError, Global};
+use lwkt_text::Input;
+use std::alloc::Global;
 
 // What is said where a run wasn't lawful.
 const UNLAWFUL: &str = "lwkt_explore: a run along an order was not lawful\n";
@@ -31,106 +30,62 @@ pub struct Search {
     pub status: u8,
 }
 
-// Why the opening of a text is refused, in a line.
-fn opening_line(alloc: Global, text: &[u8], fault: Fault) -> Result<String, AllocError> {
-    let words = opening_said(alloc, text, fault)?;
-    format!(in alloc; "lwkt_explore: {words}\n")
-}
-
-// Says why nothing was found of a script that could be read, or of one in JSON.
-fn say_why(alloc: Global, script: &[u8], is_json: bool, fault: Fault, page: &mut Page) {
+// Says why nothing was found of a script that was read of these bytes.
+fn say_why(alloc: Global, bytes: &[u8], input: &Input, fault: Fault, page: &mut Page) {
     match fault {
-        Fault::Memory(_) => Speaker::Explore.say_memory(page),
         Fault::Unlawful { .. } => {
             let _ = write_whole(page, UNLAWFUL.as_bytes());
         }
-        fault if is_json => Speaker::Explore.say_refusal(alloc, page, Some(script), fault),
-        fault => put_said(Speaker::Explore, page, opening_line(alloc, script, fault)),
+        fault => say_opening(alloc, page, None, bytes, input, fault),
     }
 }
 
-// Tries every order of a script in JSON; why it is refused is put on a page, in the words for the script that was given.
+// Tries every order of a script that was read of these bytes; why it is refused is put on a page.
 fn explored(
     alloc: Global,
-    given: &[u8],
-    json: &[u8],
-    is_json: bool,
+    bytes: &[u8],
+    input: &Input,
     bounds: Bounds,
     page: &mut Page,
 ) -> Result<Found, Fault>
-    ensures found { IfOk result (λ found. AreFoundWithin json.now bounds.states bounds.turns found) }
-    ensures refused { IfErr result (λ fault. RefusesSearch json.now fault) }
+    ensures found { IfOk result (λ found. AreFoundWithin input.now.script bounds.states bounds.turns found) }
+    ensures refused { IfErr result (λ fault. RefusesSearch input.now.script fault) }
 {
-    match explore(alloc, json, bounds, Method::Reduced, &mut Unwatched) {
+    match explore(
+        alloc,
+        &input.script,
+        bounds,
+        Method::Reduced,
+        &mut Unwatched,
+    ) {
         Ok(found) => Ok(found),
         Err(fault) => {
-            say_why(alloc, given, is_json, fault, page);
+            say_why(alloc, bytes, input, fault, page);
             Err(fault)
         }
     }
 }
 
-// Tries every order of a script in JSON; why it is refused is put on a page.
-fn search_json(
-    alloc: Global,
-    script: &[u8],
-    bounds: Bounds,
-    page: &mut Page,
-) -> Result<Search, Fault>
-    ensures found { IfOk result (λ search. IsSearchOfJson script.now bounds.states bounds.turns search) }
-    ensures refused { IfErr result (λ fault. RefusesSearch script.now fault) }
+// Tries every order of a script in either form, and judges what a text says of the outcomes; why it is refused is put on a page.
+fn search_of(alloc: Global, script: &[u8], bounds: Bounds, page: &mut Page) -> Result<Search, Fault>
+    ensures found { IfOk result (λ search. IsSearch script.now bounds.states bounds.turns search) }
+    ensures refused { IfErr result (λ fault. RefusesOrders script.now fault) }
 {
-    let found = match explored(alloc, script, script, true, bounds, page) {
+    let input = match input_onto(alloc, Speaker::Explore, script, page) {
+        Ok(input) => input,
+        Err(fault) => return Err(fault),
+    };
+    let found = match explored(alloc, script, &input, bounds, page) {
         Ok(found) => found,
         Err(fault) => return Err(fault),
     };
-    let status = status_of_found(&found);
-    Ok(Search {
-        found,
-        verdicts: String::new(alloc),
-        status,
-    })
-}
-
-// Tries every order of a text, and judges what it says of the outcomes; why it is refused is put on a page.
-fn search_text(alloc: Global, text: &[u8], bounds: Bounds, page: &mut Page) -> Result<Search, Fault>
-    ensures found { IfOk result (λ search. IsSearchOfText text.now bounds.states bounds.turns search) }
-    ensures refused { IfErr result (λ fault. RefusesTextSearch text.now fault) }
-{
-    let reading = match read_onto(alloc, Speaker::Explore, text, page) {
-        Ok(reading) => reading,
-        Err(fault) => return Err(fault),
-    };
-    let json = match json_told(alloc, Speaker::Explore, &reading.script, page) {
-        Ok(json) => json,
-        Err(fault) => return Err(fault),
-    };
-    let found = match explored(alloc, text, json.as_bytes(), false, bounds, page) {
-        Ok(found) => found,
-        Err(fault) => return Err(fault),
-    };
-    let status = status_of_text(reading.expectations.as_slice(), &found);
-    match verdicts_of(alloc, text, reading.expectations.as_slice(), &found) {
+    let status = status_of_text(input.expectations.as_slice(), &found);
+    match verdicts_of(alloc, script, input.expectations.as_slice(), &found) {
         Ok(verdicts) => Ok(Search {
             found,
             verdicts,
             status,
         }),
-        Err(refused) => {
-            Speaker::Explore.say_memory(page);
-            Err(Fault::Memory(refused))
-        }
-    }
-}
-
-// Tries every order of a script in either form; why it is refused is put on a page.
-fn search_of(alloc: Global, script: &[u8], bounds: Bounds, page: &mut Page) -> Result<Search, Fault>
-    ensures found { IfOk result (λ search. IsSearch script.now bounds.states bounds.turns search) }
-    ensures refused { IfErr result (λ fault. RefusesOrders script.now fault) }
-{
-    match is_text(alloc, script) {
-        Ok(true) => search_text(alloc, script, bounds, page),
-        Ok(false) => search_json(alloc, script, bounds, page),
         Err(refused) => {
             Speaker::Explore.say_memory(page);
             Err(Fault::Memory(refused))

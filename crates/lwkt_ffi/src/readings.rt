@@ -1,18 +1,19 @@
-//! Texts of the language for scripts, read.
-ghost use Rattle.std.specs.Prelude.{◌≡◌, Ok, IfOk, IfErr};
+//! Scripts in either form, and texts, read.
+ghost use Rattle.std.specs.Prelude.{◌≡◌, None, Ok, IfOk, IfErr};
+ghost use Rattle.lwkt_text.specs.Inputs.{input_of};
 ghost use Rattle.lwkt_text.specs.Reading.{reading_of};
+ghost use Rattle.lwkt_ffi.specs.Answers.{RefusesInput, fault_of};
 ghost use Rattle.lwkt_ffi.specs.Texts.{RefusesReading};
 
 use lwkt_base::Fault;
-use lwkt_refusals::Speaker;
-use lwkt_remarks::wrongs_said;
+use lwkt_refusals::{Speaker, say_unread, wrongs_said};
 use lwkt_report::{Page, write_whole};
-use lwkt_text::{Many, Reading, Refusal, Wrong, read_text};
-use std::alloc::{AllocError, Global};
+use lwkt_text::{Input, Many, Reading, Refusal, Unread, Wrong, read_input, read_text};
+use std::alloc::Global;
 
-/// Puts what was made to be said on a page, or that there was no memory to make it.
-pub fn put_said(speaker: Speaker, page: &mut Page, made: Result<String, AllocError>) {
-    match made {
+// Puts all that is wrong with a text on a page, each as `LINE:COLUMN: WORDS`.
+fn put_wrongs(alloc: Global, speaker: Speaker, text: &[u8], wrongs: Many<Wrong>, page: &mut Page) {
+    match wrongs_said(alloc, None, text, wrongs) {
         Ok(words) => {
             let _ = write_whole(page, words.as_bytes());
         }
@@ -20,9 +21,12 @@ pub fn put_said(speaker: Speaker, page: &mut Page, made: Result<String, AllocErr
     }
 }
 
-// Puts all that is wrong with a text on a page.
-fn put_wrongs(alloc: Global, speaker: Speaker, text: &[u8], wrongs: Many<Wrong>, page: &mut Page) {
-    put_said(speaker, page, wrongs_said(alloc, None, text, wrongs));
+// Puts why input isn't read on a page.
+fn put_unread(alloc: Global, speaker: Speaker, script: &[u8], unread: Unread, page: &mut Page) {
+    match unread {
+        Unread::Wrongs(wrongs) => put_wrongs(alloc, speaker, script, wrongs, page),
+        unread => say_unread(alloc, page, speaker, None, script, &unread),
+    }
 }
 
 /// Reads a text, and puts all that is wrong with it on a page, or that there was no memory.
@@ -46,6 +50,40 @@ pub fn read_onto(
         Err(Refusal::Wrongs(wrongs)) => {
             put_wrongs(alloc, speaker, text, wrongs, page);
             Err(Fault::Script { place: 0 })
+        }
+    }
+}
+
+// The fault of input that isn't read.
+fn fault_of(unread: &Unread) -> Fault
+    ensures { result ≡ fault_of unread.now }
+{
+    match unread {
+        Unread::Memory(refused) => Fault::Memory(*refused),
+        Unread::Json { place } => Fault::Script { place: *place },
+        Unread::Wrongs(_) => Fault::Script { place: 0 },
+    }
+}
+
+/// Reads a script in either form, and puts why it isn't read on a page.
+///
+/// Refused with the place of the first bad part of JSON; as bytes that are no JSON where something is wrong with a text; and with
+/// `Memory`.
+pub fn input_onto(
+    alloc: Global,
+    speaker: Speaker,
+    script: &[u8],
+    page: &mut Page,
+) -> Result<Input, Fault>
+    ensures ok { IfOk result (λ input. input_of None script.now ≡ Ok input) }
+    ensures refused { IfErr result (λ fault. RefusesInput script.now fault) }
+{
+    match read_input(alloc, None, script) {
+        Ok(input) => Ok(input),
+        Err(unread) => {
+            let fault = fault_of(&unread);
+            put_unread(alloc, speaker, script, unread, page);
+            Err(fault)
         }
     }
 }

@@ -1,25 +1,35 @@
-ghost use Rattle.std.specs.Prelude.{◌≡◌, ◌⊎◌, ℕ, List, [], IfOk, IfSome, Ok, Err, None, map, string_bytes};
+ghost use Rattle.std.specs.Prelude.{◌≡◌, ◌⊎◌, ℕ, List, [], IfErr, IfOk, IfSome, IsNone, Ok, Err, None, Some, map, string_bytes};
+ghost use Rattle.std.specs.Option.{option_copied};
 ghost use Rattle.std.specs.Str.{IsUtf8};
-ghost use Rattle.lwkt_show.specs.Arguments.{AreOptions};
-ghost use Rattle.lwkt_show.specs.Orders.{AreAlong};
 ghost use Rattle.lwkt_show.specs.declared.options.Options.{Options};
-ghost use Rattle.lwkt_ffi.specs.Answers.{words_in, AskNothing, AskForNoRun, Displays, DisplaysAlong, AnswersShow, status_of_show};
+ghost use Rattle.lwkt_ffi.specs.Alongs.{AreAlong};
+ghost use Rattle.lwkt_ffi.specs.Answers.{AnswersShow, AskForNoRun, AskNothing, Displays, EndsBeforeIn, RefusesShow, ShowsIn, status_of_show, words_in};
+ghost use Rattle.lwkt_ffi.specs.Arguments.{AreOptions};
 ghost use Rattle.lwkt_base.specs.Fault.{no_memory};
 
+use crate::alongs::along_of;
 use crate::answers::{LwktAnswer, status_of_end, status_of_fault};
-use crate::fronts::{blank, fill, page_refusal};
+use crate::arguments::options_of;
+use crate::fronts::{blank, fill};
+use crate::readings::input_onto;
 use crate::words::words_of;
 use lwkt_base::Fault;
-use lwkt_refusals::Speaker;
-use lwkt_report::{Page, RunFault, write_whole};
+use lwkt_refusals::{Speaker, say_opening};
+use lwkt_report::{Page, write_whole};
 use lwkt_run::End;
-use lwkt_show::{
-    Along, Options, Outcome, along_of, options_of, refuse_arguments, show_along, show_stream,
-};
+use lwkt_show::{Options, Shown, show_script};
+use lwkt_text::Input;
 use std::alloc::{AllocError, Global};
+
+// What is said where the arguments are none of the call's.
+const USAGE: &str =
+    "lwkt_show: turns, and behind it --order ORDER, then --turns A..B or --rounds A..B, and --svg, --trace or --chains\n";
 
 // What is said where the run ended before the range that was chosen.
 const PAST: &str = "lwkt_show: the range lies behind the end of the run\n";
+
+// What is said where the order names a processor that isn't there.
+const ABSENT: &str = "lwkt_show: the order names a processor that the script doesn't have\n";
 
 /// What came of a script that was to be shown.
 #[derive(Clone, Copy, Debug, PartialEq, Eq)]
@@ -47,91 +57,92 @@ fn words_read(alloc: Global, arguments: &[u8]) -> Result<Option<Vec<String>>, Al
     }
 }
 
-// Runs a script and shows the run on an empty page, which takes the text where memory is there; why a script is refused goes to
-// the other page.
-fn picture_onto(
-    alloc: Global,
-    options: &Options,
-    script: &[u8],
-    page: &mut Page,
-    errors: &mut Page,
-) -> Result<Showing, Fault>
-    requires { page.old.text.items ≡ [] }
-    ensures { Displays options.now script.now result page.new.text.items }
-{
-    let mut source = script;
-    match show_stream(alloc, options, &mut source, page, errors) {
-        Ok(Outcome::Shown(end)) => Ok(Showing::Shown(end)),
-        Ok(Outcome::Past) => Ok(Showing::Past),
-        Err(RunFault::Fault(fault)) => Err(fault),
-        Err(RunFault::Stream) => Err(Fault::Memory(page_refusal(page))),
+// Says why a script that was read of these bytes isn't run.
+fn say_why(alloc: Global, bytes: &[u8], input: &Input, fault: Fault, errors: &mut Page) {
+    if fault == Fault::NoPort {
+        let _ = write_whole(errors, ABSENT.as_bytes());
+    } else {
+        say_opening(alloc, errors, None, bytes, input, fault);
     }
 }
 
-// Says why a run isn't shown, behind what is said of it already.
-fn say_why(outcome: &Result<Showing, Fault>, errors: &mut Page) {
-    match *outcome {
-        Ok(Showing::Past) => {
-            let _ = write_whole(errors, PAST.as_bytes());
-            Speaker::Show.say_usage(errors);
+// Runs a script in either form, in rounds or along an order, to the text that shows the run; `None` where it ended before the first
+// turn that was chosen. Why a script or the order is refused is put on a page.
+fn shown_of(
+    alloc: Global,
+    script: &[u8],
+    options: Options,
+    order: Option<&[u8]>,
+    errors: &mut Page,
+) -> Result<Option<Shown>, Fault>
+    ensures shown { IfOk result (λ found. IfSome found (λ shown. ShowsIn options (option_copied order.entry) script.now shown.end (string_bytes shown.text))) }
+    ensures none { IfOk result (λ found. IsNone found → EndsBeforeIn options (option_copied order.entry) script.now) }
+    ensures refused { IfErr result (λ fault. RefusesShow script.now (option_copied order.entry) fault) }
+{
+    let input = match input_onto(alloc, Speaker::Show, script, errors) {
+        Ok(input) => input,
+        Err(fault) => return Err(fault),
+    };
+    match show_script(alloc, &input.script, options, order) {
+        Ok(found) => Ok(found),
+        Err(fault) => {
+            say_why(alloc, script, &input, fault, errors);
+            Err(fault)
         }
-        Err(Fault::Memory(_)) => Speaker::Show.say_memory(errors),
-        _ => {}
     }
 }
 
-// Runs a script and shows the run on an empty page, or says there why it isn't shown.
-fn show_options(
-    alloc: Global,
-    options: &Options,
-    script: &[u8],
-    page: &mut Page,
-) -> Result<Showing, Fault>
-    requires { page.old.text.items ≡ [] }
-    ensures { Displays options.now script.now result page.new.text.items }
-{
-    let mut errors = blank(alloc);
-    let outcome = picture_onto(alloc, options, script, page, &mut errors);
-    if let Ok(Showing::Shown(end)) = outcome {
-        return Ok(Showing::Shown(end));
-    }
-    say_why(&outcome, &mut errors);
-    *page = errors;
-    outcome
+// Says that the run ended before the first turn that was chosen.
+fn say_past(errors: &mut Page) {
+    let _ = write_whole(errors, PAST.as_bytes());
+    Speaker::Show.say_usage(errors);
 }
 
-// Runs a script along an order and shows the run on an empty page, which takes the text where memory is there; why a script or the
-// order is refused goes to the other page.
-fn along_onto(
+// Shows the run of a script on an empty page; why it isn't shown goes to the other page.
+fn shown_onto(
     alloc: Global,
-    along: Along,
     script: &[u8],
+    options: Options,
+    order: Option<&[u8]>,
     page: &mut Page,
     errors: &mut Page,
 ) -> Result<Showing, Fault>
     requires { page.old.text.items ≡ [] }
-    ensures { DisplaysAlong along.order.items along.options script.now result page.new.text.items }
+    ensures { Displays options (option_copied order.entry) script.now result page.new.text.items }
 {
-    let mut source = script;
-    match show_along(alloc, along, &mut source, page, errors) {
-        Ok(Outcome::Shown(end)) => Ok(Showing::Shown(end)),
-        Ok(Outcome::Past) => Ok(Showing::Past),
-        Err(RunFault::Fault(fault)) => Err(fault),
-        Err(RunFault::Stream) => Err(Fault::Memory(page_refusal(page))),
+    let Shown { text, end } = match shown_of(alloc, script, options, order, errors) {
+        Ok(Some(shown)) => shown,
+        Ok(None) => {
+            say_past(errors);
+            return Ok(Showing::Past);
+        }
+        Err(fault) => return Err(fault),
+    };
+    match page.text.extend_from_slice(text.as_bytes()) {
+        Ok(()) => Ok(Showing::Shown(end)),
+        Err(refused) => {
+            Speaker::Show.say_memory(errors);
+            Err(Fault::Memory(refused))
+        }
     }
 }
 
-// Runs a script along an order and shows the run on an empty page, or says there why it isn't shown.
-fn show_order(alloc: Global, along: Along, script: &[u8], page: &mut Page) -> Result<Showing, Fault>
+// Shows the run of a script on an empty page, or says there why it isn't shown.
+fn show_asked(
+    alloc: Global,
+    script: &[u8],
+    options: Options,
+    order: Option<&[u8]>,
+    page: &mut Page,
+) -> Result<Showing, Fault>
     requires { page.old.text.items ≡ [] }
-    ensures { DisplaysAlong along.order.items along.options script.now result page.new.text.items }
+    ensures { Displays options (option_copied order.entry) script.now result page.new.text.items }
 {
     let mut errors = blank(alloc);
-    let outcome = along_onto(alloc, along, script, page, &mut errors);
+    let outcome = shown_onto(alloc, script, options, order, page, &mut errors);
     if let Ok(Showing::Shown(end)) = outcome {
         return Ok(Showing::Shown(end));
     }
-    say_why(&outcome, &mut errors);
     *page = errors;
     outcome
 }
@@ -140,7 +151,8 @@ fn show_order(alloc: Global, along: Along, script: &[u8], page: &mut Page) -> Re
 fn refused(page: &mut Page) -> Result<Showing, Fault>
     ensures { result ≡ Ok Showing.Misused }
 {
-    let _ = refuse_arguments(page, false);
+    let _ = write_whole(page, USAGE.as_bytes());
+    Speaker::Show.say_usage(page);
     Ok(Showing::Misused)
 }
 
@@ -160,15 +172,23 @@ fn show_words(
     page: &mut Page,
 ) -> Result<Showing, Fault>
     requires { page.old.text.items ≡ [] }
-    ensures shows { (options : Options) → AreOptions (map string_bytes words.now) options → Displays options script.now result page.new.text.items }
-    ensures along { (options : Options) (order : List ℕ) → AreAlong (map string_bytes words.now) options order → DisplaysAlong order options script.now result page.new.text.items }
+    ensures shows { (options : Options) → AreOptions (map string_bytes words.now) options → Displays options None script.now result page.new.text.items }
+    ensures along { (options : Options) (order : List ℕ) → AreAlong (map string_bytes words.now) options order → Displays options (Some order) script.now result page.new.text.items }
     ensures misused { AskNothing (map string_bytes words.now) → (result ≡ Ok Showing.Misused) ⊎ (result ≡ Err no_memory) }
 {
     if let Some(options) = options_of(words) {
-        return show_options(alloc, &options, script, page);
+        return show_asked(alloc, script, options, None, page);
     }
     match along_of(alloc, words) {
-        Ok(Some(along)) => show_order(alloc, along, script, page),
+        Ok(Some(along)) => {
+            show_asked(
+                alloc,
+                script,
+                along.options,
+                Some(along.order.as_slice()),
+                page,
+            )
+        }
         Ok(None) => refused(page),
         Err(refused) => unread(page, refused),
     }
@@ -182,8 +202,8 @@ fn show_onto(
     page: &mut Page,
 ) -> Result<Showing, Fault>
     requires { page.old.text.items ≡ [] }
-    ensures shows { IsUtf8 arguments.now → (options : Options) → AreOptions (words_in arguments.now) options → Displays options script.now result page.new.text.items }
-    ensures along { IsUtf8 arguments.now → (options : Options) (order : List ℕ) → AreAlong (words_in arguments.now) options order → DisplaysAlong order options script.now result page.new.text.items }
+    ensures shows { IsUtf8 arguments.now → (options : Options) → AreOptions (words_in arguments.now) options → Displays options None script.now result page.new.text.items }
+    ensures along { IsUtf8 arguments.now → (options : Options) (order : List ℕ) → AreAlong (words_in arguments.now) options order → Displays options (Some order) script.now result page.new.text.items }
     ensures misused { AskForNoRun arguments.now → (result ≡ Ok Showing.Misused) ⊎ (result ≡ Err no_memory) }
 {
     match words_read(alloc, arguments) {
@@ -204,7 +224,7 @@ fn status_of(outcome: &Result<Showing, Fault>) -> u32
     }
 }
 
-/// Runs a script on this thread, in rounds or along an order, and shows the run as `show_stream` or `show_along` of lwkt_show does with
+/// Runs a script in either form on this thread, in rounds or along an order, and shows the run as `show_script` of lwkt_show does with
 /// what the arguments are, and puts the text into the buffer, or in words why there is none. The arguments are words with one blank
 /// between each two, as `turns --svg` or `turns --order 0110 --svg`.
 ///

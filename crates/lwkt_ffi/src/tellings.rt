@@ -4,29 +4,14 @@ ghost use Rattle.lwkt_ffi.specs.Texts.{HasTextReport, RefusesTextRun, TellsTextR
 
 use crate::answers::{LwktAnswer, status_of_fault};
 use crate::fronts::{blank, fill, put_both};
-use crate::readings::{put_said, read_onto};
+use crate::readings::read_onto;
 use lwkt_base::Fault;
-use lwkt_litmus::Judgement;
-use lwkt_refusals::Speaker;
-use lwkt_remarks::{Account, account_of, opening_said};
+use lwkt_explore::{Account, Judgement, account_of};
+use lwkt_refusals::{Speaker, say_opening};
 use lwkt_report::Page;
 use lwkt_run::close_turns;
-use lwkt_text::Reading;
-use std::alloc::{AllocError, Global};
-
-// Why the opening of a text is refused, in a line.
-fn opening_line(alloc: Global, text: &[u8], fault: Fault) -> Result<String, AllocError> {
-    let words = opening_said(alloc, text, fault)?;
-    format!(in alloc; "lwkt_run: {words}\n")
-}
-
-// Says why the run of a text is refused, whose opening has this fault.
-fn say_opening(alloc: Global, text: &[u8], fault: Fault, page: &mut Page) {
-    if matches!(fault, Fault::Memory(_)) {
-        return Speaker::Run.say_memory(page);
-    }
-    put_said(Speaker::Run, page, opening_line(alloc, text, fault));
-}
+use lwkt_text::{Input, Reading};
+use std::alloc::Global;
 
 // Runs a text, to all that is told of its run; why it is refused is put on a page.
 fn account_onto(alloc: Global, text: &[u8], page: &mut Page) -> Result<Account, Fault>
@@ -35,16 +20,22 @@ fn account_onto(alloc: Global, text: &[u8], page: &mut Page) -> Result<Account, 
 {
     let Reading {
         script,
-        names: _,
+        names,
         expectations,
     } = match read_onto(alloc, Speaker::Run, text, page) {
         Ok(reading) => reading,
         Err(fault) => return Err(fault),
     };
-    let closing = match close_turns(alloc, script) {
+    let closing = match close_turns(alloc, &script) {
         Ok(closing) => closing,
         Err(fault) => {
-            say_opening(alloc, text, fault, page);
+            let names = Some(names);
+            let input = Input {
+                script,
+                names,
+                expectations,
+            };
+            say_opening(alloc, page, None, text, &input, fault);
             return Err(fault);
         }
     };

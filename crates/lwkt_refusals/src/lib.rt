@@ -1,20 +1,39 @@
-//! Why a script or a trace is refused, in words: what is bad of it, and at which line and column.
+//! Says in words why a script, a trace or a text is rejected: what is wrong, and at which line and column.
+//!
+//! Callers get the words as a text, or as a message on a sink that begins with the program's name. What is rejected, and at which
+//! place, is decided by the crates that read.
+//!
+//! Words: a *text* is a script in the language for scripts; a *wrong* is what is wrong at one place of a text; a *proposal* is the
+//! known word that an unknown one is most like; a *breach* is how the cells of a token break its law.
 #![tactic(auto)]
 
-mod hints;
+mod breaches;
+mod items;
+mod marks;
 mod members;
-mod openings;
+mod messages;
 mod pages;
 mod parts;
+mod places;
+mod proposals;
 mod records;
 mod refusals;
 mod rows;
 mod sayings;
 mod scripts;
-mod texts;
+mod sentence_forms;
+mod sentences;
+mod spans;
+mod trace_forms;
 mod traces;
+mod unread;
 mod words;
+mod wrongs;
 
-pub use pages::{Page, show_breach, show_opening_breach};
+pub use breaches::{opening_said, show_breach};
+pub use pages::Page;
+pub use places::{Place, add_head, place_from};
 pub use refusals::{Document, line_refusal, refusal};
 pub use sayings::{Speaker, has_no_reader};
+pub use unread::{say_opening, say_unread};
+pub use wrongs::wrongs_said;

@@ -59,11 +59,25 @@ fn show_lacking(out: &mut Words, part: Part<'_>, names: &[&'static str]) -> bool
     }
     for name in names {
         if part.member(*name).is_none() {
-            show_missing(out, *name);
+            show_lack(out, part, names, *name);
             return true;
         }
     }
     false
+}
+
+// Appends that a part lacks one of these members, and points at another one in its place, if that is most like it.
+fn show_lack(out: &mut Words, part: Part<'_>, names: &[&'static str], name: &'static str) {
+    if let Some(stranger) = part.stranger(names) {
+        out.propose(stranger, name);
+        if out.near().is_some() {
+            out.point(stranger);
+            out.add("it has a member ");
+            out.part(stranger);
+            out.add(", and ");
+        }
+    }
+    show_missing(out, name);
 }
 
 // Appends that a part has this member, and has to have exactly these.

@@ -1,10 +1,10 @@
+//! A text that is made piece by piece.
 ghost use Rattle.std.specs.Prelude.{◌≡◌, ◌<◌, ◌++◌, [], ◌∷◌, None, IfOk, string_bytes};
 ghost use Rattle.std.specs.Fmt.{decimal};
 ghost use Rattle.lwkt_base.specs.Fault.{fault_message};
 ghost use Rattle.lwkt_refusals.specs.Pages.{GrowsBy};
 
-use lwkt_base::blobs::length_of;
-use lwkt_base::{Fault, Law, TokSpec};
+use lwkt_base::Fault;
 use std::alloc::{AllocError, Global};
 
 /// A text that is made piece by piece. Once memory is refused for a piece, the text is lost: it takes no more, and only
@@ -148,34 +148,5 @@ impl Page {
             Some(refused) => Err(refused),
             None => Ok(self.text),
         }
-    }
-}
-
-/// Appends how cells break a law: `cells 9 5 do not add up to 10`.
-pub fn show_breach(out: &mut Page, law: Law, param: u64, cells: &[u64]) {
-    out.add("cells");
-    out.numbers(cells);
-    match law {
-        Law::Any => out.add(" obey every law"),
-        Law::Sum => out.number(" do not add up to ", param),
-        Law::Order => out.add(" are not in rising order"),
-        Law::Cap => out.number(" are not all at most ", param),
-        Law::Tally => out.number(" are not the one cell ", param),
-        Law::Len => out.add(" do not begin with the length of the record"),
-    }
-}
-
-// Appends how long a record is.
-fn show_length(out: &mut Page, length: u64) {
-    out.number(", which has ", length);
-    out.add(if length == 1 { " byte" } else { " bytes" });
-}
-
-/// Appends how the opening of a token breaks its law, with the length of its record where the law asks for it:
-/// `cells 3 do not begin with the length of the record, which has 2 bytes`.
-pub fn show_opening_breach(out: &mut Page, spec: &TokSpec) {
-    show_breach(out, spec.law, spec.param, spec.cells.as_slice());
-    if let (Law::Len, Some(length)) = (spec.law, length_of(&spec.blob)) {
-        show_length(out, length);
     }
 }

@@ -1,4 +1,5 @@
-use crate::texts::{Span, byte_at, is_string_of, past_mark, past_space, span_from};
+//! A part of a JSON text, by where it stands there.
+use crate::spans::{Span, byte_at, is_string_of, past_mark, past_space, span_from};
 use std::str;
 
 /// A part of a JSON text, by where it stands there.
@@ -38,8 +39,13 @@ impl<'a> Part<'a> {
         }
     }
 
-    // Its first byte.
-    fn first(&self) -> u8 {
+    /// It as it was written, without the quotes of a string.
+    pub(crate) fn unquoted(&self) -> &'a str {
+        self.written().trim_matches('"')
+    }
+
+    /// Its first byte, or 0 where there is none.
+    pub(crate) fn first(&self) -> u8 {
         byte_at(self.text, self.span.from)
     }
 

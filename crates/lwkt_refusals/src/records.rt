@@ -12,7 +12,7 @@ pub(crate) fn is_record(part: Part<'_>, most: usize) -> bool {
     if !part.is_string() {
         return false;
     }
-    let digits = part.written().trim_matches('"').as_bytes();
+    let digits = part.unquoted().as_bytes();
     digits.len() / 2 <= most && digits.len() % 2 == 0 && digits.iter().all(|c| is_digit(*c))
 }
 

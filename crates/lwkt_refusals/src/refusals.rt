@@ -1,15 +1,17 @@
-use crate::hints::begins_text;
-use crate::pages::{Page, show_opening_breach};
+//! Why a script in JSON or a trace is refused, in words.
+use crate::breaches::breach_in;
+use crate::pages::Page;
 use crate::parts::Part;
+use crate::places::{Place, offset_of, place_from};
 use crate::scripts::{is_second, show_script_place};
-use crate::texts::{byte_at, line_of, place_of};
+use crate::spans::{byte_at, past_space};
+use crate::trace_forms::begins_text;
 use crate::traces::{show_line_place, show_trace_place};
 use crate::words::Words;
-use lwkt_base::blobs::length_of;
 use lwkt_base::{Fault, TokSpec};
-use lwkt_script::Version;
 use lwkt_script::fields::has;
 use lwkt_script::tokens::token;
+use lwkt_script::{Version, refusal_of};
 use serde_json::Value;
 use std::alloc::{AllocError, Global};
 
@@ -31,8 +33,8 @@ impl Document {
         }
     }
 
-    // The most bytes that it may have.
-    fn limit(self) -> usize {
+    /// The most bytes that it may have.
+    pub(crate) fn limit(self) -> usize {
         match self {
             Document::Script => 1_048_576,
             Document::Trace => 268_435_456,
@@ -49,10 +51,9 @@ impl Document {
 }
 
 // Appends a line and a column.
-fn show_line(out: &mut Page, bytes: &[u8], place: usize) {
-    let (line, column) = line_of(bytes, place);
-    out.size("line ", line);
-    out.size(", column ", column);
+fn show_place(out: &mut Page, place: Place) {
+    out.size("line ", place.line);
+    out.size(", column ", place.column());
     out.add(": ");
 }
 
@@ -66,52 +67,70 @@ fn is_comment(bytes: &[u8], place: usize) -> bool {
     byte_at(bytes, place) == b'/' && matches!(byte_at(bytes, place.saturating_add(1)), b'/' | b'*')
 }
 
+// What the reader says of bytes that are no JSON text, without the place that it names.
+fn front_of(text: &str) -> &str {
+    match text.split_once(" at line ") {
+        Some((why, _)) => why,
+        None => text,
+    }
+}
+
 // Appends what the reader says of bytes that are no JSON text.
-fn show_error(alloc: Global, out: &mut Page, bytes: &[u8], error: &serde_json::Error) {
-    let place = place_of(bytes, error.line(), error.column());
-    if is_comment(bytes, place) {
-        show_line(out, bytes, place);
-        return out.add("JSON has no comments");
+fn show_error(alloc: Global, out: &mut Page, error: &serde_json::Error) {
+    if let Some(refused) = refusal_of(error) {
+        return out.lose(refused);
     }
     out.add("it is no JSON text: ");
     match error.to_string(alloc) {
-        Ok(text) => out.add(text.as_str()),
+        Ok(text) => out.add(front_of(text.as_str())),
         Err(refused) => out.lose(refused),
     }
 }
 
+// Appends why bytes are no JSON text, by what the reader says of them.
+fn show_no_json(alloc: Global, out: &mut Words, bytes: &[u8], error: &serde_json::Error) {
+    out.place = offset_of(bytes, error.line(), error.column());
+    if is_comment(bytes, out.place) {
+        out.add("JSON has no comments");
+    } else {
+        show_error(alloc, &mut out.page, error);
+    }
+}
+
 // Appends why bytes are no JSON text, or none of a length that is read.
-fn show_text(alloc: Global, out: &mut Page, document: Document, bytes: &[u8]) {
+fn show_text(alloc: Global, out: &mut Words, document: Document, bytes: &[u8]) {
     if bytes.len() > document.limit() {
+        out.place = document.limit();
         out.add(document.name());
         return out.size(" has more bytes than ", document.limit());
     }
-    if bytes.is_empty() {
+    if past_space(bytes, 0) == bytes.len() {
         out.add(document.name());
         return out.add(" is empty");
     }
     if has_mark(bytes) {
-        return out.add(
-            "line 1, column 1: the text begins with a byte order mark, which no script and no trace has",
-        );
+        return out.add("the text begins with a byte order mark, which no script and no trace has");
     }
     match Value::from_slice(alloc, bytes) {
         Ok(_) => out.add("it is no JSON text"),
-        Err(error) => show_error(alloc, out, bytes, &error),
+        Err(error) => show_no_json(alloc, out, bytes, &error),
     }
 }
 
 // Appends words, behind the line and the column of the part that they are about.
 fn show_words(out: &mut Page, bytes: &[u8], words: &Words) {
-    show_line(out, bytes, words.place);
+    show_place(out, place_from(bytes, Place::FIRST, words.place));
     out.add_page(&words.page);
 }
 
-// Appends why the part at a place is refused.
-fn show_part(alloc: Global, out: &mut Page, document: Document, bytes: &[u8], place: u32) {
+/// What is bad at a place.
+pub(crate) fn part_words(alloc: Global, document: Document, bytes: &[u8], place: u32) -> Words {
     let mut words = Words::new(alloc);
-    document.show_place(&mut words, Part::whole(bytes), place);
-    show_words(out, bytes, &words);
+    match place {
+        0 => show_text(alloc, &mut words, document, bytes),
+        _ => document.show_place(&mut words, Part::whole(bytes), place),
+    }
+    words
 }
 
 // The version of scripts that all tokens of a script are written in; a trace has none.
@@ -150,32 +169,11 @@ fn tokens_in(
     Some(tokens)
 }
 
-// Appends the first token whose opening breaks its law, if there is one.
-fn show_opening(alloc: Global, out: &mut Words, document: Document, whole: Part<'_>) -> Option<()> {
-    let list = whole.member("tokens")?;
-    let tokens = tokens_in(alloc, document, whole, list)?;
-    for (number, spec) in tokens.iter().enumerate() {
-        if !spec
-            .law
-            .holds(spec.cells.as_slice(), spec.param, length_of(&spec.blob))
-        {
-            out.point(list.item(number)?);
-            out.size("the opening of token ", number);
-            out.add(": ");
-            show_opening_breach(&mut out.page, spec);
-            return Some(());
-        }
-    }
-    None
-}
-
-// Appends why the opening is refused.
-fn show_opening_fault(alloc: Global, out: &mut Page, document: Document, bytes: &[u8]) {
-    let mut words = Words::new(alloc);
-    match show_opening(alloc, &mut words, document, Part::whole(bytes)) {
-        Some(()) => show_words(out, bytes, &words),
-        None => out.fault("", Fault::LawBroken),
-    }
+// What is bad of the first token whose opening breaks its law, if there is one.
+fn opening_words(alloc: Global, document: Document, bytes: &[u8]) -> Option<Words> {
+    let whole = Part::whole(bytes);
+    let tokens = tokens_in(alloc, document, whole, whole.member("tokens")?)?;
+    breach_in(alloc, bytes, tokens.as_slice(), None)
 }
 
 /// Why these bytes are refused with this fault, in words and without a line end: what is bad, and the line and the column
@@ -189,11 +187,14 @@ pub fn refusal(
     fault: Fault,
 ) -> Result<String, AllocError> {
     let mut out = Page::new(alloc);
-    match fault {
-        Fault::Script { place: 0 } => show_text(alloc, &mut out, document, bytes),
-        Fault::Script { place } => show_part(alloc, &mut out, document, bytes, place),
-        Fault::LawBroken => show_opening_fault(alloc, &mut out, document, bytes),
-        _ => out.fault("", fault),
+    let words = match fault {
+        Fault::Script { place } => Some(part_words(alloc, document, bytes, place)),
+        Fault::LawBroken => opening_words(alloc, document, bytes),
+        _ => None,
+    };
+    match words {
+        Some(words) => show_words(&mut out, bytes, &words),
+        None => out.fault("", fault),
     }
     out.whole()
 }
@@ -201,11 +202,16 @@ pub fn refusal(
 // The most bytes of a line.
 const LINE_LIMIT: usize = 1_048_576;
 
-// Appends the number of a line, and the column of a place in it.
-fn show_column(out: &mut Page, number: usize, place: usize) {
-    out.size("line ", number);
-    out.size(", column ", place.saturating_add(1));
-    out.add(": ");
+// Appends the number of a line, and the column of the byte of it that so many others stand before.
+fn show_column(out: &mut Page, number: usize, before: usize) {
+    show_place(
+        out,
+        Place {
+            line: number,
+            before,
+            start: 0,
+        },
+    );
 }
 
 // Appends which event a line is, behind the first.
@@ -213,22 +219,6 @@ fn show_index(out: &mut Page, number: usize) {
     if number > 1 {
         out.size("event ", number.saturating_sub(2));
         out.add(": ");
-    }
-}
-
-// Appends what stands before the place that the reader names.
-fn show_front(out: &mut Page, text: &str) {
-    if let Some((why, _)) = text.split_once(" at line ") {
-        out.add(why);
-    }
-}
-
-// Appends why a line is no JSON text, without the place that the reader names.
-fn show_line_error(alloc: Global, out: &mut Page, error: &serde_json::Error) {
-    out.add("it is no JSON text: ");
-    match error.to_string(alloc) {
-        Ok(text) => show_front(out, text.as_str()),
-        Err(refused) => out.lose(refused),
     }
 }
 
@@ -257,7 +247,7 @@ fn show_no_value(alloc: Global, out: &mut Page, number: usize, line: &[u8]) -> b
     };
     show_column(out, number, error.column().saturating_sub(1));
     show_index(out, number);
-    show_line_error(alloc, out, &error);
+    show_error(alloc, out, &error);
     if begins_text(number, line, &error) {
         out.add("; a trace of one text is read without the word lines");
     }

@@ -68,8 +68,17 @@ impl Kind {
     // Whether a word is none of this kind, though it is one of the other version's.
     fn lacks(self, word: Part<'_>) -> bool {
         match self {
-            Kind::Step => word.is_text("rrec") || word.is_text("wrec"),
+            Kind::Step => LATER.iter().any(|later| word.is_text(later)),
             _ => false,
+        }
+    }
+
+    // Notes the word of this kind that a word is most like.
+    fn propose(self, out: &mut Words, word: Part<'_>) {
+        for form in self.forms() {
+            if !matches!(self, Kind::Step) || !LATER.contains(&form.0) {
+                out.propose(word, form.0);
+            }
         }
     }
 
@@ -85,7 +94,10 @@ impl Kind {
 // A word, and what may stand behind it.
 type Form = (&'static str, &'static [Want]);
 
-// Those of version 2, the last two of them in it alone.
+// The words that steps have in version 2 alone.
+const LATER: [&str; 2] = ["rrec", "wrec"];
+
+// Those of version 2.
 const STEPS: [Form; 20] = [
     ("get", &[SMALL]),
     ("gets", &[SMALL]),
@@ -265,6 +277,7 @@ fn show_behind(out: &mut Words, list: Part<'_>, kind: Kind) {
         out.add(" has a word that no ");
         out.add(kind.name());
         out.add(" has");
+        kind.propose(out, word);
     }
 }
 

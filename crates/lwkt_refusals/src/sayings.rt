@@ -2,9 +2,10 @@
 ghost use Rattle.std.specs.Prelude.{◌↔◌, IsTrue};
 ghost use Rattle.lwkt_refusals.specs.Sayings.{SaysMore, HasNoReader};
 
-use crate::hints::is_in_lines;
+use crate::messages::add_number;
 use crate::pages::Page;
 use crate::refusals::{Document, line_refusal, refusal};
+use crate::trace_forms::is_in_lines;
 use lwkt_base::Fault;
 use lwkt_report::{Sink, write_whole};
 use std::alloc::{AllocError, Global};
@@ -39,6 +40,15 @@ usage: lwkt_show turns [--turns A..B | --rounds A..B] [--svg] [FILE]
 example: ./lwkt_show turns examples/crossed_lists.json
 ";
 
+const TEXT_USAGE: &str = "\
+usage: lwkt_text FILE --run    run a script in rounds, write its report, and say which of its
+                               expectations hold
+       lwkt_text FILE --json   write the script as JSON
+       lwkt_text FILE --text   write it as text
+       lwkt_text --help        say more
+example: ./lwkt_text examples/litmus/14_a_sum.lwkt --run
+";
+
 const EXPLORE_USAGE: &str = "\
 usage: lwkt_explore [--states N] [--turns N] [FILE]
                       try every order of a script's turns, and write each
@@ -61,12 +71,14 @@ pub enum Speaker {
     Check,
     /// `lwkt_show`.
     Show,
+    /// `lwkt_text`.
+    Text,
     /// `lwkt_explore`.
     Explore,
 }
 
-// Writes a text. What can't be written is let go.
-fn put<E: Sink>(errors: &mut E, text: &str)
+/// Writes a text. What can't be written is let go.
+pub(crate) fn put<E: Sink>(errors: &mut E, text: &str)
     ensures { SaysMore (E.has_failed errors.old) (E.has_failed errors.new) (E.contents errors.old) (E.contents errors.new) }
 {
     let _ = write_whole(errors, text.as_bytes());
@@ -79,6 +91,7 @@ impl Speaker {
             Speaker::Run => "lwkt_run: ",
             Speaker::Check => "lwkt_check: ",
             Speaker::Show => "lwkt_show: ",
+            Speaker::Text => "lwkt_text: ",
             Speaker::Explore => "lwkt_explore: ",
         }
     }
@@ -89,23 +102,35 @@ impl Speaker {
             Speaker::Run => RUN_USAGE,
             Speaker::Check => CHECK_USAGE,
             Speaker::Show => SHOW_USAGE,
+            Speaker::Text => TEXT_USAGE,
             Speaker::Explore => EXPLORE_USAGE,
+        }
+    }
+
+    // The command that reads its script from standard input, where this is no text by its name.
+    pub(crate) fn piped(self) -> &'static str {
+        match self {
+            Speaker::Run => "lwkt run <",
+            Speaker::Check => "lwkt check <",
+            Speaker::Show => "lwkt show <",
+            Speaker::Text => "lwkt text --text <",
+            Speaker::Explore => "lwkt explore <",
         }
     }
 
     // What it reads.
     fn document(self) -> Document {
         match self {
-            Speaker::Run | Speaker::Show | Speaker::Explore => Document::Script,
             Speaker::Check => Document::Trace,
+            _ => Document::Script,
         }
     }
 
     // What is said of a read that failed.
     fn read_failure(self) -> &'static str {
         match self {
-            Speaker::Run | Speaker::Show | Speaker::Explore => "the script could not be read",
             Speaker::Check => "the trace could not be read",
+            _ => "the script could not be read",
         }
     }
 
@@ -115,6 +140,7 @@ impl Speaker {
             Speaker::Run => "the report could not be written",
             Speaker::Check => "what was found could not be written",
             Speaker::Show => "the run could not be shown",
+            Speaker::Text => "the output could not be written",
             Speaker::Explore => "what was found could not be written",
         }
     }
@@ -131,8 +157,9 @@ impl Speaker {
     // Why these bytes are refused with this fault, behind its number where the program has no other line.
     fn words(self, alloc: Global, bytes: &[u8], fault: Fault) -> Result<String, AllocError> {
         let mut out = Page::new(alloc);
-        if self == Speaker::Show || self == Speaker::Explore {
-            show_number(&mut out, fault);
+        if matches!(self, Speaker::Show | Speaker::Text | Speaker::Explore) {
+            add_number(&mut out, fault);
+            out.add(": ");
         }
         out.add(refusal(alloc, self.document(), bytes, fault)?.as_str());
         if self == Speaker::Check
@@ -200,7 +227,7 @@ impl Speaker {
         ensures { SaysMore (E.has_failed errors.old) (E.has_failed errors.new) (E.contents errors.old) (E.contents errors.new) }
     {
         match self {
-            Speaker::Run | Speaker::Check => self.say(errors, "out of memory"),
+            Speaker::Run | Speaker::Check | Speaker::Text => self.say(errors, "out of memory"),
             Speaker::Show | Speaker::Explore => self.say(errors, "fault 32: out of memory"),
         }
     }
@@ -253,15 +280,6 @@ impl Speaker {
             self.say_failure(alloc, errors, self.write_failure(), error);
         }
     }
-}
-
-// Appends a fault by its number, and its place where it has one.
-fn show_number(out: &mut Page, fault: Fault) {
-    out.number("fault ", u64::from(fault.number()));
-    if let Fault::Script { place } = fault {
-        out.number(" at ", u64::from(place));
-    }
-    out.add(": ");
 }
 
 /// Whether a write failed since nobody reads any more what is written.

@@ -1,6 +1,6 @@
 //! What is bad at a place of a script.
+use crate::items::{Guarding, cpus_of, item_of, show_item, show_message_at, show_token_at};
 use crate::members::{range, show_list, show_member, show_members};
-use crate::openings::{Guarding, cpus_of, item_of, show_item, show_message_at, show_token_at};
 use crate::parts::Part;
 use crate::rows::{Kind, show_row};
 use crate::words::Words;

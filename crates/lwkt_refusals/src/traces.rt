@@ -1,8 +1,8 @@
 //! What is bad at a place of a trace.
+use crate::items::{Guarding, show_message_at, show_token_at};
 use crate::members::{
     range, show_list, show_member, show_members, show_members_beside, show_numbers,
 };
-use crate::openings::{Guarding, show_message_at, show_token_at};
 use crate::parts::Part;
 use crate::records::show_no_record;
 use crate::rows::{Kind, show_row};

@@ -1,15 +1,19 @@
+//! What is said of a bad part of JSON.
 use crate::pages::Page;
 use crate::parts::Part;
+use crate::proposals::{Near, nearer};
 use std::alloc::Global;
 
 // The longest part that is shown whole, in bytes.
 const PART_LIMIT: usize = 200;
 
-/// What is said of a bad part, and the place of the text at which the part begins.
+/// What is said of a bad part, the place of the text at which the part begins, and the known word that it is most like.
 #[derive(Drop)]
 pub(crate) struct Words {
     pub(crate) page: Page,
     pub(crate) place: usize,
+    near: Option<Near<'static>>,
+    alloc: Global,
 }
 
 impl Words {
@@ -18,12 +22,27 @@ impl Words {
         Words {
             page: Page::new(alloc),
             place: 0,
+            near: None,
+            alloc,
         }
     }
 
     /// Notes that this is the bad part.
     pub(crate) fn point(&mut self, part: Part<'_>) {
         self.place = part.from();
+    }
+
+    /// Notes a known word, if the part is more like it than like those that were noted before.
+    pub(crate) fn propose(&mut self, part: Part<'_>, word: &'static str) {
+        match nearer(self.alloc, part.unquoted(), self.near, word) {
+            Ok(near) => self.near = near,
+            Err(refused) => self.page.lose(refused),
+        }
+    }
+
+    /// The known word that the part is most like, if it is like one.
+    pub(crate) fn near(&self) -> Option<&'static str> {
+        self.near.map(|near| near.name)
     }
 
     /// Appends a text.

@@ -13,6 +13,7 @@ pub mod KeepMoves
 pub mod LineMoves
 pub mod OrderMoves
 pub mod PollMoves
+pub mod ReadMoves
 pub mod RoundMoves
 pub mod RunLemmas
 pub mod SectionMoves

@@ -2,16 +2,15 @@ use Rattle.std.proofs.Common.{inl, inr, ◌≡◌, ◌⊎◌, ℕ, List, [], tak
 use Rattle.std.specs.Prelude.{string_bytes, IfOk, IfErr}
 use Rattle.std.specs.Io.KnownBytes.{Keeps}
 use Rattle.lwkt_base.specs.declared.faults.Fault.{Fault as Refusal}
-use Rattle.lwkt_base.specs.declared.faults.Fault.TheVariants.{NoPort, Memory, Limits, LawBroken}
 use Rattle.lwkt_base.specs.Fault.{no_memory}
+use Rattle.lwkt_report.specs.declared.closings.Closing.{Closing}
 use Rattle.lwkt_report.specs.declared.streams.RunFault.{RunFault}
 use Rattle.lwkt_report.specs.declared.streams.RunFault.TheVariants.{Fault, Stream}
 use Rattle.lwkt_report.specs.declared.sources.TheConstants.{READ_LIMIT}
-use Rattle.lwkt_script.specs.declared.scripts.Script.{Script}
-use Rattle.lwkt_script.specs.Format.{script_of}
+use Rattle.lwkt_report.specs.Report.{report_text}
 use Rattle.lwkt_run.specs.declared.reports.Done.{Done}
 use Rattle.lwkt_run.specs.declared.runs.End.{End}
-use Rattle.lwkt_run.specs.Run.{AreBytesRead, DeclinesAlong, Refuses, RefusesAlong, TellsBy, Concludes}
+use Rattle.lwkt_run.specs.Run.{AreBytesRead, Refuses, TellsBy, Concludes, end_told}
 
 -- what was written stays what it is
 keeps_itself : (o : Option (List ℕ)) → Keeps o o
@@ -44,10 +43,8 @@ tells_concluded Run left old new bytes read (Err refusal) (Err Stream) same are 
 tells_concluded Run left old new bytes read (Err refusal) (Err (Fault fault)) same are run refused keeps =
     (keeps.1, (bytes, (are, subst (λ f. Refuses bytes f) (sym keeps.0) (subst (λ b. Refuses b refusal) same refused))))
 
--- why a run along an order of the script that these bytes are is refused
-pub along_refused : (bytes order : List ℕ) (script : Script) (fault : Refusal) → script_of bytes ≡ Ok script → DeclinesAlong script order fault → RefusesAlong bytes order fault
-along_refused bytes order script NoPort read declines = (script, (read, declines))
-along_refused bytes order script Limits read declines = (script, (read, declines))
-along_refused bytes order script LawBroken read declines = (script, (read, declines))
-along_refused bytes order script (Memory refused) read declines = tt
-along_refused bytes order script _ read declines = absurd declines
+-- the report of a closing, and how its run ended
+pub done_has : (Run : End → List ℕ → Type 0) (closing : Closing) (outcome : Result Done Refusal) → Run (end_told closing) (report_text closing) → IfOk outcome (λ done. string_bytes done.text ≡ report_text closing) → IfOk outcome (λ done. done.end ≡ end_told closing)
+    → IfOk outcome (λ done. Run done.end (string_bytes done.text))
+done_has Run closing (Ok done) run is_text is_end = subst (λ end. Run end (string_bytes done.text)) (sym is_end) (subst (λ text. Run (end_told closing) text) (sym is_text) run)
+done_has Run closing (Err fault) run is_text is_end = tt

@@ -11,3 +11,4 @@ pub mod Running
 pub mod Values
 pub mod Threaded
 pub mod Telling
+pub mod Modes

@@ -152,18 +152,25 @@ pub record HasRun (bytes : List ℕ) (end : End) (text : List ℕ) : Type 0 wher
   pub is_text : text ≡ report_text closing
   pub is_end : end ≡ end_told closing
 
--- the script that these bytes are, with a trace, turns and polls that the verdict of what is shown is on (own)
-pub record IsTurnsRun (bytes : List ℕ) (run : TurnsRun) : Type 0 where
-  pub read : script_of bytes ≡ Ok run.script
-  pub closes : MayClose (Rounds run.script.turns) run.script run.closing
-  pub judged : IsJudgedBy (Rounds run.script.turns) run.script run.closing run.order.items run.trace.items run.polls run.turns.items
+-- a run of the script in rounds, with a trace, turns and polls that the verdict of what is shown is on (own)
+pub record IsTurnsRun (script : Script) (run : TurnsRun) : Type 0 where
+  pub closes : MayClose (Rounds script.turns) script run.closing
+  pub judged : IsJudgedBy (Rounds script.turns) script run.closing run.order.items run.trace.items run.polls run.turns.items
 
--- the script that these bytes are, with the order, a trace, turns and polls that the verdict of what is shown is on (own)
-pub record IsOrderRun (bytes : List ℕ) (order : List ℕ) (run : TurnsRun) : Type 0 where
-  pub read : script_of bytes ≡ Ok run.script
+-- a run of the script along this order, with the order, a trace, turns and polls that the verdict of what is shown is on (own)
+pub record IsOrderRun (script : Script) (order : List ℕ) (run : TurnsRun) : Type 0 where
   pub is_order : run.order.items ≡ order
-  pub closes : MayClose Named run.script run.closing
-  pub judged : IsJudgedBy Named run.script run.closing run.order.items run.trace.items run.polls run.turns.items
+  pub closes : MayClose Named script run.closing
+  pub judged : IsJudgedBy Named script run.closing run.order.items run.trace.items run.polls run.turns.items
+
+-- a run of the script along exactly this order may close so: there are a trace, and turns of this order with their polls, that the
+-- verdict of what is shown is on (own)
+pub record ClosesAlong (script : Script) (order : List ℕ) (closing : Closing) : Type 0 where
+  pub closes : MayClose Named script closing
+  pub trace : List Event
+  pub polls : List Poll
+  pub turns : List Turn
+  pub judged : IsJudgedBy Named script closing order trace polls turns
 
 -- why a run of this script is refused: its machine isn't opened
 abbrev pub DeclinesRun : Script → Refusal → Type 0
@@ -187,13 +194,6 @@ DeclinesAlong script order NoPort = ¬ AreThere script order
 DeclinesAlong script order Limits = AreThere script order × DeclinesRun script Limits
 DeclinesAlong script order LawBroken = AreThere script order × DeclinesRun script LawBroken
 DeclinesAlong script order fault = DeclinesRun script fault
-
--- why a run of these bytes along an order is refused
-abbrev pub RefusesAlong : List ℕ → List ℕ → Refusal → Type 0
-RefusesAlong bytes order NoPort = (script : Script) × ((script_of bytes ≡ Ok script) × DeclinesAlong script order NoPort)
-RefusesAlong bytes order Limits = (script : Script) × ((script_of bytes ≡ Ok script) × DeclinesAlong script order Limits)
-RefusesAlong bytes order LawBroken = (script : Script) × ((script_of bytes ≡ Ok script) × DeclinesAlong script order LawBroken)
-RefusesAlong bytes order fault = Refuses bytes fault
 
 -- these are the bytes that are read of a source that has so many left, where that is known
 abbrev pub AreBytesRead : Option (List ℕ) → List ℕ → Type 0

@@ -113,11 +113,11 @@ fn closing_followed(alloc: Global, script: &Script) -> Result<Option<Closing>, F
 /// 0 or more than 4294967295 has its run kept at once.
 ///
 /// Refused with `Limits` or `LawBroken` for the script's opening, and with `Memory` if memory is refused.
-pub fn close_turns(alloc: Global, script: Script) -> Result<Closing, Fault>
-    ensures closes { IfOk result (λ closing. MayClose (Pace.Rounds script.turns) script closing) }
-    ensures refused { IfErr result (λ fault. DeclinesRun script fault) }
+pub fn close_turns(alloc: Global, script: &Script) -> Result<Closing, Fault>
+    ensures closes { IfOk result (λ closing. MayClose (Pace.Rounds script.now.turns) script.now closing) }
+    ensures refused { IfErr result (λ fault. DeclinesRun script.now fault) }
 {
-    match closing_followed(alloc, &script)? {
+    match closing_followed(alloc, script)? {
         Some(closing) => Ok(closing),
         None => {
             let TurnsRun { closing, .. } = turns_run_of(alloc, script)?;

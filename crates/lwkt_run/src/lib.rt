@@ -11,6 +11,7 @@ mod follows;
 mod givers;
 pub mod laws;
 mod lines;
+mod modes;
 mod polled;
 mod programs;
 mod records;
@@ -26,6 +27,9 @@ pub use followed::close_turns;
 pub use lwkt_report::{RunFault, Verdict};
 pub use lwkt_script::{Script, read_script};
 pub use lwkt_threads::{Gate, OpenGate};
-pub use programs::{asks_threads, asks_turns, finish, run_program};
-pub use runs::{End, TurnsRun, end_told, order_run, run_turns, turns_run, turns_run_of};
+pub use modes::Mode;
+pub use programs::{
+    asks_threads, asks_turns, close_by, exit_status, finish, run_program, run_read,
+};
+pub use runs::{End, TurnsRun, close_along, end_told, order_run_of, run_turns, turns_run_of};
 pub use threaded::{ThreadRecord, close_threads, record_threads, run_threads, run_threads_gated};

@@ -1,17 +1,24 @@
-ghost use Rattle.std.specs.Prelude.{◌≡◌, ◌↔◌, IsTrue};
+ghost use Rattle.std.specs.Prelude.{◌≡◌, ◌↔◌, false, ℕ, List, IfOk, IfErr, IsTrue, Some, string_bytes};
 ghost use Rattle.lwkt_report.specs.Complaint.{fault_line, IsSaid};
-ghost use Rattle.lwkt_run.specs.Run.{RunsAs, AsksTurns, exit_status, SaysAfterRun};
+ghost use Rattle.lwkt_script.specs.Format.{script_of};
+ghost use Rattle.lwkt_script.specs.Outcome.{Gives};
+ghost use Rattle.lwkt_run.specs.Modes.{MayCloseBy, HasRunBy, RunsJsonAs};
+ghost use Rattle.lwkt_run.specs.Run.{RunsAs, AsksTurns, DeclinesRun, Refuses, exit_status, SaysAfterRun};
 ghost use Rattle.lwkt_run.specs.Threaded.{RunsOnThreadsAs, AsksThreads, AsksNoRun};
 
+use crate::followed::close_turns;
+use crate::modes::Mode;
+use crate::reports::{Done, conclude, done_of};
 use crate::runs::{End, run_turns};
-use crate::threaded::run_threads;
+use crate::threaded::{close_threads, run_threads};
 use lwkt_base::Fault;
-use lwkt_report::{Complaint, Program, RunFault, Sink, Source, complain, complaint_of};
+use lwkt_report::{Closing, Complaint, Program, RunFault, Sink, Source, complain, complaint_of};
+use lwkt_script::Script;
 use std::alloc::Global;
 use std::thread::Threads;
 
-// The exit status of an outcome.
-fn exit_status(outcome: &Result<End, RunFault>) -> u8
+/// The exit status of an outcome: 0 `Ended`, 2 `TurnsOut`, 4 `Unlawful`, 3 fault 32 or a stream that failed, 1 any other fault.
+pub fn exit_status(outcome: &Result<End, RunFault>) -> u8
     ensures { result ≡ exit_status outcome.now }
 {
     match outcome {
@@ -36,6 +43,56 @@ pub fn finish<K: Sink>(sink: &mut K, outcome: &Result<End, RunFault>) -> u8
         Err(fault) => complain(sink, Program::Run, complaint_of(fault)),
     }
     exit_status(outcome)
+}
+
+/// Runs a script, driven so, and gives what its report shows.
+///
+/// Refused with `Limits` or `LawBroken` for the script's opening, and with `Memory` if memory is refused.
+pub fn close_by<R: Threads + Sync>(
+    rt: &R,
+    alloc: Global,
+    mode: Mode,
+    script: &Script,
+) -> Result<Closing, Fault>
+    ensures closes { IfOk result (λ closing. MayCloseBy mode script.now closing) }
+    ensures refused { IfErr result (λ fault. DeclinesRun script.now fault) }
+{
+    match mode {
+        Mode::Turns => close_turns(alloc, script),
+        Mode::Threads => close_threads(rt, alloc, script),
+    }
+}
+
+// Runs what was read, driven so, to the text of its report.
+fn done_of_read<R: Threads + Sync>(
+    rt: &R,
+    alloc: Global,
+    mode: Mode,
+    read: Result<Script, Fault>,
+) -> Result<Done, Fault>
+    ensures ok { (bytes : List ℕ) → Gives (λ s. s) read (script_of bytes) → IfOk result (λ done. HasRunBy mode bytes done.end (string_bytes done.text)) }
+    ensures refused { (bytes : List ℕ) → Gives (λ s. s) read (script_of bytes) → IfErr result (λ fault. Refuses bytes fault) }
+{
+    let script = read?;
+    let closing = close_by(rt, alloc, mode, &script)?;
+    done_of(alloc, &closing)
+}
+
+/// Does with what was read of bytes what `run_program` does with these bytes, where its argument is the word for this mode: runs the
+/// script and writes its report, or the line of why there is none. The answer is the exit status.
+///
+/// What was read is the script that the bytes are, or as `read_script` refuses them.
+pub fn run_read<R: Threads + Sync, K: Sink>(
+    rt: &R,
+    alloc: Global,
+    mode: Mode,
+    read: Result<Script, Fault>,
+    sink: &mut K,
+) -> u8
+    ensures { (bytes : List ℕ) → Gives (λ s. s) read (script_of bytes) → RunsJsonAs mode false (K.has_failed sink.new) (Some bytes) (K.contents sink.old) (K.contents sink.new) result }
+{
+    let outcome = conclude(sink, done_of_read(rt, alloc, mode, read));
+    finish(sink, &outcome)
 }
 
 /// Whether the arguments are the one word `turns`.

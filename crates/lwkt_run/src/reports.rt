@@ -1,10 +1,13 @@
 //! The report of a run written, whichever way its processors were driven.
-ghost use Rattle.std.specs.Prelude.{◌≡◌, Err, IsTrue, OnOk};
-ghost use Rattle.lwkt_run.specs.Run.{Concludes};
+ghost use Rattle.std.specs.Prelude.{◌≡◌, Err, IfOk, IsOkUnless, IsTrue, OnOk, string_bytes};
+ghost use Rattle.lwkt_base.specs.Fault.{no_memory};
+ghost use Rattle.lwkt_report.specs.Report.{report_text};
+ghost use Rattle.lwkt_run.specs.Run.{Concludes, end_told};
 
-use crate::runs::End;
+use crate::runs::{End, end_told};
 use lwkt_base::Fault;
-use lwkt_report::{RunFault, Sink, write_whole};
+use lwkt_report::{Closing, RunFault, Sink, report, write_whole};
+use std::alloc::Global;
 
 /// A run that has ended: its report, and how it ended.
 #[derive(Drop)]
@@ -13,6 +16,17 @@ pub struct Done {
     pub text: String,
     /// How the run ended, by what the report says.
     pub end: End,
+}
+
+/// The report of what a run closed with, and how it ended.
+pub fn done_of(alloc: Global, closing: &Closing) -> Result<Done, Fault>
+    ensures text { IfOk result (λ done. string_bytes done.text ≡ report_text closing.now) }
+    ensures end { IfOk result (λ done. done.end ≡ end_told closing.now) }
+    ensures only { IsOkUnless result no_memory }
+{
+    let end = end_told(closing);
+    let text = report(alloc, closing)?;
+    Ok(Done { text, end })
 }
 
 /// Writes the report of a run that has ended, and says how it ended.

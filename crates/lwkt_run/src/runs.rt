@@ -6,20 +6,20 @@ ghost use Rattle.lwkt_machine.specs.Opened.{AreFew};
 ghost use Rattle.lwkt_run.specs.Judging.{ids_of};
 ghost use Rattle.lwkt_run.specs.Running.{kept_in_record};
 ghost use Rattle.lwkt_run.specs.Values.{is_tally, AreValuesOf};
-ghost use Rattle.lwkt_run.specs.Run.{opening_of_script, RunsInRounds, RunsAlong, RunsAt, IsJudgedBy, MayClose, IsTurnsRun, IsOrderRun, DeclinesAlong, RefusesAlong, end_told, HasRun, DeclinesRun, Refuses, TellsRounds};
+ghost use Rattle.lwkt_run.specs.Run.{opening_of_script, RunsInRounds, RunsAlong, RunsAt, IsJudgedBy, MayClose, IsTurnsRun, IsOrderRun, ClosesAlong, DeclinesAlong, end_told, HasRun, DeclinesRun, Refuses, TellsRounds};
 
 use crate::endings::{Left, left_by};
 use crate::followed::close_turns;
 use crate::lines::token_lines;
 use crate::records::Record;
-use crate::reports::{Done, conclude};
+use crate::reports::{Done, conclude, done_of};
 use crate::rounds::{make_rounds, make_turns};
 use crate::verdicts::verdict_of;
 use lwkt_base::Fault;
 use lwkt_core::{Event, Final, State};
 use lwkt_events::EventList;
 use lwkt_machine::Machine;
-use lwkt_report::{Closing, RunFault, Sink, Source, ThreadLine, Verdict, read_capped, report};
+use lwkt_report::{Closing, RunFault, Sink, Source, ThreadLine, Verdict, read_capped};
 use lwkt_script::{Script, read_script};
 use lwkt_verdict::{Pace, PollList, TurnRow, are_processors};
 use std::alloc::{AllocError, Global};
@@ -37,12 +37,9 @@ pub enum End {
     Unlawful,
 }
 
-/// A run of a script, in rounds or along an order of its processors: the script, all that was kept of the run, and what its report
-/// shows.
+/// A run of a script, in rounds or along an order of its processors: all that was kept of the run, and what its report shows.
 #[derive(Drop)]
 pub struct TurnsRun {
-    /// The script, as it was read.
-    pub script: Script,
     /// The events of all turns in order, and after them those of the stop.
     pub trace: EventList,
     /// The polls of all turns, in order, each with its answer if its thread was polled again.
@@ -182,19 +179,18 @@ fn run_along(alloc: Global, script: &Script, order: &[u8]) -> Result<Made, Fault
 }
 
 // What was made of a script at a pace, with the verdict on it.
-fn judged_run(alloc: Global, pace: Pace, script: Script, made: Made) -> Result<TurnsRun, Fault>
-    requires values { AreValuesOf script.tokens made.left.last }
-    requires threads { map (λ line. line.id) made.left.threads.items ≡ ids_of script.cpus script.threads }
-    requires runs { RunsAt pace script made.kept.order.items made.left.threads.items (kept_in_record made.kept) made.trace.items made.left.last }
-    requires few { AreFew script.cpus script.threads }
-    ensures script { IfOk result (λ run. run.script ≡ script) }
+fn judged_run(alloc: Global, pace: Pace, script: &Script, made: Made) -> Result<TurnsRun, Fault>
+    requires values { AreValuesOf script.now.tokens made.left.last }
+    requires threads { map (λ line. line.id) made.left.threads.items ≡ ids_of script.now.cpus script.now.threads }
+    requires runs { RunsAt pace script.now made.kept.order.items made.left.threads.items (kept_in_record made.kept) made.trace.items made.left.last }
+    requires few { AreFew script.now.cpus script.now.threads }
     ensures order { IfOk result (λ run. run.order ≡ made.kept.order) }
-    ensures closes { IfOk result (λ run. MayClose pace script run.closing) }
-    ensures judged { IfOk result (λ run. IsJudgedBy pace script run.closing run.order.items run.trace.items run.polls run.turns.items) }
-    ensures refused { IfErr result (λ fault. DeclinesRun script fault) }
+    ensures closes { IfOk result (λ run. MayClose pace script.now run.closing) }
+    ensures judged { IfOk result (λ run. IsJudgedBy pace script.now run.closing run.order.items run.trace.items run.polls run.turns.items) }
+    ensures refused { IfErr result (λ fault. DeclinesRun script.now fault) }
 {
-    let opening = opened(alloc, &script)?;
-    let again = opened(alloc, &script)?;
+    let opening = opened(alloc, script)?;
+    let again = opened(alloc, script)?;
     let Made {
         trace,
         kept,
@@ -202,7 +198,7 @@ fn judged_run(alloc: Global, pace: Pace, script: Script, made: Made) -> Result<T
         mut room,
     } = made;
     let closing = match closing_of(
-        alloc, &script, pace, opening, again, left, &trace, &kept, &mut room,
+        alloc, script, pace, opening, again, left, &trace, &kept, &mut room,
     ) {
         Ok(closing) => closing,
         Err(refused) => return Err(Fault::Memory(refused)),
@@ -214,7 +210,6 @@ fn judged_run(alloc: Global, pace: Pace, script: Script, made: Made) -> Result<T
         ..
     } = kept;
     Ok(TurnsRun {
-        script,
         trace,
         polls,
         turns,
@@ -226,55 +221,39 @@ fn judged_run(alloc: Global, pace: Pace, script: Script, made: Made) -> Result<T
 /// Runs a script in rounds, on one thread, and gives out all that was kept of the run.
 ///
 /// Refused with `Limits` or `LawBroken` for the script's opening, and with `Memory` if memory is refused.
-pub fn turns_run_of(alloc: Global, script: Script) -> Result<TurnsRun, Fault>
-    ensures script { IfOk result (λ run. run.script ≡ script) }
-    ensures closes { IfOk result (λ run. MayClose (Pace.Rounds script.turns) script run.closing) }
-    ensures judged { IfOk result (λ run. IsJudgedBy (Pace.Rounds script.turns) script run.closing run.order.items run.trace.items run.polls run.turns.items) }
-    ensures refused { IfErr result (λ fault. DeclinesRun script fault) }
+pub fn turns_run_of(alloc: Global, script: &Script) -> Result<TurnsRun, Fault>
+    ensures ok { IfOk result (λ run. IsTurnsRun script.now run) }
+    ensures refused { IfErr result (λ fault. DeclinesRun script.now fault) }
 {
-    let made = run_of(alloc, &script)?;
-    let pace = Pace::Rounds(script.turns);
-    judged_run(alloc, pace, script, made)
+    let made = run_of(alloc, script)?;
+    judged_run(alloc, Pace::Rounds(script.turns), script, made)
 }
 
-/// Runs the script that the bytes are in rounds, on one thread, and gives out all that was kept of the run.
+/// Runs a script along an order of its processors, on one thread: each makes its turn when it is named, and after the last one they
+/// stop. Gives out all that was kept of the run. The number of rounds in the script doesn't count.
 ///
-/// Refused with `Script` and the place of the script's first bad part, with `Limits` or `LawBroken` for its opening, and with
-/// `Memory` if memory is refused.
-pub fn turns_run(alloc: Global, bytes: &[u8]) -> Result<TurnsRun, Fault>
-    ensures ok { IfOk result (λ run. IsTurnsRun bytes.now run) }
-    ensures refused { IfErr result (λ fault. Refuses bytes.now fault) }
-{
-    let script = read_script(alloc, bytes)?;
-    turns_run_of(alloc, script)
-}
-
-// The script of a run along an order, with what was kept of it and what its report shows.
-fn order_run_of(alloc: Global, script: Script, order: &[u8]) -> Result<TurnsRun, Fault>
-    ensures order { IfOk result (λ run. run.order.items ≡ order.now) }
-    ensures script { IfOk result (λ run. run.script ≡ script) }
-    ensures closes { IfOk result (λ run. MayClose Pace.Named script run.closing) }
-    ensures judged { IfOk result (λ run. IsJudgedBy Pace.Named script run.closing run.order.items run.trace.items run.polls run.turns.items) }
-    ensures refused { IfErr result (λ fault. DeclinesAlong script order.now fault) }
+/// Refused with `NoPort` if the order names a processor that isn't there, with `Limits` or `LawBroken` for the script's opening, and
+/// with `Memory` if memory is refused.
+pub fn order_run_of(alloc: Global, script: &Script, order: &[u8]) -> Result<TurnsRun, Fault>
+    ensures ok { IfOk result (λ run. IsOrderRun script.now order.now run) }
+    ensures refused { IfErr result (λ fault. DeclinesAlong script.now order.now fault) }
 {
     if !are_processors(usize::from(script.cpus), order) {
         return Err(Fault::NoPort);
     }
-    let made = run_along(alloc, &script, order)?;
+    let made = run_along(alloc, script, order)?;
     judged_run(alloc, Pace::Named, script, made)
 }
 
-/// Runs the script that the bytes are along an order of its processors, on one thread: each makes its turn when it is named, and
-/// after the last one they stop. Gives out all that was kept of the run. The number of rounds in the script doesn't count.
+/// Runs a script along an order, as `order_run_of` does, and gives what its report shows.
 ///
-/// Refused with `Script` and the place of the script's first bad part, with `NoPort` if the order names a processor that isn't
-/// there, with `Limits` or `LawBroken` for the opening, and with `Memory` if memory is refused.
-pub fn order_run(alloc: Global, bytes: &[u8], order: Vec<u8>) -> Result<TurnsRun, Fault>
-    ensures ok { IfOk result (λ run. IsOrderRun bytes.now order.items run) }
-    ensures refused { IfErr result (λ fault. RefusesAlong bytes.now order.items fault) }
+/// Refused as `order_run_of` is.
+pub fn close_along(alloc: Global, script: &Script, order: &[u8]) -> Result<Closing, Fault>
+    ensures closes { IfOk result (λ closing. ClosesAlong script.now order.now closing) }
+    ensures refused { IfErr result (λ fault. DeclinesAlong script.now order.now fault) }
 {
-    let script = read_script(alloc, bytes)?;
-    order_run_of(alloc, script, order.as_slice())
+    let TurnsRun { closing, .. } = order_run_of(alloc, script, order)?;
+    Ok(closing)
 }
 
 /// How a run ended, by the contents of its report: `Unlawful` by its verdict, else by whether every thread had ended.
@@ -301,10 +280,8 @@ fn done_of_bytes(alloc: Global, bytes: &[u8]) -> Result<Done, Fault>
     ensures refused { IfErr result (λ fault. Refuses bytes.now fault) }
 {
     let script = read_script(alloc, bytes)?;
-    let closing = close_turns(alloc, script)?;
-    let end = end_told(&closing);
-    let text = report(alloc, &closing)?;
-    Ok(Done { text, end })
+    let closing = close_turns(alloc, &script)?;
+    done_of(alloc, &closing)
 }
 
 /// Reads a script to its end, or to 1048577 bytes, runs it on one thread, and writes its report, which is whole in memory

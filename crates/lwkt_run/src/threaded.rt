@@ -9,14 +9,14 @@ ghost use Rattle.lwkt_run.specs.Threaded.{TellARun, ShowsLeft, MayCloseOnThreads
 use crate::endings::{Left, left_by};
 use crate::givers::givers_of;
 use crate::lines::token_lines;
-use crate::reports::{Done, conclude};
-use crate::runs::{End, end_told};
+use crate::reports::{Done, conclude, done_of};
+use crate::runs::End;
 use crate::tellings::{judged, judged_told, sections_in_order};
 use lwkt_base::{CpuId, Fault, Section};
 use lwkt_core::{Event, Final};
 use lwkt_events::EventList;
 use lwkt_machine::Machine;
-use lwkt_report::{Closing, RunFault, Sink, Source, Verdict, read_capped, report};
+use lwkt_report::{Closing, RunFault, Sink, Source, Verdict, read_capped};
 use lwkt_script::{Script, read_script};
 use lwkt_threads::{Gate, Limits, OpenGate, Outcome, drive_machine};
 use std::alloc::{AllocError, Global};
@@ -181,9 +181,7 @@ fn done_of_bytes<R: Threads + Sync, G: Gate + Sync>(
 {
     let script = read_script(alloc, bytes)?;
     let closing = closing_of_script(rt, alloc, gate, &script)?;
-    let end = end_told(&closing);
-    let text = report(alloc, &closing)?;
-    Ok(Done { text, end })
+    done_of(alloc, &closing)
 }
 
 /// Reads a script to its end, or to 1048577 bytes, drives each of its processors on a thread of its own if one can be made, and

@@ -1,3 +1,1 @@
-pub mod Arguments
-pub mod Orders
 pub mod Showing

@@ -1,17 +1,14 @@
-//! The program that shows a run of a script: its arguments, what it reads and writes, and its exit status.
+//! Shows a run of a script: as lines, as a trace, as a picture, or by its written sections.
 //!
 //! Words: the *options* say which turns are *chosen* and in which form they are shown; a run goes in rounds or *along* an order of
-//! its processors; it is *past* the run's end to choose a turn that wasn't made.
+//! its processors; a run that made none of the chosen turns ended *before* them.
 #![tactic(auto)]
 
-mod alongs;
 mod options;
-mod orders;
-mod programs;
+mod shows;
 mod threads;
 
-pub use alongs::show_along;
-pub use options::{Options, View, asks_threads, options_of};
-pub use orders::{Along, along_of, asks_along};
-pub use programs::{Outcome, refuse_arguments, run_show, show_stream};
+pub use lwkt_scenes::Counted;
+pub use options::{Options, View};
+pub use shows::{Shown, show_script};
 pub use threads::show_threads;

@@ -1,2 +1,3 @@
 pub mod Equality
 pub mod Keeping
+pub mod Inputting

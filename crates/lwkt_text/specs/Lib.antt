@@ -1,4 +1,3 @@
-pub mod Beginning
 pub mod Scanning
 pub mod Outcome
 pub mod Looking
@@ -10,4 +9,5 @@ pub mod Listing
 pub mod Drafting
 pub mod Reading
 pub mod Refusing
+pub mod Inputs
 pub mod Within

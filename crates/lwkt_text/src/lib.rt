@@ -4,10 +4,10 @@
 //! holds always, sometimes or never; a *wrong* is one thing that is wrong with a text, with its place.
 #![tactic(auto)]
 
-mod beginnings;
 pub mod claims;
 mod drafts;
 mod expecting;
+mod inputs;
 pub mod jsons;
 mod listings;
 mod looks;
@@ -27,7 +27,7 @@ mod words;
 mod writers;
 mod wrongs;
 
-pub use beginnings::is_text;
+pub use inputs::{Input, Unread, is_named_text, is_text, read_input};
 pub use jsons::json_of;
 pub use listings::names_of;
 pub use many::Many;

@@ -1,7 +1,7 @@
 ghost use Rattle.std.specs.Prelude.{◌≡◌, ◌<◌, ◌≤◌, Ok, Err, IfOk, IfErr};
 ghost use Rattle.lwkt_script.specs.Limits.{IsWithinLimits};
 ghost use Rattle.lwkt_text.specs.Within.{IsDraft};
-ghost use Rattle.lwkt_text.specs.Reading.{sealed, reading_of};
+ghost use Rattle.lwkt_text.specs.Reading.{sealed, reading_of, reading_of_sentences};
 ghost use Rattle.lwkt_text.specs.Refusing.{IsRefusalOf};
 
 use crate::claims::Expectation;
@@ -10,6 +10,7 @@ use crate::listings::{Listing, listing_of};
 use crate::many::Many;
 use crate::scans::sentences_of;
 use crate::tables::Names;
+use crate::words::Sentence;
 use crate::wrongs::Wrong;
 use lwkt_script::{Parts, Script};
 use std::alloc::{AllocError, Global};
@@ -58,6 +59,27 @@ fn sealed(names: Names, draft: Draft) -> Result<Reading, Refusal>
     })
 }
 
+// Reads the sentences of a text.
+pub(crate) fn read_sentences(alloc: Global, sentences: &[Sentence]) -> Result<Reading, Refusal>
+    ensures ok { IfOk result (λ reading. reading_of_sentences sentences.now ≡ Ok reading) }
+    ensures limits { IfOk result (λ reading. IsWithinLimits reading.script) }
+    ensures err { IfErr result (λ refusal. IsRefusalOf refusal (reading_of_sentences sentences.now)) }
+{
+    let listing = match listing_of(alloc, sentences) {
+        Ok(listing) => listing,
+        Err(slip) => return Err(Refusal::Memory(slip.refused())),
+    };
+    let Listing {
+        names,
+        is_said: _,
+        faults,
+    } = listing;
+    match draft_of(alloc, &names, sentences, faults) {
+        Ok(draft) => sealed(names, draft),
+        Err(slip) => Err(Refusal::Memory(slip.refused())),
+    }
+}
+
 /// Reads a text: the script that it is, its names, and what it says of outcomes.
 ///
 /// Refused with all that is wrong with it, each with its place, and with `Memory` only where an allocation was refused.
@@ -72,21 +94,8 @@ pub fn read_text(alloc: Global, bytes: &[u8]) -> Result<Reading, Refusal>
     // All that is wrong with them, and that is something.
     ensures err { IfErr result (λ refusal. IsRefusalOf refusal (reading_of bytes.now)) }
 {
-    let sentences = match sentences_of(alloc, bytes) {
-        Ok(sentences) => sentences,
-        Err(slip) => return Err(Refusal::Memory(slip.refused())),
-    };
-    let listing = match listing_of(alloc, sentences.as_slice()) {
-        Ok(listing) => listing,
-        Err(slip) => return Err(Refusal::Memory(slip.refused())),
-    };
-    let Listing {
-        names,
-        is_said: _,
-        faults,
-    } = listing;
-    match draft_of(alloc, &names, sentences.as_slice(), faults) {
-        Ok(draft) => sealed(names, draft),
+    match sentences_of(alloc, bytes) {
+        Ok(sentences) => read_sentences(alloc, sentences.as_slice()),
         Err(slip) => Err(Refusal::Memory(slip.refused())),
     }
 }

@@ -39,6 +39,8 @@ pub enum What {
     Relation,
     /// A sentence has at most 1000 words.
     Long,
+    /// A text has at most 1048576 bytes.
+    Length,
     /// Nothing more may stand in this sentence.
     Further,
     /// A step stands before the first thread.

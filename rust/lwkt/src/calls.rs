@@ -205,8 +205,8 @@ pub fn check_trace(trace: &[u8]) -> Result<Finding, Refusal> {
     }
 }
 
-/// Runs a script in rounds or along an order and shows the run, as `lwkt_show` with these arguments does: words with one blank between
-/// each two, as `turns --svg` or `turns --order 0110`.
+/// Runs a script in either form, in rounds or along an order, and shows the run, as `lwkt_show` with these arguments does: words with
+/// one blank between each two, as `turns --svg` or `turns --order 0110`.
 ///
 /// # Errors
 ///
@@ -261,14 +261,16 @@ pub struct TextRun {
     pub text: String,
 }
 
-/// Whether a script is taken for a text of the language of docs/LANGUAGE.md; all else is left to those who read JSON.
+/// Whether a script is taken for a text of the language of docs/LANGUAGE.md: it is no JSON, and one of its sentences declares a token, a
+/// message or a thread. All else is left to those who read JSON.
 ///
 /// # Errors
 ///
 /// `Memory` where memory was refused.
 ///
 /// ```
-/// assert!(lwkt::is_text(b"turns 5")?);
+/// assert!(lwkt::is_text(b"token word: any, cells 5")?);
+/// assert!(!lwkt::is_text(b"turns 5")?);
 /// assert!(!lwkt::is_text(b"{}")?);
 /// # Ok::<(), lwkt::Refusal>(())
 /// ```

@@ -3,7 +3,7 @@ use Rattle.std.specs.Prelude.{IfSome, Vec}
 use Rattle.std.specs.Option.{option_to_list}
 use Rattle.std.specs.declared.alloc.Global.{Global}
 use Rattle.std.proofs.lemmas.Result.{IfOk-at_ok}
-use Rattle.lwkt_explore.specs.Walks.{IsOrderOf}
+use Rattle.lwkt_run.specs.Run.{AreThere}
 use Rattle.lwkt_explore.proofs.outcomes.judge.Goals as goal
 use Rattle.lwkt_explore.proofs.outcomes.judge.Goals.{in-Some+in_default-push, in_default}
 
@@ -20,7 +20,7 @@ without whole copied order o a b c = a ∙ b ∙ sym (append-nil order) ∙ sym 
 
 pub outcome_of-requires : goal.outcome_of-requires
 outcome_of-requires c =
-    let F : List ℕ → Type 0 = IsOrderOf c.args.bytes.now in
+    let F : List ℕ → Type 0 = AreThere c.args.script.now in
     let G : Vec ℕ Global → Type 0 = λ v. v.items ≡ c.args.order.now in
     let copied : c.in_ok-whole.whole.items ≡ c.args.order.now = IfOk-at_ok G c.in_ok-whole.ensures.ok c.from_slice.ensures.items in
     elim c.match-cpu.branch [

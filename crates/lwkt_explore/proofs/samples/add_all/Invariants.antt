@@ -5,9 +5,9 @@ use Rattle.lwkt_explore.proofs.samples.add_all.Given as goal
 
 abbrev pub invariant-loop-made : goal.invariant-loop-made
 invariant-loop-made g l = record {
-  walk : IsWalk l.bytes l.walk;
+  walk : IsWalk l.script l.walk;
   bounds : l.walk.bounds ≡ l.fn.walk.bounds;
-  found : AreOutcomes l.bytes l.outcomes;
+  found : AreOutcomes l.script l.outcomes;
   short : AreShort l.fn.walk.bounds.turns l.outcomes;
   counts : sum l.outcomes.counts.items ≤ l.made;
 }

@@ -8,7 +8,7 @@ use Rattle.lwkt_explore.proofs.searches.explore.Goals.{in-Ok, in-Err-Memory}
 pub returns-clause-ended : goal.returns-clause-ended
 returns-clause-ended g c = λ complete none.
     let walk : Walk = c.search.new.walk in
-    let is : IsSearching c.args.bytes.now walk c.search.new.outcomes = c.search.ensures.search in
+    let is : IsSearching c.args.script.now walk c.search.new.outcomes = c.search.ensures.search in
     let C : Walk → Type 0 = λ w. w.is_complete ≡ true in
     let E : Walk → Type 0 = λ w. 0 < length w.ends.items in
     let H : Walk → Type 0 = λ w. Contains w.ends.items true in

@@ -1,5 +1,5 @@
 use Rattle.std.proofs.Common.{◌∙◌, ap}
-use Rattle.lwkt_litmus.specs.Judgements.{judgement_of}
+use Rattle.lwkt_explore.specs.Judgements.{judgement_of}
 use Rattle.lwkt_ffi.proofs.tellings.account_onto.Goals as goal
 
 pub returns-in-Ok-account_of-clause-ok : goal.returns-in-Ok-account_of-clause-ok

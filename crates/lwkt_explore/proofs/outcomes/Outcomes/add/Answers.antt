@@ -15,7 +15,7 @@ is_end outcome = outcome.kind ≡ Ended
 
 pub returns-in-Some-clause-found : goal.returns-in-Some-clause-found
 returns-in-Some-clause-found c =
-    let F : Vec Outcome Global → Type 0 = λ v. All (IsOutcome c.args.bytes.now) v.items in
+    let F : Vec Outcome Global → Type 0 = λ v. All (IsOutcome c.args.script.now) v.items in
     subst F (sym c.count.ensures.all) c.requires.outcomes
 
 pub returns-in-Some-clause-ended : goal.returns-in-Some-clause-ended
@@ -29,6 +29,11 @@ returns-in-Some-clause-kind c =
     let P : Outcome → Type 0 = λ one. one.kind ≡ c.in_ok-outcome.outcome.kind in
     λ is. subst F (sym c.count.ensures.all) (Any-weaker P is_end c.args.self.now.all.items (λ x same. same ∙ is) c.in-Some.ensures)
 
+pub returns-in_err-keep-in-None-clause-found : goal.returns-in_err-keep-in-None-clause-found
+returns-in_err-keep-in-None-clause-found c =
+    let F : List Outcome → Type 0 = λ xs. All (IsOutcome c.args.script.now) xs in
+    subst F (sym c.in_err-keep-in-None.ensures.err) c.requires.outcomes
+
 pub returns-in_err-keep-in-None-clause-ended : goal.returns-in_err-keep-in-None-clause-ended
 returns-in_err-keep-in-None-clause-ended c =
     let F : List Outcome → Type 0 = λ xs. Any is_end xs in
@@ -36,7 +41,7 @@ returns-in_err-keep-in-None-clause-ended c =
 
 pub returns-in_ok-keep-in-None-clause-found : goal.returns-in_ok-keep-in-None-clause-found
 returns-in_ok-keep-in-None-clause-found c =
-    let P : Outcome → Type 0 = IsOutcome c.args.bytes.now in
+    let P : Outcome → Type 0 = IsOutcome c.args.script.now in
     let F : List Outcome → Type 0 = λ xs. All P xs in
     subst F (sym c.in_ok-keep-in-None.ensures.ok) (All-push P c.args.self.now.all.items c.in_ok-outcome.outcome c.requires.outcomes c.in_ok-outcome.ensures.ok)
 

@@ -5,5 +5,5 @@ use Rattle.lwkt_explore.proofs.walks.Walk.is_quiet.Given as goal
 abbrev pub invariant-loop-cpu : goal.invariant-loop-cpu
 invariant-loop-cpu l = record {
   there : StaysThere l.fn.self l.self;
-  end : l.cpu-end ≡ l.fn.self.script.cpus;
+  end : l.cpu-end ≡ l.script.cpus;
 }

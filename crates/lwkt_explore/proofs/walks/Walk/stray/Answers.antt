@@ -16,19 +16,19 @@ loop-preserved c =
       | else-idle-cpus w ↦ subst F (sym w.self-is) c.loop.invariant.there
     ]
     in
-    let cpus : c.from-cpus.result ≡ first.script.cpus = c.loop.invariant.cpus in
-    let at_least : 1 ≤ first.script.cpus = c.requires.some_cpus in
-    let at_most : first.script.cpus ≤ 8 = c.requires.few_cpus in
+    let cpus : c.from-cpus.result ≡ c.args.script.now.cpus = c.loop.invariant.cpus in
+    let at_least : 1 ≤ c.args.script.now.cpus = c.requires.some_cpus in
+    let at_most : c.args.script.now.cpus ≤ 8 = c.requires.few_cpus in
     let some : 0 < c.from-cpus.result = omega arith in
     let below : c.below-cpu.result < c.from-cpus.result = c.below-cpu.ensures some in
     let number : c.number_in_order.result ≡ c.below-cpu.result = c.number_in_order.ensures (omega arith) in
-    let there : c.number_in_order.result < first.script.cpus = omega arith in
+    let there : c.number_in_order.result < c.args.script.now.cpus = omega arith in
     let items : c.push.new.self.items ≡ c.loop.order.items ++ c.number_in_order.result ∷ [] = c.in_default.ensures.items in
-    let P : ℕ → Type 0 = λ cpu. cpu < first.script.cpus in
+    let P : ℕ → Type 0 = λ cpu. cpu < c.args.script.now.cpus in
     let G : List ℕ → Type 0 = λ order. All P order in
     let more : length c.push.new.self.items ≡ length c.loop.order.items + 1 = ap (λ (xs : List ℕ). length xs) items ∙ length-append c.loop.order.items (c.number_in_order.result ∷ []) in
     record {
-      there = record { stays = record { script = joined.stays.script; bounds = joined.stays.bounds; ends = joined.stays.ends; complete = joined.stays.complete }; graph = joined.graph };
+      there = record { stays = record { bounds = joined.stays.bounds; ends = joined.stays.ends; complete = joined.stays.complete }; graph = joined.graph };
       cpus = cpus;
       place = c.turn.ensures.as_many ∙ c.loop.invariant.place;
       order = subst G (sym items) (All-push P c.loop.order.items c.number_in_order.result c.loop.invariant.order there);
@@ -46,4 +46,4 @@ returns-in-Err-clause-stays c =
       | else-idle-cpus w ↦ subst F (sym w.self-is) c.loop.invariant.there
     ]
     in
-    record { stays = record { script = joined.stays.script; bounds = joined.stays.bounds; ends = joined.stays.ends; complete = joined.stays.complete }; graph = joined.graph }
+    record { stays = record { bounds = joined.stays.bounds; ends = joined.stays.ends; complete = joined.stays.complete }; graph = joined.graph }

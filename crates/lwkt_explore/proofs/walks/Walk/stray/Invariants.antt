@@ -5,9 +5,9 @@ use Rattle.lwkt_explore.proofs.walks.Walk.stray.Given as goal
 abbrev pub invariant-loop : goal.invariant-loop
 invariant-loop l = record {
   there : StaysThere l.fn.self l.self;
-  cpus : l.cpus ≡ l.fn.self.script.cpus;
-  place : length l.place.machine.cpus ≡ l.fn.self.script.cpus;
-  order : All (λ cpu. cpu < l.fn.self.script.cpus) l.order.items;
+  cpus : l.cpus ≡ l.script.cpus;
+  place : length l.place.machine.cpus ≡ l.script.cpus;
+  order : All (λ cpu. cpu < l.script.cpus) l.order.items;
   short : length l.order.items ≤ l.counter;
   end : l.end ≡ l.fn.self.bounds.turns;
 }

@@ -4,6 +4,6 @@ use Rattle.lwkt_explore.proofs.walks.Walk.try_set.Given as goal
 
 abbrev pub invariant-loop-cpu : goal.invariant-loop-cpu
 invariant-loop-cpu l = record {
-  goes : WalkGoesOn l.bytes l.fn.self l.self;
-  cpus : l.cpus ≡ l.fn.self.script.cpus;
+  goes : WalkGoesOn l.script l.fn.self l.self;
+  cpus : l.cpus ≡ l.script.cpus;
 }

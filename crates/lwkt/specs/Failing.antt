@@ -1,0 +1,82 @@
+-- Why nothing is made of what was read, and the status then (own).
+use Rattle.std.specs.Prelude.{◌≡◌, ◌⊎◌, ℕ, List, Bool, true, false, Option, Result, Ok, Err}
+use Rattle.lwkt_base.specs.declared.faults.Fault.{Fault as Refusal}
+use Rattle.lwkt_base.specs.declared.faults.Fault.TheVariants.{Script as ScriptFault, Memory, Unlawful}
+use Rattle.lwkt_explore.specs.Outcomes.{RefusesSearch}
+use Rattle.lwkt_request.specs.declared.requests.Form.{Form}
+use Rattle.lwkt_request.specs.declared.requests.Form.TheVariants as form
+use Rattle.lwkt_request.specs.declared.requests.Task.{Task}
+use Rattle.lwkt_request.specs.declared.requests.Task.TheVariants.{Run, Show, Check, Text, Explore}
+use Rattle.lwkt_run.specs.Run.{DeclinesRun}
+use Rattle.lwkt_script.specs.declared.scripts.Script.{Script}
+use Rattle.lwkt_show.specs.declared.options.Options.{Options}
+use Rattle.lwkt_show.specs.Showing.{DeclinesShow, EndsBeforeChosen}
+use Rattle.lwkt_text.specs.declared.inputs.Input.{Input}
+use Rattle.lwkt_text.specs.declared.inputs.Unread.{Unread}
+use Rattle.lwkt_text.specs.declared.inputs.Unread.TheVariants.{Json, Wrongs}
+use Rattle.lwkt_text.specs.declared.wrongs.Wrong.{Wrong}
+use Rattle.lwkt.specs.declared.failures.Failure.{Failure}
+use Rattle.lwkt.specs.declared.failures.Failure.TheVariants.{Fault, Past, Long, Stream}
+
+-- a fault, of which this holds
+abbrev pub IsFault : (Refusal → Type 0) → Failure → Type 0
+IsFault P (Fault fault) = P fault
+IsFault P _ = ⊥
+
+-- why a run isn't shown: its script's opening is refused, or its order names a processor that isn't there; or it ended before the
+-- range
+abbrev pub DeclinesShown : Bool → Options → Option (List ℕ) → Script → Failure → Type 0
+DeclinesShown false options order script (Fault fault) = DeclinesShow script order fault
+DeclinesShown false options order script Past = EndsBeforeChosen options order script
+DeclinesShown true options order script (Fault fault) = DeclinesRun script fault
+DeclinesShown _ options order script _ = ⊥
+
+-- want of memory alone
+abbrev pub IsMemory : Refusal → Type 0
+IsMemory (Memory refused) = Unit {0}
+IsMemory _ = ⊥
+
+-- why a script isn't written in a form
+abbrev pub DeclinesWritten : Failure → Type 0
+DeclinesWritten (Fault fault) = IsMemory fault
+DeclinesWritten Long = Unit {0}
+DeclinesWritten _ = ⊥
+
+abbrev pub DeclinesForm : Form → Script → Failure → Type 0
+DeclinesForm form.Json script failure = DeclinesWritten failure
+DeclinesForm form.Text script failure = DeclinesWritten failure
+DeclinesForm form.Run script failure = IsFault (DeclinesRun script) failure
+
+-- why a task makes nothing of a script
+abbrev pub Declines : Task → Option (List ℕ) → Script → Failure → Type 0
+Declines (Run on_threads by_old_name) order script failure = IsFault (DeclinesRun script) failure
+Declines (Show on_threads options) order script failure = DeclinesShown on_threads options order script failure
+Declines (Check by_lines) order script failure = ⊥
+Declines (Text form) order script failure = DeclinesForm form script failure
+Declines (Explore search) order script failure = IsFault (RefusesSearch script) failure
+
+-- why there is no input: JSON is refused at its first bad part, a text as bytes that are no JSON; or memory is refused
+abbrev pub RefusesInput : Result Input Unread → Refusal → Type 0
+RefusesInput read (ScriptFault place) = (read ≡ Err (Json place)) ⊎ ((place ≡ 0) × ((wrongs : List Wrong) × (read ≡ Err (Wrongs wrongs))))
+RefusesInput read (Memory refused) = Unit {0}
+RefusesInput read _ = ⊥
+
+-- why nothing is made of what was read: there is no input, or the task makes nothing of it
+abbrev pub IsFailureOf : Task → Option (List ℕ) → Result Input Unread → Failure → Type 0
+IsFailureOf task order read failure = IsFault (RefusesInput read) failure ⊎ ((input : Input) × ((read ≡ Ok input) × Declines task order input.script failure))
+
+-- the status of a fault: 3 for want of memory, 4 for a search with an unlawful run, else 1
+abbrev pub status_of_fault : Refusal → ℕ
+status_of_fault (Memory refused) = 3
+status_of_fault (Unlawful index) = 4
+status_of_fault _ = 1
+
+abbrev pub status_of_failure : Failure → ℕ
+status_of_failure (Fault fault) = status_of_fault fault
+status_of_failure Past = 1
+status_of_failure Long = 1
+status_of_failure Stream = 3
+
+abbrev pub status_of : Result ℕ Failure → ℕ
+status_of (Ok status) = status
+status_of (Err failure) = status_of_failure failure

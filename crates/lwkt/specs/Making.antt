@@ -1,0 +1,103 @@
+-- What each task makes of an input: a text for standard output, and the status that goes with it (own).
+use Rattle.std.specs.Prelude.{◌≡◌, ◌≤◌, ℕ, length, List, Bool, true, false, Option, None, Some, Result, Ok}
+use Rattle.lwkt_explore.specs.declared.searches.Found.{Found}
+use Rattle.lwkt_explore.specs.Expectations.{status_of_text}
+use Rattle.lwkt_explore.specs.Judgements.{judgement_of, status_of_judgement}
+use Rattle.lwkt_explore.specs.Outcomes.{AreOutcomes, AreShort, AreWhole, HasEnded}
+use Rattle.lwkt_explore.specs.Texts.{text_of_found}
+use Rattle.lwkt_explore.specs.Tries.{HasTriedOrders, HasTriedStates}
+use Rattle.lwkt_report.specs.declared.closings.Closing.{Closing}
+use Rattle.lwkt_report.specs.Report.{report_text}
+use Rattle.lwkt_request.specs.declared.requests.Form.{Form}
+use Rattle.lwkt_request.specs.declared.requests.Form.TheVariants as form
+use Rattle.lwkt_request.specs.declared.requests.Search.{Search}
+use Rattle.lwkt_request.specs.declared.requests.Task.{Task}
+use Rattle.lwkt_request.specs.declared.requests.Task.TheVariants.{Run, Show, Check, Text, Explore}
+use Rattle.lwkt_run.specs.declared.modes.Mode.{Mode}
+use Rattle.lwkt_run.specs.declared.modes.Mode.TheVariants.{Turns, Threads}
+use Rattle.lwkt_run.specs.declared.runs.End.{End}
+use Rattle.lwkt_run.specs.Modes.{MayCloseBy}
+use Rattle.lwkt_run.specs.Run.{exit_status}
+use Rattle.lwkt_script.specs.declared.scripts.Script.{Script}
+use Rattle.lwkt_script.specs.Format.{script_of}
+use Rattle.lwkt_show.specs.declared.options.Options.{Options}
+use Rattle.lwkt_show.specs.Showing.{IsShown, IsShownOnThreads}
+use Rattle.lwkt_text.specs.declared.inputs.Input.{Input}
+use Rattle.lwkt_text.specs.declared.inputs.Unread.{Unread}
+use Rattle.lwkt_text.specs.Reading.{IsTextOf}
+
+-- how processors are driven
+abbrev pub mode_of : Bool → Mode
+mode_of false = Turns
+mode_of true = Threads
+
+-- a run of the script, driven so, may end with this report; the status is that of what the run came to, by what is expected of it
+pub record IsReport (mode : Mode) (input : Input) (text : List ℕ) (status : ℕ) : Type 0 where
+  pub closing : Closing
+  pub closes : MayCloseBy mode input.script closing
+  pub is_text : text ≡ report_text closing
+  pub is_status : status ≡ status_of_judgement (judgement_of input.expectations closing)
+
+-- a run of the script, on threads or not, is shown so; the status is that of how it ended
+abbrev pub IsShow : Bool → Options → Option (List ℕ) → Script → List ℕ → ℕ → Type 0
+IsShow false options order script text status = (end : End) × (IsShown options order script end text × (status ≡ exit_status (Ok end)))
+IsShow true options order script text status = (end : End) × (IsShownOnThreads script end text × (status ≡ exit_status (Ok end)))
+
+-- a text has no more bytes than a script may have
+abbrev pub IsShort : List ℕ → Type 0
+IsShort text = length text ≤ 1048576
+
+-- the script in this form, or the report of a run in rounds
+abbrev pub IsForm : Form → Input → List ℕ → ℕ → Type 0
+IsForm form.Json input text status = (script_of text ≡ Ok input.script) × (IsShort text × (status ≡ 0))
+IsForm form.Text input text status = IsTextOf input.script text × (IsShort text × (status ≡ 0))
+IsForm form.Run input text status = IsReport Turns input text status
+
+-- what a search of the script finds, within these bounds on states and turns
+pub record IsSearched (states turns : ℕ) (script : Script) (found : Found) : Type 0 where
+  pub outcomes : AreOutcomes script found.outcomes
+  pub short : AreShort turns found.outcomes
+  pub ended : found.is_complete ≡ true → found.lost ≡ None → HasEnded found.outcomes
+  pub whole : found.is_complete ≡ true → AreWhole found.outcomes
+  pub lost : found.is_complete ≡ false → found.lost ≡ None
+  pub tried : HasTriedStates states found.tried
+
+-- what random orders of it find, at most so many, within this bound on turns
+pub record IsSampled (most turns : ℕ) (script : Script) (found : Found) : Type 0 where
+  pub outcomes : AreOutcomes script found.outcomes
+  pub short : AreShort turns found.outcomes
+  pub part : found.is_complete ≡ false
+  pub lost : found.lost ≡ None
+  pub tried : HasTriedOrders most found.tried
+
+abbrev pub IsFoundBy : Option ℕ → Search → Script → Found → Type 0
+IsFoundBy None search script found = IsSearched search.bounds.states search.bounds.turns script found
+IsFoundBy (Some most) search script found = IsSampled most search.bounds.turns script found
+
+-- what is found of the script, if this is asked for
+abbrev pub IsFound : Search → Script → Found → Type 0
+IsFound search script found = IsFoundBy search.random search script found
+
+-- the text of what is found; the status is by what is expected
+pub record IsFinding (search : Search) (input : Input) (text : List ℕ) (status : ℕ) : Type 0 where
+  pub found : Found
+  pub is_found : IsFound search input.script found
+  pub is_text : text ≡ text_of_found found
+  pub is_status : status ≡ status_of_text input.expectations found
+
+-- what a task makes of an input, with this order, if one is named; a check takes none
+abbrev pub IsMade : Task → Option (List ℕ) → Input → List ℕ → ℕ → Type 0
+IsMade (Run on_threads by_old_name) order input text status = IsReport (mode_of on_threads) input text status
+IsMade (Show on_threads options) order input text status = IsShow on_threads options order input.script text status
+IsMade (Check by_lines) order input text status = ⊥
+IsMade (Text form) order input text status = IsForm form input text status
+IsMade (Explore search) order input text status = IsFinding search input text status
+
+-- the same of what was read
+abbrev pub IsMadeOf : Task → Option (List ℕ) → Result Input Unread → List ℕ → ℕ → Type 0
+IsMadeOf task order read text status = (input : Input) × ((read ≡ Ok input) × IsMade task order input text status)
+
+-- a task that takes a script
+abbrev pub TakesScript : Task → Type 0
+TakesScript (Check by_lines) = ⊥
+TakesScript _ = Unit {0}

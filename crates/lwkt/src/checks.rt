@@ -1,0 +1,128 @@
+//! Traces, checked.
+ghost use Rattle.std.specs.Prelude.{◌≡◌, ◌↔◌, ◌⊎◌, false, true, IsTrue};
+ghost use Rattle.std.specs.Io.KnownBytes.{Keeps};
+ghost use Rattle.lwkt_checker.specs.Output.{TellsFinding, status_of};
+ghost use Rattle.lwkt_checker.specs.LineOutput.{TellsOfLines};
+ghost use Rattle.lwkt_refusals.specs.Sayings.{SaysMore};
+ghost use Rattle.lwkt.specs.Checking.{ComplainsFirst, IsUnread, ChecksAloud};
+
+use lwkt_base::Fault;
+use lwkt_checker::{Lines, check_keeping, check_lines, say_outcome, status_of};
+use lwkt_refusals::{Speaker, has_no_reader};
+use lwkt_report::{NotedReader, NotedWriter, ReaderSource, RunFault, Sink, WriterSink};
+use std::alloc::Global;
+use std::io::{Read, Write};
+
+// What was read of a trace, of which is said why it is refused.
+#[derive(Drop)]
+enum Given<'g> {
+    // Of a trace in lines its opening, and the line that was read last.
+    Lines(&'g Lines),
+    // The whole text of any other.
+    Text(&'g [u8]),
+}
+
+// Says why the trace is refused with this fault: of a trace in lines by the line that is, or by its opening; else by its text.
+fn say_refusal<E: Sink>(alloc: Global, errors: &mut E, fault: Fault, given: &Given)
+    ensures { SaysMore (E.has_failed errors.old) (E.has_failed errors.new) (E.contents errors.old) (E.contents errors.new) }
+{
+    match (given, fault) {
+        (Given::Text(text), fault) => Speaker::Check.say_refusal(alloc, errors, Some(text), fault),
+        (Given::Lines(lines), Fault::Script { place }) => Speaker::Check.say_line_refusal(
+            alloc,
+            errors,
+            lines.number,
+            lines.line.as_slice(),
+            place,
+        ),
+        (Given::Lines(lines), fault) => {
+            Speaker::Check.say_refusal(alloc, errors, Some(lines.opening_line()), fault)
+        }
+    }
+}
+
+// Says why nothing was found, behind the line.
+fn say_why<I, O, E: Sink>(
+    alloc: Global,
+    errors: &mut E,
+    fault: RunFault,
+    given: &Given,
+    source: &ReaderSource<NotedReader<I>>,
+    sink: &WriterSink<NotedWriter<O>>,
+)
+    ensures { SaysMore (E.has_failed errors.old) (E.has_failed errors.new) (E.contents errors.old) (E.contents errors.new) }
+{
+    match fault {
+        RunFault::Fault(Fault::Memory(_)) => Speaker::Check.say_memory(errors),
+        RunFault::Fault(fault) => { say_refusal(alloc, errors, fault, given) }
+        RunFault::Stream if source.failed => {
+            Speaker::Check.say_unread(alloc, errors, &source.reader.error)
+        }
+        RunFault::Stream => Speaker::Check.say_unwritten(alloc, errors, &sink.writer.error),
+    }
+}
+
+// Says what came of a check: nothing beside a finding, else its line and why nothing was found.
+fn say_all<I, O, E: Sink>(
+    alloc: Global,
+    errors: &mut E,
+    outcome: &Result<bool, RunFault>,
+    given: &Given,
+    source: &ReaderSource<NotedReader<I>>,
+    sink: &WriterSink<NotedWriter<O>>,
+)
+    ensures { ComplainsFirst (E.has_failed errors.new) (E.contents errors.old) (E.contents errors.new) outcome.now }
+{
+    say_outcome(errors, outcome);
+    if let Err(fault) = *outcome {
+        say_why(alloc, errors, fault, given, source, sink);
+    }
+}
+
+// Whether the output has failed since nobody reads any more what is written.
+fn is_unread<O>(sink: &WriterSink<NotedWriter<O>>) -> bool
+    ensures { IsTrue result ↔ IsUnread sink.now.failed sink.now.writer.error }
+{
+    sink.failed && has_no_reader(&sink.writer.error)
+}
+
+// Says what came of a check, but nothing where nobody reads any more what is written. The answer is the exit status.
+fn conclude<I, O, E: Sink>(
+    alloc: Global,
+    errors: &mut E,
+    outcome: &Result<bool, RunFault>,
+    given: &Given,
+    source: &ReaderSource<NotedReader<I>>,
+    sink: &WriterSink<NotedWriter<O>>,
+) -> u8
+    ensures complains { (IsUnread sink.now.failed sink.now.writer.error × Keeps (E.contents errors.old) (E.contents errors.new)) ⊎ ((IsUnread sink.now.failed sink.now.writer.error → ⊥) × ComplainsFirst (E.has_failed errors.new) (E.contents errors.old) (E.contents errors.new) outcome.now) }
+    ensures status { result ≡ status_of outcome.now }
+{
+    if !is_unread(sink) {
+        say_all(alloc, errors, outcome, given, source, sink);
+    }
+    status_of(outcome)
+}
+
+/// Checks a trace, in lines or not: writes what is found, and answers the exit status. Where errors go, the line of a fault stands if
+/// nothing is found, and behind it why: the part of the trace that is refused, with its place, or how a stream failed. If nobody
+/// reads any more what is written, nothing goes there.
+pub fn check<I: Read, O: Write, E: Sink>(
+    alloc: Global,
+    by_lines: bool,
+    source: &mut ReaderSource<NotedReader<I>>,
+    sink: &mut WriterSink<NotedWriter<O>>,
+    errors: &mut E,
+) -> u8
+    ensures whole { by_lines ≡ false → ChecksAloud TellsFinding source.new.failed sink.new.failed (I.remaining source.old.reader.reader) (O.contents sink.old.writer.writer) (O.contents sink.new.writer.writer) (IsUnread sink.new.failed sink.new.writer.error) (E.has_failed errors.new) (E.contents errors.old) (E.contents errors.new) result }
+    ensures lines { by_lines ≡ true → ChecksAloud TellsOfLines source.new.failed sink.new.failed (I.remaining source.old.reader.reader) (O.contents sink.old.writer.writer) (O.contents sink.new.writer.writer) (IsUnread sink.new.failed sink.new.writer.error) (E.has_failed errors.new) (E.contents errors.old) (E.contents errors.new) result }
+{
+    if by_lines {
+        let mut lines = Lines::new(alloc);
+        let outcome = check_lines(alloc, &mut lines, source, sink);
+        return conclude(alloc, errors, &outcome, &Given::Lines(&lines), source, sink);
+    }
+    let mut text = Vec::new(alloc);
+    let outcome = check_keeping(alloc, source, sink, &mut text);
+    conclude(alloc, errors, &outcome, &Given::Text(&text), source, sink)
+}

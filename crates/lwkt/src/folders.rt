@@ -1,0 +1,172 @@
+//! All scripts of a folder, each performed.
+use crate::errors::{Origin, put, say_memory, say_unopened, say_unwritten};
+use crate::files::opened;
+use crate::performing::perform;
+use lwkt_report::{NotedReader, NotedWriter, ReaderSource, Sink, WriterSink, write_whole};
+use lwkt_request::Request;
+use std::alloc::{AllocError, Global};
+use std::fs::Files;
+use std::io::Write;
+use std::thread::Threads;
+use std::time::Clock;
+use std::{fs, io};
+
+// How many files passed, and how many failed.
+#[derive(Clone, Copy)]
+struct Count {
+    passed: usize,
+    failed: usize,
+}
+
+// Whether a file of this name is tried.
+fn is_script(name: &str) -> bool {
+    name.ends_with(".lwkt") || name.ends_with(".json")
+}
+
+// The names of the scripts of a folder, in order.
+fn names_in<R: Files + Alloc + Clone + Drop>(
+    rt: &R,
+    alloc: Global,
+    folder: &str,
+) -> io::Result<Vec<String>> {
+    let mut names = Vec::new(alloc);
+    for entry in fs::read_dir(rt, folder)? {
+        let entry = entry?;
+        let name = entry.file_name();
+        if is_script(name) {
+            let name = String::from_str(alloc, name)?;
+            names.push(name).map_err(AllocError::from)?;
+        }
+    }
+    names.sort()?;
+    Ok(names)
+}
+
+// What a try of one file came to: its status, and all that it wrote and said, if memory for it was there.
+#[derive(Drop)]
+struct Ending {
+    status: u8,
+    said: Vec<u8>,
+}
+
+// Tries one file.
+fn tried<R: Threads + Sync + Clock + Files>(
+    rt: &R,
+    alloc: Global,
+    request: &Request,
+    path: &str,
+) -> Ending {
+    let mut sink = WriterSink::new(NotedWriter::new(Vec::new(alloc)));
+    let mut errors = WriterSink::new(Vec::new(alloc));
+    let status = match opened(rt, path) {
+        Ok(file) => {
+            let mut source = ReaderSource::new(NotedReader::new(alloc, file));
+            perform(
+                rt,
+                alloc,
+                request,
+                Some(path),
+                &mut source,
+                &mut sink,
+                &mut errors,
+            )
+        }
+        Err(error) => {
+            let origin = Origin {
+                task: request.task,
+                path: Some(path),
+            };
+            say_unopened(alloc, &mut errors, origin, &error);
+            3
+        }
+    };
+    let mut said = sink.writer.writer;
+    let _ = said.extend_from_slice(errors.writer.as_slice());
+    Ending { status, said }
+}
+
+// Tries one file, and writes what it said if it fails.
+fn try_one<R: Threads + Sync + Clock + Files, O: Write>(
+    rt: &R,
+    alloc: Global,
+    request: &Request,
+    folder: &str,
+    name: &str,
+    sink: &mut WriterSink<NotedWriter<O>>,
+) -> Result<bool, AllocError> {
+    let path = format!(in alloc; "{folder}/{name}")?;
+    let Ending { status, said } = tried(rt, alloc, request, path.as_str());
+    if status == 0 {
+        return Ok(true);
+    }
+    let head = format!(in alloc; "{name}: status {status}\n")?;
+    let _ = write_whole(sink, head.as_bytes());
+    let _ = write_whole(sink, said.as_slice());
+    Ok(false)
+}
+
+// Tries each file, and writes how many passed.
+fn counted<R: Threads + Sync + Clock + Files, O: Write>(
+    rt: &R,
+    alloc: Global,
+    request: &Request,
+    folder: &str,
+    names: &[String],
+    sink: &mut WriterSink<NotedWriter<O>>,
+) -> Result<Count, AllocError> {
+    let mut count = Count {
+        passed: 0,
+        failed: 0,
+    };
+    for name in names {
+        if try_one(rt, alloc, request, folder, name.as_str(), sink)? {
+            count.passed += 1;
+        } else {
+            count.failed += 1;
+        }
+    }
+    let Count { passed, failed } = count;
+    let sum = format!(in alloc; "{passed} passed, {failed} failed\n")?;
+    let _ = write_whole(sink, sum.as_bytes());
+    Ok(count)
+}
+
+/// Performs a request on each `.lwkt` and `.json` file of a folder, by name. Of those whose status isn't 0, the name, the status and all
+/// that was written stands on the sink; in the end how many passed and failed.
+///
+/// The status: 0 if all passed, 5 if not, 1 if no file was tried, 3 if memory was refused or a stream failed.
+pub fn perform_all<R: Threads + Sync + Clock + Files + Alloc + Clone + Drop, O: Write, E: Sink>(
+    rt: &R,
+    alloc: Global,
+    request: &Request,
+    folder: &str,
+    sink: &mut WriterSink<NotedWriter<O>>,
+    errors: &mut E,
+) -> u8 {
+    let origin = Origin {
+        task: request.task,
+        path: Some(folder),
+    };
+    let names = match names_in(rt, alloc, folder) {
+        Ok(names) => names,
+        Err(error) => {
+            say_unopened(alloc, errors, origin, &error);
+            return 1;
+        }
+    };
+    if names.is_empty() {
+        put(errors, "lwkt_explore: ");
+        put(errors, folder);
+        put(errors, ": no file there ends in .lwkt or .json\n");
+        return 1;
+    }
+    let Ok(count) = counted(rt, alloc, request, folder, names.as_slice(), sink) else {
+        say_memory(errors, origin);
+        return 3;
+    };
+    if sink.failed {
+        say_unwritten(alloc, errors, origin, &sink.writer.error);
+        return 3;
+    }
+    if count.failed == 0 { 0 } else { 5 }
+}

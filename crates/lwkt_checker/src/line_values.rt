@@ -1,0 +1,27 @@
+ghost use Rattle.std.specs.Prelude.{◌≡◌, IfOk, option_map};
+ghost use Rattle.serde_json.specs.View.{view};
+ghost use Rattle.lwkt_checker.specs.Line.{value_of};
+
+use crate::lines::LINE_LIMIT;
+use lwkt_script::refusal_of;
+use serde_json::Value;
+use std::alloc::{AllocError, Global};
+
+/// The value that a line is: one JSON text of at most 1,048,576 bytes, nested at most 127 deep. None where it is no such text.
+///
+/// Refused if memory is.
+#[tactic(auto, unfolding(crate::specs::Line::value_of))]
+pub fn value_of(alloc: Global, line: &[u8]) -> Result<Option<Value>, AllocError>
+    ensures { IfOk result (λ value. option_map view value ≡ value_of line.now) }
+{
+    if line.len() > LINE_LIMIT {
+        return Ok(None);
+    }
+    match Value::from_slice(alloc, line) {
+        Ok(value) => Ok(Some(value)),
+        Err(error) => match refusal_of(&error) {
+            Some(refused) => Err(refused),
+            None => Ok(None),
+        },
+    }
+}

@@ -1,0 +1,6 @@
+use Rattle.std.proofs.Common.{◌≡◌, drop}
+use Rattle.lwkt_explore.specs.Readings.{sum_on}
+use Rattle.lwkt_explore.proofs.readings.sum_of.Given as goal
+
+abbrev pub invariant-loop-quantity : goal.invariant-loop-quantity
+invariant-loop-quantity l = sum_on l.outcome l.total (drop l.quantity-index l.quantities) ≡ sum_on l.outcome 0 l.quantities

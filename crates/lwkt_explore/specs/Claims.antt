@@ -1,0 +1,131 @@
+-- What is said of an outcome, and whether it is so (own).
+use Rattle.std.specs.Prelude.{ℕ, ◌==◌, ◌&&◌, ◌||◌, not, nat_lt, nat_le, List, [], ◌∷◌, slice_get, bytes_eq, Bool, true, false, Option, Some, None, option_map, unwrap_or}
+use Rattle.std.specs.List.{list_all}
+use Rattle.lwkt_base.specs.declared.entries.Entry.{Entry}
+use Rattle.lwkt_base.specs.declared.entries.Entry.TheVariants as entries
+use Rattle.lwkt_base.specs.declared.message_words.MsgState.{MsgState}
+use Rattle.lwkt_base.specs.declared.message_words.MsgState.TheVariants as places
+use Rattle.lwkt_base.specs.declared.names.MsgId.{MsgId}
+use Rattle.lwkt_base.specs.declared.names.ThreadId.{ThreadId}
+use Rattle.lwkt_base.specs.declared.records.Call.{Call}
+use Rattle.lwkt_base.specs.declared.owners.Owner.{Owner}
+use Rattle.lwkt_base.specs.declared.owners.Owner.TheVariants as owners
+use Rattle.lwkt_base.specs.declared.threads.ThreadState.{ThreadState}
+use Rattle.lwkt_base.specs.declared.threads.ThreadState.TheVariants as states
+use Rattle.lwkt_base.specs.Fault.{number_of}
+use Rattle.lwkt_base.specs.Threads.{has_ended}
+use Rattle.lwkt_report.specs.declared.closings.Closing.{Closing}
+use Rattle.lwkt_report.specs.declared.closings.ThreadLine.{ThreadLine}
+use Rattle.lwkt_text.specs.declared.claims.Claim.{Claim}
+use Rattle.lwkt_text.specs.declared.claims.Claim.TheVariants as claims
+use Rattle.lwkt_text.specs.declared.claims.Relation.{Relation}
+use Rattle.lwkt_text.specs.declared.claims.Relation.TheVariants as relations
+use Rattle.lwkt_text.specs.declared.claims.Standing.{Standing}
+use Rattle.lwkt_text.specs.declared.claims.Standing.TheVariants as standings
+use Rattle.lwkt_explore.specs.Readings.{sum_of}
+
+-- whether a thread stands so
+abbrev pub is_standing : Standing → ThreadState → Bool
+is_standing standings.Ready states.Ready = true
+is_standing standings.Waiting states.Waiting = true
+is_standing standings.Running states.Running = true
+is_standing standings.Exited states.Exited = true
+is_standing standings.Faulted (states.Faulted fault) = true
+is_standing _ _ = false
+
+-- whether a message is there
+abbrev pub is_place : MsgState → Owner → Bool
+is_place places.Rest (owners.Rest origin) = true
+is_place places.Out (owners.Out origin target) = true
+is_place places.With (owners.With origin target) = true
+is_place places.Back (owners.Back origin target) = true
+is_place _ _ = false
+
+-- ended by the fault of this number
+abbrev pub has_faulted : ℕ → ThreadState → Bool
+has_faulted n states.Ready = false
+has_faulted n states.Waiting = false
+has_faulted n states.Running = false
+has_faulted n states.Exited = false
+has_faulted n (states.Faulted fault) = number_of fault == n
+
+abbrev pub same_bool : Bool → Bool → Bool
+same_bool true b = b
+same_bool false b = not b
+
+abbrev pub same_call : Call → Call → Bool
+same_call c d = c.op == d.op && c.arg == d.arg
+
+-- whether two entries are the same
+abbrev pub same_entry : Entry → Entry → Bool
+same_entry (entries.Value m) (entries.Value n) = m == n
+same_entry (entries.Bytes a) (entries.Bytes b) = bytes_eq a b
+same_entry (entries.Aborted a) (entries.Aborted b) = same_bool a b
+same_entry (entries.Request m c) (entries.Request n d) = m.0 == n.0 && same_call c d
+same_entry (entries.Reply m e r) (entries.Reply n f s) = m.0 == n.0 && e == f && r == s
+same_entry entries.NoMessage entries.NoMessage = true
+same_entry (entries.Dropped m c) (entries.Dropped n d) = m.0 == n.0 && same_call c d
+same_entry (entries.Refused m) (entries.Refused n) = m == n
+same_entry _ _ = false
+
+abbrev pub same_thread : ThreadId → ThreadId → Bool
+same_thread s t = s.cpu.0 == t.cpu.0 && s.thread == t.thread
+
+-- whether a log has an entry
+abbrev pub has_entry : Entry → List Entry → Bool
+has_entry entry [] = false
+has_entry entry (e ∷ es) = same_entry e entry || has_entry entry es
+
+-- whether this is the line of a thread, and its log has an entry
+abbrev pub has_logged : ThreadId → Entry → ThreadLine → Bool
+has_logged id entry line = same_thread line.id id && has_entry entry line.log
+
+-- whether this is the line of a thread that stands so
+abbrev pub has_stood : ThreadId → Standing → ThreadLine → Bool
+has_stood id standing line = same_thread line.id id && is_standing standing line.state
+
+-- whether a thread was ended by this fault, has this entry, stands so
+abbrev pub any_faulted : ℕ → List ThreadLine → Bool
+any_faulted n [] = false
+any_faulted n (line ∷ lines) = has_faulted n line.state || any_faulted n lines
+
+abbrev pub any_logged : ThreadId → Entry → List ThreadLine → Bool
+any_logged id entry [] = false
+any_logged id entry (line ∷ lines) = has_logged id entry line || any_logged id entry lines
+
+abbrev pub any_stood : ThreadId → Standing → List ThreadLine → Bool
+any_stood id standing [] = false
+any_stood id standing (line ∷ lines) = has_stood id standing line || any_stood id standing lines
+
+-- how two numbers compare
+abbrev pub related : Relation → ℕ → ℕ → Bool
+related relations.Equal a b = a == b
+related relations.Unequal a b = not (a == b)
+related relations.Less a b = nat_lt a b
+related relations.AtMost a b = nat_le a b
+related relations.More a b = nat_lt b a
+related relations.AtLeast a b = nat_le b a
+
+-- how two sums compare, if both are there
+abbrev pub compared : Relation → Option ℕ → Option ℕ → Bool
+compared relation (Some a) (Some b) = related relation a b
+compared relation (Some a) None = false
+compared relation None b = false
+
+-- whether a message of an outcome is there
+abbrev pub lies : Closing → MsgId → MsgState → Bool
+lies o msg place = unwrap_or (option_map (λ line. is_place place line.state) (slice_get o.messages.items msg.0)) false
+
+-- whether all threads of an outcome have ended
+abbrev pub all_ended : Closing → Bool
+all_ended o = list_all (λ line. has_ended line.state) o.threads.items
+
+-- whether what is said of an outcome is so
+abbrev pub holds : Closing → Claim → Bool
+holds o claims.Ended = all_ended o
+holds o claims.Stuck = not (all_ended o)
+holds o (claims.Faulted n) = any_faulted n o.threads.items
+holds o (claims.Logged id entry) = any_logged id entry o.threads.items
+holds o (claims.Stands id standing) = any_stood id standing o.threads.items
+holds o (claims.Lies msg place) = lies o msg place
+holds o (claims.Compares c) = compared c.relation (sum_of o c.left) (sum_of o c.right)

@@ -1,0 +1,48 @@
+//! All that is told of a run of a text: its report, a line for each expectation, and what it came to.
+ghost use Rattle.std.specs.Prelude.{◌≡◌, IfOk, string_bytes};
+ghost use Rattle.lwkt_report.specs.Report.{report_text};
+ghost use Rattle.lwkt_explore.specs.Judgements.{judgement_of};
+
+use crate::judgements::{Judgement, judgement_of};
+use crate::verdicts::verdicts_said;
+use lwkt_base::Fault;
+use lwkt_report::{Closing, report};
+use lwkt_text::claims::Expectation;
+use std::alloc::{AllocError, Global};
+
+/// What is told of a run of a text.
+#[derive(Drop)]
+pub struct Account {
+    /// The report of the run.
+    pub report: String,
+    /// A line for each thing that the text says of the outcome, which says whether it is so.
+    pub verdicts: String,
+    /// What the run came to.
+    pub judgement: Judgement,
+}
+
+/// What is told of a run with this outcome. In the lines of expectations the text is called by the path, where there is one.
+///
+/// Refused if memory is.
+pub fn account_of(
+    alloc: Global,
+    path: Option<&str>,
+    bytes: &[u8],
+    expectations: &[Expectation],
+    outcome: &Closing,
+) -> Result<Account, AllocError>
+    ensures report { IfOk result (λ account. string_bytes account.report ≡ report_text outcome.now) }
+    ensures judgement { IfOk result (λ account. account.judgement ≡ judgement_of expectations.now outcome.now) }
+{
+    let report = match report(alloc, outcome) {
+        Ok(report) => report,
+        Err(Fault::Memory(refused)) => return Err(refused),
+        Err(_) => unreachable!(),
+    };
+    let verdicts = verdicts_said(alloc, path, bytes, expectations, outcome)?;
+    Ok(Account {
+        report,
+        verdicts,
+        judgement: judgement_of(expectations, outcome),
+    })
+}

@@ -1,0 +1,197 @@
+//! Whether what a text says of an outcome is so.
+ghost use Rattle.std.specs.Prelude.{◌≡◌};
+ghost use Rattle.lwkt_base.specs.Threads.{has_ended};
+ghost use Rattle.lwkt_explore.specs.Claims.{is_standing, is_place, has_faulted, same_call, same_entry, same_thread, has_entry, has_logged, has_stood, any_faulted, any_logged, any_stood, related, compared, lies, all_ended, holds};
+
+use crate::readings::sum_of;
+use lwkt_base::blobs::same_bytes;
+use lwkt_base::{Call, Entry, MsgId, MsgState, Owner, ThreadId, ThreadState};
+use lwkt_report::{Closing, ThreadLine};
+use lwkt_text::claims::{Claim, Relation, Standing};
+
+// Whether a thread stands so.
+fn is_standing(standing: Standing, state: ThreadState) -> bool
+    ensures { result ≡ is_standing standing state }
+{
+    match standing {
+        Standing::Ready => matches!(state, ThreadState::Ready),
+        Standing::Waiting => matches!(state, ThreadState::Waiting),
+        Standing::Running => matches!(state, ThreadState::Running),
+        Standing::Exited => matches!(state, ThreadState::Exited),
+        Standing::Faulted => matches!(state, ThreadState::Faulted(_)),
+    }
+}
+
+// Whether a message is there.
+fn is_place(place: MsgState, owner: Owner) -> bool
+    ensures { result ≡ is_place place owner }
+{
+    match place {
+        MsgState::Rest => matches!(owner, Owner::Rest { .. }),
+        MsgState::Out => matches!(owner, Owner::Out { .. }),
+        MsgState::With => matches!(owner, Owner::With { .. }),
+        MsgState::Back => matches!(owner, Owner::Back { .. }),
+    }
+}
+
+// Whether a thread was ended by the fault of this number.
+fn has_faulted(n: u8, state: ThreadState) -> bool
+    ensures { result ≡ has_faulted n state }
+{
+    match state {
+        ThreadState::Faulted(fault) => fault.number() == n,
+        _ => false,
+    }
+}
+
+fn same_call(one: Call, other: Call) -> bool
+    ensures { result ≡ same_call one other }
+{
+    one.op == other.op && one.arg == other.arg
+}
+
+// Whether two entries are the same.
+fn same_entry(one: &Entry, other: &Entry) -> bool
+    ensures { result ≡ same_entry one.now other.now }
+{
+    match (one, other) {
+        (Entry::Value(m), Entry::Value(n)) => *m == *n,
+        (Entry::Bytes(a), Entry::Bytes(b)) => same_bytes(a, b),
+        (Entry::Aborted(a), Entry::Aborted(b)) => *a == *b,
+        (Entry::Request(m, c), Entry::Request(n, d)) => m.0 == n.0 && same_call(*c, *d),
+        (Entry::Reply(m, e, r), Entry::Reply(n, f, s)) => m.0 == n.0 && *e == *f && *r == *s,
+        (Entry::NoMessage, Entry::NoMessage) => true,
+        (Entry::Dropped(m, c), Entry::Dropped(n, d)) => m.0 == n.0 && same_call(*c, *d),
+        (Entry::Refused(m), Entry::Refused(n)) => *m == *n,
+        _ => false,
+    }
+}
+
+fn same_thread(one: ThreadId, other: ThreadId) -> bool
+    ensures { result ≡ same_thread one other }
+{
+    one.cpu.0 == other.cpu.0 && one.thread == other.thread
+}
+
+// Whether a log has an entry.
+fn has_entry(entry: &Entry, log: &[Entry]) -> bool
+    ensures { result ≡ has_entry entry.now log.now }
+{
+    for e in log {
+        if same_entry(e, entry) {
+            return true;
+        }
+    }
+    false
+}
+
+// Whether this is the line of a thread, and its log has an entry.
+fn has_logged(id: ThreadId, entry: &Entry, line: &ThreadLine) -> bool
+    ensures { result ≡ has_logged id entry.now line.now }
+{
+    same_thread(line.id, id) && has_entry(entry, line.log.as_slice())
+}
+
+// Whether this is the line of a thread that stands so.
+fn has_stood(id: ThreadId, standing: Standing, line: &ThreadLine) -> bool
+    ensures { result ≡ has_stood id standing line.now }
+{
+    same_thread(line.id, id) && is_standing(standing, line.state)
+}
+
+// Whether a thread was ended by the fault of this number.
+fn any_faulted(n: u8, lines: &[ThreadLine]) -> bool
+    ensures { result ≡ any_faulted n lines.now }
+{
+    for line in lines {
+        if has_faulted(n, line.state) {
+            return true;
+        }
+    }
+    false
+}
+
+// Whether a thread's log has an entry.
+fn any_logged(id: ThreadId, entry: &Entry, lines: &[ThreadLine]) -> bool
+    ensures { result ≡ any_logged id entry.now lines.now }
+{
+    for line in lines {
+        if has_logged(id, entry, line) {
+            return true;
+        }
+    }
+    false
+}
+
+// Whether a thread stands so.
+fn any_stood(id: ThreadId, standing: Standing, lines: &[ThreadLine]) -> bool
+    ensures { result ≡ any_stood id standing lines.now }
+{
+    for line in lines {
+        if has_stood(id, standing, line) {
+            return true;
+        }
+    }
+    false
+}
+
+// How two numbers compare.
+fn related(relation: Relation, a: u64, b: u64) -> bool
+    ensures { result ≡ related relation a b }
+{
+    match relation {
+        Relation::Equal => a == b,
+        Relation::Unequal => a != b,
+        Relation::Less => a < b,
+        Relation::AtMost => a <= b,
+        Relation::More => a > b,
+        Relation::AtLeast => a >= b,
+    }
+}
+
+// How two sums compare, if both are there.
+fn compared(relation: Relation, left: Option<u64>, right: Option<u64>) -> bool
+    ensures { result ≡ compared relation left right }
+{
+    match (left, right) {
+        (Some(a), Some(b)) => related(relation, a, b),
+        _ => false,
+    }
+}
+
+// Whether a message of an outcome is there.
+fn lies(outcome: &Closing, msg: MsgId, place: MsgState) -> bool
+    ensures { result ≡ lies outcome.now msg place }
+{
+    match outcome.messages.as_slice().get(msg.0 as usize) {
+        Some(line) => is_place(place, line.state),
+        None => false,
+    }
+}
+
+/// Whether all threads of an outcome have ended.
+pub(crate) fn all_ended(outcome: &Closing) -> bool
+    ensures { result ≡ all_ended outcome.now }
+{
+    outcome.threads.iter().all(|line| line.state.has_ended())
+}
+
+/// Whether what is said of an outcome is so. A quantity that the outcome doesn't have, or a sum that 64 bits have no room for,
+/// compares with nothing.
+pub fn holds(outcome: &Closing, claim: &Claim) -> bool
+    ensures { result ≡ holds outcome.now claim.now }
+{
+    let threads = outcome.threads.as_slice();
+    match claim {
+        Claim::Ended => all_ended(outcome),
+        Claim::Stuck => !all_ended(outcome),
+        Claim::Faulted(n) => any_faulted(*n, threads),
+        Claim::Logged(id, entry) => any_logged(*id, entry, threads),
+        Claim::Stands(id, standing) => any_stood(*id, *standing, threads),
+        Claim::Lies(msg, place) => lies(outcome, *msg, *place),
+        Claim::Compares(said) => {
+            let left = sum_of(outcome, said.left.as_slice());
+            compared(said.relation, left, sum_of(outcome, said.right.as_slice()))
+        }
+    }
+}

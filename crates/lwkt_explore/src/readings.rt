@@ -1,0 +1,60 @@
+//! The numbers that a claim takes from an outcome.
+ghost use Rattle.std.specs.Prelude.{◌≡◌};
+ghost use Rattle.lwkt_explore.specs.Readings.{shown_tally, reading, total_with, sum_of};
+
+use lwkt_base::Cells;
+use lwkt_report::Closing;
+use lwkt_text::claims::Quantity;
+
+// What a processor has added to a token, as its line shows it.
+fn shown_tally(tallies: &Option<Cells>, cpu: u8) -> Option<u64>
+    ensures { result ≡ shown_tally tallies.now cpu }
+{
+    match tallies {
+        Some(tallies) => tallies.as_slice().get(cpu as usize).copied(),
+        None => None,
+    }
+}
+
+/// The number of a quantity, if the outcome has it.
+pub fn reading(outcome: &Closing, quantity: Quantity) -> Option<u64>
+    ensures { result ≡ reading outcome.now quantity }
+{
+    match quantity {
+        Quantity::Number(n) => Some(n),
+        Quantity::Cell(tok, cell) => {
+            let line = outcome.tokens.as_slice().get(tok.0 as usize)?;
+            line.cells.as_slice().get(cell as usize).copied()
+        }
+        Quantity::Generation(tok) => {
+            let line = outcome.tokens.as_slice().get(tok.0 as usize)?;
+            Some(line.generation)
+        }
+        Quantity::Tally(tok, cpu) => {
+            let line = outcome.tokens.as_slice().get(tok.0 as usize)?;
+            shown_tally(&line.tallies, cpu.0)
+        }
+        Quantity::Round(msg) => {
+            let line = outcome.messages.as_slice().get(msg.0 as usize)?;
+            Some(line.round)
+        }
+    }
+}
+
+// A total with one more quantity.
+fn total_with(outcome: &Closing, total: u64, quantity: Quantity) -> Option<u64>
+    ensures { result ≡ total_with outcome.now total quantity }
+{
+    total.checked_add(reading(outcome, quantity)?)
+}
+
+/// The sum of quantities, if the outcome has them all and 64 bits have room for it.
+pub fn sum_of(outcome: &Closing, quantities: &[Quantity]) -> Option<u64>
+    ensures { result ≡ sum_of outcome.now quantities.now }
+{
+    let mut total = 0u64;
+    for quantity in quantities {
+        total = total_with(outcome, total, *quantity)?;
+    }
+    Some(total)
+}

@@ -1,3 +1,0 @@
-pub mod NumberLemmas
-pub mod WordLemmas
-pub mod Telling

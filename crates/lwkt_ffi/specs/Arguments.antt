@@ -1,0 +1,75 @@
+-- What the arguments of a call that shows a run say (own).
+use Rattle.std.specs.Prelude.{◌≡◌, ◌⊎◌, Bool, true, false, ℕ, ◌<◌, ◌≤◌, ◌^◌, List, [], ◌∷◌, ◌==◌, codes}
+use Rattle.std.specs.List.{before_first, after_first}
+use Rattle.std.specs.Str.Parse.{digits_value, without_leading_plus, IsNumeral}
+use Rattle.lwkt_scenes.specs.declared.reels.Counted.{Counted}
+use Rattle.lwkt_scenes.specs.declared.reels.Counted.TheVariants.{Turns, Rounds}
+use Rattle.lwkt_show.specs.declared.options.View.{View}
+use Rattle.lwkt_show.specs.declared.options.View.TheVariants.{Lines, Trace, Picture, Chains}
+use Rattle.lwkt_show.specs.declared.options.Options.{Options}
+
+-- an end of a range that is left out
+abbrev pub no_end : ℕ
+no_end = 18446744073709551615
+
+-- an end of a range is this number, which is written there in decimal digits, with or without a plus before them, or what stands
+-- for one that is left out
+abbrev pub IsBound : ℕ → List ℕ → ℕ → Type 0
+IsBound without [] n = n ≡ without
+IsBound without (digit ∷ digits) n = IsNumeral 10 (without_leading_plus (digit ∷ digits)) × ((digits_value 10 (without_leading_plus (digit ∷ digits)) < 2 ^ 64) × (n ≡ digits_value 10 (without_leading_plus (digit ∷ digits))))
+
+-- a byte is a full stop
+abbrev pub is_stop : ℕ → Bool
+is_stop byte = byte == 46
+
+-- a text is the range `A..B` from one number to another: A is what stands before its first full stop, and behind that comes another
+-- one and then B
+pub record IsRange (text : List ℕ) (first last : ℕ) : Type 0 where
+  pub to : List ℕ
+  pub stops : after_first is_stop text ≡ 46 ∷ to
+  pub is_first : IsBound 0 (before_first is_stop text) first
+  pub is_last : IsBound no_end to last
+
+-- a word asks for a view; no word asks for lines
+abbrev pub IsView : List ℕ → View → Type 0
+IsView word Lines = ⊥
+IsView word Trace = word ≡ codes "--trace"
+IsView word Picture = word ≡ codes "--svg"
+IsView word Chains = word ≡ codes "--chains"
+
+-- whether a view is of turns that are chosen, and not of the whole run
+abbrev pub has_range : View → Bool
+has_range Lines = true
+has_range Trace = false
+has_range Picture = true
+has_range Chains = false
+
+-- the word before a range, by what it counts
+abbrev pub range_word : Counted → List ℕ
+range_word Turns = codes "--turns"
+range_word Rounds = codes "--rounds"
+
+-- a word and the text behind it choose the turns of these options
+abbrev pub Choose : List ℕ → List ℕ → Options → Type 0
+Choose word text options = (word ≡ range_word options.counted) × IsRange text options.first options.last
+
+-- all turns are chosen
+abbrev pub HasAll : Options → Type 0
+HasAll options = (options.counted ≡ Turns) × ((options.first ≡ 0) × (options.last ≡ no_end))
+
+-- what the words behind `turns` say: nothing, a view, a range, or both in either order
+abbrev pub Say : List (List ℕ) → Options → Type 0
+Say [] options = HasAll options × (options.view ≡ Lines)
+Say (view ∷ []) options = HasAll options × IsView view options.view
+Say (word ∷ text ∷ []) options = Choose word text options × (options.view ≡ Lines)
+Say (a ∷ b ∷ c ∷ []) options = (IsView a options.view × Choose b c options) ⊎ (Choose a b options × IsView c options.view)
+Say (a ∷ b ∷ c ∷ d ∷ words) options = ⊥
+
+-- the options that the arguments are: `turns`, and what is said behind it; a range rises, and a view that isn't of chosen turns is
+-- of all
+pub record AreOptions (words : List (List ℕ)) (options : Options) : Type 0 where
+  pub behind : List (List ℕ)
+  pub are : words ≡ codes "turns" ∷ behind
+  pub say : Say behind options
+  pub rises : options.first ≤ options.last
+  pub whole : has_range options.view ≡ false → (options.first ≡ 0) × (options.last ≡ no_end)

@@ -1,4 +1,0 @@
-pub mod LineLemmas
-pub mod ToldLines
-pub mod Writing
-pub mod Judging

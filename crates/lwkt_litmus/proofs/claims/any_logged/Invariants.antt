@@ -1,6 +1,0 @@
-use Rattle.std.proofs.Common.{◌≡◌, drop}
-use Rattle.lwkt_litmus.specs.Claims.{any_logged}
-use Rattle.lwkt_litmus.proofs.claims.any_logged.Given as goal
-
-abbrev pub invariant-loop-line : goal.invariant-loop-line
-invariant-loop-line l = any_logged l.id l.entry (drop l.line-index l.lines) ≡ any_logged l.id l.entry l.lines

@@ -1,6 +1,0 @@
-use Rattle.std.proofs.Common.{◌≡◌, drop}
-use Rattle.lwkt_litmus.specs.Claims.{has_entry}
-use Rattle.lwkt_litmus.proofs.claims.has_entry.Given as goal
-
-abbrev pub invariant-loop-e : goal.invariant-loop-e
-invariant-loop-e l = has_entry l.entry (drop l.e-index l.log) ≡ has_entry l.entry l.log

@@ -1,4 +1,0 @@
-pub mod Readings
-pub mod Claims
-pub mod Judging
-pub mod Judgements

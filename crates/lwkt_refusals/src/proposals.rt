@@ -1,0 +1,115 @@
+//! Names that are nearly those that were written.
+use lwkt_text::{Name, Names, What};
+use std::alloc::{AllocError, Global};
+use strsim::levenshtein;
+
+/// The words that sentences begin with.
+pub const KEYWORDS: [&str; 29] = [
+    "turns",
+    "idle",
+    "cpus",
+    "token",
+    "message",
+    "thread",
+    "always",
+    "sometimes",
+    "never",
+    "get",
+    "gets",
+    "try",
+    "rel",
+    "swap",
+    "read",
+    "write",
+    "add",
+    "rrec",
+    "wrec",
+    "send",
+    "do",
+    "reply",
+    "abort",
+    "isab",
+    "drop",
+    "getport",
+    "wait",
+    "yield",
+    "exit",
+];
+
+/// The most characters of a word for which a name is proposed, and of such a name.
+pub const NAME_LIMIT: usize = 64;
+
+// How many names of a kind are looked at: as many as a text has threads at most, of which it can have more than of other parts.
+const COUNT_LIMIT: usize = 128;
+
+/// A name, and how many changes lead to it.
+#[derive(Clone, Copy)]
+pub struct Near<'n> {
+    /// The name.
+    pub name: &'n str,
+    changes: usize,
+}
+
+/// The nearer one of a name and the nearest so far, if it is near at all.
+pub fn nearer<'n>(
+    alloc: Global,
+    text: &str,
+    best: Option<Near<'n>>,
+    name: &'n str,
+) -> Result<Option<Near<'n>>, AllocError> {
+    if name.len() > NAME_LIMIT || text.len() > NAME_LIMIT {
+        return Ok(best);
+    }
+    let changes = levenshtein(alloc, text, name)?;
+    let limit = match best {
+        Some(near) => near.changes,
+        None => 3,
+    };
+    if changes < limit && changes < name.len() {
+        return Ok(Some(Near { name, changes }));
+    }
+    Ok(best)
+}
+
+// The nearest of some names.
+fn nearest<'n>(
+    alloc: Global,
+    text: &str,
+    names: &'n [Name],
+) -> Result<Option<&'n str>, AllocError> {
+    let mut best = None;
+    for name in names.iter().take(COUNT_LIMIT) {
+        best = nearer(alloc, text, best, name.as_str())?;
+    }
+    Ok(best.map(|near| near.name))
+}
+
+// The nearest of the words that sentences begin with.
+fn nearest_keyword(alloc: Global, text: &str) -> Result<Option<&'static str>, AllocError> {
+    let mut best = None;
+    for word in KEYWORDS {
+        best = nearer(alloc, text, best, word)?;
+    }
+    Ok(best.map(|near| near.name))
+}
+
+/// Whether a sentence may begin with this word.
+pub fn is_keyword(text: &str) -> bool {
+    KEYWORDS.contains(&text)
+}
+
+/// A name that is nearly what was written where another part was wanted, if there is one. None for a word of more than 64 characters.
+pub fn proposal<'n>(
+    alloc: Global,
+    names: &'n Names,
+    what: What,
+    text: &str,
+) -> Result<Option<&'n str>, AllocError> {
+    match what {
+        What::Keyword => nearest_keyword(alloc, text),
+        What::Token | What::Quantity => nearest(alloc, text, names.tokens.as_slice()),
+        What::Message => nearest(alloc, text, names.messages.as_slice()),
+        What::Thread => nearest(alloc, text, names.threads.as_slice()),
+        _ => Ok(None),
+    }
+}

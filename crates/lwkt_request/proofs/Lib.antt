@@ -1,0 +1,4 @@
+pub mod NumberLemmas
+pub mod FoundLemmas
+pub mod ParseLemmas
+pub mod AskedLemmas

@@ -1,0 +1,124 @@
+-- What the options of a subcommand ask for (own).
+use Rattle.std.specs.Prelude.{ℕ, ◌&&◌, ◌||◌, ◌==◌, not, List, Bool, true, false, Option, None, Some, is_some, if◌then◌else◌, codes}
+use Rattle.std.specs.List.{list_all}
+use Rattle.std.specs.Option.{option_and_then, option_map_or}
+use Rattle.std.specs.Str.{bytes_eq}
+use Rattle.clap.specs.Words.{Row, Text, first_of, found_of, rows_of}
+use Rattle.clap.specs.declared.parser.matches.ArgMatches.{ArgMatches}
+use Rattle.lwkt_request.specs.declared.ranges.Range.{Range}
+use Rattle.lwkt_show.specs.declared.options.View.{View}
+use Rattle.lwkt_show.specs.declared.options.View.TheVariants.{Lines, Trace, Picture, Chains}
+use Rattle.lwkt_show.specs.declared.options.Options.{Options}
+use Rattle.lwkt_explore.specs.declared.searches.Method.TheVariants.{Plain, Reduced}
+use Rattle.lwkt_request.specs.declared.requests.Form.{Form}
+use Rattle.lwkt_request.specs.declared.requests.Form.TheVariants as form
+use Rattle.lwkt_request.specs.declared.requests.Task.{Task}
+use Rattle.lwkt_request.specs.declared.requests.Task.TheVariants.{Run, Show, Check, Text as Translate, Explore}
+use Rattle.lwkt_request.specs.Texts.{no_end, number_named, number_or, path_of, is_part, range_named}
+
+-- what a parse found for the arguments
+abbrev pub rows_in : ArgMatches → List Row
+rows_in matches = rows_of (found_of matches)
+
+-- whether a flag is named
+abbrev pub is_true : Option Text → Bool
+is_true value = option_map_or (λ text. bytes_eq text (codes "true")) value false
+
+abbrev pub is_on : Text → List Row → Bool
+is_on name rows = is_true (first_of name rows)
+
+-- ---- show
+
+-- the view that `--trace`, `--svg` and `--chains` ask for; none if two are named
+abbrev pub view_of : Bool → Bool → Bool → Option View
+view_of false false false = Some Lines
+view_of true false false = Some Trace
+view_of false true false = Some Picture
+view_of false false true = Some Chains
+view_of _ _ _ = None
+
+-- whether a view is of turns that are chosen, and not of the whole run
+abbrev pub has_range : View → Bool
+has_range Lines = true
+has_range Trace = false
+has_range Picture = true
+has_range Chains = false
+
+abbrev pub is_whole : Range → Bool
+is_whole range = range.first == 0 && range.last == no_end
+
+-- a range and a view; none if the view is of the whole run, and the range isn't
+abbrev pub options_of : View → Range → Option Options
+options_of view range = if has_range view || is_whole range then Some (record { view = view; counted = range.counted; first = range.first; last = range.last }) else None
+
+abbrev pub is_chains : View → Bool
+is_chains Chains = true
+is_chains _ = false
+
+-- of a run on threads the chains are shown, and nothing else
+abbrev pub fits_threads : View → Option Text → Option Text → Option Text → Bool
+fits_threads view order turns rounds = is_chains view && (not (is_some order) && (not (is_some turns) && not (is_some rounds)))
+
+-- an order has digits, blanks, commas and dashes, and no rounds
+abbrev pub fits_order : Option Text → Option Text → Bool
+fits_order order rounds = option_map_or (λ text. list_all is_part text && not (is_some rounds)) order true
+
+abbrev pub fits : Bool → View → Option Text → Option Text → Option Text → Bool
+fits on_threads view order turns rounds = if on_threads then fits_threads view order turns rounds else fits_order order rounds
+
+abbrev pub shown : Bool → Option Text → Option Text → Option Text → Bool → Bool → Bool → Option Task
+shown on_threads order turns rounds svg trace chains =
+    option_and_then (λ view. option_and_then (λ range. option_and_then (λ options.
+    if fits on_threads view order turns rounds then Some (Show on_threads options) else None)
+    (options_of view range)) (range_named turns rounds)) (view_of trace svg chains)
+
+abbrev pub show_in : List Row → Option Task
+show_in rows =
+    shown (is_on (codes "threads") rows) (first_of (codes "order") rows) (first_of (codes "turns") rows) (first_of (codes "rounds") rows)
+    (is_on (codes "svg") rows) (is_on (codes "trace") rows) (is_on (codes "chains") rows)
+
+-- ---- text
+
+-- the form that `--json`, `--text` and `--run` ask for; none unless exactly one is named
+abbrev pub form_of : Bool → Bool → Bool → Option Form
+form_of true false false = Some form.Json
+form_of false true false = Some form.Text
+form_of false false true = Some form.Run
+form_of _ _ _ = None
+
+abbrev pub text_in : List Row → Option Task
+text_in rows = option_and_then (λ form. Some (Translate form)) (form_of (is_on (codes "json") rows) (is_on (codes "text") rows) (is_on (codes "run") rows))
+
+-- ---- explore
+
+-- a search; none if a value is no number, or `--all` is named without a folder
+abbrev pub explored : Bool → Option Text → Option Text → Option Text → Option Text → Option Text → Bool → Bool → Bool → Option Task
+explored plain states turns random seed seconds progress all has_path =
+    option_and_then (λ states. option_and_then (λ turns. option_and_then (λ random. option_and_then (λ seed. option_and_then (λ seconds.
+    if all && not has_path then None
+    else Some (Explore (record {
+      bounds = record { states = states; turns = turns };
+      method = if plain then Plain else Reduced;
+      random = random;
+      seed = seed;
+      seconds = seconds;
+      progress = progress;
+      all = all;
+    }))) (number_named seconds)) (number_or 0 seed)) (number_named random)) (number_or 100000 turns)) (number_or 1000000 states)
+
+abbrev pub explore_in : List Row → Option Task
+explore_in rows =
+    explored (is_on (codes "plain") rows) (first_of (codes "states") rows) (first_of (codes "turns") rows) (first_of (codes "random") rows)
+    (first_of (codes "seed") rows) (first_of (codes "seconds") rows) (is_on (codes "progress") rows) (is_on (codes "all") rows)
+    (is_some (path_of (first_of (codes "FILE") rows)))
+
+-- ---- all
+
+-- what the subcommand of this name asks for
+abbrev pub task_in : Text → List Row → Option Task
+task_in name rows =
+    if bytes_eq name (codes "run") then Some (Run (is_on (codes "threads") rows) false)
+    else (if bytes_eq name (codes "show") then show_in rows
+    else (if bytes_eq name (codes "check") then Some (Check (is_on (codes "lines") rows))
+    else (if bytes_eq name (codes "text") then text_in rows
+    else (if bytes_eq name (codes "explore") then explore_in rows else None))))

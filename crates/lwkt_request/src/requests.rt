@@ -1,0 +1,86 @@
+//! What the words of the command line ask for.
+use lwkt_explore::{Bounds, Method};
+use lwkt_show::Options;
+
+/// Which orders of a script's turns are tried, and how.
+#[derive(Clone, Copy, Debug, PartialEq, Eq)]
+pub struct Search {
+    /// `--states` and `--turns`: 1000000 and 100000 if they aren't named.
+    pub bounds: Bounds,
+    /// `Plain` with `--plain`, else `Reduced`.
+    pub method: Method,
+    /// `--random`: how many random orders are tried in place of all.
+    pub random: Option<u64>,
+    /// `--seed`: by what the random orders are chosen; 0 if it isn't named.
+    pub seed: u64,
+    /// `--seconds`: after how many seconds the search stops with what it found.
+    pub seconds: Option<u64>,
+    /// `--progress`: whether a line on standard error reports each second how far the search is.
+    pub progress: bool,
+    /// `--all`: whether the path is that of a folder, each script of which is tried.
+    pub all: bool,
+}
+
+/// What `lwkt text` makes of a script.
+#[derive(Clone, Copy, Debug, PartialEq, Eq)]
+pub enum Form {
+    /// The script as JSON.
+    Json,
+    /// The script as a text.
+    Text,
+    /// The report of its run in rounds, with its expectations judged.
+    Run,
+}
+
+/// What is to be done with what is read.
+#[derive(Clone, Copy, Debug, PartialEq, Eq)]
+pub enum Task {
+    /// A script is run and reported.
+    Run {
+        /// `--threads`: whether each processor runs on an OS thread of its own, and not in rounds on one.
+        on_threads: bool,
+        /// Whether the words were those of `lwkt_run`. If the path is `turns` or `threads` and no such file is there, these words are
+        /// misuse, as those of `OldUsage` are.
+        by_old_name: bool,
+    },
+    /// A run is shown.
+    Show {
+        /// `--threads`, as for `Run`. Only chains are shown of such a run.
+        on_threads: bool,
+        /// How the run is shown.
+        options: Options,
+    },
+    /// A trace is checked.
+    Check {
+        /// `--lines`: whether it is a trace with an event a line.
+        by_lines: bool,
+    },
+    /// A script is translated, or run in rounds.
+    Text(Form),
+    /// Orders of a script's turns are tried.
+    Explore(Search),
+}
+
+/// A request.
+#[derive(Debug, Drop)]
+pub struct Request {
+    /// What is to be done.
+    pub task: Task,
+    /// `show --order`: the processor of each turn, 0 to 9, whether it is there or not; `None` for rounds, and for every other task.
+    pub order: Option<Vec<u8>>,
+    /// The file, or folder, to be read; `None` for standard input.
+    pub path: Option<String>,
+}
+
+/// What the words of a command line ask for.
+#[derive(Debug, Drop)]
+pub enum Asked {
+    /// This request.
+    Do(Request),
+    /// A help page or the version: this text, on standard output, with status 0.
+    Tell(String),
+    /// Nothing that `lwkt` does: this text, on standard error, with status 1.
+    Misuse(String),
+    /// Nothing that `lwkt_run` does: its usage line `lwkt_run: turns or threads`, on standard output, with status 1.
+    OldUsage,
+}

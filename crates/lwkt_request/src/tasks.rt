@@ -1,0 +1,266 @@
+//! What the options of a subcommand ask for.
+ghost use Rattle.std.specs.Prelude.{◌≡◌, is_ok};
+ghost use Rattle.std.specs.Option.{option_copied};
+ghost use Rattle.std.specs.Result.{result_ok};
+ghost use Rattle.lwkt_request.specs.Tasks.{explore_in, explored, fits, fits_order, fits_threads, form_of, has_range, is_chains, is_whole, options_of, rows_in, show_in, shown, task_in, text_in, view_of};
+
+use crate::matched::{is_on, value_in};
+use crate::ranges::{Range, are_parts, number_named, number_or, path_of, range_named, size_or};
+use crate::requests::{Form, Search, Task};
+use crate::wrongs::Wrong;
+use clap::ArgMatches;
+use lwkt_explore::{Bounds, Method};
+use lwkt_show::{Counted, Options, View};
+
+// What the words of `lwkt show` name.
+#[derive(Clone, Copy)]
+struct ShowWords<'a> {
+    on_threads: bool,
+    order: Option<&'a str>,
+    turns: Option<&'a str>,
+    rounds: Option<&'a str>,
+    svg: bool,
+    trace: bool,
+    chains: bool,
+}
+
+// The view that three flags ask for.
+fn view_of<'a>(trace: bool, svg: bool, chains: bool) -> Result<View, Wrong<'a>>
+    ensures { result_ok result ≡ view_of trace svg chains }
+{
+    match (trace, svg, chains) {
+        (false, false, false) => Ok(View::Lines),
+        (true, false, false) => Ok(View::Trace),
+        (false, true, false) => Ok(View::Picture),
+        (false, false, true) => Ok(View::Chains),
+        (true, true, _) => Err(Wrong::Apart("--svg", "--trace")),
+        (true, false, true) => Err(Wrong::Apart("--trace", "--chains")),
+        (false, true, true) => Err(Wrong::Apart("--svg", "--chains")),
+    }
+}
+
+// Whether a view is of turns that are chosen, and not of the whole run.
+fn has_range(view: View) -> bool
+    ensures { result ≡ has_range view }
+{
+    matches!(view, View::Lines | View::Picture)
+}
+
+fn is_chains(view: View) -> bool
+    ensures { result ≡ is_chains view }
+{
+    matches!(view, View::Chains)
+}
+
+fn is_whole(range: Range) -> bool
+    ensures { result ≡ is_whole range }
+{
+    range.first == 0 && range.last == usize::MAX
+}
+
+// The option that a range has.
+fn range_word(counted: Counted) -> &'static str {
+    match counted {
+        Counted::Turns => "--turns A..B",
+        Counted::Rounds => "--rounds A..B",
+    }
+}
+
+// The options of a view and a range.
+fn options_of<'a>(view: View, range: Range) -> Result<Options, Wrong<'a>>
+    ensures { result_ok result ≡ options_of view range }
+{
+    if has_range(view) || is_whole(range) {
+        return Ok(Options {
+            view,
+            counted: range.counted,
+            first: range.first,
+            last: range.last,
+        });
+    }
+    let whole = if is_chains(view) {
+        "--chains"
+    } else {
+        "--trace"
+    };
+    Err(Wrong::Apart(range_word(range.counted), whole))
+}
+
+// That nothing stands beside `--threads` but `--chains`.
+fn fits_threads<'a>(
+    view: View,
+    order: Option<&'a str>,
+    turns: Option<&'a str>,
+    rounds: Option<&'a str>,
+) -> Result<(), Wrong<'a>>
+    ensures { is_ok result ≡ fits_threads view (option_copied order.entry) (option_copied turns.entry) (option_copied rounds.entry) }
+{
+    if !is_chains(view) {
+        return Err(Wrong::Beside("--threads", "--chains"));
+    }
+    if order.is_some() {
+        return Err(Wrong::Apart("--threads", "--order"));
+    }
+    if turns.is_some() {
+        return Err(Wrong::Apart("--threads", "--turns"));
+    }
+    if rounds.is_some() {
+        return Err(Wrong::Apart("--threads", "--rounds"));
+    }
+    Ok(())
+}
+
+// That an order is one, and no rounds stand beside it.
+fn fits_order<'a>(order: Option<&'a str>, rounds: Option<&'a str>) -> Result<(), Wrong<'a>>
+    ensures { is_ok result ≡ fits_order (option_copied order.entry) (option_copied rounds.entry) }
+{
+    let Some(text) = order else {
+        return Ok(());
+    };
+    if !are_parts(text) {
+        return Err(Wrong::Order(text));
+    }
+    if rounds.is_some() {
+        return Err(Wrong::Apart("--order", "--rounds"));
+    }
+    Ok(())
+}
+
+// That the words for a view go together.
+fn fits<'a>(words: ShowWords<'a>, view: View) -> Result<(), Wrong<'a>>
+    ensures { is_ok result ≡ fits words.entry.on_threads view (option_copied words.entry.order) (option_copied words.entry.turns) (option_copied words.entry.rounds) }
+{
+    if words.on_threads {
+        fits_threads(view, words.order, words.turns, words.rounds)
+    } else {
+        fits_order(words.order, words.rounds)
+    }
+}
+
+fn shown<'a>(words: ShowWords<'a>) -> Result<Task, Wrong<'a>>
+    ensures { result_ok result ≡ shown words.entry.on_threads (option_copied words.entry.order) (option_copied words.entry.turns) (option_copied words.entry.rounds) words.entry.svg words.entry.trace words.entry.chains }
+{
+    let view = view_of(words.trace, words.svg, words.chains)?;
+    let range = range_named(words.turns, words.rounds)?;
+    let options = options_of(view, range)?;
+    fits(words, view)?;
+    Ok(Task::Show {
+        on_threads: words.on_threads,
+        options,
+    })
+}
+
+fn show_in<'a>(matches: &ArgMatches<'a>) -> Result<Task, Wrong<'a>>
+    ensures { result_ok result ≡ show_in (rows_in matches.now) }
+{
+    shown(ShowWords {
+        on_threads: is_on(matches, "threads"),
+        order: value_in(matches, "order"),
+        turns: value_in(matches, "turns"),
+        rounds: value_in(matches, "rounds"),
+        svg: is_on(matches, "svg"),
+        trace: is_on(matches, "trace"),
+        chains: is_on(matches, "chains"),
+    })
+}
+
+// The form that three flags ask for.
+fn form_of<'a>(json: bool, text: bool, run: bool) -> Result<Form, Wrong<'a>>
+    ensures { result_ok result ≡ form_of json text run }
+{
+    match (json, text, run) {
+        (true, false, false) => Ok(Form::Json),
+        (false, true, false) => Ok(Form::Text),
+        (false, false, true) => Ok(Form::Run),
+        (false, false, false) => Err(Wrong::NoForm),
+        (true, true, _) => Err(Wrong::Apart("--json", "--text")),
+        (true, false, true) => Err(Wrong::Apart("--json", "--run")),
+        (false, true, true) => Err(Wrong::Apart("--text", "--run")),
+    }
+}
+
+fn text_in<'a>(matches: &ArgMatches<'a>) -> Result<Task, Wrong<'a>>
+    ensures { result_ok result ≡ text_in (rows_in matches.now) }
+{
+    let form = form_of(
+        is_on(matches, "json"),
+        is_on(matches, "text"),
+        is_on(matches, "run"),
+    )?;
+    Ok(Task::Text(form))
+}
+
+// What the words of `lwkt explore` name.
+#[derive(Clone, Copy)]
+struct ExploreWords<'a> {
+    plain: bool,
+    states: Option<&'a str>,
+    turns: Option<&'a str>,
+    random: Option<&'a str>,
+    seed: Option<&'a str>,
+    seconds: Option<&'a str>,
+    progress: bool,
+    all: bool,
+    has_path: bool,
+}
+
+fn explored<'a>(words: ExploreWords<'a>) -> Result<Task, Wrong<'a>>
+    ensures { result_ok result ≡ explored words.entry.plain (option_copied words.entry.states) (option_copied words.entry.turns) (option_copied words.entry.random) (option_copied words.entry.seed) (option_copied words.entry.seconds) words.entry.progress words.entry.all words.entry.has_path }
+{
+    let states = size_or("--states", words.states, 1_000_000)?;
+    let turns = size_or("--turns", words.turns, 100_000)?;
+    let random = number_named("--random", words.random)?;
+    let seed = number_or("--seed", words.seed, 0)?;
+    let seconds = number_named("--seconds", words.seconds)?;
+    if words.all && !words.has_path {
+        return Err(Wrong::Beside("--all", "a folder"));
+    }
+    Ok(Task::Explore(Search {
+        bounds: Bounds { states, turns },
+        method: if words.plain {
+            Method::Plain
+        } else {
+            Method::Reduced
+        },
+        random,
+        seed,
+        seconds,
+        progress: words.progress,
+        all: words.all,
+    }))
+}
+
+fn explore_in<'a>(matches: &ArgMatches<'a>) -> Result<Task, Wrong<'a>>
+    ensures { result_ok result ≡ explore_in (rows_in matches.now) }
+{
+    explored(ExploreWords {
+        plain: is_on(matches, "plain"),
+        states: value_in(matches, "states"),
+        turns: value_in(matches, "turns"),
+        random: value_in(matches, "random"),
+        seed: value_in(matches, "seed"),
+        seconds: value_in(matches, "seconds"),
+        progress: is_on(matches, "progress"),
+        all: is_on(matches, "all"),
+        has_path: path_of(value_in(matches, "FILE")).is_some(),
+    })
+}
+
+/// What the subcommand `name` asks for, by what a parse found for its arguments.
+pub(crate) fn task_in<'a>(name: &str, matches: &ArgMatches<'a>) -> Result<Task, Wrong<'a>>
+    ensures { result_ok result ≡ task_in name.now (rows_in matches.now) }
+{
+    match name {
+        "run" => Ok(Task::Run {
+            on_threads: is_on(matches, "threads"),
+            by_old_name: false,
+        }),
+        "show" => show_in(matches),
+        "check" => Ok(Task::Check {
+            by_lines: is_on(matches, "lines"),
+        }),
+        "text" => text_in(matches),
+        "explore" => explore_in(matches),
+        _ => Err(Wrong::NoCommand),
+    }
+}
