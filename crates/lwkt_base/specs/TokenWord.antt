@@ -1,4 +1,4 @@
-use Rattle.std.specs.Prelude.{ℕ, ◌+◌, ◌*◌, ◌<◌, ◌^◌, ◌==◌, ◌&&◌, ◌||◌, nat_lt, Bool, true, false, if◌then◌else◌}
+use Rattle.std.specs.Prelude.{ℕ, ◌+◌, ◌*◌, ◌%◌, ◌<◌, ◌^◌, ◌==◌, ◌&&◌, ◌||◌, nat_lt, Bool, true, false, if◌then◌else◌}
 use Rattle.lwkt_base.specs.declared.names.Mode.{Mode}
 use Rattle.lwkt_base.specs.declared.names.Mode.TheVariants.{Exclusive, Shared}
 use Rattle.lwkt_base.specs.declared.words.TokWord.{TokWord}
@@ -23,3 +23,10 @@ Fits w = (w.count < 2 ^ 16) × (w.generation < 2 ^ 46)
 abbrev pub decision : TokWord → Mode → Bool → Decision
 decision w Exclusive alone = if w.generation == LAST_GENERATION then Worn else (if w.exclusive || nat_lt 0 w.count then Held else Take (word_of (record w { exclusive = true; mark = false })))
 decision w Shared alone = if w.exclusive then Held else (if w.mark && alone then Marked else Take (word_of (record w { count = w.count + 1 })))
+
+-- a decision within the 64 bits of a word: what is added to a word that is full wraps (own)
+abbrev pub in_word : Decision → Decision
+in_word (Take next) = Take (next % 2 ^ 64)
+in_word Held = Held
+in_word Marked = Marked
+in_word Worn = Worn

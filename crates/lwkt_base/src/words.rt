@@ -33,7 +33,7 @@ pub enum Decision {
 }
 
 impl TokWord {
-    ghost use Rattle.lwkt_base.specs.TokenWord.{word_of, decision, Fits};
+    ghost use Rattle.lwkt_base.specs.TokenWord.{word_of, decision, in_word, Fits};
 
     /// The parts of a word. Each word has parts, and they are the only ones that fit.
     pub fn parts(word: u64) -> TokWord
@@ -58,10 +58,10 @@ impl TokWord {
     }
 
     /// What a word answers a processor that doesn't hold the token. `alone` says that the asking list has no reference
-    /// to another token. That a reference more fits the word is the caller's condition.
+    /// to another token. A shared request at a word with every bit of its count and generation set wraps, as a fetch_add
+    /// does: no bank has such a word.
     pub fn decide(word: u64, mode: Mode, alone: bool) -> Decision
-        requires { word + 4 < 2 ^ 64 }
-        ensures { (w : TokWord) → Fits w → word_of w ≡ word → result ≡ decision w mode alone }
+        ensures { (w : TokWord) → Fits w → word_of w ≡ word → result ≡ in_word (decision w mode alone) }
     {
         let w = TokWord::parts(word);
         match mode {
@@ -72,7 +72,7 @@ impl TokWord {
 
     fn decide_exclusive(&self, word: u64) -> Decision
         requires { word_of self.now ≡ word }
-        ensures { result ≡ decision self.now Mode.Exclusive false }
+        ensures { result ≡ in_word (decision self.now Mode.Exclusive false) }
     {
         if self.generation == LAST_GENERATION {
             Decision::Worn
@@ -84,16 +84,15 @@ impl TokWord {
     }
 
     fn decide_shared(&self, word: u64, alone: bool) -> Decision
-        requires parts { word_of self.now ≡ word }
-        requires fits { word + 4 < 2 ^ 64 }
-        ensures { result ≡ decision self.now Mode.Shared alone }
+        requires { word_of self.now ≡ word }
+        ensures { result ≡ in_word (decision self.now Mode.Shared alone) }
     {
         if self.exclusive {
             Decision::Held
         } else if self.mark && alone {
             Decision::Marked
         } else {
-            Decision::Take(word + 4)
+            Decision::Take(word.wrapping_add(4))
         }
     }
 }
