@@ -1,4 +1,5 @@
 pub mod RefsLemmas
 pub mod HoldingLemmas
 pub mod BlobLemmas
+pub mod StepLemmas
 mod PartsOfWords

@@ -2,6 +2,7 @@ pub mod Fault
 pub mod Law
 pub mod Refs
 pub mod Row
+pub mod Step
 pub mod Threads
 pub mod Blob
 pub mod Hex

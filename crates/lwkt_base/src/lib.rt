@@ -23,6 +23,7 @@ pub mod owners;
 pub mod records;
 pub mod rows;
 pub mod sections;
+pub mod steps;
 pub mod threads;
 pub mod words;
 
@@ -41,5 +42,6 @@ pub use owners::{MsgEnd, Owner};
 pub use records::{Call, Flags, Rec};
 pub use rows::{Row, Rows};
 pub use sections::Section;
+pub use steps::{Form, Parts, VERBS, Verb};
 pub use threads::ThreadState;
 pub use words::{Decision, LAST_GENERATION, TokWord};
