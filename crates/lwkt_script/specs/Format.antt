@@ -16,7 +16,7 @@ use Rattle.lwkt_script.specs.Record.{record_in, may_guard}
 use Rattle.lwkt_script.specs.Field.{has_members, whole, number_in, list_in}
 use Rattle.lwkt_script.specs.Member.{law_in, allows, origin_in}
 use Rattle.lwkt_script.specs.Outcome.{◌>>=◌, ◌>>◌, part, demand, each}
-use Rattle.lwkt_script.specs.Step.{ask_of}
+use Rattle.lwkt_script.specs.Step.{ask_in}
 
 -- a cell, any whole number of 64 bits
 abbrev pub cell : ℕ → List ℕ → Data → Result ℕ ℕ
@@ -58,7 +58,7 @@ message cpus before d = do
 
 -- step j of thread n stands at 100000 + 1000*n + j
 abbrev pub step : Version → ℕ → List Ask → Data → Result Ask ℕ
-step version n before d = part (100000 + 1000 * n + length before) (ask_of version d)
+step version n before d = part (100000 + 1000 * n + length before) (ask_in version d)
 
 -- how many of these threads are of a processor
 abbrev pub threads_on : ℕ → List ThreadSpec → ℕ

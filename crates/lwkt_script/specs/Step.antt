@@ -1,10 +1,17 @@
--- The steps of a thread, by their words and how many items they have.
-use Rattle.std.specs.Prelude.{ℕ, ◌-◌, ◌==◌, ◌&&◌, nat_lt, nat_le, Bool, List, codes, bytes_eq, true, false, if◌then◌else◌, Option, Some, None, option_and_then}
+-- The steps of a thread in JSON: a word of the table of steps, and what stands behind it.
+use Rattle.std.specs.Prelude.{ℕ, ◌-◌, ◌==◌, ◌&&◌, nat_lt, Bool, List, true, false, not, if◌then◌else◌, Option, Some, None, option_and_then}
 use Rattle.serde_json.specs.Data.{Data}
 use Rattle.serde_json.specs.Find.{at, as_str}
 use Rattle.lwkt_base.specs.declared.asks.Ask.{Ask}
-use Rattle.lwkt_base.specs.declared.asks.Ask.TheVariants.{Get, GetShared, TryGet, Rel, Swap, Read, Write, Add, ReadBlob, WriteBlob, Send, Do, Reply, Abort, IsAborted, DropMsg, GetPort, WaitPort, Yield, Exit}
+use Rattle.lwkt_base.specs.declared.names.MsgId.{MsgId}
+use Rattle.lwkt_base.specs.declared.names.TokId.{TokId}
 use Rattle.lwkt_base.specs.declared.records.Flags.{Flags}
+use Rattle.lwkt_base.specs.declared.steps.Form.{Form}
+use Rattle.lwkt_base.specs.declared.steps.Form.TheVariants as forms
+use Rattle.lwkt_base.specs.declared.steps.Parts.{Parts}
+use Rattle.lwkt_base.specs.declared.steps.Parts.TheVariants as parts
+use Rattle.lwkt_base.specs.declared.steps.Verb.{Verb}
+use Rattle.lwkt_base.specs.Step.{verb_named, form_of, is_later, ask_of}
 use Rattle.lwkt_script.specs.declared.versions.Version.{Version}
 use Rattle.lwkt_script.specs.Version.{is_second}
 use Rattle.lwkt_script.specs.Record.{blob_in}
@@ -27,54 +34,17 @@ code_at i d = at i d >>= number 0 4294967295
 abbrev pub whole_at : ℕ → Data → Option ℕ
 whole_at i d = at i d >>= whole
 
--- the ask of a word that stands alone
-abbrev pub alone : List ℕ → Option Ask
-alone word =
-    if bytes_eq word (codes "swap") then Some Swap else (
-    if bytes_eq word (codes "getport") then Some GetPort else (
-    if bytes_eq word (codes "wait") then Some WaitPort else (
-    if bytes_eq word (codes "yield") then Some Yield else (
-    if bytes_eq word (codes "exit") then Some Exit else None))))
+-- item 1, a token
+abbrev pub token_in : Data → Option TokId
+token_in d = small_at 1 d >>= λ n. Some (record { 0 = n })
 
--- the ask of a word with a token or a message
-abbrev pub with_one : List ℕ → ℕ → Option Ask
-with_one word first =
-    if bytes_eq word (codes "get") then Some (Get (record { 0 = first })) else (
-    if bytes_eq word (codes "gets") then Some (GetShared (record { 0 = first })) else (
-    if bytes_eq word (codes "try") then Some (TryGet (record { 0 = first })) else (
-    if bytes_eq word (codes "rel") then Some (Rel (record { 0 = first })) else (
-    if bytes_eq word (codes "abort") then Some (Abort (record { 0 = first })) else (
-    if bytes_eq word (codes "isab") then Some (IsAborted (record { 0 = first })) else (
-    if bytes_eq word (codes "drop") then Some (DropMsg (record { 0 = first })) else None))))))
+-- item 1, a message
+abbrev pub message_in : Data → Option MsgId
+message_in d = small_at 1 d >>= λ n. Some (record { 0 = n })
 
--- the same in a version: the second has reads of records too
-abbrev pub with_one_in : Version → List ℕ → ℕ → Option Ask
-with_one_in version word first =
-    if bytes_eq word (codes "rrec") && is_second version then Some (ReadBlob (record { 0 = first })) else with_one word first
-
--- the ask of a word with a token and a number: of a cell, or what is added
-abbrev pub with_number : List ℕ → ℕ → ℕ → Option Ask
-with_number word tok n =
-    if bytes_eq word (codes "read") then (if nat_le n 255 then Some (Read (record { 0 = tok }) n) else None) else (
-    if bytes_eq word (codes "add") then Some (Add (record { 0 = tok }) n) else None)
-
--- whether a word goes with a token and a record
-abbrev pub takes_record : Version → List ℕ → Bool
-takes_record version word = bytes_eq word (codes "wrec") && is_second version
-
--- the ask to store item 2, a record of at most 65 bytes, in a token; one of 65 is too long for every token
-abbrev pub storing : ℕ → Data → Option Ask
-storing tok d = (at 2 d >>= blob_in 65) >>= λ blob. Some (WriteBlob (record { 0 = tok }) blob)
-
--- the ask of a word with a token and one item more, a record or a number
-abbrev pub with_item : Version → List ℕ → ℕ → Data → Option Ask
-with_item version word tok d = if takes_record version word then storing tok d else (whole_at 2 d >>= with_number word tok)
-
--- the ask of a word with a token or a message and two numbers: a cell and its value, or the error and the result of a reply
-abbrev pub with_numbers : List ℕ → ℕ → ℕ → ℕ → Option Ask
-with_numbers word first n m =
-    if bytes_eq word (codes "write") then (if nat_le n 255 then Some (Write (record { 0 = first }) n m) else None) else (
-    if bytes_eq word (codes "reply") then (if nat_le n 4294967295 then Some (Reply (record { 0 = first }) n m) else None) else None)
+-- item 2, a record of at most 65 bytes; one of 65 is too long for every token
+abbrev pub record_in : Data → Option (List ℕ)
+record_in d = at 2 d >>= blob_in 65
 
 -- items 1 to 5: a message, the thread that it goes to, by processor and number, and the call's op and arg
 unfoldable pub sending_in : Data → Option Sending
@@ -98,24 +68,40 @@ flags_under priority n =
 abbrev pub flags_by_number : Version → ℕ → Option Flags
 flags_by_number version n = if nat_lt n 4 then flags_under false n else (if is_second version then flags_under true (n - 4) else None)
 
--- the ask of a word with what is sent
-abbrev pub with_sending : List ℕ → Sending → Option Ask
-with_sending word s = if bytes_eq word (codes "do") then Some (Do s.msg s.to s.call) else None
+-- how many items a step of a form has, its word too
+abbrev pub items_of : Form → ℕ
+items_of forms.Alone = 1
+items_of forms.Token = 2
+items_of forms.Cell = 3
+items_of forms.Value = 4
+items_of forms.More = 3
+items_of forms.Record = 3
+items_of forms.Message = 2
+items_of forms.Call = 6
+items_of forms.Sending = 7
+items_of forms.Answer = 4
 
--- the ask of a word with what is sent, and flags
-abbrev pub with_flags : List ℕ → Sending → Flags → Option Ask
-with_flags word s flags = if bytes_eq word (codes "send") then Some (Send s.msg s.to s.call flags) else None
+-- what stands behind the word of a step, in this form
+abbrev pub parts_in : Version → Form → Data → Option Parts
+parts_in version forms.Alone d = Some parts.Alone
+parts_in version forms.Token d = token_in d >>= λ tok. Some (parts.Token tok)
+parts_in version forms.Cell d = token_in d >>= λ tok. small_at 2 d >>= λ cell. Some (parts.Cell tok cell)
+parts_in version forms.Value d = token_in d >>= λ tok. small_at 2 d >>= λ cell. whole_at 3 d >>= λ value. Some (parts.Value tok cell value)
+parts_in version forms.More d = token_in d >>= λ tok. whole_at 2 d >>= λ more. Some (parts.More tok more)
+parts_in version forms.Record d = token_in d >>= λ tok. record_in d >>= λ blob. Some (parts.Record tok blob)
+parts_in version forms.Message d = message_in d >>= λ msg. Some (parts.Message msg)
+parts_in version forms.Call d = sending_in d >>= λ s. Some (parts.Call s.msg s.to s.call)
+parts_in version forms.Sending d = sending_in d >>= λ s. (whole_at 6 d >>= flags_by_number version) >>= λ flags. Some (parts.Sending s.msg s.to s.call flags)
+parts_in version forms.Answer d = message_in d >>= λ msg. code_at 2 d >>= λ error. whole_at 3 d >>= λ outcome. Some (parts.Answer msg error outcome)
 
--- the ask of a word with so many items in all
-abbrev pub asked : Version → List ℕ → ℕ → Data → Option Ask
-asked version word count d =
-    if count == 1 then alone word else (
-    if count == 2 then (small_at 1 d >>= with_one_in version word) else (
-    if count == 3 then (small_at 1 d >>= λ tok. with_item version word tok d) else (
-    if count == 4 then (small_at 1 d >>= λ first. whole_at 2 d >>= λ n. whole_at 3 d >>= with_numbers word first n) else (
-    if count == 6 then (sending_in d >>= with_sending word) else (
-    if count == 7 then (sending_in d >>= λ s. (whole_at 6 d >>= flags_by_number version) >>= with_flags word s) else None)))))
+-- the kind of step that has this word in a version
+abbrev pub verb_in : Version → List ℕ → Option Verb
+verb_in version word = verb_named word >>= λ verb. if is_later verb && not (is_second version) then None else Some verb
 
--- the ask of a step: a word, and the numbers that go with it
-abbrev pub ask_of : Version → Data → Option Ask
-ask_of version d = item_count d >>= λ count. (at 0 d >>= as_str) >>= λ word. asked version word count d
+-- the ask of a step of this kind: it has as many items as its form
+abbrev pub ask_with : Version → Verb → ℕ → Data → Option Ask
+ask_with version verb count d = if count == items_of (form_of verb) then (parts_in version (form_of verb) d >>= ask_of verb) else None
+
+-- the ask of a step: a word, and what stands behind it
+abbrev pub ask_in : Version → Data → Option Ask
+ask_in version d = item_count d >>= λ count. (at 0 d >>= as_str) >>= λ word. verb_in version word >>= λ verb. ask_with version verb count d

@@ -1,14 +1,15 @@
 ghost use Rattle.std.specs.Prelude.{◌≡◌, ◌≤◌, ◌<◌, length, [], IfOk};
 ghost use Rattle.serde_json.specs.View.{view, items_view};
 ghost use Rattle.lwkt_script.specs.Outcome.{Gives, each};
-ghost use Rattle.lwkt_script.specs.Step.{small_at, code_at, whole_at, alone, with_one, with_one_in, with_number, takes_record, storing, with_item, with_numbers, sending_in, flags_under, flags_by_number, with_sending, with_flags, asked, ask_of};
+ghost use Rattle.lwkt_script.specs.Step.{small_at, code_at, whole_at, token_in, message_in, record_in, sending_in, flags_under, flags_by_number, items_of, parts_in, verb_in, ask_with, ask_in};
 ghost use Rattle.lwkt_script.specs.Format.{step};
 
 use crate::fields::{item_count, number};
 use crate::growth::push;
 use crate::records::blob_in;
 use crate::versions::Version;
-use lwkt_base::{Ask, Call, CpuId, Fault, Flags, MsgId, ThreadId, TokId};
+use lwkt_base::steps::{ask_of, verb_named};
+use lwkt_base::{Ask, Blob, Call, CpuId, Fault, Flags, Form, MsgId, Parts, ThreadId, TokId, Verb};
 use serde_json::Value;
 use std::alloc::Global;
 
@@ -40,91 +41,25 @@ fn code_at(value: &Value, i: usize) -> Option<u32>
     }
 }
 
-// The ask of a word that stands alone.
-fn alone(word: &str) -> Option<Ask>
-    ensures { result ≡ alone word.now }
+// Item 1, a token.
+fn token_in(value: &Value) -> Option<TokId>
+    ensures { result ≡ token_in (view value.now) }
 {
-    match word {
-        "swap" => Some(Ask::Swap),
-        "getport" => Some(Ask::GetPort),
-        "wait" => Some(Ask::WaitPort),
-        "yield" => Some(Ask::Yield),
-        "exit" => Some(Ask::Exit),
-        _ => None,
-    }
+    Some(TokId(small_at(value, 1)?))
 }
 
-// The ask of a word with a token or a message.
-fn with_one(word: &str, first: u8) -> Option<Ask>
-    ensures { result ≡ with_one word.now first }
+// Item 1, a message.
+fn message_in(value: &Value) -> Option<MsgId>
+    ensures { result ≡ message_in (view value.now) }
 {
-    match word {
-        "get" => Some(Ask::Get(TokId(first))),
-        "gets" => Some(Ask::GetShared(TokId(first))),
-        "try" => Some(Ask::TryGet(TokId(first))),
-        "rel" => Some(Ask::Rel(TokId(first))),
-        "abort" => Some(Ask::Abort(MsgId(first))),
-        "isab" => Some(Ask::IsAborted(MsgId(first))),
-        "drop" => Some(Ask::DropMsg(MsgId(first))),
-        _ => None,
-    }
+    Some(MsgId(small_at(value, 1)?))
 }
 
-// The same in a version.
-fn with_one_in(version: Version, word: &str, first: u8) -> Option<Ask>
-    ensures { result ≡ with_one_in version word.now first }
+// Item 2, a record.
+fn record_in(value: &Value) -> Option<Blob>
+    ensures { result ≡ record_in (view value.now) }
 {
-    if word == "rrec" && version.is_second() {
-        return Some(Ask::ReadBlob(TokId(first)));
-    }
-    with_one(word, first)
-}
-
-// The ask of a word with a token and a number.
-fn with_number(word: &str, tok: u8, n: u64) -> Option<Ask>
-    ensures { result ≡ with_number word.now tok n }
-{
-    match word {
-        "read" if n <= 255 => Some(Ask::Read(TokId(tok), n as u8)),
-        "add" => Some(Ask::Add(TokId(tok), n)),
-        _ => None,
-    }
-}
-
-// Whether a word goes with a token and a record.
-fn takes_record(version: Version, word: &str) -> bool
-    ensures { result ≡ takes_record version word.now }
-{
-    word == "wrec" && version.is_second()
-}
-
-// The ask to store item 2, a record, in a token.
-fn storing(tok: u8, value: &Value) -> Option<Ask>
-    ensures { result ≡ storing tok (view value.now) }
-{
-    let blob = blob_in(65, value.get(2usize)?)?;
-    Some(Ask::WriteBlob(TokId(tok), blob))
-}
-
-// The ask of a word with a token and one item more.
-fn with_item(version: Version, word: &str, tok: u8, value: &Value) -> Option<Ask>
-    ensures { result ≡ with_item version word.now tok (view value.now) }
-{
-    if takes_record(version, word) {
-        return storing(tok, value);
-    }
-    with_number(word, tok, whole_at(value, 2)?)
-}
-
-// The ask of a word with a token or a message and two numbers.
-fn with_numbers(word: &str, first: u8, n: u64, m: u64) -> Option<Ask>
-    ensures { result ≡ with_numbers word.now first n m }
-{
-    match word {
-        "write" if n <= 255 => Some(Ask::Write(TokId(first), n as u8, m)),
-        "reply" if n <= 4_294_967_295 => Some(Ask::Reply(MsgId(first), n as u32, m)),
-        _ => None,
-    }
+    blob_in(65, value.get(2usize)?)
 }
 
 // What items 1 to 5 of a step send.
@@ -174,28 +109,6 @@ fn flags_of(version: Version, n: u64) -> Option<Flags>
     flags_under(true, n - 4)
 }
 
-// The ask of a word with what is sent.
-fn with_sending(word: &str, sending: Sending) -> Option<Ask>
-    ensures { result ≡ with_sending word.now sending }
-{
-    let Sending { msg, to, call } = sending;
-    match word {
-        "do" => Some(Ask::Do(msg, to, call)),
-        _ => None,
-    }
-}
-
-// The ask of a word with what is sent, and flags.
-fn with_flags(word: &str, sending: Sending, flags: Flags) -> Option<Ask>
-    ensures { result ≡ with_flags word.now sending flags }
-{
-    let Sending { msg, to, call } = sending;
-    match word {
-        "send" => Some(Ask::Send(msg, to, call, flags)),
-        _ => None,
-    }
-}
-
 /// The whole number that item i of a list is.
 pub fn whole_at(value: &Value, i: usize) -> Option<u64>
     ensures { result ≡ whole_at i (view value.now) }
@@ -203,36 +116,73 @@ pub fn whole_at(value: &Value, i: usize) -> Option<u64>
     value.get(i)?.as_u64()
 }
 
-// The ask of a word with so many items in all.
-fn asked(version: Version, word: &str, count: usize, value: &Value) -> Option<Ask>
-    ensures { result ≡ asked version word.now count (view value.now) }
+// How many items a step of a form has, its word too.
+fn items_of(form: Form) -> usize
+    ensures { result ≡ items_of form }
 {
-    match count {
-        1 => alone(word),
-        2 => with_one_in(version, word, small_at(value, 1)?),
-        3 => with_item(version, word, small_at(value, 1)?, value),
-        4 => with_numbers(
-            word,
-            small_at(value, 1)?,
-            whole_at(value, 2)?,
-            whole_at(value, 3)?,
-        ),
-        6 => with_sending(word, sending_in(value)?),
-        7 => with_flags(
-            word,
-            sending_in(value)?,
-            flags_of(version, whole_at(value, 6)?)?,
-        ),
-        _ => None,
+    match form {
+        Form::Alone => 1,
+        Form::Token | Form::Message => 2,
+        Form::Cell | Form::More | Form::Record => 3,
+        Form::Value | Form::Answer => 4,
+        Form::Call => 6,
+        Form::Sending => 7,
     }
 }
 
+// What stands behind the word of a step, in this form.
+fn parts_in(version: Version, form: Form, value: &Value) -> Option<Parts>
+    ensures { result ≡ parts_in version form (view value.now) }
+{
+    Some(match form {
+        Form::Alone => Parts::Alone,
+        Form::Token => Parts::Token(token_in(value)?),
+        Form::Cell => Parts::Cell(token_in(value)?, small_at(value, 2)?),
+        Form::Value => Parts::Value(token_in(value)?, small_at(value, 2)?, whole_at(value, 3)?),
+        Form::More => Parts::More(token_in(value)?, whole_at(value, 2)?),
+        Form::Record => Parts::Record(token_in(value)?, record_in(value)?),
+        Form::Message => Parts::Message(message_in(value)?),
+        Form::Call => {
+            let Sending { msg, to, call } = sending_in(value)?;
+            Parts::Call(msg, to, call)
+        }
+        Form::Sending => {
+            let Sending { msg, to, call } = sending_in(value)?;
+            Parts::Sending(msg, to, call, flags_of(version, whole_at(value, 6)?)?)
+        }
+        Form::Answer => Parts::Answer(message_in(value)?, code_at(value, 2)?, whole_at(value, 3)?),
+    })
+}
+
+// The kind of step that has this word in a version.
+fn verb_in(version: Version, word: &str) -> Option<Verb>
+    ensures { result ≡ verb_in version word.now }
+{
+    let verb = verb_named(word)?;
+    if verb.is_later() && !version.is_second() {
+        return None;
+    }
+    Some(verb)
+}
+
+// The ask of a step of this kind that has so many items.
+fn ask_with(version: Version, verb: Verb, count: usize, value: &Value) -> Option<Ask>
+    ensures { result ≡ ask_with version verb count (view value.now) }
+{
+    let form = verb.form();
+    if count != items_of(form) {
+        return None;
+    }
+    ask_of(verb, parts_in(version, form, value)?)
+}
+
 // The ask that a step stands for.
-fn ask_of(version: Version, value: &Value) -> Option<Ask>
-    ensures { result ≡ ask_of version (view value.now) }
+fn ask_in(version: Version, value: &Value) -> Option<Ask>
+    ensures { result ≡ ask_in version (view value.now) }
 {
     let count = item_count(value)?;
-    asked(version, value.get(0usize)?.as_str()?, count, value)
+    let verb = verb_in(version, value.get(0usize)?.as_str()?)?;
+    ask_with(version, verb, count, value)
 }
 
 /// The asks of the steps of thread n of a script.
@@ -245,7 +195,7 @@ pub fn steps_of(alloc: Global, version: Version, n: u32, items: &[Value]) -> Res
     let mut asks = Vec::new(alloc);
     for item in items {
         let place = 100_000 + 1000 * n + asks.len() as u32;
-        let Some(ask) = ask_of(version, item) else {
+        let Some(ask) = ask_in(version, item) else {
             return Err(Fault::Script { place });
         };
         push(&mut asks, ask)?;
