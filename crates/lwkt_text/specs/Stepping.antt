@@ -1,32 +1,23 @@
--- The steps of a thread (own): a word, and what goes with it.
-use Rattle.std.specs.Prelude.{ℕ, ◌+◌, false, List, codes, if◌then◌else◌, Result, Ok, Err}
+-- The steps of a thread (own): a word of the table of steps, and what stands behind it.
+use Rattle.std.specs.Prelude.{ℕ, ◌+◌, List, codes, if◌then◌else◌, Option, Result, Ok}
+use Rattle.std.specs.Option.{ok_or}
 use Rattle.lwkt_base.specs.declared.asks.Ask.{Ask}
-use Rattle.lwkt_base.specs.declared.asks.Ask.TheVariants as asks
-use Rattle.lwkt_base.specs.declared.names.MsgId.{MsgId}
-use Rattle.lwkt_base.specs.declared.names.TokId.{TokId}
 use Rattle.lwkt_base.specs.declared.records.Call.{Call}
 use Rattle.lwkt_base.specs.declared.records.Flags.{Flags}
+use Rattle.lwkt_base.specs.declared.steps.Form.{Form}
+use Rattle.lwkt_base.specs.declared.steps.Form.TheVariants as forms
+use Rattle.lwkt_base.specs.declared.steps.Parts.{Parts}
+use Rattle.lwkt_base.specs.declared.steps.Parts.TheVariants as parts
+use Rattle.lwkt_base.specs.Step.{verb_named, form_of, ask_of}
 use Rattle.lwkt_text.specs.declared.steps.Sending.{Sending}
 use Rattle.lwkt_text.specs.declared.tables.Names.{Names}
 use Rattle.lwkt_text.specs.declared.words.Word.{Word}
 use Rattle.lwkt_text.specs.declared.wrongs.Wanted.TheVariants.{Arrow}
 use Rattle.lwkt_text.specs.declared.wrongs.What.TheVariants as whats
 use Rattle.lwkt_text.specs.declared.wrongs.Wrong.{Wrong}
-use Rattle.lwkt_text.specs.Looking.{is_at, demand_at, ends_at, wrong_at, number_at, bytes_at, optional, past_key}
+use Rattle.lwkt_text.specs.Looking.{text_at, is_at, demand_at, ends_at, wrong_at, number_at, bytes_at, optional, past_key}
 use Rattle.lwkt_text.specs.Naming.{token_id_at, message_id_at, cell_by_words, thread_id_at, thread_length}
 use Rattle.lwkt_text.specs.Outcome.{◌>>=◌, ◌>>◌}
-
--- word 1, a token, and nothing more
-abbrev pub only_token : Names → List Word → Result TokId Wrong
-only_token names ws = token_id_at names ws 1 >>= λ tok. ends_at ws 2 >> Ok tok
-
--- word 1, a message, and nothing more
-abbrev pub only_message : Names → List Word → Result MsgId Wrong
-only_message names ws = message_id_at names ws 1 >>= λ msg. ends_at ws 2 >> Ok msg
-
--- a word that stands alone
-abbrev pub alone_ask : Ask → List Word → Result Ask Wrong
-alone_ask ask ws = ends_at ws 1 >> Ok ask
 
 -- `op N arg N` from word i on, each of them 0 where it is left out
 unfoldable pub call_at : List Word → ℕ → Result Call Wrong
@@ -67,76 +58,39 @@ flags_at ws i = record { dropable = is_at ws i (codes "dropable"); abortable = i
 abbrev pub flags_end : List Word → ℕ → ℕ
 flags_end ws i = past ws (past_abortable ws i) (codes "priority")
 
-abbrev pub do_of : Names → List Word → Result Ask Wrong
-do_of names ws = sending_of names ws >>= λ s. ends_at ws s.end >> Ok (asks.Do s.msg s.to s.call)
-
-abbrev pub send_of : Names → List Word → Result Ask Wrong
-send_of names ws = sending_of names ws >>= λ s. ends_at ws (flags_end ws s.end) >> Ok (asks.Send s.msg s.to s.call (flags_at ws s.end))
-
 -- a number that may stand at the end, at word i, and else 0
 abbrev pub last_number : List Word → ℕ → ℕ → Result ℕ Wrong
 last_number ws i high = if is_at ws i (codes "") then Ok 0 else number_at ws i 0 high
 
--- `reply M ERROR RESULT`; a result, or both, that are left out are 0
-unfoldable pub reply_of : Names → List Word → Result Ask Wrong
-reply_of names ws = do
+-- these parts, and nothing more from word i on
+abbrev pub ended : List Word → ℕ → Parts → Result Parts Wrong
+ended ws i found = ends_at ws i >> Ok found
+
+-- `M ERROR RESULT`; a result, or both, that are left out are 0
+unfoldable pub answer_of : Names → List Word → Result Parts Wrong
+answer_of names ws = do
   msg ← message_id_at names ws 1
   error ← last_number ws 2 4294967295
   result ← last_number ws 3 18446744073709551615
-  ends_at ws 4
-  Ok (asks.Reply msg error result)
+  ended ws 4 (parts.Answer msg error result)
 
-abbrev pub read_of : Names → List Word → Result Ask Wrong
-read_of names ws = cell_by_words names ws 1 >>= λ p. ends_at ws 4 >> Ok (asks.Read p.tok p.cell)
+-- what stands behind the word of a step, in this form
+abbrev pub parts_at : Names → Form → List Word → Result Parts Wrong
+parts_at names forms.Alone ws = ended ws 1 parts.Alone
+parts_at names forms.Token ws = token_id_at names ws 1 >>= λ tok. ended ws 2 (parts.Token tok)
+parts_at names forms.Cell ws = cell_by_words names ws 1 >>= λ p. ended ws 4 (parts.Cell p.tok p.cell)
+parts_at names forms.Value ws = cell_by_words names ws 1 >>= λ p. number_at ws 4 0 18446744073709551615 >>= λ v. ended ws 5 (parts.Value p.tok p.cell v)
+parts_at names forms.More ws = token_id_at names ws 1 >>= λ tok. number_at ws 2 0 18446744073709551615 >>= λ k. ended ws 3 (parts.More tok k)
+parts_at names forms.Record ws = token_id_at names ws 1 >>= λ tok. bytes_at ws 2 65 >>= λ blob. ended ws 3 (parts.Record tok blob)
+parts_at names forms.Message ws = message_id_at names ws 1 >>= λ msg. ended ws 2 (parts.Message msg)
+parts_at names forms.Call ws = sending_of names ws >>= λ s. ended ws s.end (parts.Call s.msg s.to s.call)
+parts_at names forms.Sending ws = sending_of names ws >>= λ s. ended ws (flags_end ws s.end) (parts.Sending s.msg s.to s.call (flags_at ws s.end))
+parts_at names forms.Answer ws = answer_of names ws
 
-abbrev pub write_of : Names → List Word → Result Ask Wrong
-write_of names ws = cell_by_words names ws 1 >>= λ p. number_at ws 4 0 18446744073709551615 >>= λ v. ends_at ws 5 >> Ok (asks.Write p.tok p.cell v)
+-- what word 0 makes known, if it is the word of a step
+abbrev pub known : {A : Type 0} → List Word → Option A → Result A Wrong
+known ws found = ok_or found (wrong_at ws 0 whats.Keyword)
 
-abbrev pub add_of : Names → List Word → Result Ask Wrong
-add_of names ws = token_id_at names ws 1 >>= λ tok. number_at ws 2 0 18446744073709551615 >>= λ k. ends_at ws 3 >> Ok (asks.Add tok k)
-
-abbrev pub rrec_of : Names → List Word → Result Ask Wrong
-rrec_of names ws = only_token names ws >>= λ tok. Ok (asks.ReadBlob tok)
-
-abbrev pub wrec_of : Names → List Word → Result Ask Wrong
-wrec_of names ws = token_id_at names ws 1 >>= λ tok. bytes_at ws 2 65 >>= λ blob. ends_at ws 3 >> Ok (asks.WriteBlob tok blob)
-
--- an ask of a processor
-abbrev pub plain_ask : List Word → Result Ask Wrong
-plain_ask ws =
-    if is_at ws 0 (codes "swap") then alone_ask asks.Swap ws else (
-    if is_at ws 0 (codes "getport") then alone_ask asks.GetPort ws else (
-    if is_at ws 0 (codes "wait") then alone_ask asks.WaitPort ws else (
-    if is_at ws 0 (codes "yield") then alone_ask asks.Yield ws else (
-    if is_at ws 0 (codes "exit") then alone_ask asks.Exit ws else Err (wrong_at ws 0 whats.Keyword)))))
-
--- an ask of a message
-abbrev pub message_ask : Names → List Word → Result Ask Wrong
-message_ask names ws =
-    if is_at ws 0 (codes "send") then send_of names ws else (
-    if is_at ws 0 (codes "do") then do_of names ws else (
-    if is_at ws 0 (codes "reply") then reply_of names ws else (
-    if is_at ws 0 (codes "abort") then (only_message names ws >>= λ m. Ok (asks.Abort m)) else (
-    if is_at ws 0 (codes "isab") then (only_message names ws >>= λ m. Ok (asks.IsAborted m)) else (
-    if is_at ws 0 (codes "drop") then (only_message names ws >>= λ m. Ok (asks.DropMsg m)) else plain_ask ws)))))
-
--- an ask of cells
-abbrev pub cell_ask : Names → List Word → Result Ask Wrong
-cell_ask names ws =
-    if is_at ws 0 (codes "read") then read_of names ws else (
-    if is_at ws 0 (codes "write") then write_of names ws else (
-    if is_at ws 0 (codes "add") then add_of names ws else message_ask names ws))
-
--- an ask of a record
-abbrev pub record_ask : Names → List Word → Result Ask Wrong
-record_ask names ws =
-    if is_at ws 0 (codes "rrec") then rrec_of names ws else (
-    if is_at ws 0 (codes "wrec") then wrec_of names ws else cell_ask names ws)
-
--- the ask of a step
+-- the ask of a step: a word of the table of steps, and what stands behind it
 abbrev pub step_ask : Names → List Word → Result Ask Wrong
-step_ask names ws =
-    if is_at ws 0 (codes "get") then (only_token names ws >>= λ t. Ok (asks.Get t)) else (
-    if is_at ws 0 (codes "gets") then (only_token names ws >>= λ t. Ok (asks.GetShared t)) else (
-    if is_at ws 0 (codes "try") then (only_token names ws >>= λ t. Ok (asks.TryGet t)) else (
-    if is_at ws 0 (codes "rel") then (only_token names ws >>= λ t. Ok (asks.Rel t)) else record_ask names ws)))
+step_ask names ws = known ws (verb_named (text_at ws 0)) >>= λ verb. parts_at names (form_of verb) ws >>= λ found. known ws (ask_of verb found)

@@ -7,7 +7,8 @@ use crate::pages::Sheet;
 use crate::sames::same_script;
 use crate::unsaid::Unsaid;
 use lwkt_base::hexes::digits_of;
-use lwkt_base::{Ask, Blob, Call, Fault, Flags, Law, MsgId, MsgSpec, ThreadId, TokSpec};
+use lwkt_base::steps::step_of;
+use lwkt_base::{Ask, Blob, Call, Fault, Flags, Law, MsgId, MsgSpec, Parts, ThreadId, TokSpec};
 use lwkt_script::{Script, ThreadSpec, Version, read_script};
 use std::alloc::{AllocError, Global};
 
@@ -30,10 +31,9 @@ fn is_guarded(token: &TokSpec) -> bool {
 
 // Whether an ask needs a version with records and messages sent with priority.
 fn is_of_second(ask: &Ask) -> bool {
-    match ask {
-        Ask::ReadBlob(_) | Ask::WriteBlob(..) => true,
-        Ask::Send(_, _, _, flags) => flags.priority,
-        _ => false,
+    match step_of(ask) {
+        (_, Parts::Sending(_, _, _, flags)) => flags.priority,
+        (verb, _) => verb.is_later(),
     }
 }
 
@@ -99,23 +99,21 @@ fn write_message(page: &mut Sheet, message: &MsgSpec) -> Result<(), AllocError> 
     page.text("}")
 }
 
-// A word and a number: `"get",0`.
-fn write_one(page: &mut Sheet, word: &str, n: u8) -> Result<(), AllocError> {
-    page.text(word)?;
-    page.tagged("\", ", u64::from(n))
+// A number of a token, a message or a processor.
+fn write_one(page: &mut Sheet, n: u8) -> Result<(), AllocError> {
+    page.tagged(", ", u64::from(n))
+}
+
+// Such a number and one more.
+fn write_two(page: &mut Sheet, first: u8, second: u64) -> Result<(), AllocError> {
+    write_one(page, first)?;
+    page.tagged(", ", second)
 }
 
 // What is sent: a message, a thread, op and arg.
-fn write_sending(
-    page: &mut Sheet,
-    word: &str,
-    msg: MsgId,
-    to: ThreadId,
-    call: Call,
-) -> Result<(), AllocError> {
-    write_one(page, word, msg.0)?;
-    page.tagged(", ", u64::from(to.cpu.0))?;
-    page.tagged(", ", u64::from(to.thread))?;
+fn write_call(page: &mut Sheet, msg: MsgId, to: ThreadId, call: Call) -> Result<(), AllocError> {
+    write_one(page, msg.0)?;
+    write_two(page, to.cpu.0, u64::from(to.thread))?;
     page.tagged(", ", u64::from(call.op))?;
     page.tagged(", ", call.arg)
 }
@@ -127,64 +125,49 @@ fn number_of_flags(flags: Flags) -> u64 {
     dropable + abortable + priority
 }
 
-// A word and two numbers.
-fn write_two(page: &mut Sheet, word: &str, first: u8, second: u64) -> Result<(), AllocError> {
-    write_one(page, word, first)?;
-    page.tagged(", ", second)
-}
-
-// What stands between the bracket and the word's quote that opens a step and the bracket that closes it.
-fn write_ask(page: &mut Sheet, ask: Ask) -> Result<(), AllocError> {
-    match ask {
-        Ask::Get(tok) => write_one(page, "get", tok.0),
-        Ask::GetShared(tok) => write_one(page, "gets", tok.0),
-        Ask::TryGet(tok) => write_one(page, "try", tok.0),
-        Ask::Rel(tok) => write_one(page, "rel", tok.0),
-        Ask::Abort(msg) => write_one(page, "abort", msg.0),
-        Ask::IsAborted(msg) => write_one(page, "isab", msg.0),
-        Ask::DropMsg(msg) => write_one(page, "drop", msg.0),
-        Ask::Swap => page.text("swap\""),
-        Ask::GetPort => page.text("getport\""),
-        Ask::WaitPort => page.text("wait\""),
-        Ask::Yield => page.text("yield\""),
-        Ask::Exit => page.text("exit\""),
-        other => write_more(page, other),
-    }
-}
-
-// An ask with several numbers.
-fn write_more(page: &mut Sheet, ask: Ask) -> Result<(), AllocError> {
-    match ask {
-        Ask::Read(tok, cell) => write_two(page, "read", tok.0, u64::from(cell)),
-        Ask::Write(tok, cell, value) => {
-            write_two(page, "write", tok.0, u64::from(cell))?;
+// What stands behind the word of a step.
+fn write_parts(page: &mut Sheet, parts: Parts) -> Result<(), AllocError> {
+    match parts {
+        Parts::Alone => Ok(()),
+        Parts::Token(tok) => write_one(page, tok.0),
+        Parts::Cell(tok, cell) => write_two(page, tok.0, u64::from(cell)),
+        Parts::Value(tok, cell, value) => {
+            write_two(page, tok.0, u64::from(cell))?;
             page.tagged(", ", value)
         }
-        Ask::Add(tok, more) => write_two(page, "add", tok.0, more),
-        Ask::ReadBlob(tok) => write_one(page, "rrec", tok.0),
-        Ask::WriteBlob(tok, blob) => {
-            write_one(page, "wrec", tok.0)?;
+        Parts::More(tok, more) => write_two(page, tok.0, more),
+        Parts::Record(tok, blob) => {
+            write_one(page, tok.0)?;
             page.text(", \"")?;
             write_bytes(page, &blob)?;
             page.text("\"")
         }
-        Ask::Reply(msg, error, outcome) => {
-            write_two(page, "reply", msg.0, u64::from(error))?;
-            page.tagged(", ", outcome)
-        }
-        Ask::Do(msg, to, call) => write_sending(page, "do", msg, to, call),
-        Ask::Send(msg, to, call, flags) => {
-            write_sending(page, "send", msg, to, call)?;
+        Parts::Message(msg) => write_one(page, msg.0),
+        Parts::Call(msg, to, call) => write_call(page, msg, to, call),
+        Parts::Sending(msg, to, call, flags) => {
+            write_call(page, msg, to, call)?;
             page.tagged(", ", number_of_flags(flags))
         }
-        _ => Ok(()),
+        Parts::Answer(msg, error, outcome) => {
+            write_two(page, msg.0, u64::from(error))?;
+            page.tagged(", ", outcome)
+        }
     }
+}
+
+// What stands between the brackets of a step.
+fn write_ask(page: &mut Sheet, ask: &Ask) -> Result<(), AllocError> {
+    let (verb, parts) = step_of(ask);
+    page.text("\"")?;
+    page.text(verb.word())?;
+    page.text("\"")?;
+    write_parts(page, parts)
 }
 
 fn write_steps(page: &mut Sheet, steps: &[Ask]) -> Result<(), AllocError> {
     for (i, ask) in steps.iter().enumerate() {
-        page.text(if i > 0 { ", [\"" } else { "[\"" })?;
-        write_ask(page, *ask)?;
+        page.text(if i > 0 { ", [" } else { "[" })?;
+        write_ask(page, ask)?;
         page.text("]")?;
     }
     Ok(())

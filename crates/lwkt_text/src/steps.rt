@@ -1,5 +1,5 @@
 ghost use Rattle.std.specs.Prelude.{◌≡◌, ◌≤◌, ◌+◌, IfOk};
-ghost use Rattle.lwkt_text.specs.Stepping.{only_token, only_message, alone_ask, call_at, call_end, sending_of, past, past_dropable, past_abortable, flags_at, flags_end, do_of, send_of, last_number, reply_of, read_of, write_of, add_of, rrec_of, wrec_of, plain_ask, message_ask, cell_ask, record_ask, step_ask};
+ghost use Rattle.lwkt_text.specs.Stepping.{call_at, call_end, sending_of, past, past_dropable, past_abortable, flags_at, flags_end, last_number, ended, answer_of, parts_at, known, step_ask};
 
 use crate::looks::{
     bytes_at, demand_at, ends_at, is_at, number_at, optional, past_key, text_at, wrong_at,
@@ -7,7 +7,8 @@ use crate::looks::{
 use crate::tables::{Names, cell_at, message_id_at, thread_id_at, thread_length, token_id_at};
 use crate::words::Word;
 use crate::wrongs::{Wanted, What, Wrong};
-use lwkt_base::{Ask, Call, Flags, MsgId, ThreadId, TokId};
+use lwkt_base::steps::{ask_of, verb_named};
+use lwkt_base::{Ask, Call, Flags, Form, MsgId, Parts, ThreadId};
 
 /// What a step sends, and the place of the first word behind it.
 #[derive(Clone, Copy)]
@@ -19,32 +20,6 @@ pub struct Sending {
 }
 
 const MOST_CODE: u64 = 4_294_967_295;
-
-// Word 1, a token, and nothing more.
-fn only_token(names: &Names, words: &[Word]) -> Result<TokId, Wrong>
-    ensures { result ≡ only_token names.now words.now }
-{
-    let tok = token_id_at(names, words, 1)?;
-    ends_at(words, 2)?;
-    Ok(tok)
-}
-
-// Word 1, a message, and nothing more.
-fn only_message(names: &Names, words: &[Word]) -> Result<MsgId, Wrong>
-    ensures { result ≡ only_message names.now words.now }
-{
-    let msg = message_id_at(names, words, 1)?;
-    ends_at(words, 2)?;
-    Ok(msg)
-}
-
-// A word that stands alone.
-fn alone_ask(ask: Ask, words: &[Word]) -> Result<Ask, Wrong>
-    ensures { result ≡ alone_ask ask words.now }
-{
-    ends_at(words, 1)?;
-    Ok(ask)
-}
 
 /// `op N arg N` from word i on, each of them 0 where it is left out.
 #[tactic(auto, unfolding(crate::specs::Stepping::call_at))]
@@ -132,23 +107,6 @@ fn flags_end(words: &[Word], i: usize) -> usize
     past(words, past_abortable(words, i), "priority")
 }
 
-fn do_of(names: &Names, words: &[Word]) -> Result<Ask, Wrong>
-    ensures { result ≡ do_of names.now words.now }
-{
-    let sending = sending_of(names, words)?;
-    ends_at(words, sending.end)?;
-    Ok(Ask::Do(sending.msg, sending.to, sending.call))
-}
-
-fn send_of(names: &Names, words: &[Word]) -> Result<Ask, Wrong>
-    ensures { result ≡ send_of names.now words.now }
-{
-    let sending = sending_of(names, words)?;
-    ends_at(words, flags_end(words, sending.end))?;
-    let flags = flags_at(words, sending.end);
-    Ok(Ask::Send(sending.msg, sending.to, sending.call, flags))
-}
-
 /// A number that may stand at the end, at word i, and else 0.
 pub fn last_number(words: &[Word], i: usize, high: u64) -> Result<u64, Wrong>
     ensures exact { result ≡ last_number words.now i high }
@@ -160,119 +118,80 @@ pub fn last_number(words: &[Word], i: usize, high: u64) -> Result<u64, Wrong>
     number_at(words, i, 0, high)
 }
 
-#[tactic(auto, unfolding(crate::specs::Stepping::reply_of))]
-fn reply_of(names: &Names, words: &[Word]) -> Result<Ask, Wrong>
-    ensures { result ≡ reply_of names.now words.now }
+// `M ERROR RESULT`.
+#[tactic(auto, unfolding(crate::specs::Stepping::answer_of))]
+fn answer_of(names: &Names, words: &[Word]) -> Result<Parts, Wrong>
+    ensures { result ≡ answer_of names.now words.now }
 {
     let msg = message_id_at(names, words, 1)?;
     let error = last_number(words, 2, MOST_CODE)? as u32;
     let outcome = last_number(words, 3, u64::MAX)?;
-    ends_at(words, 4)?;
-    Ok(Ask::Reply(msg, error, outcome))
+    ended(words, 4, Parts::Answer(msg, error, outcome))
 }
 
-fn read_of(names: &Names, words: &[Word]) -> Result<Ask, Wrong>
-    ensures { result ≡ read_of names.now words.now }
+// These parts, and nothing more from word i on.
+fn ended(words: &[Word], i: usize, parts: Parts) -> Result<Parts, Wrong>
+    ensures { result ≡ ended words.now i parts }
 {
-    let place = cell_at(names, words, 1)?;
-    ends_at(words, 4)?;
-    Ok(Ask::Read(place.tok, place.cell))
+    ends_at(words, i)?;
+    Ok(parts)
 }
 
-fn write_of(names: &Names, words: &[Word]) -> Result<Ask, Wrong>
-    ensures { result ≡ write_of names.now words.now }
+// What stands behind the word of a step, in this form.
+fn parts_at(names: &Names, form: Form, words: &[Word]) -> Result<Parts, Wrong>
+    ensures { result ≡ parts_at names.now form words.now }
 {
-    let place = cell_at(names, words, 1)?;
-    let value = number_at(words, 4, 0, u64::MAX)?;
-    ends_at(words, 5)?;
-    Ok(Ask::Write(place.tok, place.cell, value))
-}
-
-fn add_of(names: &Names, words: &[Word]) -> Result<Ask, Wrong>
-    ensures { result ≡ add_of names.now words.now }
-{
-    let tok = token_id_at(names, words, 1)?;
-    let more = number_at(words, 2, 0, u64::MAX)?;
-    ends_at(words, 3)?;
-    Ok(Ask::Add(tok, more))
-}
-
-fn rrec_of(names: &Names, words: &[Word]) -> Result<Ask, Wrong>
-    ensures { result ≡ rrec_of names.now words.now }
-{
-    Ok(Ask::ReadBlob(only_token(names, words)?))
-}
-
-fn wrec_of(names: &Names, words: &[Word]) -> Result<Ask, Wrong>
-    ensures { result ≡ wrec_of names.now words.now }
-{
-    let tok = token_id_at(names, words, 1)?;
-    let blob = bytes_at(words, 2, 65)?;
-    ends_at(words, 3)?;
-    Ok(Ask::WriteBlob(tok, blob))
-}
-
-// An ask of a processor.
-fn plain_ask(words: &[Word]) -> Result<Ask, Wrong>
-    ensures { result ≡ plain_ask words.now }
-{
-    match text_at(words, 0) {
-        "swap" => alone_ask(Ask::Swap, words),
-        "getport" => alone_ask(Ask::GetPort, words),
-        "wait" => alone_ask(Ask::WaitPort, words),
-        "yield" => alone_ask(Ask::Yield, words),
-        "exit" => alone_ask(Ask::Exit, words),
-        _ => Err(wrong_at(words, 0, What::Keyword)),
+    match form {
+        Form::Alone => ended(words, 1, Parts::Alone),
+        Form::Token => ended(words, 2, Parts::Token(token_id_at(names, words, 1)?)),
+        Form::Message => ended(words, 2, Parts::Message(message_id_at(names, words, 1)?)),
+        Form::Cell => {
+            let place = cell_at(names, words, 1)?;
+            ended(words, 4, Parts::Cell(place.tok, place.cell))
+        }
+        Form::Value => {
+            let place = cell_at(names, words, 1)?;
+            let value = number_at(words, 4, 0, u64::MAX)?;
+            ended(words, 5, Parts::Value(place.tok, place.cell, value))
+        }
+        Form::More => {
+            let tok = token_id_at(names, words, 1)?;
+            ended(
+                words,
+                3,
+                Parts::More(tok, number_at(words, 2, 0, u64::MAX)?),
+            )
+        }
+        Form::Record => {
+            let tok = token_id_at(names, words, 1)?;
+            ended(words, 3, Parts::Record(tok, bytes_at(words, 2, 65)?))
+        }
+        Form::Call => {
+            let s = sending_of(names, words)?;
+            ended(words, s.end, Parts::Call(s.msg, s.to, s.call))
+        }
+        Form::Sending => {
+            let s = sending_of(names, words)?;
+            let flags = flags_at(words, s.end);
+            let end = flags_end(words, s.end);
+            ended(words, end, Parts::Sending(s.msg, s.to, s.call, flags))
+        }
+        Form::Answer => answer_of(names, words),
     }
 }
 
-// An ask of a message.
-fn message_ask(names: &Names, words: &[Word]) -> Result<Ask, Wrong>
-    ensures { result ≡ message_ask names.now words.now }
+// What word 0 makes known, if it is the word of a step.
+fn known<A>(words: &[Word], found: Option<A>) -> Result<A, Wrong>
+    ensures { result ≡ known words.now found }
 {
-    match text_at(words, 0) {
-        "send" => send_of(names, words),
-        "do" => do_of(names, words),
-        "reply" => reply_of(names, words),
-        "abort" => Ok(Ask::Abort(only_message(names, words)?)),
-        "isab" => Ok(Ask::IsAborted(only_message(names, words)?)),
-        "drop" => Ok(Ask::DropMsg(only_message(names, words)?)),
-        _ => plain_ask(words),
-    }
-}
-
-// An ask of cells.
-fn cell_ask(names: &Names, words: &[Word]) -> Result<Ask, Wrong>
-    ensures { result ≡ cell_ask names.now words.now }
-{
-    match text_at(words, 0) {
-        "read" => read_of(names, words),
-        "write" => write_of(names, words),
-        "add" => add_of(names, words),
-        _ => message_ask(names, words),
-    }
-}
-
-// An ask of a record.
-fn record_ask(names: &Names, words: &[Word]) -> Result<Ask, Wrong>
-    ensures { result ≡ record_ask names.now words.now }
-{
-    match text_at(words, 0) {
-        "rrec" => rrec_of(names, words),
-        "wrec" => wrec_of(names, words),
-        _ => cell_ask(names, words),
-    }
+    found.ok_or(wrong_at(words, 0, What::Keyword))
 }
 
 /// The ask of a step.
 pub fn step_ask(names: &Names, words: &[Word]) -> Result<Ask, Wrong>
     ensures { result ≡ step_ask names.now words.now }
 {
-    match text_at(words, 0) {
-        "get" => Ok(Ask::Get(only_token(names, words)?)),
-        "gets" => Ok(Ask::GetShared(only_token(names, words)?)),
-        "try" => Ok(Ask::TryGet(only_token(names, words)?)),
-        "rel" => Ok(Ask::Rel(only_token(names, words)?)),
-        _ => record_ask(names, words),
-    }
+    let verb = known(words, verb_named(text_at(words, 0)))?;
+    let parts = parts_at(names, verb.form(), words)?;
+    known(words, ask_of(verb, parts))
 }

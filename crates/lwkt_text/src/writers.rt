@@ -7,7 +7,8 @@ use crate::pages::Sheet;
 use crate::readers::{Refusal, read_text};
 use crate::sames::same_script;
 use crate::unsaid::Unsaid;
-use lwkt_base::{Ask, Blob, Call, Flags, MsgId, MsgSpec, ThreadId, TokId, TokSpec};
+use lwkt_base::steps::step_of;
+use lwkt_base::{Ask, Blob, Call, Flags, MsgId, MsgSpec, Parts, ThreadId, TokId, TokSpec};
 use lwkt_script::{Script, ThreadSpec};
 use std::alloc::{AllocError, Global};
 
@@ -61,9 +62,8 @@ fn write_message(page: &mut Sheet, i: usize, message: &MsgSpec) -> Result<(), Al
     page.text("\n")
 }
 
-// A word and a token: its name, if it has one, and else its number.
-fn write_tok(page: &mut Sheet, known: Known, word: &str, tok: TokId) -> Result<(), AllocError> {
-    page.text(word)?;
+// A token: its name, if it has one, and else its number.
+fn write_tok(page: &mut Sheet, known: Known, tok: TokId) -> Result<(), AllocError> {
     page.text(if usize::from(tok.0) < known.tokens {
         " t"
     } else {
@@ -72,9 +72,8 @@ fn write_tok(page: &mut Sheet, known: Known, word: &str, tok: TokId) -> Result<(
     page.number(u64::from(tok.0))
 }
 
-// A word and a message: its name, if it has one, and else its number.
-fn write_msg(page: &mut Sheet, known: Known, word: &str, msg: MsgId) -> Result<(), AllocError> {
-    page.text(word)?;
+// A message: its name, if it has one, and else its number.
+fn write_msg(page: &mut Sheet, known: Known, msg: MsgId) -> Result<(), AllocError> {
     page.text(if usize::from(msg.0) < known.messages {
         " m"
     } else {
@@ -83,15 +82,21 @@ fn write_msg(page: &mut Sheet, known: Known, word: &str, msg: MsgId) -> Result<(
     page.number(u64::from(msg.0))
 }
 
-fn write_sending(
+// A cell of a token.
+fn write_cell(page: &mut Sheet, known: Known, tok: TokId, cell: u8) -> Result<(), AllocError> {
+    write_tok(page, known, tok)?;
+    page.tagged(".", u64::from(cell))
+}
+
+// What is sent: a message, a thread, and what is asked for.
+fn write_call(
     page: &mut Sheet,
     known: Known,
-    word: &str,
     msg: MsgId,
     to: ThreadId,
     call: Call,
 ) -> Result<(), AllocError> {
-    write_msg(page, known, word, msg)?;
+    write_msg(page, known, msg)?;
     page.text(" -> ")?;
     write_id(page, to)?;
     if call.op > 0 {
@@ -116,64 +121,44 @@ fn write_flags(page: &mut Sheet, flags: Flags) -> Result<(), AllocError> {
     Ok(())
 }
 
-// A step of one word, or of a word and what it is of.
-fn write_ask(page: &mut Sheet, known: Known, ask: Ask) -> Result<(), AllocError> {
-    match ask {
-        Ask::Get(tok) => write_tok(page, known, "get", tok),
-        Ask::GetShared(tok) => write_tok(page, known, "gets", tok),
-        Ask::TryGet(tok) => write_tok(page, known, "try", tok),
-        Ask::Rel(tok) => write_tok(page, known, "rel", tok),
-        Ask::Abort(msg) => write_msg(page, known, "abort", msg),
-        Ask::IsAborted(msg) => write_msg(page, known, "isab", msg),
-        Ask::DropMsg(msg) => write_msg(page, known, "drop", msg),
-        Ask::Swap => page.text("swap"),
-        Ask::GetPort => page.text("getport"),
-        Ask::WaitPort => page.text("wait"),
-        Ask::Yield => page.text("yield"),
-        Ask::Exit => page.text("exit"),
-        other => write_more(page, known, other),
-    }
-}
-
-// A step with numbers.
-fn write_more(page: &mut Sheet, known: Known, ask: Ask) -> Result<(), AllocError> {
-    match ask {
-        Ask::Read(tok, cell) => {
-            write_tok(page, known, "read", tok)?;
-            page.tagged(".", u64::from(cell))
-        }
-        Ask::Write(tok, cell, value) => {
-            write_tok(page, known, "write", tok)?;
-            page.tagged(".", u64::from(cell))?;
+// What stands behind the word of a step.
+fn write_parts(page: &mut Sheet, known: Known, parts: Parts) -> Result<(), AllocError> {
+    match parts {
+        Parts::Alone => Ok(()),
+        Parts::Token(tok) => write_tok(page, known, tok),
+        Parts::Cell(tok, cell) => write_cell(page, known, tok, cell),
+        Parts::Value(tok, cell, value) => {
+            write_cell(page, known, tok, cell)?;
             page.tagged(" ", value)
         }
-        Ask::Add(tok, more) => {
-            write_tok(page, known, "add", tok)?;
+        Parts::More(tok, more) => {
+            write_tok(page, known, tok)?;
             page.tagged(" ", more)
         }
-        Ask::ReadBlob(tok) => write_tok(page, known, "rrec", tok),
-        Ask::WriteBlob(tok, blob) => {
-            write_tok(page, known, "wrec", tok)?;
+        Parts::Record(tok, blob) => {
+            write_tok(page, known, tok)?;
             write_record(page, " ", &blob)
         }
-        Ask::Reply(msg, error, outcome) => {
-            write_msg(page, known, "reply", msg)?;
+        Parts::Message(msg) => write_msg(page, known, msg),
+        Parts::Call(msg, to, call) => write_call(page, known, msg, to, call),
+        Parts::Sending(msg, to, call, flags) => {
+            write_call(page, known, msg, to, call)?;
+            write_flags(page, flags)
+        }
+        Parts::Answer(msg, error, outcome) => {
+            write_msg(page, known, msg)?;
             page.tagged(" ", u64::from(error))?;
             page.tagged(" ", outcome)
         }
-        Ask::Do(msg, to, call) => write_sending(page, known, "do", msg, to, call),
-        Ask::Send(msg, to, call, flags) => {
-            write_sending(page, known, "send", msg, to, call)?;
-            write_flags(page, flags)
-        }
-        _ => Ok(()),
     }
 }
 
 fn write_steps(page: &mut Sheet, known: Known, steps: &[Ask]) -> Result<(), AllocError> {
     for ask in steps {
+        let (verb, parts) = step_of(ask);
         page.text("    ")?;
-        write_ask(page, known, *ask)?;
+        page.text(verb.word())?;
+        write_parts(page, known, parts)?;
         page.text("\n")?;
     }
     Ok(())
