@@ -1,3 +1,4 @@
 pub mod Equality
 pub mod Keeping
 pub mod Inputting
+pub mod Presence

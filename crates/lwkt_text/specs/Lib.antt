@@ -7,6 +7,7 @@ pub mod Parting
 pub mod Claiming
 pub mod Listing
 pub mod Drafting
+pub mod Absence
 pub mod Reading
 pub mod Refusing
 pub mod Inputs

@@ -1,5 +1,6 @@
 -- What a text is: a script, its names and what is said of its outcomes, or all that is wrong with it (own).
 use Rattle.std.specs.Prelude.{◌≡◌, ℕ, ◌==◌, List, [], length, if◌then◌else◌, Result, Ok, Err}
+use Rattle.std.specs.List.{filter_map}
 use Rattle.lwkt_script.specs.declared.scripts.Script.{Script}
 use Rattle.lwkt_text.specs.declared.drafts.Draft.{Draft}
 use Rattle.lwkt_text.specs.declared.listings.Listing.{Listing}
@@ -7,16 +8,22 @@ use Rattle.lwkt_text.specs.declared.readers.Reading.{Reading}
 use Rattle.lwkt_text.specs.declared.tables.Names.{Names}
 use Rattle.lwkt_text.specs.declared.words.Sentence.{Sentence}
 use Rattle.lwkt_text.specs.declared.wrongs.Wrong.{Wrong}
+use Rattle.lwkt_text.specs.Absence.{absence}
 use Rattle.lwkt_text.specs.Drafting.{no_draft, closed, all_told}
 use Rattle.lwkt_text.specs.Listing.{no_listing, all_listed}
 use Rattle.lwkt_text.specs.Scanning.{sentences_of}
 
--- what was told, if nothing of it is wrong
+-- all that was told
+abbrev pub drafted : Names → Draft → Reading
+drafted names d = record { script = record { turns = d.turns; idle = d.idle; cpus = names.cpus; tokens = d.tokens; messages = d.messages; threads = d.threads }; names = names; expectations = d.expectations }
+
+-- claims are wrong that name what isn't there
+abbrev pub claims_checked : Reading → Result Reading (List Wrong)
+claims_checked r = let wrongs = filter_map (absence r.script) r.expectations in if length wrongs == 0 then Ok r else Err wrongs
+
+-- what was told, if nothing of it is wrong; only where nothing else is wrong, it is known what there is
 abbrev pub sealed : Names → Draft → Result Reading (List Wrong)
-sealed names d =
-    if length d.faults == 0
-    then Ok (record { script = record { turns = d.turns; idle = d.idle; cpus = names.cpus; tokens = d.tokens; messages = d.messages; threads = d.threads }; names = names; expectations = d.expectations })
-    else Err d.faults
+sealed names d = if length d.faults == 0 then claims_checked (drafted names d) else Err d.faults
 
 -- names first, so that they stand for parts that are told later, and then what the sentences tell
 abbrev pub told_with : List Sentence → Listing → Result Reading (List Wrong)

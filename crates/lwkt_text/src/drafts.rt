@@ -47,8 +47,8 @@ const THREAD_LIMIT: usize = 16;
 
 const STEP_LIMIT: usize = 256;
 
-// How many of these threads are of a processor.
-fn threads_on(cpu: u8, threads: &[ThreadSpec]) -> usize
+/// How many of these threads are of a processor.
+pub(crate) fn threads_on(cpu: u8, threads: &[ThreadSpec]) -> usize
     ensures { result ≡ threads_on cpu threads.now }
 {
     threads.iter().filter(|t| t.cpu.0 == cpu).count()

@@ -3,6 +3,7 @@ ghost use Rattle.std.specs.Prelude.{◌≡◌, ◌≤◌, ◌&&◌, ◌∷◌, n
 ghost use Rattle.std.specs.Option.{option_copied};
 ghost use Rattle.lwkt_script.specs.Format.{script_of};
 ghost use Rattle.lwkt_script.specs.Limits.{IsWithinLimits};
+ghost use Rattle.lwkt_text.specs.Absence.{NamesWhatIsThere};
 ghost use Rattle.lwkt_text.specs.Inputs.{IsUnread, declares, input_of, is_text, long_wrong, names_text, one_declares, read_as, reading_within, text_input};
 ghost use Rattle.lwkt_text.specs.Scanning.{sentences_of};
 
@@ -138,6 +139,7 @@ fn too_long(alloc: Global) -> Unread
 fn read_named(alloc: Global, bytes: &[u8]) -> Result<Input, Unread>
     ensures ok { IfOk result (λ input. text_input (reading_within bytes.now) ≡ Ok input) }
     ensures limits { IfOk result (λ input. IsWithinLimits input.script) }
+    ensures there { IfOk result (λ input. NamesWhatIsThere input.script input.expectations) }
     ensures err { IfErr result (λ unread. IsUnread unread (text_input (reading_within bytes.now))) }
 {
     if bytes.len() > LENGTH_LIMIT {
@@ -151,6 +153,7 @@ fn read_no_json(alloc: Global, bytes: &[u8]) -> Result<Input, Unread>
     requires { script_of bytes.now ≡ Err 0 }
     ensures ok { IfOk result (λ input. input_of None bytes.now ≡ Ok input) }
     ensures limits { IfOk result (λ input. IsWithinLimits input.script) }
+    ensures there { IfOk result (λ input. NamesWhatIsThere input.script input.expectations) }
     ensures err { IfErr result (λ unread. IsUnread unread (input_of None bytes.now)) }
 {
     match sentences_within(alloc, bytes) {
@@ -171,6 +174,9 @@ pub fn read_input(alloc: Global, name: Option<&str>, bytes: &[u8]) -> Result<Inp
 
     // Each script that is read keeps the limits of the format.
     ensures limits { IfOk result (λ input. IsWithinLimits input.script) }
+
+    // Each claim names only what its script has.
+    ensures there { IfOk result (λ input. NamesWhatIsThere input.script input.expectations) }
 
     // What is wrong with them.
     ensures err { IfErr result (λ unread. IsUnread unread (input_of (option_copied name.entry) bytes.now)) }

@@ -4,6 +4,7 @@
 //! holds always, sometimes or never; a *wrong* is one thing that is wrong with a text, with its place.
 #![tactic(auto)]
 
+mod absences;
 pub mod claims;
 mod drafts;
 mod expecting;
@@ -37,4 +38,4 @@ pub use tables::Names;
 pub use unsaid::Unsaid;
 pub use words::Word;
 pub use writers::text_of;
-pub use wrongs::{Slip, Wanted, What, Wrong};
+pub use wrongs::{Mention, Slip, Wanted, What, Wrong};

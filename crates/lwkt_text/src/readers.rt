@@ -1,9 +1,11 @@
 ghost use Rattle.std.specs.Prelude.{◌≡◌, ◌<◌, ◌≤◌, Ok, Err, IfOk, IfErr};
 ghost use Rattle.lwkt_script.specs.Limits.{IsWithinLimits};
 ghost use Rattle.lwkt_text.specs.Within.{IsDraft};
-ghost use Rattle.lwkt_text.specs.Reading.{sealed, reading_of, reading_of_sentences};
+ghost use Rattle.lwkt_text.specs.Absence.{NamesWhatIsThere};
+ghost use Rattle.lwkt_text.specs.Reading.{drafted, claims_checked, sealed, reading_of, reading_of_sentences};
 ghost use Rattle.lwkt_text.specs.Refusing.{IsRefusalOf};
 
+use crate::absences::absences;
 use crate::claims::Expectation;
 use crate::drafts::{Draft, draft_of};
 use crate::listings::{Listing, listing_of};
@@ -31,19 +33,16 @@ pub struct Reading {
 pub enum Refusal {
     /// Memory was refused.
     Memory(AllocError),
-    /// All that is wrong with it: first with its names, then with its sentences, each in their order. There is some.
+    /// All that is wrong with it: first with its names, then with its sentences, each in their order; and where that is nothing, with
+    /// what its claims name. There is some.
     Wrongs(Many<Wrong>),
 }
 
-// What was told, if nothing of it is wrong.
-fn sealed(names: Names, draft: Draft) -> Result<Reading, Refusal>
-    ensures ok { IfOk result (λ reading. sealed names draft ≡ Ok reading) }
-    ensures err { IfErr result (λ refusal. IsRefusalOf refusal (sealed names draft)) }
-    ensures limits { IsDraft names.cpus draft → 1 ≤ names.cpus → names.cpus ≤ 8 → IfOk result (λ reading. IsWithinLimits reading.script) }
+// All that was told.
+fn drafted(names: Names, draft: Draft) -> Reading
+    ensures exact { result ≡ drafted names draft }
+    ensures limits { IsDraft names.cpus draft → 1 ≤ names.cpus → names.cpus ≤ 8 → IsWithinLimits result.script }
 {
-    if draft.faults.len() != 0 {
-        return Err(Refusal::Wrongs(draft.faults));
-    }
     let script = Script {
         turns: draft.turns,
         idle: draft.idle,
@@ -52,17 +51,50 @@ fn sealed(names: Names, draft: Draft) -> Result<Reading, Refusal>
         messages: Parts::from_vec(draft.messages.into_vec()),
         threads: Parts::from_vec(draft.threads.into_vec()),
     };
-    Ok(Reading {
+    Reading {
         script,
         names,
         expectations: draft.expectations,
-    })
+    }
+}
+
+// What was read, if each of its claims names what is there.
+fn claims_checked(alloc: Global, reading: Reading) -> Result<Reading, Refusal>
+    ensures ok { IfOk result (λ checked. claims_checked reading ≡ Ok checked) }
+    ensures same { IfOk result (λ checked. checked ≡ reading) }
+    ensures there { IfOk result (λ checked. NamesWhatIsThere checked.script checked.expectations) }
+    ensures err { IfErr result (λ refusal. IsRefusalOf refusal (claims_checked reading)) }
+{
+    match absences(alloc, &reading.script, reading.expectations.as_slice()) {
+        Ok(wrongs) => {
+            if wrongs.len() == 0 {
+                Ok(reading)
+            } else {
+                Err(Refusal::Wrongs(wrongs))
+            }
+        }
+        Err(slip) => Err(Refusal::Memory(slip.refused())),
+    }
+}
+
+// What was told, if nothing of it is wrong.
+fn sealed(alloc: Global, names: Names, draft: Draft) -> Result<Reading, Refusal>
+    ensures ok { IfOk result (λ reading. sealed names draft ≡ Ok reading) }
+    ensures err { IfErr result (λ refusal. IsRefusalOf refusal (sealed names draft)) }
+    ensures there { IfOk result (λ reading. NamesWhatIsThere reading.script reading.expectations) }
+    ensures limits { IsDraft names.cpus draft → 1 ≤ names.cpus → names.cpus ≤ 8 → IfOk result (λ reading. IsWithinLimits reading.script) }
+{
+    if draft.faults.len() != 0 {
+        return Err(Refusal::Wrongs(draft.faults));
+    }
+    claims_checked(alloc, drafted(names, draft))
 }
 
 // Reads the sentences of a text.
 pub(crate) fn read_sentences(alloc: Global, sentences: &[Sentence]) -> Result<Reading, Refusal>
     ensures ok { IfOk result (λ reading. reading_of_sentences sentences.now ≡ Ok reading) }
     ensures limits { IfOk result (λ reading. IsWithinLimits reading.script) }
+    ensures there { IfOk result (λ reading. NamesWhatIsThere reading.script reading.expectations) }
     ensures err { IfErr result (λ refusal. IsRefusalOf refusal (reading_of_sentences sentences.now)) }
 {
     let listing = match listing_of(alloc, sentences) {
@@ -75,7 +107,7 @@ pub(crate) fn read_sentences(alloc: Global, sentences: &[Sentence]) -> Result<Re
         faults,
     } = listing;
     match draft_of(alloc, &names, sentences, faults) {
-        Ok(draft) => sealed(names, draft),
+        Ok(draft) => sealed(alloc, names, draft),
         Err(slip) => Err(Refusal::Memory(slip.refused())),
     }
 }
@@ -90,6 +122,9 @@ pub fn read_text(alloc: Global, bytes: &[u8]) -> Result<Reading, Refusal>
 
     // Each script that is read keeps the limits of the format.
     ensures limits { IfOk result (λ reading. IsWithinLimits reading.script) }
+
+    // Each claim names only what its script has.
+    ensures there { IfOk result (λ reading. NamesWhatIsThere reading.script reading.expectations) }
 
     // All that is wrong with them, and that is something.
     ensures err { IfErr result (λ refusal. IsRefusalOf refusal (reading_of bytes.now)) }

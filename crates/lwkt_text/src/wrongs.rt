@@ -1,4 +1,20 @@
+use lwkt_base::{CpuId, MsgId, ThreadId, TokId};
 use std::alloc::AllocError;
+
+/// What a claim names.
+#[derive(Clone, Copy, PartialEq, Eq)]
+pub enum Mention {
+    /// A token.
+    Token(TokId),
+    /// A cell of a token.
+    Cell(TokId, u8),
+    /// What a processor has added to a Tally token.
+    Tally(TokId, CpuId),
+    /// A message.
+    Message(MsgId),
+    /// A thread.
+    Thread(ThreadId),
+}
 
 /// What is wrong with a part of a text.
 #[derive(Clone, Copy, PartialEq, Eq)]
@@ -47,6 +63,8 @@ pub enum What {
     NoThread,
     /// There are too many tokens, messages, threads of a processor, or steps of a thread.
     Crowd,
+    /// The claim names this, and the script doesn't have it.
+    Absent(Mention),
 }
 
 /// A word that has to stand at its place.

@@ -1,4 +1,4 @@
-use Rattle.lwkt_text.proofs.readers.sealed.Goals as goal
+use Rattle.lwkt_text.proofs.readers.drafted.Goals as goal
 
 pub returns-clause-limits : goal.returns-clause-limits
 returns-clause-limits c = λ i some few. record {

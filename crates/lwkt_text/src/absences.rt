@@ -1,0 +1,140 @@
+//! What a claim names and the script doesn't have.
+ghost use Rattle.std.specs.Prelude.{◌≡◌, Err, IfOk, OnErr};
+ghost use Rattle.std.specs.List.{filter_map};
+ghost use Rattle.lwkt_text.specs.Absence.{cell_count, counts_additions, has_thread, is_there, absent, absent_quantity, absent_term, absent_entry, absent_part, absence};
+ghost use Rattle.lwkt_text.specs.Outcome.{out_of_memory};
+
+use crate::claims::{Claim, Expectation, Quantity};
+use crate::drafts::threads_on;
+use crate::many::Many;
+use crate::wrongs::{Mention, Slip, What, Wrong};
+use lwkt_base::{Entry, Law, ThreadId, TokId};
+use lwkt_script::Script;
+use std::alloc::Global;
+
+// How many cells a token has; none where there is no such token.
+fn cell_count(script: &Script, tok: TokId) -> usize
+    ensures { result ≡ cell_count script.now tok }
+{
+    match script.tokens.as_slice().get(tok.0 as usize) {
+        Some(token) => token.cells.as_slice().len(),
+        None => 0,
+    }
+}
+
+// Whether there is a token to which processors add.
+fn counts_additions(script: &Script, tok: TokId) -> bool
+    ensures { result ≡ counts_additions script.now tok }
+{
+    match script.tokens.as_slice().get(tok.0 as usize) {
+        Some(token) => matches!(token.law, Law::Tally),
+        None => false,
+    }
+}
+
+fn has_thread(script: &Script, id: ThreadId) -> bool
+    ensures { result ≡ has_thread script.now id }
+{
+    (id.thread as usize) < threads_on(id.cpu.0, script.threads.as_slice())
+}
+
+// Whether the script has what a claim names.
+fn is_there(script: &Script, mention: Mention) -> bool
+    ensures { result ≡ is_there script.now mention }
+{
+    match mention {
+        Mention::Token(tok) => (tok.0 as usize) < script.tokens.as_slice().len(),
+        Mention::Cell(tok, cell) => (cell as usize) < cell_count(script, tok),
+        Mention::Tally(tok, cpu) => counts_additions(script, tok) && cpu.0 < script.cpus,
+        Mention::Message(msg) => (msg.0 as usize) < script.messages.as_slice().len(),
+        Mention::Thread(id) => has_thread(script, id),
+    }
+}
+
+// What a claim names, if the script doesn't have it.
+fn absent(script: &Script, mention: Mention) -> Option<Mention>
+    ensures { result ≡ absent script.now mention }
+{
+    if is_there(script, mention) {
+        None
+    } else {
+        Some(mention)
+    }
+}
+
+// What a quantity is of, if the script doesn't have it.
+fn absent_quantity(script: &Script, quantity: Quantity) -> Option<Mention>
+    ensures { result ≡ absent_quantity script.now quantity }
+{
+    match quantity {
+        Quantity::Number(_) => None,
+        Quantity::Cell(tok, cell) => absent(script, Mention::Cell(tok, cell)),
+        Quantity::Generation(tok) => absent(script, Mention::Token(tok)),
+        Quantity::Tally(tok, cpu) => absent(script, Mention::Tally(tok, cpu)),
+        Quantity::Round(msg) => absent(script, Mention::Message(msg)),
+    }
+}
+
+// The first that a sum names and the script doesn't have.
+fn absent_term(script: &Script, terms: &[Quantity]) -> Option<Mention>
+    ensures { result ≡ absent_term script.now terms.now }
+{
+    for term in terms {
+        if let Some(mention) = absent_quantity(script, *term) {
+            return Some(mention);
+        }
+    }
+    None
+}
+
+// The message of an entry, if the script doesn't have it.
+fn absent_entry(script: &Script, entry: &Entry) -> Option<Mention>
+    ensures { result ≡ absent_entry script.now entry.now }
+{
+    match entry {
+        Entry::Request(msg, _) => absent(script, Mention::Message(*msg)),
+        Entry::Reply(msg, _, _) => absent(script, Mention::Message(*msg)),
+        Entry::Dropped(msg, _) => absent(script, Mention::Message(*msg)),
+        _ => None,
+    }
+}
+
+// The first that a claim names and the script doesn't have.
+fn absent_part(script: &Script, claim: &Claim) -> Option<Mention>
+    ensures { result ≡ absent_part script.now claim.now }
+{
+    match claim {
+        Claim::Ended | Claim::Stuck | Claim::Faulted(_) => None,
+        Claim::Logged(id, entry) => match absent(script, Mention::Thread(*id)) {
+            Some(mention) => Some(mention),
+            None => absent_entry(script, entry),
+        },
+        Claim::Stands(id, _) => absent(script, Mention::Thread(*id)),
+        Claim::Lies(msg, _) => absent(script, Mention::Message(*msg)),
+        Claim::Compares(sums) => match absent_term(script, sums.left.as_slice()) {
+            Some(mention) => Some(mention),
+            None => absent_term(script, sums.right.as_slice()),
+        },
+    }
+}
+
+/// What is wrong with claims that name what the script doesn't have, of each claim the first such part.
+pub fn absences(
+    alloc: Global,
+    script: &Script,
+    expectations: &[Expectation],
+) -> Result<Many<Wrong>, Slip>
+    ensures ok { IfOk result (λ wrongs. wrongs ≡ filter_map (absence script.now) expectations.now) }
+    ensures only { OnErr result (result ≡ Err out_of_memory) }
+{
+    let mut wrongs = Many::new(alloc);
+    for expectation in expectations {
+        if let Some(mention) = absent_part(script, &expectation.claim) {
+            wrongs.push(Wrong {
+                at: expectation.at,
+                what: What::Absent(mention),
+            })?;
+        }
+    }
+    Ok(wrongs)
+}
