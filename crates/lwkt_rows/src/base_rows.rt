@@ -323,14 +323,14 @@ struct Decided(u64, Mode, bool, Decision);
 
 impl Row for Decided {
     fn is_right(&self, _alloc: Global) -> bool {
-        self.0 <= MOST - 4 && TokWord::decide(self.0, self.1, self.2) == self.3
+        TokWord::decide(self.0, self.1, self.2) == self.3
     }
 }
 
 // The word of the last generation: 262144 times 70368744177663.
 const WORN: u64 = 18_446_744_073_709_289_472;
 
-const DECISIONS: [Decided; 16] = [
+const DECISIONS: [Decided; 28] = [
     Decided(0, Mode::Shared, true, Decision::Take(4)),
     Decided(4, Mode::Shared, true, Decision::Take(8)),
     Decided(8, Mode::Exclusive, true, Decision::Held),
@@ -347,6 +347,20 @@ const DECISIONS: [Decided; 16] = [
     Decided(WORN, Mode::Exclusive, true, Decision::Worn),
     Decided(WORN, Mode::Shared, true, Decision::Take(WORN + 4)),
     Decided(WORN + 12, Mode::Exclusive, true, Decision::Worn),
+    // Every bit of the count, in the first generation: one reference more is the word of the next one.
+    Decided(262_140, Mode::Shared, true, Decision::Take(262_144)),
+    Decided(262_142, Mode::Shared, true, Decision::Marked),
+    // Every bit of the generation, with all or nearly all others. One reference more than fits wraps.
+    Decided(MOST, Mode::Exclusive, true, Decision::Worn),
+    Decided(MOST, Mode::Shared, false, Decision::Held),
+    Decided(MOST - 1, Mode::Exclusive, false, Decision::Worn),
+    Decided(MOST - 1, Mode::Shared, true, Decision::Marked),
+    Decided(MOST - 1, Mode::Shared, false, Decision::Take(2)),
+    Decided(MOST - 2, Mode::Shared, false, Decision::Held),
+    Decided(MOST - 3, Mode::Exclusive, true, Decision::Worn),
+    Decided(MOST - 3, Mode::Shared, true, Decision::Take(0)),
+    Decided(MOST - 5, Mode::Shared, false, Decision::Take(MOST - 1)),
+    Decided(MOST - 7, Mode::Shared, true, Decision::Take(MOST - 3)),
 ];
 
 #[test]
