@@ -1,5 +1,6 @@
-// Makes the run of a script along every order of so many turns, each followed by so many rounds, and writes each report once, without
-// its verdict, behind a line `outcome`. It tells no two states apart: bench/explored compares with it what lwkt_explore finds.
+// Makes the runs of a script along every order of at most so many turns, and behind each of the longest so many rounds, in which all
+// comes to rest. It writes the report of each run whose threads have all ended, and of each that has come to rest: each report once,
+// without its verdict, behind a line `outcome`. It tells no two states apart: bench/explored compares with it what lwkt_explore finds.
 //
 //     enumerate TURNS ROUNDS < script.json
 //
@@ -23,6 +24,19 @@ struct bytes {
 struct reports {
     struct bytes *at;
     size_t count;
+};
+
+// The arguments for the run along an order, before the order.
+static const char before_order[] = "turns --order ";
+
+// What a run came to.
+enum end { NO_SUCH_CPU, ALL_ENDED, NOT_ALL_ENDED };
+
+// A script, the run that was made last, and what was found. The digits of its order stand in the words.
+struct search {
+    struct bytes script, words, text;
+    struct reports reports;
+    size_t turns, rounds, cpus;
 };
 
 static void fail(int status, const char *why) {
@@ -55,10 +69,6 @@ static void add(struct bytes *bytes, const void *more, size_t length) {
     bytes->length += length;
 }
 
-static void add_word(struct bytes *bytes, const char *word) {
-    add(bytes, word, strlen(word));
-}
-
 static struct bytes read_script(void) {
     struct bytes script = of_room(65536);
     uint8_t part[4096];
@@ -84,58 +94,48 @@ static size_t number_of(const char *word) {
     return (size_t)number;
 }
 
-// Shows the run that the words ask for, into the text. The answer is whether there is one: none where the order names a processor that
-// isn't there. All else that isn't a lawful run is the end.
-static bool show(const struct bytes *script, const struct bytes *words, struct bytes *text) {
-    lwkt_answer answer;
-    uint32_t status = lwkt_show_turns(script->at, script->length, words->at, words->length, text->at, text->room, &answer);
-    if (answer.length > text->room) {
-        make_room(text, answer.length);
-        status = lwkt_show_turns(script->at, script->length, words->at, words->length, text->at, text->room, &answer);
-    }
-    text->length = answer.length < text->room ? answer.length : text->room;
-    if (status == 1 && answer.fault == 30)
-        return false;
-    if ((status == 0 || status == 2) && answer.length <= text->room)
-        return true;
-    fwrite(text->at, 1, text->length, stderr);
-    fail(status == 3 ? 3 : 1, "there is no lawful run of this script along each order");
-    return false;
+// The digits of the order.
+static uint8_t *digits_of(const struct search *search) {
+    return search->words.at + strlen(before_order);
 }
 
-static struct bytes order_words(void) {
-    struct bytes words = of_room(4096);
-    add_word(&words, "turns --order ");
-    return words;
+// Makes the run along the first digits of the order, into the text. All that isn't a lawful run of the script is the end, but that the
+// order names a processor that isn't there.
+static enum end run(struct search *search, size_t turns) {
+    struct bytes *text = &search->text, words = search->words;
+    const struct bytes *script = &search->script;
+    lwkt_answer answer;
+    uint32_t status;
+    uint8_t first = *digits_of(search);
+    words.length = strlen(before_order) + (turns == 0 ? 1 : turns);
+    if (turns == 0)
+        *digits_of(search) = '-';
+    status = lwkt_show_turns(script->at, script->length, words.at, words.length, text->at, text->room, &answer);
+    if (answer.length > text->room) {
+        make_room(text, answer.length);
+        status = lwkt_show_turns(script->at, script->length, words.at, words.length, text->at, text->room, &answer);
+    }
+    *digits_of(search) = first;
+    text->length = answer.length < text->room ? answer.length : text->room;
+    if (status == 1 && answer.fault == 30)
+        return NO_SUCH_CPU;
+    if ((status == 0 || status == 2) && answer.length <= text->room)
+        return status == 0 ? ALL_ENDED : NOT_ALL_ENDED;
+    fwrite(text->at, 1, text->length, stderr);
+    fail(status == 3 ? 3 : 1, "there is no lawful run of this script along each order");
+    return NO_SUCH_CPU;
 }
 
 // How many processors the script has: an order of one turn is asked for of each, and one that isn't there is refused. An order names
 // a processor by one digit.
-static size_t count_cpus(const struct bytes *script, struct bytes *text) {
-    size_t cpus = 0;
-    bool there = true;
-    while (there) {
-        struct bytes words = order_words();
-        if (cpus > 9)
-            fail(1, "an order has a digit for each of ten processors, and no more");
-        add(&words, &"0123456789"[cpus], 1);
-        there = show(script, &words, text);
-        free(words.at);
-        cpus += there;
+static size_t count_cpus(struct search *search) {
+    for (size_t cpus = 0; cpus < 10; cpus++) {
+        *digits_of(search) = (uint8_t)('0' + cpus);
+        if (run(search, 1) == NO_SUCH_CPU)
+            return cpus;
     }
-    return cpus;
-}
-
-// The next order of the digits, the first of them the quickest. The answer is whether there is one.
-static bool next_order(uint8_t *digits, size_t count, size_t cpus) {
-    for (size_t i = 0; i < count; i++) {
-        if ((size_t)(digits[i] - '0') + 1 < cpus) {
-            digits[i]++;
-            return true;
-        }
-        digits[i] = '0';
-    }
-    return false;
+    fail(1, "an order has a digit for each of ten processors, and no more");
+    return 0;
 }
 
 static bool begins(const uint8_t *line, size_t length, const char *word) {
@@ -183,28 +183,61 @@ static struct bytes report_of(const struct bytes *text) {
     return report;
 }
 
-// Keeps a report, unless it is there already.
-static void keep(struct reports *reports, const struct bytes *report) {
-    struct bytes copy;
-    for (size_t i = 0; i < reports->count; i++)
-        if (reports->at[i].length == report->length && memcmp(reports->at[i].at, report->at, report->length) == 0)
-            return;
-    copy = of_room(report->length + 1);
-    add(&copy, report->at, report->length);
-    reports->at = grown(reports->at, (reports->count + 1) * sizeof *reports->at);
-    reports->at[reports->count++] = copy;
+static bool are_same(const struct bytes *one, const struct bytes *other) {
+    return one->length == other->length && memcmp(one->at, other->at, one->length) == 0;
 }
 
-// The words for the first order: all its turns are those of processor 0, and then come the rounds.
-static struct bytes first_order(size_t turns, size_t rounds, size_t cpus) {
-    struct bytes words = order_words();
-    for (size_t i = 0; i < turns; i++)
-        add_word(&words, "0");
-    for (size_t i = 0; i < rounds; i++)
-        add(&words, "0123456789", cpus);
-    if (turns + rounds == 0)
-        add_word(&words, "-");
-    return words;
+static struct bytes copy_of(const struct bytes *bytes) {
+    struct bytes copy = of_room(bytes->length + 1);
+    add(&copy, bytes->at, bytes->length);
+    return copy;
+}
+
+// Keeps a report, unless it is there already.
+static void keep(struct reports *reports, const struct bytes *report) {
+    for (size_t i = 0; i < reports->count; i++)
+        if (are_same(&reports->at[i], report))
+            return;
+    reports->at = grown(reports->at, (reports->count + 1) * sizeof *reports->at);
+    reports->at[reports->count++] = copy_of(report);
+}
+
+// Keeps the report of the run that was made last.
+static void keep_last(struct search *search) {
+    struct bytes report = report_of(&search->text);
+    keep(&search->reports, &report);
+}
+
+// Goes on by rounds until all has come to rest. If every thread ends in them, notes may be under way then, and the reports between are
+// kept too, up to the first that is the last one.
+static void come_to_rest(struct search *search) {
+    const size_t all = search->turns + search->rounds * search->cpus;
+    struct bytes report, last;
+    bool is_last = run(search, all) == NOT_ALL_ENDED;
+    keep_last(search);
+    report = report_of(&search->text);
+    last = copy_of(&report);
+    for (size_t turns = search->turns + 1; turns < all && !is_last; turns++)
+        if (run(search, turns) == ALL_ENDED) {
+            keep_last(search);
+            report = report_of(&search->text);
+            is_last = are_same(&report, &last);
+        }
+    free(last.at);
+}
+
+// Makes the runs along the orders that begin with the first digits.
+static void try_orders(struct search *search, size_t turns) {
+    if (run(search, turns) == ALL_ENDED)
+        keep_last(search);
+    if (turns == search->turns) {
+        come_to_rest(search);
+        return;
+    }
+    for (size_t cpu = 0; cpu < search->cpus; cpu++) {
+        digits_of(search)[turns] = (uint8_t)('0' + cpu);
+        try_orders(search, turns + 1);
+    }
 }
 
 static void write_all(const struct reports *reports) {
@@ -217,24 +250,23 @@ static void write_all(const struct reports *reports) {
 }
 
 int main(int count, char **words) {
-    struct reports reports = {NULL, 0};
-    struct bytes script, text, order;
-    size_t turns, rounds, cpus;
+    struct search search = {.reports = {NULL, 0}};
     if (count != 3)
         fail(1, "the words are two numbers: TURNS ROUNDS");
-    turns = number_of(words[1]);
-    rounds = number_of(words[2]);
-    script = read_script();
-    text = of_room(65536);
-    cpus = count_cpus(&script, &text);
-    order = first_order(turns, rounds, cpus);
-    do {
-        struct bytes report;
-        if (!show(&script, &order, &text))
-            fail(1, "an order names a processor that isn't there");
-        report = report_of(&text);
-        keep(&reports, &report);
-    } while (next_order(order.at + strlen("turns --order "), turns, cpus));
-    write_all(&reports);
+    search.turns = number_of(words[1]);
+    search.rounds = number_of(words[2]);
+    search.script = read_script();
+    search.text = of_room(65536);
+    search.words = of_room(strlen(before_order) + 1);
+    add(&search.words, before_order, strlen(before_order));
+    search.cpus = count_cpus(&search);
+    for (size_t i = 0; i < search.turns; i++)
+        add(&search.words, "0", 1);
+    for (size_t i = 0; i < search.rounds; i++)
+        add(&search.words, "0123456789", search.cpus);
+    // There is room for one digit more, where both are 0.
+    add(&search.words, "-", 1);
+    try_orders(&search, 0);
+    write_all(&search.reports);
     return 0;
 }
