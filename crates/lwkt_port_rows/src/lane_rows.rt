@@ -210,6 +210,30 @@ fn a_note_with_room_is_not_kept_in_hand(rt: HostRuntime) {
     expect(&rt, rt.alloc(), &AT_ONCE);
 }
 
+// Whether a row goes as it is told in whatever memory there is: to its end, or to a call that is refused for want of memory.
+fn goes_in_whatever_memory(alloc: Global, row: &Played) -> bool {
+    if row.capacity < 2 || row.capacity > 32 {
+        return false;
+    }
+    let (mut out, mut into) = match lane(alloc, row.capacity) {
+        Ok(ends) => ends,
+        Err(fault) => return matches!(fault, Fault::Memory(_)),
+    };
+    if play_lines(&mut out, &mut into, row.lines).is_err() {
+        return false;
+    }
+    match settle(alloc, out, into) {
+        Ok(notes) => are_notes(&notes, row.left),
+        Err(fault) => matches!(fault, Fault::Memory(_)),
+    }
+}
+
+// With ample memory this says no more than `lane_in_hand`. `bench/refused` runs it with each call for memory refused.
+#[test]
+fn lanes_in_whatever_memory(rt: HostRuntime) {
+    assert!(rt; goes_in_whatever_memory(rt.alloc(), &IN_HAND));
+}
+
 // How many of the notes 0, 1, .. were pushed, and whether the last of them left the sender's hand.
 fn push_all(mut out: LaneOut) -> (u64, bool) {
     let mut pushed = 0;
