@@ -1,1 +1,2 @@
 pub mod StreamLemmas
+pub mod PlainTexts

@@ -1,3 +1,4 @@
 pub mod Complaint
 pub mod Report
 pub mod Stream
+pub mod Escape

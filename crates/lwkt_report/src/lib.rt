@@ -8,6 +8,7 @@
 mod arguments;
 pub mod closings;
 pub mod complaints;
+mod escapes;
 mod listings;
 pub mod logs;
 pub mod notes;
@@ -22,6 +23,7 @@ pub use closings::{Closing, ThreadLine, TokenLine, Verdict};
 pub use complaints::{
     Complaint, Program, complain, complaint_line, complaint_of, refuse_arguments,
 };
+pub use escapes::{escaped, is_shown_as_is, push_escaped, push_shown};
 pub use logs::Log;
 pub use lwkt_base::Entry;
 pub use notes::{NotedReader, NotedWriter};
