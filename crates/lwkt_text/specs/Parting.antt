@@ -14,7 +14,7 @@ use Rattle.lwkt_text.specs.declared.wrongs.Wanted.TheVariants as wanted
 use Rattle.lwkt_text.specs.declared.wrongs.What.TheVariants as whats
 use Rattle.lwkt_text.specs.declared.wrongs.Wrong.{Wrong}
 use Rattle.lwkt_text.specs.Looking.{text_at, is_at, demand_at, ends_at, decimal_number, number_at, bytes_at, optional, past_key, is_name}
-use Rattle.lwkt_text.specs.Naming.{thread_id_at, thread_length}
+use Rattle.lwkt_text.specs.Naming.{position, thread_id_at, thread_length}
 use Rattle.lwkt_text.specs.Outcome.{◌>>=◌, ◌>>◌}
 
 -- no cells
@@ -25,11 +25,15 @@ no_cells = record { names = []; values = []; pending = [] }
 abbrev pub cell_added : ℕ → CellList → CellList
 cell_added n s = record { names = s.names ++ s.pending ∷ []; values = s.values ++ n ∷ []; pending = [] }
 
+-- the name of the next cell, which none before has
+abbrev pub name_told : Word → CellList → Result CellList Wrong
+name_told w s = if is_some (position s.names w.text) then Err (record { at = w.at; what = whats.Twice }) else Ok (record s { pending = w.text })
+
 -- a word that is no number: the name of the next cell, or `=` behind it
 abbrev pub cell_named : Word → CellList → Result CellList Wrong
 cell_named w s =
     if bytes_eq w.text (codes "=") && not (length s.pending == 0) then Ok s else (
-    if is_name w.text && length s.pending == 0 then Ok (record s { pending = w.text }) else Err (record { at = w.at; what = whats.CellList }))
+    if is_name w.text && length s.pending == 0 then name_told w s else Err (record { at = w.at; what = whats.CellList }))
 
 abbrev pub cell_by : Option ℕ → Word → CellList → Result CellList Wrong
 cell_by (Some n) w s = Ok (cell_added n s)

@@ -2,7 +2,7 @@ ghost use Rattle.std.specs.Prelude.{◌≡◌, ◌≤◌, ◌<◌, ◌+◌, leng
 ghost use Rattle.lwkt_script.specs.Limits.{IsToken, IsMessage};
 ghost use Rattle.lwkt_script.specs.Member.{law_of, allows};
 ghost use Rattle.lwkt_text.specs.Outcome.{IsAsRead, IsSlipAsRead};
-ghost use Rattle.lwkt_text.specs.Parting.{no_cells, cell_added, cell_named, cell_told, cells_told, cells_at, law_said, law_end, has_param, param_end, asks_nothing, law_at, param_of, guard_place, guard_of, cells_place, cells_in, token_of, message_of, head_of};
+ghost use Rattle.lwkt_text.specs.Parting.{no_cells, cell_added, name_told, cell_named, cell_told, cells_told, cells_at, law_said, law_end, has_param, param_end, asks_nothing, law_at, param_of, guard_place, guard_of, cells_place, cells_in, token_of, message_of, head_of};
 
 use crate::looks::{
     bytes_at, decimal_number, demand_at, ends_at, is_at, is_name, number_at, optional, past_key,
@@ -11,7 +11,7 @@ use crate::looks::{
 use crate::many::Many;
 use crate::names::Name;
 use crate::slips::checked;
-use crate::tables::{Names, thread_id_at, thread_length};
+use crate::tables::{Names, position, thread_id_at, thread_length};
 use crate::words::Word;
 use crate::wrongs::{Slip, Wanted, What, Wrong};
 use lwkt_base::{Blob, Cells, CpuId, Law, MsgSpec, TokSpec};
@@ -66,6 +66,22 @@ impl CellList {
         self.values.push(n)
     }
 
+    // The name of the next cell.
+    fn name_next(&mut self, alloc: Global, word: &Word) -> Result<(), Slip>
+        ensures ok { OnOk result (name_told word.now self.old ≡ Ok self.new) }
+        ensures err { IfErr result (λ slip. IsSlipAsRead slip (name_told word.now self.old)) }
+    {
+        let text = word.text.as_str();
+        if position(self.names.as_slice(), text).is_some() {
+            return Err(Slip::Wrong(Wrong {
+                at: word.at,
+                what: What::Twice,
+            }));
+        }
+        self.pending = Name::of(alloc, text)?;
+        Ok(())
+    }
+
     // A word that is no number.
     fn name(&mut self, alloc: Global, word: &Word) -> Result<(), Slip>
         ensures ok { OnOk result (cell_named word.now self.old ≡ Ok self.new) }
@@ -77,8 +93,7 @@ impl CellList {
             return Ok(());
         }
         if is_name(text) && is_empty {
-            self.pending = Name::of(alloc, text)?;
-            return Ok(());
+            return self.name_next(alloc, word);
         }
         Err(Slip::Wrong(Wrong {
             at: word.at,
