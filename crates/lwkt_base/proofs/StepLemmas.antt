@@ -1,9 +1,9 @@
 -- Steps and asks, by their kinds.
-use Rattle.std.proofs.Common.{◌≡◌, refl}
+use Rattle.std.proofs.Common.{◌≡◌, refl, rules}
 use Rattle.lwkt_base.specs.Step.{StepsTellAsks, AsksTellSteps, WordsTellVerbs, FormsFit}
 use Rattle.lwkt_base.specs.declared.asks.Ask.TheVariants as asks
 use Rattle.lwkt_base.specs.declared.steps.Parts.TheVariants.{Alone, Token, Cell, Value, More, Record, Message, Call, Sending, Answer}
-use Rattle.lwkt_base.specs.declared.steps.Verb.TheVariants.{Get, GetShared, TryGet, Rel, Swap, Read, Write, Add, ReadBlob, WriteBlob, Send, Do, Reply, Abort, IsAborted, DropMsg, GetPort, WaitPort, Yield, Exit}
+use Rattle.lwkt_base.specs.declared.steps.Verb.TheVariants.{Get}
 
 pub steps_tell : StepsTellAsks
 steps_tell (asks.Get tok) = refl
@@ -11,26 +11,16 @@ steps_tell _ = refl
 
 pub asks_tell : AsksTellSteps
 asks_tell Get (Token tok) = refl
-asks_tell GetShared (Token tok) = refl
-asks_tell TryGet (Token tok) = refl
-asks_tell Rel (Token tok) = refl
-asks_tell Swap Alone = refl
-asks_tell Read (Cell tok cell) = refl
-asks_tell Write (Value tok cell value) = refl
-asks_tell Add (More tok more) = refl
-asks_tell ReadBlob (Token tok) = refl
-asks_tell WriteBlob (Record tok blob) = refl
-asks_tell Send (Sending msg to call flags) = refl
-asks_tell Do (Call msg to call) = refl
-asks_tell Reply (Answer msg error outcome) = refl
-asks_tell Abort (Message msg) = refl
-asks_tell IsAborted (Message msg) = refl
-asks_tell DropMsg (Message msg) = refl
-asks_tell GetPort Alone = refl
-asks_tell WaitPort Alone = refl
-asks_tell Yield Alone = refl
-asks_tell Exit Alone = refl
-asks_tell _ _ = tt
+asks_tell _ Alone = search rules
+asks_tell _ (Token tok) = search rules
+asks_tell _ (Cell tok cell) = search rules
+asks_tell _ (Value tok cell value) = search rules
+asks_tell _ (More tok more) = search rules
+asks_tell _ (Record tok blob) = search rules
+asks_tell _ (Message msg) = search rules
+asks_tell _ (Call msg to call) = search rules
+asks_tell _ (Sending msg to call flags) = search rules
+asks_tell _ (Answer msg error outcome) = search rules
 
 pub words_tell : WordsTellVerbs
 words_tell Get = refl
@@ -38,23 +28,13 @@ words_tell _ = refl
 
 pub fit : FormsFit
 fit Get (Token tok) = refl
-fit GetShared (Token tok) = refl
-fit TryGet (Token tok) = refl
-fit Rel (Token tok) = refl
-fit Swap Alone = refl
-fit Read (Cell tok cell) = refl
-fit Write (Value tok cell value) = refl
-fit Add (More tok more) = refl
-fit ReadBlob (Token tok) = refl
-fit WriteBlob (Record tok blob) = refl
-fit Send (Sending msg to call flags) = refl
-fit Do (Call msg to call) = refl
-fit Reply (Answer msg error outcome) = refl
-fit Abort (Message msg) = refl
-fit IsAborted (Message msg) = refl
-fit DropMsg (Message msg) = refl
-fit GetPort Alone = refl
-fit WaitPort Alone = refl
-fit Yield Alone = refl
-fit Exit Alone = refl
-fit _ _ = refl
+fit _ Alone = search rules
+fit _ (Token tok) = search rules
+fit _ (Cell tok cell) = search rules
+fit _ (Value tok cell value) = search rules
+fit _ (More tok more) = search rules
+fit _ (Record tok blob) = search rules
+fit _ (Message msg) = search rules
+fit _ (Call msg to call) = search rules
+fit _ (Sending msg to call flags) = search rules
+fit _ (Answer msg error outcome) = search rules
