@@ -13,6 +13,7 @@ use Rattle.lwkt_bank.specs.declared.views.View.{View}
 use Rattle.lwkt_bank.specs.declared.views.TokenEntry.{TokenEntry}
 use Rattle.lwkt_bank.specs.declared.seats.CpuSeat.{CpuSeat}
 use Rattle.lwkt_bank.specs.declared.kept.Kept.{Kept}
+use Rattle.lwkt_bank.specs.declared.rooms.CloseRoom.{CloseRoom}
 use Rattle.lwkt_bank.specs.Views.{RecordOf, at, amount, generation_in}
 use Rattle.lwkt_bank.specs.Notes.{note_at}
 use Rattle.lwkt_bank.specs.Seats.{BankId, bank_of, entry, past_of, holding}
@@ -96,3 +97,15 @@ pub record IsEmptyRoom (closed : Closed) (tokens : ℕ) : Type 0 where
   pub no_gens : closed.gens.items ≡ []
   pub no_tallies : closed.tallies.items ≡ []
   pub no_blobs : closed.blobs.items ≡ []
+
+-- room for all that a close of so many tokens, processors, words and slots reads and makes; and of this bank
+pub record IsRoomOf (tokens cpus words slots : ℕ) (room : CloseRoom) : Type 0 where
+  pub none : (room.kept.items ≡ []) × (room.words.items ≡ []) × (room.slots.items ≡ [])
+  pub seats : cpus ≤ vec_capacity room.kept
+  pub words_fit : words ≤ vec_capacity room.words
+  pub slots_fit : slots ≤ vec_capacity room.slots
+  pub blank : length room.blanks.items ≡ tokens
+  pub closing : IsEmptyRoom room.closed tokens
+
+abbrev pub IsRoomFor : BankId → ℕ → CloseRoom → Type 0
+IsRoomFor bank cpus room = IsRoomOf (length bank.plans) cpus bank.table.words bank.table.slots room

@@ -4,7 +4,7 @@ ghost use Rattle.std.specs.Slots.{slots_items, slots_len, slots_filled, IsFull};
 ghost use Rattle.lwkt_base.specs.declared.laws.Law.TheVariants.{Tally};
 ghost use Rattle.lwkt_bank.specs.Rule.{cell_word, plan_at, table_words};
 ghost use Rattle.lwkt_bank.specs.Views.{RecordOf};
-ghost use Rattle.lwkt_bank.specs.Closing.{shown_blob, kept_tally, kept_by, IsRead, AreRead, Left, IsReady, HasRoom, IsEmptyRoom};
+ghost use Rattle.lwkt_bank.specs.Closing.{shown_blob, kept_tally, kept_by, IsRead, AreRead, Left, IsReady, HasRoom, IsEmptyRoom, IsRoomFor};
 ghost use Rattle.lwkt_bank.specs.Seats.{id_of, id_of_desk, cpus_of};
 ghost use Rattle.lwkt_bank.specs.Gathered.{IsClosed};
 
@@ -15,7 +15,7 @@ use crate::closed::Closed;
 use crate::gathers::gather;
 use crate::kept::Kept;
 use crate::places::{generation_in, word_of_cell, word_of_token};
-use crate::rooms::{blanks_for, closed_for, put, put_blob, put_cells, put_slot};
+use crate::rooms::{CloseRoom, put, put_blob, put_cells, put_slot, room_of};
 use crate::rules::{BankRule, Key};
 use crate::seats::CpuSeat;
 use crate::views::{Plan, View};
@@ -223,17 +223,20 @@ fn values(
 }
 
 impl ClerkDesk {
-    fn close_seats(self, alloc: Global, seats: Vec<CpuSeat>) -> Result<Closed, AllocError>
+    fn close_seats(self, room: CloseRoom, seats: Vec<CpuSeat>) -> Closed
         requires ready { All (IsReady (id_of_desk self)) seats.items }
         requires all { length seats.items ≡ self.key.cpus }
         requires desk { (made : ℕ) × (self.clerk.me.0.kind ≡ SeatKind.Clerk made 0) }
-        ensures { IfOk result (λ closed. IsClosed (id_of_desk self) self.key.cpus seats.items closed) }
+        requires room { IsRoomFor (id_of_desk self) self.key.cpus room }
+        ensures { IsClosed (id_of_desk self) self.key.cpus seats.items result }
     {
-        let mut kept = Vec::with_capacity(alloc, seats.len())?;
-        let words = Vec::with_capacity(alloc, self.table.word_count())?;
-        let slots = Vec::with_capacity(alloc, self.table.slot_count())?;
-        let blanks = blanks_for(alloc, self.key.plans.len())?;
-        let closed = closed_for(alloc, self.key.plans.len())?;
+        let CloseRoom {
+            mut kept,
+            words,
+            slots,
+            blanks,
+            closed,
+        } = room;
         let ClerkDesk {
             table,
             mut clerk,
@@ -241,7 +244,7 @@ impl ClerkDesk {
         } = self;
         gather(&table, &mut clerk, seats, &mut kept);
         let (words, slots) = last_words(table, clerk, words, slots);
-        Ok(values(
+        values(
             key.plans.as_slice(),
             words.as_slice(),
             slots.as_slice(),
@@ -249,12 +252,36 @@ impl ClerkDesk {
             key.cpus,
             blanks,
             closed,
-        ))
+        )
     }
 }
 
 impl Bank {
     ghost use Rattle.lwkt_base.specs.Fault.{no_memory};
+
+    /// Room for the close of this bank: all that `close_in` takes.
+    pub fn room(&self, alloc: Global) -> Result<CloseRoom, AllocError>
+        ensures { IfOk result (λ room. IsRoomFor (id_of self.now) (cpus_of self.now) room) }
+    {
+        room_of(
+            alloc,
+            self.key.plans.len(),
+            self.key.cpus,
+            self.table.word_count(),
+            self.table.slot_count(),
+        )
+    }
+
+    /// Closes the bank as `close` does, in room that was made before. It takes no memory, so it can't fail.
+    pub fn close_in(self, room: CloseRoom, seats: Vec<CpuSeat>) -> Closed
+        requires ready { All (IsReady (id_of self)) seats.items }
+        requires all { length seats.items ≡ cpus_of self }
+        requires room { IsRoomFor (id_of self) (cpus_of self) room }
+        ensures { IsClosed (id_of self) (cpus_of self) seats.items result }
+    {
+        let desk = self.into_desk();
+        desk.close_seats(room, seats)
+    }
 
     /// Closes the bank, with all its seats, in any order. That there are as many as processors, all of this bank, and that
     /// each holds nothing is the caller's condition. What each seat knew of a token stands: the closing generation isn't
@@ -266,7 +293,7 @@ impl Bank {
         ensures ok { IfOk result (λ closed. IsClosed (id_of self) (cpus_of self) seats.items closed) }
         ensures only { IfErr result (λ f. f ≡ no_memory) }
     {
-        let desk = self.into_desk();
-        desk.close_seats(alloc, seats).map_err(Fault::Memory)
+        let room = self.room(alloc).map_err(Fault::Memory)?;
+        Ok(self.close_in(room, seats))
     }
 }

@@ -37,4 +37,5 @@ pub mod views;
 pub use answers::{Given, Stored, Try};
 pub use banks::Bank;
 pub use closed::Closed;
+pub use rooms::CloseRoom;
 pub use seats::CpuSeat;

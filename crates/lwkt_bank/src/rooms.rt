@@ -1,9 +1,10 @@
 //! Room for what a close reads: all of it is made before the first seat is taken back.
 ghost use Rattle.std.specs.Prelude.{◌≡◌, ◌<◌, ◌≤◌, [], ◌∷◌, ◌++◌, length, IfOk, vec_capacity};
-ghost use Rattle.lwkt_bank.specs.Closing.{IsEmptyRoom};
+ghost use Rattle.lwkt_bank.specs.Closing.{IsEmptyRoom, IsRoomOf};
 
 use crate::blanks::Blank;
 use crate::closed::Closed;
+use crate::kept::Kept;
 use lwkt_base::{Blob, Cells};
 use std::alloc::{AllocError, Global};
 
@@ -67,5 +68,34 @@ pub(crate) fn closed_for(alloc: Global, tokens: usize) -> Result<Closed, AllocEr
         gens,
         tallies,
         blobs,
+    })
+}
+
+/// Room for all that the close of a bank reads and makes. It is made before, so that the close can't fail.
+#[derive(Drop)]
+pub struct CloseRoom {
+    pub(crate) kept: Vec<Kept>,
+    pub(crate) words: Vec<u64>,
+    pub(crate) slots: Vec<Blob>,
+    pub(crate) blanks: Vec<Blank>,
+    pub(crate) closed: Closed,
+}
+
+/// Room for the close of a bank of so many tokens, processors, words and slots.
+pub(crate) fn room_of(
+    alloc: Global,
+    tokens: usize,
+    cpus: usize,
+    words: usize,
+    slots: usize,
+) -> Result<CloseRoom, AllocError>
+    ensures { IfOk result (λ room. IsRoomOf tokens cpus words slots room) }
+{
+    Ok(CloseRoom {
+        kept: Vec::with_capacity(alloc, cpus)?,
+        words: Vec::with_capacity(alloc, words)?,
+        slots: Vec::with_capacity(alloc, slots)?,
+        blanks: blanks_for(alloc, tokens)?,
+        closed: closed_for(alloc, tokens)?,
     })
 }
