@@ -179,8 +179,9 @@ typedef struct lwkt_record_model {
     uint8_t target[LWKT_RECORD_MESSAGES];
 } lwkt_record_model;
 
-// A recorder, some 20 KB. One that is all zeros, as a static one, isn't open.
+// A recorder, some 20 KB. One that is all zeros, as a static one, isn't open, and neither is one whose opening was refused.
 typedef struct lwkt_record {
+    uint64_t mark; // where it is, mixed, once it was opened there
     unsigned processors;
     unsigned tokens;
     unsigned messages;
@@ -207,8 +208,8 @@ typedef int (*lwkt_record_sink)(void *context, const char *bytes, size_t count);
 // Opens a recorder over memory of the caller's: `processors` times `room` events, which stay the recorder's until it is no
 // longer used. There are 1 to 8 processors, at most 64 tokens and at most 64 messages; each processor can record `room` events.
 // Tokens have the law ANY and no cells, messages are of thread 0 of processor 0, until they are declared.
-// One that is open is closed before it is opened again. LIMIT where a number is past its limit, CLOSED without a recorder, MEMORY
-// without events.
+// One that is open is closed first, as by `lwkt_record_close`, also where the opening is refused: then it stays closed. LIMIT where a
+// number is past its limit, CLOSED without a recorder, MEMORY without events.
 static inline int lwkt_record_open_in(lwkt_record *recorder, unsigned processors, unsigned tokens, unsigned messages,
                                       lwkt_record_event *events, size_t room);
 
@@ -630,12 +631,28 @@ static inline bool lwkt_record_is_within(unsigned processors, unsigned tokens, u
            messages <= LWKT_RECORD_MESSAGES && room <= SIZE_MAX / sizeof(lwkt_record_event) / processors;
 }
 
+// What a recorder that was opened here has as its mark; bytes that stand there by chance are another one.
+static inline uint64_t lwkt_record_mark_of(const lwkt_record *recorder)
+{
+    return (uint64_t)(uintptr_t)recorder ^ UINT64_C(0x6c776b745f726563);
+}
+
+// Makes a recorder a closed one, whatever it was.
+static inline void lwkt_record_close_first(lwkt_record *recorder)
+{
+    if (recorder->mark == lwkt_record_mark_of(recorder))
+        lwkt_record_close(recorder);
+    recorder->mark = 0;
+    recorder->processors = 0;
+}
+
 static inline int lwkt_record_open_in(lwkt_record *recorder, unsigned processors, unsigned tokens, unsigned messages,
                                       lwkt_record_event *events, size_t room)
 {
     unsigned each;
     if (recorder == NULL)
         return LWKT_RECORD_CLOSED;
+    lwkt_record_close_first(recorder);
     if (!lwkt_record_is_within(processors, tokens, messages, room))
         return LWKT_RECORD_LIMIT;
     if (events == NULL && room > 0)
@@ -654,6 +671,7 @@ static inline int lwkt_record_open_in(lwkt_record *recorder, unsigned processors
     for (each = 0; each < processors; each++)
         lwkt_record_clear_seat(&recorder->seats[each], room > 0 ? events + each * room : NULL);
     recorder->processors = processors;
+    recorder->mark = lwkt_record_mark_of(recorder);
     return LWKT_RECORD_OK;
 }
 
@@ -665,6 +683,7 @@ static inline int lwkt_record_open(lwkt_record *recorder, unsigned processors, u
     int error;
     if (recorder == NULL)
         return LWKT_RECORD_CLOSED;
+    lwkt_record_close_first(recorder);
     if (!lwkt_record_is_within(processors, tokens, messages, room))
         return LWKT_RECORD_LIMIT;
     events = (lwkt_record_event *)malloc(room == 0 ? 1 : processors * room * sizeof(lwkt_record_event));
@@ -685,6 +704,7 @@ static inline void lwkt_record_close(lwkt_record *recorder)
     if (recorder->owns_events)
         free(recorder->seats[0].events);
 #endif
+    recorder->mark = 0;
     recorder->processors = 0;
 }
 

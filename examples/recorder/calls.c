@@ -452,6 +452,42 @@ static void refused_openings(void)
     WANT(OK, lwkt_record_to_file(&recorder, stdout));
 }
 
+// A refused opening leaves a closed recorder, of whatever bytes it was, and also where it was open.
+static void refused_again(void)
+{
+    static lwkt_record other;
+    memset(&other, 0xa5, sizeof other);
+    WANT(LIMIT, lwkt_record_open(&other, 9, 1, 0, 10));
+    WANT(CLOSED, lwkt_record_take(&other, 0, 0));
+    lwkt_record_close(&other);
+    memset(&other, 0xa5, sizeof other);
+    WANT(MEMORY, lwkt_record_open_in(&other, 1, 1, 0, NULL, 10));
+    lwkt_record_close(&other);
+    open_sum();
+    WANT(LIMIT, lwkt_record_open(&recorder, 1, 65, 0, 10));
+    WANT(CLOSED, lwkt_record_take(&recorder, 0, 0));
+    open_sum();
+    WANT(OK, lwkt_record_to_file(&recorder, stdout));
+}
+
+// A recorder that is open is closed before it is opened again: its events go, and so does its memory, but never the caller's.
+static void opened_twice(void)
+{
+    static lwkt_record_event events[2][10];
+    open_scene(1, 1, 0, 1000);
+    WANT(OK, lwkt_record_take(&recorder, 0, 0));
+    WANT(OK, lwkt_record_open_in(&recorder, 2, 1, 0, events[0], 10));
+    WANT(OK, lwkt_record_take(&recorder, 1, 0));
+    open_scene(1, 1, 0, 1000);
+    open_scene(2, 1, 0, 100);
+    WANT(OK, lwkt_record_share(&recorder, 0, 0));
+    WANT(OK, lwkt_record_share(&recorder, 1, 0));
+    WANT(OK, lwkt_record_give(&recorder, 0, 0));
+    WANT(OK, lwkt_record_give(&recorder, 1, 0));
+    WANT(OK, lwkt_record_end(&recorder));
+    WANT(OK, lwkt_record_to_file(&recorder, stdout));
+}
+
 // All calls on a recorder that isn't open.
 static void closed_calls(lwkt_record *closed)
 {
@@ -614,6 +650,8 @@ static const struct scene {
     {"largest", largest},
     {"refused_declarations", refused_declarations},
     {"refused_openings", refused_openings},
+    {"refused_again", refused_again},
+    {"opened_twice", opened_twice},
     {"closed", closed},
     {"streams", streams},
     {"while_others_record", while_others_record},
