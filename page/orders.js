@@ -12,13 +12,19 @@ function orderOf(text) {
 // An outcome's first line: `outcome 1 stuck, order 0 1 0`.
 function readOutcome(line) {
   const found = /^outcome (\d+) (ended|stuck|cut), order (.*)$/.exec(line);
-  return found && { number: Number(found[1]), kind: found[2], order: orderOf(found[3]), report: [], why: [] };
+  return found && { number: Number(found[1]), kind: found[2], order: orderOf(found[3]), report: [], forms: [], why: [] };
 }
 
-// The last line: `3 outcomes; 211 states, 422 turns; complete`.
+// How else the messages of an outcome may stand: `or message 0 round 1 rest, order 0 1 1`.
+function readForm(line) {
+  const found = /^or (message .*), order (.*)$/.exec(line);
+  return found && { said: found[1], order: orderOf(found[2]) };
+}
+
+// The last line: `3 outcomes; 211 states, 422 turns; complete`, or `a part (states)` by the bound that ended it.
 function readSum(line) {
-  const found = /^(\d+) outcomes?; (\d+) states?, (\d+) turns; (complete|a part)$/.exec(line);
-  return found && { outcomes: Number(found[1]), states: Number(found[2]), turns: Number(found[3]), isComplete: found[4] === "complete" };
+  const found = /^(\d+) outcomes?; (\d+) states?, (\d+) turns; (complete|a part)(?: \((\w+)\))?$/.exec(line);
+  return found && { outcomes: Number(found[1]), states: Number(found[2]), turns: Number(found[3]), isComplete: found[4] === "complete", bound: found[5] ?? null };
 }
 
 // All that a search writes.
@@ -28,6 +34,7 @@ function readOrders(text) {
     const outcome = readOutcome(line), last = read.outcomes[read.outcomes.length - 1];
     if (outcome) read.outcomes.push(outcome);
     else if (readVerdict(line)) continue;
+    else if (readForm(line) && last) last.forms.push(readForm(line));
     else if (line.startsWith("lost: ")) read.lost = line.slice(6);
     else if (readSum(line)) read.sum = readSum(line);
     else if (line.startsWith("why: ") && last) last.why = line.slice(5).split("; ");
@@ -52,24 +59,32 @@ function lostParts(lost, go) {
   return order.length ? [...words, replayButton(order, go, "the way to the first lost state")] : words;
 }
 
-// An outcome with its kind, its order, its report, and why its threads are stuck.
+// How else messages may stand, with the way there.
+function formItem({ said, order }, go, name) {
+  return make("li", {}, `or ${said} `, replayButton(order, go, name));
+}
+
+// An outcome with its kind, its order, its report, how else its messages may stand, and why its threads are stuck.
 function outcomeItem(outcome, go) {
   const [chip, words] = outcomeKinds[outcome.kind];
   const order = outcome.order.length ? outcome.order.join(" ") : "no turn at all";
   const whys = outcome.why.length ? make("ul", { class: "why" }, ...outcome.why.map((why) => make("li", {}, why))) : null;
+  const forms = outcome.forms.length ? make("ul", { class: "forms" }, ...firstItems(outcome.forms, (form) => formItem(form, go, `outcome ${outcome.number} with other messages`))) : null;
   const turns = outcome.order.length === 1 ? "1 turn" : `${outcome.order.length} turns`;
   return make("li", { "data-kind": outcome.kind },
     make("h4", {}, `Outcome ${outcome.number} `, make("span", { class: `chip ${chip}` }, words)),
     make("p", {}, `After ${turns}, of the processors in this order: `, make("code", { class: "order" }, order)),
     make("p", {}, replayButton(outcome.order, go, `outcome ${outcome.number}`)),
-    make("pre", { tabindex: "0", "aria-label": `Report of outcome ${outcome.number}` }, outcome.report.join("\n")), whys);
+    make("pre", { tabindex: "0", "aria-label": `Report of outcome ${outcome.number}` }, outcome.report.join("\n")), forms, whys);
 }
+
+const boundWords = { states: "the bound of states was reached", turns: "some orders have too many turns", memory: "the memory was used up", stopped: "it was stopped" };
 
 // What was searched, in words.
 function sumWords({ sum }, isLast) {
   const states = sum.states === 1 ? "1 state" : `${sum.states} states`;
   const found = sum.outcomes === 1 ? "1 outcome" : `${sum.outcomes} outcomes`;
-  const rest = sum.isComplete ? "Every order was tried." : isLast ? "Not every order was tried: there may be more outcomes." : "Going on ..";
+  const rest = sum.isComplete ? "Every order was tried." : isLast ? `Not every order was tried, since ${boundWords[sum.bound] || "the search ended"}: there may be more outcomes.` : "Going on ..";
   return `${found} in ${states}, ${sum.turns} turns. ${rest}`;
 }
 

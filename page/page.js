@@ -1,6 +1,6 @@
 "use strict";
 const at = (id) => document.getElementById(id);
-const windowSize = 10000, rowHeight = 28, mostWindows = 12, mostCuts = 64, wholePicture = 120, pictureRounds = 20;
+const windowSize = 10000, rowHeight = 28, mostWindows = 12, mostCuts = 64, wholePicture = 120, pictureRounds = 20, mostItems = 200, mostTurns = 100000;
 
 // ---- The worker, which has the module.
 
@@ -64,7 +64,8 @@ let wanted = 0;
 function statusWords({ status, verdicts, order }) {
   if (status === 0 && verdicts.length) return "All that is expected holds of this run.";
   if (status === 2 && order) return "The order is done, and not every thread has ended.";
-  return { 0: "Every thread ended.", 2: "The turns were used up before every thread ended.", 4: "The run is unlawful.", 5: "Something that is expected doesn't hold of this run." }[status] || `Status ${status}.`;
+  const isUnmet = verdicts.some(({ words }) => words === "doesn't hold");
+  return { 0: "Every thread ended.", 2: "The turns were used up before every thread ended.", 4: "The run is unlawful.", 5: isUnmet ? "Something that is expected doesn't hold of this run." : "Something that is expected isn't decided by this run." }[status] || `Status ${status}.`;
 }
 
 const isRefused = (answer) => answer.status === 1 || answer.status === 3;
@@ -317,10 +318,18 @@ async function start(turn = 0, order = null) {
     else if (answer.refused) showRefusal(script, answer.refused);
     else showRun(answer.made, turn);
   } catch (error) {
+    putRunAway("Nothing came of the last run.");
     say(`It didn't run: ${error.message}`);
   } finally {
     setBusy(false);
   }
+}
+
+// Takes all that is shown of a run away, and says what stands in its place.
+function putRunAway(words) {
+  run = null;
+  at("ran").hidden = at("along").hidden = at("expected").hidden = true;
+  at("verdict").textContent = words;
 }
 
 function showVerdict(it) {
@@ -397,6 +406,7 @@ function wholeTrace() {
 }
 
 async function judge() {
+  at("judged").textContent = "";
   try {
     const answer = await ask("lwkt_check_trace", wholeTrace());
     at("judged").textContent = textOf(answer).trim() || `status ${answer.status}`;
@@ -425,9 +435,7 @@ function excerpt(script, { from, to }) {
 
 // What is shown of any script that is refused.
 function beginRefusal(answer) {
-  run = null;
-  at("ran").hidden = at("along").hidden = true;
-  at("verdict").textContent = answer.status === 3 ? "There was no memory for this run." : `The script was refused, fault ${answer.fault}.`;
+  putRunAway(answer.status === 3 ? "There was no memory for this run." : `The script was refused, fault ${answer.fault}.`);
   at("script").setAttribute("aria-invalid", "true");
 }
 
@@ -435,13 +443,19 @@ function goThere(part) {
   return make("button", { type: "button", class: "small", onclick: () => leadTo(part) }, "Go there");
 }
 
-// All that is wrong with a text, each with its place; the first is told in the editor too.
+// The first items of a list, and behind them how many more there are.
+function firstItems(all, itemOf) {
+  const items = all.slice(0, mostItems).map(itemOf);
+  return all.length > mostItems ? [...items, make("li", { class: "quiet" }, `and ${all.length - mostItems} more`)] : items;
+}
+
+// What is wrong with a text, each with its place; the first is told in the editor too.
 function showWrongs(script, answer) {
   const said = textOf(answer), wrongs = readWrongs(said);
   beginRefusal(answer);
   if (!wrongs.length) return at("refusal").replaceChildren(make("p", {}, said.trim().replace(/^lwkt_\w+: /, "") || "refused"));
-  const parts = wrongs.map((wrong) => wordAt(script, wrong.line, wrong.column));
-  const items = wrongs.map((wrong, i) => make("li", {}, make("p", {}, `Line ${wrong.line}, column ${wrong.column}: ${wrong.said} `, goThere(parts[i])), excerpt(script, parts[i])));
+  const parts = wrongs.slice(0, mostItems).map((wrong) => wordAt(script, wrong.line, wrong.column));
+  const items = firstItems(wrongs, (wrong, i) => make("li", {}, make("p", {}, `Line ${wrong.line}, column ${wrong.column}: ${wrong.said} `, goThere(parts[i])), excerpt(script, parts[i])));
   at("refusal").replaceChildren(make("ol", {}, ...items));
   markParts(script, parts, wrongs[0].said);
 }
@@ -458,15 +472,15 @@ function showRefusal(script, answer) {
 // What the text expects, and whether it holds.
 function showExpected(it) {
   at("expected").hidden = it.verdicts.length === 0;
-  at("verdicts").replaceChildren(...it.verdicts.map((verdict) => expectationItem(it.text, verdict, replay)));
+  at("verdicts").replaceChildren(...firstItems(it.verdicts, (verdict) => expectationItem(it.text, verdict, replay)));
 }
 
 // What a text expects: whether it holds, what it is, where it stands, and the order that decides it, if one does.
 function expectationItem(script, { line, words, said, order }, go) {
-  const holds = words.startsWith("holds"), from = placeOf(script, line, 1);
+  const [holds, color] = { holds: ["true", "good"], "doesn't hold": ["false", "bad"], "not decided": ["open", "open"] }[words], from = placeOf(script, line, 1);
   const there = goThere({ from, to: (script.indexOf("\n", from) + 1 || script.length + 1) - 1 });
   const by = order ? [" decided by the order ", make("code", { class: "order" }, order.join(" ") || "of no turn"), " ", make("button", { type: "button", class: "small", onclick: () => go(order) }, "Replay")] : [];
-  return make("li", { "data-holds": String(holds) }, make("span", { class: holds ? "good" : "bad" }, words), " ", make("code", {}, said), " ", there, make("span", { class: "quiet" }, ` line ${line}`), ...by);
+  return make("li", { "data-holds": holds }, make("span", { class: color }, words), " ", make("code", {}, said), " ", there, make("span", { class: "quiet" }, ` line ${line}`), ...by);
 }
 
 function leadTo(part) {
@@ -554,19 +568,20 @@ function replay(order) {
 function showOrders(read, isLast, script) {
   sayOrders(sumWords(read, isLast));
   at("lost").replaceChildren(...lostParts(read.lost, replay));
-  at("outcomes").replaceChildren(...read.outcomes.map((outcome) => outcomeItem(outcome, replay)));
+  at("outcomes").replaceChildren(...firstItems(read.outcomes, (outcome) => outcomeItem(outcome, replay)));
   at("judged-orders").hidden = read.verdicts.length === 0;
-  at("order-verdicts").replaceChildren(...read.verdicts.map((verdict) => expectationItem(script, { ...verdict, said: saidAt(script, verdict) }, replay)));
+  const rows = script.split("\n");
+  at("order-verdicts").replaceChildren(...firstItems(read.verdicts, (verdict) => expectationItem(script, { ...verdict, said: saidAt(rows, verdict) }, replay)));
 }
 
 // Tries all orders with more and more states, up to the bound, and shows what was found so far.
 async function searchUpTo(script, most, own) {
   for (const states of boundsUpTo(most)) {
-    const answer = await askOf(searcher, { name: "lwkt_explore_orders", script, numbers: [states, 100000] });
+    const answer = await askOf(searcher, { name: "lwkt_explore_orders", script, numbers: [states, mostTurns] });
     if (search !== own) return;
     if (![0, 2, 5].includes(answer.status)) return sayOrders(textOf(answer).trim().replace(/^lwkt_\w+: /, "") || `status ${answer.status}`);
     const read = readOrders(textOf(answer));
-    const isLast = read.sum.isComplete || states === most || read.sum.states < states;
+    const isLast = read.sum.bound !== "states" || states === most;
     showOrders(read, isLast, script);
     at("orders-bar").value = states / most;
     if (isLast) return;
@@ -595,8 +610,29 @@ async function tryOrders() {
 
 const hasPacking = typeof CompressionStream === "function";
 
-async function pass(bytes, stream) {
-  return new Uint8Array(await new Response(new Blob([bytes]).stream().pipeThrough(stream)).arrayBuffer());
+// Bytes, a few at a time, since a few may unpack to a thousand times as many.
+function inPieces(bytes, piece = 512) {
+  let from = 0;
+  const pull = (to) => {
+    if (from >= bytes.length) return to.close();
+    to.enqueue(bytes.slice(from, from + piece));
+    from += piece;
+  };
+  return new ReadableStream({ pull }, { highWaterMark: 0 });
+}
+
+// What a stream makes of bytes; it is asked for no more once it gave more than `most`.
+async function pass(bytes, stream, most = Infinity) {
+  const reader = inPieces(bytes).pipeThrough(stream).getReader(), parts = [];
+  let count = 0;
+  while (count <= most) {
+    const { done, value } = await reader.read();
+    if (done) break;
+    parts.push(value);
+    count += value.length;
+  }
+  reader.cancel().catch(() => {});
+  return new Uint8Array(await new Blob(parts).arrayBuffer());
 }
 
 async function fragmentOf(script, turn, order) {
@@ -608,13 +644,17 @@ async function fragmentOf(script, turn, order) {
   return `#${hasPacking ? "z" : "p"}=${packed}${order ? `&order=${order.join("") || "-"}` : ""}${turn ? `&turn=${turn}` : ""}`;
 }
 
+// What the part of an address behind # says: a script, perhaps with an order and a turn, or why it isn't shown; null of no script.
 async function readFragment(fragment) {
   const found = /^#([zp])=([\w-]+)(?:&order=([0-9]+|-))?(?:&turn=(\d+))?$/.exec(fragment);
   if (!found) return null;
-  const text = atob(found[2].replace(/-/g, "+").replace(/_/g, "/"));
-  const bytes = Uint8Array.from(text, (sign) => sign.charCodeAt(0));
-  const plain = found[1] === "z" ? await pass(bytes, new DecompressionStream("deflate-raw")) : bytes;
-  return { script: new TextDecoder("utf-8", { fatal: true }).decode(plain), order: found[3] === undefined ? null : (found[3].match(/\d/g) || []).map(Number), turn: Number(found[4] || 0) };
+  const [, kind, packed, order = null, turn = "0"] = found;
+  if (packed.length > 2 * mostBytes || (order && order.length > mostTurns)) return { why: "it is too long" };
+  const bytes = Uint8Array.from(atob(packed.replace(/-/g, "+").replace(/_/g, "/")), (sign) => sign.charCodeAt(0));
+  const plain = kind === "z" ? await pass(bytes, new DecompressionStream("deflate-raw"), mostBytes) : bytes;
+  if (plain.length > mostBytes) return { why: `it has ${byteWords}` };
+  const script = new TextDecoder("utf-8", { fatal: true }).decode(plain), long = longWords(script);
+  return long ? { why: `it has ${long}` } : { script, order: order && (order.match(/\d/g) || []).map(Number), turn: Number(turn) };
 }
 
 async function link() {
@@ -628,20 +668,34 @@ async function link() {
   }
 }
 
-// Takes the script of the address, if it has one; says whether it did.
+// Takes the script of the address. False if there is none, or it isn't shown, which is said.
 async function takeFragment() {
-  try {
-    const found = await readFragment(location.hash);
-    if (!found) return false;
-    chooseExample("");
-    at("script").value = found.script;
-    clearOrders();
-    await start(found.turn, found.order);
-    return true;
-  } catch {
-    say("The link's script can't be read: it may be cut off.");
+  const found = await readFragment(location.hash).catch(() => ({ why: "it can't be read, and may be cut off" }));
+  if (!found) return false;
+  if (found.why) {
+    say(`The link's script isn't shown: ${found.why}.`);
     return false;
   }
+  chooseExample("");
+  at("script").value = found.script;
+  clearOrders();
+  await start(found.turn, found.order);
+  return true;
+}
+
+// Lets nothing into a box that would make its text too long to be shown. Many lines are put in or taken out at once, since a browser
+// takes minutes to do it one by one.
+function keepShort(event) {
+  if (!/^(insert|delete)/.test(event.inputType) || event.isComposing) return;
+  const box = event.target, from = box.selectionStart, to = box.selectionEnd;
+  const added = event.data ?? event.dataTransfer?.getData("text/plain") ?? (event.inputType === "insertLineBreak" ? "\n" : "");
+  if (added.length + to - from < 100) return;
+  const { value } = box, long = longWords(value.slice(0, from) + added + value.slice(to));
+  if (!long && countLines(added) + countLines(value.slice(from, to)) < 100) return;
+  event.preventDefault();
+  if (long) return say(`Nothing was put in: the text would have ${long}.`);
+  box.setRangeText(added, from, to, "end");
+  box.dispatchEvent(new Event("input"));
 }
 
 // ---- Examples, keys and the rest.
@@ -660,11 +714,11 @@ function exampleGroup(label, group) {
 
 function openExample(name) {
   const found = examples.find((it) => it.dataset.name === name);
-  if (!found) return;
+  if (!found) return null;
   chooseExample(name);
   at("script").value = found.textContent.replace(/^\n/, "");
   clearOrders();
-  start();
+  return start();
 }
 
 function step(by) {
@@ -702,10 +756,12 @@ function listen() {
   at("save-trace").addEventListener("click", () => save("trace.json", wholeTrace(), "application/json"));
   at("save-picture").addEventListener("click", () => save("run.svg", run.drawn || "", "image/svg+xml"));
   at("example").addEventListener("change", () => openExample(at("example").value));
-  at("script").addEventListener("input", () => { clearRefusal(); chooseExample(""); clearOrders(); showFormSoon(); });
+  at("script").addEventListener("input", () => { if (at("stop").hidden) say(""); clearRefusal(); chooseExample(""); clearOrders(); showFormSoon(); });
   at("orders-start").addEventListener("click", tryOrders);
   at("orders-stop").addEventListener("click", () => stopWorker("it was stopped", searcher));
   at("script").addEventListener("scroll", followScroll);
+  for (const id of ["script", "trace"]) at(id).addEventListener("beforeinput", keepShort);
+  at("trace").addEventListener("input", () => { at("judged").textContent = ""; });
   new ResizeObserver(followScroll).observe(at("editor"));
   document.addEventListener("keydown", (event) => {
     if (event.key !== "Enter" || !(event.ctrlKey || event.metaKey)) return;
@@ -741,7 +797,10 @@ async function begin() {
   at("example").append(make("option", { value: "" }, "(own script)"), exampleGroup("A course, in order", "course"), exampleGroup("Examples", "examples"));
   listen();
   if (typeof WebAssembly !== "object") return say("This browser has no WebAssembly.");
-  if (!(await takeFragment())) openExample("crossed_lists");
+  if (await takeFragment()) return;
+  const why = at("status").textContent;
+  await openExample("crossed_lists");
+  if (why) say(why);
 }
 
 begin();

@@ -3,6 +3,26 @@
 
 const blank = /[ \t\r\n]/;
 
+// The most bytes of a script, and the most lines that are shown: of a hundred times as many a browser's box takes half a minute.
+const mostBytes = 1048576, mostLines = 10000;
+const byteWords = `more than ${mostBytes} bytes, the most that a script may have`;
+
+// How many lines a text has, as a browser breaks them.
+function countLines(text) {
+  let count = 1;
+  for (let i = 0; i < text.length; i += 1) {
+    const code = text.charCodeAt(i);
+    if (code === 10 ? text.charCodeAt(i - 1) !== 13 : code === 13) count += 1;
+  }
+  return count;
+}
+
+// What a text has too much of to be shown, in words, or null.
+function longWords(text) {
+  if (text.length > mostBytes || new TextEncoder().encode(text).length > mostBytes) return byteWords;
+  return countLines(text) > mostLines ? `more than ${mostLines} lines, the most that this page shows` : null;
+}
+
 function skipBlanks(text, at) {
   while (at < text.length && blank.test(text[at])) at += 1;
   return at;

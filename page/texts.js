@@ -43,7 +43,7 @@ function expectationsIn(line) {
 
 // A line that says whether an expectation holds: `4: holds`; over all orders with the order of the outcome that decides it.
 function readVerdict(line) {
-  const found = /^(\d+): (holds|doesn't hold|holds of what was found|isn't shown by what was found)(?:, order (.*))?$/.exec(line);
+  const found = /^(\d+): (holds|doesn't hold|not decided)(?:, order (.*))?$/.exec(line);
   if (!found) return null;
   const order = found[3] === undefined ? null : (found[3].match(/\d/g) || []).map(Number);
   return { line: Number(found[1]), words: found[2], order };
@@ -60,13 +60,14 @@ function verdictsIn(lines) {
   return verdicts;
 }
 
-// What a verdict is on, as it stands in the text.
-function saidAt(script, { line, place }) {
-  const row = script.split("\n")[line - 1] || "";
+// What a verdict is on, as it stands in the lines of the text.
+function saidAt(rows, { line, place }) {
+  const row = rows[line - 1] || "";
   return expectationsIn(row)[place] || row.trim();
 }
 
 // The verdicts behind the report of a text, each with what it is on.
 function readVerdicts(report, script) {
-  return verdictsIn(report.split("\n")).map((verdict) => ({ ...verdict, said: saidAt(script, verdict) }));
+  const rows = script.split("\n");
+  return verdictsIn(report.split("\n")).map((verdict) => ({ ...verdict, said: saidAt(rows, verdict) }));
 }

@@ -2,6 +2,7 @@
 import { readFileSync } from "node:fs";
 import { createServer } from "node:http";
 import { fileURLToPath } from "node:url";
+import { deflateRawSync } from "node:zlib";
 import { Browser } from "./browser.mjs";
 import { openable } from "./standin.mjs";
 import { callProgram, check, counted, exampleNames, examples, finish, namesIn, read, same, statusOf } from "./tools.mjs";
@@ -84,6 +85,12 @@ async function tryTexts(tab) {
   await run(tab, `${script}\nnever ended; always ended\n`);
   check((await text(tab, "verdict")).includes("doesn't hold"), `an expectation that doesn't hold: ${await text(tab, "verdict")}`);
   same(await tab.ask(`document.querySelector('#verdicts li[data-holds=false] code').textContent`), "never ended", "it is named");
+  const parts = () => tab.ask(`['expected', 'ran'].map((id) => document.getElementById(id).hidden)`);
+  same(await parts(), [false, false], "and shown with its run");
+  await run(tab, `${script}\nnever ended; always edned\n`);
+  same(await parts(), [true, true], "of a text that is refused no verdict stands from before");
+  await run(tab, `${script}\n${"always ended\n".repeat(297)}`);
+  same(await tab.ask(`[document.querySelectorAll('#verdicts li').length, document.querySelector('#verdicts li:last-child').textContent]`), [201, "and 101 more"], "of many expectations the first are shown");
   await put(tab, "{");
   check(await tab.until(`document.getElementById('form').textContent.includes('JSON')`), "a brace is JSON");
   await put(tab, "t");
@@ -415,9 +422,44 @@ async function tryLink(tab) {
   same(await other.ask("chosen"), 9, "and the turn");
   await other.ask(`location.hash = '#z=AAAA'`);
   check(await other.until(`document.getElementById('status').textContent.includes("can't be read")`), "a spoiled link is told");
+  same(await value(other, "script"), script, "and the script stays");
+  for (const [bytes, words] of [[1000000, "more than 10000 lines"], [30000000, "more than 1048576 bytes"]]) {
+    const since = Date.now();
+    await other.ask(`location.hash = '#z=${deflateRawSync(Buffer.alloc(bytes, "\n")).toString("base64url")}'`);
+    check(await other.until(`document.getElementById('status').textContent.includes(${JSON.stringify(words)})`), `a link of ${bytes} line feeds is told: ${await text(other, "status")}`);
+    check(Date.now() - since < 5000, `within seconds: ${Date.now() - since} ms`);
+    same(await value(other, "script"), script, "and the script stays");
+    await other.ask(`location.hash = ''`);
+  }
+  await other.ask(`location.hash = '#p=${Buffer.from(begun).toString("base64url")}&order=${"0".repeat(100001)}'`);
+  check(await other.until(`document.getElementById('status').textContent.includes("too long")`), "a link with too long an order is told");
   await other.ask(`location.hash = ${JSON.stringify(`#p=${Buffer.from(begun).toString("base64url")}`)}`);
   check(await other.until(`document.getElementById('script').value === ${JSON.stringify(begun)}`), "a link that isn't packed");
   await other.close();
+}
+
+// A link that isn't shown, as the first address: the page says so beside its first example.
+async function tryFirstLink() {
+  const tab = await browser.open(`${url}#z=AAAA`);
+  check(await tab.until(`run && ${settled} && document.getElementById('status').textContent.includes("can't be read")`), "a spoiled link is told when the page opens");
+  await tab.close();
+}
+
+// A text that is too long isn't put in; many lines are put in at once.
+async function tryPaste(tab) {
+  await browser.send("Browser.grantPermissions", { permissions: ["clipboardReadWrite", "clipboardSanitizedWrite"] });
+  const paste = async (made) => {
+    await tab.ask(`(() => { const box = document.getElementById('script'); box.focus(); box.select(); return navigator.clipboard.writeText(${made}); })()`);
+    const since = Date.now();
+    for (const type of ["keyDown", "keyUp"]) await tab.send("Input.dispatchKeyEvent", { type, key: "v", code: "KeyV", windowsVirtualKeyCode: 86, modifiers: 2, commands: type === "keyDown" ? ["paste"] : [] });
+    const length = await tab.ask(`document.getElementById('script').value.length`);
+    return [length, Date.now() - since < 20000, (await text(tab, "status")).replace(/, the most.*/, "")];
+  };
+  await put(tab, begun);
+  same(await paste(`'a\\n'.repeat(500000)`), [begun.length, true, "Nothing was put in: the text would have more than 10000 lines"], "a million bytes in short lines");
+  same(await paste(`'a'.repeat(1048577)`), [begun.length, true, "Nothing was put in: the text would have more than 1048576 bytes"], "a byte too many");
+  same(await paste(`'# a\\n'.repeat(9000)`), [36000, true, ""], "9000 lines");
+  same(await paste(`'turns 5'`), [7, true, ""], "a word in their place");
 }
 
 // The contrast of each text with what it stands on, at least 4.5 to 1.
@@ -507,6 +549,8 @@ async function tryParts(tab) {
   await tab.ask(`document.getElementById('trace').value = '{'`);
   await click(tab, "judge");
   check(await tab.until(`/line 1|refused|fault/.test(document.getElementById('judged').textContent)`), "one that isn't a trace");
+  await tab.ask(`document.getElementById('trace').dispatchEvent(new Event('input'))`);
+  same(await text(tab, "judged"), "", "an edit takes the finding away");
 }
 
 const long = (turns, steps) => JSON.stringify({ version: 1, turns, idle: 1, cpus: 2, tokens: [{ cells: [0], law: "tally", param: 0, gen: 0 }], messages: [], threads: [{ cpu: 0, repeat: 1000000, steps }, { cpu: 1, repeat: 1000000, steps }] });
@@ -584,9 +628,10 @@ try {
   for (const name of namesIn("litmus", ".lwkt")) await part(name, () => tryCourse(tab, name));
   for (const name of ["crossed_lists", "server_of_three", "law_broken_at_yield"]) await part(name, () => tryWalk(tab, name));
   for (const name of namesIn("refused", ".json")) await part(name, () => tryRefusal(tab, name));
-  const parts = { tryStates, tryMessages, tryWhy, tryEditor, tryKeys, tryTabbing, tryLink, tryNames, tryParts, tryOdd, tryLong, tryStop, tryTrap, tryTexts, tryOrders, tryReplay, tryRecords, tryUrgent };
+  const parts = { tryStates, tryMessages, tryWhy, tryEditor, tryKeys, tryTabbing, tryLink, tryPaste, tryNames, tryParts, tryOdd, tryLong, tryStop, tryTrap, tryTexts, tryOrders, tryReplay, tryRecords, tryUrgent };
   for (const [name, work] of Object.entries(parts)) await part(name, () => work(tab));
   await part("served", tryServed);
+  await part("first link", tryFirstLink);
   if (!standin) await part("first run", tryFirst);
   await part("contrast", async () => { await tryContrast(false); await tryContrast(true); });
   await part("widths", tryWidths);
