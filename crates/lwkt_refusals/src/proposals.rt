@@ -1,10 +1,12 @@
 //! Names that are nearly those that were written.
+use lwkt_base::VERBS;
+use lwkt_base::steps::verb_named;
 use lwkt_text::{Name, Names, What};
 use std::alloc::{AllocError, Global};
 use strsim::levenshtein;
 
-/// The words that sentences begin with.
-pub const KEYWORDS: [&str; 29] = [
+/// The words that sentences begin with, but for those of steps.
+pub const KEYWORDS: [&str; 9] = [
     "turns",
     "idle",
     "cpus",
@@ -14,26 +16,6 @@ pub const KEYWORDS: [&str; 29] = [
     "always",
     "sometimes",
     "never",
-    "get",
-    "gets",
-    "try",
-    "rel",
-    "swap",
-    "read",
-    "write",
-    "add",
-    "rrec",
-    "wrec",
-    "send",
-    "do",
-    "reply",
-    "abort",
-    "isab",
-    "drop",
-    "getport",
-    "wait",
-    "yield",
-    "exit",
 ];
 
 /// The most characters of a word for which a name is proposed, and of such a name.
@@ -84,18 +66,31 @@ fn nearest<'n>(
     Ok(best.map(|near| near.name))
 }
 
+// The nearer one of the nearest word of a step and the nearest word so far.
+fn nearest_step(
+    alloc: Global,
+    text: &str,
+    so_far: Option<Near<'static>>,
+) -> Result<Option<Near<'static>>, AllocError> {
+    let mut best = so_far;
+    for verb in VERBS {
+        best = nearer(alloc, text, best, verb.word())?;
+    }
+    Ok(best)
+}
+
 // The nearest of the words that sentences begin with.
 fn nearest_keyword(alloc: Global, text: &str) -> Result<Option<&'static str>, AllocError> {
     let mut best = None;
     for word in KEYWORDS {
         best = nearer(alloc, text, best, word)?;
     }
-    Ok(best.map(|near| near.name))
+    Ok(nearest_step(alloc, text, best)?.map(|near| near.name))
 }
 
 /// Whether a sentence may begin with this word.
 pub fn is_keyword(text: &str) -> bool {
-    KEYWORDS.contains(&text)
+    KEYWORDS.contains(&text) || verb_named(text).is_some()
 }
 
 /// A name that is nearly what was written where another part was wanted, if there is one. None for a word of more than 64 characters.

@@ -4,6 +4,7 @@ use crate::members::show_numbers;
 use crate::parts::Part;
 use crate::records::{is_record, show_no_record};
 use crate::words::Words;
+use lwkt_base::{Form, VERBS, Verb};
 
 const SMALL: Want = Want::UpTo(255);
 
@@ -56,29 +57,50 @@ impl Kind {
         }
     }
 
-    // The words that it may begin with, and what may stand behind each.
-    fn forms(self) -> &'static [Form] {
+    // How many shapes it has.
+    fn count(self) -> usize {
         match self {
-            Kind::Step | Kind::SecondStep => &STEPS,
-            Kind::Event => &EVENTS,
-            Kind::End => &ENDS,
+            Kind::Step | Kind::SecondStep => VERBS.len(),
+            Kind::Event => EVENTS.len(),
+            Kind::End => ENDS.len(),
+        }
+    }
+
+    // One of the words that it may begin with, and what may stand behind it, if there are so many.
+    fn shape(self, i: usize) -> Option<Shape> {
+        match self {
+            Kind::Step | Kind::SecondStep => VERBS.get(i).map(|verb| step_shape(*verb)),
+            Kind::Event => EVENTS.get(i).copied(),
+            Kind::End => ENDS.get(i).copied(),
         }
     }
 
     // Whether a word is none of this kind, though it is one of the other version's.
     fn lacks(self, word: Part<'_>) -> bool {
         match self {
-            Kind::Step => LATER.iter().any(|later| word.is_text(later)),
+            Kind::Step => VERBS
+                .iter()
+                .any(|verb| verb.is_later() && word.is_text(verb.word())),
             _ => false,
+        }
+    }
+
+    // Notes the word of this kind that a word is most like, among those that only steps of version 2 have or among the others.
+    fn propose_some(self, out: &mut Words, word: Part<'_>, are_later: bool) {
+        for i in 0..self.count() {
+            if let Some(shape) = self.shape(i) {
+                if is_later(shape.0) == are_later {
+                    out.propose(word, shape.0);
+                }
+            }
         }
     }
 
     // Notes the word of this kind that a word is most like.
     fn propose(self, out: &mut Words, word: Part<'_>) {
-        for form in self.forms() {
-            if !matches!(self, Kind::Step) || !LATER.contains(&form.0) {
-                out.propose(word, form.0);
-            }
+        self.propose_some(out, word, false);
+        if matches!(self, Kind::SecondStep) {
+            self.propose_some(out, word, true);
         }
     }
 
@@ -92,36 +114,9 @@ impl Kind {
 }
 
 // A word, and what may stand behind it.
-type Form = (&'static str, &'static [Want]);
+type Shape = (&'static str, &'static [Want]);
 
-// The words that steps have in version 2 alone.
-const LATER: [&str; 2] = ["rrec", "wrec"];
-
-// Those of version 2.
-const STEPS: [Form; 20] = [
-    ("get", &[SMALL]),
-    ("gets", &[SMALL]),
-    ("try", &[SMALL]),
-    ("rel", &[SMALL]),
-    ("swap", &[]),
-    ("read", &[SMALL, SMALL]),
-    ("write", &[SMALL, SMALL, WHOLE]),
-    ("add", &[SMALL, WHOLE]),
-    ("send", &[SMALL, SMALL, SMALL, CODE, WHOLE, FLAGS]),
-    ("do", &[SMALL, SMALL, SMALL, CODE, WHOLE]),
-    ("reply", &[SMALL, CODE, WHOLE]),
-    ("abort", &[SMALL]),
-    ("isab", &[SMALL]),
-    ("drop", &[SMALL]),
-    ("getport", &[]),
-    ("wait", &[]),
-    ("yield", &[]),
-    ("exit", &[]),
-    ("rrec", &[SMALL]),
-    ("wrec", &[SMALL, RECORD]),
-];
-
-const EVENTS: [Form; 19] = [
+const EVENTS: [Shape; 19] = [
     ("load", &[SMALL, SMALL]),
     ("take", &[SMALL, SMALL]),
     ("share", &[SMALL, SMALL]),
@@ -143,23 +138,52 @@ const EVENTS: [Form; 19] = [
     ("abort", &[SMALL, SMALL]),
 ];
 
-const ENDS: [Form; 4] = [
+const ENDS: [Shape; 4] = [
     ("rest", &[SMALL, WHOLE]),
     ("out", &[SMALL, SMALL, WHOLE]),
     ("with", &[SMALL, SMALL, WHOLE]),
     ("back", &[SMALL, SMALL, WHOLE]),
 ];
 
-// How many parts a list of a form has.
-fn count_of(form: Form) -> usize {
-    form.1.len().saturating_add(1)
+// What may stand behind the word of a step of this form.
+fn step_wants(form: Form) -> &'static [Want] {
+    match form {
+        Form::Alone => &[],
+        Form::Token | Form::Message => &[SMALL],
+        Form::Cell => &[SMALL, SMALL],
+        Form::Value => &[SMALL, SMALL, WHOLE],
+        Form::More => &[SMALL, WHOLE],
+        Form::Record => &[SMALL, RECORD],
+        Form::Call => &[SMALL, SMALL, SMALL, CODE, WHOLE],
+        Form::Sending => &[SMALL, SMALL, SMALL, CODE, WHOLE, FLAGS],
+        Form::Answer => &[SMALL, CODE, WHOLE],
+    }
 }
 
-// The form that begins with a word and has so many parts, if there is one.
-fn form_of(word: Part<'_>, count: usize, kind: Kind) -> Option<Form> {
-    for form in kind.forms() {
-        if word.is_text(form.0) && count_of(*form) == count {
-            return Some(*form);
+// The word of a kind of step, and what may stand behind it.
+fn step_shape(verb: Verb) -> Shape {
+    (verb.word(), step_wants(verb.form()))
+}
+
+// Whether only steps of version 2 have this word.
+fn is_later(word: &str) -> bool {
+    VERBS
+        .iter()
+        .any(|verb| verb.is_later() && verb.word() == word)
+}
+
+// How many parts a list of a shape has.
+fn count_of(shape: Shape) -> usize {
+    shape.1.len().saturating_add(1)
+}
+
+// The shape that begins with a word and has so many parts, if there is one.
+fn shape_of(word: Part<'_>, count: usize, kind: Kind) -> Option<Shape> {
+    for i in 0..kind.count() {
+        if let Some(shape) = kind.shape(i) {
+            if word.is_text(shape.0) && count_of(shape) == count {
+                return Some(shape);
+            }
         }
     }
     None
@@ -238,21 +262,28 @@ fn show_part(out: &mut Words, list: Part<'_>, wants: &[Want], kind: Kind) {
     out.add(" is refused");
 }
 
-// Appends how many parts a list with a word has, and how many it may have, if there is a form with the word; says whether
+// Appends how many parts a list with a word has, and how many one of this shape has; of a further shape only the latter.
+fn show_shape(out: &mut Words, shape: Shape, count: usize, is_further: bool) {
+    if is_further {
+        out.size(" or ", count_of(shape));
+    } else {
+        out.parts(" has ", count);
+        out.add(", ");
+        out.add(shape.0);
+        out.size(" has ", count_of(shape));
+    }
+}
+
+// Appends how many parts a list with a word has, and how many it may have, if there is a shape with the word; says whether
 // there is.
 fn show_count(out: &mut Words, word: Part<'_>, count: usize, kind: Kind) -> bool {
     let mut is_known = false;
-    for form in kind.forms() {
-        if word.is_text(form.0) {
-            if is_known {
-                out.size(" or ", count_of(*form));
-            } else {
-                out.parts(" has ", count);
-                out.add(", ");
-                out.add(form.0);
-                out.size(" has ", count_of(*form));
+    for i in 0..kind.count() {
+        if let Some(shape) = kind.shape(i) {
+            if word.is_text(shape.0) {
+                show_shape(out, shape, count, is_known);
+                is_known = true;
             }
-            is_known = true;
         }
     }
     is_known
@@ -270,8 +301,8 @@ fn show_behind(out: &mut Words, list: Part<'_>, kind: Kind) {
         return out.add(" has a word that steps have in version 2 alone");
     }
     let count = list.count().unwrap_or(0);
-    if let Some(form) = form_of(word, count, kind) {
-        return show_part(out, list, form.1, kind);
+    if let Some(shape) = shape_of(word, count, kind) {
+        return show_part(out, list, shape.1, kind);
     }
     if !show_count(out, word, count, kind) {
         out.add(" has a word that no ");

@@ -1,57 +1,47 @@
 //! How sentences are written, in the letters of docs/LANGUAGE.md.
 
+use lwkt_base::Form;
+use lwkt_base::steps::verb_named;
+
+/// How a sentence is written: its first word, and what stands behind it.
+pub type SentenceForm = (&'static str, &'static str);
+
 // How a part of the machine is written, by its first word.
-fn part_form(word: &str) -> Option<&'static str> {
+fn part_form(word: &str) -> Option<SentenceForm> {
     match word {
-        "turns" => Some("turns N"),
-        "idle" => Some("idle N"),
-        "cpus" => Some("cpus N"),
-        "token" => Some("token NAME [LAW [N]] [gen N] [record BYTES] [cells CELL ..]"),
-        "message" => Some("message NAME of TH [round N]"),
-        "thread" => Some("thread NAME on N [repeat N]"),
+        "turns" => Some(("turns", " N")),
+        "idle" => Some(("idle", " N")),
+        "cpus" => Some(("cpus", " N")),
+        "token" => Some((
+            "token",
+            " NAME [LAW [N]] [gen N] [record BYTES] [cells CELL ..]",
+        )),
+        "message" => Some(("message", " NAME of TH [round N]")),
+        "thread" => Some(("thread", " NAME on N [repeat N]")),
         _ => None,
     }
 }
 
-// How a step at a token is written, by its first word.
-fn token_form(word: &str) -> Option<&'static str> {
-    match word {
-        "get" => Some("get T"),
-        "gets" => Some("gets T"),
-        "try" => Some("try T"),
-        "rel" => Some("rel T"),
-        "read" => Some("read T.C"),
-        "write" => Some("write T.C N"),
-        "add" => Some("add T N"),
-        "rrec" => Some("rrec T"),
-        "wrec" => Some("wrec T BYTES"),
-        _ => None,
+// How is written what stands behind the word of a step of this form.
+fn behind_step(form: Form) -> &'static str {
+    match form {
+        Form::Alone => "",
+        Form::Token => " T",
+        Form::Cell => " T.C",
+        Form::Value => " T.C N",
+        Form::More => " T N",
+        Form::Record => " T BYTES",
+        Form::Message => " M",
+        Form::Call => " M -> TH [op N] [arg N]",
+        Form::Sending => " M -> TH [op N] [arg N] [dropable] [abortable] [priority]",
+        Form::Answer => " M [ERROR [RESULT]]",
     }
 }
 
-// How a step at a message is written, by its first word.
-fn message_form(word: &str) -> Option<&'static str> {
-    match word {
-        "send" => Some("send M -> TH [op N] [arg N] [dropable] [abortable] [priority]"),
-        "do" => Some("do M -> TH [op N] [arg N]"),
-        "reply" => Some("reply M [ERROR [RESULT]]"),
-        "abort" => Some("abort M"),
-        "isab" => Some("isab M"),
-        "drop" => Some("drop M"),
-        _ => None,
-    }
-}
-
-// How a step is written that is one word.
-fn lone_form(word: &str) -> Option<&'static str> {
-    match word {
-        "swap" => Some("swap"),
-        "getport" => Some("getport"),
-        "wait" => Some("wait"),
-        "yield" => Some("yield"),
-        "exit" => Some("exit"),
-        _ => None,
-    }
+// How a step is written, by its word.
+fn step_form(word: &str) -> Option<SentenceForm> {
+    let verb = verb_named(word)?;
+    Some((verb.word(), behind_step(verb.form())))
 }
 
 // How a claim is written that names no subject, by its first word.
@@ -82,11 +72,8 @@ fn subject_form(word: &str) -> Option<&'static str> {
 }
 
 /// How a sentence is written that begins with this word, if it is no expectation.
-pub fn sentence_form(word: &str) -> Option<&'static str> {
-    part_form(word)
-        .or(token_form(word))
-        .or(message_form(word))
-        .or(lone_form(word))
+pub fn sentence_form(word: &str) -> Option<SentenceForm> {
+    part_form(word).or(step_form(word))
 }
 
 /// How a claim is written, by its first two words.

@@ -12,7 +12,7 @@ use crate::sayings::{Speaker, put};
 use crate::trace_forms::{is_in_lines, is_whole_trace};
 use crate::words::Words;
 use crate::wrongs::wrongs_told;
-use lwkt_base::Fault;
+use lwkt_base::{Fault, VERBS};
 use lwkt_report::Sink;
 use lwkt_text::{Input, Unread, Wrong, is_named_text};
 use serde_json::Value;
@@ -38,6 +38,13 @@ fn begins_as_text(bytes: &[u8], whole: Part<'_>) -> bool {
         && matches!(whole.first(), b'A'..=b'Z' | b'a'..=b'z' | b'_' | b'#')
 }
 
+// Notes the word of a step that a part is most like.
+fn propose_steps(words: &mut Words, part: Part<'_>) {
+    for verb in VERBS {
+        words.propose(part, verb.word());
+    }
+}
+
 // What is said of bytes that begin as a text does, and neither are JSON nor declare anything.
 fn formless(alloc: Global, whole: Part<'_>) -> Words {
     let mut words = Words::new(alloc);
@@ -49,6 +56,7 @@ fn formless(alloc: Global, whole: Part<'_>) -> Words {
         for word in KEYWORDS {
             words.propose(whole, word);
         }
+        propose_steps(&mut words, whole);
     }
     words
 }

@@ -140,9 +140,10 @@ fn add_quoted(page: &mut Page, bytes: &[u8], at: usize) {
 // How the sentence of a place is written, or the claim in it.
 fn add_form(alloc: Global, page: &mut Page, bytes: &[u8], at: usize) -> Result<(), AllocError> {
     let first = word_at(alloc, bytes, place_in_sentence(bytes, at, 0))?;
-    if let Some(form) = sentence_form(first.as_str()) {
+    if let Some((word, behind)) = sentence_form(first.as_str()) {
         page.add(": the sentence is written `");
-        page.add(form);
+        page.add(word);
+        page.add(behind);
         page.add("`");
         return Ok(());
     }
