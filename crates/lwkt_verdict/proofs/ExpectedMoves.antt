@@ -2,7 +2,7 @@ use Rattle.std.proofs.Common.{inl, inr, ◌≡◌, ℕ, ◌<◌, List, [], ◌�
 use Rattle.std.specs.Prelude.{◌⊎◌, Bool, true, false, not, ◌==◌, ◌&&◌, is_some, if◌then◌else◌, IfSome}
 use Rattle.std.proofs.lemmas.Bool.{false≢true, and_parts}
 use Rattle.lwkt_base.specs.declared.asks.Ask.{Ask}
-use Rattle.lwkt_base.specs.declared.asks.Ask.TheVariants.{Get, GetShared, TryGet, Rel, Swap, Read as ReadAsk, Write as WriteAsk, Add as AddAsk, ReadBlob as ReadBlobAsk, WriteBlob as WriteBlobAsk, Send as SendAsk, Do as DoAsk, Reply as ReplyAsk, Abort as AbortAsk, IsAborted, DropMsg as DropAsk, GetPort, WaitPort, Yield, Exit}
+use Rattle.lwkt_base.specs.declared.asks.Ask.TheVariants.{Read as ReadAsk, ReadBlob as ReadBlobAsk}
 use Rattle.lwkt_base.specs.declared.asks.Answer.{Answer}
 use Rattle.lwkt_base.specs.declared.asks.Answer.TheVariants.{Begin, Done, Value, Bytes, Dropped, Got, NoMsg, Refused}
 use Rattle.lwkt_core.specs.declared.events.Event.{Event}
@@ -122,26 +122,9 @@ record_by tok answer (Abort cpu msg) own is = absurd (false≢true own)
 
 -- an event that is an ask's own with no answer yet is so with any answer that it makes
 own_by : (m : Machine) (ask : Ask) (answer : Option Answer) (e : Event) → is_own m ask None e ≡ true → is_expected (expected_by e) answer ≡ true → is_own m ask answer e ≡ true
-own_by m (Get tok) answer e own is = own
-own_by m (GetShared tok) answer e own is = own
-own_by m (TryGet tok) answer e own is = own
-own_by m (Rel tok) answer e own is = own
-own_by m Swap answer e own is = own
 own_by m (ReadAsk tok cell) answer e own is = read_by tok.0 cell answer e own is
-own_by m (WriteAsk tok cell value) answer e own is = own
-own_by m (AddAsk tok more) answer e own is = own
 own_by m (ReadBlobAsk tok) answer e own is = record_by tok.0 answer e own is
-own_by m (WriteBlobAsk tok blob) answer e own is = own
-own_by m (SendAsk msg to call flags) answer e own is = own
-own_by m (DoAsk msg to call) answer e own is = own
-own_by m (ReplyAsk msg error outcome) answer e own is = own
-own_by m (AbortAsk msg) answer e own is = own
-own_by m (IsAborted msg) answer e own is = own
-own_by m (DropAsk msg) answer e own is = own
-own_by m GetPort answer e own is = own
-own_by m WaitPort answer e own is = own
-own_by m Yield answer e own is = own
-own_by m Exit answer e own is = own
+own_by m _ answer e own is = own
 
 -- what isn't so makes no conjunction true
 never : (makes has : Bool) → (makes && (has && not true)) ≡ false

@@ -15,7 +15,7 @@ use Rattle.lwkt_events.specs.ShortEvents.{GrowsBehind}
 use Rattle.lwkt_verdict.specs.declared.turns.Poll.{Poll}
 use Rattle.lwkt_verdict.specs.declared.short_asks.AskLists.{AskLists}
 use Rattle.lwkt_verdict.specs.declared.short_asks.ShortAsk.{ShortAsk}
-use Rattle.lwkt_verdict.specs.declared.short_asks.ShortAsk.TheVariants.{Get as ShortGet, GetShared as ShortGetShared, TryGet as ShortTryGet, Rel as ShortRel, Swap as ShortSwap, Read as ShortRead, Write as ShortWrite, Add as ShortAdd, ReadBlob as ShortReadBlob, Abort as ShortAbort, IsAborted as ShortIsAborted, DropMsg as ShortDropMsg, GetPort as ShortGetPort, WaitPort as ShortWaitPort, Yield as ShortYield, Exit as ShortExit, Wide as AskIsWide, Long as AskIsLong}
+use Rattle.lwkt_verdict.specs.declared.short_asks.ShortAsk.TheVariants.{Wide as AskIsWide, Long as AskIsLong}
 use Rattle.lwkt_verdict.specs.declared.short_asks.WideAsk.{WideAsk}
 use Rattle.lwkt_verdict.specs.declared.short_answers.AnswerLists.{AnswerLists}
 use Rattle.lwkt_verdict.specs.declared.short_answers.ShortAnswer.{ShortAnswer}
@@ -74,44 +74,14 @@ IsAnswerOf l short number = IsAnswerIn (length l.wides.items) (length l.longs.it
 
 -- an ask, where more come behind
 ask_longer : (l m : AskLists) → GrowAsks l m → (short : ShortAsk) (n : ℕ) → IsAskOf l short n → ask_of m short n ≡ ask_of l short n
-ask_longer l m grow (ShortGet tok) n inside = refl
-ask_longer l m grow (ShortGetShared tok) n inside = refl
-ask_longer l m grow (ShortTryGet tok) n inside = refl
-ask_longer l m grow (ShortRel tok) n inside = refl
-ask_longer l m grow ShortSwap n inside = refl
-ask_longer l m grow (ShortRead tok cell) n inside = refl
-ask_longer l m grow (ShortWrite tok cell) n inside = refl
-ask_longer l m grow (ShortAdd tok) n inside = refl
-ask_longer l m grow (ShortReadBlob tok) n inside = refl
-ask_longer l m grow (ShortAbort msg) n inside = refl
-ask_longer l m grow (ShortIsAborted msg) n inside = refl
-ask_longer l m grow (ShortDropMsg msg) n inside = refl
-ask_longer l m grow ShortGetPort n inside = refl
-ask_longer l m grow ShortWaitPort n inside = refl
-ask_longer l m grow ShortYield n inside = refl
-ask_longer l m grow ShortExit n inside = refl
 ask_longer l m grow AskIsWide n inside = ap (λ (o : Option WideAsk). option_map_or wide_ask o Exit) (grown_get l.wides.items m.wides.items grow.wides n inside)
 ask_longer l m grow AskIsLong n inside = ap (λ (o : Option Ask). option_map_or (λ a. a) o Exit) (grown_get l.longs.items m.longs.items grow.longs n inside)
+ask_longer l m grow _ n inside = refl
 
 ask_stays : (l m : AskLists) → GrowAsks l m → (short : ShortAsk) (n : ℕ) → IsAskOf l short n → IsAskOf m short n
-ask_stays l m grow (ShortGet tok) n inside = tt
-ask_stays l m grow (ShortGetShared tok) n inside = tt
-ask_stays l m grow (ShortTryGet tok) n inside = tt
-ask_stays l m grow (ShortRel tok) n inside = tt
-ask_stays l m grow ShortSwap n inside = tt
-ask_stays l m grow (ShortRead tok cell) n inside = tt
-ask_stays l m grow (ShortWrite tok cell) n inside = tt
-ask_stays l m grow (ShortAdd tok) n inside = tt
-ask_stays l m grow (ShortReadBlob tok) n inside = tt
-ask_stays l m grow (ShortAbort msg) n inside = tt
-ask_stays l m grow (ShortIsAborted msg) n inside = tt
-ask_stays l m grow (ShortDropMsg msg) n inside = tt
-ask_stays l m grow ShortGetPort n inside = tt
-ask_stays l m grow ShortWaitPort n inside = tt
-ask_stays l m grow ShortYield n inside = tt
-ask_stays l m grow ShortExit n inside = tt
 ask_stays l m grow AskIsWide n inside = let less = grown_long l.wides.items m.wides.items grow.wides in omega (arith, less, inside)
 ask_stays l m grow AskIsLong n inside = let less = grown_long l.longs.items m.longs.items grow.longs in omega (arith, less, inside)
+ask_stays l m grow _ n inside = tt
 
 -- an answer, where more come behind
 answer_longer : (l m : AnswerLists) → GrowAnswers l m → (short : ShortAnswer) (n : ℕ) → IsAnswerOf l short n → answer_of m short n ≡ answer_of l short n

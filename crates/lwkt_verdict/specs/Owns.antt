@@ -2,7 +2,7 @@
 use Rattle.std.specs.Prelude.{◌≡◌, ℕ, ◌+◌, ◌-◌, ◌==◌, ◌&&◌, nat_lt, bytes_eq, Bool, true, false, not, List, [], ◌∷◌, length, slice_get, if◌then◌else◌, Option, Some, None, IsSomeAnd}
 use Rattle.std.specs.Option.{option_map_or}
 use Rattle.lwkt_base.specs.declared.asks.Ask.{Ask}
-use Rattle.lwkt_base.specs.declared.asks.Ask.TheVariants.{Get, GetShared, TryGet, Rel, Swap, Read as ReadAsk, Write as WriteAsk, Add as AddAsk, ReadBlob as ReadBlobAsk, WriteBlob as WriteBlobAsk, Send as SendAsk, Do as DoAsk, Reply as ReplyAsk, Abort as AbortAsk, IsAborted, DropMsg as DropAsk, GetPort, WaitPort, Yield, Exit}
+use Rattle.lwkt_base.specs.declared.asks.Ask.TheVariants.{Get, GetShared, Read as ReadAsk, Write as WriteAsk, Add as AddAsk, ReadBlob as ReadBlobAsk, WriteBlob as WriteBlobAsk, Send as SendAsk, Do as DoAsk, Reply as ReplyAsk, Abort as AbortAsk, DropMsg as DropAsk, WaitPort, Yield, Exit}
 use Rattle.lwkt_base.specs.declared.asks.Answer.{Answer}
 use Rattle.lwkt_base.specs.declared.asks.Answer.TheVariants.{Begin, Done, Value, Bytes, Dropped, Got, NoMsg, Refused}
 use Rattle.lwkt_base.specs.declared.laws.Law.{Law}
@@ -132,7 +132,8 @@ is_drop_of msg (DropMsg cpu m) = m.0 == msg
 is_drop_of msg _ = false
 
 -- whether an event is what an ask makes of this machine, with this answer or none yet: a read that was answered by its value or
--- record, a write of the value or record that was asked, for an addition of the old value and what is added, a send, a reply, an abort or a drop
+-- record, a write of the value or record that was asked, for an addition of the old value and what is added, a send, a reply, an abort or a drop;
+-- any other ask makes none
 abbrev pub is_own : Machine → Ask → Option Answer → Event → Bool
 is_own m (ReadAsk tok cell) answer e = is_read tok.0 cell answer e
 is_own m (WriteAsk tok cell value) answer e = is_write tok.0 cell value e
@@ -144,16 +145,7 @@ is_own m (DoAsk msg to call) answer e = is_send_of msg.0 to.cpu.0 e
 is_own m (ReplyAsk msg error outcome) answer e = is_reply_of msg.0 e
 is_own m (AbortAsk msg) answer e = is_abort_of msg.0 e
 is_own m (DropAsk msg) answer e = is_drop_of msg.0 e
-is_own m (Get tok) answer e = false
-is_own m (GetShared tok) answer e = false
-is_own m (TryGet tok) answer e = false
-is_own m (Rel tok) answer e = false
-is_own m Swap answer e = false
-is_own m (IsAborted msg) answer e = false
-is_own m GetPort answer e = false
-is_own m WaitPort answer e = false
-is_own m Yield answer e = false
-is_own m Exit answer e = false
+is_own m _ answer e = false
 
 -- whether an event sends a message
 abbrev pub is_send : Event → Bool
