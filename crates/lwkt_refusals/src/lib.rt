@@ -7,7 +7,9 @@
 //! known word that an unknown one is most like; a *breach* is how the cells of a token break its law.
 #![tactic(auto)]
 
+mod absences;
 mod breaches;
+mod cells;
 mod items;
 mod marks;
 mod members;
@@ -18,6 +20,7 @@ mod places;
 mod proposals;
 mod records;
 mod refusals;
+mod releases;
 mod rows;
 mod sayings;
 mod scripts;
@@ -34,6 +37,7 @@ pub use breaches::{opening_said, show_breach};
 pub use pages::Page;
 pub use places::{Place, add_head, place_from};
 pub use refusals::{Document, line_refusal, refusal};
+pub use releases::say_releases;
 pub use sayings::{Speaker, has_no_reader};
 pub use unread::{say_opening, say_unread};
 pub use wrongs::wrongs_said;

@@ -1,6 +1,7 @@
 //! The line that is shown of a text, and the mark under a place in it.
 use crate::pages::Page;
 use crate::places::{Place, line_length, part_from, part_of};
+use lwkt_report::is_shown_as_is;
 
 // The most bytes of a line that are shown.
 const LINE_LIMIT: usize = 120;
@@ -50,12 +51,13 @@ fn add_blanks(page: &mut Page, bytes: &[u8]) {
     }
 }
 
-// What is shown in place of a byte, so that no text tells a terminal anything: printed ASCII and tabs as they are, a blank for a
-// carriage return, and a question mark for any other.
+// What is shown in place of a byte, so that no text tells a terminal anything and the mark stands under its place: tabs and what of
+// ASCII is shown as it is, a blank for a carriage return, and a question mark for any other.
 fn shown(byte: u8) -> u8 {
     match byte {
-        b'\t' | b' '..=b'~' => byte,
+        b'\t' => byte,
         b'\r' => b' ',
+        _ if byte < 128 && is_shown_as_is(byte as char) => byte,
         _ => b'?',
     }
 }

@@ -10,7 +10,7 @@ const NO_NAME: &str = "standard input";
 /// Appends what a message without a place begins with: `lwkt: FILE`.
 pub(crate) fn add_name(page: &mut Page, name: Option<&str>) {
     page.add("lwkt: ");
-    page.add(name.unwrap_or(NO_NAME));
+    page.show(name.unwrap_or(NO_NAME));
 }
 
 /// Appends what a message begins with: `lwkt: FILE:LINE:COLUMN: `.
@@ -64,7 +64,7 @@ fn add_file(page: &mut Page, name: &str) {
         if letter == '\'' {
             page.add("'\\''");
         } else {
-            page.letter(letter);
+            page.show_letter(letter);
         }
     }
     page.add("'");

@@ -3,8 +3,10 @@ ghost use Rattle.std.specs.Prelude.{◌≡◌, ◌<◌, ◌++◌, [], ◌∷◌,
 ghost use Rattle.std.specs.Fmt.{decimal};
 ghost use Rattle.lwkt_base.specs.Fault.{fault_message};
 ghost use Rattle.lwkt_refusals.specs.Pages.{GrowsBy};
+ghost use Rattle.lwkt_report.specs.Escape.{escaped, letter_shown};
 
 use lwkt_base::Fault;
+use lwkt_report::{push_escaped, push_shown};
 use std::alloc::{AllocError, Global};
 
 /// A text that is made piece by piece. Once memory is refused for a piece, the text is lost: it takes no more, and only
@@ -46,6 +48,30 @@ impl Page {
     {
         if self.lost.is_none() {
             match self.text.push(letter) {
+                Ok(()) => {}
+                Err(refused) => self.lost = Some(refused),
+            }
+        }
+    }
+
+    /// Appends a character of input as it is shown: it, or its escape.
+    pub fn show_letter(&mut self, letter: char)
+        ensures { GrowsBy self.old self.new (letter_shown letter) }
+    {
+        if self.lost.is_none() {
+            match push_shown(&mut self.text, letter) {
+                Ok(()) => {}
+                Err(refused) => self.lost = Some(refused),
+            }
+        }
+    }
+
+    /// Appends a text of input as it is shown: escapes stand for the characters that tell a terminal anything.
+    pub fn show(&mut self, text: &str)
+        ensures { GrowsBy self.old self.new (escaped text.now) }
+    {
+        if self.lost.is_none() {
+            match push_escaped(&mut self.text, text) {
                 Ok(()) => {}
                 Err(refused) => self.lost = Some(refused),
             }

@@ -95,7 +95,7 @@ pub fn offset_of(bytes: &[u8], line: usize, column: usize) -> usize {
 /// Appends the file, where one is named, and the line.
 pub fn add_head(page: &mut Page, path: Option<&str>, place: Place) {
     if let Some(path) = path {
-        page.add(path);
+        page.show(path);
         page.add(":");
     }
     page.size("", place.line);

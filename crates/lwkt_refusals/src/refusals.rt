@@ -82,7 +82,7 @@ fn show_error(alloc: Global, out: &mut Page, error: &serde_json::Error) {
     }
     out.add("it is no JSON text: ");
     match error.to_string(alloc) {
-        Ok(text) => out.add(front_of(text.as_str())),
+        Ok(text) => out.show(front_of(text.as_str())),
         Err(refused) => out.lose(refused),
     }
 }

@@ -1,5 +1,6 @@
 //! The words of a sentence, and the sentences of a text, by their places.
 use crate::places::{part_from, part_of};
+use std::alloc::{AllocError, Global};
 
 // What a byte is to a word.
 #[derive(Clone, Copy, Debug, PartialEq, Eq)]
@@ -112,6 +113,22 @@ fn stage_behind(stage: Stage, byte: u8) -> Stage {
         _ if stage == Stage::Before && kind_of(byte) == Kind::Gap => Stage::Before,
         _ => Stage::Inside,
     }
+}
+
+/// Where the sentences of a text begin, in order.
+///
+/// Refused if memory is.
+pub fn starts_of(alloc: Global, bytes: &[u8]) -> Result<Vec<usize>, AllocError> {
+    let mut starts = Vec::new(alloc);
+    let mut stage = Stage::Before;
+    for (at, byte) in bytes.iter().enumerate() {
+        let next = stage_behind(stage, *byte);
+        if stage == Stage::Before && next == Stage::Inside {
+            starts.push(at)?;
+        }
+        stage = next;
+    }
+    Ok(starts)
 }
 
 /// Where the sentence of a number begins, among those of a text that begin with this word; counted from 0.

@@ -60,13 +60,13 @@ impl Words {
         self.page.size(before, number);
     }
 
-    // Appends a text without white space, but for that in its strings.
+    // Appends a text of input without white space, but for that in its strings.
     fn close(&mut self, text: &str) {
         let mut is_inside = false;
         let mut is_escaped = false;
         for letter in text.chars() {
             if is_inside || !letter.is_ascii_whitespace() {
-                self.page.letter(letter);
+                self.page.show_letter(letter);
             }
             if letter == '"' && !is_escaped {
                 is_inside = !is_inside;

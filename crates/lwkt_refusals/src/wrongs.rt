@@ -1,4 +1,6 @@
 //! What is wrong with a text, in words.
+use crate::absences::add_absent;
+use crate::cells::{cell_with_token, has_name, near_cell};
 use crate::marks::{add_mark, add_shown};
 use crate::messages::{add_end, add_start};
 use crate::pages::Page;
@@ -74,8 +76,10 @@ fn words_of(what: What) -> &'static str {
         What::Long => "a sentence has at most 1000 words",
         What::Length => "a text has at most 1048576 bytes",
         What::Further => " may not stand here",
-        What::NoThread => "a step stands behind the head of its thread",
+        What::NoThread =>
+            "a step stands behind the head of its thread: write `thread NAME on N` before it",
         What::Crowd => "there are too many ",
+        What::Absent(_) => "the claim names what isn't there: ",
     }
 }
 
@@ -175,6 +179,29 @@ fn add_crowd(alloc: Global, page: &mut Page, bytes: &[u8], at: usize) -> Result<
     Ok(())
 }
 
+// How the claim is written that has this word where a sum has a relation, if there is one.
+fn add_verb(page: &mut Page, word: &str) {
+    let form = claim_form("", word);
+    if form != claim_form("", "") {
+        page.add("; such a claim is written `");
+        page.add(form);
+        page.add("`, and begins with a name");
+    }
+}
+
+// What a claim says of this word, if it is a name.
+fn add_subject(page: &mut Page, names: &Names, word: &str) {
+    if has_name(names.tokens.as_slice(), word) {
+        page.add(
+            "; of a token a claim has its cells, as `T.C`, `gen T` or `tally T.P`, and no state",
+        );
+    } else if has_name(names.threads.as_slice(), word) {
+        page.add("; of a thread it is written `NAME is STATE`, `NAME saw N` or the like");
+    } else if has_name(names.messages.as_slice(), word) {
+        page.add("; of a message it is written `M at PLACE`");
+    }
+}
+
 // What is wrong at a place of a text, in words.
 fn add_words(
     alloc: Global,
@@ -189,7 +216,17 @@ fn add_words(
         return add_crowd(alloc, page, text.bytes, wrong.at);
     }
     page.add(words_of(wrong.what));
+    if let What::Absent(mention) = wrong.what {
+        add_absent(page, text.names, mention);
+        return Ok(());
+    }
     add_limits(page, wrong_there(alloc, text, wrong)?);
+    let word = word_at(alloc, text.bytes, wrong.at)?;
+    match wrong.what {
+        What::Relation => add_verb(page, word.as_str()),
+        What::Quantity => add_subject(page, text.names, word.as_str()),
+        _ => {}
+    }
     Ok(())
 }
 
@@ -211,6 +248,19 @@ fn add_line_end(page: &mut Page, bytes: &[u8], place: Place, near: Option<&str>)
     add_mark(page, bytes, place);
 }
 
+// A name that is nearly the word at the place of what is wrong, if there is one.
+fn near_name<'t>(
+    alloc: Global,
+    text: &Faulty<'t>,
+    wrong: Wrong,
+    word: &str,
+) -> Result<Option<&'t str>, AllocError> {
+    match wrong.what {
+        What::Cell => near_cell(alloc, text.names, text.bytes, wrong.at, word),
+        what => proposal(alloc, text.names, what, word),
+    }
+}
+
 // What is wrong at a place of a text, the line with a mark under the place, and a name that is nearly the word there.
 fn add_wrong(
     alloc: Global,
@@ -220,7 +270,12 @@ fn add_wrong(
     place: Place,
 ) -> Result<(), AllocError> {
     let word = word_at(alloc, text.bytes, wrong.at)?;
-    let near = proposal(alloc, text.names, wrong.what, word.as_str())?;
+    let whole = cell_with_token(alloc, text.names, wrong.what, word.as_str())?;
+    let near = match &whole {
+        Some(whole) => Some(whole.as_str()),
+        None => near_name(alloc, text, wrong, word.as_str())?,
+    };
+    let near = near.filter(|near| *near != word.as_str());
     match text.form {
         Form::Line => add_line_start(page, text.path, place),
         Form::Message => add_start(page, text.path, place),
