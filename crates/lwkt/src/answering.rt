@@ -2,7 +2,7 @@
 ghost use Rattle.std.specs.Prelude.{◌≡◌, IsTrue};
 ghost use Rattle.lwkt_report.specs.Complaint.{fault_line, IsSaid};
 
-use crate::errors::{Origin, put, say_unopened};
+use crate::errors::{Origin, put, put_lines, say_unopened};
 use crate::files::opened;
 use crate::folders::perform_all;
 use crate::performing::perform;
@@ -118,7 +118,7 @@ pub fn answer<
         Ok(Asked::Do(request)) => done(rt, alloc, &request, input, &mut sink, errors),
         Ok(Asked::Tell(text)) => told(&mut sink, errors, text.as_str()),
         Ok(Asked::Misuse(text)) => {
-            put(errors, text.as_str());
+            put_lines(alloc, errors, text.as_str());
             1
         }
         Ok(Asked::OldUsage) => misused(&mut sink, errors),

@@ -2,7 +2,7 @@
 use crate::failures::Failure;
 use lwkt_base::Fault;
 use lwkt_refusals::{Document, Speaker, has_no_reader, opening_said, refusal, wrongs_said};
-use lwkt_report::{Sink, write_whole};
+use lwkt_report::{Sink, escaped, write_whole};
 use lwkt_request::{Form, Task};
 use lwkt_text::{Input, Unread};
 use std::alloc::{AllocError, Global};
@@ -54,11 +54,26 @@ pub fn put<E: Sink>(errors: &mut E, text: &str) {
     let _ = write_whole(errors, text.as_bytes());
 }
 
+/// Writes a text of input as it is shown, with escapes. What can't be written is let go, and what memory is refused for.
+pub fn put_shown<E: Sink>(alloc: Global, errors: &mut E, text: &str) {
+    if let Ok(shown) = escaped(alloc, text) {
+        put(errors, shown.as_str());
+    }
+}
+
+/// Writes lines in which words of the command line stand, each line as `put_shown` does.
+pub fn put_lines<E: Sink>(alloc: Global, errors: &mut E, text: &str) {
+    for line in text.lines() {
+        put_shown(alloc, errors, line);
+        put(errors, "\n");
+    }
+}
+
 // Writes a line, with the path of the file, if lines name it.
-fn say_line<E: Sink>(errors: &mut E, origin: Origin<'_>, text: &str) {
+fn say_line<E: Sink>(alloc: Global, errors: &mut E, origin: Origin<'_>, text: &str) {
     put(errors, origin.start());
     if let Some(path) = origin.told_path() {
-        put(errors, path);
+        put_shown(alloc, errors, path);
         put(errors, ": ");
     }
     put(errors, text);
@@ -66,15 +81,21 @@ fn say_line<E: Sink>(errors: &mut E, origin: Origin<'_>, text: &str) {
 }
 
 // Writes a line of words that were made, or that there was no memory for them.
-fn say_words<E: Sink>(errors: &mut E, origin: Origin<'_>, words: Result<String, AllocError>) {
+fn say_words<E: Sink>(
+    alloc: Global,
+    errors: &mut E,
+    origin: Origin<'_>,
+    words: Result<String, AllocError>,
+) {
     match words {
-        Ok(words) => say_line(errors, origin, words.as_str()),
-        Err(_) => say_no_words(errors, origin),
+        Ok(words) => say_line(alloc, errors, origin, words.as_str()),
+        Err(_) => say_no_words(alloc, errors, origin),
     }
 }
 
-fn say_no_words<E: Sink>(errors: &mut E, origin: Origin<'_>) {
+fn say_no_words<E: Sink>(alloc: Global, errors: &mut E, origin: Origin<'_>) {
     say_line(
+        alloc,
         errors,
         origin,
         "there is no memory to say why it is refused",
@@ -100,6 +121,7 @@ fn say_json<E: Sink>(
     match origin.speaker() {
         Some(speaker) => speaker.say_refusal(alloc, errors, Some(bytes), fault),
         None => say_words(
+            alloc,
             errors,
             origin,
             refusal(alloc, Document::Script, bytes, fault),
@@ -121,7 +143,7 @@ pub fn say_unread<E: Sink>(
         Unread::Wrongs(wrongs) => {
             match wrongs_said(alloc, origin.told_path(), bytes, wrongs) {
                 Ok(page) => put(errors, page.as_str()),
-                Err(_) => say_no_words(errors, origin),
+                Err(_) => say_no_words(alloc, errors, origin),
             }
         }
     }
@@ -139,16 +161,21 @@ fn say_opening<E: Sink>(
     match fault {
         Fault::Memory(_) => {}
         Fault::Unlawful { .. } => {
-            say_line(errors, origin, "a run along an order was not lawful");
+            say_line(alloc, errors, origin, "a run along an order was not lawful");
         }
-        fault if is_text => say_words(errors, origin, opening_said(alloc, bytes, fault)),
+        fault if is_text => say_words(alloc, errors, origin, opening_said(alloc, bytes, fault)),
         fault => say_json(alloc, errors, origin, bytes, fault),
     }
 }
 
 // Says that the run ended before the range that was chosen.
-fn say_past<E: Sink>(errors: &mut E, origin: Origin<'_>) {
-    say_line(errors, origin, "the range lies behind the end of the run");
+fn say_past<E: Sink>(alloc: Global, errors: &mut E, origin: Origin<'_>) {
+    say_line(
+        alloc,
+        errors,
+        origin,
+        "the range lies behind the end of the run",
+    );
     Speaker::Show.say_usage(errors);
 }
 
@@ -175,7 +202,7 @@ pub fn say_unmade<E: Sink>(
         Failure::Fault(fault) => {
             say_opening(alloc, errors, origin, bytes, input.names.is_some(), fault);
         }
-        Failure::Past => say_past(errors, origin),
+        Failure::Past => say_past(alloc, errors, origin),
         Failure::Long => put(errors, long_words(origin.task)),
         Failure::Stream => {}
     }
@@ -185,7 +212,7 @@ pub fn say_unmade<E: Sink>(
 pub fn say_unopened<E: Sink>(alloc: Global, errors: &mut E, origin: Origin<'_>, error: &io::Error) {
     put(errors, origin.start());
     if let Some(path) = origin.path {
-        put(errors, path);
+        put_shown(alloc, errors, path);
         put(errors, ": ");
     }
     match error.to_string(alloc) {

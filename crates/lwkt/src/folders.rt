@@ -1,8 +1,8 @@
 //! All scripts of a folder, each performed.
-use crate::errors::{Origin, put, say_memory, say_unopened, say_unwritten};
+use crate::errors::{Origin, put, put_shown, say_memory, say_unopened, say_unwritten};
 use crate::files::opened;
 use crate::performing::perform;
-use lwkt_report::{NotedReader, NotedWriter, ReaderSource, Sink, WriterSink, write_whole};
+use lwkt_report::{NotedReader, NotedWriter, ReaderSource, Sink, WriterSink, escaped, write_whole};
 use lwkt_request::Request;
 use std::alloc::{AllocError, Global};
 use std::fs::Files;
@@ -99,7 +99,8 @@ fn try_one<R: Threads + Sync + Clock + Files, O: Write>(
     if status == 0 {
         return Ok(true);
     }
-    let head = format!(in alloc; "{name}: status {status}\n")?;
+    let shown = escaped(alloc, name)?;
+    let head = format!(in alloc; "{shown}: status {status}\n")?;
     let _ = write_whole(sink, head.as_bytes());
     let _ = write_whole(sink, said.as_slice());
     Ok(false)
@@ -156,7 +157,7 @@ pub fn perform_all<R: Threads + Sync + Clock + Files + Alloc + Clone + Drop, O: 
     };
     if names.is_empty() {
         put(errors, "lwkt_explore: ");
-        put(errors, folder);
+        put_shown(alloc, errors, folder);
         put(errors, ": no file there ends in .lwkt or .json\n");
         return 1;
     }

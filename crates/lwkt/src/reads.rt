@@ -8,6 +8,7 @@ ghost use Rattle.lwkt.specs.Failing.{RefusesInput};
 
 use crate::errors::{Origin, say_unread};
 use lwkt_base::Fault;
+use lwkt_refusals::say_releases;
 use lwkt_report::Sink;
 use lwkt_text::{Input, Unread, read_input};
 use std::alloc::Global;
@@ -23,7 +24,8 @@ fn fault_of(unread: &Unread) -> Fault
     }
 }
 
-/// Reads a script with all that a text says beside it. Why it isn't read `errors` gets, unless memory was refused.
+/// Reads a script with all that a text says beside it. Why it isn't read `errors` gets, unless memory was refused; and of a text which
+/// releases a run refuses for their order.
 pub fn read_said<E: Sink>(
     alloc: Global,
     origin: Origin<'_>,
@@ -34,7 +36,12 @@ pub fn read_said<E: Sink>(
     ensures refused { IfErr result (RefusesInput (input_of (option_copied origin.entry.path) bytes.now)) }
 {
     match read_input(alloc, origin.path, bytes) {
-        Ok(input) => Ok(input),
+        Ok(input) => {
+            if input.names.is_some() {
+                say_releases(alloc, errors, origin.path, bytes);
+            }
+            Ok(input)
+        }
         Err(unread) => {
             let fault = fault_of(&unread);
             say_unread(alloc, errors, origin, bytes, unread);
