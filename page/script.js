@@ -3,8 +3,8 @@
 
 const blank = /[ \t\r\n]/;
 
-// The most bytes of a script, and the most lines that are shown: of a hundred times as many a browser's box takes half a minute.
-const mostBytes = 1048576, mostLines = 10000;
+// The most bytes of a script, and the most lines that are shown: to select all of three times as many takes a browser seconds.
+const mostBytes = 1048576, mostLines = 3000;
 const byteWords = `more than ${mostBytes} bytes, the most that a script may have`;
 
 // How many lines a text has, as a browser breaks them.

@@ -127,9 +127,9 @@ const odd = lines.readRun("turn 0, round 0, processor 0, thread 0.0, step 1: [\"
 same([odd.outcome, odd.events.map((it) => [it.number, it.record])], ["record 'a; token 1: b'", [[0, "'a; token 1: b'"], [0, "'; '"]]], "a record with semicolons");
 same(texts.verdictsIn(["4: holds", "4: doesn't hold, order 0 1", "5: not decided", "x"]).map((it) => [it.line, it.place, it.words, it.order]), [[4, 0, "holds", null], [4, 1, "doesn't hold", [0, 1]], [5, 0, "not decided", null]], "verdicts");
 tryUrgent();
-same(["a".repeat(1048576), "\n".repeat(9999), "\r\n".repeat(9999), ""].map(scripts.longWords), [null, null, null, null], "texts that are short enough");
+same(["a".repeat(1048576), "\n".repeat(2999), "\r\n".repeat(2999), ""].map(scripts.longWords), [null, null, null, null], "texts that are short enough");
 same(["a".repeat(1048577), "\u00e4".repeat(524289)].map((it) => scripts.longWords(it).slice(0, 23)), Array(2).fill("more than 1048576 bytes"), "too many bytes");
-same(["\n", "\r", "\r\n"].map((it) => scripts.longWords(it.repeat(10000)).slice(0, 21)), Array(3).fill("more than 10000 lines"), "too many lines");
+same(["\n", "\r", "\r\n"].map((it) => scripts.longWords(it.repeat(3000)).slice(0, 20)), Array(3).fill("more than 3000 lines"), "too many lines");
 same(["3 outcomes; 90 states, 133 turns; complete", "1 outcome; 1 state, 0 turns; a part (states)", "1 outcome; 2 states, 3 turns; a part"].map(orders.readSum).map((it) => [it.isComplete, it.bound]), [[true, null], [false, "states"], [false, null]], "how a search ended");
 same(orders.readForm("or message 0 round 1 rest; message 1 round 1 back, order 0 1 1 0"), { said: "message 0 round 1 rest; message 1 round 1 back", order: [0, 1, 1, 0] }, "how else messages may stand");
 const named = texts.namesOf("# token no\ntoken a: any, cells 1; token,b # token c\n thread t on 1, repeat 2:\nget a; thread u on 0\nmessage m of t\nthread v on 1");

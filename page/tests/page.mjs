@@ -423,7 +423,7 @@ async function tryLink(tab) {
   await other.ask(`location.hash = '#z=AAAA'`);
   check(await other.until(`document.getElementById('status').textContent.includes("can't be read")`), "a spoiled link is told");
   same(await value(other, "script"), script, "and the script stays");
-  for (const [bytes, words] of [[1000000, "more than 10000 lines"], [30000000, "more than 1048576 bytes"]]) {
+  for (const [bytes, words] of [[1000000, "more than 3000 lines"], [30000000, "more than 1048576 bytes"]]) {
     const since = Date.now();
     await other.ask(`location.hash = '#z=${deflateRawSync(Buffer.alloc(bytes, "\n")).toString("base64url")}'`);
     check(await other.until(`document.getElementById('status').textContent.includes(${JSON.stringify(words)})`), `a link of ${bytes} line feeds is told: ${await text(other, "status")}`);
@@ -456,9 +456,9 @@ async function tryPaste(tab) {
     return [length, Date.now() - since < 20000, (await text(tab, "status")).replace(/, the most.*/, "")];
   };
   await put(tab, begun);
-  same(await paste(`'a\\n'.repeat(500000)`), [begun.length, true, "Nothing was put in: the text would have more than 10000 lines"], "a million bytes in short lines");
+  same(await paste(`'a\\n'.repeat(500000)`), [begun.length, true, "Nothing was put in: the text would have more than 3000 lines"], "a million bytes in short lines");
   same(await paste(`'a'.repeat(1048577)`), [begun.length, true, "Nothing was put in: the text would have more than 1048576 bytes"], "a byte too many");
-  same(await paste(`'# a\\n'.repeat(9000)`), [36000, true, ""], "9000 lines");
+  same(await paste(`'# a\\n'.repeat(2500)`), [10000, true, ""], "2500 lines");
   same(await paste(`'turns 5'`), [7, true, ""], "a word in their place");
 }
 
