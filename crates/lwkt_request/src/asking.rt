@@ -16,7 +16,7 @@ use crate::old::{OldRun, new_words, old_run};
 use crate::ranges::{path_of, turns_of};
 use crate::requests::{Asked, Request, Task};
 use crate::tasks::task_in;
-use crate::wrongs::{Wrong, misuse_of};
+use crate::wrongs::{Wrong, failure_of, misuse_of};
 use clap::error::ErrorKind;
 use clap::{ArgMatches, Error};
 use std::alloc::{AllocError, Global};
@@ -64,7 +64,7 @@ fn found_in(alloc: Global, matches: &ArgMatches<'_>) -> Result<Asked, AllocError
 }
 
 // The answer to words at which a parse failed.
-fn failed_by(alloc: Global, error: Error) -> Result<Asked, Error>
+fn failed_by(alloc: Global, error: Error, words: &[&str]) -> Result<Asked, Error>
     ensures failed { IfOk result (IsFailed (kind_of error)) }
     ensures memory { IfErr result (λ refused. kind_of refused ≡ OutOfMemory) }
 {
@@ -73,7 +73,13 @@ fn failed_by(alloc: Global, error: Error) -> Result<Asked, Error>
         ErrorKind::DisplayHelp | ErrorKind::DisplayVersion => {
             Ok(Asked::Tell(format!(in alloc; "{error}")?))
         }
-        _ => Ok(Asked::Misuse(format!(in alloc; "{error}")?)),
+        ErrorKind::DisplayHelpOnMissingArgumentOrSubcommand => {
+            Ok(Asked::Misuse(format!(in alloc; "{error}")?))
+        }
+        _ => {
+            let said = format!(in alloc; "{error}")?;
+            Ok(Asked::Misuse(failure_of(alloc, said.as_str(), words)?))
+        }
     }
 }
 
@@ -85,7 +91,7 @@ fn parsed<'a>(alloc: Global, words: &'a [&'a str]) -> Result<Asked, Error>
     let command = command_line(alloc)?;
     match command.try_get_matches_from(words) {
         Ok(matches) => Ok(found_in(alloc, &matches)?),
-        Err(error) => failed_by(alloc, error),
+        Err(error) => failed_by(alloc, error, words),
     }
 }
 

@@ -46,8 +46,88 @@ fn sentence_of(alloc: Global, wrong: Wrong<'_>) -> Result<String, AllocError> {
     }
 }
 
+// A message: the cause, a near word, and what to try.
+fn message_of(
+    alloc: Global,
+    cause: &str,
+    near: Option<&str>,
+    name: Option<&str>,
+) -> Result<String, AllocError> {
+    let mut text = format!(in alloc; "lwkt: {cause}\n")?;
+    if let Some(near) = near {
+        write!(text, "    did you mean `{near}`?\n")?;
+    }
+    match name {
+        Some(name) => write!(text, "try: lwkt {name} --help\n")?,
+        None => text.push_str("try: lwkt --help\n")?,
+    }
+    Ok(text)
+}
+
 /// What is written of words of the subcommand `name` that ask for nothing.
 pub(crate) fn misuse_of(alloc: Global, name: &str, wrong: Wrong<'_>) -> Result<String, AllocError> {
     let sentence = sentence_of(alloc, wrong)?;
-    format!(in alloc; "error: {sentence}\n\nFor more information, try 'lwkt {name} --help'.\n")
+    message_of(alloc, sentence.as_str(), None, Some(name))
+}
+
+// The first line of what a parse says of its error: the cause.
+fn cause_in(said: &str) -> &str {
+    let line = match said.split_once("\n") {
+        Some((line, _)) => line,
+        None => said,
+    };
+    match line.split_once("error: ") {
+        Some((before, cause)) if before.is_empty() => cause,
+        _ => line,
+    }
+}
+
+// The word that a parse proposes.
+fn near_in(said: &str) -> Option<&str> {
+    let (_, behind) = said.split_once("exists: '")?;
+    let (word, _) = behind.split_once("'")?;
+    Some(word)
+}
+
+// The subcommand that words begin with.
+fn name_in<'a>(words: &[&'a str]) -> Option<&'a str> {
+    match words.first() {
+        Some(word) if matches!(*word, "run" | "show" | "check" | "text" | "explore") => Some(*word),
+        _ => None,
+    }
+}
+
+// Whether a word is digits and commas, as an order.
+fn is_order(word: &str) -> bool {
+    !word.is_empty()
+        && word
+            .as_bytes()
+            .iter()
+            .all(|byte| matches!(*byte, b'0'..=b'9' | b','))
+}
+
+// The words of an order behind `--order`, with commas between them, if there are several.
+fn order_in(alloc: Global, words: &[&str]) -> Result<Option<String>, AllocError> {
+    let mut order = String::from_str(alloc, "--order ")?;
+    let mut count = 0usize;
+    let mut is_behind = false;
+    for word in words {
+        if is_behind && is_order(word) {
+            order.push_str(if count > 0 { "," } else { "" })?;
+            order.push_str(word)?;
+            count = count.saturating_add(1);
+        } else {
+            is_behind = *word == "--order";
+        }
+    }
+    Ok(if count > 1 { Some(order) } else { None })
+}
+
+/// What is written of words at which a parse failed, by what the parse says of them.
+pub(crate) fn failure_of(alloc: Global, said: &str, words: &[&str]) -> Result<String, AllocError> {
+    let name = name_in(words);
+    if let Some(order) = order_in(alloc, words)? {
+        return message_of(alloc, "an order is one word", Some(order.as_str()), name);
+    }
+    message_of(alloc, cause_in(said), near_in(said), name)
 }
