@@ -162,8 +162,9 @@ uint32_t lwkt_word_give_clean(uint64_t word, uint64_t *next);
 uint32_t lwkt_word_give_written(uint64_t word, uint64_t *next);
 
 // A bank of tokens for the caller's own threads. A bank has up to 64 tokens and 1 to 8 seats: a thread asks for tokens, and reads
-// and changes what they guard, by the number of its seat, 0 for the first. Who holds a token exclusively is alone with its cells
-// and its record, a text of at most 64 bytes that a token may guard; any number of seats may hold it shared and load its cells.
+// and changes what they guard, by the number of its seat, 0 for the first. A seat is who holds a token: the seat that holds one
+// exclusively is alone with its cells and its record, a text of at most 64 bytes that a token may guard; any number of seats may hold it
+// shared and load its cells. Threads that share a seat hold its tokens together, and so don't exclude each other: give each its own.
 // What a seat does is done on the proved token words of the layer, and its rules are kept by the calls: each misuse that this header
 // names is answered by a number, and changes nothing.
 //
@@ -179,8 +180,9 @@ uint32_t lwkt_word_give_written(uint64_t word, uint64_t *next);
 //     // when all threads have ended:
 //     lwkt_closing closing;
 //     status = lwkt_bank_close(bank, &closing, 1);
+//     lwkt_bank_free(&bank);
 //
-// Status. 0 where the call did what it says; else a number, as docs/tables/faults.md has the faults, but for 50, 51 and 52:
+// Status. 0 where the call did what it says; else a number, as docs/tables/faults.md has the faults, but for 50 to 56:
 //
 //     10 the seat has 32 references              19 row or record break the law of the token
 //     11 exclusive, where it is held shared      20 the token is at its last generation, 70368744177663
@@ -190,31 +192,41 @@ uint32_t lwkt_word_give_written(uint64_t word, uint64_t *next);
 //     18 it is held shared                       30 there is no such seat
 //     32 memory was refused                      34 another seat's step came between: ask again
 //     37 a record, and it is held shared         38 a record of more than 64 bytes
-//     39 a limit is passed                       50 another call has the seat
+//     39 a limit is passed                       50 another call has the seat, or is closing the bank
 //     40 an opening row breaks its law           51 the seat holds a token
-//                                                52 the bank is closed
+//     52 the bank is closed, or is none          53 the bank is still in use: a seat of it was given up as lost
+//     54 the seat was given up as lost           55 the seat rests in its place: it isn't lost
+//     56 the bank is open
 //
 // Of several that apply a function's list says which one comes: the one that stands first. Where a call is refused, nothing has
-// changed that a later call could tell, but that the seat may have looked at the token's word, loaded its row or read its record. Three
-// calls differ: `lwkt_block` gives all up where it answers 19, `lwkt_resume` has held the references in front of one that it missed
-// for a while, so that the mark of a token among them that it held exclusively is cleared, and `lwkt_bank_close` may give the bank up
-// where it answers 32.
+// changed that a later call could tell, but that the seat may have looked at the token's word, loaded its row or read its record. Two
+// calls differ: `lwkt_block` gives all up where it answers 19, and `lwkt_resume` has held the references in front of one that it missed
+// for a while, so that the mark of a token among them that it held exclusively is cleared.
 //
-// Each call on a seat answers 52 on a bank that is closed, in place of what its list says; but 30 stays 30.
+// Each call on a bank answers 52 where the bank is closed, in place of what its list says; but 30 stays 30; and each
+// call on a seat that was given up as lost answers 54, in place of 50. A bank of zeros, as
+// `(lwkt_bank){0}`, is no bank: each call on it answers 52.
 //
 // What the caller owes, beside what stands at the head of this file:
 //
-// - A bank is one that lwkt_bank_open stored, copied as it is. A bank of zeros, or any other that wasn't stored so, is undefined.
+// - A bank is one that lwkt_bank_open stored, copied as it is, or zeros. Any other is undefined, and so is a copy of one that was freed.
+// - A call comes back to its caller: it isn't left by `longjmp`, nor by the end of its thread, as an asynchronous cancel makes it. Where
+//   that happened all the same, its seat is lost: what it held stays held, and calls on the seat answer 50. `lwkt_abandon` gives it up.
+// - While a bank is freed no other call has it.
 // - No more. Two calls at once on one seat are two calls: one of them may answer 50. A token that is held when its thread ends
 //   stays held by its seat, from which any thread may go on.
 //
-// A bank takes about 10 KB for each seat and 330 bytes for each token. `lwkt_bank_close` gives that back but for less than 400 bytes, so
-// that the handle can be used on: those, and a bank that isn't closed, stay to the end of the process.
+// A bank takes about 11 KB for each seat and 900 bytes for each token. `lwkt_bank_close` gives that back but for less than 600 bytes,
+// so that the handle can be used on: those go by `lwkt_bank_free`. What a lost call had, its seat and a share of the bank, stays.
 #define LWKT_BUSY 23u
 #define LWKT_RACE 34u
 #define LWKT_SEAT_IN_USE 50u
 #define LWKT_SEAT_HOLDS 51u
 #define LWKT_BANK_CLOSED 52u
+#define LWKT_BANK_IN_USE 53u
+#define LWKT_SEAT_LOST 54u
+#define LWKT_SEAT_AT_REST 55u
+#define LWKT_BANK_OPEN 56u
 
 #define LWKT_LAW_ANY 0u
 #define LWKT_LAW_SUM 1u
@@ -283,13 +295,24 @@ uint32_t lwkt_bank_open(const lwkt_token *tokens, size_t count, uint32_t seats, 
 
 // Closes a bank, and stores what each of its tokens came to in the place of its number: `closings` has so many places, at least one for
 // each token, and those behind the last token stay as they were. From then on each call on the bank answers 52. No seat may hold a
-// token: `lwkt_block` gives up what one holds.
+// token: `lwkt_block` gives up what one holds. It takes no memory.
 //
-// Refused, at the first seat for which it is so, with 52 where the bank is closed, with 50 while another call has the seat, and with 51
-// where it holds a token; else with 39 where the bank has more tokens than there are places; with 32. While the call is at work, others
-// may answer 50. Of several closes at once one at most answers 0. With another status than 0 `closings` stays as it was, and the bank
-// too: but with 32 it may be given up, with what its tokens came to, and later calls then answer 52.
+// Refused with 52 where the bank is closed, with 50 while another close is at work; else, at the first seat for which it is so, with 50
+// while another call has the seat, with 53 where it was given up as lost, and with 51 where it holds a token; else with 39 where the bank
+// has more tokens than there are places. While the call is at work, others may answer 50. Of several closes at once one at most answers
+// 0. With another status than 0 `closings` stays as it was, and the bank too.
 uint32_t lwkt_bank_close(lwkt_bank bank, lwkt_closing *closings, size_t count);
+
+// Frees what is left of a bank that is closed, or of which a seat was given up as lost, and makes `bank` a bank of zeros. Other copies of
+// it are no banks any more. Refused with 52 for a bank of zeros; with 56 where the bank is open, and no seat of it was given up: it
+// stays as it was.
+uint32_t lwkt_bank_free(lwkt_bank *bank);
+
+// Gives up a seat whose call never came back, as after a `longjmp` out of it. From then on calls on the seat answer 54 in place of 50,
+// and a close of its bank answers 53. What the seat held stays held. The other seats go on, so what their tokens guard can still be
+// read; then the bank can be freed. Refused with 30; with 52; with 55 where the seat rests in its place, so that it isn't lost; with
+// 54 where it was given up before. Where a call has the seat that does come back, the seat isn't lost, and goes on behind that call.
+uint32_t lwkt_abandon(lwkt_bank bank, uint32_t seat);
 
 // Asks for an exclusive reference to a token, without waiting: a first one, or where the seat holds it exclusively a further one.
 // Refused with 30, 50, 16, 10, 11; and where the seat doesn't hold it, with 20, 23 or 34.
@@ -346,8 +369,8 @@ uint32_t lwkt_write_record(lwkt_bank bank, uint32_t seat, uint32_t token, const 
 //
 // Refused with 30, 50, 51. Else what is no list is refused before any token is asked for, at the first place where it is so: with 16;
 // with 39 for another mode; with 10 behind 32 references; with 11 for an exclusive reference to a token whose first one is shared. Else
-// with 20, 23 or 34 at the reference that is missed. `missed` is the place then, 0 for the first; with 0, 30, 50, 51 and 52 it stays as
-// it was. `list` is at `count` references.
+// with 20, 23 or 34 at the reference that is missed. `missed` is the place then, 0 for the first; with 0, 30, 50, 51, 52 and 54 it stays
+// as it was. `list` is at `count` references.
 uint32_t lwkt_resume(lwkt_bank bank, uint32_t seat, const lwkt_reference *list, size_t count, size_t *missed);
 
 // Gives up all that the seat holds, reference by reference, as a thread does that goes to sleep. A section that has broken its law

@@ -1,4 +1,4 @@
-// Refuses each call for memory of an opening and of a close in turn. Linked with --wrap, so that malloc, realloc and free come by here.
+// Refuses each call for memory of an opening in turn, and sees that a close makes none. Linked with --wrap, so that malloc, realloc and free come by here.
 // It writes a line for each thing that isn't so, and last a line that counts.
 #include <stdio.h>
 #include <stdlib.h>
@@ -41,61 +41,41 @@ static void count(int good, const char *what) {
 
 static const lwkt_token tokens[2] = {{.cells = {5}, .param = 5, .cell_count = 1, .law = LWKT_LAW_TALLY}, {.law = LWKT_LAW_ANY, .record = "abc", .record_length = 3, .record_count = 1}};
 
-// All banks that were opened, so that what a closed one keeps stays reachable.
-static lwkt_bank banks[200];
-
-// Some calls for memory are tried in another way where they are refused; then the bank is opened.
-static void openings(void) {
+// Whether a bank closes without a call for memory, and then is freed, so that as many blocks are out as before it was opened.
+static int closes_and_goes(lwkt_bank *bank, long out) {
     lwkt_closing closings[2];
+    long before = calls;
+    int good = lwkt_bank_close(*bank, closings, 2) == 0 && calls == before && closings[0].cells[0] == 5 && closings[1].record_length == 3;
+    return good && blocks == out + 2 && lwkt_bank_free(bank) == 0 && calls == before && blocks == out;
+}
+
+// Each call for memory of an opening is refused in turn. Some are tried in another way then, and the bank is opened.
+static void openings(void) {
     int good = 1;
-    for (long which = 1; which < 100; which += 1) {
-        lwkt_bank *bank = &banks[100 + which];
+    for (long which = 1; which < 200; which += 1) {
+        lwkt_bank bank = {NULL};
         long out = blocks;
         calls = 0;
         refused = which;
-        uint32_t status = lwkt_bank_open(tokens, 2, 3, bank);
+        uint32_t status = lwkt_bank_open(tokens, 2, 3, &bank);
         int is_past = calls < which;
-        if (status == 32) good = good && bank->place == NULL && blocks == out;
+        if (status == 32) good = good && bank.place == NULL && blocks == out;
         refused = 0;
-        if (status != 32) good = good && status == 0 && lwkt_bank_close(*bank, closings, 2) == 0 && blocks == out + 2;
+        if (status != 32) good = good && status == 0 && closes_and_goes(&bank, out);
         if (is_past) break;
-        good = good && which < 99;
+        good = good && which < 199;
     }
     count(good, "an opening that is refused for memory takes none");
 }
 
-// A close that is refused for memory: all is as it was, or the bank is given up and closed.
-static int is_refused_well(lwkt_bank bank, lwkt_closing *closings, long before) {
-    uint32_t status = lwkt_take(bank, 2, 0);
-    if (status == LWKT_BANK_CLOSED) return lwkt_bank_close(bank, closings, 2) == LWKT_BANK_CLOSED && lwkt_mark(bank, 0, 0) == LWKT_BANK_CLOSED;
-    return status == 0 && lwkt_give(bank, 2, 0) == 0 && blocks == before && lwkt_bank_close(bank, closings, 2) == 0;
-}
-
+// A close takes no memory, so it is never refused for it, and neither is what is told of the tokens lost.
 static void closes(void) {
-    lwkt_closing closings[2];
-    int good = 1, given_up = 0, kept = 0;
-    for (long which = 1; which < 100; which += 1) {
-        refused = 0;
-        long out = blocks;
-        good = good && lwkt_bank_open(tokens, 2, 3, &banks[which]) == 0;
-        lwkt_bank bank = banks[which];
-        long before = blocks;
-        calls = 0;
-        refused = which;
-        closings[0].generation = 99;
-        uint32_t status = lwkt_bank_close(bank, closings, 2);
-        if (calls < which) {
-            good = good && status == 0 && blocks == out + 2 && closings[0].cells[0] == 5 && closings[1].record_length == 3;
-            break;
-        }
-        refused = 0;
-        good = good && status == 32 && closings[0].generation == 99;
-        int is_kept = blocks == before;
-        kept += is_kept;
-        given_up += !is_kept;
-        good = good && is_refused_well(bank, closings, before) && blocks == out + 2;
-    }
-    count(good && kept > 0 && given_up > 0, "a close that is refused for memory leaves the bank, or gives it up");
+    lwkt_bank bank = {NULL};
+    long out = blocks;
+    count(lwkt_bank_open(tokens, 2, 3, &bank) == 0, "a bank opens");
+    refused = calls + 1;
+    count(closes_and_goes(&bank, out), "a close takes no memory");
+    refused = 0;
 }
 
 int main(void) {

@@ -1,5 +1,5 @@
-// The close of a bank: what its tokens came to, each misuse, two closes at once, and a close while other threads are inside calls. It
-// writes a line for each thing that isn't so, and last a line that counts.
+// The close of a bank: what its tokens came to, each misuse, two closes at once, and a close while other threads are inside calls; what a
+// closed bank keeps is freed, and a bank of zeros is none. It writes a line for each thing that isn't so, and last a line that counts.
 #include <pthread.h>
 #include <sched.h>
 #include <stdatomic.h>
@@ -20,10 +20,6 @@ static void count(int good, const char *what) {
     good ? (passed += 1) : (failed += 1, printf("closes: %s\n", what));
 }
 
-// All banks that were opened: what a closed one keeps stays reachable, as a test for leaks wants it.
-static lwkt_bank opened[2 * BANKS + 10];
-static int opened_count;
-
 static lwkt_bank open_bank(uint32_t seats) {
     static const lwkt_token tokens[TOKENS] = {
         {.cells = {5}, .param = 5, .generation = 7, .cell_count = 1, .law = LWKT_LAW_TALLY},
@@ -31,10 +27,9 @@ static lwkt_bank open_bank(uint32_t seats) {
         {.cells = {1, 2, 3, 4}, .generation = UINT64_C(70368744177663), .cell_count = 4, .law = LWKT_LAW_ANY},
         {.law = LWKT_LAW_ANY, .record = "abc", .record_length = 3, .record_count = 1},
         {.cells = {3}, .cell_count = 1, .law = LWKT_LAW_LEN, .record = "aaa", .record_length = 3, .record_count = 1}};
-    lwkt_bank *bank = &opened[opened_count];
-    opened_count += 1;
-    count(lwkt_bank_open(tokens, TOKENS, seats, bank) == 0, "a bank opens");
-    return *bank;
+    lwkt_bank bank = {NULL};
+    count(lwkt_bank_open(tokens, TOKENS, seats, &bank) == 0, "a bank opens");
+    return bank;
 }
 
 // Whether a place is that of these cells, this generation and these tallies, and of a record of this text or of none.
@@ -67,8 +62,8 @@ static int are_marked(const lwkt_closing *closings, size_t from, size_t places) 
     return 1;
 }
 
-// Whether each call answers that the bank is closed.
-static int is_closed(lwkt_bank bank, uint32_t seats) {
+// Whether each call on these seats answers that the bank is closed, and stores nothing.
+static int answers_closed(lwkt_bank bank, uint32_t seats) {
     lwkt_closing closings[TOKENS];
     lwkt_reference list = {ANY, LWKT_SHARED};
     uint8_t bytes[LWKT_RECORD_ROOM] = {0};
@@ -82,10 +77,20 @@ static int is_closed(lwkt_bank bank, uint32_t seats) {
         good = good && lwkt_add(bank, seat, TALLY, 1, &value) == 52 && lwkt_lawful(bank, seat, ANY) == 52 && lwkt_restore(bank, seat, ANY) == 52;
         good = good && lwkt_read_record(bank, seat, NOTE, bytes, sizeof bytes, &size) == 52 && lwkt_write_record(bank, seat, NOTE, bytes, 1) == 52;
         good = good && lwkt_resume(bank, seat, &list, 1, &size) == 52 && lwkt_block(bank, seat, &restored) == LWKT_BANK_CLOSED;
+        good = good && lwkt_abandon(bank, seat) == 52;
     }
     mark_places(closings, TOKENS);
     good = good && lwkt_bank_close(bank, closings, TOKENS) == 52 && are_marked(closings, 0, TOKENS) && lwkt_bank_close(bank, closings, 0) == 52;
-    return good && value == 77 && size == 77 && restored == 77 && bytes[0] == 0 && lwkt_take(bank, seats, ANY) == 30;
+    return good && value == 77 && size == 77 && restored == 77 && bytes[0] == 0;
+}
+
+static int is_closed(lwkt_bank bank, uint32_t seats) {
+    return answers_closed(bank, seats) && lwkt_take(bank, seats, ANY) == 30 && lwkt_abandon(bank, seats) == 30;
+}
+
+// Frees a closed bank: its handle is a bank of zeros then.
+static int is_freed(lwkt_bank *bank) {
+    return lwkt_bank_free(bank) == 0 && bank->place == NULL && answers_closed(*bank, 9) && lwkt_bank_free(bank) == 52;
 }
 
 static void opening_values(void) {
@@ -99,6 +104,21 @@ static void opening_values(void) {
     count(is_closing(&closings[NOTE], NULL, 0, 0, NULL, 0, "abc") && is_closing(&closings[LEN], len, 1, 0, NULL, 0, "aaa"), "records as they were opened");
     count(are_marked(closings, TOKENS, TOKENS + 2), "what lies behind the tokens stays");
     count(is_closed(bank, 8), "each later call answers 52, and 30 where there is no such seat");
+    count(is_freed(&bank), "and it is freed");
+}
+
+// A bank of zeros is none, and one that is open isn't freed.
+static void no_bank_and_open_bank(void) {
+    lwkt_bank none = {0};
+    count(answers_closed(none, 9) && lwkt_bank_free(&none) == 52 && none.place == NULL, "each call on a bank of zeros answers 52");
+    lwkt_bank bank = open_bank(2);
+    lwkt_closing closings[TOKENS];
+    void *place = bank.place;
+    count(lwkt_bank_free(&bank) == LWKT_BANK_OPEN && bank.place == place, "an open bank isn't freed");
+    count(lwkt_take(bank, 1, SUM) == 0 && lwkt_bank_free(&bank) == 56 && lwkt_give(bank, 1, SUM) == 0, "and goes on");
+    count(lwkt_abandon(bank, 0) == LWKT_SEAT_AT_REST && lwkt_abandon(bank, 1) == 55 && lwkt_abandon(bank, 2) == 30, "a seat that rests isn't lost");
+    count(lwkt_take(bank, 0, SUM) == 0 && lwkt_abandon(bank, 0) == 55 && lwkt_give(bank, 0, SUM) == 0, "nor is one that holds a token");
+    count(lwkt_bank_close(bank, closings, TOKENS) == 0 && is_closed(bank, 2) && is_freed(&bank), "then it closes, and is freed");
 }
 
 static int write_text(lwkt_bank bank, uint32_t seat, uint32_t tok, const char *text) {
@@ -122,11 +142,12 @@ static void closing_values(void) {
     count(is_closing(&closings[TALLY], tally, 1, 9, added, 3, NULL), "what each seat added, and two sections");
     count(is_closing(&closings[SUM], sum, 2, 1, NULL, 0, NULL), "cells of one section that wrote");
     count(is_closing(&closings[NOTE], NULL, 0, 1, NULL, 0, whole) && is_closing(&closings[LEN], len, 1, 1, NULL, 0, ""), "records of 64 bytes and of none");
+    count(is_freed(&bank), "and it is freed");
 }
 
 static void refused_closes(void) {
     lwkt_closing closings[TOKENS];
-    static lwkt_bank empty;
+    lwkt_bank empty;
     lwkt_bank bank = open_bank(2);
     lwkt_token unused = {.law = LWKT_LAW_ANY};
     mark_places(closings, TOKENS);
@@ -138,6 +159,7 @@ static void refused_closes(void) {
     count(lwkt_take(bank, 0, SUM) == 0 && lwkt_take(bank, 1, NOTE) == 0 && lwkt_give(bank, 0, SUM) == 0 && lwkt_give(bank, 1, NOTE) == 0, "the bank is as it was");
     count(lwkt_bank_close(bank, closings, TOKENS) == 0 && is_closed(bank, 2), "then it closes");
     count(lwkt_bank_open(&unused, 0, 1, &empty) == 0 && lwkt_bank_close(empty, closings, 0) == 0 && lwkt_bank_close(empty, closings, 0) == 52, "a bank without tokens");
+    count(is_freed(&bank) && is_freed(&empty), "both are freed");
 }
 
 typedef struct {
@@ -179,7 +201,7 @@ static void two_closes(void) {
         uint32_t first = workers[0].status, second = workers[1].status;
         both = both && ((first == 0 && (second == 50 || second == 52)) || (second == 0 && (first == 50 || first == 52)));
         for (int k = 0; k < 2; k += 1) stored = stored && are_marked(workers[k].closings, 0, TOKENS) == (workers[k].status != 0);
-        both = both && is_closed(bank, 8);
+        both = both && is_closed(bank, 8) && is_freed(&bank);
     }
     count(both, "of two closes at once one answers 0, and the other 50 or 52");
     count(stored, "the other stores nothing");
@@ -234,6 +256,7 @@ static void close_at_work(void) {
     }
     count(other == 0, "a close is refused with 50 or 51 alone");
     count(each && closings[TALLY].cells[0] == 5 + sections && closings[TALLY].generation == 7 + sections, "no addition is lost");
+    count(is_freed(&bank), "and the bank is freed");
 }
 
 // Calls of another thread on one seat while the bank is closed.
@@ -262,12 +285,13 @@ static void close_beside_calls(void) {
         wait_for(&ready, 2);
         while ((status = lwkt_bank_close(bank, closings, TOKENS)) == LWKT_SEAT_IN_USE) sched_yield();
         pthread_join(thread, NULL);
-        good = good && status == 0 && mine.good && is_closed(bank, 2);
+        good = good && status == 0 && mine.good && is_closed(bank, 2) && is_freed(&bank);
     }
     count(good, "a close beside calls that hold nothing is made, or finds a seat in use");
 }
 
 int main(void) {
+    no_bank_and_open_bank();
     opening_values();
     closing_values();
     refused_closes();

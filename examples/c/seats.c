@@ -285,12 +285,14 @@ static void openings(void) {
     count(lwkt_bank_open(&good, 1, 0, &other) == 39 && lwkt_bank_open(&good, 1, 9, &other) == 39 && lwkt_bank_open(many, 65, 1, &other) == 39, "limits");
     worn.generation += 1;
     count(lwkt_bank_open(&worn, 1, 1, &other) == 39 && other.place == NULL, "a refused opening stores nothing");
-    static lwkt_bank last;
+    lwkt_bank last;
     worn.generation -= 1;
     count(lwkt_bank_open(&worn, 1, 1, &last) == 0 && lwkt_take(last, 0, 0) == 20 && lwkt_share(last, 0, 0) == 0 && lwkt_give(last, 0, 0) == 0, "the last generation");
     static const lwkt_reference whole = {0, LWKT_EXCLUSIVE};
     size_t missed = 77;
     count(lwkt_resume(last, 0, &whole, 1, &missed) == 20 && missed == 0 && lwkt_give(last, 0, 0) == 13, "the last generation, on a list");
+    lwkt_closing closing;
+    count(lwkt_bank_close(last, &closing, 1) == 0 && lwkt_bank_free(&last) == 0, "it closes, and is freed");
 }
 
 int main(void) {
@@ -308,6 +310,8 @@ int main(void) {
         sections_of_lists();
         openings();
         opened_records();
+        lwkt_closing closings[TOKENS];
+        count(lwkt_bank_close(bank, closings, TOKENS) == 0 && lwkt_bank_free(&bank) == 0, "the bank closes, and is freed");
     }
     printf("%d passed, %d failed\n", passed, failed);
     return failed != 0;

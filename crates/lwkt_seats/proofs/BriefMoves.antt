@@ -18,7 +18,6 @@ use Rattle.lwkt_bank.specs.Views.{generation_in, looked}
 use Rattle.lwkt_bank.specs.Seats.{plan_of, bank_of, entry, Changes, Looked, Took, Lost, Stepped, Gave, Knowing, IsUnchanged}
 use Rattle.lwkt_seats.specs.declared.answers.Asked.{Asked}
 use Rattle.lwkt_seats.specs.declared.answers.Asked.TheVariants as asked
-use Rattle.lwkt_seats.specs.declared.answers.Furthered.TheVariants as furthered
 use Rattle.lwkt_seats.specs.declared.answers.Marked.{Marked}
 use Rattle.lwkt_seats.specs.declared.answers.Marked.TheVariants as marked
 use Rattle.lwkt_seats.specs.declared.answers.GaveBack.{GaveBack}

@@ -1,6 +1,6 @@
 -- How the seats of a desk are taken out of their places, and out of their boxes.
 use Rattle.std.proofs.Common.{◌≡◌, ◌⊎◌, ◌≢◌, ℕ, zero, suc, ◌+◌, ◌<◌, ◌≤◌, List, [], ◌∷◌, ◌++◌, length, map, refl, ap, sym, ◌∙◌, subst, arith, inl, inr}
-use Rattle.std.specs.Prelude.{Option, Some, None, Result, Ok, Err, IfOk, All, slice_get, slice_index_or}
+use Rattle.std.specs.Prelude.{Option, Some, None, IfSome, MatchOption, Result, Ok, Err, IfOk, IfErr, All, slice_get, slice_index_or}
 use Rattle.std.proofs.lemmas.Bool.{cases_lt}
 use Rattle.std.proofs.lemmas.List.{get_or_past}
 use Rattle.std.proofs.lemmas.Option.{slice_get-get_or}
@@ -101,13 +101,21 @@ seat_from [] k s is = absurd cc
 seat_from (x ∷ xs) zero s is = (x, (refl, some_is (seat_in x) s is))
 seat_from (x ∷ xs) (suc k) s is = seat_from xs k s is
 
+-- a desk has a first place, and its bank is that of each place
+first_of : (spots : List Spot) → 0 < length spots → (spot : Spot) × (slice_get spots 0 ≡ Some spot)
+first_of [] some = absurd (omega (arith, some))
+first_of (x ∷ xs) some = (x, refl)
+
+pub bank_of_desk : (desk : Desk) → IsBankOf desk (arc_value desk.drawer)
+bank_of_desk desk number spot at = desk.one number spot at
+
+pub cpus_is : (desk : Desk) → cpus_of (arc_value desk.drawer) ≡ length desk.places.items
+cpus_is desk =
+    let first = first_of desk.places.items desk.some in
+    ap (λ (b : Bank). cpus_of b) (sym (desk.one 0 first.0 first.1)) ∙ (desk.spots 0 0 first.0 first.0 first.1 first.1).2
+
 -- the seats of a desk that were taken from their places are of one bank, hold nothing, and are as many as it has processors
 module _ (desk : Desk) (xs : List (Box Sitter)) (free : AreFree desk xs) where
-  pub bank_is : (x : Box Sitter) (first : Sitter) → slice_get xs 0 ≡ Some x → first ≡ x.value → IsBankOf desk (arc_value first.bank)
-  bank_is x first at is number spot placed =
-      let there = free 0 x at in
-      (desk.spots number 0 spot there.0 placed there.1.0).0 ∙ sym there.1.1.bank ∙ ap (λ (s : Sitter). arc_value s.bank) (sym is)
-
   pub seated_at : (k : ℕ) (s : CpuSeat) → slice_get (map seat_in xs) k ≡ Some s → IsSeatAt desk k s
   seated_at k s at =
       let found = seat_from xs k s at in
@@ -127,11 +135,8 @@ module _ (desk : Desk) (xs : List (Box Sitter)) (free : AreFree desk xs) where
       let F : List CpuSeat → Type 0 = λ ss. slice_get ss k ≡ Some (slice_index_or seats k d) in
       ready_at bank k (slice_index_or seats k d) of (subst F are (slice_get-get_or seats k d within))
 
-  pub as_many : (bank : Bank) (seats : List CpuSeat) (x : Box Sitter) → seats ≡ map seat_in xs → slice_get xs 0 ≡ Some x → IsBankOf desk bank → length xs ≡ length desk.places.items → length seats ≡ cpus_of bank
-  as_many bank seats x are at of all =
-      let there = free 0 x at in
-      let spots = desk.spots 0 0 there.0 there.0 there.1.0 there.1.0 in
-      ap length are ∙ seats_in xs ∙ all ∙ sym spots.2 ∙ ap (λ (b : Bank). cpus_of b) (of 0 there.0 there.1.0)
+  pub as_many : (seats : List CpuSeat) → seats ≡ map seat_in xs → length xs ≡ length desk.places.items → length seats ≡ cpus_of (arc_value desk.drawer)
+  as_many seats are all = ap length are ∙ seats_in xs ∙ all ∙ sym (cpus_is desk)
 
 -- the closing values fit what C is told of them
 pub sized : (bank : Bank) (seats : List CpuSeat) (closed : Closed) → cpus_of bank ≤ 8 → IsClosed (id_of bank) (cpus_of bank) seats closed → IsSized closed
@@ -155,34 +160,50 @@ sized bank seats closed few is tok = elim (cases_lt tok (tokens_of (id_of bank))
 ]
 
 -- and so the desk ends
-module _ (desk : Desk) (xs : List (Box Sitter)) (free : AreFree desk xs) (bank : Bank) (seats : List CpuSeat) (x : Box Sitter) (room : ℕ) where
-  pub ends : (closed : Closed) → seats ≡ map seat_in xs → slice_get xs 0 ≡ Some x → IsBankOf desk bank → length xs ≡ length desk.places.items → tokens_of (id_of bank) ≤ room → IsClosed (id_of bank) (cpus_of bank) seats closed → ClosesDesk desk room closed
-  ends closed are at of all fits is =
-      let many = as_many desk xs free bank seats x are at of all in
+module _ (desk : Desk) (xs : List (Box Sitter)) (free : AreFree desk xs) (seats : List CpuSeat) (room : ℕ) where
+  abbrev B : Bank
+  B = arc_value desk.drawer
+
+  pub ends : (closed : Closed) → seats ≡ map seat_in xs → length xs ≡ length desk.places.items → tokens_of (id_of B) ≤ room → IsClosed (id_of B) (cpus_of B) seats closed → ClosesDesk desk room closed
+  ends closed are all fits is =
       let places = ap length are ∙ seats_in xs ∙ all in
       let few = desk.few in
+      let many = cpus_is desk in
       record {
-        bank = bank;
+        bank = B;
         seats = seats;
-        is_bank = of;
+        is_bank = bank_of_desk desk;
         as_many = places;
         seated = λ k s here. seated_at desk xs free k s (subst (λ (ss : List CpuSeat). slice_get ss k ≡ Some s) are here);
-        ready = all_ready desk xs free bank seats are of;
+        ready = all_ready desk xs free B seats are (bank_of_desk desk);
         is_closed = is;
         lawful = λ tok below. (is.each tok below).lawful;
-        sized = sized bank seats closed (omega (arith, few, many, places)) is;
+        sized = sized B seats closed (omega (arith, few, many)) is;
         fits = fits;
       }
 
-  pub ended : (came : Result Closed ℕ) → seats ≡ map seat_in xs → slice_get xs 0 ≡ Some x → IsBankOf desk bank → length xs ≡ length desk.places.items → tokens_of (id_of bank) ≤ room
-      → IfOk came (λ closed. IsClosed (id_of bank) (cpus_of bank) seats closed) → IfOk came (λ closed. ClosesDesk desk room closed)
-  ended (Ok closed) are at of all fits is = ends closed are at of all fits is
-  ended (Err answer) are at of all fits is = tt
+  pub ended : (came : Result Closed ℕ) → seats ≡ map seat_in xs → length xs ≡ length desk.places.items → tokens_of (id_of B) ≤ room
+      → IfOk came (λ closed. IsClosed (id_of B) (cpus_of B) seats closed) → IfOk came (λ closed. ClosesDesk desk room closed)
+  ended (Ok closed) are all fits is = ends closed are all fits is
+  ended (Err answer) are all fits is = tt
 
 -- no refusal is told by 0
-pub refuses : (answer : ℕ) → (answer ≡ 32) ⊎ ((answer ≡ 39) ⊎ ((answer ≡ 50) ⊎ ((answer ≡ 51) ⊎ (answer ≡ 52)))) → answer ≡ 0 → ⊥
-refuses answer (inl memory) is = omega (arith, memory, is)
-refuses answer (inr (inl wide)) is = omega (arith, wide, is)
-refuses answer (inr (inr (inl used))) is = omega (arith, used, is)
-refuses answer (inr (inr (inr (inl holds)))) is = omega (arith, holds, is)
-refuses answer (inr (inr (inr (inr closed)))) is = omega (arith, closed, is)
+pub refuses : (answer : ℕ) → (answer ≡ 39) ⊎ ((answer ≡ 50) ⊎ ((answer ≡ 51) ⊎ ((answer ≡ 52) ⊎ (answer ≡ 53)))) → answer ≡ 0 → ⊥
+refuses answer (inl wide) is = omega (arith, wide, is)
+refuses answer (inr (inl used)) is = omega (arith, used, is)
+refuses answer (inr (inr (inl holds))) is = omega (arith, holds, is)
+refuses answer (inr (inr (inr (inl closed)))) is = omega (arith, closed, is)
+refuses answer (inr (inr (inr (inr shared)))) is = omega (arith, shared, is)
+
+-- what came of a bank that was told apart from one that is still in use
+pub finished : (sole : Option Bank) (came : Result Closed ℕ) (bank : Bank) (seats : List CpuSeat) → IfSome sole (λ b. b ≡ bank)
+    → MatchOption sole (came ≡ Err 53) (λ b. (closed : Closed) × ((came ≡ Ok closed) × IsClosed (id_of b) (cpus_of b) seats closed)) → IfOk came (λ closed. IsClosed (id_of bank) (cpus_of bank) seats closed)
+finished None came bank seats is shared = subst (λ (x : Result Closed ℕ). IfOk x (λ closed. IsClosed (id_of bank) (cpus_of bank) seats closed)) (sym shared) tt
+finished (Some b) came bank seats is found =
+    let F : Bank → Closed → Type 0 = λ x closed. IsClosed (id_of x) (cpus_of x) seats closed in
+    subst (λ (x : Result Closed ℕ). IfOk x (λ closed. F bank closed)) (sym found.1.0) (subst (λ (x : Bank). F x found.0) is found.1.1)
+
+pub refused : (sole : Option Bank) (came : Result Closed ℕ) (seats : List CpuSeat)
+    → MatchOption sole (came ≡ Err 53) (λ b. (closed : Closed) × ((came ≡ Ok closed) × IsClosed (id_of b) (cpus_of b) seats closed)) → IfErr came (λ answer. answer ≡ 53)
+refused None came seats shared = subst (λ (x : Result Closed ℕ). IfErr x (λ answer. answer ≡ 53)) (sym shared) refl
+refused (Some b) came seats found = subst (λ (x : Result Closed ℕ). IfErr x (λ answer. answer ≡ 53)) (sym found.1.0) tt

@@ -1,4 +1,5 @@
 mod DeskBox
+mod HeldSteps
 mod Answering
 mod Placing
 mod ListMoves

@@ -1,5 +1,5 @@
 -- What is so of each token that C declares is so of what is declared of it, and the other way round.
-use Rattle.std.proofs.Common.{rules, ◌≡◌, ℕ, ◌<◌, ◌≤◌, List, [], length, map, All, subst, sym}
+use Rattle.std.proofs.Common.{rules, ℕ, ◌<◌, ◌≤◌, List, [], length, map, All, subst, sym}
 use Rattle.std.proofs.lemmas.List.{get_or-map, length-map}
 use Rattle.std.proofs.lemmas.List.Elements.{All-map}
 use Rattle.lwkt_base.specs.Law.{OpensLawfully}

@@ -1,13 +1,13 @@
 -- The seats that an opening hands out, put into places in order.
 use Rattle.std.proofs.Common.{◌≡◌, ◌⊎◌, ℕ, zero, suc, ◌+◌, ◌<◌, inl, inr, List, [], ◌∷◌, ◌++◌, length, refl, ap, sym, ◌∙◌, subst, arith}
-use Rattle.std.specs.Prelude.{slice_index_or}
+use Rattle.std.specs.Prelude.{slice_index_or, slice_get, Some, None}
 use Rattle.std.specs.Arc.{arc_value}
 use Rattle.lwkt_bank.specs.declared.banks.Bank.{Bank}
 use Rattle.lwkt_bank.specs.declared.seats.CpuSeat.{CpuSeat}
-use Rattle.lwkt_bank.specs.Seats.{BankId}
+use Rattle.lwkt_bank.specs.Seats.{BankId, cpus_of}
 use Rattle.lwkt_bank.specs.Gathered.{AreHandedOut}
 use Rattle.lwkt_seats.specs.declared.spots.Spot.{Spot}
-use Rattle.lwkt_seats.specs.Spots.{AreSpotsOf}
+use Rattle.lwkt_seats.specs.Spots.{AreSpotsOf, AreSpots, AreAllOf}
 
 at_end : (xs ys : List CpuSeat) (y s : CpuSeat) → slice_index_or (xs ++ y ∷ ys) (length xs) s ≡ y
 at_end [] ys y s = refl
@@ -61,3 +61,27 @@ kept bank spots new are of at k spot (inr here) = subst (λ (s : Spot). (arc_val
 
 pub pushed : (bank : Bank) (spots : List Spot) (new : Spot) → AreSpotsOf bank spots → arc_value new.bank ≡ bank → new.cpu.0 ≡ length spots → AreSpotsOf bank (spots ++ new ∷ [])
 pushed bank spots new are of at = λ k spot within. kept bank spots new are of at k spot (placed spots new k spot within)
+
+-- so each is of the bank, and the one for the processor of its number
+none_is : {A : Type 0} (x : A) → None ≡ Some x → ⊥
+none_is {A} x is = cc
+
+some_is : {A : Type 0} (x y : A) → Some x ≡ Some y → x ≡ y
+some_is {A} x y is = cc
+
+at_place : (spots : List Spot) (k : ℕ) (s : Spot) → slice_get spots k ≡ Some s → (k < length spots) × (slice_index_or spots k s ≡ s)
+at_place [] k s is = absurd (none_is s is)
+at_place (x ∷ xs) zero s is = (omega arith, some_is x s is)
+at_place (x ∷ xs) (suc k) s is = let r = at_place xs k s is in let within = r.0 in (omega (arith, within), r.1)
+
+of_bank : (bank : Bank) (spots : List Spot) → AreSpotsOf bank spots → (k : ℕ) (s : Spot) → slice_get spots k ≡ Some s → Fits bank s k
+of_bank bank spots are k s at = let r = at_place spots k s at in subst (λ (x : Spot). Fits bank x k) r.1 (are k s r.0)
+
+pub are_spots : (bank : Bank) (spots : List Spot) → AreSpotsOf bank spots → cpus_of bank ≡ length spots → AreSpots spots
+are_spots bank spots are many i j a b ai bj =
+    let x = of_bank bank spots are i a ai in
+    let y = of_bank bank spots are j b bj in
+    (x.0 ∙ sym y.0, x.1, ap (λ (z : Bank). cpus_of z) x.0 ∙ many)
+
+pub are_all_of : (bank : Bank) (spots : List Spot) → AreSpotsOf bank spots → AreAllOf bank spots
+are_all_of bank spots are number spot at = (of_bank bank spots are number spot at).0

@@ -1,5 +1,5 @@
 -- The close of a bank (own).
-use Rattle.std.specs.Prelude.{◌≡◌, ◌≢◌, ℕ, ◌<◌, ◌≤◌, List, [], length, All, None, Some, slice_get, slice_index_or}
+use Rattle.std.specs.Prelude.{◌≡◌, ◌≢◌, ℕ, ◌<◌, ◌≤◌, List, [], length, All, None, Some, slice_get, slice_index_or, vec_capacity}
 use Rattle.std.specs.Arc.{arc_value}
 use Rattle.std.specs.Global.{Box}
 use Rattle.lwkt_base.specs.Holding.{holds_nothing}
@@ -9,11 +9,12 @@ use Rattle.lwkt_bank.specs.declared.banks.Bank.{Bank}
 use Rattle.lwkt_bank.specs.declared.seats.CpuSeat.{CpuSeat}
 use Rattle.lwkt_bank.specs.declared.closed.Closed.{Closed}
 use Rattle.lwkt_bank.specs.Seats.{id_of, cpus_of, tokens_of, plan_of, holding}
-use Rattle.lwkt_bank.specs.Closing.{IsReady}
+use Rattle.lwkt_bank.specs.Closing.{IsReady, IsRoomFor}
 use Rattle.lwkt_bank.specs.Gathered.{IsClosed}
 use Rattle.lwkt_seats.specs.declared.spots.Spot.{Spot}
 use Rattle.lwkt_seats.specs.declared.spots.Sitter.{Sitter}
 use Rattle.lwkt_seats.specs.declared.desks.Desk.{Desk}
+use Rattle.lwkt_seats.specs.declared.endings.Ending.{Ending}
 use Rattle.lwkt_seats.specs.Seated.{IsSeated}
 use Rattle.lwkt_seats.specs.Desks.{IsPlaced, IsSeatAt}
 
@@ -27,6 +28,15 @@ IsFreeAt desk number s = (spot : Spot) × (IsPlaced desk number spot × IsSeated
 
 abbrev pub AreFree : Desk → List (Box Sitter) → Type 0
 AreFree desk sitters = (number : ℕ) (x : Box Sitter) → slice_get sitters number ≡ Some x → IsFreeAt desk number x.value
+
+-- a share of the desk's bank, all its seats as they were taken from their places, and room for them and for the close
+pub record IsEndingWith (desk : Desk) (e : Ending) : Type 0 where
+  pub is_bank : arc_value e.bank ≡ arc_value desk.drawer
+  pub free : AreFree desk e.sitters.items
+  pub all : length e.sitters.items ≡ length desk.places.items
+  pub no_seats : e.seats.items ≡ []
+  pub seats : length desk.places.items ≤ vec_capacity e.seats
+  pub room : IsRoomFor (id_of (arc_value desk.drawer)) (cpus_of (arc_value desk.drawer)) e.room
 
 -- a seat of the desk holds a token
 abbrev pub SomeHolds : Desk → Type 0

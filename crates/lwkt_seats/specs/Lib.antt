@@ -6,6 +6,8 @@ pub mod Lists
 pub mod ListNumbers
 pub mod Seated
 pub mod Spots
+pub mod Endings
+pub mod Standings
 pub mod Calls
 pub mod Desks
 pub mod Closes

@@ -32,4 +32,4 @@ blocked_number (Some tok) = 19
 
 -- the answers to a list that name no place on it
 abbrev pub NamesNoPlace : ℕ → Type 0
-NamesNoPlace answer = (answer ≡ 0) ⊎ ((answer ≡ 30) ⊎ ((answer ≡ 50) ⊎ ((answer ≡ 51) ⊎ (answer ≡ 52))))
+NamesNoPlace answer = (answer ≡ 0) ⊎ ((answer ≡ 30) ⊎ ((answer ≡ 50) ⊎ ((answer ≡ 51) ⊎ ((answer ≡ 52) ⊎ (answer ≡ 54)))))

@@ -1,25 +1,27 @@
-//! The close of a bank: its seats are taken from their places, and the bank is closed with them.
-ghost use Rattle.std.specs.Prelude.{◌≡◌, ◌⊎◌, ◌<◌, ◌≤◌, [], ◌∷◌, ◌++◌, length, map, All, IfOk, IfErr, Err, vec_capacity};
+//! The close of a bank: its seats are taken from their places, and the bank is closed with them. All memory for it was taken at the
+//! opening.
+ghost use Rattle.std.specs.Prelude.{◌≡◌, ◌≢◌, ◌⊎◌, ◌↔◌, ◌<◌, ◌≤◌, [], ◌∷◌, ◌++◌, length, map, All, IfOk, IfErr, IfSome, OnOk, MatchOption, Ok, Err, vec_capacity};
 ghost use Rattle.std.specs.Arc.{arc_value};
+ghost use Rattle.lwkt_bank.specs.declared.closed.Closed.{Closed};
 ghost use Rattle.lwkt_bank.specs.Seats.{id_of, cpus_of, tokens_of};
-ghost use Rattle.lwkt_bank.specs.Closing.{IsReady};
+ghost use Rattle.lwkt_bank.specs.Closing.{IsReady, IsRoomFor};
 ghost use Rattle.lwkt_bank.specs.Gathered.{IsClosed};
 
-use crate::desks::{Desk, put_back, shut};
+use crate::desks::{Desk, close_drawer, open_drawer, put_back, shut, shut_drawer};
+use crate::endings::Ending;
 use crate::resumes::is_idle;
 use crate::spots::Sitter;
-use lwkt_bank::{Bank, Closed, CpuSeat};
-use std::alloc::Global;
+use lwkt_bank::{Bank, CloseRoom, Closed, CpuSeat};
 use std::sync::Arc;
-
-/// What is answered where memory is refused.
-pub const NO_MEMORY: u32 = 32;
 
 /// What is answered where there is too little room for the closing values.
 pub const NO_ROOM: u32 = 39;
 
 /// What is answered where a seat holds a token.
 pub const HOLDS: u32 = 51;
+
+/// What is answered where a share of the bank is out for good: with a seat that was given up as lost.
+pub const BANK_IN_USE: u32 = 53;
 
 // Appends a seat with its bank to a list that has room.
 fn put_sitter(list: &mut Vec<Box<Sitter>>, sitter: Box<Sitter>)
@@ -60,52 +62,53 @@ fn seats_of(sitters: Vec<Box<Sitter>>, mut seats: Vec<CpuSeat>) -> Vec<CpuSeat>
     seats
 }
 
-// Closes a bank that is shared no more, with all its seats.
-fn finish(alloc: Global, bank: Arc<Bank>, seats: Vec<CpuSeat>) -> Result<Closed, u32>
-    requires ready { All (IsReady (id_of (arc_value bank))) seats.items }
-    requires all { length seats.items ≡ cpus_of (arc_value bank) }
-    ensures closed { IfOk result (λ closed. IsClosed (id_of (arc_value bank)) (cpus_of (arc_value bank)) seats.items closed) }
-    ensures only { IfErr result (λ answer. answer ≡ 32) }
+// Closes a bank with all its seats, if no share of it is out: exactly else it is still in use.
+fn close_sole(sole: Option<Bank>, room: CloseRoom, seats: Vec<CpuSeat>) -> Result<Closed, u32>
+    requires ready { IfSome sole (λ bank. All (IsReady (id_of bank)) seats.items) }
+    requires all { IfSome sole (λ bank. length seats.items ≡ cpus_of bank) }
+    requires room { IfSome sole (λ bank. IsRoomFor (id_of bank) (cpus_of bank) room) }
+    ensures { MatchOption sole (result ≡ Err 53) (λ bank. (closed : Closed) × ((result ≡ Ok closed) × IsClosed (id_of bank) (cpus_of bank) seats.items closed)) }
 {
-    // It isn't shared: each seat has let go of it.
-    let Some(bank) = Arc::into_inner(bank) else {
-        return Err(NO_MEMORY);
-    };
-    bank.close(alloc, seats).map_err(|_| NO_MEMORY)
+    match sole {
+        Some(bank) => Ok(bank.close_in(room, seats)),
+        None => Err(BANK_IN_USE),
+    }
 }
 
-// A share of the bank of a seat, and room for so many seats.
-fn prepare(
-    alloc: Global,
-    first: &Sitter,
-    count: usize,
-    room: usize,
-) -> Result<(Arc<Bank>, Vec<CpuSeat>), u32>
-    ensures bank { IfOk result (λ found. arc_value found.0 ≡ arc_value first.now.bank) }
-    ensures seats { IfOk result (λ found. (found.1.items ≡ []) × (count ≤ vec_capacity found.1)) }
-    ensures fits { IfOk result (λ found. tokens_of (id_of (arc_value first.now.bank)) ≤ room) }
-    ensures short { result ≡ Err 39 → room < tokens_of (id_of (arc_value first.now.bank)) }
-    ensures only { IfErr result (λ answer. (answer ≡ 32) ⊎ (answer ≡ 39)) }
+// Closes a bank that is shared no more, with all its seats.
+fn finish(bank: Arc<Bank>, room: CloseRoom, seats: Vec<CpuSeat>) -> Result<Closed, u32>
+    requires ready { All (IsReady (id_of (arc_value bank))) seats.items }
+    requires all { length seats.items ≡ cpus_of (arc_value bank) }
+    requires room { IsRoomFor (id_of (arc_value bank)) (cpus_of (arc_value bank)) room }
+    ensures closed { IfOk result (λ closed. IsClosed (id_of (arc_value bank)) (cpus_of (arc_value bank)) seats.items closed) }
+    ensures only { IfErr result (λ answer. answer ≡ 53) }
 {
-    let bank = Arc::try_clone(&first.bank).map_err(|_| NO_MEMORY)?;
-    if bank.tokens() > room {
-        return Err(NO_ROOM);
-    }
-    let seats = Vec::with_capacity(alloc, count).map_err(|_| NO_MEMORY)?;
-    Ok((bank, seats))
+    close_sole(Arc::into_inner(bank), room, seats)
+}
+
+// What a close answers where a seat isn't in its place: a seat that was given up has a share of the bank.
+fn close_number(answer: u32) -> u32
+    requires { (answer ≡ 30) ⊎ ((answer ≡ 50) ⊎ ((answer ≡ 52) ⊎ (answer ≡ 54))) }
+    ensures in_use { result ≡ 53 ↔ answer ≡ 54 }
+    ensures same { answer ≢ 54 → result ≡ answer }
+{
+    if answer == 54 { BANK_IN_USE } else { answer }
 }
 
 impl Desk {
-    ghost use Rattle.lwkt_seats.specs.Closes.{IsFreeAt, AreFree, SomeHolds, ClosesDesk, IsWide};
+    ghost use Rattle.lwkt_seats.specs.Closes.{IsFreeAt, AreFree, IsEndingWith, SomeHolds, ClosesDesk, IsWide};
 
     // The seat of a number, which holds nothing, taken from its place.
     fn free_seat(&self, number: u32) -> Result<Box<Sitter>, u32>
         requires { number < length self.now.places.items }
         ensures ok { IfOk result (λ sitter. IsFreeAt self.now number sitter.value) }
         ensures holds { result ≡ Err 51 → SomeHolds self.now }
-        ensures only { IfErr result (λ answer. (answer ≡ 50) ⊎ ((answer ≡ 51) ⊎ (answer ≡ 52))) }
+        ensures only { IfErr result (λ answer. (answer ≡ 50) ⊎ ((answer ≡ 51) ⊎ ((answer ≡ 52) ⊎ (answer ≡ 53)))) }
     {
-        let (place, sitter) = self.seat(number)?;
+        let (place, sitter) = match self.seat(number) {
+            Ok(found) => found,
+            Err(answer) => return Err(close_number(answer)),
+        };
         if is_idle(&sitter.seat, &sitter.bank) {
             return Ok(sitter);
         }
@@ -114,8 +117,10 @@ impl Desk {
     }
 
     // Puts the seats back in their places.
-    fn put_all_back(&self, mut sitters: Vec<Box<Sitter>>)
-        requires { AreFree self.now sitters.items }
+    fn put_all_back(&self, sitters: &mut Vec<Box<Sitter>>)
+        requires { AreFree self.now sitters.old.items }
+        ensures none { sitters.new.items ≡ [] }
+        ensures room { vec_capacity sitters.new ≡ vec_capacity sitters.old }
     {
         while let Some(sitter) = sitters.pop() {
             if let Some(place) = self.place(sitters.len()) {
@@ -125,22 +130,25 @@ impl Desk {
     }
 
     // All seats, which hold nothing, taken from their places.
-    fn free_seats(&self, alloc: Global) -> Result<Vec<Box<Sitter>>, u32>
-        ensures ok { IfOk result (λ sitters. AreFree self.now sitters.items × (length sitters.items ≡ length self.now.places.items)) }
+    fn free_seats(&self, sitters: &mut Vec<Box<Sitter>>) -> Result<(), u32>
+        requires none { sitters.old.items ≡ [] }
+        requires room { length self.now.places.items ≤ vec_capacity sitters.old }
+        ensures ok { OnOk result (AreFree self.now sitters.new.items × (length sitters.new.items ≡ length self.now.places.items)) }
+        ensures back { IfErr result (λ answer. sitters.new.items ≡ []) }
+        ensures room { vec_capacity sitters.old ≤ vec_capacity sitters.new }
         ensures holds { result ≡ Err 51 → SomeHolds self.now }
-        ensures only { IfErr result (λ answer. (answer ≡ 32) ⊎ ((answer ≡ 50) ⊎ ((answer ≡ 51) ⊎ (answer ≡ 52)))) }
+        ensures only { IfErr result (λ answer. (answer ≡ 50) ⊎ ((answer ≡ 51) ⊎ ((answer ≡ 52) ⊎ (answer ≡ 53)))) }
     {
-        let mut sitters = Vec::with_capacity(alloc, self.places.len()).map_err(|_| NO_MEMORY)?;
         for number in 0..self.places.len() {
             match self.free_seat(number as u32) {
-                Ok(sitter) => put_sitter(&mut sitters, sitter),
+                Ok(sitter) => put_sitter(sitters, sitter),
                 Err(answer) => {
                     self.put_all_back(sitters);
                     return Err(answer);
                 }
             }
         }
-        Ok(sitters)
+        Ok(())
     }
 
     // Shuts all places.
@@ -148,29 +156,49 @@ impl Desk {
         for place in &self.places {
             shut(place);
         }
+        shut_drawer(&self.drawer);
+    }
+
+    // Closes the bank with the seats that were taken.
+    fn end(&self, ending: Box<Ending>, places: usize) -> Result<Closed, u32>
+        requires ending { IsEndingWith self.now ending.value }
+        requires fits { tokens_of (id_of (arc_value ending.value.bank)) ≤ places }
+        ensures ok { IfOk result (λ closed. ClosesDesk self.now places closed) }
+        ensures only { IfErr result (λ answer. answer ≡ 53) }
+    {
+        let Ending {
+            bank,
+            sitters,
+            seats,
+            room,
+        } = Box::into_inner(ending);
+        let closed = finish(bank, room, seats_of(sitters, seats));
+        self.shut();
+        closed
     }
 
     /// Closes the bank, with all its seats: each has to rest in its place and to hold nothing, and there has to be room for each token's
-    /// closing values.
+    /// closing values. It takes no memory.
     ///
-    /// `IN_USE` or `CLOSED` where a seat doesn't rest, `HOLDS` where one holds a token, `NO_ROOM`: the seats are in their places as
-    /// before. `NO_MEMORY`: so they are, or the bank is given up, and closed.
-    pub(crate) fn close(&self, alloc: Global, room: usize) -> Result<Closed, u32>
+    /// `IN_USE` while another close is at work, or where a seat doesn't rest; `CLOSED`; `BANK_IN_USE` where a seat was given up; `HOLDS`
+    /// where one holds a token; `NO_ROOM`. All is as before then.
+    pub(crate) fn close(&self, room: usize) -> Result<Closed, u32>
         ensures ok { IfOk result (λ closed. ClosesDesk self.now room closed) }
         ensures holds { result ≡ Err 51 → SomeHolds self.now }
         ensures short { result ≡ Err 39 → IsWide self.now room }
-        ensures only { IfErr result (λ answer. (answer ≡ 32) ⊎ ((answer ≡ 39) ⊎ ((answer ≡ 50) ⊎ ((answer ≡ 51) ⊎ (answer ≡ 52))))) }
+        ensures only { IfErr result (λ answer. (answer ≡ 39) ⊎ ((answer ≡ 50) ⊎ ((answer ≡ 51) ⊎ ((answer ≡ 52) ⊎ (answer ≡ 53))))) }
     {
-        let sitters = self.free_seats(alloc)?;
-        let (bank, seats) = match prepare(alloc, &sitters[0], sitters.len(), room) {
-            Ok(found) => found,
-            Err(answer) => {
-                self.put_all_back(sitters);
-                return Err(answer);
-            }
-        };
-        let closed = finish(alloc, bank, seats_of(sitters, seats));
-        self.shut();
-        closed
+        let mut ending = open_drawer(&self.drawer)?;
+        let held = &mut *ending;
+        if let Err(answer) = self.free_seats(&mut held.sitters) {
+            close_drawer(&self.drawer, ending);
+            return Err(answer);
+        }
+        if held.bank.tokens() > room {
+            self.put_all_back(&mut held.sitters);
+            close_drawer(&self.drawer, ending);
+            return Err(NO_ROOM);
+        }
+        self.end(ending, room)
     }
 }

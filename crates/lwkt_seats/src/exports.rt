@@ -43,7 +43,7 @@ fn tell_added(added: Added, value: &mut u64) -> u32
 pub extern "C" fn lwkt_take(bank: LwktBank, seat: u32, token: u32) -> u32
     ensures { IsDeskAnswer bank.desk seat (TakesAt Exclusive token) result }
 {
-    let (place, mut sitter) = match bank.desk().seat(seat) {
+    let (place, mut sitter) = match bank.seat(seat) {
         Ok(found) => found,
         Err(answer) => return answer,
     };
@@ -60,7 +60,7 @@ pub extern "C" fn lwkt_take(bank: LwktBank, seat: u32, token: u32) -> u32
 pub extern "C" fn lwkt_share(bank: LwktBank, seat: u32, token: u32) -> u32
     ensures { IsDeskAnswer bank.desk seat (TakesAt Shared token) result }
 {
-    let (place, mut sitter) = match bank.desk().seat(seat) {
+    let (place, mut sitter) = match bank.seat(seat) {
         Ok(found) => found,
         Err(answer) => return answer,
     };
@@ -77,7 +77,7 @@ pub extern "C" fn lwkt_share(bank: LwktBank, seat: u32, token: u32) -> u32
 pub extern "C" fn lwkt_again(bank: LwktBank, seat: u32, token: u32) -> u32
     ensures { IsDeskAnswer bank.desk seat (GainsOne token) result }
 {
-    let (place, mut sitter) = match bank.desk().seat(seat) {
+    let (place, mut sitter) = match bank.seat(seat) {
         Ok(found) => found,
         Err(answer) => return answer,
     };
@@ -94,7 +94,7 @@ pub extern "C" fn lwkt_again(bank: LwktBank, seat: u32, token: u32) -> u32
 pub extern "C" fn lwkt_mark(bank: LwktBank, seat: u32, token: u32) -> u32
     ensures { IsDeskAnswer bank.desk seat (SetsMark token) result }
 {
-    let (place, mut sitter) = match bank.desk().seat(seat) {
+    let (place, mut sitter) = match bank.seat(seat) {
         Ok(found) => found,
         Err(answer) => return answer,
     };
@@ -112,7 +112,7 @@ pub extern "C" fn lwkt_mark(bank: LwktBank, seat: u32, token: u32) -> u32
 pub extern "C" fn lwkt_give(bank: LwktBank, seat: u32, token: u32) -> u32
     ensures { IsDeskAnswer bank.desk seat (GivesOneBack token) result }
 {
-    let (place, mut sitter) = match bank.desk().seat(seat) {
+    let (place, mut sitter) = match bank.seat(seat) {
         Ok(found) => found,
         Err(answer) => return answer,
     };
@@ -130,7 +130,7 @@ pub extern "C" fn lwkt_give(bank: LwktBank, seat: u32, token: u32) -> u32
 pub extern "C" fn lwkt_store(bank: LwktBank, seat: u32, token: u32, cell: u32, value: u64) -> u32
     ensures { IsDeskAnswer bank.desk seat (StoresValue token cell value) result }
 {
-    let (place, mut sitter) = match bank.desk().seat(seat) {
+    let (place, mut sitter) = match bank.seat(seat) {
         Ok(found) => found,
         Err(answer) => return answer,
     };
@@ -148,7 +148,7 @@ pub extern "C" fn lwkt_store(bank: LwktBank, seat: u32, token: u32, cell: u32, v
 pub extern "C" fn lwkt_lawful(bank: LwktBank, seat: u32, token: u32) -> u32
     ensures { IsDeskAnswer bank.desk seat (JudgesRow token) result }
 {
-    let (place, mut sitter) = match bank.desk().seat(seat) {
+    let (place, mut sitter) = match bank.seat(seat) {
         Ok(found) => found,
         Err(answer) => return answer,
     };
@@ -166,7 +166,7 @@ pub extern "C" fn lwkt_lawful(bank: LwktBank, seat: u32, token: u32) -> u32
 pub extern "C" fn lwkt_restore(bank: LwktBank, seat: u32, token: u32) -> u32
     ensures { IsDeskAnswer bank.desk seat (RestoresFirst token) result }
 {
-    let (place, mut sitter) = match bank.desk().seat(seat) {
+    let (place, mut sitter) = match bank.seat(seat) {
         Ok(found) => found,
         Err(answer) => return answer,
     };
@@ -190,7 +190,7 @@ pub extern "C" fn lwkt_load(
     ensures does { IsDeskAnswer bank.desk seat (LoadsCell token cell value.old value.new) result }
     ensures kept { result ≢ 0 → value.new ≡ value.old }
 {
-    let (place, mut sitter) = match bank.desk().seat(seat) {
+    let (place, mut sitter) = match bank.seat(seat) {
         Ok(found) => found,
         Err(answer) => return answer,
     };
@@ -215,7 +215,7 @@ pub extern "C" fn lwkt_add(
     ensures does { IsDeskAnswer bank.desk seat (AddsTo token amount value.old value.new) result }
     ensures kept { result ≢ 0 → value.new ≡ value.old }
 {
-    let (place, mut sitter) = match bank.desk().seat(seat) {
+    let (place, mut sitter) = match bank.seat(seat) {
         Ok(found) => found,
         Err(answer) => return answer,
     };

@@ -1,18 +1,21 @@
-//! What C holds of a bank: a pointer to its desk, which stays for good.
-ghost use Rattle.std.specs.Prelude.{◌≡◌};
+//! What C has of a bank: a pointer to its desk, or null.
+ghost use Rattle.std.specs.Prelude.{◌≡◌, MatchOption, Option, Some, None, IfOk, IfErr};
 ghost use Rattle.lwkt_seats.specs.declared.desks.Desk.{Desk};
-ghost use Rattle.lwkt_seats.specs.Handles.{desk_coded, is_lent};
+ghost use Rattle.lwkt_seats.specs.Handles.{desk_coded, is_lent, is_held, IsPlacedIn, IsAbsentIn};
+ghost use Rattle.lwkt_seats.specs.Seated.{IsSeated};
 
-use crate::desks::Desk;
+use crate::desks::{CLOSED, Desk, Place};
 use crate::parts::Parts;
+use crate::spots::Sitter;
 use std::alloc::Global;
 use std::marker::Model;
 
-/// A bank as C has it.
+/// A bank as C passes it to a call. The call takes its desk to be there for good; what it needs is that the desk is there until the call
+/// returns, since it keeps nothing of it. That is what C owes: it frees no bank that a call has.
 #[repr(C)]
 pub struct LwktBank {
     place: *mut u8,
-    pub ghost desk: { Desk } by { desk_coded },
+    pub ghost desk: { Option Desk } by { desk_coded },
 }
 
 impl Model for LwktBank {
@@ -20,16 +23,75 @@ impl Model for LwktBank {
 }
 
 impl LwktBank {
-    /// The desk.
-    pub fn desk(self) -> &'static Desk
-        ensures { result.now ≡ self.desk }
+    /// The desk; none where this is a bank of zeros.
+    pub fn desk(self) -> Option<&'static Desk>
+        ensures { MatchOption result (self.desk ≡ None) (λ r. self.desk ≡ Some r.now) }
     {
         let LwktBank { place } = self;
-        unsafe { &*(place as *const Desk) }
+        if place.is_null() {
+            return None;
+        }
+        unsafe { Some(&*(place as *const Desk)) }
+    }
+
+    /// The seat of this number, taken from its place; a bank of zeros is told as one that is closed.
+    pub(crate) fn seat(self, number: u32) -> Result<(&'static Place, Box<Sitter>), u32>
+        ensures ok { IfOk result (λ found. IsPlacedIn self.desk number found.0.now) }
+        ensures seated { IfOk result (λ found. IsSeated found.0.now found.1.value) }
+        ensures err { IfErr result (λ answer. IsAbsentIn self.desk number answer) }
+    {
+        match self.desk() {
+            Some(desk) => desk.seat(number),
+            None => Err(CLOSED),
+        }
     }
 }
 
-/// Puts a desk into C's hands for good: where it is.
+/// A bank as C keeps it.
+#[repr(C)]
+pub struct LwktHeld {
+    place: *mut u8,
+    pub ghost desk: { Option Desk } by { desk_coded },
+}
+
+impl Model for LwktHeld {
+    ghost also_owns = { λ b. is_held b.place b.desk };
+}
+
+/// A bank of zeros.
+pub fn no_bank() -> LwktHeld
+    ensures { result.desk ≡ None }
+{
+    LwktHeld {
+        place: std::ptr::null_mut(),
+    }
+}
+
+/// A desk, closed: a pointer to it can be kept.
+pub fn hold(parts: Parts<Desk, Global>) -> LwktHeld
+    ensures { result.desk ≡ Some parts.value }
+{
+    let Parts { ptr, alloc: _ } = parts;
+    LwktHeld {
+        place: ptr as *mut u8,
+    }
+}
+
+/// The desk again; none where this is a bank of zeros.
+pub fn let_go(alloc: Global, held: LwktHeld) -> Option<Parts<Desk, Global>>
+    ensures { MatchOption result (held.desk ≡ None) (λ parts. held.desk ≡ Some parts.value) }
+{
+    let LwktHeld { place } = held;
+    if place.is_null() {
+        return None;
+    }
+    Some(Parts {
+        ptr: place as *mut Desk,
+        alloc,
+    })
+}
+
+/// Puts a desk into C's hands: where it is.
 pub fn hand_out(parts: Parts<Desk, Global>) -> *mut u8
     ensures { result ≡ parts.ptr }
 {
@@ -38,3 +100,5 @@ pub fn hand_out(parts: Parts<Desk, Global>) -> *mut u8
 }
 
 unsafe impl Send for LwktBank {}
+
+unsafe impl Send for LwktHeld {}

@@ -1,6 +1,7 @@
 //! A bank of tokens for C, with a seat for each of the caller's threads; include/lwkt.h declares the calls. A bank's *desk* has a
 //! *place* for each seat, where it rests between calls: a call takes the seat out and puts it back, so a second call on it at the
-//! same time finds the place empty, and says so. A close takes all seats out, and marks their places as closed for good.
+//! same time finds the place empty, and says so. A close takes all seats out, and marks their places as closed for good; all that
+//! it needs was made at the opening, so that it can't fail for memory.
 #![tactic(auto)]
 
 mod answers;
@@ -11,7 +12,9 @@ mod close_calls;
 mod closes;
 mod closings;
 mod desks;
+mod endings;
 mod exports;
+mod free_calls;
 mod handles;
 mod list_answers;
 mod list_calls;
@@ -30,7 +33,8 @@ pub use exports::{
     lwkt_add, lwkt_again, lwkt_give, lwkt_lawful, lwkt_load, lwkt_mark, lwkt_restore, lwkt_share,
     lwkt_store, lwkt_take,
 };
-pub use handles::LwktBank;
+pub use free_calls::{lwkt_abandon, lwkt_bank_free};
+pub use handles::{LwktBank, LwktHeld};
 pub use list_calls::{lwkt_block, lwkt_resume};
 pub use openings::lwkt_bank_open;
 pub use record_calls::{lwkt_read_record, lwkt_write_record};

@@ -55,7 +55,7 @@ pub extern "C" fn lwkt_resume(
     ensures does { IsDeskAnswer bank.desk seat (ResumesList list.now missed.old missed.new) result }
     ensures kept { NamesNoPlace result → missed.new ≡ missed.old }
 {
-    let (place, mut sitter) = match bank.desk().seat(seat) {
+    let (place, mut sitter) = match bank.seat(seat) {
         Ok(found) => found,
         Err(answer) => return answer,
     };
@@ -75,7 +75,7 @@ pub extern "C" fn lwkt_block(bank: LwktBank, seat: u32, restored: &mut u32) -> u
     ensures does { IsDeskAnswer bank.desk seat (GivesUpAll restored.old restored.new) result }
     ensures kept { result ≢ 19 → restored.new ≡ restored.old }
 {
-    let (place, mut sitter) = match bank.desk().seat(seat) {
+    let (place, mut sitter) = match bank.seat(seat) {
         Ok(found) => found,
         Err(answer) => return answer,
     };

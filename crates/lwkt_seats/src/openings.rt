@@ -6,11 +6,13 @@ ghost use Rattle.lwkt_core.specs.Opening.{AreWithin, AllOpenLawfully, IsTokenWit
 ghost use Rattle.lwkt_bank.specs.Seats.{id_of, bank_of, cpus_of};
 ghost use Rattle.lwkt_bank.specs.Gathered.{AreHandedOut};
 ghost use Rattle.lwkt_seats.specs.Seated.{AreBrief};
+ghost use Rattle.lwkt_seats.specs.Endings.{IsEndingOf};
 ghost use Rattle.lwkt_seats.specs.Spots.{AreSpotsOf};
 ghost use Rattle.lwkt_seats.specs.Openings.{AreTokens, spec_of, specs_of};
 ghost use Rattle.lwkt_base.specs.Fault.{no_memory};
 
 use crate::desks::{Desk, Place};
+use crate::endings::{Chest, Ending};
 use crate::handles::hand_out;
 use crate::parts::Parts;
 use crate::spots::{Sitter, Spot, Stall};
@@ -20,6 +22,7 @@ use lwkt_bank::{Bank, CpuSeat};
 use lwkt_base::{Fault, TokSpec};
 use std::alloc::{AllocError, Global};
 use std::sync::Arc;
+use std::sync::atomic::AtomicU64;
 
 fn are_tokens(tokens: &[LwktToken]) -> bool
     ensures { IsTrue result ↔ AreTokens tokens.now }
@@ -110,6 +113,20 @@ fn places_for(
     Ok(places)
 }
 
+// What the close of a bank of so many processors needs.
+fn ending_for(alloc: Global, bank: &Arc<Bank>, cpus: usize) -> Result<Box<Ending>, AllocError>
+    requires { cpus ≡ cpus_of (arc_value bank.now) }
+    ensures { IfOk result (λ ending. IsEndingOf (arc_value bank.now) ending.value) }
+{
+    let ending = Ending {
+        bank: Arc::try_clone(bank)?,
+        sitters: Vec::with_capacity(alloc, cpus)?,
+        seats: Vec::with_capacity(alloc, cpus)?,
+        room: bank.room(alloc)?,
+    };
+    Box::new(alloc, ending).map_err(AllocError::from)
+}
+
 // The desk of a bank with its seats.
 fn desk_of(alloc: Global, bank: Bank, seats: Vec<CpuSeat>) -> Result<Box<Desk>, AllocError>
     requires out { AreHandedOut (id_of bank) seats.items }
@@ -119,8 +136,14 @@ fn desk_of(alloc: Global, bank: Bank, seats: Vec<CpuSeat>) -> Result<Box<Desk>, 
     ensures { IfOk result (λ desk. length desk.value.places.items ≡ length seats.items) }
 {
     let bank = Arc::new(alloc, bank).map_err(AllocError::from)?;
+    let ending = ending_for(alloc, &bank, seats.len())?;
     let places = places_for(alloc, &bank, seats)?;
-    Box::new(alloc, Desk { places }).map_err(AllocError::from)
+    let desk = Desk {
+        places,
+        drawer: Counted::new(Some(Chest::of(ending)), &bank),
+        lost: AtomicU64::new(0),
+    };
+    Box::new(alloc, desk).map_err(AllocError::from)
 }
 
 // Opens a bank with its desk.

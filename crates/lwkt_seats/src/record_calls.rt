@@ -49,7 +49,7 @@ pub extern "C" fn lwkt_read_record(
     ensures short { result ≡ 0 → length.new ≤ 64 }
     ensures kept { result ≢ 0 → (buffer.new ≡ buffer.old) × (length.new ≡ length.old) }
 {
-    let (place, mut sitter) = match bank.desk().seat(seat) {
+    let (place, mut sitter) = match bank.seat(seat) {
         Ok(found) => found,
         Err(answer) => return answer,
     };
@@ -68,7 +68,7 @@ pub extern "C" fn lwkt_read_record(
 pub extern "C" fn lwkt_write_record(bank: LwktBank, seat: u32, token: u32, bytes: &[u8]) -> u32
     ensures { IsDeskAnswer bank.desk seat (WritesRecord token bytes.now) result }
 {
-    let (place, mut sitter) = match bank.desk().seat(seat) {
+    let (place, mut sitter) = match bank.seat(seat) {
         Ok(found) => found,
         Err(answer) => return answer,
     };

@@ -13,6 +13,7 @@ struct Handle {
 extern "C" {
     fn lwkt_bank_open(tokens: *const Token, count: usize, seats: u32, bank: *mut Handle) -> u32;
     fn lwkt_bank_close(bank: Handle, closings: *mut StoredClosing, count: usize) -> u32;
+    fn lwkt_bank_free(bank: *mut Handle) -> u32;
     fn lwkt_take(bank: Handle, seat: u32, token: u32) -> u32;
     fn lwkt_share(bank: Handle, seat: u32, token: u32) -> u32;
     fn lwkt_again(bank: Handle, seat: u32, token: u32) -> u32;
@@ -214,6 +215,8 @@ impl fmt::Display for SeatFault {
             40 => "opening breaks its law",
             51 => "a token is held",
             52 => "bank closed",
+            53 => "bank in use",
+            54 => "seat lost",
             _ => "seat not there",
         })
     }
@@ -229,7 +232,8 @@ fn done(status: u32) -> Result<(), SeatFault> {
     }
 }
 
-/// A bank of tokens, opened with a seat for each of the caller's threads. One that isn't closed stays to the end of the process.
+/// A bank of tokens, opened with a seat for each of the caller's threads. One that is dropped is given up: what its seats hold is given
+/// back, and its memory is freed. Seats that were taken apart by `into_seats` stay to the end of the process, until their bank is closed.
 ///
 /// ```
 /// use lwkt::{Bank, RowLaw, Token};
@@ -264,7 +268,7 @@ pub struct Bank {
 pub struct NotClosed {
     /// Why.
     pub fault: SeatFault,
-    /// The bank, as it was, but where memory was refused: then it may be given up, and its calls are refused with 52.
+    /// The bank, as it was.
     pub bank: Bank,
 }
 
@@ -301,8 +305,8 @@ impl Bank {
     }
 
     /// The seats, each for one thread.
-    pub fn into_seats(self) -> Vec<Seat> {
-        self.seats
+    pub fn into_seats(mut self) -> Vec<Seat> {
+        std::mem::take(&mut self.seats)
     }
 
     /// The bank of these seats, if they are all of one, in any order.
@@ -333,7 +337,7 @@ impl Bank {
 
     /// Closes the bank, and answers what each token came to.
     ///
-    /// Refused with 51 where a seat holds a token still, as one whose reference was forgotten; with 32 for want of memory.
+    /// Refused with 51 where a seat holds a token still, as one whose reference was forgotten.
     ///
     /// ```
     /// use lwkt::{Bank, RowLaw, SeatFault, Token};
@@ -351,12 +355,32 @@ impl Bank {
     /// assert_eq!(closings[0].record.as_deref(), Some(&b"hello"[..]));
     /// # Ok::<(), Box<dyn std::error::Error>>(())
     /// ```
-    pub fn close(self) -> Result<Vec<Closing>, NotClosed> {
-        let Seat { handle, whole, .. } = self.seats[0];
-        let mut closings = vec![UNTOLD; whole.tokens];
-        match done(unsafe { lwkt_bank_close(handle, closings.as_mut_ptr(), closings.len()) }) {
-            Ok(()) => Ok(closings.iter().map(StoredClosing::closing).collect()),
+    pub fn close(mut self) -> Result<Vec<Closing>, NotClosed> {
+        match self.end() {
+            Ok(closings) => Ok(closings.iter().map(StoredClosing::closing).collect()),
             Err(fault) => Err(NotClosed { fault, bank: self }),
+        }
+    }
+
+    // Closes the bank and frees it: then it has no seats.
+    fn end(&mut self) -> Result<Vec<StoredClosing>, SeatFault> {
+        let Seat { mut handle, whole, .. } = self.seats[0];
+        let mut closings = vec![UNTOLD; whole.tokens];
+        done(unsafe { lwkt_bank_close(handle, closings.as_mut_ptr(), closings.len()) })?;
+        self.seats.clear();
+        // No seat is left that has the handle.
+        unsafe { lwkt_bank_free(&mut handle) };
+        Ok(closings)
+    }
+}
+
+impl Drop for Bank {
+    fn drop(&mut self) {
+        for seat in &mut self.seats {
+            seat.block();
+        }
+        if !self.seats.is_empty() {
+            let _ = self.end();
         }
     }
 }

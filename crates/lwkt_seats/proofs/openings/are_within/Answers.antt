@@ -1,4 +1,3 @@
-use Rattle.std.proofs.Common.{rules}
 use Rattle.lwkt_seats.proofs.OpeningMoves.{within_of_each, each_of_within}
 use Rattle.lwkt_seats.proofs.openings.are_within.Goals as goal
 

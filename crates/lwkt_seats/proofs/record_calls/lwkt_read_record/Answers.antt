@@ -2,16 +2,16 @@ use Rattle.lwkt_seats.specs.Calls.{ReadsTheRecord}
 use Rattle.std.proofs.Common.{sym, subst}
 use Rattle.lwkt_seats.specs.declared.spots.Sitter.{Sitter}
 use Rattle.lwkt_seats.specs.Seated.{AreBrief}
-use Rattle.lwkt_seats.proofs.Answering.{answered-at}
+use Rattle.lwkt_seats.proofs.Answering.{answered-in}
 use Rattle.lwkt_seats.proofs.BriefMoves.{read_short}
 use Rattle.lwkt_seats.proofs.record_calls.lwkt_read_record.Goals as goal
 
 pub returns-clause-does : goal.returns-clause-does
 returns-clause-does c =
-    answered-at c.desk.result.now c.args.bank.desk c.args.seat c.in-Ok.found.0.now c.in-Ok.found.1.value c.deref_mut-held.result.now c.read-answer.new.seat (ReadsTheRecord c.args.token c.args.buffer.now c.tell_record.new.buffer c.args.length.now c.tell_record.new.length) c.tell_record.result c.desk.ensures c.deref_mut-held.ensures.value
-    c.in-Ok.ensures.ok c.read-answer.ensures.same (c.read-answer.result, (c.tell_record.ensures.is, c.read-answer.ensures.does, c.tell_record.ensures.told))
+    answered-in c.args.bank.desk c.args.seat c.in-Ok.found.0.now c.in-Ok.found.1.value c.deref_mut-held.result.now c.read-answer.new.seat (ReadsTheRecord c.args.token c.args.buffer.now c.tell_record.new.buffer c.args.length.now c.tell_record.new.length) c.tell_record.result c.deref_mut-held.ensures.value
+    c.in-Ok.ensures.ok c.in-Ok.ensures.seated c.read-answer.ensures.same (c.read-answer.result, (c.tell_record.ensures.is, c.read-answer.ensures.does, c.tell_record.ensures.told))
 
 pub returns-clause-short : goal.returns-clause-short
 returns-clause-short c =
-    let brief = subst (λ (x : Sitter). AreBrief x.seat) (sym c.deref_mut-held.ensures.value) c.in-Ok.ensures.ok.1.brief in
+    let brief = subst (λ (x : Sitter). AreBrief x.seat) (sym c.deref_mut-held.ensures.value) c.in-Ok.ensures.seated.brief in
     read_short c.args.token c.deref_mut-held.result.now.seat c.read-answer.new.seat c.read-answer.result c.args.buffer.now c.tell_record.new.buffer c.args.length.now c.tell_record.new.length c.tell_record.result brief c.read-answer.ensures.does c.tell_record.ensures.told c.tell_record.ensures.is

@@ -1,41 +1,41 @@
-use Rattle.std.proofs.lemmas.Option.{slice_get_read}
-use Rattle.std.proofs.Common.{refl, ◌≡◌, ◌≤◌, sym, subst, length, arith}
-use Rattle.std.specs.Prelude.{slice_get, Some}
+use Rattle.std.proofs.Common.{sym, ◌∙◌, subst, arith}
 use Rattle.std.specs.Arc.{arc_value}
-use Rattle.lwkt_bank.specs.declared.banks.Bank.{Bank}
-use Rattle.lwkt_bank.specs.Seats.{id_of, tokens_of}
+use Rattle.lwkt_seats.specs.Endings.{IsEndingOf}
 use Rattle.lwkt_seats.specs.Closes.{IsBankOf}
-use Rattle.lwkt_seats.proofs.CloseMoves.{bank_is, all_ready, as_many, ended}
+use Rattle.lwkt_seats.proofs.CloseMoves.{bank_of_desk, cpus_is}
 use Rattle.lwkt_seats.proofs.desks.Desk.close.Goals as goal
 
-pub returns-in-Err-clause-short : goal.returns-in-Err-clause-short
-returns-in-Err-clause-short c = λ is.
-    let free = c.in_ok-sitters.ensures.ok.0 in
-    let at : slice_get c.in_ok-sitters.sitters.items 0 ≡ Some c.index.result.now = (let many = c.in_ok-sitters.ensures.ok.1 in let some = c.args.self.now.some in slice_get_read c.in_ok-sitters.sitters.items (length c.in_ok-sitters.sitters.items) 0 c.index.result.now refl (omega (arith, many, some)) c.index.ensures) in
-    let of = bank_is c.args.self.now c.in_ok-sitters.sitters.items free c.index.result.now c.deref.result.now at c.deref.ensures in
-    (arc_value c.deref.result.now.bank, (of, c.in-Err.ensures.short cc))
+pub free_seats-requires-clause-room : goal.free_seats-requires-clause-room
+free_seats-requires-clause-room c =
+    let desk = c.args.self.now in
+    let held = c.deref_mut-held.result.now in
+    let whole : IsEndingOf (arc_value desk.drawer) held = subst (IsEndingOf (arc_value desk.drawer)) (sym c.deref_mut-held.ensures.value) c.in_ok-ending.ensures.ok in
+    let many = cpus_is desk in
+    let room = whole.sitters in
+    omega (arith, many, room)
 
-pub finish-closed-requires-clause-ready : goal.finish-closed-requires-clause-ready
-finish-closed-requires-clause-ready c =
-    let free = c.in_ok-sitters.ensures.ok.0 in
-    let at : slice_get c.in_ok-sitters.sitters.items 0 ≡ Some c.index.result.now = (let many = c.in_ok-sitters.ensures.ok.1 in let some = c.args.self.now.some in slice_get_read c.in_ok-sitters.sitters.items (length c.in_ok-sitters.sitters.items) 0 c.index.result.now refl (omega (arith, many, some)) c.index.ensures) in
-    let of = bank_is c.args.self.now c.in_ok-sitters.sitters.items free c.index.result.now c.deref.result.now at c.deref.ensures in
-    let of_found = subst (IsBankOf c.args.self.now) (sym c.in-Ok.ensures.bank) of in
-    all_ready c.args.self.now c.in_ok-sitters.sitters.items free (arc_value c.in-Ok.found.0) c.seats_of.result.items c.seats_of.ensures of_found
+pub returns-then-tokens-room-clause-short : goal.returns-then-tokens-room-clause-short
+returns-then-tokens-room-clause-short c = λ same.
+    let desk = c.args.self.now in
+    let held = c.deref_mut-held.result.now in
+    let whole : IsEndingOf (arc_value desk.drawer) held = subst (IsEndingOf (arc_value desk.drawer)) (sym c.deref_mut-held.ensures.value) c.in_ok-ending.ensures.ok in
+    let of = subst (IsBankOf desk) (sym (c.deref.ensures ∙ whole.is_bank)) (bank_of_desk desk) in
+    let is = c.tokens.ensures.is in
+    let wide = c.if-tokens-room.true in
+    (c.deref.result.now, (of, omega (arith, is, wide)))
 
-pub finish-closed-requires-clause-all : goal.finish-closed-requires-clause-all
-finish-closed-requires-clause-all c =
-    let free = c.in_ok-sitters.ensures.ok.0 in
-    let at : slice_get c.in_ok-sitters.sitters.items 0 ≡ Some c.index.result.now = (let many = c.in_ok-sitters.ensures.ok.1 in let some = c.args.self.now.some in slice_get_read c.in_ok-sitters.sitters.items (length c.in_ok-sitters.sitters.items) 0 c.index.result.now refl (omega (arith, many, some)) c.index.ensures) in
-    let of = bank_is c.args.self.now c.in_ok-sitters.sitters.items free c.index.result.now c.deref.result.now at c.deref.ensures in
-    let of_found = subst (IsBankOf c.args.self.now) (sym c.in-Ok.ensures.bank) of in
-    as_many c.args.self.now c.in_ok-sitters.sitters.items free (arc_value c.in-Ok.found.0) c.seats_of.result.items c.index.result.now c.seats_of.ensures at of_found c.in_ok-sitters.ensures.ok.1
-
-pub returns-clause-ok : goal.returns-clause-ok
-returns-clause-ok c =
-    let free = c.in_ok-sitters.ensures.ok.0 in
-    let at : slice_get c.in_ok-sitters.sitters.items 0 ≡ Some c.index.result.now = (let many = c.in_ok-sitters.ensures.ok.1 in let some = c.args.self.now.some in slice_get_read c.in_ok-sitters.sitters.items (length c.in_ok-sitters.sitters.items) 0 c.index.result.now refl (omega (arith, many, some)) c.index.ensures) in
-    let of = bank_is c.args.self.now c.in_ok-sitters.sitters.items free c.index.result.now c.deref.result.now at c.deref.ensures in
-    let of_found = subst (IsBankOf c.args.self.now) (sym c.in-Ok.ensures.bank) of in
-    let fits = subst (λ (b : Bank). tokens_of (id_of b) ≤ c.args.room) (sym c.in-Ok.ensures.bank) c.in-Ok.ensures.fits in
-    ended c.args.self.now c.in_ok-sitters.sitters.items free (arc_value c.in-Ok.found.0) c.seats_of.result.items c.index.result.now c.args.room c.finish-closed.result c.seats_of.ensures at of_found c.in_ok-sitters.ensures.ok.1 fits c.finish-closed.ensures.closed
+pub end-requires-clause-ending : goal.end-requires-clause-ending
+end-requires-clause-ending c =
+    let desk = c.args.self.now in
+    let held = c.deref_mut-held.result.now in
+    let whole : IsEndingOf (arc_value desk.drawer) held = subst (IsEndingOf (arc_value desk.drawer)) (sym c.deref_mut-held.ensures.value) c.in_ok-ending.ensures.ok in
+    let many = cpus_is desk in
+    let seats = whole.seats in
+    record {
+      is_bank = whole.is_bank;
+      free = c.in_default.ensures.ok.0;
+      all = c.in_default.ensures.ok.1;
+      no_seats = whole.no_seats;
+      seats = omega (arith, many, seats);
+      room = whole.room;
+    }

@@ -11,4 +11,5 @@ loop-number-preserved c =
       count = ap length items ∙ longer c.loop-number.sitters.items c.in-Ok.sitter ∙ ap (λ n. n + 1) i.count;
       free = subst (AreFree c.args.self.now) (sym items) (free_more c.args.self.now c.loop-number.sitters.items c.in-Ok.sitter c.loop-number.number i.free (sym i.count) c.in-Ok.ensures.ok);
       room = (let room = i.room in let wider = c.put_sitter.ensures.room in omega (arith, room, wider));
+      wider = (let wide = i.wider in let wider = c.put_sitter.ensures.room in omega (arith, wide, wider));
     }

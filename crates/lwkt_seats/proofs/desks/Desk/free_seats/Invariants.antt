@@ -7,4 +7,5 @@ invariant-loop-number l = record {
   count : length l.sitters.items ≡ l.number;
   free : AreFree l.self l.sitters.items;
   room : length l.self.places.items ≤ vec_capacity l.sitters;
+  wider : vec_capacity l.initial.sitters ≤ vec_capacity l.sitters;
 }

@@ -1,9 +1,12 @@
-use Rattle.std.proofs.Common.{vec_len}
+use Rattle.std.proofs.Common.{◌≡◌, vec_len, vec_capacity}
 use Rattle.lwkt_seats.specs.Closes.{AreFree}
 use Rattle.lwkt_seats.proofs.desks.Desk.put_all_back.Given as goal
 
 abbrev pub invariant-loop-sitter : goal.invariant-loop-sitter
-invariant-loop-sitter l = AreFree l.self l.sitters.items
+invariant-loop-sitter l = record {
+  free : AreFree l.self l.sitters.items;
+  room : vec_capacity l.sitters ≡ vec_capacity l.initial.sitters;
+}
 
 abbrev pub decreases-loop-sitter : goal.decreases-loop-sitter
 decreases-loop-sitter l = vec_len l.sitters
