@@ -1,6 +1,7 @@
 //! What turns of a processor may look at or change that others look at or change too: tokens, messages, and the lanes between
 //! processors. It is never too little; it may be too much.
-use lwkt_base::{Ask, Ref, ThreadId};
+use lwkt_base::steps::step_of;
+use lwkt_base::{Ask, Parts, Ref, ThreadId};
 
 /// Tokens, messages and processors, each as a bit.
 #[derive(Clone, Copy, Debug, PartialEq, Eq)]
@@ -57,25 +58,21 @@ impl Touch {
 
 /// What a step touches by itself: its token, its message, and the processor that it sends to.
 pub(crate) fn touched_by(ask: Ask) -> Touch {
-    match ask {
-        Ask::Get(tok)
-        | Ask::GetShared(tok)
-        | Ask::TryGet(tok)
-        | Ask::Rel(tok)
-        | Ask::Read(tok, _)
-        | Ask::Write(tok, _, _)
-        | Ask::Add(tok, _)
-        | Ask::ReadBlob(tok)
-        | Ask::WriteBlob(tok, _) => Touch {
+    match step_of(&ask).1 {
+        Parts::Alone => NOTHING,
+        Parts::Token(tok)
+        | Parts::Cell(tok, _)
+        | Parts::Value(tok, _, _)
+        | Parts::More(tok, _)
+        | Parts::Record(tok, _) => Touch {
             tokens: bit(usize::from(tok.0)),
             ..NOTHING
         },
-        Ask::Send(msg, to, _, _) | Ask::Do(msg, to, _) => sent(usize::from(msg.0), to),
-        Ask::Reply(msg, _, _) | Ask::Abort(msg) | Ask::IsAborted(msg) | Ask::DropMsg(msg) => Touch {
+        Parts::Message(msg) | Parts::Answer(msg, _, _) => Touch {
             messages: bit(usize::from(msg.0)),
             ..NOTHING
         },
-        Ask::Swap | Ask::GetPort | Ask::WaitPort | Ask::Yield | Ask::Exit => NOTHING,
+        Parts::Call(msg, to, _) | Parts::Sending(msg, to, _, _) => sent(usize::from(msg.0), to),
     }
 }
 
