@@ -356,6 +356,16 @@ fn a_bank_with_a_forgotten_reference_is_not_closed() {
     assert_eq!(bank.close().unwrap().len(), TOKENS as usize);
 }
 
+// What is lost would be found by a look at the memory of this test's program.
+#[test]
+fn a_bank_that_is_dropped_gives_up_what_its_seats_hold() {
+    let mut bank = Bank::open(&tokens(), 2).unwrap();
+    std::mem::forget(bank.seats()[1].take(SUM).unwrap());
+    drop(bank);
+    let bank = Bank::open(&tokens(), 2).unwrap();
+    drop(Bank::of_seats(bank.into_seats()).unwrap());
+}
+
 #[test]
 fn seats_are_one_bank_again() {
     let mut seats = seats();
