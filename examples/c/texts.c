@@ -18,6 +18,9 @@ static const char script[] =
 static const char without_turns[] =
     "{\"version\":1,\"turns\":0,\"idle\":1,\"cpus\":1,\"tokens\":[],\"messages\":[],\"threads\":[]}";
 
+// How words on input begin that tell one place of its first line.
+static const char on_input[] = "lwkt: standard input:1:";
+
 static int passed, failed;
 
 static void count(int is, const char *what) {
@@ -68,6 +71,7 @@ static void try_forms(void) {
     count(lwkt_is_text(bytes("true"), 4) == 0, "nor is a word of JSON");
     count(lwkt_is_text(bytes("["), 1) == 0, "nor what begins as JSON");
     count(lwkt_is_text(bytes(""), 0) == 0, "nor nothing");
+    count(lwkt_is_text(bytes("#!/bin/sh\n"), 10) == 0 && lwkt_is_text(bytes("turns 5\n"), 8) == 0, "nor what declares nothing");
 }
 
 // A text's JSON runs as the text does.
@@ -121,7 +125,7 @@ static void try_orders(void) {
     status = lwkt_explore_orders(bytes(good), strlen(good), 0, 1000, text, sizeof text, &answer);
     count(status == 5 && has_words(text, answer.length, "0 outcomes; 1 state, "), "a bound of no states");
     status = lwkt_explore_orders(bytes(without_turns), strlen(without_turns), 1000, 1000, text, sizeof text, &answer);
-    count(status == 1 && answer.fault == 33 && answer.place == 3 && memcmp(text, "lwkt_explore: ", 14) == 0, "a script of no turns");
+    count(status == 1 && answer.fault == 33 && answer.place == 3 && memcmp(text, on_input, strlen(on_input)) == 0, "a script of no turns");
     status = lwkt_explore_orders(bytes(good), strlen(good), 1000, 1000, text, sizeof text, &answer);
     count(status == 5 && has_words(text, answer.length, "complete\n4: holds\n5: doesn't hold, order 0 0 0"), "every order, and what is expected of it");
 }
@@ -155,9 +159,11 @@ int main(void) {
     try_call(explore, good, 5, 0, "outcome 1 ended, order 0 0 0 0\ntoken 0 gen 1 cells 7\n");
     try_call(explore, crossed, 2, 0, "outcome 1 stuck, order 0 1 0\n");
     try_call(lwkt_run_text, crossed, 2, 0, "message 0 round 1 out\n");
-    try_call(lwkt_run_text, "token sums: sum 10, cells 5 6", 1, 40, "lwkt_run: the opening of token sums: ");
-    try_call(explore, "token sums: sum 10, cells 5 6", 1, 40, "lwkt_explore: the opening of token sums: ");
-    try_call(explore, "[", 1, 33, "lwkt_explore: ");
+    try_call(lwkt_run_text, "token sums: sum 10, cells 5 6", 1, 40, on_input);
+    try_call(explore, "token sums: sum 10, cells 5 6", 1, 40, on_input);
+    try_call(explore, "[", 1, 33, on_input);
+    try_call(explore, "turns 5\n", 1, 33, on_input);
+    try_call(explore, "#!/bin/sh\n", 1, 33, on_input);
     try_call(explore, script, 0, 0, "outcome 1 ended, order 0 0 0");
     for (size_t room = 0; room < 200; room += 7) {
         try_room(lwkt_text_json, room);
