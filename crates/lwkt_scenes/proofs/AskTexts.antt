@@ -1,16 +1,21 @@
 -- Characters that the texts of asks and steps don't have.
-use Rattle.std.proofs.Common.{◌≢◌, ◌+◌, ◌/◌, ◌%◌, ◌==◌, ℕ, List, [], ◌++◌, refl, arith, length, take, codes, if◌then◌else◌, nat_lt, nat_le}
+use Rattle.std.proofs.Common.{◌≡◌, ◌≢◌, ◌+◌, ◌/◌, ◌%◌, ◌==◌, ℕ, true, not, List, [], ◌++◌, refl, arith, length, take, codes, if◌then◌else◌, nat_lt, nat_le}
 use Rattle.std.specs.Fmt.{decimal}
+use Rattle.std.specs.List.{list_all}
 use Rattle.lwkt_base.specs.Hex.{digit_text, byte_text, hex_text}
 use Rattle.lwkt_base.specs.declared.asks.Ask.{Ask}
-use Rattle.lwkt_base.specs.declared.asks.Ask.TheVariants.{Get, GetShared, TryGet, Rel, Swap, Read, Write, Add, ReadBlob, WriteBlob, Send, Do, Reply, Abort, IsAborted, DropMsg, GetPort, WaitPort, Yield, Exit}
 use Rattle.lwkt_base.specs.declared.names.MsgId.{MsgId}
 use Rattle.lwkt_base.specs.declared.names.ThreadId.{ThreadId}
 use Rattle.lwkt_base.specs.declared.records.Call.{Call}
+use Rattle.lwkt_base.specs.declared.steps.Parts.{Parts}
+use Rattle.lwkt_base.specs.declared.steps.Parts.TheVariants as parts
+use Rattle.lwkt_base.specs.declared.steps.Verb.{Verb}
+use Rattle.lwkt_base.specs.declared.steps.Verb.TheVariants.{Get}
+use Rattle.lwkt_base.specs.Step.{step_of, word_of}
 use Rattle.lwkt_trace.specs.Written.{comma, blob_text, past_text}
 use Rattle.lwkt_scenes.specs.declared.stories.Step.{Step}
 use Rattle.lwkt_scenes.specs.Lines.{time_text, step_text}
-use Rattle.lwkt_scenes.specs.Words.{ask_word, flags_number, call_text, token_parts, message_parts}
+use Rattle.lwkt_scenes.specs.Words.{ask_word, ask_parts, flags_number, call_text, parts_text}
 use Rattle.lwkt_scenes.proofs.Splits.{Each, IsDigit, each_append, each_if, each_flat, none_of, decimal_none}
 
 -- a character that isn't a quotation mark
@@ -25,49 +30,20 @@ Inside c = c ≢ 93
 abbrev pub Before : ℕ → Type 0
 Before c = c ≢ 58
 
+-- no word of a step has such a character
+no_quotes : (verb : Verb) → list_all (λ c. not (c == 34)) (word_of verb) ≡ true
+no_quotes Get = refl
+no_quotes _ = refl
+
+no_ends : (verb : Verb) → list_all (λ c. not (c == 93)) (word_of verb) ≡ true
+no_ends Get = refl
+no_ends _ = refl
+
 pub word_unquoted : (ask : Ask) → Each Unquoted (ask_word ask)
-word_unquoted (Get tok) = none_of 34 refl (codes "get") refl
-word_unquoted (GetShared tok) = none_of 34 refl (codes "gets") refl
-word_unquoted (TryGet tok) = none_of 34 refl (codes "try") refl
-word_unquoted (Rel tok) = none_of 34 refl (codes "rel") refl
-word_unquoted Swap = none_of 34 refl (codes "swap") refl
-word_unquoted (Read tok cell) = none_of 34 refl (codes "read") refl
-word_unquoted (Write tok cell value) = none_of 34 refl (codes "write") refl
-word_unquoted (Add tok more) = none_of 34 refl (codes "add") refl
-word_unquoted (ReadBlob tok) = none_of 34 refl (codes "rrec") refl
-word_unquoted (WriteBlob tok blob) = none_of 34 refl (codes "wrec") refl
-word_unquoted (Send message to call flags) = none_of 34 refl (codes "send") refl
-word_unquoted (Do message to call) = none_of 34 refl (codes "do") refl
-word_unquoted (Reply message error outcome) = none_of 34 refl (codes "reply") refl
-word_unquoted (Abort message) = none_of 34 refl (codes "abort") refl
-word_unquoted (IsAborted message) = none_of 34 refl (codes "isab") refl
-word_unquoted (DropMsg message) = none_of 34 refl (codes "drop") refl
-word_unquoted GetPort = none_of 34 refl (codes "getport") refl
-word_unquoted WaitPort = none_of 34 refl (codes "wait") refl
-word_unquoted Yield = none_of 34 refl (codes "yield") refl
-word_unquoted Exit = none_of 34 refl (codes "exit") refl
+word_unquoted ask = none_of 34 refl (ask_word ask) (no_quotes (step_of ask).0)
 
 word_inside : (ask : Ask) → Each Inside (ask_word ask)
-word_inside (Get tok) = none_of 93 refl (codes "get") refl
-word_inside (GetShared tok) = none_of 93 refl (codes "gets") refl
-word_inside (TryGet tok) = none_of 93 refl (codes "try") refl
-word_inside (Rel tok) = none_of 93 refl (codes "rel") refl
-word_inside Swap = none_of 93 refl (codes "swap") refl
-word_inside (Read tok cell) = none_of 93 refl (codes "read") refl
-word_inside (Write tok cell value) = none_of 93 refl (codes "write") refl
-word_inside (Add tok more) = none_of 93 refl (codes "add") refl
-word_inside (ReadBlob tok) = none_of 93 refl (codes "rrec") refl
-word_inside (WriteBlob tok blob) = none_of 93 refl (codes "wrec") refl
-word_inside (Send message to call flags) = none_of 93 refl (codes "send") refl
-word_inside (Do message to call) = none_of 93 refl (codes "do") refl
-word_inside (Reply message error outcome) = none_of 93 refl (codes "reply") refl
-word_inside (Abort message) = none_of 93 refl (codes "abort") refl
-word_inside (IsAborted message) = none_of 93 refl (codes "isab") refl
-word_inside (DropMsg message) = none_of 93 refl (codes "drop") refl
-word_inside GetPort = none_of 93 refl (codes "getport") refl
-word_inside WaitPort = none_of 93 refl (codes "wait") refl
-word_inside Yield = none_of 93 refl (codes "yield") refl
-word_inside Exit = none_of 93 refl (codes "exit") refl
+word_inside ask = none_of 93 refl (ask_word ask) (no_ends (step_of ask).0)
 
 no_digit_closes : IsDigit 93 → ⊥
 no_digit_closes digit = omega (arith, digit.1)
@@ -121,38 +97,28 @@ blob_inside blob =
     then_inside (digits ++ past_text blob) (codes "\"")
     (then_inside digits (past_text blob) (then_inside (codes "\"") (hex_text (take 64 blob)) quote_inside (each_flat Inside byte_text byte_inside (take 64 blob))) (past_inside blob)) quote_inside
 
-token_inside : (ask : Ask) → Each Inside (token_parts ask)
-token_inside (Get tok) = comma_inside tok.0
-token_inside (GetShared tok) = comma_inside tok.0
-token_inside (TryGet tok) = comma_inside tok.0
-token_inside (Rel tok) = comma_inside tok.0
-token_inside (Read tok cell) = then_inside (comma tok.0) (comma cell) (comma_inside tok.0) (comma_inside cell)
-token_inside (Write tok cell value) = then_inside (comma tok.0 ++ comma cell) (comma value) (then_inside (comma tok.0) (comma cell) (comma_inside tok.0) (comma_inside cell)) (comma_inside value)
-token_inside (Add tok more) = then_inside (comma tok.0) (comma more) (comma_inside tok.0) (comma_inside more)
-token_inside (ReadBlob tok) = comma_inside tok.0
-token_inside (WriteBlob tok blob) = then_inside (comma tok.0 ++ codes ",") (blob_text blob) (then_inside (comma tok.0) (codes ",") (comma_inside tok.0) (none_of 93 refl (codes ",") refl)) (blob_inside blob)
-token_inside _ = tt
-
-message_inside : (ask : Ask) → Each Inside (message_parts ask)
-message_inside (Send message to call flags) = then_inside (call_text message to call) (comma (flags_number flags)) (call_inside message to call) (comma_inside (flags_number flags))
-message_inside (Do message to call) = call_inside message to call
-message_inside (Reply message error outcome) = then_inside (comma message.0 ++ comma error) (comma outcome) (then_inside (comma message.0) (comma error) (comma_inside message.0) (comma_inside error)) (comma_inside outcome)
-message_inside (Abort message) = comma_inside message.0
-message_inside (IsAborted message) = comma_inside message.0
-message_inside (DropMsg message) = comma_inside message.0
-message_inside _ = tt
+parts_inside : (found : Parts) → Each Inside (parts_text found)
+parts_inside parts.Alone = tt
+parts_inside (parts.Token tok) = comma_inside tok.0
+parts_inside (parts.Cell tok cell) = then_inside (comma tok.0) (comma cell) (comma_inside tok.0) (comma_inside cell)
+parts_inside (parts.Value tok cell value) = then_inside (comma tok.0 ++ comma cell) (comma value) (then_inside (comma tok.0) (comma cell) (comma_inside tok.0) (comma_inside cell)) (comma_inside value)
+parts_inside (parts.More tok more) = then_inside (comma tok.0) (comma more) (comma_inside tok.0) (comma_inside more)
+parts_inside (parts.Record tok blob) = then_inside (comma tok.0 ++ codes ",") (blob_text blob) (then_inside (comma tok.0) (codes ",") (comma_inside tok.0) (none_of 93 refl (codes ",") refl)) (blob_inside blob)
+parts_inside (parts.Message message) = comma_inside message.0
+parts_inside (parts.Call message to call) = call_inside message to call
+parts_inside (parts.Sending message to call flags) = then_inside (call_text message to call) (comma (flags_number flags)) (call_inside message to call) (comma_inside (flags_number flags))
+parts_inside (parts.Answer message error outcome) = then_inside (comma message.0 ++ comma error) (comma outcome) (then_inside (comma message.0) (comma error) (comma_inside message.0) (comma_inside error)) (comma_inside outcome)
 
 -- the text of an ask but for its end
 abbrev pub ask_front : Ask → List ℕ
-ask_front ask = codes "[\"" ++ ask_word ask ++ codes "\"" ++ token_parts ask ++ message_parts ask
+ask_front ask = codes "[\"" ++ ask_word ask ++ codes "\"" ++ ask_parts ask
 
 pub front_inside : (ask : Ask) → Each Inside (ask_front ask)
 front_inside ask =
     let word : List ℕ = codes "[\"" ++ ask_word ask in
     let quoted : List ℕ = word ++ codes "\"" in
-    let tokens : List ℕ = quoted ++ token_parts ask in
-    then_inside tokens (message_parts ask)
-    (then_inside quoted (token_parts ask) (then_inside word (codes "\"") (then_inside (codes "[\"") (ask_word ask) (none_of 93 refl (codes "[\"") refl) (word_inside ask)) quote_inside) (token_inside ask)) (message_inside ask)
+    then_inside quoted (ask_parts ask)
+    (then_inside word (codes "\"") (then_inside (codes "[\"") (ask_word ask) (none_of 93 refl (codes "[\"") refl) (word_inside ask)) quote_inside) (parts_inside (step_of ask).1)
 
 no_digit_parts : IsDigit 58 → ⊥
 no_digit_parts digit = omega (arith, digit.1)

@@ -9,7 +9,7 @@ use Rattle.lwkt_scenes.specs.declared.stories.Came.{Came}
 use Rattle.lwkt_scenes.specs.declared.stories.Step.{Step}
 use Rattle.lwkt_scenes.specs.Apart.{AskAlike, PollAlike, LinesTellTurns}
 use Rattle.lwkt_scenes.specs.Lines.{IsIdle, IsDoing, came_text, step_text, poll_text, turn_text}
-use Rattle.lwkt_scenes.specs.Words.{ask_word, token_parts, message_parts}
+use Rattle.lwkt_scenes.specs.Words.{ask_word, ask_parts}
 use Rattle.lwkt_scenes.proofs.AskTexts.{Unquoted, Inside, Before, ask_front, word_unquoted, front_inside, step_before}
 use Rattle.lwkt_scenes.proofs.Splits.{IsDigit, same_split, same_number}
 
@@ -28,7 +28,7 @@ poll_is : (poll : Poll) (step : Step) (came : Came) (rest : List ℕ)
 poll_is poll step came rest = simp append_assoc
 
 -- the front of an ask, from its front on
-front_is : (ask : Ask) → ask_front ask ≡ codes "[\"" ++ (ask_word ask ++ (codes "\"" ++ (token_parts ask ++ message_parts ask)))
+front_is : (ask : Ask) → ask_front ask ≡ codes "[\"" ++ (ask_word ask ++ (codes "\"" ++ ask_parts ask))
 front_is ask = simp append_assoc
 
 -- the characters that end a number here are no digits
@@ -46,7 +46,7 @@ same_word : (a b : Ask) → ask_front a ≡ ask_front b → ask_word a ≡ ask_w
 same_word a b e =
     let more = append_cancel_left (codes "[\"") _ _ (sym (front_is a) ∙ e ∙ front_is b) in
     let stop : Unquoted 34 → ⊥ = λ unquoted. unquoted refl in
-    (same_split Unquoted (ask_word a) (ask_word b) 34 34 (token_parts a ++ message_parts a) (token_parts b ++ message_parts b) (word_unquoted a) (word_unquoted b) stop stop more).0
+    (same_split Unquoted (ask_word a) (ask_word b) 34 34 (ask_parts a) (ask_parts b) (word_unquoted a) (word_unquoted b) stop stop more).0
 
 -- polls that have the same text ask alike
 polls_alike : (a b : Poll) (step step' : Step) (came came' : Came) (rest rest' : List ℕ)

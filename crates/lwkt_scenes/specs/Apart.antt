@@ -1,7 +1,10 @@
 -- What can be told from the line of a turn (own).
 use Rattle.std.specs.Prelude.{◌≡◌, ◌<◌, ◌^◌, ℕ, Bool, true, false, List, [], ◌∷◌, Option, None, Some, IfSome}
 use Rattle.lwkt_base.specs.declared.asks.Ask.{Ask}
-use Rattle.lwkt_base.specs.declared.asks.Ask.TheVariants.{Get, GetShared, TryGet, Rel, Swap, Read, Write, Add, ReadBlob, WriteBlob, Send, Do, Reply, Abort, IsAborted, DropMsg, GetPort, WaitPort, Yield, Exit}
+use Rattle.lwkt_base.specs.declared.asks.Ask.TheVariants.{WriteBlob}
+use Rattle.lwkt_base.specs.declared.steps.Parts.{Parts}
+use Rattle.lwkt_base.specs.declared.steps.Parts.TheVariants as parts
+use Rattle.lwkt_base.specs.Step.{step_of}
 use Rattle.lwkt_verdict.specs.declared.turns.Poll.{Poll}
 use Rattle.lwkt_scenes.specs.Words.{ask_text, ask_word, flags_number}
 use Rattle.lwkt_scenes.specs.Lines.{IsLine}
@@ -48,28 +51,22 @@ pub record AreAlike (one other : TurnTold) : Type 0 where
 abbrev pub LinesTellTurns : Type 0
 LinesTellTurns = (one other : TurnTold) (line : List ℕ) → AreWords one → AreWords other → IsLineOf one line → IsLineOf other line → AreAlike one other
 
+-- the numbers among the parts of a step
+abbrev pub part_numbers : Parts → List ℕ
+part_numbers parts.Alone = []
+part_numbers (parts.Token tok) = tok.0 ∷ []
+part_numbers (parts.Cell tok cell) = tok.0 ∷ cell ∷ []
+part_numbers (parts.Value tok cell value) = tok.0 ∷ cell ∷ value ∷ []
+part_numbers (parts.More tok more) = tok.0 ∷ more ∷ []
+part_numbers (parts.Record tok blob) = tok.0 ∷ []
+part_numbers (parts.Message message) = message.0 ∷ []
+part_numbers (parts.Call message to call) = message.0 ∷ to.cpu.0 ∷ to.thread ∷ call.op ∷ call.arg ∷ []
+part_numbers (parts.Sending message to call flags) = message.0 ∷ to.cpu.0 ∷ to.thread ∷ call.op ∷ call.arg ∷ flags_number flags ∷ []
+part_numbers (parts.Answer message error outcome) = message.0 ∷ error ∷ outcome ∷ []
+
 -- the numbers that stand behind the word of an ask
 abbrev pub numbers_of : Ask → List ℕ
-numbers_of (Get tok) = tok.0 ∷ []
-numbers_of (GetShared tok) = tok.0 ∷ []
-numbers_of (TryGet tok) = tok.0 ∷ []
-numbers_of (Rel tok) = tok.0 ∷ []
-numbers_of Swap = []
-numbers_of (Read tok cell) = tok.0 ∷ cell ∷ []
-numbers_of (Write tok cell value) = tok.0 ∷ cell ∷ value ∷ []
-numbers_of (Add tok more) = tok.0 ∷ more ∷ []
-numbers_of (ReadBlob tok) = tok.0 ∷ []
-numbers_of (WriteBlob tok blob) = tok.0 ∷ []
-numbers_of (Send message to call flags) = message.0 ∷ to.cpu.0 ∷ to.thread ∷ call.op ∷ call.arg ∷ flags_number flags ∷ []
-numbers_of (Do message to call) = message.0 ∷ to.cpu.0 ∷ to.thread ∷ call.op ∷ call.arg ∷ []
-numbers_of (Reply message error outcome) = message.0 ∷ error ∷ outcome ∷ []
-numbers_of (Abort message) = message.0 ∷ []
-numbers_of (IsAborted message) = message.0 ∷ []
-numbers_of (DropMsg message) = message.0 ∷ []
-numbers_of GetPort = []
-numbers_of WaitPort = []
-numbers_of Yield = []
-numbers_of Exit = []
+numbers_of ask = part_numbers (step_of ask).1
 
 -- numbers of a word each
 abbrev pub AreAllWords : List ℕ → Type 0

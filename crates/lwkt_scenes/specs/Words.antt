@@ -4,10 +4,10 @@ use Rattle.std.specs.Fmt.{decimal}
 use Rattle.std.specs.List.{list_all}
 use Rattle.lwkt_base.specs.Fault.{number_of, fault_message}
 use Rattle.lwkt_base.specs.Hex.{hex_text}
+use Rattle.lwkt_base.specs.Step.{step_of, word_of}
 use Rattle.lwkt_base.specs.declared.asks.Answer.{Answer}
 use Rattle.lwkt_base.specs.declared.asks.Answer.TheVariants.{Begin, Done, Value, Bytes, Dropped, Got, NoMsg, Refused}
 use Rattle.lwkt_base.specs.declared.asks.Ask.{Ask}
-use Rattle.lwkt_base.specs.declared.asks.Ask.TheVariants.{Get, GetShared, TryGet, Rel, Swap, Read, Write, Add, ReadBlob, WriteBlob, Send, Do, Reply, Abort, IsAborted, DropMsg, GetPort, WaitPort, Yield, Exit}
 use Rattle.lwkt_base.specs.declared.asks.Item.{Item}
 use Rattle.lwkt_base.specs.declared.asks.Item.TheVariants.{Request, Answered}
 use Rattle.lwkt_base.specs.declared.faults.Fault.{Fault}
@@ -16,6 +16,8 @@ use Rattle.lwkt_base.specs.declared.names.ThreadId.{ThreadId}
 use Rattle.lwkt_base.specs.declared.records.Call.{Call}
 use Rattle.lwkt_base.specs.declared.records.Flags.{Flags}
 use Rattle.lwkt_base.specs.declared.records.Rec.{Rec}
+use Rattle.lwkt_base.specs.declared.steps.Parts.{Parts}
+use Rattle.lwkt_base.specs.declared.steps.Parts.TheVariants as parts
 use Rattle.lwkt_trace.specs.Written.{comma, blob_text}
 
 -- a thread by its processor and its number: `1.0`
@@ -28,26 +30,7 @@ fault_text fault = decimal (number_of fault) ++ codes ", " ++ fault_message faul
 
 -- the word of an ask, as in a script
 abbrev pub ask_word : Ask → List ℕ
-ask_word (Get tok) = codes "get"
-ask_word (GetShared tok) = codes "gets"
-ask_word (TryGet tok) = codes "try"
-ask_word (Rel tok) = codes "rel"
-ask_word Swap = codes "swap"
-ask_word (Read tok cell) = codes "read"
-ask_word (Write tok cell value) = codes "write"
-ask_word (Add tok more) = codes "add"
-ask_word (ReadBlob tok) = codes "rrec"
-ask_word (WriteBlob tok blob) = codes "wrec"
-ask_word (Send message to call flags) = codes "send"
-ask_word (Do message to call) = codes "do"
-ask_word (Reply message error outcome) = codes "reply"
-ask_word (Abort message) = codes "abort"
-ask_word (IsAborted message) = codes "isab"
-ask_word (DropMsg message) = codes "drop"
-ask_word GetPort = codes "getport"
-ask_word WaitPort = codes "wait"
-ask_word Yield = codes "yield"
-ask_word Exit = codes "exit"
+ask_word ask = word_of (step_of ask).0
 
 -- the flags of a send as a number
 abbrev pub flags_number : Flags → ℕ
@@ -57,32 +40,26 @@ flags_number flags = (if flags.dropable then 1 else 0) + (if flags.abortable the
 abbrev pub call_text : MsgId → ThreadId → Call → List ℕ
 call_text message to call = comma message.0 ++ comma to.cpu.0 ++ comma to.thread ++ comma call.op ++ comma call.arg
 
--- what stands behind the word of an ask for a token, each part after a comma
-abbrev pub token_parts : Ask → List ℕ
-token_parts (Get tok) = comma tok.0
-token_parts (GetShared tok) = comma tok.0
-token_parts (TryGet tok) = comma tok.0
-token_parts (Rel tok) = comma tok.0
-token_parts (Read tok cell) = comma tok.0 ++ comma cell
-token_parts (Write tok cell value) = comma tok.0 ++ comma cell ++ comma value
-token_parts (Add tok more) = comma tok.0 ++ comma more
-token_parts (ReadBlob tok) = comma tok.0
-token_parts (WriteBlob tok blob) = comma tok.0 ++ codes "," ++ blob_text blob
-token_parts _ = []
+-- the parts of a step, each after a comma
+abbrev pub parts_text : Parts → List ℕ
+parts_text parts.Alone = []
+parts_text (parts.Token tok) = comma tok.0
+parts_text (parts.Cell tok cell) = comma tok.0 ++ comma cell
+parts_text (parts.Value tok cell value) = comma tok.0 ++ comma cell ++ comma value
+parts_text (parts.More tok more) = comma tok.0 ++ comma more
+parts_text (parts.Record tok blob) = comma tok.0 ++ codes "," ++ blob_text blob
+parts_text (parts.Message message) = comma message.0
+parts_text (parts.Call message to call) = call_text message to call
+parts_text (parts.Sending message to call flags) = call_text message to call ++ comma (flags_number flags)
+parts_text (parts.Answer message error outcome) = comma message.0 ++ comma error ++ comma outcome
 
--- what stands behind the word of an ask for a message
-abbrev pub message_parts : Ask → List ℕ
-message_parts (Send message to call flags) = call_text message to call ++ comma (flags_number flags)
-message_parts (Do message to call) = call_text message to call
-message_parts (Reply message error outcome) = comma message.0 ++ comma error ++ comma outcome
-message_parts (Abort message) = comma message.0
-message_parts (IsAborted message) = comma message.0
-message_parts (DropMsg message) = comma message.0
-message_parts _ = []
+-- what stands behind the word of an ask
+abbrev pub ask_parts : Ask → List ℕ
+ask_parts ask = parts_text (step_of ask).1
 
 -- an ask as the step of a script that stands for it: `["add",0,5]`
 abbrev pub ask_text : Ask → List ℕ
-ask_text ask = codes "[\"" ++ ask_word ask ++ codes "\"" ++ token_parts ask ++ message_parts ask ++ codes "]"
+ask_text ask = codes "[\"" ++ ask_word ask ++ codes "\"" ++ ask_parts ask ++ codes "]"
 
 -- what came to a port
 abbrev pub item_text : Item → List ℕ

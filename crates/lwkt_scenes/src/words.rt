@@ -2,11 +2,12 @@ ghost use Rattle.std.specs.Prelude.{◌≡◌, ◌++◌};
 ghost use Rattle.std.specs.Fmt.{decimal};
 ghost use Rattle.lwkt_refusals.specs.Pages.{GrowsBy};
 ghost use Rattle.lwkt_trace.specs.Written.{comma};
-ghost use Rattle.lwkt_scenes.specs.Words.{thread_text, ask_word, token_parts, call_text, flags_number, message_parts, ask_text, fault_text, item_text, dropped_text, refused_text, answer_text};
+ghost use Rattle.lwkt_scenes.specs.Words.{thread_text, call_text, flags_number, parts_text, ask_text, fault_text, item_text, dropped_text, refused_text, answer_text};
 
 use crate::pages::Page;
 use crate::records::{show_digits, show_record};
-use lwkt_base::{Answer, Ask, Call, Fault, Flags, Item, Mode, MsgId, Rec, ThreadId};
+use lwkt_base::steps::step_of;
+use lwkt_base::{Answer, Ask, Call, Fault, Flags, Item, Mode, MsgId, Parts, Rec, ThreadId};
 
 /// Appends a thread by its processor and its number: `1.0`.
 pub(crate) fn show_thread(out: &mut Page, id: ThreadId)
@@ -16,71 +17,11 @@ pub(crate) fn show_thread(out: &mut Page, id: ThreadId)
     out.number(".", u64::from(id.thread));
 }
 
-// The word of an ask, as in a script.
-fn ask_word(ask: &Ask) -> &'static str
-    ensures { result.now ≡ ask_word ask.now }
-{
-    match ask {
-        Ask::Get(_) => "get",
-        Ask::GetShared(_) => "gets",
-        Ask::TryGet(_) => "try",
-        Ask::Rel(_) => "rel",
-        Ask::Swap => "swap",
-        Ask::Read(..) => "read",
-        Ask::Write(..) => "write",
-        Ask::Add(..) => "add",
-        Ask::ReadBlob(_) => "rrec",
-        Ask::WriteBlob(..) => "wrec",
-        Ask::Send(..) => "send",
-        Ask::Do(..) => "do",
-        Ask::Reply(..) => "reply",
-        Ask::Abort(_) => "abort",
-        Ask::IsAborted(_) => "isab",
-        Ask::DropMsg(_) => "drop",
-        Ask::GetPort => "getport",
-        Ask::WaitPort => "wait",
-        Ask::Yield => "yield",
-        Ask::Exit => "exit",
-    }
-}
-
 // Appends a number after a comma.
 fn show_part(out: &mut Page, number: u64)
     ensures { GrowsBy out.old out.new (comma number) }
 {
     out.number(",", number)
-}
-
-// Appends the parts of an ask for a token.
-fn show_token_parts(out: &mut Page, ask: &Ask)
-    ensures { GrowsBy out.old out.new (token_parts ask.now) }
-{
-    match ask {
-        Ask::Get(tok)
-        | Ask::GetShared(tok)
-        | Ask::TryGet(tok)
-        | Ask::Rel(tok)
-        | Ask::ReadBlob(tok) => show_part(out, u64::from(tok.0)),
-        Ask::WriteBlob(tok, blob) => {
-            show_part(out, u64::from(tok.0));
-            out.add(",");
-            show_digits(out, blob)
-        }
-        Ask::Read(tok, cell) => {
-            show_part(out, u64::from(tok.0));
-            show_part(out, u64::from(*cell))
-        }
-        Ask::Write(tok, cell, value) => {
-            show_part(out, u64::from(tok.0));
-            show_part(out, u64::from(*cell));
-            show_part(out, *value)
-        }
-        Ask::Add(tok, more) => {
-            show_part(out, u64::from(tok.0));
-            show_part(out, *more)
-        }
-        _ => out.add(""),
-    }
 }
 
 // Appends a message, a thread and a call.
@@ -104,25 +45,42 @@ fn flags_number(flags: Flags) -> u8
     dropable + abortable + priority
 }
 
-// Appends the parts of an ask for a message.
-fn show_message_parts(out: &mut Page, ask: &Ask)
-    ensures { GrowsBy out.old out.new (message_parts ask.now) }
+// Appends the parts of a step, each after a comma.
+fn show_parts(out: &mut Page, parts: Parts)
+    ensures { GrowsBy out.old out.new (parts_text parts) }
 {
-    match ask {
-        Ask::Send(msg, to, call, flags) => {
-            show_call(out, *msg, *to, *call);
-            show_part(out, u64::from(flags_number(*flags)))
+    match parts {
+        Parts::Alone => out.add(""),
+        Parts::Token(tok) => show_part(out, u64::from(tok.0)),
+        Parts::Cell(tok, cell) => {
+            show_part(out, u64::from(tok.0));
+            show_part(out, u64::from(cell))
         }
-        Ask::Do(msg, to, call) => show_call(out, *msg, *to, *call),
-        Ask::Reply(msg, error, outcome) => {
+        Parts::Value(tok, cell, value) => {
+            show_part(out, u64::from(tok.0));
+            show_part(out, u64::from(cell));
+            show_part(out, value)
+        }
+        Parts::More(tok, more) => {
+            show_part(out, u64::from(tok.0));
+            show_part(out, more)
+        }
+        Parts::Record(tok, blob) => {
+            show_part(out, u64::from(tok.0));
+            out.add(",");
+            show_digits(out, &blob)
+        }
+        Parts::Message(msg) => show_part(out, u64::from(msg.0)),
+        Parts::Call(msg, to, call) => show_call(out, msg, to, call),
+        Parts::Sending(msg, to, call, flags) => {
+            show_call(out, msg, to, call);
+            show_part(out, u64::from(flags_number(flags)))
+        }
+        Parts::Answer(msg, error, outcome) => {
             show_part(out, u64::from(msg.0));
-            show_part(out, u64::from(*error));
-            show_part(out, *outcome)
+            show_part(out, u64::from(error));
+            show_part(out, outcome)
         }
-        Ask::Abort(msg) | Ask::IsAborted(msg) | Ask::DropMsg(msg) => {
-            show_part(out, u64::from(msg.0))
-        }
-        _ => out.add(""),
     }
 }
 
@@ -130,11 +88,11 @@ fn show_message_parts(out: &mut Page, ask: &Ask)
 pub(crate) fn show_ask(out: &mut Page, ask: &Ask)
     ensures { GrowsBy out.old out.new (ask_text ask.now) }
 {
+    let (verb, parts) = step_of(ask);
     out.add("[\"");
-    out.add(ask_word(ask));
+    out.add(verb.word());
     out.add("\"");
-    show_token_parts(out, ask);
-    show_message_parts(out, ask);
+    show_parts(out, parts);
     out.add("]");
 }
 
