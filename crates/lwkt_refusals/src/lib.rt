@@ -10,6 +10,7 @@
 mod absences;
 mod breaches;
 mod cells;
+mod files;
 mod items;
 mod marks;
 mod members;
@@ -30,14 +31,17 @@ mod spans;
 mod trace_forms;
 mod traces;
 mod unread;
+mod untraced;
 mod words;
 mod wrongs;
 
 pub use breaches::{opening_said, show_breach};
+pub use files::say_of_file;
 pub use pages::Page;
 pub use places::{Place, add_head, place_from};
-pub use refusals::{Document, line_refusal, refusal};
+pub use refusals::{Document, refusal};
 pub use releases::say_releases;
 pub use sayings::{Speaker, has_no_reader};
 pub use unread::{say_opening, say_unread};
+pub use untraced::{say_untraced, say_untraced_line};
 pub use wrongs::wrongs_said;

@@ -5,7 +5,6 @@ use crate::parts::Part;
 use crate::places::{Place, offset_of, place_from};
 use crate::scripts::{is_second, show_script_place};
 use crate::spans::{byte_at, past_space};
-use crate::trace_forms::begins_text;
 use crate::traces::{show_line_place, show_trace_place};
 use crate::words::Words;
 use lwkt_base::{Fault, TokSpec};
@@ -169,8 +168,8 @@ fn tokens_in(
     Some(tokens)
 }
 
-// What is bad of the first token whose opening breaks its law, if there is one.
-fn opening_words(alloc: Global, document: Document, bytes: &[u8]) -> Option<Words> {
+/// What is bad of the first token whose opening breaks its law, if there is one.
+pub(crate) fn opening_words(alloc: Global, document: Document, bytes: &[u8]) -> Option<Words> {
     let whole = Part::whole(bytes);
     let tokens = tokens_in(alloc, document, whole, whole.member("tokens")?)?;
     breach_in(alloc, bytes, tokens.as_slice(), None)
@@ -202,20 +201,8 @@ pub fn refusal(
 // The most bytes of a line.
 const LINE_LIMIT: usize = 1_048_576;
 
-// Appends the number of a line, and the column of the byte of it that so many others stand before.
-fn show_column(out: &mut Page, number: usize, before: usize) {
-    show_place(
-        out,
-        Place {
-            line: number,
-            before,
-            start: 0,
-        },
-    );
-}
-
 // Appends which event a line is, behind the first.
-fn show_index(out: &mut Page, number: usize) {
+fn show_index(out: &mut Words, number: usize) {
     if number > 1 {
         out.size("event ", number.saturating_sub(2));
         out.add(": ");
@@ -223,11 +210,10 @@ fn show_index(out: &mut Page, number: usize) {
 }
 
 // Appends why a line of this length can't be a JSON text; says whether it can't.
-fn show_length(out: &mut Page, number: usize, length: usize) -> bool {
+fn show_length(out: &mut Words, number: usize, length: usize) -> bool {
     if length > 0 && length <= LINE_LIMIT {
         return false;
     }
-    show_column(out, number, 0);
     show_index(out, number);
     if length == 0 {
         out.add("it is empty");
@@ -238,38 +224,24 @@ fn show_length(out: &mut Page, number: usize, length: usize) -> bool {
 }
 
 // Appends why a line has no value; says whether it has none.
-fn show_no_value(alloc: Global, out: &mut Page, number: usize, line: &[u8]) -> bool {
+fn show_no_value(alloc: Global, out: &mut Words, number: usize, line: &[u8]) -> bool {
     if show_length(out, number, line.len()) {
         return true;
     }
     let Err(error) = Value::from_slice(alloc, line) else {
         return false;
     };
-    show_column(out, number, error.column().saturating_sub(1));
+    out.place = error.column().saturating_sub(1);
     show_index(out, number);
-    show_error(alloc, out, &error);
-    if begins_text(number, line, &error) {
-        out.add("; a trace of one text is read without the word lines");
-    }
+    show_error(alloc, &mut out.page, &error);
     true
 }
 
-/// Why a line of a trace in lines is refused at this place, in words and without a line end: what is bad, and the number of the
-/// line and the column at which it stands, both counted from 1; a column is a byte.
-///
-/// Refused if memory is.
-pub fn line_refusal(
-    alloc: Global,
-    number: usize,
-    line: &[u8],
-    place: u32,
-) -> Result<String, AllocError> {
-    let mut out = Page::new(alloc);
-    if place == 6 || !show_no_value(alloc, &mut out, number, line) {
-        let mut words = Words::new(alloc);
+/// What is bad at a place of a line of a trace in lines, which has this number, counted from 1.
+pub(crate) fn line_words(alloc: Global, number: usize, line: &[u8], place: u32) -> Words {
+    let mut words = Words::new(alloc);
+    if place == 6 || !show_no_value(alloc, &mut words, number, line) {
         show_line_place(&mut words, Part::whole(line), number, place);
-        show_column(&mut out, number, words.place);
-        out.add_page(&words.page);
     }
-    out.whole()
+    words
 }

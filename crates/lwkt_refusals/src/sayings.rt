@@ -4,7 +4,7 @@ ghost use Rattle.lwkt_refusals.specs.Sayings.{SaysMore, HasNoReader};
 
 use crate::messages::add_number;
 use crate::pages::Page;
-use crate::refusals::{Document, line_refusal, refusal};
+use crate::refusals::{Document, refusal};
 use crate::trace_forms::is_in_lines;
 use lwkt_base::Fault;
 use lwkt_report::{Sink, write_whole};
@@ -126,25 +126,6 @@ impl Speaker {
         }
     }
 
-    // What is said of a read that failed.
-    fn read_failure(self) -> &'static str {
-        match self {
-            Speaker::Check => "the trace could not be read",
-            _ => "the script could not be read",
-        }
-    }
-
-    // What is said of a write that failed.
-    fn write_failure(self) -> &'static str {
-        match self {
-            Speaker::Run => "the report could not be written",
-            Speaker::Check => "what was found could not be written",
-            Speaker::Show => "the run could not be shown",
-            Speaker::Text => "the output could not be written",
-            Speaker::Explore => "what was found could not be written",
-        }
-    }
-
     // Writes a line. What can't be written is let go.
     fn say<E: Sink>(self, errors: &mut E, text: &str)
         ensures { SaysMore (E.has_failed errors.old) (E.has_failed errors.new) (E.contents errors.old) (E.contents errors.new) }
@@ -198,25 +179,8 @@ impl Speaker {
         }
     }
 
-    /// Says why a line of a trace in lines, which has this number, is refused at this place.
-    pub fn say_line_refusal<E: Sink>(
-        self,
-        alloc: Global,
-        errors: &mut E,
-        number: usize,
-        line: &[u8],
-        place: u32,
-    )
-        ensures { SaysMore (E.has_failed errors.old) (E.has_failed errors.new) (E.contents errors.old) (E.contents errors.new) }
-    {
-        match line_refusal(alloc, number, line, place) {
-            Ok(text) => self.say(errors, text.as_str()),
-            Err(_) => self.say_no_words(errors),
-        }
-    }
-
-    /// Says that there is no memory to say why something is refused.
-    pub fn say_no_words<E: Sink>(self, errors: &mut E)
+    // Says that there is no memory to say why something is refused.
+    fn say_no_words<E: Sink>(self, errors: &mut E)
         ensures { SaysMore (E.has_failed errors.old) (E.has_failed errors.new) (E.contents errors.old) (E.contents errors.new) }
     {
         self.say(errors, "there is no memory to say why it is refused");
@@ -229,55 +193,6 @@ impl Speaker {
         match self {
             Speaker::Run | Speaker::Check | Speaker::Text => self.say(errors, "out of memory"),
             Speaker::Show | Speaker::Explore => self.say(errors, "fault 32: out of memory"),
-        }
-    }
-
-    /// Says what is the matter where the arguments can't be told: no memory, or how the program is called.
-    pub fn say_arguments<E: Sink>(self, errors: &mut E, memory: bool)
-        ensures { SaysMore (E.has_failed errors.old) (E.has_failed errors.new) (E.contents errors.old) (E.contents errors.new) }
-    {
-        if memory {
-            self.say_memory(errors);
-        } else {
-            self.say_usage(errors);
-        }
-    }
-
-    // Writes a line of a call that failed.
-    fn say_failure<E: Sink>(
-        self,
-        alloc: Global,
-        errors: &mut E,
-        text: &str,
-        error: &Option<io::Error>,
-    )
-        ensures { SaysMore (E.has_failed errors.old) (E.has_failed errors.new) (E.contents errors.old) (E.contents errors.new) }
-    {
-        let Some(error) = error else {
-            return self.say(errors, text);
-        };
-        put(errors, self.name());
-        put(errors, text);
-        if let Ok(why) = error.to_string(alloc) {
-            put(errors, ": ");
-            put(errors, why.as_str());
-        }
-        put(errors, "\n");
-    }
-
-    /// Says that a read failed, and why.
-    pub fn say_unread<E: Sink>(self, alloc: Global, errors: &mut E, error: &Option<io::Error>)
-        ensures { SaysMore (E.has_failed errors.old) (E.has_failed errors.new) (E.contents errors.old) (E.contents errors.new) }
-    {
-        self.say_failure(alloc, errors, self.read_failure(), error);
-    }
-
-    /// Says that a write failed, and why; nothing where nobody reads any more what is written.
-    pub fn say_unwritten<E: Sink>(self, alloc: Global, errors: &mut E, error: &Option<io::Error>)
-        ensures { SaysMore (E.has_failed errors.old) (E.has_failed errors.new) (E.contents errors.old) (E.contents errors.new) }
-    {
-        if !has_no_reader(error) {
-            self.say_failure(alloc, errors, self.write_failure(), error);
         }
     }
 }

@@ -1,7 +1,7 @@
 //! What input that isn't read looks like: a trace, or one of the other form.
 use crate::parts::Part;
 use crate::places::{line_length, part_of};
-use serde_json::{Error, Value};
+use serde_json::Value;
 use std::alloc::Global;
 
 // Whether a line has the members of an opening, and no events.
@@ -21,8 +21,9 @@ pub(crate) fn is_in_lines(alloc: Global, bytes: &[u8]) -> bool {
     has_opening(Part::whole(line)) && Value::from_slice(alloc, line).is_ok()
 }
 
-/// Whether a line of this number that is no JSON text looks like the beginning of a trace of one text: the first line, which begins
-/// an object and doesn't end it.
-pub(crate) fn begins_text(number: usize, line: &[u8], error: &Error) -> bool {
-    number == 1 && Part::whole(line).is_object() && error.is_eof()
+/// Whether the first line of a trace in lines looks like the beginning of a trace of one text: it begins an object, and doesn't end
+/// it.
+pub(crate) fn begins_text(alloc: Global, line: &[u8]) -> bool {
+    Part::whole(line).is_object()
+        && matches!(Value::from_slice(alloc, line), Err(error) if error.is_eof())
 }

@@ -18,14 +18,14 @@ use lwkt_text::{Input, Unread, Wrong, is_named_text};
 use serde_json::Value;
 use std::alloc::Global;
 
-// What is said where memory is refused.
-const NO_MEMORY: &str = "lwkt: out of memory\n";
+/// What is said where memory is refused.
+pub(crate) const NO_MEMORY: &str = "lwkt: out of memory\n";
 
 // What is said where there is no memory for the message.
 const NO_WORDS: &str = "lwkt: there is no memory to say why it is refused\n";
 
-// Appends what is bad of a part, as a message.
-fn add_words(page: &mut Page, name: Option<&str>, bytes: &[u8], words: &Words) {
+/// Appends what is bad of a part, as a message.
+pub(crate) fn add_words(page: &mut Page, name: Option<&str>, bytes: &[u8], words: &Words) {
     let place = place_from(bytes, Place::FIRST, words.place);
     add_start(page, name, place);
     page.add_page(&words.page);
@@ -135,8 +135,8 @@ fn add_text(
     }
 }
 
-// Writes a message.
-fn put_page<E: Sink>(errors: &mut E, page: Page)
+/// Writes a message.
+pub(crate) fn put_page<E: Sink>(errors: &mut E, page: Page)
     ensures { SaysMore (E.has_failed errors.old) (E.has_failed errors.new) (E.contents errors.old) (E.contents errors.new) }
 {
     match page.whole() {
