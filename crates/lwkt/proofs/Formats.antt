@@ -4,7 +4,7 @@ use Rattle.std.specs.Prelude.{Bool, true, false, not, IsTrue, Option, Some, None
 use Rattle.lwkt_base.specs.declared.faults.Fault.{Fault as Refusal}
 use Rattle.lwkt_base.specs.declared.faults.Fault.TheVariants.{Script as ScriptFault, Memory, Limits, LawBroken}
 use Rattle.lwkt_explore.specs.Claims.{all_ended}
-use Rattle.lwkt_explore.specs.declared.judgements.Judgement.TheVariants.{Met, TurnsOut, Unlawful, Unmet}
+use Rattle.lwkt_explore.specs.declared.judgements.Judgement.TheVariants.{Met, NotDecided, TurnsOut, Unlawful, Unmet}
 use Rattle.lwkt_explore.specs.Judgements.{is_unlawful, judgement_of, status_of_judgement}
 use Rattle.lwkt_report.specs.declared.closings.Closing.{Closing}
 use Rattle.lwkt_report.specs.declared.closings.Verdict.{Verdict}
@@ -13,11 +13,11 @@ use Rattle.lwkt_report.specs.declared.sources.TheConstants.{READ_LIMIT}
 use Rattle.lwkt_report.specs.declared.streams.RunFault.{RunFault}
 use Rattle.lwkt_report.specs.declared.streams.RunFault.TheVariants.{Fault as FaultOfRun, Stream as StreamOfRun}
 use Rattle.lwkt_request.specs.declared.requests.Task.TheVariants.{Run}
-use Rattle.lwkt_run.proofs.ReadMoves.{front_gives, has_run_by, refused_as, runs_json}
+use Rattle.lwkt_run.proofs.ReadMoves.{front_gives, has_run_by, runs_json}
 use Rattle.lwkt_run.specs.declared.modes.Mode.{Mode}
 use Rattle.lwkt_run.specs.declared.runs.End.{End}
 use Rattle.lwkt_run.specs.Modes.{HasRunBy, RunsJsonAs}
-use Rattle.lwkt_run.specs.Run.{Refuses, end_by, end_told, exit_status}
+use Rattle.lwkt_run.specs.Run.{DeclinesRun, Refuses, end_by, end_told, exit_status}
 use Rattle.lwkt_script.specs.declared.scripts.Script.{Script}
 use Rattle.lwkt_script.specs.Format.{script_of}
 use Rattle.lwkt_script.specs.Outcome.{IsFaultOf}
@@ -33,7 +33,7 @@ use Rattle.lwkt.specs.Making.{IsReport, mode_of}
 use Rattle.lwkt.specs.Performing.{Answers, IsJson, Performs, RunsByOldName, SaysAfter}
 
 -- where nothing is expected the status is that of how the run ended
-status_by : (verdict : Verdict) (all : Bool) → status_of_judgement (if is_unlawful verdict then Unlawful else (if false then Unmet else (if true && not all then TurnsOut else Met))) ≡ exit_status (Ok (end_by verdict all))
+status_by : (verdict : Verdict) (all : Bool) → status_of_judgement (if is_unlawful verdict then Unlawful else (if false then Unmet else (if false then NotDecided else (if true && not all then TurnsOut else Met)))) ≡ exit_status (Ok (end_by verdict all))
 status_by verdicts.Closed true = refl
 status_by verdicts.Closed false = refl
 status_by verdicts.Lawful true = refl
@@ -66,6 +66,13 @@ fault_refuses : (bytes : List ℕ) (fault : Refusal) → IsFaultOf fault (script
 fault_refuses bytes (ScriptFault place) is = is
 fault_refuses bytes (Memory refused) is = tt
 fault_refuses bytes _ is = absurd is
+
+-- a script whose run is declined is refused
+refused_as : (bytes : List ℕ) (script : Script) (fault : Refusal) → script_of bytes ≡ Ok script → DeclinesRun script fault → Refuses bytes fault
+refused_as bytes script (Memory refused) read declines = tt
+refused_as bytes script Limits read declines = (script, (read, declines))
+refused_as bytes script LawBroken read declines = (script, (read, declines))
+refused_as bytes script _ read declines = absurd declines
 
 status_refused : (bytes : List ℕ) (fault : Refusal) → Refuses bytes fault → status_of_fault fault ≡ exit_status (Err (FaultOfRun fault))
 status_refused bytes (ScriptFault place) refuses = refl

@@ -1,2 +1,3 @@
 mod Formats
 mod Tellings
+mod Servings

@@ -2,3 +2,4 @@ pub mod Making
 pub mod Failing
 pub mod Performing
 pub mod Checking
+pub mod Answering

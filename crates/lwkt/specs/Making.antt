@@ -1,7 +1,9 @@
 -- What each task makes of an input: a text for standard output, and the status that goes with it (own).
 use Rattle.std.specs.Prelude.{◌≡◌, ◌≤◌, ℕ, length, List, Bool, true, false, Option, None, Some, Result, Ok}
+use Rattle.lwkt_explore.specs.declared.extents.Extent.TheVariants.{Sampled}
 use Rattle.lwkt_explore.specs.declared.searches.Found.{Found}
 use Rattle.lwkt_explore.specs.Expectations.{status_of_text}
+use Rattle.lwkt_explore.specs.Extents.{is_complete}
 use Rattle.lwkt_explore.specs.Judgements.{judgement_of, status_of_judgement}
 use Rattle.lwkt_explore.specs.Outcomes.{AreOutcomes, AreShort, AreWhole, HasEnded}
 use Rattle.lwkt_explore.specs.Texts.{text_of_found}
@@ -57,16 +59,16 @@ IsForm form.Run input text status = IsReport Turns input text status
 pub record IsSearched (states turns : ℕ) (script : Script) (found : Found) : Type 0 where
   pub outcomes : AreOutcomes script found.outcomes
   pub short : AreShort turns found.outcomes
-  pub ended : found.is_complete ≡ true → found.lost ≡ None → HasEnded found.outcomes
-  pub whole : found.is_complete ≡ true → AreWhole found.outcomes
-  pub lost : found.is_complete ≡ false → found.lost ≡ None
+  pub ended : is_complete found ≡ true → found.lost ≡ None → HasEnded found.outcomes
+  pub whole : is_complete found ≡ true → AreWhole found.outcomes
+  pub lost : is_complete found ≡ false → found.lost ≡ None
   pub tried : HasTriedStates states found.tried
 
 -- what random orders of it find, at most so many, within this bound on turns
 pub record IsSampled (most turns : ℕ) (script : Script) (found : Found) : Type 0 where
   pub outcomes : AreOutcomes script found.outcomes
   pub short : AreShort turns found.outcomes
-  pub part : found.is_complete ≡ false
+  pub part : found.extent ≡ Sampled
   pub lost : found.lost ≡ None
   pub tried : HasTriedOrders most found.tried
 

@@ -1,16 +1,18 @@
 //! The answer to the words of the command line.
-ghost use Rattle.std.specs.Prelude.{◌≡◌, IsTrue};
-ghost use Rattle.lwkt_report.specs.Complaint.{fault_line, IsSaid};
+ghost use Rattle.std.specs.Prelude.{◌≡◌, ◌⊎◌, IsTrue, map, string_bytes};
+ghost use Rattle.std.specs.Option.{option_copied};
+ghost use Rattle.std.specs.Io.KnownBytes.{Keeps};
+ghost use Rattle.lwkt_request.specs.Wishes.{wish_by};
+ghost use Rattle.lwkt.specs.Answering.{Does, IsByOldName, ServesBy, ServesFile, TellsPage, TellsUsage, takes_folder};
+ghost use Rattle.lwkt.specs.Performing.{order_of};
 
-use crate::errors::{Origin, put, put_lines, say_unopened};
-use crate::files::opened;
+use crate::errors::{put_lines, say_memory, say_unreadable, say_unwritten};
+use crate::files::{opened, source_of};
 use crate::folders::perform_all;
 use crate::performing::perform;
 use crate::written::written;
 use lwkt_refusals::Speaker;
-use lwkt_report::{
-    Complaint, NotedReader, NotedWriter, Program, ReaderSource, Sink, WriterSink, complain,
-};
+use lwkt_report::{Complaint, NotedWriter, Program, Sink, WriterSink, complain};
 use lwkt_request::{Asked, Request, Search, Task, request_of};
 use std::alloc::Global;
 use std::fs::Files;
@@ -20,25 +22,30 @@ use std::thread::Threads;
 use std::time::Clock;
 
 // Writes the usage line of `lwkt_run`, and says how it is called.
-fn misused<K: Sink, E: Sink>(sink: &mut K, errors: &mut E) -> u8
-    ensures status { result ≡ 1 }
-    ensures said { IsSaid (K.has_failed sink.new) (K.contents sink.old) (K.contents sink.new) (fault_line Program.Run Complaint.Usage) }
+fn misused<O: Write, E: Sink>(sink: &mut WriterSink<NotedWriter<O>>, errors: &mut E) -> u8
+    ensures { TellsUsage (record { old = O.contents sink.old.writer.writer; new = O.contents sink.new.writer.writer; failed = sink.new.failed; error = sink.new.writer.error; flushed = sink.new.flushed; before = E.contents errors.old; after = E.contents errors.new; lost = E.has_failed errors.new }) result }
 {
     complain(sink, Program::Run, Complaint::Usage);
     Speaker::Run.say_usage(errors);
     1
 }
 
-// Whether these are the words `turns` and `threads` of `lwkt_run`, taken for a file that isn't there.
-fn is_misuse(task: Task, path: &str, error: &io::Error) -> bool {
+// Whether a request has the old name `lwkt_run`.
+fn is_by_old_name(task: Task) -> bool
+    ensures { IsTrue result → IsByOldName task }
+{
     matches!(
         task,
         Task::Run {
             by_old_name: true,
             ..
         }
-    ) && (path == "turns" || path == "threads")
-        && error.kind() == io::ErrorKind::NotFound
+    )
+}
+
+// Whether this is a word of `lwkt_run`, taken for a file that isn't there.
+fn is_word(path: &str, error: &io::Error) -> bool {
+    (path == "turns" || path == "threads") && error.kind() == io::ErrorKind::NotFound
 }
 
 // Performs a request on the file of this path.
@@ -49,21 +56,31 @@ fn perform_on_file<R: Threads + Sync + Clock + Files, O: Write, E: Sink>(
     path: &str,
     sink: &mut WriterSink<NotedWriter<O>>,
     errors: &mut E,
-) -> u8 {
+) -> u8
+    ensures { ServesFile request.now.task (order_of request.now) path.now (record { old = O.contents sink.old.writer.writer; new = O.contents sink.new.writer.writer; failed = sink.new.failed; error = sink.new.writer.error; flushed = sink.new.flushed; before = E.contents errors.old; after = E.contents errors.new; lost = E.has_failed errors.new }) result }
+{
     match opened(rt, path) {
         Ok(file) => {
-            let mut source = ReaderSource::new(NotedReader::new(alloc, file));
+            let mut source = source_of(file);
             perform(rt, alloc, request, Some(path), &mut source, sink, errors)
         }
-        Err(error) if is_misuse(request.task, path, &error) => misused(sink, errors),
         Err(error) => {
-            let origin = Origin {
-                task: request.task,
-                path: Some(path),
-            };
-            say_unopened(alloc, errors, origin, &error);
+            if is_by_old_name(request.task) && is_word(path, &error) {
+                return misused(sink, errors);
+            }
+            say_unreadable(alloc, errors, Some(path), &Some(error));
             3
         }
+    }
+}
+
+// Whether all scripts of a folder are to be tried.
+fn takes_folder(task: Task) -> bool
+    ensures { result ≡ takes_folder task }
+{
+    match task {
+        Task::Explore(search) => search.all,
+        _ => false,
     }
 }
 
@@ -80,29 +97,35 @@ fn done<
     input: I,
     sink: &mut WriterSink<NotedWriter<O>>,
     errors: &mut E,
-) -> u8 {
-    let path = request.path.as_ref().map(|path| path.as_str());
-    match (request.task, path) {
-        (Task::Explore(Search { all: true, .. }), Some(folder)) => {
-            perform_all(rt, alloc, request, folder, sink, errors)
-        }
-        (_, Some(path)) => perform_on_file(rt, alloc, request, path, sink, errors),
-        (_, None) => {
-            let mut source = ReaderSource::new(NotedReader::new(alloc, input));
-            perform(rt, alloc, request, None, &mut source, sink, errors)
-        }
+) -> u8
+    ensures { ServesBy (wish_by request.now).path request.now.task (order_of request.now) (I.remaining input) (record { old = O.contents sink.old.writer.writer; new = O.contents sink.new.writer.writer; failed = sink.new.failed; error = sink.new.writer.error; flushed = sink.new.flushed; before = E.contents errors.old; after = E.contents errors.new; lost = E.has_failed errors.new }) result }
+{
+    let Some(path) = &request.path else {
+        let mut source = source_of(input);
+        return perform(rt, alloc, request, None, &mut source, sink, errors);
+    };
+    if takes_folder(request.task) {
+        perform_all(rt, alloc, request, path.as_str(), sink, errors)
+    } else {
+        perform_on_file(rt, alloc, request, path.as_str(), sink, errors)
     }
 }
 
 // Writes a page that is asked for.
 fn told<O: Write, E: Sink>(
+    alloc: Global,
     sink: &mut WriterSink<NotedWriter<O>>,
     errors: &mut E,
     text: &str,
-) -> u8 {
+) -> u8
+    ensures { TellsPage text.now (record { old = O.contents sink.old.writer.writer; new = O.contents sink.new.writer.writer; failed = sink.new.failed; error = sink.new.writer.error; flushed = sink.new.flushed; before = E.contents errors.old; after = E.contents errors.new; lost = E.has_failed errors.new }) result }
+{
     match written(sink, text, 0) {
         Ok(status) => status,
-        Err(_) => 3,
+        Err(_) => {
+            say_unwritten(alloc, errors, &sink.writer.error);
+            3
+        }
     }
 }
 
@@ -110,20 +133,28 @@ fn told<O: Write, E: Sink>(
 pub fn answer<
     R: Threads + Sync + Clock + Files + Alloc + Clone + Drop,
     I: Read + Drop,
-    O: Write + Drop,
+    O: Write,
     E: Sink,
->(rt: &R, alloc: Global, words: &[String], input: I, output: O, errors: &mut E) -> u8 {
-    let mut sink = WriterSink::new(NotedWriter::new(output));
+>(
+    rt: &R,
+    alloc: Global,
+    words: &[String],
+    input: I,
+    sink: &mut WriterSink<NotedWriter<O>>,
+    errors: &mut E,
+) -> u8
+    ensures { Does (map string_bytes words.now) (I.remaining input) (record { old = O.contents sink.old.writer.writer; new = O.contents sink.new.writer.writer; failed = sink.new.failed; error = sink.new.writer.error; flushed = sink.new.flushed; before = E.contents errors.old; after = E.contents errors.new; lost = E.has_failed errors.new }) result }
+{
     match request_of(alloc, words) {
-        Ok(Asked::Do(request)) => done(rt, alloc, &request, input, &mut sink, errors),
-        Ok(Asked::Tell(text)) => told(&mut sink, errors, text.as_str()),
+        Ok(Asked::Do(request)) => done(rt, alloc, &request, input, sink, errors),
+        Ok(Asked::Tell(text)) => told(alloc, sink, errors, text.as_str()),
         Ok(Asked::Misuse(text)) => {
             put_lines(alloc, errors, text.as_str());
             1
         }
-        Ok(Asked::OldUsage) => misused(&mut sink, errors),
+        Ok(Asked::OldUsage) => misused(sink, errors),
         Err(_) => {
-            put(errors, "lwkt: out of memory\n");
+            say_memory(errors);
             3
         }
     }

@@ -6,9 +6,10 @@ ghost use Rattle.lwkt_checker.specs.LineOutput.{TellsOfLines};
 ghost use Rattle.lwkt_refusals.specs.Sayings.{SaysMore};
 ghost use Rattle.lwkt.specs.Checking.{ComplainsFirst, IsUnread, ChecksAloud};
 
+use crate::errors::{say_memory, say_unreadable, say_unwritten};
 use lwkt_base::Fault;
 use lwkt_checker::{Lines, check_keeping, check_lines, say_outcome, status_of};
-use lwkt_refusals::{Speaker, has_no_reader};
+use lwkt_refusals::{has_no_reader, say_untraced, say_untraced_line};
 use lwkt_report::{NotedReader, NotedWriter, ReaderSource, RunFault, Sink, WriterSink};
 use std::alloc::Global;
 use std::io::{Read, Write};
@@ -23,20 +24,27 @@ enum Given<'g> {
 }
 
 // Says why the trace is refused with this fault: of a trace in lines by the line that is, or by its opening; else by its text.
-fn say_refusal<E: Sink>(alloc: Global, errors: &mut E, fault: Fault, given: &Given)
+fn say_refusal<E: Sink>(
+    alloc: Global,
+    errors: &mut E,
+    path: Option<&str>,
+    fault: Fault,
+    given: &Given,
+)
     ensures { SaysMore (E.has_failed errors.old) (E.has_failed errors.new) (E.contents errors.old) (E.contents errors.new) }
 {
     match (given, fault) {
-        (Given::Text(text), fault) => Speaker::Check.say_refusal(alloc, errors, Some(text), fault),
-        (Given::Lines(lines), Fault::Script { place }) => Speaker::Check.say_line_refusal(
+        (Given::Text(text), fault) => say_untraced(alloc, errors, path, text, fault),
+        (Given::Lines(lines), Fault::Script { place }) => say_untraced_line(
             alloc,
             errors,
+            path,
             lines.number,
             lines.line.as_slice(),
             place,
         ),
         (Given::Lines(lines), fault) => {
-            Speaker::Check.say_refusal(alloc, errors, Some(lines.opening_line()), fault)
+            say_untraced(alloc, errors, path, lines.opening_line(), fault)
         }
     }
 }
@@ -45,6 +53,7 @@ fn say_refusal<E: Sink>(alloc: Global, errors: &mut E, fault: Fault, given: &Giv
 fn say_why<I, O, E: Sink>(
     alloc: Global,
     errors: &mut E,
+    path: Option<&str>,
     fault: RunFault,
     given: &Given,
     source: &ReaderSource<NotedReader<I>>,
@@ -53,12 +62,12 @@ fn say_why<I, O, E: Sink>(
     ensures { SaysMore (E.has_failed errors.old) (E.has_failed errors.new) (E.contents errors.old) (E.contents errors.new) }
 {
     match fault {
-        RunFault::Fault(Fault::Memory(_)) => Speaker::Check.say_memory(errors),
-        RunFault::Fault(fault) => { say_refusal(alloc, errors, fault, given) }
+        RunFault::Fault(Fault::Memory(_)) => say_memory(errors),
+        RunFault::Fault(fault) => say_refusal(alloc, errors, path, fault, given),
         RunFault::Stream if source.failed => {
-            Speaker::Check.say_unread(alloc, errors, &source.reader.error)
+            say_unreadable(alloc, errors, path, &source.reader.error)
         }
-        RunFault::Stream => Speaker::Check.say_unwritten(alloc, errors, &sink.writer.error),
+        RunFault::Stream => say_unwritten(alloc, errors, &sink.writer.error),
     }
 }
 
@@ -66,6 +75,7 @@ fn say_why<I, O, E: Sink>(
 fn say_all<I, O, E: Sink>(
     alloc: Global,
     errors: &mut E,
+    path: Option<&str>,
     outcome: &Result<bool, RunFault>,
     given: &Given,
     source: &ReaderSource<NotedReader<I>>,
@@ -75,7 +85,7 @@ fn say_all<I, O, E: Sink>(
 {
     say_outcome(errors, outcome);
     if let Err(fault) = *outcome {
-        say_why(alloc, errors, fault, given, source, sink);
+        say_why(alloc, errors, path, fault, given, source, sink);
     }
 }
 
@@ -90,6 +100,7 @@ fn is_unread<O>(sink: &WriterSink<NotedWriter<O>>) -> bool
 fn conclude<I, O, E: Sink>(
     alloc: Global,
     errors: &mut E,
+    path: Option<&str>,
     outcome: &Result<bool, RunFault>,
     given: &Given,
     source: &ReaderSource<NotedReader<I>>,
@@ -99,7 +110,7 @@ fn conclude<I, O, E: Sink>(
     ensures status { result ≡ status_of outcome.now }
 {
     if !is_unread(sink) {
-        say_all(alloc, errors, outcome, given, source, sink);
+        say_all(alloc, errors, path, outcome, given, source, sink);
     }
     status_of(outcome)
 }
@@ -110,6 +121,7 @@ fn conclude<I, O, E: Sink>(
 pub fn check<I: Read, O: Write, E: Sink>(
     alloc: Global,
     by_lines: bool,
+    path: Option<&str>,
     source: &mut ReaderSource<NotedReader<I>>,
     sink: &mut WriterSink<NotedWriter<O>>,
     errors: &mut E,
@@ -120,9 +132,25 @@ pub fn check<I: Read, O: Write, E: Sink>(
     if by_lines {
         let mut lines = Lines::new(alloc);
         let outcome = check_lines(alloc, &mut lines, source, sink);
-        return conclude(alloc, errors, &outcome, &Given::Lines(&lines), source, sink);
+        return conclude(
+            alloc,
+            errors,
+            path,
+            &outcome,
+            &Given::Lines(&lines),
+            source,
+            sink,
+        );
     }
     let mut text = Vec::new(alloc);
     let outcome = check_keeping(alloc, source, sink, &mut text);
-    conclude(alloc, errors, &outcome, &Given::Text(&text), source, sink)
+    conclude(
+        alloc,
+        errors,
+        path,
+        &outcome,
+        &Given::Text(&text),
+        source,
+        sink,
+    )
 }

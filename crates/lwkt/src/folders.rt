@@ -1,8 +1,11 @@
 //! All scripts of a folder, each performed.
-use crate::errors::{Origin, put, put_shown, say_memory, say_unopened, say_unwritten};
-use crate::files::opened;
+ghost use Rattle.std.specs.Prelude.{◌≡◌, false};
+
+use crate::errors::{say_memory, say_unreadable, say_unwritten};
+use crate::files::{opened, source_of};
 use crate::performing::perform;
-use lwkt_report::{NotedReader, NotedWriter, ReaderSource, Sink, WriterSink, escaped, write_whole};
+use lwkt_refusals::say_of_file;
+use lwkt_report::{NotedWriter, Sink, WriterSink, escaped, write_whole};
 use lwkt_request::Request;
 use std::alloc::{AllocError, Global};
 use std::fs::Files;
@@ -60,7 +63,7 @@ fn tried<R: Threads + Sync + Clock + Files>(
     let mut errors = WriterSink::new(Vec::new(alloc));
     let status = match opened(rt, path) {
         Ok(file) => {
-            let mut source = ReaderSource::new(NotedReader::new(alloc, file));
+            let mut source = source_of(file);
             perform(
                 rt,
                 alloc,
@@ -72,11 +75,7 @@ fn tried<R: Threads + Sync + Clock + Files>(
             )
         }
         Err(error) => {
-            let origin = Origin {
-                task: request.task,
-                path: Some(path),
-            };
-            say_unopened(alloc, &mut errors, origin, &error);
+            say_unreadable(alloc, &mut errors, Some(path), &Some(error));
             3
         }
     };
@@ -121,9 +120,9 @@ fn counted<R: Threads + Sync + Clock + Files, O: Write>(
     };
     for name in names {
         if try_one(rt, alloc, request, folder, name.as_str(), sink)? {
-            count.passed += 1;
+            count.passed = count.passed.saturating_add(1);
         } else {
-            count.failed += 1;
+            count.failed = count.failed.saturating_add(1);
         }
     }
     let Count { passed, failed } = count;
@@ -135,7 +134,8 @@ fn counted<R: Threads + Sync + Clock + Files, O: Write>(
 /// Performs a request on each `.lwkt` and `.json` file of a folder, by name. Of those whose status isn't 0, the name, the status and all
 /// that was written stands on the sink; in the end how many passed and failed.
 ///
-/// The status: 0 if all passed, 5 if not, 1 if no file was tried, 3 if memory was refused or a stream failed.
+/// The status: 0 if all passed and all was written, 5 if not all passed, 1 if there is no file to try, 3 if the folder can't be
+/// read, memory was refused or a stream failed.
 pub fn perform_all<R: Threads + Sync + Clock + Files + Alloc + Clone + Drop, O: Write, E: Sink>(
     rt: &R,
     alloc: Global,
@@ -143,30 +143,31 @@ pub fn perform_all<R: Threads + Sync + Clock + Files + Alloc + Clone + Drop, O: 
     folder: &str,
     sink: &mut WriterSink<NotedWriter<O>>,
     errors: &mut E,
-) -> u8 {
-    let origin = Origin {
-        task: request.task,
-        path: Some(folder),
-    };
+) -> u8
+    ensures { result ≡ 0 → sink.new.failed ≡ false }
+{
     let names = match names_in(rt, alloc, folder) {
         Ok(names) => names,
         Err(error) => {
-            say_unopened(alloc, errors, origin, &error);
-            return 1;
+            say_unreadable(alloc, errors, Some(folder), &Some(error));
+            return 3;
         }
     };
     if names.is_empty() {
-        put(errors, "lwkt_explore: ");
-        put_shown(alloc, errors, folder);
-        put(errors, ": no file there ends in .lwkt or .json\n");
+        say_of_file(
+            alloc,
+            errors,
+            Some(folder),
+            "no file there ends in .lwkt or .json",
+        );
         return 1;
     }
     let Ok(count) = counted(rt, alloc, request, folder, names.as_slice(), sink) else {
-        say_memory(errors, origin);
+        say_memory(errors);
         return 3;
     };
     if sink.failed {
-        say_unwritten(alloc, errors, origin, &sink.writer.error);
+        say_unwritten(alloc, errors, &sink.writer.error);
         return 3;
     }
     if count.failed == 0 { 0 } else { 5 }

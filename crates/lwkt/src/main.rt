@@ -20,13 +20,14 @@ mod tickers;
 mod written;
 
 use crate::answering::answer;
-use crate::errors::put;
-use lwkt_report::{WriterSink, refusal_of, words_of};
+use crate::errors::{put, say_memory};
+use lwkt_report::{NotedWriter, WriterSink, refusal_of, words_of};
 use std::alloc::Global;
 use std::process::ExitCode;
 
 fn main(rt: HostRuntime) -> ExitCode {
     let alloc: Global = rt.alloc();
+    let mut sink = WriterSink::new(NotedWriter::new(rt.stdout()));
     let mut errors = WriterSink::new(rt.stderr());
     let status = match words_of(&rt) {
         Ok(words) => answer(
@@ -34,12 +35,12 @@ fn main(rt: HostRuntime) -> ExitCode {
             alloc,
             words.as_slice(),
             rt.stdin(),
-            rt.stdout(),
+            &mut sink,
             &mut errors,
         ),
         Err(error) => {
             if refusal_of(&error).is_some() {
-                put(&mut errors, "lwkt: out of memory\n");
+                say_memory(&mut errors);
                 3
             } else {
                 put(

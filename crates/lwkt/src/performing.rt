@@ -1,16 +1,14 @@
 //! A request, performed.
-ghost use Rattle.std.specs.Prelude.{◌≡◌, ◌≢◌, ◌⊎◌, Bool, Err, IfErr, IfOk, IsTrue, OnOk, false, true, string_bytes};
+ghost use Rattle.std.specs.Prelude.{◌≡◌, ◌⊎◌, Err, IfErr, IfOk, IsTrue, OnOk, false, string_bytes};
 ghost use Rattle.std.specs.Option.{option_copied};
-ghost use Rattle.lwkt_checker.specs.Output.{TellsFinding};
-ghost use Rattle.lwkt_checker.specs.LineOutput.{TellsOfLines};
 ghost use Rattle.lwkt_text.specs.Inputs.{input_of};
-ghost use Rattle.lwkt.specs.Checking.{ChecksAloud, IsUnread};
+ghost use Rattle.lwkt.specs.Answering.{Serves};
 ghost use Rattle.lwkt.specs.Failing.{Declines, IsFailureOf, status_of};
 ghost use Rattle.lwkt.specs.Making.{IsMade, IsMadeOf, TakesScript};
-ghost use Rattle.lwkt.specs.Performing.{AnswersRead, Performs, RunsByOldName, SaysAfter, complains, order_of};
+ghost use Rattle.lwkt.specs.Performing.{AnswersRead, Performs, SaysAfter, complains, order_of};
 
 use crate::checks::check;
-use crate::errors::{Origin, put, say_memory, say_unmade, say_unread_stream, say_unwritten};
+use crate::errors::{Origin, put, say_memory, say_unmade, say_unreadable, say_unwritten};
 use crate::explores::finding_of;
 use crate::failures::Failure;
 use crate::reads::read_said;
@@ -161,13 +159,13 @@ fn say_streams<I, O, E: Sink>(
     sink: &WriterSink<NotedWriter<O>>,
 ) {
     if matches!(answer, Err(Failure::Fault(Fault::Memory(_)))) {
-        say_memory(errors, origin);
+        say_memory(errors);
     }
     if source.failed {
-        say_unread_stream(alloc, errors, origin, &source.reader.error);
+        say_unreadable(alloc, errors, origin.path, &source.reader.error);
     }
     if sink.failed {
-        say_unwritten(alloc, errors, origin, &sink.writer.error);
+        say_unwritten(alloc, errors, &sink.writer.error);
     }
 }
 
@@ -219,15 +217,8 @@ pub fn perform<R: Threads + Sync + Clock, I: Read, O: Write, E: Sink>(
     sink: &mut WriterSink<NotedWriter<O>>,
     errors: &mut E,
 ) -> u8
-    // What is written of a script, and the status.
-    ensures performs { TakesScript request.now.task → Performs request.now.task (order_of request.now) (option_copied name.entry) source.new.failed sink.new.failed (IsTrue sink.new.flushed) (I.remaining source.old.reader.reader) (O.contents sink.old.writer.writer) (O.contents sink.new.writer.writer) result }
-
-    // By the name `lwkt_run` a script in JSON is run as `run_program` runs it.
-    ensures as_format { (on_threads : Bool) → request.now.task ≡ Task.Run on_threads true → RunsByOldName on_threads (option_copied name.entry) source.new.failed sink.new.failed (I.remaining source.old.reader.reader) (O.contents sink.old.writer.writer) (O.contents sink.new.writer.writer) result }
-
-    // What is found of a trace, and the status.
-    ensures checks { request.now.task ≡ Task.Check false → ChecksAloud TellsFinding source.new.failed sink.new.failed (I.remaining source.old.reader.reader) (O.contents sink.old.writer.writer) (O.contents sink.new.writer.writer) (IsUnread sink.new.failed sink.new.writer.error) (E.has_failed errors.new) (E.contents errors.old) (E.contents errors.new) result }
-    ensures lines { request.now.task ≡ Task.Check true → ChecksAloud TellsOfLines source.new.failed sink.new.failed (I.remaining source.old.reader.reader) (O.contents sink.old.writer.writer) (O.contents sink.new.writer.writer) (IsUnread sink.new.failed sink.new.writer.error) (E.has_failed errors.new) (E.contents errors.old) (E.contents errors.new) result }
+    // What is written, and the status.
+    ensures serves { Serves request.now.task (order_of request.now) (option_copied name.entry) source.new.failed (I.remaining source.old.reader.reader) (record { old = O.contents sink.old.writer.writer; new = O.contents sink.new.writer.writer; failed = sink.new.failed; error = sink.new.writer.error; flushed = sink.new.flushed; before = E.contents errors.old; after = E.contents errors.new; lost = E.has_failed errors.new }) result }
 
     // A stream that fails is told by the status.
     ensures failed_source { TakesScript request.now.task → source.old.failed ≡ false → IsTrue source.new.failed → result ≡ 3 }
@@ -239,7 +230,7 @@ pub fn perform<R: Threads + Sync + Clock, I: Read, O: Write, E: Sink>(
     };
     let order = order_of(request);
     match request.task {
-        Task::Check { by_lines } => check(alloc, by_lines, source, sink, errors),
+        Task::Check { by_lines } => check(alloc, by_lines, name, source, sink, errors),
         _ => perform_on_script(rt, alloc, origin, order, source, sink, errors),
     }
 }

@@ -6,9 +6,9 @@ ghost use Rattle.lwkt_text.specs.declared.inputs.Unread.{Unread};
 ghost use Rattle.lwkt_text.specs.Inputs.{IsUnread, input_of};
 ghost use Rattle.lwkt.specs.Failing.{RefusesInput};
 
-use crate::errors::{Origin, say_unread};
+use crate::errors::Origin;
 use lwkt_base::Fault;
-use lwkt_refusals::say_releases;
+use lwkt_refusals::{say_releases, say_unread};
 use lwkt_report::Sink;
 use lwkt_text::{Input, Unread, read_input};
 use std::alloc::Global;
@@ -44,7 +44,9 @@ pub fn read_said<E: Sink>(
         }
         Err(unread) => {
             let fault = fault_of(&unread);
-            say_unread(alloc, errors, origin, bytes, unread);
+            if !matches!(unread, Unread::Memory(_)) {
+                say_unread(alloc, errors, origin.speaker(), origin.path, bytes, &unread);
+            }
             Err(fault)
         }
     }

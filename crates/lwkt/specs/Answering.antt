@@ -1,0 +1,83 @@
+-- What the program does with the words of its command line (own).
+use Rattle.std.specs.Prelude.{◌≡◌, ◌⊎◌, ℕ, List, Bool, false, true, IsTrue, Option, None, Some, string_bytes}
+use Rattle.std.specs.Io.KnownBytes.{Appends, Keeps}
+use Rattle.std.specs.declared.io.Error.{Error}
+use Rattle.lwkt_checker.specs.LineOutput.{TellsOfLines}
+use Rattle.lwkt_checker.specs.Output.{TellsFinding}
+use Rattle.lwkt_report.specs.declared.complaints.Complaint.TheVariants.{Usage}
+use Rattle.lwkt_report.specs.declared.complaints.Program.TheVariants.{Run as RunProgram}
+use Rattle.lwkt_report.specs.Complaint.{fault_line, IsSaid}
+use Rattle.lwkt_report.specs.Stream.{AppendsFront}
+use Rattle.lwkt_request.specs.Answers.{IsAnswer, asked_in}
+use Rattle.lwkt_request.specs.declared.requests.Asked.{Asked}
+use Rattle.lwkt_request.specs.declared.requests.Asked.TheVariants.{Do, Tell, Misuse, OldUsage}
+use Rattle.lwkt_request.specs.declared.requests.Task.{Task}
+use Rattle.lwkt_request.specs.declared.requests.Task.TheVariants.{Run, Check, Explore}
+use Rattle.lwkt_request.specs.Wishes.{wish_by, wish_of}
+use Rattle.lwkt.specs.Checking.{ChecksAloud, IsUnread}
+use Rattle.lwkt.specs.Making.{TakesScript}
+use Rattle.lwkt.specs.Performing.{Performs, RunsByOldName}
+
+-- what was written to standard output and to standard error before the program and after it, where that is known; whether a call of either
+-- has failed, and by which error one of standard output has; and whether standard output is flushed
+pub record Streams : Type 0 where
+  pub old : Option (List ℕ)
+  pub new : Option (List ℕ)
+  pub failed : Bool
+  pub error : Option Error
+  pub flushed : Bool
+  pub before : Option (List ℕ)
+  pub after : Option (List ℕ)
+  pub lost : Bool
+
+-- what is done for a task with what was left to read of a file of this name, or of standard input: what it makes of a script is written,
+-- by the name `lwkt_run` as `run_program` writes that of one in JSON; or what is found of a trace
+pub record Serves (task : Task) (order name : Option (List ℕ)) (source_failed : Bool) (left : Option (List ℕ)) (s : Streams) (status : ℕ) : Type 0 where
+  pub performs : TakesScript task → Performs task order name source_failed s.failed (IsTrue s.flushed) left s.old s.new status
+  pub as_format : (on_threads : Bool) → task ≡ Run on_threads true → RunsByOldName on_threads name source_failed s.failed left s.old s.new status
+  pub checks : task ≡ Check false → ChecksAloud TellsFinding source_failed s.failed left s.old s.new (IsUnread s.failed s.error) s.lost s.before s.after status
+  pub lines : task ≡ Check true → ChecksAloud TellsOfLines source_failed s.failed left s.old s.new (IsUnread s.failed s.error) s.lost s.before s.after status
+
+-- the usage line of `lwkt_run`, with status 1
+abbrev pub TellsUsage : Streams → ℕ → Type 0
+TellsUsage s status = IsSaid s.failed s.old s.new (fault_line RunProgram Usage) × (status ≡ 1)
+
+-- words for `lwkt_run`
+abbrev pub IsByOldName : Task → Type 0
+IsByOldName task = (on_threads : Bool) × (task ≡ Run on_threads true)
+
+-- what is done with a file of this name: it can't be opened, and nothing is written, with status 3; or `lwkt_run` is misused, since no such
+-- file is there; or what is in it is read
+abbrev pub ServesFile : Task → Option (List ℕ) → List ℕ → Streams → ℕ → Type 0
+ServesFile task order name s status =
+    (Keeps s.old s.new × (status ≡ 3))
+    ⊎ ((IsByOldName task × TellsUsage s status)
+    ⊎ ((left : Option (List ℕ)) × ((source_failed : Bool) × Serves task order (Some name) source_failed left s status)))
+
+-- a search of all scripts of a folder, of which nothing is said here
+abbrev pub takes_folder : Task → Bool
+takes_folder (Explore search) = search.all
+takes_folder _ = false
+
+-- what is done for a request: with the file that it names, else with what is left of standard input
+abbrev pub ServesBy : Option (List ℕ) → Task → Option (List ℕ) → Option (List ℕ) → Streams → ℕ → Type 0
+ServesBy None task order left s status = (source_failed : Bool) × Serves task order None source_failed left s status
+ServesBy (Some name) task order left s status = takes_folder task ≡ false → ServesFile task order name s status
+
+-- a page is written whole, with status 0; or the sink fails, and a front of it stands, with status 3
+abbrev pub TellsPage : List ℕ → Streams → ℕ → Type 0
+TellsPage text s status = (Appends s.old s.new text × (status ≡ 0)) ⊎ (IsTrue s.failed × (AppendsFront s.old s.new text × (status ≡ 3)))
+
+-- what is done for an answer to the words: a request is served, a page written; and for words that ask for nothing, nothing is written
+abbrev pub DoesAsked : Asked → Option (List ℕ) → Streams → ℕ → Type 0
+DoesAsked (Do request) left s status = ServesBy (wish_by request).path request.task (wish_by request).order left s status
+DoesAsked (Tell text) left s status = TellsPage (string_bytes text) s status
+DoesAsked (Misuse text) left s status = Keeps s.old s.new × (status ≡ 1)
+DoesAsked OldUsage left s status = TellsUsage s status
+
+-- what the program does with these words, where this is left of standard input: the request that they ask for, if they ask for one; or
+-- memory is refused, and nothing is written
+abbrev pub Does : List (List ℕ) → Option (List ℕ) → Streams → ℕ → Type 0
+Does words left s status =
+    (Keeps s.old s.new × (status ≡ 3))
+    ⊎ ((asked : Asked) × (IsAnswer words asked × ((wish_of asked ≡ asked_in words) × DoesAsked asked left s status)))
