@@ -203,9 +203,8 @@ uint32_t lwkt_word_give_written(uint64_t word, uint64_t *next);
 // calls differ: `lwkt_block` gives all up where it answers 19, and `lwkt_resume` has held the references in front of one that it missed
 // for a while, so that the mark of a token among them that it held exclusively is cleared.
 //
-// Each call on a bank answers 52 where the bank is closed, in place of what its list says; but 30 stays 30; and each
-// call on a seat that was given up as lost answers 54, in place of 50. A bank of zeros, as
-// `(lwkt_bank){0}`, is no bank: each call on it answers 52.
+// Each call on a bank answers 52 where the bank is closed, in place of what its list says; but 30 stays 30. Each call on a seat that was
+// given up as lost answers 54, in place of 50. A bank of zeros, as `(lwkt_bank){0}`, is no bank: each call on it answers 52.
 //
 // What the caller owes, beside what stands at the head of this file:
 //
@@ -216,8 +215,9 @@ uint32_t lwkt_word_give_written(uint64_t word, uint64_t *next);
 // - No more. Two calls at once on one seat are two calls: one of them may answer 50. A token that is held when its thread ends
 //   stays held by its seat, from which any thread may go on.
 //
-// A bank takes about 11 KB for each seat and 900 bytes for each token. `lwkt_bank_close` gives that back but for less than 600 bytes,
-// so that the handle can be used on: those go by `lwkt_bank_free`. What a lost call had, its seat and a share of the bank, stays.
+// A bank takes about 30 KB for each seat and 800 bytes for each token, with all that its close needs. `lwkt_bank_close` gives that back
+// but for less than 300 bytes, so that the handle can be used on: those go by `lwkt_bank_free`. What a lost call had, its seat and a share
+// of the bank, stays.
 #define LWKT_BUSY 23u
 #define LWKT_RACE 34u
 #define LWKT_SEAT_IN_USE 50u
