@@ -1,4 +1,4 @@
-"""The program for benches, and what bench/refused, bench/failing and bench/spoil share: its names, and runs of it over bench/faults.c."""
+"""The program for benches, and what bench/refused and bench/failing share: its names, and runs of it over bench/faults.c."""
 
 import os
 import subprocess
@@ -12,7 +12,6 @@ PROGRAM = os.environ.get("PROGRAM") or max(filter(os.path.exists, PLACES), key=o
 RUN = ("lwkt_run", (PROGRAM, "lwkt_run"), True)
 CHECK = ("lwkt_check", (PROGRAM, "lwkt_check"), False)
 SHOW = ("lwkt_show", (PROGRAM, "lwkt_show"), False)
-TEXT = ("lwkt_text", (PROGRAM, "lwkt_text"), False)
 # How long a run may take, in seconds.
 LONGEST = int(os.environ.get("LONGEST", "60"))
 
@@ -44,15 +43,6 @@ class Answer:
         if self.status is None:
             return "no end after %d s" % LONGEST
         return "status %d, %r, %r" % (self.status, self.out[:200], self.err[:200])
-
-
-# One run without faults.
-def run(program, words, given):
-    try:
-        done = subprocess.run([*program[1], *words], input=given, capture_output=True, timeout=LONGEST)
-    except subprocess.TimeoutExpired:
-        return Answer(None, b"", b"", None)
-    return Answer(done.returncode, done.stdout, done.stderr, None)
 
 
 class Faults:

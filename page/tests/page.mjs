@@ -93,8 +93,8 @@ async function tryTexts(tab) {
   same(await tab.ask(`[document.querySelectorAll('#verdicts li').length, document.querySelector('#verdicts li:last-child').textContent]`), [201, "and 101 more"], "of many expectations the first are shown");
   await put(tab, "{");
   check(await tab.until(`document.getElementById('form').textContent.includes('JSON')`), "a brace is JSON");
-  await put(tab, "t");
-  check(await tab.until(`document.getElementById('form').textContent.includes('text')`), "a letter is a text");
+  await put(tab, "token t");
+  check(await tab.until(`document.getElementById('form').textContent.includes('text')`), "a declaration is a text");
 }
 
 const outcomes = `[...document.querySelectorAll('#outcomes > li')].map((it) => [it.dataset.kind, it.querySelector('.order').textContent])`;

@@ -60,10 +60,11 @@ export function statusOf(name) {
 const program = process.env.PAGE_PROGRAM || join(top, "lwkt");
 const names = { lwkt_run_turns: "lwkt_run", lwkt_run_text: "lwkt_run", lwkt_check_trace: "lwkt_check", lwkt_show_turns: "lwkt_show", lwkt_text_json: "lwkt_text", lwkt_explore_orders: "lwkt_explore" };
 
-// Whether bytes are taken for a text, as docs/LANGUAGE.md says.
+// Whether bytes are taken for a text, as docs/FORMATS.md says: no JSON, and a sentence declares something.
 function isText(script) {
   const text = script.toString("latin1");
-  if (Buffer.byteLength(script) > 1048576 || !/^[ \t\r\n]*[A-Za-z_#]/.test(text)) return 0;
+  const declares = text.replace(/#.*$/gm, "").split(/[\n;]/).some((it) => /^[\s,:]*(token|message|thread)(?![A-Za-z0-9_])/.test(it));
+  if (Buffer.byteLength(script) > 1048576 || !declares) return 0;
   try {
     JSON.parse(text);
     return 0;
