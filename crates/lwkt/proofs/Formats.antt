@@ -88,7 +88,8 @@ front bytes = take READ_LIMIT bytes
 -- a report is that of a run of the JSON
 has_run : (mode : Mode) (bytes text : List ℕ) (input : Input) (status : ℕ) (report : IsReport mode input text status) → json_input (script_of bytes) ≡ Ok input → HasRunBy mode (front bytes) (end_told report.closing) text
 has_run mode bytes text input status report is =
-    has_run_by mode (front bytes) input.script report.closing (end_told report.closing) text (front_gives bytes (Ok input.script) (json_read (script_of bytes) input is).0) report.closes report.is_text refl
+    let Runs : List ℕ → Type 0 = λ t. HasRunBy mode (front bytes) (end_told report.closing) t in
+    subst Runs (sym report.is_text) (has_run_by mode (front bytes) input.script report.closing (front_gives bytes (Ok input.script) (json_read (script_of bytes) input is).0) report.closes)
 
 status_run : (mode : Mode) (bytes text : List ℕ) (input : Input) (status : ℕ) (report : IsReport mode input text status) → json_input (script_of bytes) ≡ Ok input → status ≡ exit_status (Ok (end_told report.closing))
 status_run mode bytes text input status report is =
