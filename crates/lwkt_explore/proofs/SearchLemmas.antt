@@ -1,4 +1,4 @@
-use Rattle.std.proofs.Common.{◌≡◌, ◌⊎◌, ℕ, ◌≤◌, Bool, true, length, ⊎_elim, sym, subst, ◌∙◌, arith}
+use Rattle.std.proofs.Common.{◌≡◌, ◌⊎◌, ℕ, ◌≤◌, Bool, true, None, length, ⊎_elim, sym, subst, ◌∙◌, arith}
 use Rattle.std.specs.Prelude.{Contains, Vec}
 use Rattle.std.specs.declared.alloc.Global.{Global}
 use Rattle.lwkt_script.specs.declared.scripts.Script.{Script}
@@ -28,7 +28,7 @@ search_goes script old new outcomes goes is =
     }
 
 -- a search with one outcome more
-pub search_finds : (script : Script) (walk : Walk) (old new : Outcomes) → AreOutcomes script new → AreShort walk.bounds.turns new → (HasEnded old → HasEnded new) → (walk.is_complete ≡ true → AreWhole old → AreWhole new) → IsSearching script walk old → IsSearching script walk new
+pub search_finds : (script : Script) (walk : Walk) (old new : Outcomes) → AreOutcomes script new → AreShort walk.bounds.turns new → (HasEnded old → HasEnded new) → (walk.met ≡ None → AreWhole old → AreWhole new) → IsSearching script walk old → IsSearching script walk new
 search_finds script walk old new found short more whole is = record {
   walk_is = is.walk_is;
   some = is.some;
@@ -38,8 +38,23 @@ search_finds script walk old new found short more whole is = record {
   whole = λ complete. whole complete (is.whole complete);
 }
 
+-- a search that met a bound, or none, after one outcome more
+pub search_meets : (script : Script) (old new : Walk) (was found : Outcomes) → new.bounds ≡ old.bounds → new.graph ≡ old.graph → new.ends ≡ old.ends → AreOutcomes script found → AreShort old.bounds.turns found → (HasEnded was → HasEnded found) → (new.met ≡ None → AreWhole found)
+    → IsSearching script old was → IsSearching script new found
+search_meets script old new was found bounds graph ends all short more whole is =
+    let S : Graph → Type 0 = λ g. 1 ≤ length g.nodes.items in
+    let E : Vec Bool Global → Type 0 = λ e. Contains e.items true → HasEnded found in
+    record {
+      walk_is = walk_stays script old new bounds graph is.walk_is;
+      some = subst S (sym graph) is.some;
+      found = all;
+      short = short_at old.bounds new.bounds found (sym bounds) short;
+      ended = subst E (sym ends) (λ has. more (is.ended has));
+      whole = whole;
+    }
+
 -- a search that noted of one state more whether it is an end
-pub search_notes : (script : Script) (old new : Walk) (outcomes : Outcomes) (is_end : Bool) → new.bounds ≡ old.bounds → new.graph ≡ old.graph → new.is_complete ≡ old.is_complete
+pub search_notes : (script : Script) (old new : Walk) (outcomes : Outcomes) (is_end : Bool) → new.bounds ≡ old.bounds → new.graph ≡ old.graph → new.met ≡ old.met
     → (Contains new.ends.items true → Contains old.ends.items true ⊎ (is_end ≡ true)) → (is_end ≡ true → HasEnded outcomes) → IsSearching script old outcomes → IsSearching script new outcomes
 search_notes script old new outcomes is_end bounds graph same noted ends is =
     let S : Graph → Type 0 = λ g. 1 ≤ length g.nodes.items in

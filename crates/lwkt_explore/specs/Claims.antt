@@ -1,5 +1,5 @@
 -- What is said of an outcome, and whether it is so (own).
-use Rattle.std.specs.Prelude.{ℕ, ◌==◌, ◌&&◌, ◌||◌, not, nat_lt, nat_le, List, [], ◌∷◌, slice_get, bytes_eq, Bool, true, false, Option, Some, None, option_map, unwrap_or}
+use Rattle.std.specs.Prelude.{ℕ, ◌==◌, ◌&&◌, ◌||◌, not, nat_lt, nat_le, length, if◌then◌else◌, List, [], ◌∷◌, slice_get, bytes_eq, Bool, true, false, Option, Some, None, option_map, unwrap_or}
 use Rattle.std.specs.List.{list_all}
 use Rattle.lwkt_base.specs.declared.entries.Entry.{Entry}
 use Rattle.lwkt_base.specs.declared.entries.Entry.TheVariants as entries
@@ -23,6 +23,8 @@ use Rattle.lwkt_text.specs.declared.claims.Relation.TheVariants as relations
 use Rattle.lwkt_text.specs.declared.claims.Standing.{Standing}
 use Rattle.lwkt_text.specs.declared.claims.Standing.TheVariants as standings
 use Rattle.lwkt_explore.specs.Readings.{sum_of}
+use Rattle.lwkt_explore.specs.declared.claims.Truth.{Truth}
+use Rattle.lwkt_explore.specs.declared.claims.Truth.TheVariants.{Yes, No, Open}
 
 -- whether a thread stands so
 abbrev pub is_standing : Standing → ThreadState → Bool
@@ -80,11 +82,15 @@ has_entry entry (e ∷ es) = same_entry e entry || has_entry entry es
 abbrev pub has_logged : ThreadId → Entry → ThreadLine → Bool
 has_logged id entry line = same_thread line.id id && has_entry entry line.log
 
+-- whether this is the line of a thread, and its log is full: it has 32 entries, and later ones aren't kept
+abbrev pub is_full : ThreadId → ThreadLine → Bool
+is_full id line = same_thread line.id id && nat_le 32 (length line.log)
+
 -- whether this is the line of a thread that stands so
 abbrev pub has_stood : ThreadId → Standing → ThreadLine → Bool
 has_stood id standing line = same_thread line.id id && is_standing standing line.state
 
--- whether a thread was ended by this fault, has this entry, stands so
+-- whether a thread was ended by this fault, has this entry, has a full log, stands so
 abbrev pub any_faulted : ℕ → List ThreadLine → Bool
 any_faulted n [] = false
 any_faulted n (line ∷ lines) = has_faulted n line.state || any_faulted n lines
@@ -92,6 +98,10 @@ any_faulted n (line ∷ lines) = has_faulted n line.state || any_faulted n lines
 abbrev pub any_logged : ThreadId → Entry → List ThreadLine → Bool
 any_logged id entry [] = false
 any_logged id entry (line ∷ lines) = has_logged id entry line || any_logged id entry lines
+
+abbrev pub any_full : ThreadId → List ThreadLine → Bool
+any_full id [] = false
+any_full id (line ∷ lines) = is_full id line || any_full id lines
 
 abbrev pub any_stood : ThreadId → Standing → List ThreadLine → Bool
 any_stood id standing [] = false
@@ -120,12 +130,21 @@ lies o msg place = unwrap_or (option_map (λ line. is_place place line.state) (s
 abbrev pub all_ended : Closing → Bool
 all_ended o = list_all (λ line. has_ended line.state) o.threads.items
 
+-- what is known to be so, or not
+abbrev pub known : Bool → Truth
+known true = Yes
+known false = No
+
+-- whether a thread has got an entry: a log that shows it says yes; one that doesn't, and is full, leaves it open
+abbrev pub logged_truth : ThreadId → Entry → List ThreadLine → Truth
+logged_truth id entry lines = if any_logged id entry lines then Yes else (if any_full id lines then Open else No)
+
 -- whether what is said of an outcome is so
-abbrev pub holds : Closing → Claim → Bool
-holds o claims.Ended = all_ended o
-holds o claims.Stuck = not (all_ended o)
-holds o (claims.Faulted n) = any_faulted n o.threads.items
-holds o (claims.Logged id entry) = any_logged id entry o.threads.items
-holds o (claims.Stands id standing) = any_stood id standing o.threads.items
-holds o (claims.Lies msg place) = lies o msg place
-holds o (claims.Compares c) = compared c.relation (sum_of o c.left) (sum_of o c.right)
+abbrev pub truth_of : Closing → Claim → Truth
+truth_of o claims.Ended = known (all_ended o)
+truth_of o claims.Stuck = known (not (all_ended o))
+truth_of o (claims.Faulted n) = known (any_faulted n o.threads.items)
+truth_of o (claims.Logged id entry) = logged_truth id entry o.threads.items
+truth_of o (claims.Stands id standing) = known (any_stood id standing o.threads.items)
+truth_of o (claims.Lies msg place) = known (lies o msg place)
+truth_of o (claims.Compares c) = known (compared c.relation (sum_of o c.left) (sum_of o c.right))

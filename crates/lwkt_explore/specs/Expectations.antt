@@ -1,43 +1,64 @@
 -- What a text says of the outcomes of its script, over all orders (own).
 use Rattle.std.specs.Prelude.{Bool, true, false, ℕ, ◌==◌, ◌&&◌, not, List, length, if◌then◌else◌}
 use Rattle.std.specs.List.{list_all, list_any}
-use Rattle.lwkt_explore.specs.Claims.{holds}
 use Rattle.lwkt_text.specs.declared.claims.Expectation.{Expectation}
 use Rattle.lwkt_text.specs.declared.claims.When.{When}
 use Rattle.lwkt_text.specs.declared.claims.When.TheVariants.{Always, Sometimes, Never}
+use Rattle.lwkt_explore.specs.declared.claims.Truth.{Truth}
+use Rattle.lwkt_explore.specs.declared.claims.Truth.TheVariants.{Yes, No, Open}
 use Rattle.lwkt_explore.specs.declared.outcomes.Kind.{Kind}
 use Rattle.lwkt_explore.specs.declared.outcomes.Kind.TheVariants.{Ended, Stuck, Cut}
 use Rattle.lwkt_explore.specs.declared.outcomes.Outcome.{Outcome}
 use Rattle.lwkt_explore.specs.declared.searches.Found.{Found}
+use Rattle.lwkt_explore.specs.Claims.{truth_of}
+use Rattle.lwkt_explore.specs.Extents.{is_complete}
+use Rattle.lwkt_explore.specs.Judgements.{is_no, is_left_open}
+use Rattle.lwkt_explore.specs.Judging.{opposite}
 use Rattle.lwkt_explore.specs.Statuses.{status_of_found}
 
--- whether an outcome stands where no turn changes anything: only such ones are judged
+-- whether an outcome wasn't cut: only such ones are judged
 abbrev pub is_final : Kind → Bool
 is_final Ended = true
 is_final Stuck = true
 is_final Cut = false
 
--- whether a claim that holds decides an expectation, or one that doesn't
-abbrev pub decides_by : When → Bool → Bool
-decides_by Always so = not so
-decides_by Sometimes so = so
-decides_by Never so = so
+abbrev pub is_yes : Truth → Bool
+is_yes Yes = true
+is_yes No = false
+is_yes Open = false
+
+-- whether a claim that is so decides an expectation, or one that isn't
+abbrev pub decides_by : When → Truth → Bool
+decides_by Always truth = is_no truth
+decides_by Sometimes truth = is_yes truth
+decides_by Never truth = is_yes truth
 
 -- whether an outcome decides an expectation: it breaks what is said of each one or of none, or it is one that shows what is said of one
 abbrev pub decides : Expectation → Outcome → Bool
-decides e outcome = is_final outcome.kind && decides_by e.when (holds outcome.closing e.claim)
+decides e outcome = is_final outcome.kind && decides_by e.when (truth_of outcome.closing e.claim)
 
--- whether an expectation is met, where it is known whether an outcome decides it
-abbrev pub met_by : When → Bool → Bool
-met_by Always decided = not decided
-met_by Sometimes decided = decided
-met_by Never decided = not decided
+-- whether an outcome doesn't tell whether it decides an expectation
+abbrev pub leaves_open : Expectation → Outcome → Bool
+leaves_open e outcome = is_final outcome.kind && is_left_open (truth_of outcome.closing e.claim)
 
-abbrev pub is_met_over_orders : Expectation → List Outcome → Bool
-is_met_over_orders e outcomes = met_by e.when (list_any (decides e) outcomes)
+-- whether an expectation holds that an outcome decides
+abbrev pub truth_decided : When → Truth
+truth_decided Always = No
+truth_decided Sometimes = Yes
+truth_decided Never = No
+
+-- whether an expectation holds: an outcome that decides it says so; where none does, the opposite is so if every order was tried and no
+-- outcome leaves it open, and else it isn't decided
+abbrev pub truth_over_orders : Found → Expectation → Truth
+truth_over_orders found e =
+    if list_any (decides e) found.outcomes.all.items then truth_decided e.when else (
+    if is_complete found && not (list_any (leaves_open e) found.outcomes.all.items) then opposite (truth_decided e.when) else Open)
+
+abbrev pub holds : Found → Expectation → Bool
+holds found e = is_yes (truth_over_orders found e)
 
 -- the status of what was found of a text: of one without expectations that of a script; else 0 where every order was tried and each
--- expectation is met, and 5 where not
+-- expectation holds, and 5 where not
 abbrev pub status_of_text : List Expectation → Found → ℕ
 status_of_text expectations found =
-    if length expectations == 0 then status_of_found found else (if found.is_complete && list_all (λ e. is_met_over_orders e found.outcomes.all.items) expectations then 0 else 5)
+    if length expectations == 0 then status_of_found found else (if is_complete found && list_all (holds found) expectations then 0 else 5)

@@ -1,26 +1,48 @@
 -- What a run came to, by its outcome and by what the text of its script says of that (own).
-use Rattle.std.specs.Prelude.{ℕ, ◌==◌, ◌&&◌, not, List, [], ◌∷◌, length, Bool, true, false, if◌then◌else◌}
-use Rattle.std.specs.List.{list_all}
+use Rattle.std.specs.Prelude.{ℕ, ◌==◌, ◌&&◌, not, List, length, Bool, true, false, if◌then◌else◌}
+use Rattle.std.specs.List.{list_any}
 use Rattle.lwkt_report.specs.declared.closings.Closing.{Closing}
 use Rattle.lwkt_report.specs.declared.closings.Verdict.{Verdict}
 use Rattle.lwkt_report.specs.declared.closings.Verdict.TheVariants as verdicts
 use Rattle.lwkt_text.specs.declared.claims.Expectation.{Expectation}
+use Rattle.lwkt_explore.specs.declared.claims.Truth.{Truth}
+use Rattle.lwkt_explore.specs.declared.claims.Truth.TheVariants.{Yes, No, Open}
 use Rattle.lwkt_explore.specs.declared.judgements.Judgement.{Judgement}
-use Rattle.lwkt_explore.specs.declared.judgements.Judgement.TheVariants.{Met, TurnsOut, Unlawful, Unmet}
+use Rattle.lwkt_explore.specs.declared.judgements.Judgement.TheVariants.{Met, TurnsOut, Unlawful, Unmet, NotDecided}
 use Rattle.lwkt_explore.specs.Claims.{all_ended}
-use Rattle.lwkt_explore.specs.Judging.{is_met}
+use Rattle.lwkt_explore.specs.Judging.{truth_in_run}
 
 abbrev pub is_unlawful : Verdict → Bool
 is_unlawful verdicts.Closed = false
 is_unlawful verdicts.Lawful = false
 is_unlawful (verdicts.Unlawful index) = true
 
--- unlawful before all else; then what is said of the outcome decides, and where nothing is, whether every thread has ended
+abbrev pub is_no : Truth → Bool
+is_no Yes = false
+is_no No = true
+is_no Open = false
+
+abbrev pub is_left_open : Truth → Bool
+is_left_open Yes = false
+is_left_open No = false
+is_left_open Open = true
+
+-- whether what is said of a run's outcome isn't so
+abbrev pub is_unmet : Closing → Expectation → Bool
+is_unmet outcome e = is_no (truth_in_run e outcome)
+
+-- whether the report doesn't tell
+abbrev pub is_open : Closing → Expectation → Bool
+is_open outcome e = is_left_open (truth_in_run e outcome)
+
+-- unlawful before all else; then what is said of the outcome decides, something that isn't so before something that is open; and where
+-- nothing is said, whether every thread has ended
 abbrev pub judgement_of : List Expectation → Closing → Judgement
 judgement_of expectations outcome =
     if is_unlawful outcome.verdict then Unlawful else (
-    if not (list_all (λ e. is_met e (outcome ∷ [])) expectations) then Unmet else (
-    if length expectations == 0 && not (all_ended outcome) then TurnsOut else Met))
+    if list_any (is_unmet outcome) expectations then Unmet else (
+    if list_any (is_open outcome) expectations then NotDecided else (
+    if length expectations == 0 && not (all_ended outcome) then TurnsOut else Met)))
 
 -- the exit status of a program that ran the script
 abbrev pub status_of_judgement : Judgement → ℕ
@@ -28,3 +50,4 @@ status_of_judgement Met = 0
 status_of_judgement TurnsOut = 2
 status_of_judgement Unlawful = 4
 status_of_judgement Unmet = 5
+status_of_judgement NotDecided = 5

@@ -1,27 +1,22 @@
--- Whether what a text says of outcomes is so (own).
-use Rattle.std.specs.Prelude.{List, [], ◌∷◌, Bool, true, false, not, ◌&&◌, ◌||◌}
+-- Whether what a text says of outcomes is so of a run, which has one outcome (own).
 use Rattle.lwkt_report.specs.declared.closings.Closing.{Closing}
-use Rattle.lwkt_text.specs.declared.claims.Claim.{Claim}
 use Rattle.lwkt_text.specs.declared.claims.Expectation.{Expectation}
 use Rattle.lwkt_text.specs.declared.claims.When.{When}
 use Rattle.lwkt_text.specs.declared.claims.When.TheVariants.{Always, Sometimes, Never}
-use Rattle.lwkt_explore.specs.Claims.{holds}
+use Rattle.lwkt_explore.specs.declared.claims.Truth.{Truth}
+use Rattle.lwkt_explore.specs.declared.claims.Truth.TheVariants.{Yes, No, Open}
+use Rattle.lwkt_explore.specs.Claims.{truth_of}
 
--- whether something is so of each outcome
-abbrev pub all_hold : Claim → List Closing → Bool
-all_hold claim [] = true
-all_hold claim (o ∷ os) = holds o claim && all_hold claim os
+abbrev pub opposite : Truth → Truth
+opposite Yes = No
+opposite No = Yes
+opposite Open = Open
 
--- whether it is so of one at least
-abbrev pub any_holds : Claim → List Closing → Bool
-any_holds claim [] = false
-any_holds claim (o ∷ os) = holds o claim || any_holds claim os
+-- what is so of a run by whether a claim is
+abbrev pub truth_by : When → Truth → Truth
+truth_by Always truth = truth
+truth_by Sometimes truth = truth
+truth_by Never truth = opposite truth
 
--- of each outcome, of one at least, of none
-abbrev pub is_met_by : When → Claim → List Closing → Bool
-is_met_by Always claim outcomes = all_hold claim outcomes
-is_met_by Sometimes claim outcomes = any_holds claim outcomes
-is_met_by Never claim outcomes = not (any_holds claim outcomes)
-
-abbrev pub is_met : Expectation → List Closing → Bool
-is_met e outcomes = is_met_by e.when e.claim outcomes
+abbrev pub truth_in_run : Expectation → Closing → Truth
+truth_in_run e outcome = truth_by e.when (truth_of outcome e.claim)

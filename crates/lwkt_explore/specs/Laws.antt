@@ -1,13 +1,17 @@
 -- Laws of what is written of a search (own).
-use Rattle.std.specs.Prelude.{◌≡◌, ℕ, ◌+◌, List, ◌++◌, Some, map, slice_get, IsPermutation}
-use Rattle.lwkt_explore.specs.declared.outcomes.Outcome.{Outcome}
+use Rattle.std.specs.Prelude.{◌≡◌, ℕ, ◌+◌, List, ◌∷◌, ◌++◌, Some, map, slice_get, IsPermutation}
+use Rattle.std.specs.List.{flat_map}
 use Rattle.lwkt_explore.specs.declared.outcomes.Outcomes.{Outcomes}
 use Rattle.lwkt_explore.specs.declared.searches.Found.{Found}
-use Rattle.lwkt_explore.specs.Texts.{by_kind, outcome_lines, text_of_found}
+use Rattle.lwkt_explore.specs.Texts.{Form, Told, by_kind, outcome_lines, text_of_found}
 
--- the outcomes, in the order in which they are written, are those that were found, each once
+-- those that are told together: the first of them, and its other forms
+abbrev pub members : Told → List Form
+members t = t.0 ∷ t.1
+
+-- the outcomes, in the order in which they are written, each with its other forms behind it, are those that were found, each once
 abbrev pub OutcomesAreWrittenOnce : Type 0
-OutcomesAreWrittenOnce = (outcomes : Outcomes) → IsPermutation outcomes.all.items (map (λ (one : Outcome × ℕ). one.0) (by_kind outcomes))
+OutcomesAreWrittenOnce = (outcomes : Outcomes) → IsPermutation outcomes.all.items (map (λ (one : Form). one.0) (flat_map members (by_kind outcomes)))
 
 -- these lines stand in a text
 pub record StandIn (text lines : List ℕ) : Type 0 where
@@ -15,7 +19,7 @@ pub record StandIn (text lines : List ℕ) : Type 0 where
   pub back : List ℕ
   pub there : text ≡ front ++ lines ++ back
 
--- the lines of each of them stand in the text, under the number of its place, counted from 1
+-- the lines of each of them, those of its other forms among them, stand in the text, under the number of its place, counted from 1
 abbrev pub OutcomesAreNumbered : Type 0
 OutcomesAreNumbered =
-    (found : Found) (place : ℕ) (one : Outcome × ℕ) → slice_get (by_kind found.outcomes) place ≡ Some one → StandIn (text_of_found found) (outcome_lines found.tried (place + 1) one)
+    (found : Found) (place : ℕ) (t : Told) → slice_get (by_kind found.outcomes) place ≡ Some t → StandIn (text_of_found found) (outcome_lines found.tried (place + 1) t)

@@ -1,5 +1,6 @@
 pub mod Claims
 pub mod Expectations
+pub mod Extents
 pub mod Graphs
 pub mod Judgements
 pub mod Judging

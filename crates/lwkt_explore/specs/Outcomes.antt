@@ -1,10 +1,11 @@
 -- Outcomes of a script (own).
-use Rattle.std.specs.Prelude.{◌≡◌, ◌≢◌, ℕ, ◌≤◌, List, All, length, string_bytes}
-use Rattle.std.specs.List.{Any}
+use Rattle.std.specs.Prelude.{◌≡◌, ◌≢◌, ℕ, ◌≤◌, List, ◌++◌, All, length, string_bytes}
+use Rattle.std.specs.List.{Any, flat_map}
 use Rattle.lwkt_base.specs.declared.faults.Fault.{Fault}
 use Rattle.lwkt_base.specs.declared.faults.Fault.TheVariants.{Unlawful}
+use Rattle.lwkt_report.specs.declared.closings.Closing.{Closing}
 use Rattle.lwkt_report.specs.declared.closings.Verdict.TheVariants.{Lawful, Unlawful as UnlawfulVerdict}
-use Rattle.lwkt_report.specs.Report.{front_text}
+use Rattle.lwkt_report.specs.Report.{front_text, numbered_lines, token_line, thread_line}
 use Rattle.lwkt_run.specs.declared.runs.End.{End}
 use Rattle.lwkt_run.specs.declared.runs.End.TheVariants.{Ended as EndedRun, TurnsOut}
 use Rattle.lwkt_run.specs.declared.runs.TurnsRun.{TurnsRun}
@@ -21,6 +22,10 @@ IsKind Ended end = end ≡ EndedRun
 IsKind Stuck end = end ≡ TurnsOut
 IsKind Cut end = Unit {0}
 
+-- the token and thread lines of a report
+abbrev pub settled_text : Closing → List ℕ
+settled_text closing = numbered_lines token_line 0 closing.tokens.items ++ flat_map thread_line closing.threads.items
+
 -- an outcome of a script is the report, without its verdict, of the run along its order, and that verdict is `lawful`
 pub record IsOutcome (script : Script) (outcome : Outcome) : Type 0 where
   pub run : TurnsRun
@@ -28,6 +33,7 @@ pub record IsOutcome (script : Script) (outcome : Outcome) : Type 0 where
   pub is_closing : outcome.closing ≡ run.closing
   pub lawful : run.closing.verdict ≡ Lawful
   pub shows : string_bytes outcome.text ≡ front_text run.closing
+  pub settled : string_bytes outcome.settled ≡ settled_text run.closing
   pub kind : IsKind outcome.kind (end_told run.closing)
 
 -- each of these is one

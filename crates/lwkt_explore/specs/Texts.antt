@@ -1,9 +1,14 @@
 -- What is written of a search (docs/EXPLORE.md). Each line is ended by a line feed, and numbers are plain decimal (own).
-use Rattle.std.specs.Prelude.{ℕ, ◌==◌, Bool, true, false, if◌then◌else◌, List, [], ◌∷◌, ◌++◌, Option, None, Some, String, codes, length, filter, string_bytes}
+use Rattle.std.specs.Prelude.{ℕ, ◌+◌, ◌==◌, ◌&&◌, not, min, Bool, true, false, if◌then◌else◌, List, [], ◌∷◌, ◌++◌, Option, None, Some, String, bytes_eq, codes, drop, filter, get_or, length, map, string_bytes, sum}
 use Rattle.std.specs.Fmt.{decimal}
+use Rattle.std.specs.List.{flat_map}
 use Rattle.std.specs.Option.{option_map_or}
 use Rattle.std.specs.declared.alloc.Global.{Global}
-use Rattle.lwkt_report.specs.Report.{line_feed, spaced_or_dash, numbered_lines}
+use Rattle.lwkt_base.specs.declared.owners.MsgEnd.{MsgEnd}
+use Rattle.lwkt_report.specs.Report.{line_feed, spaced_or_dash, numbered_lines, owner_text}
+use Rattle.lwkt_explore.specs.declared.extents.Bound.TheVariants.{States, Turns, Memory, Stopped}
+use Rattle.lwkt_explore.specs.declared.extents.Extent.{Extent}
+use Rattle.lwkt_explore.specs.declared.extents.Extent.TheVariants.{Complete, Part, Sampled}
 use Rattle.lwkt_explore.specs.declared.losses.Lost.{Lost}
 use Rattle.lwkt_explore.specs.declared.outcomes.Kind.{Kind}
 use Rattle.lwkt_explore.specs.declared.outcomes.Kind.TheVariants.{Ended, Stuck, Cut}
@@ -11,7 +16,7 @@ use Rattle.lwkt_explore.specs.declared.outcomes.Outcome.{Outcome}
 use Rattle.lwkt_explore.specs.declared.outcomes.Outcomes.{Outcomes}
 use Rattle.lwkt_explore.specs.declared.searches.Found.{Found}
 use Rattle.lwkt_explore.specs.declared.searches.Tried.{Tried}
-use Rattle.lwkt_explore.specs.declared.searches.Tried.TheVariants.{States, Orders}
+use Rattle.lwkt_explore.specs.declared.searches.Tried.TheVariants.{States as TriedStates, Orders}
 
 -- the processors of an order, each after a space, or ` -` for an order without turns
 abbrev pub order_bytes : List ℕ → List ℕ
@@ -28,7 +33,7 @@ kind_text Cut = codes "cut"
 
 -- how many of the random orders led to an outcome: `, once` or `, N times`; of a search nothing
 abbrev pub count_text : Tried → ℕ → List ℕ
-count_text (States states) count = []
+count_text (TriedStates states) count = []
 count_text (Orders orders) count = if count == 1 then codes ", once" else codes ", " ++ decimal count ++ codes " times"
 
 -- `why: WHY`, for a stuck outcome
@@ -36,13 +41,12 @@ abbrev pub why_line : Option (String Global) → List ℕ
 why_line None = []
 why_line (Some why) = codes "why: " ++ string_bytes why ++ line_feed
 
--- `outcome N KIND, order O`, and then the lines of its report and its why
-abbrev pub outcome_lines : Tried → ℕ → Outcome × ℕ → List ℕ
-outcome_lines tried number (outcome, count) =
-    codes "outcome " ++ decimal number ++ codes " " ++ kind_text outcome.kind ++ count_text tried count ++ codes ", order" ++ order_bytes outcome.order.items ++ line_feed ++ string_bytes outcome.text ++ why_line outcome.why
+-- an outcome that was found, with how many of the orders led to it
+abbrev pub Form : Type 0
+Form = Outcome × ℕ
 
 -- each outcome with its count, 0 if it has none
-abbrev pub counted : List Outcome → List ℕ → List (Outcome × ℕ)
+abbrev pub counted : List Outcome → List ℕ → List Form
 counted [] counts = []
 counted (outcome ∷ outcomes) [] = (outcome, 0) ∷ counted outcomes []
 counted (outcome ∷ outcomes) (count ∷ counts) = (outcome, count) ∷ counted outcomes counts
@@ -53,12 +57,68 @@ is_kind Stuck Stuck = true
 is_kind Cut Cut = true
 is_kind _ _ = false
 
--- the outcomes of a kind, each with its count
-abbrev pub of_kind : Kind → Outcomes → List (Outcome × ℕ)
-of_kind kind outcomes = filter (λ one. is_kind kind one.0.kind) (counted outcomes.all.items outcomes.counts.items)
+-- whether two outcomes are told together: they are of one kind, and have the same token and thread lines
+abbrev pub told_with : Outcome → Outcome → Bool
+told_with one other = is_kind one.kind other.kind && bytes_eq (string_bytes one.settled) (string_bytes other.settled)
+
+-- outcomes that are told together: the first of them, and its other forms
+abbrev pub Told : Type 0
+Told = Form × List Form
+
+-- outcomes by those that are told together
+abbrev pub told : List Form → List Told
+told [] = []
+told (one ∷ others) = (one, filter (λ other. told_with one.0 other.0) others) ∷ filter (λ t. not (told_with one.0 t.0.0)) (told others)
+
+-- the outcomes from a place on that are told with one
+abbrev pub later_forms : Outcome → ℕ → Outcomes → List Form
+later_forms one place outcomes = filter (λ other. told_with one other.0) (counted (drop place outcomes.all.items) (drop place outcomes.counts.items))
+
+-- an outcome of a place, with those behind it that are told with it
+abbrev pub told_at : Outcome → ℕ → Outcomes → Told
+told_at one place outcomes = ((one, get_or outcomes.counts.items place 0), later_forms one (place + 1) outcomes)
+
+-- how many of the orders led to one of them, as far as 64 bits go
+abbrev pub told_count : Told → ℕ
+told_count (one, forms) = min 18446744073709551615 (one.1 + sum (map (λ (form : Form). form.1) forms))
+
+-- whether two messages have the same line
+abbrev pub looks_same : MsgEnd → MsgEnd → Bool
+looks_same one other = one.round == other.round && bytes_eq (owner_text one.state) (owner_text other.state)
+
+-- the line of a message, without its end
+abbrev pub place_text : ℕ → MsgEnd → List ℕ
+place_text message end = codes "message " ++ decimal message ++ codes " round " ++ decimal end.round ++ codes " " ++ owner_text end.state
+
+-- what stands before a message, by whether it is the first
+abbrev pub between_text : Bool → List ℕ
+between_text true = codes " "
+between_text false = codes "; "
+
+-- the lines of those messages, numbered from n, that have other ones
+abbrev pub places_text : Bool → ℕ → List MsgEnd → List MsgEnd → List ℕ
+places_text is_first n [] ends = []
+places_text is_first n (own ∷ owns) [] = []
+places_text is_first n (own ∷ owns) (end ∷ ends) =
+    if looks_same own end then places_text is_first (n + 1) owns ends else between_text is_first ++ place_text n end ++ places_text false (n + 1) owns ends
+
+-- `or MESSAGE; MESSAGE, order O`: the message lines of another form that differ from those of the first, and an order to it
+abbrev pub or_line : Outcome → Outcome → List ℕ
+or_line first form =
+    codes "or" ++ places_text true 0 first.closing.messages.items form.closing.messages.items ++ codes ", order" ++ order_bytes form.order.items ++ line_feed
+
+-- `outcome N KIND, order O`, then the lines of its report, a line for each other form, and its why
+abbrev pub outcome_lines : Tried → ℕ → Told → List ℕ
+outcome_lines tried number t =
+    codes "outcome " ++ decimal number ++ codes " " ++ kind_text t.0.0.kind ++ count_text tried (told_count t) ++ codes ", order" ++ order_bytes t.0.0.order.items ++ line_feed ++ string_bytes t.0.0.text
+    ++ flat_map (λ form. or_line t.0.0 form.0) t.1 ++ why_line t.0.0.why
+
+-- the outcomes of a kind, those that are told together under the first of them
+abbrev pub of_kind : Kind → Outcomes → List Told
+of_kind kind outcomes = filter (λ t. is_kind kind t.0.0.kind) (told (counted outcomes.all.items outcomes.counts.items))
 
 -- the ended ones, then the stuck ones, then those that were cut
-abbrev pub by_kind : Outcomes → List (Outcome × ℕ)
+abbrev pub by_kind : Outcomes → List Told
 by_kind outcomes = of_kind Ended outcomes ++ of_kind Stuck outcomes ++ of_kind Cut outcomes
 
 -- how many states are lost, and the order to the first of them
@@ -68,13 +128,22 @@ lost_line lost =
 
 -- `N states` or `N random orders`
 abbrev pub tried_text : Tried → List ℕ
-tried_text (States count) = amount_text count (codes "state") (codes "states")
+tried_text (TriedStates count) = amount_text count (codes "state") (codes "states")
 tried_text (Orders count) = amount_text count (codes "random order") (codes "random orders")
 
--- how many outcomes there are, what was tried, and whether that is all
+-- whether every order was tried, and if not, why
+abbrev pub extent_text : Extent → List ℕ
+extent_text Complete = codes "complete"
+extent_text (Part States) = codes "a part (states)"
+extent_text (Part Turns) = codes "a part (turns)"
+extent_text (Part Memory) = codes "a part (memory)"
+extent_text (Part Stopped) = codes "a part (stopped)"
+extent_text Sampled = codes "a part"
+
+-- how many outcomes there are, those that are told together as one, what was tried, and whether that is all
 abbrev pub sum_line : Found → List ℕ
 sum_line found =
-    amount_text (length found.outcomes.all.items) (codes "outcome") (codes "outcomes") ++ codes "; " ++ tried_text found.tried ++ codes ", " ++ amount_text found.turns (codes "turn") (codes "turns") ++ codes "; " ++ (if found.is_complete then codes "complete" else codes "a part") ++ line_feed
+    amount_text (length (by_kind found.outcomes)) (codes "outcome") (codes "outcomes") ++ codes "; " ++ tried_text found.tried ++ codes ", " ++ amount_text found.turns (codes "turn") (codes "turns") ++ codes "; " ++ extent_text found.extent ++ line_feed
 
 -- the outcomes, numbered from 1, then the lost states, then the sum
 unfoldable pub text_of_found : Found → List ℕ

@@ -1,13 +1,27 @@
-//! Whether what a text says of an outcome is so.
+//! Whether what a text says of an outcome is so, where the report tells.
 ghost use Rattle.std.specs.Prelude.{◌≡◌};
 ghost use Rattle.lwkt_base.specs.Threads.{has_ended};
-ghost use Rattle.lwkt_explore.specs.Claims.{is_standing, is_place, has_faulted, same_call, same_entry, same_thread, has_entry, has_logged, has_stood, any_faulted, any_logged, any_stood, related, compared, lies, all_ended, holds};
+ghost use Rattle.lwkt_explore.specs.Claims.{is_standing, is_place, has_faulted, same_call, same_entry, same_thread, has_entry, has_logged, is_full, has_stood, any_faulted, any_logged, any_full, any_stood, related, compared, lies, all_ended, known, logged_truth, truth_of};
 
 use crate::readings::sum_of;
 use lwkt_base::blobs::same_bytes;
 use lwkt_base::{Call, Entry, MsgId, MsgState, Owner, ThreadId, ThreadState};
 use lwkt_report::{Closing, ThreadLine};
 use lwkt_text::claims::{Claim, Relation, Standing};
+
+/// Whether something is so, as far as a report tells.
+#[derive(Clone, Copy, Debug, PartialEq, Eq)]
+pub enum Truth {
+    /// It is so.
+    Yes,
+    /// It isn't.
+    No,
+    /// The report doesn't tell: a log that is full doesn't show an entry, and may lack later ones.
+    Open,
+}
+
+// The most entries of a log; later ones aren't kept.
+const LOG_LIMIT: usize = 32;
 
 // Whether a thread stands so.
 fn is_standing(standing: Standing, state: ThreadState) -> bool
@@ -92,6 +106,13 @@ fn has_logged(id: ThreadId, entry: &Entry, line: &ThreadLine) -> bool
     same_thread(line.id, id) && has_entry(entry, line.log.as_slice())
 }
 
+// Whether this is the line of a thread, and its log is full.
+fn is_full(id: ThreadId, line: &ThreadLine) -> bool
+    ensures { result ≡ is_full id line.now }
+{
+    same_thread(line.id, id) && line.log.as_slice().len() >= LOG_LIMIT
+}
+
 // Whether this is the line of a thread that stands so.
 fn has_stood(id: ThreadId, standing: Standing, line: &ThreadLine) -> bool
     ensures { result ≡ has_stood id standing line.now }
@@ -117,6 +138,18 @@ fn any_logged(id: ThreadId, entry: &Entry, lines: &[ThreadLine]) -> bool
 {
     for line in lines {
         if has_logged(id, entry, line) {
+            return true;
+        }
+    }
+    false
+}
+
+// Whether a thread's log is full.
+fn any_full(id: ThreadId, lines: &[ThreadLine]) -> bool
+    ensures { result ≡ any_full id lines.now }
+{
+    for line in lines {
+        if is_full(id, line) {
             return true;
         }
     }
@@ -176,22 +209,43 @@ pub(crate) fn all_ended(outcome: &Closing) -> bool
     outcome.threads.iter().all(|line| line.state.has_ended())
 }
 
+// What is known to be so, or not.
+fn known(so: bool) -> Truth
+    ensures { result ≡ known so }
+{
+    if so { Truth::Yes } else { Truth::No }
+}
+
+// Whether a thread has got this entry.
+fn logged_truth(id: ThreadId, entry: &Entry, lines: &[ThreadLine]) -> Truth
+    ensures { result ≡ logged_truth id entry.now lines.now }
+{
+    if any_logged(id, entry, lines) {
+        return Truth::Yes;
+    }
+    if any_full(id, lines) {
+        return Truth::Open;
+    }
+    Truth::No
+}
+
 /// Whether what is said of an outcome is so. A quantity that the outcome doesn't have, or a sum that 64 bits have no room for,
-/// compares with nothing.
-pub fn holds(outcome: &Closing, claim: &Claim) -> bool
-    ensures { result ≡ holds outcome.now claim.now }
+/// compares with nothing. `Open` of an entry that a log doesn't show which has its 32 entries.
+pub fn truth_of(outcome: &Closing, claim: &Claim) -> Truth
+    ensures { result ≡ truth_of outcome.now claim.now }
 {
     let threads = outcome.threads.as_slice();
     match claim {
-        Claim::Ended => all_ended(outcome),
-        Claim::Stuck => !all_ended(outcome),
-        Claim::Faulted(n) => any_faulted(*n, threads),
-        Claim::Logged(id, entry) => any_logged(*id, entry, threads),
-        Claim::Stands(id, standing) => any_stood(*id, *standing, threads),
-        Claim::Lies(msg, place) => lies(outcome, *msg, *place),
+        Claim::Ended => known(all_ended(outcome)),
+        Claim::Stuck => known(!all_ended(outcome)),
+        Claim::Faulted(n) => known(any_faulted(*n, threads)),
+        Claim::Logged(id, entry) => logged_truth(*id, entry, threads),
+        Claim::Stands(id, standing) => known(any_stood(*id, *standing, threads)),
+        Claim::Lies(msg, place) => known(lies(outcome, *msg, *place)),
         Claim::Compares(said) => {
             let left = sum_of(outcome, said.left.as_slice());
-            compared(said.relation, left, sum_of(outcome, said.right.as_slice()))
+            let right = sum_of(outcome, said.right.as_slice());
+            known(compared(said.relation, left, right))
         }
     }
 }

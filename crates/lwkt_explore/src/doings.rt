@@ -12,17 +12,23 @@ pub(crate) struct Doing {
     next: Touch,
     // in all turns from here on
     later: Touch,
-    // whether a thread of it runs, and whether all have ended
+    // whether a thread of it runs, and how many haven't ended
     runs: bool,
-    ended: bool,
+    live: u8,
+    // whether its next turn may end all that haven't
+    may_end: bool,
 }
 
 const IDLE: Doing = Doing {
     next: NOTHING,
     later: NOTHING,
     runs: false,
-    ended: true,
+    live: 0,
+    may_end: false,
 };
+
+// An opening generation from which a search doesn't come to the last one.
+const LOW: u64 = 35184372088832;
 
 /// What each processor may touch.
 #[derive(Clone, Copy)]
@@ -30,17 +36,39 @@ pub(crate) struct Doings {
     all: [Doing; 8],
 }
 
-// The step that a thread asks after so many polls.
-fn next_step(spec: &ThreadSpec, polls: u64) -> Touch {
+// The step that a thread asks after so many polls; `None` where it has made them all, and exits.
+fn next_step(spec: &ThreadSpec, polls: u64) -> Option<&Ask> {
     let steps = spec.steps.as_slice();
     let count = steps.len() as u64;
     if count == 0 || polls / count >= u64::from(spec.repeat) {
-        return NOTHING;
+        return None;
     }
-    match steps.get((polls % count) as usize) {
-        Some(ask) => touched_by(*ask),
-        None => NOTHING,
+    steps.get((polls % count) as usize)
+}
+
+// Whether a thread that asks this may not run any more then: it ends, or gives its tokens up, and a broken law ends it there.
+fn may_leave(ask: &Ask) -> bool {
+    matches!(
+        ask,
+        Ask::Exit | Ask::Yield | Ask::WaitPort | Ask::Do(..) | Ask::Get(_) | Ask::GetShared(_)
+    )
+}
+
+// What the step touches that a thread asks after so many polls, and whether the thread may not run any more then.
+fn step_of(spec: &ThreadSpec, polls: u64) -> (Touch, bool) {
+    match next_step(spec, polls) {
+        Some(ask) => (touched_by(*ask), may_leave(ask)),
+        None => (NOTHING, true),
     }
+}
+
+// Whether a token of a script may come to its last generation, at which a search for a thread ends more than one.
+fn may_wear(script: &Script) -> bool {
+    script
+        .tokens
+        .as_slice()
+        .iter()
+        .any(|token| token.generation >= LOW)
 }
 
 // The steps that a thread asks after so many polls.
@@ -61,14 +89,16 @@ fn steps_left(spec: &ThreadSpec, polls: u64) -> &[Ask] {
 
 impl Doing {
     // Notes a thread that hasn't ended: what its list and its next step touch, and what its other steps do. Where one runs, no other
-    // makes a step in the next turn.
-    fn note(&mut self, runs: bool, next: Touch, later: Touch) {
-        self.ended = false;
+    // makes a step in the next turn. One that doesn't run may end before a step, if a token of its list is at its last generation.
+    fn note(&mut self, runs: bool, leaves: bool, next: Touch, later: Touch) {
+        self.live = self.live.saturating_add(1);
         self.later = self.later.and(later);
         if runs {
             self.runs = true;
+            self.may_end = leaves;
             self.next = next;
         } else if !self.runs {
+            self.may_end = true;
             self.next = self.next.and(next);
         }
     }
@@ -85,9 +115,28 @@ impl Doing {
             ThreadState::Ready | ThreadState::Waiting => false,
         };
         let list = listed(status.list);
-        let next = list.and(next_step(spec, body.polls()));
+        let (step, leaves) = step_of(spec, body.polls());
         let later = list.and(touched_by_all(steps_left(spec, body.polls())));
-        self.note(runs, next, later);
+        self.note(runs, leaves, list.and(step), later);
+    }
+
+    // A turn ends one thread, or of those that don't run more where a token may be at its last generation.
+    fn bounded(self, wears: bool) -> Doing {
+        let ends_all = self.live == 1 || (wears && !self.runs);
+        Doing {
+            may_end: self.may_end && ends_all,
+            ..self
+        }
+    }
+
+    // Whether all its threads have ended.
+    fn has_ended(&self) -> bool {
+        self.live == 0
+    }
+
+    // Whether its next turn takes mail in, all its threads having ended.
+    fn is_late(&self) -> bool {
+        self.has_ended() && self.next.messages != 0
     }
 
     // Adds the messages that are away, and those that may still be sent, as far as they can be with the processor.
@@ -114,6 +163,15 @@ impl Doings {
         let mut counts = [0usize; 8];
         for spec in script.threads.as_slice() {
             doings.note_thread(machine, spec, &mut counts);
+        }
+        doings.bounded(may_wear(script))
+    }
+
+    // Of each whether its next turn may end all its threads.
+    fn bounded(self, wears: bool) -> Doings {
+        let mut doings = self;
+        for doing in &mut doings.all {
+            *doing = doing.bounded(wears);
         }
         doings
     }
@@ -162,10 +220,15 @@ impl Doings {
         self.of(cpu).next
     }
 
+    /// Whether the threads of all processors have ended.
+    pub(crate) fn all_ended(&self) -> bool {
+        self.all.iter().all(|doing| doing.has_ended())
+    }
+
     /// Whether the turn of a processor changes nothing, since all its threads have ended and no message can be with it.
     pub(crate) fn is_over(&self, cpu: usize) -> bool {
         let doing = self.of(cpu);
-        doing.ended && doing.next.messages == 0
+        doing.has_ended() && doing.next.messages == 0
     }
 
     /// Whether the next turns of two processors come to the same in either order.
@@ -173,8 +236,20 @@ impl Doings {
         a != b && !disturb(a, self.of(a).next, b, self.of(b).next)
     }
 
+    // Whether the next turn of a processor may come to stand on the other side of the end of all threads, if another one's turns are
+    // made before it: it takes mail in where all its own have ended, and the other one still has one to end; or it may end its own, and
+    // the other one may take mail in.
+    fn is_timed(&self, cpu: usize, other: usize) -> bool {
+        let (doing, others) = (self.of(cpu), self.of(other));
+        let is_late = doing.is_late() && !others.has_ended();
+        is_late || (doing.may_end && others.later.messages != 0)
+    }
+
     /// Whether the next turn of a processor may be disturbed by another one, in whichever of its turns.
     pub(crate) fn is_disturbed(&self, cpu: usize, other: usize) -> bool {
-        cpu != other && disturb(cpu, self.of(cpu).next, other, self.of(other).later)
+        if cpu == other {
+            return false;
+        }
+        disturb(cpu, self.of(cpu).next, other, self.of(other).later) || self.is_timed(cpu, other)
     }
 }

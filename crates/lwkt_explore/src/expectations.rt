@@ -2,15 +2,16 @@
 ghost use Rattle.std.specs.Prelude.{◌≡◌};
 ghost use Rattle.std.specs.List.{list_all, list_any, find};
 ghost use Rattle.std.specs.Option.{option_copied};
-ghost use Rattle.lwkt_explore.specs.Expectations.{is_final, decides_by, decides, is_met_over_orders, status_of_text};
+ghost use Rattle.lwkt_explore.specs.Expectations.{is_final, decides_by, decides, leaves_open, truth_decided, truth_over_orders, holds, status_of_text};
 
-use crate::claims::holds;
+use crate::claims::{Truth, truth_of};
+use crate::judging::opposite;
 use crate::outcomes::{Kind, Outcome};
 use crate::searches::Found;
 use crate::statuses::status_of_found;
 use lwkt_text::claims::{Expectation, When};
 
-// Whether an outcome stands where no turn changes anything.
+// Whether an outcome wasn't cut: only such ones are judged.
 fn is_final(kind: Kind) -> bool
     ensures { result ≡ is_final kind }
 {
@@ -20,13 +21,13 @@ fn is_final(kind: Kind) -> bool
     }
 }
 
-// Whether a claim that is so, or isn't, decides an expectation.
-fn decides_by(when: When, so: bool) -> bool
-    ensures { result ≡ decides_by when so }
+// Whether a claim of which this is so decides an expectation.
+fn decides_by(when: When, truth: Truth) -> bool
+    ensures { result ≡ decides_by when truth }
 {
     match when {
-        When::Always => !so,
-        When::Sometimes | When::Never => so,
+        When::Always => matches!(truth, Truth::No),
+        When::Sometimes | When::Never => matches!(truth, Truth::Yes),
     }
 }
 
@@ -37,8 +38,15 @@ fn decides(expectation: &Expectation, outcome: &Outcome) -> bool
     is_final(outcome.kind)
         && decides_by(
             expectation.when,
-            holds(&outcome.closing, &expectation.claim),
+            truth_of(&outcome.closing, &expectation.claim),
         )
+}
+
+// Whether an outcome doesn't tell whether it decides an expectation.
+fn leaves_open(expectation: &Expectation, outcome: &Outcome) -> bool
+    ensures { result ≡ leaves_open expectation.now outcome.now }
+{
+    is_final(outcome.kind) && matches!(truth_of(&outcome.closing, &expectation.claim), Truth::Open)
 }
 
 // Whether an outcome among some decides an expectation.
@@ -46,6 +54,15 @@ fn is_decided(expectation: &Expectation, outcomes: &[Outcome]) -> bool
     ensures { result ≡ list_any (decides expectation.now) outcomes.now }
 {
     outcomes.iter().any(|outcome| decides(expectation, outcome))
+}
+
+// Whether one of them leaves it open.
+fn is_left_open(expectation: &Expectation, outcomes: &[Outcome]) -> bool
+    ensures { result ≡ list_any (leaves_open expectation.now) outcomes.now }
+{
+    outcomes
+        .iter()
+        .any(|outcome| leaves_open(expectation, outcome))
 }
 
 /// The first outcome that decides an expectation: that breaks an `always` or a `never`, or shows a `sometimes`. One that was cut
@@ -59,25 +76,46 @@ pub fn deciding<'a>(expectation: &Expectation, outcomes: &'a [Outcome]) -> Optio
         .find(|outcome| decides(expectation, outcome))
 }
 
-/// Whether an expectation of a text holds of the outcomes that were found, but for those that were cut: an `always` or a `never` if
-/// none decides it, a `sometimes` if one does.
-pub fn is_met_over_orders(expectation: &Expectation, outcomes: &[Outcome]) -> bool
-    ensures { result ≡ is_met_over_orders expectation.now outcomes.now }
+// Whether an expectation holds that an outcome decides.
+fn truth_decided(when: When) -> Truth
+    ensures { result ≡ truth_decided when }
 {
-    let decided = is_decided(expectation, outcomes);
-    match expectation.when {
-        When::Always | When::Never => !decided,
-        When::Sometimes => decided,
+    match when {
+        When::Always | When::Never => Truth::No,
+        When::Sometimes => Truth::Yes,
     }
 }
 
-// Whether all that a text says is so.
-fn are_met(expectations: &[Expectation], outcomes: &[Outcome]) -> bool
-    ensures { result ≡ list_all (λ e. is_met_over_orders e outcomes.now) expectations.now }
+/// Whether an expectation of a text holds over all orders, by what was found. An `always` or a `never` doesn't if an outcome decides it,
+/// and a `sometimes` does. If none decides it, it is the other way round where every order was tried and no outcome leaves it open; else
+/// it is `Open`.
+pub fn truth_over_orders(expectation: &Expectation, found: &Found) -> Truth
+    ensures { result ≡ truth_over_orders found.now expectation.now }
+{
+    let outcomes = found.outcomes.all.as_slice();
+    if is_decided(expectation, outcomes) {
+        return truth_decided(expectation.when);
+    }
+    if found.is_complete() && !is_left_open(expectation, outcomes) {
+        return opposite(truth_decided(expectation.when));
+    }
+    Truth::Open
+}
+
+// Whether an expectation holds.
+fn holds(expectation: &Expectation, found: &Found) -> bool
+    ensures { result ≡ holds found.now expectation.now }
+{
+    matches!(truth_over_orders(expectation, found), Truth::Yes)
+}
+
+// Whether all that a text says holds.
+fn all_hold(expectations: &[Expectation], found: &Found) -> bool
+    ensures { result ≡ list_all (holds found.now) expectations.now }
 {
     expectations
         .iter()
-        .all(|expectation| is_met_over_orders(expectation, outcomes))
+        .all(|expectation| holds(expectation, found))
 }
 
 /// The exit status of what was found of a text: of one that expects nothing that of a script, by `status_of_found`; else 0 if every order
@@ -88,7 +126,7 @@ pub fn status_of_text(expectations: &[Expectation], found: &Found) -> u8
     if expectations.is_empty() {
         return status_of_found(found);
     }
-    if found.is_complete && are_met(expectations, found.outcomes.all.as_slice()) {
+    if found.is_complete() && all_hold(expectations, found) {
         0
     } else {
         5

@@ -1,11 +1,10 @@
 //! What a run came to by its expectations.
 ghost use Rattle.std.specs.Prelude.{◌≡◌};
-ghost use Rattle.std.specs.List.{list_all};
-ghost use Rattle.lwkt_explore.specs.Judging.{is_met};
-ghost use Rattle.lwkt_explore.specs.Judgements.{is_unlawful, judgement_of, status_of_judgement};
+ghost use Rattle.std.specs.List.{list_any};
+ghost use Rattle.lwkt_explore.specs.Judgements.{is_unlawful, is_unmet, is_open, judgement_of, status_of_judgement};
 
-use crate::claims::all_ended;
-use crate::judging::is_met;
+use crate::claims::{Truth, all_ended};
+use crate::judging::truth_in_run;
 use lwkt_report::{Closing, Verdict};
 use lwkt_text::claims::Expectation;
 
@@ -20,6 +19,8 @@ pub enum Judgement {
     Unlawful,
     /// Something that is said of the outcome isn't so.
     Unmet,
+    /// Nothing that is said of the outcome isn't so, and of something the report doesn't tell.
+    NotDecided,
 }
 
 impl Judgement {
@@ -31,7 +32,7 @@ impl Judgement {
             Judgement::Met => 0,
             Judgement::TurnsOut => 2,
             Judgement::Unlawful => 4,
-            Judgement::Unmet => 5,
+            Judgement::Unmet | Judgement::NotDecided => 5,
         }
     }
 }
@@ -43,13 +44,36 @@ fn is_unlawful(verdict: Verdict) -> bool
     matches!(verdict, Verdict::Unlawful { .. })
 }
 
-// Whether all that is said of outcomes is so.
-fn are_met(expectations: &[Expectation], outcomes: &[Closing]) -> bool
-    ensures { result ≡ list_all (λ e. is_met e outcomes.now) expectations.now }
+// Whether an expectation isn't so of a run.
+fn is_unmet(expectation: &Expectation, outcome: &Closing) -> bool
+    ensures { result ≡ is_unmet outcome.now expectation.now }
+{
+    matches!(truth_in_run(expectation, outcome), Truth::No)
+}
+
+// Whether a run's report doesn't tell whether an expectation is so.
+fn is_open(expectation: &Expectation, outcome: &Closing) -> bool
+    ensures { result ≡ is_open outcome.now expectation.now }
+{
+    matches!(truth_in_run(expectation, outcome), Truth::Open)
+}
+
+// Whether something that is said of an outcome isn't so.
+fn any_unmet(expectations: &[Expectation], outcome: &Closing) -> bool
+    ensures { result ≡ list_any (is_unmet outcome.now) expectations.now }
 {
     expectations
         .iter()
-        .all(|expectation| is_met(expectation, outcomes))
+        .any(|expectation| is_unmet(expectation, outcome))
+}
+
+// Whether something that is said of an outcome is open.
+fn any_open(expectations: &[Expectation], outcome: &Closing) -> bool
+    ensures { result ≡ list_any (is_open outcome.now) expectations.now }
+{
+    expectations
+        .iter()
+        .any(|expectation| is_open(expectation, outcome))
 }
 
 /// What a run with this one outcome came to.
@@ -59,8 +83,11 @@ pub fn judgement_of(expectations: &[Expectation], outcome: &Closing) -> Judgemen
     if is_unlawful(outcome.verdict) {
         return Judgement::Unlawful;
     }
-    if !are_met(expectations, std::slice::from_ref(outcome)) {
+    if any_unmet(expectations, outcome) {
         return Judgement::Unmet;
+    }
+    if any_open(expectations, outcome) {
+        return Judgement::NotDecided;
     }
     if expectations.is_empty() && !all_ended(outcome) {
         return Judgement::TurnsOut;

@@ -1,43 +1,30 @@
-//! Whether an expectation holds of some outcomes.
+//! Whether an expectation holds of a run.
 ghost use Rattle.std.specs.Prelude.{◌≡◌};
-ghost use Rattle.lwkt_explore.specs.Judging.{all_hold, any_holds, is_met};
+ghost use Rattle.lwkt_explore.specs.Judging.{opposite, truth_in_run};
 
-use crate::claims::holds;
+use crate::claims::{Truth, truth_of};
 use lwkt_report::Closing;
-use lwkt_text::claims::{Claim, Expectation, When};
+use lwkt_text::claims::{Expectation, When};
 
-// Whether something is so of each outcome.
-fn all_hold(claim: &Claim, outcomes: &[Closing]) -> bool
-    ensures { result ≡ all_hold claim.now outcomes.now }
+/// The opposite of what is so, or isn't.
+pub(crate) fn opposite(truth: Truth) -> Truth
+    ensures { result ≡ opposite truth }
 {
-    for outcome in outcomes {
-        if !holds(outcome, claim) {
-            return false;
-        }
+    match truth {
+        Truth::Yes => Truth::No,
+        Truth::No => Truth::Yes,
+        Truth::Open => Truth::Open,
     }
-    true
 }
 
-// Whether something is so of one outcome at least.
-fn any_holds(claim: &Claim, outcomes: &[Closing]) -> bool
-    ensures { result ≡ any_holds claim.now outcomes.now }
+/// Whether what a text says of the outcomes of its script is so of a run, whose outcome is the only one: an `always` and a `sometimes`
+/// if the claim is, a `never` if it isn't.
+pub fn truth_in_run(expectation: &Expectation, outcome: &Closing) -> Truth
+    ensures { result ≡ truth_in_run expectation.now outcome.now }
 {
-    for outcome in outcomes {
-        if holds(outcome, claim) {
-            return true;
-        }
-    }
-    false
-}
-
-/// Whether what a text says of the outcomes of its script is so: of each of them, of one at least, or of none.
-pub fn is_met(expectation: &Expectation, outcomes: &[Closing]) -> bool
-    ensures { result ≡ is_met expectation.now outcomes.now }
-{
-    let claim = &expectation.claim;
+    let truth = truth_of(outcome, &expectation.claim);
     match expectation.when {
-        When::Always => all_hold(claim, outcomes),
-        When::Sometimes => any_holds(claim, outcomes),
-        When::Never => !any_holds(claim, outcomes),
+        When::Always | When::Sometimes => truth,
+        When::Never => opposite(truth),
     }
 }

@@ -2,20 +2,23 @@
 //! be reached; and which expectations of a text hold, of one run and over all orders.
 //!
 //! Words: a *state* is a machine between turns, as a list of *parts* that are each kept once; an *outcome* is a report
-//! without its verdict; a state is *stuck* if no turn changes it and a thread hasn't ended, and *lost* if no end can be
+//! without its verdict at a state in which every thread has ended, or that no turn changes; a state is *stuck* if no turn changes it and a thread hasn't ended, and *lost* if no end can be
 //! reached from it.
 //!
 //! Of a text: a *claim* holds of an outcome or doesn't; a *reading* is a number that a claim takes from it; an *expectation* says
-//! that a claim holds of each outcome, of one at least, or of none. A *judgement* is what one run came to by its expectations, an
-//! *account* what is told of it. Over all orders an outcome is *final* if no turn changes anything any more, and only such ones are
+//! that a claim holds of each outcome, of one at least, or of none; either may be *open*, if a report doesn't tell. A *judgement* is what one run came to by its expectations, an
+//! *account* what is told of it. Over all orders an outcome is *final* if it wasn't cut, and only such ones are
 //! judged; one *decides* an expectation if it breaks what is said of each or of none, or shows what is said of one.
 #![tactic(auto)]
 
 mod accounts;
 mod choices;
 mod claims;
+mod dives;
 mod doings;
 mod expectations;
+mod extents;
+mod forms;
 mod graphs;
 mod judgements;
 mod judging;
@@ -40,10 +43,11 @@ mod walks;
 mod watches;
 
 pub use accounts::{Account, account_of};
-pub use claims::holds;
-pub use expectations::{deciding, is_met_over_orders, status_of_text};
+pub use claims::{Truth, truth_of};
+pub use expectations::{deciding, status_of_text, truth_over_orders};
+pub use extents::{Bound, Extent};
 pub use judgements::{Judgement, judgement_of};
-pub use judging::is_met;
+pub use judging::truth_in_run;
 pub use laws::{outcomes_are_numbered, outcomes_are_written_once};
 pub use lines::{order_text, text_of};
 pub use losses::Lost;

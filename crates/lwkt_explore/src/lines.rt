@@ -1,8 +1,10 @@
 //! What is written of a search.
-ghost use Rattle.std.specs.Prelude.{◌≡◌, ◌+◌, ◌≤◌, ◌++◌, OnOk, IfOk, length, string_bytes};
+ghost use Rattle.std.specs.Prelude.{◌≡◌, ◌+◌, ◌<◌, ◌≤◌, ◌++◌, OnOk, IfOk, length, string_bytes};
 ghost use Rattle.lwkt_report.specs.Report.{numbered_lines};
-ghost use Rattle.lwkt_explore.specs.Texts.{order_bytes, kind_text, count_text, outcome_lines, of_kind, lost_line, tried_text, sum_line, text_of_found};
+ghost use Rattle.lwkt_explore.specs.Texts.{order_bytes, kind_text, count_text, why_line, told_at, outcome_lines, of_kind, by_kind, lost_line, tried_text, extent_text, sum_line, text_of_found};
 
+use crate::extents::{Bound, Extent};
+use crate::forms::{add_forms, is_first, told_count};
 use crate::losses::Lost;
 use crate::outcomes::{Kind, Outcome};
 use crate::searches::{Found, Tried};
@@ -18,8 +20,8 @@ fn kind_word(kind: Kind) -> &'static str
     }
 }
 
-// The processors of an order, or a line for none.
-fn add_order(out: &mut String, order: &[u8]) -> Result<(), AllocError>
+/// The processors of an order, or a line for none.
+pub(crate) fn add_order(out: &mut String, order: &[u8]) -> Result<(), AllocError>
     ensures { OnOk result (string_bytes out.new ≡ string_bytes out.old ++ order_bytes order.now) }
 {
     if order.is_empty() {
@@ -53,40 +55,52 @@ fn add_count(out: &mut String, tried: Tried, count: u64) -> Result<(), AllocErro
     }
 }
 
+// The outcome of a place, with its other forms.
 fn add_outcome(
     out: &mut String,
     number: usize,
+    found: &Found,
+    place: usize,
     outcome: &Outcome,
-    tried: Tried,
-    count: u64,
 ) -> Result<(), AllocError>
-    ensures { OnOk result (string_bytes out.new ≡ string_bytes out.old ++ outcome_lines tried number (outcome.now, count)) }
+    requires { place < length found.now.outcomes.all.items }
+    ensures { OnOk result (string_bytes out.new ≡ string_bytes out.old ++ outcome_lines found.now.tried number (told_at outcome.now place found.now.outcomes)) }
 {
     let word = kind_word(outcome.kind);
+    let count = told_count(&found.outcomes, place, outcome);
     write!(out, "outcome {number} {word}")?;
-    add_count(out, tried, count)?;
+    add_count(out, found.tried, count)?;
     out.push_str(", order")?;
     add_order(out, outcome.order.as_slice())?;
     out.push_str("\n")?;
     out.push_str(outcome.text.as_str())?;
-    match &outcome.why {
+    add_forms(out, &found.outcomes, place, outcome)?;
+    add_why(out, &outcome.why)
+}
+
+// Why an outcome is stuck.
+fn add_why(out: &mut String, why: &Option<String>) -> Result<(), AllocError>
+    ensures { OnOk result (string_bytes out.new ≡ string_bytes out.old ++ why_line why.now) }
+{
+    match why {
         Some(why) => write!(out, "why: {}\n", why.as_str()),
         None => Ok(()),
     }
 }
 
-// The outcomes of a kind, behind so many of others; says how many there are then.
+// The outcomes of a kind, those that are told together under the first of them, behind so many others; says how many there are then.
 fn add_kind(out: &mut String, found: &Found, kind: Kind, before: usize) -> Result<usize, AllocError>
     requires { before + length (of_kind kind found.now.outcomes) ≤ 18446744073709551615 }
     ensures text { OnOk result (string_bytes out.new ≡ string_bytes out.old ++ numbered_lines (outcome_lines found.now.tried) (before + 1) (of_kind kind found.now.outcomes)) }
     ensures number { IfOk result (λ number. number ≡ before + length (of_kind kind found.now.outcomes)) }
 {
+    let all = found.outcomes.all.as_slice();
     let mut number = before;
-    for (place, outcome) in found.outcomes.all.iter().enumerate() {
-        if outcome.kind == kind {
+    for place in 0..all.len() {
+        let outcome = &all[place];
+        if is_first(&all[..place], outcome, kind) {
             number = number.saturating_add(1);
-            let count = found.outcomes.counts.get(place).copied().unwrap_or(0);
-            add_outcome(out, number, outcome, found.tried, count)?;
+            add_outcome(out, number, found, place, outcome)?;
         }
     }
     Ok(number)
@@ -120,25 +134,36 @@ fn add_tried(out: &mut String, tried: Tried) -> Result<(), AllocError>
     }
 }
 
-fn add_sum(out: &mut String, found: &Found) -> Result<(), AllocError>
+// Whether every order was tried, and if not, why.
+fn extent_word(extent: Extent) -> &'static str
+    ensures { result.now ≡ extent_text extent }
+{
+    match extent {
+        Extent::Complete => "complete",
+        Extent::Part(Bound::States) => "a part (states)",
+        Extent::Part(Bound::Turns) => "a part (turns)",
+        Extent::Part(Bound::Memory) => "a part (memory)",
+        Extent::Part(Bound::Stopped) => "a part (stopped)",
+        Extent::Sampled => "a part",
+    }
+}
+
+fn add_sum(out: &mut String, found: &Found, count: usize) -> Result<(), AllocError>
+    requires { count ≡ length (by_kind found.now.outcomes) }
     ensures { OnOk result (string_bytes out.new ≡ string_bytes out.old ++ sum_line found.now) }
 {
-    let count = found.outcomes.all.len();
     let noun = if count == 1 { "outcome" } else { "outcomes" };
     write!(out, "{count} {noun}; ")?;
     add_tried(out, found.tried)?;
     let turns = found.turns;
     let made = if turns == 1 { "turn" } else { "turns" };
-    let whole = if found.is_complete {
-        "complete"
-    } else {
-        "a part"
-    };
+    let whole = extent_word(found.extent);
     write!(out, ", {turns} {made}; {whole}\n")
 }
 
-/// The text of what was found: each outcome once, numbered from 1, the ended ones first, then the stuck ones, then those that were
-/// cut; then the lost states, if there are any, and what was searched (docs/EXPLORE.md).
+/// The text of what was found: the outcomes, numbered from 1, the ended ones first, then the stuck ones, then those that were cut; then
+/// the lost states, if there are any, and what was searched (docs/EXPLORE.md). Outcomes of one kind that differ in message lines alone
+/// are told together under one number: the first of them, and of each other one the message lines that differ.
 ///
 /// `AllocError` if memory is refused.
 pub fn text_of(alloc: Global, found: &Found) -> Result<String, AllocError>
@@ -147,10 +172,10 @@ pub fn text_of(alloc: Global, found: &Found) -> Result<String, AllocError>
     let mut out = String::new(alloc);
     let ended = add_kind(&mut out, found, Kind::Ended, 0)?;
     let stuck = add_kind(&mut out, found, Kind::Stuck, ended)?;
-    add_kind(&mut out, found, Kind::Cut, stuck)?;
+    let count = add_kind(&mut out, found, Kind::Cut, stuck)?;
     if let Some(lost) = &found.lost {
         add_lost(&mut out, lost)?;
     }
-    add_sum(&mut out, found)?;
+    add_sum(&mut out, found, count)?;
     Ok(out)
 }

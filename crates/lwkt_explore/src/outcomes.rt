@@ -1,10 +1,10 @@
 //! Outcomes: reports of runs along orders, each once.
-ghost use Rattle.std.specs.Prelude.{◌≡◌, ◌≢◌, ℕ, ◌+◌, ◌<◌, ◌≤◌, [], ◌∷◌, ◌++◌, false, length, sum, IfOk, IfErr, OnOk, OnErr, IfSome, OnSome};
+ghost use Rattle.std.specs.Prelude.{◌≡◌, ◌≢◌, ℕ, ◌+◌, ◌<◌, ◌≤◌, [], ◌∷◌, ◌++◌, length, sum, string_bytes, Err, IfOk, IfErr, OnOk, OnErr, IfSome, OnSome};
 ghost use Rattle.std.specs.List.{Any};
 ghost use Rattle.std.specs.Option.{option_to_list};
 ghost use Rattle.lwkt_base.specs.Fault.{no_memory};
 ghost use Rattle.lwkt_run.specs.Run.{AreThere, end_told};
-ghost use Rattle.lwkt_explore.specs.Outcomes.{IsKind, IsOutcome, AreOutcomes, AreShort, AreWhole, HasEnded, RefusesSearch};
+ghost use Rattle.lwkt_explore.specs.Outcomes.{settled_text, IsKind, IsOutcome, AreOutcomes, AreShort, AreWhole, HasEnded, RefusesSearch};
 ghost use Rattle.lwkt_explore.specs.Verdicts.{IsOfVerdict};
 
 use crate::walks::{memory, number_in_order};
@@ -18,15 +18,27 @@ use std::alloc::Global;
 /// How a run along an order stood when it stopped.
 #[derive(Clone, Copy, Debug, PartialEq, Eq)]
 pub enum Kind {
-    /// No turn changes anything, and every thread has ended.
+    /// Every thread has ended. A turn may still change something: messages may be under way.
     Ended,
     /// No turn changes anything, and a thread hasn't ended.
     Stuck,
-    /// The bound on turns was met, and a turn may still change something.
+    /// The bound on turns was met, a thread hasn't ended, and a turn may still change something.
     Cut,
 }
 
-/// A report, without its verdict, with an order that leads to it.
+/// How the state stands that an order leads to.
+#[derive(Clone, Copy, Debug, PartialEq, Eq)]
+pub(crate) enum Stand {
+    /// No turn changes anything.
+    Quiet,
+    /// All threads have ended.
+    AllEnded,
+    /// Neither is so, or it isn't known.
+    Cut,
+}
+
+/// A report, without its verdict, with an order that leads to it. It stands at a state in which every thread has ended, at one that no
+/// turn changes, or where the order was cut.
 #[derive(Drop)]
 pub struct Outcome {
     /// How the run along the order stood when it stopped.
@@ -37,6 +49,8 @@ pub struct Outcome {
     pub closing: Closing,
     /// The lines of the report but the last, which has the verdict.
     pub text: String,
+    /// Those of them that are of tokens and threads. Outcomes of one kind that differ in the others alone are told together.
+    pub settled: String,
     /// Of a stuck outcome what each thread that hasn't ended waits for, in one line; of every other nothing.
     pub why: Option<String>,
 }
@@ -50,13 +64,12 @@ pub struct Outcomes {
     pub counts: Vec<u64>,
 }
 
-// Which kind of outcome a run is that was cut, or changes nothing any more. 35: its verdict isn't `lawful`.
-fn kind_of(run: &TurnsRun, is_cut: bool) -> Result<Kind, Fault>
+// Which kind of outcome a run is that led to a state that stands so. 35: its verdict isn't `lawful`.
+fn kind_of(run: &TurnsRun, stand: Stand) -> Result<Kind, Fault>
     requires { run.now.closing.verdict ≢ Verdict.Closed }
     ensures lawful { OnOk result (run.now.closing.verdict ≡ Verdict.Lawful) }
     ensures unlawful { IfErr result (λ fault. IsOfVerdict run.now.closing.verdict fault) }
     ensures kind { IfOk result (λ kind. IsKind kind (end_told run.now.closing)) }
-    ensures whole { IfOk result (λ kind. is_cut ≡ false → kind ≢ Kind.Cut) }
 {
     match run.closing.verdict {
         Verdict::Lawful => {}
@@ -64,14 +77,13 @@ fn kind_of(run: &TurnsRun, is_cut: bool) -> Result<Kind, Fault>
         Verdict::Closed => return Err(Fault::Unlawful { index: 0 }),
         Verdict::Unlawful { index } => return Err(Fault::Unlawful { index }),
     }
-    if is_cut {
-        return Ok(Kind::Cut);
-    }
-    match end_told(&run.closing) {
-        End::Ended => Ok(Kind::Ended),
-        End::TurnsOut => Ok(Kind::Stuck),
-        // its verdict is lawful, so this can't be
-        End::Unlawful => Err(Fault::Unlawful { index: 0 }),
+    match (stand, end_told(&run.closing)) {
+        // (its verdict is lawful, so this can't be)
+        (_, End::Unlawful) => Err(Fault::Unlawful { index: 0 }),
+        (Stand::Quiet | Stand::AllEnded, End::Ended) => Ok(Kind::Ended),
+        (Stand::Quiet, End::TurnsOut) => Ok(Kind::Stuck),
+        // (where all threads have ended, the turns aren't used up)
+        (Stand::AllEnded, End::TurnsOut) | (Stand::Cut, _) => Ok(Kind::Cut),
     }
 }
 
@@ -108,28 +120,52 @@ fn why_of(
     }
 }
 
+// The token and thread lines of a report, with what it shows.
+fn settled_of(alloc: Global, closing: Closing) -> Result<(Closing, String), Fault>
+    ensures same { IfOk result (λ made. made.0 ≡ closing) }
+    ensures settled { IfOk result (λ made. string_bytes made.1 ≡ settled_text closing) }
+    ensures only { OnErr result (result ≡ Err no_memory) }
+{
+    let Closing {
+        tokens,
+        messages,
+        threads,
+        verdict,
+    } = closing;
+    let unsent = Closing {
+        tokens,
+        messages: Vec::new(alloc),
+        threads,
+        verdict,
+    };
+    let settled = report_front(alloc, &unsent)?;
+    let closing = Closing { messages, ..unsent };
+    Ok((closing, settled))
+}
+
 // The outcome of a run along an order.
 fn outcome_of(
     alloc: Global,
     script: &Script,
     order: Vec<u8>,
-    is_cut: bool,
+    stand: Stand,
 ) -> Result<Outcome, Fault>
     requires { AreThere script.now order.items }
     ensures ok { IfOk result (λ outcome. IsOutcome script.now outcome) }
     ensures order { IfOk result (λ outcome. outcome.order.items ≡ order.items) }
-    ensures whole { IfOk result (λ outcome. is_cut ≡ false → outcome.kind ≢ Kind.Cut) }
     ensures refused { IfErr result (λ fault. RefusesSearch script.now fault) }
 {
     let run = order_run_of(alloc, script, order.as_slice())?;
-    let kind = kind_of(&run, is_cut)?;
+    let kind = kind_of(&run, stand)?;
     let text = report_front(alloc, &run.closing)?;
     let why = why_of(alloc, script, kind, &run)?;
+    let (closing, settled) = settled_of(alloc, run.closing)?;
     Ok(Outcome {
         kind,
         order,
-        closing: run.closing,
+        closing,
         text,
+        settled,
         why,
     })
 }
@@ -151,7 +187,7 @@ pub(crate) fn judge(
             return Err(Fault::Memory(refused.into()));
         }
     }
-    outcome_of(alloc, script, whole, true)?;
+    outcome_of(alloc, script, whole, Stand::Cut)?;
     Ok(())
 }
 
@@ -222,19 +258,20 @@ impl Outcomes {
         alloc: Global,
         script: &Script,
         order: Vec<u8>,
-        is_cut: bool,
+        stand: Stand,
     ) -> Result<Kind, Fault>
         requires order { AreThere script.now order.items }
         requires outcomes { AreOutcomes script.now self.old }
         ensures found { AreOutcomes script.now self.new }
         ensures short { (turns : ℕ) → length order.items ≤ turns → AreShort turns self.old → AreShort turns self.new }
         ensures ended { HasEnded self.old → HasEnded self.new }
-        ensures whole { is_cut ≡ false → AreWhole self.old → AreWhole self.new }
+        ensures whole { IfOk result (λ kind. kind ≢ Kind.Cut → AreWhole self.old → AreWhole self.new) }
+        ensures err { OnErr result (self.new.all.items ≡ self.old.all.items) }
         ensures kind { IfOk result (λ kind. kind ≡ Kind.Ended → HasEnded self.new) }
         ensures counts { sum self.new.counts.items ≤ sum self.old.counts.items + 1 }
         ensures refused { IfErr result (λ fault. RefusesSearch script.now fault) }
     {
-        let outcome = outcome_of(alloc, script, order, is_cut)?;
+        let outcome = outcome_of(alloc, script, order, stand)?;
         let kind = outcome.kind;
         match self.place_of(&outcome) {
             Some(place) => self.count(place),

@@ -191,15 +191,26 @@ impl Parts {
         away
     }
 
-    /// What each processor may touch at a state.
-    pub(crate) fn doings(&self, mails: &Mails, state: &[u32]) -> Doings {
+    // What the threads of each processor may touch at a state.
+    fn of_threads(&self, state: &[u32]) -> Doings {
         let mut doings = Doings::none();
         for cpu in 0..self.layout.cpus {
             if let Some(about) = self.about_at(state, self.layout.cpu(cpu)) {
                 doings.put(cpu, about.doing);
             }
         }
+        doings
+    }
+
+    /// What each processor may touch at a state.
+    pub(crate) fn doings(&self, mails: &Mails, state: &[u32]) -> Doings {
+        let mut doings = self.of_threads(state);
         doings.add_mail(mails, mails.away(self.away(state)));
         doings
+    }
+
+    /// Whether every thread has ended at a state.
+    pub(crate) fn all_ended(&self, state: &[u32]) -> bool {
+        self.of_threads(state).all_ended()
     }
 }

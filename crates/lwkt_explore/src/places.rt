@@ -16,6 +16,9 @@ use std::alloc::{AllocError, Global};
 // The most messages.
 const MESSAGES: u8 = 64;
 
+// The most threads of a processor.
+const THREADS: usize = 16;
+
 // The numbers that a place is given room for at first.
 const ROOM: usize = 256;
 
@@ -68,6 +71,18 @@ fn step_all(state: &mut State, trace: &[Event]) -> bool {
     true
 }
 
+// Whether every thread of a processor has ended; so of one that isn't there.
+fn have_ended(machine: &Machine, cpu: usize) -> bool {
+    for thread in 0..THREADS {
+        match machine.thread(cpu, thread) {
+            Some(status) if status.state.has_ended() => {}
+            Some(_) => return false,
+            None => return true,
+        }
+    }
+    true
+}
+
 impl Place {
     /// The machine of a script as it is opened.
     pub(crate) fn open(alloc: Global, script: &Script) -> Result<Place, Fault>
@@ -113,6 +128,11 @@ impl Place {
             self.turn(usize::from(*cpu), trace)?;
         }
         Ok(())
+    }
+
+    /// Whether every thread has ended.
+    pub(crate) fn all_ended(&self) -> bool {
+        (0..8usize).all(|cpu| have_ended(&self.machine, cpu))
     }
 
     /// Writes what tells this place apart from others of the same script, and gives it up.

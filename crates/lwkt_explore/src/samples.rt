@@ -1,9 +1,10 @@
 //! Random orders, for scripts that are too large for a search.
-ghost use Rattle.std.specs.Prelude.{◌≡◌, ◌+◌, ◌≤◌, ◌<◌, false, None, sum, IfOk, IfErr};
+ghost use Rattle.std.specs.Prelude.{◌≡◌, ◌+◌, ◌≤◌, ◌<◌, None, sum, IfOk, IfErr};
 ghost use Rattle.lwkt_explore.specs.Outcomes.{AreOutcomes, AreShort, RefusesSearch};
 ghost use Rattle.lwkt_explore.specs.Tries.{HasTriedOrders};
 ghost use Rattle.lwkt_explore.specs.Walks.{IsWalk};
 
+use crate::extents::Extent;
 use crate::outcomes::Outcomes;
 use crate::searches::{Bounds, Found, Method, Tried};
 use crate::walks::Walk;
@@ -42,13 +43,46 @@ impl Dice {
     }
 }
 
+/// What an order keeps to.
+#[derive(Clone, Copy, Debug, PartialEq, Eq)]
+pub(crate) enum Course {
+    /// The rounds of a run.
+    Rounds,
+    /// What the dice say.
+    Random(Dice),
+}
+
+impl Course {
+    /// The processor of a turn, of so many.
+    pub(crate) fn next(&mut self, turn: usize, cpus: usize) -> usize
+        requires { 0 < cpus }
+        ensures { result < cpus }
+    {
+        match self {
+            Course::Rounds => turn % cpus,
+            Course::Random(dice) => dice.below(cpus as u64) as usize,
+        }
+    }
+
+    /// Whether an order stops at this turn, of so many processors, where all threads have ended: a run stops behind a round, a random
+    /// order with a probability of one half.
+    pub(crate) fn stops(&mut self, turn: usize, cpus: usize) -> bool
+        requires { 0 < cpus }
+    {
+        match self {
+            Course::Rounds => turn > 0 && turn % cpus == 0,
+            Course::Random(dice) => dice.below(2) == 0,
+        }
+    }
+}
+
 // Makes one random order, and keeps its outcome.
 fn add_one(
     alloc: Global,
     script: &Script,
     walk: &mut Walk,
     outcomes: &mut Outcomes,
-    dice: &mut Dice,
+    course: &mut Course,
 ) -> Result<(), Fault>
     requires walk { IsWalk script.now walk.old }
     requires outcomes { AreOutcomes script.now outcomes.old }
@@ -60,8 +94,9 @@ fn add_one(
     ensures counts { sum outcomes.new.counts.items ≤ sum outcomes.old.counts.items + 1 }
     ensures refused { IfErr result (λ fault. RefusesSearch script.now fault) }
 {
-    let (order, quiet) = walk.stray(alloc, script, dice)?;
-    match outcomes.add(alloc, script, order, !quiet) {
+    let most = walk.bounds.turns;
+    let (order, stand) = walk.stray(alloc, script, course, most)?;
+    match outcomes.add(alloc, script, order, stand) {
         Ok(_) => Ok(()),
         Err(fault) => Err(fault),
     }
@@ -73,7 +108,7 @@ fn add_all<W: Watch>(
     script: &Script,
     walk: &mut Walk,
     outcomes: &mut Outcomes,
-    dice: &mut Dice,
+    course: &mut Course,
     count: u64,
     watch: &mut W,
 ) -> Result<(), Fault>
@@ -90,14 +125,15 @@ fn add_all<W: Watch>(
         if !watch.goes_on(walk.strayed(made)) {
             return Ok(());
         }
-        add_one(alloc, script, walk, outcomes, dice)?;
+        add_one(alloc, script, walk, outcomes, course)?;
     }
     Ok(())
 }
 
 /// Makes `count` random orders of turns of a script, or fewer if memory is refused or who looks on ends it.
-/// Each goes on until no turn changes anything, or the bound on turns is met. A seed gives the same orders on every machine. Each
-/// outcome is the report of the run along its order, whose verdict is `lawful`. What is found is never complete.
+/// Each goes on until no turn changes anything, or the bound on turns is met; at each state in which all threads have ended it stops
+/// with a probability of one half. A seed gives the same orders on every machine. Each outcome is the report of the run along its
+/// order, whose verdict is `lawful`. What is found is never complete.
 ///
 /// Refused with `Limits` or `LawBroken` for the script's opening, with `Memory`
 /// if memory is refused before the first order, and with `Unlawful` if the verdict on a run isn't `lawful`.
@@ -114,20 +150,20 @@ pub fn sample<W: Watch>(
 
     // Its order has no more turns than the bound allows.
     ensures short { IfOk result (λ found. AreShort bounds.turns found.outcomes) }
-    ensures part { IfOk result (λ found. found.is_complete ≡ false) }
+    ensures part { IfOk result (λ found. found.extent ≡ Extent.Sampled) }
     ensures lost { IfOk result (λ found. found.lost ≡ None) }
     ensures tried { IfOk result (λ found. HasTriedOrders count found.tried) }
     ensures refused { IfErr result (λ fault. RefusesSearch script.now fault) }
 {
     let mut walk = Walk::begin(alloc, script, bounds, Method::Plain)?;
     let mut outcomes = Outcomes::new(alloc);
-    let mut dice = Dice::new(seed);
+    let mut course = Course::Random(Dice::new(seed));
     let made = add_all(
         alloc,
         script,
         &mut walk,
         &mut outcomes,
-        &mut dice,
+        &mut course,
         count,
         watch,
     );
@@ -141,7 +177,7 @@ pub fn sample<W: Watch>(
         outcomes,
         tried,
         turns: walk.turns,
-        is_complete: false,
+        extent: Extent::Sampled,
         lost: None,
     })
 }

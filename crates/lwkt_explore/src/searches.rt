@@ -1,12 +1,15 @@
 //! The search: over states, breadth first, so that orders are shortest.
 ghost use Rattle.std.specs.Prelude.{◌≡◌, ◌+◌, ◌≤◌, ◌<◌, true, false, None, length, IfOk, IfErr, OnOk};
+ghost use Rattle.lwkt_explore.specs.Extents.{is_complete};
 ghost use Rattle.lwkt_explore.specs.Outcomes.{AreOutcomes, AreShort, AreWhole, HasEnded, RefusesSearch};
 ghost use Rattle.lwkt_explore.specs.Tries.{HasTriedStates};
 ghost use Rattle.lwkt_explore.specs.Walks.{IsSearching};
 
+use crate::dives::dive;
+use crate::extents::{Bound, Extent, extent_of};
 use crate::losses::Lost;
-use crate::outcomes::{Kind, Outcomes};
-use crate::walks::{Leads, Walk, memory};
+use crate::outcomes::{Kind, Outcomes, Stand};
+use crate::walks::{Walk, memory};
 use crate::watches::Watch;
 use lwkt_base::Fault;
 use lwkt_script::Script;
@@ -49,14 +52,46 @@ pub struct Found {
     pub tried: Tried,
     /// How many turns were tried.
     pub turns: u64,
-    /// Whether every order was tried: no bound was met, no memory was refused, and nobody ended the search. Never so of random
-    /// orders.
-    pub is_complete: bool,
+    /// Whether every order was tried, and if not, what ended the search.
+    pub extent: Extent,
     /// The states from which no end can be reached, if every order was tried and there are any.
     pub lost: Option<Lost>,
 }
 
-// Goes on from a state; where nothing changes any more, or a bound is met, there is an outcome.
+impl Found {
+    /// Whether every order was tried.
+    pub fn is_complete(&self) -> bool
+        ensures { result ≡ is_complete self.now }
+    {
+        matches!(self.extent, Extent::Complete)
+    }
+}
+
+// Adds the outcome of a state, which stands so. Says which kind it is of.
+fn add_at(
+    alloc: Global,
+    script: &Script,
+    walk: &mut Walk,
+    outcomes: &mut Outcomes,
+    at: usize,
+    stand: Stand,
+) -> Result<Kind, Fault>
+    requires { IsSearching script.now walk.old outcomes.old }
+    ensures search { IsSearching script.now walk.new outcomes.new }
+    ensures bounds { walk.new.bounds ≡ walk.old.bounds }
+    ensures ends { walk.new.ends ≡ walk.old.ends }
+    ensures kind { IfOk result (λ kind. kind ≡ Kind.Ended → HasEnded outcomes.new) }
+    ensures refused { IfErr result (λ fault. RefusesSearch script.now fault) }
+{
+    let order = memory(walk.graph.order(alloc, at))?;
+    let kind = outcomes.add(alloc, script, order, stand)?;
+    if kind == Kind::Cut {
+        walk.meet(Bound::Turns);
+    }
+    Ok(kind)
+}
+
+// Goes on from a state; where all threads have ended, nothing changes any more, or a bound is met, there is an outcome.
 fn expand(
     alloc: Global,
     script: &Script,
@@ -70,13 +105,11 @@ fn expand(
     ensures ends { OnOk result (length walk.new.ends.items ≡ length walk.old.ends.items + 1) }
     ensures refused { IfErr result (λ fault. RefusesSearch script.now fault) }
 {
-    let is_cut = match walk.go_on(alloc, script, at)? {
-        Leads::Nowhere => false,
-        Leads::Off if walk.is_far(at) => true,
-        Leads::On | Leads::Off => return walk.note_end(false),
+    let leads = walk.go_on(alloc, script, at)?;
+    let Some(stand) = walk.stand(at, leads) else {
+        return walk.note_end(false);
     };
-    let order = memory(walk.graph.order(alloc, at))?;
-    let kind = outcomes.add(alloc, script, order, is_cut)?;
+    let kind = add_at(alloc, script, walk, outcomes, at, stand)?;
     walk.note_end(kind == Kind::Ended)
 }
 
@@ -92,7 +125,7 @@ fn search<W: Watch>(
     requires { IsSearching script.now walk.old outcomes.old }
     ensures search { IsSearching script.now walk.new outcomes.new }
     ensures bounds { walk.new.bounds ≡ walk.old.bounds }
-    ensures ends { OnOk result (walk.new.is_complete ≡ true → 0 < length walk.new.ends.items) }
+    ensures ends { OnOk result (walk.new.met ≡ None → 0 < length walk.new.ends.items) }
     ensures refused { IfErr result (λ fault. RefusesSearch script.now fault) }
 {
     for at in 0..states {
@@ -100,21 +133,64 @@ fn search<W: Watch>(
             return Ok(());
         }
         if !watch.goes_on(walk.seen(at)) {
-            walk.is_complete = false;
+            walk.met = Some(Bound::Stopped);
             return Ok(());
         }
         expand(alloc, script, walk, outcomes, at)?;
     }
     // (no state may be kept, and the opening is one)
     if walk.graph.len() > states {
-        walk.is_complete = false;
+        walk.meet(Bound::States);
     }
     Ok(())
 }
 
-/// Tries every order of turns of a script, within bounds. Each outcome is the report of the run along its
-/// order, whose verdict is `lawful`. If memory is refused during the search, or who looks on ends it, what was found till then is
-/// given, and `is_complete` is false.
+// Tries every order of turns of a script, within bounds, and nothing else.
+fn searched<W: Watch>(
+    alloc: Global,
+    script: &Script,
+    bounds: Bounds,
+    method: Method,
+    watch: &mut W,
+) -> Result<Found, Fault>
+    ensures found { IfOk result (λ found. AreOutcomes script.now found.outcomes) }
+    ensures short { IfOk result (λ found. AreShort bounds.turns found.outcomes) }
+    ensures ended { IfOk result (λ found. is_complete found ≡ true → found.lost ≡ None → HasEnded found.outcomes) }
+    ensures whole { IfOk result (λ found. is_complete found ≡ true → AreWhole found.outcomes) }
+    ensures lost { IfOk result (λ found. is_complete found ≡ false → found.lost ≡ None) }
+    ensures tried { IfOk result (λ found. HasTriedStates bounds.states found.tried) }
+    ensures refused { IfErr result (λ fault. RefusesSearch script.now fault) }
+{
+    let mut walk = Walk::begin(alloc, script, bounds, method)?;
+    let mut outcomes = Outcomes::new(alloc);
+    match search(
+        alloc,
+        script,
+        &mut walk,
+        &mut outcomes,
+        bounds.states,
+        watch,
+    ) {
+        Ok(()) => {}
+        Err(Fault::Memory(_)) => walk.met = Some(Bound::Memory),
+        Err(fault) => return Err(fault),
+    }
+    let lost = walk.lost(alloc)?;
+    Ok(Found {
+        outcomes,
+        tried: Tried::States(walk.graph.len()),
+        turns: walk.turns,
+        extent: extent_of(walk.met),
+        lost,
+    })
+}
+
+/// Tries every order of turns of a script, within bounds. There is an outcome at every state in which all threads have ended, and at
+/// every one that no turn changes. Each is the report of the run along its order, whose verdict is `lawful`. If memory is refused
+/// during the search, or who looks on ends it, what was found till then is given, and `extent` says so.
+///
+/// Where not every order was tried, the run in rounds and some random orders are made behind the search, and the outcomes that it
+/// hadn't found come behind its own. An order of the search is a shortest one to its outcome, one of these needn't be.
 ///
 /// Refused with `Limits` or `LawBroken` for the script's opening, with `Memory`
 /// if memory is refused before the search or after a complete one, and with `Unlawful` if the verdict on a run isn't `lawful`.
@@ -132,36 +208,22 @@ pub fn explore<W: Watch>(
     ensures short { IfOk result (λ found. AreShort bounds.turns found.outcomes) }
 
     // If every order was tried and no state is lost, there is an end.
-    ensures ended { IfOk result (λ found. found.is_complete ≡ true → found.lost ≡ None → HasEnded found.outcomes) }
+    ensures ended { IfOk result (λ found. is_complete found ≡ true → found.lost ≡ None → HasEnded found.outcomes) }
 
     // If every order was tried, none was cut off.
-    ensures whole { IfOk result (λ found. found.is_complete ≡ true → AreWhole found.outcomes) }
+    ensures whole { IfOk result (λ found. is_complete found ≡ true → AreWhole found.outcomes) }
 
     // Lost states are told only if every order was tried.
-    ensures lost { IfOk result (λ found. found.is_complete ≡ false → found.lost ≡ None) }
+    ensures lost { IfOk result (λ found. is_complete found ≡ false → found.lost ≡ None) }
     ensures tried { IfOk result (λ found. HasTriedStates bounds.states found.tried) }
     ensures refused { IfErr result (λ fault. RefusesSearch script.now fault) }
 {
-    let mut walk = Walk::begin(alloc, script, bounds, method)?;
-    let mut outcomes = Outcomes::new(alloc);
-    match search(
-        alloc,
-        script,
-        &mut walk,
-        &mut outcomes,
-        bounds.states,
-        watch,
-    ) {
-        Ok(()) => {}
-        Err(Fault::Memory(_)) => walk.is_complete = false,
-        Err(fault) => return Err(fault),
+    let mut found = searched(alloc, script, bounds, method, watch)?;
+    if found.is_complete() {
+        return Ok(found);
     }
-    let lost = walk.lost(alloc)?;
-    Ok(Found {
-        outcomes,
-        tried: Tried::States(walk.graph.len()),
-        turns: walk.turns,
-        is_complete: walk.is_complete,
-        lost,
-    })
+    match dive(alloc, script, bounds, &mut found.outcomes) {
+        Ok(()) | Err(Fault::Memory(_)) => Ok(found),
+        Err(fault) => Err(fault),
+    }
 }

@@ -25,7 +25,7 @@ fn has_stuck(outcomes: &Outcomes) -> bool
 pub fn status_of_found(found: &Found) -> u8
     ensures { result ≡ status_of_found found.now }
 {
-    if !found.is_complete {
+    if !found.is_complete() {
         return 5;
     }
     if found.lost.is_some() || has_stuck(&found.outcomes) {

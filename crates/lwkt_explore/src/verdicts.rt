@@ -1,6 +1,10 @@
 //! Which expectations hold, in words: of one run, and over all orders.
-use crate::expectations::{deciding, is_met_over_orders};
-use crate::judging::is_met;
+ghost use Rattle.std.specs.Prelude.{◌≡◌};
+ghost use Rattle.lwkt_explore.specs.Verdicts.{truth_text};
+
+use crate::claims::Truth;
+use crate::expectations::{deciding, truth_over_orders};
+use crate::judging::truth_in_run;
 use crate::lines::order_text;
 use crate::outcomes::Outcome;
 use crate::searches::Found;
@@ -9,18 +13,19 @@ use lwkt_report::Closing;
 use lwkt_text::claims::Expectation;
 use std::alloc::{AllocError, Global};
 
-// Whether an expectation holds; where not every order was tried, one that no outcome decides may still turn out otherwise.
-fn words_of(is_met: bool, is_known: bool) -> &'static str {
-    match (is_met, is_known) {
-        (true, true) => "holds",
-        (false, true) => "doesn't hold",
-        (true, false) => "holds of what was found",
-        (false, false) => "isn't shown by what was found",
+// Whether an expectation holds, in words.
+fn words_of(truth: Truth) -> &'static str
+    ensures { result.now ≡ truth_text truth }
+{
+    match truth {
+        Truth::Yes => "holds",
+        Truth::No => "doesn't hold",
+        Truth::Open => "not decided",
     }
 }
 
-/// Of each thing that a text says of the outcome of its script a line that says whether it is so: `FILE:LINE: holds` or
-/// `FILE:LINE: doesn't hold`; without the file where none is named.
+/// Of each thing that a text says of the outcome of its script a line that says whether it is so: `FILE:LINE: holds`,
+/// `FILE:LINE: doesn't hold`, or `FILE:LINE: not decided` where the report doesn't tell; without the file where none is named.
 ///
 /// Refused if memory is.
 pub(crate) fn verdicts_said(
@@ -33,11 +38,10 @@ pub(crate) fn verdicts_said(
     let mut page = Page::new(alloc);
     let mut place = Place::FIRST;
     for expectation in expectations {
-        let is_so = is_met(expectation, std::slice::from_ref(outcome));
         place = place_from(bytes, place, expectation.at);
         add_head(&mut page, path, place);
         page.add(": ");
-        page.add(words_of(is_so, true));
+        page.add(words_of(truth_in_run(expectation, outcome)));
         page.add("\n");
     }
     page.whole()
@@ -60,12 +64,10 @@ fn add_verdict(
     found: &Found,
 ) -> Result<(), AllocError> {
     let outcomes = found.outcomes.all.as_slice();
-    let decided = deciding(expectation, outcomes);
-    let is_known = found.is_complete || decided.is_some();
     add_head(page, None, place);
     page.add(": ");
-    page.add(words_of(is_met_over_orders(expectation, outcomes), is_known));
-    if let Some(outcome) = decided {
+    page.add(words_of(truth_over_orders(expectation, found)));
+    if let Some(outcome) = deciding(expectation, outcomes) {
         add_witness(alloc, page, outcome)?;
     }
     page.add("\n");
@@ -73,8 +75,8 @@ fn add_verdict(
 }
 
 /// A line for each expectation of a text, by its line there, counted from 1: `LINE: holds` or `LINE: doesn't hold`, and the order
-/// of the outcome that decides it, if one does. If not every order was tried and no outcome decides it: `LINE: holds of what was
-/// found` or `LINE: isn't shown by what was found`.
+/// of the outcome that decides it, if one does; `LINE: not decided` where none does and not every order was tried, or an outcome leaves
+/// it open.
 ///
 /// `AllocError` if memory is refused.
 pub fn verdicts_of(

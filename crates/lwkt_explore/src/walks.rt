@@ -1,20 +1,21 @@
 //! A walk over the states of a script.
-ghost use Rattle.std.specs.Prelude.{◌≡◌, ◌⊎◌, ℕ, ◌+◌, ◌<◌, ◌≤◌, true, false, List, [], length, All, Ok, Err, None, Contains, IsFalse, IfOk, IfErr, OnOk, OnErr, IfSome};
+ghost use Rattle.std.specs.Prelude.{◌≡◌, ◌≢◌, ◌⊎◌, ℕ, ◌+◌, ◌<◌, ◌≤◌, true, List, [], length, All, Ok, Err, Some, None, Contains, IsFalse, IfOk, IfErr, OnOk, OnErr, IfSome};
 ghost use Rattle.lwkt_base.specs.Fault.{no_memory};
 ghost use Rattle.lwkt_explore.specs.Graphs.{depth_at, IsOrder};
 ghost use Rattle.lwkt_explore.specs.Outcomes.{RefusesSearch};
-ghost use Rattle.lwkt_explore.specs.Walks.{IsWalk, WalkStays, StaysThere, WalkGoesOn};
+ghost use Rattle.lwkt_explore.specs.Walks.{stand_of, IsWalk, WalkStays, StaysThere, WalkGoesOn};
 
 use crate::choices::Choice;
 use crate::doings::Doings;
+use crate::extents::Bound;
 use crate::graphs::{Graph, NONE, Row, UNTRIED};
 use crate::losses::{Lost, lost_of};
 use crate::mails::Mails;
 use crate::memos::{Memos, picked, put_back};
-use crate::outcomes::judge;
+use crate::outcomes::{Stand, judge};
 use crate::parts::{Layout, Parts, Written};
 use crate::places::Place;
-use crate::samples::Dice;
+use crate::samples::Course;
 use crate::searches::{Bounds, Method};
 use crate::touches::has;
 use crate::watches::Seen;
@@ -28,7 +29,8 @@ use std::alloc::{AllocError, Global};
 #[derive(Drop)]
 pub(crate) struct Walk {
     mails: Mails,
-    bounds: Bounds,
+    /// How many states may be kept, and how many turns an order may have.
+    pub bounds: Bounds,
     method: Method,
     layout: Layout,
     parts: Parts,
@@ -38,8 +40,8 @@ pub(crate) struct Walk {
     ends: Vec<bool>,
     /// How many turns were tried.
     pub turns: u64,
-    /// Whether no bound was met and nothing ended it so far.
-    pub is_complete: bool,
+    /// The bound that was met, if one was.
+    pub met: Option<Bound>,
     trace: Vec<Event>,
 }
 
@@ -96,6 +98,30 @@ fn leads_of(row: &Row, at: usize, cpus: usize) -> Leads {
     leads
 }
 
+// How a state stands at which there is an outcome: where all threads have ended, whatever its turns lead to; else where no turn changes
+// anything, or a turn leads off and the order is as long as it may be.
+fn stand_of(all_ended: bool, leads: Leads, is_far: bool) -> Option<Stand>
+    ensures { result ≡ stand_of all_ended leads is_far }
+{
+    if all_ended {
+        return Some(Stand::AllEnded);
+    }
+    match leads {
+        Leads::Nowhere => Some(Stand::Quiet),
+        Leads::Off if is_far => Some(Stand::Cut),
+        Leads::On | Leads::Off => None,
+    }
+}
+
+// How a place stands whose order isn't made longer.
+fn stand_at_last(place: &Place) -> Stand {
+    if place.all_ended() {
+        Stand::AllEnded
+    } else {
+        Stand::Cut
+    }
+}
+
 impl Walk {
     /// A walk that has the opening state of a script.
     pub(crate) fn begin(
@@ -124,7 +150,7 @@ impl Walk {
             graph: memory(Graph::new(alloc, usize::from(script.cpus)))?,
             ends: Vec::new(alloc),
             turns: 0,
-            is_complete: true,
+            met: None,
             trace: Vec::new(alloc),
         };
         let written = memory(opened.write(alloc, script))?;
@@ -240,6 +266,25 @@ impl Walk {
         }
     }
 
+    /// Notes that a bound was met; the first one is told.
+    pub(crate) fn meet(&mut self, bound: Bound)
+        ensures met { self.new.met ≢ None }
+        ensures bounds { self.new.bounds ≡ self.old.bounds }
+        ensures graph { self.new.graph ≡ self.old.graph }
+        ensures ends { self.new.ends ≡ self.old.ends }
+    {
+        if self.met.is_none() {
+            self.met = Some(bound);
+        }
+    }
+
+    /// How a state stands that was gone on from, if there is an outcome at it: where all threads have ended, where nothing changes any
+    /// more, and where the order to it has as many turns as it may have.
+    pub(crate) fn stand(&self, at: usize, leads: Leads) -> Option<Stand> {
+        let all_ended = self.parts.all_ended(self.graph.parts(at));
+        stand_of(all_ended, leads, self.is_far(at))
+    }
+
     /// Whether the order to a state has as many turns as it may have.
     pub(crate) fn is_far(&self, at: usize) -> bool
         ensures { IsFalse result → depth_at self.now.graph at < self.now.bounds.turns }
@@ -263,8 +308,12 @@ impl Walk {
         if let Some(number) = self.graph.find(state) {
             return Ok(number);
         }
-        if self.graph.len() >= self.bounds.states || self.is_far(at) {
-            self.is_complete = false;
+        if self.graph.len() >= self.bounds.states {
+            self.meet(Bound::States);
+            return Ok(NONE);
+        }
+        if self.is_far(at) {
+            self.meet(Bound::Turns);
             return Ok(NONE);
         }
         let number = number_in_order(cpu);
@@ -381,17 +430,12 @@ impl Walk {
     ) -> Result<Leads, Fault>
         requires { IsWalk script.now self.old }
         ensures goes { WalkGoesOn script.now self.old self.new }
-        ensures off { IfOk result (λ leads. leads ≡ Leads.Off → self.new.is_complete ≡ false) }
         ensures refused { IfErr result (λ fault. RefusesSearch script.now fault) }
     {
         let mut row = self.first_row(at);
         self.try_sets(alloc, script, at, &mut row)?;
         memory(self.graph.note(&row))?;
-        let leads = leads_of(&row, at, usize::from(script.cpus));
-        if leads == Leads::Off {
-            self.is_complete = false;
-        }
-        Ok(leads)
+        Ok(leads_of(&row, at, usize::from(script.cpus)))
     }
 
     // Whether no turn changes anything behind an order.
@@ -411,30 +455,35 @@ impl Walk {
         Ok(true)
     }
 
-    /// A random order, up to where no turn changes anything, or to the most turns that it may have; says which.
+    /// An order of at most so many turns that keeps to a course, up to where no turn changes anything, or all threads have ended and the
+    /// course stops. Says how the state stands that it led to.
     pub(crate) fn stray(
         &mut self,
         alloc: Global,
         script: &Script,
-        dice: &mut Dice,
-    ) -> Result<(Vec<u8>, bool), Fault>
+        course: &mut Course,
+        most: usize,
+    ) -> Result<(Vec<u8>, Stand), Fault>
         requires { IsWalk script.now self.old }
         ensures stays { StaysThere self.old self.new }
-        ensures order { IfOk result (λ made. IsOrder script.now.cpus self.old.bounds.turns made.0.items) }
+        ensures order { IfOk result (λ made. IsOrder script.now.cpus most made.0.items) }
         ensures refused { IfErr result (λ fault. RefusesSearch script.now fault) }
     {
-        let cpus = u64::from(script.cpus);
+        let cpus = usize::from(script.cpus);
         let mut place = Place::open(alloc, script)?;
         let mut order = Vec::new(alloc);
-        let mut idle = 0u64;
-        for _ in 0..self.bounds.turns {
+        let mut idle = 0usize;
+        for turn in 0..most {
+            if place.all_ended() && course.stops(turn, cpus) {
+                return Ok((order, Stand::AllEnded));
+            }
             if idle >= 4 * cpus {
                 if self.is_quiet(alloc, script, order.as_slice())? {
-                    return Ok((order, true));
+                    return Ok((order, Stand::Quiet));
                 }
                 idle = 0;
             }
-            let cpu = dice.below(cpus) as usize;
+            let cpu = course.next(turn, cpus);
             let turned = place.turn(cpu, &mut self.trace)?;
             self.turns = self.turns.saturating_add(1);
             idle = match turned {
@@ -445,7 +494,7 @@ impl Walk {
                 return Err(Fault::Memory(refused.into()));
             }
         }
-        Ok((order, false))
+        Ok((order, stand_at_last(&place)))
     }
 
     /// Notes of the next state that was gone on from whether it is an end.
@@ -455,7 +504,7 @@ impl Walk {
         ensures only { OnErr result (result ≡ Err no_memory) }
         ensures bounds { self.new.bounds ≡ self.old.bounds }
         ensures graph { self.new.graph ≡ self.old.graph }
-        ensures complete { self.new.is_complete ≡ self.old.is_complete }
+        ensures met { self.new.met ≡ self.old.met }
     {
         match self.ends.push(is_end) {
             Ok(()) => Ok(()),
@@ -465,11 +514,11 @@ impl Walk {
 
     /// The states from which no end can be reached, if every order was tried.
     pub(crate) fn lost(&self, alloc: Global) -> Result<Option<Lost>, Fault>
-        ensures part { self.now.is_complete ≡ false → IfOk result (λ lost. lost ≡ None) }
-        ensures none { IfOk result (λ lost. self.now.is_complete ≡ true → lost ≡ None → 0 < length self.now.ends.items → Contains self.now.ends.items true) }
+        ensures part { self.now.met ≢ None → IfOk result (λ lost. lost ≡ None) }
+        ensures none { IfOk result (λ lost. self.now.met ≡ None → lost ≡ None → 0 < length self.now.ends.items → Contains self.now.ends.items true) }
         ensures only { OnErr result (result ≡ Err no_memory) }
     {
-        if !self.is_complete {
+        if self.met.is_some() {
             return Ok(None);
         }
         memory(lost_of(alloc, &self.graph, self.ends.as_slice(), self.graph.cpus))

@@ -46,7 +46,7 @@ returns c =
     let stuck : c.in_ok-stuck.stuck ≡ length e + length s = (let more = c.in_ok-stuck.ensures.number in omega arith) in
     let first : string_bytes c.add_kind.new.out ≡ string_bytes c.new-out.result ++ numbered_lines line 1 e = c.in_ok-ended.ensures.text in
     let second : string_bytes c.add_kind-2.new.out ≡ string_bytes c.add_kind.new.out ++ numbered_lines line (c.in_ok-ended.ended + 1) s = c.in_ok-stuck.ensures.text in
-    let third : string_bytes c.add_kind-3.new.out ≡ string_bytes c.add_kind-2.new.out ++ numbered_lines line (c.in_ok-stuck.stuck + 1) cut = c.in_ok-add_kind.ensures.text in
+    let third : string_bytes c.add_kind-3.new.out ≡ string_bytes c.add_kind-2.new.out ++ numbered_lines line (c.in_ok-stuck.stuck + 1) cut = c.in_ok-count.ensures.text in
     let fourth : string_bytes c.match-found.out ≡ string_bytes c.add_kind-3.new.out ++ option_map_or lost_line found.lost [] = grind (arith, common_steps) in
     written_all (string_bytes c.new-out.result) (string_bytes c.add_kind.new.out) (string_bytes c.add_kind-2.new.out) (string_bytes c.add_kind-3.new.out) (string_bytes c.match-found.out) (string_bytes c.add_sum.new.out)
     (numbered_lines line 1 e) (numbered_lines line (length e + 1) s) (numbered_lines line (length e + length s + 1) cut) (numbered_lines line 1 (by_kind found.outcomes))

@@ -56,7 +56,7 @@ pub returns-in_ok-keep-in-None-clause-whole : goal.returns-in_ok-keep-in-None-cl
 returns-in_ok-keep-in-None-clause-whole c = λ uncut all.
     let P : Outcome → Type 0 = λ outcome. outcome.kind ≢ Cut in
     let F : List Outcome → Type 0 = λ xs. All P xs in
-    subst F (sym c.in_ok-keep-in-None.ensures.ok) (All-push P c.args.self.now.all.items c.in_ok-outcome.outcome all (c.in_ok-outcome.ensures.whole uncut))
+    subst F (sym c.in_ok-keep-in-None.ensures.ok) (All-push P c.args.self.now.all.items c.in_ok-outcome.outcome all uncut)
 
 pub returns-in_ok-keep-in-None-clause-ended : goal.returns-in_ok-keep-in-None-clause-ended
 returns-in_ok-keep-in-None-clause-ended c =

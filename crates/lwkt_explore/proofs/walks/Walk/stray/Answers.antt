@@ -6,34 +6,33 @@ use Rattle.lwkt_explore.proofs.WalkLemmas.{stays_there_on}
 use Rattle.lwkt_explore.proofs.walks.Walk.stray.Goals as goal
 use Rattle.lwkt_explore.proofs.walks.Walk.stray.Goals.{then-idle-cpus+in_ok-is_quiet+else-branch, else-idle-cpus}
 
-pub loop-preserved : goal.loop-preserved
-loop-preserved c =
+pub loop-turn-preserved : goal.loop-turn-preserved
+loop-turn-preserved c =
     let first = c.args.self.now in
     let F : Walk → Type 0 = λ walk. StaysThere first walk in
     let joined : StaysThere first c.if-idle-cpus.self =
     elim c.if-idle-cpus.branch [
-      | then-idle-cpus+in_ok-is_quiet+else-branch w ↦ subst F (sym w.self-is) (stays_there_on first c.loop.self w.is_quiet.new.self c.loop.invariant.there w.is_quiet.ensures.stays)
-      | else-idle-cpus w ↦ subst F (sym w.self-is) c.loop.invariant.there
+      | then-idle-cpus+in_ok-is_quiet+else-branch w ↦ subst F (sym w.self-is) (stays_there_on first c.loop-turn.self w.is_quiet.new.self c.loop-turn.invariant.there w.is_quiet.ensures.stays)
+      | else-idle-cpus w ↦ subst F (sym w.self-is) c.loop-turn.invariant.there
     ]
     in
-    let cpus : c.from-cpus.result ≡ c.args.script.now.cpus = c.loop.invariant.cpus in
+    let cpus : c.from-cpus.result ≡ c.args.script.now.cpus = c.loop-turn.invariant.cpus in
     let at_least : 1 ≤ c.args.script.now.cpus = c.requires.some_cpus in
     let at_most : c.args.script.now.cpus ≤ 8 = c.requires.few_cpus in
     let some : 0 < c.from-cpus.result = omega arith in
-    let below : c.below-cpu.result < c.from-cpus.result = c.below-cpu.ensures some in
-    let number : c.number_in_order.result ≡ c.below-cpu.result = c.number_in_order.ensures (omega arith) in
+    let below : c.next-cpu.result < c.from-cpus.result = c.next-cpu.ensures in
+    let number : c.number_in_order.result ≡ c.next-cpu.result = c.number_in_order.ensures (omega arith) in
     let there : c.number_in_order.result < c.args.script.now.cpus = omega arith in
-    let items : c.push.new.self.items ≡ c.loop.order.items ++ c.number_in_order.result ∷ [] = c.in_default.ensures.items in
+    let items : c.push.new.self.items ≡ c.loop-turn.order.items ++ c.number_in_order.result ∷ [] = c.in_default.ensures.items in
     let P : ℕ → Type 0 = λ cpu. cpu < c.args.script.now.cpus in
     let G : List ℕ → Type 0 = λ order. All P order in
-    let more : length c.push.new.self.items ≡ length c.loop.order.items + 1 = ap (λ (xs : List ℕ). length xs) items ∙ length-append c.loop.order.items (c.number_in_order.result ∷ []) in
+    let more : length c.push.new.self.items ≡ length c.loop-turn.order.items + 1 = ap (λ (xs : List ℕ). length xs) items ∙ length-append c.loop-turn.order.items (c.number_in_order.result ∷ []) in
     record {
       there = record { stays = record { bounds = joined.stays.bounds; ends = joined.stays.ends; complete = joined.stays.complete }; graph = joined.graph };
       cpus = cpus;
-      place = c.turn.ensures.as_many ∙ c.loop.invariant.place;
-      order = subst G (sym items) (All-push P c.loop.order.items c.number_in_order.result c.loop.invariant.order there);
-      short = omega (arith, more, c.loop.invariant.short);
-      end = refl;
+      place = c.turn.ensures.as_many ∙ c.loop-turn.invariant.place;
+      order = subst G (sym items) (All-push P c.loop-turn.order.items c.number_in_order.result c.loop-turn.invariant.order there);
+      short = omega (arith, more, c.loop-turn.invariant.short);
     }
 
 pub returns-in-Err-clause-stays : goal.returns-in-Err-clause-stays
@@ -42,8 +41,8 @@ returns-in-Err-clause-stays c =
     let F : Walk → Type 0 = λ walk. StaysThere first walk in
     let joined : StaysThere first c.if-idle-cpus.self =
     elim c.if-idle-cpus.branch [
-      | then-idle-cpus+in_ok-is_quiet+else-branch w ↦ subst F (sym w.self-is) (stays_there_on first c.loop.self w.is_quiet.new.self c.loop.invariant.there w.is_quiet.ensures.stays)
-      | else-idle-cpus w ↦ subst F (sym w.self-is) c.loop.invariant.there
+      | then-idle-cpus+in_ok-is_quiet+else-branch w ↦ subst F (sym w.self-is) (stays_there_on first c.loop-turn.self w.is_quiet.new.self c.loop-turn.invariant.there w.is_quiet.ensures.stays)
+      | else-idle-cpus w ↦ subst F (sym w.self-is) c.loop-turn.invariant.there
     ]
     in
     record { stays = record { bounds = joined.stays.bounds; ends = joined.stays.ends; complete = joined.stays.complete }; graph = joined.graph }

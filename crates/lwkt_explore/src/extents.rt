@@ -1,0 +1,37 @@
+//! Whether every order was tried.
+ghost use Rattle.std.specs.Prelude.{◌≡◌};
+ghost use Rattle.lwkt_explore.specs.Extents.{extent_of};
+
+/// What ends a search before every order is tried.
+#[derive(Clone, Copy, Debug, PartialEq, Eq)]
+pub enum Bound {
+    /// As many states were kept as may be, and a turn led to a further one.
+    States,
+    /// An order had as many turns as it may have, and a further turn led on.
+    Turns,
+    /// Memory was refused.
+    Memory,
+    /// Who looks on ended it.
+    Stopped,
+}
+
+/// Whether every order was tried, and if not, what ended the search.
+#[derive(Clone, Copy, Debug, PartialEq, Eq)]
+pub enum Extent {
+    /// Every order was tried.
+    Complete,
+    /// Not every order was tried. Of more bounds than one this is that which ended the search, or else the first that was met.
+    Part(Bound),
+    /// Random orders were tried, which are never all.
+    Sampled,
+}
+
+/// How much a search tried that met this bound, if it met one.
+pub(crate) fn extent_of(met: Option<Bound>) -> Extent
+    ensures { result ≡ extent_of met }
+{
+    match met {
+        None => Extent::Complete,
+        Some(bound) => Extent::Part(bound),
+    }
+}

@@ -1,0 +1,144 @@
+//! Outcomes that are told together: they differ in where their messages are, and in nothing else that a report shows.
+ghost use Rattle.std.specs.Prelude.{◌≡◌, ◌&&◌, ◌+◌, ◌<◌, ◌++◌, true, not, OnOk, string_bytes, get_or, length};
+ghost use Rattle.std.specs.List.{list_any, flat_map};
+ghost use Rattle.lwkt_report.specs.Report.{owner_text};
+ghost use Rattle.lwkt_explore.specs.Texts.{is_kind, told_with, later_forms, told_count, place_text, looks_same, between_text, places_text, or_line};
+
+use crate::lines::add_order;
+use crate::outcomes::{Kind, Outcome, Outcomes};
+use lwkt_base::{MsgEnd, Owner};
+use std::alloc::AllocError;
+
+// Whether two outcomes are told together.
+fn told_with(one: &Outcome, other: &Outcome) -> bool
+    ensures { result ≡ told_with one.now other.now }
+{
+    one.kind == other.kind && one.settled.as_str() == other.settled.as_str()
+}
+
+// Whether an outcome of these is told with another one.
+fn is_told(before: &[Outcome], outcome: &Outcome) -> bool
+    ensures { result ≡ list_any (told_with outcome.now) before.now }
+{
+    before.iter().any(|one| told_with(outcome, one))
+}
+
+/// Whether an outcome is of a kind, and none of those before it is told with it.
+pub(crate) fn is_first(before: &[Outcome], outcome: &Outcome, kind: Kind) -> bool
+    ensures { result ≡ (not (list_any (told_with outcome.now) before.now) && is_kind kind outcome.now.kind) }
+{
+    !is_told(before, outcome) && outcome.kind == kind
+}
+
+// How many of the orders led to the outcome of a place.
+fn count_at(outcomes: &Outcomes, place: usize) -> u64
+    ensures { result ≡ get_or outcomes.now.counts.items place 0 }
+{
+    outcomes.counts.get(place).copied().unwrap_or(0)
+}
+
+/// How many of the orders led to the outcome of a place, in any of its forms.
+pub(crate) fn told_count(outcomes: &Outcomes, place: usize, outcome: &Outcome) -> u64
+    requires { place < length outcomes.now.all.items }
+    ensures { result ≡ told_count ((outcome.now, get_or outcomes.now.counts.items place 0), later_forms outcome.now (place + 1) outcomes.now) }
+{
+    let all = outcomes.all.as_slice();
+    let mut total = count_at(outcomes, place);
+    for at in place + 1..all.len() {
+        let other = &all[at];
+        if told_with(outcome, other) {
+            total = total.saturating_add(count_at(outcomes, at));
+        }
+    }
+    total
+}
+
+// Where a message is, in a word.
+fn owner_word(owner: Owner) -> &'static str
+    ensures { result.now ≡ owner_text owner }
+{
+    match owner {
+        Owner::Rest { .. } => "rest",
+        Owner::Out { .. } => "out",
+        Owner::With { .. } => "with",
+        Owner::Back { .. } => "back",
+    }
+}
+
+// Whether two messages have the same line.
+fn looks_same(one: &MsgEnd, other: &MsgEnd) -> bool
+    ensures { result ≡ looks_same one.now other.now }
+{
+    one.round == other.round && owner_word(one.state) == owner_word(other.state)
+}
+
+// The line of a message, without its end.
+fn add_place(out: &mut String, message: usize, end: &MsgEnd) -> Result<(), AllocError>
+    ensures { OnOk result (string_bytes out.new ≡ string_bytes out.old ++ place_text message end.now) }
+{
+    let (round, word) = (end.round, owner_word(end.state));
+    write!(out, "message {message} round {round} {word}")
+}
+
+// What stands before a message: a blank before the first, and else a semicolon and a blank.
+fn add_between(out: &mut String, is_first: bool) -> Result<(), AllocError>
+    ensures { OnOk result (string_bytes out.new ≡ string_bytes out.old ++ between_text is_first) }
+{
+    if is_first {
+        out.push_str(" ")
+    } else {
+        out.push_str("; ")
+    }
+}
+
+// The messages of a form whose lines aren't those of the outcome that it is told with.
+fn add_places(out: &mut String, first: &[MsgEnd], form: &[MsgEnd]) -> Result<(), AllocError>
+    ensures { OnOk result (string_bytes out.new ≡ string_bytes out.old ++ places_text true 0 first.now form.now) }
+{
+    let mut is_first = true;
+    for (message, end) in form.iter().enumerate() {
+        if let Some(own) = first.get(message) {
+            if !looks_same(own, end) {
+                add_between(out, is_first)?;
+                add_place(out, message, end)?;
+                is_first = false;
+            }
+        }
+    }
+    Ok(())
+}
+
+// How else the messages of an outcome may stand.
+fn add_form(out: &mut String, outcome: &Outcome, form: &Outcome) -> Result<(), AllocError>
+    ensures { OnOk result (string_bytes out.new ≡ string_bytes out.old ++ or_line outcome.now form.now) }
+{
+    out.push_str("or")?;
+    add_places(
+        out,
+        outcome.closing.messages.as_slice(),
+        form.closing.messages.as_slice(),
+    )?;
+    out.push_str(", order")?;
+    add_order(out, form.order.as_slice())?;
+    out.push_str("\n")
+}
+
+/// A line for each other form of the outcome of a place.
+pub(crate) fn add_forms(
+    out: &mut String,
+    outcomes: &Outcomes,
+    place: usize,
+    outcome: &Outcome,
+) -> Result<(), AllocError>
+    requires { place < length outcomes.now.all.items }
+    ensures { OnOk result (string_bytes out.new ≡ string_bytes out.old ++ flat_map (λ form. or_line outcome.now form.0) (later_forms outcome.now (place + 1) outcomes.now)) }
+{
+    let all = outcomes.all.as_slice();
+    for at in place + 1..all.len() {
+        let form = &all[at];
+        if told_with(outcome, form) {
+            add_form(out, outcome, form)?;
+        }
+    }
+    Ok(())
+}
