@@ -78,7 +78,7 @@ leaves_lawfully script opened made f g early left none stops short opens within 
     empty = empty;
     leaves = leaves;
     trace_is = refl;
-    tells = rounds_tell script opened made w.told none stops w.kept left.last leaves opens within empty w.rounds;
+    tells = rounds_tell script opened made w.told none stops w.kept left.last leaves opens within lawful empty w.rounds;
   };
   by = ((after_all g.machine stops.items, (w.happens, so.closes)), w.run);
 }

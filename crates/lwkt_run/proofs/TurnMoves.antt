@@ -7,7 +7,7 @@ use Rattle.std.proofs.lemmas.List.FromFn.{length-map-range_with_len, get_or-map-
 use Rattle.std.proofs.lemmas.Option.{slice_get_within, get_or_from_slice_get}
 use Rattle.lwkt_core.specs.declared.events.Event.{Event}
 use Rattle.lwkt_core.specs.declared.finals.Final.{Final}
-use Rattle.lwkt_core.specs.Opening.{AreWithin}
+use Rattle.lwkt_core.specs.Opening.{AreWithin, AllOpenLawfully}
 use Rattle.lwkt_cpu.specs.Turning.{IsOfThread}
 use Rattle.lwkt_cpu.specs.Processors.{Processor}
 use Rattle.lwkt_cpu.proofs.SightMoves.{IsLooked}
@@ -22,7 +22,9 @@ use Rattle.lwkt_threads.proofs.PartMoves.{IsToldAt, AreTold, of_cpu_more, told_o
 use Rattle.lwkt_run.specs.Keeping.{Kept, none_kept}
 use Rattle.lwkt_run.specs.Leaving.{Leaves}
 use Rattle.lwkt_run.specs.Running.{Scene, scene, MakesTurnAt, MakesTurns, HasMadeRounds}
+use Rattle.lwkt_run.specs.Joining.{AreOneRun}
 use Rattle.lwkt_run.specs.Run.{parts_in, TellsOneRun}
+use Rattle.lwkt_run.proofs.ChainMoves.{trace_chains}
 use Rattle.lwkt_run.proofs.JoinMoves.{one_run}
 use Rattle.lwkt_run.proofs.RoundMoves.{rounds_keep, turns_keep}
 use Rattle.lwkt_run.proofs.ThreadedMoves.{tokens_from, messages_from}
@@ -84,8 +86,8 @@ part_in cpus trace k part at =
     let here : 0 + k ≡ k = omega arith in
     (within, sym (get_or_from_slice_get (parts_in cpus trace) k part [] at) ∙ get_or-map-range_with_len f 0 cpus k k [] within here)
 
-stands_tells : (script : Script) (opened : Rig) (z : Scene) (none stops : Vec Event Global) (last : Final) (leaves : Leaves z.machine none stops last) → IsOpenedMachine script opened → AreWithin script.cpus script.tokens script.messages → none.items ≡ [] → Stands opened z → TellsOneRun script opened leaves.closed last (z.trace ++ stops.items)
-stands_tells script opened z none stops last leaves opens within empty s =
+stands_tells : (script : Script) (opened : Rig) (z : Scene) (none stops : Vec Event Global) (last : Final) (leaves : Leaves z.machine none stops last) → IsOpenedMachine script opened → AreWithin script.cpus script.tokens script.messages → AllOpenLawfully script.tokens → none.items ≡ [] → Stands opened z → TellsOneRun script opened leaves.closed last (z.trace ++ stops.items)
+stands_tells script opened z none stops last leaves opens within lawful empty s =
     let whole : List Event = z.trace ++ stops.items in
     let fronts : ℕ → List Event = λ k. of_cpu k z.trace in
     let parts = parts_in script.cpus whole in
@@ -93,17 +95,19 @@ stands_tells script opened z none stops last leaves opens within empty s =
     let p = part_in script.cpus whole k part at in
     (subst (λ n. k < n) (sym opens.as_many) p.0, p.1 ∙ of_cpu_more k z.trace whole stops.items refl) in
     let tells : TellTheRuns opened leaves.closed parts = rest_tells opened z.machine leaves.stopped fronts none stops leaves.closed parts s.bank s.book (at_none (length opened.cpus) fronts z.machine.cpus none s.as_many empty s.told) leaves.stops leaves.closes are in
+    let one : AreOneRun script.cpus script.tokens script.messages last parts = one_run script.cpus script.tokens script.messages opened leaves.closed last parts tells (tokens_from script opened opens within) (messages_from script opened opens) leaves.rows leaves.gens leaves.tallies leaves.blobs leaves.messages in
     record {
       tells = tells;
-      one = one_run script.cpus script.tokens script.messages opened leaves.closed last parts tells (tokens_from script opened opens within) (messages_from script opened opens) leaves.rows leaves.gens leaves.tallies leaves.blobs leaves.messages;
+      one = one;
+      chains = trace_chains script.cpus script.tokens script.messages one.events last within lawful one.lawful;
     }
 
-pub rounds_tell : (script : Script) (opened made : Rig) (told : List Event) (none stops : Vec Event Global) (kept : Kept) (last : Final) (leaves : Leaves made none stops last) → IsOpenedMachine script opened → AreWithin script.cpus script.tokens script.messages → none.items ≡ [] → HasMadeRounds script.turns (scene opened [] none_kept) (scene made told kept) → TellsOneRun script opened leaves.closed last (told ++ stops.items)
-rounds_tell script opened made told none stops kept last leaves opens within empty rounds =
-    stands_tells script opened (scene made told kept) none stops last leaves opens within empty
+pub rounds_tell : (script : Script) (opened made : Rig) (told : List Event) (none stops : Vec Event Global) (kept : Kept) (last : Final) (leaves : Leaves made none stops last) → IsOpenedMachine script opened → AreWithin script.cpus script.tokens script.messages → AllOpenLawfully script.tokens → none.items ≡ [] → HasMadeRounds script.turns (scene opened [] none_kept) (scene made told kept) → TellsOneRun script opened leaves.closed last (told ++ stops.items)
+rounds_tell script opened made told none stops kept last leaves opens within lawful empty rounds =
+    stands_tells script opened (scene made told kept) none stops last leaves opens within lawful empty
     (rounds_keep (Stands opened) (stands_turn opened) script.turns (scene opened [] none_kept) (scene made told kept) rounds (stands_opened script opened opens))
 
-pub turns_tell : (script : Script) (order : List ℕ) (opened made : Rig) (told : List Event) (none stops : Vec Event Global) (kept : Kept) (last : Final) (leaves : Leaves made none stops last) → IsOpenedMachine script opened → AreWithin script.cpus script.tokens script.messages → none.items ≡ [] → MakesTurns order (scene opened [] none_kept) (scene made told kept) → TellsOneRun script opened leaves.closed last (told ++ stops.items)
-turns_tell script order opened made told none stops kept last leaves opens within empty along =
-    stands_tells script opened (scene made told kept) none stops last leaves opens within empty
+pub turns_tell : (script : Script) (order : List ℕ) (opened made : Rig) (told : List Event) (none stops : Vec Event Global) (kept : Kept) (last : Final) (leaves : Leaves made none stops last) → IsOpenedMachine script opened → AreWithin script.cpus script.tokens script.messages → AllOpenLawfully script.tokens → none.items ≡ [] → MakesTurns order (scene opened [] none_kept) (scene made told kept) → TellsOneRun script opened leaves.closed last (told ++ stops.items)
+turns_tell script order opened made told none stops kept last leaves opens within lawful empty along =
+    stands_tells script opened (scene made told kept) none stops last leaves opens within lawful empty
     (turns_keep (Stands opened) (stands_turn opened) order (scene opened [] none_kept) (scene made told kept) along (stands_opened script opened opens))

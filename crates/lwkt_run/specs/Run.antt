@@ -60,10 +60,12 @@ parts_in cpus trace = map (λ cpu. of_cpu cpu trace) (range_with_len 0 cpus)
 
 -- what the processors of a machine did from its opening by a script on, of which this is the trace, whatever is said of it: they are
 -- the parts of one run of the model on tokens and of one on messages, to the values at the close; and so of one run of the whole
--- machine, from the script's opening to these closing values (own)
+-- machine, from the script's opening to these closing values; and the written sections of that run are chains, of each token one from
+-- its opening row to its closing one (own)
 pub record TellsOneRun (script : Script) (opened : Rig) (closed : ClosedMachine) (last : Final) (trace : List Event) : Type 0 where
   pub tells : TellTheRuns opened closed (parts_in script.cpus trace)
   pub one : AreOneRun script.cpus script.tokens script.messages last (parts_in script.cpus trace)
+  pub chains : WritesChains (opening_of_script script) one.events last
 
 -- the lines of threads, what was kept, the trace and the closing values of a run in rounds: the script's machine was opened, and made
 -- rounds, as many as the script says or until every thread of each processor had ended, and each turn of them was kept, and nothing
@@ -106,8 +108,8 @@ RunsAt (Rounds limit) script order lines kept trace last = (limit ≡ script.tur
 RunsAt Named script order lines kept trace last = RunsAlong script order lines kept trace last
 
 -- a report gives its verdict on this trace and the turns of this order with their polls, which were kept of a run of the script at
--- this pace, from its opening to the values and the threads' ends that it shows; where the verdict is lawful, the written sections of
--- the trace are chains from the opening rows to those of the token lines (own)
+-- this pace, from its opening to the values and the threads' ends that it shows. The written sections of that run are chains from the
+-- opening rows to those of the token lines, whatever the verdict; where it is lawful, so are those of the trace, in its order (own)
 pub record IsJudgedBy (pace : Pace) (script : Script) (closing : Closing) (order : List ℕ) (trace : List Event) (polls : List Poll) (turns : List Turn) : Type 0 where
   pub last : Final
   pub shows : ShowsClosing closing last

@@ -48,5 +48,5 @@ returns-in-Ok-clause-runs c =
       empty = c.clear.ensures.items;
       leaves = left.ensures.leaves;
       trace_is = whole;
-      tells = subst (λ (es : List Event). TellsOneRun s opened.machine left.ensures.leaves.closed left.left.last es) (sym whole) (rounds_tell s opened.machine made.machine told c.clear.new.self c.left_by.new.trace kept left.left.last left.ensures.leaves opened.ensures.ok opened.ensures.within c.clear.ensures.items rounds);
+      tells = subst (λ (es : List Event). TellsOneRun s opened.machine left.ensures.leaves.closed left.left.last es) (sym whole) (rounds_tell s opened.machine made.machine told c.clear.new.self c.left_by.new.trace kept left.left.last left.ensures.leaves opened.ensures.ok opened.ensures.within opened.ensures.lawful c.clear.ensures.items rounds);
     }
