@@ -1,5 +1,5 @@
 -- What the calls of the library answer to C of scripts in either form (own).
-use Rattle.std.specs.Prelude.{◌≡◌, ◌⊎◌, ◌<◌, ℕ, ◌++◌, true, false, List, length, None, Result, Ok, Err, if◌then◌else◌}
+use Rattle.std.specs.Prelude.{◌≡◌, ◌⊎◌, ◌<◌, ℕ, ◌++◌, true, false, List, length, None, Result, Ok, Err, string_bytes, if◌then◌else◌}
 use Rattle.std.specs.Result.{result_err}
 use Rattle.lwkt_base.specs.declared.faults.Fault.{Fault}
 use Rattle.lwkt_base.specs.declared.faults.Fault.TheVariants.{Script as ScriptFault, Limits, Unlawful}
@@ -7,6 +7,7 @@ use Rattle.lwkt_base.specs.Fault.{no_memory}
 use Rattle.lwkt_explore.specs.Expectations.{status_of_text as status_of_text_search}
 use Rattle.lwkt_explore.specs.declared.searches.Found.{Found}
 use Rattle.lwkt_explore.specs.Outcomes.{AreOutcomes, AreShort, HasEnded, RefusesSearch}
+use Rattle.lwkt_explore.specs.Texts.{text_of_found}
 use Rattle.lwkt_explore.specs.Tries.{HasTriedStates}
 use Rattle.lwkt_explore.specs.declared.judgements.Judgement.{Judgement}
 use Rattle.lwkt_explore.specs.Judgements.{judgement_of, status_of_judgement}
@@ -109,10 +110,11 @@ pub record IsSearch (script : List ℕ) (states turns : ℕ) (search : Search) :
 abbrev pub RefusesOrders : List ℕ → Fault → Type 0
 RefusesOrders script fault = RefusesInput script fault ⊎ ((input : Input) × ((input_of None script ≡ Ok input) × RefusesSearch input.script fault))
 
--- what came of a script whose orders were tried within these bounds: what was found; or it is refused for this fault
-abbrev pub TellsSearch : List ℕ → ℕ → ℕ → Result Search Fault → Type 0
-TellsSearch script states turns (Ok search) = IsSearch script states turns search
-TellsSearch script states turns (Err fault) = RefusesOrders script fault
+-- what came of a script whose orders were tried within these bounds: what was found, written out, with what is said of a text's
+-- expectations behind it; or it is refused for this fault
+abbrev pub TellsSearch : List ℕ → ℕ → ℕ → Result Search Fault → List ℕ → Type 0
+TellsSearch script states turns (Ok search) whole = IsSearch script states turns search × (whole ≡ text_of_found search.found ++ string_bytes search.verdicts)
+TellsSearch script states turns (Err fault) whole = RefusesOrders script fault
 
 abbrev pub status_of_untried : Fault → ℕ
 status_of_untried (Unlawful index) = 4
@@ -127,6 +129,6 @@ status_of_orders (Err fault) = status_of_untried fault
 pub record AnswersOrders (script : List ℕ) (states turns : ℕ) (old new : List ℕ) (answer : LwktAnswer) (status : ℕ) : Type 0 where
   pub outcome : Result Search Fault
   pub whole : List ℕ
-  pub tells : TellsSearch script states turns outcome
+  pub tells : TellsSearch script states turns outcome whole
   pub fills : Fills old new answer whole (result_err outcome)
   pub is_status : status ≡ status_of_orders outcome

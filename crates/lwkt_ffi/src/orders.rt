@@ -101,7 +101,7 @@ fn search_onto(
     page: &mut Page,
 ) -> Result<Search, Fault>
     requires { page.old.text.items ≡ [] }
-    ensures { TellsSearch script.now bounds.states bounds.turns result }
+    ensures { TellsSearch script.now bounds.states bounds.turns result page.new.text.items }
 {
     let mut errors = blank(alloc);
     let search = match search_of(alloc, script, bounds, &mut errors) {
