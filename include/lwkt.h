@@ -90,21 +90,22 @@ uint32_t lwkt_is_text(const uint8_t *script, size_t script_length);
 uint32_t lwkt_text_json(const uint8_t *script, size_t script_length, uint8_t *text, size_t room, lwkt_answer *answer);
 
 // Runs a text in rounds, on this thread, as `lwkt_run turns` does with a text. What is made is the report, and behind that a line for
-// each expectation, in the order of the text: `LINE: holds` or `LINE: doesn't hold`. Bytes that aren't taken for a text are read as one
-// all the same, also where they are none or more than 1048576; without a sentence they make a machine without threads.
+// each expectation, in the order of the text: `LINE: holds`, `LINE: doesn't hold`, or `LINE: not decided` where the report doesn't tell,
+// as of a log of more than 32 entries. Bytes that aren't taken for a text are read as one all the same, also where they are none or more
+// than 1048576; without a sentence they make a machine without threads.
 //
 // The status: 0 all expectations hold, or there are none and every thread ended; 2 there are none, and the turns were used up; 5 an
-// expectation doesn't hold; 4 the run was unlawful; 1 the text was refused, with the fault 33 and words as of `lwkt_text_json`, or its
-// opening was, with the fault 39 or 40; 3 memory was refused, with the fault 32. With 39, 40 and 32 what is made says why, in words,
-// or is empty.
+// expectation doesn't hold, or isn't decided; 4 the run was unlawful; 1 the text was refused, with the fault 33 and words as of
+// `lwkt_text_json`, or its opening was, with the fault 39 or 40; 3 memory was refused, with the fault 32. With 39, 40 and 32 what is
+// made says why, in words, or is empty.
 uint32_t lwkt_run_text(const uint8_t *script, size_t script_length, uint8_t *text, size_t room, lwkt_answer *answer);
 
 // Tries every order of turns of a script in either form, as `lwkt_explore` does (docs/EXPLORE.md): at most so many states are kept, one
 // at least, and no order has more turns than that. What is made has each outcome once, with a shortest order that leads to it, the
-// states from which no end can be reached, and what was searched; and of a text behind that a line for each expectation, in the order
-// of the text: `LINE: holds` or `LINE: doesn't hold`, of all outcomes, and where one outcome decides it that one's order; where not
-// every order was tried, and none decides it, `LINE: holds of what was found` or `LINE: isn't shown by what was found`. It takes memory
-// and time as the states do, and can't be broken off.
+// states from which no end can be reached, and what was searched; and of a text behind that a line for each expectation, in the order of
+// the text: `LINE: holds` or `LINE: doesn't hold`, of all outcomes, and where one outcome decides it that one's order; `LINE: not
+// decided` where none does, and not every order was tried or an outcome doesn't tell. It takes memory and time as the states do, and
+// can't be broken off.
 //
 // The status, of JSON and of a text without expectations: 0 every order was tried, and from every state an end can be reached; 2 every
 // order was tried, and from some state no end can be reached; 5 not every order was tried, since a bound was met or memory was

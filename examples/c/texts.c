@@ -113,7 +113,7 @@ static int has_words(const uint8_t *text, size_t length, const char *words) {
 
 static void try_orders(void) {
     static uint8_t text[4096];
-    static const char part[] = "; a part\n4: holds of what was found\n5: holds of what was found\n";
+    static const char part[] = "; a part (states)\n4: not decided\n5: not decided\n";
     size_t length = strlen(part);
     lwkt_answer answer = {7, 7, 7};
     uint32_t status = lwkt_explore_orders(bytes(good), strlen(good), 2, 1000, text, sizeof text, &answer);

@@ -5,6 +5,7 @@ use Rattle.lwkt_base.specs.declared.faults.Fault.{Fault}
 use Rattle.lwkt_base.specs.declared.faults.Fault.TheVariants.{Script as ScriptFault, Limits, Unlawful}
 use Rattle.lwkt_base.specs.Fault.{no_memory}
 use Rattle.lwkt_explore.specs.Expectations.{status_of_text as status_of_text_search}
+use Rattle.lwkt_explore.specs.Extents.{is_complete}
 use Rattle.lwkt_explore.specs.declared.searches.Found.{Found}
 use Rattle.lwkt_explore.specs.Outcomes.{AreOutcomes, AreShort, HasEnded, RefusesSearch}
 use Rattle.lwkt_explore.specs.Texts.{text_of_found}
@@ -95,8 +96,8 @@ pub record AnswersText (text old new : List ℕ) (answer : LwktAnswer) (status :
 pub record AreFoundWithin (script : Script) (states turns : ℕ) (found : Found) : Type 0 where
   pub are : AreOutcomes script found.outcomes
   pub short : AreShort turns found.outcomes
-  pub ended : found.is_complete ≡ true → found.lost ≡ None → HasEnded found.outcomes
-  pub part : found.is_complete ≡ false → found.lost ≡ None
+  pub ended : is_complete found ≡ true → found.lost ≡ None → HasEnded found.outcomes
+  pub part : is_complete found ≡ false → found.lost ≡ None
   pub tried : HasTriedStates states found.tried
 
 -- what came of a script in either form: what was found of it, and the status by what a text says of that; JSON says nothing
