@@ -1,4 +1,4 @@
-// Refuses each call for memory of each call of the library in turn: each call answers 3 with the fault 32, or the same as
+// Refuses the calls for memory of each call of the library in turn: each call answers 3 with the fault 32, or the same as
 // with ample memory, and gives back all that it took. Linked with --wrap, so that malloc, realloc and free come by here. It writes a
 // line for each thing that isn't so, and last a line that counts.
 #include <stdio.h>
@@ -69,7 +69,13 @@ static uint32_t make(int which, uint8_t *text, size_t room, lwkt_answer *answer)
     }
 }
 
-// A call with each of its calls for memory refused in turn.
+// The next call for memory to refuse. A search that is refused one tries 64 random orders in place of the rest, so that of its
+// thousands of calls only each seventeenth is refused once the first ones were.
+static long next_of(int which) {
+    return refused + (which == 6 && refused > 200 ? 17 : 1);
+}
+
+// A call with its calls for memory refused in turn.
 static void try_call(int which, const char *name) {
     static uint8_t ample[65536], text[65536];
     lwkt_answer wanted = {0, 0, 0}, answer = {0, 0, 0};
@@ -77,7 +83,7 @@ static void try_call(int which, const char *name) {
     uint32_t status = make(which, ample, sizeof ample, &wanted);
     static const uint32_t statuses[] = {0, 4, 0, 0, 5, 5, 0};
     int good = status == statuses[which] && wanted.length <= sizeof ample && blocks == 0;
-    for (refused = 1;; refused += 1) {
+    for (refused = 1;; refused = next_of(which)) {
         calls = 0;
         uint32_t other = make(which, text, sizeof text, &answer);
         if (calls < refused) break;
