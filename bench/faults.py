@@ -5,6 +5,8 @@ import subprocess
 import sys
 
 TOP = os.path.dirname(os.path.dirname(os.path.abspath(__file__)))
+# For tools/steps.py.
+sys.path.append(os.path.join(TOP, "tools"))
 # The program that the environment names, or that was built or is shipped, whichever is newer, as ./lwkt chooses, or "".
 PLACES = [os.path.join(TOP, place, "lwkt") for place in ("crates/lwkt/out", "dist/x86_64-linux")]
 PROGRAM = os.environ.get("PROGRAM") or max(filter(os.path.exists, PLACES), key=os.path.getmtime, default="")
