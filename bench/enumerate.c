@@ -1,11 +1,12 @@
 // Makes the runs of a script along every order of at most so many turns, and behind each of the longest so many rounds, in which all
-// comes to rest. It writes the report of each run whose threads have all ended, and of each that has come to rest: each report once,
-// without its verdict, behind a line `outcome`. It tells no two states apart: bench/explored compares with it what lwkt_explore finds.
+// comes to rest. It writes the report of each run whose threads have all ended, and of each that has come to rest, without its verdict,
+// behind a line `outcome`. It tells no two states apart: bench/explored compares with it what lwkt_explore finds.
 //
-//     enumerate TURNS ROUNDS < script.json
+//     enumerate TURNS ROUNDS CPUS < script.json
 //
-// The runs are those of lwkt_show_turns (include/lwkt.h), whose text ends with the report. Status 1, with nothing written, where the
-// words aren't two numbers, the script is refused or a run isn't lawful; 3 where memory is refused or a stream fails.
+// The runs are those of lwkt_show_turns (include/lwkt.h), whose text ends with the report. Status 1 where the words aren't three
+// numbers, the last of them the processors of the script, the script is refused or a run isn't lawful; 3 where memory is refused or a
+// stream fails.
 #include <stdbool.h>
 #include <stdint.h>
 #include <stdio.h>
@@ -20,22 +21,12 @@ struct bytes {
     size_t length, room;
 };
 
-// The reports that were found.
-struct reports {
-    struct bytes *at;
-    size_t count;
-};
-
 // The arguments for the run along an order, before the order.
 static const char before_order[] = "turns --order ";
 
-// What a run came to.
-enum end { NO_SUCH_CPU, ALL_ENDED, NOT_ALL_ENDED };
-
-// A script, the run that was made last, and what was found. The digits of its order stand in the words.
+// A script, and the run that was made last. The digits of its order stand in the words.
 struct search {
     struct bytes script, words, text;
-    struct reports reports;
     size_t turns, rounds, cpus;
 };
 
@@ -44,15 +35,11 @@ static void fail(int status, const char *why) {
     exit(status);
 }
 
-static void *grown(void *at, size_t size) {
-    void *room = realloc(at, size);
-    if (room == NULL)
-        fail(3, "no memory");
-    return room;
-}
-
 static void make_room(struct bytes *bytes, size_t room) {
-    bytes->at = grown(bytes->at, room);
+    uint8_t *at = realloc(bytes->at, room);
+    if (at == NULL)
+        fail(3, "no memory");
+    bytes->at = at;
     bytes->room = room;
 }
 
@@ -81,17 +68,11 @@ static struct bytes read_script(void) {
 }
 
 static size_t number_of(const char *word) {
-    uint64_t number = 0;
-    if (*word == '\0')
-        fail(1, "the words are two numbers: TURNS ROUNDS");
-    for (; *word != '\0'; word++) {
-        if (*word < '0' || *word > '9' || number > UINT32_MAX)
-            fail(1, "the words are two numbers below 2^32: TURNS ROUNDS");
-        number = 10 * number + (uint64_t)(*word - '0');
-    }
-    if (number > UINT32_MAX)
-        fail(1, "the words are two numbers below 2^32: TURNS ROUNDS");
-    return (size_t)number;
+    char *end;
+    unsigned long number = strtoul(word, &end, 10);
+    if (*word < '0' || *word > '9' || *end != '\0' || number > 1000)
+        fail(1, "the words are three numbers to 1000: TURNS ROUNDS CPUS");
+    return number;
 }
 
 // The digits of the order.
@@ -99,9 +80,9 @@ static uint8_t *digits_of(const struct search *search) {
     return search->words.at + strlen(before_order);
 }
 
-// Makes the run along the first digits of the order, into the text. All that isn't a lawful run of the script is the end, but that the
-// order names a processor that isn't there.
-static enum end run(struct search *search, size_t turns) {
+// Makes the run along the first digits of the order, into the text; says whether all threads have ended. All that isn't a lawful run
+// of the script is the end.
+static bool run(struct search *search, size_t turns) {
     struct bytes *text = &search->text, words = search->words;
     const struct bytes *script = &search->script;
     lwkt_answer answer;
@@ -117,25 +98,11 @@ static enum end run(struct search *search, size_t turns) {
     }
     *digits_of(search) = first;
     text->length = answer.length < text->room ? answer.length : text->room;
-    if (status == 1 && answer.fault == 30)
-        return NO_SUCH_CPU;
-    if ((status == 0 || status == 2) && answer.length <= text->room)
-        return status == 0 ? ALL_ENDED : NOT_ALL_ENDED;
-    fwrite(text->at, 1, text->length, stderr);
-    fail(status == 3 ? 3 : 1, "there is no lawful run of this script along each order");
-    return NO_SUCH_CPU;
-}
-
-// How many processors the script has: an order of one turn is asked for of each, and one that isn't there is refused. An order names
-// a processor by one digit.
-static size_t count_cpus(struct search *search) {
-    for (size_t cpus = 0; cpus < 10; cpus++) {
-        *digits_of(search) = (uint8_t)('0' + cpus);
-        if (run(search, 1) == NO_SUCH_CPU)
-            return cpus;
+    if ((status != 0 && status != 2) || answer.length > text->room) {
+        fwrite(text->at, 1, text->length, stderr);
+        fail(status == 3 ? 3 : 1, "there is no lawful run of this script along each order");
     }
-    fail(1, "an order has a digit for each of ten processors, and no more");
-    return 0;
+    return status == 0;
 }
 
 static bool begins(const uint8_t *line, size_t length, const char *word) {
@@ -183,53 +150,34 @@ static struct bytes report_of(const struct bytes *text) {
     return report;
 }
 
-static bool are_same(const struct bytes *one, const struct bytes *other) {
-    return one->length == other->length && memcmp(one->at, other->at, one->length) == 0;
-}
-
-static struct bytes copy_of(const struct bytes *bytes) {
-    struct bytes copy = of_room(bytes->length + 1);
-    add(&copy, bytes->at, bytes->length);
-    return copy;
-}
-
-// Keeps a report, unless it is there already.
-static void keep(struct reports *reports, const struct bytes *report) {
-    for (size_t i = 0; i < reports->count; i++)
-        if (are_same(&reports->at[i], report))
-            return;
-    reports->at = grown(reports->at, (reports->count + 1) * sizeof *reports->at);
-    reports->at[reports->count++] = copy_of(report);
-}
-
-// Keeps the report of the run that was made last.
-static void keep_last(struct search *search) {
+// Writes the report of the run that was made last.
+static void write_last(const struct search *search) {
     struct bytes report = report_of(&search->text);
-    keep(&search->reports, &report);
+    fputs("outcome\n", stdout);
+    fwrite(report.at, 1, report.length, stdout);
 }
 
 // Goes on by rounds until all has come to rest. If every thread ends in them, notes may be under way then, and the reports between are
-// kept too, up to the first that is the last one.
+// written too, up to the first that is the last one.
 static void come_to_rest(struct search *search) {
     const size_t all = search->turns + search->rounds * search->cpus;
-    struct bytes report, last;
-    bool is_last = run(search, all) == NOT_ALL_ENDED;
-    keep_last(search);
-    report = report_of(&search->text);
-    last = copy_of(&report);
+    bool is_last = !run(search, all);
+    struct bytes report = report_of(&search->text), last = of_room(report.length + 1);
+    add(&last, report.at, report.length);
+    write_last(search);
     for (size_t turns = search->turns + 1; turns < all && !is_last; turns++)
-        if (run(search, turns) == ALL_ENDED) {
-            keep_last(search);
+        if (run(search, turns)) {
+            write_last(search);
             report = report_of(&search->text);
-            is_last = are_same(&report, &last);
+            is_last = report.length == last.length && memcmp(report.at, last.at, last.length) == 0;
         }
     free(last.at);
 }
 
 // Makes the runs along the orders that begin with the first digits.
 static void try_orders(struct search *search, size_t turns) {
-    if (run(search, turns) == ALL_ENDED)
-        keep_last(search);
+    if (run(search, turns))
+        write_last(search);
     if (turns == search->turns) {
         come_to_rest(search);
         return;
@@ -240,26 +188,19 @@ static void try_orders(struct search *search, size_t turns) {
     }
 }
 
-static void write_all(const struct reports *reports) {
-    for (size_t i = 0; i < reports->count; i++) {
-        fputs("outcome\n", stdout);
-        fwrite(reports->at[i].at, 1, reports->at[i].length, stdout);
-    }
-    if (fflush(stdout) != 0 || ferror(stdout))
-        fail(3, "the reports can't be written");
-}
-
 int main(int count, char **words) {
-    struct search search = {.reports = {NULL, 0}};
-    if (count != 3)
-        fail(1, "the words are two numbers: TURNS ROUNDS");
+    struct search search = {.turns = 0};
+    if (count != 4)
+        fail(1, "the words are three numbers: TURNS ROUNDS CPUS");
     search.turns = number_of(words[1]);
     search.rounds = number_of(words[2]);
+    search.cpus = number_of(words[3]);
+    if (search.cpus > 10)
+        fail(1, "an order has a digit for each of ten processors, and no more");
     search.script = read_script();
     search.text = of_room(65536);
     search.words = of_room(strlen(before_order) + 1);
     add(&search.words, before_order, strlen(before_order));
-    search.cpus = count_cpus(&search);
     for (size_t i = 0; i < search.turns; i++)
         add(&search.words, "0", 1);
     for (size_t i = 0; i < search.rounds; i++)
@@ -267,6 +208,7 @@ int main(int count, char **words) {
     // There is room for one digit more, where both are 0.
     add(&search.words, "-", 1);
     try_orders(&search, 0);
-    write_all(&search.reports);
+    if (fflush(stdout) != 0 || ferror(stdout))
+        fail(3, "the reports can't be written");
     return 0;
 }

@@ -3,8 +3,27 @@
 import json
 import random
 import subprocess
+import sys
 
-from faults import PROGRAM
+from faults import PROGRAM, need_program
+from steps import table
+
+# The steps but for those that make sections, and those that would change little here.
+FEW = {"get", "gets", "try", "read", "write", "rel", "swap", "add", "exit"}
+OTHERS = [step for step in table() if step.version == 1 and step.word not in FEW]
+
+
+def seeds(text, count):
+    """The seeds that the arguments ask for: COUNT, or this many, from SEED or 1 on. With --help the text is printed."""
+    words = sys.argv[1:]
+    if words in (["--help"], ["-h"]):
+        print(text.strip())
+        sys.exit()
+    if len(words) > 2 or not all(word.isdecimal() for word in words):
+        sys.exit(text.strip())
+    need_program()
+    count, seed = (int(word) for word in words + [count, 1][len(words):])
+    return range(seed, seed + count)
 
 
 def steps_of(dice, cpu, cpus, count):
@@ -14,25 +33,17 @@ def steps_of(dice, cpu, cpus, count):
     while len(steps) < count:
         kind = dice.randrange(12)
         if kind < 3:
-            tok = dice.randrange(2)
-            steps.append([dice.choice(["get", "gets", "try"]), tok])
-            held.append(tok)
+            held.append(dice.randrange(2))
+            steps.append([dice.choice(["get", "gets", "try"]), held[-1]])
         elif kind < 5 and held:
-            steps.append([dice.choice(["read", "write"]), held[-1], 0])
-            if steps[-1][0] == "write":
-                steps[-1].append(dice.randrange(3))
+            steps.append(dice.choice([["read", held[-1], 0], ["write", held[-1], 0, dice.randrange(3)]]))
         elif kind < 7 and held:
             steps.append(["rel", held.pop()])
-        elif kind == 7:
-            steps.append(["yield"])
-        elif kind == 8:
-            steps.append(["do", cpu, other, 0, dice.randrange(2), dice.randrange(3)])
-        elif kind == 9:
-            steps.append(["send", cpu, other, 0, dice.randrange(2), dice.randrange(3), dice.randrange(4)])
-        elif kind == 10:
-            steps.append([dice.choice(["wait", "getport"])])
         else:
-            steps.append(dice.choice([["reply", other, 0, 5], ["abort", cpu], ["drop", cpu], ["isab", other]]))
+            step = dice.choice(OTHERS)
+            numbers = {"t": dice.randrange(2), "m": other if step.word in ("reply", "isab") else cpu, "p": other, "op": dice.randrange(2),
+                       "arg": dice.randrange(3), "flags": dice.randrange(4), "result": 5}
+            steps.append([step.word, *(numbers.get(name, 0) for name in step.parts)])
     return steps
 
 
