@@ -73,14 +73,17 @@ const isRefused = (answer) => answer.status === 1 || answer.status === 3;
 // The words behind which an order of turns stands: `0` to `7`, the processor of each, or `-` for none.
 const orderWords = (order) => (order === null ? "turns" : `turns --order ${order.join("") || "-"}`);
 
-// A script in either form: in JSON, and of a text that is run in rounds what its expectations came to; or why it is refused.
+// Whether a script is a text, and of one that is run in rounds what its expectations came to, or why it is refused.
 async function readScript(script, order) {
-  if ((await ask("lwkt_is_text", script)).status !== 1) return { isText: false, json: script, verdicts: [] };
+  if ((await ask("lwkt_is_text", script)).status !== 1) return { isText: false, verdicts: [] };
   const told = order ? null : await ask("lwkt_run_text", script);
   if (told && isRefused(told)) return { isText: true, refused: told };
-  const json = await ask("lwkt_text_json", script);
-  if (isRefused(json)) return { isText: true, refused: json };
-  return { isText: true, json: textOf(json), verdicts: told ? readVerdicts(textOf(told), script) : [], status: told?.status };
+  return { isText: true, verdicts: told ? readVerdicts(textOf(told), script) : [], status: told?.status };
+}
+
+// What a script opens with, as the trace of a run without a turn has it.
+async function openingOf(script) {
+  return JSON.parse(textOf(await show(script, `${orderWords([])} --trace`)));
 }
 
 // A run of a script, in rounds or along an order.
@@ -88,14 +91,14 @@ async function makeRun(text, order) {
   const form = await readScript(text, order);
   if (text === at("script").value) putForm(form.isText);
   if (form.refused) return form;
-  const script = form.json, words = orderWords(order);
-  const whole = await show(script, words);
-  if (isRefused(whole)) return { refused: whole };
+  const { isText } = form, words = orderWords(order);
+  const whole = await show(text, words);
+  if (isRefused(whole)) return { isText, refused: whole };
   const read = await readSlowly(textOf(whole));
-  const opening = await show(script, `${orderWords([])} --chains`);
-  const { messages, cpus, tokens } = JSON.parse(script);
+  const opening = await show(text, `${orderWords([])} --chains`);
+  const { messages, cpus, tokens } = await openingOf(text);
   const records = tokens.map(({ record }) => (typeof record === "string" ? recordWords(record) : null));
-  const made = { script, text, order, words, names: form.isText ? namesOf(text) : noNames, verdicts: form.verdicts, cpus, messages, records, whole: read, status: form.status ?? whole.status, milliseconds: whole.milliseconds, total: read.total, openings: readOpenings(textOf(opening)), windows: new Map(), cuts: new Map(), parts: new Map() };
+  const made = { text, isText, order, words, names: isText ? namesOf(text) : noNames, verdicts: form.verdicts, cpus, messages, records, whole: read, status: form.status ?? whole.status, milliseconds: whole.milliseconds, total: read.total, openings: readOpenings(textOf(opening)), windows: new Map(), cuts: new Map(), parts: new Map() };
   made.rounds = order ? made.total : Math.ceil(made.total / cpus);
   await addWindow(made, 0, read.turns);
   return { made };
@@ -140,7 +143,7 @@ async function windowOf(it, turn) {
   const number = Math.floor(turn / windowSize);
   if (!it.windows.has(number)) {
     const from = number * windowSize;
-    const lines = await show(it.script, `${it.words} --turns ${from}..${from + windowSize - 1}`);
+    const lines = await show(it.text, `${it.words} --turns ${from}..${from + windowSize - 1}`);
     await addWindow(it, number, (await readSlowly(textOf(lines))).turns);
   }
   return it.windows.get(number);
@@ -150,7 +153,7 @@ async function windowOf(it, turn) {
 async function cutAfter(it, rounds) {
   if (rounds >= it.rounds) return it.whole;
   if (!it.cuts.has(rounds)) {
-    const script = it.order ? it.script : cutScript(it.script, rounds);
+    const script = it.order ? it.text : cutScript(it.text, rounds, it.isText);
     const cut = await show(script, `${it.order ? orderWords(it.order.slice(0, rounds)) : it.words} --turns 0..0`);
     if (it.cuts.size >= mostCuts) it.cuts.delete(it.cuts.keys().next().value);
     it.cuts.set(rounds, readRun(textOf(cut)));
@@ -284,7 +287,7 @@ function pictureRange(it, round) {
 async function drawPicture(it, round) {
   const [from, to] = pictureRange(it, round);
   if (it.picture === from) return;
-  const drawn = await show(it.script, `${it.words} --${it.order ? "turns" : "rounds"} ${from}..${to} --svg`);
+  const drawn = await show(it.text, `${it.words} --${it.order ? "turns" : "rounds"} ${from}..${to} --svg`);
   if (it !== run) return;
   it.picture = from;
   it.drawn = textOf(drawn);
@@ -380,7 +383,7 @@ async function fillPart(name, words, put) {
   at(`${name}-note`).textContent = "..";
   put("");
   try {
-    const answer = await askOf(machine, { name: "lwkt_show_turns", script: it.script, words: `${it.words} ${words}`, isLongFile: true });
+    const answer = await askOf(machine, { name: "lwkt_show_turns", script: it.text, words: `${it.words} ${words}`, isLongFile: true });
     if (it !== run) return;
     const isLong = Boolean(answer.file);
     it.parts.set(name, answer.file || textOf(answer));

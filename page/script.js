@@ -68,8 +68,9 @@ function membersOf(text) {
   return members;
 }
 
-// The same script, cut off after so many rounds.
-function cutScript(text, rounds) {
+// The same script, cut off after so many rounds. Of two sentences of a text that say how many there are the last one counts.
+function cutScript(text, rounds, isText = false) {
+  if (isText) return `${text}\nturns ${rounds}`;
   let cut = "", at = 0;
   for (const member of membersOf(text)) {
     if (member.name !== "turns") continue;

@@ -26,7 +26,9 @@ function tryExample(name) {
 function tryStates(name, script, run) {
   const cut = callProgram("lwkt_show_turns", scripts.cutScript(script, 1), "turns --chains");
   const openings = lines.readOpenings(cut.text);
-  const { messages, tokens } = JSON.parse(script);
+  const { cpus, messages, tokens } = JSON.parse(script), records = (all) => all.map(({ record }) => record ?? null);
+  const opening = JSON.parse(callProgram("lwkt_show_turns", script, "turns --order - --trace").text);
+  same([opening.cpus, opening.messages, records(opening.tokens)], [cpus, messages, records(tokens)], `${name}: the opening of its trace`);
   const state = lines.openState(openings, messages, tokens.map(({ record }) => (typeof record === "string" ? lines.recordWords(record) : null)));
   lines.tellFirstWords(state, run.turns);
   for (const turn of run.turns) lines.tell(state, turn);
@@ -57,6 +59,13 @@ function tryCuts(name) {
     const cut = lines.readRun(callProgram("lwkt_show_turns", scripts.cutScript(script, rounds), "turns").text);
     same(cut.turns.map((turn) => [turn.number, turn.thread, turn.events.map((it) => it.text)]), all.turns.slice(0, rounds * cpus).map((turn) => [turn.number, turn.thread, turn.events.map((it) => it.text)]), `${name}: ${rounds} rounds`);
   }
+}
+
+// A text that is cut off is what its JSON is that is cut off.
+function tryTextCuts(name) {
+  const [text, json] = [".lwkt", ".json"].map((ending) => read(examples, "litmus", name + ending));
+  const [one, other] = [scripts.cutScript(text, 2, true), scripts.cutScript(json, 2)].map((script) => callProgram("lwkt_show_turns", script, "turns"));
+  same(one, other, `${name}: a text that is cut off`);
 }
 
 // How the report of a run that is cut off has a thread, against what its processor's last turn says of it.
@@ -108,6 +117,7 @@ function tryUrgent() {
 
 for (const name of exampleNames()) tryExample(name);
 for (const name of ["crossed_lists", "dining_philosophers", "server_of_three", "abort_before_and_after"]) tryCuts(name);
+for (const name of namesIn("litmus", ".lwkt")) tryTextCuts(name);
 for (const name of exampleNames()) tryThreads(name);
 for (const name of namesIn("refused", ".json")) tryRefusal(name);
 
