@@ -172,12 +172,22 @@ function partsOf(word) {
   return { exclusive: Number(bits & 1n), mark: Number((bits >> 1n) & 1n), count: Number((bits >> 2n) & 0xffffn), generation: String(bits >> 18n) };
 }
 
-// Where a refusal says that the bad part begins, line and column from 1, a column being a byte.
-function readPlace(text) {
-  const found = /line (\d+), column (\d+): /.exec(text);
-  if (!found) return { said: text.trim().replace(/^lwkt_\w+: /, "") };
-  const said = text.slice(found.index + found[0].length).trim();
-  return { line: Number(found[1]), column: Number(found[2]), said };
+// All that a refusal says is wrong, each with its line and column from 1, a column being a byte: `3:9: a token is wanted here (accounts?)`,
+// with `lwkt: standard input:` before it or without. Behind each stand the line and a mark, which begin with blanks, and perhaps
+// what was meant.
+function readWrongs(text) {
+  const wrongs = [];
+  for (const line of text.split("\n")) {
+    const found = /^(?:lwkt: standard input:)?(\d+):(\d+): (.*?)(?: \(fault \d+(?: at \d+)?\))?$/.exec(line), near = /^ {4}did you mean `(.*)`\?$/.exec(line);
+    if (found) wrongs.push({ line: Number(found[1]), column: Number(found[2]), said: found[3] });
+    else if (near && wrongs.length) wrongs.at(-1).said += ` (${near[1]}?)`;
+  }
+  return wrongs;
+}
+
+// A refusal that names no place, in words.
+function readRefusal(text) {
+  return text.trim().replace(/^lwkt\w*: (?:standard input: )?/, "");
 }
 
 // A record by its digits, in the words that lines have for it: its text where all of it is printable, else the digits, and of a

@@ -317,8 +317,7 @@ async function start(turn = 0, order = null) {
   try {
     const answer = await makeRun(script, order);
     say("");
-    if (answer.refused && answer.isText) showWrongs(script, answer.refused);
-    else if (answer.refused) showRefusal(script, answer.refused);
+    if (answer.refused) showRefusal(script, answer.refused, answer.isText);
     else showRun(answer.made, turn);
   } catch (error) {
     putRunAway("Nothing came of the last run.");
@@ -452,24 +451,15 @@ function firstItems(all, itemOf) {
   return all.length > mostItems ? [...items, make("li", { class: "quiet" }, `and ${all.length - mostItems} more`)] : items;
 }
 
-// What is wrong with a text, each with its place; the first is told in the editor too.
-function showWrongs(script, answer) {
-  const said = textOf(answer), wrongs = readWrongs(said);
+// What is wrong with a script, each with its place: of a text the word there, else the part. The first is told in the editor too.
+function showRefusal(script, answer, isText) {
+  const wrongs = readWrongs(textOf(answer)), partOf = isText ? wordAt : partAt;
   beginRefusal(answer);
-  if (!wrongs.length) return at("refusal").replaceChildren(make("p", {}, said.trim().replace(/^lwkt_\w+: /, "") || "refused"));
-  const parts = wrongs.slice(0, mostItems).map((wrong) => wordAt(script, wrong.line, wrong.column));
+  if (!wrongs.length) return at("refusal").replaceChildren(make("p", {}, readRefusal(textOf(answer)) || "refused"));
+  const parts = wrongs.slice(0, mostItems).map((wrong) => partOf(script, wrong.line, wrong.column));
   const items = firstItems(wrongs, (wrong, i) => make("li", {}, make("p", {}, `Line ${wrong.line}, column ${wrong.column}: ${wrong.said} `, goThere(parts[i])), excerpt(script, parts[i])));
-  at("refusal").replaceChildren(make("ol", {}, ...items));
+  at("refusal").replaceChildren(...(isText ? [make("ol", {}, ...items)] : items[0].childNodes));
   markParts(script, parts, wrongs[0].said);
-}
-
-function showRefusal(script, answer) {
-  const place = readPlace(textOf(answer));
-  beginRefusal(answer);
-  if (place.line === undefined) return at("refusal").replaceChildren(make("p", {}, place.said || "refused"));
-  const part = partAt(script, place.line, place.column);
-  at("refusal").replaceChildren(make("p", {}, `Line ${place.line}, column ${place.column}: ${place.said} `, goThere(part)), excerpt(script, part));
-  markParts(script, [part], place.said);
 }
 
 // What the text expects, and whether it holds.
@@ -582,7 +572,7 @@ async function searchUpTo(script, most, own) {
   for (const states of boundsUpTo(most)) {
     const answer = await askOf(searcher, { name: "lwkt_explore_orders", script, numbers: [states, mostTurns] });
     if (search !== own) return;
-    if (![0, 2, 5].includes(answer.status)) return sayOrders(textOf(answer).trim().replace(/^lwkt_\w+: /, "") || `status ${answer.status}`);
+    if (![0, 2, 5].includes(answer.status)) return sayOrders(readWrongs(textOf(answer))[0]?.said || readRefusal(textOf(answer)) || `status ${answer.status}`);
     const read = readOrders(textOf(answer));
     const isLast = read.sum.bound !== "states" || states === most;
     showOrders(read, isLast, script);

@@ -1,15 +1,5 @@
 "use strict";
-// What the library says of texts of the language for scripts: their faults with their places, and whether their expectations hold.
-
-// All that is wrong with a text: `3:9: a token is wanted here (accounts?)`, and behind each the line and a mark, which begin with blanks.
-function readWrongs(said) {
-  const wrongs = [];
-  for (const line of said.split("\n")) {
-    const found = /^(\d+):(\d+): (.*)$/.exec(line);
-    if (found) wrongs.push({ line: Number(found[1]), column: Number(found[2]), said: found[3] });
-  }
-  return wrongs;
-}
+// What the library says of texts of the language for scripts: their names, and whether their expectations hold.
 
 // From where to where the word goes that begins at this line and column.
 function wordAt(text, line, column) {

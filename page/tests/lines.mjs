@@ -3,7 +3,7 @@ import { join } from "node:path";
 import { callProgram, check, exampleNames, examples, finish, namesIn, read, same, statusOf } from "./tools.mjs";
 import { load } from "./tools.mjs";
 
-const lines = load("lines.js", ["readRun", "readEvent", "readOpenings", "partsOf", "readPlace", "openState", "copyState", "tell", "tellFirstWords", "recordWords", "entryWords"]);
+const lines = load("lines.js", ["readRun", "readEvent", "readOpenings", "partsOf", "readWrongs", "readRefusal", "openState", "copyState", "tell", "tellFirstWords", "recordWords", "entryWords"]);
 const texts = load("texts.js", ["verdictsIn", "saidAt", "namesOf"]);
 const scripts = load("script.js", ["cutScript", "longWords", "membersOf", "partAt", "placeOf", "skipValue"]);
 const orders = load("orders.js", ["readForm", "readSum"]);
@@ -94,14 +94,13 @@ function tryThreads(name) {
 // The bad part of a refused script is found where the program says that it begins.
 function tryRefusal(name) {
   const script = read(examples, "refused", `${name}.json`);
-  const place = lines.readPlace(read(examples, "refused", `${name}.err`));
-  check(place.said.length > 0, `${name}: something is said`);
-  if (place.line === undefined) return;
+  const [place] = lines.readWrongs(read(examples, "refused", `${name}.err`));
+  if (!check(place?.said.length > 0, `${name}: something is said, with its place`)) return;
   const part = scripts.partAt(script, place.line, place.column);
   const rows = script.split("\n");
   const bytes = Buffer.byteLength(script.slice(script.lastIndexOf("\n", part.from - 1) + 1, part.from));
   check(part.from >= script.length - 1 || bytes === place.column - 1, `${name}: column ${place.column} is byte ${bytes}`);
-  check(place.line <= rows.length && part.to > part.from, `${name}: a part is marked`);
+  check(place.line <= rows.length && (part.to > part.from || !script), `${name}: a part is marked`);
 }
 
 // A message that was sent with priority is urgent until it is at rest again, on its way back too.
@@ -125,6 +124,9 @@ same(lines.partsOf("18446744073709551615"), { exclusive: 1, mark: 1, count: 6553
 same(lines.partsOf("9"), { exclusive: 1, mark: 0, count: 2, generation: "0" }, "held exclusively by three references");
 same(scripts.cutScript('{"turns": 7 , "a":{"turns":9},"t\\u0075rns":8}', 3), '{"turns": 3 , "a":{"turns":9},"t\\u0075rns":3}', "a cut of a name with an escape, and not of an inner one");
 same(scripts.cutScript('{"x":"\\"}","cells":[18446744073709551615],"turns":7}', 3), '{"x":"\\"}","cells":[18446744073709551615],"turns":3}', "numbers stay as they are");
+const told = "lwkt: standard input:6:9: a token is wanted here\n    get acounts\n        ^\n    did you mean `accounts`?\n7:1: no (x?)\n    no\n    ^\nlwkt: standard input:1:5: a part (fault 33 at 1)\n";
+same(lines.readWrongs(told), [{ line: 6, column: 9, said: "a token is wanted here (accounts?)" }, { line: 7, column: 1, said: "no (x?)" }, { line: 1, column: 5, said: "a part" }], "what is wrong, with its place");
+same(["lwkt_show: the range\n", "lwkt: standard input: the order", ""].map(lines.readRefusal), ["the range", "the order", ""], "refusals without a place");
 same(scripts.partAt('{"a":[1,{"b":2}]}', 1, 9), { from: 8, to: 15 }, "a part that is an object");
 same(scripts.partAt("[\u00e4, 1]\n[2]", 1, 6), { from: 4, to: 5 }, "columns are bytes");
 same(scripts.partAt("", 1, 1), { from: 0, to: 0 }, "an empty text");

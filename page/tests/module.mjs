@@ -39,11 +39,13 @@ function tryExample(name) {
   if (trace.status !== 1) compare("lwkt_check_trace", trace.text, undefined, `${name}: its trace`);
 }
 
-// A refused script is told in the same words.
+// A refused script is told as the program tells it, and a refused trace in one line, which names no command to try.
 function tryRefusal(folder, name, call) {
-  const script = readFileSync(`${examples}/${folder}/${name}.json`);
-  const got = compare(call, script, call === "lwkt_show_turns" ? "turns" : undefined, name);
-  const wanted = read(examples, folder, `${name}.err`).trim().replace(/^lwkt_\w+: /, "");
+  const script = readFileSync(`${examples}/${folder}/${name}.json`), isShown = call === "lwkt_show_turns";
+  const got = compare(call, script, isShown ? "turns" : undefined, name);
+  if (name === "trace_in_lines") return check(/: line 2, column 1: .*lines$/.test(got.text.trim()), `${name}: ${got.text}`);
+  const told = read(examples, folder, `${name}.err`), [, line, column, words] = /^lwkt: standard input:(\d+):(\d+): (.*) \(fault .*\)$/m.exec(told);
+  const wanted = isShown ? told.trim() : `line ${line}, column ${column}: ${words}`;
   check(got.text.trim().endsWith(wanted), `${name}: ${got.text}wanted ${wanted}`);
 }
 

@@ -1,8 +1,7 @@
 // What the tests share: counting, the parts of a page, and the program of this tree.
 import { spawnSync } from "node:child_process";
-import { existsSync, mkdtempSync, readFileSync, readdirSync, rmSync, writeFileSync } from "node:fs";
+import { existsSync, readFileSync, readdirSync } from "node:fs";
 import { createServer } from "node:http";
-import { tmpdir } from "node:os";
 import { dirname, join } from "node:path";
 import { fileURLToPath } from "node:url";
 import vm from "node:vm";
@@ -58,7 +57,7 @@ export function statusOf(name) {
 
 // The program that page/check names, else that of this tree; and by which of its names it answers as a call of the library does.
 const program = process.env.PAGE_PROGRAM || join(top, "lwkt");
-const names = { lwkt_run_turns: "lwkt_run", lwkt_run_text: "lwkt_run", lwkt_check_trace: "lwkt_check", lwkt_show_turns: "lwkt_show", lwkt_text_json: "lwkt_text", lwkt_explore_orders: "lwkt_explore" };
+const names = { lwkt_run_turns: "lwkt_run", lwkt_run_text: "lwkt_run", lwkt_check_trace: "lwkt_check", lwkt_show_turns: "lwkt_show", lwkt_explore_orders: "lwkt_explore" };
 
 // Whether bytes are taken for a text, as docs/FORMATS.md says: no JSON, and a sentence declares something.
 function isText(script) {
@@ -74,24 +73,26 @@ function isText(script) {
 }
 
 // The arguments of the program for a call of the library: of a search its two bounds, else words with a blank between each two.
-function argumentsOf(name, words, file) {
-  if (name === "lwkt_text_json") return [file, "--json"];
+function argumentsOf(name, words) {
   if (name === "lwkt_explore_orders") return ["--states", words.split(" ")[0], "--turns", words.split(" ")[1]];
   return words ? words.split(" ") : [];
 }
 
-// What the program answers, as a call of the library would. By the name lwkt_text alone it reads no standard input.
+// The fault that a refusal names, and its place. What is wrong with a text names none, and is refused as bytes that are no JSON.
+function faultIn(said) {
+  const found = /(?:^lwkt_\w+: |\()fault (\d+)(?: at (\d+))?\)?$/m.exec(said);
+  if (found) return [Number(found[1]), Number(found[2] || 0)];
+  return [/^lwkt: .*the order names a processor /m.test(said) ? 30 : /^lwkt: standard input:\d/m.test(said) ? 33 : 0, 0];
+}
+
+// What the program answers, as a call of the library would.
 export function callProgram(name, script, words = name.startsWith("lwkt_run") ? "turns" : "") {
   if (name === "lwkt_is_text") return { status: isText(Buffer.from(script)), fault: 0, place: 0, text: "" };
-  const room = name === "lwkt_text_json" ? mkdtempSync(join(tmpdir(), "page-text-")) : null, file = room && join(room, "text.lwkt");
-  if (room) writeFileSync(file, script);
-  const ran = spawnSync(program, [names[name], ...argumentsOf(name, words, file)], { input: script, maxBuffer: 1 << 30 });
-  if (room) rmSync(room, { recursive: true });
-  const [out, told] = [ran.stdout.toString(), ran.stderr.toString().replaceAll(`${file}:`, "")];
-  const isRefused = ran.status === 1 || ran.status === 3;
-  const fault = /fault (\d+)(?: at (\d+))?/.exec(out + told.replace(/^lwkt_show: the order names a processor .*$/m, "fault 30"));
+  const ran = spawnSync(program, [names[name], ...argumentsOf(name, words)], { input: script, maxBuffer: 1 << 30 });
+  const [out, told] = [ran.stdout.toString(), ran.stderr.toString()];
+  const isRefused = ran.status === 1 || ran.status === 3, [fault, place] = isRefused ? faultIn(out + told) : [0, 0];
   const isAll = name === "lwkt_run_text" || name === "lwkt_explore_orders";
-  return { status: ran.status, fault: isRefused && fault ? Number(fault[1]) : 0, place: isRefused && fault ? Number(fault[2] || 0) : 0, text: isRefused ? told : isAll ? out + told : out };
+  return { status: ran.status, fault, place, text: isRefused ? told : isAll ? out + told : out };
 }
 
 // A server on this machine that answers the stand-in for the module by the program. A script that holds `trap` traps.
