@@ -58,8 +58,9 @@ thread ended, its log, and whether the run is lawful.
 The processors take their turns in rounds, so a script's report is the same each
 time. With --threads the last line is `closed`, and reports may differ.
 
-If a text has expectations, standard error says which of them hold. If a script
-is rejected, standard error says where and why.",
+If a text has expectations, standard error says which of them hold. One is
+`not decided` if a full log leaves it open; a log has a thread's first 32
+entries. If a script is rejected, standard error says where and why.",
     after: "More: lwkt run --help, and lwkt(7).",
     long_after: "\
 Examples:
@@ -141,8 +142,8 @@ Examples:
 
 Environment: no variable is read.
 Limits: a script has at most 1048576 bytes, in either form.
-Exit status: 0 if it is done, 5 if an expectation doesn't hold; lwkt(7) lists
-the others.",
+Exit status: 0 if it is done, 5 if an expectation doesn't hold or isn't decided;
+lwkt(7) lists the others.",
 };
 
 pub(crate) const EXPLORE: Page = Page {
@@ -154,12 +155,24 @@ first, then deadlocks with what each thread waits for, then those that a bound
 cut off. The last lines say from how many states no end can be reached, and how
 much was tried.
 
+Outcomes that differ only in their message lines share a number. A line that
+begins with `or` gives the message lines in which another of them differs from
+the first, and a shortest order to it.
+
+The last line ends with `complete` if every order was tried. Else it ends with
+`a part` and what ended the search: (states) or (turns) for the bound that
+--states or --turns sets, (memory) for a failed allocation, and (stopped) for
+--seconds.
+
 If a text has expectations, standard error says of each whether it holds in all
-orders, with a shortest order that breaks it or shows it.
+orders, with a shortest order that breaks it or shows it. An expectation is
+`not decided` if no outcome decides it and not every order was tried, or if a
+full log leaves it open. A log has a thread's first 32 entries.
 
 Turns that can be exchanged aren't tried in each order; the outcomes are the
-same as with --plain. With --random the outcomes have counts, and --states and
---plain do nothing. A seed gives the same orders on every machine.
+same as with --plain. With --random the outcomes have counts, the last line ends
+with `a part` alone, and --states and --plain do nothing. A seed gives the same
+orders on every machine.
 
 With --all FILE is a folder: each .lwkt and .json file in it is tried, and a
 line says how many passed.",
@@ -174,5 +187,6 @@ Examples:
 Environment: no variable is read.
 Limits: a script has at most 1048576 bytes; --states and --turns bound a search.
 Exit status: 0 if every order was tried and all of it is well, 5 if some orders
-weren't tried; lwkt(7) lists the others.",
+weren't tried, or an expectation doesn't hold or isn't decided; lwkt(7) lists
+the others.",
 };
