@@ -1,3 +1,4 @@
 mod Formats
 mod Tellings
 mod Servings
+mod Countings

@@ -1,5 +1,7 @@
 -- What the program does with the words of its command line (own).
-use Rattle.std.specs.Prelude.{◌≡◌, ◌⊎◌, ℕ, List, Bool, false, true, IsTrue, Option, None, Some, string_bytes}
+use Rattle.std.specs.Prelude.{◌≡◌, ◌⊎◌, ◌++◌, ◌∷◌, ℕ, List, [], Bool, false, true, IsTrue, Option, None, Some, string_bytes}
+use Rattle.std.specs.List.{flat_map}
+use Rattle.std.specs.Str.Lines.{lines}
 use Rattle.std.specs.Io.KnownBytes.{Appends, Keeps}
 use Rattle.std.specs.declared.io.Error.{Error}
 use Rattle.lwkt_checker.specs.LineOutput.{TellsOfLines}
@@ -7,6 +9,7 @@ use Rattle.lwkt_checker.specs.Output.{TellsFinding}
 use Rattle.lwkt_report.specs.declared.complaints.Complaint.TheVariants.{Usage}
 use Rattle.lwkt_report.specs.declared.complaints.Program.TheVariants.{Run as RunProgram}
 use Rattle.lwkt_report.specs.Complaint.{fault_line, IsSaid}
+use Rattle.lwkt_report.specs.Escape.{escaped}
 use Rattle.lwkt_report.specs.Stream.{AppendsFront}
 use Rattle.lwkt_request.specs.Answers.{IsAnswer, asked_in}
 use Rattle.lwkt_request.specs.declared.requests.Asked.{Asked}
@@ -15,6 +18,7 @@ use Rattle.lwkt_request.specs.declared.requests.Task.{Task}
 use Rattle.lwkt_request.specs.declared.requests.Task.TheVariants.{Run, Check, Explore}
 use Rattle.lwkt_request.specs.Wishes.{wish_by, wish_of}
 use Rattle.lwkt.specs.Checking.{ChecksAloud, IsUnread}
+use Rattle.lwkt.specs.Counting.{Counts}
 use Rattle.lwkt.specs.Making.{TakesScript}
 use Rattle.lwkt.specs.Performing.{Performs, RunsByOldName}
 
@@ -54,30 +58,50 @@ ServesFile task order name s status =
     ⊎ ((IsByOldName task × TellsUsage s status)
     ⊎ ((left : Option (List ℕ)) × ((source_failed : Bool) × Serves task order (Some name) source_failed left s status)))
 
--- a search of all scripts of a folder, of which nothing is said here
+-- whether all scripts of a folder are tried
 abbrev pub takes_folder : Task → Bool
 takes_folder (Explore search) = search.all
 takes_folder _ = false
 
--- what is done for a request: with the file that it names, else with what is left of standard input
-abbrev pub ServesBy : Option (List ℕ) → Task → Option (List ℕ) → Option (List ℕ) → Streams → ℕ → Type 0
-ServesBy None task order left s status = (source_failed : Bool) × Serves task order None source_failed left s status
-ServesBy (Some name) task order left s status = takes_folder task ≡ false → ServesFile task order name s status
+-- what is done with what is named: with all scripts of the folder, or with the file
+abbrev pub ServesNamed : Bool → Task → Option (List ℕ) → List ℕ → Streams → ℕ → Type 0
+ServesNamed true task order name s status = Counts s.failed s.old s.new status
+ServesNamed false task order name s status = ServesFile task order name s status
 
--- a page is written whole, with status 0; or the sink fails, and a front of it stands, with status 3
+-- what is done for a request: with what it names, and then nothing is read of standard input; else with what was left of that
+abbrev pub ServesBy : Option (List ℕ) → Task → Option (List ℕ) → Bool → Option (List ℕ) → Type 0 → Streams → ℕ → Type 0
+ServesBy None task order source_failed left unread s status = Serves task order None source_failed left s status
+ServesBy (Some name) task order source_failed left unread s status = unread × ServesNamed (takes_folder task) task order name s status
+
+-- a page is written whole and flushed, with status 0, and no error said; or the sink fails, and a front of it stands, with status 3
 abbrev pub TellsPage : List ℕ → Streams → ℕ → Type 0
-TellsPage text s status = (Appends s.old s.new text × (status ≡ 0)) ⊎ (IsTrue s.failed × (AppendsFront s.old s.new text × (status ≡ 3)))
+TellsPage text s status =
+    (Appends s.old s.new text × (IsTrue s.flushed × (Keeps s.before s.after × (status ≡ 0))))
+    ⊎ (IsTrue s.failed × (AppendsFront s.old s.new text × (status ≡ 3)))
 
--- what is done for an answer to the words: a request is served, a page written; and for words that ask for nothing, nothing is written
-abbrev pub DoesAsked : Asked → Option (List ℕ) → Streams → ℕ → Type 0
-DoesAsked (Do request) left s status = ServesBy (wish_by request).path request.task (wish_by request).order left s status
-DoesAsked (Tell text) left s status = TellsPage (string_bytes text) s status
-DoesAsked (Misuse text) left s status = Keeps s.old s.new × (status ≡ 1)
-DoesAsked OldUsage left s status = TellsUsage s status
+-- a line as it is shown, ended by a line feed
+abbrev pub line_shown : List ℕ → List ℕ
+line_shown line = escaped line ++ 10 ∷ []
 
--- what the program does with these words, where this is left of standard input: the request that they ask for, if they ask for one; or
--- memory is refused, and nothing is written
-abbrev pub Does : List (List ℕ) → Option (List ℕ) → Streams → ℕ → Type 0
-Does words left s status =
-    (Keeps s.old s.new × (status ≡ 3))
-    ⊎ ((asked : Asked) × (IsAnswer words asked × ((wish_of asked ≡ asked_in words) × DoesAsked asked left s status)))
+-- the lines of a text, as they are shown
+abbrev pub lines_shown : List ℕ → List ℕ
+lines_shown text = flat_map line_shown (lines text)
+
+-- where errors go the lines of a text are said as they are shown, or where that fails a front of them, with status 1
+abbrev pub TellsMisuse : List ℕ → Bool → Option (List ℕ) → Option (List ℕ) → ℕ → Type 0
+TellsMisuse text failed old new status = IsSaid failed old new (lines_shown text) × (status ≡ 1)
+
+-- what is done for an answer to the words: a request is served, a page written, and for words that ask for nothing said so; of standard
+-- input nothing is read but for a request, and to standard output nothing written but for a request, a page and the words of `lwkt_run`
+abbrev pub DoesAsked : Asked → Bool → Option (List ℕ) → Type 0 → Type 0 → Streams → ℕ → Type 0
+DoesAsked (Do request) source_failed left unread unwritten s status = ServesBy (wish_by request).path request.task (wish_by request).order source_failed left unread s status
+DoesAsked (Tell text) source_failed left unread unwritten s status = unread × TellsPage (string_bytes text) s status
+DoesAsked (Misuse text) source_failed left unread unwritten s status = unread × (unwritten × TellsMisuse (string_bytes text) s.lost s.before s.after status)
+DoesAsked OldUsage source_failed left unread unwritten s status = unread × TellsUsage s status
+
+-- what the program does with these words, where this was left of standard input, and a call of that has failed or not: the request that they
+-- ask for, if they ask for one; or memory is refused, and nothing is read or written
+abbrev pub Does : List (List ℕ) → Bool → Option (List ℕ) → Type 0 → Type 0 → Streams → ℕ → Type 0
+Does words source_failed left unread unwritten s status =
+    (unread × (unwritten × (status ≡ 3)))
+    ⊎ ((asked : Asked) × (IsAnswer words asked × ((wish_of asked ≡ asked_in words) × DoesAsked asked source_failed left unread unwritten s status)))

@@ -2,4 +2,5 @@ pub mod Making
 pub mod Failing
 pub mod Performing
 pub mod Checking
+pub mod Counting
 pub mod Answering

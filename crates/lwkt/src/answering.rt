@@ -1,18 +1,20 @@
 //! The answer to the words of the command line.
-ghost use Rattle.std.specs.Prelude.{◌≡◌, ◌⊎◌, IsTrue, map, string_bytes};
+ghost use Rattle.std.specs.Prelude.{◌≡◌, ◌⊎◌, IfErr, IfOk, IsTrue, map, string_bytes};
 ghost use Rattle.std.specs.Option.{option_copied};
-ghost use Rattle.std.specs.Io.KnownBytes.{Keeps};
 ghost use Rattle.lwkt_request.specs.Wishes.{wish_by};
-ghost use Rattle.lwkt.specs.Answering.{Does, IsByOldName, ServesBy, ServesFile, TellsPage, TellsUsage, takes_folder};
+ghost use Rattle.lwkt.specs.Answering.{Does, IsByOldName, ServesBy, ServesFile, TellsMisuse, TellsPage, TellsUsage, takes_folder};
 ghost use Rattle.lwkt.specs.Performing.{order_of};
 
-use crate::errors::{put_lines, say_memory, say_unreadable, say_unwritten};
+use crate::errors::{put, put_lines, say_memory, say_unreadable, say_unwritten};
 use crate::files::{opened, source_of};
 use crate::folders::perform_all;
 use crate::performing::perform;
 use crate::written::written;
 use lwkt_refusals::Speaker;
-use lwkt_report::{Complaint, NotedWriter, Program, Sink, WriterSink, complain};
+use lwkt_report::{
+    Complaint, NotedReader, NotedWriter, Program, ReaderSource, Sink, WriterSink, complain,
+    refusal_of,
+};
 use lwkt_request::{Asked, Request, Search, Task, request_of};
 use std::alloc::Global;
 use std::fs::Files;
@@ -85,24 +87,18 @@ fn takes_folder(task: Task) -> bool
 }
 
 // Performs a request.
-fn done<
-    R: Threads + Sync + Clock + Files + Alloc + Clone + Drop,
-    I: Read + Drop,
-    O: Write,
-    E: Sink,
->(
+fn done<R: Threads + Sync + Clock + Files + Alloc + Clone + Drop, I: Read, O: Write, E: Sink>(
     rt: &R,
     alloc: Global,
     request: &Request,
-    input: I,
+    source: &mut ReaderSource<NotedReader<I>>,
     sink: &mut WriterSink<NotedWriter<O>>,
     errors: &mut E,
 ) -> u8
-    ensures { ServesBy (wish_by request.now).path request.now.task (order_of request.now) (I.remaining input) (record { old = O.contents sink.old.writer.writer; new = O.contents sink.new.writer.writer; failed = sink.new.failed; error = sink.new.writer.error; flushed = sink.new.flushed; before = E.contents errors.old; after = E.contents errors.new; lost = E.has_failed errors.new }) result }
+    ensures { ServesBy (wish_by request.now).path request.now.task (order_of request.now) source.new.failed (I.remaining source.old.reader.reader) (source.new ≡ source.old) (record { old = O.contents sink.old.writer.writer; new = O.contents sink.new.writer.writer; failed = sink.new.failed; error = sink.new.writer.error; flushed = sink.new.flushed; before = E.contents errors.old; after = E.contents errors.new; lost = E.has_failed errors.new }) result }
 {
     let Some(path) = &request.path else {
-        let mut source = source_of(input);
-        return perform(rt, alloc, request, None, &mut source, sink, errors);
+        return perform(rt, alloc, request, None, source, sink, errors);
     };
     if takes_folder(request.task) {
         perform_all(rt, alloc, request, path.as_str(), sink, errors)
@@ -129,33 +125,74 @@ fn told<O: Write, E: Sink>(
     }
 }
 
-/// Does what the words of the command line ask for, and answers the exit status.
-pub fn answer<
-    R: Threads + Sync + Clock + Files + Alloc + Clone + Drop,
-    I: Read + Drop,
-    O: Write,
-    E: Sink,
->(
+// Says why words ask for nothing, unless memory is refused.
+fn refused<E: Sink>(alloc: Global, errors: &mut E, text: &str) -> u8
+    ensures { (result ≡ 3) ⊎ TellsMisuse text.now (E.has_failed errors.new) (E.contents errors.old) (E.contents errors.new) result }
+{
+    match put_lines(alloc, errors, text) {
+        Ok(()) => 1,
+        Err(_) => {
+            say_memory(errors);
+            3
+        }
+    }
+}
+
+// Does what the words of the command line ask for. If they ask for nothing, nothing is read, and where errors go stands why.
+fn answer_to<R: Threads + Sync + Clock + Files + Alloc + Clone + Drop, I: Read, O: Write, E: Sink>(
     rt: &R,
     alloc: Global,
     words: &[String],
-    input: I,
+    source: &mut ReaderSource<NotedReader<I>>,
     sink: &mut WriterSink<NotedWriter<O>>,
     errors: &mut E,
 ) -> u8
-    ensures { Does (map string_bytes words.now) (I.remaining input) (record { old = O.contents sink.old.writer.writer; new = O.contents sink.new.writer.writer; failed = sink.new.failed; error = sink.new.writer.error; flushed = sink.new.flushed; before = E.contents errors.old; after = E.contents errors.new; lost = E.has_failed errors.new }) result }
+    ensures { Does (map string_bytes words.now) source.new.failed (I.remaining source.old.reader.reader) (source.new ≡ source.old) (sink.new ≡ sink.old) (record { old = O.contents sink.old.writer.writer; new = O.contents sink.new.writer.writer; failed = sink.new.failed; error = sink.new.writer.error; flushed = sink.new.flushed; before = E.contents errors.old; after = E.contents errors.new; lost = E.has_failed errors.new }) result }
 {
     match request_of(alloc, words) {
-        Ok(Asked::Do(request)) => done(rt, alloc, &request, input, sink, errors),
+        Ok(Asked::Do(request)) => done(rt, alloc, &request, source, sink, errors),
         Ok(Asked::Tell(text)) => told(alloc, sink, errors, text.as_str()),
-        Ok(Asked::Misuse(text)) => {
-            put_lines(alloc, errors, text.as_str());
-            1
-        }
+        Ok(Asked::Misuse(text)) => refused(alloc, errors, text.as_str()),
         Ok(Asked::OldUsage) => misused(sink, errors),
         Err(_) => {
             say_memory(errors);
             3
         }
+    }
+}
+
+// Says why the command line has no words: memory was refused for them, or one isn't UTF-8.
+fn unworded<E: Sink>(errors: &mut E, error: &io::Error) -> u8
+    ensures { (result ≡ 1) ⊎ (result ≡ 3) }
+{
+    if refusal_of(error).is_some() {
+        say_memory(errors);
+        return 3;
+    }
+    put(
+        errors,
+        "lwkt: an argument isn't UTF-8; give such a file as standard input, by < FILE\n",
+    );
+    1
+}
+
+/// Does what the words of the command line ask for, and answers the exit status.
+///
+/// The source is standard input, the sink standard output, and `errors` standard error. Of standard input nothing is read unless the words
+/// ask for it. If they ask for nothing, standard error gets why, and standard output nothing, but for the usage line of `lwkt_run`.
+pub fn answer<R: Threads + Sync + Clock + Files + Alloc + Clone + Drop, I: Read, O: Write, E: Sink>(
+    rt: &R,
+    alloc: Global,
+    words: io::Result<Vec<String>>,
+    source: &mut ReaderSource<NotedReader<I>>,
+    sink: &mut WriterSink<NotedWriter<O>>,
+    errors: &mut E,
+) -> u8
+    ensures does { IfOk words (λ words. Does (map string_bytes words.items) source.new.failed (I.remaining source.old.reader.reader) (source.new ≡ source.old) (sink.new ≡ sink.old) (record { old = O.contents sink.old.writer.writer; new = O.contents sink.new.writer.writer; failed = sink.new.failed; error = sink.new.writer.error; flushed = sink.new.flushed; before = E.contents errors.old; after = E.contents errors.new; lost = E.has_failed errors.new }) result) }
+    ensures unworded { IfErr words (λ error. (source.new ≡ source.old) × ((sink.new ≡ sink.old) × ((result ≡ 1) ⊎ (result ≡ 3)))) }
+{
+    match words {
+        Ok(words) => answer_to(rt, alloc, words.as_slice(), source, sink, errors),
+        Err(error) => unworded(errors, &error),
     }
 }

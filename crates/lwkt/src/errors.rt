@@ -1,13 +1,16 @@
 //! What goes to standard error, beside why input is refused.
+ghost use Rattle.std.specs.Prelude.{◌≡◌, IfOk, OnErr, OnOk, string_bytes};
 ghost use Rattle.lwkt_refusals.specs.Sayings.{SaysMore};
+ghost use Rattle.lwkt_report.specs.Complaint.{IsSaid};
+ghost use Rattle.lwkt.specs.Answering.{lines_shown};
 
 use crate::failures::Failure;
 use lwkt_base::Fault;
 use lwkt_refusals::{Speaker, has_no_reader, say_of_file, say_opening};
-use lwkt_report::{Sink, escaped, write_whole};
+use lwkt_report::{Sink, push_escaped, write_whole};
 use lwkt_request::{Form, Task};
 use lwkt_text::Input;
-use std::alloc::Global;
+use std::alloc::{AllocError, Global};
 use std::io;
 
 /// What is read, as errors name it.
@@ -40,26 +43,44 @@ impl<'o> Origin<'o> {
     }
 }
 
-/// Writes a text. What can't be written is let go.
-pub fn put<E: Sink>(errors: &mut E, text: &str)
-    ensures { SaysMore (E.has_failed errors.old) (E.has_failed errors.new) (E.contents errors.old) (E.contents errors.new) }
+/// Writes bytes. What can't be written is let go.
+pub fn put_bytes<K: Sink>(sink: &mut K, bytes: &[u8])
+    ensures said { IsSaid (K.has_failed sink.new) (K.contents sink.old) (K.contents sink.new) bytes.now }
+    ensures more { SaysMore (K.has_failed sink.old) (K.has_failed sink.new) (K.contents sink.old) (K.contents sink.new) }
 {
-    let _ = write_whole(errors, text.as_bytes());
+    let _ = write_whole(sink, bytes);
 }
 
-// Writes a text of input as it is shown, with escapes. What can't be written is let go, and what memory is refused for.
-fn put_shown<E: Sink>(alloc: Global, errors: &mut E, text: &str) {
-    if let Ok(shown) = escaped(alloc, text) {
-        put(errors, shown.as_str());
-    }
+/// Writes a text. What can't be written is let go.
+pub fn put<K: Sink>(sink: &mut K, text: &str)
+    ensures said { IsSaid (K.has_failed sink.new) (K.contents sink.old) (K.contents sink.new) text.now }
+    ensures more { SaysMore (K.has_failed sink.old) (K.has_failed sink.new) (K.contents sink.old) (K.contents sink.new) }
+{
+    put_bytes(sink, text.as_bytes());
 }
 
-/// Writes lines in which words of the command line stand, with escapes for what isn't shown as it is.
-pub fn put_lines<E: Sink>(alloc: Global, errors: &mut E, text: &str) {
+// The lines of a text, as they are shown.
+fn lines_shown(alloc: Global, text: &str) -> Result<String, AllocError>
+    ensures { IfOk result (λ shown. string_bytes shown ≡ lines_shown text.now) }
+{
+    let mut shown = String::new(alloc);
     for line in text.lines() {
-        put_shown(alloc, errors, line);
-        put(errors, "\n");
+        push_escaped(&mut shown, line)?;
+        shown.push_str("\n")?;
     }
+    Ok(shown)
+}
+
+/// Writes lines in which words of the command line stand, with escapes for what isn't shown as it is. What can't be written is let go.
+///
+/// Refused if memory is, and then nothing is written.
+pub fn put_lines<E: Sink>(alloc: Global, errors: &mut E, text: &str) -> Result<(), AllocError>
+    ensures said { OnOk result (IsSaid (E.has_failed errors.new) (E.contents errors.old) (E.contents errors.new) (lines_shown text.now)) }
+    ensures unsaid { OnErr result (errors.new ≡ errors.old) }
+{
+    let shown = lines_shown(alloc, text)?;
+    put(errors, shown.as_str());
+    Ok(())
 }
 
 /// Says that memory was refused.

@@ -1,11 +1,14 @@
 //! All scripts of a folder, each performed.
-ghost use Rattle.std.specs.Prelude.{◌≡◌, false};
+ghost use Rattle.std.specs.Prelude.{◌≡◌, ◌≢◌, ◌≤◌, ◌<◌, IfOk, OnOk, [], false, length, true};
+ghost use Rattle.lwkt_refusals.specs.Sayings.{SaysMore};
+ghost use Rattle.lwkt_report.specs.Complaint.{IsSaid};
+ghost use Rattle.lwkt.specs.Counting.{Counts, HaveFailed, HavePassed, count_line};
 
-use crate::errors::{say_memory, say_unreadable, say_unwritten};
+use crate::errors::{put, put_bytes, say_memory, say_unreadable, say_unwritten};
 use crate::files::{opened, source_of};
 use crate::performing::perform;
 use lwkt_refusals::say_of_file;
-use lwkt_report::{NotedWriter, Sink, WriterSink, escaped, write_whole};
+use lwkt_report::{NotedWriter, Sink, WriterSink, escaped};
 use lwkt_request::Request;
 use std::alloc::{AllocError, Global};
 use std::fs::Files;
@@ -13,13 +16,6 @@ use std::io::Write;
 use std::thread::Threads;
 use std::time::Clock;
 use std::{fs, io};
-
-// How many files passed, and how many failed.
-#[derive(Clone, Copy)]
-struct Count {
-    passed: usize,
-    failed: usize,
-}
 
 // Whether a file of this name is tried.
 fn is_script(name: &str) -> bool {
@@ -84,7 +80,7 @@ fn tried<R: Threads + Sync + Clock + Files>(
     Ending { status, said }
 }
 
-// Tries one file, and writes what it said if it fails.
+// Tries one file, and writes what it said if it fails. The answer is whether it passed.
 fn try_one<R: Threads + Sync + Clock + Files, O: Write>(
     rt: &R,
     alloc: Global,
@@ -92,7 +88,10 @@ fn try_one<R: Threads + Sync + Clock + Files, O: Write>(
     folder: &str,
     name: &str,
     sink: &mut WriterSink<NotedWriter<O>>,
-) -> Result<bool, AllocError> {
+) -> Result<bool, AllocError>
+    ensures quiet { IfOk result (λ passed. passed ≡ true → sink.new ≡ sink.old) }
+    ensures more { SaysMore sink.old.failed sink.new.failed (O.contents sink.old.writer.writer) (O.contents sink.new.writer.writer) }
+{
     let path = format!(in alloc; "{folder}/{name}")?;
     let Ending { status, said } = tried(rt, alloc, request, path.as_str());
     if status == 0 {
@@ -100,12 +99,49 @@ fn try_one<R: Threads + Sync + Clock + Files, O: Write>(
     }
     let shown = escaped(alloc, name)?;
     let head = format!(in alloc; "{shown}: status {status}\n")?;
-    let _ = write_whole(sink, head.as_bytes());
-    let _ = write_whole(sink, said.as_slice());
+    put(sink, head.as_str());
+    put_bytes(sink, said.as_slice());
     Ok(false)
 }
 
-// Tries each file, and writes how many passed.
+// Tries each file, and writes what those said that fail. The answer is how many failed.
+fn tried_all<R: Threads + Sync + Clock + Files, O: Write>(
+    rt: &R,
+    alloc: Global,
+    request: &Request,
+    folder: &str,
+    names: &[String],
+    sink: &mut WriterSink<NotedWriter<O>>,
+) -> Result<usize, AllocError>
+    ensures within { IfOk result (λ failed. failed ≤ length names.now) }
+    ensures quiet { IfOk result (λ failed. failed ≡ 0 → sink.new ≡ sink.old) }
+    ensures more { SaysMore sink.old.failed sink.new.failed (O.contents sink.old.writer.writer) (O.contents sink.new.writer.writer) }
+{
+    let mut failed = 0;
+    for name in names {
+        if !try_one(rt, alloc, request, folder, name.as_str(), sink)? {
+            failed += 1;
+        }
+    }
+    Ok(failed)
+}
+
+// Writes how many passed, and how many failed.
+fn put_count<K: Sink>(
+    alloc: Global,
+    sink: &mut K,
+    passed: usize,
+    failed: usize,
+) -> Result<(), AllocError>
+    ensures said { OnOk result (IsSaid (K.has_failed sink.new) (K.contents sink.old) (K.contents sink.new) (count_line passed failed)) }
+    ensures stays { K.has_failed sink.new ≡ false → K.has_failed sink.old ≡ false }
+{
+    let line = format!(in alloc; "{passed} passed, {failed} failed\n")?;
+    put(sink, line.as_str());
+    Ok(())
+}
+
+// Tries each file, and writes what those said that fail; in the end how many passed and failed. The answer is how many failed.
 fn counted<R: Threads + Sync + Clock + Files, O: Write>(
     rt: &R,
     alloc: Global,
@@ -113,22 +149,13 @@ fn counted<R: Threads + Sync + Clock + Files, O: Write>(
     folder: &str,
     names: &[String],
     sink: &mut WriterSink<NotedWriter<O>>,
-) -> Result<Count, AllocError> {
-    let mut count = Count {
-        passed: 0,
-        failed: 0,
-    };
-    for name in names {
-        if try_one(rt, alloc, request, folder, name.as_str(), sink)? {
-            count.passed = count.passed.saturating_add(1);
-        } else {
-            count.failed = count.failed.saturating_add(1);
-        }
-    }
-    let Count { passed, failed } = count;
-    let sum = format!(in alloc; "{passed} passed, {failed} failed\n")?;
-    let _ = write_whole(sink, sum.as_bytes());
-    Ok(count)
+) -> Result<usize, AllocError>
+    ensures passed { names.now ≢ [] → sink.new.failed ≡ false → IfOk result (λ failed. failed ≡ 0 → HavePassed (O.contents sink.old.writer.writer) (O.contents sink.new.writer.writer)) }
+    ensures failed { sink.new.failed ≡ false → IfOk result (λ failed. 0 < failed → HaveFailed (O.contents sink.old.writer.writer) (O.contents sink.new.writer.writer)) }
+{
+    let failed = tried_all(rt, alloc, request, folder, names, sink)?;
+    put_count(alloc, sink, names.len() - failed, failed)?;
+    Ok(failed)
 }
 
 /// Performs a request on each `.lwkt` and `.json` file of a folder, by name. Of those whose status isn't 0, the name, the status and all
@@ -144,7 +171,7 @@ pub fn perform_all<R: Threads + Sync + Clock + Files + Alloc + Clone + Drop, O: 
     sink: &mut WriterSink<NotedWriter<O>>,
     errors: &mut E,
 ) -> u8
-    ensures { result ≡ 0 → sink.new.failed ≡ false }
+    ensures { Counts sink.new.failed (O.contents sink.old.writer.writer) (O.contents sink.new.writer.writer) result }
 {
     let names = match names_in(rt, alloc, folder) {
         Ok(names) => names,
@@ -162,7 +189,7 @@ pub fn perform_all<R: Threads + Sync + Clock + Files + Alloc + Clone + Drop, O: 
         );
         return 1;
     }
-    let Ok(count) = counted(rt, alloc, request, folder, names.as_slice(), sink) else {
+    let Ok(failed) = counted(rt, alloc, request, folder, names.as_slice(), sink) else {
         say_memory(errors);
         return 3;
     };
@@ -170,5 +197,5 @@ pub fn perform_all<R: Threads + Sync + Clock + Files + Alloc + Clone + Drop, O: 
         say_unwritten(alloc, errors, &sink.writer.error);
         return 3;
     }
-    if count.failed == 0 { 0 } else { 5 }
+    if failed == 0 { 0 } else { 5 }
 }

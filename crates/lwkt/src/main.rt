@@ -20,36 +20,17 @@ mod tickers;
 mod written;
 
 use crate::answering::answer;
-use crate::errors::{put, say_memory};
-use lwkt_report::{NotedWriter, WriterSink, refusal_of, words_of};
+use crate::files::source_of;
+use lwkt_report::{NotedWriter, WriterSink, words_of};
 use std::alloc::Global;
 use std::process::ExitCode;
 
 fn main(rt: HostRuntime) -> ExitCode {
     let alloc: Global = rt.alloc();
+    let words = words_of(&rt);
+    let mut source = source_of(rt.stdin());
     let mut sink = WriterSink::new(NotedWriter::new(rt.stdout()));
     let mut errors = WriterSink::new(rt.stderr());
-    let status = match words_of(&rt) {
-        Ok(words) => answer(
-            &rt,
-            alloc,
-            words.as_slice(),
-            rt.stdin(),
-            &mut sink,
-            &mut errors,
-        ),
-        Err(error) => {
-            if refusal_of(&error).is_some() {
-                say_memory(&mut errors);
-                3
-            } else {
-                put(
-                    &mut errors,
-                    "lwkt: an argument isn't UTF-8; give such a file as standard input, by < FILE\n",
-                );
-                1
-            }
-        }
-    };
+    let status = answer(&rt, alloc, words, &mut source, &mut sink, &mut errors);
     ExitCode::from(status)
 }

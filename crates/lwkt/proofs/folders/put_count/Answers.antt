@@ -1,0 +1,8 @@
+use Rattle.std.proofs.Common.{◌∙◌, ℕ, List, subst}
+use Rattle.lwkt_report.specs.Complaint.{IsSaid}
+use Rattle.lwkt.proofs.folders.put_count.Goals as goal
+
+pub returns-clause-said : goal.returns-clause-said
+returns-clause-said g c =
+    let Said : List ℕ → Type 0 = λ text. IsSaid (g.K.Sink.has_failed c.put.new.sink) (g.K.Sink.contents c.args.sink.now) (g.K.Sink.contents c.put.new.sink) text in
+    subst Said (c.as_str.ensures.value ∙ c.in_ok-line.ensures.ok) c.put.ensures.said
