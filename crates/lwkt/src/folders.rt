@@ -1,5 +1,5 @@
 //! All scripts of a folder, each performed.
-ghost use Rattle.std.specs.Prelude.{◌≡◌, ◌≢◌, ◌≤◌, ◌<◌, IfOk, OnOk, [], false, length, true};
+ghost use Rattle.std.specs.Prelude.{◌≡◌, ◌≤◌, ◌<◌, IfOk, OnOk, false, length, true};
 ghost use Rattle.lwkt_refusals.specs.Sayings.{SaysMore};
 ghost use Rattle.lwkt_report.specs.Complaint.{IsSaid};
 ghost use Rattle.lwkt.specs.Counting.{Counts, HaveFailed, HavePassed, count_line};
@@ -150,8 +150,8 @@ fn counted<R: Threads + Sync + Clock + Files, O: Write>(
     names: &[String],
     sink: &mut WriterSink<NotedWriter<O>>,
 ) -> Result<usize, AllocError>
-    ensures passed { names.now ≢ [] → sink.new.failed ≡ false → IfOk result (λ failed. failed ≡ 0 → HavePassed (O.contents sink.old.writer.writer) (O.contents sink.new.writer.writer)) }
-    ensures failed { sink.new.failed ≡ false → IfOk result (λ failed. 0 < failed → HaveFailed (O.contents sink.old.writer.writer) (O.contents sink.new.writer.writer)) }
+    ensures passed { sink.new.failed ≡ false → IfOk result (λ failed. failed ≡ 0 → HavePassed (length names.now) (O.contents sink.old.writer.writer) (O.contents sink.new.writer.writer)) }
+    ensures failed { sink.new.failed ≡ false → IfOk result (λ failed. 0 < failed → HaveFailed (length names.now) (O.contents sink.old.writer.writer) (O.contents sink.new.writer.writer)) }
 {
     let failed = tried_all(rt, alloc, request, folder, names, sink)?;
     put_count(alloc, sink, names.len() - failed, failed)?;

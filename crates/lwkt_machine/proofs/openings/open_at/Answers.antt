@@ -32,8 +32,8 @@ invariant_of-result c =
     opened_parts (cpus_of t.bank) (id_of t.bank) t.book c.as_slice-threads.result.now made.cpus.items (c.requires.bank.processors ∙ sym long) (c.requires.book.cpus_is ∙ sym long) (omega (arith, long, c.requires.few)) made.ensures.each
     (wired c.from.result f.field-0.outs.items f.field-0.ins.items made.cpus.items f.ensures.ok made.ensures.lines (long ∙ sym c.from.ensures))
 
-pub returns-clause-ok : goal.returns-clause-ok
-returns-clause-ok c =
+pub returns : goal.returns
+returns c =
     let t = c.args.tables in
     let f = c.in_ok-outs in
     let F : List ThreadSpec → Type 0 = λ xs. AreOpenedCpus (id_of t.bank) t.book xs c.in_ok-cpus.cpus.items in

@@ -23,8 +23,8 @@ left_by-requires-clause-threads c =
     let r = c.in_ok-make_rounds.ensures.ok in
     has_rounds s.cpus s.threads s.turns (scene m c.new-trace.result.items (kept_in_record c.new-kept.result)) (scene c.make_rounds.new.machine c.make_rounds.new.trace.items (kept_in_record c.make_rounds.new.kept)) r (opened_has s m c.in_ok-machine.ensures.ok)
 
-pub returns-in-Ok-clause-runs : goal.returns-in-Ok-clause-runs
-returns-in-Ok-clause-runs c =
+pub returns-clause-runs : goal.returns-clause-runs
+returns-clause-runs c =
     let s = c.args.script.now in
     let opened = c.in_ok-machine in
     let made = c.make_rounds.new in
@@ -35,7 +35,7 @@ returns-in-Ok-clause-runs c =
     let F : List Event → Type 0 = λ es. HasMadeRounds s.turns (scene opened.machine es (kept_in_record c.new-kept.result)) (scene made.machine told kept) in
     let G : Kept → Type 0 = λ k. HasMadeRounds s.turns (scene opened.machine [] k) (scene made.machine told kept) in
     let rounds = subst G c.new-kept.ensures (subst F c.new-trace.ensures c.in_ok-make_rounds.ensures.ok) in
-    let whole : c.append.new.self.items ≡ told ++ stops = c.in-Ok.ensures.ok ∙ ap (λ (es : List Event). told ++ es) c.as_slice.ensures.value in
+    let whole : c.append.new.self.items ≡ told ++ stops = c.in_ok-append.ensures.ok ∙ ap (λ (es : List Event). told ++ es) c.as_slice.ensures.value in
     record {
       opened = opened.machine;
       made = made.machine;

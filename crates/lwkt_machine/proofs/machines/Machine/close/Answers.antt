@@ -5,9 +5,9 @@ use Rattle.lwkt_machine.proofs.machines.Machine.close.Goals as goal
 pub close-requires-clause-ready : goal.close-requires-clause-ready
 close-requires-clause-ready c =
     let i = c.self.inside in
-    seats_ready (cpus_of i.bank) (id_of i.bank) i.book i.cpus.items c.in-Ok.retired c.self.invariant c.in-Ok.ensures
+    seats_ready (cpus_of i.bank) (id_of i.bank) i.book i.cpus.items c.in_ok-retired.retired c.self.invariant c.in_ok-retired.ensures
 
 pub close-requires-2-clause-of_book : goal.close-requires-2-clause-of_book
 close-requires-2-clause-of_book c =
     let i = c.self.inside in
-    desks_of (cpus_of i.bank) (id_of i.bank) i.book i.cpus.items c.in-Ok.retired c.self.invariant c.in-Ok.ensures
+    desks_of (cpus_of i.bank) (id_of i.bank) i.book i.cpus.items c.in_ok-retired.retired c.self.invariant c.in_ok-retired.ensures

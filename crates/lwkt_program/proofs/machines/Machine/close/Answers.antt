@@ -25,16 +25,16 @@ close-requires-clause-ready g c =
     let i = c.self.inside in
     let news = c.stop_all.new.cpus in
     let back = refilled news i.cpus.items i.cpus.len (c.stop_all.ensures.as_many ∙ c.deref_mut.ensures.len) in
-    let F : List (Driven g.row.B.Denot) → Type 0 = λ xs. AreRetired xs c.in-Ok.all in
-    seats_ready {B = g.row.B.Denot} (id_of i.bank) i.book news c.in-Ok.all c.stop_all.ensures.at (subst F back c.in-Ok.ensures)
+    let F : List (Driven g.row.B.Denot) → Type 0 = λ xs. AreRetired xs c.in_ok-all.all in
+    seats_ready {B = g.row.B.Denot} (id_of i.bank) i.book news c.in_ok-all.all c.stop_all.ensures.at (subst F back c.in_ok-all.ensures)
 
 pub close-requires-2-clause-of_book : goal.close-requires-2-clause-of_book
 close-requires-2-clause-of_book g c =
     let i = c.self.inside in
     let news = c.stop_all.new.cpus in
     let back = refilled news i.cpus.items i.cpus.len (c.stop_all.ensures.as_many ∙ c.deref_mut.ensures.len) in
-    let F : List (Driven g.row.B.Denot) → Type 0 = λ xs. AreRetired xs c.in-Ok.all in
-    desks_of {B = g.row.B.Denot} (id_of i.bank) i.book news c.in-Ok.all c.stop_all.ensures.at (subst F back c.in-Ok.ensures)
+    let F : List (Driven g.row.B.Denot) → Type 0 = λ xs. AreRetired xs c.in_ok-all.all in
+    desks_of {B = g.row.B.Denot} (id_of i.bank) i.book news c.in_ok-all.all c.stop_all.ensures.at (subst F back c.in_ok-all.ensures)
 
 pub returns-clause-lawful : goal.returns-clause-lawful
 returns-clause-lawful g c =
@@ -45,12 +45,12 @@ pub returns-clause-closed : goal.returns-clause-closed
 returns-clause-closed g c =
     let i = c.self.inside in
     let news = c.stop_all.new.cpus in
-    let all = c.in-Ok.all in
+    let all = c.in_ok-all.all in
     let tokens = c.in_ok-tokens.tokens in
     let messages = c.in_ok-messages.messages in
     let back = refilled news i.cpus.items i.cpus.len (c.stop_all.ensures.as_many ∙ c.deref_mut.ensures.len) in
     let F : List (Driven g.row.B.Denot) → Type 0 = λ xs. AreRetired xs all in
-    let retired : AreRetired news all = subst F back c.in-Ok.ensures in
+    let retired : AreRetired news all = subst F back c.in_ok-all.ensures in
     let G : List (Driven g.row.B.Denot) → Type 0 = λ xs. AreStopped xs news in
     let H : ℕ → Type 0 = λ n. IsClosed (id_of i.bank) n all.seats.items tokens in
     let K : List CpuSeat → Type 0 = λ seats. IsClosed (id_of i.bank) (length i.cpus.items) seats tokens in
@@ -70,5 +70,5 @@ returns-clause-kept g c =
     let i = c.self.inside in
     let news = c.stop_all.new.cpus in
     let back = refilled news i.cpus.items i.cpus.len (c.stop_all.ensures.as_many ∙ c.deref_mut.ensures.len) in
-    let F : List (Driven g.row.B.Denot) → Type 0 = λ xs. AreRetired xs c.in-Ok.all in
-    kept_back {B = g.row.B.Denot} g.B.Lasting.kept news c.in-Ok.all.bodies.items (subst F back c.in-Ok.ensures).bodies c.stop_all.ensures.kept
+    let F : List (Driven g.row.B.Denot) → Type 0 = λ xs. AreRetired xs c.in_ok-all.all in
+    kept_back {B = g.row.B.Denot} g.B.Lasting.kept news c.in_ok-all.all.bodies.items (subst F back c.in_ok-all.ensures).bodies c.stop_all.ensures.kept

@@ -23,8 +23,8 @@ invariant_of-result g c =
     let made = c.in_ok-cpus in
     opened_whole {B = g.row.B.Denot} g.B.Lasting.kept (cpus_of t.bank) (id_of t.bank) t.book c.args.bodies.items made.cpus.items (c.requires.bank.processors ∙ sym made.ensures.as_many) (c.requires.book.cpus_is ∙ sym made.ensures.as_many) made.ensures.as_many made.ensures.each c.requires.kept
 
-pub returns-clause-ok : goal.returns-clause-ok
-returns-clause-ok g c =
+pub returns : goal.returns
+returns g c =
     let made = c.in_ok-cpus in
     let lanes = c.in_ok-outs in
     let f : Driven g.row.B.Denot → Processor g.row.B.Denot = λ d. d.cpu in
