@@ -1,4 +1,4 @@
-//! Runs that are made where a search couldn't try every order: the run in rounds, and random orders.
+//! Runs that are made before a search, which may not be able to try every order: the run in rounds, and random orders.
 ghost use Rattle.std.specs.Prelude.{◌≡◌, ◌≤◌, IfErr};
 ghost use Rattle.lwkt_explore.specs.Outcomes.{AreOutcomes, AreShort, RefusesSearch};
 ghost use Rattle.lwkt_explore.specs.Walks.{IsWalk};
@@ -7,15 +7,16 @@ use crate::outcomes::{Outcomes, Stand};
 use crate::samples::{Course, Dice};
 use crate::searches::{Bounds, Method};
 use crate::walks::Walk;
+use crate::watches::Watch;
 use lwkt_base::Fault;
 use lwkt_script::Script;
 use std::alloc::Global;
 
 // How many random orders are made.
-const ORDERS: u32 = 64;
+const ORDERS: u64 = 64;
 
 // The most turns of all of them together.
-const TURNS: usize = 200000;
+const TURNS: usize = 40000;
 
 // Makes an order of at most so many turns, and keeps its outcome, unless it was cut. Says how many turns the order has.
 fn add_one(
@@ -70,13 +71,14 @@ fn go_round(
     Ok(())
 }
 
-// Makes random orders.
-fn go_about(
+// Makes random orders. Says whether who looks on lets the search go on.
+fn go_about<W: Watch>(
     alloc: Global,
     script: &Script,
     walk: &mut Walk,
     outcomes: &mut Outcomes,
-) -> Result<(), Fault>
+    watch: &mut W,
+) -> Result<bool, Fault>
     requires walk { IsWalk script.now walk.old }
     requires outcomes { AreOutcomes script.now outcomes.old }
     requires short { AreShort walk.old.bounds.turns outcomes.old }
@@ -86,26 +88,31 @@ fn go_about(
 {
     let mut course = Course::Random(Dice::new(0));
     let mut left = TURNS;
-    for _ in 0..ORDERS {
+    for made in 0..ORDERS {
         if left == 0 {
-            return Ok(());
+            return Ok(true);
+        }
+        if !watch.goes_on(walk.strayed(made)) {
+            return Ok(false);
         }
         let most = walk.bounds.turns.min(left);
         let turns = add_one(alloc, script, walk, outcomes, &mut course, most)?;
         left = left.saturating_sub(turns);
     }
-    Ok(())
+    Ok(true)
 }
 
-/// Makes the run of a script in rounds and some random orders, and keeps the outcomes that weren't found before.
+/// Makes the run of a script in rounds and some random orders, and keeps their outcomes. Says whether who looks on lets the search
+/// go on.
 ///
 /// Refused as a search is.
-pub(crate) fn dive(
+pub(crate) fn dive<W: Watch>(
     alloc: Global,
     script: &Script,
     bounds: Bounds,
     outcomes: &mut Outcomes,
-) -> Result<(), Fault>
+    watch: &mut W,
+) -> Result<bool, Fault>
     requires outcomes { AreOutcomes script.now outcomes.old }
     requires short { AreShort bounds.turns outcomes.old }
     ensures found { AreOutcomes script.now outcomes.new }
@@ -114,5 +121,5 @@ pub(crate) fn dive(
 {
     let mut walk = Walk::begin(alloc, script, bounds, Method::Plain)?;
     go_round(alloc, script, &mut walk, outcomes)?;
-    go_about(alloc, script, &mut walk, outcomes)
+    go_about(alloc, script, &mut walk, outcomes, watch)
 }

@@ -4,6 +4,7 @@ ghost use Rattle.std.specs.List.{Any};
 ghost use Rattle.std.specs.Option.{option_to_list};
 ghost use Rattle.lwkt_base.specs.Fault.{no_memory};
 ghost use Rattle.lwkt_run.specs.Run.{AreThere, end_told};
+ghost use Rattle.lwkt_script.specs.declared.scripts.Script.{Script};
 ghost use Rattle.lwkt_explore.specs.Outcomes.{settled_text, IsKind, IsOutcome, AreOutcomes, AreShort, AreWhole, HasEnded, RefusesSearch};
 ghost use Rattle.lwkt_explore.specs.Verdicts.{IsOfVerdict};
 
@@ -249,6 +250,20 @@ impl Outcomes {
         self.all
             .push(outcome)
             .map_err(|refused| Fault::Memory(refused.into()))?;
+        Ok(())
+    }
+
+    /// Takes those outcomes of others that it lacks, behind its own. Where memory is refused, the rest is left out.
+    pub(crate) fn take_in(&mut self, others: Outcomes) -> Result<(), Fault>
+        ensures found { (script : Script) → AreOutcomes script self.old → AreOutcomes script others → AreOutcomes script self.new }
+        ensures short { (turns : ℕ) → AreShort turns self.old → AreShort turns others → AreShort turns self.new }
+        ensures only { OnErr result (result ≡ Err no_memory) }
+    {
+        for outcome in others.all {
+            if self.place_of(&outcome).is_none() {
+                self.keep(outcome)?;
+            }
+        }
         Ok(())
     }
 

@@ -113,13 +113,14 @@ fn expand(
     walk.note_end(kind == Kind::Ended)
 }
 
-// Goes on from each state, in the order in which they are found.
+// Goes on from each state, in the order in which they are found, if it goes on at all.
 fn search<W: Watch>(
     alloc: Global,
     script: &Script,
     walk: &mut Walk,
     outcomes: &mut Outcomes,
     states: usize,
+    goes_on: bool,
     watch: &mut W,
 ) -> Result<(), Fault>
     requires { IsSearching script.now walk.old outcomes.old }
@@ -132,7 +133,7 @@ fn search<W: Watch>(
         if at >= walk.graph.len() {
             return Ok(());
         }
-        if !watch.goes_on(walk.seen(at)) {
+        if !goes_on || !watch.goes_on(walk.seen(at)) {
             walk.met = Some(Bound::Stopped);
             return Ok(());
         }
@@ -145,12 +146,13 @@ fn search<W: Watch>(
     Ok(())
 }
 
-// Tries every order of turns of a script, within bounds, and nothing else.
+// Tries every order of turns of a script, within bounds, and nothing else; none if it doesn't go on.
 fn searched<W: Watch>(
     alloc: Global,
     script: &Script,
     bounds: Bounds,
     method: Method,
+    goes_on: bool,
     watch: &mut W,
 ) -> Result<Found, Fault>
     ensures found { IfOk result (λ found. AreOutcomes script.now found.outcomes) }
@@ -169,6 +171,7 @@ fn searched<W: Watch>(
         &mut walk,
         &mut outcomes,
         bounds.states,
+        goes_on,
         watch,
     ) {
         Ok(()) => {}
@@ -189,7 +192,7 @@ fn searched<W: Watch>(
 /// every one that no turn changes. Each is the report of the run along its order, whose verdict is `lawful`. If memory is refused
 /// during the search, or who looks on ends it, what was found till then is given, and `extent` says so.
 ///
-/// Where not every order was tried, the run in rounds and some random orders are made behind the search, and the outcomes that it
+/// Before the search the run in rounds and some random orders are made. Where not every order was tried, the outcomes of these that it
 /// hadn't found come behind its own. An order of the search is a shortest one to its outcome, one of these needn't be.
 ///
 /// Refused with `Limits` or `LawBroken` for the script's opening, with `Memory`
@@ -218,11 +221,18 @@ pub fn explore<W: Watch>(
     ensures tried { IfOk result (λ found. HasTriedStates bounds.states found.tried) }
     ensures refused { IfErr result (λ fault. RefusesSearch script.now fault) }
 {
-    let mut found = searched(alloc, script, bounds, method, watch)?;
+    let mut first = Outcomes::new(alloc);
+    let goes_on = match dive(alloc, script, bounds, &mut first, watch) {
+        Ok(goes_on) => goes_on,
+        // (the search may still find room)
+        Err(Fault::Memory(_)) => true,
+        Err(fault) => return Err(fault),
+    };
+    let mut found = searched(alloc, script, bounds, method, goes_on, watch)?;
     if found.is_complete() {
         return Ok(found);
     }
-    match dive(alloc, script, bounds, &mut found.outcomes) {
+    match found.outcomes.take_in(first) {
         Ok(()) | Err(Fault::Memory(_)) => Ok(found),
         Err(fault) => Err(fault),
     }

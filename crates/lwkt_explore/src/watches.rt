@@ -13,7 +13,7 @@ pub struct Seen {
 
 /// Who looks on at a search.
 pub trait Watch {
-    /// Whether the search goes on. It asks before it goes on from a state, and before each random order, and ends at the first no.
+    /// Whether the search goes on. It asks before each random order, and before it goes on from a state, and ends at the first no.
     fn goes_on(&mut self, seen: Seen) -> bool;
 }
 
