@@ -1,4 +1,4 @@
-//! Releases that are refused since another token was taken later, as a text tells them.
+//! Releases that are refused if another token was taken later, as a text tells them.
 ghost use Rattle.lwkt_refusals.specs.Sayings.{SaysMore};
 
 use crate::marks::add_shown;
@@ -17,7 +17,7 @@ const LIST_LIMIT: usize = 32;
 // Of how many releases it is said.
 const REMARK_LIMIT: usize = 100;
 
-// The tokens that a thread has taken and not released, the first first, as its steps name them.
+// The tokens that a thread has taken, if it was given them, and not released, the first first, as its steps name them.
 #[derive(Drop)]
 struct Held<'t> {
     words: Vec<&'t [u8]>,
@@ -48,9 +48,9 @@ impl<'t> Held<'t> {
         self.words.iter().any(|held| *held == word)
     }
 
-    // A token is taken. One that is named by its number or is taken twice isn't followed.
+    // A token is taken, or is tried to be. One that is named by its number isn't followed.
     fn take(&mut self, word: &'t [u8]) -> Result<(), AllocError> {
-        if !is_name(word) || self.has(word) || self.words.len() >= LIST_LIMIT {
+        if !is_name(word) || self.words.len() >= LIST_LIMIT {
             self.begin(false);
             return Ok(());
         }
@@ -81,17 +81,17 @@ impl<'t> Held<'t> {
         match first {
             b"thread" => self.begin(true),
             _ if !self.is_known => {}
-            b"get" | b"gets" => self.take(second)?,
+            b"get" | b"gets" | b"try" => self.take(second)?,
             b"rel" => return Ok(self.release(second)),
             b"swap" => self.swap(),
-            b"try" | b"exit" => self.begin(false),
+            b"exit" => self.begin(false),
             _ => {}
         }
         Ok(None)
     }
 }
 
-// Appends that a release is refused, and why.
+// Appends when a release is refused, and what to do.
 fn add_release(
     page: &mut Page,
     name: Option<&str>,
@@ -103,9 +103,9 @@ fn add_release(
     add_start(page, name, place);
     page.add("`rel ");
     add_shown(page, word);
-    page.add("` is refused with fault 12: release ");
+    page.add("` is refused with fault 12 if the thread has ");
     add_shown(page, before);
-    page.add(" first, which the thread takes later");
+    page.add(", which it takes later: release that first");
     add_end(page, bytes, place, None);
 }
 
@@ -148,9 +148,9 @@ fn releases_said(alloc: Global, name: Option<&str>, bytes: &[u8]) -> Result<Stri
     page.whole()
 }
 
-/// Says of each release of a text that is refused since the thread took another token later, in the form of `say_unread`, at its line:
-/// the token that has to be released first. It says nothing if the text expects fault 12. Only the first pass of a thread's steps is
-/// looked at, up to a step after which the text doesn't tell what the thread has.
+/// Says of each release of a text that is refused if the thread has another token, which it takes later, in the form of `say_unread`, at
+/// its line: the token that has to be released first. It says nothing if the text expects fault 12. Only the first pass of a thread's
+/// steps is looked at, up to a step after which the text doesn't tell what the thread has.
 ///
 /// If memory is refused, it says nothing.
 pub fn say_releases<E: Sink>(alloc: Global, errors: &mut E, name: Option<&str>, bytes: &[u8])
