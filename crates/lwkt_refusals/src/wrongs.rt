@@ -53,7 +53,7 @@ fn words_of(what: What) -> &'static str {
     match what {
         What::Keyword => "no sentence begins with this word",
         What::Name => "a name is wanted here: a word that begins with a letter or _",
-        What::Twice => "this name was given before",
+        What::Twice => "this name was given before: take another one",
         What::Number { .. } => "a whole number is wanted here",
         What::Token => "a token is wanted here",
         What::Cell => "a cell of the token is wanted here",
