@@ -6,6 +6,7 @@ use crate::messages::add_number;
 use crate::pages::Page;
 use crate::refusals::{Document, refusal};
 use crate::trace_forms::is_in_lines;
+use crate::untraced::IN_LINES;
 use lwkt_base::Fault;
 use lwkt_report::{Sink, write_whole};
 use std::alloc::{AllocError, Global};
@@ -142,13 +143,15 @@ impl Speaker {
             add_number(&mut out, fault);
             out.add(": ");
         }
-        out.add(refusal(alloc, self.document(), bytes, fault)?.as_str());
-        if self == Speaker::Check
+        let in_lines = self == Speaker::Check
             && fault == (Fault::Script { place: 0 })
-            && is_in_lines(alloc, bytes)
-        {
-            out.add("; a trace in lines wants the word lines");
+            && is_in_lines(alloc, bytes);
+        if in_lines {
+            out.add("line 1, column 1: ");
+            out.add(IN_LINES);
+            return out.whole();
         }
+        out.add(refusal(alloc, self.document(), bytes, fault)?.as_str());
         out.whole()
     }
 

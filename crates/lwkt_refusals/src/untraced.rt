@@ -14,6 +14,9 @@ use lwkt_report::Sink;
 use lwkt_text::{is_named_text, is_text};
 use std::alloc::Global;
 
+/// What is said of a trace in lines that had to be one text.
+pub(crate) const IN_LINES: &str = "this is a trace in lines";
+
 // What input is that isn't the trace that it had to be.
 #[derive(Clone, Copy)]
 enum Other {
@@ -30,7 +33,7 @@ impl Other {
     fn words(self) -> &'static str {
         match self {
             Other::Script => "this is a script, and no trace",
-            Other::Lines => "this is a trace in lines",
+            Other::Lines => IN_LINES,
             Other::Whole => "this is a trace of one text, and not one in lines",
         }
     }
