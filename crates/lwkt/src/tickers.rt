@@ -22,16 +22,14 @@ pub struct Ticker<'a, R, E> {
     turns: u64,
 }
 
-// What is said: `lwkt_explore: N states, N to go on from, N turns a second`.
+// What is said: `lwkt: N states, N to go on from, N turns a second`.
 fn line_of(alloc: Global, seen: Seen, turns: u64) -> Result<String, AllocError> {
     let Seen {
         states,
         frontier,
         ..
     } = seen;
-    format!(in alloc;
-        "lwkt_explore: {states} states, {frontier} to go on from, {turns} turns a second\n"
-    )
+    format!(in alloc; "lwkt: {states} states, {frontier} to go on from, {turns} turns a second\n")
 }
 
 // Whether so many seconds have passed between two times, if both are known.
