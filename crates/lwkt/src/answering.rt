@@ -5,7 +5,9 @@ ghost use Rattle.lwkt_request.specs.Wishes.{wish_by};
 ghost use Rattle.lwkt.specs.Answering.{Does, IsByOldName, ServesBy, ServesFile, TellsMisuse, TellsPage, TellsUsage, takes_folder};
 ghost use Rattle.lwkt.specs.Performing.{order_of};
 
-use crate::errors::{put, put_lines, say_memory, say_unreadable, say_unwritten};
+use crate::errors::{
+    Origin, is_by_old_name, put, put_lines, say_memory, say_unread, say_unwritten,
+};
 use crate::files::{opened, source_of};
 use crate::folders::perform_all;
 use crate::performing::perform;
@@ -30,19 +32,6 @@ fn misused<O: Write, E: Sink>(sink: &mut WriterSink<NotedWriter<O>>, errors: &mu
     complain(sink, Program::Run, Complaint::Usage);
     Speaker::Run.say_usage(errors);
     1
-}
-
-// Whether a request has the old name `lwkt_run`.
-fn is_by_old_name(task: Task) -> bool
-    ensures { IsTrue result → IsByOldName task }
-{
-    matches!(
-        task,
-        Task::Run {
-            by_old_name: true,
-            ..
-        }
-    )
 }
 
 // Whether this is a word of `lwkt_run`, taken for a file that isn't there.
@@ -70,7 +59,11 @@ fn perform_on_file<R: Threads + Sync + Clock + Files, O: Write, E: Sink>(
             if is_by_old_name(request.task) && is_word(path, &error) {
                 return misused(sink, errors);
             }
-            say_unreadable(alloc, errors, Some(path), &Some(error));
+            let origin = Origin {
+                task: request.task,
+                path: Some(path),
+            };
+            say_unread(alloc, errors, origin, &Some(error));
             3
         }
     }

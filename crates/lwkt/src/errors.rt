@@ -1,8 +1,8 @@
 //! What goes to standard error, beside why input is refused.
-ghost use Rattle.std.specs.Prelude.{◌≡◌, IfOk, OnErr, OnOk, string_bytes};
+ghost use Rattle.std.specs.Prelude.{◌≡◌, IfOk, IsTrue, OnErr, OnOk, string_bytes};
 ghost use Rattle.lwkt_refusals.specs.Sayings.{SaysMore};
 ghost use Rattle.lwkt_report.specs.Complaint.{IsSaid};
-ghost use Rattle.lwkt.specs.Answering.{lines_shown};
+ghost use Rattle.lwkt.specs.Answering.{IsByOldName, lines_shown};
 
 use crate::failures::Failure;
 use lwkt_base::Fault;
@@ -170,6 +170,52 @@ pub fn say_unreadable<E: Sink>(
     match words {
         Some(words) => say_of_file(alloc, errors, path, words.as_str()),
         None => say_of_file(alloc, errors, path, "it can't be read"),
+    }
+}
+
+/// Whether a request has the old name `lwkt_run`.
+pub fn is_by_old_name(task: Task) -> bool
+    ensures { IsTrue result → IsByOldName task }
+{
+    matches!(
+        task,
+        Task::Run {
+            by_old_name: true,
+            ..
+        }
+    )
+}
+
+// What is said by the name `lwkt_run` of a file that can't be opened or read.
+fn old_line(alloc: Global, path: &str, error: &Option<io::Error>) -> Result<String, AllocError> {
+    let mut line = String::new(alloc);
+    line.push_str("lwkt_run: ")?;
+    push_escaped(&mut line, path)?;
+    line.push_str(": ")?;
+    match error {
+        Some(error) => line.push_str(error.to_string(alloc)?.as_str())?,
+        None => line.push_str("it can't be read")?,
+    }
+    line.push_str("\n")?;
+    Ok(line)
+}
+
+/// Says that the file of a request, or standard input, can't be opened or read, and why; of a file the old name `lwkt_run` says it by
+/// that name.
+pub fn say_unread<E: Sink>(
+    alloc: Global,
+    errors: &mut E,
+    origin: Origin<'_>,
+    error: &Option<io::Error>,
+)
+    ensures { SaysMore (E.has_failed errors.old) (E.has_failed errors.new) (E.contents errors.old) (E.contents errors.new) }
+{
+    match origin.path {
+        Some(path) if is_by_old_name(origin.task) => match old_line(alloc, path, error) {
+            Ok(line) => put(errors, line.as_str()),
+            Err(_) => say_memory(errors),
+        },
+        _ => say_unreadable(alloc, errors, origin.path, error),
     }
 }
 

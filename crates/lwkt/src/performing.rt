@@ -8,7 +8,7 @@ ghost use Rattle.lwkt.specs.Making.{IsMade, IsMadeOf, TakesScript};
 ghost use Rattle.lwkt.specs.Performing.{AnswersRead, Performs, SaysAfter, complains, order_of};
 
 use crate::checks::check;
-use crate::errors::{Origin, put, say_memory, say_unmade, say_unreadable, say_unwritten};
+use crate::errors::{Origin, put, say_memory, say_unmade, say_unread, say_unwritten};
 use crate::explores::finding_of;
 use crate::failures::Failure;
 use crate::reads::read_said;
@@ -162,7 +162,7 @@ fn say_streams<I, O, E: Sink>(
         say_memory(errors);
     }
     if source.failed {
-        say_unreadable(alloc, errors, origin.path, &source.reader.error);
+        say_unread(alloc, errors, origin, &source.reader.error);
     }
     if sink.failed {
         say_unwritten(alloc, errors, &sink.writer.error);
