@@ -43,7 +43,6 @@ function tryExample(name) {
 function tryRefusal(folder, name, call) {
   const script = readFileSync(`${examples}/${folder}/${name}.json`), isShown = call === "lwkt_show_turns";
   const got = compare(call, script, isShown ? "turns" : undefined, name);
-  if (name === "trace_in_lines") return check(/: line 2, column 1: .*lines$/.test(got.text.trim()), `${name}: ${got.text}`);
   const told = read(examples, folder, `${name}.err`), [, line, column, words] = /^lwkt: standard input:(\d+):(\d+): (.*) \(fault .*\)$/m.exec(told);
   const wanted = isShown ? told.trim() : `line ${line}, column ${column}: ${words}`;
   check(got.text.trim().endsWith(wanted), `${name}: ${got.text}wanted ${wanted}`);
