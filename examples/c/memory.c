@@ -69,10 +69,10 @@ static uint32_t make(int which, uint8_t *text, size_t room, lwkt_answer *answer)
     }
 }
 
-// The next call for memory to refuse. A search that is refused one tries 64 random orders in place of the rest, so that of its
-// thousands of calls only each seventeenth is refused once the first ones were.
+// The next call for memory to refuse. Before a search come the run in rounds and 64 random orders, with thousands of calls, of which
+// only each 61st is refused once the first ones were.
 static long next_of(int which) {
-    return refused + (which == 6 && refused > 200 ? 17 : 1);
+    return refused + (which >= 5 && refused > 200 ? 61 : 1);
 }
 
 // A call with its calls for memory refused in turn.
