@@ -7,7 +7,8 @@ use Rattle.lwkt_report.specs.declared.complaints.Program.TheVariants.{Check}
 use Rattle.lwkt_report.specs.declared.streams.RunFault.{RunFault}
 use Rattle.lwkt_report.specs.Stream.{BlamesFailed}
 use Rattle.lwkt_refusals.specs.Sayings.{HasNoReader}
-use Rattle.lwkt_checker.specs.Output.{status_of}
+use Rattle.lwkt.specs.declared.endings.Ending.{Ending}
+use Rattle.lwkt.specs.Ending.{ending_of_check}
 
 -- a line is written, or where the sink fails a front of it, and perhaps words behind it
 pub record IsSaidFirst (failed : Bool) (old new : Option (List ℕ)) (line : List ℕ) : Type 0 where
@@ -25,11 +26,11 @@ ComplainsFirst failed old new (Err fault) = IsSaidFirst failed old new (fault_li
 abbrev pub IsUnread : Bool → Option Error → Type 0
 IsUnread failed error = (failed ≡ true) × HasNoReader error
 
--- what the program does with a trace, where this is what its check says by its answer: it answers the status, and complains if it
+-- what the program does with a trace, where this is what its check says by its answer: it ends so, and complains if it
 -- can't check, but not of a reader that went away; it blames a stream only where one has failed
-pub record ChecksAloud (Telling : Option (List ℕ) → Option (List ℕ) → Option (List ℕ) → Result Bool RunFault → Type 0) (source_failed sink_failed : Bool) (left old new : Option (List ℕ)) (unread : Type 0) (failed : Bool) (before after : Option (List ℕ)) (status : ℕ) : Type 0 where
+pub record ChecksAloud (Telling : Option (List ℕ) → Option (List ℕ) → Option (List ℕ) → Result Bool RunFault → Type 0) (source_failed sink_failed : Bool) (left old new : Option (List ℕ)) (unread : Type 0) (failed : Bool) (before after : Option (List ℕ)) (ending : Ending) : Type 0 where
   pub outcome : Result Bool RunFault
   pub tells : Telling left old new outcome
   pub complains : (unread × Keeps before after) ⊎ ((unread → ⊥) × ComplainsFirst failed before after outcome)
   pub blames : BlamesFailed source_failed sink_failed outcome
-  pub is_status : status ≡ status_of outcome
+  pub is_ending : ending ≡ ending_of_check outcome

@@ -3,8 +3,10 @@ ghost use Rattle.std.specs.Prelude.{◌≡◌, ◌⊎◌, IfErr, IfOk, IsTrue, m
 ghost use Rattle.std.specs.Option.{option_copied};
 ghost use Rattle.lwkt_request.specs.Wishes.{wish_by};
 ghost use Rattle.lwkt.specs.Answering.{Does, IsByOldName, ServesBy, ServesFile, TellsMisuse, TellsPage, TellsUsage, takes_folder};
+ghost use Rattle.lwkt.specs.Ending.{OwnsThree, WantsMemory, ending_of_words};
 ghost use Rattle.lwkt.specs.Performing.{order_of};
 
+use crate::endings::Ending;
 use crate::errors::{
     Origin, is_by_old_name, put, put_lines, say_memory, say_unread, say_unwritten,
 };
@@ -14,8 +16,8 @@ use crate::performing::perform;
 use crate::written::written;
 use lwkt_refusals::Speaker;
 use lwkt_report::{
-    Complaint, NotedReader, NotedWriter, Program, ReaderSource, Sink, WriterSink, complain,
-    refusal_of,
+    Complaint, NotedReader, NotedWriter, Program, ReaderSource, Sink, WordsFault, WriterSink,
+    complain,
 };
 use lwkt_request::{Asked, Request, Search, Task, request_of};
 use std::alloc::Global;
@@ -26,12 +28,12 @@ use std::thread::Threads;
 use std::time::Clock;
 
 // Writes the usage line of `lwkt_run`, and says how it is called.
-fn misused<O: Write, E: Sink>(sink: &mut WriterSink<NotedWriter<O>>, errors: &mut E) -> u8
+fn misused<O: Write, E: Sink>(sink: &mut WriterSink<NotedWriter<O>>, errors: &mut E) -> Ending
     ensures { TellsUsage (record { old = O.contents sink.old.writer.writer; new = O.contents sink.new.writer.writer; failed = sink.new.failed; error = sink.new.writer.error; flushed = sink.new.flushed; before = E.contents errors.old; after = E.contents errors.new; lost = E.has_failed errors.new }) result }
 {
     complain(sink, Program::Run, Complaint::Usage);
     Speaker::Run.say_usage(errors);
-    1
+    Ending::Done(1)
 }
 
 // Whether this is a word of `lwkt_run`, taken for a file that isn't there.
@@ -47,7 +49,7 @@ fn perform_on_file<R: Threads + Sync + Clock + Files, O: Write, E: Sink>(
     path: &str,
     sink: &mut WriterSink<NotedWriter<O>>,
     errors: &mut E,
-) -> u8
+) -> Ending
     ensures { ServesFile request.now.task (order_of request.now) path.now (record { old = O.contents sink.old.writer.writer; new = O.contents sink.new.writer.writer; failed = sink.new.failed; error = sink.new.writer.error; flushed = sink.new.flushed; before = E.contents errors.old; after = E.contents errors.new; lost = E.has_failed errors.new }) result }
 {
     match opened(rt, path) {
@@ -64,7 +66,7 @@ fn perform_on_file<R: Threads + Sync + Clock + Files, O: Write, E: Sink>(
                 path: Some(path),
             };
             say_unread(alloc, errors, origin, &Some(error));
-            3
+            Ending::Stream
         }
     }
 }
@@ -87,7 +89,7 @@ fn done<R: Threads + Sync + Clock + Files + Alloc + Clone + Drop, I: Read, O: Wr
     source: &mut ReaderSource<NotedReader<I>>,
     sink: &mut WriterSink<NotedWriter<O>>,
     errors: &mut E,
-) -> u8
+) -> Ending
     ensures { ServesBy (wish_by request.now).path request.now.task (order_of request.now) source.new.failed (I.remaining source.old.reader.reader) (source.new ≡ source.old) (record { old = O.contents sink.old.writer.writer; new = O.contents sink.new.writer.writer; failed = sink.new.failed; error = sink.new.writer.error; flushed = sink.new.flushed; before = E.contents errors.old; after = E.contents errors.new; lost = E.has_failed errors.new }) result }
 {
     let Some(path) = &request.path else {
@@ -106,27 +108,27 @@ fn told<O: Write, E: Sink>(
     sink: &mut WriterSink<NotedWriter<O>>,
     errors: &mut E,
     text: &str,
-) -> u8
+) -> Ending
     ensures { TellsPage text.now (record { old = O.contents sink.old.writer.writer; new = O.contents sink.new.writer.writer; failed = sink.new.failed; error = sink.new.writer.error; flushed = sink.new.flushed; before = E.contents errors.old; after = E.contents errors.new; lost = E.has_failed errors.new }) result }
 {
     match written(sink, text, 0) {
-        Ok(status) => status,
+        Ok(status) => Ending::Done(status),
         Err(_) => {
             say_unwritten(alloc, errors, &sink.writer.error);
-            3
+            Ending::Stream
         }
     }
 }
 
 // Says why words ask for nothing, unless memory is refused.
-fn refused<E: Sink>(alloc: Global, errors: &mut E, text: &str) -> u8
-    ensures { (result ≡ 3) ⊎ TellsMisuse text.now (E.has_failed errors.new) (E.contents errors.old) (E.contents errors.new) result }
+fn refused<E: Sink>(alloc: Global, errors: &mut E, text: &str) -> Ending
+    ensures { WantsMemory result ⊎ TellsMisuse text.now (E.has_failed errors.new) (E.contents errors.old) (E.contents errors.new) result }
 {
     match put_lines(alloc, errors, text) {
-        Ok(()) => 1,
-        Err(_) => {
+        Ok(()) => Ending::Done(1),
+        Err(refused) => {
             say_memory(errors);
-            3
+            Ending::Memory(refused)
         }
     }
 }
@@ -139,7 +141,7 @@ fn answer_to<R: Threads + Sync + Clock + Files + Alloc + Clone + Drop, I: Read, 
     source: &mut ReaderSource<NotedReader<I>>,
     sink: &mut WriterSink<NotedWriter<O>>,
     errors: &mut E,
-) -> u8
+) -> Ending
     ensures { Does (map string_bytes words.now) source.new.failed (I.remaining source.old.reader.reader) (source.new ≡ source.old) (sink.new ≡ sink.old) (record { old = O.contents sink.old.writer.writer; new = O.contents sink.new.writer.writer; failed = sink.new.failed; error = sink.new.writer.error; flushed = sink.new.flushed; before = E.contents errors.old; after = E.contents errors.new; lost = E.has_failed errors.new }) result }
 {
     match request_of(alloc, words) {
@@ -147,45 +149,52 @@ fn answer_to<R: Threads + Sync + Clock + Files + Alloc + Clone + Drop, I: Read, 
         Ok(Asked::Tell(text)) => told(alloc, sink, errors, text.as_str()),
         Ok(Asked::Misuse(text)) => refused(alloc, errors, text.as_str()),
         Ok(Asked::OldUsage) => misused(sink, errors),
-        Err(_) => {
+        Err(refused) => {
             say_memory(errors);
-            3
+            Ending::Memory(refused)
         }
     }
 }
 
 // Says why the command line has no words: memory was refused for them, or one isn't UTF-8.
-fn unworded<E: Sink>(errors: &mut E, error: &io::Error) -> u8
-    ensures { (result ≡ 1) ⊎ (result ≡ 3) }
+fn unworded<E: Sink>(errors: &mut E, fault: WordsFault) -> Ending
+    ensures { result ≡ ending_of_words fault }
 {
-    if refusal_of(error).is_some() {
-        say_memory(errors);
-        return 3;
+    match fault {
+        WordsFault::Memory(refused) => {
+            say_memory(errors);
+            Ending::Memory(refused)
+        }
+        WordsFault::NotUtf8 => {
+            put(
+                errors,
+                "lwkt: an argument isn't UTF-8; give such a file as standard input, by < FILE\n",
+            );
+            Ending::Done(1)
+        }
     }
-    put(
-        errors,
-        "lwkt: an argument isn't UTF-8; give such a file as standard input, by < FILE\n",
-    );
-    1
 }
 
-/// Does what the words of the command line ask for, and answers the exit status.
+/// Does what the words of the command line ask for, and answers how that ended.
 ///
 /// The source is standard input, the sink standard output, and `errors` standard error. Of standard input nothing is read unless the words
 /// ask for it. If they ask for nothing, standard error gets why, and standard output nothing, but for the usage line of `lwkt_run`.
 pub fn answer<R: Threads + Sync + Clock + Files + Alloc + Clone + Drop, I: Read, O: Write, E: Sink>(
     rt: &R,
     alloc: Global,
-    words: io::Result<Vec<String>>,
+    words: Result<Vec<String>, WordsFault>,
     source: &mut ReaderSource<NotedReader<I>>,
     sink: &mut WriterSink<NotedWriter<O>>,
     errors: &mut E,
-) -> u8
+) -> Ending
     ensures does { IfOk words (λ words. Does (map string_bytes words.items) source.new.failed (I.remaining source.old.reader.reader) (source.new ≡ source.old) (sink.new ≡ sink.old) (record { old = O.contents sink.old.writer.writer; new = O.contents sink.new.writer.writer; failed = sink.new.failed; error = sink.new.writer.error; flushed = sink.new.flushed; before = E.contents errors.old; after = E.contents errors.new; lost = E.has_failed errors.new }) result) }
-    ensures unworded { IfErr words (λ error. (source.new ≡ source.old) × ((sink.new ≡ sink.old) × ((result ≡ 1) ⊎ (result ≡ 3)))) }
+    ensures unworded { IfErr words (λ fault. (source.new ≡ source.old) × ((sink.new ≡ sink.old) × (result ≡ ending_of_words fault))) }
+
+    // The exit status 3 is that of an ending for which memory was refused, or a file or a stream failed.
+    ensures three { OwnsThree result }
 {
     match words {
         Ok(words) => answer_to(rt, alloc, words.as_slice(), source, sink, errors),
-        Err(error) => unworded(errors, &error),
+        Err(fault) => unworded(errors, fault),
     }
 }

@@ -1,14 +1,16 @@
 //! Traces, checked.
 ghost use Rattle.std.specs.Prelude.{◌≡◌, ◌↔◌, ◌⊎◌, false, true, IsTrue};
 ghost use Rattle.std.specs.Io.KnownBytes.{Keeps};
-ghost use Rattle.lwkt_checker.specs.Output.{TellsFinding, status_of};
+ghost use Rattle.lwkt_checker.specs.Output.{TellsFinding};
 ghost use Rattle.lwkt_checker.specs.LineOutput.{TellsOfLines};
 ghost use Rattle.lwkt_refusals.specs.Sayings.{SaysMore};
 ghost use Rattle.lwkt.specs.Checking.{ComplainsFirst, IsUnread, ChecksAloud};
+ghost use Rattle.lwkt.specs.Ending.{ending_of_check};
 
+use crate::endings::Ending;
 use crate::errors::{say_memory, say_unreadable, say_unwritten};
 use lwkt_base::Fault;
-use lwkt_checker::{Lines, check_keeping, check_lines, say_outcome, status_of};
+use lwkt_checker::{Lines, check_keeping, check_lines, say_outcome};
 use lwkt_refusals::{has_no_reader, say_untraced, say_untraced_line};
 use lwkt_report::{NotedReader, NotedWriter, ReaderSource, RunFault, Sink, WriterSink};
 use std::alloc::Global;
@@ -96,7 +98,20 @@ fn is_unread<O>(sink: &WriterSink<NotedWriter<O>>) -> bool
     sink.failed && has_no_reader(&sink.writer.error)
 }
 
-// Says what came of a check, but nothing where nobody reads any more what is written. The answer is the exit status.
+// How a check ended.
+fn ending_of(outcome: &Result<bool, RunFault>) -> Ending
+    ensures { result ≡ ending_of_check outcome.now }
+{
+    match *outcome {
+        Ok(true) => Ending::Done(0),
+        Ok(false) => Ending::Done(4),
+        Err(RunFault::Fault(Fault::Memory(refused))) => Ending::Memory(refused),
+        Err(RunFault::Fault(_)) => Ending::Done(1),
+        Err(RunFault::Stream) => Ending::Stream,
+    }
+}
+
+// Says what came of a check, but nothing where nobody reads any more what is written. The answer is how it ended.
 fn conclude<I, O, E: Sink>(
     alloc: Global,
     errors: &mut E,
@@ -105,17 +120,17 @@ fn conclude<I, O, E: Sink>(
     given: &Given,
     source: &ReaderSource<NotedReader<I>>,
     sink: &WriterSink<NotedWriter<O>>,
-) -> u8
+) -> Ending
     ensures complains { (IsUnread sink.now.failed sink.now.writer.error × Keeps (E.contents errors.old) (E.contents errors.new)) ⊎ ((IsUnread sink.now.failed sink.now.writer.error → ⊥) × ComplainsFirst (E.has_failed errors.new) (E.contents errors.old) (E.contents errors.new) outcome.now) }
-    ensures status { result ≡ status_of outcome.now }
+    ensures ending { result ≡ ending_of_check outcome.now }
 {
     if !is_unread(sink) {
         say_all(alloc, errors, path, outcome, given, source, sink);
     }
-    status_of(outcome)
+    ending_of(outcome)
 }
 
-/// Checks a trace, in lines or not: writes what is found, and answers the exit status. Where errors go, the line of a fault stands if
+/// Checks a trace, in lines or not: writes what is found, and answers how that ended. Where errors go, the line of a fault stands if
 /// nothing is found, and behind it why: the part of the trace that is refused, with its place, or how a stream failed. If nobody
 /// reads any more what is written, nothing goes there.
 pub fn check<I: Read, O: Write, E: Sink>(
@@ -125,7 +140,7 @@ pub fn check<I: Read, O: Write, E: Sink>(
     source: &mut ReaderSource<NotedReader<I>>,
     sink: &mut WriterSink<NotedWriter<O>>,
     errors: &mut E,
-) -> u8
+) -> Ending
     ensures whole { by_lines ≡ false → ChecksAloud TellsFinding source.new.failed sink.new.failed (I.remaining source.old.reader.reader) (O.contents sink.old.writer.writer) (O.contents sink.new.writer.writer) (IsUnread sink.new.failed sink.new.writer.error) (E.has_failed errors.new) (E.contents errors.old) (E.contents errors.new) result }
     ensures lines { by_lines ≡ true → ChecksAloud TellsOfLines source.new.failed sink.new.failed (I.remaining source.old.reader.reader) (O.contents sink.old.writer.writer) (O.contents sink.new.writer.writer) (IsUnread sink.new.failed sink.new.writer.error) (E.has_failed errors.new) (E.contents errors.old) (E.contents errors.new) result }
 {

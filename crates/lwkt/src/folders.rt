@@ -1,16 +1,20 @@
 //! All scripts of a folder, each performed.
-ghost use Rattle.std.specs.Prelude.{◌≡◌, ◌≢◌, ◌≤◌, ◌<◌, IfOk, OnOk, [], false, length, true};
+ghost use Rattle.std.specs.Prelude.{◌≡◌, ◌≤◌, ◌<◌, IfOk, OnOk, false, length, string_bytes, true};
 ghost use Rattle.lwkt_refusals.specs.Sayings.{SaysMore};
 ghost use Rattle.lwkt_report.specs.Complaint.{IsSaid};
 ghost use Rattle.lwkt.specs.Counting.{Counts, HaveFailed, HavePassed, count_line};
+ghost use Rattle.lwkt.specs.Ending.{HasFailed};
 
+use crate::endings::Ending;
 use crate::errors::{put, put_bytes, say_memory, say_unreadable, say_unwritten};
 use crate::files::{opened, source_of};
 use crate::performing::perform;
+use lwkt_base::memory::{extend_from_slice, from_str, push, sort};
+use lwkt_base::{OutOfMemory, memory};
 use lwkt_refusals::say_of_file;
 use lwkt_report::{NotedWriter, Sink, WriterSink, escaped};
 use lwkt_request::Request;
-use std::alloc::{AllocError, Global};
+use std::alloc::Global;
 use std::fs::Files;
 use std::io::Write;
 use std::thread::Threads;
@@ -22,29 +26,65 @@ fn is_script(name: &str) -> bool {
     name.ends_with(".lwkt") || name.ends_with(".json")
 }
 
+// Why the names of a folder aren't told.
+#[derive(Drop)]
+enum Unlisted {
+    // Memory for them was refused.
+    Memory(OutOfMemory),
+    // The folder can't be read.
+    Folder(io::Error),
+}
+
+impl From<OutOfMemory> for Unlisted {
+    fn from(refused: OutOfMemory) -> Unlisted {
+        Unlisted::Memory(refused)
+    }
+}
+
+impl From<io::Error> for Unlisted {
+    fn from(error: io::Error) -> Unlisted {
+        Unlisted::Folder(error)
+    }
+}
+
 // The names of the scripts of a folder, in order.
 fn names_in<R: Files + Alloc + Clone + Drop>(
     rt: &R,
     alloc: Global,
     folder: &str,
-) -> io::Result<Vec<String>> {
+) -> Result<Vec<String>, Unlisted> {
     let mut names = Vec::new(alloc);
     for entry in fs::read_dir(rt, folder)? {
         let entry = entry?;
         let name = entry.file_name();
         if is_script(name) {
-            let name = String::from_str(alloc, name)?;
-            names.push(name).map_err(AllocError::from)?;
+            push(&mut names, from_str(alloc, name)?)?;
         }
     }
-    names.sort()?;
+    sort(&mut names)?;
     Ok(names)
 }
 
-// What a try of one file came to: its status, and all that it wrote and said, if memory for it was there.
+// Says why the names of a folder aren't told.
+fn say_unlisted<E: Sink>(alloc: Global, errors: &mut E, folder: &str, why: Unlisted) -> Ending
+    ensures { HasFailed result }
+{
+    match why {
+        Unlisted::Memory(refused) => {
+            say_memory(errors);
+            Ending::Memory(refused)
+        }
+        Unlisted::Folder(error) => {
+            say_unreadable(alloc, errors, Some(folder), &Some(error));
+            Ending::Stream
+        }
+    }
+}
+
+// What a try of one file came to: how it ended, and all that it wrote and said, if memory for it was there.
 #[derive(Drop)]
-struct Ending {
-    status: u8,
+struct Try {
+    ending: Ending,
     said: Vec<u8>,
 }
 
@@ -54,10 +94,10 @@ fn tried<R: Threads + Sync + Clock + Files>(
     alloc: Global,
     request: &Request,
     path: &str,
-) -> Ending {
+) -> Try {
     let mut sink = WriterSink::new(NotedWriter::new(Vec::new(alloc)));
     let mut errors = WriterSink::new(Vec::new(alloc));
-    let status = match opened(rt, path) {
+    let ending = match opened(rt, path) {
         Ok(file) => {
             let mut source = source_of(file);
             perform(
@@ -72,12 +112,12 @@ fn tried<R: Threads + Sync + Clock + Files>(
         }
         Err(error) => {
             say_unreadable(alloc, &mut errors, Some(path), &Some(error));
-            3
+            Ending::Stream
         }
     };
     let mut said = sink.writer.writer;
-    let _ = said.extend_from_slice(errors.writer.as_slice());
-    Ending { status, said }
+    let _ = extend_from_slice(&mut said, errors.writer.as_slice());
+    Try { ending, said }
 }
 
 // Tries one file, and writes what it said if it fails. The answer is whether it passed.
@@ -88,17 +128,19 @@ fn try_one<R: Threads + Sync + Clock + Files, O: Write>(
     folder: &str,
     name: &str,
     sink: &mut WriterSink<NotedWriter<O>>,
-) -> Result<bool, AllocError>
+) -> Result<bool, OutOfMemory>
     ensures quiet { IfOk result (λ passed. passed ≡ true → sink.new ≡ sink.old) }
     ensures more { SaysMore sink.old.failed sink.new.failed (O.contents sink.old.writer.writer) (O.contents sink.new.writer.writer) }
 {
-    let path = format!(in alloc; "{folder}/{name}")?;
-    let Ending { status, said } = tried(rt, alloc, request, path.as_str());
+    let mut path = String::new(alloc);
+    memory::put(&mut path, (folder, "/", name))?;
+    let Try { ending, said } = tried(rt, alloc, request, path.as_str());
+    let status = ending.status();
     if status == 0 {
         return Ok(true);
     }
-    let shown = escaped(alloc, name)?;
-    let head = format!(in alloc; "{shown}: status {status}\n")?;
+    let mut head = escaped(alloc, name)?;
+    memory::put(&mut head, (": status ", status, "\n"))?;
     put(sink, head.as_str());
     put_bytes(sink, said.as_slice());
     Ok(false)
@@ -112,7 +154,7 @@ fn tried_all<R: Threads + Sync + Clock + Files, O: Write>(
     folder: &str,
     names: &[String],
     sink: &mut WriterSink<NotedWriter<O>>,
-) -> Result<usize, AllocError>
+) -> Result<usize, OutOfMemory>
     ensures within { IfOk result (λ failed. failed ≤ length names.now) }
     ensures quiet { IfOk result (λ failed. failed ≡ 0 → sink.new ≡ sink.old) }
     ensures more { SaysMore sink.old.failed sink.new.failed (O.contents sink.old.writer.writer) (O.contents sink.new.writer.writer) }
@@ -126,17 +168,26 @@ fn tried_all<R: Threads + Sync + Clock + Files, O: Write>(
     Ok(failed)
 }
 
+// How many passed, and how many failed.
+fn count_line(alloc: Global, passed: usize, failed: usize) -> Result<String, OutOfMemory>
+    ensures { IfOk result (λ line. string_bytes line ≡ count_line passed failed) }
+{
+    let mut line = String::new(alloc);
+    memory::put(&mut line, (passed, " passed, ", failed, " failed\n"))?;
+    Ok(line)
+}
+
 // Writes how many passed, and how many failed.
 fn put_count<K: Sink>(
     alloc: Global,
     sink: &mut K,
     passed: usize,
     failed: usize,
-) -> Result<(), AllocError>
+) -> Result<(), OutOfMemory>
     ensures said { OnOk result (IsSaid (K.has_failed sink.new) (K.contents sink.old) (K.contents sink.new) (count_line passed failed)) }
     ensures stays { K.has_failed sink.new ≡ false → K.has_failed sink.old ≡ false }
 {
-    let line = format!(in alloc; "{passed} passed, {failed} failed\n")?;
+    let line = count_line(alloc, passed, failed)?;
     put(sink, line.as_str());
     Ok(())
 }
@@ -149,9 +200,9 @@ fn counted<R: Threads + Sync + Clock + Files, O: Write>(
     folder: &str,
     names: &[String],
     sink: &mut WriterSink<NotedWriter<O>>,
-) -> Result<usize, AllocError>
-    ensures passed { names.now ≢ [] → sink.new.failed ≡ false → IfOk result (λ failed. failed ≡ 0 → HavePassed (O.contents sink.old.writer.writer) (O.contents sink.new.writer.writer)) }
-    ensures failed { sink.new.failed ≡ false → IfOk result (λ failed. 0 < failed → HaveFailed (O.contents sink.old.writer.writer) (O.contents sink.new.writer.writer)) }
+) -> Result<usize, OutOfMemory>
+    ensures passed { sink.new.failed ≡ false → IfOk result (λ failed. failed ≡ 0 → HavePassed (length names.now) (O.contents sink.old.writer.writer) (O.contents sink.new.writer.writer)) }
+    ensures failed { sink.new.failed ≡ false → IfOk result (λ failed. 0 < failed → HaveFailed (length names.now) (O.contents sink.old.writer.writer) (O.contents sink.new.writer.writer)) }
 {
     let failed = tried_all(rt, alloc, request, folder, names, sink)?;
     put_count(alloc, sink, names.len() - failed, failed)?;
@@ -161,7 +212,7 @@ fn counted<R: Threads + Sync + Clock + Files, O: Write>(
 /// Performs a request on each `.lwkt` and `.json` file of a folder, by name. Of those whose status isn't 0, the name, the status and all
 /// that was written stands on the sink; in the end how many passed and failed.
 ///
-/// The status: 0 if all passed and all was written, 5 if not all passed, 1 if there is no file to try, 3 if the folder can't be
+/// It ends with status 0 if all passed and all was written, 5 if not all passed, and 1 if there is no file to try; or the folder can't be
 /// read, memory was refused or a stream failed.
 pub fn perform_all<R: Threads + Sync + Clock + Files + Alloc + Clone + Drop, O: Write, E: Sink>(
     rt: &R,
@@ -170,15 +221,12 @@ pub fn perform_all<R: Threads + Sync + Clock + Files + Alloc + Clone + Drop, O: 
     folder: &str,
     sink: &mut WriterSink<NotedWriter<O>>,
     errors: &mut E,
-) -> u8
+) -> Ending
     ensures { Counts sink.new.failed (O.contents sink.old.writer.writer) (O.contents sink.new.writer.writer) result }
 {
     let names = match names_in(rt, alloc, folder) {
         Ok(names) => names,
-        Err(error) => {
-            say_unreadable(alloc, errors, Some(folder), &Some(error));
-            return 3;
-        }
+        Err(why) => return say_unlisted(alloc, errors, folder, why),
     };
     if names.is_empty() {
         say_of_file(
@@ -187,15 +235,18 @@ pub fn perform_all<R: Threads + Sync + Clock + Files + Alloc + Clone + Drop, O: 
             Some(folder),
             "no file there ends in .lwkt or .json",
         );
-        return 1;
+        return Ending::Done(1);
     }
-    let Ok(failed) = counted(rt, alloc, request, folder, names.as_slice(), sink) else {
-        say_memory(errors);
-        return 3;
+    let failed = match counted(rt, alloc, request, folder, names.as_slice(), sink) {
+        Ok(failed) => failed,
+        Err(refused) => {
+            say_memory(errors);
+            return Ending::Memory(refused);
+        }
     };
     if sink.failed {
         say_unwritten(alloc, errors, &sink.writer.error);
-        return 3;
+        return Ending::Stream;
     }
-    if failed == 0 { 0 } else { 5 }
+    Ending::Done(if failed == 0 { 0 } else { 5 })
 }

@@ -3,11 +3,12 @@ ghost use Rattle.std.specs.Prelude.{◌≡◌, ◌⊎◌, Err, IfErr, IfOk, IsTr
 ghost use Rattle.std.specs.Option.{option_copied};
 ghost use Rattle.lwkt_text.specs.Inputs.{input_of};
 ghost use Rattle.lwkt.specs.Answering.{Serves};
-ghost use Rattle.lwkt.specs.Failing.{Declines, IsFailureOf, status_of};
+ghost use Rattle.lwkt.specs.Failing.{Declines, IsFailureOf, ending_of};
 ghost use Rattle.lwkt.specs.Making.{IsMade, IsMadeOf, TakesScript};
 ghost use Rattle.lwkt.specs.Performing.{AnswersRead, Performs, SaysAfter, complains, order_of};
 
 use crate::checks::check;
+use crate::endings::Ending;
 use crate::errors::{Origin, put, say_memory, say_unmade, say_unread, say_unwritten};
 use crate::explores::finding_of;
 use crate::failures::Failure;
@@ -137,15 +138,16 @@ fn complain_of<K: Sink>(task: Task, sink: &mut K, answer: &Result<u8, Failure>)
     }
 }
 
-// The exit status.
-fn status_of(answer: &Result<u8, Failure>) -> u8
-    ensures { result ≡ status_of answer.now }
+// How the program ends by an answer.
+fn ending_of(answer: &Result<u8, Failure>) -> Ending
+    ensures { result ≡ ending_of answer.now }
 {
     match *answer {
-        Ok(status) => status,
-        Err(Failure::Fault(Fault::Memory(_))) | Err(Failure::Stream) => 3,
-        Err(Failure::Fault(Fault::Unlawful { .. })) => 4,
-        Err(_) => 1,
+        Ok(status) => Ending::Done(status),
+        Err(Failure::Fault(Fault::Memory(refused))) => Ending::Memory(refused),
+        Err(Failure::Stream) => Ending::Stream,
+        Err(Failure::Fault(Fault::Unlawful { .. })) => Ending::Done(4),
+        Err(_) => Ending::Done(1),
     }
 }
 
@@ -169,7 +171,7 @@ fn say_streams<I, O, E: Sink>(
     }
 }
 
-// Performs a task that takes a script, and answers the exit status.
+// Performs a task that takes a script, and answers how that ended.
 fn perform_on_script<R: Threads + Sync + Clock, I: Read, O: Write, E: Sink>(
     rt: &R,
     alloc: Global,
@@ -178,16 +180,16 @@ fn perform_on_script<R: Threads + Sync + Clock, I: Read, O: Write, E: Sink>(
     source: &mut ReaderSource<NotedReader<I>>,
     sink: &mut WriterSink<NotedWriter<O>>,
     errors: &mut E,
-) -> u8
+) -> Ending
     requires { TakesScript origin.task }
     ensures performs { Performs origin.entry.task (option_copied order.entry) (option_copied origin.entry.path) source.new.failed sink.new.failed (IsTrue sink.new.flushed) (I.remaining source.old.reader.reader) (O.contents sink.old.writer.writer) (O.contents sink.new.writer.writer) result }
-    ensures failed_source { source.old.failed ≡ false → IsTrue source.new.failed → result ≡ 3 }
-    ensures failed_sink { complains origin.entry.task ≡ false → sink.old.failed ≡ false → IsTrue sink.new.failed → result ≡ 3 }
+    ensures failed_source { source.old.failed ≡ false → IsTrue source.new.failed → result ≡ Ending.Stream }
+    ensures failed_sink { complains origin.entry.task ≡ false → sink.old.failed ≡ false → IsTrue sink.new.failed → result ≡ Ending.Stream }
 {
     let answer = answered(rt, alloc, origin, order, source, sink, errors);
     complain_of(origin.task, sink, &answer);
     say_streams(alloc, errors, origin, &answer, source, sink);
-    status_of(&answer)
+    ending_of(&answer)
 }
 
 // The order that a request names.
@@ -200,11 +202,11 @@ fn order_of(request: &Request) -> Option<&[u8]>
     }
 }
 
-/// Performs a request: reads all that is left of the source, writes what the task makes of it, and answers the exit status.
+/// Performs a request: reads all that is left of the source, writes what the task makes of it, and answers how that ended.
 ///
 /// A script is read in JSON or as a text, by the name of its file too. What is made of it is whole in memory before its first byte is
-/// written, and its status stands if all is written. Else the status is 1 if the input, its opening or its order is refused, if the run ended
-/// before the range that is shown, or if a form of the script is too long; 3 if memory is refused or a stream failed; 4 if a run along an
+/// written, and its status stands if all is written. Else memory was refused or a stream failed; or the status is 1 if the input, its opening
+/// or its order is refused, if the run ended before the range that is shown, or if a form of the script is too long, and 4 if a run along an
 /// order isn't lawful. By the name `lwkt_run` the line of the fault stands on the sink then.
 ///
 /// `errors` gets why nothing is written, and of each thing that a text expects whether it holds.
@@ -216,13 +218,13 @@ pub fn perform<R: Threads + Sync + Clock, I: Read, O: Write, E: Sink>(
     source: &mut ReaderSource<NotedReader<I>>,
     sink: &mut WriterSink<NotedWriter<O>>,
     errors: &mut E,
-) -> u8
-    // What is written, and the status.
+) -> Ending
+    // What is written, and how that ended.
     ensures serves { Serves request.now.task (order_of request.now) (option_copied name.entry) source.new.failed (I.remaining source.old.reader.reader) (record { old = O.contents sink.old.writer.writer; new = O.contents sink.new.writer.writer; failed = sink.new.failed; error = sink.new.writer.error; flushed = sink.new.flushed; before = E.contents errors.old; after = E.contents errors.new; lost = E.has_failed errors.new }) result }
 
-    // A stream that fails is told by the status.
-    ensures failed_source { TakesScript request.now.task → source.old.failed ≡ false → IsTrue source.new.failed → result ≡ 3 }
-    ensures failed_sink { TakesScript request.now.task → complains request.now.task ≡ false → sink.old.failed ≡ false → IsTrue sink.new.failed → result ≡ 3 }
+    // A stream that fails is told.
+    ensures failed_source { TakesScript request.now.task → source.old.failed ≡ false → IsTrue source.new.failed → result ≡ Ending.Stream }
+    ensures failed_sink { TakesScript request.now.task → complains request.now.task ≡ false → sink.old.failed ≡ false → IsTrue sink.new.failed → result ≡ Ending.Stream }
 {
     let origin = Origin {
         task: request.task,

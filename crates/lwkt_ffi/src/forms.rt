@@ -6,6 +6,7 @@ use crate::answers::{LwktAnswer, status_of_fault};
 use crate::fronts::{blank, fill};
 use crate::readings::read_onto;
 use lwkt_base::Fault;
+use lwkt_base::memory::extend_from_slice;
 use lwkt_refusals::Speaker;
 use lwkt_report::{Page, write_whole};
 use lwkt_text::{Unsaid, is_text, json_of};
@@ -56,10 +57,7 @@ fn json_onto(alloc: Global, text: &[u8], page: &mut Page) -> Result<(), Fault>
 {
     let mut errors = blank(alloc);
     match json_of_text(alloc, text, &mut errors) {
-        Ok(json) => match page.text.extend_from_slice(json.as_bytes()) {
-            Ok(()) => Ok(()),
-            Err(refused) => Err(Fault::Memory(refused)),
-        },
+        Ok(json) => Ok(extend_from_slice(&mut page.text, json.as_bytes())?),
         Err(fault) => {
             *page = errors;
             Err(fault)

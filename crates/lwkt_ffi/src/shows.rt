@@ -13,13 +13,14 @@ use crate::arguments::options_of;
 use crate::fronts::{blank, fill};
 use crate::readings::input_onto;
 use crate::words::words_of;
-use lwkt_base::Fault;
+use lwkt_base::memory::extend_from_slice;
+use lwkt_base::{Fault, OutOfMemory};
 use lwkt_refusals::{Speaker, say_opening};
 use lwkt_report::{Page, write_whole};
 use lwkt_run::End;
 use lwkt_show::{Options, Shown, show_script};
 use lwkt_text::Input;
-use std::alloc::{AllocError, Global};
+use std::alloc::Global;
 
 // What is said where the arguments are none of the call's.
 const USAGE: &str =
@@ -43,7 +44,7 @@ pub enum Showing {
 }
 
 // The words of the arguments, if they are UTF-8.
-fn words_read(alloc: Global, arguments: &[u8]) -> Result<Option<Vec<String>>, AllocError>
+fn words_read(alloc: Global, arguments: &[u8]) -> Result<Option<Vec<String>>, OutOfMemory>
     ensures some { IfOk result (λ found. IfSome found (λ words. map string_bytes words.items ≡ words_in arguments.now)) }
     ensures valid { IfOk result (λ found. IfSome found (λ words. IsUtf8 arguments.now)) }
     ensures none { IfOk result (λ found. found ≡ None → ¬ IsUtf8 arguments.now) }
@@ -51,10 +52,7 @@ fn words_read(alloc: Global, arguments: &[u8]) -> Result<Option<Vec<String>>, Al
     let Ok(text) = str::from_utf8(arguments) else {
         return Ok(None);
     };
-    match words_of(alloc, text) {
-        Ok(words) => Ok(Some(words)),
-        Err(refused) => Err(refused),
-    }
+    Ok(Some(words_of(alloc, text)?))
 }
 
 // Says why a script that was read of these bytes isn't run.
@@ -118,7 +116,7 @@ fn shown_onto(
         }
         Err(fault) => return Err(fault),
     };
-    match page.text.extend_from_slice(text.as_bytes()) {
+    match extend_from_slice(&mut page.text, text.as_bytes()) {
         Ok(()) => Ok(Showing::Shown(end)),
         Err(refused) => {
             Speaker::Show.say_memory(errors);
@@ -157,7 +155,7 @@ fn refused(page: &mut Page) -> Result<Showing, Fault>
 }
 
 // Says on a page that there was no memory for the arguments.
-fn unread(page: &mut Page, refused: AllocError) -> Result<Showing, Fault>
+fn unread(page: &mut Page, refused: OutOfMemory) -> Result<Showing, Fault>
     ensures { result ≡ Err no_memory }
 {
     Speaker::Show.say_memory(page);

@@ -12,7 +12,7 @@ use Rattle.lwkt_threads.proofs.machines.drive_parts.Goals as goal
 pub drive_on_threads-requires-clause-at : goal.drive_on_threads-requires-clause-at
 drive_on_threads-requires-clause-at g c κs within =
     let F : List (Driven Scripted) → Type 0 = λ xs. AllZip IsUndriven c.args.cpus.items xs in
-    fresh_at (id_of c.args.bank.now) c.args.book.now c.args.cpus.items c.deref_mut.result.now (subst F (sym c.deref_mut.ensures.value) c.in_ok-all.ensures.ok) c.requires.of
+    fresh_at (id_of c.args.bank.now) c.args.book.now c.args.cpus.items c.deref_mut.result.now (subst F (sym c.deref_mut.ensures.value) c.in_ok-all.ensures) c.requires.of
 
 pub returns-clause-ok : goal.returns-clause-ok
 returns-clause-ok g c =
@@ -24,7 +24,7 @@ returns-clause-ok g c =
     let same : xs ≡ news = take_at news (drop (length news) items) c.in_ok-all.all.len long in
     let F : List (Driven Scripted) → Type 0 = λ ds. AllZip IsUndriven c.args.cpus.items ds in
     let A : List (Driven Scripted) → Type 0 = λ ds. All (λ (d : Driven Scripted). IsAmple d.ending) ds in
-    apart_driven (g.G.Gate.answers c.args.gate.now) c.args.limits.now (id_of c.args.bank.now) c.args.book.now c.args.cpus.items olds news (λ x. x.cpus.items) (λ x. x.traces.items) c.take_apart.result xs same c.take_apart.ensures.cpus c.take_apart.ensures.traces (subst F (sym c.deref_mut.ensures.value) c.in_ok-all.ensures.ok) c.drive_on_threads.ensures.driven (subst A (c.deref.ensures.value ∙ same) (c.refusal_among.ensures.0 c.in_default.is))
+    apart_driven (g.G.Gate.answers c.args.gate.now) c.args.limits.now (id_of c.args.bank.now) c.args.book.now c.args.cpus.items olds news (λ x. x.cpus.items) (λ x. x.traces.items) c.take_apart.result xs same c.take_apart.ensures.cpus c.take_apart.ensures.traces (subst F (sym c.deref_mut.ensures.value) c.in_ok-all.ensures) c.drive_on_threads.ensures.driven (subst A (c.deref.ensures.value ∙ same) (c.refusal_among.ensures.0 c.in_default.is))
 
 pub returns-clause-at : goal.returns-clause-at
 returns-clause-at g c =

@@ -1,0 +1,3 @@
+pub mod Step
+pub mod Text
+pub mod Apart
