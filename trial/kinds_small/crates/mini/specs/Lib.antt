@@ -1,3 +1,0 @@
-pub mod Step
-pub mod Text
-pub mod Apart
