@@ -7,8 +7,7 @@ ghost use Rattle.lwkt_layer_tests.specs.Desks.{Sits, MayGive};
 use lwkt_bank::laws::{calls_change_holdings, references_are_counted};
 use lwkt_bank::{Bank, Closed, CpuSeat, Given, Try};
 use lwkt_base::list_laws::{acquiring_adds, lists_are_held, releasing_removes};
-use lwkt_base::memory::collect;
-use lwkt_base::{Blob, Fault, Mode, OutOfMemory, Ref, Section, TokId, TokList, TokSpec};
+use lwkt_base::{Blob, Fault, Mode, OutOfMemory, Ref, Section, TokId, TokList, TokSpec, memory};
 use std::alloc::Global;
 
 /// The token of the tables.
@@ -294,17 +293,22 @@ pub fn play_lines(bank: &Bank, desks: &mut Vec<ListedSeat>, lines: &[Line]) -> b
 fn desks_of(alloc: Global, seats: Vec<CpuSeat>) -> Result<Vec<ListedSeat>, OutOfMemory>
     ensures { IfOk result (λ desks. desks.items ≡ map (λ s. record { seat = s; refs = [] }) seats.items) }
 {
-    let desks = seats.into_iter().map(|seat| ListedSeat {
-        seat,
-        refs: TokList::new(),
-    });
-    collect(alloc, desks)
+    let mut desks = Vec::new(alloc);
+    for seat in seats {
+        let refs = TokList::new();
+        memory::push(&mut desks, ListedSeat { seat, refs })?;
+    }
+    Ok(desks)
 }
 
 fn seats_of(alloc: Global, desks: Vec<ListedSeat>) -> Result<Vec<CpuSeat>, OutOfMemory>
     ensures { IfOk result (λ seats. seats.items ≡ map (λ d. d.seat) desks.items) }
 {
-    collect(alloc, desks.into_iter().map(|desk| desk.seat))
+    let mut seats = Vec::new(alloc);
+    for desk in desks {
+        memory::push(&mut seats, desk.seat)?;
+    }
+    Ok(seats)
 }
 
 fn are_empty(desks: &[ListedSeat]) -> bool

@@ -1,15 +1,15 @@
 //! A book and the ports of two processors, and tables of calls on them.
-ghost use Rattle.std.specs.Prelude.{◌≡◌, ℕ, ◌+◌, ◌≤◌, length, map, vec_len, vec_capacity, IfOk, IfSome};
-ghost use Rattle.lwkt_base.specs.declared.openings.MsgSpec.{MsgSpec};
+ghost use Rattle.std.specs.Prelude.{◌≡◌, ℕ, ◌+◌, ◌≤◌, length, vec_len, vec_capacity, IfOk, IfSome};
 ghost use Rattle.lwkt_msg.specs.Desks.{AreSeats, IsOpened, desk_cpu};
 ghost use Rattle.lwkt_layer_tests.specs.Stations.{AreOverSeat};
 
-use lwkt_base::memory::{collect, with_capacity};
-use lwkt_base::{Call, CpuId, Fault, Flags, Item, MsgId, MsgSpec, OutOfMemory, Rec, ThreadId};
+use lwkt_base::memory::with_capacity;
+use lwkt_base::{Call, CpuId, Fault, Flags, Item, MsgId, MsgSpec, Rec, ThreadId};
 use lwkt_core::Event;
 use lwkt_lane::{Lanes, open_lanes};
 use lwkt_msg::{MsgBook, MsgSeat};
 use lwkt_port::Ports;
+use lwkt_seating::origins_of;
 use std::alloc::Global;
 
 /// Leave for nothing.
@@ -152,13 +152,6 @@ pub fn play(
         },
         other => send(book, ports, messages, other, &mut trace),
     })
-}
-
-// The threads that messages belong to.
-fn origins_of(alloc: Global, specs: &[MsgSpec]) -> Result<Vec<ThreadId>, OutOfMemory>
-    ensures { IfOk result (λ v. v.items ≡ map (λ (spec : MsgSpec). spec.origin) specs.now) }
-{
-    collect(alloc, specs.iter().map(|spec| spec.origin))
 }
 
 /// The ports of the last processor whose lanes are left, over its seat, for so many threads.

@@ -1,49 +1,8 @@
-//! Lists and words, and the numbers and messages of faults.
+//! A message word, and the numbers and messages of faults.
 
-use crate::fixtures::{cells, goes};
 use lwkt_base::memory::{MOST_ROOM, with_capacity};
-use lwkt_base::{CpuId, Fault, Mode, MsgState, MsgWord, OutOfMemory, Ref, TokId, TokList};
+use lwkt_base::{CpuId, Fault, MsgState, MsgWord, OutOfMemory};
 use std::alloc::Global;
-
-const FIRST: Ref = Ref {
-    tok: TokId(0),
-    mode: Mode::Exclusive,
-};
-
-const SECOND: Ref = Ref {
-    tok: TokId(1),
-    mode: Mode::Exclusive,
-};
-
-// Whether the last reference of a list goes first.
-fn is_released_in_order() -> bool {
-    let mut list = TokList::new();
-    let pushed = list.push(FIRST).is_ok() && list.push(SECOND).is_ok();
-    let refused = list.pop(FIRST.tok) == Err(Fault::NotLast);
-    pushed && refused && list.refs() == [FIRST, SECOND].as_slice()
-}
-
-#[test]
-fn release_order(rt: HostRuntime) {
-    assert!(rt; is_released_in_order());
-}
-
-// Whether a list takes 32 references, and no more.
-fn is_full_at_32() -> bool {
-    let mut list = TokList::new();
-    let mut pushed = 0usize;
-    for _ in 0..40 {
-        if list.push(FIRST).is_ok() {
-            pushed = pushed.wrapping_add(1);
-        }
-    }
-    pushed == 32 && list.push(FIRST) == Err(Fault::ListFull)
-}
-
-#[test]
-fn full_lane(rt: HostRuntime) {
-    assert!(rt; is_full_at_32());
-}
 
 // A message on its way from processor 0 to processor 1, in its first round.
 const OUT: MsgWord = MsgWord {
@@ -140,15 +99,4 @@ fn faults(rt: HostRuntime) {
     let refused = want_of_memory(rt.alloc()).expect(&rt, "refused");
     let memory = Fault::Memory(refused);
     assert!(rt; is_said(rt.alloc(), memory, 32, "out of memory"));
-}
-
-// Whether a copy of cells has their values.
-fn are_copied(alloc: Global) -> Result<bool, Fault> {
-    let copy = cells(alloc, &[5, 7])?.try_clone(alloc)?;
-    Ok(copy.as_slice() == [5, 7].as_slice())
-}
-
-#[test]
-fn rows_of_cells(rt: HostRuntime) {
-    assert!(rt; goes(rt.alloc(), are_copied));
 }
