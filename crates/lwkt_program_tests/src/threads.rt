@@ -1,10 +1,11 @@
 //! Runs on threads through gates: how they end, and their output.
 
 use crate::gates::{Kind, Watch};
-use lwkt_base::{CpuId, Fault, ThreadState};
+use lwkt_base::memory::from_str;
+use lwkt_base::{CpuId, Fault, OutOfMemory, ThreadState};
 use lwkt_machine::Machine;
 use lwkt_report::Page;
-use lwkt_run::{End, RunFault, run_threads_gated};
+use lwkt_run::{End, RunFault, run_program, run_threads_gated};
 use lwkt_script::read_script;
 use lwkt_threads::{Limits, Outcome, drive_machine_on_threads};
 use std::alloc::Global;
@@ -191,5 +192,37 @@ fn few_threads_are_shared(rt: HostRuntime) {
     for (row, states) in rows {
         let left = leaves_on_few(&rt, rt.alloc(), row, states);
         assert!(rt; left == Ok(true));
+    }
+}
+
+const CUT_OFF: Reported = Reported(b"{\"version\":1,\"turns\":5", b"lwkt_run: fault 33 at 0\n");
+
+const NO_MODE: Reported = Reported(b"", b"lwkt_run: turns or threads\n");
+
+// Whether the whole program, asked by this word, ends so and writes this.
+fn writes<R: Threads + Sync>(
+    rt: &R,
+    alloc: Global,
+    word: &str,
+    row: Reported,
+    status: u8,
+) -> Result<bool, OutOfMemory> {
+    let words = [from_str(alloc, word)?];
+    let mut source = row.0;
+    let mut page = Page::with_room(alloc, 4096)?;
+    let ended = run_program(rt, alloc, &words, &mut source, &mut page);
+    Ok(ended == status && page.text.as_slice() == row.1)
+}
+
+#[test]
+fn whole_runs(rt: HostRuntime) {
+    let rows = [
+        ("threads", FOUR_PROCESSORS_TALLY, 0),
+        ("threads", CALLS_THAT_WAIT, 2),
+        ("turns", CUT_OFF, 1),
+        ("rounds", NO_MODE, 1),
+    ];
+    for (word, row, status) in rows {
+        assert!(rt; writes(&rt, rt.alloc(), word, row, status) == Ok(true));
     }
 }
