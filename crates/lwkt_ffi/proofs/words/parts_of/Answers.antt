@@ -1,4 +1,4 @@
-use Rattle.std.proofs.Common.{◌≡◌, List, Option, Result, Ok, Err, IfOk, Vec, length, true, lit<, subst}
+use Rattle.std.proofs.Common.{◌≡◌, Option, Result, Ok, Err, IfOk, Vec, length, true, lit<, subst}
 use Rattle.std.proofs.lemmas.Iterator.{IsCollectResult}
 use Rattle.std.proofs.lemmas.Iterator.Consumers.{map_from_collect}
 use Rattle.std.proofs.lemmas.Iterator.Splits.{YieldsList-from_str_split}
