@@ -30,7 +30,7 @@ use Rattle.lwkt.specs.declared.endings.Ending.{Ending}
 use Rattle.lwkt.specs.declared.endings.Ending.TheVariants.{Done, Memory, Stream}
 use Rattle.lwkt.specs.declared.failures.Failure.{Failure}
 use Rattle.lwkt.specs.declared.failures.Failure.TheVariants as failures
-use Rattle.lwkt.specs.Answering.{Does, DoesAsked, Serves, ServesBy, ServesFile, ServesNamed, Streams, takes_folder}
+use Rattle.lwkt.specs.Answering.{Does, DoesAsked, Serves, ServesBy, ServesFile, ServesNamed, Streams, names_old_check, takes_folder}
 use Rattle.lwkt.specs.Counting.{Counts}
 use Rattle.lwkt.specs.Ending.{HasFailed, OwnsThree, WantsMemory, ending_of_check, ending_of_words}
 use Rattle.lwkt.specs.Failing.{ending_of, ending_of_fault}
@@ -132,18 +132,18 @@ by_check (Err (run.Fault (refusals.Memory refused))) = λ three. tt
 by_check (Err (run.Fault _)) = λ three. no_1 three
 by_check (Err run.Stream) = λ three. tt
 
-by_serves : (task : Task) (order name : Option (List ℕ)) (source : Bool) (left : Option (List ℕ)) (s : Streams) (ending : Ending) → Serves task order name source left s ending → OwnsThree ending
-by_serves (Run on_threads by_old_name) order name source left s ending serves = by_performs (Run on_threads by_old_name) order name source s.failed (IsTrue s.flushed) left s.old s.new ending (serves.performs tt)
-by_serves (Show on_threads options) order name source left s ending serves = by_performs (Show on_threads options) order name source s.failed (IsTrue s.flushed) left s.old s.new ending (serves.performs tt)
-by_serves (Check true) order name source left s ending serves = subst OwnsThree (sym (serves.lines refl).is_ending) (by_check (serves.lines refl).outcome)
-by_serves (Check false) order name source left s ending serves = subst OwnsThree (sym (serves.checks refl).is_ending) (by_check (serves.checks refl).outcome)
-by_serves (Text as_form) order name source left s ending serves = by_performs (Text as_form) order name source s.failed (IsTrue s.flushed) left s.old s.new ending (serves.performs tt)
-by_serves (Explore search) order name source left s ending serves = by_performs (Explore search) order name source s.failed (IsTrue s.flushed) left s.old s.new ending (serves.performs tt)
+by_serves : (task : Task) (order name : Option (List ℕ)) (old source : Bool) (left : Option (List ℕ)) (s : Streams) (ending : Ending) → Serves task order name old source left s ending → OwnsThree ending
+by_serves (Run on_threads by_old_name) order name old source left s ending serves = by_performs (Run on_threads by_old_name) order name source s.failed (IsTrue s.flushed) left s.old s.new ending (serves.performs tt)
+by_serves (Show on_threads options) order name old source left s ending serves = by_performs (Show on_threads options) order name source s.failed (IsTrue s.flushed) left s.old s.new ending (serves.performs tt)
+by_serves (Check true) order name old source left s ending serves = subst OwnsThree (sym (serves.lines refl).is_ending) (by_check (serves.lines refl).outcome)
+by_serves (Check false) order name old source left s ending serves = subst OwnsThree (sym (serves.checks refl).is_ending) (by_check (serves.checks refl).outcome)
+by_serves (Text as_form) order name old source left s ending serves = by_performs (Text as_form) order name source s.failed (IsTrue s.flushed) left s.old s.new ending (serves.performs tt)
+by_serves (Explore search) order name old source left s ending serves = by_performs (Explore search) order name source s.failed (IsTrue s.flushed) left s.old s.new ending (serves.performs tt)
 
-by_file : (task : Task) (order : Option (List ℕ)) (name : List ℕ) (s : Streams) (ending : Ending) → ServesFile task order name s ending → OwnsThree ending
-by_file task order name s ending (inl unopened) = by_stream ending unopened.1
-by_file task order name s ending (inr (inl usage)) = by_done ending 1 usage.1.1 no_1
-by_file task order name s ending (inr (inr (left, (source, serves)))) = by_serves task order (Some name) source left s ending serves
+by_file : (task : Task) (order : Option (List ℕ)) (old : Bool) (name : List ℕ) (s : Streams) (ending : Ending) → ServesFile task order old name s ending → OwnsThree ending
+by_file task order old name s ending (inl unopened) = by_stream ending unopened.1
+by_file task order old name s ending (inr (inl usage)) = by_done ending 1 usage.1.1 no_1
+by_file task order old name s ending (inr (inr (left, (source, serves)))) = by_serves task order (Some name) old source left s ending serves
 
 by_counts : (sink : Bool) (old new : Option (List ℕ)) (ending : Ending) → Counts sink old new ending → OwnsThree ending
 by_counts sink old new ending (inl passed) = by_done ending 0 passed.0 no_0
@@ -151,24 +151,24 @@ by_counts sink old new ending (inr (inl failed)) = by_done ending 5 failed.0 no_
 by_counts sink old new ending (inr (inr (inl none))) = by_done ending 1 none.0 no_1
 by_counts sink old new ending (inr (inr (inr failed))) = by_failed ending failed
 
-by_named : (folder : Bool) (task : Task) (order : Option (List ℕ)) (name : List ℕ) (s : Streams) (ending : Ending) → ServesNamed folder task order name s ending → OwnsThree ending
-by_named true task order name s ending counts = by_counts s.failed s.old s.new ending counts
-by_named false task order name s ending serves = by_file task order name s ending serves
+by_named : (folder : Bool) (task : Task) (order : Option (List ℕ)) (old : Bool) (name : List ℕ) (s : Streams) (ending : Ending) → ServesNamed folder task order old name s ending → OwnsThree ending
+by_named true task order old name s ending counts = by_counts s.failed s.old s.new ending counts
+by_named false task order old name s ending serves = by_file task order old name s ending serves
 
-by_path : (path : Option (List ℕ)) (task : Task) (order : Option (List ℕ)) (source : Bool) (left : Option (List ℕ)) (unread : Type 0) (s : Streams) (ending : Ending) → ServesBy path task order source left unread s ending → OwnsThree ending
-by_path None task order source left unread s ending serves = by_serves task order None source left s ending serves
-by_path (Some name) task order source left unread s ending (still, serves) = by_named (takes_folder task) task order name s ending serves
+by_path : (path : Option (List ℕ)) (task : Task) (order : Option (List ℕ)) (old source : Bool) (left : Option (List ℕ)) (unread : Type 0) (s : Streams) (ending : Ending) → ServesBy path task order old source left unread s ending → OwnsThree ending
+by_path None task order old source left unread s ending serves = by_serves task order None old source left s ending serves
+by_path (Some name) task order old source left unread s ending (still, serves) = by_named (takes_folder task) task order old name s ending serves
 
-by_asked : (asked : Asked) (source : Bool) (left : Option (List ℕ)) (unread unwritten : Type 0) (s : Streams) (ending : Ending) → DoesAsked asked source left unread unwritten s ending → OwnsThree ending
-by_asked (Do request) source left unread unwritten s ending does = by_path (wish_by request).path request.task (wish_by request).order source left unread s ending does
-by_asked (Tell text) source left unread unwritten s ending (still, inl whole) = by_done ending 0 whole.1.1.1 no_0
-by_asked (Tell text) source left unread unwritten s ending (still, inr front) = by_stream ending front.1.1
-by_asked (Misuse text) source left unread unwritten s ending (still, (blank, tells)) = by_done ending 1 tells.1 no_1
-by_asked OldUsage source left unread unwritten s ending (still, tells) = by_done ending 1 tells.1 no_1
+by_asked : (asked : Asked) (old source : Bool) (left : Option (List ℕ)) (unread unwritten : Type 0) (s : Streams) (ending : Ending) → DoesAsked asked old source left unread unwritten s ending → OwnsThree ending
+by_asked (Do request) old source left unread unwritten s ending does = by_path (wish_by request).path request.task (wish_by request).order old source left unread s ending does
+by_asked (Tell text) old source left unread unwritten s ending (still, inl whole) = by_done ending 0 whole.1.1.1 no_0
+by_asked (Tell text) old source left unread unwritten s ending (still, inr front) = by_stream ending front.1.1
+by_asked (Misuse text) old source left unread unwritten s ending (still, (blank, tells)) = by_done ending 1 tells.1 no_1
+by_asked OldUsage old source left unread unwritten s ending (still, tells) = by_done ending 1 tells.1 no_1
 
 pub by_does : (said : List (List ℕ)) (source : Bool) (left : Option (List ℕ)) (unread unwritten : Type 0) (s : Streams) (ending : Ending) → Does said source left unread unwritten s ending → OwnsThree ending
 by_does said source left unread unwritten s ending (inl (still, (blank, wants))) = by_memory ending wants
-by_does said source left unread unwritten s ending (inr (asked, (answer, (wish, does)))) = by_asked asked source left unread unwritten s ending does
+by_does said source left unread unwritten s ending (inr (asked, (answer, (wish, does)))) = by_asked asked (names_old_check said) source left unread unwritten s ending does
 
 pub by_words : (fault : WordsFault) → OwnsThree (ending_of_words fault)
 by_words (words.Memory refused) = λ three. tt

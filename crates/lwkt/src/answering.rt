@@ -2,7 +2,7 @@
 ghost use Rattle.std.specs.Prelude.{◌≡◌, ◌⊎◌, IfErr, IfOk, IsTrue, map, string_bytes};
 ghost use Rattle.std.specs.Option.{option_copied};
 ghost use Rattle.lwkt_request.specs.Wishes.{wish_by};
-ghost use Rattle.lwkt.specs.Answering.{Does, IsByOldName, ServesBy, ServesFile, TellsMisuse, TellsPage, TellsUsage, takes_folder};
+ghost use Rattle.lwkt.specs.Answering.{Does, IsByOldName, ServesBy, ServesFile, TellsMisuse, TellsPage, TellsUsage, names_old_check, takes_folder};
 ghost use Rattle.lwkt.specs.Ending.{OwnsThree, WantsMemory, ending_of_words};
 ghost use Rattle.lwkt.specs.Performing.{order_of};
 
@@ -12,8 +12,10 @@ use crate::errors::{
 };
 use crate::files::{opened, source_of};
 use crate::folders::perform_all;
+use crate::foreign::foreign_word;
 use crate::performing::perform;
 use crate::written::written;
+use lwkt_base::memory;
 use lwkt_refusals::Speaker;
 use lwkt_report::{
     Complaint, NotedReader, NotedWriter, Program, ReaderSource, Sink, WordsFault, WriterSink,
@@ -24,8 +26,12 @@ use std::alloc::Global;
 use std::fs::Files;
 use std::io;
 use std::io::{Read, Write};
+use std::rt::Env;
 use std::thread::Threads;
 use std::time::Clock;
+
+// What is said of an argument that isn't UTF-8.
+const FOREIGN_WORDS: &str = " isn't UTF-8; give such a file as standard input, by < FILE\n";
 
 // Writes the usage line of `lwkt_run`, and says how it is called.
 fn misused<O: Write, E: Sink>(sink: &mut WriterSink<NotedWriter<O>>, errors: &mut E) -> Ending
@@ -41,21 +47,31 @@ fn is_word(path: &str, error: &io::Error) -> bool {
     (path == "turns" || path == "threads") && error.kind() == io::ErrorKind::NotFound
 }
 
-// Performs a request on the file of this path.
+// Performs a request on the file of this path; a check by the name `lwkt_check` or by the new one.
 fn perform_on_file<R: Threads + Sync + Clock + Files, O: Write, E: Sink>(
     rt: &R,
     alloc: Global,
     request: &Request,
+    by_old_name: bool,
     path: &str,
     sink: &mut WriterSink<NotedWriter<O>>,
     errors: &mut E,
 ) -> Ending
-    ensures { ServesFile request.now.task (order_of request.now) path.now (record { old = O.contents sink.old.writer.writer; new = O.contents sink.new.writer.writer; failed = sink.new.failed; error = sink.new.writer.error; flushed = sink.new.flushed; before = E.contents errors.old; after = E.contents errors.new; lost = E.has_failed errors.new }) result }
+    ensures { ServesFile request.now.task (order_of request.now) by_old_name path.now (record { old = O.contents sink.old.writer.writer; new = O.contents sink.new.writer.writer; failed = sink.new.failed; error = sink.new.writer.error; flushed = sink.new.flushed; before = E.contents errors.old; after = E.contents errors.new; lost = E.has_failed errors.new }) result }
 {
     match opened(rt, path) {
         Ok(file) => {
             let mut source = source_of(file);
-            perform(rt, alloc, request, Some(path), &mut source, sink, errors)
+            perform(
+                rt,
+                alloc,
+                request,
+                by_old_name,
+                Some(path),
+                &mut source,
+                sink,
+                errors,
+            )
         }
         Err(error) => {
             if is_by_old_name(request.task) && is_word(path, &error) {
@@ -81,24 +97,25 @@ fn takes_folder(task: Task) -> bool
     }
 }
 
-// Performs a request.
-fn done<R: Threads + Sync + Clock + Files + Alloc + Clone + Drop, I: Read, O: Write, E: Sink>(
+// Performs a request; a check by the name `lwkt_check` or by the new one.
+fn done<R: Threads + Sync + Clock + Files, I: Read, O: Write, E: Sink>(
     rt: &R,
     alloc: Global,
     request: &Request,
+    by_old_name: bool,
     source: &mut ReaderSource<NotedReader<I>>,
     sink: &mut WriterSink<NotedWriter<O>>,
     errors: &mut E,
 ) -> Ending
-    ensures { ServesBy (wish_by request.now).path request.now.task (order_of request.now) source.new.failed (I.remaining source.old.reader.reader) (source.new ≡ source.old) (record { old = O.contents sink.old.writer.writer; new = O.contents sink.new.writer.writer; failed = sink.new.failed; error = sink.new.writer.error; flushed = sink.new.flushed; before = E.contents errors.old; after = E.contents errors.new; lost = E.has_failed errors.new }) result }
+    ensures { ServesBy (wish_by request.now).path request.now.task (order_of request.now) by_old_name source.new.failed (I.remaining source.old.reader.reader) (source.new ≡ source.old) (record { old = O.contents sink.old.writer.writer; new = O.contents sink.new.writer.writer; failed = sink.new.failed; error = sink.new.writer.error; flushed = sink.new.flushed; before = E.contents errors.old; after = E.contents errors.new; lost = E.has_failed errors.new }) result }
 {
     let Some(path) = &request.path else {
-        return perform(rt, alloc, request, None, source, sink, errors);
+        return perform(rt, alloc, request, by_old_name, None, source, sink, errors);
     };
     if takes_folder(request.task) {
         perform_all(rt, alloc, request, path.as_str(), sink, errors)
     } else {
-        perform_on_file(rt, alloc, request, path.as_str(), sink, errors)
+        perform_on_file(rt, alloc, request, by_old_name, path.as_str(), sink, errors)
     }
 }
 
@@ -133,8 +150,18 @@ fn refused<E: Sink>(alloc: Global, errors: &mut E, text: &str) -> Ending
     }
 }
 
+// Whether words are those of `lwkt_check`.
+fn names_old_check(words: &[String]) -> bool
+    ensures { result ≡ names_old_check (map string_bytes words.now) }
+{
+    match words {
+        [name, ..] => name.as_str() == "lwkt_check",
+        [] => false,
+    }
+}
+
 // Does what the words of the command line ask for. If they ask for nothing, nothing is read, and where errors go stands why.
-fn answer_to<R: Threads + Sync + Clock + Files + Alloc + Clone + Drop, I: Read, O: Write, E: Sink>(
+fn answer_to<R: Threads + Sync + Clock + Files, I: Read, O: Write, E: Sink>(
     rt: &R,
     alloc: Global,
     words: &[String],
@@ -145,7 +172,10 @@ fn answer_to<R: Threads + Sync + Clock + Files + Alloc + Clone + Drop, I: Read, 
     ensures { Does (map string_bytes words.now) source.new.failed (I.remaining source.old.reader.reader) (source.new ≡ source.old) (sink.new ≡ sink.old) (record { old = O.contents sink.old.writer.writer; new = O.contents sink.new.writer.writer; failed = sink.new.failed; error = sink.new.writer.error; flushed = sink.new.flushed; before = E.contents errors.old; after = E.contents errors.new; lost = E.has_failed errors.new }) result }
 {
     match request_of(alloc, words) {
-        Ok(Asked::Do(request)) => done(rt, alloc, &request, source, sink, errors),
+        Ok(Asked::Do(request)) => {
+            let by_old_name = names_old_check(words);
+            done(rt, alloc, &request, by_old_name, source, sink, errors)
+        }
         Ok(Asked::Tell(text)) => told(alloc, sink, errors, text.as_str()),
         Ok(Asked::Misuse(text)) => refused(alloc, errors, text.as_str()),
         Ok(Asked::OldUsage) => misused(sink, errors),
@@ -156,8 +186,24 @@ fn answer_to<R: Threads + Sync + Clock + Files + Alloc + Clone + Drop, I: Read, 
     }
 }
 
+// Says that an argument isn't UTF-8, and which one, if that is known.
+fn say_foreign<E: Sink>(alloc: Global, errors: &mut E, word: Option<String>) {
+    let mut line = String::new(alloc);
+    let told = match &word {
+        Some(word) => memory::put(
+            &mut line,
+            ("lwkt: the argument ", word.as_str(), FOREIGN_WORDS),
+        ),
+        None => memory::put(&mut line, ("lwkt: an argument", FOREIGN_WORDS)),
+    };
+    match told {
+        Ok(()) => put(errors, line.as_str()),
+        Err(_) => say_memory(errors),
+    }
+}
+
 // Says why the command line has no words: memory was refused for them, or one isn't UTF-8.
-fn unworded<E: Sink>(errors: &mut E, fault: WordsFault) -> Ending
+fn unworded<R: Env, E: Sink>(rt: &R, alloc: Global, errors: &mut E, fault: WordsFault) -> Ending
     ensures { result ≡ ending_of_words fault }
 {
     match fault {
@@ -166,10 +212,7 @@ fn unworded<E: Sink>(errors: &mut E, fault: WordsFault) -> Ending
             Ending::Memory(refused)
         }
         WordsFault::NotUtf8 => {
-            put(
-                errors,
-                "lwkt: an argument isn't UTF-8; give such a file as standard input, by < FILE\n",
-            );
+            say_foreign(alloc, errors, foreign_word(rt, alloc));
             Ending::Done(1)
         }
     }
@@ -179,7 +222,7 @@ fn unworded<E: Sink>(errors: &mut E, fault: WordsFault) -> Ending
 ///
 /// The source is standard input, the sink standard output, and `errors` standard error. Of standard input nothing is read unless the words
 /// ask for it. If they ask for nothing, standard error gets why, and standard output nothing, but for the usage line of `lwkt_run`.
-pub fn answer<R: Threads + Sync + Clock + Files + Alloc + Clone + Drop, I: Read, O: Write, E: Sink>(
+pub fn answer<R: Threads + Sync + Clock + Files + Env, I: Read, O: Write, E: Sink>(
     rt: &R,
     alloc: Global,
     words: Result<Vec<String>, WordsFault>,
@@ -195,6 +238,6 @@ pub fn answer<R: Threads + Sync + Clock + Files + Alloc + Clone + Drop, I: Read,
 {
     match words {
         Ok(words) => answer_to(rt, alloc, words.as_slice(), source, sink, errors),
-        Err(fault) => unworded(errors, fault),
+        Err(fault) => unworded(rt, alloc, errors, fault),
     }
 }

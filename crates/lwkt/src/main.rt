@@ -12,6 +12,7 @@ mod explores;
 mod failures;
 mod files;
 mod folders;
+mod foreign;
 mod performing;
 mod reads;
 mod runs;

@@ -9,7 +9,9 @@ ghost use Rattle.lwkt.specs.Performing.{AnswersRead, Performs, SaysAfter, compla
 
 use crate::checks::check;
 use crate::endings::Ending;
-use crate::errors::{Origin, put, say_memory, say_unmade, say_unread, say_unwritten};
+use crate::errors::{
+    Origin, is_by_old_name, put, put_bytes, say_memory, say_unmade, say_unread, say_unwritten,
+};
 use crate::explores::finding_of;
 use crate::failures::Failure;
 use crate::reads::read_said;
@@ -171,8 +173,40 @@ fn say_streams<I, O, E: Sink>(
     }
 }
 
-// Performs a task that takes a script, and answers how that ended.
-fn perform_on_script<R: Threads + Sync + Clock, I: Read, O: Write, E: Sink>(
+// Passes on what was said; if memory for it was refused, this alone is said.
+fn pass_on<E: Sink>(errors: &mut E, said: &WriterSink<Vec<u8>>) {
+    if said.failed {
+        say_memory(errors);
+    } else {
+        put_bytes(errors, said.writer.as_slice());
+    }
+}
+
+// Performs a task by the name `lwkt_run`: where a terminal shows both, the line of a fault stands before what is said of it.
+fn perform_by_old_name<R: Threads + Sync + Clock, I: Read, O: Write, E: Sink>(
+    rt: &R,
+    alloc: Global,
+    origin: Origin<'_>,
+    order: Option<&[u8]>,
+    source: &mut ReaderSource<NotedReader<I>>,
+    sink: &mut WriterSink<NotedWriter<O>>,
+    errors: &mut E,
+) -> Ending
+    requires { TakesScript origin.task }
+    ensures performs { Performs origin.entry.task (option_copied order.entry) (option_copied origin.entry.path) source.new.failed sink.new.failed (IsTrue sink.new.flushed) (I.remaining source.old.reader.reader) (O.contents sink.old.writer.writer) (O.contents sink.new.writer.writer) result }
+    ensures failed_source { source.old.failed ≡ false → IsTrue source.new.failed → result ≡ Ending.Stream }
+    ensures failed_sink { complains origin.entry.task ≡ false → sink.old.failed ≡ false → IsTrue sink.new.failed → result ≡ Ending.Stream }
+{
+    let mut said = WriterSink::new(Vec::new(alloc));
+    let answer = answered(rt, alloc, origin, order, source, sink, &mut said);
+    complain_of(origin.task, sink, &answer);
+    pass_on(errors, &said);
+    say_streams(alloc, errors, origin, &answer, source, sink);
+    ending_of(&answer)
+}
+
+// Performs a task by the name of a subcommand, or an older one without such a line.
+fn perform_by_name<R: Threads + Sync + Clock, I: Read, O: Write, E: Sink>(
     rt: &R,
     alloc: Global,
     origin: Origin<'_>,
@@ -192,6 +226,28 @@ fn perform_on_script<R: Threads + Sync + Clock, I: Read, O: Write, E: Sink>(
     ending_of(&answer)
 }
 
+// Performs a task that takes a script, and answers how that ended.
+fn perform_on_script<R: Threads + Sync + Clock, I: Read, O: Write, E: Sink>(
+    rt: &R,
+    alloc: Global,
+    origin: Origin<'_>,
+    order: Option<&[u8]>,
+    source: &mut ReaderSource<NotedReader<I>>,
+    sink: &mut WriterSink<NotedWriter<O>>,
+    errors: &mut E,
+) -> Ending
+    requires { TakesScript origin.task }
+    ensures performs { Performs origin.entry.task (option_copied order.entry) (option_copied origin.entry.path) source.new.failed sink.new.failed (IsTrue sink.new.flushed) (I.remaining source.old.reader.reader) (O.contents sink.old.writer.writer) (O.contents sink.new.writer.writer) result }
+    ensures failed_source { source.old.failed ≡ false → IsTrue source.new.failed → result ≡ Ending.Stream }
+    ensures failed_sink { complains origin.entry.task ≡ false → sink.old.failed ≡ false → IsTrue sink.new.failed → result ≡ Ending.Stream }
+{
+    if is_by_old_name(origin.task) {
+        perform_by_old_name(rt, alloc, origin, order, source, sink, errors)
+    } else {
+        perform_by_name(rt, alloc, origin, order, source, sink, errors)
+    }
+}
+
 // The order that a request names.
 fn order_of(request: &Request) -> Option<&[u8]>
     ensures { option_copied result ≡ order_of request.now }
@@ -202,7 +258,7 @@ fn order_of(request: &Request) -> Option<&[u8]>
     }
 }
 
-/// Performs a request: reads all that is left of the source, writes what the task makes of it, and answers how that ended.
+/// Performs a request, asked for by an older name of `lwkt check` or not: reads all that is left of the source, writes what the task makes of it, and answers how that ended.
 ///
 /// A script is read in JSON or as a text, by the name of its file too. What is made of it is whole in memory before its first byte is
 /// written, and its status stands if all is written. Else memory was refused or a stream failed; or the status is 1 if the input, its opening
@@ -214,13 +270,14 @@ pub fn perform<R: Threads + Sync + Clock, I: Read, O: Write, E: Sink>(
     rt: &R,
     alloc: Global,
     request: &Request,
+    by_old_name: bool,
     name: Option<&str>,
     source: &mut ReaderSource<NotedReader<I>>,
     sink: &mut WriterSink<NotedWriter<O>>,
     errors: &mut E,
 ) -> Ending
     // What is written, and how that ended.
-    ensures serves { Serves request.now.task (order_of request.now) (option_copied name.entry) source.new.failed (I.remaining source.old.reader.reader) (record { old = O.contents sink.old.writer.writer; new = O.contents sink.new.writer.writer; failed = sink.new.failed; error = sink.new.writer.error; flushed = sink.new.flushed; before = E.contents errors.old; after = E.contents errors.new; lost = E.has_failed errors.new }) result }
+    ensures serves { Serves request.now.task (order_of request.now) (option_copied name.entry) by_old_name source.new.failed (I.remaining source.old.reader.reader) (record { old = O.contents sink.old.writer.writer; new = O.contents sink.new.writer.writer; failed = sink.new.failed; error = sink.new.writer.error; flushed = sink.new.flushed; before = E.contents errors.old; after = E.contents errors.new; lost = E.has_failed errors.new }) result }
 
     // A stream that fails is told.
     ensures failed_source { TakesScript request.now.task → source.old.failed ≡ false → IsTrue source.new.failed → result ≡ Ending.Stream }
@@ -232,7 +289,9 @@ pub fn perform<R: Threads + Sync + Clock, I: Read, O: Write, E: Sink>(
     };
     let order = order_of(request);
     match request.task {
-        Task::Check { by_lines } => check(alloc, by_lines, name, source, sink, errors),
+        Task::Check { by_lines } => {
+            check(alloc, by_lines, by_old_name, name, source, sink, errors)
+        }
         _ => perform_on_script(rt, alloc, origin, order, source, sink, errors),
     }
 }

@@ -1,7 +1,7 @@
 use Rattle.std.proofs.Common.{◌≡◌, ◌∙◌, ap, IsTrue, Err, false}
 use Rattle.std.specs.Option.{option_copied}
 use Rattle.lwkt.proofs.Tellings.{performed, told_as_stream}
-use Rattle.lwkt.proofs.performing.perform_on_script.Goals as goal
+use Rattle.lwkt.proofs.performing.perform_by_name.Goals as goal
 
 pub returns-clause-performs : goal.returns-clause-performs
 returns-clause-performs g c =
