@@ -3,6 +3,7 @@ ghost use Rattle.std.specs.Prelude.{◌≡◌, ◌≤◌, IfOk, [], ◌∷◌, l
 ghost use Rattle.lwkt_base.specs.declared.openings.TokSpec.{TokSpec};
 ghost use Rattle.lwkt_bank.specs.Gathered.{IsOpened};
 ghost use Rattle.lwkt_bank.specs.Seats.{id_of, bank_of};
+ghost use Rattle.lwkt_lane.specs.Crossed.{AreLanes};
 ghost use Rattle.lwkt_msg.specs.Desks.{AreOpened};
 ghost use Rattle.lwkt_layer_tests.specs.Boards.{SitsAt};
 
