@@ -215,13 +215,16 @@ impl ListedHold<'_> {
     }
 
     // Asks for a reference.
-    fn get(&mut self, new: Ref) -> Told {
-        let bank = self.bank;
-        match get(&mut self.hold, bank, &mut self.list, new, &mut self.trace) {
-            Ok(Acquired::Got) => Told::Done,
-            Ok(Acquired::MustSwitch { why }) => Told::Switch(why),
-            Err(fault) => Told::Refused(fault),
-        }
+    fn get(&mut self, new: Ref) -> Result<Told, Fault> {
+        make_room(&mut self.trace)?;
+        let (bank, list) = (self.bank, &mut self.list);
+        Ok(
+            match get(&mut self.hold, bank, list, new, &mut self.trace) {
+                Ok(Acquired::Got) => Told::Done,
+                Ok(Acquired::MustSwitch { why }) => Told::Switch(why),
+                Err(fault) => Told::Refused(fault),
+            },
+        )
     }
 
     // Gives up all that is held.
@@ -283,7 +286,7 @@ impl ListedHold<'_> {
     pub fn call(&mut self, call: Call) -> Result<Told, Fault> {
         make_room(&mut self.trace)?;
         Ok(match call {
-            Call::Get(new) => self.get(new),
+            Call::Get(new) => return self.get(new),
             Call::Rel(tok) => {
                 let (bank, list) = (self.bank, &mut self.list);
                 done(self.hold.rel(bank, list, tok, &mut self.trace))
