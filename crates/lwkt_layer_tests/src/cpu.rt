@@ -1,8 +1,8 @@
 //! Processors: the worked rows, turn by turn.
-ghost use Rattle.std.specs.Prelude.{◌≡◌, ℕ, []};
+ghost use Rattle.std.specs.Prelude.{◌≡◌, ℕ, [], IfSome};
 ghost use Rattle.lwkt_base.specs.Holding.{holds_nothing};
 ghost use Rattle.lwkt_bank.specs.Seats.{holding};
-ghost use Rattle.lwkt_msg.specs.Desks.{IsOpened};
+ghost use Rattle.lwkt_msg.specs.Desks.{IsOpened, AreSeats};
 
 use crate::boards::{Board, two};
 use crate::fixtures::{PLAIN, SUM, goes};
@@ -275,11 +275,20 @@ fn refusal(
     }
 }
 
+// The seat of a book of one processor.
+fn only_seat(mut seats: Vec<MsgSeat>, book: &MsgBook) -> Option<MsgSeat>
+    requires { AreSeats 1 book.now seats.items }
+    ensures { IfSome result (λ seat. IsOpened 0 book.now seat) }
+{
+    let seat = seats.pop()?;
+    Some(seat)
+}
+
 fn are_too_many(alloc: Global) -> Result<bool, Fault> {
     let (bank, mut seats) = holds::open(alloc, &[], 1)?;
-    let (book, mut mails) = MsgBook::open(alloc, &[], 1)?;
+    let (book, mails) = MsgBook::open(alloc, &[], 1)?;
     let mut lanes = open_lanes(alloc, 1)?;
-    match (seats.pop(), mails.pop()) {
+    match (seats.pop(), only_seat(mails, &book)) {
         (Some(seat), Some(mail)) => {
             let refused = refusal(alloc, seat, mail, &book, &mut lanes)?;
             Ok(refused == Some(Fault::Limits))
