@@ -38,20 +38,20 @@ use Rattle.lwkt.specs.Making.{IsMade}
 use Rattle.lwkt.specs.Performing.{AnswersRead, Performs}
 
 -- the other statuses
-no_0 : 0 ≡ 3 → ⊥
-no_0 is = absurd (omega arith)
+no_0 : ◌≡◌ {A = ℕ} 0 3 → ⊥
+no_0 is = absurd (omega (arith, is))
 
-no_1 : 1 ≡ 3 → ⊥
-no_1 is = absurd (omega arith)
+no_1 : ◌≡◌ {A = ℕ} 1 3 → ⊥
+no_1 is = absurd (omega (arith, is))
 
-no_2 : 2 ≡ 3 → ⊥
-no_2 is = absurd (omega arith)
+no_2 : ◌≡◌ {A = ℕ} 2 3 → ⊥
+no_2 is = absurd (omega (arith, is))
 
-no_4 : 4 ≡ 3 → ⊥
-no_4 is = absurd (omega arith)
+no_4 : ◌≡◌ {A = ℕ} 4 3 → ⊥
+no_4 is = absurd (omega (arith, is))
 
-no_5 : 5 ≡ 3 → ⊥
-no_5 is = absurd (omega arith)
+no_5 : ◌≡◌ {A = ℕ} 5 3 → ⊥
+no_5 is = absurd (omega (arith, is))
 
 -- what is made has another one
 end_status : (end : End) → exit_status (Ok end) ≡ 3 → ⊥
@@ -66,7 +66,7 @@ judged_status Unlawful is = no_4 is
 judged_status Unmet is = no_5 is
 judged_status NotDecided is = no_5 is
 
-status_by_found : (whole lost stuck : Bool) → (if whole then (if lost then 2 else (if stuck then 2 else 0)) else 5) ≡ 3 → ⊥
+status_by_found : (whole lost stuck : Bool) → ◌≡◌ {A = ℕ} (if whole then (if lost then 2 else (if stuck then 2 else 0)) else 5) 3 → ⊥
 status_by_found true true stuck is = no_2 is
 status_by_found true false true is = no_2 is
 status_by_found true false false is = no_0 is
