@@ -13,6 +13,13 @@
 //
 // Status. It is the exit status of the program that does the same: 0, 1, 2, 3, 4 or 5, as each function says.
 //
+// Refusals. Of what is refused the text says why, as the program `lwkt` says it of standard input: of each cause
+// `lwkt: standard input:LINE:COLUMN: WORDS`, counted from 1, a column being a byte; below it, behind four blanks each, the line, a mark
+// under the place, and where a known word is near `` did you mean `WORD`? ``; and last perhaps `try:` and what to try. A cause without a
+// place is `lwkt: standard input: WORDS` or `lwkt: WORDS`. Of JSON the first bad part is the only cause, with its fault in brackets
+// behind the words; of a text of the language there are up to 100, in the order of the places. Where memory was refused the text says
+// that, or is empty.
+//
 // Scripts. A script is JSON (docs/FORMATS.md) or a text of the language for scripts (docs/LANGUAGE.md). `lwkt_show_turns` and
 // `lwkt_explore_orders` take either form, of at most 1048576 bytes; `lwkt_run_turns` takes JSON, and `lwkt_run_text` a text;
 // `lwkt_text_json` makes JSON of a text.
@@ -84,9 +91,8 @@ uint32_t lwkt_is_text(const uint8_t *script, size_t script_length);
 // The script of a text in JSON, as `lwkt_text FILE --json` writes it. Bytes that aren't taken for a text are read as one all the same.
 //
 // The status: 0 it is there; 1 something is wrong with the text, with the fault 33, or its JSON would have more than 1048576 bytes,
-// with the fault 39; 3 memory was refused, with the fault 32. With the fault 33 the text that is made has all that is wrong, in the
-// order of the places: `LINE:COLUMN: WORDS`, counted from 1, a column being a byte; and below it, behind four blanks each, the line
-// and a mark under the place. With 39 and 32 it says why, in words, or is empty.
+// with the fault 39; 3 memory was refused, with the fault 32. With the fault 33 the text that is made has all that is wrong. With 39 and
+// 32 it says why, in words, or is empty.
 uint32_t lwkt_text_json(const uint8_t *script, size_t script_length, uint8_t *text, size_t room, lwkt_answer *answer);
 
 // Runs a text in rounds, on this thread, as `lwkt_run turns` does with a text. What is made is the report, and behind that a line for

@@ -172,13 +172,12 @@ function partsOf(word) {
   return { exclusive: Number(bits & 1n), mark: Number((bits >> 1n) & 1n), count: Number((bits >> 2n) & 0xffffn), generation: String(bits >> 18n) };
 }
 
-// All that a refusal says is wrong, each with its line and column from 1, a column being a byte: `3:9: a token is wanted here (accounts?)`,
-// with `lwkt: standard input:` before it or without. Behind each stand the line and a mark, which begin with blanks, and perhaps
-// what was meant.
+// All that a refusal says is wrong, each with its line and column from 1, a column being a byte: `lwkt: standard input:3:9: WORDS`.
+// Behind each stand the line and a mark, which begin with blanks, and perhaps what was meant.
 function readWrongs(text) {
   const wrongs = [];
   for (const line of text.split("\n")) {
-    const found = /^(?:lwkt: standard input:)?(\d+):(\d+): (.*?)(?: \(fault \d+(?: at \d+)?\))?$/.exec(line), near = /^ {4}did you mean `(.*)`\?$/.exec(line);
+    const found = /^lwkt: standard input:(\d+):(\d+): (.*?)(?: \(fault \d+(?: at \d+)?\))?$/.exec(line), near = /^ {4}did you mean `(.*)`\?$/.exec(line);
     if (found) wrongs.push({ line: Number(found[1]), column: Number(found[2]), said: found[3] });
     else if (near && wrongs.length) wrongs.at(-1).said += ` (${near[1]}?)`;
   }
@@ -187,7 +186,7 @@ function readWrongs(text) {
 
 // A refusal that names no place, in words.
 function readRefusal(text) {
-  return text.trim().replace(/^lwkt\w*: (?:standard input: )?/, "");
+  return text.trim().replace(/^lwkt: (?:standard input: )?/, "");
 }
 
 // A record by its digits, in the words that lines have for it: its text where all of it is printable, else the digits, and of a

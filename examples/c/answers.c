@@ -69,6 +69,14 @@ static void try_arguments(const char *words, uint32_t wanted, const char *what) 
     count(status == wanted && answer.fault == 0 && answer.length > 0, what);
 }
 
+// Arguments that ask for no run: what the text begins with.
+static void try_misused(const char *words, const char *begin) {
+    static uint8_t text[512];
+    lwkt_answer answer = {0, 7, 7};
+    uint32_t status = lwkt_show_turns(bytes(tally), strlen(tally), bytes(words), strlen(words), text, sizeof text, &answer);
+    count(status == 1 && answer.fault == 0 && answer.length >= strlen(begin) && memcmp(text, begin, strlen(begin)) == 0, begin);
+}
+
 // A hundred reports, each whole and right.
 static void *call_often(void *told) {
     size_t whole = strlen(report);
@@ -97,12 +105,13 @@ int main(void) {
     size_t whole = strlen(report);
     for (size_t room = 0; room <= whole + 3; room += 1) try_room(room);
     try_room(4096);
-    try_refused("", 33, 0, "lwkt_run: fault 33 at 0\nlwkt_run: ");
+    try_refused("", 33, 0, "lwkt: standard input:1:1: ");
+    try_refused("token word: any, cells 5", 33, 0, "lwkt: standard input: this is a text, and no JSON; lwkt_run_text runs it");
     try_refused("{\"version\":1,\"turns\":0,\"idle\":1,\"cpus\":1,\"tokens\":[],\"messages\":[],\"threads\":[]}", 33, 3,
-                "lwkt_run: fault 33 at 3\nlwkt_run: line 1, column 22: ");
+                "lwkt: standard input:1:22: ");
     try_refused("{\"version\":1,\"turns\":1,\"idle\":1,\"cpus\":1,\"tokens\":[{\"cells\":[1],\"law\":\"sum\",\"param\":2,\"gen\":0}],"
                 "\"messages\":[],\"threads\":[]}",
-                40, 0, "lwkt_run: fault 40\nlwkt_run: ");
+                40, 0, "lwkt: standard input:1:");
     try_traces();
     try_arguments("turns", 0, "turns");
     try_arguments("turns --svg", 0, "turns --svg");
@@ -117,6 +126,12 @@ int main(void) {
     try_arguments("turns --order - --turns 5..", 1, "a range past an order of no turns");
     try_arguments("turns --order 0 --rounds 0..1", 1, "rounds of a run along an order");
     try_arguments("turns \xff", 1, "arguments that aren't UTF-8");
+    try_misused("turns --svgg", "lwkt: unexpected argument '--svgg' found\n    did you mean `--svg`?\ntry: turns");
+    try_misused("turns --order 0 \x1b", "lwkt: unexpected argument '\\u{1b}' found\ntry: turns");
+    try_misused("turns --turns 5..1", "lwkt: these arguments don't go together");
+    try_misused("threads", "lwkt: the arguments begin with `turns`\ntry: turns");
+    try_misused("turns \xff", "lwkt: the arguments aren't UTF-8\ntry: turns");
+    try_misused("turns --turns 1000..", "lwkt: standard input: the range lies behind the end of the run\n");
     try_threads();
     printf("%d passed, %d failed\n", passed, failed);
     return failed != 0;

@@ -10,6 +10,9 @@ static const char good[] =
     "token word: any, cells 5\nthread only on 0:\n  get word; write word.0 7; rel word\nalways ended\nnever word.0 = 7\n";
 static const char report[] = "token 0 gen 1 cells 7\nthread 0.0 exited list - log -\nlawful\n4: holds\n5: doesn't hold\n";
 static const char wrong[] = "token word: any, cells 5\nthread only on 0:\n  get wort\n  wriet word.0 1\n";
+static const char told[] =
+    "lwkt: standard input:3:7: a token is wanted here\n      get wort\n          ^\n    did you mean `word`?\n"
+    "lwkt: standard input:4:3: no sentence begins with";
 static const char crossed[] =
     "message one of here; message other of there\nthread here on 0:\n  do one -> there\nthread there on 1:\n  do other -> here\n";
 static const char script[] =
@@ -35,6 +38,10 @@ typedef uint32_t text_call(const uint8_t *script, size_t length, uint8_t *text, 
 
 static uint32_t explore(const uint8_t *script, size_t length, uint8_t *text, size_t room, lwkt_answer *answer) {
     return lwkt_explore_orders(script, length, 1000, 1000, text, room, answer);
+}
+
+static uint32_t show(const uint8_t *script, size_t length, uint8_t *text, size_t room, lwkt_answer *answer) {
+    return lwkt_show_turns(script, length, bytes("turns"), 5, text, room, answer);
 }
 
 // A call: its status, its fault, and what its text begins with.
@@ -134,7 +141,7 @@ static void try_orders(void) {
 static void try_along(void) {
     static uint8_t json[65536], text[65536];
     static const char along[] = "turns --order 0000", absent[] = "turns --order 01", first[] = "turn 0, round 0, processor 0, ";
-    static const char why[] = "lwkt_show: the order names a processor that the script doesn't have\n";
+    static const char why[] = "lwkt: standard input: the order names a processor that isn't there; the last one is 0\n";
     lwkt_answer answer = {7, 7, 7};
     lwkt_text_json(bytes(good), strlen(good), json, sizeof json, &answer);
     size_t length = answer.length;
@@ -153,9 +160,10 @@ int main(void) {
     try_orders();
     try_along();
     try_call(lwkt_run_text, good, 5, 0, report);
-    try_call(lwkt_run_text, wrong, 1, 33, "3:7: a token is wanted here (word?)\n      get wort\n          ^\n4:3: no sentence begins with");
-    try_call(lwkt_text_json, wrong, 1, 33, "3:7: a token is wanted here (word?)\n");
-    try_call(explore, wrong, 1, 33, "3:7: a token is wanted here (word?)\n");
+    try_call(lwkt_run_text, wrong, 1, 33, told);
+    try_call(lwkt_text_json, wrong, 1, 33, told);
+    try_call(explore, wrong, 1, 33, told);
+    try_call(show, wrong, 1, 33, told);
     try_call(explore, good, 5, 0, "outcome 1 ended, order 0 0 0 0\ntoken 0 gen 1 cells 7\n");
     try_call(explore, crossed, 2, 0, "outcome 1 stuck, order 0 1 0\n");
     try_call(lwkt_run_text, crossed, 2, 0, "message 0 round 1 out\n");

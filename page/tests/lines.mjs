@@ -124,9 +124,9 @@ same(lines.partsOf("18446744073709551615"), { exclusive: 1, mark: 1, count: 6553
 same(lines.partsOf("9"), { exclusive: 1, mark: 0, count: 2, generation: "0" }, "held exclusively by three references");
 same(scripts.cutScript('{"turns": 7 , "a":{"turns":9},"t\\u0075rns":8}', 3), '{"turns": 3 , "a":{"turns":9},"t\\u0075rns":3}', "a cut of a name with an escape, and not of an inner one");
 same(scripts.cutScript('{"x":"\\"}","cells":[18446744073709551615],"turns":7}', 3), '{"x":"\\"}","cells":[18446744073709551615],"turns":3}', "numbers stay as they are");
-const told = "lwkt: standard input:6:9: a token is wanted here\n    get acounts\n        ^\n    did you mean `accounts`?\n7:1: no (x?)\n    no\n    ^\nlwkt: standard input:1:5: a part (fault 33 at 1)\n";
+const told = "lwkt: standard input:6:9: a token is wanted here\n    get acounts\n        ^\n    did you mean `accounts`?\nlwkt: standard input:7:1: no\n    no\n    ^\n    did you mean `x`?\nlwkt: standard input:1:5: a part (fault 33 at 1)\n";
 same(lines.readWrongs(told), [{ line: 6, column: 9, said: "a token is wanted here (accounts?)" }, { line: 7, column: 1, said: "no (x?)" }, { line: 1, column: 5, said: "a part" }], "what is wrong, with its place");
-same(["lwkt_show: the range\n", "lwkt: standard input: the order", ""].map(lines.readRefusal), ["the range", "the order", ""], "refusals without a place");
+same(["lwkt: the range\n", "lwkt: standard input: the order", ""].map(lines.readRefusal), ["the range", "the order", ""], "refusals without a place");
 same(scripts.partAt('{"a":[1,{"b":2}]}', 1, 9), { from: 8, to: 15 }, "a part that is an object");
 same(scripts.partAt("[\u00e4, 1]\n[2]", 1, 6), { from: 4, to: 5 }, "columns are bytes");
 same(scripts.partAt("", 1, 1), { from: 0, to: 0 }, "an empty text");

@@ -39,13 +39,11 @@ function tryExample(name) {
   if (trace.status !== 1) compare("lwkt_check_trace", trace.text, undefined, `${name}: its trace`);
 }
 
-// A refused script is told as the program tells it, and a refused trace in one line, which names no command to try.
+// A refused script or trace is told as the program tells it where its errors go, but for the line of the fault.
 function tryRefusal(folder, name, call) {
-  const script = readFileSync(`${examples}/${folder}/${name}.json`), isShown = call === "lwkt_show_turns";
-  const got = compare(call, script, isShown ? "turns" : undefined, name);
-  const told = read(examples, folder, `${name}.err`), [, line, column, words] = /^lwkt: standard input:(\d+):(\d+): (.*) \(fault .*\)$/m.exec(told);
-  const wanted = isShown ? told.trim() : `line ${line}, column ${column}: ${words}`;
-  check(got.text.trim().endsWith(wanted), `${name}: ${got.text}wanted ${wanted}`);
+  const script = readFileSync(`${examples}/${folder}/${name}.json`);
+  const got = compare(call, script, call === "lwkt_show_turns" ? "turns" : undefined, name);
+  same(got.text, read(examples, folder, `${name}.err`).replace(/^lwkt_check: fault .*\n/, ""), `${name}: why it is refused`);
 }
 
 // Bytes of a script changed at random: the same answers as the program gives.
@@ -134,7 +132,7 @@ function tryLong() {
 }
 
 for (const name of exampleNames()) tryExample(name);
-for (const name of namesIn("refused", ".json")) tryRefusal("refused", name, "lwkt_show_turns");
+for (const name of namesIn("refused", ".json")) for (const call of ["lwkt_run_turns", "lwkt_show_turns"]) tryRefusal("refused", name, call);
 for (const name of namesIn("traces", ".json")) compare("lwkt_check_trace", read(examples, "traces", `${name}.json`), undefined, name);
 for (const name of namesIn("traces/refused", ".json")) tryRefusal("traces/refused", name, "lwkt_check_trace");
 for (const name of ["crossed_lists", "server_of_three"]) trySpoiled(name, 200);

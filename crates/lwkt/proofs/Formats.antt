@@ -26,9 +26,11 @@ use Rattle.lwkt_text.specs.declared.inputs.Input.{Input}
 use Rattle.lwkt_text.specs.declared.inputs.Unread.{Unread}
 use Rattle.lwkt_text.specs.declared.inputs.Unread.TheVariants.{Json, Wrongs}
 use Rattle.lwkt_text.specs.Inputs.{input_of, is_text, json_input, names_text, reading_within, text_input}
+use Rattle.lwkt.specs.declared.endings.Ending.{Ending}
 use Rattle.lwkt.specs.declared.failures.Failure.{Failure}
 use Rattle.lwkt.specs.declared.failures.Failure.TheVariants.{Fault, Past, Long, Stream}
-use Rattle.lwkt.specs.Failing.{RefusesInput, status_of, status_of_fault}
+use Rattle.lwkt.specs.Ending.{status_at}
+use Rattle.lwkt.specs.Failing.{RefusesInput, ending_of, ending_of_fault}
 use Rattle.lwkt.specs.Making.{IsReport, mode_of}
 use Rattle.lwkt.specs.Performing.{Answers, IsJson, Performs, RunsByOldName, SaysAfter}
 
@@ -74,7 +76,7 @@ refused_as bytes script Limits read declines = (script, (read, declines))
 refused_as bytes script LawBroken read declines = (script, (read, declines))
 refused_as bytes script _ read declines = absurd declines
 
-status_refused : (bytes : List ℕ) (fault : Refusal) → Refuses bytes fault → status_of_fault fault ≡ exit_status (Err (FaultOfRun fault))
+status_refused : (bytes : List ℕ) (fault : Refusal) → Refuses bytes fault → status_at (ending_of_fault fault) ≡ exit_status (Err (FaultOfRun fault))
 status_refused bytes (ScriptFault place) refuses = refl
 status_refused bytes (Memory refused) refuses = refl
 status_refused bytes Limits refuses = refl
@@ -101,7 +103,7 @@ refused bytes fault refuses = fault_refuses (front bytes) fault (front_gives byt
 
 -- what is answered of JSON
 json_answered : (on_threads : Bool) (order : Option (List ℕ)) (bytes : List ℕ) (source sink : Bool) (old mid new : Option (List ℕ)) (status : ℕ) (answer : Result ℕ Failure)
-    → Answers (Run on_threads true) order (json_input (script_of bytes)) old mid answer → SaysAfter true sink mid new answer → (answer ≡ Err Stream → IsTrue source ⊎ IsTrue sink) → status ≡ status_of answer
+    → Answers (Run on_threads true) order (json_input (script_of bytes)) old mid answer → SaysAfter true sink mid new answer → (answer ≡ Err Stream → IsTrue source ⊎ IsTrue sink) → status ≡ status_at (ending_of answer)
     → RunsJsonAs (mode_of on_threads) source sink (Some bytes) old new status
 json_answered on_threads order bytes source sink old mid new status (Ok made) (text, (of, wrote)) says blames is =
     runs_json (mode_of on_threads) source sink (Some bytes) old mid new (Ok (end_told of.1.1.closing)) status
@@ -129,9 +131,9 @@ abbrev form_read : List ℕ → Bool → Result Input Unread
 form_read bytes text = if text then text_input (reading_within bytes) else json_input (script_of bytes)
 
 -- by the name `lwkt_run`
-pub runs_by_old_name : (on_threads : Bool) (order name : Option (List ℕ)) (source sink : Bool) (flushed : Type 0) (left old new : Option (List ℕ)) (status : ℕ)
-    → Performs (Run on_threads true) order name source sink flushed left old new status → RunsByOldName on_threads name source sink left old new status
-runs_by_old_name on_threads order name source sink flushed left old new status performs =
+pub runs_by_old_name : (on_threads : Bool) (order name : Option (List ℕ)) (source sink : Bool) (flushed : Type 0) (left old new : Option (List ℕ)) (ending : Ending)
+    → Performs (Run on_threads true) order name source sink flushed left old new ending → RunsByOldName on_threads name source sink left old new (status_at ending)
+runs_by_old_name on_threads order name source sink flushed left old new ending performs =
     let bytes = performs.answers.0 in (
       bytes,
       (
@@ -139,6 +141,6 @@ runs_by_old_name on_threads order name source sink flushed left old new status p
         λ json.
             let Of : Result Input Unread → Type 0 = λ read. Answers (Run on_threads true) order read old performs.mid performs.answer in
             let read : input_of name bytes ≡ json_input (script_of bytes) = ap (form_read bytes) json in
-            json_answered on_threads order bytes source sink old performs.mid new status performs.answer (subst Of read performs.answers.1.1) performs.says performs.blames performs.is_status,
+            json_answered on_threads order bytes source sink old performs.mid new (status_at ending) performs.answer (subst Of read performs.answers.1.1) performs.says performs.blames (ap status_at performs.is_ending),
       ),
     )

@@ -2,3 +2,4 @@ mod Formats
 mod Tellings
 mod Servings
 mod Countings
+mod Threes

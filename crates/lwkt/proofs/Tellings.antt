@@ -15,9 +15,11 @@ use Rattle.lwkt_script.specs.Format.{script_of}
 use Rattle.lwkt_text.specs.Reading.{IsTextOf}
 use Rattle.lwkt_text.specs.declared.inputs.Input.{Input}
 use Rattle.lwkt_text.specs.declared.inputs.Unread.{Unread}
+use Rattle.lwkt.specs.declared.endings.Ending.{Ending}
+use Rattle.lwkt.specs.declared.endings.Ending.TheVariants as endings
 use Rattle.lwkt.specs.declared.failures.Failure.{Failure}
 use Rattle.lwkt.specs.declared.failures.Failure.TheVariants.{Fault, Past, Long, Stream}
-use Rattle.lwkt.specs.Failing.{Declines, IsFailureOf, status_of}
+use Rattle.lwkt.specs.Failing.{Declines, IsFailureOf, ending_of}
 use Rattle.lwkt.specs.Making.{IsForm, IsMadeOf, IsShort, TakesScript}
 use Rattle.lwkt.specs.Performing.{Answers, AnswersRead, Performs, SaysAfter, Writes, complains}
 
@@ -90,16 +92,16 @@ writes_unfailed text status failed before after old new (Err (Fault fault)) neve
 writes_unfailed text status failed before after old new (Err Past) never same none = absurd never
 writes_unfailed text status failed before after old new (Err Long) never same none = absurd never
 
--- a stream that fails is told by the status
+-- a stream that fails is told
 never_failed : (before after : Bool) → after ≡ before → before ≡ false → IsTrue after → ⊥
 never_failed before after same was failed = false≢true (sym (same ∙ was) ∙ failed)
 
-pub told_by_status : (before after : Bool) (answer : Result ℕ Failure) → ((answer ≡ Err Stream → ⊥) → after ≡ before) → before ≡ false → IsTrue after → status_of answer ≡ 3
-told_by_status before after (Err Stream) same was failed = refl
-told_by_status before after (Ok status) same was failed = absurd (never_failed before after (same (λ is. let never : ⊥ = cc in never)) was failed)
-told_by_status before after (Err (Fault fault)) same was failed = absurd (never_failed before after (same (λ is. let never : ⊥ = cc in never)) was failed)
-told_by_status before after (Err Past) same was failed = absurd (never_failed before after (same (λ is. let never : ⊥ = cc in never)) was failed)
-told_by_status before after (Err Long) same was failed = absurd (never_failed before after (same (λ is. let never : ⊥ = cc in never)) was failed)
+pub told_as_stream : (before after : Bool) (answer : Result ℕ Failure) → ((answer ≡ Err Stream → ⊥) → after ≡ before) → before ≡ false → IsTrue after → ending_of answer ≡ endings.Stream
+told_as_stream before after (Err Stream) same was failed = refl
+told_as_stream before after (Ok status) same was failed = absurd (never_failed before after (same (λ is. let never : ⊥ = cc in never)) was failed)
+told_as_stream before after (Err (Fault fault)) same was failed = absurd (never_failed before after (same (λ is. let never : ⊥ = cc in never)) was failed)
+told_as_stream before after (Err Past) same was failed = absurd (never_failed before after (same (λ is. let never : ⊥ = cc in never)) was failed)
+told_as_stream before after (Err Long) same was failed = absurd (never_failed before after (same (λ is. let never : ⊥ = cc in never)) was failed)
 
 -- where memory is wanted, nothing is told of what was read
 pub unread_so : (task : Task) (order : Option (List ℕ)) (read : Result Input Unread) (old : Option (List ℕ)) (fault : Refusal) → fault ≡ no_memory → Answers task order read old old (Err (Fault fault))
@@ -108,13 +110,13 @@ unread_so task order read old fault is =
     subst Told (sym is) (keeps_itself old, inl tt)
 
 -- by the name `lwkt_run` or not, no more is written of a task than its answer
-pub performed : (task : Task) (order name : Option (List ℕ)) (source sink_mid sink : Bool) (flushed_mid flushed : Type 0) (left old mid new : Option (List ℕ)) (answer : Result ℕ Failure) (status : ℕ)
-    → AnswersRead task order name left old mid answer → SaysAfter (complains task) sink mid new answer → (answer ≡ Err Stream → IsTrue source ⊎ IsTrue sink_mid) → (IsTrue sink_mid → IsTrue sink) → OnOk answer flushed_mid → OnOk answer (flushed_mid → flushed) → status ≡ status_of answer
-    → Performs task order name source sink flushed left old new status
-performed task order name source sink_mid sink flushed_mid flushed left old mid new (Ok told) status answers says blames still was goes is =
-    record { answer = Ok told; mid = mid; answers = answers; says = says; blames = (λ same. elim (blames same) [ inl s ↦ inl s | inr k ↦ inr (still k) ]); flushes = goes was; is_status = is }
-performed task order name source sink_mid sink flushed_mid flushed left old mid new (Err failure) status answers says blames still was goes is =
-    record { answer = Err failure; mid = mid; answers = answers; says = says; blames = (λ same. elim (blames same) [ inl s ↦ inl s | inr k ↦ inr (still k) ]); flushes = tt; is_status = is }
+pub performed : (task : Task) (order name : Option (List ℕ)) (source sink_mid sink : Bool) (flushed_mid flushed : Type 0) (left old mid new : Option (List ℕ)) (answer : Result ℕ Failure) (ending : Ending)
+    → AnswersRead task order name left old mid answer → SaysAfter (complains task) sink mid new answer → (answer ≡ Err Stream → IsTrue source ⊎ IsTrue sink_mid) → (IsTrue sink_mid → IsTrue sink) → OnOk answer flushed_mid → OnOk answer (flushed_mid → flushed) → ending ≡ ending_of answer
+    → Performs task order name source sink flushed left old new ending
+performed task order name source sink_mid sink flushed_mid flushed left old mid new (Ok told) ending answers says blames still was goes is =
+    record { answer = Ok told; mid = mid; answers = answers; says = says; blames = (λ same. elim (blames same) [ inl s ↦ inl s | inr k ↦ inr (still k) ]); flushes = goes was; is_ending = is }
+performed task order name source sink_mid sink flushed_mid flushed left old mid new (Err failure) ending answers says blames still was goes is =
+    record { answer = Err failure; mid = mid; answers = answers; says = says; blames = (λ same. elim (blames same) [ inl s ↦ inl s | inr k ↦ inr (still k) ]); flushes = tt; is_ending = is }
 
 -- a form that was written is the text that is made
 pub json_made : {A E M F : Type 0} (bytes : A → List ℕ) (text : M → A) (status : M → ℕ) (input : Input) (written : Result A E) (made : Result M F)

@@ -1,4 +1,4 @@
--- Why nothing is made of what was read, and the status then (own).
+-- Why nothing is made of what was read, and how the program ends then (own).
 use Rattle.std.specs.Prelude.{◌≡◌, ◌⊎◌, ℕ, List, Bool, true, false, Option, Result, Ok, Err}
 use Rattle.lwkt_base.specs.declared.faults.Fault.{Fault as Refusal}
 use Rattle.lwkt_base.specs.declared.faults.Fault.TheVariants.{Script as ScriptFault, Memory, Unlawful}
@@ -15,6 +15,8 @@ use Rattle.lwkt_text.specs.declared.inputs.Input.{Input}
 use Rattle.lwkt_text.specs.declared.inputs.Unread.{Unread}
 use Rattle.lwkt_text.specs.declared.inputs.Unread.TheVariants.{Json, Wrongs}
 use Rattle.lwkt_text.specs.declared.wrongs.Wrong.{Wrong}
+use Rattle.lwkt.specs.declared.endings.Ending.{Ending}
+use Rattle.lwkt.specs.declared.endings.Ending.TheVariants as endings
 use Rattle.lwkt.specs.declared.failures.Failure.{Failure}
 use Rattle.lwkt.specs.declared.failures.Failure.TheVariants.{Fault, Past, Long, Stream}
 
@@ -65,18 +67,18 @@ RefusesInput read _ = ⊥
 abbrev pub IsFailureOf : Task → Option (List ℕ) → Result Input Unread → Failure → Type 0
 IsFailureOf task order read failure = IsFault (RefusesInput read) failure ⊎ ((input : Input) × ((read ≡ Ok input) × Declines task order input.script failure))
 
--- the status of a fault: 3 for want of memory, 4 for a search with an unlawful run, else 1
-abbrev pub status_of_fault : Refusal → ℕ
-status_of_fault (Memory refused) = 3
-status_of_fault (Unlawful index) = 4
-status_of_fault _ = 1
+-- how the program ends for a fault: for want of memory, or with status 4 for a search with an unlawful run, else with 1
+abbrev pub ending_of_fault : Refusal → Ending
+ending_of_fault (Memory refused) = endings.Memory refused
+ending_of_fault (Unlawful index) = endings.Done 4
+ending_of_fault _ = endings.Done 1
 
-abbrev pub status_of_failure : Failure → ℕ
-status_of_failure (Fault fault) = status_of_fault fault
-status_of_failure Past = 1
-status_of_failure Long = 1
-status_of_failure Stream = 3
+abbrev pub ending_of_failure : Failure → Ending
+ending_of_failure (Fault fault) = ending_of_fault fault
+ending_of_failure Past = endings.Done 1
+ending_of_failure Long = endings.Done 1
+ending_of_failure Stream = endings.Stream
 
-abbrev pub status_of : Result ℕ Failure → ℕ
-status_of (Ok status) = status
-status_of (Err failure) = status_of_failure failure
+abbrev pub ending_of : Result ℕ Failure → Ending
+ending_of (Ok status) = endings.Done status
+ending_of (Err failure) = ending_of_failure failure

@@ -1,5 +1,6 @@
 pub mod Making
 pub mod Failing
+pub mod Ending
 pub mod Performing
 pub mod Checking
 pub mod Counting

@@ -14,9 +14,10 @@ use Rattle.lwkt_run.specs.Run.{AreBytesRead}
 use Rattle.lwkt_text.specs.declared.inputs.Input.{Input}
 use Rattle.lwkt_text.specs.declared.inputs.Unread.{Unread}
 use Rattle.lwkt_text.specs.Inputs.{input_of, is_text, names_text}
+use Rattle.lwkt.specs.declared.endings.Ending.{Ending}
 use Rattle.lwkt.specs.declared.failures.Failure.{Failure}
 use Rattle.lwkt.specs.declared.failures.Failure.TheVariants.{Fault, Past, Long, Stream}
-use Rattle.lwkt.specs.Failing.{IsFailureOf, status_of}
+use Rattle.lwkt.specs.Failing.{IsFailureOf, ending_of}
 use Rattle.lwkt.specs.Making.{IsMadeOf, mode_of}
 
 -- a text is written whole, and its status stands; or the sink fails, and a front of it stands
@@ -53,16 +54,16 @@ SaysAfter true failed old new (Err (Fault fault)) = IsSaid failed old new (fault
 SaysAfter true failed old new (Err Stream) = IsSaid failed old new (fault_line RunProgram ComplaintStream)
 SaysAfter _ failed old new _ = Keeps old new
 
--- what the program does for a task that takes a script: it answers, writes no more than that, and the status says which answer it was; a
+-- what the program does for a task that takes a script: it answers, writes no more than that, and ends as the answer says; a
 -- stream is blamed only if one has failed, and a whole text is flushed
-pub record Performs (task : Task) (order name : Option (List ℕ)) (source_failed sink_failed : Bool) (flushed : Type 0) (left old new : Option (List ℕ)) (status : ℕ) : Type 0 where
+pub record Performs (task : Task) (order name : Option (List ℕ)) (source_failed sink_failed : Bool) (flushed : Type 0) (left old new : Option (List ℕ)) (ending : Ending) : Type 0 where
   pub answer : Result ℕ Failure
   pub mid : Option (List ℕ)
   pub answers : AnswersRead task order name left old mid answer
   pub says : SaysAfter (complains task) sink_failed mid new answer
   pub blames : answer ≡ Err Stream → IsTrue source_failed ⊎ IsTrue sink_failed
   pub flushes : OnOk answer flushed
-  pub is_status : status ≡ status_of answer
+  pub is_ending : ending ≡ ending_of answer
 
 -- bytes from a file of this name are taken for JSON
 abbrev pub IsJson : Option (List ℕ) → List ℕ → Type 0

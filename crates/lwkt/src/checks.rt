@@ -1,16 +1,21 @@
 //! Traces, checked.
 ghost use Rattle.std.specs.Prelude.{◌≡◌, ◌↔◌, ◌⊎◌, false, true, IsTrue};
 ghost use Rattle.std.specs.Io.KnownBytes.{Keeps};
-ghost use Rattle.lwkt_checker.specs.Output.{TellsFinding, status_of};
+ghost use Rattle.lwkt_checker.specs.Output.{TellsFinding};
 ghost use Rattle.lwkt_checker.specs.LineOutput.{TellsOfLines};
 ghost use Rattle.lwkt_refusals.specs.Sayings.{SaysMore};
 ghost use Rattle.lwkt.specs.Checking.{ComplainsFirst, IsUnread, ChecksAloud};
+ghost use Rattle.lwkt.specs.Ending.{ending_of_check};
 
+use crate::endings::Ending;
 use crate::errors::{say_memory, say_unreadable, say_unwritten};
 use lwkt_base::Fault;
-use lwkt_checker::{Lines, check_keeping, check_lines, say_outcome, status_of};
+use lwkt_checker::{Lines, check_keeping, check_lines};
 use lwkt_refusals::{has_no_reader, say_untraced, say_untraced_line};
-use lwkt_report::{NotedReader, NotedWriter, ReaderSource, RunFault, Sink, WriterSink};
+use lwkt_report::{
+    NotedReader, NotedWriter, Program, ReaderSource, RunFault, Sink, WriterSink, complain,
+    complaint_of,
+};
 use std::alloc::Global;
 use std::io::{Read, Write};
 
@@ -71,20 +76,26 @@ fn say_why<I, O, E: Sink>(
     }
 }
 
-// Says what came of a check: nothing beside a finding, else its line and why nothing was found.
+// Says what came of a check: nothing beside a finding, else why nothing was found, by the name `lwkt_check` behind its line.
 fn say_all<I, O, E: Sink>(
     alloc: Global,
     errors: &mut E,
+    by_old_name: bool,
     path: Option<&str>,
     outcome: &Result<bool, RunFault>,
     given: &Given,
     source: &ReaderSource<NotedReader<I>>,
     sink: &WriterSink<NotedWriter<O>>,
 )
-    ensures { ComplainsFirst (E.has_failed errors.new) (E.contents errors.old) (E.contents errors.new) outcome.now }
+    ensures { ComplainsFirst by_old_name (E.has_failed errors.new) (E.contents errors.old) (E.contents errors.new) outcome.now }
 {
-    say_outcome(errors, outcome);
-    if let Err(fault) = *outcome {
+    let Err(fault) = *outcome else {
+        return;
+    };
+    if by_old_name {
+        complain(errors, Program::Check, complaint_of(fault));
+        say_why(alloc, errors, path, fault, given, source, sink);
+    } else {
         say_why(alloc, errors, path, fault, given, source, sink);
     }
 }
@@ -96,38 +107,62 @@ fn is_unread<O>(sink: &WriterSink<NotedWriter<O>>) -> bool
     sink.failed && has_no_reader(&sink.writer.error)
 }
 
-// Says what came of a check, but nothing where nobody reads any more what is written. The answer is the exit status.
+// How a check ended.
+fn ending_of(outcome: &Result<bool, RunFault>) -> Ending
+    ensures { result ≡ ending_of_check outcome.now }
+{
+    match *outcome {
+        Ok(true) => Ending::Done(0),
+        Ok(false) => Ending::Done(4),
+        Err(RunFault::Fault(Fault::Memory(refused))) => Ending::Memory(refused),
+        Err(RunFault::Fault(_)) => Ending::Done(1),
+        Err(RunFault::Stream) => Ending::Stream,
+    }
+}
+
+// Says what came of a check, but nothing where nobody reads any more what is written. The answer is how it ended.
 fn conclude<I, O, E: Sink>(
     alloc: Global,
     errors: &mut E,
+    by_old_name: bool,
     path: Option<&str>,
     outcome: &Result<bool, RunFault>,
     given: &Given,
     source: &ReaderSource<NotedReader<I>>,
     sink: &WriterSink<NotedWriter<O>>,
-) -> u8
-    ensures complains { (IsUnread sink.now.failed sink.now.writer.error × Keeps (E.contents errors.old) (E.contents errors.new)) ⊎ ((IsUnread sink.now.failed sink.now.writer.error → ⊥) × ComplainsFirst (E.has_failed errors.new) (E.contents errors.old) (E.contents errors.new) outcome.now) }
-    ensures status { result ≡ status_of outcome.now }
+) -> Ending
+    ensures complains { (IsUnread sink.now.failed sink.now.writer.error × Keeps (E.contents errors.old) (E.contents errors.new)) ⊎ ((IsUnread sink.now.failed sink.now.writer.error → ⊥) × ComplainsFirst by_old_name (E.has_failed errors.new) (E.contents errors.old) (E.contents errors.new) outcome.now) }
+    ensures ending { result ≡ ending_of_check outcome.now }
 {
     if !is_unread(sink) {
-        say_all(alloc, errors, path, outcome, given, source, sink);
+        say_all(
+            alloc,
+            errors,
+            by_old_name,
+            path,
+            outcome,
+            given,
+            source,
+            sink,
+        );
     }
-    status_of(outcome)
+    ending_of(outcome)
 }
 
-/// Checks a trace, in lines or not: writes what is found, and answers the exit status. Where errors go, the line of a fault stands if
-/// nothing is found, and behind it why: the part of the trace that is refused, with its place, or how a stream failed. If nobody
-/// reads any more what is written, nothing goes there.
+/// Checks a trace, in lines or not: writes what is found, and answers how that ended. If nothing is found, where errors go stands why,
+/// by the name `lwkt_check` behind the line of the fault: the part of the trace that is refused, with its place, or how a stream failed. If
+/// nobody reads any more what is written, nothing goes there.
 pub fn check<I: Read, O: Write, E: Sink>(
     alloc: Global,
     by_lines: bool,
+    by_old_name: bool,
     path: Option<&str>,
     source: &mut ReaderSource<NotedReader<I>>,
     sink: &mut WriterSink<NotedWriter<O>>,
     errors: &mut E,
-) -> u8
-    ensures whole { by_lines ≡ false → ChecksAloud TellsFinding source.new.failed sink.new.failed (I.remaining source.old.reader.reader) (O.contents sink.old.writer.writer) (O.contents sink.new.writer.writer) (IsUnread sink.new.failed sink.new.writer.error) (E.has_failed errors.new) (E.contents errors.old) (E.contents errors.new) result }
-    ensures lines { by_lines ≡ true → ChecksAloud TellsOfLines source.new.failed sink.new.failed (I.remaining source.old.reader.reader) (O.contents sink.old.writer.writer) (O.contents sink.new.writer.writer) (IsUnread sink.new.failed sink.new.writer.error) (E.has_failed errors.new) (E.contents errors.old) (E.contents errors.new) result }
+) -> Ending
+    ensures whole { by_lines ≡ false → ChecksAloud by_old_name TellsFinding source.new.failed sink.new.failed (I.remaining source.old.reader.reader) (O.contents sink.old.writer.writer) (O.contents sink.new.writer.writer) (IsUnread sink.new.failed sink.new.writer.error) (E.has_failed errors.new) (E.contents errors.old) (E.contents errors.new) result }
+    ensures lines { by_lines ≡ true → ChecksAloud by_old_name TellsOfLines source.new.failed sink.new.failed (I.remaining source.old.reader.reader) (O.contents sink.old.writer.writer) (O.contents sink.new.writer.writer) (IsUnread sink.new.failed sink.new.writer.error) (E.has_failed errors.new) (E.contents errors.old) (E.contents errors.new) result }
 {
     if by_lines {
         let mut lines = Lines::new(alloc);
@@ -135,6 +170,7 @@ pub fn check<I: Read, O: Write, E: Sink>(
         return conclude(
             alloc,
             errors,
+            by_old_name,
             path,
             &outcome,
             &Given::Lines(&lines),
@@ -147,6 +183,7 @@ pub fn check<I: Read, O: Write, E: Sink>(
     conclude(
         alloc,
         errors,
+        by_old_name,
         path,
         &outcome,
         &Given::Text(&text),

@@ -5,12 +5,13 @@ ghost use Rattle.lwkt_report.specs.Complaint.{IsSaid};
 ghost use Rattle.lwkt.specs.Answering.{IsByOldName, lines_shown};
 
 use crate::failures::Failure;
-use lwkt_base::Fault;
+use lwkt_base::memory::{from_str, push_str};
+use lwkt_base::{Fault, OutOfMemory, memory};
 use lwkt_refusals::{Speaker, has_no_reader, say_of_file, say_opening};
 use lwkt_report::{Sink, push_escaped, write_whole};
 use lwkt_request::{Form, Task};
 use lwkt_text::Input;
-use std::alloc::{AllocError, Global};
+use std::alloc::Global;
 use std::io;
 
 /// What is read, as errors name it.
@@ -60,13 +61,13 @@ pub fn put<K: Sink>(sink: &mut K, text: &str)
 }
 
 // The lines of a text, as they are shown.
-fn lines_shown(alloc: Global, text: &str) -> Result<String, AllocError>
+fn lines_shown(alloc: Global, text: &str) -> Result<String, OutOfMemory>
     ensures { IfOk result (λ shown. string_bytes shown ≡ lines_shown text.now) }
 {
     let mut shown = String::new(alloc);
     for line in text.lines() {
         push_escaped(&mut shown, line)?;
-        shown.push_str("\n")?;
+        push_str(&mut shown, "\n")?;
     }
     Ok(shown)
 }
@@ -74,7 +75,7 @@ fn lines_shown(alloc: Global, text: &str) -> Result<String, AllocError>
 /// Writes lines in which words of the command line stand, with escapes for what isn't shown as it is. What can't be written is let go.
 ///
 /// Refused if memory is, and then nothing is written.
-pub fn put_lines<E: Sink>(alloc: Global, errors: &mut E, text: &str) -> Result<(), AllocError>
+pub fn put_lines<E: Sink>(alloc: Global, errors: &mut E, text: &str) -> Result<(), OutOfMemory>
     ensures said { OnOk result (IsSaid (E.has_failed errors.new) (E.contents errors.old) (E.contents errors.new) (lines_shown text.now)) }
     ensures unsaid { OnErr result (errors.new ≡ errors.old) }
 {
@@ -93,10 +94,15 @@ pub fn say_memory<E: Sink>(errors: &mut E)
 // Says that an order names a processor that the script doesn't have.
 fn say_absent<E: Sink>(alloc: Global, errors: &mut E, path: Option<&str>, cpus: u8) {
     let last = cpus.saturating_sub(1);
-    match format!(in alloc;
-        "the order names a processor that isn't there; the last one is {last}"
+    let mut words = String::new(alloc);
+    match memory::put(
+        &mut words,
+        (
+            "the order names a processor that isn't there; the last one is ",
+            last,
+        ),
     ) {
-        Ok(words) => say_of_file(alloc, errors, path, words.as_str()),
+        Ok(()) => say_of_file(alloc, errors, path, words.as_str()),
         Err(_) => say_memory(errors),
     }
 }
@@ -187,16 +193,17 @@ pub fn is_by_old_name(task: Task) -> bool
 }
 
 // What is said by the name `lwkt_run` of a file that can't be opened or read.
-fn old_line(alloc: Global, path: &str, error: &Option<io::Error>) -> Result<String, AllocError> {
-    let mut line = String::new(alloc);
-    line.push_str("lwkt_run: ")?;
+fn old_line(alloc: Global, path: &str, error: &Option<io::Error>) -> Result<String, OutOfMemory> {
+    let mut line = from_str(alloc, "lwkt_run: ")?;
     push_escaped(&mut line, path)?;
-    line.push_str(": ")?;
-    match error {
-        Some(error) => line.push_str(error.to_string(alloc)?.as_str())?,
-        None => line.push_str("it can't be read")?,
+    let words = match error {
+        Some(error) => error.to_string(alloc).ok(),
+        None => None,
+    };
+    match words {
+        Some(words) => memory::put(&mut line, (": ", words.as_str(), "\n"))?,
+        None => push_str(&mut line, ": it can't be read\n")?,
     }
-    line.push_str("\n")?;
     Ok(line)
 }
 

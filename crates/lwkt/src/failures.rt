@@ -2,8 +2,7 @@ ghost use Rattle.std.specs.Prelude.{◌≡◌};
 ghost use Rattle.lwkt_base.specs.declared.faults.Fault.TheVariants.{Memory};
 ghost use Rattle.lwkt.specs.declared.failures.Failure.TheVariants as failures;
 
-use lwkt_base::Fault;
-use std::alloc::AllocError;
+use lwkt_base::{Fault, OutOfMemory};
 
 /// Why a task writes nothing, or not all.
 #[derive(Clone, Copy, Debug, PartialEq, Eq)]
@@ -26,10 +25,10 @@ impl From<Fault> for Failure {
     }
 }
 
-impl From<AllocError> for Failure {
+impl From<OutOfMemory> for Failure {
     ghost from_gives = { λ refused failure. failure ≡ failures.Fault (Memory refused) };
 
-    fn from(refused: AllocError) -> Failure {
+    fn from(refused: OutOfMemory) -> Failure {
         Failure::Fault(Fault::Memory(refused))
     }
 }

@@ -23,9 +23,5 @@ pub fn source_of<I: Read>(reader: I) -> ReaderSource<NotedReader<I>>
     ensures reader { result.reader.reader ≡ reader }
     ensures unfailed { result.failed ≡ false }
 {
-    ReaderSource::new(NotedReader {
-        reader,
-        given: None,
-        error: None,
-    })
+    ReaderSource::new(NotedReader::new(reader))
 }

@@ -6,11 +6,13 @@
 
 mod answering;
 mod checks;
+mod endings;
 mod errors;
 mod explores;
 mod failures;
 mod files;
 mod folders;
+mod foreign;
 mod performing;
 mod reads;
 mod runs;
@@ -31,6 +33,6 @@ fn main(rt: HostRuntime) -> ExitCode {
     let mut source = source_of(rt.stdin());
     let mut sink = WriterSink::new(NotedWriter::new(rt.stdout()));
     let mut errors = WriterSink::new(rt.stderr());
-    let status = answer(&rt, alloc, words, &mut source, &mut sink, &mut errors);
-    ExitCode::from(status)
+    let ending = answer(&rt, alloc, words, &mut source, &mut sink, &mut errors);
+    ExitCode::from(ending.status())
 }

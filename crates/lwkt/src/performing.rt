@@ -3,12 +3,15 @@ ghost use Rattle.std.specs.Prelude.{◌≡◌, ◌⊎◌, Err, IfErr, IfOk, IsTr
 ghost use Rattle.std.specs.Option.{option_copied};
 ghost use Rattle.lwkt_text.specs.Inputs.{input_of};
 ghost use Rattle.lwkt.specs.Answering.{Serves};
-ghost use Rattle.lwkt.specs.Failing.{Declines, IsFailureOf, status_of};
+ghost use Rattle.lwkt.specs.Failing.{Declines, IsFailureOf, ending_of};
 ghost use Rattle.lwkt.specs.Making.{IsMade, IsMadeOf, TakesScript};
 ghost use Rattle.lwkt.specs.Performing.{AnswersRead, Performs, SaysAfter, complains, order_of};
 
 use crate::checks::check;
-use crate::errors::{Origin, put, say_memory, say_unmade, say_unread, say_unwritten};
+use crate::endings::Ending;
+use crate::errors::{
+    Origin, is_by_old_name, put, put_bytes, say_memory, say_unmade, say_unread, say_unwritten,
+};
 use crate::explores::finding_of;
 use crate::failures::Failure;
 use crate::reads::read_said;
@@ -137,15 +140,16 @@ fn complain_of<K: Sink>(task: Task, sink: &mut K, answer: &Result<u8, Failure>)
     }
 }
 
-// The exit status.
-fn status_of(answer: &Result<u8, Failure>) -> u8
-    ensures { result ≡ status_of answer.now }
+// How the program ends by an answer.
+fn ending_of(answer: &Result<u8, Failure>) -> Ending
+    ensures { result ≡ ending_of answer.now }
 {
     match *answer {
-        Ok(status) => status,
-        Err(Failure::Fault(Fault::Memory(_))) | Err(Failure::Stream) => 3,
-        Err(Failure::Fault(Fault::Unlawful { .. })) => 4,
-        Err(_) => 1,
+        Ok(status) => Ending::Done(status),
+        Err(Failure::Fault(Fault::Memory(refused))) => Ending::Memory(refused),
+        Err(Failure::Stream) => Ending::Stream,
+        Err(Failure::Fault(Fault::Unlawful { .. })) => Ending::Done(4),
+        Err(_) => Ending::Done(1),
     }
 }
 
@@ -169,7 +173,60 @@ fn say_streams<I, O, E: Sink>(
     }
 }
 
-// Performs a task that takes a script, and answers the exit status.
+// Passes on what was said; if memory for it was refused, this alone is said.
+fn pass_on<E: Sink>(errors: &mut E, said: &WriterSink<Vec<u8>>) {
+    if said.failed {
+        say_memory(errors);
+    } else {
+        put_bytes(errors, said.writer.as_slice());
+    }
+}
+
+// Performs a task by the name `lwkt_run`: where a terminal shows both, the line of a fault stands before what is said of it.
+fn perform_by_old_name<R: Threads + Sync + Clock, I: Read, O: Write, E: Sink>(
+    rt: &R,
+    alloc: Global,
+    origin: Origin<'_>,
+    order: Option<&[u8]>,
+    source: &mut ReaderSource<NotedReader<I>>,
+    sink: &mut WriterSink<NotedWriter<O>>,
+    errors: &mut E,
+) -> Ending
+    requires { TakesScript origin.task }
+    ensures performs { Performs origin.entry.task (option_copied order.entry) (option_copied origin.entry.path) source.new.failed sink.new.failed (IsTrue sink.new.flushed) (I.remaining source.old.reader.reader) (O.contents sink.old.writer.writer) (O.contents sink.new.writer.writer) result }
+    ensures failed_source { source.old.failed ≡ false → IsTrue source.new.failed → result ≡ Ending.Stream }
+    ensures failed_sink { complains origin.entry.task ≡ false → sink.old.failed ≡ false → IsTrue sink.new.failed → result ≡ Ending.Stream }
+{
+    let mut said = WriterSink::new(Vec::new(alloc));
+    let answer = answered(rt, alloc, origin, order, source, sink, &mut said);
+    complain_of(origin.task, sink, &answer);
+    pass_on(errors, &said);
+    say_streams(alloc, errors, origin, &answer, source, sink);
+    ending_of(&answer)
+}
+
+// Performs a task by the name of a subcommand, or an older one without such a line.
+fn perform_by_name<R: Threads + Sync + Clock, I: Read, O: Write, E: Sink>(
+    rt: &R,
+    alloc: Global,
+    origin: Origin<'_>,
+    order: Option<&[u8]>,
+    source: &mut ReaderSource<NotedReader<I>>,
+    sink: &mut WriterSink<NotedWriter<O>>,
+    errors: &mut E,
+) -> Ending
+    requires { TakesScript origin.task }
+    ensures performs { Performs origin.entry.task (option_copied order.entry) (option_copied origin.entry.path) source.new.failed sink.new.failed (IsTrue sink.new.flushed) (I.remaining source.old.reader.reader) (O.contents sink.old.writer.writer) (O.contents sink.new.writer.writer) result }
+    ensures failed_source { source.old.failed ≡ false → IsTrue source.new.failed → result ≡ Ending.Stream }
+    ensures failed_sink { complains origin.entry.task ≡ false → sink.old.failed ≡ false → IsTrue sink.new.failed → result ≡ Ending.Stream }
+{
+    let answer = answered(rt, alloc, origin, order, source, sink, errors);
+    complain_of(origin.task, sink, &answer);
+    say_streams(alloc, errors, origin, &answer, source, sink);
+    ending_of(&answer)
+}
+
+// Performs a task that takes a script, and answers how that ended.
 fn perform_on_script<R: Threads + Sync + Clock, I: Read, O: Write, E: Sink>(
     rt: &R,
     alloc: Global,
@@ -178,16 +235,17 @@ fn perform_on_script<R: Threads + Sync + Clock, I: Read, O: Write, E: Sink>(
     source: &mut ReaderSource<NotedReader<I>>,
     sink: &mut WriterSink<NotedWriter<O>>,
     errors: &mut E,
-) -> u8
+) -> Ending
     requires { TakesScript origin.task }
     ensures performs { Performs origin.entry.task (option_copied order.entry) (option_copied origin.entry.path) source.new.failed sink.new.failed (IsTrue sink.new.flushed) (I.remaining source.old.reader.reader) (O.contents sink.old.writer.writer) (O.contents sink.new.writer.writer) result }
-    ensures failed_source { source.old.failed ≡ false → IsTrue source.new.failed → result ≡ 3 }
-    ensures failed_sink { complains origin.entry.task ≡ false → sink.old.failed ≡ false → IsTrue sink.new.failed → result ≡ 3 }
+    ensures failed_source { source.old.failed ≡ false → IsTrue source.new.failed → result ≡ Ending.Stream }
+    ensures failed_sink { complains origin.entry.task ≡ false → sink.old.failed ≡ false → IsTrue sink.new.failed → result ≡ Ending.Stream }
 {
-    let answer = answered(rt, alloc, origin, order, source, sink, errors);
-    complain_of(origin.task, sink, &answer);
-    say_streams(alloc, errors, origin, &answer, source, sink);
-    status_of(&answer)
+    if is_by_old_name(origin.task) {
+        perform_by_old_name(rt, alloc, origin, order, source, sink, errors)
+    } else {
+        perform_by_name(rt, alloc, origin, order, source, sink, errors)
+    }
 }
 
 // The order that a request names.
@@ -200,11 +258,11 @@ fn order_of(request: &Request) -> Option<&[u8]>
     }
 }
 
-/// Performs a request: reads all that is left of the source, writes what the task makes of it, and answers the exit status.
+/// Performs a request, asked for by an older name of `lwkt check` or not: reads all that is left of the source, writes what the task makes of it, and answers how that ended.
 ///
 /// A script is read in JSON or as a text, by the name of its file too. What is made of it is whole in memory before its first byte is
-/// written, and its status stands if all is written. Else the status is 1 if the input, its opening or its order is refused, if the run ended
-/// before the range that is shown, or if a form of the script is too long; 3 if memory is refused or a stream failed; 4 if a run along an
+/// written, and its status stands if all is written. Else memory was refused or a stream failed; or the status is 1 if the input, its opening
+/// or its order is refused, if the run ended before the range that is shown, or if a form of the script is too long, and 4 if a run along an
 /// order isn't lawful. By the name `lwkt_run` the line of the fault stands on the sink then.
 ///
 /// `errors` gets why nothing is written, and of each thing that a text expects whether it holds.
@@ -212,17 +270,18 @@ pub fn perform<R: Threads + Sync + Clock, I: Read, O: Write, E: Sink>(
     rt: &R,
     alloc: Global,
     request: &Request,
+    by_old_name: bool,
     name: Option<&str>,
     source: &mut ReaderSource<NotedReader<I>>,
     sink: &mut WriterSink<NotedWriter<O>>,
     errors: &mut E,
-) -> u8
-    // What is written, and the status.
-    ensures serves { Serves request.now.task (order_of request.now) (option_copied name.entry) source.new.failed (I.remaining source.old.reader.reader) (record { old = O.contents sink.old.writer.writer; new = O.contents sink.new.writer.writer; failed = sink.new.failed; error = sink.new.writer.error; flushed = sink.new.flushed; before = E.contents errors.old; after = E.contents errors.new; lost = E.has_failed errors.new }) result }
+) -> Ending
+    // What is written, and how that ended.
+    ensures serves { Serves request.now.task (order_of request.now) (option_copied name.entry) by_old_name source.new.failed (I.remaining source.old.reader.reader) (record { old = O.contents sink.old.writer.writer; new = O.contents sink.new.writer.writer; failed = sink.new.failed; error = sink.new.writer.error; flushed = sink.new.flushed; before = E.contents errors.old; after = E.contents errors.new; lost = E.has_failed errors.new }) result }
 
-    // A stream that fails is told by the status.
-    ensures failed_source { TakesScript request.now.task → source.old.failed ≡ false → IsTrue source.new.failed → result ≡ 3 }
-    ensures failed_sink { TakesScript request.now.task → complains request.now.task ≡ false → sink.old.failed ≡ false → IsTrue sink.new.failed → result ≡ 3 }
+    // A stream that fails is told.
+    ensures failed_source { TakesScript request.now.task → source.old.failed ≡ false → IsTrue source.new.failed → result ≡ Ending.Stream }
+    ensures failed_sink { TakesScript request.now.task → complains request.now.task ≡ false → sink.old.failed ≡ false → IsTrue sink.new.failed → result ≡ Ending.Stream }
 {
     let origin = Origin {
         task: request.task,
@@ -230,7 +289,9 @@ pub fn perform<R: Threads + Sync + Clock, I: Read, O: Write, E: Sink>(
     };
     let order = order_of(request);
     match request.task {
-        Task::Check { by_lines } => check(alloc, by_lines, name, source, sink, errors),
+        Task::Check { by_lines } => {
+            check(alloc, by_lines, by_old_name, name, source, sink, errors)
+        }
         _ => perform_on_script(rt, alloc, origin, order, source, sink, errors),
     }
 }

@@ -1,10 +1,12 @@
 //! Who looks on at a search by the clock.
 ghost use Rattle.std.specs.Prelude.{◌≡◌, None, false, IsTrue};
 
+use lwkt_base::OutOfMemory;
+use lwkt_base::memory::put;
 use lwkt_explore::{Seen, Watch};
 use lwkt_report::{Sink, write_whole};
 use lwkt_request::Search;
-use std::alloc::{AllocError, Global};
+use std::alloc::Global;
 use std::time::{Clock, Duration, Instant};
 
 /// Looks on at a search: says each second how far it is, if `progress` is asked for, and ends it after the `seconds` that are named. If
@@ -23,13 +25,24 @@ pub struct Ticker<'a, R, E> {
 }
 
 // What is said: `lwkt: N states, N to go on from, N turns a second`.
-fn line_of(alloc: Global, seen: Seen, turns: u64) -> Result<String, AllocError> {
+fn line_of(alloc: Global, seen: Seen, turns: u64) -> Result<String, OutOfMemory> {
     let Seen {
         states,
         frontier,
         ..
     } = seen;
-    format!(in alloc; "lwkt: {states} states, {frontier} to go on from, {turns} turns a second\n")
+    let mut line = String::new(alloc);
+    put(
+        &mut line,
+        (
+            "lwkt: ",
+            states,
+            " states, ",
+            frontier,
+            (" to go on from, ", turns, " turns a second\n"),
+        ),
+    )?;
+    Ok(line)
 }
 
 // Whether so many seconds have passed between two times, if both are known.

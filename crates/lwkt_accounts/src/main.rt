@@ -3,7 +3,7 @@
 
 ghost use Rattle.std.specs.Prelude.{◌≡◌, IfOk, sum, slice_index_or, []};
 
-use lwkt_base::{Answer, Ask, Fault, TokId};
+use lwkt_base::{Answer, Ask, Fault, OutOfMemory, TokId};
 use lwkt_program::{Closed, LIMITS, Machine, Stepper, Steps, makers};
 use std::alloc::Global;
 use std::io;
@@ -59,7 +59,7 @@ impl Steps for Teller {
 }
 
 // The bodies of one processor.
-fn alone(alloc: Global, to: u8) -> Result<Vec<Stepper<Teller>>, Fault> {
+fn alone(alloc: Global, to: u8) -> Result<Vec<Stepper<Teller>>, OutOfMemory> {
     let teller = Stepper::new(Teller { to, left: 10 });
     makers::list(alloc, [teller])
 }
@@ -73,8 +73,9 @@ fn run<R: Threads + Sync>(rt: &R, alloc: Global) -> Result<Closed<Stepper<Teller
     let second = alone(alloc, 2)?;
     let bodies = makers::list(alloc, [first, second])?;
     let mut machine = Machine::open(alloc, &tokens, &[], bodies)?;
+    let room = machine.room(alloc)?;
     machine.drive(rt, &LIMITS);
-    machine.close(alloc)
+    Ok(machine.close_in(room))
 }
 
 fn main(rt: HostRuntime) -> io::Result<ExitCode> {

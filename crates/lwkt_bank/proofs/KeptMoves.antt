@@ -527,9 +527,6 @@ module _ (desk : ClerkDesk) (id : ℕ) (v : View) (words : List ℕ) (slots : Li
   pub bank_fits : ((k : ℕ) → slice_index words k < 18446744073709551616) → (tok : ℕ) → tok < length desk.key.plans.items → (plan_at desk.key.plans.items tok).law ≡ Tally → (a : ℕ) → kept_by kept tok a < 18446744073709551616
   bank_fits fits tok there tally a = kept_fits (id_of_desk desk) desk.key.cpus id v words slots seats kept left_here gathered_here all fits tok there tally a
 
-  pub bank_few : desk.key.cpus ≤ 8
-  bank_few = few (id_of_desk desk) desk.key.cpus id v words slots seats kept left_here gathered_here all
-
   pub bank_wide : length words ≡ table_words (length desk.key.plans.items)
   bank_wide = wide (id_of_desk desk) desk.key.cpus id v words slots seats kept left_here gathered_here all
 

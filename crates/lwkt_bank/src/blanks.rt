@@ -1,6 +1,8 @@
 ghost use Rattle.std.specs.Prelude.{◌≡◌, ◌≤◌, [], vec_capacity};
 
-use std::alloc::{AllocError, Global};
+use lwkt_base::OutOfMemory;
+use lwkt_base::memory::with_capacity;
+use std::alloc::Global;
 
 /// Room for the row and the tallies of one token, as a close shows them.
 #[derive(Drop)]
@@ -12,9 +14,9 @@ pub(crate) struct Blank {
 }
 
 impl Blank {
-    pub(crate) fn new(alloc: Global) -> Result<Blank, AllocError> {
-        let row = Vec::with_capacity(alloc, 4)?;
-        let tallies = Vec::with_capacity(alloc, 8)?;
+    pub(crate) fn new(alloc: Global) -> Result<Blank, OutOfMemory> {
+        let row = with_capacity(alloc, 4)?;
+        let tallies = with_capacity(alloc, 8)?;
         Ok(Blank { row, tallies })
     }
 }

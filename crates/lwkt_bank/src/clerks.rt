@@ -21,6 +21,7 @@ pub(crate) struct ClerkDesk {
     ghost wide: { table.shared.table_id.words ≡ table_words (length key.plans.items) },
     ghost deep: { table.shared.table_id.slots ≡ length key.plans.items },
     ghost few: { length key.plans.items ≤ 64 },
+    ghost few_cpus: { key.cpus ≤ 8 },
     ghost short: { (tok : ℕ) → (plan_at key.plans.items tok).cells ≤ 4 },
     ghost single: { (tok : ℕ) → (plan_at key.plans.items tok).law ≡ Tally → (plan_at key.plans.items tok).cells ≡ 1 },
     ghost seated: { clerk.table_id ≡ table.shared.table_id },

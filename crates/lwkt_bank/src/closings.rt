@@ -20,9 +20,9 @@ use crate::rules::{BankRule, Key};
 use crate::seats::CpuSeat;
 use crate::views::{Plan, View};
 use atomic_table::{Closed as ClosedTable, Seat, Table};
-use lwkt_base::{Blob, Cells, Fault, Law, TokId};
+use lwkt_base::{Blob, Cells, Fault, Law, OutOfMemory, TokId};
 use lwkt_table::SeatKind;
-use std::alloc::{AllocError, Global};
+use std::alloc::Global;
 
 fn copy_words(closed: &ClosedTable<Blob, Global>, count: usize, mut words: Vec<u64>) -> Vec<u64>
     requires full { IsFull closed.now.words }
@@ -260,7 +260,7 @@ impl Bank {
     ghost use Rattle.lwkt_base.specs.Fault.{no_memory};
 
     /// Room for the close of this bank: all that `close_in` takes.
-    pub fn room(&self, alloc: Global) -> Result<CloseRoom, AllocError>
+    pub fn room(&self, alloc: Global) -> Result<CloseRoom, OutOfMemory>
         ensures { IfOk result (λ room. IsRoomFor (id_of self.now) (cpus_of self.now) room) }
     {
         room_of(
@@ -293,7 +293,7 @@ impl Bank {
         ensures ok { IfOk result (λ closed. IsClosed (id_of self) (cpus_of self) seats.items closed) }
         ensures only { IfErr result (λ f. f ≡ no_memory) }
     {
-        let room = self.room(alloc).map_err(Fault::Memory)?;
+        let room = self.room(alloc)?;
         Ok(self.close_in(room, seats))
     }
 }

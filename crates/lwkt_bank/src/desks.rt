@@ -16,10 +16,11 @@ use crate::rules::{BankRule, Key};
 use crate::seats::CpuSeat;
 use crate::views::View;
 use atomic_table::{Seat, Table};
-use lwkt_base::{Blob, CpuId, Fault, TokSpec};
+use lwkt_base::memory::{push, table as open_table, with_capacity};
+use lwkt_base::{Blob, CpuId, Fault, OutOfMemory, TokSpec};
 use lwkt_core::all_open_lawfully;
-use lwkt_table::{SeatKind, table_refusal};
-use std::alloc::{AllocError, Global};
+use lwkt_table::SeatKind;
+use std::alloc::Global;
 
 // What a seat keeps at the opening.
 fn blank_notes() -> [TokenNote; 64]
@@ -52,7 +53,7 @@ impl ClerkDesk {
         words: &[u64],
         slots: Vec<Blob>,
         key: Key,
-    ) -> Result<ClerkDesk, AllocError>
+    ) -> Result<ClerkDesk, OutOfMemory>
         requires within { AreWithin key.cpus specs.now [] }
         requires lawful { AllOpenLawfully specs.now }
         requires plans { key.plans.items ≡ plans_of specs.now }
@@ -60,10 +61,8 @@ impl ClerkDesk {
         requires slots { slots.items ≡ opening_slots specs.now }
         ensures { IfOk result (λ desk. (desk.key ≡ key) × HasMade desk 0) }
     {
-        match Table::new(alloc, words, slots, &key) {
-            Ok((table, clerk)) => Ok(ClerkDesk { table, clerk, key }),
-            Err(refused) => Err(table_refusal(refused)),
-        }
+        let (table, clerk) = open_table(alloc, words, slots, &key)?;
+        Ok(ClerkDesk { table, clerk, key })
     }
 
     // The seat of the next processor.
@@ -81,7 +80,7 @@ impl ClerkDesk {
     }
 
     // Makes the seats of all processors.
-    fn hand_out_all(&mut self, seats: &mut Vec<CpuSeat>) -> Result<(), AllocError>
+    fn hand_out_all(&mut self, seats: &mut Vec<CpuSeat>) -> Result<(), OutOfMemory>
         requires next { HasMade self.old 0 }
         requires limit { self.old.key.cpus ≤ 8 }
         requires none { seats.old.items ≡ [] }
@@ -91,7 +90,7 @@ impl ClerkDesk {
     {
         for cpu in 0..self.key.cpus {
             let seat = self.hand_out(CpuId(cpu as u8));
-            seats.push(seat)?;
+            push(seats, seat)?;
         }
         Ok(())
     }
@@ -107,7 +106,7 @@ impl Bank {
         slots: Vec<Blob>,
         key: Key,
         mut seats: Vec<CpuSeat>,
-    ) -> Result<(Bank, Vec<CpuSeat>), AllocError>
+    ) -> Result<(Bank, Vec<CpuSeat>), OutOfMemory>
         requires within { AreWithin key.cpus specs.now [] }
         requires lawful { AllOpenLawfully specs.now }
         requires plans { key.plans.items ≡ plans_of specs.now }
@@ -146,11 +145,11 @@ impl Bank {
         if !all_open_lawfully(specs) {
             return Err(Fault::LawBroken);
         }
-        let seats = Vec::with_capacity(alloc, 8).map_err(Fault::Memory)?;
-        let plans = openings::plans_of(alloc, specs).map_err(Fault::Memory)?;
-        let words = openings::words_of(alloc, specs).map_err(Fault::Memory)?;
-        let slots = openings::slots_of(alloc, specs).map_err(Fault::Memory)?;
+        let seats = with_capacity(alloc, 8)?;
+        let plans = openings::plans_of(alloc, specs)?;
+        let words = openings::words_of(alloc, specs)?;
+        let slots = openings::slots_of(alloc, specs)?;
         let key = Key { plans, cpus };
-        Bank::open_within(alloc, specs, words.as_slice(), slots, key, seats).map_err(Fault::Memory)
+        Ok(Bank::open_within(alloc, specs, words.as_slice(), slots, key, seats)?)
     }
 }

@@ -6,9 +6,10 @@ ghost use Rattle.lwkt_bank.specs.Opened.{plan_of_spec, plans_of, slot_of_spec, o
 
 use crate::places::GENERATION;
 use crate::views::Plan;
-use lwkt_base::{Blob, LAST_GENERATION, Law, TokSpec};
+use lwkt_base::memory::{extend_from_slice, push, with_capacity_for};
+use lwkt_base::{Blob, LAST_GENERATION, Law, OutOfMemory, TokSpec};
 use lwkt_core::are_within as model_within;
-use std::alloc::{AllocError, Global};
+use std::alloc::Global;
 
 /// Whether the opening keeps the limits.
 pub(crate) fn are_within(cpus: usize, specs: &[TokSpec]) -> bool
@@ -50,10 +51,14 @@ fn plan_of(spec: &TokSpec) -> Plan
 }
 
 /// What is declared of each token.
-pub(crate) fn plans_of(alloc: Global, specs: &[TokSpec]) -> Result<Vec<Plan>, AllocError>
+pub(crate) fn plans_of(alloc: Global, specs: &[TokSpec]) -> Result<Vec<Plan>, OutOfMemory>
     ensures { IfOk result (λ v. v.items ≡ plans_of specs.now) }
 {
-    specs.iter().map(|spec| plan_of(spec)).collect(alloc)
+    let mut plans = with_capacity_for(alloc, specs)?;
+    for spec in specs {
+        push(&mut plans, plan_of(spec))?;
+    }
+    Ok(plans)
 }
 
 fn law_number(law: Law) -> u64
@@ -95,14 +100,14 @@ fn block_of(spec: &TokSpec) -> [u64; 16]
 }
 
 /// The words at the opening.
-pub(crate) fn words_of(alloc: Global, specs: &[TokSpec]) -> Result<Vec<u64>, AllocError>
+pub(crate) fn words_of(alloc: Global, specs: &[TokSpec]) -> Result<Vec<u64>, OutOfMemory>
     requires { All IsTokenWithin specs.now }
     ensures { IfOk result (λ v. v.items ≡ opening_words specs.now) }
 {
     let mut words = Vec::new(alloc);
-    words.push(0)?;
+    push(&mut words, 0)?;
     for spec in specs {
-        words.extend_from_slice(&block_of(spec))?;
+        extend_from_slice(&mut words, &block_of(spec))?;
     }
     Ok(words)
 }
@@ -117,8 +122,12 @@ fn slot_of(spec: &TokSpec) -> Blob
 }
 
 /// What lies in the slots at the opening.
-pub(crate) fn slots_of(alloc: Global, specs: &[TokSpec]) -> Result<Vec<Blob>, AllocError>
+pub(crate) fn slots_of(alloc: Global, specs: &[TokSpec]) -> Result<Vec<Blob>, OutOfMemory>
     ensures { IfOk result (λ v. v.items ≡ opening_slots specs.now) }
 {
-    specs.iter().map(|spec| slot_of(spec)).collect(alloc)
+    let mut slots = with_capacity_for(alloc, specs)?;
+    for spec in specs {
+        push(&mut slots, slot_of(spec))?;
+    }
+    Ok(slots)
 }

@@ -1,12 +1,14 @@
 //! Room for what a close reads: all of it is made before the first seat is taken back.
 ghost use Rattle.std.specs.Prelude.{◌≡◌, ◌<◌, ◌≤◌, [], ◌∷◌, ◌++◌, length, IfOk, vec_capacity};
+ghost use Rattle.lwkt_bank.specs.Rule.{table_words};
 ghost use Rattle.lwkt_bank.specs.Closing.{IsEmptyRoom, IsRoomOf};
 
 use crate::blanks::Blank;
 use crate::closed::Closed;
 use crate::kept::Kept;
-use lwkt_base::{Blob, Cells};
-use std::alloc::{AllocError, Global};
+use lwkt_base::memory::{push, with_capacity};
+use lwkt_base::{Blob, Cells, OutOfMemory};
+use std::alloc::Global;
 
 /// Appends a number to a list that has room.
 pub(crate) fn put(list: &mut Vec<u64>, value: u64)
@@ -45,24 +47,26 @@ pub(crate) fn put_slot(list: &mut Vec<Blob>, blob: Blob)
 }
 
 /// Room for the rows and tallies of so many tokens.
-pub(crate) fn blanks_for(alloc: Global, tokens: usize) -> Result<Vec<Blank>, AllocError>
+pub(crate) fn blanks_for(alloc: Global, tokens: usize) -> Result<Vec<Blank>, OutOfMemory>
+    requires { tokens ≤ 64 }
     ensures { IfOk result (λ blanks. length blanks.items ≡ tokens) }
 {
-    let mut blanks = Vec::with_capacity(alloc, tokens)?;
+    let mut blanks = with_capacity(alloc, tokens)?;
     for _token in 0..tokens {
-        blanks.push(Blank::new(alloc)?)?;
+        push(&mut blanks, Blank::new(alloc)?)?;
     }
     Ok(blanks)
 }
 
 /// Room for the closing values of so many tokens.
-pub(crate) fn closed_for(alloc: Global, tokens: usize) -> Result<Closed, AllocError>
+pub(crate) fn closed_for(alloc: Global, tokens: usize) -> Result<Closed, OutOfMemory>
+    requires { tokens ≤ 64 }
     ensures { IfOk result (λ closed. IsEmptyRoom closed tokens) }
 {
-    let rows = Vec::with_capacity(alloc, tokens)?;
-    let gens = Vec::with_capacity(alloc, tokens)?;
-    let tallies = Vec::with_capacity(alloc, tokens)?;
-    let blobs = Vec::with_capacity(alloc, tokens)?;
+    let rows = with_capacity(alloc, tokens)?;
+    let gens = with_capacity(alloc, tokens)?;
+    let tallies = with_capacity(alloc, tokens)?;
+    let blobs = with_capacity(alloc, tokens)?;
     Ok(Closed {
         rows,
         gens,
@@ -88,13 +92,17 @@ pub(crate) fn room_of(
     cpus: usize,
     words: usize,
     slots: usize,
-) -> Result<CloseRoom, AllocError>
+) -> Result<CloseRoom, OutOfMemory>
+    requires tokens { tokens ≤ 64 }
+    requires cpus { cpus ≤ 8 }
+    requires words { words ≤ table_words 64 }
+    requires slots { slots ≤ 64 }
     ensures { IfOk result (λ room. IsRoomOf tokens cpus words slots room) }
 {
     Ok(CloseRoom {
-        kept: Vec::with_capacity(alloc, cpus)?,
-        words: Vec::with_capacity(alloc, words)?,
-        slots: Vec::with_capacity(alloc, slots)?,
+        kept: with_capacity(alloc, cpus)?,
+        words: with_capacity(alloc, words)?,
+        slots: with_capacity(alloc, slots)?,
         blanks: blanks_for(alloc, tokens)?,
         closed: closed_for(alloc, tokens)?,
     })

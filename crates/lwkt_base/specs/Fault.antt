@@ -6,7 +6,7 @@ use Rattle.lwkt_base.specs.declared.faults.Fault.TheVariants.{ListFull, Upgrade,
 
 -- want of memory. Each refusal of an allocator is the same value.
 abbrev pub no_memory : Fault
-no_memory = Memory (record {})
+no_memory = Memory (record { made = tt })
 
 -- the number by which reports name a fault
 abbrev pub number_of : Fault → ℕ

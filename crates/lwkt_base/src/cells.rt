@@ -1,6 +1,7 @@
 ghost use Rattle.std.specs.Prelude.{◌≡◌, ℕ, List, length, ◌<◌, slice_set, vec_len, IfOk};
 
-use std::alloc::{AllocError, Global};
+use crate::memory::{OutOfMemory, from_slice};
+use std::alloc::Global;
 use std::marker::Model;
 
 /// The cells of one token, in order. Made from a vector, and given back as one, without taking memory.
@@ -54,11 +55,11 @@ impl Cells {
     }
 
     /// A copy, in memory of its own.
-    pub fn try_clone(&self, alloc: Global) -> Result<Cells, AllocError>
+    pub fn try_clone(&self, alloc: Global) -> Result<Cells, OutOfMemory>
         ensures { IfOk result (λ copy. copy ≡ self.now) }
     {
         Ok(Cells {
-            items: Vec::from_slice(alloc, self.items.as_slice())?,
+            items: from_slice(alloc, self.items.as_slice())?,
         })
     }
 }

@@ -1,7 +1,7 @@
 //! Why a call was refused: each fault's number and its message.
 ghost use Rattle.std.specs.Prelude.{◌≡◌};
 
-use std::alloc::AllocError;
+use crate::memory::{OutOfMemory, Piece, push_number, push_str};
 use std::error::Error;
 use std::fmt;
 
@@ -52,8 +52,8 @@ pub enum Fault {
     NoPort,
     /// 31: the message was not taken by this thread.
     NotTaken,
-    /// 32: an allocation was refused, with what the allocator said of it. Nothing else makes such a value.
-    Memory(AllocError),
+    /// 32: an allocation was refused. Only a call that asked for memory and was refused makes what this holds.
+    Memory(OutOfMemory),
     /// 33: a script was refused; the place of its first bad part.
     Script { place: u32 },
     /// 34: another processor's step came between.
@@ -173,3 +173,29 @@ impl fmt::Display for Fault {
 }
 
 impl Error for Fault {}
+
+/// The fault's message as a piece of a text.
+impl Piece for Fault {
+    ghost use Rattle.lwkt_base.specs.Fault.{fault_message};
+
+    ghost text = { λ f. fault_message f };
+
+    fn put_on(self, out: &mut String) -> Result<(), OutOfMemory> {
+        push_str(out, self.words())?;
+        match self {
+            Fault::Script { place } => push_number(out, u64::from(place)),
+            Fault::Unlawful { index } => push_number(out, index as u64),
+            _ => Ok(()),
+        }
+    }
+}
+
+impl From<OutOfMemory> for Fault {
+    ghost use Rattle.lwkt_base.specs.declared.faults.Fault.TheVariants.{Memory};
+
+    ghost from_gives = { λ refused fault. fault ≡ Memory refused };
+
+    fn from(refused: OutOfMemory) -> Fault {
+        Fault::Memory(refused)
+    }
+}

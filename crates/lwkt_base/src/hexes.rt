@@ -1,7 +1,7 @@
 ghost use Rattle.std.specs.Prelude.{◌≡◌, ◌/◌, ◌%◌, ◌++◌, OnOk, string_bytes};
 ghost use Rattle.lwkt_base.specs.Hex.{digit_text, byte_text, hex_text, bytes_text};
 
-use std::alloc::AllocError;
+use crate::memory::{OutOfMemory, push_str};
 
 // A hexadecimal digit.
 fn digit(n: u8) -> &'static str
@@ -35,15 +35,15 @@ pub fn digits_of(byte: u8) -> (&'static str, &'static str)
 }
 
 // Appends a byte by its two digits.
-fn show_byte(byte: u8, out: &mut String) -> Result<(), AllocError>
+fn show_byte(byte: u8, out: &mut String) -> Result<(), OutOfMemory>
     ensures { OnOk result (string_bytes out.new ≡ string_bytes out.old ++ byte_text byte) }
 {
-    out.push_str(digit(byte / 16))?;
-    out.push_str(digit(byte % 16))
+    push_str(out, digit(byte / 16))?;
+    push_str(out, digit(byte % 16))
 }
 
 /// Appends bytes, each by two small hexadecimal digits.
-pub fn show_hex(bytes: &[u8], out: &mut String) -> Result<(), AllocError>
+pub fn show_hex(bytes: &[u8], out: &mut String) -> Result<(), OutOfMemory>
     ensures { OnOk result (string_bytes out.new ≡ string_bytes out.old ++ hex_text bytes.now) }
 {
     for byte in bytes {
@@ -53,11 +53,11 @@ pub fn show_hex(bytes: &[u8], out: &mut String) -> Result<(), AllocError>
 }
 
 /// Appends bytes in the same way, or `-` where there are none.
-pub fn show_hex_or_none(bytes: &[u8], out: &mut String) -> Result<(), AllocError>
+pub fn show_hex_or_none(bytes: &[u8], out: &mut String) -> Result<(), OutOfMemory>
     ensures { OnOk result (string_bytes out.new ≡ string_bytes out.old ++ bytes_text bytes.now) }
 {
     if bytes.is_empty() {
-        out.push_str("-")
+        push_str(out, "-")
     } else {
         show_hex(bytes, out)
     }

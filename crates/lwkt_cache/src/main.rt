@@ -5,7 +5,7 @@ ghost use Rattle.std.specs.Prelude.{◌≡◌, ◌+◌, All, IfOk};
 
 mod parties;
 
-use lwkt_base::Fault;
+use lwkt_base::{Fault, OutOfMemory};
 use lwkt_program::{Closed, LIMITS, Machine, Stepper, makers};
 use parties::{Party, SHARED};
 use std::alloc::Global;
@@ -14,7 +14,7 @@ use std::process::ExitCode;
 use std::thread::Threads;
 
 // The bodies of one processor.
-fn alone(alloc: Global, reads: bool) -> Result<Vec<Stepper<Party>>, Fault>
+fn alone(alloc: Global, reads: bool) -> Result<Vec<Stepper<Party>>, OutOfMemory>
     ensures { IfOk result (λ bodies. All (λ b. b.steps.hits + b.steps.misses + b.steps.left ≡ 20) bodies.items) }
 {
     let party = Stepper::new(Party::new(reads));
@@ -32,8 +32,9 @@ fn run<R: Threads + Sync>(rt: &R, alloc: Global) -> Result<Closed<Stepper<Party>
     let second = alone(alloc, true)?;
     let bodies = makers::list(alloc, [writer, first, second])?;
     let mut machine = Machine::open(alloc, &tokens, &[], bodies)?;
+    let room = machine.room(alloc)?;
     machine.drive(rt, &LIMITS);
-    machine.close(alloc)
+    Ok(machine.close_in(room))
 }
 
 fn main(rt: HostRuntime) -> io::Result<ExitCode> {

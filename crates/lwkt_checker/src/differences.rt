@@ -6,10 +6,11 @@ ghost use Rattle.lwkt_checker.specs.Shown.{Appends, Shows, ShowsFirst};
 use crate::holdings::show_holders;
 use crate::words::{show_owner, show_record};
 use lwkt_base::blobs::are_same;
-use lwkt_base::{Blob, Cells, Law, MsgEnd, MsgId, TokId};
+use lwkt_base::memory::{push_str, put};
+use lwkt_base::{Blob, Cells, Law, MsgEnd, MsgId, OutOfMemory, TokId};
 use lwkt_core::{Final, Message, State, Token};
 use lwkt_trace::words::show_numbers;
-use std::alloc::{AllocError, Global};
+use std::alloc::Global;
 
 /// What a token has otherwise than its closing values.
 #[derive(Clone, Copy, Debug)]
@@ -80,7 +81,7 @@ fn other_at(token: &Token, cpus: usize, last: &Final, place: usize) -> Option<Ot
 }
 
 // Appends the row that is given for a token.
-fn show_given_row(out: &mut String, last: &Final, place: usize) -> Result<(), AllocError>
+fn show_given_row(out: &mut String, last: &Final, place: usize) -> Result<(), OutOfMemory>
     ensures { OnOk result (string_bytes out.new ≡ string_bytes out.old ++ given_numbers_said (slice_get last.now.rows.items place)) }
 {
     match last.rows.get(place) {
@@ -90,17 +91,17 @@ fn show_given_row(out: &mut String, last: &Final, place: usize) -> Result<(), Al
 }
 
 // Appends the generation that is given for a token.
-fn show_given_generation(out: &mut String, last: &Final, place: usize) -> Result<(), AllocError>
+fn show_given_generation(out: &mut String, last: &Final, place: usize) -> Result<(), OutOfMemory>
     ensures { OnOk result (string_bytes out.new ≡ string_bytes out.old ++ given_generation_said (slice_get last.now.gens.items place)) }
 {
     match last.gens.get(place) {
         None => Ok(()),
-        Some(generation) => write!(out, "{}", *generation),
+        Some(generation) => put(out, *generation),
     }
 }
 
 // Appends the tallies that are given for a token.
-fn show_given_tallies(out: &mut String, last: &Final, place: usize) -> Result<(), AllocError>
+fn show_given_tallies(out: &mut String, last: &Final, place: usize) -> Result<(), OutOfMemory>
     ensures { OnOk result (string_bytes out.new ≡ string_bytes out.old ++ given_numbers_said (slice_get last.now.tallies.items place)) }
 {
     match last.tallies.get(place) {
@@ -110,7 +111,7 @@ fn show_given_tallies(out: &mut String, last: &Final, place: usize) -> Result<()
 }
 
 // Appends the record that is given for a token.
-fn show_given_record(out: &mut String, last: &Final, place: usize) -> Result<(), AllocError>
+fn show_given_record(out: &mut String, last: &Final, place: usize) -> Result<(), OutOfMemory>
     ensures { OnOk result (string_bytes out.new ≡ string_bytes out.old ++ given_record_said (slice_get last.now.blobs.items place)) }
 {
     match last.blobs.get(place) {
@@ -121,12 +122,12 @@ fn show_given_record(out: &mut String, last: &Final, place: usize) -> Result<(),
 
 // Appends the row of a token, and the one that is given for it.
 #[tactic(auto, unfolding(crate::specs::Said::rows_differ_said))]
-fn show_rows(out: &mut String, token: &Token, last: &Final, place: usize) -> Result<(), AllocError>
+fn show_rows(out: &mut String, token: &Token, last: &Final, place: usize) -> Result<(), OutOfMemory>
     ensures { OnOk result (string_bytes out.new ≡ string_bytes out.old ++ rows_differ_said token.now last.now place) }
 {
-    out.push_str("the row is")?;
+    push_str(out, "the row is")?;
     show_numbers(out, token.row.as_slice())?;
-    out.push_str(" and not")?;
+    push_str(out, " and not")?;
     show_given_row(out, last, place)
 }
 
@@ -137,16 +138,16 @@ fn show_generations(
     token: &Token,
     last: &Final,
     place: usize,
-) -> Result<(), AllocError>
+) -> Result<(), OutOfMemory>
     ensures { OnOk result (string_bytes out.new ≡ string_bytes out.old ++ generations_differ_said token.now last.now place) }
 {
-    write!(out, "the generation is {} and not ", token.generation)?;
+    put(out, ("the generation is ", token.generation, " and not "))?;
     show_given_generation(out, last, place)
 }
 
 // Appends the tallies that a token shows.
 #[tactic(auto, unfolding(crate::specs::Said::shown_said))]
-fn show_shown(out: &mut String, token: &Token, cpus: usize) -> Result<(), AllocError>
+fn show_shown(out: &mut String, token: &Token, cpus: usize) -> Result<(), OutOfMemory>
     requires { cpus ≤ 8 }
     ensures { OnOk result (string_bytes out.new ≡ string_bytes out.old ++ shown_said token.now cpus) }
 {
@@ -161,13 +162,13 @@ fn show_tallies(
     cpus: usize,
     last: &Final,
     place: usize,
-) -> Result<(), AllocError>
+) -> Result<(), OutOfMemory>
     requires { cpus ≤ 8 }
     ensures { OnOk result (string_bytes out.new ≡ string_bytes out.old ++ tallies_differ_said token.now cpus last.now place) }
 {
-    out.push_str("the tallies are")?;
+    push_str(out, "the tallies are")?;
     show_shown(out, token, cpus)?;
-    out.push_str(" and not")?;
+    push_str(out, " and not")?;
     show_given_tallies(out, last, place)
 }
 
@@ -178,12 +179,12 @@ fn show_records(
     token: &Token,
     last: &Final,
     place: usize,
-) -> Result<(), AllocError>
+) -> Result<(), OutOfMemory>
     ensures { OnOk result (string_bytes out.new ≡ string_bytes out.old ++ records_differ_said token.now last.now place) }
 {
-    out.push_str("it has ")?;
+    push_str(out, "it has ")?;
     show_record(out, &token.blob)?;
-    out.push_str(" and not ")?;
+    push_str(out, " and not ")?;
     show_given_record(out, last, place)
 }
 
@@ -195,7 +196,7 @@ fn show_other(
     last: &Final,
     place: usize,
     other: Other,
-) -> Result<(), AllocError>
+) -> Result<(), OutOfMemory>
     requires { cpus ≤ 8 }
     ensures { OnOk result (string_bytes out.new ≡ string_bytes out.old ++ other_said cpus last.now place token.now other) }
 {
@@ -217,16 +218,16 @@ fn show_token_other(
     last: &Final,
     place: usize,
     other: Other,
-) -> Result<(), AllocError>
+) -> Result<(), OutOfMemory>
     requires { cpus ≤ 8 }
     ensures { OnOk result (string_bytes out.new ≡ string_bytes out.old ++ token_other_said cpus last.now place token.now other) }
 {
-    write!(out, "token {place}: ")?;
+    put(out, ("token ", place, ": "))?;
     show_other(out, token, cpus, last, place, other)
 }
 
 // Appends how the token of a place differs from its closing values, if there is one that does, and says whether there is.
-fn show_token(out: &mut String, state: &State, last: &Final, place: u8) -> Result<bool, AllocError>
+fn show_token(out: &mut String, state: &State, last: &Final, place: u8) -> Result<bool, OutOfMemory>
     ensures { IfOk result (λ found. Shows (SaysToken state.now last.now place) (string_bytes out.old) (string_bytes out.new) found) }
 {
     let cpus = state.cpus();
@@ -243,7 +244,7 @@ fn show_token(out: &mut String, state: &State, last: &Final, place: u8) -> Resul
 }
 
 // Appends the first token that differs, and says whether there is one.
-fn show_tokens(out: &mut String, state: &State, last: &Final) -> Result<bool, AllocError>
+fn show_tokens(out: &mut String, state: &State, last: &Final) -> Result<bool, OutOfMemory>
     ensures { IfOk result (λ found. ShowsFirst (SaysToken state.now last.now) (string_bytes out.old) (string_bytes out.new) found) }
 {
     for place in 0..64u8 {
@@ -268,14 +269,14 @@ fn show_message_other(
     place: u8,
     message: &Message,
     end: &MsgEnd,
-) -> Result<(), AllocError>
+) -> Result<(), OutOfMemory>
     ensures { OnOk result (string_bytes out.new ≡ string_bytes out.old ++ message_other_said place message.now end.now) }
 {
-    write!(out, "message {place}: ")?;
+    put(out, ("message ", place, ": "))?;
     show_owner(out, message.owner)?;
-    write!(out, ", round {}, and not ", message.round)?;
+    put(out, (", round ", message.round, ", and not "))?;
     show_owner(out, end.state)?;
-    write!(out, ", round {}", end.round)
+    put(out, (", round ", end.round))
 }
 
 // Appends how the message of a place differs from its closing values, if there is one that does, and says whether there is.
@@ -284,7 +285,7 @@ fn show_message(
     state: &State,
     last: &Final,
     place: u8,
-) -> Result<bool, AllocError>
+) -> Result<bool, OutOfMemory>
     ensures { IfOk result (λ found. Shows (SaysMessage state.now last.now place) (string_bytes out.old) (string_bytes out.new) found) }
 {
     let Some(message) = state.message(MsgId(place)) else {
@@ -301,7 +302,7 @@ fn show_message(
 }
 
 // Appends the first message that differs, and says whether there is one.
-fn show_messages(out: &mut String, state: &State, last: &Final) -> Result<bool, AllocError>
+fn show_messages(out: &mut String, state: &State, last: &Final) -> Result<bool, OutOfMemory>
     ensures { IfOk result (λ found. ShowsFirst (SaysMessage state.now last.now) (string_bytes out.old) (string_bytes out.new) found) }
 {
     for place in 0..64u8 {
@@ -313,44 +314,50 @@ fn show_messages(out: &mut String, state: &State, last: &Final) -> Result<bool, 
 }
 
 // Appends how many records were given, where that isn't as many as rows.
-fn show_records_given(out: &mut String, last: &Final) -> Result<(), AllocError>
+fn show_records_given(out: &mut String, last: &Final) -> Result<(), OutOfMemory>
     ensures { OnOk result (string_bytes out.new ≡ string_bytes out.old ++ records_given_said last.now) }
 {
     if last.blobs.len() == last.rows.len() {
         return Ok(());
     }
-    write!(out, ", and {} records", last.blobs.len())
+    put(out, (", and ", last.blobs.len(), " records"))
 }
 
 // Appends how many rows and generations were given.
 #[tactic(auto, unfolding(crate::specs::Said::rows_given_said))]
-fn show_rows_given(out: &mut String, last: &Final) -> Result<(), AllocError>
+fn show_rows_given(out: &mut String, last: &Final) -> Result<(), OutOfMemory>
     ensures { OnOk result (string_bytes out.new ≡ string_bytes out.old ++ rows_given_said last.now) }
 {
-    write!(
+    put(
         out,
-        "{} rows, {} generations, ",
-        last.rows.len(),
-        last.gens.len()
+        (
+            last.rows.len(),
+            " rows, ",
+            last.gens.len(),
+            " generations, ",
+        ),
     )
 }
 
 // Appends how many lists of tallies and ends of messages were given.
 #[tactic(auto, unfolding(crate::specs::Said::lists_given_said))]
-fn show_lists_given(out: &mut String, last: &Final) -> Result<(), AllocError>
+fn show_lists_given(out: &mut String, last: &Final) -> Result<(), OutOfMemory>
     ensures { OnOk result (string_bytes out.new ≡ string_bytes out.old ++ lists_given_said last.now) }
 {
-    write!(
+    put(
         out,
-        "{} lists of tallies and {} ends of messages were given",
-        last.tallies.len(),
-        last.messages.len()
+        (
+            last.tallies.len(),
+            " lists of tallies and ",
+            last.messages.len(),
+            " ends of messages were given",
+        ),
     )
 }
 
 // Appends how many closing values were given.
 #[tactic(auto, unfolding(crate::specs::Said::given_in_all_said))]
-fn show_given_in_all(out: &mut String, last: &Final) -> Result<(), AllocError>
+fn show_given_in_all(out: &mut String, last: &Final) -> Result<(), OutOfMemory>
     ensures { OnOk result (string_bytes out.new ≡ string_bytes out.old ++ given_in_all_said last.now) }
 {
     show_rows_given(out, last)?;
@@ -359,7 +366,7 @@ fn show_given_in_all(out: &mut String, last: &Final) -> Result<(), AllocError>
 }
 
 // Appends how a state differs from closing values: the first value that does, or how many were given.
-fn show_difference(out: &mut String, state: &State, last: &Final) -> Result<(), AllocError>
+fn show_difference(out: &mut String, state: &State, last: &Final) -> Result<(), OutOfMemory>
     ensures { OnOk result (Appends (SaysClose state.now last.now) (string_bytes out.old) (string_bytes out.new)) }
 {
     if show_tokens(out, state, last)? {
@@ -372,14 +379,12 @@ fn show_difference(out: &mut String, state: &State, last: &Final) -> Result<(), 
 }
 
 /// The line that says which value of the close differs: the first one that does, or how many values were given.
-///
-/// Refused if memory is.
-pub fn difference(alloc: Global, state: &State, last: &Final) -> Result<String, AllocError>
+pub fn difference(alloc: Global, state: &State, last: &Final) -> Result<String, OutOfMemory>
     ensures { IfOk result (λ text. IsDifference state.now last.now (string_bytes text)) }
 {
     let mut out = String::new(alloc);
-    out.push_str("close: ")?;
+    push_str(&mut out, "close: ")?;
     show_difference(&mut out, state, last)?;
-    out.push_str("\n")?;
+    push_str(&mut out, "\n")?;
     Ok(out)
 }

@@ -10,10 +10,10 @@ ghost use Rattle.lwkt_checker.specs.Stands.{StandsWith, OpensSo, opening_alone, 
 
 use crate::judges::Finding;
 use crate::standings::Standing;
-use lwkt_base::Fault;
+use lwkt_base::{Fault, OutOfMemory};
 use lwkt_script::Parts;
 use lwkt_trace::{Closing, LENGTH_LIMIT, Trace, frame_of, next_written, parts_of, told_alone};
-use std::alloc::{AllocError, Global};
+use std::alloc::Global;
 
 // The most events of a trace.
 const EVENT_LIMIT: usize = 50_000_000;
@@ -45,7 +45,7 @@ fn behind(
     alloc: Global,
     opened: Standing,
     text: &[u8],
-) -> Result<Option<(Standing, usize)>, AllocError>
+) -> Result<Option<(Standing, usize)>, OutOfMemory>
     ensures { IfOk result (λ found. IfSome found (λ after. StandsBehind opened text.now after.0 after.1)) }
 {
     let mut standing = opened;
@@ -71,7 +71,7 @@ fn closed(
     standing: Standing,
     count: usize,
     last: Option<Closing>,
-) -> Result<Standing, AllocError>
+) -> Result<Standing, OutOfMemory>
     ensures stands { IfOk result (λ after. (trace : Trace) → trace.last ≡ None → count ≡ length trace.events → StandsWith trace standing → StandsWith (closed_so trace last) after) }
     ensures opens { IfOk result (λ after. (trace : Trace) → OpensSo trace standing → OpensSo trace after) }
 {
@@ -83,7 +83,7 @@ fn closed(
 
 // Where the judge stands with a trace that has the events of a text in place of its own, if the text has nothing but events as
 // they are written.
-fn standing_with(alloc: Global, trace: Trace, text: &[u8]) -> Result<Option<Standing>, AllocError>
+fn standing_with(alloc: Global, trace: Trace, text: &[u8]) -> Result<Option<Standing>, OutOfMemory>
     ensures { IfOk result (λ found. IfSome found (StandsFramed trace text.now)) }
 {
     let (opening, last) = opening_of(alloc, trace);
@@ -95,7 +95,7 @@ fn standing_with(alloc: Global, trace: Trace, text: &[u8]) -> Result<Option<Stan
 }
 
 // Where the judge stands with the trace that the bytes are, if they are one that is written so.
-fn standing_of(alloc: Global, bytes: &[u8]) -> Result<Option<Standing>, AllocError>
+fn standing_of(alloc: Global, bytes: &[u8]) -> Result<Option<Standing>, OutOfMemory>
     ensures { IfOk result (λ found. IfSome found (λ standing. (trace : Trace) × ((trace_of bytes.now ≡ Ok trace) × (StandsWith trace standing × OpensSo trace standing)))) }
 {
     if bytes.len() > LENGTH_LIMIT {

@@ -5,10 +5,11 @@ ghost use Rattle.lwkt_checker.specs.Judgement.{opening_of, AreClosing, FindsWhy,
 use crate::differences::difference;
 use crate::lacks::reason;
 use crate::plays::{play_told, play_told_to_close};
-use lwkt_base::Fault;
+use lwkt_base::memory::{push_str, put};
+use lwkt_base::{Fault, OutOfMemory};
 use lwkt_core::{Final, State};
 use lwkt_trace::{Closing, Told, Trace};
-use std::alloc::{AllocError, Global};
+use std::alloc::Global;
 
 /// What a trace was found to be.
 #[derive(Debug, Drop)]
@@ -52,7 +53,7 @@ fn reason_at(
     state: &State,
     events: &[Told],
     index: usize,
-) -> Result<String, AllocError>
+) -> Result<String, OutOfMemory>
     requires { index < length events.now }
     ensures { IfOk result (λ why. MatchOption (slice_get events.now index) (Unit {0}) (λ told. IsReason state.now index told (string_bytes why))) }
 {
@@ -66,7 +67,7 @@ fn why_of(
     events: &[Told],
     index: usize,
     last: &Final,
-) -> Result<String, AllocError>
+) -> Result<String, OutOfMemory>
     ensures { IfOk result (λ why. MatchOption (slice_get events.now index) (IsDifference state.now last.now (string_bytes why)) (λ told. IsReason state.now index told (string_bytes why))) }
 {
     match events.get(index) {
@@ -76,7 +77,7 @@ fn why_of(
 }
 
 // What events alone are found to be, from an opening state.
-fn found_alone(alloc: Global, opening: State, events: &[Told]) -> Result<Finding, AllocError>
+fn found_alone(alloc: Global, opening: State, events: &[Told]) -> Result<Finding, OutOfMemory>
     ensures { IfOk result (λ finding. FindsWhy opening events.now None finding) }
 {
     let mut state = opening;
@@ -95,7 +96,7 @@ fn found_closing(
     opening: State,
     events: &[Told],
     last: &Final,
-) -> Result<Finding, AllocError>
+) -> Result<Finding, OutOfMemory>
     ensures { IfOk result (λ finding. FindsWhy opening events.now (Some last.now) finding) }
 {
     let mut state = opening;
@@ -114,7 +115,7 @@ fn found(
     opening: State,
     events: &[Told],
     last: &Option<Final>,
-) -> Result<Finding, AllocError>
+) -> Result<Finding, OutOfMemory>
     ensures { IfOk result (λ finding. FindsWhy opening events.now last.now finding) }
 {
     match last {
@@ -140,17 +141,15 @@ pub fn judge(alloc: Global, trace: Trace) -> Result<Finding, Fault>
 }
 
 /// The text of a finding: `lawful`, or `unlawful INDEX` and the line that says why.
-///
-/// Refused if memory is.
-pub fn finding_text(alloc: Global, finding: &Finding) -> Result<String, AllocError>
+pub fn finding_text(alloc: Global, finding: &Finding) -> Result<String, OutOfMemory>
     ensures { IfOk result (λ text. string_bytes text ≡ finding_text finding.now) }
 {
     let mut out = String::new(alloc);
     match finding {
-        Finding::Lawful => out.push_str("lawful\n")?,
+        Finding::Lawful => push_str(&mut out, "lawful\n")?,
         Finding::Unlawful { index, why } => {
-            write!(out, "unlawful {index}\n")?;
-            out.push_str(why)?;
+            put(&mut out, ("unlawful ", *index, "\n"))?;
+            push_str(&mut out, why)?;
         }
     }
     Ok(out)

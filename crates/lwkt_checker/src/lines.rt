@@ -5,7 +5,8 @@ ghost use Rattle.lwkt_base.specs.Fault.{no_memory};
 ghost use Rattle.lwkt_checker.specs.Line.{is_line_feed};
 ghost use Rattle.lwkt_checker.specs.LineReading.{IsLineFront, unread, left_of, IsNextLine};
 
-use lwkt_base::Fault;
+use lwkt_base::OutOfMemory;
+use lwkt_base::memory::extend_from_slice;
 use lwkt_report::{RunFault, Source};
 use std::alloc::Global;
 use std::mem::swap;
@@ -45,16 +46,13 @@ fn front_of(bytes: &[u8]) -> (usize, bool)
 
 // Appends to a line what stands before the first line feed, or all where there is none; says how many bytes these are, and
 // whether there is one.
-fn add_front(line: &mut Vec<u8>, bytes: &[u8]) -> Result<(usize, bool), RunFault>
+fn add_front(line: &mut Vec<u8>, bytes: &[u8]) -> Result<(usize, bool), OutOfMemory>
     ensures front { IfOk result (λ front. IsLineFront bytes.now front.0 front.1) }
     ensures line { IfOk result (λ front. line.new.items ≡ line.old.items ++ take front.0 bytes.now) }
-    ensures only { OnErr result (result ≡ Err (RunFault.Fault no_memory)) }
 {
     let (count, ended) = front_of(bytes);
-    match line.extend_from_slice(&bytes[..count]) {
-        Ok(()) => Ok((count, ended)),
-        Err(refused) => Err(RunFault::Fault(Fault::Memory(refused))),
-    }
+    extend_from_slice(line, &bytes[..count])?;
+    Ok((count, ended))
 }
 
 // Asks a source for bytes, which take the place of those that were there.
@@ -69,10 +67,8 @@ fn refill<S: Source>(room: &mut Vec<u8>, source: &mut S) -> Result<(), RunFault>
     let mut given = [0; CHUNK];
     let count = source.pull(&mut given)?;
     room.clear();
-    match room.extend_from_slice(&given[..count]) {
-        Ok(()) => Ok(()),
-        Err(refused) => Err(RunFault::Fault(Fault::Memory(refused))),
-    }
+    extend_from_slice(room, &given[..count])?;
+    Ok(())
 }
 
 impl Lines {
@@ -135,11 +131,10 @@ impl Lines {
     }
 
     // Moves what stands before the next line feed to the line, or all where there is none; says whether there is one.
-    fn take_front(&mut self) -> Result<bool, RunFault>
+    fn take_front(&mut self) -> Result<bool, OutOfMemory>
         requires { self.old.from < vec_len self.old.room }
         ensures moved { IfOk result (λ ended. (piece : List ℕ) × ((self.new.line.items ≡ self.old.line.items ++ piece) × ((list_any is_line_feed piece ≡ false) × (unread self.old ≡ piece ++ (if ended then 10 ∷ unread self.new else unread self.new))))) }
         ensures longer { IfOk result (λ ended. ended ≡ false → vec_len self.old.line < vec_len self.new.line) }
-        ensures only { OnErr result (result ≡ Err (RunFault.Fault no_memory)) }
     {
         let unread = &self.room.as_slice()[self.from..];
         let (count, ended) = add_front(&mut self.line, unread)?;

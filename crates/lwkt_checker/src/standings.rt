@@ -8,10 +8,10 @@ use crate::differences::difference;
 use crate::judges::{Finding, opened};
 use crate::lacks::reason;
 use crate::plays::event_told;
-use lwkt_base::Fault;
+use lwkt_base::{Fault, OutOfMemory};
 use lwkt_core::{Final, State};
 use lwkt_trace::{Told, Trace};
-use std::alloc::{AllocError, Global};
+use std::alloc::Global;
 
 /// Where a judge stands with a trace that is told to it piece by piece.
 #[derive(Debug, Drop)]
@@ -30,9 +30,7 @@ pub enum Standing {
 
 impl Standing {
     /// Where the judge stands with a trace in which nothing has happened yet.
-    ///
-    /// Refused if memory is.
-    pub fn opened(alloc: Global, trace: &Trace) -> Result<Standing, AllocError>
+    pub fn opened(alloc: Global, trace: &Trace) -> Result<Standing, OutOfMemory>
         requires events { trace.now.events ≡ [] }
         requires last { trace.now.last ≡ None }
         ensures stands { IfOk result (λ standing. StandsWith trace.now standing) }
@@ -47,9 +45,12 @@ impl Standing {
     }
 
     /// Where the judge stands with one event more, which has this index.
-    ///
-    /// Refused if memory is.
-    pub fn and_event(self, alloc: Global, index: usize, told: &Told) -> Result<Standing, AllocError>
+    pub fn and_event(
+        self,
+        alloc: Global,
+        index: usize,
+        told: &Told,
+    ) -> Result<Standing, OutOfMemory>
         ensures stands { IfOk result (λ after. (trace : Trace) → trace.last ≡ None → index ≡ length trace.events → StandsWith trace self → StandsWith (with_told trace told.now) after) }
         ensures begun { IfOk result (λ after. awaits after ≡ awaits self) }
         ensures opens { IfOk result (λ after. (trace : Trace) → OpensSo trace self → OpensSo trace after) }
@@ -61,14 +62,12 @@ impl Standing {
     }
 
     /// Where the judge stands with these closing values, behind so many events.
-    ///
-    /// Refused if memory is.
     pub fn and_closing(
         self,
         alloc: Global,
         count: usize,
         last: &Final,
-    ) -> Result<Standing, AllocError>
+    ) -> Result<Standing, OutOfMemory>
         ensures stands { IfOk result (λ after. (trace : Trace) (closing : Closing) → trace.last ≡ None → count ≡ length trace.events → AreValues closing last.now → StandsWith trace self → StandsWith (with_last trace closing) after) }
         ensures begun { IfOk result (λ after. awaits after ≡ awaits self) }
         ensures opens { IfOk result (λ after. (trace : Trace) → OpensSo trace self → OpensSo trace after) }
@@ -97,7 +96,7 @@ impl Standing {
 }
 
 // Where a judge stands that plays the event of an index in this state.
-fn played(alloc: Global, state: State, index: usize, told: &Told) -> Result<Standing, AllocError>
+fn played(alloc: Global, state: State, index: usize, told: &Told) -> Result<Standing, OutOfMemory>
     ensures stands { IfOk result (λ after. (trace : Trace) → trace.last ≡ None → index ≡ length trace.events → StandsWith trace (Standing.Plays state) → StandsWith (with_told trace told.now) after) }
     ensures begun { IfOk result (λ after. awaits after ≡ false) }
     ensures opens { IfOk result (λ after. (trace : Trace) → OpensTrace trace → OpensSo trace after) }
@@ -114,7 +113,7 @@ fn played(alloc: Global, state: State, index: usize, told: &Told) -> Result<Stan
 }
 
 // Where a judge stands that closes this state, behind so many events.
-fn closed(alloc: Global, state: State, count: usize, last: &Final) -> Result<Standing, AllocError>
+fn closed(alloc: Global, state: State, count: usize, last: &Final) -> Result<Standing, OutOfMemory>
     ensures stands { IfOk result (λ after. (trace : Trace) (closing : Closing) → trace.last ≡ None → count ≡ length trace.events → AreValues closing last.now → StandsWith trace (Standing.Plays state) → StandsWith (with_last trace closing) after) }
     ensures begun { IfOk result (λ after. awaits after ≡ false) }
     ensures opens { IfOk result (λ after. (trace : Trace) → OpensTrace trace → OpensSo trace after) }

@@ -2,18 +2,18 @@ ghost use Rattle.std.specs.Prelude.{◌≡◌, ◌++◌, OnOk, string_bytes};
 ghost use Rattle.lwkt_core.specs.Events.{place_of};
 ghost use Rattle.lwkt_checker.specs.Said.{said, word_said, place_said, record_said, told_record_said, rest_said, generation_said, section_said, told_section_said, event_said, owner_said};
 
-use lwkt_base::{Blob, Owner};
+use lwkt_base::memory::{push_str, put};
+use lwkt_base::{Blob, OutOfMemory, Owner};
 use lwkt_core::Event;
 use lwkt_trace::Told;
 use lwkt_trace::words::{Subject, event_word, show_bytes, show_numbers, subject_of};
-use std::alloc::AllocError;
 
 /// Appends words.
 #[tactic(auto, unfolding(crate::specs::Said::said))]
-pub fn say(out: &mut String, words: &str) -> Result<(), AllocError>
+pub fn say(out: &mut String, words: &str) -> Result<(), OutOfMemory>
     ensures { OnOk result (string_bytes out.new ≡ string_bytes out.old ++ said words.now) }
 {
-    out.push_str(words)
+    push_str(out, words)
 }
 
 // The word of an event, as in a trace, but for a message's taking.
@@ -27,23 +27,23 @@ fn word_of(event: &Event) -> &'static str
 }
 
 // What an event is at, in words.
-fn show_place(out: &mut String, event: &Event) -> Result<(), AllocError>
+fn show_place(out: &mut String, event: &Event) -> Result<(), OutOfMemory>
     ensures { OnOk result (string_bytes out.new ≡ string_bytes out.old ++ place_said (place_of event.now)) }
 {
     match subject_of(event) {
-        Subject::Token(tok) => write!(out, " of token {}", tok.0),
-        Subject::Message(msg) => write!(out, " of message {}", msg.0),
+        Subject::Token(tok) => put(out, (" of token ", tok.0)),
+        Subject::Message(msg) => put(out, (" of message ", msg.0)),
     }
 }
 
 /// Appends a record: `record 616263`, `record -` where it is empty, `no record` where there is none.
-pub fn show_record(out: &mut String, blob: &Option<Blob>) -> Result<(), AllocError>
+pub fn show_record(out: &mut String, blob: &Option<Blob>) -> Result<(), OutOfMemory>
     ensures { OnOk result (string_bytes out.new ≡ string_bytes out.old ++ record_said blob.now) }
 {
     match blob {
-        None => out.push_str("no record"),
+        None => push_str(out, "no record"),
         Some(blob) => {
-            out.push_str("record ")?;
+            push_str(out, "record ")?;
             show_bytes(out, blob)
         }
     }
@@ -51,39 +51,39 @@ pub fn show_record(out: &mut String, blob: &Option<Blob>) -> Result<(), AllocErr
 
 // The record that an event says: one that is too long by its length.
 #[tactic(auto, unfolding(crate::specs::Said::told_record_said))]
-fn show_told_record(out: &mut String, blob: Blob) -> Result<(), AllocError>
+fn show_told_record(out: &mut String, blob: Blob) -> Result<(), OutOfMemory>
     ensures { OnOk result (string_bytes out.new ≡ string_bytes out.old ++ told_record_said blob) }
 {
     if blob.len() > 64 {
-        return write!(out, ", a record of {} bytes", blob.len());
+        return put(out, (", a record of ", blob.len(), " bytes"));
     }
-    out.push_str(", ")?;
+    push_str(out, ", ")?;
     show_record(out, &Some(blob))
 }
 
 // What else an event says.
-fn show_rest(out: &mut String, event: &Event) -> Result<(), AllocError>
+fn show_rest(out: &mut String, event: &Event) -> Result<(), OutOfMemory>
     ensures { OnOk result (string_bytes out.new ≡ string_bytes out.old ++ rest_said event.now) }
 {
     match *event {
         Event::Read { cell, value, .. } | Event::Write { cell, value, .. } => {
-            write!(out, ", cell {}, value {}", cell, value)
+            put(out, (", cell ", cell, ", value ", value))
         }
         Event::ReadBlob { blob, .. } | Event::WriteBlob { blob, .. } => {
             show_told_record(out, blob)
         }
-        Event::Send { to, round, .. } => write!(out, " to {}, round {}", to.0, round),
-        Event::TakeMsg { round, .. } => write!(out, ", round {}", round),
+        Event::Send { to, round, .. } => put(out, (" to ", to.0, ", round ", round)),
+        Event::TakeMsg { round, .. } => put(out, (", round ", round)),
         _ => Ok(()),
     }
 }
 
 // Appends the generation of a section.
-fn show_generation(out: &mut String, generation: u64) -> Result<(), AllocError>
+fn show_generation(out: &mut String, generation: u64) -> Result<(), OutOfMemory>
     ensures { OnOk result (string_bytes out.new ≡ string_bytes out.old ++ generation_said generation) }
 {
     say(out, "generation ")?;
-    write!(out, "{generation}, rows")
+    put(out, (generation, ", rows"))
 }
 
 /// Appends a section in words: `generation 2, rows 1 2 to 3 4`.
@@ -93,22 +93,22 @@ pub fn show_section(
     generation: u64,
     before: &[u64],
     after: &[u64],
-) -> Result<(), AllocError>
+) -> Result<(), OutOfMemory>
     ensures { OnOk result (string_bytes out.new ≡ string_bytes out.old ++ section_said generation before.now after.now) }
 {
     show_generation(out, generation)?;
     show_numbers(out, before)?;
-    out.push_str(" to")?;
+    push_str(out, " to")?;
     show_numbers(out, after)
 }
 
 // Appends the section that is told of a written give.
-fn show_told_section(out: &mut String, told: &Told) -> Result<(), AllocError>
+fn show_told_section(out: &mut String, told: &Told) -> Result<(), OutOfMemory>
     ensures { OnOk result (string_bytes out.new ≡ string_bytes out.old ++ told_section_said told.now) }
 {
     match told {
         Told::Whole(Event::GiveWritten { section, .. }) => {
-            out.push_str(", ")?;
+            push_str(out, ", ")?;
             show_section(
                 out,
                 section.generation,
@@ -122,23 +122,23 @@ fn show_told_section(out: &mut String, told: &Told) -> Result<(), AllocError>
 
 /// Appends an event in words: `take by 1 of token 0`; a written give's section only where it is told.
 #[tactic(auto, unfolding(crate::specs::Said::event_said))]
-pub fn show_told(out: &mut String, event: &Event, told: &Told) -> Result<(), AllocError>
+pub fn show_told(out: &mut String, event: &Event, told: &Told) -> Result<(), OutOfMemory>
     ensures { OnOk result (string_bytes out.new ≡ string_bytes out.old ++ event_said event.now told.now) }
 {
-    write!(out, "{} by {}", word_of(event), event.cpu().0)?;
+    put(out, (word_of(event), " by ", event.cpu().0))?;
     show_place(out, event)?;
     show_rest(out, event)?;
     show_told_section(out, told)
 }
 
 /// Appends where a message is: `out from 0 to 1`.
-pub fn show_owner(out: &mut String, owner: Owner) -> Result<(), AllocError>
+pub fn show_owner(out: &mut String, owner: Owner) -> Result<(), OutOfMemory>
     ensures { OnOk result (string_bytes out.new ≡ string_bytes out.old ++ owner_said owner) }
 {
     match owner {
-        Owner::Rest { origin } => write!(out, "at rest with {}", origin.0),
-        Owner::Out { origin, target } => write!(out, "out from {} to {}", origin.0, target.0),
-        Owner::With { origin, target } => write!(out, "with {} from {}", target.0, origin.0),
-        Owner::Back { origin, target } => write!(out, "back to {} from {}", origin.0, target.0),
+        Owner::Rest { origin } => put(out, ("at rest with ", origin.0)),
+        Owner::Out { origin, target } => put(out, ("out from ", origin.0, " to ", target.0)),
+        Owner::With { origin, target } => put(out, ("with ", target.0, " from ", origin.0)),
+        Owner::Back { origin, target } => put(out, ("back to ", origin.0, " from ", target.0)),
     }
 }

@@ -10,3 +10,4 @@ pub mod RunLemmas
 pub mod ChainLemmas
 pub mod RunChainLemmas
 pub mod TellLemmas
+pub mod FreeLemmas

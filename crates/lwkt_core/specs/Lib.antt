@@ -11,3 +11,4 @@ pub mod Safety
 pub mod Headline
 pub mod SectionChain
 pub mod RunSections
+pub mod FreeTokens

@@ -1,16 +1,16 @@
-ghost use Rattle.std.specs.Prelude.{◌≡◌, ◌↔◌, ◌<◌, ◌≤◌, ℕ, map, length, option_map, All, IsTrue, IfOk, MatchResult};
+ghost use Rattle.std.specs.Prelude.{◌≡◌, ◌↔◌, ◌<◌, ◌≤◌, ℕ, map, length, option_map, All, IsTrue, IfOk};
 ghost use Rattle.lwkt_base.specs.Law.{OpensLawfully};
 ghost use Rattle.lwkt_core.specs.Tokens.{IsShort};
 ghost use Rattle.lwkt_core.specs.Opening.{opened_token, opened_message, IsRecordWithin, IsTokenWithin, IsMessageWithin, AreWithin, AllOpenLawfully};
-ghost use Rattle.lwkt_base.specs.Fault.{no_memory};
 
 use crate::messages::{LAST_ROUND, Message};
 use crate::tokens::{CPU_LIMIT, Token};
 use lwkt_base::blobs::length_of;
-use lwkt_base::{Blob, Fault, Held, LAST_GENERATION, Law, MsgSpec, Owner, TokSpec};
-use std::alloc::{AllocError, Global};
+use lwkt_base::memory::{push, with_capacity_for};
+use lwkt_base::{Blob, Held, LAST_GENERATION, Law, MsgSpec, OutOfMemory, Owner, TokSpec};
+use std::alloc::Global;
 
-fn opened_token(alloc: Global, spec: &TokSpec) -> Result<Token, AllocError>
+fn opened_token(alloc: Global, spec: &TokSpec) -> Result<Token, OutOfMemory>
     ensures { IfOk result (λ tok. tok ≡ opened_token spec.now) }
 {
     Ok(Token {
@@ -47,33 +47,25 @@ fn opened_message(spec: &MsgSpec) -> Message
 }
 
 /// The tokens at the opening.
-pub fn opened_tokens(alloc: Global, specs: &[TokSpec]) -> Result<Vec<Token>, Fault>
-    ensures { MatchResult result (λ v. v.items ≡ map opened_token specs.now) (λ f. f ≡ no_memory) }
-{
-    collect_tokens(alloc, specs).map_err(Fault::Memory)
-}
-
-fn collect_tokens(alloc: Global, specs: &[TokSpec]) -> Result<Vec<Token>, AllocError>
+pub fn opened_tokens(alloc: Global, specs: &[TokSpec]) -> Result<Vec<Token>, OutOfMemory>
     ensures { IfOk result (λ v. v.items ≡ map opened_token specs.now) }
 {
-    let mut tokens = Vec::with_capacity(alloc, specs.len())?;
+    let mut tokens = with_capacity_for(alloc, specs)?;
     for spec in specs {
-        tokens.push(opened_token(alloc, spec)?)?;
+        push(&mut tokens, opened_token(alloc, spec)?)?;
     }
     Ok(tokens)
 }
 
 /// The messages at the opening.
-pub fn opened_messages(alloc: Global, specs: &[MsgSpec]) -> Result<Vec<Message>, Fault>
-    ensures { MatchResult result (λ v. v.items ≡ map opened_message specs.now) (λ f. f ≡ no_memory) }
-{
-    collect_messages(alloc, specs).map_err(Fault::Memory)
-}
-
-fn collect_messages(alloc: Global, specs: &[MsgSpec]) -> Result<Vec<Message>, AllocError>
+pub fn opened_messages(alloc: Global, specs: &[MsgSpec]) -> Result<Vec<Message>, OutOfMemory>
     ensures { IfOk result (λ v. v.items ≡ map opened_message specs.now) }
 {
-    specs.iter().map(|spec| opened_message(spec)).collect(alloc)
+    let mut messages = with_capacity_for(alloc, specs)?;
+    for spec in specs {
+        push(&mut messages, opened_message(spec))?;
+    }
+    Ok(messages)
 }
 
 // Whether a record is short enough, if there is one.

@@ -22,10 +22,10 @@ use Rattle.lwkt_ask.specs.Nexts.{unless_broken}
 use Rattle.lwkt_cpu.specs.declared.phases.Phase.{Phase}
 use Rattle.lwkt_cpu.specs.declared.phases.Phase.TheVariants.{Live, Exited}
 use Rattle.lwkt_cpu.specs.declared.threads.Thread.{Thread}
-use Rattle.lwkt_cpu.specs.Processors.{is_over, IsSettled, HoldsFor, IsAtRest, AllOver, processor_of}
+use Rattle.lwkt_cpu.specs.Processors.{Processor, is_over, IsSettled, HoldsFor, IsAtRest, AllOver, processor_of}
 use Rattle.lwkt_cpu.specs.Searches.{IsOfOne, ended_by}
 use Rattle.lwkt_cpu.specs.Polling.{became}
-use Rattle.lwkt_cpu.specs.Stopping.{stopped, AreThreadsStopped}
+use Rattle.lwkt_cpu.specs.Stopping.{stopped, AreThreadsStopped, Stops}
 use Rattle.lwkt_lane.proofs.PlaceMoves.{get_set_same, get_set_other, some_same}
 use Rattle.lwkt_cpu.proofs.SearchMoves.{front_of_one}
 use Rattle.lwkt_cpu.proofs.RestMoves.{settled_none, set_settled, ended_awaits, set_awaits}
@@ -146,3 +146,22 @@ over_empty s threads None over held = held
 over_empty s threads (Some place) over held =
     let x = one_there (slice_get threads place) (λ t. (t.phase ≡ Live) × (holding s ≡ holding_of t.list)) held in
     absurd (live_ended x.0.phase x.1.1.0 (over place x.0 x.1.0))
+
+-- a stop with a trace that was given room first is one with the trace as it was
+pub stop_from_room : {B : Type 0} (old new : Processor B) (t r u : Vec Event Global) → r.items ≡ t.items → Stops old new r u → Stops old new t u
+stop_from_room {B} old new t r u items stops = record {
+  room = stops.room;
+  same = stops.same ∙ items;
+  mid = stops.mid;
+  v = stops.v;
+  halts = stops.halts;
+  shut = stops.shut;
+  closes = stops.closes;
+  pays = stops.pays;
+  seat = stops.seat;
+  bodies = stops.bodies;
+  threads = stops.threads;
+  over = stops.over;
+  none_runs = stops.none_runs;
+  empty = stops.empty;
+}

@@ -4,13 +4,13 @@ ghost use Rattle.lwkt_base.specs.Holding.{holds_nothing};
 ghost use Rattle.lwkt_bank.specs.Seats.{holding};
 ghost use Rattle.lwkt_msg.specs.Desks.{desk_cpu};
 ghost use Rattle.lwkt_cpu.specs.Fresh.{fresh};
-ghost use Rattle.lwkt_base.specs.Fault.{no_memory};
 
 use crate::answers::Status;
 use crate::phases::Phase;
 use crate::threads::Thread;
 use lwkt_bank::CpuSeat;
-use lwkt_base::{Answer, Fault, ThreadState, TokList};
+use lwkt_base::memory::push;
+use lwkt_base::{Answer, Fault, OutOfMemory, ThreadState, TokList};
 use lwkt_hold::Hold;
 use lwkt_port::Ports;
 use std::alloc::Global;
@@ -45,9 +45,8 @@ impl<B> Model for Cpu<B> {
 }
 
 // So many threads, each ready and never polled.
-fn fresh_threads(alloc: Global, count: usize) -> Result<Vec<Thread>, Fault>
-    ensures ok { IfOk result (λ threads. threads.items ≡ replicate count fresh) }
-    ensures only { OnErr result (result ≡ Err no_memory) }
+fn fresh_threads(alloc: Global, count: usize) -> Result<Vec<Thread>, OutOfMemory>
+    ensures { IfOk result (λ threads. threads.items ≡ replicate count fresh) }
 {
     let mut threads = Vec::new(alloc);
     for made in 0..count {
@@ -57,9 +56,7 @@ fn fresh_threads(alloc: Global, count: usize) -> Result<Vec<Thread>, Fault>
             phase: Phase::Live,
             busy: None,
         };
-        threads
-            .push(thread)
-            .map_err(|refused| Fault::Memory(refused.into()))?;
+        push(&mut threads, thread)?;
     }
     Ok(threads)
 }

@@ -26,4 +26,5 @@ pub use answers::{Drove, Status, Turned};
 pub use counts::Progress;
 pub use cpus::Cpu;
 pub use lwkt_ask::Body;
+pub use stops::STOP_EVENTS;
 pub use turns::TURN_EVENTS;

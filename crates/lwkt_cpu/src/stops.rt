@@ -24,8 +24,12 @@ use crate::turns::TURN_EVENTS;
 use lwkt_ask::exit;
 use lwkt_bank::{Bank, CpuSeat};
 use lwkt_base::Fault;
+use lwkt_base::memory::reserve;
 use lwkt_core::Event;
 use lwkt_msg::{MsgBook, MsgSeat};
+
+/// For how many events a trace has room in which a processor stops without being given more.
+pub const STOP_EVENTS: usize = 512;
 
 // Ends a thread that hasn't ended.
 fn stop_one(thread: &mut Thread)
@@ -133,13 +137,24 @@ impl<B> Cpu<B> {
         ensures told { TellsMail self.old.post.seat self.new.post.seat trace.old.items trace.new.items }
         ensures same { IsSamePost self.old.post self.new.post }
     {
-        if let Err(refused) = trace.reserve(TURN_EVENTS) {
-            return Err(Fault::Memory(refused));
-        }
+        reserve(trace, TURN_EVENTS)?;
+        self.stop_in_room(bank, book, trace);
+        Ok(())
+    }
+
+    /// Stops the processor as `stop` does, with a trace that has room for 512 events already. That it has is the caller's condition.
+    pub fn stop_in_room(&mut self, bank: &Bank, book: &MsgBook, trace: &mut Vec<Event>)
+        requires of { bank_of self.old.seat ≡ id_of bank.now }
+        requires table { self.old.post.seat.table ≡ book.now.table }
+        requires room { vec_len trace.old + 512 ≤ vec_capacity trace.old }
+        ensures stops { Stops self.old self.new trace.old trace.new }
+        ensures ran { Ran (IsMailed self.old.threads) 258 self.old.seat self.new.seat trace.old trace.new }
+        ensures told { TellsMail self.old.post.seat self.new.post.seat trace.old.items trace.new.items }
+        ensures same { IsSamePost self.old.post self.new.post }
+    {
         self.halt_running(bank, trace);
         self.end_all();
         self.pay(book, trace);
-        Ok(())
     }
 
     /// Gives back the seat at the bank, which holds nothing, the seat at the book, and the bodies, by the threads' numbers, each as

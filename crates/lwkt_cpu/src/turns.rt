@@ -19,6 +19,7 @@ use crate::wakes::wake_all;
 use lwkt_ask::Body;
 use lwkt_bank::Bank;
 use lwkt_base::Fault;
+use lwkt_base::memory::reserve;
 use lwkt_core::Event;
 use lwkt_msg::MsgBook;
 
@@ -147,9 +148,7 @@ impl<B: Body> Cpu<B> {
         ensures same { IsSamePost self.old.post self.new.post }
         ensures told { TellsMail self.old.post.seat self.new.post.seat trace.old.items trace.new.items }
     {
-        if let Err(refused) = trace.reserve(TURN_EVENTS) {
-            return Err(Fault::Memory(refused));
-        }
+        reserve(trace, TURN_EVENTS)?;
         Ok(self.turn_in_room(bank, book, trace))
     }
 

@@ -1,28 +1,30 @@
 //! What a processor does is told into a room, and from there its events go behind its trace.
-ghost use Rattle.std.specs.Prelude.{◌≡◌, ◌+◌, ◌<◌, ◌≤◌, ◌++◌, [], length, IfOk, OnErr, OnOk};
+ghost use Rattle.std.specs.Prelude.{◌≡◌, ◌+◌, ◌<◌, ◌≤◌, ◌++◌, [], length, vec_len, vec_capacity, IfOk, OnErr, OnOk};
 ghost use Rattle.lwkt_bank.specs.Seats.{id_of};
 ghost use Rattle.lwkt_drive.specs.Course.{IsAtTables};
 ghost use Rattle.lwkt_drive.specs.Appending.{AppendsStop, AppendsTurn, LacksMemory};
 
 use crate::driven::Driven;
 use lwkt_bank::Bank;
-use lwkt_base::Fault;
+use lwkt_base::OutOfMemory;
+use lwkt_base::memory::reserve;
 use lwkt_cpu::{Body, TURN_EVENTS, Turned};
 use lwkt_msg::MsgBook;
-use std::alloc::AllocError;
 
 impl<B> Driven<B> {
-    // Gives the trace room for the events of a turn or a stop, and empties the room into which they are told.
-    fn make_room(&mut self) -> Result<(), AllocError>
-        ensures ok { OnOk result ((self.new.room.items ≡ []) × (length self.new.trace.items + 4096 ≤ self.new.trace.capacity)) }
-        ensures full { OnErr result (self.new.trace.capacity < length self.new.trace.items + 4096) }
+    // Gives the trace room for the events of a turn or a stop, and as much to the room into which they are told, which is empty then.
+    fn make_room(&mut self) -> Result<(), OutOfMemory>
+        ensures empty { OnOk result (self.new.room.items ≡ []) }
+        ensures room { OnOk result (vec_len self.new.room + 4096 ≤ vec_capacity self.new.room) }
+        ensures trace { OnOk result (length self.new.trace.items + 4096 ≤ self.new.trace.capacity) }
+        ensures full { OnErr result (LacksMemory self.new.room self.new.trace) }
         ensures items { self.new.trace.items ≡ self.old.trace.items }
         ensures capacity { self.old.trace.capacity ≤ self.new.trace.capacity }
         ensures rest { self.new ≡ record self.old { trace = self.new.trace; room = self.new.room } }
     {
-        self.trace.reserve(TURN_EVENTS)?;
+        self.trace.reserve_for(&[(); TURN_EVENTS])?;
         self.room.clear();
-        Ok(())
+        reserve(&mut self.room, TURN_EVENTS)
     }
 
     // What was told into the room goes behind the trace, which has room for it.
@@ -40,9 +42,9 @@ impl<B: Body> Driven<B> {
     /// Makes a turn, as `Cpu::turn` does. Its events go behind the trace. That the processor is of this bank and book is the caller's
     /// condition.
     ///
-    /// `AllocError` if memory for 4096 events is refused, to the room into which turns are told or to the trace; the processor and
+    /// Refused if memory for 4096 events is, to the room into which turns are told or to the trace; the processor and
     /// its events are as before then.
-    pub fn turn(&mut self, bank: &Bank, book: &MsgBook) -> Result<Turned, AllocError>
+    pub fn turn(&mut self, bank: &Bank, book: &MsgBook) -> Result<Turned, OutOfMemory>
         requires at { IsAtTables (id_of bank.now) book.now.table self.old }
         ensures ok { IfOk result (λ turned. AppendsTurn B.polled (id_of bank.now) self.old.cpu self.new.cpu self.old.trace.items self.new.trace.items turned) }
         ensures err { OnErr result ((self.new.cpu ≡ self.old.cpu) × (self.new.trace.items ≡ self.old.trace.items)) }
@@ -52,11 +54,7 @@ impl<B: Body> Driven<B> {
         ensures at { IsAtTables (id_of bank.now) book.now.table self.new }
     {
         self.make_room()?;
-        let turned = match self.cpu.turn(bank, book, &mut self.room) {
-            Ok(turned) => turned,
-            Err(Fault::Memory(refused)) => return Err(refused),
-            Err(_) => unreachable!(),
-        };
+        let turned = self.cpu.turn_in_room(bank, book, &mut self.room);
         self.keep();
         Ok(turned)
     }
@@ -64,8 +62,8 @@ impl<B: Body> Driven<B> {
     /// Stops the processor, as `Cpu::stop` does. The events go behind the trace. That the processor is of this bank and book is the
     /// caller's condition.
     ///
-    /// `AllocError` if memory for 4096 events is refused, as for a turn; the processor and its events are as before then.
-    pub fn stop(&mut self, bank: &Bank, book: &MsgBook) -> Result<(), AllocError>
+    /// Refused if memory for 4096 events is, as for a turn; the processor and its events are as before then.
+    pub fn stop(&mut self, bank: &Bank, book: &MsgBook) -> Result<(), OutOfMemory>
         requires at { IsAtTables (id_of bank.now) book.now.table self.old }
         ensures ok { OnOk result (AppendsStop self.old.cpu self.new.cpu self.old.trace.items self.new.trace.items) }
         ensures err { OnErr result ((self.new.cpu ≡ self.old.cpu) × (self.new.trace.items ≡ self.old.trace.items)) }
@@ -74,11 +72,7 @@ impl<B: Body> Driven<B> {
         ensures at { IsAtTables (id_of bank.now) book.now.table self.new }
     {
         self.make_room()?;
-        match self.cpu.stop(bank, book, &mut self.room) {
-            Ok(()) => {}
-            Err(Fault::Memory(refused)) => return Err(refused),
-            Err(_) => unreachable!(),
-        }
+        self.cpu.stop_in_room(bank, book, &mut self.room);
         self.keep();
         Ok(())
     }

@@ -17,7 +17,8 @@
 //! left. Where in a whole slice none has ended or changed anything, each that hasn't ended has made an idle turn in it, and nothing
 //! has changed from before the first of these turns to after the last. So the next turn of each would do what that one did.
 
-use std::alloc::AllocError;
+use lwkt_base::OutOfMemory;
+use std::sync::OnceLock;
 use std::sync::atomic::{AtomicU64, Ordering};
 
 /// The most processors of a board. A bank has no more.
@@ -35,7 +36,8 @@ pub(crate) struct Board {
     cpus: usize,
     whole: bool,
     exited: AtomicU64,
-    called_off: AtomicU64,
+    // What the first processor whose turn was refused was refused with.
+    called_off: OnceLock<OutOfMemory>,
     changes: AtomicU64,
     rests: [AtomicU64; PLACES],
     // How many that haven't ended aren't under way.
@@ -58,7 +60,7 @@ impl Board {
             cpus,
             whole: cpus == all && cpus <= PLACES,
             exited: AtomicU64::new(0),
-            called_off: AtomicU64::new(0),
+            called_off: OnceLock::new(),
             changes: AtomicU64::new(AWAKE + 1),
             rests: [
                 awake(),
@@ -87,18 +89,13 @@ impl Board {
     }
 
     /// Memory for a turn was refused: nobody goes on.
-    pub(crate) fn call_off(&self, _refused: AllocError) {
-        self.called_off.store(1, Ordering::SeqCst);
+    pub(crate) fn call_off(&self, refused: OutOfMemory) {
+        let _ = self.called_off.try_set(refused);
     }
 
-    /// What the allocator said if a turn was refused. The word has no room for it, so it is made anew of a word that only who had it
-    /// could set.
-    pub(crate) fn called_off(&self) -> Option<AllocError> {
-        if self.called_off.load(Ordering::SeqCst) != 0 {
-            Some(AllocError)
-        } else {
-            None
-        }
+    /// What a turn was refused with, if one was.
+    pub(crate) fn called_off(&self) -> Option<OutOfMemory> {
+        self.called_off.get().copied()
     }
 
     /// The count of changes.

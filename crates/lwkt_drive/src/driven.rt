@@ -3,11 +3,11 @@ ghost use Rattle.std.specs.Prelude.{◌≡◌, true, false, []};
 ghost use Rattle.lwkt_cpu.specs.Driving.{none_driven};
 
 use crate::gates::Gate;
-use lwkt_base::CpuId;
+use lwkt_base::{CpuId, OutOfMemory};
 use lwkt_core::Event;
 use lwkt_cpu::{Cpu, Drove};
 use lwkt_events::EventList;
-use std::alloc::{AllocError, Global};
+use std::alloc::Global;
 
 /// Why a processor made no further turn. What is said of other processors no clause claims.
 #[derive(Clone, Copy, Debug, PartialEq, Eq)]
@@ -22,11 +22,10 @@ pub enum Ending {
     IdleOut,
     /// A turn has said that every thread of this processor has ended, and so has one of each other processor.
     AllExited,
-    /// Memory for the 4096 events of its next turn was refused, to the room into which turns are told or to the trace: what the
-    /// allocator said.
-    NoMemory(AllocError),
-    /// Another processor was refused memory for its next turn: what the allocator said.
-    CalledOff(AllocError),
+    /// Memory for the 4096 events of its next turn was refused, to the room into which turns are told or to the trace.
+    NoMemory(OutOfMemory),
+    /// Another processor was refused memory for its next turn: what it was refused with.
+    CalledOff(OutOfMemory),
     /// No turn of any processor could change anything any more: each had stopped, or its last turn polled no thread, appended no
     /// event, moved no note and ended no thread. Claimed is that the last turn of this one polled no thread and appended no event.
     Quiet,

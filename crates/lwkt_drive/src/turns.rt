@@ -9,9 +9,9 @@ use crate::driven::{Door, Driven, Ending, Limits};
 use crate::gates::Gate;
 use crate::watches::{Sight, Watch};
 use lwkt_bank::Bank;
+use lwkt_base::OutOfMemory;
 use lwkt_cpu::{Body, Turned};
 use lwkt_msg::MsgBook;
-use std::alloc::AllocError;
 
 // Whether a turn was silent, by how many events there were before it and after.
 fn was_silent(turned: Turned, before: usize, now: usize) -> bool
@@ -103,14 +103,13 @@ impl<B> Driven<B> {
 }
 
 impl<B: Body> Driven<B> {
-    /// Makes a turn, counts it, and marks it if it was silent. `AllocError` if memory is refused, as to `Driven::turn`; nothing has
-    /// changed then.
+    /// Makes a turn, counts it, and marks it if it was silent. Refused if memory is, as to `Driven::turn`; nothing has changed then.
     pub(crate) fn advance(
         &mut self,
         watch: &Watch<'_>,
         bank: &Bank,
         book: &MsgBook,
-    ) -> Result<Turned, AllocError>
+    ) -> Result<Turned, OutOfMemory>
         requires at { IsAtTables (id_of bank.now) book.now.table self.old }
         requires few { self.old.drove.ran + self.old.drove.idle + 1 < 2 ^ 64 }
         ensures ok { IfOk result (λ turned. AppendsTurn B.polled (id_of bank.now) self.old.cpu self.new.cpu self.old.trace.items self.new.trace.items turned × (self.new.drove ≡ with_turn self.old.drove turned) × (self.new.silent ≡ true → WasSilent turned self.old.trace.items self.new.trace.items)) }

@@ -1,3 +1,4 @@
+pub mod BehindMoves
 pub mod EventMoves
-pub mod StretchMoves
 pub mod StretchChains
+pub mod StretchMoves

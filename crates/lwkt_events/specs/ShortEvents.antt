@@ -120,6 +120,10 @@ pub record KeptTrace : Type 0 where
   pub items : List Event
   pub capacity : ℕ
 
+-- packed events with whole ones behind them: more packed ones are taken until there is room for whole ones
+abbrev pub trace_of : KeptTrace → Vec Event Global → KeptTrace
+trace_of packed whole = record { items = packed.items ++ whole.items; capacity = if vec_capacity whole == 0 then packed.capacity else length packed.items + vec_capacity whole }
+
 -- how many elements more a vector takes before it asks for memory
 abbrev pub spare : {A : Type 0} → Vec A Global → ℕ
 spare v = vec_capacity v - vec_len v

@@ -5,8 +5,9 @@ ghost use Rattle.lwkt_core.specs.SectionChain.{AreSectionChains};
 ghost use Rattle.lwkt_events.specs.Stretches.{Follows, Lead, StandFor};
 
 use crate::stretches::Stretch;
-use lwkt_base::{Row, Rows};
-use std::alloc::{AllocError, Global};
+use lwkt_base::memory::from_slice;
+use lwkt_base::{OutOfMemory, Row, Rows};
+use std::alloc::Global;
 
 // Whether a stretch goes on with its token's chain, where the chains have come to these rows and generations.
 #[inline(always)]
@@ -62,17 +63,17 @@ fn have_come(rows: &[(Row, u64)], last: &[(Row, u64)]) -> bool
 /// Whether the sections that stretches stand for are, by token, one chain of generations from its row in `first` to its row in `last`.
 /// It is true only if they are.
 ///
-/// `AllocError` if memory is refused.
+/// `OutOfMemory` if memory is refused.
 pub fn are_chains(
     alloc: Global,
     first: &Rows,
     last: &Rows,
     stretches: Vec<Stretch>,
-) -> Result<bool, AllocError>
+) -> Result<bool, OutOfMemory>
     ensures { IfOk result (λ yes. IsTrue yes → (sections : List Section) → StandFor stretches.items sections → AreSectionChains first.now last.now sections) }
 {
     let mut stretches = stretches;
     stretches.sort_unstable_by_key(|stretch| (stretch.tok.0, stretch.first));
-    let mut rows = Vec::from_slice(alloc, first.as_slice())?;
+    let mut rows = from_slice(alloc, first.as_slice())?;
     Ok(lead(&mut rows, &stretches) && have_come(&rows, last.as_slice()))
 }

@@ -1,10 +1,8 @@
-//! How much room the lists beside the rows of a trace have, and how they are given more.
+//! How much room the lists beside the rows of packed events have.
 //!
 //! A row has the place of an element of such a list in 32 bits, so each of them takes 2^32 elements at most.
-ghost use Rattle.std.specs.Prelude.{◌≡◌, ◌<◌, ◌≤◌, min, vec_len, OnOk, OnErr};
+ghost use Rattle.std.specs.Prelude.{◌≡◌, ◌↔◌, ◌-◌, ◌≤◌, min, vec_len, IsTrue};
 ghost use Rattle.lwkt_events.specs.ShortEvents.{spare_places};
-
-use std::alloc::AllocError;
 
 // How many places there are in 32 bits.
 const PLACES: usize = 0x1_0000_0000;
@@ -29,19 +27,10 @@ pub fn lower<T>(number: &mut usize, list: &Vec<T>)
     }
 }
 
-/// Gives a list room for so many elements more, whose places fit 32 bits.
-///
-/// `AllocError` if it lacks that room and memory is refused. Where so many have no place in 32 bits, the list is to be given room that no
-/// list has, so that it is refused.
+/// Whether so many elements more of a list have places that fit 32 bits.
 #[inline(always)]
-pub fn give_room<T>(list: &mut Vec<T>, count: usize) -> Result<(), AllocError>
-    ensures items { list.new.items ≡ list.old.items }
-    ensures capacity { spare_places list.old ≤ spare_places list.new }
-    ensures ok { OnOk result (count ≤ spare_places list.new) }
-    ensures full { OnErr result (spare_places list.new < count) }
+pub fn have_places<T>(list: &Vec<T>, count: usize) -> bool
+    ensures { IsTrue result ↔ (count ≤ 4294967296 - vec_len list.now) }
 {
-    if PLACES.saturating_sub(list.len()) < count {
-        return list.reserve(usize::MAX);
-    }
-    list.reserve(count)
+    count <= PLACES.saturating_sub(list.len())
 }

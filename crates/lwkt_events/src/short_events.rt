@@ -18,9 +18,8 @@ use crate::gives::{Give, give_of};
 use crate::rooms::lower;
 use crate::stretches::Stretches;
 use crate::wide_events::{WideEvent, is_wide, short_number};
-use lwkt_base::{CpuId, MsgId, Row, Section, TokId};
+use lwkt_base::{CpuId, MsgId, OutOfMemory, Row, Section, TokId};
 use lwkt_core::Event;
-use std::alloc::AllocError;
 
 /// A written section of a token with one cell, by numbers of 32 bits. The give names the token.
 #[derive(Clone, Copy)]
@@ -249,7 +248,7 @@ impl ShortEvent {
     /// Adds the section of the written give that it stands for to stretches, where the short sections and the long events are these. If
     /// it stands for another event, nothing is added.
     ///
-    /// `AllocError` if memory is refused.
+    /// `OutOfMemory` if memory is refused.
     #[inline(always)]
     #[tactic(auto, using(crate::proofs::StretchMoves::no_more))]
     pub fn tell(
@@ -257,7 +256,7 @@ impl ShortEvent {
         cells: &[CellSection],
         longs: &[Event],
         stretches: &mut Stretches,
-    ) -> Result<(), AllocError>
+    ) -> Result<(), OutOfMemory>
         ensures { (wides : List WideEvent) → OnOk result ((sections : List Section) → StandFor stretches.old sections → StandFor stretches.new (sections ++ section_in (long_event cells.now wides longs.now self.now))) }
     {
         match *self {

@@ -4,9 +4,10 @@ ghost use Rattle.lwkt_base.specs.declared.sections.Section.{Section};
 ghost use Rattle.lwkt_core.specs.RunSections.{section_in, sections_told};
 ghost use Rattle.lwkt_events.specs.Stretches.{GoesOnFrom, longer, stretch_of, StandFor};
 
-use lwkt_base::{Row, Section, TokId};
+use lwkt_base::memory::push;
+use lwkt_base::{OutOfMemory, Row, Section, TokId};
 use lwkt_core::Event;
-use std::alloc::{AllocError, Global};
+use std::alloc::Global;
 use std::marker::Model;
 
 /// Written sections of one token, at least one, each of which begins with the row and at the generation that the one before it came to.
@@ -89,10 +90,10 @@ impl Stretches {
 
     /// Adds a section that is told next.
     ///
-    /// `AllocError` if memory is refused.
+    /// `OutOfMemory` if memory is refused.
     #[inline(always)]
     #[tactic(auto, using(crate::proofs::StretchMoves::one_more))]
-    pub fn add(&mut self, section: &Section) -> Result<(), AllocError>
+    pub fn add(&mut self, section: &Section) -> Result<(), OutOfMemory>
         ensures { OnOk result ((sections : List Section) → StandFor self.old sections → StandFor self.new (sections ++ section.now ∷ [])) }
     {
         let tok = usize::from(section.tok.0);
@@ -102,14 +103,13 @@ impl Stretches {
             return Ok(());
         }
         self.lasts[tok] = self.items.len();
-        self.items.push(Stretch::of(section))?;
-        Ok(())
+        push(&mut self.items, Stretch::of(section))
     }
 
     /// Adds the written sections that events tell, in their order.
     ///
-    /// `AllocError` if memory is refused.
-    pub fn add_told(&mut self, events: &[Event]) -> Result<(), AllocError>
+    /// `OutOfMemory` if memory is refused.
+    pub fn add_told(&mut self, events: &[Event]) -> Result<(), OutOfMemory>
         ensures { OnOk result ((sections : List Section) → StandFor self.old sections → StandFor self.new (sections ++ sections_told events.now)) }
     {
         for event in events {
@@ -120,9 +120,9 @@ impl Stretches {
 
     /// Adds the section that an event tells, if it ends a written one.
     ///
-    /// `AllocError` if memory is refused.
+    /// `OutOfMemory` if memory is refused.
     #[inline(always)]
-    pub(crate) fn add_event(&mut self, event: &Event) -> Result<(), AllocError>
+    pub(crate) fn add_event(&mut self, event: &Event) -> Result<(), OutOfMemory>
         ensures { OnOk result ((sections : List Section) → StandFor self.old sections → StandFor self.new (sections ++ section_in event.now)) }
     {
         match event {

@@ -3,7 +3,7 @@
 
 ghost use Rattle.std.specs.Prelude.{◌≡◌, IfOk, sum, slice_index_or, []};
 
-use lwkt_base::{Answer, Ask, Call, Fault, MsgId, TokId};
+use lwkt_base::{Answer, Ask, Call, Fault, MsgId, OutOfMemory, TokId};
 use lwkt_program::{Closed, LIMITS, Machine, Stepper, Steps, makers};
 use std::alloc::Global;
 use std::io;
@@ -84,7 +84,7 @@ impl Steps for Worker {
 }
 
 // The one thread of a processor, with ten rounds to make.
-fn lone_thread(alloc: Global, produces: bool) -> Result<Vec<Stepper<Worker>>, Fault> {
+fn lone_thread(alloc: Global, produces: bool) -> Result<Vec<Stepper<Worker>>, OutOfMemory> {
     let worker = Worker {
         produces,
         left: 10,
@@ -104,8 +104,9 @@ fn run<R: Threads + Sync>(rt: &R, alloc: Global) -> Result<Closed<Stepper<Worker
         [lone_thread(alloc, true)?, lone_thread(alloc, false)?],
     )?;
     let mut machine = Machine::open(alloc, &tokens, &messages, bodies)?;
+    let room = machine.room(alloc)?;
     machine.drive(rt, &LIMITS);
-    machine.close(alloc)
+    Ok(machine.close_in(room))
 }
 
 fn main(rt: HostRuntime) -> io::Result<ExitCode> {

@@ -53,12 +53,12 @@ word_more n word one more other so = rw (more_words n one more other) so
 
 -- a sum that was written in three parts
 pub summed : (before first second out n space noun stop tried comma t made part end : List ℕ)
-    → first ≡ before ++ (n ++ (space ++ (noun ++ stop))) → second ≡ first ++ tried → out ≡ second ++ (comma ++ (t ++ (space ++ (made ++ (stop ++ (part ++ end))))))
+    → first ≡ before ++ (n ++ space ++ noun ++ stop) → second ≡ first ++ tried → out ≡ second ++ (comma ++ t ++ space ++ made ++ (stop ++ part ++ end))
     → out ≡ before ++ ((n ++ space ++ noun) ++ stop ++ tried ++ comma ++ (t ++ space ++ made) ++ stop ++ part ++ end)
 summed before first second out n space noun stop tried comma t made part end is so last = rw (last, so, is) (simp append_assoc)
 
 -- an outcome that was written in eight parts
 pub outlined : (old a b c d e f g out outcome n space word count order turns feed text forms why : List ℕ)
-    → a ≡ old ++ (outcome ++ (n ++ (space ++ word))) → b ≡ a ++ count → c ≡ b ++ order → d ≡ c ++ turns → e ≡ d ++ feed → f ≡ e ++ text → g ≡ f ++ forms → out ≡ g ++ why
+    → a ≡ old ++ (outcome ++ n ++ space ++ word) → b ≡ a ++ count → c ≡ b ++ order → d ≡ c ++ turns → e ≡ d ++ feed → f ≡ e ++ text → g ≡ f ++ forms → out ≡ g ++ why
     → out ≡ old ++ (outcome ++ n ++ space ++ word ++ count ++ order ++ turns ++ feed ++ text ++ forms ++ why)
 outlined old a b c d e f g out outcome n space word count order turns feed text forms why one two three four five six seven last = rw (last, seven, six, five, four, three, two, one) (simp append_assoc)

@@ -1,5 +1,5 @@
 -- Outcomes of a script (own).
-use Rattle.std.specs.Prelude.{◌≡◌, ◌≢◌, ℕ, ◌≤◌, List, ◌++◌, All, length, string_bytes}
+use Rattle.std.specs.Prelude.{◌≡◌, ◌≢◌, ℕ, ◌<◌, ◌≤◌, List, ◌++◌, All, length, string_bytes, vec_len, vec_capacity}
 use Rattle.std.specs.List.{Any, flat_map}
 use Rattle.lwkt_base.specs.declared.faults.Fault.{Fault}
 use Rattle.lwkt_base.specs.declared.faults.Fault.TheVariants.{Unlawful}
@@ -39,6 +39,10 @@ pub record IsOutcome (script : Script) (outcome : Outcome) : Type 0 where
 -- each of these is one
 abbrev pub AreOutcomes : Script → Outcomes → Type 0
 AreOutcomes script outcomes = All (IsOutcome script) outcomes.all.items
+
+-- there is room for one more
+abbrev pub HasRoom : Outcomes → Type 0
+HasRoom outcomes = (vec_len outcomes.all < vec_capacity outcomes.all) × (vec_len outcomes.counts < vec_capacity outcomes.counts)
 
 -- the order of each of these has at most so many turns
 abbrev pub AreShort : ℕ → Outcomes → Type 0

@@ -5,10 +5,10 @@ ghost use Rattle.lwkt_explore.specs.Judgements.{judgement_of};
 
 use crate::judgements::{Judgement, judgement_of};
 use crate::verdicts::verdicts_said;
-use lwkt_base::Fault;
+use lwkt_base::OutOfMemory;
 use lwkt_report::{Closing, report};
 use lwkt_text::claims::Expectation;
-use std::alloc::{AllocError, Global};
+use std::alloc::Global;
 
 /// What is told of a run of a text.
 #[derive(Drop)]
@@ -30,15 +30,11 @@ pub fn account_of(
     bytes: &[u8],
     expectations: &[Expectation],
     outcome: &Closing,
-) -> Result<Account, AllocError>
+) -> Result<Account, OutOfMemory>
     ensures report { IfOk result (λ account. string_bytes account.report ≡ report_text outcome.now) }
     ensures judgement { IfOk result (λ account. account.judgement ≡ judgement_of expectations.now outcome.now) }
 {
-    let report = match report(alloc, outcome) {
-        Ok(report) => report,
-        Err(Fault::Memory(refused)) => return Err(refused),
-        Err(_) => unreachable!(),
-    };
+    let report = report(alloc, outcome)?;
     let verdicts = verdicts_said(alloc, path, bytes, expectations, outcome)?;
     Ok(Account {
         report,

@@ -6,8 +6,8 @@ ghost use Rattle.lwkt_explore.specs.Texts.{is_kind, told_with, later_forms, told
 
 use crate::lines::add_order;
 use crate::outcomes::{Kind, Outcome, Outcomes};
-use lwkt_base::{MsgEnd, Owner};
-use std::alloc::AllocError;
+use lwkt_base::memory::{push_str, put};
+use lwkt_base::{MsgEnd, OutOfMemory, Owner};
 
 // Whether two outcomes are told together.
 fn told_with(one: &Outcome, other: &Outcome) -> bool
@@ -73,26 +73,26 @@ fn looks_same(one: &MsgEnd, other: &MsgEnd) -> bool
 }
 
 // The line of a message, without its end.
-fn add_place(out: &mut String, message: usize, end: &MsgEnd) -> Result<(), AllocError>
+fn add_place(out: &mut String, message: usize, end: &MsgEnd) -> Result<(), OutOfMemory>
     ensures { OnOk result (string_bytes out.new ≡ string_bytes out.old ++ place_text message end.now) }
 {
     let (round, word) = (end.round, owner_word(end.state));
-    write!(out, "message {message} round {round} {word}")
+    put(out, ("message ", message, " round ", round, (" ", word)))
 }
 
 // What stands before a message: a blank before the first, and else a semicolon and a blank.
-fn add_between(out: &mut String, is_first: bool) -> Result<(), AllocError>
+fn add_between(out: &mut String, is_first: bool) -> Result<(), OutOfMemory>
     ensures { OnOk result (string_bytes out.new ≡ string_bytes out.old ++ between_text is_first) }
 {
     if is_first {
-        out.push_str(" ")
+        push_str(out, " ")
     } else {
-        out.push_str("; ")
+        push_str(out, "; ")
     }
 }
 
 // The messages of a form whose lines aren't those of the outcome that it is told with.
-fn add_places(out: &mut String, first: &[MsgEnd], form: &[MsgEnd]) -> Result<(), AllocError>
+fn add_places(out: &mut String, first: &[MsgEnd], form: &[MsgEnd]) -> Result<(), OutOfMemory>
     ensures { OnOk result (string_bytes out.new ≡ string_bytes out.old ++ places_text true 0 first.now form.now) }
 {
     let mut is_first = true;
@@ -109,18 +109,18 @@ fn add_places(out: &mut String, first: &[MsgEnd], form: &[MsgEnd]) -> Result<(),
 }
 
 // How else the messages of an outcome may stand.
-fn add_form(out: &mut String, outcome: &Outcome, form: &Outcome) -> Result<(), AllocError>
+fn add_form(out: &mut String, outcome: &Outcome, form: &Outcome) -> Result<(), OutOfMemory>
     ensures { OnOk result (string_bytes out.new ≡ string_bytes out.old ++ or_line outcome.now form.now) }
 {
-    out.push_str("or")?;
+    push_str(out, "or")?;
     add_places(
         out,
         outcome.closing.messages.as_slice(),
         form.closing.messages.as_slice(),
     )?;
-    out.push_str(", order")?;
+    push_str(out, ", order")?;
     add_order(out, form.order.as_slice())?;
-    out.push_str("\n")
+    push_str(out, "\n")
 }
 
 /// A line for each other form of the outcome of a place.
@@ -129,7 +129,7 @@ pub(crate) fn add_forms(
     outcomes: &Outcomes,
     place: usize,
     outcome: &Outcome,
-) -> Result<(), AllocError>
+) -> Result<(), OutOfMemory>
     requires { place < length outcomes.now.all.items }
     ensures { OnOk result (string_bytes out.new ≡ string_bytes out.old ++ flat_map (λ form. or_line outcome.now form.0) (later_forms outcome.now (place + 1) outcomes.now)) }
 {

@@ -4,7 +4,9 @@ ghost use Rattle.lwkt_explore.specs.Graphs.{AreNodes, depth_at, IsOrder};
 
 use crate::choices::{Choice, NO_CHOICE};
 use crate::lists::Lists;
-use std::alloc::{AllocError, Global};
+use lwkt_base::OutOfMemory;
+use lwkt_base::memory::push;
+use std::alloc::Global;
 
 /// No state: what stands for one that wasn't kept.
 pub(crate) const NONE: u32 = u32::MAX;
@@ -38,7 +40,7 @@ pub(crate) struct Graph {
 
 impl Graph {
     /// No states yet, of a script with so many processors.
-    pub(crate) fn new(alloc: Global, cpus: usize) -> Result<Graph, AllocError>
+    pub(crate) fn new(alloc: Global, cpus: usize) -> Result<Graph, OutOfMemory>
         ensures { IfOk result (λ graph. graph.nodes.items ≡ []) }
     {
         Ok(Graph {
@@ -85,7 +87,7 @@ impl Graph {
         cpu: u8,
         parts: &[u32],
         choice: Choice,
-    ) -> Result<u32, AllocError>
+    ) -> Result<u32, OutOfMemory>
         ensures nodes { (cpus turns : ℕ) → cpu < cpus → (self.old.nodes.items ≡ []) ⊎ (depth_at self.old parent < turns) → AreNodes cpus turns self.old → AreNodes cpus turns self.new }
         ensures one_more { OnOk result (length self.new.nodes.items ≡ length self.old.nodes.items + 1) }
         ensures none_less { length self.old.nodes.items ≤ length self.new.nodes.items }
@@ -99,12 +101,13 @@ impl Graph {
                 .unwrap_or(NONE)
                 .saturating_add(1)
         };
-        self.nodes.push(Node {
+        let node = Node {
             parent: u32::try_from(parent).unwrap_or(NONE),
             depth,
             cpu,
             choice,
-        })?;
+        };
+        push(&mut self.nodes, node)?;
         Ok(number)
     }
 
@@ -126,12 +129,12 @@ impl Graph {
     }
 
     /// Notes what the turns from the next state led to.
-    pub(crate) fn note(&mut self, row: &Row) -> Result<(), AllocError>
+    pub(crate) fn note(&mut self, row: &Row) -> Result<(), OutOfMemory>
         ensures { self.new.nodes ≡ self.old.nodes }
     {
         for (cpu, number) in row.iter().enumerate() {
             if cpu < self.cpus {
-                self.next.push(*number)?;
+                push(&mut self.next, *number)?;
             }
         }
         Ok(())
@@ -161,7 +164,7 @@ impl Graph {
     }
 
     /// A shortest order that leads to a state.
-    pub(crate) fn order(&self, alloc: Global, at: usize) -> Result<Vec<u8>, AllocError>
+    pub(crate) fn order(&self, alloc: Global, at: usize) -> Result<Vec<u8>, OutOfMemory>
         ensures { (cpus turns : ℕ) → AreNodes cpus turns self.now → IfOk result (λ order. IsOrder cpus turns order.items) }
     {
         let mut order = Vec::new(alloc);
@@ -170,7 +173,7 @@ impl Graph {
             let Some(node) = self.nodes.get(number) else {
                 return Ok(order);
             };
-            order.push(node.cpu)?;
+            push(&mut order, node.cpu)?;
             number = node.parent as usize;
         }
         order.reverse();

@@ -8,7 +8,9 @@ use crate::forms::{add_forms, is_first, told_count};
 use crate::losses::Lost;
 use crate::outcomes::{Kind, Outcome};
 use crate::searches::{Found, Tried};
-use std::alloc::{AllocError, Global};
+use lwkt_base::OutOfMemory;
+use lwkt_base::memory::{push_str, put};
+use std::alloc::Global;
 
 fn kind_word(kind: Kind) -> &'static str
     ensures { result.now ≡ kind_text kind }
@@ -21,22 +23,22 @@ fn kind_word(kind: Kind) -> &'static str
 }
 
 /// The processors of an order, or a line for none.
-pub(crate) fn add_order(out: &mut String, order: &[u8]) -> Result<(), AllocError>
+pub(crate) fn add_order(out: &mut String, order: &[u8]) -> Result<(), OutOfMemory>
     ensures { OnOk result (string_bytes out.new ≡ string_bytes out.old ++ order_bytes order.now) }
 {
     if order.is_empty() {
-        return out.push_str(" -");
+        return push_str(out, " -");
     }
     for cpu in order {
-        write!(out, " {cpu}")?;
+        put(out, (" ", *cpu))?;
     }
     Ok(())
 }
 
 /// The processors of an order, each after a blank: ` 0 1 0`; ` -` for an order without turns.
 ///
-/// `AllocError` if memory is refused.
-pub fn order_text(alloc: Global, order: &[u8]) -> Result<String, AllocError>
+/// Refused if memory is.
+pub fn order_text(alloc: Global, order: &[u8]) -> Result<String, OutOfMemory>
     ensures { IfOk result (λ text. string_bytes text ≡ order_bytes order.now) }
 {
     let mut out = String::new(alloc);
@@ -45,13 +47,13 @@ pub fn order_text(alloc: Global, order: &[u8]) -> Result<String, AllocError>
 }
 
 // How many random orders led to an outcome.
-fn add_count(out: &mut String, tried: Tried, count: u64) -> Result<(), AllocError>
+fn add_count(out: &mut String, tried: Tried, count: u64) -> Result<(), OutOfMemory>
     ensures { OnOk result (string_bytes out.new ≡ string_bytes out.old ++ count_text tried count) }
 {
     match tried {
         Tried::States(_) => Ok(()),
-        Tried::Orders(_) if count == 1 => out.push_str(", once"),
-        Tried::Orders(_) => write!(out, ", {count} times"),
+        Tried::Orders(_) if count == 1 => push_str(out, ", once"),
+        Tried::Orders(_) => put(out, (", ", count, " times")),
     }
 }
 
@@ -62,34 +64,39 @@ fn add_outcome(
     found: &Found,
     place: usize,
     outcome: &Outcome,
-) -> Result<(), AllocError>
+) -> Result<(), OutOfMemory>
     requires { place < length found.now.outcomes.all.items }
     ensures { OnOk result (string_bytes out.new ≡ string_bytes out.old ++ outcome_lines found.now.tried number (told_at outcome.now place found.now.outcomes)) }
 {
     let word = kind_word(outcome.kind);
     let count = told_count(&found.outcomes, place, outcome);
-    write!(out, "outcome {number} {word}")?;
+    put(out, ("outcome ", number, " ", word))?;
     add_count(out, found.tried, count)?;
-    out.push_str(", order")?;
+    push_str(out, ", order")?;
     add_order(out, outcome.order.as_slice())?;
-    out.push_str("\n")?;
-    out.push_str(outcome.text.as_str())?;
+    push_str(out, "\n")?;
+    push_str(out, outcome.text.as_str())?;
     add_forms(out, &found.outcomes, place, outcome)?;
     add_why(out, &outcome.why)
 }
 
 // Why an outcome is stuck.
-fn add_why(out: &mut String, why: &Option<String>) -> Result<(), AllocError>
+fn add_why(out: &mut String, why: &Option<String>) -> Result<(), OutOfMemory>
     ensures { OnOk result (string_bytes out.new ≡ string_bytes out.old ++ why_line why.now) }
 {
     match why {
-        Some(why) => write!(out, "why: {}\n", why.as_str()),
+        Some(why) => put(out, ("why: ", why.as_str(), "\n")),
         None => Ok(()),
     }
 }
 
 // The outcomes of a kind, those that are told together under the first of them, behind so many others; says how many there are then.
-fn add_kind(out: &mut String, found: &Found, kind: Kind, before: usize) -> Result<usize, AllocError>
+fn add_kind(
+    out: &mut String,
+    found: &Found,
+    kind: Kind,
+    before: usize,
+) -> Result<usize, OutOfMemory>
     requires { before + length (of_kind kind found.now.outcomes) ≤ 18446744073709551615 }
     ensures text { OnOk result (string_bytes out.new ≡ string_bytes out.old ++ numbered_lines (outcome_lines found.now.tried) (before + 1) (of_kind kind found.now.outcomes)) }
     ensures number { IfOk result (λ number. number ≡ before + length (of_kind kind found.now.outcomes)) }
@@ -106,31 +113,32 @@ fn add_kind(out: &mut String, found: &Found, kind: Kind, before: usize) -> Resul
     Ok(number)
 }
 
-fn add_lost(out: &mut String, lost: &Lost) -> Result<(), AllocError>
+fn add_lost(out: &mut String, lost: &Lost) -> Result<(), OutOfMemory>
     ensures { OnOk result (string_bytes out.new ≡ string_bytes out.old ++ lost_line lost.now) }
 {
     let count = lost.count;
     if count == 1 {
-        out.push_str("lost: 1 state, from which no end can be reached; after order")?;
-    } else {
-        write!(
+        push_str(
             out,
-            "lost: {count} states, from which no end can be reached; the first after order"
+            "lost: 1 state, from which no end can be reached; after order",
         )?;
+    } else {
+        let behind = " states, from which no end can be reached; the first after order";
+        put(out, ("lost: ", count, behind))?;
     }
     add_order(out, lost.order.as_slice())?;
-    out.push_str("\n")
+    push_str(out, "\n")
 }
 
 // What was tried.
-fn add_tried(out: &mut String, tried: Tried) -> Result<(), AllocError>
+fn add_tried(out: &mut String, tried: Tried) -> Result<(), OutOfMemory>
     ensures { OnOk result (string_bytes out.new ≡ string_bytes out.old ++ tried_text tried) }
 {
     match tried {
-        Tried::States(1) => out.push_str("1 state"),
-        Tried::States(states) => write!(out, "{states} states"),
-        Tried::Orders(1) => out.push_str("1 random order"),
-        Tried::Orders(orders) => write!(out, "{orders} random orders"),
+        Tried::States(1) => push_str(out, "1 state"),
+        Tried::States(states) => put(out, (states, " states")),
+        Tried::Orders(1) => push_str(out, "1 random order"),
+        Tried::Orders(orders) => put(out, (orders, " random orders")),
     }
 }
 
@@ -148,25 +156,25 @@ fn extent_word(extent: Extent) -> &'static str
     }
 }
 
-fn add_sum(out: &mut String, found: &Found, count: usize) -> Result<(), AllocError>
+fn add_sum(out: &mut String, found: &Found, count: usize) -> Result<(), OutOfMemory>
     requires { count ≡ length (by_kind found.now.outcomes) }
     ensures { OnOk result (string_bytes out.new ≡ string_bytes out.old ++ sum_line found.now) }
 {
     let noun = if count == 1 { "outcome" } else { "outcomes" };
-    write!(out, "{count} {noun}; ")?;
+    put(out, (count, " ", noun, "; "))?;
     add_tried(out, found.tried)?;
     let turns = found.turns;
     let made = if turns == 1 { "turn" } else { "turns" };
     let whole = extent_word(found.extent);
-    write!(out, ", {turns} {made}; {whole}\n")
+    put(out, (", ", turns, " ", made, ("; ", whole, "\n")))
 }
 
 /// The text of what was found: the outcomes, numbered from 1, the ended ones first, then the stuck ones, then those that were cut; then
 /// the lost states, if there are any, and what was searched (docs/EXPLORE.md). Outcomes of one kind that differ in message lines alone
 /// are told together under one number: the first of them, and of each other one the message lines that differ.
 ///
-/// `AllocError` if memory is refused.
-pub fn text_of(alloc: Global, found: &Found) -> Result<String, AllocError>
+/// Refused if memory is.
+pub fn text_of(alloc: Global, found: &Found) -> Result<String, OutOfMemory>
     ensures { IfOk result (λ text. string_bytes text ≡ text_of_found found.now) }
 {
     let mut out = String::new(alloc);

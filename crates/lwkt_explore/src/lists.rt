@@ -1,5 +1,7 @@
 //! Lists of small numbers, each kept once and known by its place among them.
-use std::alloc::{AllocError, Global};
+use lwkt_base::OutOfMemory;
+use lwkt_base::memory::{MOST_ROOM, extend_from_slice, push, resize};
+use std::alloc::Global;
 
 // No list.
 const NONE: u32 = u32::MAX;
@@ -34,11 +36,9 @@ fn hash_of(list: &[u32]) -> u64 {
     hash
 }
 
-fn empty_slots(alloc: Global, count: usize) -> Result<Vec<u32>, AllocError> {
-    let mut slots = Vec::with_capacity(alloc, count)?;
-    for _ in 0..count {
-        slots.push(NONE)?;
-    }
+fn empty_slots(alloc: Global, count: usize) -> Result<Vec<u32>, OutOfMemory> {
+    let mut slots = Vec::new(alloc);
+    resize(&mut slots, count.min(MOST_ROOM), NONE)?;
     Ok(slots)
 }
 
@@ -62,7 +62,7 @@ fn put(slots: &mut Vec<u32>, number: u32, hash: u64) {
 
 impl Lists {
     /// No list so far.
-    pub(crate) fn new(alloc: Global) -> Result<Lists, AllocError> {
+    pub(crate) fn new(alloc: Global) -> Result<Lists, OutOfMemory> {
         Ok(Lists {
             numbers: Vec::new(alloc),
             spans: Vec::new(alloc),
@@ -117,7 +117,7 @@ impl Lists {
     }
 
     // Gives the table of hashes room for one more.
-    fn make_room(&mut self, alloc: Global) -> Result<(), AllocError> {
+    fn make_room(&mut self, alloc: Global) -> Result<(), OutOfMemory> {
         let count = self.slots.len();
         if self.spans.len() < count / 2 {
             return Ok(());
@@ -131,17 +131,14 @@ impl Lists {
     }
 
     /// Adds a list that isn't among them, and answers its place.
-    pub(crate) fn add(&mut self, alloc: Global, list: &[u32]) -> Result<u32, AllocError> {
+    pub(crate) fn add(&mut self, alloc: Global, list: &[u32]) -> Result<u32, OutOfMemory> {
         self.make_room(alloc)?;
         let start = self.numbers.len();
-        self.numbers.extend_from_slice(list)?;
+        extend_from_slice(&mut self.numbers, list)?;
         let number = u32::try_from(self.spans.len()).unwrap_or(NONE);
         let hash = hash_of(list);
-        self.spans.push(Span {
-            hash,
-            start,
-            end: self.numbers.len(),
-        })?;
+        let end = self.numbers.len();
+        push(&mut self.spans, Span { hash, start, end })?;
         put(&mut self.slots, number, hash);
         Ok(number)
     }

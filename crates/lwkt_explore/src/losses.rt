@@ -2,7 +2,9 @@
 ghost use Rattle.std.specs.Prelude.{◌≡◌, ◌<◌, true, length, Contains, IsTrue, IfOk, None};
 
 use crate::graphs::Graph;
-use std::alloc::{AllocError, Global};
+use lwkt_base::OutOfMemory;
+use lwkt_base::memory::from_slice;
+use std::alloc::Global;
 
 /// The states from which no end can be reached, an end being a state where no turn changes anything and every thread has ended.
 /// There is one at least.
@@ -51,11 +53,11 @@ fn reaching(
     graph: &Graph,
     ends: &[bool],
     cpus: usize,
-) -> Result<Vec<bool>, AllocError>
+) -> Result<Vec<bool>, OutOfMemory>
     ensures as_many { IfOk result (λ reaches. length reaches.items ≡ length ends.now) }
     ensures from_ends { IfOk result (λ reaches. Contains reaches.items true → Contains ends.now true) }
 {
-    let mut reaches = Vec::from_slice(alloc, ends)?;
+    let mut reaches = from_slice(alloc, ends)?;
     for _ in 0..ends.len() {
         if !go_back(graph, reaches.as_mut_slice(), cpus) {
             return Ok(reaches);
@@ -81,7 +83,7 @@ pub(crate) fn lost_of(
     graph: &Graph,
     ends: &[bool],
     cpus: usize,
-) -> Result<Option<Lost>, AllocError>
+) -> Result<Option<Lost>, OutOfMemory>
     // Where no state is lost, and there is one, one is an end.
     ensures { IfOk result (λ lost. lost ≡ None → 0 < length ends.now → Contains ends.now true) }
 {

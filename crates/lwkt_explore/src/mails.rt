@@ -1,8 +1,9 @@
 //! Which processors a message of a script can be with, and where its notes can go.
 use crate::touches::{Touch, bit, cpu_bit, has, touched_by};
-use lwkt_base::Ask;
+use lwkt_base::memory::push;
+use lwkt_base::{Ask, OutOfMemory};
 use lwkt_script::Script;
-use std::alloc::{AllocError, Global};
+use std::alloc::Global;
 
 /// A message of a script.
 #[derive(Clone, Copy, Debug, PartialEq, Eq)]
@@ -49,10 +50,13 @@ fn mail_of(script: &Script, number: usize, origin: usize) -> Mail {
 
 impl Mails {
     /// Those of a script.
-    pub(crate) fn of(alloc: Global, script: &Script) -> Result<Mails, AllocError> {
+    pub(crate) fn of(alloc: Global, script: &Script) -> Result<Mails, OutOfMemory> {
         let mut all = Vec::new(alloc);
         for (number, spec) in script.messages.as_slice().iter().enumerate() {
-            all.push(mail_of(script, number, usize::from(spec.origin.cpu.0)))?;
+            push(
+                &mut all,
+                mail_of(script, number, usize::from(spec.origin.cpu.0)),
+            )?;
         }
         Ok(Mails { all })
     }

@@ -1,6 +1,8 @@
 //! What turns led to, by the parts that they touch.
 use crate::lists::Lists;
-use std::alloc::{AllocError, Global};
+use lwkt_base::OutOfMemory;
+use lwkt_base::memory::{extend_from_slice, push, with_capacity_for};
+use std::alloc::Global;
 
 /// What turns led to that were made: a turn depends on no part but those that it touches, and changes no other.
 #[derive(Drop)]
@@ -16,11 +18,11 @@ pub(crate) fn picked(
     alloc: Global,
     state: &[u32],
     places: &[usize],
-) -> Result<Vec<u32>, AllocError> {
-    let mut parts = Vec::with_capacity(alloc, places.len())?;
+) -> Result<Vec<u32>, OutOfMemory> {
+    let mut parts = with_capacity_for(alloc, places)?;
     for place in places {
         if let Some(part) = state.get(*place) {
-            parts.push(*part)?;
+            push(&mut parts, *part)?;
         }
     }
     Ok(parts)
@@ -37,7 +39,7 @@ pub(crate) fn put_back(state: &mut [u32], places: &[usize], parts: &[u32]) {
 
 impl Memos {
     /// None so far.
-    pub(crate) fn new(alloc: Global) -> Result<Memos, AllocError> {
+    pub(crate) fn new(alloc: Global) -> Result<Memos, OutOfMemory> {
         Ok(Memos {
             before: Lists::new(alloc)?,
             after: Vec::new(alloc),
@@ -56,8 +58,8 @@ impl Memos {
         alloc: Global,
         before: &[u32],
         after: &[u32],
-    ) -> Result<(), AllocError> {
-        self.after.extend_from_slice(after)?;
+    ) -> Result<(), OutOfMemory> {
+        extend_from_slice(&mut self.after, after)?;
         self.before.add(alloc, before)?;
         Ok(())
     }

@@ -2,14 +2,14 @@
 ghost use Rattle.std.specs.Prelude.{◌≡◌, ◌≢◌, ℕ, ◌+◌, ◌<◌, ◌≤◌, [], ◌∷◌, ◌++◌, length, sum, string_bytes, Err, IfOk, IfErr, OnOk, OnErr, IfSome, OnSome};
 ghost use Rattle.std.specs.List.{Any};
 ghost use Rattle.std.specs.Option.{option_to_list};
-ghost use Rattle.lwkt_base.specs.Fault.{no_memory};
 ghost use Rattle.lwkt_run.specs.Run.{AreThere, end_told};
 ghost use Rattle.lwkt_script.specs.declared.scripts.Script.{Script};
-ghost use Rattle.lwkt_explore.specs.Outcomes.{settled_text, IsKind, IsOutcome, AreOutcomes, AreShort, AreWhole, HasEnded, RefusesSearch};
+ghost use Rattle.lwkt_explore.specs.Outcomes.{settled_text, IsKind, IsOutcome, AreOutcomes, AreShort, AreWhole, HasEnded, HasRoom, RefusesSearch};
 ghost use Rattle.lwkt_explore.specs.Verdicts.{IsOfVerdict};
 
-use crate::walks::{memory, number_in_order};
-use lwkt_base::Fault;
+use crate::walks::number_in_order;
+use lwkt_base::memory::{from_slice, push, reserve};
+use lwkt_base::{Fault, OutOfMemory};
 use lwkt_report::{Closing, Verdict, report_front};
 use lwkt_run::{End, TurnsRun, end_told, order_run_of};
 use lwkt_scenes::{Reel, whys_of};
@@ -94,17 +94,12 @@ fn why_of(
     script: &Script,
     kind: Kind,
     run: &TurnsRun,
-) -> Result<Option<String>, Fault>
-    ensures { OnErr result (result ≡ Err no_memory) }
-{
+) -> Result<Option<String>, OutOfMemory> {
     match kind {
         Kind::Ended | Kind::Cut => return Ok(None),
         Kind::Stuck => {}
     }
-    let events = match run.trace.whole(alloc) {
-        Ok(events) => events,
-        Err(refused) => return Err(Fault::Memory(refused)),
-    };
+    let events = run.trace.whole(alloc)?;
     let reel = Reel {
         script,
         trace: &events,
@@ -115,17 +110,16 @@ fn why_of(
     };
     match whys_of(alloc, &reel) {
         Ok(why) => Ok(Some(why)),
-        Err(Fault::Memory(refused)) => Err(Fault::Memory(refused)),
+        Err(Fault::Memory(refused)) => Err(refused),
         // (a machine of this script was opened, so there is no other fault)
         Err(_) => Ok(None),
     }
 }
 
 // The token and thread lines of a report, with what it shows.
-fn settled_of(alloc: Global, closing: Closing) -> Result<(Closing, String), Fault>
+fn settled_of(alloc: Global, closing: Closing) -> Result<(Closing, String), OutOfMemory>
     ensures same { IfOk result (λ made. made.0 ≡ closing) }
     ensures settled { IfOk result (λ made. string_bytes made.1 ≡ settled_text closing) }
-    ensures only { OnErr result (result ≡ Err no_memory) }
 {
     let Closing {
         tokens,
@@ -182,11 +176,9 @@ pub(crate) fn judge(
     requires cpu { IfSome cpu (λ cpu. cpu < 8) }
     ensures { IfErr result (λ fault. RefusesSearch script.now fault) }
 {
-    let mut whole = memory(Vec::from_slice(alloc, order))?;
+    let mut whole = from_slice(alloc, order)?;
     if let Some(cpu) = cpu {
-        if let Err(refused) = whole.push(number_in_order(cpu)) {
-            return Err(Fault::Memory(refused.into()));
-        }
+        push(&mut whole, number_in_order(cpu))?;
     }
     outcome_of(alloc, script, whole, Stand::Cut)?;
     Ok(())
@@ -237,37 +229,42 @@ impl Outcomes {
         total
     }
 
-    // Keeps an outcome.
-    fn keep(&mut self, outcome: Outcome) -> Result<(), Fault>
-        ensures ok { OnOk result (self.new.all.items ≡ self.old.all.items ++ outcome ∷ []) }
-        ensures err { OnErr result (self.new.all.items ≡ self.old.all.items) }
-        ensures counts { sum self.new.counts.items ≤ sum self.old.counts.items + 1 }
-        ensures only { OnErr result (result ≡ Err no_memory) }
+    // Makes room for one outcome more.
+    fn make_room(&mut self) -> Result<(), OutOfMemory>
+        ensures all { self.new.all.items ≡ self.old.all.items }
+        ensures counts { self.new.counts.items ≡ self.old.counts.items }
+        ensures room { OnOk result (HasRoom self.new) }
     {
-        self.counts
-            .push(1)
-            .map_err(|refused| Fault::Memory(refused.into()))?;
-        self.all
-            .push(outcome)
-            .map_err(|refused| Fault::Memory(refused.into()))?;
-        Ok(())
+        reserve(&mut self.all, 1)?;
+        reserve(&mut self.counts, 1)
+    }
+
+    // Keeps an outcome. That there is room for it is the caller's condition.
+    fn keep(&mut self, outcome: Outcome)
+        requires { HasRoom self.old }
+        ensures all { self.new.all.items ≡ self.old.all.items ++ outcome ∷ [] }
+        ensures counts { sum self.new.counts.items ≤ sum self.old.counts.items + 1 }
+    {
+        push(&mut self.counts, 1).unwrap();
+        push(&mut self.all, outcome).unwrap();
     }
 
     /// Takes those outcomes of others that it lacks, behind its own. Where memory is refused, the rest is left out.
-    pub(crate) fn take_in(&mut self, others: Outcomes) -> Result<(), Fault>
+    pub(crate) fn take_in(&mut self, others: Outcomes) -> Result<(), OutOfMemory>
         ensures found { (script : Script) → AreOutcomes script self.old → AreOutcomes script others → AreOutcomes script self.new }
         ensures short { (turns : ℕ) → AreShort turns self.old → AreShort turns others → AreShort turns self.new }
-        ensures only { OnErr result (result ≡ Err no_memory) }
     {
         for outcome in others.all {
             if self.place_of(&outcome).is_none() {
-                self.keep(outcome)?;
+                self.make_room()?;
+                self.keep(outcome);
             }
         }
         Ok(())
     }
 
-    /// Makes the run along an order, and keeps its report, if it is a new one. Says which kind of outcome it is.
+    /// Makes the run along an order, and keeps its report, if it is a new one: room for it is made before the run. Says which kind of
+    /// outcome it is.
     pub(crate) fn add(
         &mut self,
         alloc: Global,
@@ -286,11 +283,12 @@ impl Outcomes {
         ensures counts { sum self.new.counts.items ≤ sum self.old.counts.items + 1 }
         ensures refused { IfErr result (λ fault. RefusesSearch script.now fault) }
     {
+        self.make_room()?;
         let outcome = outcome_of(alloc, script, order, stand)?;
         let kind = outcome.kind;
         match self.place_of(&outcome) {
             Some(place) => self.count(place),
-            None => self.keep(outcome)?,
+            None => self.keep(outcome),
         }
         Ok(kind)
     }

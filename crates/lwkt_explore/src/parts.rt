@@ -4,8 +4,10 @@ use crate::lists::Lists;
 use crate::mails::Mails;
 use crate::packs::packed;
 use crate::touches::{Touch, bit, cpu_bit, has};
+use lwkt_base::OutOfMemory;
+use lwkt_base::memory::{push, with_capacity, with_capacity_for};
 use lwkt_script::Script;
-use std::alloc::{AllocError, Global};
+use std::alloc::Global;
 
 /// Which parts a state of a script has: its tokens, its messages as the model has them, its processors, and its messages as the
 /// book has them.
@@ -72,31 +74,31 @@ impl Layout {
     }
 
     // The places of the parts of these tokens.
-    fn add_tokens(&self, places: &mut Vec<usize>, tokens: u64) -> Result<(), AllocError> {
+    fn add_tokens(&self, places: &mut Vec<usize>, tokens: u64) -> Result<(), OutOfMemory> {
         for token in 0..self.tokens {
             if tokens & bit(token) != 0 {
-                places.push(token)?;
+                push(places, token)?;
             }
         }
         Ok(())
     }
 
     // The places of the parts of these messages.
-    fn add_messages(&self, places: &mut Vec<usize>, messages: u64) -> Result<(), AllocError> {
+    fn add_messages(&self, places: &mut Vec<usize>, messages: u64) -> Result<(), OutOfMemory> {
         for message in 0..self.messages {
             if messages & bit(message) != 0 {
-                places.push(self.message(message))?;
-                places.push(self.record(message))?;
+                push(places, self.message(message))?;
+                push(places, self.record(message))?;
             }
         }
         Ok(())
     }
 
     // The places of the parts of these processors.
-    fn add_cpus(&self, places: &mut Vec<usize>, cpus: u8) -> Result<(), AllocError> {
+    fn add_cpus(&self, places: &mut Vec<usize>, cpus: u8) -> Result<(), OutOfMemory> {
         for cpu in 0..self.cpus {
             if has(cpus, cpu) {
-                places.push(self.cpu(cpu))?;
+                push(places, self.cpu(cpu))?;
             }
         }
         Ok(())
@@ -108,8 +110,8 @@ impl Layout {
         alloc: Global,
         cpu: usize,
         touch: Touch,
-    ) -> Result<Vec<usize>, AllocError> {
-        let mut places = Vec::with_capacity(alloc, 8)?;
+    ) -> Result<Vec<usize>, OutOfMemory> {
+        let mut places = with_capacity(alloc, 8)?;
         self.add_cpus(&mut places, cpu_bit(cpu))?;
         self.add_tokens(&mut places, touch.tokens)?;
         self.add_messages(&mut places, touch.messages)?;
@@ -120,7 +122,7 @@ impl Layout {
 
 impl Parts {
     /// None so far.
-    pub(crate) fn new(alloc: Global, layout: Layout) -> Result<Parts, AllocError> {
+    pub(crate) fn new(alloc: Global, layout: Layout) -> Result<Parts, OutOfMemory> {
         Ok(Parts {
             layout,
             lists: Lists::new(alloc)?,
@@ -145,14 +147,14 @@ impl Parts {
         written: &Written,
         place: usize,
         words: &[u64],
-    ) -> Result<u32, AllocError> {
+    ) -> Result<u32, OutOfMemory> {
         let mut list = packed(alloc, words)?;
-        list.push(u32::try_from(place).unwrap_or(u32::MAX))?;
+        push(&mut list, u32::try_from(place).unwrap_or(u32::MAX))?;
         if let Some(number) = self.lists.find(list.as_slice()) {
             return Ok(number);
         }
         let about = self.about(written, place);
-        self.abouts.push(about)?;
+        push(&mut self.abouts, about)?;
         self.lists.add(alloc, list.as_slice())
     }
 
@@ -161,12 +163,12 @@ impl Parts {
         &mut self,
         alloc: Global,
         written: &Written,
-    ) -> Result<Vec<u32>, AllocError> {
-        let mut numbers = Vec::with_capacity(alloc, written.ends.len())?;
+    ) -> Result<Vec<u32>, OutOfMemory> {
+        let mut numbers = with_capacity_for(alloc, written.ends.as_slice())?;
         let mut start = 0usize;
         for (place, end) in written.ends.iter().enumerate() {
             let words = written.words.get(start..*end).unwrap_or(&[]);
-            numbers.push(self.number_of(alloc, written, place, words)?)?;
+            push(&mut numbers, self.number_of(alloc, written, place, words)?)?;
             start = *end;
         }
         Ok(numbers)

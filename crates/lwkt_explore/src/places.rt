@@ -1,17 +1,17 @@
 //! A script's machine under way, made along an order.
-ghost use Rattle.std.specs.Prelude.{◌≡◌, ◌<◌, All, length, IfOk, IfErr, OnErr, OnOk};
-ghost use Rattle.lwkt_base.specs.Fault.{no_memory};
+ghost use Rattle.std.specs.Prelude.{◌≡◌, ◌<◌, All, length, IfOk, IfErr, OnOk};
 ghost use Rattle.lwkt_core.specs.Opening.{AreWithin};
 ghost use Rattle.lwkt_run.specs.Run.{DeclinesRun};
 
 use crate::doings::Doings;
 use crate::parts::Written;
 use crate::states::{add_state, away};
-use lwkt_base::{Fault, MsgId, Owner};
+use lwkt_base::memory::{push, with_capacity};
+use lwkt_base::{Fault, MsgId, OutOfMemory, Owner};
 use lwkt_core::{Event, Message, State};
 use lwkt_machine::{Machine, Sent, Turned};
 use lwkt_script::Script;
-use std::alloc::{AllocError, Global};
+use std::alloc::Global;
 
 // The most messages.
 const MESSAGES: u8 = 64;
@@ -50,11 +50,11 @@ fn sent_of(message: &Message) -> Sent {
     }
 }
 
-fn all_sent(alloc: Global, state: &State) -> Result<Vec<Sent>, AllocError> {
+fn all_sent(alloc: Global, state: &State) -> Result<Vec<Sent>, OutOfMemory> {
     let mut sent = Vec::new(alloc);
     for number in 0..MESSAGES {
         match state.message(MsgId(number)) {
-            Some(message) => sent.push(sent_of(message))?,
+            Some(message) => push(&mut sent, sent_of(message))?,
             None => return Ok(sent),
         }
     }
@@ -105,10 +105,9 @@ impl Place {
     }
 
     /// Makes the turn of a processor. That it is there is the caller's condition.
-    pub(crate) fn turn(&mut self, cpu: usize, trace: &mut Vec<Event>) -> Result<Turned, Fault>
+    pub(crate) fn turn(&mut self, cpu: usize, trace: &mut Vec<Event>) -> Result<Turned, OutOfMemory>
         requires { cpu < length self.old.machine.cpus }
         ensures as_many { length self.new.machine.cpus ≡ length self.old.machine.cpus }
-        ensures only { OnErr result (result ≡ Err no_memory) }
     {
         trace.clear();
         let turned = self.machine.turn(cpu, trace)?;
@@ -119,10 +118,9 @@ impl Place {
     }
 
     /// Makes the turns of an order. That its processors are there is the caller's condition.
-    pub(crate) fn go(&mut self, order: &[u8], trace: &mut Vec<Event>) -> Result<(), Fault>
+    pub(crate) fn go(&mut self, order: &[u8], trace: &mut Vec<Event>) -> Result<(), OutOfMemory>
         requires { All (λ cpu. cpu < length self.old.machine.cpus) order.now }
         ensures as_many { length self.new.machine.cpus ≡ length self.old.machine.cpus }
-        ensures only { OnErr result (result ≡ Err no_memory) }
     {
         for cpu in order {
             self.turn(usize::from(*cpu), trace)?;
@@ -136,11 +134,11 @@ impl Place {
     }
 
     /// Writes what tells this place apart from others of the same script, and gives it up.
-    pub(crate) fn write(self, alloc: Global, script: &Script) -> Result<Written, AllocError> {
+    pub(crate) fn write(self, alloc: Global, script: &Script) -> Result<Written, OutOfMemory> {
         let Place { machine, state, .. } = self;
         let mut written = Written {
-            words: Vec::with_capacity(alloc, ROOM)?,
-            ends: Vec::with_capacity(alloc, ROOM)?,
+            words: with_capacity(alloc, ROOM)?,
+            ends: with_capacity(alloc, ROOM)?,
             doings: Doings::of_threads(script, &machine),
             away: away(&state),
         };

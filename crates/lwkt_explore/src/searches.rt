@@ -1,5 +1,5 @@
 //! The search: over states, breadth first, so that orders are shortest.
-ghost use Rattle.std.specs.Prelude.{◌≡◌, ◌+◌, ◌≤◌, ◌<◌, true, false, None, length, IfOk, IfErr, OnOk};
+ghost use Rattle.std.specs.Prelude.{◌≡◌, ◌≢◌, ◌+◌, ◌≤◌, ◌<◌, true, false, None, length, Contains, IfOk, IfErr, OnOk};
 ghost use Rattle.lwkt_explore.specs.Extents.{is_complete};
 ghost use Rattle.lwkt_explore.specs.Outcomes.{AreOutcomes, AreShort, AreWhole, HasEnded, RefusesSearch};
 ghost use Rattle.lwkt_explore.specs.Tries.{HasTriedStates};
@@ -9,7 +9,7 @@ use crate::dives::dive;
 use crate::extents::{Bound, Extent, extent_of};
 use crate::losses::Lost;
 use crate::outcomes::{Kind, Outcomes, Stand};
-use crate::walks::{Walk, memory};
+use crate::walks::Walk;
 use crate::watches::Watch;
 use lwkt_base::Fault;
 use lwkt_script::Script;
@@ -83,7 +83,7 @@ fn add_at(
     ensures kind { IfOk result (λ kind. kind ≡ Kind.Ended → HasEnded outcomes.new) }
     ensures refused { IfErr result (λ fault. RefusesSearch script.now fault) }
 {
-    let order = memory(walk.graph.order(alloc, at))?;
+    let order = walk.graph.order(alloc, at)?;
     let kind = outcomes.add(alloc, script, order, stand)?;
     if kind == Kind::Cut {
         walk.meet(Bound::Turns);
@@ -107,10 +107,10 @@ fn expand(
 {
     let leads = walk.go_on(alloc, script, at)?;
     let Some(stand) = walk.stand(at, leads) else {
-        return walk.note_end(false);
+        return Ok(walk.note_end(false)?);
     };
     let kind = add_at(alloc, script, walk, outcomes, at, stand)?;
-    walk.note_end(kind == Kind::Ended)
+    Ok(walk.note_end(kind == Kind::Ended)?)
 }
 
 // Goes on from each state, in the order in which they are found, if it goes on at all.
@@ -146,6 +146,23 @@ fn search<W: Watch>(
     Ok(())
 }
 
+// The lost states of a walk that met no bound. Where memory for them is refused, that is the bound that it met, and none are told.
+fn lost_in(alloc: Global, walk: &mut Walk) -> Option<Lost>
+    ensures met { walk.new.met ≡ None → walk.old.met ≡ None }
+    ensures part { walk.new.met ≢ None → result ≡ None }
+    ensures none { walk.new.met ≡ None → result ≡ None → 0 < length walk.old.ends.items → Contains walk.old.ends.items true }
+    ensures graph { walk.new.graph ≡ walk.old.graph }
+    ensures bounds { walk.new.bounds ≡ walk.old.bounds }
+{
+    match walk.lost(alloc) {
+        Ok(lost) => lost,
+        Err(_) => {
+            walk.meet(Bound::Memory);
+            None
+        }
+    }
+}
+
 // Tries every order of turns of a script, within bounds, and nothing else; none if it doesn't go on.
 fn searched<W: Watch>(
     alloc: Global,
@@ -178,7 +195,7 @@ fn searched<W: Watch>(
         Err(Fault::Memory(_)) => walk.met = Some(Bound::Memory),
         Err(fault) => return Err(fault),
     }
-    let lost = walk.lost(alloc)?;
+    let lost = lost_in(alloc, &mut walk);
     Ok(Found {
         outcomes,
         tried: Tried::States(walk.graph.len()),
@@ -190,13 +207,13 @@ fn searched<W: Watch>(
 
 /// Tries every order of turns of a script, within bounds. There is an outcome at every state in which all threads have ended, and at
 /// every one that no turn changes. Each is the report of the run along its order, whose verdict is `lawful`. If memory is refused
-/// during the search, or who looks on ends it, what was found till then is given, and `extent` says so.
+/// during the search or for its lost states, or who looks on ends it, what was found till then is given, and `extent` says so.
 ///
 /// Before the search the run in rounds and some random orders are made. Where not every order was tried, the outcomes of these that it
 /// hadn't found come behind its own. An order of the search is a shortest one to its outcome, one of these needn't be.
 ///
-/// Refused with `Limits` or `LawBroken` for the script's opening, with `Memory`
-/// if memory is refused before the search or after a complete one, and with `Unlawful` if the verdict on a run isn't `lawful`.
+/// Refused with `Limits` or `LawBroken` for the script's opening, with `Memory` if memory is refused before the search, and with
+/// `Unlawful` if the verdict on a run isn't `lawful`.
 pub fn explore<W: Watch>(
     alloc: Global,
     script: &Script,
@@ -232,8 +249,7 @@ pub fn explore<W: Watch>(
     if found.is_complete() {
         return Ok(found);
     }
-    match found.outcomes.take_in(first) {
-        Ok(()) | Err(Fault::Memory(_)) => Ok(found),
-        Err(fault) => Err(fault),
-    }
+    // (where memory is refused, those of them that found room are there)
+    let _ = found.outcomes.take_in(first);
+    Ok(found)
 }

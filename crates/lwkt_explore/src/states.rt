@@ -1,33 +1,27 @@
 //! What tells two states of the model apart, as numbers.
 use crate::touches::bit;
-use lwkt_base::{Blob, Cells, Held, Mode, MsgId, Owner, TokId};
+use lwkt_base::memory::push;
+use lwkt_base::{Blob, Cells, Held, Mode, MsgId, OutOfMemory, Owner, TokId};
 use lwkt_core::{Message, State, Token};
-use std::alloc::AllocError;
 
 // The most tokens, and the most messages.
 const LIMIT: u8 = 64;
 
-// Puts a number behind the others.
-fn add(words: &mut Vec<u64>, word: u64) -> Result<(), AllocError> {
-    words.push(word)?;
-    Ok(())
-}
-
-fn add_cells(words: &mut Vec<u64>, cells: &Cells) -> Result<(), AllocError> {
+fn add_cells(words: &mut Vec<u64>, cells: &Cells) -> Result<(), OutOfMemory> {
     for cell in cells.as_slice() {
-        add(words, *cell)?;
+        push(words, *cell)?;
     }
     Ok(())
 }
 
 // A record, if there is one.
-fn add_blob(words: &mut Vec<u64>, blob: &Option<Blob>) -> Result<(), AllocError> {
+fn add_blob(words: &mut Vec<u64>, blob: &Option<Blob>) -> Result<(), OutOfMemory> {
     let Some(blob) = blob else {
-        return add(words, 0);
+        return push(words, 0);
     };
-    add(words, u64::from(blob.len()) + 1)?;
+    push(words, u64::from(blob.len()) + 1)?;
     for byte in blob.as_slice() {
-        add(words, u64::from(*byte))?;
+        push(words, u64::from(*byte))?;
     }
     Ok(())
 }
@@ -41,18 +35,18 @@ fn held_number(held: Held) -> u64 {
     }
 }
 
-fn add_token(words: &mut Vec<u64>, token: &Token) -> Result<(), AllocError> {
-    add(words, token.generation)?;
-    add(words, u64::from(token.mark))?;
+fn add_token(words: &mut Vec<u64>, token: &Token) -> Result<(), OutOfMemory> {
+    push(words, token.generation)?;
+    push(words, u64::from(token.mark))?;
     add_cells(words, &token.row)?;
     add_cells(words, &token.first)?;
     add_blob(words, &token.blob)?;
     add_blob(words, &token.first_blob)?;
     for held in token.holders {
-        add(words, held_number(held))?;
+        push(words, held_number(held))?;
     }
     for tally in token.tallies {
-        add(words, tally)?;
+        push(words, tally)?;
     }
     Ok(())
 }
@@ -69,23 +63,23 @@ fn owner_number(owner: Owner) -> u64 {
 }
 
 // A message. How often it was sent its round tells; how often it was taken, dropped, replied to and reaped no later turn asks.
-fn add_message(words: &mut Vec<u64>, message: &Message) -> Result<(), AllocError> {
-    add(words, message.round)?;
-    add(words, owner_number(message.owner))?;
-    add(words, u64::from(message.asked))
+fn add_message(words: &mut Vec<u64>, message: &Message) -> Result<(), OutOfMemory> {
+    push(words, message.round)?;
+    push(words, owner_number(message.owner))?;
+    push(words, u64::from(message.asked))
 }
 
 fn add_tokens(
     words: &mut Vec<u64>,
     ends: &mut Vec<usize>,
     state: &State,
-) -> Result<(), AllocError> {
+) -> Result<(), OutOfMemory> {
     for number in 0..LIMIT {
         match state.token(TokId(number)) {
             Some(token) => add_token(words, token)?,
             None => return Ok(()),
         }
-        ends.push(words.len())?;
+        push(ends, words.len())?;
     }
     Ok(())
 }
@@ -94,13 +88,13 @@ fn add_messages(
     words: &mut Vec<u64>,
     ends: &mut Vec<usize>,
     state: &State,
-) -> Result<(), AllocError> {
+) -> Result<(), OutOfMemory> {
     for number in 0..LIMIT {
         match state.message(MsgId(number)) {
             Some(message) => add_message(words, message)?,
             None => return Ok(()),
         }
-        ends.push(words.len())?;
+        push(ends, words.len())?;
     }
     Ok(())
 }
@@ -111,7 +105,7 @@ pub(crate) fn add_state(
     words: &mut Vec<u64>,
     ends: &mut Vec<usize>,
     state: &State,
-) -> Result<(), AllocError> {
+) -> Result<(), OutOfMemory> {
     add_tokens(words, ends, state)?;
     add_messages(words, ends, state)
 }

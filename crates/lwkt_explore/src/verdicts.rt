@@ -8,10 +8,11 @@ use crate::judging::truth_in_run;
 use crate::lines::order_text;
 use crate::outcomes::Outcome;
 use crate::searches::Found;
+use lwkt_base::OutOfMemory;
 use lwkt_refusals::{Page, Place, add_head, place_from};
 use lwkt_report::Closing;
 use lwkt_text::claims::Expectation;
-use std::alloc::{AllocError, Global};
+use std::alloc::Global;
 
 // Whether an expectation holds, in words.
 fn words_of(truth: Truth) -> &'static str
@@ -34,7 +35,7 @@ pub(crate) fn verdicts_said(
     bytes: &[u8],
     expectations: &[Expectation],
     outcome: &Closing,
-) -> Result<String, AllocError> {
+) -> Result<String, OutOfMemory> {
     let mut page = Page::new(alloc);
     let mut place = Place::FIRST;
     for expectation in expectations {
@@ -48,7 +49,7 @@ pub(crate) fn verdicts_said(
 }
 
 // The order of an outcome that decides an expectation.
-fn add_witness(alloc: Global, page: &mut Page, outcome: &Outcome) -> Result<(), AllocError> {
+fn add_witness(alloc: Global, page: &mut Page, outcome: &Outcome) -> Result<(), OutOfMemory> {
     let order = order_text(alloc, outcome.order.as_slice())?;
     page.add(", order");
     page.add(order.as_str());
@@ -62,7 +63,7 @@ fn add_verdict(
     place: Place,
     expectation: &Expectation,
     found: &Found,
-) -> Result<(), AllocError> {
+) -> Result<(), OutOfMemory> {
     let outcomes = found.outcomes.all.as_slice();
     add_head(page, None, place);
     page.add(": ");
@@ -78,13 +79,13 @@ fn add_verdict(
 /// of the outcome that decides it, if one does; `LINE: not decided` where none does and not every order was tried, or an outcome leaves
 /// it open.
 ///
-/// `AllocError` if memory is refused.
+/// Refused if memory is.
 pub fn verdicts_of(
     alloc: Global,
     bytes: &[u8],
     expectations: &[Expectation],
     found: &Found,
-) -> Result<String, AllocError> {
+) -> Result<String, OutOfMemory> {
     let mut page = Page::new(alloc);
     let mut place = Place::FIRST;
     for expectation in expectations {

@@ -1,6 +1,5 @@
 //! A walk over the states of a script.
 ghost use Rattle.std.specs.Prelude.{◌≡◌, ◌≢◌, ◌⊎◌, ℕ, ◌+◌, ◌<◌, ◌≤◌, true, List, [], length, All, Ok, Err, Some, None, Contains, IsFalse, IfOk, IfErr, OnOk, OnErr, IfSome};
-ghost use Rattle.lwkt_base.specs.Fault.{no_memory};
 ghost use Rattle.lwkt_explore.specs.Graphs.{depth_at, IsOrder};
 ghost use Rattle.lwkt_explore.specs.Outcomes.{RefusesSearch};
 ghost use Rattle.lwkt_explore.specs.Walks.{stand_of, IsWalk, WalkStays, StaysThere, WalkGoesOn};
@@ -19,11 +18,12 @@ use crate::samples::Course;
 use crate::searches::{Bounds, Method};
 use crate::touches::has;
 use crate::watches::Seen;
-use lwkt_base::Fault;
+use lwkt_base::memory::{from_slice, push, with_capacity};
+use lwkt_base::{Fault, OutOfMemory};
 use lwkt_core::Event;
 use lwkt_machine::Turned;
 use lwkt_script::Script;
-use std::alloc::{AllocError, Global};
+use std::alloc::Global;
 
 /// A walk: the states that it found, and which of those that it went on from are ends.
 #[derive(Drop)]
@@ -45,17 +45,6 @@ pub(crate) struct Walk {
     trace: Vec<Event>,
 }
 
-/// What was given, or `Memory`.
-pub(crate) fn memory<T>(given: Result<T, AllocError>) -> Result<T, Fault>
-    ensures ok { IfOk result (λ x. given ≡ Ok x) }
-    ensures only { OnErr result (result ≡ Err no_memory) }
-{
-    match given {
-        Ok(x) => Ok(x),
-        Err(refused) => Err(Fault::Memory(refused)),
-    }
-}
-
 /// The number of a processor, as an order has it.
 pub(crate) fn number_in_order(cpu: usize) -> u8
     ensures { cpu < 256 → result ≡ cpu }
@@ -69,7 +58,7 @@ const BLOCK: usize = 1048576;
 // Allocates a large block and frees it. The C library's allocator gives memory back to the system if more is free than twice the
 // largest block that was freed. A walk makes a machine for each turn and gives it up, so this raises that threshold first.
 fn keep_memory(alloc: Global) {
-    let block: Result<Vec<u8>, AllocError> = Vec::with_capacity(alloc, BLOCK);
+    let block: Result<Vec<u8>, OutOfMemory> = with_capacity(alloc, BLOCK);
     let _ = block;
 }
 
@@ -138,25 +127,25 @@ impl Walk {
     {
         keep_memory(alloc);
         let opened = Place::open(alloc, script)?;
-        let mails = memory(Mails::of(alloc, script))?;
+        let mails = Mails::of(alloc, script)?;
         let layout = Layout::of(script);
         let mut walk = Walk {
             mails,
             bounds,
             method,
             layout,
-            parts: memory(Parts::new(alloc, layout))?,
-            memos: memory(Memos::new(alloc))?,
-            graph: memory(Graph::new(alloc, usize::from(script.cpus)))?,
+            parts: Parts::new(alloc, layout)?,
+            memos: Memos::new(alloc)?,
+            graph: Graph::new(alloc, usize::from(script.cpus))?,
             ends: Vec::new(alloc),
             turns: 0,
             met: None,
             trace: Vec::new(alloc),
         };
-        let written = memory(opened.write(alloc, script))?;
-        let opening = memory(walk.parts.numbers_of(alloc, &written))?;
+        let written = opened.write(alloc, script)?;
+        let opening = walk.parts.numbers_of(alloc, &written)?;
         let choice = walk.choice_at(opening.as_slice());
-        memory(walk.graph.add(alloc, 0, 0, opening.as_slice(), choice))?;
+        walk.graph.add(alloc, 0, 0, opening.as_slice(), choice)?;
         Ok(walk)
     }
 
@@ -193,7 +182,7 @@ impl Walk {
         if !place.is_lawful {
             judge(alloc, script, order, cpu)?;
         }
-        memory(place.write(alloc, script))
+        Ok(place.write(alloc, script)?)
     }
 
     // Makes the turn of a processor from a state.
@@ -209,9 +198,9 @@ impl Walk {
         ensures stays { StaysThere self.old self.new }
         ensures refused { IfErr result (λ fault. RefusesSearch script.now fault) }
     {
-        let order = memory(self.graph.order(alloc, at))?;
+        let order = self.graph.order(alloc, at)?;
         let written = self.write(alloc, script, order.as_slice(), Some(cpu))?;
-        memory(self.parts.numbers_of(alloc, &written))
+        Ok(self.parts.numbers_of(alloc, &written)?)
     }
 
     // Makes the turn of a processor from a state, unless one like it was made: from a state that has the same parts where the turn
@@ -229,20 +218,20 @@ impl Walk {
         ensures stays { StaysThere self.old self.new }
         ensures refused { IfErr result (λ fault. RefusesSearch script.now fault) }
     {
-        let mut state = memory(Vec::from_slice(alloc, self.graph.parts(at)))?;
-        let places = memory(self.layout.touched(alloc, cpu, doings.next(cpu)))?;
-        let before = memory(picked(alloc, state.as_slice(), places.as_slice()))?;
+        let mut state = from_slice(alloc, self.graph.parts(at))?;
+        let places = self.layout.touched(alloc, cpu, doings.next(cpu))?;
+        let before = picked(alloc, state.as_slice(), places.as_slice())?;
         if let Some(after) = self.memos.after(before.as_slice()) {
             put_back(state.as_mut_slice(), places.as_slice(), after);
             self.turns = self.turns.saturating_add(1);
             return Ok(state);
         }
         let made = self.make_turn(alloc, script, at, cpu)?;
-        let after = memory(picked(alloc, made.as_slice(), places.as_slice()))?;
+        let after = picked(alloc, made.as_slice(), places.as_slice())?;
         put_back(state.as_mut_slice(), places.as_slice(), after.as_slice());
         // (a turn that changed another part would be made each time)
         if state.as_slice() == made.as_slice() {
-            memory(self.memos.note(alloc, before.as_slice(), after.as_slice()))?;
+            self.memos.note(alloc, before.as_slice(), after.as_slice())?;
         }
         Ok(made)
     }
@@ -299,11 +288,10 @@ impl Walk {
         at: usize,
         cpu: usize,
         state: &[u32],
-    ) -> Result<u32, Fault>
+    ) -> Result<u32, OutOfMemory>
         ensures stays { WalkStays self.old self.new }
         ensures walk { (script : Script) → cpu < script.cpus → IsWalk script self.old → IsWalk script self.new }
         ensures states { length self.old.graph.nodes.items ≤ length self.new.graph.nodes.items }
-        ensures only { OnErr result (result ≡ Err no_memory) }
     {
         if let Some(number) = self.graph.find(state) {
             return Ok(number);
@@ -318,7 +306,7 @@ impl Walk {
         }
         let number = number_in_order(cpu);
         let choice = self.choice_at(state);
-        memory(self.graph.add(alloc, at, number, state, choice))
+        self.graph.add(alloc, at, number, state, choice)
     }
 
     // Where the turn of a processor leads, if that is known without making it: where it can be exchanged with the turn that led here,
@@ -357,7 +345,7 @@ impl Walk {
             Method::Plain => self.make_turn(alloc, script, at, cpu)?,
             Method::Reduced => self.turn_like(alloc, script, at, doings, cpu)?,
         };
-        self.number_of(alloc, at, cpu, state.as_slice())
+        Ok(self.number_of(alloc, at, cpu, state.as_slice())?)
     }
 
     // Tries the turns of a set from a state, those that weren't tried before. Says whether one leads to a state that is still to be
@@ -434,7 +422,7 @@ impl Walk {
     {
         let mut row = self.first_row(at);
         self.try_sets(alloc, script, at, &mut row)?;
-        memory(self.graph.note(&row))?;
+        self.graph.note(&row)?;
         Ok(leads_of(&row, at, usize::from(script.cpus)))
     }
 
@@ -490,37 +478,30 @@ impl Walk {
                 Turned::Ran { .. } => 0,
                 Turned::Idle | Turned::AllExited => idle.saturating_add(1),
             };
-            if let Err(refused) = order.push(number_in_order(cpu)) {
-                return Err(Fault::Memory(refused.into()));
-            }
+            push(&mut order, number_in_order(cpu))?;
         }
         Ok((order, stand_at_last(&place)))
     }
 
     /// Notes of the next state that was gone on from whether it is an end.
-    pub(crate) fn note_end(&mut self, is_end: bool) -> Result<(), Fault>
+    pub(crate) fn note_end(&mut self, is_end: bool) -> Result<(), OutOfMemory>
         ensures one_more { OnOk result (length self.new.ends.items ≡ length self.old.ends.items + 1) }
         ensures end { Contains self.new.ends.items true → Contains self.old.ends.items true ⊎ (is_end ≡ true) }
-        ensures only { OnErr result (result ≡ Err no_memory) }
         ensures bounds { self.new.bounds ≡ self.old.bounds }
         ensures graph { self.new.graph ≡ self.old.graph }
         ensures met { self.new.met ≡ self.old.met }
     {
-        match self.ends.push(is_end) {
-            Ok(()) => Ok(()),
-            Err(refused) => Err(Fault::Memory(refused.into())),
-        }
+        push(&mut self.ends, is_end)
     }
 
     /// The states from which no end can be reached, if every order was tried.
-    pub(crate) fn lost(&self, alloc: Global) -> Result<Option<Lost>, Fault>
+    pub(crate) fn lost(&self, alloc: Global) -> Result<Option<Lost>, OutOfMemory>
         ensures part { self.now.met ≢ None → IfOk result (λ lost. lost ≡ None) }
         ensures none { IfOk result (λ lost. self.now.met ≡ None → lost ≡ None → 0 < length self.now.ends.items → Contains self.now.ends.items true) }
-        ensures only { OnErr result (result ≡ Err no_memory) }
     {
         if self.met.is_some() {
             return Ok(None);
         }
-        memory(lost_of(alloc, &self.graph, self.ends.as_slice(), self.graph.cpus))
+        lost_of(alloc, &self.graph, self.ends.as_slice(), self.graph.cpus)
     }
 }

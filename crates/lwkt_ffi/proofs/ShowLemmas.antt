@@ -16,7 +16,7 @@ use Rattle.lwkt_ffi.specs.Arguments.{AreOptions, IsView, Say, range_word}
 pub unread_displays : (options : Options) (order : Option (List ℕ)) (script whole : List ℕ) (result : Result Showing Fault) → result ≡ Err no_memory → Displays options order script result whole
 unread_displays options order script whole result is =
     let F : Result Showing Fault → Type 0 = λ r. Displays options order script r whole in
-    subst F (sym is) (inl (Memory (record {}), (tt, refl)))
+    subst F (sym is) (inl (Memory (record { made = tt }), (tt, refl)))
 
 -- the word before an order is another one by its third letter
 other_word : (word : List ℕ) (letter : ℕ) → codes "--order" ≡ word → get_or word 2 0 ≡ letter → (111 ≡ letter → ⊥) → ⊥

@@ -7,9 +7,11 @@ ghost use Rattle.lwkt_ffi.specs.Arguments.{Say, has_range, no_end};
 ghost use Rattle.lwkt_ffi.specs.Alongs.{is_digit, is_part, turn_of_byte, turns_of, AreAlong};
 
 use crate::arguments::read_options;
+use lwkt_base::OutOfMemory;
+use lwkt_base::memory::push;
 use lwkt_scenes::Counted;
 use lwkt_show::Options;
-use std::alloc::{AllocError, Global};
+use std::alloc::Global;
 
 /// An order of turns, and how the run along it is shown.
 #[derive(Drop)]
@@ -42,17 +44,17 @@ fn are_parts(bytes: &[u8]) -> bool
 }
 
 // Appends the turn that a byte names, if it names one.
-fn add_turn(order: &mut Vec<u8>, byte: u8) -> Result<(), AllocError>
+fn add_turn(order: &mut Vec<u8>, byte: u8) -> Result<(), OutOfMemory>
     ensures { OnOk result (order.new.items ≡ order.old.items ++ turn_of_byte byte) }
 {
     if is_digit(byte) {
-        order.push(byte - b'0')?;
+        push(order, byte - b'0')?;
     }
     Ok(())
 }
 
 // The order that the bytes of a text are.
-fn turns_of(alloc: Global, bytes: &[u8]) -> Result<Vec<u8>, AllocError>
+fn turns_of(alloc: Global, bytes: &[u8]) -> Result<Vec<u8>, OutOfMemory>
     ensures { IfOk result (λ order. order.items ≡ turns_of bytes.now) }
 {
     let mut order = Vec::new(alloc);
@@ -105,8 +107,8 @@ fn asked(words: &[String]) -> Option<(&str, Options)>
 /// `turns` alone, but no rounds. Each digit of the text is the processor of a turn; blanks, commas and dashes may part them. `None`
 /// if the arguments name no order.
 ///
-/// `AllocError` if memory is refused.
-pub fn along_of(alloc: Global, words: &[String]) -> Result<Option<Along>, AllocError>
+/// Refused if memory is.
+pub fn along_of(alloc: Global, words: &[String]) -> Result<Option<Along>, OutOfMemory>
     ensures some { IfOk result (λ found. IfSome found (λ along. AreAlong (map string_bytes words.now) along.options along.order.items)) }
     ensures only { IfOk result (λ found. (options : Options) (order : List ℕ) → AreAlong (map string_bytes words.now) options order → IsSomeAnd found (λ along. (along.options ≡ options) × (along.order.items ≡ order))) }
 {

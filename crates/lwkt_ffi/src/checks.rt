@@ -3,11 +3,10 @@ ghost use Rattle.lwkt_ffi.specs.Answers.{TellsCheck, AnswersCheck, status_of_che
 
 use crate::answers::{LwktAnswer, status_of_fault};
 use crate::fronts::{blank, fill, page_refusal};
+use crate::refusals::say_trace;
 use lwkt_base::Fault;
 use lwkt_checker::check_stream;
-use lwkt_refusals::Speaker;
-use lwkt_report::{Complaint, Page, Program, RunFault, complain};
-use lwkt_trace::LENGTH_LIMIT;
+use lwkt_report::{Page, RunFault};
 use std::alloc::Global;
 
 // Judges a trace, with what was found of it on an empty page, which takes it where memory is there.
@@ -23,17 +22,6 @@ fn finding_onto(alloc: Global, trace: &[u8], page: &mut Page) -> Result<bool, Fa
     }
 }
 
-// Says why nothing was found: the line that the program writes, and behind it the words.
-fn say_why(alloc: Global, trace: &[u8], fault: Fault, page: &mut Page) {
-    page.text.clear();
-    complain(page, Program::Check, Complaint::Fault(fault));
-    if matches!(fault, Fault::Memory(_)) {
-        return Speaker::Check.say_memory(page);
-    }
-    let read = &trace[..trace.len().min(LENGTH_LIMIT + 1)];
-    Speaker::Check.say_refusal(alloc, page, Some(read), fault);
-}
-
 // Judges a trace, with what was found of it on an empty page, or why nothing was.
 fn check_onto(alloc: Global, trace: &[u8], page: &mut Page) -> Result<bool, Fault>
     requires { page.old.text.items ≡ [] }
@@ -42,7 +30,8 @@ fn check_onto(alloc: Global, trace: &[u8], page: &mut Page) -> Result<bool, Faul
     match finding_onto(alloc, trace, page) {
         Ok(lawful) => Ok(lawful),
         Err(fault) => {
-            say_why(alloc, trace, fault, page);
+            page.text.clear();
+            say_trace(alloc, page, trace, fault);
             Err(fault)
         }
     }

@@ -5,14 +5,15 @@ ghost use Rattle.lwkt_ffi.specs.Texts.{IsJsonOf, RefusesJson, TellsForm, TellsJs
 use crate::answers::{LwktAnswer, status_of_fault};
 use crate::fronts::{blank, fill};
 use crate::readings::read_onto;
+use crate::refusals::{say_memory, say_whole};
 use lwkt_base::Fault;
-use lwkt_refusals::Speaker;
-use lwkt_report::{Page, write_whole};
+use lwkt_base::memory::extend_from_slice;
+use lwkt_report::Page;
 use lwkt_text::{Unsaid, is_text, json_of};
 use std::alloc::Global;
 
 // What is said where a text is too long as JSON.
-const LONG: &str = "as JSON the script has more than 1048576 bytes\n";
+const LONG: &str = "as JSON the script has more than 1048576 bytes, and isn't written";
 
 /// Whether the bytes of a script are taken for a text of the language, as `is_text` of lwkt_text does: 1 if they are, 0 if they are
 /// left to those who read JSON, 3 for want of memory.
@@ -32,18 +33,18 @@ fn json_of_text(alloc: Global, text: &[u8], page: &mut Page) -> Result<String, F
     ensures ok { IfOk result (λ json. IsJsonOf text.now (string_bytes json)) }
     ensures refused { IfErr result (λ fault. RefusesJson text.now fault) }
 {
-    let reading = match read_onto(alloc, Speaker::Run, text, page) {
+    let reading = match read_onto(alloc, text, page) {
         Ok(reading) => reading,
         Err(fault) => return Err(fault),
     };
     match json_of(alloc, &reading.script) {
         Ok(json) => Ok(json),
         Err(Unsaid::Memory(refused)) => {
-            Speaker::Run.say_memory(page);
+            say_memory(page);
             Err(Fault::Memory(refused))
         }
         Err(Unsaid::Limits) => {
-            let _ = write_whole(page, LONG.as_bytes());
+            say_whole(alloc, page, LONG);
             Err(Fault::Limits)
         }
     }
@@ -56,10 +57,7 @@ fn json_onto(alloc: Global, text: &[u8], page: &mut Page) -> Result<(), Fault>
 {
     let mut errors = blank(alloc);
     match json_of_text(alloc, text, &mut errors) {
-        Ok(json) => match page.text.extend_from_slice(json.as_bytes()) {
-            Ok(()) => Ok(()),
-            Err(refused) => Err(Fault::Memory(refused)),
-        },
+        Ok(json) => Ok(extend_from_slice(&mut page.text, json.as_bytes())?),
         Err(fault) => {
             *page = errors;
             Err(fault)

@@ -2,8 +2,10 @@
 ghost use Rattle.std.specs.Prelude.{◌≡◌, ◌++◌, [], OnOk, IsTrue, is_some};
 ghost use Rattle.lwkt_ffi.specs.Answers.{buffer_with_text};
 
+use lwkt_base::OutOfMemory;
+use lwkt_base::memory::extend_from_slice;
 use lwkt_report::Page;
-use std::alloc::{AllocError, Global};
+use std::alloc::Global;
 
 /// A page with nothing on it.
 pub fn blank(alloc: Global) -> Page
@@ -15,8 +17,8 @@ pub fn blank(alloc: Global) -> Page
     }
 }
 
-/// What the allocator said of a page for which memory was refused. That it was is the caller's condition.
-pub fn page_refusal(page: &Page) -> AllocError
+/// That memory was refused for a page. That it was is the caller's condition.
+pub fn page_refusal(page: &Page) -> OutOfMemory
     requires { IsTrue (is_some page.now.refused) }
 {
     page.refused.unwrap()
@@ -31,10 +33,10 @@ pub fn fill(buffer: &mut [u8], whole: &[u8])
 }
 
 /// Puts two texts on an empty page, one behind the other.
-pub fn put_both(page: &mut Page, first: &[u8], second: &[u8]) -> Result<(), AllocError>
+pub fn put_both(page: &mut Page, first: &[u8], second: &[u8]) -> Result<(), OutOfMemory>
     requires { page.old.text.items ≡ [] }
     ensures { OnOk result (page.new.text.items ≡ first.now ++ second.now) }
 {
-    page.text.extend_from_slice(first)?;
-    page.text.extend_from_slice(second)
+    extend_from_slice(&mut page.text, first)?;
+    extend_from_slice(&mut page.text, second)
 }

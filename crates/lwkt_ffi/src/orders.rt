@@ -7,17 +7,14 @@ ghost use Rattle.lwkt_ffi.specs.Texts.{AreFoundWithin, IsSearch, RefusesOrders, 
 use crate::answers::{LwktAnswer, status_of_fault};
 use crate::fronts::{blank, fill, put_both};
 use crate::readings::input_onto;
+use crate::refusals::{say_memory, say_unmade};
 use lwkt_base::Fault;
 use lwkt_explore::{
     Bounds, Found, Method, Unwatched, explore, status_of_text, text_of, verdicts_of,
 };
-use lwkt_refusals::{Speaker, say_opening};
-use lwkt_report::{Page, write_whole};
+use lwkt_report::Page;
 use lwkt_text::Input;
 use std::alloc::Global;
-
-// What is said where a run wasn't lawful.
-const UNLAWFUL: &str = "lwkt_explore: a run along an order was not lawful\n";
 
 /// What came of a script whose orders were tried.
 #[derive(Drop)]
@@ -28,16 +25,6 @@ pub struct Search {
     pub verdicts: String,
     /// The status by what was found.
     pub status: u8,
-}
-
-// Says why nothing was found of a script that was read of these bytes.
-fn say_why(alloc: Global, bytes: &[u8], input: &Input, fault: Fault, page: &mut Page) {
-    match fault {
-        Fault::Unlawful { .. } => {
-            let _ = write_whole(page, UNLAWFUL.as_bytes());
-        }
-        fault => say_opening(alloc, page, None, bytes, input, fault),
-    }
 }
 
 // Tries every order of a script that was read of these bytes; why it is refused is put on a page.
@@ -60,7 +47,7 @@ fn explored(
     ) {
         Ok(found) => Ok(found),
         Err(fault) => {
-            say_why(alloc, bytes, input, fault, page);
+            say_unmade(alloc, page, bytes, input, fault);
             Err(fault)
         }
     }
@@ -71,7 +58,7 @@ fn search_of(alloc: Global, script: &[u8], bounds: Bounds, page: &mut Page) -> R
     ensures found { IfOk result (λ search. IsSearch script.now bounds.states bounds.turns search) }
     ensures refused { IfErr result (λ fault. RefusesOrders script.now fault) }
 {
-    let input = match input_onto(alloc, Speaker::Explore, script, page) {
+    let input = match input_onto(alloc, script, page) {
         Ok(input) => input,
         Err(fault) => return Err(fault),
     };
@@ -87,7 +74,7 @@ fn search_of(alloc: Global, script: &[u8], bounds: Bounds, page: &mut Page) -> R
             status,
         }),
         Err(refused) => {
-            Speaker::Explore.say_memory(page);
+            say_memory(page);
             Err(Fault::Memory(refused))
         }
     }

@@ -5,50 +5,27 @@ ghost use Rattle.lwkt_text.specs.Reading.{reading_of};
 ghost use Rattle.lwkt_ffi.specs.Answers.{RefusesInput, fault_of};
 ghost use Rattle.lwkt_ffi.specs.Texts.{RefusesReading};
 
+use crate::refusals::{say_input, say_memory, say_wrongs};
 use lwkt_base::Fault;
-use lwkt_refusals::{Speaker, say_unread, wrongs_said};
-use lwkt_report::{Page, write_whole};
-use lwkt_text::{Input, Many, Reading, Refusal, Unread, Wrong, read_input, read_text};
+use lwkt_report::Page;
+use lwkt_text::{Input, Reading, Refusal, Unread, read_input, read_text};
 use std::alloc::Global;
-
-// Puts all that is wrong with a text on a page, each as `LINE:COLUMN: WORDS`.
-fn put_wrongs(alloc: Global, speaker: Speaker, text: &[u8], wrongs: Many<Wrong>, page: &mut Page) {
-    match wrongs_said(alloc, None, text, wrongs) {
-        Ok(words) => {
-            let _ = write_whole(page, words.as_bytes());
-        }
-        Err(_) => speaker.say_memory(page),
-    }
-}
-
-// Puts why input isn't read on a page.
-fn put_unread(alloc: Global, speaker: Speaker, script: &[u8], unread: Unread, page: &mut Page) {
-    match unread {
-        Unread::Wrongs(wrongs) => put_wrongs(alloc, speaker, script, wrongs, page),
-        unread => say_unread(alloc, page, speaker, None, script, &unread),
-    }
-}
 
 /// Reads a text, and puts all that is wrong with it on a page, or that there was no memory.
 ///
 /// Refused as bytes that are no JSON where something is wrong, and with `Memory`.
-pub fn read_onto(
-    alloc: Global,
-    speaker: Speaker,
-    text: &[u8],
-    page: &mut Page,
-) -> Result<Reading, Fault>
+pub fn read_onto(alloc: Global, text: &[u8], page: &mut Page) -> Result<Reading, Fault>
     ensures ok { IfOk result (λ reading. reading_of text.now ≡ Ok reading) }
     ensures refused { IfErr result (λ fault. RefusesReading text.now fault) }
 {
     match read_text(alloc, text) {
         Ok(reading) => Ok(reading),
         Err(Refusal::Memory(refused)) => {
-            speaker.say_memory(page);
+            say_memory(page);
             Err(Fault::Memory(refused))
         }
         Err(Refusal::Wrongs(wrongs)) => {
-            put_wrongs(alloc, speaker, text, wrongs, page);
+            say_wrongs(alloc, page, text, wrongs);
             Err(Fault::Script { place: 0 })
         }
     }
@@ -69,12 +46,7 @@ fn fault_of(unread: &Unread) -> Fault
 ///
 /// Refused with the place of the first bad part of JSON; as bytes that are no JSON where something is wrong with a text; and with
 /// `Memory`.
-pub fn input_onto(
-    alloc: Global,
-    speaker: Speaker,
-    script: &[u8],
-    page: &mut Page,
-) -> Result<Input, Fault>
+pub fn input_onto(alloc: Global, script: &[u8], page: &mut Page) -> Result<Input, Fault>
     ensures ok { IfOk result (λ input. input_of None script.now ≡ Ok input) }
     ensures refused { IfErr result (λ fault. RefusesInput script.now fault) }
 {
@@ -82,7 +54,7 @@ pub fn input_onto(
         Ok(input) => Ok(input),
         Err(unread) => {
             let fault = fault_of(&unread);
-            put_unread(alloc, speaker, script, unread, page);
+            say_input(alloc, page, script, &unread);
             Err(fault)
         }
     }

@@ -3,9 +3,9 @@ ghost use Rattle.lwkt_ffi.specs.Answers.{TellsRun, AnswersRun, status_of_run};
 
 use crate::answers::{LwktAnswer, status_of_end, status_of_fault};
 use crate::fronts::{blank, fill, page_refusal};
+use crate::refusals::say_json;
 use lwkt_base::Fault;
-use lwkt_refusals::Speaker;
-use lwkt_report::{Complaint, Page, Program, READ_LIMIT, RunFault, complain};
+use lwkt_report::{Page, RunFault};
 use lwkt_run::{End, run_turns};
 use std::alloc::Global;
 
@@ -22,17 +22,6 @@ fn report_onto(alloc: Global, script: &[u8], page: &mut Page) -> Result<End, Fau
     }
 }
 
-// Says why there is no report: the line that the program writes, and behind it the words.
-fn say_why(alloc: Global, script: &[u8], fault: Fault, page: &mut Page) {
-    page.text.clear();
-    complain(page, Program::Run, Complaint::Fault(fault));
-    if matches!(fault, Fault::Memory(_)) {
-        return Speaker::Run.say_memory(page);
-    }
-    let read = &script[..script.len().min(READ_LIMIT)];
-    Speaker::Run.say_refusal(alloc, page, Some(read), fault);
-}
-
 // Runs a script, with its report on an empty page, or why there is none.
 fn run_onto(alloc: Global, script: &[u8], page: &mut Page) -> Result<End, Fault>
     requires { page.old.text.items ≡ [] }
@@ -41,7 +30,8 @@ fn run_onto(alloc: Global, script: &[u8], page: &mut Page) -> Result<End, Fault>
     match report_onto(alloc, script, page) {
         Ok(end) => Ok(end),
         Err(fault) => {
-            say_why(alloc, script, fault, page);
+            page.text.clear();
+            say_json(alloc, page, script, fault);
             Err(fault)
         }
     }

@@ -11,25 +11,20 @@ use crate::alongs::along_of;
 use crate::answers::{LwktAnswer, status_of_end, status_of_fault};
 use crate::arguments::options_of;
 use crate::fronts::{blank, fill};
+use crate::misuses::say_misused;
 use crate::readings::input_onto;
+use crate::refusals::{say_memory, say_unmade, say_whole};
 use crate::words::words_of;
-use lwkt_base::Fault;
-use lwkt_refusals::{Speaker, say_opening};
-use lwkt_report::{Page, write_whole};
+use lwkt_base::memory::extend_from_slice;
+use lwkt_base::{Fault, OutOfMemory};
+use lwkt_report::Page;
 use lwkt_run::End;
 use lwkt_show::{Options, Shown, show_script};
 use lwkt_text::Input;
-use std::alloc::{AllocError, Global};
-
-// What is said where the arguments are none of the call's.
-const USAGE: &str =
-    "lwkt_show: turns, and behind it --order ORDER, then --turns A..B or --rounds A..B, and --svg, --trace or --chains\n";
+use std::alloc::Global;
 
 // What is said where the run ended before the range that was chosen.
-const PAST: &str = "lwkt_show: the range lies behind the end of the run\n";
-
-// What is said where the order names a processor that isn't there.
-const ABSENT: &str = "lwkt_show: the order names a processor that the script doesn't have\n";
+const PAST: &str = "the range lies behind the end of the run";
 
 /// What came of a script that was to be shown.
 #[derive(Clone, Copy, Debug, PartialEq, Eq)]
@@ -43,7 +38,7 @@ pub enum Showing {
 }
 
 // The words of the arguments, if they are UTF-8.
-fn words_read(alloc: Global, arguments: &[u8]) -> Result<Option<Vec<String>>, AllocError>
+fn words_read(alloc: Global, arguments: &[u8]) -> Result<Option<Vec<String>>, OutOfMemory>
     ensures some { IfOk result (λ found. IfSome found (λ words. map string_bytes words.items ≡ words_in arguments.now)) }
     ensures valid { IfOk result (λ found. IfSome found (λ words. IsUtf8 arguments.now)) }
     ensures none { IfOk result (λ found. found ≡ None → ¬ IsUtf8 arguments.now) }
@@ -51,19 +46,7 @@ fn words_read(alloc: Global, arguments: &[u8]) -> Result<Option<Vec<String>>, Al
     let Ok(text) = str::from_utf8(arguments) else {
         return Ok(None);
     };
-    match words_of(alloc, text) {
-        Ok(words) => Ok(Some(words)),
-        Err(refused) => Err(refused),
-    }
-}
-
-// Says why a script that was read of these bytes isn't run.
-fn say_why(alloc: Global, bytes: &[u8], input: &Input, fault: Fault, errors: &mut Page) {
-    if fault == Fault::NoPort {
-        let _ = write_whole(errors, ABSENT.as_bytes());
-    } else {
-        say_opening(alloc, errors, None, bytes, input, fault);
-    }
+    Ok(Some(words_of(alloc, text)?))
 }
 
 // Runs a script in either form, in rounds or along an order, to the text that shows the run; `None` where it ended before the first
@@ -79,23 +62,17 @@ fn shown_of(
     ensures none { IfOk result (λ found. IsNone found → EndsBeforeIn options (option_copied order.entry) script.now) }
     ensures refused { IfErr result (λ fault. RefusesShow script.now (option_copied order.entry) fault) }
 {
-    let input = match input_onto(alloc, Speaker::Show, script, errors) {
+    let input = match input_onto(alloc, script, errors) {
         Ok(input) => input,
         Err(fault) => return Err(fault),
     };
     match show_script(alloc, &input.script, options, order) {
         Ok(found) => Ok(found),
         Err(fault) => {
-            say_why(alloc, script, &input, fault, errors);
+            say_unmade(alloc, errors, script, &input, fault);
             Err(fault)
         }
     }
-}
-
-// Says that the run ended before the first turn that was chosen.
-fn say_past(errors: &mut Page) {
-    let _ = write_whole(errors, PAST.as_bytes());
-    Speaker::Show.say_usage(errors);
 }
 
 // Shows the run of a script on an empty page; why it isn't shown goes to the other page.
@@ -113,15 +90,15 @@ fn shown_onto(
     let Shown { text, end } = match shown_of(alloc, script, options, order, errors) {
         Ok(Some(shown)) => shown,
         Ok(None) => {
-            say_past(errors);
+            say_whole(alloc, errors, PAST);
             return Ok(Showing::Past);
         }
         Err(fault) => return Err(fault),
     };
-    match page.text.extend_from_slice(text.as_bytes()) {
+    match extend_from_slice(&mut page.text, text.as_bytes()) {
         Ok(()) => Ok(Showing::Shown(end)),
         Err(refused) => {
-            Speaker::Show.say_memory(errors);
+            say_memory(errors);
             Err(Fault::Memory(refused))
         }
     }
@@ -147,20 +124,19 @@ fn show_asked(
     outcome
 }
 
-// Says on a page that the arguments are none of the program's that shows a run in rounds or along an order.
-fn refused(page: &mut Page) -> Result<Showing, Fault>
+// Says on a page why the arguments, with these words if they are UTF-8, ask for no run.
+fn misused(alloc: Global, words: Option<&[String]>, page: &mut Page) -> Result<Showing, Fault>
     ensures { result ≡ Ok Showing.Misused }
 {
-    let _ = write_whole(page, USAGE.as_bytes());
-    Speaker::Show.say_usage(page);
+    say_misused(alloc, page, words);
     Ok(Showing::Misused)
 }
 
 // Says on a page that there was no memory for the arguments.
-fn unread(page: &mut Page, refused: AllocError) -> Result<Showing, Fault>
+fn unread(page: &mut Page, refused: OutOfMemory) -> Result<Showing, Fault>
     ensures { result ≡ Err no_memory }
 {
-    Speaker::Show.say_memory(page);
+    say_memory(page);
     Err(Fault::Memory(refused))
 }
 
@@ -189,7 +165,7 @@ fn show_words(
                 page,
             )
         }
-        Ok(None) => refused(page),
+        Ok(None) => misused(alloc, Some(words), page),
         Err(refused) => unread(page, refused),
     }
 }
@@ -208,7 +184,7 @@ fn show_onto(
 {
     match words_read(alloc, arguments) {
         Ok(Some(words)) => show_words(alloc, script, &words, page),
-        Ok(None) => refused(page),
+        Ok(None) => misused(alloc, None, page),
         Err(refused) => unread(page, refused),
     }
 }

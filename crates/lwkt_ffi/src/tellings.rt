@@ -5,9 +5,9 @@ ghost use Rattle.lwkt_ffi.specs.Texts.{HasTextReport, RefusesTextRun, TellsTextR
 use crate::answers::{LwktAnswer, status_of_fault};
 use crate::fronts::{blank, fill, put_both};
 use crate::readings::read_onto;
+use crate::refusals::{say_memory, say_unmade};
 use lwkt_base::Fault;
 use lwkt_explore::{Account, Judgement, account_of};
-use lwkt_refusals::{Speaker, say_opening};
 use lwkt_report::Page;
 use lwkt_run::close_turns;
 use lwkt_text::{Input, Reading};
@@ -22,7 +22,7 @@ fn account_onto(alloc: Global, text: &[u8], page: &mut Page) -> Result<Account, 
         script,
         names,
         expectations,
-    } = match read_onto(alloc, Speaker::Run, text, page) {
+    } = match read_onto(alloc, text, page) {
         Ok(reading) => reading,
         Err(fault) => return Err(fault),
     };
@@ -35,14 +35,14 @@ fn account_onto(alloc: Global, text: &[u8], page: &mut Page) -> Result<Account, 
                 names,
                 expectations,
             };
-            say_opening(alloc, page, None, text, &input, fault);
+            say_unmade(alloc, page, text, &input, fault);
             return Err(fault);
         }
     };
     match account_of(alloc, None, text, expectations.as_slice(), &closing) {
         Ok(account) => Ok(account),
         Err(refused) => {
-            Speaker::Run.say_memory(page);
+            say_memory(page);
             Err(Fault::Memory(refused))
         }
     }

@@ -1,25 +1,27 @@
 ghost use Rattle.std.specs.Prelude.{◌≡◌, IfOk, map, string_bytes};
 ghost use Rattle.lwkt_ffi.specs.Answers.{words_in};
 
-use std::alloc::{AllocError, Global};
+use lwkt_base::OutOfMemory;
+use lwkt_base::memory::{collect, from_str, push};
+use std::alloc::Global;
 
 // The parts of a text that blanks stand between.
-fn parts_of(alloc: Global, text: &str) -> Result<Vec<&str>, AllocError>
+fn parts_of(alloc: Global, text: &str) -> Result<Vec<&str>, OutOfMemory>
     ensures { IfOk result (λ parts. map (λ part. part.now) parts.items ≡ words_in text.now) }
 {
-    text.split(' ').collect(alloc)
+    collect(alloc, text.split(' '))
 }
 
 /// The words of arguments, with one blank between each two.
 ///
 /// Refused if memory is.
-pub fn words_of(alloc: Global, arguments: &str) -> Result<Vec<String>, AllocError>
+pub fn words_of(alloc: Global, arguments: &str) -> Result<Vec<String>, OutOfMemory>
     ensures { IfOk result (λ words. map string_bytes words.items ≡ words_in arguments.now) }
 {
     let parts = parts_of(alloc, arguments)?;
     let mut words = Vec::new(alloc);
     for part in &parts {
-        words.push(String::from_str(alloc, part)?)?;
+        push(&mut words, from_str(alloc, part)?)?;
     }
     Ok(words)
 }

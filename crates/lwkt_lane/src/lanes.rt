@@ -5,8 +5,8 @@ ghost use Rattle.lwkt_base.specs.Fault.{no_memory};
 use crate::ins::LaneIn;
 use crate::notes::Note;
 use crate::outs::LaneOut;
-use lwkt_base::Fault;
-use rtrb::RingBuffer;
+use lwkt_base::memory::{ring, with_capacity};
+use lwkt_base::{Fault, OutOfMemory};
 use std::alloc::Global;
 
 /// Makes a lane for `capacity` notes, 2 to 32: its queue has room for one fewer, and the sending end keeps one in hand.
@@ -22,7 +22,19 @@ pub fn lane(alloc: Global, capacity: usize) -> Result<(LaneOut, LaneIn), Fault>
     ensures capacity { IfOk result (λ ends. lane_capacity (out_lane ends.0) ≡ capacity) }
     ensures only { IsOkUnless result no_memory }
 {
-    let (sender, receiver) = RingBuffer::new(alloc, capacity - 1).map_err(Fault::Memory)?;
+    Ok(new_lane(alloc, capacity)?)
+}
+
+/// Makes a lane, as `lane` does.
+pub(crate) fn new_lane(alloc: Global, capacity: usize) -> Result<(LaneOut, LaneIn), OutOfMemory>
+    requires least { 2 ≤ capacity }
+    requires most { capacity ≤ 32 }
+    ensures ends { IfOk result (λ ends. IsLane ends.0 ends.1) }
+    ensures sent { IfOk result (λ ends. (sent_notes ends.0 ≡ []) × (in_hand ends.0 ≡ None)) }
+    ensures received { IfOk result (λ ends. received ends.1 ≡ []) }
+    ensures capacity { IfOk result (λ ends. lane_capacity (out_lane ends.0) ≡ capacity) }
+{
+    let (sender, receiver) = ring(alloc, capacity - 1)?;
     let out = LaneOut {
         ring: sender,
         hand: None,
@@ -43,7 +55,7 @@ pub fn settle(alloc: Global, out: LaneOut, into: LaneIn) -> Result<Vec<Note>, Fa
     let mut out = out;
     let mut into = into;
     let room = out.ring.capacity() + 1;
-    let mut notes = Vec::with_capacity(alloc, room).map_err(Fault::Memory)?;
+    let mut notes = with_capacity(alloc, room)?;
     let count = into.see_all(&mut out);
     receive_all(&mut into, count, &mut notes);
     if let Some(note) = out.hand {

@@ -1,10 +1,9 @@
 -- Processors give back what they have, one after another.
-use Rattle.std.proofs.Common.{◌≡◌, suc, ◌<◌, List, [], ◌∷◌, ◌++◌, length, get_or, ap, sym, ◌∙◌, subst, arith, append_assoc, map, cond, Result, Ok, Err}
-use Rattle.std.specs.Prelude.{All, OnOk, slice_get}
+use Rattle.std.proofs.Common.{◌≡◌, ℕ, ◌+◌, suc, ◌<◌, List, [], ◌∷◌, ◌++◌, length, get_or, ap, sym, ◌∙◌, subst, arith, append_assoc, map}
+use Rattle.std.specs.Prelude.{All, slice_get}
 use Rattle.std.specs.List.{remove, flat_map}
-use Rattle.std.specs.Result.{is_ok}
 use Rattle.std.proofs.lemmas.List.{map-append}
-use Rattle.std.proofs.lemmas.List.Elements.{All-push}
+use Rattle.std.proofs.lemmas.List.Elements.{All-nil, All-push}
 use Rattle.lwkt_base.specs.Holding.{holds_nothing}
 use Rattle.lwkt_bank.specs.declared.seats.CpuSeat.{CpuSeat}
 use Rattle.lwkt_bank.specs.Seats.{holding}
@@ -12,7 +11,7 @@ use Rattle.lwkt_msg.specs.Desks.{Desk}
 use Rattle.lwkt_cpu.specs.Processors.{Processor, AllOver}
 use Rattle.lwkt_machine.specs.Bodies.{Scripted}
 use Rattle.lwkt_machine.specs.Ended.{AreOver}
-use Rattle.lwkt_machine.specs.Retiring.{AreRetired}
+use Rattle.lwkt_machine.specs.Retiring.{AreRetired, HasRoom}
 use Rattle.lwkt_machine.specs.declared.closings.Retired.{Retired}
 use Rattle.lwkt_lane.proofs.PlaceMoves.{get_removed}
 use Rattle.lwkt_machine.proofs.ListMoves.{flat_push}
@@ -39,12 +38,24 @@ retiring_more all rest left r s x some is are so_far more = record {
   over = λ k p at. so_far.over (suc k) p (sym (get_removed rest k) ∙ ap (λ xs. slice_get xs k) (sym are) ∙ at);
 }
 
+-- no processor has given back anything yet
+pub retired_none : (r : Retired) → r.seats.items ≡ [] → r.mails.items ≡ [] → r.bodies.items ≡ [] → AreRetired [] r
+retired_none r seats mails bodies = record {
+  seats = seats;
+  empty = subst (All (λ s. holding s ≡ holds_nothing)) (sym seats) (All-nil (λ s. holding s ≡ holds_nothing));
+  mails = mails;
+  bodies = bodies;
+}
+
 -- one processor more gives back what it has
-pub retired_more : {T E : Type 0} (done : List (Processor Scripted)) (p : Processor Scripted) (old new : Retired) (seat : CpuSeat) (mail : Desk) (bodies : List Scripted) (t : Result T E) → seat ≡ p.seat → holding seat ≡ holds_nothing → mail ≡ p.post.seat → bodies ≡ p.bodies → new.seats.items ≡ old.seats.items ++ seat ∷ [] → new.mails.items ≡ old.mails.items ++ mail ∷ [] → new.bodies.items ≡ cond (is_ok t) (old.bodies.items ++ bodies) old.bodies.items → AreRetired done old → OnOk t (AreRetired (done ++ p ∷ []) new)
-retired_more done p old new seat mail bodies (Ok x) seat_is empty mail_is bodies_are seats mails all_bodies so_far = record {
+pub retired_more : (done : List (Processor Scripted)) (p : Processor Scripted) (old new : Retired) (seat : CpuSeat) (mail : Desk) (bodies : List Scripted) → seat ≡ p.seat → holding seat ≡ holds_nothing → mail ≡ p.post.seat → bodies ≡ p.bodies → new.seats.items ≡ old.seats.items ++ seat ∷ [] → new.mails.items ≡ old.mails.items ++ mail ∷ [] → new.bodies.items ≡ old.bodies.items ++ bodies → AreRetired done old → AreRetired (done ++ p ∷ []) new
+retired_more done p old new seat mail bodies seat_is empty mail_is bodies_are seats mails all_bodies so_far = record {
   seats = seats ∙ ap (λ xs. xs ++ seat ∷ []) so_far.seats ∙ ap (λ s. map (λ (q : Processor Scripted). q.seat) done ++ s ∷ []) seat_is ∙ sym (map-append (λ (q : Processor Scripted). q.seat) done (p ∷ []));
   empty = subst (All (λ s. holding s ≡ holds_nothing)) (sym seats) (All-push (λ s. holding s ≡ holds_nothing) old.seats.items seat so_far.empty empty);
   mails = mails ∙ ap (λ xs. xs ++ mail ∷ []) so_far.mails ∙ ap (λ d. map (λ (q : Processor Scripted). q.post.seat) done ++ d ∷ []) mail_is ∙ sym (map-append (λ (q : Processor Scripted). q.post.seat) done (p ∷ []));
   bodies = all_bodies ∙ ap (λ xs. xs ++ bodies) so_far.bodies ∙ ap (λ bs. flat_map (λ (q : Processor Scripted). q.bodies) done ++ bs) bodies_are ∙ sym (flat_push (λ (q : Processor Scripted). q.bodies) done p);
 }
-retired_more done p old new seat mail bodies (Err e) seat_is empty mail_is bodies_are seats mails all_bodies so_far = tt
+
+-- room for one more than some is room for one
+pub room_first : (count : ℕ) (r : Retired) → HasRoom (count + 1) r → HasRoom 1 r
+room_first count r room = record { seats = omega (arith, room.seats); mails = omega (arith, room.mails); bodies = omega (arith, room.bodies) }

@@ -1,5 +1,5 @@
 -- What processors give back (own).
-use Rattle.std.specs.Prelude.{◌≡◌, List, map, All}
+use Rattle.std.specs.Prelude.{◌≡◌, ℕ, ◌+◌, ◌*◌, ◌≤◌, List, map, All, vec_len, vec_capacity}
 use Rattle.std.specs.List.{flat_map}
 use Rattle.lwkt_base.specs.Holding.{holds_nothing}
 use Rattle.lwkt_bank.specs.Seats.{holding}
@@ -13,3 +13,9 @@ pub record AreRetired (done : List (Processor Scripted)) (r : Retired) : Type 0 
   pub empty : All (λ s. holding s ≡ holds_nothing) r.seats.items
   pub mails : r.mails.items ≡ map (λ p. p.post.seat) done
   pub bodies : r.bodies.items ≡ flat_map (λ p. p.bodies) done
+
+-- there is room for what so many processors more give back
+pub record HasRoom (count : ℕ) (r : Retired) : Type 0 where
+  pub seats : vec_len r.seats + count ≤ vec_capacity r.seats
+  pub mails : vec_len r.mails + count ≤ vec_capacity r.mails
+  pub bodies : vec_len r.bodies + 16 * count ≤ vec_capacity r.bodies

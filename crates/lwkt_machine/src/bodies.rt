@@ -4,9 +4,10 @@ ghost use Rattle.std.specs.Option.{option_copied};
 ghost use Rattle.lwkt_machine.specs.Bodies.{unpolled, next_ask, after_ask, entry_for, entry_told, logged, asks_of};
 
 use lwkt_ask::Body;
-use lwkt_base::{Answer, Ask, Entry};
+use lwkt_base::memory::{MOST_ROOM, extend_from_slice, push, with_capacity};
+use lwkt_base::{Answer, Ask, Entry, OutOfMemory};
 use lwkt_verdict::entry_of;
-use std::alloc::{AllocError, Global};
+use std::alloc::Global;
 use std::marker::Model;
 
 /// The most entries of a log. Later answers make none.
@@ -96,15 +97,15 @@ impl ScriptBody {
     /// A body that makes these steps `repeat` times, 0 to 4294967295, and was never polled. Its log has room for its 32 entries
     /// from the beginning.
     ///
-    /// `AllocError` if memory for the steps or the log is refused.
-    pub fn new(alloc: Global, steps: &[Ask], repeat: u32) -> Result<Self, AllocError>
+    /// `OutOfMemory` if memory for the steps or the log is refused.
+    pub fn new(alloc: Global, steps: &[Ask], repeat: u32) -> Result<Self, OutOfMemory>
         ensures { IfOk result (λ body. body ≡ unpolled steps.now repeat) }
     {
-        let log = Vec::with_capacity(alloc, LOG_LIMIT)?;
+        let log = with_capacity(alloc, LOG_LIMIT)?;
         let count = steps.len();
-        let mut asks = Vec::with_capacity(alloc, count + 1)?;
-        asks.extend_from_slice(steps)?;
-        asks.push(Ask::Exit)?;
+        let mut asks = with_capacity(alloc, (count + 1).min(MOST_ROOM))?;
+        extend_from_slice(&mut asks, steps)?;
+        push(&mut asks, Ask::Exit)?;
         Ok(ScriptBody {
             asks,
             count,

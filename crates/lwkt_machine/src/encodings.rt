@@ -4,10 +4,11 @@ ghost use Rattle.lwkt_machine.specs.Encoded.{AreOfBook};
 
 use crate::bodies::ScriptBody;
 use crate::machines::Machine;
-use lwkt_base::{Blob, Entry, Fault, MsgId, Rec};
+use lwkt_base::memory::push;
+use lwkt_base::{Blob, Entry, Fault, MsgId, OutOfMemory, Rec};
 use lwkt_cpu::Cpu;
 use lwkt_msg::{MsgBook, MsgSeat, Reaped};
-use std::alloc::{AllocError, Global};
+use std::alloc::Global;
 
 /// Of which processor a message is, to which one it was sent, and its round, as the model has them.
 #[derive(Clone, Copy, Debug, PartialEq, Eq)]
@@ -20,29 +21,23 @@ pub struct Sent {
     pub round: u64,
 }
 
-// Puts a number behind the others.
-fn add(words: &mut Vec<u64>, word: u64) -> Result<(), AllocError> {
-    words.push(word)?;
-    Ok(())
+fn add_four(words: &mut Vec<u64>, a: u64, b: u64, c: u64, d: u64) -> Result<(), OutOfMemory> {
+    push(words, a)?;
+    push(words, b)?;
+    push(words, c)?;
+    push(words, d)
 }
 
-fn add_four(words: &mut Vec<u64>, a: u64, b: u64, c: u64, d: u64) -> Result<(), AllocError> {
-    add(words, a)?;
-    add(words, b)?;
-    add(words, c)?;
-    add(words, d)
-}
-
-fn add_bytes(words: &mut Vec<u64>, kind: u64, blob: &Blob) -> Result<(), AllocError> {
-    add(words, kind)?;
-    add(words, u64::from(blob.len()))?;
+fn add_bytes(words: &mut Vec<u64>, kind: u64, blob: &Blob) -> Result<(), OutOfMemory> {
+    push(words, kind)?;
+    push(words, u64::from(blob.len()))?;
     for byte in blob.as_slice() {
-        add(words, u64::from(*byte))?;
+        push(words, u64::from(*byte))?;
     }
     Ok(())
 }
 
-fn add_entry(words: &mut Vec<u64>, entry: &Entry) -> Result<(), AllocError> {
+fn add_entry(words: &mut Vec<u64>, entry: &Entry) -> Result<(), OutOfMemory> {
     match entry {
         Entry::Value(value) => add_four(words, 1, *value, 0, 0),
         Entry::Aborted(asked) => add_four(words, 2, u64::from(*asked), 0, 0),
@@ -65,18 +60,18 @@ impl ScriptBody {
     /// Appends to `words` what tells this body apart from what it was or will be at another time: how many polls it has had, and its
     /// log, with a 0 at its end.
     ///
-    /// `AllocError` if memory is refused; some of the numbers may have been appended then.
-    pub fn encode(&self, words: &mut Vec<u64>) -> Result<(), AllocError> {
-        add(words, self.polls())?;
+    /// `OutOfMemory` if memory is refused; some of the numbers may have been appended then.
+    pub fn encode(&self, words: &mut Vec<u64>) -> Result<(), OutOfMemory> {
+        push(words, self.polls())?;
         for entry in self.log() {
             add_entry(words, entry)?;
         }
-        add(words, 0)
+        push(words, 0)
     }
 }
 
 // A processor with its bodies; its seat at the book is given back.
-fn add_cpu(words: &mut Vec<u64>, cpu: Cpu<ScriptBody>) -> Result<MsgSeat, AllocError>
+fn add_cpu(words: &mut Vec<u64>, cpu: Cpu<ScriptBody>) -> Result<MsgSeat, OutOfMemory>
     ensures { IfOk result (λ seat. seat ≡ cpu.post.seat) }
 {
     let (bodies, seat) = cpu.encode(words)?;
@@ -86,7 +81,7 @@ fn add_cpu(words: &mut Vec<u64>, cpu: Cpu<ScriptBody>) -> Result<MsgSeat, AllocE
     Ok(seat)
 }
 
-fn add_record(words: &mut Vec<u64>, rec: Rec) -> Result<(), AllocError> {
+fn add_record(words: &mut Vec<u64>, rec: Rec) -> Result<(), OutOfMemory> {
     add_four(
         words,
         u64::from(rec.op),
@@ -111,16 +106,16 @@ fn withdraw(
     book: &MsgBook,
     seat: &mut MsgSeat,
     msg: MsgId,
-) -> Result<(), AllocError>
+) -> Result<(), OutOfMemory>
     requires { seat.old.table ≡ book.now.table }
     ensures { seat.new.table ≡ seat.old.table }
 {
     let asked = seat.abort(book, msg);
     let dropped = seat.drop_msg(book, msg);
-    add(words, answer_number(asked))?;
+    push(words, answer_number(asked))?;
     match dropped {
         Ok(rec) => add_record(words, rec),
-        Err(fault) => add(words, u64::from(fault.number())),
+        Err(fault) => push(words, u64::from(fault.number())),
     }
 }
 
@@ -142,7 +137,7 @@ fn collect(
     seat: &mut MsgSeat,
     msg: MsgId,
     round: u64,
-) -> Result<(), AllocError>
+) -> Result<(), OutOfMemory>
     requires { seat.old.table ≡ book.now.table }
     ensures { seat.new.table ≡ seat.old.table }
 {
@@ -151,7 +146,7 @@ fn collect(
     }
     match seat.reap(book, msg, round) {
         Reaped::Done { rec } => add_record(words, rec),
-        Reaped::Stale => add(words, 0),
+        Reaped::Stale => push(words, 0),
     }
 }
 
@@ -162,7 +157,7 @@ fn withdraw_at(
     seats: &mut [MsgSeat],
     at: usize,
     msg: MsgId,
-) -> Result<(), AllocError>
+) -> Result<(), OutOfMemory>
     requires { AreOfBook book.now seats.old }
     ensures { AreOfBook book.now seats.new }
 {
@@ -188,7 +183,7 @@ fn collect_at(
     at: usize,
     msg: MsgId,
     round: u64,
-) -> Result<(), AllocError>
+) -> Result<(), OutOfMemory>
     requires { AreOfBook book.now seats.old }
     ensures { AreOfBook book.now seats.new }
 {
@@ -205,7 +200,7 @@ fn add_message(
     seats: &mut [MsgSeat],
     msg: MsgId,
     sent: Sent,
-) -> Result<(), AllocError>
+) -> Result<(), OutOfMemory>
     requires { AreOfBook book.now seats.old }
     ensures { AreOfBook book.now seats.new }
 {
@@ -215,9 +210,8 @@ fn add_message(
 }
 
 // Notes that a part ends here.
-fn end_part(words: &[u64], ends: &mut Vec<usize>) -> Result<(), AllocError> {
-    ends.push(words.len())?;
-    Ok(())
+fn end_part(words: &[u64], ends: &mut Vec<usize>) -> Result<(), OutOfMemory> {
+    push(ends, words.len())
 }
 
 // Writes what the book has of each message.
@@ -227,7 +221,7 @@ fn add_messages(
     book: &MsgBook,
     seats: &mut [MsgSeat],
     sent: &[Sent],
-) -> Result<(), AllocError>
+) -> Result<(), OutOfMemory>
     requires { AreOfBook book.now seats.old }
 {
     for number in 0..sent.len() {
@@ -244,13 +238,13 @@ fn add_cpus(
     words: &mut Vec<u64>,
     ends: &mut Vec<usize>,
     cpus: Vec<Cpu<ScriptBody>>,
-) -> Result<Vec<MsgSeat>, AllocError>
+) -> Result<Vec<MsgSeat>, OutOfMemory>
     ensures { IfOk result (λ seats. seats.items ≡ map (λ p. p.post.seat) cpus.items) }
 {
     let mut seats = Vec::new(alloc);
     for cpu in cpus {
         let seat = add_cpu(words, cpu)?;
-        seats.push(seat)?;
+        push(&mut seats, seat)?;
         end_part(words.as_slice(), ends)?;
     }
     Ok(seats)
@@ -265,14 +259,14 @@ impl Machine {
     /// Each processor has a part of the numbers, and after them each message. For each part the length of `words` at its end is
     /// appended to `ends`.
     ///
-    /// `AllocError` if memory is refused; some of the numbers may have been appended then.
+    /// `OutOfMemory` if memory is refused; some of the numbers may have been appended then.
     pub fn encode(
         self,
         alloc: Global,
         sent: &[Sent],
         words: &mut Vec<u64>,
         ends: &mut Vec<usize>,
-    ) -> Result<(), AllocError> {
+    ) -> Result<(), OutOfMemory> {
         let Machine {
             bank: _,
             book,

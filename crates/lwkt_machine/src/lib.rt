@@ -17,7 +17,7 @@ pub mod standings;
 pub mod stops;
 
 pub use bodies::ScriptBody;
-pub use closings::Closed;
+pub use closings::{CloseRoom, Closed};
 pub use encodings::Sent;
 pub use lwkt_cpu::{Cpu, Status, Turned};
 pub use machines::Machine;

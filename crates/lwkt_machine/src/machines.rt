@@ -1,5 +1,5 @@
 //! A machine, and the turns of its processors.
-ghost use Rattle.std.specs.Prelude.{◌≡◌, ◌<◌, length, IfOk, OnErr, Err, IsSomeAnd, slice_get, option_map};
+ghost use Rattle.std.specs.Prelude.{◌≡◌, ◌<◌, length, IfOk, OnErr, IsSomeAnd, slice_get, option_map};
 ghost use Rattle.lwkt_bank.specs.Seats.{id_of, cpus_of};
 ghost use Rattle.lwkt_cpu.specs.Processors.{IsAtRest};
 ghost use Rattle.lwkt_cpu.specs.Turning.{HasSameEvents, LacksRoom};
@@ -7,7 +7,8 @@ ghost use Rattle.lwkt_cpu.specs.Turning.{HasSameEvents, LacksRoom};
 use crate::bodies::ScriptBody;
 use crate::sights::see_sent;
 use lwkt_bank::Bank;
-use lwkt_base::Fault;
+use lwkt_base::OutOfMemory;
+use lwkt_base::memory::reserve;
 use lwkt_core::Event;
 use lwkt_cpu::{Cpu, Status, TURN_EVENTS, Turned};
 use lwkt_msg::MsgBook;
@@ -36,7 +37,6 @@ impl Model for Machine {
 impl Machine {
     ghost use Rattle.lwkt_machine.specs.Machines.{rig_of, AreOneMachine, IsWhole, ShowsBody, ShowsThreadAt};
     ghost use Rattle.lwkt_machine.specs.Turns.{TurnsAt};
-    ghost use Rattle.lwkt_base.specs.Fault.{no_memory};
 
     /// How many processors there are, at most 8. All parts of the machine belong together.
     pub fn cpus(&self) -> usize
@@ -89,21 +89,18 @@ impl Machine {
     /// queue of its lane to it: all of this is taken in, up to the 16 notes of a turn and the room of their ports' queues. The events
     /// are appended to the trace. That the processor is there is the caller's condition.
     ///
-    /// Refused with `Memory` if the trace lacks room for 4096 events and can't be given it; nothing has changed then, and the trace
+    /// Refused if the trace lacks room for 4096 events and can't be given it; nothing has changed then, and the trace
     /// has no less room than before.
-    pub fn turn(&mut self, cpu: usize, trace: &mut Vec<Event>) -> Result<Turned, Fault>
+    pub fn turn(&mut self, cpu: usize, trace: &mut Vec<Event>) -> Result<Turned, OutOfMemory>
         requires { cpu < length self.old.cpus }
         ensures ok { IfOk result (λ turned. TurnsAt cpu self.old self.new trace.old trace.new turned) }
         ensures err { OnErr result ((self.new ≡ self.old) × HasSameEvents trace.old trace.new) }
         ensures full { OnErr result (LacksRoom trace.new) }
-        ensures only { OnErr result (result ≡ Err no_memory) }
         ensures bank { self.new.bank ≡ self.old.bank }
         ensures book { self.new.book ≡ self.old.book }
         ensures as_many { length self.new.cpus ≡ length self.old.cpus }
     {
-        if let Err(refused) = trace.reserve(TURN_EVENTS) {
-            return Err(Fault::Memory(refused));
-        }
+        reserve(trace, TURN_EVENTS)?;
         see_sent(&mut self.cpus, cpu);
         Ok(self.cpus[cpu].turn_in_room(&self.bank, &self.book, trace))
     }

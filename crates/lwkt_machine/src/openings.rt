@@ -1,15 +1,14 @@
 //! The opening of a machine.
-ghost use Rattle.std.specs.Prelude.{◌≡◌, ◌≤◌, true, false, IfOk, IfErr, OnOk, OnErr, Err};
+ghost use Rattle.std.specs.Prelude.{◌≡◌, ◌≤◌, true, false, IfOk, IfErr, OnOk, Err};
 ghost use Rattle.lwkt_core.specs.Opening.{AreWithin, AllOpenLawfully};
 ghost use Rattle.lwkt_bank.specs.Gathered.{IsOpened};
 ghost use Rattle.lwkt_msg.specs.Desks.{AreOpened};
 ghost use Rattle.lwkt_script.specs.Format.{threads_on};
 ghost use Rattle.lwkt_machine.specs.Opened.{IsOpenedMachine, AreFew, Declines};
-ghost use Rattle.lwkt_base.specs.Fault.{no_memory};
 
 use crate::machines::Machine;
 use crate::seatings::seat_all;
-use lwkt_base::Fault;
+use lwkt_base::{Fault, OutOfMemory};
 use lwkt_cpu::cpus::THREAD_LIMIT;
 use lwkt_lane::{Lanes, open_lanes};
 use lwkt_script::{Script, ThreadSpec};
@@ -41,13 +40,12 @@ fn are_few(script: &Script) -> bool
 }
 
 // A machine at the tables of a script, with the script's threads.
-fn open_at(alloc: Global, script: &Script, tables: Tables) -> Result<Machine, Fault>
+fn open_at(alloc: Global, script: &Script, tables: Tables) -> Result<Machine, OutOfMemory>
     requires bank { IsOpened script.now.cpus script.now.tokens tables.bank tables.seats.items }
     requires book { AreOpened script.now.cpus script.now.messages tables.book tables.mails.items }
     requires few { script.now.cpus ≤ 8 }
     requires threads { AreFew script.now.cpus script.now.threads }
-    ensures ok { IfOk result (λ machine. IsOpenedMachine script.now machine) }
-    ensures only { OnErr result (result ≡ Err no_memory) }
+    ensures { IfOk result (λ machine. IsOpenedMachine script.now machine) }
 {
     let Tables {
         bank,
@@ -56,7 +54,7 @@ fn open_at(alloc: Global, script: &Script, tables: Tables) -> Result<Machine, Fa
         mails,
     } = tables;
     let Lanes { outs, ins } = open_lanes(alloc, usize::from(script.cpus))?;
-    let origins = origins_of(alloc, script.messages.as_slice()).map_err(Fault::Memory)?;
+    let origins = origins_of(alloc, script.messages.as_slice())?;
     let mut rest = Rest {
         seats,
         mails,
@@ -93,6 +91,6 @@ impl Machine {
             script.messages.as_slice(),
             usize::from(script.cpus),
         )?;
-        open_at(alloc, script, tables)
+        Ok(open_at(alloc, script, tables)?)
     }
 }

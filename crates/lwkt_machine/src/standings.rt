@@ -5,9 +5,10 @@ ghost use Rattle.lwkt_cpu.specs.Processors.{is_running};
 
 use crate::bodies::ScriptBody;
 use crate::machines::Machine;
-use lwkt_base::{CpuId, Ref, ThreadId, ThreadState, TokList};
+use lwkt_base::memory::push;
+use lwkt_base::{CpuId, OutOfMemory, Ref, ThreadId, ThreadState, TokList};
 use lwkt_cpu::Cpu;
-use std::alloc::{AllocError, Global};
+use std::alloc::Global;
 
 /// How a thread stands between two turns.
 #[derive(Drop)]
@@ -54,7 +55,7 @@ impl Standing {
         cpu: &Cpu<ScriptBody>,
         number: u8,
         standings: &mut Vec<Standing>,
-    ) -> Result<(), AllocError>
+    ) -> Result<(), OutOfMemory>
         ensures { OnOk result (standings.new.items ≡ standings.old.items ++ standings_on number cpu.now) }
     {
         for thread in 0..cpu.threads() {
@@ -62,7 +63,7 @@ impl Standing {
                 cpu: CpuId(number),
                 thread: thread as u8,
             };
-            standings.push(Standing::of_thread(cpu, id))?;
+            push(standings, Standing::of_thread(cpu, id))?;
         }
         Ok(())
     }
@@ -73,8 +74,8 @@ impl Machine {
 
     /// How each thread stands, by processor, then by number: what it is doing, and its list.
     ///
-    /// `AllocError` if memory is refused.
-    pub fn standings(&self, alloc: Global) -> Result<Vec<Standing>, AllocError>
+    /// `OutOfMemory` if memory is refused.
+    pub fn standings(&self, alloc: Global) -> Result<Vec<Standing>, OutOfMemory>
         ensures { IfOk result (λ standings. standings.items ≡ standings_of self.now.cpus) }
     {
         let mut standings = Vec::new(alloc);

@@ -1,4 +1,5 @@
-use Rattle.std.specs.Prelude.{◌≡◌, ℕ, zero, suc, ◌+◌, ◌*◌, ◌<◌, ◌≤◌, ◌==◌, Bool, List, [], ◌∷◌, ◌++◌, length, map, All, count_by, slice_get, slice_index, slice_index_or, Some, if◌then◌else◌}
+use Rattle.std.specs.Prelude.{◌≡◌, ℕ, zero, suc, ◌+◌, ◌*◌, ◌<◌, ◌≤◌, ◌==◌, Bool, List, [], ◌∷◌, ◌++◌, length, map, All, count_by, slice_get, slice_index, slice_index_or, Some, if◌then◌else◌, Vec, vec_capacity}
+use Rattle.std.specs.declared.alloc.Global.{Global}
 use mathlib.Core.Option.{some}
 use lib.ListN.{get_elem?}
 use Rattle.atomic_table.specs.Seated.{TableId}
@@ -181,6 +182,10 @@ pub record AreClosed (book : Shelf) (seats : List Desk) (ends : List MsgEnd) : T
   pub history : List Deed
   pub is_history : IsHistory book seats mails history
   pub known : All (KnewSo mails (length book.specs)) seats
+
+-- an empty list with room for an end of each message: all that the close of a book takes
+abbrev pub IsBookRoom : Shelf → Vec MsgEnd Global → Type 0
+IsBookRoom book room = (room.items ≡ []) × (length book.specs ≤ vec_capacity room)
 
 -- a seat that is being opened, and has the records of its own messages up to this one
 pub record IsHanding (cpu : CpuId) (upto : ℕ) (place : Seat Rec View) : Type 0 where

@@ -2,14 +2,15 @@ ghost use Rattle.std.specs.Prelude.{◌≡◌, ◌⊎◌, ℕ, ◌+◌, ◌*◌,
 
 use crate::closings::{read_and_free, take_all};
 use crate::openings::{blank_records, known_specs, opening_words, seat_all};
-use crate::rules::{BookRule, BookTable, Top};
+use crate::rules::{BookRule, BookTable, Place, Top};
 use crate::seats::MsgSeat;
 use crate::views::{Key, View};
 use atomic_table::Shared;
-use lwkt_base::{Fault, MsgEnd, MsgSpec, Rec};
+use lwkt_base::memory::{table as open_table, with_capacity};
+use lwkt_base::{Fault, MsgEnd, MsgSpec, OutOfMemory, Rec};
 use lwkt_core::are_within;
-use lwkt_table::{Resting, table_refusal};
-use std::alloc::{AllocError, Global};
+use lwkt_table::Resting;
+use std::alloc::Global;
 use std::marker::Model;
 
 /// A message book: the words of its messages, and the records that no seat has in hand.
@@ -35,7 +36,7 @@ impl Model for MsgBook {
 impl MsgBook {
     ghost use Rattle.lwkt_base.specs.declared.faults.Fault.TheVariants.{Limits};
     ghost use Rattle.lwkt_core.specs.Opening.{AreWithin};
-    ghost use Rattle.lwkt_msg.specs.Desks.{AreOpened, AreClosed};
+    ghost use Rattle.lwkt_msg.specs.Desks.{AreOpened, AreClosed, IsBookRoom};
     ghost use Rattle.lwkt_base.specs.Fault.{no_memory};
 
     /// Opens a book of at most 64 messages, with a seat for each of 1 to 8 processors. Each message is at rest, and its
@@ -53,10 +54,10 @@ impl MsgBook {
         if !are_within(cpus, &[], specs) {
             return Err(Fault::Limits);
         }
-        let seats = Vec::with_capacity(alloc, 8).map_err(Fault::Memory)?;
-        let known = known_specs(alloc, specs).map_err(Fault::Memory)?;
+        let seats = with_capacity(alloc, 8)?;
+        let known = known_specs(alloc, specs)?;
         let layout = Key { specs: known, cpus };
-        MsgBook::open_within(alloc, specs, layout, seats).map_err(Fault::Memory)
+        Ok(MsgBook::open_within(alloc, specs, layout, seats)?)
     }
 
     // Opens a book that keeps the limits.
@@ -65,7 +66,7 @@ impl MsgBook {
         specs: &[MsgSpec],
         layout: Key,
         mut seats: Vec<MsgSeat>,
-    ) -> Result<(MsgBook, Vec<MsgSeat>), AllocError>
+    ) -> Result<(MsgBook, Vec<MsgSeat>), OutOfMemory>
         requires within { AreWithin layout.cpus [] specs.now }
         requires known { layout.specs.items ≡ specs.now }
         requires none { seats.items ≡ [] }
@@ -74,10 +75,7 @@ impl MsgBook {
         let cpus = layout.cpus;
         let words = opening_words(alloc, specs, cpus)?;
         let records = blank_records(alloc, specs.len())?;
-        let (table, mut clerk) = match BookTable::new(alloc, &words, records, &layout) {
-            Ok(opened) => opened,
-            Err(refused) => return Err(table_refusal(refused)),
-        };
+        let (table, mut clerk): (BookTable, Place) = open_table(alloc, &words, records, &layout)?;
         seat_all(&table.shared, &mut clerk, cpus, specs, &mut seats)?;
         let book = MsgBook {
             table,
@@ -88,12 +86,19 @@ impl MsgBook {
         Ok((book, seats))
     }
 
-    /// Closes the book, and answers each message's owner state and round. That the seats are as many as the processors,
-    /// and all of this book, is the caller's condition. 32: an allocation was refused, and the book is given up.
-    pub fn close(self, alloc: Global, seats: Vec<MsgSeat>) -> Result<Vec<MsgEnd>, Fault>
+    /// Room for the close of this book: all that `close_in` takes.
+    pub fn room(&self, alloc: Global) -> Result<Vec<MsgEnd>, OutOfMemory>
+        ensures { IfOk result (λ room. IsBookRoom self.now room) }
+    {
+        with_capacity(alloc, self.messages)
+    }
+
+    /// Closes the book as `close` does, in room that was made before. It takes no memory, so it can't fail.
+    pub fn close_in(self, room: Vec<MsgEnd>, seats: Vec<MsgSeat>) -> Vec<MsgEnd>
         requires as_many { length seats.items ≡ self.cpus }
         requires of_book { All (λ d. d.table ≡ self.table) seats.items }
-        ensures { MatchResult result (λ v. AreClosed self seats.items v.items) (λ fault. fault ≡ no_memory) }
+        requires room { IsBookRoom self room }
+        ensures { AreClosed self seats.items result.items }
     {
         let MsgBook {
             table,
@@ -102,17 +107,21 @@ impl MsgBook {
             messages,
         } = self;
         let mut clerk = clerk.wake();
-        let ends = match Vec::with_capacity(alloc, messages) {
-            Ok(ends) => ends,
-            Err(refused) => return Err(Fault::Memory(refused)),
-        };
         take_all(&table.shared, &mut clerk, cpus, seats);
         let closed = table.close_with(clerk);
-        let shown = match read_and_free(closed, messages, ends) {
-            Ok(shown) => shown,
-            Err(refused) => return Err(Fault::Memory(refused)),
-        };
-        Ok(shown)
+        read_and_free(closed, messages, room)
+    }
+
+    /// Closes the book, and answers each message's owner state and round. That the seats are as many as the processors,
+    /// and all of this book, is the caller's condition. All memory is taken before the first seat is taken back. 32: an
+    /// allocation was refused, and the book is given up.
+    pub fn close(self, alloc: Global, seats: Vec<MsgSeat>) -> Result<Vec<MsgEnd>, Fault>
+        requires as_many { length seats.items ≡ self.cpus }
+        requires of_book { All (λ d. d.table ≡ self.table) seats.items }
+        ensures { MatchResult result (λ v. AreClosed self seats.items v.items) (λ fault. fault ≡ no_memory) }
+    {
+        let room = self.room(alloc)?;
+        Ok(self.close_in(room, seats))
     }
 
     /// The table that the book's seats step on. Its type names the rule that the kit keeps between any two steps of any

@@ -1,5 +1,5 @@
 //! The seats are taken back, and the closing values are read.
-ghost use Rattle.std.specs.Prelude.{◌≡◌, ℕ, ◌+◌, ◌*◌, ◌<◌, ◌≤◌, [], length, IfOk, All};
+ghost use Rattle.std.specs.Prelude.{◌≡◌, ℕ, ◌+◌, ◌*◌, ◌<◌, ◌≤◌, [], length, vec_capacity, All};
 ghost use Rattle.std.specs.Slots.{slots_items, slots_len, IsFull};
 ghost use Rattle.lwkt_msg.specs.Desks.{shown_owner, shown_end, AreShown, HasTakenBack};
 ghost use Rattle.lwkt_msg.specs.Views.{joined};
@@ -13,7 +13,7 @@ use crate::rules::{Place, Top};
 use crate::seats::MsgSeat;
 use atomic_table::Closed;
 use lwkt_base::{MsgEnd, MsgState, MsgWord, Owner, Rec};
-use std::alloc::{AllocError, Global};
+use std::alloc::Global;
 
 // Whom a word shows the message with.
 fn owner_of(word: &MsgWord) -> Owner
@@ -66,22 +66,19 @@ pub(crate) fn take_all(top: &Top, clerk: &mut Place, cpus: usize, seats: Vec<Msg
     }
 }
 
-// What the closing words show.
-fn read_ends(
-    closed: &Closed<Rec, Global>,
-    messages: usize,
-    ends: Vec<MsgEnd>,
-) -> Result<Vec<MsgEnd>, AllocError>
+// What the closing words show, in this room.
+fn read_ends(closed: &Closed<Rec, Global>, messages: usize, room: Vec<MsgEnd>) -> Vec<MsgEnd>
     requires words { IsFull closed.now.words × (slots_len closed.now.words ≡ 16 * messages + 1) }
     requires few { messages ≤ 64 }
-    requires none { ends.items ≡ [] }
-    ensures { IfOk result (λ v. AreShown messages (slots_items closed.now.words) v.items) }
+    requires none { room.items ≡ [] }
+    requires room { messages ≤ vec_capacity room }
+    ensures { AreShown messages (slots_items closed.now.words) result.items }
 {
-    let mut ends = ends;
+    let mut ends = room;
     for m in 0..messages {
-        ends.push(end_shown(closed.word(word_of_message(m))))?;
+        ends.push_reserved(end_shown(closed.word(word_of_message(m))));
     }
-    Ok(ends)
+    ends
 }
 
 // Frees a closed table.
@@ -95,19 +92,20 @@ fn free(closed: Closed<Rec, Global>)
     closed.free();
 }
 
-// The closing values of a table.
+// The closing values of a table, in this room.
 pub(crate) fn read_and_free(
     closed: Closed<Rec, Global>,
     messages: usize,
-    ends: Vec<MsgEnd>,
-) -> Result<Vec<MsgEnd>, AllocError>
+    room: Vec<MsgEnd>,
+) -> Vec<MsgEnd>
     requires words { IsFull closed.words × (slots_len closed.words ≡ 16 * messages + 1) }
     requires slots { IsFull closed.slots }
     requires few { messages ≤ 64 }
-    requires none { ends.items ≡ [] }
-    ensures { IfOk result (λ v. AreShown messages (slots_items closed.words) v.items) }
+    requires none { room.items ≡ [] }
+    requires room { messages ≤ vec_capacity room }
+    ensures { AreShown messages (slots_items closed.words) result.items }
 {
-    let shown = read_ends(&closed, messages, ends);
+    let shown = read_ends(&closed, messages, room);
     free(closed);
     shown
 }

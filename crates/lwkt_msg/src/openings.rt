@@ -10,14 +10,15 @@ use crate::places::{slots_of, word_of_message, words_of};
 use crate::plays::{HandOut, MakeSeat};
 use crate::rules::{Place, Top};
 use crate::seats::MsgSeat;
-use lwkt_base::{CpuId, MsgSpec, Rec};
-use std::alloc::{AllocError, Global};
+use lwkt_base::memory::{from_slice, push, resize};
+use lwkt_base::{CpuId, MsgSpec, OutOfMemory, Rec};
+use std::alloc::Global;
 
 // The opening messages, as the table keeps them.
-pub(crate) fn known_specs(alloc: Global, specs: &[MsgSpec]) -> Result<Vec<MsgSpec>, AllocError>
+pub(crate) fn known_specs(alloc: Global, specs: &[MsgSpec]) -> Result<Vec<MsgSpec>, OutOfMemory>
     ensures { IfOk result (λ v. v.items ≡ specs.now) }
 {
-    specs.iter().copied().collect(alloc)
+    from_slice(alloc, specs)
 }
 
 // The words of a table that is opened with these messages.
@@ -25,12 +26,12 @@ pub(crate) fn opening_words(
     alloc: Global,
     specs: &[MsgSpec],
     cpus: usize,
-) -> Result<Vec<u64>, AllocError>
+) -> Result<Vec<u64>, OutOfMemory>
     requires { AreWithin cpus [] specs.now }
     ensures { IfOk result (λ v. AreOpeningWords (length specs.now) specs.now v.items) }
 {
     let mut words = Vec::new(alloc);
-    words.resize(words_of(specs.len()), 0)?;
+    resize(&mut words, words_of(specs.len()), 0)?;
     for (m, spec) in specs.iter().enumerate() {
         words[word_of_message(m)] = rest(spec.origin.cpu, spec.round).make();
     }
@@ -38,12 +39,12 @@ pub(crate) fn opening_words(
 }
 
 // The slots of a table of so many messages.
-pub(crate) fn blank_records(alloc: Global, messages: usize) -> Result<Vec<Rec>, AllocError>
+pub(crate) fn blank_records(alloc: Global, messages: usize) -> Result<Vec<Rec>, OutOfMemory>
     requires { messages ≤ 64 }
     ensures { IfOk result (λ v. v.items ≡ replicate (4 * messages) no_rec) }
 {
     let mut records = Vec::new(alloc);
-    records.resize(slots_of(messages), Rec::default())?;
+    resize(&mut records, slots_of(messages), Rec::default())?;
     Ok(records)
 }
 
@@ -84,7 +85,7 @@ pub(crate) fn seat_all(
     cpus: usize,
     specs: &[MsgSpec],
     seats: &mut Vec<MsgSeat>,
-) -> Result<(), AllocError>
+) -> Result<(), OutOfMemory>
     requires table { clerk.old.table_id ≡ top.now.table_id }
     requires clerk { IsClerk 0 cpus specs.now clerk.old }
     requires none { seats.old.items ≡ [] }
@@ -93,7 +94,7 @@ pub(crate) fn seat_all(
 {
     for cpu in 0..cpus {
         let seat = seat_for(top, clerk, CpuId(cpu as u8), cpus, specs);
-        seats.push(seat)?;
+        push(seats, seat)?;
     }
     Ok(())
 }

@@ -21,3 +21,4 @@ pub mod SameLanes
 pub mod DeliveryMoves
 pub mod Passing
 pub mod Posting
+pub mod Listing

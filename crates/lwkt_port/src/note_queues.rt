@@ -3,8 +3,10 @@ ghost use Rattle.std.specs.Prelude.{◌≡◌, ◌≤◌, [], length, drop, slic
 ghost use Rattle.lwkt_port.specs.Queues.{IsPut};
 
 use circular_buffer::HeapCircularBuffer;
+use lwkt_base::OutOfMemory;
+use lwkt_base::memory::queue;
 use lwkt_lane::Note;
-use std::alloc::{AllocError, Global};
+use std::alloc::Global;
 use std::marker::Model;
 
 /// The most notes in each of the two queues of a port.
@@ -29,10 +31,10 @@ impl Model for NoteQueue {
 
 impl NoteQueue {
     /// A queue without notes.
-    pub(crate) fn new(alloc: Global) -> Result<NoteQueue, AllocError>
+    pub(crate) fn new(alloc: Global) -> Result<NoteQueue, OutOfMemory>
         ensures { IfOk result (λ q. q ≡ []) }
     {
-        let ring = HeapCircularBuffer::with_capacity(alloc, QUEUE_LIMIT)?;
+        let ring = queue(alloc, QUEUE_LIMIT)?;
         Ok(NoteQueue { ring })
     }
 

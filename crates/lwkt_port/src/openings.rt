@@ -11,10 +11,11 @@ use crate::mails::Mail;
 use crate::offices::Office;
 use crate::posts::Ports;
 use crate::queues::{Port, empty_port};
-use lwkt_base::{CpuId, Fault, ThreadId};
+use lwkt_base::memory::{collect, push, with_capacity, with_capacity_for};
+use lwkt_base::{CpuId, Fault, OutOfMemory, ThreadId};
 use lwkt_lane::{LaneIn, LaneOut};
 use lwkt_msg::MsgSeat;
-use std::alloc::{AllocError, Global};
+use std::alloc::Global;
 
 /// How many ports there are, of which threads have the first ones.
 pub const PORTS: usize = 16;
@@ -36,23 +37,24 @@ fn mail_of(origin: ThreadId, cpu: CpuId) -> Mail
 }
 
 // What is kept of each message at the opening.
-fn open_mails(alloc: Global, origins: &[ThreadId], cpu: CpuId) -> Result<Vec<Mail>, AllocError>
+fn open_mails(alloc: Global, origins: &[ThreadId], cpu: CpuId) -> Result<Vec<Mail>, OutOfMemory>
     ensures { IfOk result (λ v. v.items ≡ map (new_mail cpu) origins.now) }
 {
-    origins
-        .iter()
-        .map(|origin| mail_of(*origin, cpu))
-        .collect(alloc)
+    let mut mails = with_capacity_for(alloc, origins)?;
+    for origin in origins {
+        push(&mut mails, mail_of(*origin, cpu))?;
+    }
+    Ok(mails)
 }
 
 // Ports without notes, the first ones open for so many threads.
-fn new_ports(alloc: Global, threads: usize) -> Result<Vec<Port>, AllocError>
+fn new_ports(alloc: Global, threads: usize) -> Result<Vec<Port>, OutOfMemory>
     ensures { IfOk result (λ v. AreNewPorts threads v.items) }
 {
-    let mut ports = Vec::with_capacity(alloc, PORTS)?;
+    let mut ports = with_capacity(alloc, PORTS)?;
     for number in 0..PORTS {
         let port = empty_port(alloc, threads <= number)?;
-        ports.push(port)?;
+        push(&mut ports, port)?;
     }
     Ok(ports)
 }
@@ -69,13 +71,12 @@ fn line_of(out: LaneOut, into: LaneIn) -> Lane
 }
 
 // The two lanes that join the processor with each one.
-fn pair(alloc: Global, outs: Vec<LaneOut>, ins: Vec<LaneIn>) -> Result<Vec<Lane>, AllocError>
+fn pair(alloc: Global, outs: Vec<LaneOut>, ins: Vec<LaneIn>) -> Result<Vec<Lane>, OutOfMemory>
     ensures { IfOk result (λ v. ArePaired outs.items ins.items v.items) }
 {
-    outs.into_iter()
-        .zip(ins)
-        .map(|(out, into)| line_of(out, into))
-        .collect(alloc)
+    let ends = outs.into_iter().zip(ins);
+    let lanes = collect(alloc, ends.map(|(out, into)| line_of(out, into)))?;
+    Ok(lanes)
 }
 
 // Whether the limits are kept.
@@ -126,18 +127,9 @@ impl Ports {
     {
         let own = seat.cpu();
         let within = are_within(&seat, &outs, &ins, origins, threads);
-        let lanes = match pair(alloc, outs, ins) {
-            Ok(lanes) => lanes,
-            Err(refused) => return Err(Fault::Memory(refused)),
-        };
-        let ports = match new_ports(alloc, threads) {
-            Ok(ports) => ports,
-            Err(refused) => return Err(Fault::Memory(refused)),
-        };
-        let mails = match open_mails(alloc, origins, own) {
-            Ok(mails) => mails,
-            Err(refused) => return Err(Fault::Memory(refused)),
-        };
+        let lanes = pair(alloc, outs, ins)?;
+        let ports = new_ports(alloc, threads)?;
+        let mails = open_mails(alloc, origins, own)?;
         if !within {
             return Err(Fault::Limits);
         }

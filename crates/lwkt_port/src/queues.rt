@@ -4,8 +4,9 @@ ghost use Rattle.lwkt_lane.specs.declared.notes.Note.{Note};
 ghost use Rattle.lwkt_port.specs.Queues.{queue_of, IsQueued, HasLeft};
 
 use crate::note_queues::NoteQueue;
+use lwkt_base::OutOfMemory;
 use lwkt_lane::Note;
-use std::alloc::{AllocError, Global};
+use std::alloc::Global;
 
 /// One thread's port.
 #[derive(Drop)]
@@ -19,7 +20,7 @@ pub struct Port {
 }
 
 /// A port without notes.
-pub(crate) fn empty_port(alloc: Global, closed: bool) -> Result<Port, AllocError>
+pub(crate) fn empty_port(alloc: Global, closed: bool) -> Result<Port, OutOfMemory>
     ensures { IfOk result (λ port. (queue_of port ≡ []) × (port.closed ≡ closed)) }
 {
     let urgent = NoteQueue::new(alloc)?;

@@ -1,5 +1,5 @@
 -- Processors give back what they have, one after another.
-use Rattle.std.proofs.Common.{◌≡◌, ◌∙◌, suc, ◌<◌, List, [], ◌∷◌, ◌++◌, length, get_or, map, ap, sym, subst, arith, append_assoc}
+use Rattle.std.proofs.Common.{◌≡◌, ◌∙◌, ℕ, ◌+◌, suc, ◌<◌, List, [], ◌∷◌, ◌++◌, length, get_or, map, ap, sym, subst, arith, append_assoc}
 use Rattle.std.specs.Prelude.{All, Vec, slice_get}
 use Rattle.std.specs.List.{remove}
 use Rattle.std.specs.declared.alloc.Global.{Global}
@@ -13,7 +13,7 @@ use Rattle.lwkt_msg.specs.Desks.{Desk, Shelf}
 use Rattle.lwkt_cpu.specs.Processors.{AllOver}
 use Rattle.lwkt_drive.specs.declared.driven.Driven.{Driven}
 use Rattle.lwkt_drive.specs.Course.{IsAtTables}
-use Rattle.lwkt_program.specs.Ended.{AreOver, AreRetired}
+use Rattle.lwkt_program.specs.Ended.{AreOver, AreRetired, HasRoom}
 use Rattle.lwkt_program.specs.Machines.{AreKept, Lasts}
 use Rattle.lwkt_program.specs.declared.closings.Gathered.{Gathered}
 use Rattle.lwkt_lane.proofs.PlaceMoves.{get_removed}
@@ -39,6 +39,20 @@ retiring_more all rest left r s x some is are so_far more = record {
   retired = more;
   over = λ k p at. so_far.over (suc k) p (sym (get_removed rest k) ∙ ap (λ xs. slice_get xs k) (sym are) ∙ at);
 }
+
+-- no processor has given back anything yet
+pub retired_none : {B : Type 0} (all : Gathered B) → all.seats.items ≡ [] → all.mails.items ≡ [] → all.bodies.items ≡ [] → all.traces.items ≡ [] → AreRetired [] all
+retired_none {B} all seats mails bodies traces = record {
+  seats = seats;
+  empty = subst (All (λ s. holding s ≡ holds_nothing)) (sym seats) (All-nil (λ s. holding s ≡ holds_nothing));
+  mails = mails;
+  bodies = ap (λ xs. map (λ (v : Vec B Global). v.items) xs) bodies;
+  traces = traces;
+}
+
+-- room for one more than some is room for one
+pub room_first : {B : Type 0} (count : ℕ) (all : Gathered B) → HasRoom (count + 1) all → HasRoom 1 all
+room_first count all room = record { seats = omega (arith, room.seats); mails = omega (arith, room.mails); bodies = omega (arith, room.bodies); traces = omega (arith, room.traces) }
 
 -- one processor more gives back what it has
 pub retired_more : {B : Type 0} (done : List (Driven B)) (d : Driven B) (old new : Gathered B) (seat : CpuSeat) (mail : Desk) (bodies : Vec B Global) → seat ≡ d.cpu.seat → holding seat ≡ holds_nothing → mail ≡ d.cpu.post.seat → bodies.items ≡ d.cpu.bodies → new.seats.items ≡ old.seats.items ++ seat ∷ [] → new.mails.items ≡ old.mails.items ++ mail ∷ [] → new.bodies.items ≡ old.bodies.items ++ bodies ∷ [] → new.traces.items ≡ old.traces.items ++ d.trace ∷ [] → AreRetired done old → AreRetired (done ++ d ∷ []) new

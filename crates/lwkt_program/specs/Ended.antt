@@ -1,13 +1,16 @@
 -- The stop and the close of a machine (own).
-use Rattle.std.specs.Prelude.{◌≡◌, ℕ, ◌<◌, ◌≤◌, List, length, map, All, Vec, Some, slice_get}
+use Rattle.std.specs.Prelude.{◌≡◌, ℕ, ◌+◌, ◌<◌, ◌≤◌, List, [], length, map, All, Vec, Some, slice_get, vec_len, vec_capacity}
 use Rattle.std.specs.declared.alloc.Global.{Global}
 use Rattle.lwkt_base.specs.Holding.{holds_nothing}
+use Rattle.lwkt_bank.specs.Closing.{IsRoomFor as IsBankRoom}
 use Rattle.lwkt_bank.specs.Gathered.{IsClosed}
-use Rattle.lwkt_bank.specs.Seats.{holding}
-use Rattle.lwkt_msg.specs.Desks.{AreClosed}
+use Rattle.lwkt_bank.specs.Seats.{BankId, holding}
+use Rattle.lwkt_core.specs.declared.events.Event.{Event}
+use Rattle.lwkt_msg.specs.Desks.{Shelf, AreClosed, IsBookRoom}
 use Rattle.lwkt_cpu.specs.Processors.{AllOver}
 use Rattle.lwkt_drive.specs.declared.driven.Driven.{Driven}
 use Rattle.lwkt_drive.specs.Appending.{AppendsStop}
+use Rattle.lwkt_program.specs.declared.closings.CloseRoom.{CloseRoom}
 use Rattle.lwkt_program.specs.declared.closings.Closed.{Closed}
 use Rattle.lwkt_program.specs.declared.closings.Gathered.{Gathered}
 use Rattle.lwkt_program.specs.Machines.{Rig}
@@ -36,6 +39,22 @@ pub record AreStoppedShort {B : Type 0} (olds news : List (Driven B)) : Type 0 w
   pub stopped : HaveStopped count olds mids
   pub stays : DoesAt StaysPut count mids news
 
+-- an empty list with room for the events of a stop
+abbrev pub IsStopRoom : Vec Event Global → Type 0
+IsStopRoom stop = (stop.items ≡ []) × (vec_len stop + 512 ≤ vec_capacity stop)
+
+-- a processor stops, and these events are what its seats at bank and book did; its trace and what was told of its driving stay
+pub record EndsWith {B : Type 0} (old new : Driven B) (stop : Vec Event Global) : Type 0 where
+  pub stops : AppendsStop old.cpu new.cpu [] stop.items
+  pub rest : new ≡ record old { cpu = new.cpu }
+
+-- the processors below this number have stopped so, each once and with its events, and the others are as before
+pub record HaveEnded {B : Type 0} (count : ℕ) (olds news : List (Driven B)) (stops : List (Vec Event Global)) : Type 0 where
+  pub as_many : length news ≡ length olds
+  pub stops_are : length stops ≡ length olds
+  pub below : (k : ℕ) (p q : Driven B) (stop : Vec Event Global) → k < count → slice_get olds k ≡ Some p → slice_get news k ≡ Some q → slice_get stops k ≡ Some stop → EndsWith p q stop
+  pub above : (k : ℕ) → count ≤ k → slice_get news k ≡ slice_get olds k
+
 -- every thread of every processor has ended
 abbrev pub AreOver : {B : Type 0} → List (Driven B) → Type 0
 AreOver {B} cpus = (k : ℕ) (d : Driven B) → slice_get cpus k ≡ Some d → AllOver d.cpu.threads
@@ -48,11 +67,27 @@ pub record AreRetired {B : Type 0} (done : List (Driven B)) (all : Gathered B) :
   pub bodies : map (λ (v : Vec B Global). v.items) all.bodies.items ≡ map (λ (d : Driven B). d.cpu.bodies) done
   pub traces : all.traces.items ≡ map (λ (d : Driven B). d.trace) done
 
--- a machine closes: each processor stops; the closing values are those of bank and book, after they took back the seats of these
--- processors; the bodies and the traces are theirs, in order
+-- there is room for what so many processors more give back
+pub record HasRoom {B : Type 0} (count : ℕ) (all : Gathered B) : Type 0 where
+  pub seats : vec_len all.seats + count ≤ vec_capacity all.seats
+  pub mails : vec_len all.mails + count ≤ vec_capacity all.mails
+  pub bodies : vec_len all.bodies + count ≤ vec_capacity all.bodies
+  pub traces : vec_len all.traces + count ≤ vec_capacity all.traces
+
+-- room for the close of a machine of so many processors, at this bank and this book
+pub record IsRoomFor {B : Type 0} (bank : BankId) (book : Shelf) (cpus : ℕ) (room : CloseRoom B) : Type 0 where
+  pub none : AreRetired {B = B} [] room.gathered
+  pub gathered : HasRoom cpus room.gathered
+  pub stops_are : length room.stops.items ≡ cpus
+  pub stops : All IsStopRoom room.stops.items
+  pub tokens : IsBankRoom bank cpus room.tokens
+  pub messages : IsBookRoom book room.messages
+
+-- a machine closes: each processor stops, with its events; the closing values are those of bank and book, after they took back the seats
+-- of these processors; the bodies and the traces are theirs, in order
 pub record IsClosedMachine {B : Type 0} (m : Rig B) (closed : Closed B) : Type 0 where
   pub last : List (Driven B)
-  pub stopped : AreStopped m.cpus last
+  pub ended : HaveEnded (length m.cpus) m.cpus last closed.stops.items
   pub tokens : IsClosed m.bank (length m.cpus) (map (λ (d : Driven B). d.cpu.seat) last) closed.tokens
   pub messages : AreClosed m.book (map (λ (d : Driven B). d.cpu.post.seat) last) closed.messages.items
   pub bodies : map (λ (v : Vec B Global). v.items) closed.bodies.items ≡ map (λ (d : Driven B). d.cpu.bodies) last

@@ -15,7 +15,7 @@ mod seatings;
 pub mod steps;
 mod stops;
 
-pub use closings::Closed;
+pub use closings::{CloseRoom, Closed};
 pub use lasting::Lasting;
 pub use lwkt_cpu::{Body, Turned};
 pub use lwkt_drive::{Ending, Limits};

@@ -1,15 +1,14 @@
 //! A machine, and the turns of its processors.
-ghost use Rattle.std.specs.Prelude.{◌≡◌, ◌<◌, All, Err, IfErr, IfOk, OnErr, length, option_map, slice_get, true};
+ghost use Rattle.std.specs.Prelude.{◌≡◌, ◌<◌, All, IfErr, IfOk, OnErr, length, option_map, slice_get, true};
 ghost use Rattle.std.specs.List.{AllZip};
 ghost use Rattle.lwkt_bank.specs.Seats.{id_of};
 ghost use Rattle.lwkt_drive.specs.Course.{IsAtTables, IsDriven};
 ghost use Rattle.lwkt_program.specs.Machines.{Lasts};
 ghost use Rattle.lwkt_program.specs.Turns.{DoesAt, Makes, StaysPut, TurnsAt};
-ghost use Rattle.lwkt_base.specs.Fault.{no_memory};
 
 use crate::lasting::Lasting;
 use lwkt_bank::Bank;
-use lwkt_base::{CpuId, Fault};
+use lwkt_base::{CpuId, Fault, OutOfMemory};
 use lwkt_cpu::Turned;
 use lwkt_drive::{Driven, Ending, Limits, OpenGate, drive_all};
 use lwkt_msg::MsgBook;
@@ -47,16 +46,15 @@ fn turn_one<B: Lasting>(
     bank: &Bank,
     book: &MsgBook,
     driven: &mut Driven<B>,
-) -> Result<Turned, Fault>
+) -> Result<Turned, OutOfMemory>
     requires at { IsAtTables (id_of bank.now) book.now.table driven.old }
     requires kept { Lasts B.kept driven.old }
     ensures ok { IfOk result (λ turned. Makes B.polled (id_of bank.now) turned driven.old driven.new) }
     ensures err { OnErr result (StaysPut driven.old driven.new) }
-    ensures only { OnErr result (result ≡ Err no_memory) }
     ensures at { IsAtTables (id_of bank.now) book.now.table driven.new }
     ensures kept { Lasts B.kept driven.new }
 {
-    driven.turn(bank, book).map_err(Fault::Memory)
+    driven.turn(bank, book)
 }
 
 /// A turn of the processor of this number.
@@ -65,13 +63,12 @@ pub(crate) fn turn_at<B: Lasting>(
     book: &MsgBook,
     cpus: &mut [Driven<B>],
     number: usize,
-) -> Result<Turned, Fault>
+) -> Result<Turned, OutOfMemory>
     requires there { number < length cpus.old }
     requires at { All (IsAtTables (id_of bank.now) book.now.table) cpus.old }
     requires kept { All (Lasts B.kept) cpus.old }
     ensures ok { IfOk result (λ turned. TurnsAt B.polled (id_of bank.now) number cpus.old cpus.new turned) }
     ensures err { OnErr result (DoesAt StaysPut number cpus.old cpus.new) }
-    ensures only { OnErr result (result ≡ Err no_memory) }
     ensures at { All (IsAtTables (id_of bank.now) book.now.table) cpus.new }
     ensures kept { All (Lasts B.kept) cpus.new }
     ensures as_many { length cpus.new ≡ length cpus.old }
@@ -91,12 +88,13 @@ impl<B: Lasting> Machine<B> {
         ensures refused { IfErr result (λ fault. DeclinesTurn cpu.0 self.old.cpus self.new.cpus fault) }
         ensures bank { self.new.bank ≡ self.old.bank }
         ensures book { self.new.book ≡ self.old.book }
+        ensures as_many { length self.new.cpus ≡ length self.old.cpus }
     {
         let number = cpu.0 as usize;
         if number >= self.cpus.len() {
             return Err(Fault::Limits);
         }
-        turn_at(&self.bank, &self.book, &mut self.cpus, number)
+        Ok(turn_at(&self.bank, &self.book, &mut self.cpus, number)?)
     }
 
     /// Drives the processors, each on a thread of its own if one can be made. Each makes turns until every thread has ended, no
@@ -108,6 +106,7 @@ impl<B: Lasting> Machine<B> {
         ensures driven { AllZip (λ old new. IsDriven B.polled (λ cpu turn answer. answer ≡ true) self.old.bank limits.now old new new.ending) self.old.cpus self.new.cpus }
         ensures bank { self.new.bank ≡ self.old.bank }
         ensures book { self.new.book ≡ self.old.book }
+        ensures as_many { length self.new.cpus ≡ length self.old.cpus }
     {
         drive_all(
             rt,

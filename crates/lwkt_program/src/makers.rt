@@ -2,15 +2,15 @@
 ghost use Rattle.std.specs.Prelude.{◌≡◌, ◌⊎◌, ◌<◌, ◌≤◌, ◌∷◌, [], length, Err, IfOk, OnErr, OnOk, None, Some};
 ghost use Rattle.lwkt_base.specs.Fault.{no_memory};
 
-use lwkt_base::{Blob, Cells, CpuId, Fault, Law, MsgSpec, ThreadId, TokSpec};
+use lwkt_base::memory::{from_array, from_slice};
+use lwkt_base::{Blob, Cells, CpuId, Fault, Law, MsgSpec, OutOfMemory, ThreadId, TokSpec};
 use std::alloc::Global;
 
 // A token with these cells under this law.
-fn token(alloc: Global, cells: &[u64], law: Law, param: u64) -> Result<TokSpec, Fault>
-    ensures ok { IfOk result (λ spec. spec ≡ record { cells = cells.now; law = law; param = param; generation = 0; blob = None }) }
-    ensures only { OnErr result (result ≡ Err no_memory) }
+fn token(alloc: Global, cells: &[u64], law: Law, param: u64) -> Result<TokSpec, OutOfMemory>
+    ensures { IfOk result (λ spec. spec ≡ record { cells = cells.now; law = law; param = param; generation = 0; blob = None }) }
 {
-    let row = Vec::from_slice(alloc, cells).map_err(Fault::Memory)?;
+    let row = from_slice(alloc, cells)?;
     Ok(TokSpec {
         cells: Cells::from_vec(row),
         law,
@@ -23,50 +23,45 @@ fn token(alloc: Global, cells: &[u64], law: Law, param: u64) -> Result<TokSpec, 
 /// A token under the law Any, of whose cells nothing is asked. As of all these tokens, its generation is 0, and a machine opens
 /// with it only if it has at most 4 cells.
 ///
-/// Refused with `Memory` if memory is refused.
-pub fn any(alloc: Global, cells: &[u64]) -> Result<TokSpec, Fault>
-    ensures ok { IfOk result (λ spec. spec ≡ record { cells = cells.now; law = Law.Any; param = 0; generation = 0; blob = None }) }
-    ensures only { OnErr result (result ≡ Err no_memory) }
+/// Refused if memory is.
+pub fn any(alloc: Global, cells: &[u64]) -> Result<TokSpec, OutOfMemory>
+    ensures { IfOk result (λ spec. spec ≡ record { cells = cells.now; law = Law.Any; param = 0; generation = 0; blob = None }) }
 {
     token(alloc, cells, Law::Any, 0)
 }
 
 /// A token under the law Sum: its cells add up to `total`, without wrapping, at the opening and at the end of each section.
 ///
-/// Refused with `Memory` if memory is refused.
-pub fn sum(alloc: Global, cells: &[u64], total: u64) -> Result<TokSpec, Fault>
-    ensures ok { IfOk result (λ spec. spec ≡ record { cells = cells.now; law = Law.Sum; param = total; generation = 0; blob = None }) }
-    ensures only { OnErr result (result ≡ Err no_memory) }
+/// Refused if memory is.
+pub fn sum(alloc: Global, cells: &[u64], total: u64) -> Result<TokSpec, OutOfMemory>
+    ensures { IfOk result (λ spec. spec ≡ record { cells = cells.now; law = Law.Sum; param = total; generation = 0; blob = None }) }
 {
     token(alloc, cells, Law::Sum, total)
 }
 
 /// A token under the law Order: no cell is less than the one before it, at the opening and at the end of each section.
 ///
-/// Refused with `Memory` if memory is refused.
-pub fn order(alloc: Global, cells: &[u64]) -> Result<TokSpec, Fault>
-    ensures ok { IfOk result (λ spec. spec ≡ record { cells = cells.now; law = Law.Order; param = 0; generation = 0; blob = None }) }
-    ensures only { OnErr result (result ≡ Err no_memory) }
+/// Refused if memory is.
+pub fn order(alloc: Global, cells: &[u64]) -> Result<TokSpec, OutOfMemory>
+    ensures { IfOk result (λ spec. spec ≡ record { cells = cells.now; law = Law.Order; param = 0; generation = 0; blob = None }) }
 {
     token(alloc, cells, Law::Order, 0)
 }
 
 /// A token under the law Cap: each cell is at most `most`, at the opening and at the end of each section.
 ///
-/// Refused with `Memory` if memory is refused.
-pub fn cap(alloc: Global, cells: &[u64], most: u64) -> Result<TokSpec, Fault>
-    ensures ok { IfOk result (λ spec. spec ≡ record { cells = cells.now; law = Law.Cap; param = most; generation = 0; blob = None }) }
-    ensures only { OnErr result (result ≡ Err no_memory) }
+/// Refused if memory is.
+pub fn cap(alloc: Global, cells: &[u64], most: u64) -> Result<TokSpec, OutOfMemory>
+    ensures { IfOk result (λ spec. spec ≡ record { cells = cells.now; law = Law.Cap; param = most; generation = 0; blob = None }) }
 {
     token(alloc, cells, Law::Cap, most)
 }
 
 /// A token under the law Tally: its one cell is at each moment `first` and all that processors have added.
 ///
-/// Refused with `Memory` if memory is refused.
-pub fn tally(alloc: Global, first: u64) -> Result<TokSpec, Fault>
-    ensures ok { IfOk result (λ spec. spec ≡ record { cells = first ∷ []; law = Law.Tally; param = first; generation = 0; blob = None }) }
-    ensures only { OnErr result (result ≡ Err no_memory) }
+/// Refused if memory is.
+pub fn tally(alloc: Global, first: u64) -> Result<TokSpec, OutOfMemory>
+    ensures { IfOk result (λ spec. spec ≡ record { cells = first ∷ []; law = Law.Tally; param = first; generation = 0; blob = None }) }
 {
     token(alloc, &[first], Law::Tally, first)
 }
@@ -130,14 +125,9 @@ pub fn message(origin: ThreadId) -> MsgSpec
 
 /// A list of these, in order.
 ///
-/// Refused with `Memory` if memory is refused; what was handed over is dropped then.
-pub fn list<T: Drop, const N: usize>(alloc: Global, items: [T; N]) -> Result<Vec<T>, Fault>
-    ensures ok { IfOk result (λ list. list.items ≡ items) }
-    ensures only { OnErr result (result ≡ Err no_memory) }
+/// Refused if memory is; what was handed over is dropped then.
+pub fn list<T: Drop, const N: usize>(alloc: Global, items: [T; N]) -> Result<Vec<T>, OutOfMemory>
+    ensures { IfOk result (λ list. list.items ≡ items) }
 {
-    let list = match Vec::from_array(alloc, items) {
-        Ok(list) => list,
-        Err(refused) => return Err(Fault::Memory(refused.into())),
-    };
-    Ok(list)
+    from_array(alloc, items)
 }

@@ -1,5 +1,5 @@
 //! The opening of a machine.
-ghost use Rattle.std.specs.Prelude.{◌≡◌, ◌≤◌, ◌↔◌, All, Err, IfErr, IfOk, IsTrue, OnErr, OnOk, length};
+ghost use Rattle.std.specs.Prelude.{◌≡◌, ◌≤◌, ◌↔◌, All, IfErr, IfOk, IsTrue, OnOk, length};
 ghost use Rattle.lwkt_bank.specs.Gathered.{IsOpened};
 ghost use Rattle.lwkt_core.specs.Opening.{AreWithin, AllOpenLawfully};
 ghost use Rattle.lwkt_msg.specs.Desks.{AreOpened};
@@ -9,7 +9,7 @@ ghost use Rattle.lwkt_program.specs.Opened.{Declines, IsOpenedMachine, IsWithin}
 use crate::lasting::Lasting;
 use crate::machines::Machine;
 use crate::seatings::seat_all;
-use lwkt_base::{Fault, MsgSpec, TokSpec};
+use lwkt_base::{Fault, MsgSpec, OutOfMemory, TokSpec};
 use lwkt_cpu::cpus::THREAD_LIMIT;
 use lwkt_lane::{Lanes, open_lanes};
 use lwkt_seating::{Rest, Tables, open_tables, origins_of};
@@ -23,8 +23,6 @@ fn are_few<B>(lists: &[Vec<B>]) -> bool
 }
 
 impl<B: Lasting + Drop> Machine<B> {
-    ghost use Rattle.lwkt_base.specs.Fault.{no_memory};
-
     // A machine at tables that were just opened.
     fn open_at(
         alloc: Global,
@@ -32,13 +30,12 @@ impl<B: Lasting + Drop> Machine<B> {
         messages: &[MsgSpec],
         tables: Tables,
         bodies: Vec<Vec<B>>,
-    ) -> Result<Self, Fault>
+    ) -> Result<Self, OutOfMemory>
         requires bank { IsOpened (length bodies.items) tokens.now tables.bank tables.seats.items }
         requires book { AreOpened (length bodies.items) messages.now tables.book tables.mails.items }
         requires few { All (λ v. length v.items ≤ 16) bodies.items }
         requires kept { AreKept B.kept bodies.items }
-        ensures ok { IfOk result (λ machine. IsOpenedMachine tokens.now messages.now bodies.items machine) }
-        ensures only { OnErr result (result ≡ Err no_memory) }
+        ensures { IfOk result (λ machine. IsOpenedMachine tokens.now messages.now bodies.items machine) }
     {
         let _ = tokens;
         let Tables {
@@ -48,7 +45,7 @@ impl<B: Lasting + Drop> Machine<B> {
             mails,
         } = tables;
         let Lanes { outs, ins } = open_lanes(alloc, bodies.len())?;
-        let origins = origins_of(alloc, messages).map_err(Fault::Memory)?;
+        let origins = origins_of(alloc, messages)?;
         let mut rest = Rest {
             seats,
             mails,
@@ -80,6 +77,6 @@ impl<B: Lasting + Drop> Machine<B> {
             return Err(Fault::Limits);
         }
         let tables = open_tables(alloc, tokens, messages, bodies.len())?;
-        Machine::open_at(alloc, tokens, messages, tables, bodies)
+        Ok(Machine::open_at(alloc, tokens, messages, tables, bodies)?)
     }
 }

@@ -1,16 +1,15 @@
 //! Rounds of turns.
-ghost use Rattle.std.specs.Prelude.{◌≡◌, ◌≢◌, ◌⊎◌, true, false, All, Err, IfOk, OnErr, OnOk, List, length};
+ghost use Rattle.std.specs.Prelude.{◌≡◌, ◌≢◌, ◌⊎◌, true, false, All, IfOk, OnErr, OnOk, List, length};
 ghost use Rattle.lwkt_bank.specs.Seats.{id_of};
 ghost use Rattle.lwkt_cpu.specs.declared.answers.Turned.{Turned as Told};
 ghost use Rattle.lwkt_drive.specs.Course.{IsAtTables};
 ghost use Rattle.lwkt_program.specs.Machines.{Lasts};
 ghost use Rattle.lwkt_program.specs.Turns.{IsOver, MakesRound, MakesRoundShort, Runs, RunsShort};
-ghost use Rattle.lwkt_base.specs.Fault.{no_memory};
 
 use crate::lasting::Lasting;
 use crate::machines::{Machine, turn_at};
 use lwkt_bank::Bank;
-use lwkt_base::Fault;
+use lwkt_base::OutOfMemory;
 use lwkt_cpu::Turned;
 use lwkt_drive::Driven;
 use lwkt_msg::MsgBook;
@@ -24,12 +23,15 @@ fn is_still_over(over: bool, turned: Turned) -> bool
 }
 
 // A turn of each processor, by rising number. Says whether every thread has ended.
-fn turn_all<B: Lasting>(bank: &Bank, book: &MsgBook, cpus: &mut [Driven<B>]) -> Result<bool, Fault>
+fn turn_all<B: Lasting>(
+    bank: &Bank,
+    book: &MsgBook,
+    cpus: &mut [Driven<B>],
+) -> Result<bool, OutOfMemory>
     requires at { All (IsAtTables (id_of bank.now) book.now.table) cpus.old }
     requires kept { All (Lasts B.kept) cpus.old }
     ensures ok { IfOk result (λ over. (turns : List Told) × (MakesRound B.polled (id_of bank.now) cpus.old cpus.new turns × (over ≡ true → IsOver turns) × (over ≡ false → ¬ IsOver turns))) }
     ensures err { OnErr result (MakesRoundShort B.polled (id_of bank.now) cpus.old cpus.new) }
-    ensures only { OnErr result (result ≡ Err no_memory) }
     ensures at { All (IsAtTables (id_of bank.now) book.now.table) cpus.new }
     ensures kept { All (Lasts B.kept) cpus.new }
     ensures as_many { length cpus.new ≡ length cpus.old }
@@ -48,12 +50,11 @@ fn run_all<B: Lasting>(
     book: &MsgBook,
     cpus: &mut [Driven<B>],
     rounds: u32,
-) -> Result<(), Fault>
+) -> Result<(), OutOfMemory>
     requires at { All (IsAtTables (id_of bank.now) book.now.table) cpus.old }
     requires kept { All (Lasts B.kept) cpus.old }
     ensures ok { OnOk result (Runs B.polled (id_of bank.now) rounds cpus.old cpus.new) }
     ensures err { OnErr result (RunsShort B.polled (id_of bank.now) rounds cpus.old cpus.new) }
-    ensures only { OnErr result (result ≡ Err no_memory) }
     ensures at { All (IsAtTables (id_of bank.now) book.now.table) cpus.new }
     ensures kept { All (Lasts B.kept) cpus.new }
     ensures as_many { length cpus.new ≡ length cpus.old }
@@ -67,18 +68,16 @@ fn run_all<B: Lasting>(
 }
 
 impl<B: Lasting> Machine<B> {
-    ghost use Rattle.lwkt_base.specs.Fault.{no_memory};
-
     /// Makes `rounds` rounds of one turn for each processor, by rising number, or fewer: up to the first in which each turn says that
     /// every thread of its processor has ended.
     ///
-    /// Refused with `Memory` if memory for 4096 events of a processor is refused; the turns before stand.
-    pub fn run(&mut self, rounds: u32) -> Result<(), Fault>
+    /// Refused if memory for 4096 events of a processor is; the turns before stand.
+    pub fn run(&mut self, rounds: u32) -> Result<(), OutOfMemory>
         ensures ok { OnOk result (Runs B.polled self.old.bank rounds self.old.cpus self.new.cpus) }
         ensures err { OnErr result (RunsShort B.polled self.old.bank rounds self.old.cpus self.new.cpus) }
-        ensures only { OnErr result (result ≡ Err no_memory) }
         ensures bank { self.new.bank ≡ self.old.bank }
         ensures book { self.new.book ≡ self.old.book }
+        ensures as_many { length self.new.cpus ≡ length self.old.cpus }
     {
         run_all(&self.bank, &self.book, &mut self.cpus, rounds)
     }

@@ -1,7 +1,6 @@
 //! Processors of these bodies, put at their seats.
-ghost use Rattle.std.specs.Prelude.{◌≡◌, ◌+◌, ◌<◌, ◌≤◌, [], ◌∷◌, ◌++◌, All, Err, IfOk, OnErr, OnOk, length, map};
+ghost use Rattle.std.specs.Prelude.{◌≡◌, ◌+◌, ◌<◌, ◌≤◌, All, IfOk, length, map};
 ghost use Rattle.lwkt_base.specs.declared.openings.MsgSpec.{MsgSpec};
-ghost use Rattle.lwkt_base.specs.Fault.{no_memory};
 ghost use Rattle.lwkt_bank.specs.Seats.{id_of};
 ghost use Rattle.lwkt_cpu.specs.Wiring.{HasLines, HaveLines};
 ghost use Rattle.lwkt_drive.specs.declared.driven.Driven.{Driven as Driver};
@@ -9,7 +8,8 @@ ghost use Rattle.lwkt_seating.specs.Seating.{AreLeft, IsRest};
 ghost use Rattle.lwkt_program.specs.Opened.{IsOpenedDriven, AreOpenedCpus};
 
 use lwkt_bank::Bank;
-use lwkt_base::{Fault, MsgSpec, ThreadId};
+use lwkt_base::memory::push;
+use lwkt_base::{MsgSpec, OutOfMemory, ThreadId};
 use lwkt_drive::Driven;
 use lwkt_msg::MsgBook;
 use lwkt_seating::Rest;
@@ -24,7 +24,7 @@ fn seat_next<B: Drop>(
     origins: &[ThreadId],
     bodies: Vec<B>,
     number: usize,
-) -> Result<Driven<B>, Fault>
+) -> Result<Driven<B>, OutOfMemory>
     requires some { 0 < length rest.old.seats.items }
     requires rest { IsRest (id_of bank.now) book.now number rest.old }
     requires origins { origins.now ≡ map (λ (spec : MsgSpec). spec.origin) book.now.specs }
@@ -32,24 +32,12 @@ fn seat_next<B: Drop>(
     ensures ok { IfOk result (λ d. IsOpenedDriven (id_of bank.now) book.now number bodies.items d) }
     ensures lines { IfOk result (λ d. HasLines rest.old.outs.items rest.old.ins.items 0 d.cpu) }
     ensures left { AreLeft 1 rest.old rest.new }
-    ensures only { OnErr result (result ≡ Err no_memory) }
     ensures rest { IsRest (id_of bank.now) book.now (number + 1) rest.new }
     ensures fewer { length rest.new.seats.items + 1 ≡ length rest.old.seats.items }
 {
     let id = rest.seats[0].cpu();
     let cpu = rest.next(alloc, bank, book, origins, bodies, number)?;
     Ok(Driven::new(alloc, id, cpu))
-}
-
-// Adds a processor behind the others.
-fn add_driven<B: Drop>(cpus: &mut Vec<Driven<B>>, driven: Driven<B>) -> Result<(), Fault>
-    ensures ok { OnOk result (cpus.new.items ≡ cpus.old.items ++ driven ∷ []) }
-    ensures only { OnErr result (result ≡ Err no_memory) }
-{
-    match cpus.push(driven) {
-        Ok(()) => Ok(()),
-        Err(refused) => Err(Fault::Memory(refused.into())),
-    }
 }
 
 /// All the processors, each with a thread for each body of its list.
@@ -60,7 +48,7 @@ pub(crate) fn seat_all<B: Drop>(
     rest: &mut Rest,
     origins: &[ThreadId],
     lists: Vec<Vec<B>>,
-) -> Result<Vec<Driven<B>>, Fault>
+) -> Result<Vec<Driven<B>>, OutOfMemory>
     requires rest { IsRest (id_of bank.now) book.now 0 rest.old }
     requires origins { origins.now ≡ map (λ (spec : MsgSpec). spec.origin) book.now.specs }
     requires lists { length lists.items ≡ length rest.old.seats.items }
@@ -68,14 +56,13 @@ pub(crate) fn seat_all<B: Drop>(
     ensures as_many { IfOk result (λ cpus. length cpus.items ≡ length lists.items) }
     ensures each { IfOk result (λ cpus. AreOpenedCpus (id_of bank.now) book.now lists.items cpus.items) }
     ensures lines { IfOk result (λ cpus. HaveLines rest.old.outs.items rest.old.ins.items (map (λ (d : Driver B). d.cpu) cpus.items)) }
-    ensures only { OnErr result (result ≡ Err no_memory) }
 {
     let mut left = lists;
     let mut cpus = Vec::new(alloc);
     for number in 0..left.len() {
         let bodies = left.remove(0);
         let driven = seat_next(alloc, bank, book, rest, origins, bodies, number)?;
-        add_driven(&mut cpus, driven)?;
+        push(&mut cpus, driven)?;
     }
     Ok(cpus)
 }

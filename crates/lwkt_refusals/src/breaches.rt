@@ -4,9 +4,9 @@ use crate::parts::Part;
 use crate::sentences::{place_in_sentence, sentence_at};
 use crate::words::Words;
 use lwkt_base::blobs::length_of;
-use lwkt_base::{Fault, Law, TokSpec};
+use lwkt_base::{Fault, Law, OutOfMemory, TokSpec};
 use lwkt_text::{Names, Reading, Refusal, read_text};
-use std::alloc::{AllocError, Global};
+use std::alloc::Global;
 
 /// Appends how cells break a law: `cells 9 5 do not add up to 10`.
 pub fn show_breach(out: &mut Page, law: Law, param: u64, cells: &[u64]) {
@@ -94,7 +94,7 @@ pub(crate) fn breach_in(
 }
 
 // What is said of the first token of a text whose opening breaks its law, if there is one.
-fn text_breach(alloc: Global, bytes: &[u8]) -> Result<Option<Words>, AllocError> {
+fn text_breach(alloc: Global, bytes: &[u8]) -> Result<Option<Words>, OutOfMemory> {
     match read_text(alloc, bytes) {
         Ok(Reading { script, names, .. }) => Ok(breach_in(
             alloc,
@@ -110,7 +110,7 @@ fn text_breach(alloc: Global, bytes: &[u8]) -> Result<Option<Words>, AllocError>
 /// Why the opening of a text is refused with this fault: the token whose opening breaks its law, and how; or the fault's own text.
 ///
 /// Refused if memory is.
-pub fn opening_said(alloc: Global, bytes: &[u8], fault: Fault) -> Result<String, AllocError> {
+pub fn opening_said(alloc: Global, bytes: &[u8], fault: Fault) -> Result<String, OutOfMemory> {
     let mut page = Page::new(alloc);
     let words = if fault == Fault::LawBroken {
         text_breach(alloc, bytes)?

@@ -2,8 +2,9 @@
 use crate::pages::Page;
 use crate::proposals::{NAME_LIMIT, nearer};
 use crate::sentences::{place_in_sentence, word_from};
+use lwkt_base::OutOfMemory;
 use lwkt_text::{Name, Names, What};
-use std::alloc::{AllocError, Global};
+use std::alloc::Global;
 
 // Among how many words of a sentence a cell is looked for.
 const WORD_LIMIT: usize = 64;
@@ -19,7 +20,7 @@ pub(crate) fn cell_with_token(
     names: &Names,
     what: What,
     word: &str,
-) -> Result<Option<String>, AllocError> {
+) -> Result<Option<String>, OutOfMemory> {
     let is_wanted = matches!(what, What::Token | What::Quantity);
     if !is_wanted || word.is_empty() || has_name(names.tokens.as_slice(), word) {
         return Ok(None);
@@ -55,7 +56,7 @@ pub(crate) fn near_cell<'n>(
     bytes: &[u8],
     at: usize,
     word: &str,
-) -> Result<Option<&'n str>, AllocError> {
+) -> Result<Option<&'n str>, OutOfMemory> {
     let before = token_before(bytes, at);
     let mut best = None;
     let tokens = names.tokens.as_slice().iter();

@@ -28,6 +28,7 @@ mod scripts;
 mod sentence_forms;
 mod sentences;
 mod spans;
+mod step_forms;
 mod trace_forms;
 mod traces;
 mod unread;

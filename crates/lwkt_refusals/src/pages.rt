@@ -5,17 +5,18 @@ ghost use Rattle.lwkt_base.specs.Fault.{fault_message};
 ghost use Rattle.lwkt_refusals.specs.Pages.{GrowsBy};
 ghost use Rattle.lwkt_report.specs.Escape.{escaped, letter_shown};
 
-use lwkt_base::Fault;
+use lwkt_base::memory::{push_char, push_number, push_str, put};
+use lwkt_base::{Fault, OutOfMemory};
 use lwkt_report::{push_escaped, push_shown};
-use std::alloc::{AllocError, Global};
+use std::alloc::Global;
 
 /// A text that is made piece by piece. Once memory is refused for a piece, the text is lost: it takes no more, and only
 /// `whole` says so.
 #[derive(Drop)]
 pub struct Page {
     text: String,
-    // What the allocator said where memory for a piece was refused.
-    lost: Option<AllocError>,
+    // That memory for a piece was refused, if it was.
+    lost: Option<OutOfMemory>,
 }
 
 impl Page {
@@ -35,7 +36,7 @@ impl Page {
         ensures { GrowsBy self.old self.new text.now }
     {
         if self.lost.is_none() {
-            match self.text.push_str(text) {
+            match push_str(&mut self.text, text) {
                 Ok(()) => {}
                 Err(refused) => self.lost = Some(refused),
             }
@@ -47,7 +48,7 @@ impl Page {
         ensures { letter < 128 → GrowsBy self.old self.new (letter ∷ []) }
     {
         if self.lost.is_none() {
-            match self.text.push(letter) {
+            match push_char(&mut self.text, letter) {
                 Ok(()) => {}
                 Err(refused) => self.lost = Some(refused),
             }
@@ -83,7 +84,7 @@ impl Page {
         ensures { GrowsBy self.old self.new (decimal number) }
     {
         if self.lost.is_none() {
-            match write!(self.text, "{number}") {
+            match push_number(&mut self.text, number) {
                 Ok(()) => {}
                 Err(refused) => self.lost = Some(refused),
             }
@@ -120,7 +121,7 @@ impl Page {
         ensures { GrowsBy self.old self.new (fault_message fault) }
     {
         if self.lost.is_none() {
-            match write!(self.text, "{fault}") {
+            match put(&mut self.text, fault) {
                 Ok(()) => {}
                 Err(refused) => self.lost = Some(refused),
             }
@@ -160,14 +161,14 @@ impl Page {
     }
 
     /// Notes that memory was refused for a piece.
-    pub fn lose(&mut self, refused: AllocError) {
+    pub fn lose(&mut self, refused: OutOfMemory) {
         self.lost = Some(refused);
     }
 
     /// The text.
     ///
     /// Refused where memory was refused for a piece of it.
-    pub fn whole(self) -> Result<String, AllocError>
+    pub fn whole(self) -> Result<String, OutOfMemory>
         ensures { IfOk result (λ text. (self.lost ≡ None) × (string_bytes text ≡ string_bytes self.text)) }
     {
         match self.lost {

@@ -1,9 +1,9 @@
 //! Names that are nearly those that were written.
-use lwkt_base::VERBS;
+use lwkt_base::memory::changes_between;
 use lwkt_base::steps::verb_named;
+use lwkt_base::{OutOfMemory, VERBS};
 use lwkt_text::{Name, Names, What};
-use std::alloc::{AllocError, Global};
-use strsim::levenshtein;
+use std::alloc::Global;
 
 /// The words that sentences begin with, but for those of steps.
 pub const KEYWORDS: [&str; 9] = [
@@ -38,11 +38,11 @@ pub fn nearer<'n>(
     text: &str,
     best: Option<Near<'n>>,
     name: &'n str,
-) -> Result<Option<Near<'n>>, AllocError> {
+) -> Result<Option<Near<'n>>, OutOfMemory> {
     if name.len() > NAME_LIMIT || text.len() > NAME_LIMIT {
         return Ok(best);
     }
-    let changes = levenshtein(alloc, text, name)?;
+    let changes = changes_between(alloc, text, name)?;
     let limit = match best {
         Some(near) => near.changes,
         None => 3,
@@ -58,7 +58,7 @@ fn nearest<'n>(
     alloc: Global,
     text: &str,
     names: &'n [Name],
-) -> Result<Option<&'n str>, AllocError> {
+) -> Result<Option<&'n str>, OutOfMemory> {
     let mut best = None;
     for name in names.iter().take(COUNT_LIMIT) {
         best = nearer(alloc, text, best, name.as_str())?;
@@ -71,7 +71,7 @@ fn nearest_step(
     alloc: Global,
     text: &str,
     so_far: Option<Near<'static>>,
-) -> Result<Option<Near<'static>>, AllocError> {
+) -> Result<Option<Near<'static>>, OutOfMemory> {
     let mut best = so_far;
     for verb in VERBS {
         best = nearer(alloc, text, best, verb.word())?;
@@ -80,7 +80,7 @@ fn nearest_step(
 }
 
 // The nearest of the words that sentences begin with.
-fn nearest_keyword(alloc: Global, text: &str) -> Result<Option<&'static str>, AllocError> {
+fn nearest_keyword(alloc: Global, text: &str) -> Result<Option<&'static str>, OutOfMemory> {
     let mut best = None;
     for word in KEYWORDS {
         best = nearer(alloc, text, best, word)?;
@@ -99,7 +99,7 @@ pub fn proposal<'n>(
     names: &'n Names,
     what: What,
     text: &str,
-) -> Result<Option<&'n str>, AllocError> {
+) -> Result<Option<&'n str>, OutOfMemory> {
     match what {
         What::Keyword => nearest_keyword(alloc, text),
         What::Token | What::Quantity => nearest(alloc, text, names.tokens.as_slice()),

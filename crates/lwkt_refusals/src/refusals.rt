@@ -7,12 +7,13 @@ use crate::scripts::{is_second, show_script_place};
 use crate::spans::{byte_at, past_space};
 use crate::traces::{show_line_place, show_trace_place};
 use crate::words::Words;
-use lwkt_base::{Fault, TokSpec};
+use lwkt_base::memory::{push, read_json, words_of};
+use lwkt_base::{Fault, OutOfMemory, TokSpec};
+use lwkt_script::Version;
 use lwkt_script::fields::has;
 use lwkt_script::tokens::token;
-use lwkt_script::{Version, refusal_of};
 use serde_json::Value;
-use std::alloc::{AllocError, Global};
+use std::alloc::Global;
 
 /// What a text that was refused had to be.
 #[derive(Clone, Copy, Debug, PartialEq, Eq)]
@@ -76,11 +77,8 @@ fn front_of(text: &str) -> &str {
 
 // Appends what the reader says of bytes that are no JSON text.
 fn show_error(alloc: Global, out: &mut Page, error: &serde_json::Error) {
-    if let Some(refused) = refusal_of(error) {
-        return out.lose(refused);
-    }
     out.add("it is no JSON text: ");
-    match error.to_string(alloc) {
+    match words_of(alloc, error) {
         Ok(text) => out.show(front_of(text.as_str())),
         Err(refused) => out.lose(refused),
     }
@@ -110,9 +108,10 @@ fn show_text(alloc: Global, out: &mut Words, document: Document, bytes: &[u8]) {
     if has_mark(bytes) {
         return out.add("the text begins with a byte order mark, which no script and no trace has");
     }
-    match Value::from_slice(alloc, bytes) {
-        Ok(_) => out.add("it is no JSON text"),
-        Err(error) => show_no_json(alloc, out, bytes, &error),
+    match read_json(alloc, bytes) {
+        Ok(Ok(_)) => out.add("it is no JSON text"),
+        Ok(Err(error)) => show_no_json(alloc, out, bytes, &error),
+        Err(refused) => out.page.lose(refused),
     }
 }
 
@@ -157,13 +156,13 @@ fn tokens_in(
     whole: Part<'_>,
     list: Part<'_>,
 ) -> Option<Vec<TokSpec>> {
-    let value = Value::from_str(alloc, list.written()).ok()?;
+    let value = read_json(alloc, list.written().as_bytes()).ok()?.ok()?;
     let version = version_in(document, whole);
     let mut tokens = Vec::new(alloc);
     for item in value.as_array()?.as_slice() {
         let version = version.unwrap_or(version_of(item));
         let spec = token(alloc, version, tokens.as_slice(), item).ok()?;
-        tokens.push(spec).ok()?;
+        push(&mut tokens, spec).ok()?;
     }
     Some(tokens)
 }
@@ -184,7 +183,7 @@ pub fn refusal(
     document: Document,
     bytes: &[u8],
     fault: Fault,
-) -> Result<String, AllocError> {
+) -> Result<String, OutOfMemory> {
     let mut out = Page::new(alloc);
     let words = match fault {
         Fault::Script { place } => Some(part_words(alloc, document, bytes, place)),
@@ -228,12 +227,15 @@ fn show_no_value(alloc: Global, out: &mut Words, number: usize, line: &[u8]) -> 
     if show_length(out, number, line.len()) {
         return true;
     }
-    let Err(error) = Value::from_slice(alloc, line) else {
-        return false;
-    };
-    out.place = error.column().saturating_sub(1);
-    show_index(out, number);
-    show_error(alloc, &mut out.page, &error);
+    match read_json(alloc, line) {
+        Ok(Ok(_)) => return false,
+        Ok(Err(error)) => {
+            out.place = error.column().saturating_sub(1);
+            show_index(out, number);
+            show_error(alloc, &mut out.page, &error);
+        }
+        Err(refused) => out.page.lose(refused),
+    }
     true
 }
 

@@ -8,8 +8,11 @@ use crate::places::{Place, place_from};
 use crate::proposals::NAME_LIMIT;
 use crate::sayings::put;
 use crate::sentences::{place_in_sentence, starts_of, word_from};
+use lwkt_base::memory::push;
+use lwkt_base::steps::verb_named;
+use lwkt_base::{Form, OutOfMemory};
 use lwkt_report::Sink;
-use std::alloc::{AllocError, Global};
+use std::alloc::Global;
 
 // The most tokens that a thread has at once.
 const LIST_LIMIT: usize = 32;
@@ -28,6 +31,29 @@ struct Held<'t> {
 // Whether a word is a name that is followed: no number, and not long.
 fn is_name(word: &[u8]) -> bool {
     word.len() <= NAME_LIMIT && matches!(word, [b'A'..=b'Z' | b'a'..=b'z' | b'_', ..])
+}
+
+// Whether a word is that of a step that isn't followed and may take tokens: one that goes with tokens alone.
+fn may_take(word: &[u8]) -> bool {
+    let verb = match str::from_utf8(word) {
+        Ok(text) => verb_named(text),
+        Err(_) => None,
+    };
+    match verb {
+        None => false,
+        Some(verb) => !matches!(
+            verb.form(),
+            Form::Alone
+                | Form::Cell
+                | Form::Value
+                | Form::More
+                | Form::Record
+                | Form::Message
+                | Form::Call
+                | Form::Sending
+                | Form::Answer
+        ),
+    }
 }
 
 impl<'t> Held<'t> {
@@ -49,13 +75,12 @@ impl<'t> Held<'t> {
     }
 
     // A token is taken, or is tried to be. One that is named by its number isn't followed.
-    fn take(&mut self, word: &'t [u8]) -> Result<(), AllocError> {
+    fn take(&mut self, word: &'t [u8]) -> Result<(), OutOfMemory> {
         if !is_name(word) || self.words.len() >= LIST_LIMIT {
             self.begin(false);
             return Ok(());
         }
-        self.words.push(word)?;
-        Ok(())
+        push(&mut self.words, word)
     }
 
     // A token is released; the one that has to be released before it, if there is one.
@@ -77,7 +102,7 @@ impl<'t> Held<'t> {
     }
 
     // What the sentence that begins with these two words does; the token that has to be released before the one that it releases.
-    fn follow(&mut self, first: &[u8], second: &'t [u8]) -> Result<Option<&'t [u8]>, AllocError> {
+    fn follow(&mut self, first: &[u8], second: &'t [u8]) -> Result<Option<&'t [u8]>, OutOfMemory> {
         match first {
             b"thread" => self.begin(true),
             _ if !self.is_known => {}
@@ -85,6 +110,8 @@ impl<'t> Held<'t> {
             b"rel" => return Ok(self.release(second)),
             b"swap" => self.swap(),
             b"exit" => self.begin(false),
+            b"rrec" => {}
+            _ if may_take(first) => self.begin(false),
             _ => {}
         }
         Ok(None)
@@ -126,7 +153,7 @@ fn expects_refusal(bytes: &[u8], start: usize) -> bool {
 }
 
 // What is said of the releases of a text.
-fn releases_said(alloc: Global, name: Option<&str>, bytes: &[u8]) -> Result<String, AllocError> {
+fn releases_said(alloc: Global, name: Option<&str>, bytes: &[u8]) -> Result<String, OutOfMemory> {
     let mut page = Page::new(alloc);
     let mut held = Held::new(alloc);
     let mut place = Place::FIRST;

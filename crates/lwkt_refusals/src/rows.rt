@@ -3,34 +3,40 @@ use crate::members;
 use crate::members::show_numbers;
 use crate::parts::Part;
 use crate::records::{is_record, show_no_record};
+use crate::step_forms::behind_step;
 use crate::words::Words;
-use lwkt_base::{Form, VERBS, Verb};
+use lwkt_base::{VERBS, Verb};
 
-const SMALL: Want = Want::UpTo(255);
+/// The number of a token, a cell, a message, a processor or a thread.
+pub(crate) const SMALL: Want = Want::UpTo(255);
 
-const CODE: Want = Want::UpTo(4_294_967_295);
+/// A number of 32 bits.
+pub(crate) const CODE: Want = Want::UpTo(4_294_967_295);
 
-const FLAGS: Want = Want::Flags;
+/// The flags of a send.
+pub(crate) const FLAGS: Want = Want::Flags;
 
-const WHOLE: Want = Want::UpTo(members::WHOLE);
+/// Any whole number.
+pub(crate) const WHOLE: Want = Want::UpTo(members::WHOLE);
 
 const ROW: Want = Want::Row;
 
-const RECORD: Want = Want::Record;
+/// A record.
+pub(crate) const RECORD: Want = Want::Record;
 
 // The most cells of a row.
 const CELL_LIMIT: usize = 4;
 
-// What may stand at a place of a list.
+/// What may stand at a place of a list.
 #[derive(Clone, Copy)]
-enum Want {
-    // A whole number from 0 to this one.
+pub(crate) enum Want {
+    /// A whole number from 0 to this one.
     UpTo(u64),
-    // The flags of a send: 0 to 3, or to 7 where there is one for priority.
+    /// The flags of a send: 0 to 3, or to 7 where there is one for priority.
     Flags,
-    // A list of at most four whole numbers.
+    /// A list of at most four whole numbers.
     Row,
-    // A text of two small hexadecimal digits for each byte of a record, of which there are at most 65.
+    /// A text of two small hexadecimal digits for each byte of a record, of which there are at most 65.
     Record,
 }
 
@@ -145,24 +151,9 @@ const ENDS: [Shape; 4] = [
     ("back", &[SMALL, SMALL, WHOLE]),
 ];
 
-// What may stand behind the word of a step of this form.
-fn step_wants(form: Form) -> &'static [Want] {
-    match form {
-        Form::Alone => &[],
-        Form::Token | Form::Message => &[SMALL],
-        Form::Cell => &[SMALL, SMALL],
-        Form::Value => &[SMALL, SMALL, WHOLE],
-        Form::More => &[SMALL, WHOLE],
-        Form::Record => &[SMALL, RECORD],
-        Form::Call => &[SMALL, SMALL, SMALL, CODE, WHOLE],
-        Form::Sending => &[SMALL, SMALL, SMALL, CODE, WHOLE, FLAGS],
-        Form::Answer => &[SMALL, CODE, WHOLE],
-    }
-}
-
 // The word of a kind of step, and what may stand behind it.
 fn step_shape(verb: Verb) -> Shape {
-    (verb.word(), step_wants(verb.form()))
+    (verb.word(), behind_step(verb.form()).0)
 }
 
 // Whether only steps of version 2 have this word.

@@ -7,9 +7,9 @@ use crate::pages::Page;
 use crate::refusals::{Document, refusal};
 use crate::trace_forms::is_in_lines;
 use crate::untraced::IN_LINES;
-use lwkt_base::Fault;
+use lwkt_base::{Fault, OutOfMemory};
 use lwkt_report::{Sink, write_whole};
-use std::alloc::{AllocError, Global};
+use std::alloc::Global;
 use std::io;
 
 const RUN_USAGE: &str = "\
@@ -137,7 +137,7 @@ impl Speaker {
     }
 
     // Why these bytes are refused with this fault, behind its number where the program has no other line.
-    fn words(self, alloc: Global, bytes: &[u8], fault: Fault) -> Result<String, AllocError> {
+    fn words(self, alloc: Global, bytes: &[u8], fault: Fault) -> Result<String, OutOfMemory> {
         let mut out = Page::new(alloc);
         if matches!(self, Speaker::Show | Speaker::Text | Speaker::Explore) {
             add_number(&mut out, fault);

@@ -1,6 +1,6 @@
 //! How sentences are written, in the letters of docs/LANGUAGE.md.
 
-use lwkt_base::Form;
+use crate::step_forms::behind_step;
 use lwkt_base::steps::verb_named;
 
 /// How a sentence is written: its first word, and what stands behind it.
@@ -22,26 +22,10 @@ fn part_form(word: &str) -> Option<SentenceForm> {
     }
 }
 
-// How is written what stands behind the word of a step of this form.
-fn behind_step(form: Form) -> &'static str {
-    match form {
-        Form::Alone => "",
-        Form::Token => " T",
-        Form::Cell => " T.C",
-        Form::Value => " T.C N",
-        Form::More => " T N",
-        Form::Record => " T BYTES",
-        Form::Message => " M",
-        Form::Call => " M -> TH [op N] [arg N]",
-        Form::Sending => " M -> TH [op N] [arg N] [dropable] [abortable] [priority]",
-        Form::Answer => " M [ERROR [RESULT]]",
-    }
-}
-
 // How a step is written, by its word.
 fn step_form(word: &str) -> Option<SentenceForm> {
     let verb = verb_named(word)?;
-    Some((verb.word(), behind_step(verb.form())))
+    Some((verb.word(), behind_step(verb.form()).1))
 }
 
 // How a claim is written that names no subject, by its first word.

@@ -1,6 +1,8 @@
 //! The words of a sentence, and the sentences of a text, by their places.
 use crate::places::{part_from, part_of};
-use std::alloc::{AllocError, Global};
+use lwkt_base::OutOfMemory;
+use lwkt_base::memory::push;
+use std::alloc::Global;
 
 // What a byte is to a word.
 #[derive(Clone, Copy, Debug, PartialEq, Eq)]
@@ -118,13 +120,13 @@ fn stage_behind(stage: Stage, byte: u8) -> Stage {
 /// Where the sentences of a text begin, in order.
 ///
 /// Refused if memory is.
-pub fn starts_of(alloc: Global, bytes: &[u8]) -> Result<Vec<usize>, AllocError> {
+pub fn starts_of(alloc: Global, bytes: &[u8]) -> Result<Vec<usize>, OutOfMemory> {
     let mut starts = Vec::new(alloc);
     let mut stage = Stage::Before;
     for (at, byte) in bytes.iter().enumerate() {
         let next = stage_behind(stage, *byte);
         if stage == Stage::Before && next == Stage::Inside {
-            starts.push(at)?;
+            push(&mut starts, at)?;
         }
         stage = next;
     }

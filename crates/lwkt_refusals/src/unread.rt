@@ -12,10 +12,10 @@ use crate::sayings::{Speaker, put};
 use crate::trace_forms::{is_in_lines, is_whole_trace};
 use crate::words::Words;
 use crate::wrongs::wrongs_told;
+use lwkt_base::memory::read_json;
 use lwkt_base::{Fault, VERBS};
 use lwkt_report::Sink;
 use lwkt_text::{Input, Unread, Wrong, is_named_text};
-use serde_json::Value;
 use std::alloc::Global;
 
 /// What is said where memory is refused.
@@ -94,7 +94,7 @@ fn add_json(alloc: Global, page: &mut Page, name: Option<&str>, bytes: &[u8], pl
 
 // Whether bytes that are read as a text, for the name of their file, are an object in JSON.
 fn is_object(alloc: Global, bytes: &[u8]) -> bool {
-    Part::whole(bytes).is_object() && Value::from_slice(alloc, bytes).is_ok()
+    Part::whole(bytes).is_object() && matches!(read_json(alloc, bytes), Ok(Ok(_)))
 }
 
 // Appends that a file with the name of a text holds JSON.

@@ -8,8 +8,10 @@ use crate::places::{Place, add_head, part_of, place_from};
 use crate::proposals::{NAME_LIMIT, is_keyword, proposal};
 use crate::sentence_forms::{claim_form, sentence_form};
 use crate::sentences::{place_in_sentence, sentence_at, word_from};
+use lwkt_base::OutOfMemory;
+use lwkt_base::memory::from_slice;
 use lwkt_text::{Many, Names, Wanted, What, Wrong, names_of};
-use std::alloc::{AllocError, Global};
+use std::alloc::Global;
 
 // Of how many places it is said what is wrong there.
 const FAULT_LIMIT: usize = 100;
@@ -109,7 +111,7 @@ fn add_limits(page: &mut Page, what: What) {
 }
 
 // The word that begins at a place; of one that is too long for a proposal its beginning, which is too long too.
-fn word_at(alloc: Global, bytes: &[u8], at: usize) -> Result<String, AllocError> {
+fn word_at(alloc: Global, bytes: &[u8], at: usize) -> Result<String, OutOfMemory> {
     let mut word = Page::new(alloc);
     add_shown(
         &mut word,
@@ -120,7 +122,7 @@ fn word_at(alloc: Global, bytes: &[u8], at: usize) -> Result<String, AllocError>
 
 // What is wrong at a place, with the range that holds there. A text that doesn't say how many processors it has gets as many as its
 // threads name, at most 8, so any of these may be named.
-fn wrong_there(alloc: Global, text: &Faulty<'_>, wrong: Wrong) -> Result<What, AllocError> {
+fn wrong_there(alloc: Global, text: &Faulty<'_>, wrong: Wrong) -> Result<What, OutOfMemory> {
     if text.says_cpus || !matches!(wrong.what, What::Number { low: 0, .. }) {
         return Ok(wrong.what);
     }
@@ -142,7 +144,7 @@ fn add_quoted(page: &mut Page, bytes: &[u8], at: usize) {
 }
 
 // How the sentence of a place is written, or the claim in it.
-fn add_form(alloc: Global, page: &mut Page, bytes: &[u8], at: usize) -> Result<(), AllocError> {
+fn add_form(alloc: Global, page: &mut Page, bytes: &[u8], at: usize) -> Result<(), OutOfMemory> {
     let first = word_at(alloc, bytes, place_in_sentence(bytes, at, 0))?;
     if let Some((word, behind)) = sentence_form(first.as_str()) {
         page.add(": the sentence is written `");
@@ -160,7 +162,7 @@ fn add_form(alloc: Global, page: &mut Page, bytes: &[u8], at: usize) -> Result<(
 }
 
 // The word that stands behind the end of a sentence, and how the sentence is written.
-fn add_further(alloc: Global, page: &mut Page, bytes: &[u8], at: usize) -> Result<(), AllocError> {
+fn add_further(alloc: Global, page: &mut Page, bytes: &[u8], at: usize) -> Result<(), OutOfMemory> {
     add_quoted(page, bytes, at);
     page.add(words_of(What::Further));
     add_form(alloc, page, bytes, at)?;
@@ -172,7 +174,7 @@ fn add_further(alloc: Global, page: &mut Page, bytes: &[u8], at: usize) -> Resul
 }
 
 // What there is too much of, by the sentence that begins at a place.
-fn add_crowd(alloc: Global, page: &mut Page, bytes: &[u8], at: usize) -> Result<(), AllocError> {
+fn add_crowd(alloc: Global, page: &mut Page, bytes: &[u8], at: usize) -> Result<(), OutOfMemory> {
     let first = word_at(alloc, bytes, at)?;
     page.add(words_of(What::Crowd));
     page.add(crowd_of(first.as_str()));
@@ -208,7 +210,7 @@ fn add_words(
     page: &mut Page,
     text: &Faulty<'_>,
     wrong: Wrong,
-) -> Result<(), AllocError> {
+) -> Result<(), OutOfMemory> {
     if wrong.what == What::Further {
         return add_further(alloc, page, text.bytes, wrong.at);
     }
@@ -254,7 +256,7 @@ fn near_name<'t>(
     text: &Faulty<'t>,
     wrong: Wrong,
     word: &str,
-) -> Result<Option<&'t str>, AllocError> {
+) -> Result<Option<&'t str>, OutOfMemory> {
     match wrong.what {
         What::Cell => near_cell(alloc, text.names, text.bytes, wrong.at, word),
         what => proposal(alloc, text.names, what, word),
@@ -268,7 +270,7 @@ fn add_wrong(
     text: &Faulty<'_>,
     wrong: Wrong,
     place: Place,
-) -> Result<(), AllocError> {
+) -> Result<(), OutOfMemory> {
     let word = word_at(alloc, text.bytes, wrong.at)?;
     let whole = cell_with_token(alloc, text.names, wrong.what, word.as_str())?;
     let near = match &whole {
@@ -303,7 +305,7 @@ fn said_as(
     path: Option<&str>,
     bytes: &[u8],
     mut wrongs: Vec<Wrong>,
-) -> Result<String, AllocError> {
+) -> Result<String, OutOfMemory> {
     let names = names_of(alloc, bytes)?;
     let text = Faulty {
         form,
@@ -333,7 +335,7 @@ pub fn wrongs_said(
     path: Option<&str>,
     bytes: &[u8],
     wrongs: Many<Wrong>,
-) -> Result<String, AllocError> {
+) -> Result<String, OutOfMemory> {
     said_as(alloc, Form::Line, path, bytes, wrongs.into_vec())
 }
 
@@ -343,7 +345,7 @@ pub(crate) fn wrongs_told(
     name: Option<&str>,
     bytes: &[u8],
     wrongs: &[Wrong],
-) -> Result<String, AllocError> {
-    let wrongs = Vec::from_slice(alloc, wrongs)?;
+) -> Result<String, OutOfMemory> {
+    let wrongs = from_slice(alloc, wrongs)?;
     said_as(alloc, Form::Message, name, bytes, wrongs)
 }

@@ -1,25 +1,35 @@
 //! The arguments of a program.
-use std::alloc::AllocError;
-use std::rt::Env;
-use std::{env, io};
+ghost use Rattle.std.specs.Prelude.{◌≡◌};
+ghost use Rattle.lwkt_report.specs.declared.arguments.WordsFault.TheVariants.{Memory};
 
-/// The arguments of the program without its own name.
-///
-/// Refused with `OutOfMemory` for want of memory, and with another kind of error for an argument that isn't UTF-8.
-pub fn words_of<R: Env + AllocGlobal>(rt: &R) -> io::Result<Vec<String>> {
-    let mut words = Vec::new(rt.alloc());
-    for word in env::args(rt)?.skip(1) {
-        words.push(word).map_err(AllocError::from)?;
-    }
-    Ok(words)
+use lwkt_base::OutOfMemory;
+use lwkt_base::memory::arguments_of;
+use std::rt::Env;
+use thiserror::Error;
+
+/// Why the arguments of a program can't be told.
+#[derive(Clone, Copy, Debug, PartialEq, Eq, Error)]
+pub enum WordsFault {
+    /// Memory for them was refused.
+    #[error("{0}")]
+    Memory(OutOfMemory),
+    /// One isn't UTF-8.
+    #[error("an argument isn't UTF-8")]
+    NotUtf8,
 }
 
-/// That the allocator refused memory, where that is why a call failed. The library tells it by a kind of its own errors, which lacks
-/// what the allocator said.
-pub fn refusal_of(error: &io::Error) -> Option<AllocError> {
-    if error.kind() == io::ErrorKind::OutOfMemory {
-        Some(AllocError)
-    } else {
-        None
+impl From<OutOfMemory> for WordsFault {
+    ghost from_gives = { λ refused fault. fault ≡ Memory refused };
+
+    fn from(refused: OutOfMemory) -> WordsFault {
+        WordsFault::Memory(refused)
+    }
+}
+
+/// The arguments of the program without its own name.
+pub fn words_of<R: Env + AllocGlobal>(rt: &R) -> Result<Vec<String>, WordsFault> {
+    match arguments_of(rt)? {
+        Ok(words) => Ok(words),
+        Err(_) => Err(WordsFault::NotUtf8),
     }
 }

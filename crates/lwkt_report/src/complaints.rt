@@ -1,13 +1,11 @@
-ghost use Rattle.std.specs.Prelude.{◌≡◌, ◌++◌, ◌≤◌, ◌∷◌, [], length, if◌then◌else◌, is_some, IsTrue};
+ghost use Rattle.std.specs.Prelude.{◌≡◌, ◌++◌, ◌≤◌, ◌∷◌, [], length, IsTrue};
 ghost use Rattle.lwkt_report.specs.Complaint.{program_name, usage_text, fault_line, complaint_of, IsSaid};
-ghost use Rattle.lwkt_base.specs.Fault.{no_memory};
 
 use crate::sinks::{Sink, write_whole};
 use crate::streams::RunFault;
 use arrayvec::ArrayString;
 use itoa::Buffer;
 use lwkt_base::Fault;
-use std::alloc::AllocError;
 
 /// A program, by the name that its lines begin with.
 #[derive(Clone, Copy, Debug, PartialEq, Eq)]
@@ -103,22 +101,5 @@ pub fn complaint_of(fault: RunFault) -> Complaint
     match fault {
         RunFault::Fault(fault) => Complaint::Fault(fault),
         RunFault::Stream => Complaint::Stream,
-    }
-}
-
-/// The line and the status where a program's arguments can't be told: 3 where the allocator refused memory for them, else 1.
-pub fn refuse_arguments<K: Sink>(sink: &mut K, program: Program, refused: Option<AllocError>) -> u8
-    ensures status { result ≡ (if is_some refused then 3 else 1) }
-    ensures said { IsSaid (K.has_failed sink.new) (K.contents sink.old) (K.contents sink.new) (fault_line program (if is_some refused then Complaint.Fault no_memory else Complaint.Usage)) }
-{
-    match refused {
-        Some(refused) => {
-            complain(sink, program, Complaint::Fault(Fault::Memory(refused)));
-            3
-        }
-        None => {
-            complain(sink, program, Complaint::Usage);
-            1
-        }
     }
 }

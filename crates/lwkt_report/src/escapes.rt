@@ -2,8 +2,10 @@
 ghost use Rattle.std.specs.Prelude.{◌≡◌, ◌++◌, OnOk, IfOk, string_bytes};
 ghost use Rattle.lwkt_report.specs.Escape.{lies_between, is_control, is_direction, is_separator, is_shown_as_is, code_text, closed_code, escape, letter_shown, escaped, IsPlain};
 
+use lwkt_base::OutOfMemory;
 use lwkt_base::hexes::show_hex;
-use std::alloc::{AllocError, Global};
+use lwkt_base::memory::{push_char, push_str};
+use std::alloc::Global;
 
 fn lies_between(letter: char, low: char, high: char) -> bool
     ensures { result ≡ lies_between letter low high }
@@ -43,7 +45,7 @@ pub fn is_shown_as_is(letter: char) -> bool
 
 // Appends the code of a character below U+10000.
 #[tactic(auto, unfolding(crate::specs::Escape::code_text))]
-fn push_code(out: &mut String, letter: char) -> Result<(), AllocError>
+fn push_code(out: &mut String, letter: char) -> Result<(), OutOfMemory>
     ensures { OnOk result (string_bytes out.new ≡ string_bytes out.old ++ code_text letter) }
 {
     let code = letter as u32;
@@ -54,34 +56,34 @@ fn push_code(out: &mut String, letter: char) -> Result<(), AllocError>
 }
 
 // Appends the code, and what ends an escape.
-fn push_closed(out: &mut String, letter: char) -> Result<(), AllocError>
+fn push_closed(out: &mut String, letter: char) -> Result<(), OutOfMemory>
     ensures { OnOk result (string_bytes out.new ≡ string_bytes out.old ++ closed_code letter) }
 {
     push_code(out, letter)?;
-    out.push_str("}")
+    push_str(out, "}")
 }
 
 // Appends the escape of a character below U+10000.
-fn push_escape(out: &mut String, letter: char) -> Result<(), AllocError>
+fn push_escape(out: &mut String, letter: char) -> Result<(), OutOfMemory>
     ensures { OnOk result (string_bytes out.new ≡ string_bytes out.old ++ escape letter) }
 {
-    out.push_str("\\u{")?;
+    push_str(out, "\\u{")?;
     push_closed(out, letter)
 }
 
 /// Appends a character of input as it is shown: it, or its escape, such as `\u{9b}`.
-pub fn push_shown(out: &mut String, letter: char) -> Result<(), AllocError>
+pub fn push_shown(out: &mut String, letter: char) -> Result<(), OutOfMemory>
     ensures { OnOk result (string_bytes out.new ≡ string_bytes out.old ++ letter_shown letter) }
 {
     if is_shown_as_is(letter) {
-        out.push(letter)
+        push_char(out, letter)
     } else {
         push_escape(out, letter)
     }
 }
 
 /// Appends a text of input as it is shown: each character, or its escape.
-pub fn push_escaped(out: &mut String, text: &str) -> Result<(), AllocError>
+pub fn push_escaped(out: &mut String, text: &str) -> Result<(), OutOfMemory>
     ensures { OnOk result (string_bytes out.new ≡ string_bytes out.old ++ escaped text.now) }
 {
     for letter in text.chars() {
@@ -94,7 +96,7 @@ pub fn push_escaped(out: &mut String, text: &str) -> Result<(), AllocError>
 /// of texts, parts of JSON, names of files.
 ///
 /// Refused if memory is.
-pub fn escaped(alloc: Global, text: &str) -> Result<String, AllocError>
+pub fn escaped(alloc: Global, text: &str) -> Result<String, OutOfMemory>
     ensures exact { IfOk result (λ shown. string_bytes shown ≡ escaped text.now) }
 
     // Each character of it is shown as it is.

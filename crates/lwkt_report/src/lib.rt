@@ -18,11 +18,9 @@ pub mod sinks;
 pub mod sources;
 pub mod streams;
 
-pub use arguments::{refusal_of, words_of};
+pub use arguments::{WordsFault, words_of};
 pub use closings::{Closing, ThreadLine, TokenLine, Verdict};
-pub use complaints::{
-    Complaint, Program, complain, complaint_line, complaint_of, refuse_arguments,
-};
+pub use complaints::{Complaint, Program, complain, complaint_line, complaint_of};
 pub use escapes::{escaped, is_shown_as_is, push_escaped, push_shown};
 pub use logs::Log;
 pub use lwkt_base::Entry;

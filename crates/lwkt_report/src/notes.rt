@@ -1,43 +1,28 @@
 //! A reader and a writer that note what a program has to say of them when it ends.
-ghost use Rattle.std.specs.Prelude.{◌≡◌, ◌++◌, IfSome, None};
+ghost use Rattle.std.specs.Prelude.{◌≡◌, None};
 
-use std::alloc::Global;
 use std::io;
 use std::io::{Read, Write};
 
-/// Any reader, with a copy of what it gave and the error of its last call that failed. It gives what the reader gives.
+/// Any reader, with the error of its last call that failed. It gives what the reader gives.
 #[derive(Debug, Drop)]
 pub struct NotedReader<R> {
     /// The reader.
     pub reader: R,
-    /// What was given so far; nothing once memory for it was refused.
-    pub given: Option<Vec<u8>>,
     /// The error of the last call that failed, if one has.
     pub error: Option<io::Error>,
 }
 
 impl<R: Read> NotedReader<R> {
-    /// The reader, with nothing noted yet. Takes no memory.
-    pub fn new(alloc: Global, reader: R) -> Self
-        ensures reader { result.reader ≡ reader }
-        ensures error { result.error ≡ None }
+    /// The reader, with nothing noted yet.
+    pub fn new(reader: R) -> Self
+        ensures { result ≡ record { reader = reader; error = None } }
     {
         NotedReader {
             reader,
-            given: Some(Vec::new(alloc)),
             error: None,
         }
     }
-}
-
-// What was given with these bytes behind it, or nothing where memory for them is refused.
-fn with_bytes(given: Option<Vec<u8>>, bytes: &[u8]) -> Option<Vec<u8>>
-    ensures more { IfSome given (λ before. IfSome result (λ after. after.items ≡ before.items ++ bytes.now)) }
-    ensures none { given ≡ None → result ≡ None }
-{
-    let mut given = given?;
-    given.extend_from_slice(bytes).ok()?;
-    Some(given)
 }
 
 impl<R: Read> Read for NotedReader<R> {
@@ -45,10 +30,7 @@ impl<R: Read> Read for NotedReader<R> {
 
     fn read(&mut self, buf: &mut [u8]) -> io::Result<usize> {
         match self.reader.read(buf) {
-            Ok(count) => {
-                self.given = with_bytes(self.given.take(), &buf[..count]);
-                Ok(count)
-            }
+            Ok(count) => Ok(count),
             Err(error) => {
                 self.error = Some(error);
                 Err(error)

@@ -3,8 +3,8 @@ ghost use Rattle.std.specs.Fmt.{decimal};
 ghost use Rattle.lwkt_report.specs.Report.{ref_text, entry_text, record_text, state_text, owner_text, mode_text};
 
 use lwkt_base::hexes::show_hex_or_none;
-use lwkt_base::{Blob, Entry, Mode, Owner, Ref, ThreadState};
-use std::alloc::AllocError;
+use lwkt_base::memory::{push_str, put};
+use lwkt_base::{Blob, Entry, Mode, OutOfMemory, Owner, Ref, ThreadState};
 
 /// What stands in a report as one part of a line.
 pub(crate) trait Shown {
@@ -12,22 +12,22 @@ pub(crate) trait Shown {
     ghost text: { Self → List ℕ };
 
     /// Appends the part's text.
-    fn show(&self, out: &mut String) -> Result<(), AllocError>
+    fn show(&self, out: &mut String) -> Result<(), OutOfMemory>
         ensures { OnOk result (string_bytes out.new ≡ string_bytes out.old ++ text self.now) };
 }
 
 impl Shown for u64 {
     ghost text = { decimal };
 
-    fn show(&self, out: &mut String) -> Result<(), AllocError> {
-        write!(out, "{self}")
+    fn show(&self, out: &mut String) -> Result<(), OutOfMemory> {
+        put(out, *self)
     }
 }
 
 impl Shown for Blob {
     ghost text = { record_text };
 
-    fn show(&self, out: &mut String) -> Result<(), AllocError> {
+    fn show(&self, out: &mut String) -> Result<(), OutOfMemory> {
         show_hex_or_none(self.as_slice(), out)
     }
 }
@@ -35,10 +35,10 @@ impl Shown for Blob {
 impl Shown for Mode {
     ghost text = { mode_text };
 
-    fn show(&self, out: &mut String) -> Result<(), AllocError> {
+    fn show(&self, out: &mut String) -> Result<(), OutOfMemory> {
         match self {
-            Mode::Exclusive => out.push_str("x"),
-            Mode::Shared => out.push_str("s"),
+            Mode::Exclusive => push_str(out, "x"),
+            Mode::Shared => push_str(out, "s"),
         }
     }
 }
@@ -46,8 +46,8 @@ impl Shown for Mode {
 impl Shown for Ref {
     ghost text = { ref_text };
 
-    fn show(&self, out: &mut String) -> Result<(), AllocError> {
-        write!(out, "{}", self.tok.0)?;
+    fn show(&self, out: &mut String) -> Result<(), OutOfMemory> {
+        put(out, self.tok.0)?;
         self.mode.show(out)
     }
 }
@@ -55,12 +55,12 @@ impl Shown for Ref {
 impl Shown for Owner {
     ghost text = { owner_text };
 
-    fn show(&self, out: &mut String) -> Result<(), AllocError> {
+    fn show(&self, out: &mut String) -> Result<(), OutOfMemory> {
         match self {
-            Owner::Rest { .. } => out.push_str("rest"),
-            Owner::Out { .. } => out.push_str("out"),
-            Owner::With { .. } => out.push_str("with"),
-            Owner::Back { .. } => out.push_str("back"),
+            Owner::Rest { .. } => push_str(out, "rest"),
+            Owner::Out { .. } => push_str(out, "out"),
+            Owner::With { .. } => push_str(out, "with"),
+            Owner::Back { .. } => push_str(out, "back"),
         }
     }
 }
@@ -68,13 +68,13 @@ impl Shown for Owner {
 impl Shown for ThreadState {
     ghost text = { state_text };
 
-    fn show(&self, out: &mut String) -> Result<(), AllocError> {
+    fn show(&self, out: &mut String) -> Result<(), OutOfMemory> {
         match self {
-            ThreadState::Ready => out.push_str("ready"),
-            ThreadState::Waiting => out.push_str("waiting"),
-            ThreadState::Running => out.push_str("running"),
-            ThreadState::Exited => out.push_str("exited"),
-            ThreadState::Faulted(fault) => write!(out, "faulted {}", fault.number()),
+            ThreadState::Ready => push_str(out, "ready"),
+            ThreadState::Waiting => push_str(out, "waiting"),
+            ThreadState::Running => push_str(out, "running"),
+            ThreadState::Exited => push_str(out, "exited"),
+            ThreadState::Faulted(fault) => put(out, ("faulted ", fault.number())),
         }
     }
 }
@@ -82,25 +82,25 @@ impl Shown for ThreadState {
 impl Shown for Entry {
     ghost text = { entry_text };
 
-    fn show(&self, out: &mut String) -> Result<(), AllocError> {
+    fn show(&self, out: &mut String) -> Result<(), OutOfMemory> {
         match self {
-            Entry::Value(value) => write!(out, "v={value}"),
+            Entry::Value(value) => put(out, ("v=", *value)),
             Entry::Bytes(blob) => {
-                out.push_str("b=")?;
+                push_str(out, "b=")?;
                 blob.show(out)
             }
-            Entry::Aborted(asked) => out.push_str(if *asked { "a=1" } else { "a=0" }),
+            Entry::Aborted(asked) => push_str(out, if *asked { "a=1" } else { "a=0" }),
             Entry::Request(message, call) => {
-                write!(out, "q={}:{}:{}", message.0, call.op, call.arg)
+                put(out, ("q=", message.0, ':', call.op, (':', call.arg)))
             }
             Entry::Reply(message, error, outcome) => {
-                write!(out, "r={}:{}:{}", message.0, error, outcome)
+                put(out, ("r=", message.0, ':', *error, (':', *outcome)))
             }
-            Entry::NoMessage => out.push_str("n"),
+            Entry::NoMessage => push_str(out, "n"),
             Entry::Dropped(message, call) => {
-                write!(out, "d={}:{}:{}", message.0, call.op, call.arg)
+                put(out, ("d=", message.0, ':', call.op, (':', call.arg)))
             }
-            Entry::Refused(number) => write!(out, "f={number}"),
+            Entry::Refused(number) => put(out, ("f=", *number)),
         }
     }
 }

@@ -4,7 +4,9 @@ ghost use Rattle.std.specs.Io.KnownBytes.{Appends, Keeps, WriteAppends};
 ghost use Rattle.lwkt_report.specs.Stream.{AppendsFront};
 
 use crate::streams::StreamError;
-use std::alloc::{AllocError, Global};
+use lwkt_base::OutOfMemory;
+use lwkt_base::memory::{MOST_ROOM, extend_from_slice, with_capacity};
+use std::alloc::Global;
 use std::io::Write;
 
 /// What takes bytes in turn.
@@ -101,22 +103,22 @@ impl<W: Write> Sink for WriterSink<W> {
 pub struct Page {
     /// The bytes that were put, in order.
     pub text: Vec<u8>,
-    /// What the allocator said where memory for more was refused.
-    pub refused: Option<AllocError>,
+    /// That memory for more was refused, where it was.
+    pub refused: Option<OutOfMemory>,
 }
 
 impl Page {
     /// An empty page with room for so many bytes.
     ///
     /// Refused if memory for them is.
-    pub fn with_room(alloc: Global, room: usize) -> Result<Self, AllocError>
+    pub fn with_room(alloc: Global, room: usize) -> Result<Self, OutOfMemory>
+        requires { room ≤ MOST_ROOM }
         ensures text { IfOk result (λ page. page.text.items ≡ []) }
         ensures room { IfOk result (λ page. room ≤ vec_capacity page.text) }
         ensures refused { IfOk result (λ page. page.refused ≡ None) }
     {
-        let text = Vec::with_capacity(alloc, room)?;
         Ok(Page {
-            text,
+            text: with_capacity(alloc, room)?,
             refused: None,
         })
     }
@@ -133,7 +135,7 @@ impl Sink for Page {
     ghost has_room = { λ page more. vec_len page.text + more ≤ vec_capacity page.text };
 
     fn put(&mut self, bytes: &[u8]) -> Result<usize, StreamError> {
-        match self.text.extend_from_slice(bytes) {
+        match extend_from_slice(&mut self.text, bytes) {
             Ok(()) => Ok(bytes.len()),
             Err(refused) => {
                 self.refused = Some(refused);

@@ -5,7 +5,7 @@ ghost use Rattle.lwkt_report.specs.Stream.{Gains};
 ghost use Rattle.lwkt_base.specs.Fault.{no_memory};
 
 use crate::streams::{RunFault, StreamError};
-use lwkt_base::Fault;
+use lwkt_base::memory::reserve_for;
 use std::alloc::Global;
 use std::io::Read;
 
@@ -102,9 +102,7 @@ fn pull_into<S: Source>(
     ensures memory { result ≡ Err (RunFault.Fault no_memory) → S.has_failed source.new ≡ S.has_failed source.old }
     ensures only { OnErr result ((result ≡ Err RunFault.Stream) ⊎ (result ≡ Err (RunFault.Fault no_memory))) }
 {
-    if let Err(refused) = bytes.reserve(room.len()) {
-        return Err(RunFault::Fault(Fault::Memory(refused)));
-    }
+    reserve_for(bytes, room)?;
     let count = source.pull(room)?;
     bytes.extend_from_slice(&room[..count]).unwrap();
     Ok(count)

@@ -1,7 +1,8 @@
 ghost use Rattle.std.specs.Prelude.{◌≡◌};
-ghost use Rattle.lwkt_report.specs.declared.streams.RunFault.TheVariants.{Stream};
+ghost use Rattle.lwkt_base.specs.declared.faults.Fault.TheVariants.{Memory};
+ghost use Rattle.lwkt_report.specs.declared.streams.RunFault.TheVariants.{Fault as AtFault, Stream};
 
-use lwkt_base::Fault;
+use lwkt_base::{Fault, OutOfMemory};
 use thiserror::Error;
 
 /// A reader or a writer failed.
@@ -25,5 +26,13 @@ impl From<StreamError> for RunFault {
 
     fn from(_error: StreamError) -> RunFault {
         RunFault::Stream
+    }
+}
+
+impl From<OutOfMemory> for RunFault {
+    ghost from_gives = { λ refused fault. fault ≡ AtFault (Memory refused) };
+
+    fn from(refused: OutOfMemory) -> RunFault {
+        RunFault::Fault(Fault::Memory(refused))
     }
 }

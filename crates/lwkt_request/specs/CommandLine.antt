@@ -53,7 +53,8 @@ top = on_top with_settings (new_app (codes "lwkt"))
 abbrev pub command_line : App
 command_line = with_subcommand (with_subcommand (with_subcommand (with_subcommand (with_subcommand top run.top) show.top) check.top) text.top) explore.top
 
--- the command is this one, and no argument of it is one of its subcommands too
+-- the command is this one, no argument of it is one of its subcommands too, and no parse by it has wanted memory
 pub record IsBuilt (app : App) (command : Command) : Type 0 where
   pub is : app_of command ≡ app
   pub local : (out-Command command).has_globals ≡ false
+  pub whole : (out-Command command).is_broken ≡ false

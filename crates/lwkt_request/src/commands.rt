@@ -8,7 +8,9 @@ use crate::pages::{
     CHECK, EXPLORE, EXPLORE_FILE, LWKT, Page, RUN, SCRIPT_FILE, SHOW, TEXT, TRACE_FILE, VERSION,
 };
 use clap::{Arg, ArgAction, Command};
-use std::alloc::{AllocError, Global};
+use lwkt_base::OutOfMemory;
+use lwkt_base::memory::{with_argument, with_bin_name, with_subcommand};
+use std::alloc::Global;
 
 // `--NAME`.
 fn flag<'a>(alloc: Global, name: &'a str, help: &'a str) -> Arg<'a>
@@ -41,11 +43,11 @@ fn file<'a>(alloc: Global, help: &'a str) -> Arg<'a>
 }
 
 // The command with one more argument.
-fn with<'a>(command: Command<'a>, arg: Arg<'a>) -> Result<Command<'a>, AllocError>
+fn with<'a>(command: Command<'a>, arg: Arg<'a>) -> Result<Command<'a>, OutOfMemory>
     requires { arg.global ≡ false }
     ensures { IfOk result (λ more. (app : App) (rule : Rule) → IsBuilt app command.entry → rule_of arg.entry ≡ rule → IsBuilt (with_rule app rule) more) }
 {
-    command.arg(arg)
+    with_argument(command, arg)
 }
 
 // The command with its texts for `-h` and `--help`.
@@ -59,7 +61,7 @@ fn described<'a>(command: Command<'a>, page: Page) -> Command<'a>
         .after_long_help(page.long_after)
 }
 
-fn run_command<'a>(alloc: Global) -> Result<Command<'a>, AllocError>
+fn run_command<'a>(alloc: Global) -> Result<Command<'a>, OutOfMemory>
     ensures { IfOk result (IsBuilt run) }
 {
     let command = described(Command::new(alloc, "run"), RUN);
@@ -72,7 +74,7 @@ fn run_command<'a>(alloc: Global) -> Result<Command<'a>, AllocError>
     with(command, file(alloc, SCRIPT_FILE))
 }
 
-fn show_command<'a>(alloc: Global) -> Result<Command<'a>, AllocError>
+fn show_command<'a>(alloc: Global) -> Result<Command<'a>, OutOfMemory>
     ensures { IfOk result (IsBuilt show) }
 {
     let threads = flag(
@@ -108,7 +110,7 @@ fn show_command<'a>(alloc: Global) -> Result<Command<'a>, AllocError>
     with(with(command, chains)?, file(alloc, SCRIPT_FILE))
 }
 
-fn check_command<'a>(alloc: Global) -> Result<Command<'a>, AllocError>
+fn check_command<'a>(alloc: Global) -> Result<Command<'a>, OutOfMemory>
     ensures { IfOk result (IsBuilt check) }
 {
     let command = described(Command::new(alloc, "check"), CHECK);
@@ -121,7 +123,7 @@ fn check_command<'a>(alloc: Global) -> Result<Command<'a>, AllocError>
     with(command, file(alloc, TRACE_FILE))
 }
 
-fn text_command<'a>(alloc: Global) -> Result<Command<'a>, AllocError>
+fn text_command<'a>(alloc: Global) -> Result<Command<'a>, OutOfMemory>
     ensures { IfOk result (IsBuilt text) }
 {
     let json = flag(alloc, "json", "Write the script as JSON");
@@ -136,7 +138,7 @@ fn text_command<'a>(alloc: Global) -> Result<Command<'a>, AllocError>
     with(with(command, run)?, file(alloc, SCRIPT_FILE))
 }
 
-fn explore_command<'a>(alloc: Global) -> Result<Command<'a>, AllocError>
+fn explore_command<'a>(alloc: Global) -> Result<Command<'a>, OutOfMemory>
     ensures { IfOk result (IsBuilt explore) }
 {
     let plain = flag(
@@ -183,10 +185,10 @@ fn explore_command<'a>(alloc: Global) -> Result<Command<'a>, AllocError>
 }
 
 // The command with one more subcommand.
-fn above<'a>(command: Command<'a>, sub: Command<'a>) -> Result<Command<'a>, AllocError>
+fn above<'a>(command: Command<'a>, sub: Command<'a>) -> Result<Command<'a>, OutOfMemory>
     ensures { IfOk result (λ more. (app sub_app : App) → IsBuilt app command.entry → IsBuilt sub_app sub.entry → IsBuilt (with_subcommand app sub_app.top) more) }
 {
-    command.subcommand(sub)
+    with_subcommand(command, sub)
 }
 
 // The settings of the program.
@@ -202,15 +204,15 @@ fn settled<'a>(command: Command<'a>) -> Command<'a>
 }
 
 // The program without its subcommands.
-fn top<'a>(alloc: Global) -> Result<Command<'a>, AllocError>
+fn top<'a>(alloc: Global) -> Result<Command<'a>, OutOfMemory>
     ensures { IfOk result (IsBuilt top) }
 {
     let command = settled(described(Command::new(alloc, "lwkt"), LWKT));
-    command.bin_name("lwkt")
+    with_bin_name(command, "lwkt")
 }
 
 /// The command line of the program.
-pub(crate) fn command_line<'a>(alloc: Global) -> Result<Command<'a>, AllocError>
+pub(crate) fn command_line<'a>(alloc: Global) -> Result<Command<'a>, OutOfMemory>
     ensures { IfOk result (IsBuilt command_line) }
 {
     let command = above(top(alloc)?, run_command(alloc)?)?;

@@ -4,7 +4,9 @@ ghost use Rattle.std.specs.Option.{option_copied, option_to_list};
 ghost use Rattle.clap.specs.Walk.{texts};
 ghost use Rattle.lwkt_request.specs.OldNames.{call_by, help_of, is_dashed, is_mode, is_question, named, new_words, old_check, old_file, old_pair, old_run, old_show, old_three, old_word};
 
-use std::alloc::{AllocError, Global};
+use lwkt_base::OutOfMemory;
+use lwkt_base::memory::push;
+use std::alloc::Global;
 
 /// What the words behind `lwkt_run` are.
 #[derive(Clone, Copy)]
@@ -25,24 +27,24 @@ fn behind<'a>(
     first: Option<&'a str>,
     second: Option<&'a str>,
     rest: &'a [String],
-) -> Result<Vec<&'a str>, AllocError>
+) -> Result<Vec<&'a str>, OutOfMemory>
     ensures { IfOk result (λ words. texts words.items ≡ (option_to_list (option_copied first.entry) ++ option_to_list (option_copied second.entry)) ++ map string_bytes rest.entry.now) }
 {
     let mut words = Vec::new(alloc);
     if let Some(word) = first {
-        words.push(word)?;
+        push(&mut words, word)?;
     }
     if let Some(word) = second {
-        words.push(word)?;
+        push(&mut words, word)?;
     }
     for word in rest {
-        words.push(word.as_str())?;
+        push(&mut words, word.as_str())?;
     }
     Ok(words)
 }
 
 // The words of a subcommand, by those behind its old name.
-fn named<'a>(alloc: Global, sub: &'a str, words: &'a [String]) -> Result<Vec<&'a str>, AllocError>
+fn named<'a>(alloc: Global, sub: &'a str, words: &'a [String]) -> Result<Vec<&'a str>, OutOfMemory>
     ensures { IfOk result (λ new. texts new.items ≡ named sub.entry.now (map string_bytes words.entry.now)) }
 {
     match words.first() {
@@ -54,7 +56,7 @@ fn named<'a>(alloc: Global, sub: &'a str, words: &'a [String]) -> Result<Vec<&'a
     }
 }
 
-fn old_show<'a>(alloc: Global, words: &'a [String]) -> Result<Vec<&'a str>, AllocError>
+fn old_show<'a>(alloc: Global, words: &'a [String]) -> Result<Vec<&'a str>, OutOfMemory>
     ensures { IfOk result (λ new. texts new.items ≡ old_show (map string_bytes words.entry.now)) }
 {
     match words.split_first() {
@@ -66,7 +68,7 @@ fn old_show<'a>(alloc: Global, words: &'a [String]) -> Result<Vec<&'a str>, Allo
     }
 }
 
-fn old_check<'a>(alloc: Global, words: &'a [String]) -> Result<Vec<&'a str>, AllocError>
+fn old_check<'a>(alloc: Global, words: &'a [String]) -> Result<Vec<&'a str>, OutOfMemory>
     ensures { IfOk result (λ new. texts new.items ≡ old_check (map string_bytes words.entry.now)) }
 {
     match words.split_first() {
@@ -78,7 +80,7 @@ fn old_check<'a>(alloc: Global, words: &'a [String]) -> Result<Vec<&'a str>, All
 }
 
 // `help` and `help SUBCOMMAND`.
-fn help_of<'a>(alloc: Global, words: &'a [String]) -> Result<Vec<&'a str>, AllocError>
+fn help_of<'a>(alloc: Global, words: &'a [String]) -> Result<Vec<&'a str>, OutOfMemory>
     ensures { IfOk result (λ new. texts new.items ≡ help_of (map string_bytes words.entry.now)) }
 {
     match words.first() {
@@ -92,7 +94,7 @@ pub(crate) fn new_words<'a>(
     alloc: Global,
     name: &'a str,
     words: &'a [String],
-) -> Result<Vec<&'a str>, AllocError>
+) -> Result<Vec<&'a str>, OutOfMemory>
     ensures { IfOk result (λ new. texts new.items ≡ new_words name.entry.now (map string_bytes words.entry.now)) }
 {
     match name {

@@ -53,7 +53,8 @@ pub(crate) const RUN: Page = Page {
     about: "Run a script and print its report",
     long_about: "\
 Run a script and print its report: the final values of the tokens, how each
-thread ended, its log, and whether the run is lawful.
+thread ended, its log, and whether the run is lawful. The older names for it are
+`lwkt_run turns`, and `lwkt_run threads` for lwkt run --threads.
 
 The processors take their turns in rounds, so a script's report is the same each
 time. With --threads the last line is `closed`, and reports may differ.

@@ -7,8 +7,10 @@ ghost use Rattle.clap.specs.Words.{Text};
 ghost use Rattle.lwkt_request.specs.Texts.{behind_stop, bound_or, ends_of, is_digit, is_part, number_named, number_of, number_or, path_of, range_between, range_named, range_of, rising, turn_of_byte, turns_of};
 
 use crate::wrongs::Wrong;
+use lwkt_base::OutOfMemory;
+use lwkt_base::memory::push;
 use lwkt_show::Counted;
-use std::alloc::{AllocError, Global};
+use std::alloc::Global;
 
 /// All turns, or rounds, from one to another.
 #[derive(Clone, Copy)]
@@ -171,17 +173,17 @@ pub(crate) fn are_parts(text: &str) -> bool
 }
 
 // Appends the turn that a byte names, if it names one.
-fn add_turn(order: &mut Vec<u8>, byte: u8) -> Result<(), AllocError>
+fn add_turn(order: &mut Vec<u8>, byte: u8) -> Result<(), OutOfMemory>
     ensures { OnOk result (order.new.items ≡ order.old.items ++ turn_of_byte byte) }
 {
     if is_digit(byte) {
-        order.push(byte - b'0')?;
+        push(order, byte - b'0')?;
     }
     Ok(())
 }
 
 /// The order that a text is.
-pub(crate) fn turns_of(alloc: Global, text: &str) -> Result<Vec<u8>, AllocError>
+pub(crate) fn turns_of(alloc: Global, text: &str) -> Result<Vec<u8>, OutOfMemory>
     ensures { IfOk result (λ order. order.items ≡ turns_of text.now) }
 {
     let mut order = Vec::new(alloc);

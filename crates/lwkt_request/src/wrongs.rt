@@ -1,5 +1,7 @@
 //! What is wrong with options that a parse lets through.
-use std::alloc::{AllocError, Global};
+use lwkt_base::OutOfMemory;
+use lwkt_base::memory::{from_str, push_str, put};
+use std::alloc::Global;
 
 /// Why the options of a subcommand ask for nothing. An option stands with its dashes, a value beside it.
 #[derive(Clone, Copy, Debug)]
@@ -23,27 +25,58 @@ pub(crate) enum Wrong<'a> {
 }
 
 // The sentence, without a full stop.
-fn sentence_of(alloc: Global, wrong: Wrong<'_>) -> Result<String, AllocError> {
+fn sentence_of(alloc: Global, wrong: Wrong<'_>) -> Result<String, OutOfMemory> {
+    let mut text = String::new(alloc);
     match wrong {
         Wrong::Number(name, value) => {
-            format!(in alloc; "{name} {value}: give a whole number below 2^64, such as {name} 10")
+            put(
+                &mut text,
+                (
+                    name,
+                    " ",
+                    value,
+                    ": give a whole number below 2^64, such as ",
+                    (name, " 10"),
+                ),
+            )?
         }
         Wrong::Range(name, value) => {
-            format!(in alloc; "{name} {value}: give a range, such as {name} 1..5")
+            put(
+                &mut text,
+                (
+                    name,
+                    " ",
+                    value,
+                    ": give a range, such as ",
+                    (name, " 1..5"),
+                ),
+            )?
         }
         Wrong::Falls(name, value) => {
-            format!(in alloc; "{name} {value}: the first number is greater than the last")
+            put(
+                &mut text,
+                (
+                    name,
+                    " ",
+                    value,
+                    ": the first number is greater than the last",
+                ),
+            )?
         }
-        Wrong::Order(value) => {
-            format!(in alloc;
-                "--order {value}: give a digit for the processor of each turn, such as --order 0,1,0"
-            )
-        }
-        Wrong::Apart(one, other) => format!(in alloc; "{one} and {other} don't go together"),
-        Wrong::Beside(one, other) => format!(in alloc; "{one} wants {other} beside it"),
-        Wrong::NoCommand => String::from_str(alloc, "a command is wanted"),
-        Wrong::NoForm => { String::from_str(alloc, "one of --json, --text and --run is wanted") }
+        Wrong::Order(value) => put(
+            &mut text,
+            (
+                "--order ",
+                value,
+                ": give a digit for the processor of each turn, such as --order 0,1,0",
+            ),
+        )?,
+        Wrong::Apart(one, other) => put(&mut text, (one, " and ", other, " don't go together"))?,
+        Wrong::Beside(one, other) => put(&mut text, (one, " wants ", other, " beside it"))?,
+        Wrong::NoCommand => put(&mut text, "a command is wanted")?,
+        Wrong::NoForm => put(&mut text, "one of --json, --text and --run is wanted")?,
     }
+    Ok(text)
 }
 
 // A message: the cause, a near word, and what to try.
@@ -52,20 +85,25 @@ fn message_of(
     cause: &str,
     near: Option<&str>,
     name: Option<&str>,
-) -> Result<String, AllocError> {
-    let mut text = format!(in alloc; "lwkt: {cause}\n")?;
+) -> Result<String, OutOfMemory> {
+    let mut text = from_str(alloc, "lwkt: ")?;
+    put(&mut text, (cause, "\n"))?;
     if let Some(near) = near {
-        write!(text, "    did you mean `{near}`?\n")?;
+        put(&mut text, ("    did you mean `", near, "`?\n"))?;
     }
     match name {
-        Some(name) => write!(text, "try: lwkt {name} --help\n")?,
-        None => text.push_str("try: lwkt --help\n")?,
+        Some(name) => put(&mut text, ("try: lwkt ", name, " --help\n"))?,
+        None => push_str(&mut text, "try: lwkt --help\n")?,
     }
     Ok(text)
 }
 
 /// What is written of words of the subcommand `name` that ask for nothing.
-pub(crate) fn misuse_of(alloc: Global, name: &str, wrong: Wrong<'_>) -> Result<String, AllocError> {
+pub(crate) fn misuse_of(
+    alloc: Global,
+    name: &str,
+    wrong: Wrong<'_>,
+) -> Result<String, OutOfMemory> {
     let sentence = sentence_of(alloc, wrong)?;
     message_of(alloc, sentence.as_str(), None, Some(name))
 }
@@ -107,14 +145,14 @@ fn is_order(word: &str) -> bool {
 }
 
 // The words of an order behind `--order`, with commas between them, if there are several.
-fn order_in(alloc: Global, words: &[&str]) -> Result<Option<String>, AllocError> {
-    let mut order = String::from_str(alloc, "--order ")?;
+fn order_in(alloc: Global, words: &[&str]) -> Result<Option<String>, OutOfMemory> {
+    let mut order = from_str(alloc, "--order ")?;
     let mut count = 0usize;
     let mut is_behind = false;
     for word in words {
         if is_behind && is_order(word) {
-            order.push_str(if count > 0 { "," } else { "" })?;
-            order.push_str(word)?;
+            push_str(&mut order, if count > 0 { "," } else { "" })?;
+            push_str(&mut order, word)?;
             count = count.saturating_add(1);
         } else {
             is_behind = *word == "--order";
@@ -124,7 +162,7 @@ fn order_in(alloc: Global, words: &[&str]) -> Result<Option<String>, AllocError>
 }
 
 /// What is written of words at which a parse failed, by what the parse says of them.
-pub(crate) fn failure_of(alloc: Global, said: &str, words: &[&str]) -> Result<String, AllocError> {
+pub(crate) fn failure_of(alloc: Global, said: &str, words: &[&str]) -> Result<String, OutOfMemory> {
     let name = name_in(words);
     if let Some(order) = order_in(alloc, words)? {
         return message_of(alloc, "an order is one word", Some(order.as_str()), name);

@@ -52,6 +52,11 @@ pub followed_bank : (limit : ℕ) (early : Bool) (x y : Pair) → HasFollowed li
 followed_bank limit early x y rounds =
     followed_keep (λ m. m.bank ≡ x.machine.bank) (λ cpu turned v w turn h. turn.makes.turns.bank ∙ h) limit early x y rounds refl
 
+-- and its book
+pub followed_book : (limit : ℕ) (early : Bool) (x y : Pair) → HasFollowed limit early x y → y.machine.book ≡ x.machine.book
+followed_book limit early x y rounds =
+    followed_keep (λ m. m.book ≡ x.machine.book) (λ cpu turned v w turn h. turn.makes.turns.book ∙ h) limit early x y rounds refl
+
 -- where rounds that are followed ended early, each thread has ended, as its line says
 ended_early : (limit : ℕ) (early : Bool) (x y : Pair) (lines : List ThreadLine) → HasFollowed limit early x y → ShowThreads lines y.machine → early ≡ true → All (λ line. has_ended line.state ≡ true) lines
 ended_early limit false x y lines followed shown is = absurd (false≢true is)

@@ -14,6 +14,7 @@ pub mod LineMoves
 pub mod OrderMoves
 pub mod PollMoves
 pub mod ReadMoves
+pub mod RoomMoves
 pub mod RoundMoves
 pub mod RunLemmas
 pub mod SectionMoves

@@ -131,6 +131,10 @@ has_turns cpus threads order x y turns has = turns_keep (λ z. HasThreads cpus t
 pub turns_bank : (order : List ℕ) (x y : Scene) → MakesTurns order x y → y.machine.bank ≡ x.machine.bank
 turns_bank order x y turns = turns_keep (λ z. z.machine.bank ≡ x.machine.bank) (λ cpu v w turn h. turn.1.makes.turns.bank ∙ h) order x y turns refl
 
+-- and the book
+pub turns_book : (order : List ℕ) (x y : Scene) → MakesTurns order x y → y.machine.book ≡ x.machine.book
+turns_book order x y turns = turns_keep (λ z. z.machine.book ≡ x.machine.book) (λ cpu v w turn h. turn.1.makes.turns.book ∙ h) order x y turns refl
+
 -- a machine that was driven
 pub has_driven : (answers : CpuId → ℕ → Bool → Type 0) (limits : Limits) (bank : BankId) (cpus : ℕ) (threads : List ThreadSpec) (olds news : List (Processor Scripted)) (traces : List KeptTrace) → AreDriven answers limits bank olds news traces → HasThreads cpus threads olds → HasThreads cpus threads news
 has_driven answers limits bank cpus threads olds news traces d has = record {
@@ -164,6 +168,10 @@ over_later cpu old new t u turned d is below =
 pub rounds_bank : (limit : ℕ) (x y : Scene) → HasMadeRounds limit x y → y.machine.bank ≡ x.machine.bank
 rounds_bank limit x y rounds =
     rounds_keep (λ z. z.machine.bank ≡ x.machine.bank) (λ cpu v w turn p. turn.1.makes.turns.bank ∙ p) limit x y rounds refl
+
+pub rounds_book : (limit : ℕ) (x y : Scene) → HasMadeRounds limit x y → y.machine.book ≡ x.machine.book
+rounds_book limit x y rounds =
+    rounds_keep (λ z. z.machine.book ≡ x.machine.book) (λ cpu v w turn p. turn.1.makes.turns.book ∙ p) limit x y rounds refl
 
 false_is_true : false ≡ true → ⊥
 false_is_true is = cc

@@ -44,7 +44,5 @@ tells_concluded Run left old new bytes read (Err refusal) (Err (Fault fault)) sa
     (keeps.1, (bytes, (are, subst (λ f. Refuses bytes f) (sym keeps.0) (subst (λ b. Refuses b refusal) same refused))))
 
 -- the report of a closing, and how its run ended
-pub done_has : (Run : End → List ℕ → Type 0) (closing : Closing) (outcome : Result Done Refusal) → Run (end_told closing) (report_text closing) → IfOk outcome (λ done. string_bytes done.text ≡ report_text closing) → IfOk outcome (λ done. done.end ≡ end_told closing)
-    → IfOk outcome (λ done. Run done.end (string_bytes done.text))
-done_has Run closing (Ok done) run is_text is_end = subst (λ end. Run end (string_bytes done.text)) (sym is_end) (subst (λ text. Run (end_told closing) text) (sym is_text) run)
-done_has Run closing (Err fault) run is_text is_end = tt
+pub done_has : (Run : End → List ℕ → Type 0) (closing : Closing) (done : Done) → Run (end_told closing) (report_text closing) → string_bytes done.text ≡ report_text closing → done.end ≡ end_told closing → Run done.end (string_bytes done.text)
+done_has Run closing done run is_text is_end = subst (λ end. Run end (string_bytes done.text)) (sym is_end) (subst (λ text. Run (end_told closing) text) (sym is_text) run)

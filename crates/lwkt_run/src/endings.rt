@@ -1,20 +1,21 @@
 //! The end of a machine.
-ghost use Rattle.std.specs.Prelude.{◌≡◌, map, IfOk, OnErr, Err, Option};
+ghost use Rattle.std.specs.Prelude.{◌≡◌, length, map, IfOk, Option};
 ghost use Rattle.lwkt_bank.specs.Opened.{plans_of};
 ghost use Rattle.lwkt_run.specs.Judging.{ids_of};
 ghost use Rattle.lwkt_machine.specs.Bodies.{Scripted};
+ghost use Rattle.lwkt_machine.specs.Closing.{IsRoomFor};
 ghost use Rattle.lwkt_machine.specs.Machines.{ShowsBody};
 ghost use Rattle.lwkt_run.specs.Leaving.{Leaves};
 ghost use Rattle.lwkt_run.specs.Running.{HasThreads, ShowThreads, IsLogOf, log_in};
 ghost use Rattle.lwkt_run.specs.Values.{AreValuesOf};
-ghost use Rattle.lwkt_base.specs.Fault.{no_memory};
 
-use lwkt_base::{Fault, ThreadId};
+use lwkt_base::memory::{from_slice, push, with_capacity_for};
+use lwkt_base::{OutOfMemory, ThreadId};
 use lwkt_core::{Event, Final};
-use lwkt_machine::{Closed, Machine, Standing};
+use lwkt_machine::{CloseRoom, Closed, Machine, Standing};
 use lwkt_report::{Log, ThreadLine};
 use lwkt_script::Script;
-use std::alloc::{AllocError, Global};
+use std::alloc::Global;
 
 /// What a machine leaves: its closing values, and the lines of its threads as they were before it stopped.
 #[derive(Drop)]
@@ -26,11 +27,11 @@ pub struct Left {
 }
 
 // What a thread has logged.
-fn log_of(alloc: Global, machine: &Machine, id: ThreadId) -> Result<Log, AllocError>
+fn log_of(alloc: Global, machine: &Machine, id: ThreadId) -> Result<Log, OutOfMemory>
     ensures { IfOk result (λ log. (body : Option Scripted) × (ShowsBody machine.now id.cpu.0 id.thread body × (log ≡ log_in body))) }
 {
     let entries = match machine.body(usize::from(id.cpu.0), usize::from(id.thread)) {
-        Some(body) => Vec::from_slice(alloc, body.log())?,
+        Some(body) => from_slice(alloc, body.log())?,
         None => Vec::new(alloc),
     };
     Ok(Log::from_vec(entries))
@@ -41,7 +42,7 @@ fn thread_line(
     alloc: Global,
     machine: &Machine,
     standing: Standing,
-) -> Result<ThreadLine, AllocError>
+) -> Result<ThreadLine, OutOfMemory>
     ensures id { IfOk result (λ line. line.id ≡ standing.id) }
     ensures state { IfOk result (λ line. line.state ≡ standing.state) }
     ensures list { IfOk result (λ line. line.list ≡ standing.list) }
@@ -58,28 +59,29 @@ fn thread_line(
 }
 
 // The lines of a machine's threads.
-fn thread_lines(alloc: Global, machine: &Machine) -> Result<Vec<ThreadLine>, AllocError>
+fn thread_lines(alloc: Global, machine: &Machine) -> Result<Vec<ThreadLine>, OutOfMemory>
     ensures { IfOk result (λ lines. ShowThreads lines.items machine.now) }
 {
     let standings = machine.standings(alloc)?;
-    let mut lines = Vec::with_capacity(alloc, standings.len())?;
+    let mut lines = with_capacity_for(alloc, &standings)?;
     for standing in standings {
-        lines.push(thread_line(alloc, machine, standing)?)?;
+        push(&mut lines, thread_line(alloc, machine, standing)?)?;
     }
     Ok(lines)
 }
 
-// Stops a machine whose bank has the tokens of a script, and closes it: its closing values.
+// Stops a machine whose bank has the tokens of a script, and closes it in room that was made for that: its closing values. Only for
+// the events of the stop memory may be refused.
 fn close(
-    alloc: Global,
     script: &Script,
     machine: Machine,
+    close_room: CloseRoom,
     trace: &mut Vec<Event>,
-) -> Result<Final, Fault>
-    requires { machine.bank.plans ≡ plans_of script.now.tokens }
+) -> Result<Final, OutOfMemory>
+    requires bank { machine.bank.plans ≡ plans_of script.now.tokens }
+    requires room { IsRoomFor machine.bank machine.book (length machine.cpus) close_room }
     ensures values { IfOk result (λ last. AreValuesOf script.now.tokens last) }
     ensures leaves { IfOk result (λ last. Leaves machine trace.old trace.new last) }
-    ensures only { OnErr result (result ≡ Err no_memory) }
 {
     let mut machine = machine;
     machine.stop(trace)?;
@@ -87,7 +89,7 @@ fn close(
         tokens,
         messages,
         ..
-    } = machine.close(alloc)?;
+    } = machine.close_in(close_room);
     let lwkt_bank::Closed {
         rows,
         gens,
@@ -103,28 +105,26 @@ fn close(
     })
 }
 
-/// Takes the lines of the threads of a script's machine, stops it, and closes it. The events of the stop are appended to the trace.
-/// That the machine is of this script is the caller's condition.
+/// Takes the lines of the threads of a script's machine, stops it, and closes it in room that was made for that. The events of the stop
+/// are appended to the trace. That the machine is of this script, and the room for its close, is the caller's condition.
 ///
-/// Refused with `Memory` if memory is refused; the machine is gone then.
+/// Refused if memory for the lines of the threads or for the events of the stop is; the machine is gone then.
 pub fn left_by(
     alloc: Global,
     script: &Script,
     machine: Machine,
+    close_room: CloseRoom,
     trace: &mut Vec<Event>,
-) -> Result<Left, Fault>
+) -> Result<Left, OutOfMemory>
     requires bank { machine.bank.plans ≡ plans_of script.now.tokens }
+    requires room { IsRoomFor machine.bank machine.book (length machine.cpus) close_room }
     requires threads { HasThreads script.now.cpus script.now.threads machine.cpus }
     ensures values { IfOk result (λ left. AreValuesOf script.now.tokens left.last) }
     ensures leaves { IfOk result (λ left. Leaves machine trace.old trace.new left.last) }
     ensures shown { IfOk result (λ left. ShowThreads left.threads.items machine) }
     ensures threads { IfOk result (λ left. map (λ line. line.id) left.threads.items ≡ ids_of script.now.cpus script.now.threads) }
-    ensures only { OnErr result (result ≡ Err no_memory) }
 {
-    let threads = match thread_lines(alloc, &machine) {
-        Ok(threads) => threads,
-        Err(refused) => return Err(Fault::Memory(refused)),
-    };
-    let last = close(alloc, script, machine, trace)?;
+    let threads = thread_lines(alloc, &machine)?;
+    let last = close(script, machine, close_room, trace)?;
     Ok(Left { last, threads })
 }

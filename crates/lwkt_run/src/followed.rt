@@ -1,7 +1,6 @@
 //! A run of a script in rounds that a check follows to its end, so that nothing is kept of it, and what its report shows.
-ghost use Rattle.std.specs.Prelude.{◌≡◌, ◌↔◌, IsTrue, IfOk, IfSome, IfErr, OnErr, Err};
+ghost use Rattle.std.specs.Prelude.{◌≡◌, ◌↔◌, IsTrue, IfOk, IfSome, IfErr};
 ghost use Rattle.lwkt_base.specs.declared.asks.Ask.TheVariants.{Exit};
-ghost use Rattle.lwkt_base.specs.Fault.{no_memory};
 ghost use Rattle.lwkt_verdict.specs.Follow.{Begins};
 ghost use Rattle.lwkt_run.specs.Run.{opening_of_script, MayClose, DeclinesRun};
 ghost use Rattle.lwkt_run.specs.Following.{IsShortRun, EndsSo, LeavesLawfully};
@@ -10,7 +9,7 @@ use crate::endings::{Left, left_by};
 use crate::follows::follow_rounds;
 use crate::lines::token_lines;
 use crate::runs::{TurnsRun, opened, turns_run_of};
-use lwkt_base::{Ask, Fault};
+use lwkt_base::{Ask, Fault, OutOfMemory};
 use lwkt_core::{Event, Final, State};
 use lwkt_machine::Machine;
 use lwkt_report::{Closing, Verdict};
@@ -31,15 +30,11 @@ fn follower_of<'p>(
     script: &'p Script,
     opening: State,
     end: &'p Ask,
-) -> Result<Follower<'p>, Fault>
+) -> Result<Follower<'p>, OutOfMemory>
     requires end { end.now ≡ Exit }
     ensures begins { IfOk result (λ f. Begins script.now.threads opening f) }
-    ensures only { OnErr result (result ≡ Err no_memory) }
 {
-    match Follower::new(alloc, script.threads.as_slice(), opening, end) {
-        Ok(follower) => Ok(follower),
-        Err(refused) => Err(Fault::Memory(refused)),
-    }
+    Follower::new(alloc, script.threads.as_slice(), opening, end)
 }
 
 // Whether the check of a run says that the run ends so: with these events of the stop, and with what is left.
@@ -61,6 +56,7 @@ fn left_followed(alloc: Global, script: &Script) -> Result<Option<Left>, Fault>
         return Ok(None);
     }
     let mut machine = Machine::open(alloc, script)?;
+    let close_room = machine.room(alloc)?;
     let opening = opened(alloc, script)?;
     let end = Ask::Exit;
     let mut follower = follower_of(alloc, script, opening, &end)?;
@@ -69,7 +65,7 @@ fn left_followed(alloc: Global, script: &Script) -> Result<Option<Left>, Fault>
         return Ok(None);
     };
     room.clear();
-    let left = left_by(alloc, script, machine, &mut room)?;
+    let left = left_by(alloc, script, machine, close_room, &mut room)?;
     if ends_so(follower, &left, room.as_slice()) {
         Ok(Some(left))
     } else {
@@ -78,16 +74,12 @@ fn left_followed(alloc: Global, script: &Script) -> Result<Option<Left>, Fault>
 }
 
 // The report's contents of a run of a script in rounds that a check has followed to its end.
-fn lawful_closing(alloc: Global, script: &Script, left: Left) -> Result<Closing, Fault>
+fn lawful_closing(alloc: Global, script: &Script, left: Left) -> Result<Closing, OutOfMemory>
     requires { LeavesLawfully script.now left }
     ensures closes { IfOk result (λ closing. MayClose (Pace.Rounds script.now.turns) script.now closing) }
-    ensures only { OnErr result (result ≡ Err no_memory) }
 {
     let Left { last, threads } = left;
-    let tokens = match token_lines(alloc, script.tokens.as_slice(), &last) {
-        Ok(tokens) => tokens,
-        Err(refused) => return Err(Fault::Memory(refused)),
-    };
+    let tokens = token_lines(alloc, script.tokens.as_slice(), &last)?;
     let Final { messages, .. } = last;
     Ok(Closing {
         tokens,

@@ -1,18 +1,16 @@
 //! Runs in rounds that a check follows turn by turn, so that nothing is kept of them.
 ghost use Rattle.std.specs.Prelude.{◌≡◌, ◌<◌, ◌≤◌, length, IsTrue, IfOk, IfSome, OnErr, Err, option_map};
 ghost use Rattle.lwkt_cpu.specs.declared.answers.Turned.{Turned};
-ghost use Rattle.lwkt_base.specs.Fault.{no_memory};
 ghost use Rattle.lwkt_run.specs.Keeping.{polled_of};
 ghost use Rattle.lwkt_run.specs.Running.{says_over};
 ghost use Rattle.lwkt_run.specs.Following.{pair, GoesOnBy, FollowsTurn, RoundFollowed, HasFollowed};
 
 use crate::polled::PolledRef;
 use crate::rounds::{asks_of, both, is_over};
-use lwkt_base::Fault;
+use lwkt_base::OutOfMemory;
 use lwkt_core::Event;
 use lwkt_machine::Machine;
 use lwkt_verdict::Follower;
-use std::alloc::AllocError;
 
 // Whether a turn of a processor fits the turns before it; the check then goes on by it.
 fn fits(
@@ -20,7 +18,7 @@ fn fits(
     cpu: usize,
     asks: Option<PolledRef<'_>>,
     part: &[Event],
-) -> Result<bool, AllocError>
+) -> Result<bool, OutOfMemory>
     requires processor { cpu < 8 }
     ensures { IfOk result (λ yes. IsTrue yes → GoesOnBy cpu (option_map polled_of asks.entry) part.now follower.old follower.new) }
 {
@@ -37,20 +35,19 @@ fn follow_turn(
     cpu: usize,
     room: &mut Vec<Event>,
     follower: &mut Follower<'_>,
-) -> Result<Option<bool>, Fault>
+) -> Result<Option<bool>, OutOfMemory>
     requires there { cpu < length machine.old.cpus }
     requires few { length machine.old.cpus ≤ 8 }
     ensures ok { IfOk result (λ told. IfSome told (λ over. (turned : Turned) × (FollowsTurn cpu turned (pair machine.old follower.old) (pair machine.new follower.new) × (over ≡ says_over turned)))) }
     ensures as_many { length machine.new.cpus ≡ length machine.old.cpus }
-    ensures only { OnErr result (result ≡ Err no_memory) }
 {
     room.clear();
     let turned = machine.turn(cpu, room)?;
     let asks = asks_of(machine, cpu, turned);
-    match fits(follower, cpu, asks, room.as_slice()) {
-        Ok(true) => Ok(Some(is_over(turned))),
-        Ok(false) => Ok(None),
-        Err(refused) => Err(Fault::Memory(refused)),
+    if fits(follower, cpu, asks, room.as_slice())? {
+        Ok(Some(is_over(turned)))
+    } else {
+        Ok(None)
     }
 }
 
@@ -60,9 +57,8 @@ fn follow_round(
     machine: &mut Machine,
     room: &mut Vec<Event>,
     follower: &mut Follower<'_>,
-) -> Result<Option<bool>, Fault>
+) -> Result<Option<bool>, OutOfMemory>
     ensures ok { IfOk result (λ told. IfSome told (λ over. RoundFollowed (pair machine.old follower.old) (pair machine.new follower.new) over)) }
-    ensures only { OnErr result (result ≡ Err no_memory) }
 {
     let mut over = true;
     for cpu in 0..machine.cpus() {
@@ -84,9 +80,8 @@ pub fn follow_rounds(
     limit: u32,
     room: &mut Vec<Event>,
     follower: &mut Follower<'_>,
-) -> Result<Option<bool>, Fault>
+) -> Result<Option<bool>, OutOfMemory>
     ensures ok { IfOk result (λ told. IfSome told (λ early. HasFollowed limit early (pair machine.old follower.old) (pair machine.new follower.new))) }
-    ensures only { OnErr result (result ≡ Err no_memory) }
 {
     for _round in 0..limit {
         match follow_round(machine, room, follower)? {

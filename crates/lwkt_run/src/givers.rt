@@ -1,8 +1,9 @@
 //! Which processor ended each written section, for whoever shows them.
-use lwkt_base::CpuId;
+use lwkt_base::memory::{push, with_capacity_for};
+use lwkt_base::{CpuId, OutOfMemory};
 use lwkt_core::Event;
 use lwkt_events::{EventList, Give, give_of};
-use std::alloc::{AllocError, Global};
+use std::alloc::Global;
 
 // A section, and the processor that ended it by giving the token back.
 #[derive(Clone, Copy)]
@@ -13,17 +14,19 @@ struct Given {
 }
 
 // Adds a written give.
-fn add(given: &mut Vec<Given>, give: &Give) -> Result<(), AllocError> {
-    given.push(Given {
-        tok: give.section.tok.0,
-        generation: give.section.generation,
-        cpu: give.cpu,
-    })?;
-    Ok(())
+fn add(given: &mut Vec<Given>, give: &Give) -> Result<(), OutOfMemory> {
+    push(
+        given,
+        Given {
+            tok: give.section.tok.0,
+            generation: give.section.generation,
+            cpu: give.cpu,
+        },
+    )
 }
 
 // Adds the written gives of a packed trace.
-fn add_kept(given: &mut Vec<Given>, trace: &EventList) -> Result<(), AllocError> {
+fn add_kept(given: &mut Vec<Given>, trace: &EventList) -> Result<(), OutOfMemory> {
     for place in 0..trace.len() {
         if let Some(give) = trace.give(place) {
             add(given, &give)?;
@@ -33,7 +36,7 @@ fn add_kept(given: &mut Vec<Given>, trace: &EventList) -> Result<(), AllocError>
 }
 
 // Adds those among events.
-fn add_told(given: &mut Vec<Given>, events: &[Event]) -> Result<(), AllocError> {
+fn add_told(given: &mut Vec<Given>, events: &[Event]) -> Result<(), OutOfMemory> {
     for event in events {
         if let Some(give) = give_of(event) {
             add(given, &give)?;
@@ -47,7 +50,7 @@ fn given_in_order(
     alloc: Global,
     traces: &[EventList],
     stops: &[Event],
-) -> Result<Vec<Given>, AllocError> {
+) -> Result<Vec<Given>, OutOfMemory> {
     let mut given = Vec::new(alloc);
     for trace in traces {
         add_kept(&mut given, trace)?;
@@ -58,23 +61,21 @@ fn given_in_order(
 }
 
 // Their processors.
-fn cpus_of(alloc: Global, given: &[Given]) -> Result<Vec<CpuId>, AllocError> {
-    let mut cpus = Vec::with_capacity(alloc, given.len())?;
+fn cpus_of(alloc: Global, given: &[Given]) -> Result<Vec<CpuId>, OutOfMemory> {
+    let mut cpus = with_capacity_for(alloc, given)?;
     for one in given {
-        cpus.push(one.cpu)?;
+        push(&mut cpus, one.cpu)?;
     }
     Ok(cpus)
 }
 
 /// Of each written section in traces and in the events of a stop, by token and then by generation, the processor that ended it, 0
 /// to 7.
-///
-/// `AllocError` if memory is refused.
 pub fn givers_of(
     alloc: Global,
     traces: &[EventList],
     stops: &[Event],
-) -> Result<Vec<CpuId>, AllocError> {
+) -> Result<Vec<CpuId>, OutOfMemory> {
     let given = given_in_order(alloc, traces, stops)?;
     cpus_of(alloc, &given)
 }

@@ -2,13 +2,14 @@
 ghost use Rattle.std.specs.Prelude.{◌≡◌, ◌<◌, is_some, unwrap_or, [], false, length, slice_get, Some, IfOk};
 ghost use Rattle.lwkt_run.specs.Values.{is_tally, AreValuesOf, ShowTokens};
 
-use lwkt_base::{Blob, Cells, Law, TokSpec};
+use lwkt_base::memory::{push, with_capacity_for};
+use lwkt_base::{Blob, Cells, Law, OutOfMemory, TokSpec};
 use lwkt_core::Final;
 use lwkt_report::TokenLine;
-use std::alloc::{AllocError, Global};
+use std::alloc::Global;
 
 // A row at a place.
-fn row_at(alloc: Global, rows: &[Cells], place: usize) -> Result<Cells, AllocError>
+fn row_at(alloc: Global, rows: &[Cells], place: usize) -> Result<Cells, OutOfMemory>
     requires { place < length rows.now }
     ensures { IfOk result (λ row. slice_get rows.now place ≡ Some row) }
 {
@@ -21,7 +22,7 @@ fn tallies_at(
     law: Law,
     tallies: &[Cells],
     place: usize,
-) -> Result<Option<Cells>, AllocError>
+) -> Result<Option<Cells>, OutOfMemory>
     requires there { place < length tallies.now }
     requires none { is_tally law ≡ false → slice_get tallies.now place ≡ Some [] }
     ensures kind { IfOk result (λ shown. is_some shown ≡ is_tally law) }
@@ -55,7 +56,7 @@ fn token_line(
     spec: &TokSpec,
     last: &Final,
     tok: usize,
-) -> Result<TokenLine, AllocError>
+) -> Result<TokenLine, OutOfMemory>
     requires row { tok < length last.now.rows.items }
     requires generation { tok < length last.now.gens.items }
     requires tally { tok < length last.now.tallies.items }
@@ -77,19 +78,17 @@ fn token_line(
 
 /// The lines of tokens that are opened so and close with these values, by number. That the values are of these tokens is the caller's
 /// condition.
-///
-/// `AllocError` if memory is refused.
 pub fn token_lines(
     alloc: Global,
     specs: &[TokSpec],
     last: &Final,
-) -> Result<Vec<TokenLine>, AllocError>
+) -> Result<Vec<TokenLine>, OutOfMemory>
     requires { AreValuesOf specs.now last.now }
     ensures { IfOk result (λ lines. ShowTokens specs.now lines.items last.now) }
 {
-    let mut lines = Vec::with_capacity(alloc, specs.len())?;
+    let mut lines = with_capacity_for(alloc, specs)?;
     for (i, spec) in specs.iter().enumerate() {
-        lines.push(token_line(alloc, spec, last, i)?)?;
+        push(&mut lines, token_line(alloc, spec, last, i)?)?;
     }
     Ok(lines)
 }

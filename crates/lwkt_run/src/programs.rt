@@ -75,7 +75,7 @@ fn done_of_read<R: Threads + Sync>(
 {
     let script = read?;
     let closing = close_by(rt, alloc, mode, &script)?;
-    done_of(alloc, &closing)
+    Ok(done_of(alloc, &closing)?)
 }
 
 /// Does with what was read of bytes what `run_program` does with these bytes, where its argument is the word for this mode: runs the

@@ -3,9 +3,10 @@ ghost use Rattle.std.specs.Prelude.{◌≡◌, ℕ, ◌<◌, Some, slice_get, mi
 ghost use Rattle.lwkt_run.specs.Keeping.{last_place};
 
 use crate::polled::PolledRef;
-use lwkt_base::Answer;
+use lwkt_base::memory::push;
+use lwkt_base::{Answer, OutOfMemory};
 use lwkt_verdict::{PollList, TurnRow};
-use std::alloc::{AllocError, Global};
+use std::alloc::Global;
 
 // As many threads as there can be, 16 of each of 8 processors.
 const THREAD_LIMIT: usize = 128;
@@ -49,7 +50,7 @@ impl Record {
     }
 
     // The last poll of a thread, if it was polled before, gets its answer.
-    fn answer(&mut self, slot: usize, told: &Answer) -> Result<(), AllocError>
+    fn answer(&mut self, slot: usize, told: &Answer) -> Result<(), OutOfMemory>
         requires { slot < 128 }
         ensures polls { OnOk result (self.new.polls ≡ polls_answered slot told.now self.old.polls) }
         ensures turns { self.new.turns ≡ self.old.turns }
@@ -62,7 +63,7 @@ impl Record {
     }
 
     // Keeps a poll, and the answer to what its thread asked before, if it was polled before.
-    fn keep_poll(&mut self, polled: PolledRef<'_>) -> Result<(), AllocError>
+    fn keep_poll(&mut self, polled: PolledRef<'_>) -> Result<(), OutOfMemory>
         requires { slot_of polled.thread < 128 }
         ensures polls { OnOk result (self.new.polls ≡ polls_after (Some (polled_of polled.entry)) self.old.polls) }
         ensures turns { self.new.turns ≡ self.old.turns }
@@ -84,13 +85,13 @@ impl Record {
     /// Keeps a turn of a processor, 0 to 7, by which the trace grew by `events`, and, if it polled a thread, the poll. The answer
     /// that the thread was given is put to its poll before.
     ///
-    /// `AllocError` if memory is refused. The turn may be kept in part then, so nothing follows from the record any more.
+    /// Where memory is refused, the turn may be kept in part, so nothing follows from the record any more.
     pub fn keep(
         &mut self,
         cpu: u8,
         events: u16,
         asks: Option<PolledRef<'_>>,
-    ) -> Result<(), AllocError>
+    ) -> Result<(), OutOfMemory>
         requires { IfSome asks (λ p. slot_of p.thread < 128) }
         ensures { OnOk result (KeepsTurn cpu events (option_map polled_of asks.entry) (kept_as self.old.order.items self.old.turns.items self.old.polls) (kept_as self.new.order.items self.new.turns.items self.new.polls)) }
     {
@@ -102,8 +103,7 @@ impl Record {
                 Some(place_behind(before))
             }
         };
-        self.turns.push(TurnRow::of(poll, events))?;
-        self.order.push(cpu)?;
-        Ok(())
+        push(&mut self.turns, TurnRow::of(poll, events))?;
+        push(&mut self.order, cpu)
     }
 }

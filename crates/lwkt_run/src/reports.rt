@@ -1,11 +1,10 @@
 //! The report of a run written, whichever way its processors were driven.
-ghost use Rattle.std.specs.Prelude.{◌≡◌, Err, IfOk, IsOkUnless, IsTrue, OnOk, string_bytes};
-ghost use Rattle.lwkt_base.specs.Fault.{no_memory};
+ghost use Rattle.std.specs.Prelude.{◌≡◌, Err, IfOk, IsTrue, OnOk, string_bytes};
 ghost use Rattle.lwkt_report.specs.Report.{report_text};
 ghost use Rattle.lwkt_run.specs.Run.{Concludes, end_told};
 
 use crate::runs::{End, end_told};
-use lwkt_base::Fault;
+use lwkt_base::{Fault, OutOfMemory};
 use lwkt_report::{Closing, RunFault, Sink, report, write_whole};
 use std::alloc::Global;
 
@@ -19,10 +18,9 @@ pub struct Done {
 }
 
 /// The report of what a run closed with, and how it ended.
-pub fn done_of(alloc: Global, closing: &Closing) -> Result<Done, Fault>
+pub fn done_of(alloc: Global, closing: &Closing) -> Result<Done, OutOfMemory>
     ensures text { IfOk result (λ done. string_bytes done.text ≡ report_text closing.now) }
     ensures end { IfOk result (λ done. done.end ≡ end_told closing.now) }
-    ensures only { IsOkUnless result no_memory }
 {
     let end = end_told(closing);
     let text = report(alloc, closing)?;

@@ -4,11 +4,10 @@ ghost use Rattle.lwkt_cpu.specs.declared.answers.Turned.{Turned};
 ghost use Rattle.lwkt_verdict.specs.Threads.{slot_of};
 ghost use Rattle.lwkt_run.specs.Keeping.{polled_of};
 ghost use Rattle.lwkt_run.specs.Running.{WasPolled, HasPolled, IsPolledAt, HasBeenAsked, MakesKeptTurn, kept_in_record, scene, says_over, both as both_so, RoundTold, HasMadeRounds, MakesTurns};
-ghost use Rattle.lwkt_base.specs.Fault.{no_memory};
 
 use crate::polled::PolledRef;
 use crate::records::Record;
-use lwkt_base::{CpuId, Fault, ThreadId};
+use lwkt_base::{CpuId, OutOfMemory, ThreadId};
 use lwkt_core::Event;
 use lwkt_cpu::Turned;
 use lwkt_events::EventList;
@@ -67,24 +66,19 @@ fn make_turn(
     room: &mut Vec<Event>,
     trace: &mut EventList,
     kept: &mut Record,
-) -> Result<bool, Fault>
+) -> Result<bool, OutOfMemory>
     requires there { cpu < length machine.old.cpus }
     requires few { length machine.old.cpus ≤ 8 }
     ensures ok { IfOk result (λ over. (turned : Turned) × (MakesKeptTurn cpu turned (scene machine.old trace.old.items (kept_in_record kept.old)) (scene machine.new trace.new.items (kept_in_record kept.new)) × (over ≡ says_over turned))) }
     ensures as_many { length machine.new.cpus ≡ length machine.old.cpus }
-    ensures only { OnErr result (result ≡ Err no_memory) }
 {
     room.clear();
     let turned = machine.turn(cpu, room)?;
     let asks = asks_of(machine, cpu, turned);
     let events = room.len() as u16;
-    if let Err(refused) = trace.append(room.as_slice()) {
-        return Err(Fault::Memory(refused));
-    }
-    match kept.keep(cpu as u8, events, asks) {
-        Ok(()) => Ok(is_over(turned)),
-        Err(refused) => Err(Fault::Memory(refused)),
-    }
+    trace.append(room.as_slice())?;
+    kept.keep(cpu as u8, events, asks)?;
+    Ok(is_over(turned))
 }
 
 // Makes a round, one turn of each processor, and says whether all said that their threads have ended.
@@ -93,9 +87,8 @@ fn make_round(
     room: &mut Vec<Event>,
     trace: &mut EventList,
     kept: &mut Record,
-) -> Result<bool, Fault>
+) -> Result<bool, OutOfMemory>
     ensures ok { IfOk result (λ over. RoundTold (scene machine.old trace.old.items (kept_in_record kept.old)) (scene machine.new trace.new.items (kept_in_record kept.new)) over) }
-    ensures only { OnErr result (result ≡ Err no_memory) }
 {
     let mut over = true;
     for cpu in 0..machine.cpus() {
@@ -108,20 +101,18 @@ fn make_round(
 /// Makes the turn of each processor that an order names, one after another, and keeps each. A turn's events are told into the room, in
 /// place of what that had, and go behind the trace. That the processors are there is the caller's condition.
 ///
-/// Refused with `Memory` if memory for a turn's events or for keeping it is refused. The turns before are made then, and nothing
-/// follows from what was kept.
+/// Refused if memory for a turn's events or for keeping it is. The turns before are made then, and nothing follows from what was kept.
 pub fn make_turns(
     machine: &mut Machine,
     order: &[u8],
     room: &mut Vec<Event>,
     trace: &mut EventList,
     kept: &mut Record,
-) -> Result<(), Fault>
+) -> Result<(), OutOfMemory>
     requires processors { All (λ x. x < length machine.old.cpus) order.now }
     requires few { length machine.old.cpus ≤ 8 }
     ensures ok { OnOk result (MakesTurns order.now (scene machine.old trace.old.items (kept_in_record kept.old)) (scene machine.new trace.new.items (kept_in_record kept.new))) }
     ensures order { OnOk result (kept.new.order.items ≡ kept.old.order.items ++ order.now) }
-    ensures only { OnErr result (result ≡ Err no_memory) }
 {
     for at in 0..order.len() {
         make_turn(machine, usize::from(order[at]), room, trace, kept)?;
@@ -132,16 +123,15 @@ pub fn make_turns(
 /// Makes `limit` rounds of one turn for each processor, by rising number, or fewer: up to the first in which each turn says that
 /// every thread of its processor has ended. Keeps each turn, as `make_turns` does.
 ///
-/// Refused with `Memory` as `make_turns` is.
+/// Refused as `make_turns` is.
 pub fn make_rounds(
     machine: &mut Machine,
     limit: u32,
     room: &mut Vec<Event>,
     trace: &mut EventList,
     kept: &mut Record,
-) -> Result<(), Fault>
+) -> Result<(), OutOfMemory>
     ensures ok { OnOk result (HasMadeRounds limit (scene machine.old trace.old.items (kept_in_record kept.old)) (scene machine.new trace.new.items (kept_in_record kept.new))) }
-    ensures only { OnErr result (result ≡ Err no_memory) }
 {
     for _round in 0..limit {
         if make_round(machine, room, trace, kept)? {

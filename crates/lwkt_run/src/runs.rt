@@ -15,14 +15,14 @@ use crate::records::Record;
 use crate::reports::{Done, conclude, done_of};
 use crate::rounds::{make_rounds, make_turns};
 use crate::verdicts::verdict_of;
-use lwkt_base::Fault;
+use lwkt_base::{Fault, OutOfMemory};
 use lwkt_core::{Event, Final, State};
 use lwkt_events::EventList;
 use lwkt_machine::Machine;
 use lwkt_report::{Closing, RunFault, Sink, Source, ThreadLine, Verdict, read_capped};
 use lwkt_script::{Script, read_script};
 use lwkt_verdict::{Pace, PollList, TurnRow, are_processors};
-use std::alloc::{AllocError, Global};
+use std::alloc::Global;
 
 /// How a run ended, by its report.
 #[derive(Clone, Copy, Debug, PartialEq, Eq)]
@@ -64,7 +64,7 @@ fn closing_of(
     trace: &EventList,
     kept: &Record,
     room: &mut Vec<Event>,
-) -> Result<Closing, AllocError>
+) -> Result<Closing, OutOfMemory>
     requires opening { opening ≡ opening_of_script script.now }
     requires again { again ≡ opening_of_script script.now }
     requires within { AreWithin script.now.cpus script.now.tokens script.now.messages }
@@ -133,21 +133,20 @@ fn run_of(alloc: Global, script: &Script) -> Result<Made, Fault>
     ensures refused { IfErr result (λ fault. DeclinesRun script.now fault) }
 {
     let mut machine = Machine::open(alloc, script)?;
+    let close_room = machine.room(alloc)?;
     let mut room = Vec::new(alloc);
     let mut trace = EventList::new(alloc);
     let mut kept = Record::new(alloc);
     make_rounds(&mut machine, script.turns, &mut room, &mut trace, &mut kept)?;
     room.clear();
-    let left = left_by(alloc, script, machine, &mut room)?;
-    match trace.append(room.as_slice()) {
-        Ok(()) => Ok(Made {
-            trace,
-            kept,
-            left,
-            room,
-        }),
-        Err(refused) => Err(Fault::Memory(refused)),
-    }
+    let left = left_by(alloc, script, machine, close_room, &mut room)?;
+    trace.append(room.as_slice())?;
+    Ok(Made {
+        trace,
+        kept,
+        left,
+        room,
+    })
 }
 
 // Makes the turns of a script that an order names, each of a processor that is there.
@@ -161,21 +160,20 @@ fn run_along(alloc: Global, script: &Script, order: &[u8]) -> Result<Made, Fault
     ensures refused { IfErr result (λ fault. DeclinesRun script.now fault) }
 {
     let mut machine = Machine::open(alloc, script)?;
+    let close_room = machine.room(alloc)?;
     let mut room = Vec::new(alloc);
     let mut trace = EventList::new(alloc);
     let mut kept = Record::new(alloc);
     make_turns(&mut machine, order, &mut room, &mut trace, &mut kept)?;
     room.clear();
-    let left = left_by(alloc, script, machine, &mut room)?;
-    match trace.append(room.as_slice()) {
-        Ok(()) => Ok(Made {
-            trace,
-            kept,
-            left,
-            room,
-        }),
-        Err(refused) => Err(Fault::Memory(refused)),
-    }
+    let left = left_by(alloc, script, machine, close_room, &mut room)?;
+    trace.append(room.as_slice())?;
+    Ok(Made {
+        trace,
+        kept,
+        left,
+        room,
+    })
 }
 
 // What was made of a script at a pace, with the verdict on it.
@@ -197,12 +195,9 @@ fn judged_run(alloc: Global, pace: Pace, script: &Script, made: Made) -> Result<
         left,
         mut room,
     } = made;
-    let closing = match closing_of(
+    let closing = closing_of(
         alloc, script, pace, opening, again, left, &trace, &kept, &mut room,
-    ) {
-        Ok(closing) => closing,
-        Err(refused) => return Err(Fault::Memory(refused)),
-    };
+    )?;
     let Record {
         order,
         polls,
@@ -281,7 +276,7 @@ fn done_of_bytes(alloc: Global, bytes: &[u8]) -> Result<Done, Fault>
 {
     let script = read_script(alloc, bytes)?;
     let closing = close_turns(alloc, &script)?;
-    done_of(alloc, &closing)
+    Ok(done_of(alloc, &closing)?)
 }
 
 /// Reads a script to its end, or to 1048577 bytes, runs it on one thread, and writes its report, which is whole in memory

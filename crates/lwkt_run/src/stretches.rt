@@ -5,14 +5,15 @@ ghost use Rattle.lwkt_events.specs.ShortEvents.{KeptTrace};
 ghost use Rattle.lwkt_events.specs.Stretches.{StandFor};
 ghost use Rattle.lwkt_run.specs.Telling.{sections_of_all};
 
+use lwkt_base::OutOfMemory;
+use lwkt_base::memory::{extend_from_slice, map_places};
 use lwkt_core::Event;
 use lwkt_events::{EventList, Stretch, Stretches};
-use std::alloc::{AllocError, Global};
-use std::thread;
+use std::alloc::Global;
 use std::thread::Threads;
 
 // The stretches of the sections that a trace tells.
-fn stretches_in(alloc: Global, trace: &EventList) -> Result<Vec<Stretch>, AllocError>
+fn stretches_in(alloc: Global, trace: &EventList) -> Result<Vec<Stretch>, OutOfMemory>
     ensures { IfOk result (λ stretches. StandFor stretches.items (sections_told trace.now.items)) }
 {
     let mut stretches = Stretches::new(alloc);
@@ -25,16 +26,11 @@ fn stretches_by_trace<R: Threads + Sync>(
     rt: &R,
     alloc: Global,
     traces: &[EventList],
-) -> Result<Vec<Result<Vec<Stretch>, AllocError>>, AllocError>
+) -> Result<Vec<Result<Vec<Stretch>, OutOfMemory>>, OutOfMemory>
     ensures len { IfOk result (λ told. length told.items ≡ length traces.now) }
     ensures each { IfOk result (λ told. (i : ℕ) (d : _) (t : KeptTrace) → i < length traces.now → IfOk (slice_index_or told.items i d) (λ stretches. StandFor stretches.items (sections_told (slice_index_or traces.now i t).items))) }
 {
-    thread::map_indices(
-        rt,
-        alloc,
-        traces.len(),
-        &|at| stretches_in(alloc, &traces[at]),
-    )
+    map_places(rt, alloc, traces, &|at| stretches_in(alloc, &traces[at]))
 }
 
 // The stretches of the sections that traces tell, one trace's after another's.
@@ -42,14 +38,14 @@ fn stretches_of_traces<R: Threads + Sync>(
     rt: &R,
     alloc: Global,
     traces: &[EventList],
-) -> Result<Vec<Stretch>, AllocError>
+) -> Result<Vec<Stretch>, OutOfMemory>
     ensures { IfOk result (λ all. StandFor all.items (flat_map (λ trace. sections_told trace.items) traces.now)) }
 {
     let told = stretches_by_trace(rt, alloc, traces)?;
     let mut all = Vec::new(alloc);
     for at in 0..told.len() {
         match &told[at] {
-            Ok(stretches) => all.extend_from_slice(stretches.as_slice())?,
+            Ok(stretches) => extend_from_slice(&mut all, stretches.as_slice())?,
             Err(refused) => return Err(*refused),
         }
     }
@@ -57,19 +53,17 @@ fn stretches_of_traces<R: Threads + Sync>(
 }
 
 /// The stretches of the written sections that traces tell, one trace's after another's, and then of those that a stop tells.
-///
-/// `AllocError` if memory is refused.
 pub fn stretches_of<R: Threads + Sync>(
     rt: &R,
     alloc: Global,
     traces: &[EventList],
     stops: &[Event],
-) -> Result<Vec<Stretch>, AllocError>
+) -> Result<Vec<Stretch>, OutOfMemory>
     ensures { IfOk result (λ stretches. StandFor stretches.items (sections_of_all traces.now stops.now)) }
 {
     let mut all = stretches_of_traces(rt, alloc, traces)?;
     let mut last = Stretches::new(alloc);
     last.add_told(stops)?;
-    all.extend_from_slice(last.into_vec().as_slice())?;
+    extend_from_slice(&mut all, last.into_vec().as_slice())?;
     Ok(all)
 }

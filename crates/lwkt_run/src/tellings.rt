@@ -4,32 +4,33 @@ ghost use Rattle.lwkt_core.specs.RunSections.{sections_told};
 ghost use Rattle.lwkt_run.specs.Telling.{sections_of_all, AreSorted, opening_rows, closing_rows, IsVerdictOn, IsVerdictOnAll};
 
 use crate::stretches::stretches_of;
-use lwkt_base::{Fault, Row, Rows, Section, TokSpec};
+use lwkt_base::memory::{push, with_capacity_for};
+use lwkt_base::{Fault, OutOfMemory, Row, Rows, Section, TokSpec};
 use lwkt_core::{Event, Final, check_sections};
 use lwkt_events::{EventList, are_chains};
 use lwkt_report::Verdict;
-use std::alloc::{AllocError, Global};
+use std::alloc::Global;
 use std::thread::Threads;
 
 // Adds the sections that events tell to those told before.
-fn add_told(sections: &mut Vec<Section>, events: &[Event]) -> Result<(), AllocError>
+fn add_told(sections: &mut Vec<Section>, events: &[Event]) -> Result<(), OutOfMemory>
     ensures { OnOk result (sections.new.items ≡ sections.old.items ++ sections_told events.now) }
 {
     for event in events {
         if let Event::GiveWritten { section, .. } = *event {
-            sections.push(section)?;
+            push(sections, section)?;
         }
     }
     Ok(())
 }
 
 // Adds the sections that a packed trace tells.
-fn add_kept(sections: &mut Vec<Section>, trace: &EventList) -> Result<(), AllocError>
+fn add_kept(sections: &mut Vec<Section>, trace: &EventList) -> Result<(), OutOfMemory>
     ensures { OnOk result (sections.new.items ≡ sections.old.items ++ sections_told trace.now.items) }
 {
     for place in 0..trace.len() {
         if let Some(give) = trace.give(place) {
-            sections.push(give.section)?;
+            push(sections, give.section)?;
         }
     }
     Ok(())
@@ -40,7 +41,7 @@ fn gathered(
     alloc: Global,
     traces: Vec<EventList>,
     stops: &[Event],
-) -> Result<Vec<Section>, AllocError>
+) -> Result<Vec<Section>, OutOfMemory>
     ensures { IfOk result (λ sections. sections.items ≡ sections_of_all traces.items stops.now) }
 {
     let mut sections = Vec::new(alloc);
@@ -52,13 +53,11 @@ fn gathered(
 }
 
 /// The written sections in traces and in the events of a stop, by token, and those of one token by generation.
-///
-/// `AllocError` if memory is refused.
 pub fn sections_in_order(
     alloc: Global,
     traces: Vec<EventList>,
     stops: &[Event],
-) -> Result<Vec<Section>, AllocError>
+) -> Result<Vec<Section>, OutOfMemory>
     ensures told { IfOk result (λ sections. IsPermutation (sections_of_all traces.items stops.now) sections.items) }
     ensures sorted { IfOk result (λ sections. AreSorted sections.items) }
 {
@@ -68,26 +67,26 @@ pub fn sections_in_order(
 }
 
 // The rows and generations that tokens are opened with.
-fn rows_opened(alloc: Global, specs: &[TokSpec]) -> Result<Rows, AllocError>
+fn rows_opened(alloc: Global, specs: &[TokSpec]) -> Result<Rows, OutOfMemory>
     requires { All (λ spec. length spec.cells ≤ 4) specs.now }
     ensures { IfOk result (λ rows. rows ≡ opening_rows specs.now) }
 {
-    let mut rows = Vec::with_capacity(alloc, specs.len())?;
+    let mut rows = with_capacity_for(alloc, specs)?;
     for spec in specs {
-        rows.push((Row::of(spec.cells.as_slice()), spec.generation))?;
+        push(&mut rows, (Row::of(spec.cells.as_slice()), spec.generation))?;
     }
     Ok(Rows::from_vec(rows))
 }
 
 // Closing rows and generations.
-fn rows_closed(alloc: Global, last: &Final) -> Result<Rows, AllocError>
+fn rows_closed(alloc: Global, last: &Final) -> Result<Rows, OutOfMemory>
     requires as_many { length last.now.gens.items ≡ length last.now.rows.items }
     requires few { All (λ row. length row ≤ 4) last.now.rows.items }
     ensures { IfOk result (λ rows. rows ≡ closing_rows last.now) }
 {
-    let mut rows = Vec::with_capacity(alloc, last.rows.len())?;
+    let mut rows = with_capacity_for(alloc, &last.rows)?;
     for (i, row) in last.rows.iter().enumerate() {
-        rows.push((Row::of(row.as_slice()), last.gens[i]))?;
+        push(&mut rows, (Row::of(row.as_slice()), last.gens[i]))?;
     }
     Ok(Rows::from_vec(rows))
 }
@@ -108,14 +107,12 @@ fn verdict_on(first: &Rows, last: &Rows, sections: &[Section]) -> Verdict
 /// The verdict on the written sections of a run: `Closed` exactly if they are, in this order, chains from the opening rows and
 /// generations to the closing ones; else `Unlawful` with the index of the first that doesn't go on with its token's chain, or the
 /// number of sections.
-///
-/// `AllocError` if memory is refused.
 pub fn judged(
     alloc: Global,
     specs: &[TokSpec],
     last: &Final,
     sections: &[Section],
-) -> Result<Verdict, AllocError>
+) -> Result<Verdict, OutOfMemory>
     requires opened { length last.now.rows.items ≡ length specs.now }
     requires as_many { length last.now.gens.items ≡ length last.now.rows.items }
     requires few { All (λ spec. length spec.cells ≤ 4) specs.now }
@@ -129,8 +126,6 @@ pub fn judged(
 
 /// The verdict on the written sections in traces and in the events of a stop, as that of `judged` on them in order. Their stretches are
 /// checked first, which are found by a thread for each trace, if one can be made. Only if these aren't chains are the sections gathered and put in order, for the index.
-///
-/// `AllocError` if memory is refused.
 pub fn judged_told<R: Threads + Sync>(
     rt: &R,
     alloc: Global,
@@ -138,7 +133,7 @@ pub fn judged_told<R: Threads + Sync>(
     last: &Final,
     traces: Vec<EventList>,
     stops: &[Event],
-) -> Result<Verdict, AllocError>
+) -> Result<Verdict, OutOfMemory>
     requires opened { length last.now.rows.items ≡ length specs.now }
     requires as_many { length last.now.gens.items ≡ length last.now.rows.items }
     requires few { All (λ spec. length spec.cells ≤ 4) specs.now }

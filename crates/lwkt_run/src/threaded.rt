@@ -12,14 +12,14 @@ use crate::lines::token_lines;
 use crate::reports::{Done, conclude, done_of};
 use crate::runs::End;
 use crate::tellings::{judged, judged_told, sections_in_order};
-use lwkt_base::{CpuId, Fault, Section};
+use lwkt_base::{CpuId, Fault, OutOfMemory, Section};
 use lwkt_core::{Event, Final};
 use lwkt_events::EventList;
 use lwkt_machine::Machine;
 use lwkt_report::{Closing, RunFault, Sink, Source, Verdict, read_capped};
 use lwkt_script::{Script, read_script};
 use lwkt_threads::{Gate, Limits, OpenGate, Outcome, drive_machine};
-use std::alloc::{AllocError, Global};
+use std::alloc::Global;
 use std::thread::Threads;
 
 /// A run of a script on threads: what its report shows, and the written sections that its processors reported, by token and then by
@@ -57,13 +57,14 @@ fn told_of<R: Threads + Sync, G: Gate + Sync>(
     ensures refused { IfErr result (λ fault. DeclinesRun script.now fault) }
 {
     let machine = Machine::open(alloc, script)?;
+    let close_room = machine.room(alloc)?;
     let limits = Limits {
         turns: script.turns,
         idle: script.idle,
     };
     let Outcome { machine, traces } = drive_machine(rt, alloc, gate, &limits, machine)?;
     let mut stops = Vec::new(alloc);
-    let left = left_by(alloc, script, machine, &mut stops)?;
+    let left = left_by(alloc, script, machine, close_room, &mut stops)?;
     Ok(Told {
         left,
         traces,
@@ -77,7 +78,7 @@ fn closing_of(
     script: &Script,
     left: Left,
     verdict: Verdict,
-) -> Result<Closing, AllocError>
+) -> Result<Closing, OutOfMemory>
     requires { AreValuesOf script.now.tokens left.last }
     ensures { IfOk result (λ closing. ShowsLeft script.now.tokens left.threads.items left.last verdict closing) }
 {
@@ -99,7 +100,7 @@ fn judged_closing<R: Threads + Sync, G: Gate>(
     gate: &G,
     script: &Script,
     told: Told,
-) -> Result<Closing, AllocError>
+) -> Result<Closing, OutOfMemory>
     requires within { AreWithin script.now.cpus script.now.tokens script.now.messages }
     requires lawful { AllOpenLawfully script.now.tokens }
     requires values { AreValuesOf script.now.tokens told.left.last }
@@ -129,7 +130,7 @@ fn record_of<G: Gate>(
     gate: &G,
     script: &Script,
     told: Told,
-) -> Result<ThreadRecord, AllocError>
+) -> Result<ThreadRecord, OutOfMemory>
     requires within { AreWithin script.now.cpus script.now.tokens script.now.messages }
     requires lawful { AllOpenLawfully script.now.tokens }
     requires values { AreValuesOf script.now.tokens told.left.last }
@@ -163,10 +164,7 @@ fn closing_of_script<R: Threads + Sync, G: Gate + Sync>(
     ensures refused { IfErr result (λ fault. DeclinesRun script.now fault) }
 {
     let told = told_of(rt, alloc, gate, script)?;
-    match judged_closing(rt, alloc, gate, script, told) {
-        Ok(closing) => Ok(closing),
-        Err(refused) => Err(Fault::Memory(refused)),
-    }
+    Ok(judged_closing(rt, alloc, gate, script, told)?)
 }
 
 // Runs the script that the bytes are on threads, to the text of its report.
@@ -181,7 +179,7 @@ fn done_of_bytes<R: Threads + Sync, G: Gate + Sync>(
 {
     let script = read_script(alloc, bytes)?;
     let closing = closing_of_script(rt, alloc, gate, &script)?;
-    done_of(alloc, &closing)
+    Ok(done_of(alloc, &closing)?)
 }
 
 /// Reads a script to its end, or to 1048577 bytes, drives each of its processors on a thread of its own if one can be made, and
@@ -256,8 +254,5 @@ pub fn record_threads<R: Threads + Sync>(
     ensures refused { IfErr result (λ fault. DeclinesRun script.now fault) }
 {
     let told = told_of(rt, alloc, &OpenGate, script)?;
-    match record_of(alloc, &OpenGate, script, told) {
-        Ok(kept) => Ok(kept),
-        Err(refused) => Err(Fault::Memory(refused)),
-    }
+    Ok(record_of(alloc, &OpenGate, script, told)?)
 }

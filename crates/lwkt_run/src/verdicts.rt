@@ -3,13 +3,12 @@ ghost use Rattle.lwkt_core.specs.Trace.{Closes, IsLawfulTrace, FailsAt};
 ghost use Rattle.lwkt_run.specs.Judging.{IsVerdict};
 
 use crate::records::Record;
-use lwkt_base::Fault;
+use lwkt_base::{Fault, OutOfMemory};
 use lwkt_core::{Event, Final, State, check};
 use lwkt_events::EventList;
 use lwkt_report::{ThreadLine, Verdict};
 use lwkt_script::ThreadSpec;
 use lwkt_verdict::{Pace, is_script_run};
-use std::alloc::AllocError;
 
 // The verdict on a trace whose turns are no run of the script.
 fn failure_of(opening: State, last: &Final, trace: &[Event]) -> Verdict
@@ -40,7 +39,7 @@ fn close_of(state: &State, last: &Final, events: usize) -> Verdict
 /// played from `again`, the same opening, for the index. The events of a turn, and then all of them, are read into `room`, in place of
 /// what that had.
 ///
-/// `AllocError` if `room` lacks room for the events of a turn, or for all of them where the check says no, and can't be given it. So only
+/// `OutOfMemory` if `room` lacks room for the events of a turn, or for all of them where the check says no, and can't be given it. So only
 /// if it lacks room for all of them.
 pub fn verdict_of(
     opening: State,
@@ -53,7 +52,7 @@ pub fn verdict_of(
     trace: &EventList,
     kept: &Record,
     room: &mut Vec<Event>,
-) -> Result<Verdict, AllocError>
+) -> Result<Verdict, OutOfMemory>
     requires { again ≡ opening }
     ensures verdict { IfOk result (λ verdict. IsVerdict verdict opening pace order.now threads.now lines.now last.now trace.now.items kept.now.polls kept.now.turns.items) }
     ensures full { OnErr result (vec_capacity room.old < length trace.now.items) }

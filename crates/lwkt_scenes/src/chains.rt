@@ -5,11 +5,11 @@ use crate::scenes::{Scene, part_of, scene_of};
 use crate::sections::{TokenPages, show_change};
 use crate::tokens::Runners;
 use crate::words::show_thread;
-use lwkt_base::{CpuId, Section};
+use lwkt_base::{CpuId, OutOfMemory, Section};
 use lwkt_core::Event;
 use lwkt_report::Closing;
 use lwkt_script::Script;
-use std::alloc::{AllocError, Global};
+use std::alloc::Global;
 
 /// The thread that each processor polled last, and of each token what is shown of it so far.
 #[derive(Drop)]
@@ -78,8 +78,8 @@ impl Chains {
 /// order, with its generation, its thread, the turn in which it ended, counted from 0, or that it ended with the stop, and the row
 /// before and after it, and then the closing row of the report.
 ///
-/// `AllocError` if memory is refused.
-pub fn chains_of(alloc: Global, run: &Reel) -> Result<String, AllocError> {
+/// Refused if memory is.
+pub fn chains_of(alloc: Global, run: &Reel) -> Result<String, OutOfMemory> {
     let mut chains = Chains {
         polled: [None; 8],
         pages: TokenPages::open(alloc, run.script.tokens.as_slice())?,
@@ -99,14 +99,14 @@ fn show_giver(out: &mut Page, giver: Option<&CpuId>) {
 /// them in the same order: of each token its opening row, then one line for each section, with its generation, its processor if
 /// that is given, and the row before and after it, and then the closing row of the report.
 ///
-/// `AllocError` if memory is refused.
+/// Refused if memory is.
 pub fn chains_of_sections(
     alloc: Global,
     script: &Script,
     sections: &[Section],
     givers: &[CpuId],
     closing: &Closing,
-) -> Result<String, AllocError> {
+) -> Result<String, OutOfMemory> {
     let mut pages = TokenPages::open(alloc, script.tokens.as_slice())?;
     for (place, section) in sections.iter().enumerate() {
         if let Some(out) = pages.page(section.tok) {

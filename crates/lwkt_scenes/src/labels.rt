@@ -1,8 +1,9 @@
 //! Labels above turns: what was refused, whose thread ended, which message was sent. No two of them overlap.
 use crate::layouts::{CPU_LIMIT, Grid, seat_of};
 use crate::shapes::text_width;
-use lwkt_base::{Fault, MsgId};
-use std::alloc::{AllocError, Global};
+use lwkt_base::memory::push;
+use lwkt_base::{Fault, MsgId, OutOfMemory};
+use std::alloc::Global;
 
 // The most lines of labels above a processor.
 const LINE_LIMIT: usize = 70;
@@ -74,10 +75,10 @@ fn letters(tag: Tag) -> usize {
 
 impl Labels {
     /// No labels yet in these rounds.
-    pub(crate) fn new(alloc: Global, grid: Grid) -> Result<Self, AllocError> {
+    pub(crate) fn new(alloc: Global, grid: Grid) -> Result<Self, OutOfMemory> {
         let mut lines = Vec::new(alloc);
         for _seat in 0..seat_of(grid.bands(), 0) {
-            lines.push(0usize)?;
+            push(&mut lines, 0usize)?;
         }
         Ok(Labels {
             grid,
@@ -113,7 +114,7 @@ impl Labels {
     }
 
     /// Adds a label above a turn, on the lowest line where nothing is in its way. One that finds none is left out.
-    pub(crate) fn add(&mut self, round: usize, cpu: usize, tag: Tag) -> Result<(), AllocError> {
+    pub(crate) fn add(&mut self, round: usize, cpu: usize, tag: Tag) -> Result<(), OutOfMemory> {
         let band = self.turn_to(round);
         let width = text_width(letters(tag));
         let right = self.grid.width().saturating_sub(2);
@@ -125,13 +126,13 @@ impl Labels {
         if let Some(lines) = self.lines.get_mut(seat_of(band, cpu)) {
             *lines = line.saturating_add(1).max(*lines);
         }
-        self.list.push(Label {
+        let label = Label {
             round,
             cpu,
             line,
             x,
             tag,
-        })?;
-        Ok(())
+        };
+        push(&mut self.list, label)
     }
 }

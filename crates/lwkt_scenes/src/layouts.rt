@@ -1,5 +1,7 @@
+use lwkt_base::OutOfMemory;
+use lwkt_base::memory::push;
 use lwkt_core::Event;
-use std::alloc::{AllocError, Global};
+use std::alloc::Global;
 
 /// The most processors of a script.
 pub(crate) const CPU_LIMIT: usize = 8;
@@ -149,13 +151,13 @@ fn place_band(
     depths: &[usize],
     lines: &[usize],
     from: usize,
-) -> Result<usize, AllocError> {
+) -> Result<usize, OutOfMemory> {
     let mut at = from;
     for (cpu, depth) in depths.iter().enumerate() {
         let count = lines.get(seat_of(band, cpu)).copied().unwrap_or(0);
         let above = count.max(1).saturating_mul(LINE).saturating_add(LIFT + 2);
         let top = at.saturating_add(above);
-        tops.push(top)?;
+        push(tops, top)?;
         if *depth > 0 {
             at = top.saturating_add(*depth);
         }
@@ -168,10 +170,10 @@ fn rows_of(
     alloc: Global,
     cpus: usize,
     trace: &[Event],
-) -> Result<(Vec<usize>, [usize; CPU_LIMIT]), AllocError> {
+) -> Result<(Vec<usize>, [usize; CPU_LIMIT]), OutOfMemory> {
     let mut rows = Vec::new(alloc);
     for _slot in 0..CPU_LIMIT * TOKEN_LIMIT {
-        rows.push(0usize)?;
+        push(&mut rows, 0usize)?;
     }
     note_used(&mut rows, trace);
     let mut depths = [0usize; CPU_LIMIT];
@@ -192,13 +194,13 @@ impl Layout {
         grid: Grid,
         trace: &[Event],
         lines: &[usize],
-    ) -> Result<Self, AllocError> {
+    ) -> Result<Self, OutOfMemory> {
         let (rows, depths) = rows_of(alloc, cpus, trace)?;
         let mut heads = Vec::new(alloc);
         let mut tops = Vec::new(alloc);
         let mut at = HEAD;
         for band in 0..grid.bands() {
-            heads.push(at)?;
+            push(&mut heads, at)?;
             at = place_band(&mut tops, band, &depths, lines, at)?;
         }
         Ok(Layout {

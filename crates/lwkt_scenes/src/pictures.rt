@@ -14,10 +14,10 @@ use crate::shapes::{BOLD, show_label, show_text_at, show_word};
 use crate::sketches::{Content, Sent, Sketch, TurnBox};
 use crate::turns::{pass_turn, show_turn};
 use crate::waits::idle_of;
-use lwkt_base::{Answer, Fault, ThreadState};
+use lwkt_base::{Answer, Fault, OutOfMemory, ThreadState};
 use lwkt_core::Event;
 use lwkt_trace::words::{Subject, subject_of};
-use std::alloc::{AllocError, Global};
+use std::alloc::Global;
 
 // The most turns that a picture shows.
 const PICTURE_LIMIT: usize = 2_000;
@@ -146,7 +146,7 @@ fn play_turn(
     sketch: &mut Sketch,
     replay: &mut Replay,
     scene: &Scene,
-) -> Result<(), AllocError> {
+) -> Result<(), OutOfMemory> {
     let mut line = Page::new(alloc);
     show_turn(alloc, replay, &mut line, scene);
     let fault = fault_of(replay, scene);
@@ -161,7 +161,7 @@ fn play_turn(
 }
 
 // Notes the events of a turn, which has been made.
-fn note_events(sketch: &mut Sketch, replay: &Replay, scene: &Scene) -> Result<(), AllocError> {
+fn note_events(sketch: &mut Sketch, replay: &Replay, scene: &Scene) -> Result<(), OutOfMemory> {
     for event in scene.part {
         sketch.note(event, scene.round, sent_in(replay, event))?;
     }
@@ -175,7 +175,7 @@ fn note_turns(
     sketch: &mut Sketch,
     replay: &mut Replay,
     shown: Shown,
-) -> Result<(), AllocError> {
+) -> Result<(), OutOfMemory> {
     let mut from = 0usize;
     for (number, turn) in run.turns.iter().enumerate() {
         if number > shown.last {
@@ -257,7 +257,7 @@ fn draw(
     run: &Reel,
     replay: &mut Replay,
     chosen: Chosen,
-) -> Result<String, AllocError> {
+) -> Result<String, OutOfMemory> {
     let cpus = usize::from(run.script.cpus).max(1);
     let shown = shown_of(run, chosen);
     let grid = grid_of(run, shown, cpus);
@@ -282,8 +282,5 @@ pub fn picture_of(alloc: Global, run: &Reel, chosen: Chosen) -> Result<String, F
     ensures refused { IfErr result (MayBeRefused run.now.script.now) }
 {
     let mut replay = Replay::open(alloc, run.script, &run.closing.threads)?;
-    match draw(alloc, run, &mut replay, chosen) {
-        Ok(text) => Ok(text),
-        Err(refused) => Err(Fault::Memory(refused)),
-    }
+    Ok(draw(alloc, run, &mut replay, chosen)?)
 }

@@ -5,6 +5,7 @@ use crate::scenes::Scene;
 use crate::stories::{Doing, Outcome, Story, doing_after};
 use crate::tokens::Runners;
 use crate::tries::{held_after, taker};
+use lwkt_base::memory::push;
 use lwkt_base::{Answer, Ask, Blob, Fault, Law, MsgId, ThreadId, ThreadState, TokId};
 use lwkt_core::{Event, State};
 use lwkt_refusals::show_breach;
@@ -102,10 +103,7 @@ impl Replay {
         )?;
         let mut stories = Vec::new(alloc);
         for line in lines {
-            let story = story_of(alloc, script, line);
-            if let Err(refused) = stories.push(story) {
-                return Err(Fault::Memory(refused.into()));
-            }
+            push(&mut stories, story_of(alloc, script, line))?;
         }
         Ok(Replay {
             state,

@@ -1,9 +1,10 @@
 //! What is shown of written sections: a page for each token, and how a section changed its row.
 use crate::pages::Page;
-use lwkt_base::{Section, TokId, TokSpec};
+use lwkt_base::memory::push;
+use lwkt_base::{OutOfMemory, Section, TokId, TokSpec};
 use lwkt_report::TokenLine;
 use lwkt_trace::words::law_name;
-use std::alloc::{AllocError, Global};
+use std::alloc::Global;
 
 /// Of each token, by its number, what is shown of it so far.
 #[derive(Drop)]
@@ -40,12 +41,12 @@ pub(crate) fn show_change(out: &mut Page, section: &Section) {
 
 impl TokenPages {
     /// A page for each token, with its opening row.
-    pub(crate) fn open(alloc: Global, tokens: &[TokSpec]) -> Result<Self, AllocError> {
+    pub(crate) fn open(alloc: Global, tokens: &[TokSpec]) -> Result<Self, OutOfMemory> {
         let mut pages = Vec::new(alloc);
         for (number, spec) in tokens.iter().enumerate() {
             let mut page = Page::new(alloc);
             show_opening(&mut page, number, spec);
-            pages.push(page)?;
+            push(&mut pages, page)?;
         }
         Ok(TokenPages { pages })
     }
@@ -56,7 +57,11 @@ impl TokenPages {
     }
 
     /// What is shown of the tokens, one after another, with their closing rows.
-    pub(crate) fn whole(&self, alloc: Global, closing: &[TokenLine]) -> Result<String, AllocError> {
+    pub(crate) fn whole(
+        &self,
+        alloc: Global,
+        closing: &[TokenLine],
+    ) -> Result<String, OutOfMemory> {
         let mut out = Page::new(alloc);
         for (page, line) in self.pages.iter().zip(closing.iter()) {
             out.add_page(page);

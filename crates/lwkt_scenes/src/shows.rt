@@ -11,6 +11,7 @@ use crate::replays::Replay;
 use crate::scenes::{Scene, part_of, scene_of};
 use crate::turns::{pass_turn, show_turn};
 use lwkt_base::Fault;
+use lwkt_base::memory::push_str;
 use lwkt_report::report;
 use std::alloc::Global;
 
@@ -126,10 +127,8 @@ fn front_of(alloc: Global, run: &Reel, chosen: Chosen) -> Result<String, Fault>
     show_choice(&mut out, turns, run.turns.len());
     show_behind(alloc, &mut behind, run, &mut replay, from);
     out.add_page(&behind);
-    match out.whole() {
-        Ok(text) => Ok(text),
-        Err(refused) => Err(Fault::Memory(refused)),
-    }
+    let text = out.whole()?;
+    Ok(text)
 }
 
 /// The lines of a run: its turns, why threads haven't ended, the logs, and after them the report. Of each turn that is chosen
@@ -143,8 +142,6 @@ pub fn lines_of(alloc: Global, run: &Reel, chosen: Chosen) -> Result<String, Fau
 {
     let mut out = front_of(alloc, run, chosen)?;
     let text = report(alloc, run.closing)?;
-    match out.push_str(text.as_str()) {
-        Ok(()) => Ok(out),
-        Err(refused) => Err(Fault::Memory(refused)),
-    }
+    push_str(&mut out, text.as_str())?;
+    Ok(out)
 }

@@ -4,9 +4,10 @@ use crate::layouts::{CPU_LIMIT, Grid, TOKEN_LIMIT, slot_of};
 use crate::pages::Page;
 use crate::shapes::Look;
 use crate::waits::Idle;
-use lwkt_base::{Fault, Mode, MsgId};
+use lwkt_base::memory::push;
+use lwkt_base::{Fault, Mode, MsgId, OutOfMemory};
 use lwkt_core::Event;
-use std::alloc::{AllocError, Global};
+use std::alloc::Global;
 
 // The most messages of a script.
 const MESSAGE_LIMIT: usize = 64;
@@ -132,10 +133,10 @@ pub(crate) struct Sketch {
 }
 
 // A table without a bar.
-fn no_bars(alloc: Global) -> Result<Vec<Option<Bar>>, AllocError> {
+fn no_bars(alloc: Global) -> Result<Vec<Option<Bar>>, OutOfMemory> {
     let mut bars = Vec::new(alloc);
     for _slot in 0..CPU_LIMIT * TOKEN_LIMIT {
-        bars.push(None)?;
+        push(&mut bars, None)?;
     }
     Ok(bars)
 }
@@ -154,7 +155,7 @@ fn with_one_less(bar: Bar) -> Option<Bar> {
 
 impl Sketch {
     /// A picture of these rounds in which nothing is yet.
-    pub(crate) fn new(alloc: Global, grid: Grid) -> Result<Self, AllocError> {
+    pub(crate) fn new(alloc: Global, grid: Grid) -> Result<Self, OutOfMemory> {
         Ok(Sketch {
             grid,
             boxes: Vec::new(alloc),
@@ -169,16 +170,15 @@ impl Sketch {
     }
 
     /// Adds the box of a turn, with the fault that stands above it.
-    pub(crate) fn add_box(&mut self, turn: TurnBox, fault: Option<Tag>) -> Result<(), AllocError> {
+    pub(crate) fn add_box(&mut self, turn: TurnBox, fault: Option<Tag>) -> Result<(), OutOfMemory> {
         if let Some(tag) = fault {
             self.labels.add(turn.round, turn.cpu, tag)?;
         }
-        self.boxes.push(turn)?;
-        Ok(())
+        push(&mut self.boxes, turn)
     }
 
     // Adds a label above a turn that is shown.
-    fn tag(&mut self, round: usize, cpu: usize, tag: Tag) -> Result<(), AllocError> {
+    fn tag(&mut self, round: usize, cpu: usize, tag: Tag) -> Result<(), OutOfMemory> {
         if round < self.grid.first {
             return Ok(());
         }
@@ -227,17 +227,16 @@ impl Sketch {
     }
 
     // Adds a bar that goes on until this round, if it is shown.
-    fn end_bar(&mut self, bar: Bar, until: usize) -> Result<(), AllocError> {
+    fn end_bar(&mut self, bar: Bar, until: usize) -> Result<(), OutOfMemory> {
         self.end_value(&bar, until.saturating_add(1));
         if !self.grid.is_shown(bar.since, until) {
             return Ok(());
         }
-        self.bars.push(Bar { until, ..bar })?;
-        Ok(())
+        push(&mut self.bars, Bar { until, ..bar })
     }
 
     // A processor gives back a reference in this round; the bar ends with the last one.
-    fn give(&mut self, cpu: usize, tok: usize, round: usize) -> Result<(), AllocError> {
+    fn give(&mut self, cpu: usize, tok: usize, round: usize) -> Result<(), OutOfMemory> {
         let Some(bar) = self.bar(cpu, tok) else {
             return Ok(());
         };
@@ -264,7 +263,7 @@ impl Sketch {
     }
 
     // Adds a value that a processor stored.
-    fn store(&mut self, value: Stored) -> Result<(), AllocError> {
+    fn store(&mut self, value: Stored) -> Result<(), OutOfMemory> {
         let Some(bar) = self.bar(value.cpu, value.tok) else {
             return Ok(());
         };
@@ -281,21 +280,19 @@ impl Sketch {
                 ..bar
             }),
         );
-        self.values.push(value)?;
-        Ok(())
+        push(&mut self.values, value)
     }
 
     // Adds a mark, if it is shown.
-    fn mark(&mut self, cpu: usize, tok: usize, round: usize) -> Result<(), AllocError> {
+    fn mark(&mut self, cpu: usize, tok: usize, round: usize) -> Result<(), OutOfMemory> {
         if round < self.grid.first {
             return Ok(());
         }
-        self.marks.push(Marked { cpu, tok, round })?;
-        Ok(())
+        push(&mut self.marks, Marked { cpu, tok, round })
     }
 
     // A message or a reply leaves a processor.
-    fn leave(&mut self, way: Way) -> Result<(), AllocError> {
+    fn leave(&mut self, way: Way) -> Result<(), OutOfMemory> {
         if let Some(slot) = self.away.get_mut(usize::from(way.msg.0)) {
             *slot = Some(way);
         }
@@ -303,7 +300,7 @@ impl Sketch {
     }
 
     // A message or a reply arrives at a processor, or is taken back.
-    fn arrive(&mut self, msg: MsgId, cpu: usize, round: usize) -> Result<(), AllocError> {
+    fn arrive(&mut self, msg: MsgId, cpu: usize, round: usize) -> Result<(), OutOfMemory> {
         let way = match self.away.get_mut(usize::from(msg.0)) {
             Some(slot) => slot.take(),
             None => None,
@@ -317,15 +314,12 @@ impl Sketch {
         if way.since < self.grid.first || self.grid.band(way.since) != self.grid.band(round) {
             self.tag(round, cpu, Tag::Mail(msg, way.round))?;
         }
-        self.ways.push(Way {
-            end: Some((cpu, round)),
-            ..way
-        })?;
-        Ok(())
+        let end = Some((cpu, round));
+        push(&mut self.ways, Way { end, ..way })
     }
 
     // Notes an event of a message.
-    fn note_mail(&mut self, event: &Event, round: usize, sent: Sent) -> Result<(), AllocError> {
+    fn note_mail(&mut self, event: &Event, round: usize, sent: Sent) -> Result<(), OutOfMemory> {
         let cpu = usize::from(event.cpu().0);
         let is_reply = matches!(event, Event::Reply { .. });
         let look = Look {
@@ -353,7 +347,7 @@ impl Sketch {
         event: &Event,
         round: usize,
         sent: Sent,
-    ) -> Result<(), AllocError> {
+    ) -> Result<(), OutOfMemory> {
         let cpu = usize::from(event.cpu().0);
         match *event {
             Event::Take { tok, .. } => self.hold(cpu, usize::from(tok.0), Mode::Exclusive, round),
@@ -379,7 +373,7 @@ impl Sketch {
     }
 
     /// Adds what is still held and still on its way after the last round.
-    pub(crate) fn finish(&mut self) -> Result<(), AllocError> {
+    pub(crate) fn finish(&mut self) -> Result<(), OutOfMemory> {
         for cpu in 0..CPU_LIMIT {
             for tok in 0..TOKEN_LIMIT {
                 if let Some(bar) = self.bar(cpu, tok) {
@@ -391,12 +385,12 @@ impl Sketch {
     }
 
     // Adds what is still on its way behind the last round.
-    fn finish_mail(&mut self) -> Result<(), AllocError> {
+    fn finish_mail(&mut self) -> Result<(), OutOfMemory> {
         for msg in 0..MESSAGE_LIMIT {
             let way = self.away.get(msg).copied().unwrap_or(None);
             if let Some(way) = way {
                 if way.since >= self.grid.first {
-                    self.ways.push(way)?;
+                    push(&mut self.ways, way)?;
                 }
             }
         }

@@ -2,12 +2,14 @@ use crate::events::show_owner;
 use crate::pages::Page;
 use crate::tokens::{Runners, excludes, show_holders, show_word};
 use crate::words::{mode_word, show_thread};
+use lwkt_base::memory::push;
 use lwkt_base::{
-    Answer, Ask, Fault, LAST_GENERATION, Mode, MsgId, Ref, ThreadId, ThreadState, TokId, TokList,
+    Answer, Ask, Fault, LAST_GENERATION, Mode, MsgId, OutOfMemory, Ref, ThreadId, ThreadState,
+    TokId, TokList,
 };
 use lwkt_core::{Event, State, Token};
 use lwkt_verdict::{Poll, entry_of};
-use std::alloc::{AllocError, Global};
+use std::alloc::Global;
 
 // The most entries of a log.
 const LOG_LIMIT: usize = 32;
@@ -73,8 +75,8 @@ pub(crate) struct Story {
     pub why: Option<Page>,
     /// Of each entry of the log the ask that it answers, by its number among the thread's asks.
     pub logged: Vec<Logged>,
-    /// What the allocator said if memory for one of these was refused.
-    pub lost: Option<AllocError>,
+    /// That memory for one of these was refused, if it was.
+    pub lost: Option<OutOfMemory>,
     /// How many entries the log would have without a limit.
     pub entries: u64,
 }
@@ -211,8 +213,8 @@ impl Story {
                 ask: poll.ask,
                 number: self.polls,
             };
-            if let Err(refused) = self.logged.push(logged) {
-                self.lost = Some(refused.into());
+            if let Err(refused) = push(&mut self.logged, logged) {
+                self.lost = Some(refused);
             }
         }
     }

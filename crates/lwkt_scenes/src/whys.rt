@@ -39,8 +39,5 @@ pub fn whys_of(alloc: Global, run: &Reel) -> Result<String, Fault> {
     pass_all(alloc, run, &mut replay);
     let mut out = Page::new(alloc);
     show_whys(&mut out, &replay);
-    match out.whole() {
-        Ok(text) => Ok(text),
-        Err(refused) => Err(Fault::Memory(refused)),
-    }
+    Ok(out.whole()?)
 }

@@ -5,12 +5,10 @@
 #![tactic(auto)]
 
 pub mod fields;
-pub mod growth;
 pub mod messages;
 mod parts;
 mod readers;
 pub mod records;
-mod refusals;
 mod scripts;
 pub mod steps;
 mod threads;
@@ -19,6 +17,5 @@ pub mod versions;
 
 pub use parts::Parts;
 pub use readers::read_script;
-pub use refusals::refusal_of;
 pub use scripts::{Script, ThreadSpec};
 pub use versions::Version;

@@ -6,7 +6,7 @@ ghost use Rattle.lwkt_script.specs.Format.{message_at, message};
 ghost use Rattle.lwkt_script.specs.Limits.{IsOrigin, IsMessage};
 
 use crate::fields::{has_members, item_count, number, number_at};
-use crate::growth::push;
+use lwkt_base::memory::push;
 use lwkt_base::{CpuId, Fault, MsgSpec, ThreadId};
 use serde_json::Value;
 use std::alloc::Global;

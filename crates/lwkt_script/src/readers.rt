@@ -8,12 +8,12 @@ ghost use Rattle.lwkt_base.specs.Fault.{no_memory};
 use crate::fields::{has, has_members, list_at, number_at};
 use crate::messages::messages_of;
 use crate::parts::Parts;
-use crate::refusals::refusal_of;
 use crate::scripts::Script;
 use crate::threads::threads_of;
 use crate::tokens::tokens_of;
 use crate::versions::version_of;
 use lwkt_base::Fault;
+use lwkt_base::memory::read_json;
 use serde_json::Value;
 use std::alloc::Global;
 
@@ -94,11 +94,8 @@ pub fn read_script(alloc: Global, bytes: &[u8]) -> Result<Script, Fault>
     if bytes.len() > LENGTH_LIMIT {
         return Err(Fault::Script { place: 0 });
     }
-    match Value::from_slice(alloc, bytes) {
+    match read_json(alloc, bytes)? {
         Ok(value) => script(alloc, &value),
-        Err(error) => match refusal_of(&error) {
-            Some(refused) => Err(Fault::Memory(refused)),
-            None => Err(Fault::Script { place: 0 }),
-        },
+        Err(_) => Err(Fault::Script { place: 0 }),
     }
 }

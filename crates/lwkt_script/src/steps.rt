@@ -5,9 +5,9 @@ ghost use Rattle.lwkt_script.specs.Step.{small_at, code_at, whole_at, token_in, 
 ghost use Rattle.lwkt_script.specs.Format.{step};
 
 use crate::fields::{item_count, number};
-use crate::growth::push;
 use crate::records::blob_in;
 use crate::versions::Version;
+use lwkt_base::memory::push;
 use lwkt_base::steps::{ask_of, verb_named};
 use lwkt_base::{Ask, Blob, Call, CpuId, Fault, Flags, Form, MsgId, Parts, ThreadId, TokId, Verb};
 use serde_json::Value;

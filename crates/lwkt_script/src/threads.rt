@@ -5,11 +5,11 @@ ghost use Rattle.lwkt_script.specs.Format.{threads_on, has_room, thread};
 ghost use Rattle.lwkt_script.specs.Limits.{IsThread};
 
 use crate::fields::{has_members, list_at, number_at};
-use crate::growth::push;
 use crate::parts::Parts;
 use crate::scripts::ThreadSpec;
 use crate::steps::steps_of;
 use crate::versions::Version;
+use lwkt_base::memory::push;
 use lwkt_base::{CpuId, Fault};
 use serde_json::Value;
 use std::alloc::Global;

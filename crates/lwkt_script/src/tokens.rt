@@ -6,9 +6,9 @@ ghost use Rattle.lwkt_script.specs.Format.{cell, token_read, token};
 ghost use Rattle.lwkt_script.specs.Limits.{IsToken};
 
 use crate::fields::{has_members, list_at, number_at};
-use crate::growth::push;
 use crate::records::{may_guard, record_in};
 use crate::versions::Version;
+use lwkt_base::memory::push;
 use lwkt_base::{Cells, Fault, Law, TokSpec};
 use serde_json::Value;
 use std::alloc::Global;

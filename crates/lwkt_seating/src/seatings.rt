@@ -1,7 +1,6 @@
 //! Processors put at their seats.
-ghost use Rattle.std.specs.Prelude.{◌≡◌, ◌+◌, ◌<◌, ◌≤◌, Err, IfOk, OnErr, length, map};
+ghost use Rattle.std.specs.Prelude.{◌≡◌, ◌+◌, ◌<◌, ◌≤◌, IfOk, length, map};
 ghost use Rattle.lwkt_base.specs.declared.openings.MsgSpec.{MsgSpec};
-ghost use Rattle.lwkt_base.specs.Fault.{no_memory};
 ghost use Rattle.lwkt_bank.specs.Seats.{id_of};
 ghost use Rattle.lwkt_msg.specs.Desks.{desk_cpu, IsOpened};
 ghost use Rattle.lwkt_port.specs.Openings.{new_mail, AreNewPorts, ArePaired, KeepLimits};
@@ -9,12 +8,13 @@ ghost use Rattle.lwkt_cpu.specs.Wiring.{HasLines};
 ghost use Rattle.lwkt_seating.specs.Opened.{IsSeat, IsOpenedCpu};
 
 use lwkt_bank::{Bank, CpuSeat};
-use lwkt_base::{Fault, MsgSpec, ThreadId};
+use lwkt_base::memory::{push, with_capacity_for};
+use lwkt_base::{Fault, MsgSpec, OutOfMemory, ThreadId};
 use lwkt_cpu::Cpu;
 use lwkt_lane::{LaneIn, LaneOut};
 use lwkt_msg::{MsgBook, MsgSeat};
 use lwkt_port::Ports;
-use std::alloc::{AllocError, Global};
+use std::alloc::Global;
 
 /// What processors are made of that weren't made yet, by their numbers: their seats, and the ends of their lanes.
 #[derive(Drop)]
@@ -30,10 +30,14 @@ pub struct Rest {
 }
 
 /// The threads that messages belong to. Refused only if memory is.
-pub fn origins_of(alloc: Global, specs: &[MsgSpec]) -> Result<Vec<ThreadId>, AllocError>
+pub fn origins_of(alloc: Global, specs: &[MsgSpec]) -> Result<Vec<ThreadId>, OutOfMemory>
     ensures { IfOk result (λ v. v.items ≡ map (λ (spec : MsgSpec). spec.origin) specs.now) }
 {
-    specs.iter().map(|spec| spec.origin).collect(alloc)
+    let mut origins = with_capacity_for(alloc, specs)?;
+    for spec in specs {
+        push(&mut origins, spec.origin)?;
+    }
+    Ok(origins)
 }
 
 // The ports of a processor, over its seat at the book.
@@ -46,7 +50,7 @@ fn open_ports(
     origins: &[ThreadId],
     threads: usize,
     number: usize,
-) -> Result<Ports, Fault>
+) -> Result<Ports, OutOfMemory>
     requires mail { IsOpened number book.now mail }
     requires origins { origins.now ≡ map (λ (spec : MsgSpec). spec.origin) book.now.specs }
     requires within { KeepLimits mail outs.items ins.items origins.now threads }
@@ -55,10 +59,13 @@ fn open_ports(
     ensures mails { IfOk result (λ ports. ports.mails ≡ map (new_mail (desk_cpu ports.seat)) (map (λ (spec : MsgSpec). spec.origin) book.now.specs)) }
     ensures lines { IfOk result (λ ports. ArePaired outs.items ins.items ports.lanes) }
     ensures threads { IfOk result (λ ports. ports.threads ≡ threads) }
-    ensures only { OnErr result (result ≡ Err no_memory) }
 {
     let id = mail.cpu();
-    Ports::new(alloc, id, mail, outs, ins, origins, threads)
+    match Ports::new(alloc, id, mail, outs, ins, origins, threads) {
+        Ok(ports) => Ok(ports),
+        Err(Fault::Memory(refused)) => Err(refused),
+        Err(_) => unreachable!(),
+    }
 }
 
 // The processor of this number, over its seat and its ports, with a thread for each of these bodies.
@@ -70,7 +77,7 @@ fn seat_one<B: Drop>(
     ports: Ports,
     bodies: Vec<B>,
     number: usize,
-) -> Result<Cpu<B>, Fault>
+) -> Result<Cpu<B>, OutOfMemory>
     requires seat { IsSeat (id_of bank.now) number seat }
     requires desk { IsOpened number book.now ports.seat }
     requires new { AreNewPorts (length bodies.items) ports.ports }
@@ -79,13 +86,15 @@ fn seat_one<B: Drop>(
     requires threads { ports.threads ≡ length bodies.items }
     ensures ok { IfOk result (λ cpu. IsOpenedCpu (id_of bank.now) book.now number bodies.items cpu) }
     ensures lines { IfOk result (λ cpu. cpu.post.lanes ≡ ports.lanes) }
-    ensures only { OnErr result (result ≡ Err no_memory) }
 {
-    Cpu::new(alloc, seat, ports, bodies)
+    match Cpu::new(alloc, seat, ports, bodies) {
+        Ok(cpu) => Ok(cpu),
+        Err(Fault::Memory(refused)) => Err(refused),
+        Err(_) => unreachable!(),
+    }
 }
 
 impl Rest {
-    ghost use Rattle.lwkt_base.specs.Fault.{no_memory};
     ghost use Rattle.lwkt_seating.specs.Seating.{AreLeft, IsRest};
 
     /// The next processor, with a thread for each of these bodies, in order, which was never polled. Its seats and the ends of its
@@ -101,7 +110,7 @@ impl Rest {
         origins: &[ThreadId],
         bodies: Vec<B>,
         number: usize,
-    ) -> Result<Cpu<B>, Fault>
+    ) -> Result<Cpu<B>, OutOfMemory>
         requires some { 0 < length self.old.seats.items }
         requires rest { IsRest (id_of bank.now) book.now number self.old }
         requires origins { origins.now ≡ map (λ (spec : MsgSpec). spec.origin) book.now.specs }
@@ -109,7 +118,6 @@ impl Rest {
         ensures ok { IfOk result (λ cpu. IsOpenedCpu (id_of bank.now) book.now number bodies.items cpu) }
         ensures lines { IfOk result (λ cpu. HasLines self.old.outs.items self.old.ins.items 0 cpu) }
         ensures left { AreLeft 1 self.old self.new }
-        ensures only { OnErr result (result ≡ Err no_memory) }
         ensures rest { IsRest (id_of bank.now) book.now (number + 1) self.new }
         ensures fewer { length self.new.seats.items + 1 ≡ length self.old.seats.items }
     {

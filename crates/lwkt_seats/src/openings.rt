@@ -1,11 +1,11 @@
 //! The opening of a bank for C.
-ghost use Rattle.std.specs.Prelude.{◌≡◌, ◌≢◌, ◌⊎◌, ◌↔◌, ℕ, ◌<◌, ◌≤◌, [], length, option_map, All, IsTrue, IfOk, IfErr, Err};
+ghost use Rattle.std.specs.Prelude.{◌≡◌, ◌≢◌, ◌⊎◌, ◌↔◌, ℕ, ◌<◌, ◌≤◌, [], length, option_map, All, IsTrue, IfOk, IfErr, IfSome, Err};
 ghost use Rattle.std.specs.Arc.{arc_value};
 ghost use Rattle.lwkt_base.specs.Law.{OpensLawfully};
 ghost use Rattle.lwkt_core.specs.Opening.{AreWithin, AllOpenLawfully, IsTokenWithin};
 ghost use Rattle.lwkt_bank.specs.Seats.{id_of, bank_of, cpus_of};
 ghost use Rattle.lwkt_bank.specs.Gathered.{AreHandedOut};
-ghost use Rattle.lwkt_seats.specs.Seated.{AreBrief};
+ghost use Rattle.lwkt_seats.specs.Seated.{AreBrief, IsSeated};
 ghost use Rattle.lwkt_seats.specs.Endings.{IsEndingOf};
 ghost use Rattle.lwkt_seats.specs.Spots.{AreSpotsOf};
 ghost use Rattle.lwkt_seats.specs.Openings.{AreTokens, spec_of, specs_of};
@@ -19,8 +19,9 @@ use crate::spots::{Sitter, Spot, Stall};
 use crate::tokens::LwktToken;
 use counted_slot::Counted;
 use lwkt_bank::{Bank, CpuSeat};
-use lwkt_base::{Fault, TokSpec};
-use std::alloc::{AllocError, Global};
+use lwkt_base::memory::{boxed, push, shared, with_capacity, with_capacity_for};
+use lwkt_base::{CpuId, Fault, OutOfMemory, TokSpec};
+use std::alloc::Global;
 use std::sync::Arc;
 use std::sync::atomic::AtomicU64;
 
@@ -70,80 +71,102 @@ fn all_open_lawfully(tokens: &[LwktToken]) -> bool
 }
 
 // What is declared of all tokens.
-fn specs_of(alloc: Global, tokens: &[LwktToken]) -> Result<Vec<TokSpec>, AllocError>
+fn specs_of(alloc: Global, tokens: &[LwktToken]) -> Result<Vec<TokSpec>, OutOfMemory>
     requires { AreTokens tokens.now }
     ensures { IfOk result (λ specs. specs.items ≡ specs_of tokens.now) }
 {
-    let mut specs = Vec::with_capacity(alloc, tokens.len())?;
+    let mut specs = with_capacity_for(alloc, tokens)?;
     for token in tokens {
-        specs.push(token.spec(alloc)?)?;
+        push(&mut specs, token.spec(alloc)?)?;
     }
     Ok(specs)
 }
 
-// A place for a seat, which rests there.
-fn place_for(alloc: Global, bank: &Arc<Bank>, seat: CpuSeat) -> Result<Place, AllocError>
-    requires of { bank_of seat ≡ id_of (arc_value bank.now) }
+// A seat with its bank, as it rests in its place. Where no further share of the bank is to be had, which has as many as can be counted,
+// there is none: the seat is away, as if a call had it that never came back.
+fn stall_for(alloc: Global, spot: &Spot, seat: CpuSeat) -> Result<Option<Stall>, OutOfMemory>
+    requires of { bank_of seat ≡ id_of (arc_value spot.now.bank) }
+    requires cpu { seat.cpu ≡ spot.now.cpu }
     requires brief { AreBrief seat }
-    ensures { IfOk result (λ spot. (arc_value spot.bank ≡ arc_value bank.now) × (spot.cpu ≡ seat.cpu)) }
+    ensures { IfOk result (λ stall. IfSome stall (λ x. IsSeated spot.now x.parts.value)) }
 {
-    let spot = Spot {
-        bank: Arc::try_clone(bank)?,
-        cpu: seat.cpu(),
+    let Ok(bank) = Arc::try_clone(&spot.bank) else {
+        return Ok(None);
     };
-    let bank = Arc::try_clone(bank)?;
-    let sitter = Box::new(alloc, Sitter { seat, bank }).map_err(AllocError::from)?;
-    Ok(Counted::new(Some(Stall::of(sitter)), &spot))
+    let sitter = boxed(alloc, Sitter { seat, bank })?;
+    Ok(Some(Stall::of(sitter)))
+}
+
+// A place for a seat.
+fn place_for(alloc: Global, spot: &Spot, seat: CpuSeat) -> Result<Place, OutOfMemory>
+    requires of { bank_of seat ≡ id_of (arc_value spot.now.bank) }
+    requires cpu { seat.cpu ≡ spot.now.cpu }
+    requires brief { AreBrief seat }
+    ensures { IfOk result (λ place. place ≡ spot.now) }
+{
+    let stall = stall_for(alloc, spot, seat)?;
+    Ok(Counted::new(stall, spot))
 }
 
 // A place for each seat.
 fn places_for(
     alloc: Global,
-    bank: &Arc<Bank>,
+    bank: Arc<Bank>,
     seats: Vec<CpuSeat>,
-) -> Result<Vec<Place>, AllocError>
-    requires { AreHandedOut (id_of (arc_value bank.now)) seats.items }
-    ensures spots { IfOk result (λ places. AreSpotsOf (arc_value bank.now) places.items) }
+) -> Result<Vec<Place>, OutOfMemory>
+    requires { AreHandedOut (id_of (arc_value bank)) seats.items }
+    ensures spots { IfOk result (λ places. AreSpotsOf (arc_value bank) places.items) }
     ensures many { IfOk result (λ places. length places.items ≡ length seats.items) }
 {
-    let mut places = Vec::with_capacity(alloc, seats.len())?;
+    let mut places = with_capacity_for(alloc, &seats)?;
+    let mut spot = Spot {
+        bank,
+        cpu: CpuId(0),
+    };
     for seat in seats {
-        places.push(place_for(alloc, bank, seat)?)?;
+        spot.cpu = seat.cpu();
+        push(&mut places, place_for(alloc, &spot, seat)?)?;
     }
     Ok(places)
 }
 
-// What the close of a bank of so many processors needs.
-fn ending_for(alloc: Global, bank: &Arc<Bank>, cpus: usize) -> Result<Box<Ending>, AllocError>
-    requires { cpus ≡ cpus_of (arc_value bank.now) }
-    ensures { IfOk result (λ ending. IsEndingOf (arc_value bank.now) ending.value) }
+// What the close of a bank of so many processors needs. Where no further share of the bank is to be had there is none, as if a close
+// were at work.
+fn chest_for(alloc: Global, bank: &Arc<Bank>, cpus: usize) -> Result<Option<Chest>, OutOfMemory>
+    requires all { cpus ≡ cpus_of (arc_value bank.now) }
+    requires few { cpus ≤ 8 }
+    ensures { IfOk result (λ chest. IfSome chest (λ x. IsEndingOf (arc_value bank.now) x.parts.value)) }
 {
+    let Ok(share) = Arc::try_clone(bank) else {
+        return Ok(None);
+    };
     let ending = Ending {
-        bank: Arc::try_clone(bank)?,
-        sitters: Vec::with_capacity(alloc, cpus)?,
-        seats: Vec::with_capacity(alloc, cpus)?,
+        bank: share,
+        sitters: with_capacity(alloc, cpus)?,
+        seats: with_capacity(alloc, cpus)?,
         room: bank.room(alloc)?,
     };
-    Box::new(alloc, ending).map_err(AllocError::from)
+    Ok(Some(Chest::of(boxed(alloc, ending)?)))
 }
 
 // The desk of a bank with its seats.
-fn desk_of(alloc: Global, bank: Bank, seats: Vec<CpuSeat>) -> Result<Box<Desk>, AllocError>
+fn desk_of(alloc: Global, bank: Bank, seats: Vec<CpuSeat>) -> Result<Box<Desk>, OutOfMemory>
     requires out { AreHandedOut (id_of bank) seats.items }
     requires all { length seats.items ≡ cpus_of bank }
     requires some { 0 < length seats.items }
     requires few { length seats.items ≤ 8 }
     ensures { IfOk result (λ desk. length desk.value.places.items ≡ length seats.items) }
 {
-    let bank = Arc::new(alloc, bank).map_err(AllocError::from)?;
-    let ending = ending_for(alloc, &bank, seats.len())?;
-    let places = places_for(alloc, &bank, seats)?;
+    let bank = shared(alloc, bank)?;
+    let chest = chest_for(alloc, &bank, seats.len())?;
+    let drawer = Counted::new(chest, &bank);
+    let places = places_for(alloc, bank, seats)?;
     let desk = Desk {
         places,
-        drawer: Counted::new(Some(Chest::of(ending)), &bank),
+        drawer,
         lost: AtomicU64::new(0),
     };
-    Box::new(alloc, desk).map_err(AllocError::from)
+    boxed(alloc, desk)
 }
 
 // Opens a bank with its desk.
@@ -161,13 +184,9 @@ fn open(alloc: Global, tokens: &[LwktToken], seats: usize) -> Result<Box<Desk>, 
     if !all_open_lawfully(tokens) {
         return Err(Fault::LawBroken);
     }
-    let specs = specs_of(alloc, tokens).map_err(Fault::Memory)?;
+    let specs = specs_of(alloc, tokens)?;
     let (bank, seats) = Bank::open(alloc, &specs, seats)?;
-    let desk = match desk_of(alloc, bank, seats) {
-        Ok(desk) => desk,
-        Err(refused) => return Err(Fault::Memory(refused)),
-    };
-    Ok(desk)
+    Ok(desk_of(alloc, bank, seats)?)
 }
 
 /// Opens a bank of these tokens with so many seats, which are numbered from 0. `out` gets where it is; it stays as it was but

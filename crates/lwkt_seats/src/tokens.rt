@@ -4,8 +4,9 @@ ghost use Rattle.lwkt_base.specs.Law.{OpensLawfully};
 ghost use Rattle.lwkt_core.specs.Opening.{IsTokenWithin};
 
 use lwkt_base::blobs::length_of;
-use lwkt_base::{Blob, Cells, LAST_GENERATION, Law, TokSpec};
-use std::alloc::{AllocError, Global};
+use lwkt_base::memory::from_slice;
+use lwkt_base::{Blob, Cells, LAST_GENERATION, Law, OutOfMemory, TokSpec};
+use std::alloc::Global;
 
 /// A token as C declares it.
 #[repr(C)]
@@ -97,13 +98,13 @@ impl LwktToken {
     }
 
     /// What is declared of it.
-    pub fn spec(&self, alloc: Global) -> Result<TokSpec, AllocError>
+    pub fn spec(&self, alloc: Global) -> Result<TokSpec, OutOfMemory>
         requires few { self.now.cells ≤ 4 }
         requires short { self.now.length ≤ 64 }
         ensures { IfOk result (λ spec. spec ≡ spec_of self.now) }
     {
         let all = [self.first, self.second, self.third, self.fourth];
-        let cells = Vec::from_slice(alloc, &all[..self.cells as usize])?;
+        let cells = from_slice(alloc, &all[..self.cells as usize])?;
         Ok(TokSpec {
             cells: Cells::from_vec(cells),
             law: self.law(),

@@ -64,7 +64,7 @@ fn text_of(
     ensures shows { IfOk result (λ text. ShowsAs options (option_copied order.entry) script.now run.now (string_bytes text)) }
     ensures refused { IfErr result (MayBeRefused script.now) }
 {
-    let events = run.trace.whole(alloc).map_err(Fault::Memory)?;
+    let events = run.trace.whole(alloc)?;
     let reel = Reel {
         script,
         trace: &events,
@@ -76,9 +76,9 @@ fn text_of(
     let chosen = chosen_of(options);
     match options.view {
         View::Lines => lines_of(alloc, &reel, chosen),
-        View::Trace => trace_of(alloc, &reel).map_err(Fault::Memory),
+        View::Trace => Ok(trace_of(alloc, &reel)?),
         View::Picture => picture_of(alloc, &reel, chosen),
-        View::Chains => chains_of(alloc, &reel).map_err(Fault::Memory),
+        View::Chains => Ok(chains_of(alloc, &reel)?),
     }
 }
 

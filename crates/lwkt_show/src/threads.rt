@@ -28,8 +28,6 @@ pub fn show_threads<R: Threads + Sync>(
         givers,
     } = record_threads(rt, alloc, script)?;
     let end = end_told(&closing);
-    match chains_of_sections(alloc, script, &sections, &givers, &closing) {
-        Ok(text) => Ok(Shown { text, end }),
-        Err(refused) => Err(Fault::Memory(refused)),
-    }
+    let text = chains_of_sections(alloc, script, &sections, &givers, &closing)?;
+    Ok(Shown { text, end })
 }

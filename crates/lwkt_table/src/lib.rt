@@ -7,14 +7,12 @@
 #![tactic(auto)]
 
 pub mod laws;
-mod refusals;
 pub mod seats;
 
 ghost use Rattle.std.specs.Prelude.{◌≡◌};
 ghost use Rattle.std.specs.Borrow.{ftrue};
 
 use atomic_table::Seat;
-pub use refusals::table_refusal;
 pub use seats::{Chapter, Deed, Operation, SeatKind, WordStep};
 use std::marker::Model;
 

@@ -1,4 +1,5 @@
 pub mod Equality
 pub mod Keeping
 pub mod Inputting
+pub mod ListedThreads
 pub mod Presence

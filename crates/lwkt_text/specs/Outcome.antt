@@ -15,10 +15,6 @@ abbrev pub ◌>>◌ : {A B : Type 0} → Result A Wrong → Result B Wrong → R
 (Ok x) >> rest = rest
 (Err wrong) >> rest = Err wrong
 
--- want of memory. Each refusal of an allocator is the same value.
-abbrev pub out_of_memory : Slip
-out_of_memory = slips.Memory (record {})
-
 -- what is wrong; of a want of memory nothing is said
 abbrev pub IsSlipAsRead : {A : Type 0} → Slip → Result A Wrong → Type 0
 IsSlipAsRead (slips.Memory refused) read = Unit {0}

@@ -1,14 +1,13 @@
 //! What a claim names and the script doesn't have.
-ghost use Rattle.std.specs.Prelude.{◌≡◌, Err, IfOk, OnErr};
+ghost use Rattle.std.specs.Prelude.{◌≡◌, IfOk};
 ghost use Rattle.std.specs.List.{filter_map};
 ghost use Rattle.lwkt_text.specs.Absence.{cell_count, counts_additions, has_thread, is_there, absent, absent_quantity, absent_term, absent_entry, absent_part, absence};
-ghost use Rattle.lwkt_text.specs.Outcome.{out_of_memory};
 
 use crate::claims::{Claim, Expectation, Quantity};
 use crate::drafts::threads_on;
 use crate::many::Many;
-use crate::wrongs::{Mention, Slip, What, Wrong};
-use lwkt_base::{Entry, Law, ThreadId, TokId};
+use crate::wrongs::{Mention, What, Wrong};
+use lwkt_base::{Entry, Law, OutOfMemory, ThreadId, TokId};
 use lwkt_script::Script;
 use std::alloc::Global;
 
@@ -123,9 +122,8 @@ pub fn absences(
     alloc: Global,
     script: &Script,
     expectations: &[Expectation],
-) -> Result<Many<Wrong>, Slip>
-    ensures ok { IfOk result (λ wrongs. wrongs ≡ filter_map (absence script.now) expectations.now) }
-    ensures only { OnErr result (result ≡ Err out_of_memory) }
+) -> Result<Many<Wrong>, OutOfMemory>
+    ensures { IfOk result (λ wrongs. wrongs ≡ filter_map (absence script.now) expectations.now) }
 {
     let mut wrongs = Many::new(alloc);
     for expectation in expectations {

@@ -1,8 +1,7 @@
-ghost use Rattle.std.specs.Prelude.{◌≡◌, ◌<◌, OnOk, OnErr, Err, IfOk};
+ghost use Rattle.std.specs.Prelude.{◌≡◌, ◌<◌, OnOk, IfOk};
 ghost use Rattle.lwkt_script.specs.Format.{threads_on};
 ghost use Rattle.lwkt_text.specs.Within.{IsDraft};
 ghost use Rattle.lwkt_text.specs.Drafting.{no_draft, crowded, closed, thread_begun, stepped, put, sentence_told, all_told};
-ghost use Rattle.lwkt_text.specs.Outcome.{out_of_memory};
 
 use crate::claims::Expectation;
 use crate::looks::wrong_at;
@@ -12,7 +11,7 @@ use crate::sayings::{Said, told_by};
 use crate::tables::Names;
 use crate::words::{Sentence, Word};
 use crate::wrongs::{Slip, What, Wrong};
-use lwkt_base::{Ask, MsgSpec, TokSpec};
+use lwkt_base::{Ask, MsgSpec, OutOfMemory, TokSpec};
 use lwkt_script::{Parts, ThreadSpec};
 use std::alloc::Global;
 
@@ -55,8 +54,6 @@ pub(crate) fn threads_on(cpu: u8, threads: &[ThreadSpec]) -> usize
 }
 
 impl Draft {
-    ghost use Rattle.lwkt_text.specs.Outcome.{out_of_memory};
-
     fn new(alloc: Global, faults: Many<Wrong>) -> Self
         ensures { result ≡ no_draft faults }
     {
@@ -74,17 +71,15 @@ impl Draft {
     }
 
     // Word 0 tells something that there is no room for.
-    fn crowd(&mut self, words: &[Word]) -> Result<(), Slip>
-        ensures ok { OnOk result (self.new ≡ crowded words.now self.old) }
-        ensures only { OnErr result (result ≡ Err out_of_memory) }
+    fn crowd(&mut self, words: &[Word]) -> Result<(), OutOfMemory>
+        ensures { OnOk result (self.new ≡ crowded words.now self.old) }
     {
         self.faults.push(wrong_at(words, 0, What::Crowd))
     }
 
     // Ends the thread whose steps were told, if there is one.
-    fn close(&mut self, alloc: Global) -> Result<(), Slip>
-        ensures ok { OnOk result (self.new ≡ closed self.old) }
-        ensures only { OnErr result (result ≡ Err out_of_memory) }
+    fn close(&mut self, alloc: Global) -> Result<(), OutOfMemory>
+        ensures { OnOk result (self.new ≡ closed self.old) }
     {
         let Some(head) = self.head else {
             return Ok(());
@@ -98,9 +93,8 @@ impl Draft {
         })
     }
 
-    fn open(&mut self, words: &[Word], head: Head) -> Result<(), Slip>
-        ensures ok { OnOk result (self.new ≡ thread_begun head words.now self.old) }
-        ensures only { OnErr result (result ≡ Err out_of_memory) }
+    fn open(&mut self, words: &[Word], head: Head) -> Result<(), OutOfMemory>
+        ensures { OnOk result (self.new ≡ thread_begun head words.now self.old) }
     {
         if threads_on(head.cpu.0, self.threads.as_slice()) >= THREAD_LIMIT {
             return self.crowd(words);
@@ -109,9 +103,8 @@ impl Draft {
         Ok(())
     }
 
-    fn step(&mut self, words: &[Word], ask: Ask) -> Result<(), Slip>
-        ensures ok { OnOk result (self.new ≡ stepped ask words.now self.old) }
-        ensures only { OnErr result (result ≡ Err out_of_memory) }
+    fn step(&mut self, words: &[Word], ask: Ask) -> Result<(), OutOfMemory>
+        ensures { OnOk result (self.new ≡ stepped ask words.now self.old) }
     {
         if self.head.is_some() {
             if self.steps.len() >= STEP_LIMIT {
@@ -125,9 +118,8 @@ impl Draft {
         self.faults.push(wrong_at(words, 0, What::NoThread))
     }
 
-    fn add_token(&mut self, words: &[Word], token: TokSpec) -> Result<(), Slip>
-        ensures ok { OnOk result (self.new ≡ put words.now (Said.Token token) self.old) }
-        ensures only { OnErr result (result ≡ Err out_of_memory) }
+    fn add_token(&mut self, words: &[Word], token: TokSpec) -> Result<(), OutOfMemory>
+        ensures { OnOk result (self.new ≡ put words.now (Said.Token token) self.old) }
     {
         if self.tokens.len() >= TOKEN_LIMIT {
             return self.crowd(words);
@@ -135,9 +127,8 @@ impl Draft {
         self.tokens.push(token)
     }
 
-    fn add_message(&mut self, words: &[Word], message: MsgSpec) -> Result<(), Slip>
-        ensures ok { OnOk result (self.new ≡ put words.now (Said.Message message) self.old) }
-        ensures only { OnErr result (result ≡ Err out_of_memory) }
+    fn add_message(&mut self, words: &[Word], message: MsgSpec) -> Result<(), OutOfMemory>
+        ensures { OnOk result (self.new ≡ put words.now (Said.Message message) self.old) }
     {
         if self.messages.len() >= MESSAGE_LIMIT {
             return self.crowd(words);
@@ -146,9 +137,8 @@ impl Draft {
     }
 
     // Puts what was told behind what was told before.
-    fn put(&mut self, alloc: Global, words: &[Word], told: Said) -> Result<(), Slip>
-        ensures ok { OnOk result (self.new ≡ put words.now told self.old) }
-        ensures only { OnErr result (result ≡ Err out_of_memory) }
+    fn put(&mut self, alloc: Global, words: &[Word], told: Said) -> Result<(), OutOfMemory>
+        ensures { OnOk result (self.new ≡ put words.now told self.old) }
     {
         match told {
             Said::Turns(turns) => self.turns = turns,
@@ -168,31 +158,29 @@ impl Draft {
 
     // A sentence, told.
     #[tactic(auto, using(crate::proofs::Keeping::put_within, crate::proofs::Keeping::blamed_within))]
-    fn tell(&mut self, alloc: Global, names: &Names, words: &[Word]) -> Result<(), Slip>
+    fn tell(&mut self, alloc: Global, names: &Names, words: &[Word]) -> Result<(), OutOfMemory>
         requires { 0 < names.now.cpus }
         ensures ok { OnOk result (self.new ≡ sentence_told names.now words.now self.old) }
-        ensures only { OnErr result (result ≡ Err out_of_memory) }
         ensures keeps { OnOk result (IsDraft names.now.cpus self.old → IsDraft names.now.cpus self.new) }
     {
         match told_by(alloc, names, words) {
             Ok(told) => self.put(alloc, words, told),
             Err(Slip::Wrong(wrong)) => self.faults.push(wrong),
-            Err(Slip::Memory(refused)) => Err(Slip::Memory(refused)),
+            Err(Slip::Memory(refused)) => Err(refused),
         }
     }
 }
 
-/// What sentences tell, behind what is wrong with the names that they give. Refused only with `Memory`.
+/// What sentences tell, behind what is wrong with the names that they give.
 #[tactic(auto, using(crate::proofs::Keeping::closed_within, crate::proofs::Keeping::none_within))]
 pub fn draft_of(
     alloc: Global,
     names: &Names,
     sentences: &[Sentence],
     faults: Many<Wrong>,
-) -> Result<Draft, Slip>
+) -> Result<Draft, OutOfMemory>
     requires { 0 < names.now.cpus }
     ensures ok { IfOk result (λ draft. draft ≡ closed (all_told names.now sentences.now (no_draft faults))) }
-    ensures only { OnErr result (result ≡ Err out_of_memory) }
     ensures limits { IfOk result (IsDraft names.now.cpus) }
 {
     let mut draft = Draft::new(alloc, faults);

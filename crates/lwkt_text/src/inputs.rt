@@ -15,9 +15,9 @@ use crate::scans::sentences_of;
 use crate::tables::Names;
 use crate::words::{Sentence, Word};
 use crate::wrongs::{What, Wrong};
-use lwkt_base::Fault;
+use lwkt_base::{Fault, OutOfMemory};
 use lwkt_script::{Script, read_script};
-use std::alloc::{AllocError, Global};
+use std::alloc::Global;
 
 // The most bytes that a script in either form may have.
 const LENGTH_LIMIT: usize = 1_048_576;
@@ -37,7 +37,7 @@ pub struct Input {
 #[derive(Drop)]
 pub enum Unread {
     /// Memory was refused.
-    Memory(AllocError),
+    Memory(OutOfMemory),
     /// It is JSON, or taken for it, and this is the place of its first bad part (0 where it is no JSON at all).
     Json { place: u32 },
     /// It is a text, and this is all that is wrong with it: first with its names, then with its sentences. There is some.
@@ -71,17 +71,18 @@ fn one_declares(sentences: &[Sentence]) -> bool
 }
 
 // The sentences of bytes that are no JSON, if these are taken for a text.
-fn sentences_within(alloc: Global, bytes: &[u8]) -> Result<Option<Many<Sentence>>, AllocError>
+fn sentences_within(alloc: Global, bytes: &[u8]) -> Result<Option<Many<Sentence>>, OutOfMemory>
     ensures some { IfOk result (λ read. IfSome read (λ sentences. (length bytes.now ≤ 1048576) × (sentences ≡ sentences_of bytes.now) × (one_declares sentences ≡ true))) }
     ensures none { IfOk result (λ read. IfNone read ((nat_le (length bytes.now) 1048576 && one_declares (sentences_of bytes.now)) ≡ false)) }
 {
     if bytes.len() > LENGTH_LIMIT {
         return Ok(None);
     }
-    match sentences_of(alloc, bytes) {
-        Ok(sentences) if one_declares(sentences.as_slice()) => Ok(Some(sentences)),
-        Ok(_) => Ok(None),
-        Err(slip) => Err(slip.refused()),
+    let sentences = sentences_of(alloc, bytes)?;
+    if one_declares(sentences.as_slice()) {
+        Ok(Some(sentences))
+    } else {
+        Ok(None)
     }
 }
 
@@ -89,7 +90,7 @@ fn sentences_within(alloc: Global, bytes: &[u8]) -> Result<Option<Many<Sentence>
 /// a message or a thread. All other bytes are left to those who read JSON.
 ///
 /// Refused where an allocation was.
-pub fn is_text(alloc: Global, bytes: &[u8]) -> Result<bool, AllocError>
+pub fn is_text(alloc: Global, bytes: &[u8]) -> Result<bool, OutOfMemory>
     ensures { IfOk result (λ is. is ≡ is_text bytes.now) }
 {
     match read_script(alloc, bytes) {
@@ -131,7 +132,7 @@ fn too_long(alloc: Global) -> Unread
     };
     match wrongs.push(wrong) {
         Ok(()) => Unread::Wrongs(wrongs),
-        Err(slip) => Unread::Memory(slip.refused()),
+        Err(refused) => Unread::Memory(refused),
     }
 }
 

@@ -8,9 +8,11 @@ use crate::sames::same_script;
 use crate::unsaid::Unsaid;
 use lwkt_base::hexes::digits_of;
 use lwkt_base::steps::step_of;
-use lwkt_base::{Ask, Blob, Call, Fault, Flags, Law, MsgId, MsgSpec, Parts, ThreadId, TokSpec};
+use lwkt_base::{
+    Ask, Blob, Call, Fault, Flags, Law, MsgId, MsgSpec, OutOfMemory, Parts, ThreadId, TokSpec,
+};
 use lwkt_script::{Script, ThreadSpec, Version, read_script};
-use std::alloc::{AllocError, Global};
+use std::alloc::Global;
 
 /// The name of a law.
 pub fn law_name(law: Law) -> &'static str {
@@ -53,7 +55,7 @@ fn version_for(script: &Script) -> Version {
 }
 
 /// Writes the bytes of a record, two digits for each.
-pub(crate) fn write_bytes(page: &mut Sheet, blob: &Blob) -> Result<(), AllocError> {
+pub(crate) fn write_bytes(page: &mut Sheet, blob: &Blob) -> Result<(), OutOfMemory> {
     for byte in blob.as_slice() {
         let (high, low) = digits_of(*byte);
         page.text(high)?;
@@ -68,7 +70,7 @@ pub(crate) fn write_bytes(page: &mut Sheet, blob: &Blob) -> Result<(), AllocErro
 }
 
 // What a token of the second version says of its record.
-fn write_record(page: &mut Sheet, blob: &Option<Blob>) -> Result<(), AllocError> {
+fn write_record(page: &mut Sheet, blob: &Option<Blob>) -> Result<(), OutOfMemory> {
     match blob {
         None => page.text(", \"record\": null"),
         Some(blob) => {
@@ -79,7 +81,7 @@ fn write_record(page: &mut Sheet, blob: &Option<Blob>) -> Result<(), AllocError>
     }
 }
 
-fn write_token(page: &mut Sheet, version: Version, token: &TokSpec) -> Result<(), AllocError> {
+fn write_token(page: &mut Sheet, version: Version, token: &TokSpec) -> Result<(), OutOfMemory> {
     page.text("{\"cells\": [")?;
     page.numbers(", ", token.cells.as_slice())?;
     page.text("], \"law\": \"")?;
@@ -92,7 +94,7 @@ fn write_token(page: &mut Sheet, version: Version, token: &TokSpec) -> Result<()
     page.text("}")
 }
 
-fn write_message(page: &mut Sheet, message: &MsgSpec) -> Result<(), AllocError> {
+fn write_message(page: &mut Sheet, message: &MsgSpec) -> Result<(), OutOfMemory> {
     page.tagged("{\"of\": [", u64::from(message.origin.cpu.0))?;
     page.tagged(", ", u64::from(message.origin.thread))?;
     page.tagged("], \"round\": ", message.round)?;
@@ -100,18 +102,18 @@ fn write_message(page: &mut Sheet, message: &MsgSpec) -> Result<(), AllocError> 
 }
 
 // A number of a token, a message or a processor.
-fn write_one(page: &mut Sheet, n: u8) -> Result<(), AllocError> {
+fn write_one(page: &mut Sheet, n: u8) -> Result<(), OutOfMemory> {
     page.tagged(", ", u64::from(n))
 }
 
 // Such a number and one more.
-fn write_two(page: &mut Sheet, first: u8, second: u64) -> Result<(), AllocError> {
+fn write_two(page: &mut Sheet, first: u8, second: u64) -> Result<(), OutOfMemory> {
     write_one(page, first)?;
     page.tagged(", ", second)
 }
 
 // What is sent: a message, a thread, op and arg.
-fn write_call(page: &mut Sheet, msg: MsgId, to: ThreadId, call: Call) -> Result<(), AllocError> {
+fn write_call(page: &mut Sheet, msg: MsgId, to: ThreadId, call: Call) -> Result<(), OutOfMemory> {
     write_one(page, msg.0)?;
     write_two(page, to.cpu.0, u64::from(to.thread))?;
     page.tagged(", ", u64::from(call.op))?;
@@ -126,7 +128,7 @@ fn number_of_flags(flags: Flags) -> u64 {
 }
 
 // What stands behind the word of a step.
-fn write_parts(page: &mut Sheet, parts: Parts) -> Result<(), AllocError> {
+fn write_parts(page: &mut Sheet, parts: Parts) -> Result<(), OutOfMemory> {
     match parts {
         Parts::Alone => Ok(()),
         Parts::Token(tok) => write_one(page, tok.0),
@@ -156,7 +158,7 @@ fn write_parts(page: &mut Sheet, parts: Parts) -> Result<(), AllocError> {
 }
 
 // What stands between the brackets of a step.
-fn write_ask(page: &mut Sheet, ask: &Ask) -> Result<(), AllocError> {
+fn write_ask(page: &mut Sheet, ask: &Ask) -> Result<(), OutOfMemory> {
     let (verb, parts) = step_of(ask);
     page.text("\"")?;
     page.text(verb.word())?;
@@ -164,7 +166,7 @@ fn write_ask(page: &mut Sheet, ask: &Ask) -> Result<(), AllocError> {
     write_parts(page, parts)
 }
 
-fn write_steps(page: &mut Sheet, steps: &[Ask]) -> Result<(), AllocError> {
+fn write_steps(page: &mut Sheet, steps: &[Ask]) -> Result<(), OutOfMemory> {
     for (i, ask) in steps.iter().enumerate() {
         page.text(if i > 0 { ", [" } else { "[" })?;
         write_ask(page, ask)?;
@@ -173,7 +175,7 @@ fn write_steps(page: &mut Sheet, steps: &[Ask]) -> Result<(), AllocError> {
     Ok(())
 }
 
-fn write_thread(page: &mut Sheet, thread: &ThreadSpec) -> Result<(), AllocError> {
+fn write_thread(page: &mut Sheet, thread: &ThreadSpec) -> Result<(), OutOfMemory> {
     page.tagged("{\"cpu\": ", u64::from(thread.cpu.0))?;
     page.tagged(", \"repeat\": ", u64::from(thread.repeat))?;
     page.text(", \"steps\": [")?;
@@ -182,11 +184,11 @@ fn write_thread(page: &mut Sheet, thread: &ThreadSpec) -> Result<(), AllocError>
 }
 
 // What stands before the item of a list that has this number.
-fn break_line(page: &mut Sheet, i: usize) -> Result<(), AllocError> {
+fn break_line(page: &mut Sheet, i: usize) -> Result<(), OutOfMemory> {
     page.text(if i > 0 { ",\n    " } else { "\n    " })
 }
 
-fn write_tokens(page: &mut Sheet, version: Version, tokens: &[TokSpec]) -> Result<(), AllocError> {
+fn write_tokens(page: &mut Sheet, version: Version, tokens: &[TokSpec]) -> Result<(), OutOfMemory> {
     for (i, token) in tokens.iter().enumerate() {
         break_line(page, i)?;
         write_token(page, version, token)?;
@@ -194,7 +196,7 @@ fn write_tokens(page: &mut Sheet, version: Version, tokens: &[TokSpec]) -> Resul
     Ok(())
 }
 
-fn write_messages(page: &mut Sheet, messages: &[MsgSpec]) -> Result<(), AllocError> {
+fn write_messages(page: &mut Sheet, messages: &[MsgSpec]) -> Result<(), OutOfMemory> {
     for (i, message) in messages.iter().enumerate() {
         break_line(page, i)?;
         write_message(page, message)?;
@@ -202,7 +204,7 @@ fn write_messages(page: &mut Sheet, messages: &[MsgSpec]) -> Result<(), AllocErr
     Ok(())
 }
 
-fn write_threads(page: &mut Sheet, threads: &[ThreadSpec]) -> Result<(), AllocError> {
+fn write_threads(page: &mut Sheet, threads: &[ThreadSpec]) -> Result<(), OutOfMemory> {
     for (i, thread) in threads.iter().enumerate() {
         break_line(page, i)?;
         write_thread(page, thread)?;
@@ -211,7 +213,7 @@ fn write_threads(page: &mut Sheet, threads: &[ThreadSpec]) -> Result<(), AllocEr
 }
 
 // The JSON text of a script, whatever it holds.
-fn written(alloc: Global, script: &Script) -> Result<String, AllocError> {
+fn written(alloc: Global, script: &Script) -> Result<String, OutOfMemory> {
     let mut page = Sheet::new(alloc);
     let version = version_for(script);
     page.text(if version.is_second() {
@@ -233,13 +235,13 @@ fn written(alloc: Global, script: &Script) -> Result<String, AllocError> {
 }
 
 // Whether a text is the JSON of a script: it is read again.
-fn is_json_of(alloc: Global, text: &str, script: &Script) -> Result<bool, Unsaid>
+fn is_json_of(alloc: Global, text: &str, script: &Script) -> Result<bool, OutOfMemory>
     ensures exact { IfOk result (λ is. IsTrue is → script_of text.now ≡ Ok script.now) }
     ensures limits { IfOk result (λ is. IsTrue is → IsWithinLimits script.now) }
 {
     match read_script(alloc, text.as_bytes()) {
         Ok(read) => Ok(same_script(&read, script)),
-        Err(Fault::Memory(refused)) => Err(Unsaid::Memory(refused)),
+        Err(Fault::Memory(refused)) => Err(refused),
         Err(_) => Ok(false),
     }
 }
@@ -254,10 +256,7 @@ pub fn json_of(alloc: Global, script: &Script) -> Result<String, Unsaid>
     // What is written keeps the limits of the format.
     ensures limits { OnOk result (IsWithinLimits script.now) }
 {
-    let text = match written(alloc, script) {
-        Ok(text) => text,
-        Err(refused) => return Err(Unsaid::Memory(refused)),
-    };
+    let text = written(alloc, script)?;
     if is_json_of(alloc, text.as_str(), script)? {
         Ok(text)
     } else {

@@ -1,8 +1,7 @@
-ghost use Rattle.std.specs.Prelude.{◌≡◌, ◌≤◌, ◌<◌, OnOk, OnErr, Err, IfOk};
+ghost use Rattle.std.specs.Prelude.{◌≡◌, ◌≤◌, ◌<◌, OnOk, IfOk};
 ghost use Rattle.lwkt_text.specs.Listing.{no_names, no_listing, new_name, names_read, token_added, message_added, next_thread, thread_added, cpu_named, cpu_used, thread_used, HasCpus, token_listed, message_listed, thread_listed, cpus_listed, sentence_listed, all_listed, names_of};
 ghost use Rattle.lwkt_text.specs.Looking.{number_at};
 ghost use Rattle.lwkt_text.specs.Parting.{cells_in};
-ghost use Rattle.lwkt_text.specs.Outcome.{out_of_memory};
 
 use crate::looks::{demand_at, name_at, number_at, text_at};
 use crate::many::Many;
@@ -12,8 +11,8 @@ use crate::scans::sentences_of;
 use crate::tables::{Names, position};
 use crate::words::{Sentence, Word};
 use crate::wrongs::{Slip, What, Wrong};
-use lwkt_base::{CpuId, ThreadId};
-use std::alloc::{AllocError, Global};
+use lwkt_base::{CpuId, OutOfMemory, ThreadId};
+use std::alloc::Global;
 
 /// The names of a text so far, and what is wrong with them.
 #[derive(Drop)]
@@ -36,13 +35,12 @@ fn new_name(names: &[Name], words: &[Word]) -> Result<(), Wrong>
 }
 
 // The names of the cells of a token's sentence, none where they are wrong.
-fn names_read(alloc: Global, words: &[Word]) -> Result<Many<Name>, Slip>
-    ensures ok { IfOk result (λ names. names ≡ names_read (cells_in words.now)) }
-    ensures only { OnErr result (result ≡ Err out_of_memory) }
+fn names_read(alloc: Global, words: &[Word]) -> Result<Many<Name>, OutOfMemory>
+    ensures { IfOk result (λ names. names ≡ names_read (cells_in words.now)) }
 {
     match cells_in(alloc, words) {
         Ok(cells) => Ok(cells.names),
-        Err(Slip::Memory(refused)) => Err(Slip::Memory(refused)),
+        Err(Slip::Memory(refused)) => Err(refused),
         Err(Slip::Wrong(_)) => Ok(Many::new(alloc)),
     }
 }
@@ -67,8 +65,6 @@ fn cpu_named(words: &[Word]) -> u8
 }
 
 impl Names {
-    ghost use Rattle.lwkt_text.specs.Outcome.{out_of_memory};
-
     fn new(alloc: Global) -> Self
         ensures { result ≡ no_names }
     {
@@ -82,25 +78,22 @@ impl Names {
         }
     }
 
-    fn add_token(&mut self, alloc: Global, words: &[Word]) -> Result<(), Slip>
-        ensures ok { OnOk result (self.new ≡ token_added words.now self.old) }
-        ensures only { OnErr result (result ≡ Err out_of_memory) }
+    fn add_token(&mut self, alloc: Global, words: &[Word]) -> Result<(), OutOfMemory>
+        ensures { OnOk result (self.new ≡ token_added words.now self.old) }
     {
         let cells = names_read(alloc, words)?;
         self.tokens.push(Name::of(alloc, text_at(words, 1))?)?;
         self.cells.push(cells)
     }
 
-    fn add_message(&mut self, alloc: Global, words: &[Word]) -> Result<(), Slip>
-        ensures ok { OnOk result (self.new ≡ message_added words.now self.old) }
-        ensures only { OnErr result (result ≡ Err out_of_memory) }
+    fn add_message(&mut self, alloc: Global, words: &[Word]) -> Result<(), OutOfMemory>
+        ensures { OnOk result (self.new ≡ message_added words.now self.old) }
     {
         self.messages.push(Name::of(alloc, text_at(words, 1))?)
     }
 
-    fn add_thread(&mut self, alloc: Global, words: &[Word], cpu: u8) -> Result<(), Slip>
-        ensures ok { OnOk result (self.new ≡ thread_added words.now cpu self.old) }
-        ensures only { OnErr result (result ≡ Err out_of_memory) }
+    fn add_thread(&mut self, alloc: Global, words: &[Word], cpu: u8) -> Result<(), OutOfMemory>
+        ensures { OnOk result (self.new ≡ thread_added words.now cpu self.old) }
     {
         let thread = next_thread(cpu, self.ids.as_slice());
         self.threads.push(Name::of(alloc, text_at(words, 1))?)?;
@@ -112,8 +105,6 @@ impl Names {
 }
 
 impl Listing {
-    ghost use Rattle.lwkt_text.specs.Outcome.{out_of_memory};
-
     fn new(alloc: Global) -> Self
         ensures { result ≡ no_listing }
     {
@@ -124,9 +115,8 @@ impl Listing {
         }
     }
 
-    fn list_token(&mut self, alloc: Global, words: &[Word]) -> Result<(), Slip>
+    fn list_token(&mut self, alloc: Global, words: &[Word]) -> Result<(), OutOfMemory>
         ensures ok { OnOk result (self.new ≡ token_listed (new_name self.old.names.tokens words.now) words.now self.old) }
-        ensures only { OnErr result (result ≡ Err out_of_memory) }
         ensures cpus { OnOk result (HasCpus self.old → HasCpus self.new) }
     {
         match new_name(self.names.tokens.as_slice(), words) {
@@ -135,9 +125,8 @@ impl Listing {
         }
     }
 
-    fn list_message(&mut self, alloc: Global, words: &[Word]) -> Result<(), Slip>
+    fn list_message(&mut self, alloc: Global, words: &[Word]) -> Result<(), OutOfMemory>
         ensures ok { OnOk result (self.new ≡ message_listed (new_name self.old.names.messages words.now) words.now self.old) }
-        ensures only { OnErr result (result ≡ Err out_of_memory) }
         ensures cpus { OnOk result (HasCpus self.old → HasCpus self.new) }
     {
         match new_name(self.names.messages.as_slice(), words) {
@@ -158,10 +147,9 @@ impl Listing {
     }
 
     // A thread of this processor is named.
-    fn use_thread(&mut self, alloc: Global, words: &[Word], cpu: u8) -> Result<(), Slip>
+    fn use_thread(&mut self, alloc: Global, words: &[Word], cpu: u8) -> Result<(), OutOfMemory>
         requires { cpu ≤ 7 }
         ensures ok { OnOk result (self.new ≡ thread_used words.now cpu self.old) }
-        ensures only { OnErr result (result ≡ Err out_of_memory) }
         ensures cpus { OnOk result (HasCpus self.old → HasCpus self.new) }
     {
         self.names.add_thread(alloc, words, cpu)?;
@@ -169,9 +157,8 @@ impl Listing {
         Ok(())
     }
 
-    fn list_thread(&mut self, alloc: Global, words: &[Word]) -> Result<(), Slip>
+    fn list_thread(&mut self, alloc: Global, words: &[Word]) -> Result<(), OutOfMemory>
         ensures ok { OnOk result (self.new ≡ thread_listed (new_name self.old.names.threads words.now) words.now self.old) }
-        ensures only { OnErr result (result ≡ Err out_of_memory) }
         ensures cpus { OnOk result (HasCpus self.old → HasCpus self.new) }
     {
         match new_name(self.names.threads.as_slice(), words) {
@@ -192,9 +179,8 @@ impl Listing {
 
     // What a sentence adds.
     #[tactic(auto, unfolding(crate::specs::Listing::sentence_listed))]
-    fn list(&mut self, alloc: Global, words: &[Word]) -> Result<(), Slip>
+    fn list(&mut self, alloc: Global, words: &[Word]) -> Result<(), OutOfMemory>
         ensures ok { OnOk result (self.new ≡ sentence_listed words.now self.old) }
-        ensures only { OnErr result (result ≡ Err out_of_memory) }
         ensures cpus { OnOk result (HasCpus self.old → HasCpus self.new) }
     {
         match text_at(words, 0) {
@@ -210,10 +196,9 @@ impl Listing {
     }
 }
 
-/// The names that sentences give. Refused only with `Memory`.
-pub fn listing_of(alloc: Global, sentences: &[Sentence]) -> Result<Listing, Slip>
+/// The names that sentences give.
+pub fn listing_of(alloc: Global, sentences: &[Sentence]) -> Result<Listing, OutOfMemory>
     ensures ok { IfOk result (λ listing. listing ≡ all_listed sentences.now no_listing) }
-    ensures only { OnErr result (result ≡ Err out_of_memory) }
     ensures cpus { IfOk result HasCpus }
 {
     let mut listing = Listing::new(alloc);
@@ -224,17 +209,10 @@ pub fn listing_of(alloc: Global, sentences: &[Sentence]) -> Result<Listing, Slip
 }
 
 /// The names that a text gives, whatever else is wrong with it.
-///
-/// Refused if memory is.
-pub fn names_of(alloc: Global, bytes: &[u8]) -> Result<Names, AllocError>
+pub fn names_of(alloc: Global, bytes: &[u8]) -> Result<Names, OutOfMemory>
     ensures { IfOk result (λ names. names ≡ names_of bytes.now) }
 {
-    let sentences = match sentences_of(alloc, bytes) {
-        Ok(sentences) => sentences,
-        Err(slip) => return Err(slip.refused()),
-    };
-    match listing_of(alloc, sentences.as_slice()) {
-        Ok(listing) => Ok(listing.names),
-        Err(slip) => Err(slip.refused()),
-    }
+    let sentences = sentences_of(alloc, bytes)?;
+    let listing = listing_of(alloc, sentences.as_slice())?;
+    Ok(listing.names)
 }

@@ -1,6 +1,7 @@
-ghost use Rattle.std.specs.Prelude.{◌≡◌, ◌∷◌, [], ◌++◌, length, List, Err, OnOk, OnErr};
+ghost use Rattle.std.specs.Prelude.{◌≡◌, ◌∷◌, [], ◌++◌, length, List, OnOk, OnErr};
 
-use crate::wrongs::Slip;
+use lwkt_base::OutOfMemory;
+use lwkt_base::memory::push;
 use std::alloc::Global;
 use std::marker::Model;
 use std::mem;
@@ -18,8 +19,6 @@ impl<T> Model for Many<T> {
 }
 
 impl<T> Many<T> {
-    ghost use Rattle.lwkt_text.specs.Outcome.{out_of_memory};
-
     /// An empty list. Takes no memory.
     pub fn new(alloc: Global) -> Self
         ensures { result ≡ [] }
@@ -29,18 +28,14 @@ impl<T> Many<T> {
         }
     }
 
-    /// Puts an item at the end. Refused only with `Memory`; the items stay then.
-    pub fn push(&mut self, item: T) -> Result<(), Slip>
+    /// Puts an item at the end. Where that is refused the items stay.
+    pub fn push(&mut self, item: T) -> Result<(), OutOfMemory>
     where
         T: Drop,
         ensures ok { OnOk result (self.new ≡ self.old ++ item ∷ []) }
         ensures err { OnErr result (self.new ≡ self.old) }
-        ensures only { OnErr result (result ≡ Err out_of_memory) }
     {
-        match self.items.push(item) {
-            Ok(()) => Ok(()),
-            Err(refused) => Err(Slip::Memory(refused.into())),
-        }
+        push(&mut self.items, item)
     }
 
     /// Gives the items away and is empty then. Takes no memory.

@@ -1,6 +1,7 @@
-ghost use Rattle.std.specs.Prelude.{◌≡◌, ℕ, ◌<◌, ◌∷◌, [], ◌++◌, List, string_bytes, Err, OnOk, OnErr, IfOk};
+ghost use Rattle.std.specs.Prelude.{◌≡◌, ℕ, ◌<◌, ◌∷◌, [], ◌++◌, List, string_bytes, OnOk, IfOk};
 
-use crate::wrongs::Slip;
+use lwkt_base::OutOfMemory;
+use lwkt_base::memory::{from_str, push_char};
 use std::alloc::Global;
 use std::marker::Model;
 
@@ -17,8 +18,6 @@ impl Model for Name {
 }
 
 impl Name {
-    ghost use Rattle.lwkt_text.specs.Outcome.{out_of_memory};
-
     /// No characters. Takes no memory.
     pub fn new(alloc: Global) -> Self
         ensures { result ≡ [] }
@@ -29,26 +28,20 @@ impl Name {
     }
 
     /// The characters of a text.
-    pub fn of(alloc: Global, text: &str) -> Result<Self, Slip>
-        ensures ok { IfOk result (λ name. name ≡ text.now) }
-        ensures only { OnErr result (result ≡ Err out_of_memory) }
+    pub fn of(alloc: Global, text: &str) -> Result<Self, OutOfMemory>
+        ensures { IfOk result (λ name. name ≡ text.now) }
     {
-        match String::from_str(alloc, text) {
-            Ok(text) => Ok(Name { text }),
-            Err(refused) => Err(Slip::Memory(refused)),
-        }
+        Ok(Name {
+            text: from_str(alloc, text)?,
+        })
     }
 
-    /// Puts a character at the end. Refused only with `Memory`.
-    pub(crate) fn push(&mut self, byte: u8) -> Result<(), Slip>
+    /// Puts a character at the end.
+    pub(crate) fn push(&mut self, byte: u8) -> Result<(), OutOfMemory>
         requires { byte < 128 }
-        ensures ok { OnOk result (self.new ≡ self.old ++ byte ∷ []) }
-        ensures only { OnErr result (result ≡ Err out_of_memory) }
+        ensures { OnOk result (self.new ≡ self.old ++ byte ∷ []) }
     {
-        match self.text.push(byte as char) {
-            Ok(()) => Ok(()),
-            Err(refused) => Err(Slip::Memory(refused)),
-        }
+        push_char(&mut self.text, byte as char)
     }
 
     /// Gives the characters away and has none then. Takes no memory.

@@ -1,9 +1,10 @@
-use std::alloc::{AllocError, Global};
+use lwkt_base::OutOfMemory;
+use lwkt_base::memory::{push_number, push_str};
+use std::alloc::Global;
 
 /// A text that is written from its beginning to its end.
 #[derive(Drop)]
 pub struct Sheet {
-    alloc: Global,
     text: String,
 }
 
@@ -11,30 +12,28 @@ impl Sheet {
     /// Nothing is written yet. Takes no memory.
     pub fn new(alloc: Global) -> Self {
         Sheet {
-            alloc,
             text: String::new(alloc),
         }
     }
 
     /// Writes a text.
-    pub fn text(&mut self, text: &str) -> Result<(), AllocError> {
-        self.text.push_str(text)
+    pub fn text(&mut self, text: &str) -> Result<(), OutOfMemory> {
+        push_str(&mut self.text, text)
     }
 
     /// Writes a number in decimal digits.
-    pub fn number(&mut self, n: u64) -> Result<(), AllocError> {
-        let digits = format!(in self.alloc; "{n}")?;
-        self.text.push_str(digits.as_str())
+    pub fn number(&mut self, n: u64) -> Result<(), OutOfMemory> {
+        push_number(&mut self.text, n)
     }
 
     /// Writes a text and a number behind it.
-    pub fn tagged(&mut self, text: &str, n: u64) -> Result<(), AllocError> {
+    pub fn tagged(&mut self, text: &str, n: u64) -> Result<(), OutOfMemory> {
         self.text(text)?;
         self.number(n)
     }
 
     /// Writes numbers, with a text before each but the first.
-    pub fn numbers(&mut self, between: &str, numbers: &[u64]) -> Result<(), AllocError> {
+    pub fn numbers(&mut self, between: &str, numbers: &[u64]) -> Result<(), OutOfMemory> {
         for (i, n) in numbers.iter().enumerate() {
             if i > 0 {
                 self.text(between)?;
@@ -46,7 +45,6 @@ impl Sheet {
 
     /// What was written.
     pub fn into_string(self) -> String {
-        let Sheet { alloc: _, text } = self;
-        text
+        self.text
     }
 }

@@ -14,7 +14,7 @@ use crate::slips::checked;
 use crate::tables::{Names, position, thread_id_at, thread_length};
 use crate::words::Word;
 use crate::wrongs::{Slip, Wanted, What, Wrong};
-use lwkt_base::{Blob, Cells, CpuId, Law, MsgSpec, TokSpec};
+use lwkt_base::{Blob, Cells, CpuId, Law, MsgSpec, OutOfMemory, TokSpec};
 use lwkt_script::records::may_guard;
 use std::alloc::Global;
 
@@ -45,8 +45,6 @@ const LAST_ROUND: u64 = 2_251_799_813_685_247;
 const MOST_REPEATS: u64 = 1_000_000;
 
 impl CellList {
-    ghost use Rattle.lwkt_text.specs.Outcome.{out_of_memory};
-
     fn new(alloc: Global) -> Self
         ensures { result ≡ no_cells }
     {
@@ -57,9 +55,8 @@ impl CellList {
         }
     }
 
-    fn add(&mut self, alloc: Global, n: u64) -> Result<(), Slip>
-        ensures ok { OnOk result (self.new ≡ cell_added n self.old) }
-        ensures only { OnErr result (result ≡ Err out_of_memory) }
+    fn add(&mut self, alloc: Global, n: u64) -> Result<(), OutOfMemory>
+        ensures { OnOk result (self.new ≡ cell_added n self.old) }
     {
         let name = self.pending.take(alloc);
         self.names.push(name)?;
@@ -107,7 +104,7 @@ impl CellList {
         ensures err { IfErr result (λ slip. IsSlipAsRead slip (cell_told word.now self.old)) }
     {
         match decimal_number(word.text.as_str()) {
-            Some(n) => self.add(alloc, n),
+            Some(n) => Ok(self.add(alloc, n)?),
             None => self.name(alloc, word),
         }
     }

@@ -14,8 +14,9 @@ use crate::scans::sentences_of;
 use crate::tables::Names;
 use crate::words::Sentence;
 use crate::wrongs::Wrong;
+use lwkt_base::OutOfMemory;
 use lwkt_script::{Parts, Script};
-use std::alloc::{AllocError, Global};
+use std::alloc::Global;
 
 /// A text, read.
 #[derive(Drop)]
@@ -32,10 +33,20 @@ pub struct Reading {
 #[derive(Drop)]
 pub enum Refusal {
     /// Memory was refused.
-    Memory(AllocError),
+    Memory(OutOfMemory),
     /// All that is wrong with it: first with its names, then with its sentences, each in their order; and where that is nothing, with
     /// what its claims name. There is some.
     Wrongs(Many<Wrong>),
+}
+
+impl From<OutOfMemory> for Refusal {
+    ghost use Rattle.lwkt_text.specs.declared.readers.Refusal.TheVariants.{Memory};
+
+    ghost from_gives = { λ refused refusal. refusal ≡ Memory refused };
+
+    fn from(refused: OutOfMemory) -> Refusal {
+        Refusal::Memory(refused)
+    }
 }
 
 // All that was told.
@@ -65,15 +76,11 @@ fn claims_checked(alloc: Global, reading: Reading) -> Result<Reading, Refusal>
     ensures there { IfOk result (λ checked. NamesWhatIsThere checked.script checked.expectations) }
     ensures err { IfErr result (λ refusal. IsRefusalOf refusal (claims_checked reading)) }
 {
-    match absences(alloc, &reading.script, reading.expectations.as_slice()) {
-        Ok(wrongs) => {
-            if wrongs.len() == 0 {
-                Ok(reading)
-            } else {
-                Err(Refusal::Wrongs(wrongs))
-            }
-        }
-        Err(slip) => Err(Refusal::Memory(slip.refused())),
+    let wrongs = absences(alloc, &reading.script, reading.expectations.as_slice())?;
+    if wrongs.len() == 0 {
+        Ok(reading)
+    } else {
+        Err(Refusal::Wrongs(wrongs))
     }
 }
 
@@ -97,19 +104,13 @@ pub(crate) fn read_sentences(alloc: Global, sentences: &[Sentence]) -> Result<Re
     ensures there { IfOk result (λ reading. NamesWhatIsThere reading.script reading.expectations) }
     ensures err { IfErr result (λ refusal. IsRefusalOf refusal (reading_of_sentences sentences.now)) }
 {
-    let listing = match listing_of(alloc, sentences) {
-        Ok(listing) => listing,
-        Err(slip) => return Err(Refusal::Memory(slip.refused())),
-    };
     let Listing {
         names,
         is_said: _,
         faults,
-    } = listing;
-    match draft_of(alloc, &names, sentences, faults) {
-        Ok(draft) => sealed(alloc, names, draft),
-        Err(slip) => Err(Refusal::Memory(slip.refused())),
-    }
+    } = listing_of(alloc, sentences)?;
+    let draft = draft_of(alloc, &names, sentences, faults)?;
+    sealed(alloc, names, draft)
 }
 
 /// Reads a text: the script that it is, its names, and what it says of outcomes.
@@ -129,8 +130,6 @@ pub fn read_text(alloc: Global, bytes: &[u8]) -> Result<Reading, Refusal>
     // All that is wrong with them, and that is something.
     ensures err { IfErr result (λ refusal. IsRefusalOf refusal (reading_of bytes.now)) }
 {
-    match sentences_of(alloc, bytes) {
-        Ok(sentences) => read_sentences(alloc, sentences.as_slice()),
-        Err(slip) => Err(Refusal::Memory(slip.refused())),
-    }
+    let sentences = sentences_of(alloc, bytes)?;
+    read_sentences(alloc, sentences.as_slice())
 }

@@ -1,11 +1,10 @@
-ghost use Rattle.std.specs.Prelude.{◌≡◌, ◌<◌, [], OnOk, OnErr, Err, IfOk};
+ghost use Rattle.std.specs.Prelude.{◌≡◌, ◌<◌, [], OnOk, IfOk};
 ghost use Rattle.lwkt_text.specs.Scanning.{kind_of, shown, joins, no_scan, word_ended, sentence_ended, put, fed, sentences_of, fed_all};
-ghost use Rattle.lwkt_text.specs.Outcome.{out_of_memory};
 
 use crate::many::Many;
 use crate::names::Name;
 use crate::words::{Sentence, Word};
-use crate::wrongs::Slip;
+use lwkt_base::OutOfMemory;
 use std::alloc::Global;
 
 /// What a byte is to a text.
@@ -65,8 +64,6 @@ fn shown(byte: u8) -> u8
 }
 
 impl Scan {
-    ghost use Rattle.lwkt_text.specs.Outcome.{out_of_memory};
-
     fn new(alloc: Global) -> Self
         ensures { result ≡ no_scan }
     {
@@ -88,9 +85,8 @@ impl Scan {
     }
 
     // Ends the word, if there is one, before this place.
-    fn end_word(&mut self, alloc: Global, end: usize) -> Result<(), Slip>
-        ensures ok { OnOk result (self.new ≡ word_ended end self.old) }
-        ensures only { OnErr result (result ≡ Err out_of_memory) }
+    fn end_word(&mut self, alloc: Global, end: usize) -> Result<(), OutOfMemory>
+        ensures { OnOk result (self.new ≡ word_ended end self.old) }
     {
         self.kind = Kind::Blank;
         if self.text.as_str().is_empty() {
@@ -105,9 +101,8 @@ impl Scan {
     }
 
     // Ends the sentence, if there is one, before this place.
-    fn end_sentence(&mut self, alloc: Global, end: usize) -> Result<(), Slip>
-        ensures ok { OnOk result (self.new ≡ sentence_ended end self.old) }
-        ensures only { OnErr result (result ≡ Err out_of_memory) }
+    fn end_sentence(&mut self, alloc: Global, end: usize) -> Result<(), OutOfMemory>
+        ensures { OnOk result (self.new ≡ sentence_ended end self.old) }
     {
         self.end_word(alloc, end)?;
         if self.words.len() == 0 {
@@ -118,9 +113,8 @@ impl Scan {
     }
 
     // Puts a byte into the word, or into a new one.
-    fn put(&mut self, alloc: Global, at: usize, kind: Kind, byte: u8) -> Result<(), Slip>
-        ensures ok { OnOk result (self.new ≡ put at kind byte self.old) }
-        ensures only { OnErr result (result ≡ Err out_of_memory) }
+    fn put(&mut self, alloc: Global, at: usize, kind: Kind, byte: u8) -> Result<(), OutOfMemory>
+        ensures { OnOk result (self.new ≡ put at kind byte self.old) }
     {
         if !self.joins(kind) {
             self.end_word(alloc, at)?;
@@ -132,9 +126,8 @@ impl Scan {
 
     // Goes on with the byte at a place.
     #[tactic(auto, unfolding(crate::specs::Scanning::fed))]
-    fn feed(&mut self, alloc: Global, at: usize, byte: u8) -> Result<(), Slip>
-        ensures ok { OnOk result (self.new ≡ fed at byte self.old) }
-        ensures only { OnErr result (result ≡ Err out_of_memory) }
+    fn feed(&mut self, alloc: Global, at: usize, byte: u8) -> Result<(), OutOfMemory>
+        ensures { OnOk result (self.new ≡ fed at byte self.old) }
     {
         if self.remark {
             self.remark = byte != b'\n';
@@ -154,9 +147,8 @@ impl Scan {
 }
 
 // All bytes, read.
-fn scanned(alloc: Global, bytes: &[u8]) -> Result<Scan, Slip>
-    ensures ok { IfOk result (λ scan. scan ≡ fed_all 0 bytes.now no_scan) }
-    ensures only { OnErr result (result ≡ Err out_of_memory) }
+fn scanned(alloc: Global, bytes: &[u8]) -> Result<Scan, OutOfMemory>
+    ensures { IfOk result (λ scan. scan ≡ fed_all 0 bytes.now no_scan) }
 {
     let mut scan = Scan::new(alloc);
     for (at, byte) in bytes.iter().enumerate() {
@@ -165,11 +157,10 @@ fn scanned(alloc: Global, bytes: &[u8]) -> Result<Scan, Slip>
     Ok(scan)
 }
 
-/// The sentences of a text, in order. Refused only with `Memory`.
+/// The sentences of a text, in order.
 #[tactic(auto, unfolding(crate::specs::Scanning::sentences_of))]
-pub fn sentences_of(alloc: Global, bytes: &[u8]) -> Result<Many<Sentence>, Slip>
-    ensures ok { IfOk result (λ sentences. sentences ≡ sentences_of bytes.now) }
-    ensures only { OnErr result (result ≡ Err out_of_memory) }
+pub fn sentences_of(alloc: Global, bytes: &[u8]) -> Result<Many<Sentence>, OutOfMemory>
+    ensures { IfOk result (λ sentences. sentences ≡ sentences_of bytes.now) }
 {
     let mut scan = scanned(alloc, bytes)?;
     scan.end_sentence(alloc, bytes.len())?;

@@ -8,9 +8,11 @@ use crate::readers::{Refusal, read_text};
 use crate::sames::same_script;
 use crate::unsaid::Unsaid;
 use lwkt_base::steps::step_of;
-use lwkt_base::{Ask, Blob, Call, Flags, MsgId, MsgSpec, Parts, ThreadId, TokId, TokSpec};
+use lwkt_base::{
+    Ask, Blob, Call, Flags, MsgId, MsgSpec, OutOfMemory, Parts, ThreadId, TokId, TokSpec,
+};
 use lwkt_script::{Script, ThreadSpec};
-use std::alloc::{AllocError, Global};
+use std::alloc::Global;
 
 // How many tokens and messages have names.
 #[derive(Clone, Copy)]
@@ -20,7 +22,7 @@ struct Known {
 }
 
 // A record: two digits for each byte, or `-` for none.
-fn write_record(page: &mut Sheet, text: &str, blob: &Blob) -> Result<(), AllocError> {
+fn write_record(page: &mut Sheet, text: &str, blob: &Blob) -> Result<(), OutOfMemory> {
     page.text(text)?;
     if blob.is_empty() {
         return page.text("-");
@@ -28,7 +30,7 @@ fn write_record(page: &mut Sheet, text: &str, blob: &Blob) -> Result<(), AllocEr
     write_bytes(page, blob)
 }
 
-fn write_token(page: &mut Sheet, i: usize, token: &TokSpec) -> Result<(), AllocError> {
+fn write_token(page: &mut Sheet, i: usize, token: &TokSpec) -> Result<(), OutOfMemory> {
     page.tagged("token t", i as u64)?;
     page.text(": ")?;
     page.text(law_name(token.law))?;
@@ -47,12 +49,12 @@ fn write_token(page: &mut Sheet, i: usize, token: &TokSpec) -> Result<(), AllocE
 }
 
 // A thread, by its processor and its number there.
-fn write_id(page: &mut Sheet, id: ThreadId) -> Result<(), AllocError> {
+fn write_id(page: &mut Sheet, id: ThreadId) -> Result<(), OutOfMemory> {
     page.number(u64::from(id.cpu.0))?;
     page.tagged(".", u64::from(id.thread))
 }
 
-fn write_message(page: &mut Sheet, i: usize, message: &MsgSpec) -> Result<(), AllocError> {
+fn write_message(page: &mut Sheet, i: usize, message: &MsgSpec) -> Result<(), OutOfMemory> {
     page.tagged("message m", i as u64)?;
     page.text(" of ")?;
     write_id(page, message.origin)?;
@@ -63,7 +65,7 @@ fn write_message(page: &mut Sheet, i: usize, message: &MsgSpec) -> Result<(), Al
 }
 
 // A token: its name, if it has one, and else its number.
-fn write_tok(page: &mut Sheet, known: Known, tok: TokId) -> Result<(), AllocError> {
+fn write_tok(page: &mut Sheet, known: Known, tok: TokId) -> Result<(), OutOfMemory> {
     page.text(if usize::from(tok.0) < known.tokens {
         " t"
     } else {
@@ -73,7 +75,7 @@ fn write_tok(page: &mut Sheet, known: Known, tok: TokId) -> Result<(), AllocErro
 }
 
 // A message: its name, if it has one, and else its number.
-fn write_msg(page: &mut Sheet, known: Known, msg: MsgId) -> Result<(), AllocError> {
+fn write_msg(page: &mut Sheet, known: Known, msg: MsgId) -> Result<(), OutOfMemory> {
     page.text(if usize::from(msg.0) < known.messages {
         " m"
     } else {
@@ -83,7 +85,7 @@ fn write_msg(page: &mut Sheet, known: Known, msg: MsgId) -> Result<(), AllocErro
 }
 
 // A cell of a token.
-fn write_cell(page: &mut Sheet, known: Known, tok: TokId, cell: u8) -> Result<(), AllocError> {
+fn write_cell(page: &mut Sheet, known: Known, tok: TokId, cell: u8) -> Result<(), OutOfMemory> {
     write_tok(page, known, tok)?;
     page.tagged(".", u64::from(cell))
 }
@@ -95,7 +97,7 @@ fn write_call(
     msg: MsgId,
     to: ThreadId,
     call: Call,
-) -> Result<(), AllocError> {
+) -> Result<(), OutOfMemory> {
     write_msg(page, known, msg)?;
     page.text(" -> ")?;
     write_id(page, to)?;
@@ -108,7 +110,7 @@ fn write_call(
     Ok(())
 }
 
-fn write_flags(page: &mut Sheet, flags: Flags) -> Result<(), AllocError> {
+fn write_flags(page: &mut Sheet, flags: Flags) -> Result<(), OutOfMemory> {
     if flags.dropable {
         page.text(", dropable")?;
     }
@@ -122,7 +124,7 @@ fn write_flags(page: &mut Sheet, flags: Flags) -> Result<(), AllocError> {
 }
 
 // What stands behind the word of a step.
-fn write_parts(page: &mut Sheet, known: Known, parts: Parts) -> Result<(), AllocError> {
+fn write_parts(page: &mut Sheet, known: Known, parts: Parts) -> Result<(), OutOfMemory> {
     match parts {
         Parts::Alone => Ok(()),
         Parts::Token(tok) => write_tok(page, known, tok),
@@ -153,7 +155,7 @@ fn write_parts(page: &mut Sheet, known: Known, parts: Parts) -> Result<(), Alloc
     }
 }
 
-fn write_steps(page: &mut Sheet, known: Known, steps: &[Ask]) -> Result<(), AllocError> {
+fn write_steps(page: &mut Sheet, known: Known, steps: &[Ask]) -> Result<(), OutOfMemory> {
     for ask in steps {
         let (verb, parts) = step_of(ask);
         page.text("    ")?;
@@ -170,7 +172,7 @@ fn write_thread(
     known: Known,
     i: usize,
     thread: &ThreadSpec,
-) -> Result<(), AllocError> {
+) -> Result<(), OutOfMemory> {
     page.tagged("\nthread p", i as u64)?;
     page.tagged(" on ", u64::from(thread.cpu.0))?;
     if thread.repeat != 1 {
@@ -180,21 +182,25 @@ fn write_thread(
     write_steps(page, known, thread.steps.as_slice())
 }
 
-fn write_tokens(page: &mut Sheet, tokens: &[TokSpec]) -> Result<(), AllocError> {
+fn write_tokens(page: &mut Sheet, tokens: &[TokSpec]) -> Result<(), OutOfMemory> {
     for (i, token) in tokens.iter().enumerate() {
         write_token(page, i, token)?;
     }
     Ok(())
 }
 
-fn write_messages(page: &mut Sheet, messages: &[MsgSpec]) -> Result<(), AllocError> {
+fn write_messages(page: &mut Sheet, messages: &[MsgSpec]) -> Result<(), OutOfMemory> {
     for (i, message) in messages.iter().enumerate() {
         write_message(page, i, message)?;
     }
     Ok(())
 }
 
-fn write_threads(page: &mut Sheet, known: Known, threads: &[ThreadSpec]) -> Result<(), AllocError> {
+fn write_threads(
+    page: &mut Sheet,
+    known: Known,
+    threads: &[ThreadSpec],
+) -> Result<(), OutOfMemory> {
     for (i, thread) in threads.iter().enumerate() {
         write_thread(page, known, i, thread)?;
     }
@@ -202,7 +208,7 @@ fn write_threads(page: &mut Sheet, known: Known, threads: &[ThreadSpec]) -> Resu
 }
 
 // The text of a script, whatever it holds.
-fn written(alloc: Global, script: &Script) -> Result<String, AllocError> {
+fn written(alloc: Global, script: &Script) -> Result<String, OutOfMemory> {
     let mut page = Sheet::new(alloc);
     page.tagged("turns ", u64::from(script.turns))?;
     page.tagged("; idle ", u64::from(script.idle))?;
@@ -221,14 +227,14 @@ fn written(alloc: Global, script: &Script) -> Result<String, AllocError> {
 }
 
 // Whether a text is one of a script, and expects nothing: it is read again.
-fn is_text_of(alloc: Global, text: &str, script: &Script) -> Result<bool, Unsaid>
+fn is_text_of(alloc: Global, text: &str, script: &Script) -> Result<bool, OutOfMemory>
     ensures { IfOk result (λ is. IsTrue is → IsTextOf script.now text.now) }
 {
     match read_text(alloc, text.as_bytes()) {
         Ok(reading) => {
             Ok(reading.expectations.as_slice().is_empty() && same_script(&reading.script, script))
         }
-        Err(Refusal::Memory(refused)) => Err(Unsaid::Memory(refused)),
+        Err(Refusal::Memory(refused)) => Err(refused),
         Err(Refusal::Wrongs(_)) => Ok(false),
     }
 }
@@ -240,10 +246,7 @@ fn is_text_of(alloc: Global, text: &str, script: &Script) -> Result<bool, Unsaid
 pub fn text_of(alloc: Global, script: &Script) -> Result<String, Unsaid>
     ensures { IfOk result (λ text. IsTextOf script.now (string_bytes text)) }
 {
-    let text = match written(alloc, script) {
-        Ok(text) => text,
-        Err(refused) => return Err(Unsaid::Memory(refused)),
-    };
+    let text = written(alloc, script)?;
     if is_text_of(alloc, text.as_str(), script)? {
         Ok(text)
     } else {

@@ -1,5 +1,4 @@
-use lwkt_base::{CpuId, MsgId, ThreadId, TokId};
-use std::alloc::AllocError;
+use lwkt_base::{CpuId, MsgId, OutOfMemory, ThreadId, TokId};
 
 /// What a claim names.
 #[derive(Clone, Copy, PartialEq, Eq)]
@@ -93,22 +92,18 @@ pub struct Wrong {
 #[derive(Clone, Copy, PartialEq, Eq)]
 pub enum Slip {
     /// Memory was refused.
-    Memory(AllocError),
+    Memory(OutOfMemory),
     /// The part is wrong.
     Wrong(Wrong),
 }
 
-impl Slip {
+impl From<OutOfMemory> for Slip {
     ghost use Rattle.std.specs.Prelude.{◌≡◌};
-    ghost use Rattle.lwkt_text.specs.Outcome.{out_of_memory};
+    ghost use Rattle.lwkt_text.specs.declared.wrongs.Slip.TheVariants.{Memory};
 
-    /// What the allocator said, where that is why. That it is, is the caller's condition.
-    pub fn refused(self) -> AllocError
-        requires { self ≡ out_of_memory }
-    {
-        match self {
-            Slip::Memory(refused) => refused,
-            Slip::Wrong(_) => unreachable!(),
-        }
+    ghost from_gives = { λ refused slip. slip ≡ Memory refused };
+
+    fn from(refused: OutOfMemory) -> Slip {
+        Slip::Memory(refused)
     }
 }

@@ -1,7 +1,6 @@
 -- Processors that were driven make a machine again.
 use Rattle.std.proofs.Common.{◌≡◌, ℕ, zero, suc, ◌<◌, List, [], ◌∷◌, ◌++◌, length, map, get_or, refl, ap, sym, ◌∙◌, subst, arith, Option, Some}
-use Rattle.std.specs.Prelude.{All, Bool, slice_get, option_map, Result, Ok, Err, IfOk}
-use Rattle.lwkt_base.specs.declared.faults.Fault.{Fault}
+use Rattle.std.specs.Prelude.{All, Bool, slice_get, option_map}
 use Rattle.std.specs.List.{AllZip}
 use Rattle.std.proofs.lemmas.Option.{slice_get-map, slice_get_within, slice_get-get_or, get_or_from_slice_get}
 use Rattle.std.proofs.lemmas.List.{length-map, get_or-map}
@@ -67,11 +66,6 @@ mapped_at {B = B} f xs k y d at less =
     let i : Some (f (get_or xs k d)) ≡ Some y = subst F (slice_get-get_or xs k d less) h in
     some_same (f (get_or xs k d)) y (Some y) (sym i) refl
 
--- what follows from two facts of an answer
-pub ok_both : {X : Type 0} (r : Result X Fault) (P Q R : X → Type 0) → ((x : X) → P x → Q x → R x) → IfOk r P → IfOk r Q → IfOk r R
-ok_both (Ok x) P Q R from p q = from x p q
-ok_both (Err fault) P Q R from p q = tt
-
 module _ (answers : CpuId → ℕ → Bool → Type 0) (limits : Limits) (bank : BankId) (book : Shelf) (cpus : List (Processor Scripted)) (olds news : List (Driven Scripted)) where
   abbrev pub Drove : Driven Scripted → Driven Scripted → Type 0
   Drove old new = IsDriven IsPolled answers bank limits old new new.ending
@@ -105,13 +99,12 @@ module _ (answers : CpuId → ℕ → Bool → Type 0) (limits : Limits) (bank :
   }
 
   -- the processors and the events of those that were driven, taken apart
-  pub apart_driven : {X : Type 0} (cpus_in : X → List (Processor Scripted)) (traces_in : X → List KeptTrace) (r : Result X Fault) (xs : List (Driven Scripted)) → xs ≡ news → IfOk r (λ x. cpus_in x ≡ map (λ (d : Driven Scripted). d.cpu) xs) → IfOk r (λ x. traces_in x ≡ map (λ (d : Driven Scripted). d.trace) xs) → AllZip IsUndriven cpus olds → AllZip Drove olds news → All (λ (d : Driven Scripted). IsAmple d.ending) news → IfOk r (λ x. AreDriven answers limits bank cpus (cpus_in x) (traces_in x))
-  apart_driven cpus_in traces_in r xs same cs ts fresh drove ample =
-      ok_both r (λ x. cpus_in x ≡ map (λ (d : Driven Scripted). d.cpu) xs) (λ x. traces_in x ≡ map (λ (d : Driven Scripted). d.trace) xs) (λ x. AreDriven answers limits bank cpus (cpus_in x) (traces_in x)) (λ x c t.
-      let C : List (Processor Scripted) → Type 0 = λ ps. AreDriven answers limits bank cpus ps (traces_in x) in
-      let T : List KeptTrace → Type 0 = λ vs. AreDriven answers limits bank cpus (map (λ (d : Driven Scripted). d.cpu) xs) vs in
+  pub apart_driven : (qs : List (Processor Scripted)) (vs : List KeptTrace) (xs : List (Driven Scripted)) → xs ≡ news → qs ≡ map (λ (d : Driven Scripted). d.cpu) xs → vs ≡ map (λ (d : Driven Scripted). d.trace) xs → AllZip IsUndriven cpus olds → AllZip Drove olds news → All (λ (d : Driven Scripted). IsAmple d.ending) news → AreDriven answers limits bank cpus qs vs
+  apart_driven qs vs xs same c t fresh drove ample =
+      let C : List (Processor Scripted) → Type 0 = λ ps. AreDriven answers limits bank cpus ps vs in
+      let T : List KeptTrace → Type 0 = λ ws. AreDriven answers limits bank cpus (map (λ (d : Driven Scripted). d.cpu) xs) ws in
       let N : List (Driven Scripted) → Type 0 = λ ds. AreDriven answers limits bank cpus (map (λ (d : Driven Scripted). d.cpu) ds) (map (λ (d : Driven Scripted). d.trace) ds) in
-      subst C (sym c) (subst T (sym t) (subst N (sym same) (are_driven fresh drove ample)))) cs ts
+      subst C (sym c) (subst T (sym t) (subst N (sym same) (are_driven fresh drove ample)))
 
 -- processors that were driven are still of their bank and book
 pub driven_of : (bank : BankId) (book : Shelf) (news : List (Driven Scripted)) → All (IsAtTables bank book.table) news → All (IsOfMachine bank book) (map (λ (d : Driven Scripted). d.cpu) news)
@@ -124,12 +117,11 @@ driven_of bank book (d ∷ ds) at k p less =
     subst F (sym (get_or-map (λ (x : Driven Scripted). x.cpu) news k d p within)) (record { bank_is = a.bank_is; table_is = a.book_is })
 
 -- the same of what was taken apart
-pub apart_of : {X : Type 0} (bank : BankId) (book : Shelf) (news xs : List (Driven Scripted)) (cpus_in : X → List (Processor Scripted)) (r : Result X Fault) → xs ≡ news → IfOk r (λ x. cpus_in x ≡ map (λ (d : Driven Scripted). d.cpu) xs) → All (IsAtTables bank book.table) news → IfOk r (λ x. All (IsOfMachine bank book) (cpus_in x))
-apart_of bank book news xs cpus_in r same cs at =
-    ok_both r (λ x. cpus_in x ≡ map (λ (d : Driven Scripted). d.cpu) xs) (λ x. cpus_in x ≡ map (λ (d : Driven Scripted). d.cpu) xs) (λ x. All (IsOfMachine bank book) (cpus_in x)) (λ x c d.
+pub apart_of : (bank : BankId) (book : Shelf) (news xs : List (Driven Scripted)) (qs : List (Processor Scripted)) → xs ≡ news → qs ≡ map (λ (d : Driven Scripted). d.cpu) xs → All (IsAtTables bank book.table) news → All (IsOfMachine bank book) qs
+apart_of bank book news xs qs same c at =
     let C : List (Processor Scripted) → Type 0 = λ ps. All (IsOfMachine bank book) ps in
     let N : List (Driven Scripted) → Type 0 = λ ds. All (IsOfMachine bank book) (map (λ (y : Driven Scripted). y.cpu) ds) in
-    subst C (sym c) (subst N (sym same) (driven_of bank book news at))) cs cs
+    subst C (sym c) (subst N (sym same) (driven_of bank book news at))
 
 numbered_again : (answers : CpuId → ℕ → Bool → Type 0) (limits : Limits) (bank : BankId) (olds news : List (Processor Scripted)) (traces : List KeptTrace) → AreDriven answers limits bank olds news traces → ((k : ℕ) (p : Processor Scripted) → slice_get olds k ≡ Some p → p.seat.cpu.0 ≡ k) → (k : ℕ) (q : Processor Scripted) → slice_get news k ≡ Some q → q.seat.cpu.0 ≡ k
 numbered_again answers limits bank olds news traces d numbered k q at =

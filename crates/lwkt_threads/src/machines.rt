@@ -1,19 +1,19 @@
 //! A machine whose processors are driven on threads.
-ghost use Rattle.std.specs.Prelude.{◌≡◌, ◌≤◌, ◌↔◌, None, length, All, IfOk, OnErr, Err, map};
+ghost use Rattle.std.specs.Prelude.{◌≡◌, ◌≤◌, ◌↔◌, None, [], length, vec_capacity, All, IfOk, map};
 ghost use Rattle.std.specs.List.{AllZip};
 ghost use Rattle.lwkt_bank.specs.Seats.{id_of};
 ghost use Rattle.lwkt_machine.specs.Machines.{IsOfMachine, AreNumbered};
 ghost use Rattle.lwkt_threads.specs.Driven.{IsUndriven, IsAmple, AreDriven, IsDrivenMachine};
-ghost use Rattle.lwkt_base.specs.Fault.{no_memory};
 
 use lwkt_bank::Bank;
-use lwkt_base::{CpuId, Fault};
+use lwkt_base::memory::{push, with_capacity_for};
+use lwkt_base::{CpuId, OutOfMemory};
 use lwkt_cpu::Cpu;
 use lwkt_drive::{Driven, Ending, Gate, Limits, drive_on_threads};
 use lwkt_events::EventList;
 use lwkt_machine::{Machine, ScriptBody};
 use lwkt_msg::MsgBook;
-use std::alloc::{AllocError, Global};
+use std::alloc::Global;
 use std::thread::Threads;
 
 /// A machine whose processors were driven, with the events of each.
@@ -26,18 +26,19 @@ pub struct Outcome {
 }
 
 // The processors of a machine, each with its number and without events.
-fn undriven(alloc: Global, cpus: Vec<Cpu<ScriptBody>>) -> Result<Vec<Driven<ScriptBody>>, Fault>
+fn undriven(
+    alloc: Global,
+    cpus: Vec<Cpu<ScriptBody>>,
+) -> Result<Vec<Driven<ScriptBody>>, OutOfMemory>
     requires few { length cpus.items ≤ 8 }
     requires numbered { AreNumbered cpus.items }
-    ensures ok { IfOk result (λ all. AllZip IsUndriven cpus.items all.items) }
-    ensures only { OnErr result (result ≡ Err no_memory) }
+    ensures { IfOk result (λ all. AllZip IsUndriven cpus.items all.items) }
 {
     let mut all = Vec::new(alloc);
     let mut number = 0u8;
     for cpu in cpus {
         let driven = Driven::new(alloc, CpuId(number), cpu);
-        all.push(driven)
-            .map_err(|refused| Fault::Memory(refused.into()))?;
+        push(&mut all, driven)?;
         number = number.saturating_add(1);
     }
     Ok(all)
@@ -50,35 +51,38 @@ struct Apart {
     traces: Vec<EventList>,
 }
 
-// Takes processors that were driven and their events apart.
-fn parts_of(alloc: Global, all: Vec<Driven<ScriptBody>>) -> Result<Apart, AllocError>
-    ensures cpus { IfOk result (λ parts. parts.cpus.items ≡ map (λ d. d.cpu) all.items) }
-    ensures traces { IfOk result (λ parts. parts.traces.items ≡ map (λ d. d.trace) all.items) }
+// Room for these processors and their events, apart. It is made before they are driven, so that nothing is lost of what they do.
+fn room_for(alloc: Global, all: &[Cpu<ScriptBody>]) -> Result<Apart, OutOfMemory>
+    ensures none { IfOk result (λ room. (room.cpus.items ≡ []) × (room.traces.items ≡ [])) }
+    ensures wide { IfOk result (λ room. (length all.now ≤ vec_capacity room.cpus) × (length all.now ≤ vec_capacity room.traces)) }
 {
-    let mut cpus = Vec::new(alloc);
-    let mut traces = Vec::new(alloc);
+    Ok(Apart {
+        cpus: with_capacity_for(alloc, all)?,
+        traces: with_capacity_for(alloc, all)?,
+    })
+}
+
+// Takes processors that were driven and their events apart, in room that was made before.
+fn take_apart(all: Vec<Driven<ScriptBody>>, room: Apart) -> Apart
+    requires none { (room.cpus.items ≡ []) × (room.traces.items ≡ []) }
+    requires wide { (length all.items ≤ vec_capacity room.cpus) × (length all.items ≤ vec_capacity room.traces) }
+    ensures cpus { result.cpus.items ≡ map (λ d. d.cpu) all.items }
+    ensures traces { result.traces.items ≡ map (λ d. d.trace) all.items }
+{
+    let Apart {
+        mut cpus,
+        mut traces,
+    } = room;
     for driven in all {
         let Driven { cpu, trace, .. } = driven;
-        cpus.push(cpu)?;
-        traces.push(trace)?;
+        cpus.push(cpu).unwrap();
+        traces.push(trace).unwrap();
     }
-    Ok(Apart { cpus, traces })
+    Apart { cpus, traces }
 }
 
-// The same, where refused memory is told as a fault.
-fn take_apart(alloc: Global, all: Vec<Driven<ScriptBody>>) -> Result<Apart, Fault>
-    ensures cpus { IfOk result (λ parts. parts.cpus.items ≡ map (λ d. d.cpu) all.items) }
-    ensures traces { IfOk result (λ parts. parts.traces.items ≡ map (λ d. d.trace) all.items) }
-    ensures only { OnErr result (result ≡ Err no_memory) }
-{
-    match parts_of(alloc, all) {
-        Ok(parts) => Ok(parts),
-        Err(refused) => Err(Fault::Memory(refused)),
-    }
-}
-
-// What the allocator said, where this is an end for want of memory.
-fn ending_refusal(ending: Ending) -> Option<AllocError>
+// What memory was refused with, where this is an end for want of it.
+fn ending_refusal(ending: Ending) -> Option<OutOfMemory>
     ensures { (result ≡ None) ↔ IsAmple ending }
 {
     match ending {
@@ -87,8 +91,8 @@ fn ending_refusal(ending: Ending) -> Option<AllocError>
     }
 }
 
-// What the allocator said of the first processor whose driving ended for want of memory, its own or another's.
-fn refusal_among(all: &[Driven<ScriptBody>]) -> Option<AllocError>
+// The same of the first processor whose driving ended for want of memory, its own or another's.
+fn refusal_among(all: &[Driven<ScriptBody>]) -> Option<OutOfMemory>
     ensures { (result ≡ None) ↔ All (λ d. IsAmple d.ending) all.now }
 {
     let driven = all
@@ -107,35 +111,34 @@ fn drive_parts<R: Threads + Sync, G: Gate + Sync>(
     bank: &Bank,
     book: &MsgBook,
     cpus: Vec<Cpu<ScriptBody>>,
-) -> Result<Apart, Fault>
+) -> Result<Apart, OutOfMemory>
     requires of { All (IsOfMachine (id_of bank.now) book.now) cpus.items }
     requires few { length cpus.items ≤ 8 }
     requires numbered { AreNumbered cpus.items }
     ensures ok { IfOk result (λ parts. AreDriven (G.answers gate.now) limits.now (id_of bank.now) cpus.items parts.cpus.items parts.traces.items) }
     ensures at { IfOk result (λ parts. All (IsOfMachine (id_of bank.now) book.now) parts.cpus.items) }
-    ensures only { OnErr result (result ≡ Err no_memory) }
 {
+    let room = room_for(alloc, &cpus)?;
     let mut all = undriven(alloc, cpus)?;
     drive_on_threads(rt, threads, gate, limits, bank, book, &mut all);
     if let Some(refused) = refusal_among(&all) {
-        return Err(Fault::Memory(refused));
+        return Err(refused);
     }
-    take_apart(alloc, all)
+    Ok(take_apart(all, room))
 }
 
 /// Drives the processors of a machine as `drive_all` of lwkt_drive does, each on a thread of its own if one can be made, and gives
 /// the machine back with the events of each processor.
 ///
-/// Refused with `Memory` if memory is refused, to one processor for a turn's events too; the machine is gone then.
+/// Refused if memory is, before any of them was driven, or to one processor for a turn's events; the machine is gone then.
 pub fn drive_machine<R: Threads + Sync, G: Gate + Sync>(
     rt: &R,
     alloc: Global,
     gate: &G,
     limits: &Limits,
     machine: Machine,
-) -> Result<Outcome, Fault>
-    ensures ok { IfOk result (λ outcome. IsDrivenMachine (G.answers gate.now) limits.now machine outcome.machine outcome.traces.items) }
-    ensures only { OnErr result (result ≡ Err no_memory) }
+) -> Result<Outcome, OutOfMemory>
+    ensures { IfOk result (λ outcome. IsDrivenMachine (G.answers gate.now) limits.now machine outcome.machine outcome.traces.items) }
 {
     let threads = machine.cpus();
     drive_machine_on_threads(rt, threads, alloc, gate, limits, machine)
@@ -151,9 +154,8 @@ pub fn drive_machine_on_threads<R: Threads + Sync, G: Gate + Sync>(
     gate: &G,
     limits: &Limits,
     machine: Machine,
-) -> Result<Outcome, Fault>
-    ensures ok { IfOk result (λ outcome. IsDrivenMachine (G.answers gate.now) limits.now machine outcome.machine outcome.traces.items) }
-    ensures only { OnErr result (result ≡ Err no_memory) }
+) -> Result<Outcome, OutOfMemory>
+    ensures { IfOk result (λ outcome. IsDrivenMachine (G.answers gate.now) limits.now machine outcome.machine outcome.traces.items) }
 {
     let (bank, book, cpus) = machine.take_apart();
     let Apart { cpus, traces } = drive_parts(rt, threads, alloc, gate, limits, &bank, &book, cpus)?;

@@ -6,10 +6,10 @@ ghost use Rattle.lwkt_trace.specs.Words.{at_rest, at_other, end_by_word, message
 ghost use Rattle.lwkt_trace.specs.Format.{numbers, row_behind, tally, end, record_behind, blobs, members_of, closing_at, closing};
 
 use crate::traces::Closing;
+use lwkt_base::memory::push;
 use lwkt_base::{Blob, Cells, CpuId, Fault, MsgEnd, Owner};
 use lwkt_script::Parts;
 use lwkt_script::fields::{has, has_members, item_count, list_at};
-use lwkt_script::growth::push;
 use lwkt_script::records::guard_in;
 use lwkt_script::steps::{small_at, whole_at};
 use lwkt_script::tokens::cells_of;

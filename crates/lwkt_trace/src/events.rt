@@ -6,10 +6,10 @@ ghost use Rattle.lwkt_trace.specs.Format.{event};
 
 use crate::sections::section_in;
 use crate::traces::Told;
+use lwkt_base::memory::push;
 use lwkt_base::{Blob, CpuId, Fault, MsgId, Section, TokId};
 use lwkt_core::Event;
 use lwkt_script::fields::item_count;
-use lwkt_script::growth::push;
 use lwkt_script::records::blob_in;
 use lwkt_script::steps::{small_at, whole_at};
 use serde_json::Value;

@@ -10,9 +10,10 @@ use crate::ranges::{words_of_closing, words_of_opening};
 use crate::readers::read_trace;
 use crate::traces::{Closing, Trace};
 use crate::writers::{back_text, front_text};
-use lwkt_base::{Cells, Fault};
+use lwkt_base::memory::{extend_from_slice, from_slice, push};
+use lwkt_base::{Cells, Fault, OutOfMemory};
 use lwkt_report::{Closing as Reported, TokenLine, Verdict};
-use std::alloc::{AllocError, Global};
+use std::alloc::Global;
 
 // What a front ends with, and a back begins with.
 const FRONT_END: &[u8] = b"\"events\":[";
@@ -51,17 +52,17 @@ pub fn parts_of(bytes: &[u8]) -> Option<(&[u8], &[u8], &[u8])>
 }
 
 // Two texts as one.
-fn joined(alloc: Global, front: &[u8], back: &[u8]) -> Result<Vec<u8>, AllocError>
+fn joined(alloc: Global, front: &[u8], back: &[u8]) -> Result<Vec<u8>, OutOfMemory>
     ensures { IfOk result (λ bytes. bytes.items ≡ front.now ++ back.now) }
 {
     let mut bytes = Vec::new(alloc);
-    bytes.extend_from_slice(front)?;
-    bytes.extend_from_slice(back)?;
+    extend_from_slice(&mut bytes, front)?;
+    extend_from_slice(&mut bytes, back)?;
     Ok(bytes)
 }
 
 // The trace that a front and a back are with nothing between them, if they are one.
-fn bare_trace(alloc: Global, front: &[u8], back: &[u8]) -> Result<Option<Trace>, AllocError>
+fn bare_trace(alloc: Global, front: &[u8], back: &[u8]) -> Result<Option<Trace>, OutOfMemory>
     ensures { IfOk result (λ found. IfSome found (λ trace. trace_of (front.now ++ back.now) ≡ Ok trace)) }
 {
     let bytes = joined(alloc, front, back)?;
@@ -78,7 +79,7 @@ fn line_of(
     closing: &Closing,
     place: usize,
     cells: &Cells,
-) -> Result<Option<TokenLine>, AllocError> {
+) -> Result<Option<TokenLine>, OutOfMemory> {
     let generation = closing.gens.as_slice().get(place);
     let tallies = closing.tallies.as_slice().get(place);
     let blob = closing.blobs.as_slice().get(place);
@@ -94,7 +95,7 @@ fn line_of(
 }
 
 // The closing values as a report has them, if there are some.
-fn reported(alloc: Global, last: &Option<Closing>) -> Result<Option<Reported>, AllocError> {
+fn reported(alloc: Global, last: &Option<Closing>) -> Result<Option<Reported>, OutOfMemory> {
     let Some(closing) = last else {
         return Ok(None);
     };
@@ -103,18 +104,18 @@ fn reported(alloc: Global, last: &Option<Closing>) -> Result<Option<Reported>, A
         let Some(line) = line_of(alloc, closing, place, cells)? else {
             return Ok(None);
         };
-        tokens.push(line)?;
+        push(&mut tokens, line)?;
     }
     Ok(Some(Reported {
         tokens,
-        messages: Vec::from_slice(alloc, closing.messages.as_slice())?,
+        messages: from_slice(alloc, closing.messages.as_slice())?,
         threads: Vec::new(alloc),
         verdict: Verdict::Closed,
     }))
 }
 
 // Whether the front of a text is just as it is written for this trace.
-fn is_front(alloc: Global, front: &[u8], trace: &Trace) -> Result<bool, AllocError>
+fn is_front(alloc: Global, front: &[u8], trace: &Trace) -> Result<bool, OutOfMemory>
     ensures { IfOk result (λ is. IsTrue is → front.now ≡ front_text trace.now.cpus trace.now.tokens trace.now.messages) }
 {
     let text = front_text(
@@ -127,7 +128,7 @@ fn is_front(alloc: Global, front: &[u8], trace: &Trace) -> Result<bool, AllocErr
 }
 
 // Whether the back of a text is just as it is written for these closing values.
-fn is_back(alloc: Global, back: &[u8], closing: &Reported) -> Result<bool, AllocError>
+fn is_back(alloc: Global, back: &[u8], closing: &Reported) -> Result<bool, OutOfMemory>
     ensures { IfOk result (λ is. IsTrue is → back.now ≡ back_text closing.now) }
 {
     let text = back_text(alloc, closing)?;
@@ -136,9 +137,7 @@ fn is_back(alloc: Global, back: &[u8], closing: &Reported) -> Result<bool, Alloc
 
 /// The trace without events that these two parts of a text are, if they are just as `trace_text` writes them: whatever events
 /// are written between them, the whole is this trace with these events. None says nothing of the text.
-///
-/// Refused if memory is.
-pub fn frame_of(alloc: Global, front: &[u8], back: &[u8]) -> Result<Option<Trace>, AllocError>
+pub fn frame_of(alloc: Global, front: &[u8], back: &[u8]) -> Result<Option<Trace>, OutOfMemory>
     ensures { IfOk result (λ found. IfSome found (Frames front.now back.now)) }
 {
     let Some(trace) = bare_trace(alloc, front, back)? else {

@@ -4,10 +4,10 @@ ghost use Rattle.serde_json.specs.View.{view, items_view};
 ghost use Rattle.lwkt_script.specs.Outcome.{Gives, each};
 ghost use Rattle.lwkt_trace.specs.Guard.{version_in, guarded};
 
+use lwkt_base::memory::push;
 use lwkt_base::{Fault, TokSpec};
 use lwkt_script::Version;
 use lwkt_script::fields::has;
-use lwkt_script::growth::push;
 use lwkt_script::tokens::token;
 use serde_json::Value;
 use std::alloc::Global;

@@ -3,8 +3,8 @@ ghost use Rattle.serde_json.specs.View.{view, items_view};
 ghost use Rattle.lwkt_script.specs.Outcome.{Gives, each};
 ghost use Rattle.lwkt_trace.specs.Format.{message_behind};
 
+use lwkt_base::memory::push;
 use lwkt_base::{Fault, MsgSpec};
-use lwkt_script::growth::push;
 use lwkt_script::messages::message_at;
 use serde_json::Value;
 use std::alloc::Global;

@@ -10,8 +10,9 @@ use crate::guards::guarded_of;
 use crate::openings::messages_of;
 use crate::traces::Trace;
 use lwkt_base::Fault;
+use lwkt_base::memory::read_json;
+use lwkt_script::Parts;
 use lwkt_script::fields::{has, has_members, list_at, number_at};
-use lwkt_script::{Parts, refusal_of};
 use serde_json::Value;
 use std::alloc::Global;
 
@@ -86,11 +87,8 @@ pub fn read_trace(alloc: Global, bytes: &[u8]) -> Result<Trace, Fault>
     if bytes.len() > LENGTH_LIMIT {
         return Err(Fault::Script { place: 0 });
     }
-    match Value::from_slice(alloc, bytes) {
+    match read_json(alloc, bytes)? {
         Ok(value) => trace(alloc, &value),
-        Err(error) => match refusal_of(&error) {
-            Some(refused) => Err(Fault::Memory(refused)),
-            None => Err(Fault::Script { place: 0 }),
-        },
+        Err(_) => Err(Fault::Script { place: 0 }),
     }
 }

@@ -6,9 +6,9 @@ ghost use Rattle.lwkt_trace.specs.Words.{IsWordOf, place_at, spaced_numbers, num
 ghost use Rattle.lwkt_trace.specs.Written.{word_of_event, law_text};
 
 use lwkt_base::hexes::show_hex_or_none;
-use lwkt_base::{Blob, Law, MsgId, TokId};
+use lwkt_base::memory::{push_str, put};
+use lwkt_base::{Blob, Law, MsgId, OutOfMemory, TokId};
 use lwkt_core::Event;
-use std::alloc::AllocError;
 
 /// The word of an event: the one that reading a trace takes for it.
 pub fn event_word(event: &Event) -> &'static str
@@ -86,28 +86,28 @@ pub fn law_name(law: Law) -> &'static str
 }
 
 /// Appends the bytes of a record that are kept, two digits for each, or `-` where it has none.
-pub fn show_bytes(out: &mut String, blob: &Blob) -> Result<(), AllocError>
+pub fn show_bytes(out: &mut String, blob: &Blob) -> Result<(), OutOfMemory>
     ensures { OnOk result (string_bytes out.new ≡ string_bytes out.old ++ bytes_text (take 64 blob.now)) }
 {
     show_hex_or_none(blob.as_slice(), out)
 }
 
 // Appends numbers, each after a space.
-fn show_spaced(out: &mut String, numbers: &[u64]) -> Result<(), AllocError>
+fn show_spaced(out: &mut String, numbers: &[u64]) -> Result<(), OutOfMemory>
     ensures { OnOk result (string_bytes out.new ≡ string_bytes out.old ++ spaced_numbers numbers.now) }
 {
     for number in numbers {
-        write!(out, " {number}")?;
+        put(out, (' ', *number))?;
     }
     Ok(())
 }
 
 /// Appends numbers, each after a space, or ` -` where there are none.
-pub fn show_numbers(out: &mut String, numbers: &[u64]) -> Result<(), AllocError>
+pub fn show_numbers(out: &mut String, numbers: &[u64]) -> Result<(), OutOfMemory>
     ensures { OnOk result (string_bytes out.new ≡ string_bytes out.old ++ numbers_text numbers.now) }
 {
     if numbers.is_empty() {
-        out.push_str(" -")
+        push_str(out, " -")
     } else {
         show_spaced(out, numbers)
     }

@@ -1,5 +1,5 @@
 -- Asks and answers as polls are kept by them, in rows and in lists beside the rows (own).
-use Rattle.std.specs.Prelude.{ℕ, ◌<◌, ◌^◌, nat_lt, not, Bool, true, false, if◌then◌else◌, List, [], ◌∷◌, length, map, ◌++◌, slice_get, Option, Some, None}
+use Rattle.std.specs.Prelude.{ℕ, ◌<◌, Bool, true, false, if◌then◌else◌, List, [], ◌∷◌, length, map, ◌++◌, slice_get, Option, Some, None}
 use Rattle.std.specs.Option.{option_map_or}
 use Rattle.lwkt_base.specs.declared.asks.Ask.{Ask}
 use Rattle.lwkt_base.specs.declared.asks.Ask.TheVariants.{Get, GetShared, TryGet, Rel, Swap, Read, Write, Add, ReadBlob, WriteBlob, Send, Do, Reply, Abort, IsAborted, DropMsg, GetPort, WaitPort, Yield, Exit}
@@ -11,22 +11,16 @@ use Rattle.lwkt_verdict.specs.declared.short_asks.AskLists.{AskLists}
 use Rattle.lwkt_verdict.specs.declared.short_asks.ShortAsk.{ShortAsk}
 use Rattle.lwkt_verdict.specs.declared.short_asks.ShortAsk.TheVariants.{Get as ShortGet, GetShared as ShortGetShared, TryGet as ShortTryGet, Rel as ShortRel, Swap as ShortSwap, Read as ShortRead, Write as ShortWrite, Add as ShortAdd, ReadBlob as ShortReadBlob, Abort as ShortAbort, IsAborted as ShortIsAborted, DropMsg as ShortDropMsg, GetPort as ShortGetPort, WaitPort as ShortWaitPort, Yield as ShortYield, Exit as ShortExit, Wide as AskIsWide, Long as AskIsLong}
 use Rattle.lwkt_verdict.specs.declared.short_asks.WideAsk.{WideAsk}
-use Rattle.lwkt_verdict.specs.declared.short_asks.WideAsk.TheVariants.{Send as WideSend, Do as WideDo, Reply as WideReply, Write as WideWrite, Add as WideAdd}
+use Rattle.lwkt_verdict.specs.declared.short_asks.WideAsk.TheVariants.{Send as WideSend, Do as WideDo, Reply as WideReply}
 use Rattle.lwkt_verdict.specs.declared.short_answers.AnswerLists.{AnswerLists}
 use Rattle.lwkt_verdict.specs.declared.short_answers.ShortAnswer.{ShortAnswer}
 use Rattle.lwkt_verdict.specs.declared.short_answers.ShortAnswer.TheVariants.{NotYet, Begin as ShortBegin, Done as ShortDone, Value as ShortValue, NoMsg as ShortNoMsg, Wide as AnswerIsWide, Long as AnswerIsLong}
 use Rattle.lwkt_verdict.specs.declared.short_answers.WideAnswer.{WideAnswer}
-use Rattle.lwkt_verdict.specs.declared.short_answers.WideAnswer.TheVariants.{Request as WideRequest, Answered as WideAnswered, Refused as WideRefused, Value as WideValue}
+use Rattle.lwkt_verdict.specs.declared.short_answers.WideAnswer.TheVariants.{Request as WideRequest, Answered as WideAnswered, Refused as WideRefused}
 use Rattle.lwkt_verdict.specs.declared.poll_lists.PollRow.{PollRow}
 
--- the numbers that a row has room for: those that fit 32 bits
-abbrev pub fits_row : ℕ → Bool
-fits_row number = nat_lt number (2 ^ 32)
-
--- the wide asks: those about a message that say more than which one, and writes and additions with a number that a row has no room for
+-- the wide asks: those about a message that say more than which one
 abbrev pub is_wide_ask : Ask → Bool
-is_wide_ask (Write tok cell value) = not (fits_row value)
-is_wide_ask (Add tok more) = not (fits_row more)
 is_wide_ask (Send msg to call flags) = true
 is_wide_ask (Do msg to call) = true
 is_wide_ask (Reply msg error outcome) = true
@@ -37,9 +31,8 @@ abbrev pub is_long_ask : Ask → Bool
 is_long_ask (WriteBlob tok blob) = true
 is_long_ask _ = false
 
--- the wide answers: what a port had, refusals, and values that a row has no room for
+-- the wide answers: what a port had, and refusals
 abbrev pub is_wide_answer : Answer → Bool
-is_wide_answer (Value value) = not (fits_row value)
 is_wide_answer (Got item) = true
 is_wide_answer (Refused fault) = true
 is_wide_answer _ = false
@@ -55,15 +48,12 @@ abbrev pub wide_ask : WideAsk → Ask
 wide_ask (WideSend msg to flags call) = Send msg to call flags
 wide_ask (WideDo msg to call) = Do msg to call
 wide_ask (WideReply msg error outcome) = Reply msg error outcome
-wide_ask (WideWrite tok cell value) = Write tok cell value
-wide_ask (WideAdd tok more) = Add tok more
 
 -- the answer that a wide one stands for
 abbrev pub wide_answer : WideAnswer → Answer
 wide_answer (WideRequest msg call) = Got (Request msg call)
 wide_answer (WideAnswered msg error outcome) = Got (Answered msg error outcome)
 wide_answer (WideRefused fault) = Refused fault
-wide_answer (WideValue value) = Value value
 
 -- the ask that a short one and its number stand for, where the wide and the long ones are these
 abbrev pub long_ask : List WideAsk → List Ask → ShortAsk → ℕ → Ask

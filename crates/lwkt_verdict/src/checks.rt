@@ -19,12 +19,11 @@ use crate::polls::{idles, note_poll};
 use crate::progress::Standing;
 use crate::rounds::{are_listed, are_within, keeps_pace, whose};
 use crate::turns::{Pace, TurnRow, place_of, thread_of};
-use lwkt_base::{Answer, Ask, ThreadId};
+use lwkt_base::{Answer, Ask, OutOfMemory, ThreadId};
 use lwkt_core::{Event, State};
 use lwkt_events::EventList;
 use lwkt_report::ThreadLine;
 use lwkt_script::ThreadSpec;
-use std::alloc::AllocError;
 
 /// Whether each event of a part is of this processor.
 pub fn are_of(cpu: usize, part: &[Event]) -> bool
@@ -130,7 +129,7 @@ fn runs<'a>(
     turns: &[TurnRow],
     trace: &EventList,
     part: &mut Vec<Event>,
-) -> Result<bool, AllocError>
+) -> Result<bool, OutOfMemory>
     requires named { length order.now ≡ length turns.now }
     requires processors { All (λ x. x < 8) order.now }
     requires homes { AreHomes plans.now lines.now homes.now }
@@ -173,7 +172,7 @@ fn start<'a>() -> [Standing<'a>; 128]
 /// state that is left. Each turn's part of the trace is read into `part`, in place of what that had; the work is in proportion to turns
 /// and events.
 ///
-/// `AllocError` if `part` lacks room for a turn's events and can't be given it, so only if it lacks room for all of the trace. No other
+/// `OutOfMemory` if `part` lacks room for a turn's events and can't be given it, so only if it lacks room for all of the trace. No other
 /// memory is taken, and `part` has no less room than before.
 pub fn is_script_run(
     plans: &[ThreadSpec],
@@ -185,7 +184,7 @@ pub fn is_script_run(
     trace: &EventList,
     part: &mut Vec<Event>,
     lines: &[ThreadLine],
-) -> Result<bool, AllocError>
+) -> Result<bool, OutOfMemory>
     ensures right { IfOk result (λ yes. IsTrue yes ↔ IsScriptRun plans.now pace order.now state.old polls.now turns.now trace.now.items lines.now) }
     ensures led { IfOk result (λ yes. IsTrue yes → Run state.old trace.now.items state.new) }
     ensures full { OnErr result (vec_capacity part.old < length trace.now.items) }

@@ -15,11 +15,12 @@ use crate::parts::{expected_of, goes_quietly};
 use crate::plans::{find_line, find_thread};
 use crate::rounds::are_listed;
 use crate::short_asks::is_same;
-use lwkt_base::{Answer, Ask, ThreadId};
+use lwkt_base::memory::{push, with_capacity};
+use lwkt_base::{Answer, Ask, OutOfMemory, ThreadId};
 use lwkt_core::{Event, State};
 use lwkt_report::ThreadLine;
 use lwkt_script::ThreadSpec;
-use std::alloc::{AllocError, Global};
+use std::alloc::Global;
 use std::marker::Model;
 
 /// A check that follows a run of a script turn by turn, as it is made. It keeps no turn. Of each thread it keeps how many times it was
@@ -76,12 +77,15 @@ fn line_at(lines: &[ThreadLine], slot: usize) -> Option<&ThreadLine>
 fn unpolled_threads<'p>(
     alloc: Global,
     plans: &'p [ThreadSpec],
-) -> Result<Vec<Followed<'p>>, AllocError>
+) -> Result<Vec<Followed<'p>>, OutOfMemory>
     ensures { IfOk result (λ table. (length table.items ≡ 128) × AllThreads (λ k t. t ≡ unpolled (plan_of_thread (k / 16) (k % 16) plans.now)) table.items) }
 {
-    let mut table = Vec::with_capacity(alloc, THREAD_LIMIT)?;
+    let mut table = with_capacity(alloc, THREAD_LIMIT)?;
     for slot in 0..THREAD_LIMIT {
-        table.push(Followed::unpolled(alloc, thread_at(plans, slot)))?;
+        push(
+            &mut table,
+            Followed::unpolled(alloc, thread_at(plans, slot)),
+        )?;
     }
     Ok(table)
 }
@@ -112,7 +116,7 @@ fn asks<'p>(
     told: &Answer,
     asked: &Ask,
     part: &[Event],
-) -> Result<bool, AllocError>
+) -> Result<bool, OutOfMemory>
     requires end { end.now ≡ Exit }
     ensures plan { followed.new.plan ≡ followed.old.plan }
     ensures polled { IfOk result (λ yes. IsTrue yes → IsPolled state.old told.now asked.now part.now followed.old followed.new) }
@@ -158,14 +162,12 @@ fn all_end(table: &[Followed<'_>], lines: &[ThreadLine]) -> bool
 
 impl<'p> Follower<'p> {
     /// A check of a run of a script with these threads, from this opening on; `end` is the ask that ends a thread.
-    ///
-    /// `AllocError` if memory is refused.
     pub fn new(
         alloc: Global,
         plans: &'p [ThreadSpec],
         opening: State,
         end: &'p Ask,
-    ) -> Result<Follower<'p>, AllocError>
+    ) -> Result<Follower<'p>, OutOfMemory>
         requires end { end.now ≡ Exit }
         ensures { IfOk result (λ f. Begins plans.now opening f) }
     {
@@ -182,7 +184,7 @@ impl<'p> Follower<'p> {
     /// thread was told the answer to what it had asked before, and asked this. What it was told at its first poll isn't looked at. If the
     /// turn fits, the check goes on by it; else nothing follows from the check any more.
     ///
-    /// `AllocError` if memory for the thread's log is refused. Nothing follows from the check then.
+    /// Nothing follows from the check where memory for the thread's log is refused.
     #[inline]
     pub fn poll(
         &mut self,
@@ -191,7 +193,7 @@ impl<'p> Follower<'p> {
         told: &Answer,
         asked: &Ask,
         part: &[Event],
-    ) -> Result<bool, AllocError>
+    ) -> Result<bool, OutOfMemory>
         requires processor { cpu < 8 }
         ensures { IfOk result (λ yes. IsTrue yes → GoesOnByPoll cpu thread told.now asked.now part.now self.old self.new) }
     {

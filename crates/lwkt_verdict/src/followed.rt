@@ -13,10 +13,11 @@ use crate::expected::{Expectation, Shown};
 use crate::plans::ask_at;
 use crate::progress::{Asked, LOG_LIMIT, is_same, may_end_after};
 use crate::spots::Spot;
-use lwkt_base::{Answer, Ask, Entry, ThreadState};
+use lwkt_base::memory::push;
+use lwkt_base::{Answer, Ask, Entry, OutOfMemory, ThreadState};
 use lwkt_report::ThreadLine;
 use lwkt_script::ThreadSpec;
-use std::alloc::{AllocError, Global};
+use std::alloc::Global;
 use std::marker::Model;
 
 /// What a check that follows a run knows of a thread.
@@ -61,23 +62,20 @@ fn step_count(plan: Option<&ThreadSpec>) -> u64
 }
 
 // An entry goes behind a log that has room for it, if there is one.
-fn push_entry(log: &mut Vec<Entry>, entry: Option<Entry>) -> Result<(), AllocError>
+fn push_entry(log: &mut Vec<Entry>, entry: Option<Entry>) -> Result<(), OutOfMemory>
     requires few { length log.old.items < 32 }
     ensures items { OnOk result (log.new.items ≡ log_with log.old.items entry) }
     ensures few { length log.new.items ≤ 32 }
 {
     match entry {
         None => Ok(()),
-        Some(entry) => {
-            log.push(entry)?;
-            Ok(())
-        }
+        Some(entry) => push(log, entry),
     }
 }
 
 // The entry of an answer, whatever the answer, goes behind a log, if it has one and there is room for it.
 #[inline(never)]
-fn note_any(log: &mut Vec<Entry>, ask: &Ask, told: &Answer) -> Result<(), AllocError>
+fn note_any(log: &mut Vec<Entry>, ask: &Ask, told: &Answer) -> Result<(), OutOfMemory>
     requires few { length log.old.items ≤ 32 }
     ensures items { OnOk result (log.new.items ≡ log_with log.old.items (entry_of ask.now told.now)) }
     ensures few { length log.new.items ≤ 32 }
@@ -90,7 +88,7 @@ fn note_any(log: &mut Vec<Entry>, ask: &Ask, told: &Answer) -> Result<(), AllocE
 
 // The entry of an answer goes behind a log, if it has one and there is room for it. Most answers have none.
 #[inline(always)]
-fn note(log: &mut Vec<Entry>, ask: &Ask, told: &Answer) -> Result<(), AllocError>
+fn note(log: &mut Vec<Entry>, ask: &Ask, told: &Answer) -> Result<(), OutOfMemory>
     requires few { length log.old.items ≤ 32 }
     ensures items { OnOk result (log.new.items ≡ log_with log.old.items (entry_of ask.now told.now)) }
     ensures few { length log.new.items ≤ 32 }
@@ -156,10 +154,8 @@ impl<'p> Followed<'p> {
     }
 
     /// Whether what the thread last asked, if anything, can have this answer. If so, the entry of the answer is logged.
-    ///
-    /// `AllocError` if memory for the log is refused.
     #[inline]
-    pub fn hear(&mut self, told: &Answer) -> Result<bool, AllocError>
+    pub fn hear(&mut self, told: &Answer) -> Result<bool, OutOfMemory>
         ensures plan { self.new.plan ≡ self.old.plan }
         ensures few { length self.old.log ≤ 32 }
         ensures heard { IfOk result (λ yes. IsTrue yes → Hears told.now self.old self.new) }

@@ -6,17 +6,18 @@ ghost use Rattle.lwkt_verdict.specs.Asks.{is_refused};
 use crate::short_answers::{AnswerLists, KeptAnswer, ShortAnswer};
 use crate::short_asks::{AskLists, ShortAsk};
 use crate::turns::Poll;
-use lwkt_base::{Answer, Ask, ThreadId};
-use std::alloc::{AllocError, Global};
+use lwkt_base::memory::push;
+use lwkt_base::{Answer, Ask, OutOfMemory, ThreadId};
+use std::alloc::Global;
 use std::marker::Model;
 
 /// A poll as it is kept.
 #[derive(Clone, Copy)]
 pub struct PollRow {
-    /// The number beside the ask: a value that fits 32 bits, or the ask's place in the list in which it lies.
-    pub ask_number: u32,
-    /// The number beside the answer: a value that fits 32 bits, or the answer's place in the list in which it lies.
-    pub answer_number: u32,
+    /// The number beside the ask: a value, or the ask's place in the list in which it lies.
+    pub ask_number: u64,
+    /// The number beside the answer: a value, or the answer's place in the list in which it lies.
+    pub answer_number: u64,
     /// Its ask, or in which list it lies.
     pub ask: ShortAsk,
     /// Its answer, or in which list it lies.
@@ -27,8 +28,8 @@ pub struct PollRow {
 
 /// The polls of a run, in order.
 ///
-/// A poll is kept in a row of 16 bytes. What a row has no room for lies in lists beside the rows: the asks and answers that say more,
-/// or have a value that doesn't fit 32 bits, and the few that have a record.
+/// A poll is kept in a row of 24 bytes. What a row has no room for lies in lists beside the rows: the asks and answers that say more,
+/// and the few that have a record.
 #[derive(Drop)]
 pub struct PollList {
     rows: Vec<PollRow>,
@@ -144,24 +145,27 @@ impl PollList {
     }
 
     /// A poll more, behind the others, which has no answer yet. Where memory for it is refused, nothing changes.
-    pub fn push(&mut self, thread: ThreadId, ask: &Ask) -> Result<(), AllocError>
+    pub fn push(&mut self, thread: ThreadId, ask: &Ask) -> Result<(), OutOfMemory>
         ensures ok { OnOk result (self.new ≡ self.old ++ record { answer = None; ask = ask.now; thread = thread } ∷ []) }
         ensures err { OnErr result (self.new ≡ self.old) }
     {
         let kept = self.asks.keep(ask)?;
-        self.rows.push(PollRow {
-            ask_number: kept.number,
-            answer_number: 0,
-            ask: kept.short,
-            answer: ShortAnswer::NotYet,
-            thread,
-        })?;
+        push(
+            &mut self.rows,
+            PollRow {
+                ask_number: kept.number,
+                answer_number: 0,
+                ask: kept.short,
+                answer: ShortAnswer::NotYet,
+                thread,
+            },
+        )?;
         Ok(())
     }
 
     /// The poll at a place, if there is one, gets this answer in place of the one that it has. Where memory for it is refused,
     /// nothing changes.
-    pub fn set_answer(&mut self, place: usize, answer: &Answer) -> Result<(), AllocError>
+    pub fn set_answer(&mut self, place: usize, answer: &Answer) -> Result<(), OutOfMemory>
         ensures ok { OnOk result (self.new ≡ changed (λ q. record q { answer = Some answer.now }) self.old place) }
         ensures err { OnErr result (self.new ≡ self.old) }
     {

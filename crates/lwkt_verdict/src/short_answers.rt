@@ -1,16 +1,16 @@
 //! Answers as polls are kept by them: short, in a row, or in a list beside the rows.
 //!
-//! A row has the kind of an answer, and beside it a number of 32 bits: the value of what was read. An item of a port and a refusal say
-//! more than that, as does a larger value, so they are *wide* and lie in a list of their own. An answer by a record, of a token or of a
-//! message that was taken back, is *long* and lies in a list of whole answers. Of these the row's number is the place there.
+//! A row has the kind of an answer, and beside it a number: the value of what was read. An item of a port and a refusal say more than
+//! that, so they are *wide* and lie in a list of their own. An answer by a record, of a token or of a message that was taken back, is
+//! *long* and lies in a list of whole answers. Of these the row's number is the place there.
 ghost use Rattle.std.specs.Prelude.{◌≡◌, ◌||◌, [], not, length, map, Some, IfSome, IfOk, OnErr, is_some};
 ghost use Rattle.lwkt_events.specs.ShortEvents.{GrowsBehind};
 ghost use Rattle.lwkt_verdict.specs.Asks.{is_refused};
 ghost use Rattle.lwkt_verdict.specs.Shorts.{wide_answer, long_answer, is_wide_answer, is_long_answer, wide_answer_place, long_answer_place, kept_place, with_kept, IsAnswerIn};
 
-use crate::row_numbers::{fits_row, keep_behind};
-use lwkt_base::{Answer, Call, Fault, Item, MsgId};
-use std::alloc::{AllocError, Global};
+use crate::row_numbers::keep_behind;
+use lwkt_base::{Answer, Call, Fault, Item, MsgId, OutOfMemory};
+use std::alloc::Global;
 
 /// The answer of a poll as a row has it, if there is one, with a number beside it. Each kind but the first and the last two is that of
 /// `Answer`. Where a kind doesn't say what the number is, it is 0.
@@ -20,7 +20,7 @@ pub enum ShortAnswer {
     NotYet,
     Begin,
     Done,
-    /// The number is the value, which fits 32 bits.
+    /// The number is the value.
     Value,
     NoMsg,
     /// A wide answer. The number is its place among the wide ones.
@@ -38,15 +38,13 @@ pub enum WideAnswer {
     Answered(MsgId, u32, u64),
     /// A refusal.
     Refused(Fault),
-    /// A value that doesn't fit 32 bits.
-    Value(u64),
 }
 
 /// What a row has of an answer.
 #[derive(Clone, Copy)]
 pub struct KeptAnswer {
     /// The number beside the answer, 0 if its kind has none.
-    pub number: u32,
+    pub number: u64,
     pub short: ShortAnswer,
 }
 
@@ -69,7 +67,6 @@ impl WideAnswer {
                 Some(WideAnswer::Answered(msg, error, outcome))
             }
             Answer::Refused(fault) => Some(WideAnswer::Refused(fault)),
-            Answer::Value(value) if !fits_row(value) => Some(WideAnswer::Value(value)),
             _ => None,
         }
     }
@@ -86,14 +83,13 @@ impl WideAnswer {
                 *answer = Some(Answer::Got(Item::Answered(msg, error, outcome)));
             }
             WideAnswer::Refused(fault) => *answer = Some(Answer::Refused(fault)),
-            WideAnswer::Value(value) => *answer = Some(Answer::Value(value)),
         }
     }
 }
 
 impl KeptAnswer {
     // What a row has of an answer of this kind, with this number.
-    fn with(short: ShortAnswer, number: u32) -> Option<KeptAnswer>
+    fn with(short: ShortAnswer, number: u64) -> Option<KeptAnswer>
         ensures { result ≡ Some (record { number = number; short = short }) }
     {
         Some(KeptAnswer { number, short })
@@ -108,11 +104,9 @@ impl KeptAnswer {
         match *answer {
             Answer::Begin => KeptAnswer::with(ShortAnswer::Begin, 0),
             Answer::Done => KeptAnswer::with(ShortAnswer::Done, 0),
-            Answer::Value(value) if fits_row(value) => {
-                KeptAnswer::with(ShortAnswer::Value, value as u32)
-            }
+            Answer::Value(value) => KeptAnswer::with(ShortAnswer::Value, value),
             Answer::NoMsg => KeptAnswer::with(ShortAnswer::NoMsg, 0),
-            Answer::Value(_) | Answer::Got(_) | Answer::Refused(_) => None,
+            Answer::Got(_) | Answer::Refused(_) => None,
             Answer::Bytes(_) | Answer::Dropped(..) => None,
         }
     }
@@ -151,7 +145,7 @@ impl AnswerLists {
 
     /// Keeps an answer. A wide one lies behind the other wide ones then, a long one behind the other long ones, and any other in the
     /// row alone. Where memory for it is refused, nothing changes.
-    pub fn keep(&mut self, answer: &Answer) -> Result<KeptAnswer, AllocError>
+    pub fn keep(&mut self, answer: &Answer) -> Result<KeptAnswer, OutOfMemory>
         ensures same { IfOk result (λ kept. long_answer self.new.wides.items self.new.longs.items kept.short kept.number ≡ Some answer.now) }
         ensures inside { IfOk result (λ kept. IsAnswerIn (length self.new.wides.items) (length self.new.longs.items) kept.short kept.number) }
         ensures wide { IfOk result (λ kept. wide_answer_place kept.short kept.number ≡ kept_place (is_wide_answer answer.now) self.old.wides.items) }
@@ -180,14 +174,14 @@ impl AnswerLists {
     /// Writes the whole answer of which a row has this, if there is one. Each kind is written by itself, since only a record takes all
     /// the room.
     #[inline(always)]
-    pub fn write(&self, short: ShortAnswer, number: u32, answer: &mut Option<Answer>)
+    pub fn write(&self, short: ShortAnswer, number: u64, answer: &mut Option<Answer>)
         ensures { answer.new ≡ long_answer self.now.wides.items self.now.longs.items short number }
     {
         match short {
             ShortAnswer::NotYet => *answer = None,
             ShortAnswer::Begin => *answer = Some(Answer::Begin),
             ShortAnswer::Done => write_done(answer),
-            ShortAnswer::Value => *answer = Some(Answer::Value(u64::from(number))),
+            ShortAnswer::Value => *answer = Some(Answer::Value(number)),
             ShortAnswer::NoMsg => *answer = Some(Answer::NoMsg),
             ShortAnswer::Wide => match self.wides.get(number as usize) {
                 None => *answer = Some(Answer::Begin),
@@ -201,7 +195,7 @@ impl AnswerLists {
     }
 
     /// Whether the answer of which a row has this is there and is a refusal.
-    pub fn is_refusal(&self, short: ShortAnswer, number: u32) -> bool
+    pub fn is_refusal(&self, short: ShortAnswer, number: u64) -> bool
         ensures { result ≡ is_refused (long_answer self.now.wides.items self.now.longs.items short number) }
     {
         match short {

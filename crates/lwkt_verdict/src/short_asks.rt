@@ -1,18 +1,17 @@
 //! Asks as polls are kept by them: short, in a row, or in a list beside the rows.
 //!
-//! An `Ask` has room for a record, so it is large. A row has the kind of an ask with its small numbers, and beside it one number of 32
-//! bits more: the value of a write or an addition. A send, a call and a reply say more than that, as do a write and an addition with a
-//! larger number, so they are *wide* and lie in a list of their own. A store of a record is *long* and lies in a list of whole asks.
-//! Of these the row's number is the place there.
+//! An `Ask` has room for a record, so it is large. A row has the kind of an ask with its small numbers, and beside it one number more:
+//! the value of a write or an addition. A send, a call and a reply say more than that, so they are *wide* and lie in a list of their
+//! own. A store of a record is *long* and lies in a list of whole asks. Of these the row's number is the place there.
 ghost use Rattle.std.specs.Prelude.{◌≡◌, ◌||◌, ◌↔◌, IsTrue, [], not, length, map, IfSome, IfOk, OnErr, is_some};
 ghost use Rattle.lwkt_base.specs.declared.asks.Ask.TheVariants.{WriteBlob};
 ghost use Rattle.lwkt_events.specs.ShortEvents.{GrowsBehind};
 ghost use Rattle.lwkt_verdict.specs.Shorts.{wide_ask, long_ask, is_wide_ask, is_long_ask, wide_ask_place, long_ask_place, kept_place, with_kept, IsAskIn};
 
 use crate::asks::is_exit;
-use crate::row_numbers::{fits_row, keep_behind};
-use lwkt_base::{Ask, Blob, Call, Flags, MsgId, ThreadId, TokId};
-use std::alloc::{AllocError, Global};
+use crate::row_numbers::keep_behind;
+use lwkt_base::{Ask, Blob, Call, Flags, MsgId, OutOfMemory, ThreadId, TokId};
+use std::alloc::Global;
 
 /// An ask as a row has it, with a number beside it. Each kind but the last two is that of `Ask`. Where a kind doesn't say what the number
 /// is, it is 0.
@@ -24,9 +23,9 @@ pub enum ShortAsk {
     Rel(TokId),
     Swap,
     Read(TokId, u8),
-    /// The number is the value, which fits 32 bits.
+    /// The number is the value.
     Write(TokId, u8),
-    /// The number is what is added, which fits 32 bits.
+    /// The number is what is added.
     Add(TokId),
     ReadBlob(TokId),
     Abort(MsgId),
@@ -48,17 +47,13 @@ pub enum WideAsk {
     Send(MsgId, ThreadId, Flags, Call),
     Do(MsgId, ThreadId, Call),
     Reply(MsgId, u32, u64),
-    /// A value that doesn't fit 32 bits is written.
-    Write(TokId, u8, u64),
-    /// A number that doesn't fit 32 bits is added.
-    Add(TokId, u64),
 }
 
 /// What a row has of an ask.
 #[derive(Clone, Copy)]
 pub struct KeptAsk {
     /// The number beside the ask, 0 if its kind has none.
-    pub number: u32,
+    pub number: u64,
     pub short: ShortAsk,
 }
 
@@ -99,10 +94,6 @@ impl WideAsk {
             Ask::Send(msg, to, call, flags) => Some(WideAsk::Send(msg, to, flags, call)),
             Ask::Do(msg, to, call) => Some(WideAsk::Do(msg, to, call)),
             Ask::Reply(msg, error, outcome) => Some(WideAsk::Reply(msg, error, outcome)),
-            Ask::Write(tok, cell, value) if !fits_row(value) => {
-                Some(WideAsk::Write(tok, cell, value))
-            }
-            Ask::Add(tok, more) if !fits_row(more) => Some(WideAsk::Add(tok, more)),
             _ => None,
         }
     }
@@ -115,8 +106,6 @@ impl WideAsk {
             WideAsk::Send(msg, to, flags, call) => *ask = Ask::Send(msg, to, call, flags),
             WideAsk::Do(msg, to, call) => *ask = Ask::Do(msg, to, call),
             WideAsk::Reply(msg, error, outcome) => *ask = Ask::Reply(msg, error, outcome),
-            WideAsk::Write(tok, cell, value) => *ask = Ask::Write(tok, cell, value),
-            WideAsk::Add(tok, more) => *ask = Ask::Add(tok, more),
         }
     }
 
@@ -128,15 +117,13 @@ impl WideAsk {
             WideAsk::Send(msg, to, flags, call) => *ask == Ask::Send(msg, to, call, flags),
             WideAsk::Do(msg, to, call) => *ask == Ask::Do(msg, to, call),
             WideAsk::Reply(msg, error, outcome) => *ask == Ask::Reply(msg, error, outcome),
-            WideAsk::Write(tok, cell, value) => *ask == Ask::Write(tok, cell, value),
-            WideAsk::Add(tok, more) => *ask == Ask::Add(tok, more),
         }
     }
 }
 
 impl KeptAsk {
     // What a row has of an ask of this kind, with this number.
-    fn with(short: ShortAsk, number: u32) -> Option<KeptAsk>
+    fn with(short: ShortAsk, number: u64) -> Option<KeptAsk>
         ensures { result ≡ Some (record { number = number; short = short }) }
     {
         Some(KeptAsk { number, short })
@@ -155,12 +142,8 @@ impl KeptAsk {
             Ask::Rel(tok) => KeptAsk::with(ShortAsk::Rel(tok), 0),
             Ask::Swap => KeptAsk::with(ShortAsk::Swap, 0),
             Ask::Read(tok, cell) => KeptAsk::with(ShortAsk::Read(tok, cell), 0),
-            Ask::Write(tok, cell, value) if fits_row(value) => {
-                KeptAsk::with(ShortAsk::Write(tok, cell), value as u32)
-            }
-            Ask::Add(tok, more) if fits_row(more) => {
-                KeptAsk::with(ShortAsk::Add(tok), more as u32)
-            }
+            Ask::Write(tok, cell, value) => KeptAsk::with(ShortAsk::Write(tok, cell), value),
+            Ask::Add(tok, more) => KeptAsk::with(ShortAsk::Add(tok), more),
             Ask::ReadBlob(tok) => KeptAsk::with(ShortAsk::ReadBlob(tok), 0),
             Ask::Abort(msg) => KeptAsk::with(ShortAsk::Abort(msg), 0),
             Ask::IsAborted(msg) => KeptAsk::with(ShortAsk::IsAborted(msg), 0),
@@ -169,7 +152,6 @@ impl KeptAsk {
             Ask::WaitPort => KeptAsk::with(ShortAsk::WaitPort, 0),
             Ask::Yield => KeptAsk::with(ShortAsk::Yield, 0),
             Ask::Exit => KeptAsk::with(ShortAsk::Exit, 0),
-            Ask::Write(..) | Ask::Add(..) => None,
             Ask::Send(..) | Ask::Do(..) | Ask::Reply(..) | Ask::WriteBlob(..) => None,
         }
     }
@@ -189,7 +171,7 @@ impl AskLists {
 
     /// Keeps an ask. A wide one lies behind the other wide ones then, a long one behind the other long ones, and any other in the row
     /// alone. Where memory for it is refused, nothing changes.
-    pub fn keep(&mut self, ask: &Ask) -> Result<KeptAsk, AllocError>
+    pub fn keep(&mut self, ask: &Ask) -> Result<KeptAsk, OutOfMemory>
         ensures same { IfOk result (λ kept. long_ask self.new.wides.items self.new.longs.items kept.short kept.number ≡ ask.now) }
         ensures inside { IfOk result (λ kept. IsAskIn (length self.new.wides.items) (length self.new.longs.items) kept.short kept.number) }
         ensures wide { IfOk result (λ kept. wide_ask_place kept.short kept.number ≡ kept_place (is_wide_ask ask.now) self.old.wides.items) }
@@ -217,7 +199,7 @@ impl AskLists {
 
     /// Writes the whole ask of which a row has this. Each kind is written by itself, since only a record takes all the room.
     #[inline(always)]
-    pub fn write(&self, short: ShortAsk, number: u32, ask: &mut Ask)
+    pub fn write(&self, short: ShortAsk, number: u64, ask: &mut Ask)
         ensures { ask.new ≡ long_ask self.now.wides.items self.now.longs.items short number }
     {
         match short {
@@ -227,8 +209,8 @@ impl AskLists {
             ShortAsk::Rel(tok) => *ask = Ask::Rel(tok),
             ShortAsk::Swap => *ask = Ask::Swap,
             ShortAsk::Read(tok, cell) => *ask = Ask::Read(tok, cell),
-            ShortAsk::Write(tok, cell) => *ask = Ask::Write(tok, cell, u64::from(number)),
-            ShortAsk::Add(tok) => *ask = Ask::Add(tok, u64::from(number)),
+            ShortAsk::Write(tok, cell) => *ask = Ask::Write(tok, cell, number),
+            ShortAsk::Add(tok) => *ask = Ask::Add(tok, number),
             ShortAsk::ReadBlob(tok) => *ask = Ask::ReadBlob(tok),
             ShortAsk::Abort(msg) => *ask = Ask::Abort(msg),
             ShortAsk::IsAborted(msg) => *ask = Ask::IsAborted(msg),
@@ -249,7 +231,7 @@ impl AskLists {
     }
 
     // Whether the wide ask at a place is that one.
-    fn is_wide(&self, number: u32, ask: &Ask) -> bool
+    fn is_wide(&self, number: u64, ask: &Ask) -> bool
         ensures { IsTrue result ↔ (long_ask self.now.wides.items self.now.longs.items ShortAsk.Wide number ≡ ask.now) }
     {
         match self.wides.get(number as usize) {
@@ -259,7 +241,7 @@ impl AskLists {
     }
 
     // Whether the long ask at a place is that one.
-    fn is_long(&self, number: u32, ask: &Ask) -> bool
+    fn is_long(&self, number: u64, ask: &Ask) -> bool
         ensures { IsTrue result ↔ (long_ask self.now.wides.items self.now.longs.items ShortAsk.Long number ≡ ask.now) }
     {
         match self.longs.get(number as usize) {
@@ -270,7 +252,7 @@ impl AskLists {
 
     /// Whether the ask of which a row has this is that one. Each kind is compared by itself, so that no ask is written for it.
     #[inline(always)]
-    pub fn is(&self, short: ShortAsk, number: u32, ask: &Ask) -> bool
+    pub fn is(&self, short: ShortAsk, number: u64, ask: &Ask) -> bool
         ensures { IsTrue result ↔ (long_ask self.now.wides.items self.now.longs.items short number ≡ ask.now) }
     {
         match short {
@@ -281,9 +263,8 @@ impl AskLists {
             ShortAsk::Swap => matches!(ask, Ask::Swap),
             ShortAsk::Read(tok, cell) => matches!(ask, Ask::Read(t, c) if *t == tok && *c == cell),
             ShortAsk::Write(tok, cell) =>
-                matches!(ask, Ask::Write(t, c, v) if *t == tok && *c == cell && *v == u64::from(number)),
-            ShortAsk::Add(tok) =>
-                matches!(ask, Ask::Add(t, m) if *t == tok && *m == u64::from(number)),
+                matches!(ask, Ask::Write(t, c, v) if *t == tok && *c == cell && *v == number),
+            ShortAsk::Add(tok) => matches!(ask, Ask::Add(t, m) if *t == tok && *m == number),
             ShortAsk::ReadBlob(tok) => matches!(ask, Ask::ReadBlob(t) if *t == tok),
             ShortAsk::Abort(msg) => matches!(ask, Ask::Abort(m) if *m == msg),
             ShortAsk::IsAborted(msg) => matches!(ask, Ask::IsAborted(m) if *m == msg),

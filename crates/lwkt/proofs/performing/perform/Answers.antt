@@ -20,4 +20,4 @@ returns-in_default-clause-serves g c =
       lost = g.E.Sink.has_failed c.perform_on_script.new.errors;
     } in
     let Does : Option (List ℕ) → Type 0 = λ order. Performs c.args.request.now.task order (option_copied c.args.name) c.perform_on_script.new.source.failed s.failed (IsTrue s.flushed) (g.I.Read.remaining c.args.source.now.reader.reader) s.old s.new c.perform_on_script.result in
-    serves_script c.args.request.now.task (order_of c.args.request.now) (option_copied c.args.name) c.perform_on_script.new.source.failed (g.I.Read.remaining c.args.source.now.reader.reader) s c.perform_on_script.result (takes_script c.args.request.now.task c.in_default.not-Check) (subst Does c.order_of-order.ensures c.perform_on_script.ensures.performs)
+    serves_script c.args.request.now.task (order_of c.args.request.now) (option_copied c.args.name) c.args.by_old_name c.perform_on_script.new.source.failed (g.I.Read.remaining c.args.source.now.reader.reader) s c.perform_on_script.result (takes_script c.args.request.now.task c.in_default.not-Check) (subst Does c.order_of-order.ensures c.perform_on_script.ensures.performs)

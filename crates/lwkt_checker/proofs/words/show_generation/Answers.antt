@@ -7,4 +7,4 @@ use Rattle.lwkt_checker.proofs.words.show_generation.Goals as goal
 pub returns : goal.returns
 returns c =
     let g = c.args.generation in
-    then_said c.write.result (string_bytes c.args.out.now) (string_bytes c.say.new.out) (string_bytes c.write.new.self) (said (codes "generation ")) (decimal g ++ codes ", rows") (generation_said g) c.in_ok-say.ensures c.write.ensures.bytes (generation_is g)
+    then_said c.put.result (string_bytes c.args.out.now) (string_bytes c.say.new.out) (string_bytes c.put.new.out) (said (codes "generation ")) (decimal g ++ codes ", rows") (generation_said g) c.in_ok-say.ensures c.put.ensures (generation_is g)

@@ -20,11 +20,11 @@ returns c =
     let made : c.if-turns-eq1.made.now ≡ (if found.turns == 1 then codes "turn" else codes "turns") =
     elim c.if-turns-eq1.branch [ then-turns-eq1 w ↦ search rules | else-turns-eq1 w ↦ search rules ] in
     let whole : c.extent_word-whole.result.now ≡ extent_text found.extent = c.extent_word-whole.ensures in
-    let first : string_bytes c.write.new.self ≡ string_bytes c.args.out.now ++ (decimal c.args.count ++ (codes " " ++ (c.if-count-eq1.noun.now ++ codes "; "))) = c.in_ok-write.ensures.bytes in
-    let second : string_bytes c.add_tried.new.out ≡ string_bytes c.write.new.self ++ tried_text found.tried = c.in_ok-add_tried.ensures in
-    let last : OnOk c.write-2.result (string_bytes c.write-2.new.self ≡ string_bytes c.add_tried.new.out ++ (codes ", " ++ (decimal found.turns ++ (codes " " ++ (c.if-turns-eq1.made.now ++ (codes "; " ++ (c.extent_word-whole.result.now ++ line_feed))))))) = c.write-2.ensures.bytes in
-    on_ok_weaker c.write-2.result
-    (λ is. summed (string_bytes c.args.out.now) (string_bytes c.write.new.self) (string_bytes c.add_tried.new.out) (string_bytes c.write-2.new.self) (decimal count) (codes " ") (if count == 1 then codes "outcome" else codes "outcomes") (codes "; ")
+    let first : string_bytes c.put.new.out ≡ string_bytes c.args.out.now ++ (decimal c.args.count ++ codes " " ++ c.if-count-eq1.noun.now ++ codes "; ") = c.in_ok-put.ensures in
+    let second : string_bytes c.add_tried.new.out ≡ string_bytes c.put.new.out ++ tried_text found.tried = c.in_ok-add_tried.ensures in
+    let last : OnOk c.put-2.result (string_bytes c.put-2.new.out ≡ string_bytes c.add_tried.new.out ++ (codes ", " ++ decimal found.turns ++ codes " " ++ c.if-turns-eq1.made.now ++ (codes "; " ++ c.extent_word-whole.result.now ++ line_feed))) = c.put-2.ensures in
+    on_ok_weaker c.put-2.result
+    (λ is. summed (string_bytes c.args.out.now) (string_bytes c.put.new.out) (string_bytes c.add_tried.new.out) (string_bytes c.put-2.new.out) (decimal count) (codes " ") (if count == 1 then codes "outcome" else codes "outcomes") (codes "; ")
     (tried_text found.tried) (codes ", ") (decimal found.turns) (if found.turns == 1 then codes "turn" else codes "turns") (extent_text found.extent) line_feed
     (rw (same, noun) at first) second (rw (made, whole) at is))
     last

@@ -17,7 +17,7 @@ returns-clause-ok c =
       is_run = subst F c.as_slice.ensures.value c.in_ok-run.ensures.ok;
       is_closing = c.in_ok-closing.ensures.same;
       lawful = c.in_ok-kind.ensures.lawful;
-      shows = c.in_ok-text.ensures.ok;
+      shows = c.in_ok-text.ensures;
       settled = c.in_ok-closing.ensures.settled;
       kind = c.in_ok-kind.ensures.kind;
     }

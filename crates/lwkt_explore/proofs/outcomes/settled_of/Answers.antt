@@ -7,4 +7,4 @@ pub returns-clause-settled : goal.returns-clause-settled
 returns-clause-settled c =
     let closing = c.args.closing in
     let unsent : Closing = record { tokens = closing.tokens; messages = c.new.result; threads = closing.threads; verdict = closing.verdict } in
-    c.in_ok-settled.ensures.ok ∙ settled_is closing unsent refl c.new.ensures.items refl
+    c.in_ok-settled.ensures ∙ settled_is closing unsent refl c.new.ensures.items refl

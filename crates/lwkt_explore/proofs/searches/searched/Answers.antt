@@ -18,14 +18,15 @@ returns-clause-ended g c = λ complete none.
     let walk : Walk = c.search.new.walk in
     let is : IsSearching c.args.script.now walk c.search.new.outcomes = c.search.ensures.search in
     let W : Extent → Type 0 = λ extent. is_whole extent ≡ true in
-    let met : c.match-search.walk.met ≡ None = none_met c.match-search.walk.met (subst W c.extent_of.ensures complete) in
+    let last : c.lost_in-lost.new.walk.met ≡ None = none_met c.lost_in-lost.new.walk.met (subst W c.extent_of.ensures complete) in
+    let met : c.match-search.walk.met ≡ None = c.lost_in-lost.ensures.met last in
     let C : Walk → Type 0 = λ w. w.met ≡ None in
     let E : Walk → Type 0 = λ w. 0 < length w.ends.items in
     let H : Walk → Type 0 = λ w. Contains w.ends.items true in
     elim c.match-search.branch [
       | in-Ok w ↦
           let some : 0 < length walk.ends.items = w.in-Ok.ensures.ends (subst C w.walk-is met) in
-          is.ended (subst H w.walk-is (c.in_ok-lost.ensures.none met none (subst E (sym w.walk-is) some)))
+          is.ended (subst H w.walk-is (c.lost_in-lost.ensures.none last none (subst E (sym w.walk-is) some)))
       | in-Err-Memory w ↦
           let part = sym (ap (λ (v : Walk). v.met) w.walk-is) ∙ met in
           absurd (cc)

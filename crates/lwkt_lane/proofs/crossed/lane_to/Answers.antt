@@ -2,10 +2,10 @@ use Rattle.std.proofs.Common.{◌≡◌, ◌∷◌, [], ◌++◌, arith}
 use Rattle.std.proofs.lemmas.Grind.{common_steps}
 use Rattle.lwkt_lane.proofs.crossed.lane_to.Goals as goal
 
-pub returns-clause-ok : goal.returns-clause-ok
-returns-clause-ok c =
+pub returns : goal.returns
+returns c =
     let made = c.in_ok-out in
-    let grown : c.push.new.self.items ≡ c.args.ends.now.items ++ made.into ∷ [] = grind (arith, common_steps) in
+    let grown : c.push.new.list.items ≡ c.args.ends.now.items ++ made.into ∷ [] = grind (arith, common_steps) in
     record {
       into = made.into;
       grown = grown;

@@ -16,12 +16,12 @@ pub loop-from-preserved : goal.loop-from-preserved
 loop-from-preserved c =
     let l = c.loop-from in
     let row = c.in_ok-row.row in
-    let grown : c.push.new.self.items ≡ l.outs.items ++ row ∷ [] = grind (arith, common_steps) in
+    let grown : c.push.new.list.items ≡ l.outs.items ++ row ∷ [] = grind (arith, common_steps) in
     let F : List (Vec LaneOut Global) → Type 0 = λ xs. AreLanes (l.from + 1) (length c.args.ins.now) xs c.lanes_to_all.new.ins in
-    subst F (sym grown) (lanes_more l.from (length c.args.ins.now) l.outs.items l.ins c.lanes_to_all.new.ins row c.in_ok-row.ensures.ok l.invariant)
+    subst F (sym grown) (lanes_more l.from (length c.args.ins.now) l.outs.items l.ins c.lanes_to_all.new.ins row c.in_ok-row.ensures l.invariant)
 
-pub returns-clause-ok : goal.returns-clause-ok
-returns-clause-ok c =
+pub returns : goal.returns
+returns c =
     let l = c.loop-from in
     let all : l.from ≡ length c.args.ins.now = omega (arith, c.loop-from-test.false, l.auto.from-end) in
     let F : ℕ → Type 0 = λ n. AreLanes n (length c.args.ins.now) l.outs.items l.ins in

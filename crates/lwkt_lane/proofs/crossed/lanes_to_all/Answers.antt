@@ -18,14 +18,14 @@ pub loop-to-preserved : goal.loop-to-preserved
 loop-to-preserved c =
     let l = c.loop-to in
     let out = c.in_ok-out.out in
-    let grown : c.push.new.self.items ≡ l.outs.items ++ out ∷ [] = grind (arith, common_steps) in
+    let grown : c.push.new.list.items ≡ l.outs.items ++ out ∷ [] = grind (arith, common_steps) in
     let at = slice_get_read l.ins (length l.ins) l.to c.index-ins-to.result refl (omega (arith, c.loop-to-test.true, l.auto.ins)) c.index-ins-to.is in
     let F : List LaneOut → Type 0 = λ xs. HasEndsBelow (l.to + 1) c.args.ins.now (set l.ins l.to c.lane_to.new.ends) xs in
     let G : Vec LaneIn Global → Type 0 = λ v. HasEnd v.items c.lane_to.new.ends.items out in
-    subst F (sym grown) (ends_more l.to c.args.ins.now l.ins l.outs.items c.index-ins-to.result c.lane_to.new.ends out at (subst G (sym c.index-ins-to.is) c.in_ok-out.ensures.ok) l.invariant)
+    subst F (sym grown) (ends_more l.to c.args.ins.now l.ins l.outs.items c.index-ins-to.result c.lane_to.new.ends out at (subst G (sym c.index-ins-to.is) c.in_ok-out.ensures) l.invariant)
 
-pub returns-clause-ok : goal.returns-clause-ok
-returns-clause-ok c =
+pub returns : goal.returns
+returns c =
     let l = c.loop-to in
     let all : l.to ≡ length c.args.ins.now = omega (arith, c.loop-to-test.false, l.auto.to-end) in
     ends_all l.to c.args.ins.now l.ins l.outs.items all l.invariant

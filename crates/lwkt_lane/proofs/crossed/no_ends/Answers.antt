@@ -17,7 +17,7 @@ loop-made-init c =
 pub loop-made-preserved : goal.loop-made-preserved
 loop-made-preserved c =
     let l = c.loop-made in
-    let grown : c.push.new.self.items ≡ l.ins.items ++ c.new.result ∷ [] = c.in_ok-push.ensures.items in
+    let grown : c.push.new.list.items ≡ l.ins.items ++ c.new.result ∷ [] = c.in_ok-push.ensures.items in
     let F : List (Vec LaneIn Global) → Type 0 = λ xs. AreLong {A = LaneIn} 0 xs in
     record {
       as_many = ap length grown ∙ length-append l.ins.items (c.new.result ∷ []) ∙ ap (λ n. n + 1) l.invariant.as_many;

@@ -6,10 +6,10 @@ use Rattle.lwkt_lane.specs.Crossed.{AreLanes}
 use Rattle.lwkt_lane.proofs.PlaceMoves.{refilled}
 use Rattle.lwkt_lane.proofs.crossed.open_lanes.Goals as goal
 
-pub returns-clause-ok : goal.returns-clause-ok
-returns-clause-ok c =
+pub returns : goal.returns
+returns c =
     let now = c.deref_mut.result.now in
-    let made : AreLanes (length now) (length now) c.in_ok-outs.outs.items c.lanes_from_all.new.ins = c.in_ok-outs.ensures.ok in
+    let made : AreLanes (length now) (length now) c.in_ok-outs.outs.items c.lanes_from_all.new.ins = c.in_ok-outs.ensures in
     let back = refilled c.lanes_from_all.new.ins c.in_ok-ins.ins.items c.in_ok-ins.ins.len (made.ins_are ∙ c.deref_mut.ensures.len) in
     let F : List (Vec LaneIn Global) → Type 0 = λ xs. AreLanes (length now) (length now) c.in_ok-outs.outs.items xs in
     let whole = subst F (sym back) made in

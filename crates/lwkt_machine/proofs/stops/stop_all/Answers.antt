@@ -16,31 +16,24 @@ loop-at-init c = record {
   over = λ k p less at. absurd (omega (arith, less));
 }
 
-pub stop-requires-clause-of : goal.stop-requires-clause-of
-stop-requires-clause-of c =
+pub stop_one-requires : goal.stop_one-requires
+stop_one-requires c =
     let l = c.loop-at in
     let d = c.index-cpus-at.result in
     let within : l.at < length l.cpus = omega (arith, c.loop-at-test.true, l.auto.cpus) in
-    (same_of (id_of c.args.bank.now) c.args.book.now c.args.cpus.now l.cpus l.at (get_or l.cpus l.at d) (slice_get-get_or l.cpus l.at d within) l.invariant.same c.requires.of).bank_is
+    same_of (id_of c.args.bank.now) c.args.book.now c.args.cpus.now l.cpus l.at (get_or l.cpus l.at d) (slice_get-get_or l.cpus l.at d within) l.invariant.same c.requires.of
 
-pub stop-requires-clause-table : goal.stop-requires-clause-table
-stop-requires-clause-table c =
-    let l = c.loop-at in
-    let d = c.index-cpus-at.result in
-    let within : l.at < length l.cpus = omega (arith, c.loop-at-test.true, l.auto.cpus) in
-    (same_of (id_of c.args.bank.now) c.args.book.now c.args.cpus.now l.cpus l.at (get_or l.cpus l.at d) (slice_get-get_or l.cpus l.at d within) l.invariant.same c.requires.of).table_is
-
-pub returns-in_err-stop-clause-err : goal.returns-in_err-stop-clause-err
-returns-in_err-stop-clause-err c =
+pub returns-in_err-stop_one-clause-err : goal.returns-in_err-stop_one-clause-err
+returns-in_err-stop_one-clause-err c =
     let l = c.loop-at in
     let d = c.index-cpus-at.result in
     let within : l.at < length l.cpus = omega (arith, c.loop-at-test.true, l.auto.cpus) in
     let p = get_or l.cpus l.at d in
-    let q = c.stop.new.self in
-    let same = c.in_err-stop.ensures.err in
+    let q = c.stop_one.new.cpu in
+    let same = c.in_err-stop_one.ensures.err in
     let still = set_same l.cpus l.at p q (slice_get-get_or l.cpus l.at d within) same.0 in
-    let F : List (Processor Scripted) → Type 0 = λ xs. AreStoppedShort c.args.cpus.now xs c.args.trace.now c.stop.new.trace in
-    on_err c.from_residual.result (AreStoppedShort c.args.cpus.now (set l.cpus l.at q) c.args.trace.now c.stop.new.trace)
+    let F : List (Processor Scripted) → Type 0 = λ xs. AreStoppedShort c.args.cpus.now xs c.args.trace.now c.stop_one.new.trace in
+    on_err c.from_residual.result (AreStoppedShort c.args.cpus.now (set l.cpus l.at q) c.args.trace.now c.stop_one.new.trace)
     (subst F (sym still) (l.at, (l.trace, (l.invariant.stopped, same.1.0))))
 
 pub loop-at-preserved : goal.loop-at-preserved
@@ -49,13 +42,13 @@ loop-at-preserved c =
     let d = c.index-cpus-at.result in
     let within : l.at < length l.cpus = omega (arith, c.loop-at-test.true, l.auto.cpus) in
     let p = get_or l.cpus l.at d in
-    let q = c.stop.new.self in
+    let q = c.stop_one.new.cpu in
     let is : slice_get l.cpus l.at ≡ Some p = slice_get-get_or l.cpus l.at d within in
-    let stops = c.in_ok-stop.ensures.ok in
-    let ran = c.stop.ensures.ran in
+    let stops = c.in_ok-stop_one.ensures.ok in
+    let ran = c.stop_one.ensures.ran in
     record {
-      stopped = chain_more Stage StopsCpu l.at (stage c.args.cpus.now c.args.trace.now) (stage l.cpus l.trace) (stage (set l.cpus l.at q) c.stop.new.trace) l.invariant.stopped (p, (q, (is, record { stops = stops; most = 258; ran = ran; told = c.stop.ensures.told }, refl)));
-      same = same_set c.args.cpus.now l.cpus l.at p q within is (record { bank = ran.bank; table = c.stop.ensures.told.same.table; number = ran.cpu; ports = c.stop.ensures.same }) l.invariant.same;
+      stopped = chain_more Stage StopsCpu l.at (stage c.args.cpus.now c.args.trace.now) (stage l.cpus l.trace) (stage (set l.cpus l.at q) c.stop_one.new.trace) l.invariant.stopped (p, (q, (is, record { stops = stops; most = 258; ran = ran; told = c.stop_one.ensures.told }, refl)));
+      same = same_set c.args.cpus.now l.cpus l.at p q within is (record { bank = ran.bank; table = c.stop_one.ensures.told.same.table; number = ran.cpu; ports = c.stop_one.ensures.same }) l.invariant.same;
       over = over_more l.cpus l.at q within stops.over l.invariant.over;
     }
 

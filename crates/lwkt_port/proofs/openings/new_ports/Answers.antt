@@ -9,7 +9,7 @@ pub loop-number-preserved : goal.loop-number-preserved
 loop-number-preserved c =
     let l = c.loop-number in
     let port = c.in_ok-port.port in
-    let grown : c.push.new.self.items ≡ l.ports.items ++ port ∷ [] = grind (arith, common_steps) in
+    let grown : c.push.new.list.items ≡ l.ports.items ++ port ∷ [] = grind (arith, common_steps) in
     let long = length-append l.ports.items (port ∷ []) in
     let more = ap length grown in
     let F : ℕ → Type 0 = λ n. IsNewPort c.args.threads n port in

@@ -1,5 +1,6 @@
 use Rattle.std.proofs.Common.{◌≡◌, ◌<◌, ◌∷◌, [], ◌++◌, List, ℕ, length, length-append, map, ap, refl, sym, subst, arith, Some}
 use Rattle.std.specs.Prelude.{slice_get}
+use Rattle.std.proofs.lemmas.Grind.{common_steps}
 use Rattle.std.proofs.lemmas.List.{length-map}
 use Rattle.std.proofs.lemmas.Option.{slice_get_read, slice_get_within}
 use Rattle.lwkt_bank.specs.Seats.{id_of}
@@ -33,7 +34,7 @@ loop-number-preserved g c =
     let ins = c.args.rest.now.ins.items in
     let some : 0 < length l.left.items = omega (arith, c.loop-number-test.true, l.auto.number-end, l.invariant.left_are) in
     let first : slice_get l.left.items 0 ≡ Some v = slice_get_read l.left.items (length l.left.items) 0 v refl some c.remove-bodies.ensures.value in
-    let grown : c.add_driven.new.cpus.items ≡ l.cpus.items ++ d ∷ [] = c.in_ok-add_driven.ensures.ok in
+    let grown : c.push.new.list.items ≡ l.cpus.items ++ d ∷ [] = grind (arith, common_steps) in
     let long = length-append l.cpus.items (d ∷ []) in
     let more = ap length grown in
     let F : ℕ → Type 0 = λ n. IsOpenedDriven {B = g.row.B.Denot} bank book n v.items d in

@@ -7,4 +7,4 @@ use Rattle.lwkt_request.proofs.asking.request_of.Goals as goal
 
 pub returns-clause-request : goal.returns-clause-request
 returns-clause-request c =
-    IfOk-weaker c.answer_to.result _ (λ asked. wish_of asked ≡ asked_in (map string_bytes c.args.words.now)) (λ asked is. asked_one (map string_bytes c.args.words.now) asked is) c.answer_to.ensures.answer
+    IfOk-weaker c.answer_to.result _ (λ asked. wish_of asked ≡ asked_in (map string_bytes c.args.words.now)) (λ asked is. asked_one (map string_bytes c.args.words.now) asked is) c.answer_to.ensures

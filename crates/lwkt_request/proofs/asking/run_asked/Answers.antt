@@ -6,8 +6,8 @@ use Rattle.lwkt_request.specs.Answers.{IsCalled, IsParsed}
 use Rattle.lwkt_request.specs.OldNames.{Call, old_run}
 use Rattle.lwkt_request.proofs.asking.run_asked.Goals as goal
 
-pub returns-in-Version-clause-called : goal.returns-in-Version-clause-called
-returns-in-Version-clause-called c =
+pub returns-in-Version : goal.returns-in-Version
+returns-in-Version c =
     let words_are : texts c.as_slice-in-Version.result.now ≡ codes "--version" ∷ [] = search rules in
     IfOk-weaker c.parsed-in-Version.result _ (IsCalled (old_run (map string_bytes c.args.words.now))) (λ asked is.
-    subst (λ (call : Call). IsCalled call asked) c.in-Version.ensures (subst (λ (words : List Text). IsParsed words asked) words_are is)) c.parsed-in-Version.ensures.parsed
+    subst (λ (call : Call). IsCalled call asked) c.in-Version.ensures (subst (λ (words : List Text). IsParsed words asked) words_are is)) c.parsed-in-Version.ensures

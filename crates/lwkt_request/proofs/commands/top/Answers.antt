@@ -6,5 +6,5 @@ use Rattle.lwkt_request.proofs.commands.top.Goals as goal
 
 pub returns : goal.returns
 returns c =
-    let built = c.settled-command.ensures _ (c.described.ensures _ (record { is = c.new.ensures.app; local = c.new.ensures.local })) in
-    IfOk-weaker c.bin_name.result _ (IsBuilt top) (λ named is. record { is = ap app_of_fields is.0 ∙ built.is; local = ap (λ fields. fields.has_globals) is.0 ∙ built.local }) c.bin_name.ensures
+    let built = c.settled-command.ensures _ (c.described.ensures _ (record { is = c.new.ensures.app; local = c.new.ensures.local; whole = c.new.ensures.whole })) in
+    IfOk-weaker c.with_bin_name.result _ (IsBuilt top) (λ named is. record { is = ap app_of_fields is.0 ∙ built.is; local = ap (λ fields. fields.has_globals) is.0 ∙ built.local; whole = ap (λ fields. fields.is_broken) is.0 ∙ built.whole }) c.with_bin_name.ensures

@@ -16,8 +16,8 @@ loop-standing-preserved c =
     let P : ThreadLine → Type 0 = IsLogOf c.args.machine.now in
     let F : List ThreadLine → Type 0 = λ lines. All P lines in
     record {
-      ids = shown_more (λ (x : ThreadLine). x.id) (λ (s : Standing). s.id) l.lines.items c.push.new.self.items l.yielded line standing c.in_ok-push.ensures.items l.invariant.ids e.id;
-      states = shown_more (λ (x : ThreadLine). x.state) (λ (s : Standing). s.state) l.lines.items c.push.new.self.items l.yielded line standing c.in_ok-push.ensures.items l.invariant.states e.state;
-      lists = shown_more (λ (x : ThreadLine). x.list) (λ (s : Standing). s.list) l.lines.items c.push.new.self.items l.yielded line standing c.in_ok-push.ensures.items l.invariant.lists e.list;
+      ids = shown_more (λ (x : ThreadLine). x.id) (λ (s : Standing). s.id) l.lines.items c.push.new.list.items l.yielded line standing c.in_ok-push.ensures.items l.invariant.ids e.id;
+      states = shown_more (λ (x : ThreadLine). x.state) (λ (s : Standing). s.state) l.lines.items c.push.new.list.items l.yielded line standing c.in_ok-push.ensures.items l.invariant.states e.state;
+      lists = shown_more (λ (x : ThreadLine). x.list) (λ (s : Standing). s.list) l.lines.items c.push.new.list.items l.yielded line standing c.in_ok-push.ensures.items l.invariant.lists e.list;
       logs = subst F (sym c.in_ok-push.ensures.items) (All-append P l.lines.items (line ∷ []) l.invariant.logs (All-cons P line [] e.log (All-nil P)));
     }

@@ -4,7 +4,7 @@ use Rattle.lwkt_run.specs.Values.{ShowTokens}
 use Rattle.lwkt_run.proofs.FollowedMoves.{may_close}
 use Rattle.lwkt_run.proofs.followed.lawful_closing.Goals as goal
 
-pub returns-clause-closes : goal.returns-clause-closes
-returns-clause-closes c =
-    let T : List TokSpec → Type 0 = λ ts. ShowTokens ts c.in-Ok.tokens.items c.args.left.last in
-    may_close c.args.script.now c.args.left c.in-Ok.tokens c.requires (subst T c.as_slice.ensures c.in-Ok.ensures)
+pub returns : goal.returns
+returns c =
+    let T : List TokSpec → Type 0 = λ ts. ShowTokens ts c.in_ok-tokens.tokens.items c.args.left.last in
+    record { closes = may_close c.args.script.now c.args.left c.in_ok-tokens.tokens c.requires (subst T c.as_slice.ensures c.in_ok-tokens.ensures) }

@@ -29,12 +29,14 @@ loop-cpu-preserved c =
           over_later l.cpu l.machine c.follow_turn.new.machine ok.1.0.room ok.1.0.part turned ok.1.0.makes (says_all turned yes.1) (l.invariant.over_is yes.0);
     }
 
-pub returns-clause-ok : goal.returns-clause-ok
-returns-clause-ok c =
+pub returns : goal.returns
+returns c =
     let l = c.loop-cpu in
     let whole : l.cpu ≡ length c.args.machine.now.cpus = omega (arith, c.loop-cpu-test.false, l.auto.cpu-end, c.cpus-cpu-end.ensures.value) in
     let all : l.cpu ≡ length l.machine.cpus = whole ∙ sym l.invariant.as_many in
     record {
-      round = subst (λ n. Chain Walk FollowsStep n (walk (pair c.args.machine.now c.args.follower.now) true) (walk (pair l.machine l.follower) l.over)) whole l.invariant.turns;
-      over_is = λ is k p at. l.invariant.over_is is k p (subst (λ n. k < n) (sym all) (slice_get_within l.machine.cpus k p at)) at;
+      ok = record {
+        round = subst (λ n. Chain Walk FollowsStep n (walk (pair c.args.machine.now c.args.follower.now) true) (walk (pair l.machine l.follower) l.over)) whole l.invariant.turns;
+        over_is = λ is k p at. l.invariant.over_is is k p (subst (λ n. k < n) (sym all) (slice_get_within l.machine.cpus k p at)) at;
+      };
     }

@@ -13,13 +13,16 @@ loop-round-preserved c =
     let told = rw (c.in-Some-false.is, c.in-Some-false.field-0-test) at c.in_ok-follow_round.ensures.ok in
     chain_more Pair (FollowsRound false) l._round (pair c.args.machine.now c.args.follower.now) (pair l.machine l.follower) (pair c.follow_round.new.machine c.follow_round.new.follower) l.invariant told.round
 
-pub returns-in-Some-true-clause-ok : goal.returns-in-Some-true-clause-ok
-returns-in-Some-true-clause-ok c =
+pub returns-in-Some-true : goal.returns-in-Some-true
+returns-in-Some-true c =
     let l = c.loop-round in
-    let told = rw (c.in-Some-true.is, c.in-Some-true.field-0-test) at c.in_ok-follow_round.ensures.ok in (
-      l._round,
-      (
-        c.loop-round-test.true,
-        record { mid = pair l.machine l.follower; earlier = l.invariant; last = told.round; over = told.over_is refl },
-      ),
-    )
+    let told = rw (c.in-Some-true.is, c.in-Some-true.field-0-test) at c.in_ok-follow_round.ensures.ok in
+    record {
+      ok = (
+        l._round,
+        (
+          c.loop-round-test.true,
+          record { mid = pair l.machine l.follower; earlier = l.invariant; last = told.round; over = told.over_is refl },
+        ),
+      );
+    }

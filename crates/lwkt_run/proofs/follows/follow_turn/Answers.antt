@@ -9,8 +9,8 @@ use Rattle.lwkt_run.proofs.follows.follow_turn.Goals as goal
 pub asks_of-asks-requires-clause-polled : goal.asks_of-asks-requires-clause-polled
 asks_of-asks-requires-clause-polled c = turn_polled c.args.cpu c.args.machine.now c.turn.new.self c.clear.new.self c.turn.new.trace c.in_ok-turned.turned c.in_ok-turned.ensures.ok
 
-pub returns-in-Ok-true-clause-ok : goal.returns-in-Ok-true-clause-ok
-returns-in-Ok-true-clause-ok c =
+pub returns-then-branch-clause-ok : goal.returns-then-branch-clause-ok
+returns-then-branch-clause-ok c =
     let t = c.in_ok-turned in
     let asks = option_map polled_of c.asks_of-asks.result in
     let G : List Event → Type 0 = λ es. GoesOnBy c.args.cpu asks es c.args.follower.now c.fits.new.follower in (
@@ -23,7 +23,7 @@ returns-in-Ok-true-clause-ok c =
           makes = t.ensures.ok;
           asks = asks;
           has_asked = c.asks_of-asks.ensures.asked;
-          goes = subst G c.as_slice.ensures.value (c.in-Ok-true.ensures c.in-Ok-true.field-0-test);
+          goes = subst G c.as_slice.ensures.value (c.in_ok-fits.ensures c.if-branch.true);
         },
         c.is_over.ensures,
       ),

@@ -11,4 +11,4 @@ returns-clause-ok g c = λ bytes gives.
     let closing = c.in_ok-closing.closing in
     let is = subst (λ r. Gives (λ s. s) r (script_of bytes)) c.in_ok-script.was gives in
     let run = has_run_by c.args.mode bytes c.in_ok-script.script closing is c.in_ok-closing.ensures.closes in
-    done_has (HasRunBy c.args.mode bytes) closing c.done_of.result run c.done_of.ensures.text c.done_of.ensures.end
+    done_has (HasRunBy c.args.mode bytes) closing c.in_ok-done_of.field-0 run c.in_ok-done_of.ensures.text c.in_ok-done_of.ensures.end

@@ -28,12 +28,14 @@ loop-cpu-preserved c =
           over_later l.cpu l.machine c.make_turn.new.machine ok.1.0.room ok.1.0.part turned ok.1.0.makes (says_all turned yes.1) (l.invariant.over_is yes.0);
     }
 
-pub returns-clause-ok : goal.returns-clause-ok
-returns-clause-ok c =
+pub returns : goal.returns
+returns c =
     let l = c.loop-cpu in
     let whole : l.cpu ≡ length c.args.machine.now.cpus = omega (arith, c.loop-cpu-test.false, l.auto.cpu-end, c.cpus-cpu-end.ensures.value) in
     let all : l.cpu ≡ length l.machine.cpus = whole ∙ sym l.invariant.as_many in
     record {
-      round = subst (λ n. Chain Going TakesTurn n (going (scene c.args.machine.now c.args.trace.now.items (kept_in_record c.args.kept.now)) true) (going (scene l.machine l.trace.items (kept_in_record l.kept)) l.over)) whole l.invariant.turns;
-      over_is = λ is k p at. l.invariant.over_is is k p (subst (λ n. k < n) (sym all) (slice_get_within l.machine.cpus k p at)) at;
+      ok = record {
+        round = subst (λ n. Chain Going TakesTurn n (going (scene c.args.machine.now c.args.trace.now.items (kept_in_record c.args.kept.now)) true) (going (scene l.machine l.trace.items (kept_in_record l.kept)) l.over)) whole l.invariant.turns;
+        over_is = λ is k p at. l.invariant.over_is is k p (subst (λ n. k < n) (sym all) (slice_get_within l.machine.cpus k p at)) at;
+      };
     }

@@ -11,4 +11,4 @@ returns-clause-ok c =
     let closing = c.in_ok-closing.closing in
     let read : script_of c.args.bytes.now ≡ Ok script = search rules in
     let run : HasRun c.args.bytes.now (end_told closing) (report_text closing) = record { script = script; read = read; closing = closing; closes = c.in_ok-closing.ensures.closes; is_text = refl; is_end = refl } in
-    done_has (HasRun c.args.bytes.now) closing c.done_of.result run c.done_of.ensures.text c.done_of.ensures.end
+    done_has (HasRun c.args.bytes.now) closing c.in_ok-done_of.field-0 run c.in_ok-done_of.ensures.text c.in_ok-done_of.ensures.end

@@ -15,5 +15,5 @@ returns g c =
     let last : List Stretch = c.into_vec.result.items in
     let begun : StandFor c.new-last.result [] = subst (λ (l : List Stretch). StandFor l []) (sym c.new-last.ensures) none in
     let stops : StandFor last told = subst (λ (l : List Stretch). StandFor l told) (sym c.into_vec.ensures) (c.in_ok-add_told.ensures [] begun) in
-    let items : c.extend_from_slice.new.self.items ≡ all ++ last = c.in_ok-extend_from_slice.ensures.items ∙ ap (λ (l : List Stretch). all ++ l) c.as_slice.ensures.value in
+    let items : c.extend_from_slice.new.list.items ≡ all ++ last = c.in_ok-extend_from_slice.ensures.items ∙ ap (λ (l : List Stretch). all ++ l) c.as_slice.ensures.value in
     subst (λ (l : List Stretch). StandFor l (sections_of_all c.args.traces.now c.args.stops.now)) (sym items) (stand_both all last _ told c.in_ok-all.ensures stops)

@@ -18,6 +18,6 @@ loop-at-preserved g c =
     let low : at < length traces = omega (arith, c.loop-at-test.true, c.loop-at.auto.at-end, c.len-at-end.ensures, c.in_ok-told.ensures.len) in
     let own : StandFor c.in-Ok.stretches.items told = subst (λ r. IfOk r (λ s. StandFor s.items told)) (sym c.index.ensures ∙ c.in-Ok.is) (c.in_ok-told.ensures.each at c.index.result.now none low) in
     let more = stand_both all c.in-Ok.stretches.items (flat_map (λ (t : KeptTrace). sections_told t.items) (take at traces)) told c.loop-at.invariant own in
-    let items : c.extend_from_slice.new.self.items ≡ all ++ c.in-Ok.stretches.items = c.in_ok-extend_from_slice-in-Ok.ensures.items ∙ ap (λ (l : List Stretch). all ++ l) c.as_slice.ensures.value in
+    let items : c.extend_from_slice.new.list.items ≡ all ++ c.in-Ok.stretches.items = c.in_ok-extend_from_slice-in-Ok.ensures.items ∙ ap (λ (l : List Stretch). all ++ l) c.as_slice.ensures.value in
     subst (λ (l : List Stretch). StandFor l (flat_map (λ (t : KeptTrace). sections_told t.items) (take (at + 1) traces))) (sym items)
     (subst (StandFor (all ++ c.in-Ok.stretches.items)) (sym (traces_more traces at none low)) more)

@@ -12,4 +12,4 @@ returns-clause-ok g c =
     let closing = c.in_ok-closing.closing in
     let read : script_of c.args.bytes.now ≡ Ok script = search rules in
     let run : HasThreadedRun (g.G.Gate.answers c.args.gate.now) c.args.bytes.now (end_told closing) (report_text closing) = record { script = script; read = read; closing = closing; closes = c.in_ok-closing.ensures.ok; is_text = refl; is_end = refl } in
-    done_has (HasThreadedRun (g.G.Gate.answers c.args.gate.now) c.args.bytes.now) closing c.done_of.result run c.done_of.ensures.text c.done_of.ensures.end
+    done_has (HasThreadedRun (g.G.Gate.answers c.args.gate.now) c.args.bytes.now) closing c.in_ok-done_of.field-0 run c.in_ok-done_of.ensures.text c.in_ok-done_of.ensures.end

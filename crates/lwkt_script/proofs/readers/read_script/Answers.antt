@@ -1,15 +1,17 @@
-use Rattle.std.proofs.Common.{true≢false, sym, arith}
+use Rattle.std.proofs.Common.{arith}
 use Rattle.serde_json.specs.View.{view}
 use Rattle.lwkt_script.proofs.Texts.{text_read, text_refused, read_some}
 use Rattle.lwkt_script.proofs.readers.read_script.Goals as goal
 
 pub returns-in-Ok-clause-exact : goal.returns-in-Ok-clause-exact
 returns-in-Ok-clause-exact c =
-    rw (text_read c.args.bytes.now (view c.in-Ok.value) (omega arith) c.in-Ok.ensures.ok.0 c.in-Ok.ensures.ok.1) c.script.ensures.exact
+    let is = rw c.in-Ok.is at c.in_ok-value.ensures.value in
+    rw (text_read c.args.bytes.now (view c.in-Ok.value) (omega arith) is.0 is.1) c.script.ensures.exact
 
 pub returns-in-Ok-clause-memory : goal.returns-in-Ok-clause-memory
-returns-in-Ok-clause-memory c = λ _. (read_some c.args.bytes.now (view c.in-Ok.value) c.in-Ok.ensures.ok.1, omega arith)
+returns-in-Ok-clause-memory c = λ _.
+    let is = rw c.in-Ok.is at c.in_ok-value.ensures.value in
+    (read_some c.args.bytes.now (view c.in-Ok.value) is.1, omega arith)
 
-pub returns-in-None-clause-exact : goal.returns-in-None-clause-exact
-returns-in-None-clause-exact c =
-    text_refused c.args.bytes.now (omega arith) (c.in-Err.ensures.err (λ memory. true≢false (sym (c.in-None.ensures.1 memory))))
+pub returns-in-Err-clause-exact : goal.returns-in-Err-clause-exact
+returns-in-Err-clause-exact c = text_refused c.args.bytes.now (omega arith) (rw c.in-Err.is at c.in_ok-value.ensures.none)

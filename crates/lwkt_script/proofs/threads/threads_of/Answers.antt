@@ -17,7 +17,7 @@ loop-item-preserved c =
     let next = c.in_ok-next.next in
     let read = rw c.as_slice.ensures.value at c.in_ok-next.ensures.exact in
     let within = rw c.as_slice.ensures.value at c.in_ok-next.ensures.within in
-    rw c.in_ok-push.ensures.ok (
+    rw c.in_ok-push.ensures.items (
       goes_on (thread c.args.version c.args.cpus) threads c.args.items.now c.loop-item.item-index c.item-item.result next (each (thread c.args.version c.args.cpus) [] (items_view c.args.items.now)) c.loop-item-test.true c.item-item.is read c.loop-item.invariant.0,
       one_more_few c.args.cpus threads next within.0.cpu within.1 c.loop-item.invariant.1,
       All-push (IsThread c.args.cpus) threads next c.loop-item.invariant.2 within.0,

@@ -15,7 +15,7 @@ loop-item-preserved c =
     let read = rw c.as_slice.ensures.value at c.in_ok-next.ensures.exact in
     let within = rw c.as_slice.ensures.value at c.in_ok-next.ensures.within in
     let room = within.1 in
-    rw c.in_ok-push.ensures.ok (
+    rw c.in_ok-push.ensures.items (
       omega (arith, length-append tokens (next ∷ []), room),
       All-push IsToken tokens next c.loop-item.invariant.1 within.0,
       goes_on (token c.args.version) tokens c.args.items.now c.loop-item.item-index c.item-item.result next (each (token c.args.version) [] (items_view c.args.items.now)) c.loop-item-test.true c.item-item.is read c.loop-item.invariant.2,

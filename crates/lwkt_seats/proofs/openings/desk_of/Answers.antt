@@ -17,5 +17,5 @@ pub invariant_of-desk-clause-one : goal.invariant_of-desk-clause-one
 invariant_of-desk-clause-one c =
     let places = c.in_ok-places.places.items in
     let bank : Bank = arc_value c.in_ok-bank.bank in
-    let same : arc_value c.new-2.result ≡ bank = ap (λ a. arc_value a) c.new-2.ensures in
+    let same : arc_value c.new-drawer.result ≡ bank = ap (λ a. arc_value a) c.new-drawer.ensures in
     subst (λ (b : Bank). AreAllOf b places) (sym same) (are_all_of bank places c.in_ok-places.ensures.spots)

@@ -7,5 +7,6 @@ abbrev pub invariant-loop-seat : goal.invariant-loop-seat
 invariant-loop-seat l = record {
   whole : l.yielded ++ l.seat-iterator.rest.items ≡ l.fn.seats.items;
   many : length l.places.items ≡ length l.yielded;
-  spots : AreSpotsOf (arc_value l.bank) l.places.items;
+  bank : arc_value l.spot.bank ≡ arc_value l.fn.bank;
+  spots : AreSpotsOf (arc_value l.fn.bank) l.places.items;
 }

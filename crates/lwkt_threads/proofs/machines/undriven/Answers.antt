@@ -18,7 +18,7 @@ loop-cpu-preserved c =
     let steps : into_iter_items l.cpu-iterator ≡ cpu ∷ left = c.in-Some.ensures.steps.0 in
     let rest : l.yielded ++ cpu ∷ left ≡ into_iter_items c.into_iter-cpu-iterator.result = ap (λ xs. l.yielded ++ xs) (sym steps) ∙ l.invariant.rest in
     let at : slice_get c.args.cpus.items (length l.yielded) ≡ Some cpu = next_at l.yielded left cpu c.args.cpus.items (rest ∙ c.into_iter-cpu-iterator.ensures.into_iter_gives.0) in
-    let i : c.push.new.self.items ≡ l.all.items ++ c.new-driven.result ∷ [] = search rules in
+    let i : c.push.new.list.items ≡ l.all.items ++ c.new-driven.result ∷ [] = search rules in
     let F : List (Driven Scripted) → Type 0 = λ xs. AllZip IsUndriven (l.yielded ++ cpu ∷ []) xs in
     let id : c.new-driven.result.id.0 ≡ cpu.seat.cpu.0 = ap (λ (n : CpuId). n.0) c.new-driven.ensures.id ∙ l.invariant.count ∙ sym (c.requires.numbered (length l.yielded) cpu at) in
     record {

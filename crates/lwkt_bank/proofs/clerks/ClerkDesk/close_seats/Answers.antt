@@ -7,7 +7,7 @@ use Rattle.lwkt_bank.specs.declared.rules.Key.{Key}
 use Rattle.lwkt_bank.specs.Rule.{plan_at}
 use Rattle.lwkt_bank.specs.Closing.{AreRead, Gathering, kept_by}
 use Rattle.lwkt_bank.specs.Seats.{id_of_desk}
-use Rattle.lwkt_bank.proofs.KeptMoves.{gathering_none, bank_fits, bank_few, bank_closed}
+use Rattle.lwkt_bank.proofs.KeptMoves.{gathering_none, bank_fits, bank_closed}
 use Rattle.lwkt_bank.proofs.clerks.ClerkDesk.close_seats.Goals as goal
 
 pub gather-requires-clause-begin : goal.gather-requires-clause-begin
@@ -27,9 +27,6 @@ values-requires-clause-fits c =
     let ws = c.as_slice-2.result.now in
     subst (λ ks. F ps ws ks) (sym c.as_slice-4.ensures.value) (subst (λ x. F ps x c.gather.new.kept.items) (sym c.as_slice-2.ensures.value) (subst (λ x. F x c.last_words-words.result.0.items c.gather.new.kept.items) (sym c.as_slice.ensures.value)
     (bank_fits b c.gather.new.clerk.id c.gather.new.clerk.me.0 c.last_words-words.result.0.items c.last_words-words.result.1.items c.args.seats.items c.gather.new.kept.items c.last_words-words.ensures.left c.gather.ensures.done c.requires.all)))
-
-pub values-requires-clause-processors : goal.values-requires-clause-processors
-values-requires-clause-processors c = bank_few c.args.self c.gather.new.clerk.id c.gather.new.clerk.me.0 c.last_words-words.result.0.items c.last_words-words.result.1.items c.args.seats.items c.gather.new.kept.items c.last_words-words.ensures.left c.gather.ensures.done c.requires.all
 
 pub returns : goal.returns
 returns c =

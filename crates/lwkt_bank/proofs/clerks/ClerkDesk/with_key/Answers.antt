@@ -12,8 +12,8 @@ use Rattle.lwkt_bank.proofs.OpenMoves.{short_plans, single_plans, many_plans}
 use Rattle.lwkt_bank.proofs.ToldMoves.{Told-opening}
 use Rattle.lwkt_bank.proofs.clerks.ClerkDesk.with_key.Goals as goal
 
-pub new-requires : goal.new-requires
-new-requires c =
+pub table-requires : goal.table-requires
+table-requires c =
     let cpus = c.args.key.cpus in
     let F : List Plan → Type 0 = λ ps. Told ps cpus (opening c.args.words.now c.args.slots.items (first_view ps)) in
     let G : List ℕ → Type 0 = λ ws. Told (plans_of c.args.specs.now) cpus (opening ws c.args.slots.items (first_view (plans_of c.args.specs.now))) in
@@ -23,7 +23,7 @@ new-requires c =
 pub invariant_of-result : goal.invariant_of-result
 invariant_of-result c =
     let specs = c.args.specs.now in
-    let t = c.in-Ok.ensures.ok in
+    let t = c.in_ok-table.ensures in
     let r = (Told-opening c.args.key.cpus specs c.requires.within c.requires.lawful).0.rule in
     let many : length c.args.key.plans.items ≡ length specs = ap length c.requires.plans ∙ many_plans specs in
     let wide = r.wide in
@@ -38,6 +38,7 @@ invariant_of-result c =
       wide = let w = t.0 in omega arith;
       deep = t.1 ∙ ap length c.requires.slots ∙ length-map specs slot_of_spec ∙ sym many;
       few = omega arith;
+      few_cpus = c.requires.within.processors;
       short = subst F (sym c.requires.plans) (short_plans specs c.requires.within.each_token);
       single = subst G (sym c.requires.plans) (single_plans specs c.requires.within.each_token);
       seated = t.2;

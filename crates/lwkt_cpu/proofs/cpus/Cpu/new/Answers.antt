@@ -10,4 +10,4 @@ invariant_of-result g c =
     let threads = c.in_ok-threads.threads.items in
     let fit = c.fits.ensures.yes c.if-not-fits.false in
     let F : CpuSeat → Type 0 = λ s. IsAtRest {B = g.row.B.Denot} (processor_of s c.args.ports c.args.bodies.items threads None 0) in
-    subst F (sym c.new.ensures) (rest_new {B = g.row.B.Denot} c.args.seat c.args.ports c.args.bodies.items threads c.len-count.result c.in_ok-threads.ensures.ok (c.len-count.ensures ∙ c.args.bodies.ok.0) fit.0 fit.1 c.requires.mine c.requires.empty)
+    subst F (sym c.new.ensures) (rest_new {B = g.row.B.Denot} c.args.seat c.args.ports c.args.bodies.items threads c.len-count.result c.in_ok-threads.ensures (c.len-count.ensures ∙ c.args.bodies.ok.0) fit.0 fit.1 c.requires.mine c.requires.empty)

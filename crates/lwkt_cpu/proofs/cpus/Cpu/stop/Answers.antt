@@ -1,98 +1,42 @@
-use Rattle.std.proofs.Common.{◌≡◌, ◌+◌, ap, sym, ◌∙◌, subst, List, inl, inr, arith}
-use Rattle.lwkt_base.specs.Holding.{Holding, holds_nothing}
-use Rattle.lwkt_bank.specs.declared.seats.CpuSeat.{CpuSeat}
-use Rattle.lwkt_bank.specs.Seats.{holding}
-use Rattle.lwkt_hold.specs.Runs.{Ran}
-use Rattle.lwkt_hold.proofs.RunMoves.{ran_then, ran_weaker, ran_with_room}
+use Rattle.std.proofs.Common.{List, subst}
+use Rattle.lwkt_core.specs.declared.events.Event.{Event}
+use Rattle.lwkt_hold.proofs.RunMoves.{ran_with_room}
 use Rattle.lwkt_hold.proofs.ReadMoves.{ran_still}
-use Rattle.lwkt_msg.specs.Desks.{Desk, desk_cpu}
 use Rattle.lwkt_ask.specs.Telling.{TellsMail}
-use Rattle.lwkt_ask.proofs.MailMoves.{ran_mail}
-use Rattle.lwkt_ask.proofs.TellMoves.{mail_none, mail_then, mail_told, quiet_then}
-use Rattle.lwkt_cpu.specs.declared.threads.Thread.{Thread}
-use Rattle.lwkt_cpu.specs.Processors.{AllOver}
-use Rattle.lwkt_cpu.specs.Searches.{IsOfOne}
+use Rattle.lwkt_ask.proofs.TellMoves.{mail_none}
 use Rattle.lwkt_cpu.specs.Turning.{IsMailed}
-use Rattle.lwkt_cpu.specs.Stopping.{AreThreadsStopped}
+use Rattle.lwkt_cpu.proofs.StopMoves.{stop_from_room}
 use Rattle.lwkt_cpu.proofs.ToldMoves.{quiet_items}
-use Rattle.lwkt_cpu.proofs.WakeMoves.{post_none, post_then}
+use Rattle.lwkt_cpu.proofs.WakeMoves.{post_none}
 use Rattle.lwkt_cpu.proofs.cpus.Cpu.stop.Goals as goal
 
-pub returns-in-Err-clause-ran : goal.returns-in-Err-clause-ran
-returns-in-Err-clause-ran g c =
+pub returns-in_err-reserve-clause-ran : goal.returns-in_err-reserve-clause-ran
+returns-in_err-reserve-clause-ran g c =
     let p = c.args.self.now in
-    let r = c.reserve.new.self in
+    let r = c.reserve.new.list in
     let e = c.reserve.ensures in
     ran_with_room (IsMailed p.threads) 258 p.seat p.seat c.args.trace.now r r e.items e.len e.capacity (ran_still (IsMailed p.threads) 258 p.seat r)
+
+pub returns-in_err-reserve-clause-told : goal.returns-in_err-reserve-clause-told
+returns-in_err-reserve-clause-told g c = mail_none c.args.self.now.post.seat c.args.trace.now.items c.reserve.new.list.items (quiet_items c.args.trace.now.items c.reserve.new.list.items c.reserve.ensures.items)
+
+pub returns-in_err-reserve-clause-same : goal.returns-in_err-reserve-clause-same
+returns-in_err-reserve-clause-same g c = post_none c.args.self.now.post
+
+pub returns-clause-ok : goal.returns-clause-ok
+returns-clause-ok g c =
+    let s = c.stop_in_room in
+    stop_from_room {B = g.row.B.Denot} c.args.self.now s.new.self c.args.trace.now c.reserve.new.list s.new.trace c.reserve.ensures.items s.ensures.stops
 
 pub returns-clause-ran : goal.returns-clause-ran
 returns-clause-ran g c =
     let p = c.args.self.now in
-    let r = c.reserve.new.self in
+    let s = c.stop_in_room in
     let e = c.reserve.ensures in
-    let h = c.halt_running in
-    let s = h.new.self.seat in
-    let n = c.end_all in
-    let y = c.pay in
-    let P : Holding → Type 0 = IsMailed p.threads in
-    let empty : holding n.new.self.seat ≡ holds_nothing = n.ensures.empty in
-    let F : CpuSeat → Type 0 = λ x. Ran P 64 x n.new.self.seat h.new.trace y.new.trace in
-    let G : CpuSeat → Type 0 = λ x. Ran P 258 p.seat x c.args.trace.now y.new.trace in
-    subst G (sym y.ensures.seat)
-    (ran_with_room P 258 p.seat n.new.self.seat c.args.trace.now r y.new.trace e.items e.len e.capacity
-    (ran_weaker P P (194 + 64) 258 p.seat n.new.self.seat r y.new.trace (λ x q. q) (omega arith)
-    (ran_then P 194 64 p.seat s n.new.self.seat r h.new.trace y.new.trace
-    (ran_weaker (IsOfOne p.threads) P 194 194 p.seat s r h.new.trace (λ x q. inr q) (omega arith) h.ensures.ran)
-    (subst F n.ensures.seat (ran_mail P (desk_cpu n.new.self.post.seat) 64 n.new.self.seat h.new.trace y.new.trace y.ensures.mine (inl empty) y.ensures.grew)))))
-
-pub returns-clause-ok : goal.returns-clause-ok
-returns-clause-ok g c =
-    let e = c.end_all.ensures in
-    let y = c.pay.ensures in
-    let news = c.pay.new.self.threads in
-    let F : List Thread → Type 0 = λ xs. AreThreadsStopped c.halt_running.new.self.threads xs in
-    let G : List Thread → Type 0 = λ xs. AllOver xs in
-    record {
-      room = c.reserve.new.self;
-      same = c.reserve.ensures.items;
-      mid = c.halt_running.new.self;
-      v = c.halt_running.new.trace;
-      halts = c.halt_running.ensures.halts;
-      shut = c.end_all.new.self.post;
-      closes = e.closes;
-      pays = y.pays;
-      seat = y.seat ∙ e.seat;
-      bodies = y.bodies ∙ e.bodies ∙ c.halt_running.ensures.bodies;
-      threads = subst F (sym y.threads) e.threads;
-      over = subst G (sym y.threads) e.over;
-      none_runs = y.running ∙ e.none;
-      empty = ap holding y.seat ∙ e.empty;
-    }
-
-pub returns-in-Err-clause-told : goal.returns-in-Err-clause-told
-returns-in-Err-clause-told g c = mail_none c.args.self.now.post.seat c.args.trace.now.items c.reserve.new.self.items (quiet_items c.args.trace.now.items c.reserve.new.self.items c.reserve.ensures.items)
+    ran_with_room (IsMailed p.threads) 258 p.seat s.new.self.seat c.args.trace.now c.reserve.new.list s.new.trace e.items e.len e.capacity s.ensures.ran
 
 pub returns-clause-told : goal.returns-clause-told
 returns-clause-told g c =
-    let d = c.args.self.now.post.seat in
-    let t = c.args.trace.now.items in
-    let r = c.reserve.new.self in
-    let h = c.halt_running in
-    let n = c.end_all in
-    let y = c.pay in
-    let same : n.new.self.post.seat ≡ d = n.ensures.post ∙ h.ensures.post in
-    let F : Desk → Type 0 = λ x. TellsMail d x t h.new.trace.items in
-    mail_then d n.new.self.post.seat y.new.self.post.seat t h.new.trace.items y.new.trace.items
-    (subst F (sym same) (mail_none d t h.new.trace.items (quiet_then t r.items h.new.trace.items (quiet_items t r.items c.reserve.ensures.items) h.ensures.quiet)))
-    (mail_told (desk_cpu n.new.self.post.seat) 64 n.new.self.post.seat y.new.self.post.seat h.new.trace y.new.trace y.ensures.told y.ensures.grew)
-
-pub returns-in-Err-clause-same : goal.returns-in-Err-clause-same
-returns-in-Err-clause-same g c = post_none c.args.self.now.post
-
-pub returns-clause-same : goal.returns-clause-same
-returns-clause-same g c =
-    let p = c.args.self.now.post in
-    let h = c.halt_running in
-    let n = c.end_all in
-    let y = c.pay in
-    post_then p n.new.self.post y.new.self.post (post_then p h.new.self.post n.new.self.post h.ensures.same n.ensures.same) y.ensures.same
+    let s = c.stop_in_room in
+    let F : List Event → Type 0 = λ xs. TellsMail c.args.self.now.post.seat s.new.self.post.seat xs s.new.trace.items in
+    subst F c.reserve.ensures.items s.ensures.told

@@ -14,9 +14,9 @@ returns-in_default c = λ cpus turns all.
 
 pub loop-preserved : goal.loop-preserved
 loop-preserved c =
-    let items : c.push.new.self.items ≡ c.loop.order.items ++ c.in-Some.node.now.cpu ∷ [] = c.in_ok-push.ensures.items in
+    let items : c.push.new.list.items ≡ c.loop.order.items ++ c.in-Some.node.now.cpu ∷ [] = c.in_ok-push.ensures.items in
     let found = c.in-Some.ensures.lookup in
-    let long : length c.push.new.self.items ≡ length c.loop.order.items + 1 = rw items (length-append c.loop.order.items (c.in-Some.node.now.cpu ∷ [])) in (
+    let long : length c.push.new.list.items ≡ length c.loop.order.items + 1 = rw items (length-append c.loop.order.items (c.in-Some.node.now.cpu ∷ [])) in (
       omega arith,
       λ cpus turns all.
           let P : ℕ → Type 0 = λ cpu. cpu < cpus in

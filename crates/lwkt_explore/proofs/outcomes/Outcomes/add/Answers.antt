@@ -1,4 +1,4 @@
-use Rattle.std.proofs.Common.{◌≡◌, ◌≤◌, ℕ, length, sym, subst, List, [], ◌∷◌, ◌∙◌}
+use Rattle.std.proofs.Common.{◌≡◌, ◌≤◌, ℕ, length, sym, subst, List, [], ◌∷◌, ◌++◌, ◌∙◌, ap}
 use Rattle.std.proofs.lemmas.List.Elements.{All-push}
 use Rattle.std.proofs.lemmas.List.Quantifiers.{Any-push}
 use Rattle.std.specs.Prelude.{◌≢◌, All, Vec}
@@ -13,57 +13,95 @@ use Rattle.lwkt_explore.proofs.outcomes.Outcomes.add.Goals as goal
 abbrev is_end : Outcome → Type 0
 is_end outcome = outcome.kind ≡ Ended
 
+-- the outcomes are those of before there was room for one more
+same : (new room : Vec Outcome Global) (old : List Outcome) → new ≡ room → room.items ≡ old → new.items ≡ old
+same new room old is was = ap (λ (v : Vec Outcome Global). v.items) is ∙ was
+
+-- one more is behind those of before
+more : (new room old : List Outcome) (one : Outcome) → new ≡ room ++ one ∷ [] → room ≡ old → new ≡ old ++ one ∷ []
+more new room old one is was = is ∙ ap (λ (xs : List Outcome). xs ++ one ∷ []) was
+
+pub returns-in_err-outcome-clause-found : goal.returns-in_err-outcome-clause-found
+returns-in_err-outcome-clause-found c =
+    let F : List Outcome → Type 0 = λ xs. All (IsOutcome c.args.script.now) xs in
+    subst F (sym c.make_room.ensures.all) c.requires.outcomes
+
+pub returns-in_err-outcome-clause-ended : goal.returns-in_err-outcome-clause-ended
+returns-in_err-outcome-clause-ended c =
+    let F : List Outcome → Type 0 = λ xs. Any is_end xs in
+    λ has. subst F (sym c.make_room.ensures.all) has
+
+pub returns-in_err-make_room-clause-found : goal.returns-in_err-make_room-clause-found
+returns-in_err-make_room-clause-found c =
+    let F : List Outcome → Type 0 = λ xs. All (IsOutcome c.args.script.now) xs in
+    subst F (sym c.make_room.ensures.all) c.requires.outcomes
+
+pub returns-in_err-make_room-clause-ended : goal.returns-in_err-make_room-clause-ended
+returns-in_err-make_room-clause-ended c =
+    let F : List Outcome → Type 0 = λ xs. Any is_end xs in
+    λ has. subst F (sym c.make_room.ensures.all) has
+
 pub returns-in-Some-clause-found : goal.returns-in-Some-clause-found
 returns-in-Some-clause-found c =
-    let F : Vec Outcome Global → Type 0 = λ v. All (IsOutcome c.args.script.now) v.items in
-    subst F (sym c.count.ensures.all) c.requires.outcomes
+    let F : List Outcome → Type 0 = λ xs. All (IsOutcome c.args.script.now) xs in
+    subst F (sym (same c.count.new.self.all c.make_room.new.self.all c.args.self.now.all.items c.count.ensures.all c.make_room.ensures.all)) c.requires.outcomes
+
+pub returns-in-Some-clause-short : goal.returns-in-Some-clause-short
+returns-in-Some-clause-short c = λ turns few all.
+    let F : List Outcome → Type 0 = λ xs. All (λ (outcome : Outcome). length outcome.order.items ≤ turns) xs in
+    subst F (sym (same c.count.new.self.all c.make_room.new.self.all c.args.self.now.all.items c.count.ensures.all c.make_room.ensures.all)) all
+
+pub returns-in-Some-clause-whole : goal.returns-in-Some-clause-whole
+returns-in-Some-clause-whole c = λ uncut all.
+    let F : List Outcome → Type 0 = λ xs. All (λ (outcome : Outcome). outcome.kind ≢ Cut) xs in
+    subst F (sym (same c.count.new.self.all c.make_room.new.self.all c.args.self.now.all.items c.count.ensures.all c.make_room.ensures.all)) all
 
 pub returns-in-Some-clause-ended : goal.returns-in-Some-clause-ended
 returns-in-Some-clause-ended c =
-    let F : Vec Outcome Global → Type 0 = λ v. Any is_end v.items in
-    λ has. subst F (sym c.count.ensures.all) has
+    let F : List Outcome → Type 0 = λ xs. Any is_end xs in
+    λ has. subst F (sym (same c.count.new.self.all c.make_room.new.self.all c.args.self.now.all.items c.count.ensures.all c.make_room.ensures.all)) has
 
 pub returns-in-Some-clause-kind : goal.returns-in-Some-clause-kind
 returns-in-Some-clause-kind c =
     let F : Vec Outcome Global → Type 0 = λ v. Any is_end v.items in
     let P : Outcome → Type 0 = λ one. one.kind ≡ c.in_ok-outcome.outcome.kind in
-    λ is. subst F (sym c.count.ensures.all) (Any-weaker P is_end c.args.self.now.all.items (λ x same. same ∙ is) c.in-Some.ensures)
+    λ is. subst F (sym c.count.ensures.all) (Any-weaker P is_end c.make_room.new.self.all.items (λ x same. same ∙ is) c.in-Some.ensures)
 
-pub returns-in_err-keep-in-None-clause-found : goal.returns-in_err-keep-in-None-clause-found
-returns-in_err-keep-in-None-clause-found c =
-    let F : List Outcome → Type 0 = λ xs. All (IsOutcome c.args.script.now) xs in
-    subst F (sym c.in_err-keep-in-None.ensures.err) c.requires.outcomes
-
-pub returns-in_err-keep-in-None-clause-ended : goal.returns-in_err-keep-in-None-clause-ended
-returns-in_err-keep-in-None-clause-ended c =
-    let F : List Outcome → Type 0 = λ xs. Any is_end xs in
-    λ has. subst F (sym c.in_err-keep-in-None.ensures.err) has
-
-pub returns-in_ok-keep-in-None-clause-found : goal.returns-in_ok-keep-in-None-clause-found
-returns-in_ok-keep-in-None-clause-found c =
+pub returns-in-None-clause-found : goal.returns-in-None-clause-found
+returns-in-None-clause-found c =
     let P : Outcome → Type 0 = IsOutcome c.args.script.now in
     let F : List Outcome → Type 0 = λ xs. All P xs in
-    subst F (sym c.in_ok-keep-in-None.ensures.ok) (All-push P c.args.self.now.all.items c.in_ok-outcome.outcome c.requires.outcomes c.in_ok-outcome.ensures.ok)
+    let old = c.args.self.now.all.items in
+    let one = c.in_ok-outcome.outcome in
+    subst F (sym (more c.keep.new.self.all.items c.make_room.new.self.all.items old one c.keep.ensures.all c.make_room.ensures.all)) (All-push P old one c.requires.outcomes c.in_ok-outcome.ensures.ok)
 
-pub returns-in_ok-keep-in-None-clause-short : goal.returns-in_ok-keep-in-None-clause-short
-returns-in_ok-keep-in-None-clause-short c = λ turns few all.
+pub returns-in-None-clause-short : goal.returns-in-None-clause-short
+returns-in-None-clause-short c = λ turns few all.
     let P : Outcome → Type 0 = λ outcome. length outcome.order.items ≤ turns in
     let F : List Outcome → Type 0 = λ xs. All P xs in
     let G : List ℕ → Type 0 = λ order. length order ≤ turns in
-    subst F (sym c.in_ok-keep-in-None.ensures.ok) (All-push P c.args.self.now.all.items c.in_ok-outcome.outcome all (subst G (sym c.in_ok-outcome.ensures.order) few))
+    let old = c.args.self.now.all.items in
+    let one = c.in_ok-outcome.outcome in
+    subst F (sym (more c.keep.new.self.all.items c.make_room.new.self.all.items old one c.keep.ensures.all c.make_room.ensures.all)) (All-push P old one all (subst G (sym c.in_ok-outcome.ensures.order) few))
 
-pub returns-in_ok-keep-in-None-clause-whole : goal.returns-in_ok-keep-in-None-clause-whole
-returns-in_ok-keep-in-None-clause-whole c = λ uncut all.
+pub returns-in-None-clause-whole : goal.returns-in-None-clause-whole
+returns-in-None-clause-whole c = λ uncut all.
     let P : Outcome → Type 0 = λ outcome. outcome.kind ≢ Cut in
     let F : List Outcome → Type 0 = λ xs. All P xs in
-    subst F (sym c.in_ok-keep-in-None.ensures.ok) (All-push P c.args.self.now.all.items c.in_ok-outcome.outcome all uncut)
+    let old = c.args.self.now.all.items in
+    let one = c.in_ok-outcome.outcome in
+    subst F (sym (more c.keep.new.self.all.items c.make_room.new.self.all.items old one c.keep.ensures.all c.make_room.ensures.all)) (All-push P old one all uncut)
 
-pub returns-in_ok-keep-in-None-clause-ended : goal.returns-in_ok-keep-in-None-clause-ended
-returns-in_ok-keep-in-None-clause-ended c =
+pub returns-in-None-clause-ended : goal.returns-in-None-clause-ended
+returns-in-None-clause-ended c =
     let F : List Outcome → Type 0 = λ xs. Any is_end xs in
-    λ has. subst F (sym c.in_ok-keep-in-None.ensures.ok) (Any-append is_end c.args.self.now.all.items (c.in_ok-outcome.outcome ∷ []) has)
+    let old = c.args.self.now.all.items in
+    let one = c.in_ok-outcome.outcome in
+    λ has. subst F (sym (more c.keep.new.self.all.items c.make_room.new.self.all.items old one c.keep.ensures.all c.make_room.ensures.all)) (Any-append is_end old (one ∷ []) has)
 
-pub returns-in_ok-keep-in-None-clause-kind : goal.returns-in_ok-keep-in-None-clause-kind
-returns-in_ok-keep-in-None-clause-kind c =
+pub returns-in-None-clause-kind : goal.returns-in-None-clause-kind
+returns-in-None-clause-kind c =
     let F : List Outcome → Type 0 = λ xs. Any is_end xs in
-    λ is. subst F (sym c.in_ok-keep-in-None.ensures.ok) (Any-push is_end c.args.self.now.all.items c.in_ok-outcome.outcome is)
+    let old = c.args.self.now.all.items in
+    let one = c.in_ok-outcome.outcome in
+    λ is. subst F (sym (more c.keep.new.self.all.items c.make_room.new.self.all.items old one c.keep.ensures.all c.make_room.ensures.all)) (Any-push is_end old one is)

@@ -27,15 +27,15 @@ loop-outcome-init c =
       few = λ turns theirs. All-same (S turns) given c.args.others.all.items gives theirs;
     }
 
-pub loop-outcome-preserved-in-Continue-1 : goal.loop-outcome-preserved-in-Continue-1
-loop-outcome-preserved-in-Continue-1 c =
+pub loop-outcome-preserved-then-is_none : goal.loop-outcome-preserved-then-is_none
+loop-outcome-preserved-then-is_none c =
     let l = c.loop-outcome in
     let one = c.in-Some.outcome in
     let rest = into_iter_items c.next.new.self in
     let left = into_iter_items l.outcome-iterator in
     let steps : left ≡ one ∷ rest = c.in-Some.ensures.steps.0 in
     let news = c.keep.new.self.all.items in
-    let same : news ≡ l.self.all.items ++ one ∷ [] = c.in_ok-keep.ensures.ok in
+    let same : news ≡ l.self.all.items ++ one ∷ [] = subst (λ xs. news ≡ xs ++ one ∷ []) c.make_room.ensures.all c.keep.ensures.all in
     let S : ℕ → Outcome → Type 0 = λ turns outcome. length outcome.order.items ≤ turns in
     record {
       found = λ script mine theirs. all_with (IsOutcome script) l.self.all.items news one same (l.invariant.found script mine theirs) (of_next (IsOutcome script) left rest one steps (l.invariant.rest script theirs));
@@ -44,10 +44,10 @@ loop-outcome-preserved-in-Continue-1 c =
       few = λ turns theirs. All-rest (S turns) one rest left steps (l.invariant.few turns theirs);
     }
 
-pub returns-in_err-keep-clause-found : goal.returns-in_err-keep-clause-found
-returns-in_err-keep-clause-found c =
+pub returns-in_err-make_room-clause-found : goal.returns-in_err-make_room-clause-found
+returns-in_err-make_room-clause-found c =
     let F : List Outcome → Type 0 = λ xs. (script : Script) → All (IsOutcome script) c.args.self.now.all.items → All (IsOutcome script) c.args.others.all.items → All (IsOutcome script) xs in
-    subst F (sym c.in_err-keep.ensures.err) c.loop-outcome.invariant.found
+    subst F (sym c.make_room.ensures.all) c.loop-outcome.invariant.found
 
 pub loop-outcome-preserved : goal.loop-outcome-preserved
 loop-outcome-preserved c =

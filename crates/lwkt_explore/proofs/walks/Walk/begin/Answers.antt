@@ -1,5 +1,4 @@
 use Rattle.std.proofs.Common.{◌≡◌, ◌+◌, ◌≤◌, List, [], length, inl, arith, ap}
-use Rattle.std.proofs.lemmas.Result.{IfOk-at_ok}
 use Rattle.lwkt_core.specs.Opening.{AreWithin}
 use Rattle.lwkt_explore.specs.declared.graphs.Graph.{Graph}
 use Rattle.lwkt_explore.specs.declared.graphs.Node.{Node}
@@ -10,9 +9,8 @@ pub returns-clause-walk : goal.returns-clause-walk
 returns-clause-walk c =
     let script = c.args.script.now in
     let within : AreWithin script.cpus script.tokens script.messages = c.in_ok-opened.ensures.within in
-    let graph : Graph = c.in_ok-memory-3.field-0 in
-    let P : Graph → Type 0 = λ g. g.nodes.items ≡ [] in
-    let none : graph.nodes.items ≡ [] = IfOk-at_ok P c.in_ok-memory-3.ensures.ok c.new-3.ensures in
+    let graph : Graph = c.in_ok-new-3.field-0 in
+    let none : graph.nodes.items ≡ [] = c.in_ok-new-3.ensures in
     let none_yet : length graph.nodes.items ≡ 0 = ap (λ (xs : List Node). length xs) none in
     let one : length c.add.new.self.nodes.items ≤ length graph.nodes.items + 1 = c.add.ensures.few in
     let most : script.cpus ≤ 8 = within.processors in

@@ -23,10 +23,10 @@ loop-turn-preserved c =
     let below : c.next-cpu.result < c.from-cpus.result = c.next-cpu.ensures in
     let number : c.number_in_order.result ≡ c.next-cpu.result = c.number_in_order.ensures (omega arith) in
     let there : c.number_in_order.result < c.args.script.now.cpus = omega arith in
-    let items : c.push.new.self.items ≡ c.loop-turn.order.items ++ c.number_in_order.result ∷ [] = c.in_default.ensures.items in
+    let items : c.push.new.list.items ≡ c.loop-turn.order.items ++ c.number_in_order.result ∷ [] = c.in_ok-push.ensures.items in
     let P : ℕ → Type 0 = λ cpu. cpu < c.args.script.now.cpus in
     let G : List ℕ → Type 0 = λ order. All P order in
-    let more : length c.push.new.self.items ≡ length c.loop-turn.order.items + 1 = ap (λ (xs : List ℕ). length xs) items ∙ length-append c.loop-turn.order.items (c.number_in_order.result ∷ []) in
+    let more : length c.push.new.list.items ≡ length c.loop-turn.order.items + 1 = ap (λ (xs : List ℕ). length xs) items ∙ length-append c.loop-turn.order.items (c.number_in_order.result ∷ []) in
     record {
       there = record { stays = record { bounds = joined.stays.bounds; ends = joined.stays.ends; complete = joined.stays.complete }; graph = joined.graph };
       cpus = cpus;
@@ -35,8 +35,8 @@ loop-turn-preserved c =
       short = omega (arith, more, c.loop-turn.invariant.short);
     }
 
-pub returns-in-Err-clause-stays : goal.returns-in-Err-clause-stays
-returns-in-Err-clause-stays c =
+pub returns-in_err-push-clause-stays : goal.returns-in_err-push-clause-stays
+returns-in_err-push-clause-stays c =
     let first = c.args.self.now in
     let F : Walk → Type 0 = λ walk. StaysThere first walk in
     let joined : StaysThere first c.if-idle-cpus.self =

@@ -3,10 +3,11 @@ use Rattle.std.proofs.lemmas.Grind.{common_steps}
 use Rattle.lwkt_machine.proofs.RetireMoves.{retired_more}
 use Rattle.lwkt_machine.proofs.closings.Retired.add.Goals as goal
 
-pub returns : goal.returns
-returns c = λ done so_far.
+pub returns-clause-retired : goal.returns-clause-retired
+returns-clause-retired c = λ done so_far.
     let old = c.args.self.now in
     let r = c.retire-seat in
     let seats : c.push.new.self.items ≡ old.seats.items ++ r.result.0 ∷ [] = grind (arith, common_steps) in
     let mails : c.push-2.new.self.items ≡ old.mails.items ++ r.result.1 ∷ [] = grind (arith, common_steps) in
-    retired_more done c.args.cpu old (record { seats = c.push.new.self; mails = c.push-2.new.self; bodies = c.append.new.self }) r.result.0 r.result.1 r.result.2.items c.append.result r.ensures.seat r.ensures.empty r.ensures.mail r.ensures.bodies seats mails c.append.ensures.items so_far
+    let bodies : c.append.new.self.items ≡ old.bodies.items ++ r.result.2.items = grind (arith, common_steps) in
+    retired_more done c.args.cpu old (record { seats = c.push.new.self; mails = c.push-2.new.self; bodies = c.append.new.self }) r.result.0 r.result.1 r.result.2.items r.ensures.seat r.ensures.empty r.ensures.mail r.ensures.bodies seats mails bodies so_far

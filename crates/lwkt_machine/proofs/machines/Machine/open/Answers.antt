@@ -1,8 +1,8 @@
 use Rattle.std.proofs.Common.{rules}
-use Rattle.std.proofs.lemmas.Result.{IfOk-weaker, IfErr-weaker}
+use Rattle.std.proofs.lemmas.Result.{IfErr-weaker}
 use Rattle.std.specs.Prelude.{IfErr}
 use Rattle.lwkt_seating.specs.Opened.{DeclinesTables}
-use Rattle.lwkt_machine.specs.Opened.{AreFew, Declines, IsOpenedMachine}
+use Rattle.lwkt_machine.specs.Opened.{Declines}
 use Rattle.lwkt_machine.proofs.OpenMoves.{declines_more}
 use Rattle.lwkt_machine.proofs.machines.Machine.open.Goals as goal
 
@@ -22,9 +22,10 @@ pub open_at-requires-clause-threads : goal.open_at-requires-clause-threads
 open_at-requires-clause-threads c = c.are_few.ensures.yes c.if-not-are_few.false
 
 pub returns-clause-few : goal.returns-clause-few
-returns-clause-few c =
-    let s = c.args.script.now in
-    IfOk-weaker c.open_at.result (λ machine. IsOpenedMachine s machine) (λ machine. AreFew s.cpus s.threads) (λ machine opened. c.are_few.ensures.yes c.if-not-are_few.false) c.open_at.ensures.ok
+returns-clause-few c = c.are_few.ensures.yes c.if-not-are_few.false
+
+pub returns-in_err-open_at-clause-many : goal.returns-in_err-open_at-clause-many
+returns-in_err-open_at-clause-many c = λ many. absurd (many (c.are_few.ensures.yes c.if-not-are_few.false))
 
 pub returns-clause-many : goal.returns-clause-many
 returns-clause-many c = λ many. absurd (many (c.are_few.ensures.yes c.if-not-are_few.false))

@@ -58,7 +58,7 @@ invariant_of-self c =
     let at : slice_get mids k ≡ Some p = read_back mids i.cpus.items i.cpus.len k p long within c.index_mut.ensures.value in
     let q = c.turn_in_room.new.self in
     let F : List (Processor Scripted) → Type 0 = λ xs. AreOneMachine (cpus_of i.bank) (id_of i.bank) i.book (set xs k q) in
-    subst F (sym (refilled mids i.cpus.items i.cpus.len long)) (parts_same (cpus_of i.bank) (id_of i.bank) i.book i.cpus.items (set mids k q) (turned_same (id_of i.bank) i.cpus.items mids k p q c.reserve.new.self c.turn_in_room.new.trace c.turn_in_room.result sees at c.turn_in_room.ensures.makes) c.self.invariant)
+    subst F (sym (refilled mids i.cpus.items i.cpus.len long)) (parts_same (cpus_of i.bank) (id_of i.bank) i.book i.cpus.items (set mids k q) (turned_same (id_of i.bank) i.cpus.items mids k p q c.reserve.new.list c.turn_in_room.new.trace c.turn_in_room.result sees at c.turn_in_room.ensures.makes) c.self.invariant)
 
 pub returns-clause-ok : goal.returns-clause-ok
 returns-clause-ok c =
@@ -76,7 +76,7 @@ returns-clause-ok c =
     let u = c.turn_in_room.new.trace in
     let turned = c.turn_in_room.result in
     let e = c.reserve.ensures in
-    let made = turn_from_room IsPolled (id_of i.bank) p q t c.reserve.new.self u turned e.items e.len e.capacity c.turn_in_room.ensures.makes in
+    let made = turn_from_room IsPolled (id_of i.bank) p q t c.reserve.new.list u turned e.items e.len e.capacity c.turn_in_room.ensures.makes in
     let F : Rig → Type 0 = λ m. TurnsAt k m (rig_of (id_of i.bank) i.book (set (take i.cpus.len (mids ++ drop (length mids) i.cpus.items)) k q)) t u turned in
     let G : List (Processor Scripted) → Type 0 = λ xs. TurnsAt k (rig_of (id_of i.bank) i.book i.cpus.items) (rig_of (id_of i.bank) i.book (set xs k q)) t u turned in
     subst F c.self.view_is (subst G (sym (refilled mids i.cpus.items i.cpus.len long)) (turned_at (cpus_of i.bank) (id_of i.bank) i.book i.cpus.items mids k p q t u turned c.self.invariant sees at made))

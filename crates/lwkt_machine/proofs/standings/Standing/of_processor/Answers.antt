@@ -18,7 +18,7 @@ loop-thread-preserved c =
     let f : ℕ × Thread → Standing = λ e. standing_of n e.0 (is_running p.running e.0) e.1 in
     let s = c.of_thread.result in
     let x = some_there (slice_get p.threads l.thread) (λ t. s ≡ standing_of n l.thread (is_running p.running l.thread) t) c.of_thread.ensures in
-    let grown : c.push.new.self.items ≡ l.standings.items ++ s ∷ [] = grind (arith, common_steps) in
+    let grown : c.push.new.list.items ≡ l.standings.items ++ s ∷ [] = grind (arith, common_steps) in
     let more = ap (λ es. map f es) (enumerate_more p.threads l.thread x.0 x.1.0) ∙ map-append f (enumerate_from 0 (take l.thread p.threads)) ((l.thread, x.0) ∷ []) in
     grown ∙ ap (λ xs. xs ++ s ∷ []) l.invariant ∙ append_assoc c.args.standings.now.items (map f (enumerate_from 0 (take l.thread p.threads))) (s ∷ [])
     ∙ ap (λ y. c.args.standings.now.items ++ (map f (enumerate_from 0 (take l.thread p.threads)) ++ y ∷ [])) x.1.1

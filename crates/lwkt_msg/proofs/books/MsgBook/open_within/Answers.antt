@@ -7,8 +7,8 @@ use Rattle.lwkt_msg.specs.Desks.{AreOpeningWords}
 use Rattle.lwkt_msg.proofs.Splitting.{rule_opens}
 use Rattle.lwkt_msg.proofs.books.MsgBook.open_within.Goals as goal
 
-pub new-requires : goal.new-requires
-new-requires c =
+pub table-requires : goal.table-requires
+table-requires c =
     let key : Key = c.args.layout in
     let specs_is : key.specs.items ≡ c.args.specs.now = c.requires.known in
     let words_is : c.deref.result.now ≡ c.in_ok-words.words.items = search rules in

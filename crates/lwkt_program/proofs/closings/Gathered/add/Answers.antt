@@ -3,8 +3,8 @@ use Rattle.std.proofs.lemmas.Grind.{common_steps}
 use Rattle.lwkt_program.proofs.RetireMoves.{retired_more}
 use Rattle.lwkt_program.proofs.closings.Gathered.add.Goals as goal
 
-pub returns : goal.returns
-returns g c = λ done so_far.
+pub returns-clause-retired : goal.returns-clause-retired
+returns-clause-retired g c = λ done so_far.
     let old = c.args.self.now in
     let r = c.retire-seat in
     let seats : c.push.new.self.items ≡ old.seats.items ++ r.result.0 ∷ [] = grind (arith, common_steps) in

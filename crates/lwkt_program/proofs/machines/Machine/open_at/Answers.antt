@@ -15,7 +15,7 @@ seat_all-requires-clause-rest g c =
     let f = c.in_ok-outs in
     let many : c.len.result ≡ length c.args.bodies.items = omega (arith, c.len.ensures, c.args.bodies.ok) in
     let F : ℕ → Type 0 = λ n. AreLanes n n f.field-0.outs.items f.field-0.ins.items in
-    rest_first (length c.args.bodies.items) c.args.tokens.now c.args.messages.now t.bank t.book (record { seats = t.seats; mails = t.mails; outs = f.field-0.outs; ins = f.field-0.ins }) c.requires.bank c.requires.book (subst F many f.ensures.ok)
+    rest_first (length c.args.bodies.items) c.args.tokens.now c.args.messages.now t.bank t.book (record { seats = t.seats; mails = t.mails; outs = f.field-0.outs; ins = f.field-0.ins }) c.requires.bank c.requires.book (subst F many f.ensures)
 
 pub invariant_of-result : goal.invariant_of-result
 invariant_of-result g c =
@@ -23,8 +23,8 @@ invariant_of-result g c =
     let made = c.in_ok-cpus in
     opened_whole {B = g.row.B.Denot} g.B.Lasting.kept (cpus_of t.bank) (id_of t.bank) t.book c.args.bodies.items made.cpus.items (c.requires.bank.processors ∙ sym made.ensures.as_many) (c.requires.book.cpus_is ∙ sym made.ensures.as_many) made.ensures.as_many made.ensures.each c.requires.kept
 
-pub returns-clause-ok : goal.returns-clause-ok
-returns-clause-ok g c =
+pub returns : goal.returns
+returns g c =
     let made = c.in_ok-cpus in
     let lanes = c.in_ok-outs in
     let f : Driven g.row.B.Denot → Processor g.row.B.Denot = λ d. d.cpu in
@@ -35,5 +35,5 @@ returns-clause-ok g c =
       desks_are = c.requires.book.cpus_is;
       as_many = made.ensures.as_many;
       each = made.ensures.each;
-      wired = wired {B = g.row.B.Denot} c.len.result lanes.field-0.outs.items lanes.field-0.ins.items (map f made.cpus.items) lanes.ensures.ok made.ensures.lines (length-map made.cpus.items f ∙ made.ensures.as_many ∙ sym many);
+      wired = wired {B = g.row.B.Denot} c.len.result lanes.field-0.outs.items lanes.field-0.ins.items (map f made.cpus.items) lanes.ensures made.ensures.lines (length-map made.cpus.items f ∙ made.ensures.as_many ∙ sym many);
     }

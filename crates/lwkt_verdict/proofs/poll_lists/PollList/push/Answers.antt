@@ -42,4 +42,4 @@ returns-clause-ok c =
     let grow : GrowAsks i.asks asks = record { wides = c.keep.ensures.grow_wides; longs = c.keep.ensures.grow_longs } in
     let row : PollRow = record { ask_number = c.in_ok-kept.kept.number; answer_number = 0; ask = c.in_ok-kept.kept.short; answer = NotYet; thread = c.args.thread } in
     let q : Poll = record { answer = None; ask = c.args.ask.now; thread = c.args.thread } in
-    polls_pushed asks i.answers i.rows.items c.push.new.self.items row c.args.self.now q c.in_ok-push.ensures.items (polls_grown i.asks asks i.answers i.answers grow (answers_stay i.answers) i.rows.items c.self.invariant ∙ c.self.view_is) (ap (λ (a : Ask). record { answer = None; ask = a; thread = c.args.thread }) c.in_ok-kept.ensures.same)
+    polls_pushed asks i.answers i.rows.items c.push.new.list.items row c.args.self.now q c.in_ok-push.ensures.items (polls_grown i.asks asks i.answers i.answers grow (answers_stay i.answers) i.rows.items c.self.invariant ∙ c.self.view_is) (ap (λ (a : Ask). record { answer = None; ask = a; thread = c.args.thread }) c.in_ok-kept.ensures.same)

@@ -1,3 +1,0 @@
-pub mod HeldListMoves
-mod DeskMoves
-mod ReadMoves

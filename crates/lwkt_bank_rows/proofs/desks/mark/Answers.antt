@@ -1,9 +1,0 @@
-use Rattle.std.proofs.Common.{refl}
-use Rattle.lwkt_bank.specs.Seats.{id_of, entry}
-use Rattle.lwkt_bank_rows.proofs.DeskMoves.{sits_changed}
-use Rattle.lwkt_bank_rows.proofs.desks.mark.Goals as goal
-
-pub returns : goal.returns
-returns c =
-    let s = c.args.seat.now in
-    sits_changed c.calls_change_holdings.ensures.others (id_of c.args.bank.now) s c.mark.new.self c.args.refs.now c.args.tok.0 (entry s c.args.tok.0) _ c.requires.sits c.mark.ensures.changes refl

@@ -1,3 +1,0 @@
-pub mod HeldLists
-pub mod Desks
-pub mod Readings

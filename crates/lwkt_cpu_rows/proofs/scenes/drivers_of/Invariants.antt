@@ -1,7 +1,0 @@
-use Rattle.std.specs.Prelude.{All}
-use Rattle.lwkt_bank.specs.Seats.{id_of}
-use Rattle.lwkt_cpu_rows.specs.Free.{IsFreeSeat, IsGiven}
-use Rattle.lwkt_cpu_rows.proofs.scenes.drivers_of.Given as goal
-
-abbrev pub invariant-loop-listed : goal.invariant-loop-listed
-invariant-loop-listed l = All (IsFreeSeat (id_of l.board.bank)) l.seats.seats.items × All (IsGiven l.board.book) l.seats.mails.items

@@ -1,0 +1,2 @@
+mod DeskMoves
+pub mod HeldListMoves

@@ -1,0 +1,4 @@
+pub mod Boards
+pub mod Desks
+pub mod HeldLists
+pub mod Stations

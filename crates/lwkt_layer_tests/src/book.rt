@@ -1,0 +1,365 @@
+//! The message book: the worked rows as a table of calls, and two threads.
+ghost use Rattle.std.specs.Prelude.{◌≡◌, ◌≤◌, IfSome, IfOk, [], ◌∷◌};
+ghost use Rattle.lwkt_msg.specs.Desks.{AreSeats};
+
+use crate::fixtures::goes;
+use crate::stations::{NO_FLAGS, OWN};
+use lwkt_base::memory::push;
+use lwkt_base::{Call, CpuId, Fault, MsgEnd, MsgId, MsgSpec, OutOfMemory, Owner, Rec, ThreadId};
+use lwkt_msg::{MsgBook, MsgSeat, Reaped, Taken};
+use std::alloc::Global;
+use std::thread;
+use std::thread::Threads;
+
+const TRIES: u32 = 100_000_000;
+
+const ROUNDS: u64 = 1000;
+
+const LAST_ROUND: u64 = 2_251_799_813_685_247;
+
+const MESSAGE: MsgId = MsgId(0);
+
+// A call on the message.
+#[derive(Clone, Copy)]
+enum Ask {
+    /// The message, its target, and what it asks for.
+    Send(MsgId, CpuId, Call),
+    /// The round.
+    Take(u64),
+    /// The error and the result.
+    Reply(u32, u64),
+    /// The round.
+    Reap(u64),
+}
+
+// What a call answered.
+#[derive(Clone, Copy, PartialEq, Eq)]
+enum Told {
+    Sent(u64),
+    Taken(Taken),
+    Replied,
+    Reaped(Reaped),
+    Refused(Fault),
+    /// There is no message, or no such processor.
+    Unfit,
+}
+
+fn send(book: &MsgBook, seat: &mut MsgSeat, msg: MsgId, to: CpuId, call: Call) -> Told
+    requires { seat.old.table ≡ book.now.table }
+    ensures { seat.new.table ≡ seat.old.table }
+{
+    if to.0 as usize >= seat.cpus() {
+        return Told::Unfit;
+    }
+    match seat.send(book, msg, to, call, NO_FLAGS, false) {
+        Ok(round) => Told::Sent(round),
+        Err(fault) => Told::Refused(fault),
+    }
+}
+
+fn reply(book: &MsgBook, seat: &mut MsgSeat, error: u32, outcome: u64) -> Told
+    requires { seat.old.table ≡ book.now.table }
+    ensures { seat.new.table ≡ seat.old.table }
+{
+    match seat.reply(book, MESSAGE, error, outcome) {
+        Ok(()) => Told::Replied,
+        Err(fault) => Told::Refused(fault),
+    }
+}
+
+// The answer of a call. Where a condition of the call isn't met, no call is made.
+fn call(book: &MsgBook, seat: &mut MsgSeat, ask: Ask) -> Told
+    requires { seat.old.table ≡ book.now.table }
+    ensures { seat.new.table ≡ seat.old.table }
+{
+    if seat.messages() == 0 {
+        return Told::Unfit;
+    }
+    match ask {
+        Ask::Send(msg, to, call) => send(book, seat, msg, to, call),
+        Ask::Take(round) => Told::Taken(seat.take(book, MESSAGE, round)),
+        Ask::Reply(error, outcome) => reply(book, seat, error, outcome),
+        Ask::Reap(round) => Told::Reaped(seat.reap(book, MESSAGE, round)),
+    }
+}
+
+// A book of two processors with this message.
+fn opened(alloc: Global, spec: MsgSpec) -> Result<(MsgBook, Vec<MsgSeat>), Fault>
+    ensures two { IfOk result (λ r. r.0.cpus ≡ 2) }
+    ensures seats { IfOk result (λ r. AreSeats 2 r.0 r.1.items) }
+{
+    MsgBook::open(alloc, &[spec], 2)
+}
+
+// The two seats of a book of two processors.
+fn both(mut seats: Vec<MsgSeat>, book: &MsgBook) -> Option<(MsgSeat, MsgSeat)>
+    requires { AreSeats 2 book.now seats.items }
+    ensures { IfSome result (λ p. (p.0.table ≡ book.now.table) × (p.1.table ≡ book.now.table)) }
+{
+    let second = seats.pop()?;
+    let first = seats.pop()?;
+    Some((first, second))
+}
+
+// A list of two seats.
+fn list_of(alloc: Global, first: MsgSeat, second: MsgSeat) -> Result<Vec<MsgSeat>, OutOfMemory>
+    ensures { IfOk result (λ v. v.items ≡ first ∷ second ∷ []) }
+{
+    let mut seats = Vec::new(alloc);
+    push(&mut seats, first)?;
+    push(&mut seats, second)?;
+    Ok(seats)
+}
+
+// Whether the book's one message is at rest at the end, in this round.
+fn ends_at(
+    alloc: Global,
+    book: MsgBook,
+    first: MsgSeat,
+    second: MsgSeat,
+    round: u64,
+) -> Result<bool, Fault>
+    requires two { book.cpus ≡ 2 }
+    requires first { first.table ≡ book.table }
+    requires second { second.table ≡ book.table }
+{
+    let seats = list_of(alloc, first, second)?;
+    let ends = book.close(alloc, seats)?;
+    let state = Owner::Rest { origin: CpuId(0) };
+    Ok(ends.as_slice() == [MsgEnd { round, state }].as_slice())
+}
+
+// A call by the seat of this processor, and the answer that is wanted.
+#[derive(Clone, Copy)]
+struct Line(usize, Ask, Told);
+
+fn tell(book: &MsgBook, first: &mut MsgSeat, second: &mut MsgSeat, line: Line) -> Told
+    requires first { first.old.table ≡ book.now.table }
+    requires second { second.old.table ≡ book.now.table }
+    ensures first { first.new.table ≡ first.old.table }
+    ensures second { second.new.table ≡ second.old.table }
+{
+    if line.0 == 0 {
+        call(book, first, line.1)
+    } else {
+        call(book, second, line.1)
+    }
+}
+
+// Makes the calls of a table, up to the first that answers otherwise. Whether there is none.
+fn play_lines(book: &MsgBook, first: &mut MsgSeat, second: &mut MsgSeat, lines: &[Line]) -> bool
+    requires first { first.old.table ≡ book.now.table }
+    requires second { second.old.table ≡ book.now.table }
+    ensures first { first.new.table ≡ first.old.table }
+    ensures second { second.new.table ≡ second.old.table }
+{
+    for (at, line) in lines.iter().enumerate() {
+        if tell(book, first, second, *line) != line.2 {
+            return false;
+        }
+    }
+    true
+}
+
+// Whether calls on a message in this round go as is told, and it is at rest then, in this later one.
+fn play(alloc: Global, round: u64, lines: &[Line], last: u64) -> Result<bool, Fault> {
+    let (book, seats) = opened(alloc, MsgSpec { round, ..OWN })?;
+    let Some((mut first, mut second)) = both(seats, &book) else {
+        return Ok(false);
+    };
+    let good = play_lines(&book, &mut first, &mut second, lines);
+    Ok(ends_at(alloc, book, first, second, last)? && good)
+}
+
+const ASKED: Call = Call { arg: 9, op: 5 };
+
+const STALE: Told = Told::Taken(Taken::Stale);
+
+const NOT_OWNER: Told = Told::Refused(Fault::NotOwner);
+
+// The record of a message with this argument, as it is sent, and as it is replied to.
+const fn record(arg: u64, error: u32, outcome: u64) -> Rec {
+    Rec {
+        arg,
+        result: outcome,
+        op: 5,
+        error,
+    }
+}
+
+const TAKEN: Told = Told::Taken(Taken::Took {
+    rec: Rec {
+        arg: 9,
+        result: 0,
+        op: 5,
+        error: 0,
+    },
+    aborted: false,
+    priority: false,
+});
+
+const REAPED: Told = Told::Reaped(Reaped::Done {
+    rec: Rec {
+        arg: 9,
+        result: 42,
+        op: 5,
+        error: 7,
+    },
+});
+
+const BASICS_1_TO_4: &[Line] = &[
+    Line(0, Ask::Send(MESSAGE, CpuId(1), ASKED), Told::Sent(1)),
+    Line(1, Ask::Take(2), STALE),
+    Line(0, Ask::Take(1), STALE),
+    Line(1, Ask::Take(1), TAKEN),
+    Line(0, Ask::Reply(1, 1), Told::Refused(Fault::NotTaken)),
+    Line(1, Ask::Reply(7, 42), Told::Replied),
+    Line(0, Ask::Reap(1), REAPED),
+    Line(0, Ask::Reap(1), Told::Reaped(Reaped::Stale)),
+    Line(1, Ask::Send(MESSAGE, CpuId(0), ASKED), NOT_OWNER),
+    Line(0, Ask::Send(MsgId(5), CpuId(1), ASKED), NOT_OWNER),
+];
+
+fn basics_1_to_4(alloc: Global) -> Result<bool, Fault> {
+    play(alloc, 0, BASICS_1_TO_4, 1)
+}
+
+#[test]
+fn book_basics_1_to_4(rt: HostRuntime) {
+    assert!(rt; goes(rt.alloc(), basics_1_to_4));
+}
+
+const BASICS_6: &[Line] = &[Line(
+    0,
+    Ask::Send(MESSAGE, CpuId(1), ASKED),
+    Told::Refused(Fault::RoundsOut),
+)];
+
+// A message of a processor that isn't there.
+const FAR: MsgSpec = MsgSpec {
+    round: 0,
+    origin: ThreadId {
+        cpu: CpuId(2),
+        thread: 0,
+    },
+};
+
+fn basics_6(alloc: Global) -> Result<bool, Fault> {
+    let far = opened(alloc, FAR).err() == Some(Fault::Limits);
+    Ok(play(alloc, LAST_ROUND, BASICS_6, LAST_ROUND)? && far)
+}
+
+#[test]
+fn book_basics_6(rt: HostRuntime) {
+    assert!(rt; goes(rt.alloc(), basics_6));
+}
+
+// The record of the message's reply in this round, once it is back.
+fn reply_of(book: &MsgBook, seat: &mut MsgSeat, round: u64) -> Option<Rec>
+    requires { seat.old.table ≡ book.now.table }
+    ensures { seat.new.table ≡ seat.old.table }
+{
+    for _ in 0..TRIES {
+        if let Told::Reaped(Reaped::Done { rec }) = call(book, seat, Ask::Reap(round)) {
+            return Some(rec);
+        }
+        thread::yield_now();
+    }
+    None
+}
+
+// The record of the message of this round, once it is taken.
+fn request_of(book: &MsgBook, seat: &mut MsgSeat, round: u64) -> Option<Rec>
+    requires { seat.old.table ≡ book.now.table }
+    ensures { seat.new.table ≡ seat.old.table }
+{
+    for _ in 0..TRIES {
+        if let Told::Taken(Taken::Took { rec, .. }) = call(book, seat, Ask::Take(round)) {
+            return Some(rec);
+        }
+        thread::yield_now();
+    }
+    None
+}
+
+// Sends the message and reaps its reply. Whether both were as they must be.
+fn converse_once(book: &MsgBook, seat: &mut MsgSeat, round: u64) -> bool
+    requires table { seat.old.table ≡ book.now.table }
+    requires small { round ≤ ROUNDS }
+    ensures { seat.new.table ≡ seat.old.table }
+{
+    let asked = Call { arg: round, op: 5 };
+    let sent = call(book, seat, Ask::Send(MESSAGE, CpuId(1), asked));
+    sent == Told::Sent(round) && reply_of(book, seat, round) == Some(record(round, 0, round + 1))
+}
+
+// Asks so often, and says how often all was as it must be.
+fn ask_all(book: &MsgBook, mut seat: MsgSeat) -> (MsgSeat, u64)
+    requires { seat.table ≡ book.now.table }
+    ensures { result.0.table ≡ seat.table }
+{
+    let mut good = 0;
+    for round in 1..ROUNDS + 1 {
+        if !converse_once(book, &mut seat, round) {
+            break;
+        }
+        good = round;
+    }
+    (seat, good)
+}
+
+// Takes the message and replies to it. Whether both were as they must be.
+fn serve(book: &MsgBook, seat: &mut MsgSeat, round: u64) -> bool
+    requires table { seat.old.table ≡ book.now.table }
+    requires small { round ≤ ROUNDS }
+    ensures { seat.new.table ≡ seat.old.table }
+{
+    let request = request_of(book, seat, round);
+    let replied = call(book, seat, Ask::Reply(0, round + 1));
+    request == Some(record(round, 0, 0)) && replied == Told::Replied
+}
+
+// Serves so often, and says how often all was as it must be.
+fn serve_all(book: &MsgBook, mut seat: MsgSeat) -> (MsgSeat, u64)
+    requires { seat.table ≡ book.now.table }
+    ensures { result.0.table ≡ seat.table }
+{
+    let mut good = 0;
+    for round in 1..ROUNDS + 1 {
+        if !serve(book, &mut seat, round) {
+            break;
+        }
+        good = round;
+    }
+    (seat, good)
+}
+
+// The seats after two threads, of which one asks and one serves, and how often each found all as it must be.
+fn converse<R: Threads + Sync>(
+    rt: &R,
+    book: &MsgBook,
+    first: MsgSeat,
+    second: MsgSeat,
+) -> ((MsgSeat, u64), (MsgSeat, u64))
+    requires first { first.table ≡ book.now.table }
+    requires second { second.table ≡ book.now.table }
+    ensures first { result.0.0.table ≡ book.now.table }
+    ensures second { result.1.0.table ≡ book.now.table }
+{
+    thread::join(rt, || ask_all(book, first), || serve_all(book, second))
+}
+
+fn have_conversed<R: Threads + Sync>(rt: &R, alloc: Global) -> Result<bool, Fault> {
+    let (book, seats) = opened(alloc, OWN)?;
+    let Some((first, second)) = both(seats, &book) else {
+        return Ok(false);
+    };
+    let ((first, asked), (second, served)) = converse(rt, &book, first, second);
+    let all = asked == ROUNDS && served == ROUNDS;
+    Ok(ends_at(alloc, book, first, second, ROUNDS)? && all)
+}
+
+#[test]
+fn book_basics_9(rt: HostRuntime) {
+    assert!(rt; have_conversed(&rt, rt.alloc()) == Ok(true));
+}

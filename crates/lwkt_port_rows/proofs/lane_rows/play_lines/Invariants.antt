@@ -1,5 +1,0 @@
-use Rattle.lwkt_lane.specs.Lane.{IsLane}
-use Rattle.lwkt_port_rows.proofs.lane_rows.play_lines.Given as goal
-
-abbrev pub invariant-loop-at : goal.invariant-loop-at
-invariant-loop-at l = IsLane l.out l.into
