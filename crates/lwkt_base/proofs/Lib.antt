@@ -1,5 +1,4 @@
 pub mod RefsLemmas
 pub mod HoldingLemmas
 pub mod BlobLemmas
-pub mod StepLemmas
 mod PartsOfWords

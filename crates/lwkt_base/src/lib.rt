@@ -44,6 +44,6 @@ pub use owners::{MsgEnd, Owner};
 pub use records::{Call, Flags, Rec};
 pub use rows::{Row, Rows};
 pub use sections::Section;
-pub use steps::{Form, Parts, VERBS, Verb};
+pub use steps::{Part, PartKind, Parts, VERBS, Verb};
 pub use threads::ThreadState;
 pub use words::{Decision, LAST_GENERATION, TokWord};

@@ -1,11 +1,12 @@
 //! The table of the steps of a thread: the word of each, and what stands behind it. Whatever reads a step or shows an ask goes by it.
-ghost use Rattle.std.specs.Prelude.{◌≡◌};
-ghost use Rattle.lwkt_base.specs.Step.{verb_named, step_of, ask_of, StepsTellAsks, AsksTellSteps, WordsTellVerbs, FormsFit};
+ghost use Rattle.std.specs.Prelude.{[], ◌∷◌, ◌≡◌, ◌≤◌, length};
+ghost use Rattle.lwkt_base.specs.Step.{verb_named, step_of, ask_of, StepsTellAsks, AsksTellSteps, WordsTellVerbs, PartsFit};
 
 use crate::asks::Ask;
 use crate::blobs::Blob;
 use crate::names::{MsgId, ThreadId, TokId};
 use crate::records::{Call, Flags};
+use std::marker::Model;
 
 /// The kind of a step. Each is that of `Ask`.
 #[derive(Clone, Copy, Debug, PartialEq, Eq)]
@@ -56,88 +57,151 @@ pub const VERBS: [Verb; 20] = [
     Verb::Exit,
 ];
 
-/// What stands behind the word of a step.
+/// What may stand at a place behind the word of a step.
 #[derive(Clone, Copy, Debug, PartialEq, Eq)]
-pub enum Form {
-    /// Nothing.
-    Alone,
+pub enum PartKind {
     /// A token.
     Token,
     /// A token and a cell.
     Cell,
-    /// A token, a cell and its value.
+    /// A value, or what is added to one.
     Value,
-    /// A token and what is added.
-    More,
-    /// A token and a record.
+    /// A record.
     Record,
     /// A message.
     Message,
-    /// A message, the thread that it goes to, and what it asks for.
+    /// The thread that a message goes to.
+    Target,
+    /// What a message asks for.
     Call,
-    /// The same, and what its origin may do with it.
-    Sending,
-    /// A message, an error and a result.
-    Answer,
+    /// What its origin may do with a message.
+    Flags,
+    /// The error of a reply.
+    Code,
+    /// The result of a reply.
+    Outcome,
 }
 
-/// What stands behind the word of a step, of each form.
-#[derive(Clone, Copy)]
-pub enum Parts {
-    Alone,
+/// A part of a step, of each kind.
+#[derive(Clone, Copy, Debug, PartialEq, Eq)]
+pub enum Part {
     Token(TokId),
     Cell(TokId, u8),
-    Value(TokId, u8, u64),
-    More(TokId, u64),
-    Record(TokId, Blob),
+    Value(u64),
+    Record(Blob),
     Message(MsgId),
-    Call(MsgId, ThreadId, Call),
-    Sending(MsgId, ThreadId, Call, Flags),
-    Answer(MsgId, u32, u64),
+    Target(ThreadId),
+    Call(Call),
+    Flags(Flags),
+    Code(u32),
+    Outcome(u64),
 }
 
-impl Verb {
-    ghost use Rattle.lwkt_base.specs.Step.{row_of, word_of, form_of, is_later};
+/// The parts of a step in order, at most 4.
+#[derive(Drop)]
+pub struct Parts {
+    count: usize,
+    items: [Part; 4],
+}
 
-    // The row of the table.
-    fn row(self) -> (&'static str, Form)
-        ensures word { result.0.now ≡ (row_of self).0 }
-        ensures form { result.1 ≡ (row_of self).1 }
+impl Model for Parts {
+    ghost use Rattle.std.specs.Prelude.{◌≡◌, ◌≤◌, List, take, length};
+    ghost use Rattle.lwkt_base.specs.declared.steps.Part.{Part as PartOf};
+
+    ghost Value = { List PartOf };
+
+    ghost view = { λ p. take p.count p.items };
+
+    ghost invariant = { λ p. (p.count ≤ 4) × (length p.items ≡ 4) };
+}
+
+impl Parts {
+    ghost use Rattle.std.specs.Prelude.{[], ◌∷◌, ◌++◌, ◌<◌};
+
+    /// These.
+    pub fn of(parts: &[Part]) -> Self
+        requires { length parts.now ≤ 4 }
+        ensures { result ≡ parts.now }
     {
-        match self {
-            Verb::Get => ("get", Form::Token),
-            Verb::GetShared => ("gets", Form::Token),
-            Verb::TryGet => ("try", Form::Token),
-            Verb::Rel => ("rel", Form::Token),
-            Verb::Swap => ("swap", Form::Alone),
-            Verb::Read => ("read", Form::Cell),
-            Verb::Write => ("write", Form::Value),
-            Verb::Add => ("add", Form::More),
-            Verb::ReadBlob => ("rrec", Form::Token),
-            Verb::WriteBlob => ("wrec", Form::Record),
-            Verb::Send => ("send", Form::Sending),
-            Verb::Do => ("do", Form::Call),
-            Verb::Reply => ("reply", Form::Answer),
-            Verb::Abort => ("abort", Form::Message),
-            Verb::IsAborted => ("isab", Form::Message),
-            Verb::DropMsg => ("drop", Form::Message),
-            Verb::GetPort => ("getport", Form::Alone),
-            Verb::WaitPort => ("wait", Form::Alone),
-            Verb::Yield => ("yield", Form::Alone),
-            Verb::Exit => ("exit", Form::Alone),
+        let mut items = [Part::Value(0); 4];
+        items[..parts.len()].copy_from_slice(parts);
+        Parts {
+            count: parts.len(),
+            items,
         }
     }
 
-    /// The word of a step of this kind, as scripts have it.
+    /// Appends one.
+    pub fn push(&mut self, part: Part)
+        requires { length self.old < 4 }
+        ensures { self.new ≡ self.old ++ part ∷ [] }
+    {
+        self.items[self.count] = part;
+        self.count += 1;
+    }
+
+    /// All of them.
+    pub fn as_slice(&self) -> &[Part]
+        ensures { result.now ≡ self.now }
+    {
+        &self.items[..self.count]
+    }
+}
+
+impl Verb {
+    ghost use Rattle.lwkt_base.specs.Step.{row_of, word_of, part_kinds, is_later};
+
+    // The row of the table.
+    fn row(self) -> (&'static str, &'static [PartKind])
+        ensures word { result.0.now ≡ (row_of self).0 }
+        ensures kinds { result.1.now ≡ (row_of self).1 }
+    {
+        match self {
+            Verb::Get => ("get", &[PartKind::Token]),
+            Verb::GetShared => ("gets", &[PartKind::Token]),
+            Verb::TryGet => ("try", &[PartKind::Token]),
+            Verb::Rel => ("rel", &[PartKind::Token]),
+            Verb::Swap => ("swap", &[]),
+            Verb::Read => ("read", &[PartKind::Cell]),
+            Verb::Write => ("write", &[PartKind::Cell, PartKind::Value]),
+            Verb::Add => ("add", &[PartKind::Token, PartKind::Value]),
+            Verb::ReadBlob => ("rrec", &[PartKind::Token]),
+            Verb::WriteBlob => ("wrec", &[PartKind::Token, PartKind::Record]),
+            Verb::Send => (
+                "send",
+                &[
+                    PartKind::Message,
+                    PartKind::Target,
+                    PartKind::Call,
+                    PartKind::Flags,
+                ],
+            ),
+            Verb::Do => ("do", &[PartKind::Message, PartKind::Target, PartKind::Call]),
+            Verb::Reply => (
+                "reply",
+                &[PartKind::Message, PartKind::Code, PartKind::Outcome],
+            ),
+            Verb::Abort => ("abort", &[PartKind::Message]),
+            Verb::IsAborted => ("isab", &[PartKind::Message]),
+            Verb::DropMsg => ("drop", &[PartKind::Message]),
+            Verb::GetPort => ("getport", &[]),
+            Verb::WaitPort => ("wait", &[]),
+            Verb::Yield => ("yield", &[]),
+            Verb::Exit => ("exit", &[]),
+        }
+    }
+
+    /// The word.
     pub fn word(self) -> &'static str
         ensures { result.now ≡ word_of self }
     {
         self.row().0
     }
 
-    /// What stands behind the word.
-    pub fn form(self) -> Form
-        ensures { result ≡ form_of self }
+    /// What stands behind the word, at most 4 parts.
+    pub fn kinds(self) -> &'static [PartKind]
+        ensures value { result.now ≡ part_kinds self }
+        ensures few { length result.now ≤ 4 }
     {
         self.row().1
     }
@@ -157,61 +221,148 @@ pub fn verb_named(word: &str) -> Option<Verb>
     VERBS.iter().copied().find(|verb| verb.word() == word)
 }
 
+/// The ask that a step stands for, if its parts are of its kinds.
+pub fn ask_of(verb: Verb, parts: &[Part]) -> Option<Ask>
+    ensures { result ≡ ask_of verb parts.now }
+{
+    match parts {
+        [] => ask_alone(verb),
+        [part] => ask_with_one(verb, *part),
+        [part, other] => ask_with_two(verb, *part, *other),
+        _ => ask_with_more(verb, parts),
+    }
+}
+
+// The same, of a step without parts.
+fn ask_alone(verb: Verb) -> Option<Ask>
+    ensures { result ≡ ask_of verb [] }
+{
+    match verb {
+        Verb::Swap => Some(Ask::Swap),
+        Verb::GetPort => Some(Ask::GetPort),
+        Verb::WaitPort => Some(Ask::WaitPort),
+        Verb::Yield => Some(Ask::Yield),
+        Verb::Exit => Some(Ask::Exit),
+        _ => None,
+    }
+}
+
+// The same, of a step with one part.
+fn ask_with_one(verb: Verb, part: Part) -> Option<Ask>
+    ensures { result ≡ ask_of verb (part ∷ []) }
+{
+    match (verb, part) {
+        (Verb::Get, Part::Token(tok)) => Some(Ask::Get(tok)),
+        (Verb::GetShared, Part::Token(tok)) => Some(Ask::GetShared(tok)),
+        (Verb::TryGet, Part::Token(tok)) => Some(Ask::TryGet(tok)),
+        (Verb::Rel, Part::Token(tok)) => Some(Ask::Rel(tok)),
+        (Verb::Read, Part::Cell(tok, cell)) => Some(Ask::Read(tok, cell)),
+        (Verb::ReadBlob, Part::Token(tok)) => Some(Ask::ReadBlob(tok)),
+        (Verb::Abort, Part::Message(msg)) => Some(Ask::Abort(msg)),
+        (Verb::IsAborted, Part::Message(msg)) => Some(Ask::IsAborted(msg)),
+        (Verb::DropMsg, Part::Message(msg)) => Some(Ask::DropMsg(msg)),
+        _ => None,
+    }
+}
+
+// The same, of a step with two parts.
+fn ask_with_two(verb: Verb, part: Part, other: Part) -> Option<Ask>
+    ensures { result ≡ ask_of verb (part ∷ other ∷ []) }
+{
+    match (verb, part, other) {
+        (Verb::Write, Part::Cell(tok, cell), Part::Value(value)) => Some(Ask::Write(
+            tok, cell, value,
+        )),
+        (Verb::Add, Part::Token(tok), Part::Value(value)) => Some(Ask::Add(tok, value)),
+        (Verb::WriteBlob, Part::Token(tok), Part::Record(blob)) => Some(Ask::WriteBlob(tok, blob)),
+        _ => None,
+    }
+}
+
+// The same, of a step with more parts.
+fn ask_with_more(verb: Verb, parts: &[Part]) -> Option<Ask>
+    requires { 3 ≤ length parts.now }
+    ensures { result ≡ ask_of verb parts.now }
+{
+    match (verb, parts) {
+        (
+            Verb::Send,
+            [
+                Part::Message(msg),
+                Part::Target(to),
+                Part::Call(call),
+                Part::Flags(flags),
+            ],
+        ) => Some(Ask::Send(*msg, *to, *call, *flags)),
+        (Verb::Do, [Part::Message(msg), Part::Target(to), Part::Call(call)]) => Some(Ask::Do(
+            *msg, *to, *call,
+        )),
+        (
+            Verb::Reply,
+            [
+                Part::Message(msg),
+                Part::Code(error),
+                Part::Outcome(outcome),
+            ],
+        ) => Some(Ask::Reply(*msg, *error, *outcome)),
+        _ => None,
+    }
+}
+
 /// The step that stands for an ask.
 pub fn step_of(ask: &Ask) -> (Verb, Parts)
     ensures { result ≡ step_of ask.now }
 {
     match *ask {
-        Ask::Get(tok) => (Verb::Get, Parts::Token(tok)),
-        Ask::GetShared(tok) => (Verb::GetShared, Parts::Token(tok)),
-        Ask::TryGet(tok) => (Verb::TryGet, Parts::Token(tok)),
-        Ask::Rel(tok) => (Verb::Rel, Parts::Token(tok)),
-        Ask::Swap => (Verb::Swap, Parts::Alone),
-        Ask::Read(tok, cell) => (Verb::Read, Parts::Cell(tok, cell)),
-        Ask::Write(tok, cell, value) => (Verb::Write, Parts::Value(tok, cell, value)),
-        Ask::Add(tok, more) => (Verb::Add, Parts::More(tok, more)),
-        Ask::ReadBlob(tok) => (Verb::ReadBlob, Parts::Token(tok)),
-        Ask::WriteBlob(tok, blob) => (Verb::WriteBlob, Parts::Record(tok, blob)),
-        Ask::Send(msg, to, call, flags) => (Verb::Send, Parts::Sending(msg, to, call, flags)),
-        Ask::Do(msg, to, call) => (Verb::Do, Parts::Call(msg, to, call)),
-        Ask::Reply(msg, error, outcome) => (Verb::Reply, Parts::Answer(msg, error, outcome)),
-        Ask::Abort(msg) => (Verb::Abort, Parts::Message(msg)),
-        Ask::IsAborted(msg) => (Verb::IsAborted, Parts::Message(msg)),
-        Ask::DropMsg(msg) => (Verb::DropMsg, Parts::Message(msg)),
-        Ask::GetPort => (Verb::GetPort, Parts::Alone),
-        Ask::WaitPort => (Verb::WaitPort, Parts::Alone),
-        Ask::Yield => (Verb::Yield, Parts::Alone),
-        Ask::Exit => (Verb::Exit, Parts::Alone),
+        Ask::Get(tok) => (Verb::Get, Parts::of(&[Part::Token(tok)])),
+        Ask::GetShared(tok) => (Verb::GetShared, Parts::of(&[Part::Token(tok)])),
+        Ask::TryGet(tok) => (Verb::TryGet, Parts::of(&[Part::Token(tok)])),
+        Ask::Rel(tok) => (Verb::Rel, Parts::of(&[Part::Token(tok)])),
+        Ask::Swap => (Verb::Swap, Parts::of(&[])),
+        Ask::Read(tok, cell) => (Verb::Read, Parts::of(&[Part::Cell(tok, cell)])),
+        Ask::Write(tok, cell, value) => (
+            Verb::Write,
+            two(Part::Cell(tok, cell), Part::Value(value)),
+        ),
+        Ask::Add(tok, value) => (Verb::Add, two(Part::Token(tok), Part::Value(value))),
+        Ask::ReadBlob(tok) => (Verb::ReadBlob, Parts::of(&[Part::Token(tok)])),
+        Ask::WriteBlob(tok, blob) => (Verb::WriteBlob, two(Part::Token(tok), Part::Record(blob))),
+        Ask::Send(msg, to, call, flags) => (Verb::Send, send_parts(msg, to, call, flags)),
+        Ask::Do(msg, to, call) => (
+            Verb::Do,
+            Parts::of(&[Part::Message(msg), Part::Target(to), Part::Call(call)]),
+        ),
+        Ask::Reply(msg, code, value) => (
+            Verb::Reply,
+            Parts::of(&[Part::Message(msg), Part::Code(code), Part::Outcome(value)]),
+        ),
+        Ask::Abort(msg) => (Verb::Abort, Parts::of(&[Part::Message(msg)])),
+        Ask::IsAborted(msg) => (Verb::IsAborted, Parts::of(&[Part::Message(msg)])),
+        Ask::DropMsg(msg) => (Verb::DropMsg, Parts::of(&[Part::Message(msg)])),
+        Ask::GetPort => (Verb::GetPort, Parts::of(&[])),
+        Ask::WaitPort => (Verb::WaitPort, Parts::of(&[])),
+        Ask::Yield => (Verb::Yield, Parts::of(&[])),
+        Ask::Exit => (Verb::Exit, Parts::of(&[])),
     }
 }
 
-/// The ask that a step stands for, if its parts are of the form of its kind.
-pub fn ask_of(verb: Verb, parts: Parts) -> Option<Ask>
-    ensures { result ≡ ask_of verb parts }
+// Two parts.
+fn two(part: Part, other: Part) -> Parts
+    ensures { result ≡ part ∷ other ∷ [] }
 {
-    match (verb, parts) {
-        (Verb::Get, Parts::Token(tok)) => Some(Ask::Get(tok)),
-        (Verb::GetShared, Parts::Token(tok)) => Some(Ask::GetShared(tok)),
-        (Verb::TryGet, Parts::Token(tok)) => Some(Ask::TryGet(tok)),
-        (Verb::Rel, Parts::Token(tok)) => Some(Ask::Rel(tok)),
-        (Verb::Swap, Parts::Alone) => Some(Ask::Swap),
-        (Verb::Read, Parts::Cell(tok, cell)) => Some(Ask::Read(tok, cell)),
-        (Verb::Write, Parts::Value(tok, cell, value)) => Some(Ask::Write(tok, cell, value)),
-        (Verb::Add, Parts::More(tok, more)) => Some(Ask::Add(tok, more)),
-        (Verb::ReadBlob, Parts::Token(tok)) => Some(Ask::ReadBlob(tok)),
-        (Verb::WriteBlob, Parts::Record(tok, blob)) => Some(Ask::WriteBlob(tok, blob)),
-        (Verb::Send, Parts::Sending(msg, to, call, flags)) => Some(Ask::Send(msg, to, call, flags)),
-        (Verb::Do, Parts::Call(msg, to, call)) => Some(Ask::Do(msg, to, call)),
-        (Verb::Reply, Parts::Answer(msg, error, outcome)) => Some(Ask::Reply(msg, error, outcome)),
-        (Verb::Abort, Parts::Message(msg)) => Some(Ask::Abort(msg)),
-        (Verb::IsAborted, Parts::Message(msg)) => Some(Ask::IsAborted(msg)),
-        (Verb::DropMsg, Parts::Message(msg)) => Some(Ask::DropMsg(msg)),
-        (Verb::GetPort, Parts::Alone) => Some(Ask::GetPort),
-        (Verb::WaitPort, Parts::Alone) => Some(Ask::WaitPort),
-        (Verb::Yield, Parts::Alone) => Some(Ask::Yield),
-        (Verb::Exit, Parts::Alone) => Some(Ask::Exit),
-        _ => None,
-    }
+    Parts::of(&[part, other])
+}
+
+// The parts of a send.
+fn send_parts(msg: MsgId, to: ThreadId, call: Call, flags: Flags) -> Parts
+    ensures { result ≡ Part.Message msg ∷ Part.Target to ∷ Part.Call call ∷ Part.Flags flags ∷ [] }
+{
+    Parts::of(&[
+        Part::Message(msg),
+        Part::Target(to),
+        Part::Call(call),
+        Part::Flags(flags),
+    ])
 }
 
 /// The theorem that the step of an ask stands for that ask.
@@ -229,7 +380,7 @@ pub fn words_tell_verbs()
     ensures { WordsTellVerbs }
 {}
 
-/// The theorem that parts of the form of its kind make a step, and no others.
-pub fn forms_fit()
-    ensures { FormsFit }
+/// The theorem that parts of the kinds of a step make one, and no others.
+pub fn parts_fit()
+    ensures { PartsFit }
 {}
