@@ -1,21 +1,18 @@
 -- The steps of a thread in JSON: a word of the table of steps, and what stands behind it.
-use Rattle.std.specs.Prelude.{ℕ, ◌-◌, ◌==◌, ◌&&◌, nat_lt, Bool, List, true, false, not, if◌then◌else◌, Option, Some, None, option_and_then}
+use Rattle.std.specs.Prelude.{ℕ, ◌+◌, ◌-◌, ◌==◌, ◌&&◌, nat_lt, Bool, List, [], ◌∷◌, true, false, not, if◌then◌else◌, Option, Some, None, option_and_then}
 use Rattle.serde_json.specs.Data.{Data}
 use Rattle.serde_json.specs.Find.{at, as_str}
 use Rattle.lwkt_base.specs.declared.asks.Ask.{Ask}
-use Rattle.lwkt_base.specs.declared.names.MsgId.{MsgId}
-use Rattle.lwkt_base.specs.declared.names.TokId.{TokId}
-use Rattle.lwkt_base.specs.declared.records.Flags.{Flags}
-use Rattle.lwkt_base.specs.declared.steps.Form.{Form}
-use Rattle.lwkt_base.specs.declared.steps.Form.TheVariants as forms
-use Rattle.lwkt_base.specs.declared.steps.Parts.{Parts}
-use Rattle.lwkt_base.specs.declared.steps.Parts.TheVariants as parts
+use Rattle.lwkt_base.specs.declared.records.Flags.{Flags as FlagsOf}
+use Rattle.lwkt_base.specs.declared.steps.Part.{Part}
+use Rattle.lwkt_base.specs.declared.steps.Part.TheVariants.{Token, Cell, Value, Record, Message, Target, Call, Flags, Code, Outcome}
+use Rattle.lwkt_base.specs.declared.steps.PartKind.{PartKind}
+use Rattle.lwkt_base.specs.declared.steps.PartKind.TheVariants as kinds
 use Rattle.lwkt_base.specs.declared.steps.Verb.{Verb}
-use Rattle.lwkt_base.specs.Step.{verb_named, form_of, is_later, ask_of}
+use Rattle.lwkt_base.specs.Step.{verb_named, part_kinds, is_later, ask_of}
 use Rattle.lwkt_script.specs.declared.versions.Version.{Version}
 use Rattle.lwkt_script.specs.Version.{is_second}
 use Rattle.lwkt_script.specs.Record.{blob_in}
-use Rattle.lwkt_script.specs.declared.steps.Sending.{Sending}
 use Rattle.lwkt_script.specs.Field.{item_count, number, whole}
 
 infixl 10 ◌>>=◌
@@ -34,30 +31,8 @@ code_at i d = at i d >>= number 0 4294967295
 abbrev pub whole_at : ℕ → Data → Option ℕ
 whole_at i d = at i d >>= whole
 
--- item 1, a token
-abbrev pub token_in : Data → Option TokId
-token_in d = small_at 1 d >>= λ n. Some (record { 0 = n })
-
--- item 1, a message
-abbrev pub message_in : Data → Option MsgId
-message_in d = small_at 1 d >>= λ n. Some (record { 0 = n })
-
--- item 2, a record of at most 65 bytes; one of 65 is too long for every token
-abbrev pub record_in : Data → Option (List ℕ)
-record_in d = at 2 d >>= blob_in 65
-
--- items 1 to 5: a message, the thread that it goes to, by processor and number, and the call's op and arg
-unfoldable pub sending_in : Data → Option Sending
-sending_in d = do
-  msg ← small_at 1 d
-  cpu ← small_at 2 d
-  thread ← small_at 3 d
-  op ← code_at 4 d
-  arg ← whole_at 5 d
-  Some (record { msg = record { 0 = msg }; to = record { cpu = record { 0 = cpu }; thread = thread }; call = record { arg = arg; op = op } })
-
 -- flags: 1 for dropable plus 2 for abortable
-abbrev pub flags_under : Bool → ℕ → Option Flags
+abbrev pub flags_under : Bool → ℕ → Option FlagsOf
 flags_under priority n =
     if n == 0 then Some (record { dropable = false; abortable = false; priority = priority }) else (
     if n == 1 then Some (record { dropable = true; abortable = false; priority = priority }) else (
@@ -65,42 +40,41 @@ flags_under priority n =
     if n == 3 then Some (record { dropable = true; abortable = true; priority = priority }) else None)))
 
 -- the same, and in the second version plus 4 for priority
-abbrev pub flags_by_number : Version → ℕ → Option Flags
+abbrev pub flags_by_number : Version → ℕ → Option FlagsOf
 flags_by_number version n = if nat_lt n 4 then flags_under false n else (if is_second version then flags_under true (n - 4) else None)
 
--- how many items a step of a form has, its word too
-abbrev pub items_of : Form → ℕ
-items_of forms.Alone = 1
-items_of forms.Token = 2
-items_of forms.Cell = 3
-items_of forms.Value = 4
-items_of forms.More = 3
-items_of forms.Record = 3
-items_of forms.Message = 2
-items_of forms.Call = 6
-items_of forms.Sending = 7
-items_of forms.Answer = 4
+-- how many items a part of a kind takes
+abbrev pub width_of : PartKind → ℕ
+width_of kinds.Cell = 2
+width_of kinds.Target = 2
+width_of kinds.Call = 2
+width_of _ = 1
 
--- what stands behind the word of a step, in this form
-abbrev pub parts_in : Version → Form → Data → Option Parts
-parts_in version forms.Alone d = Some parts.Alone
-parts_in version forms.Token d = token_in d >>= λ tok. Some (parts.Token tok)
-parts_in version forms.Cell d = token_in d >>= λ tok. small_at 2 d >>= λ cell. Some (parts.Cell tok cell)
-parts_in version forms.Value d = token_in d >>= λ tok. small_at 2 d >>= λ cell. whole_at 3 d >>= λ value. Some (parts.Value tok cell value)
-parts_in version forms.More d = token_in d >>= λ tok. whole_at 2 d >>= λ more. Some (parts.More tok more)
-parts_in version forms.Record d = token_in d >>= λ tok. record_in d >>= λ blob. Some (parts.Record tok blob)
-parts_in version forms.Message d = message_in d >>= λ msg. Some (parts.Message msg)
-parts_in version forms.Call d = sending_in d >>= λ s. Some (parts.Call s.msg s.to s.call)
-parts_in version forms.Sending d = sending_in d >>= λ s. (whole_at 6 d >>= flags_by_number version) >>= λ flags. Some (parts.Sending s.msg s.to s.call flags)
-parts_in version forms.Answer d = message_in d >>= λ msg. code_at 2 d >>= λ error. whole_at 3 d >>= λ outcome. Some (parts.Answer msg error outcome)
+-- the part of a kind from item i on; a record has at most 65 bytes, and one of 65 is too long for every token
+abbrev pub step_part : Version → PartKind → ℕ → Data → Option Part
+step_part _ kinds.Token i d = small_at i d >>= λ n. Some (Token (record { 0 = n }))
+step_part _ kinds.Cell i d = small_at i d >>= λ n. small_at (i + 1) d >>= λ cell. Some (Cell (record { 0 = n }) cell)
+step_part _ kinds.Value i d = whole_at i d >>= λ n. Some (Value n)
+step_part _ kinds.Record i d = (at i d >>= blob_in 65) >>= λ blob. Some (Record blob)
+step_part _ kinds.Message i d = small_at i d >>= λ n. Some (Message (record { 0 = n }))
+step_part _ kinds.Target i d = small_at i d >>= λ n. small_at (i + 1) d >>= λ thread. Some (Target (record { cpu = record { 0 = n }; thread = thread }))
+step_part _ kinds.Call i d = code_at i d >>= λ op. whole_at (i + 1) d >>= λ arg. Some (Call (record { arg = arg; op = op }))
+step_part version kinds.Flags i d = (whole_at i d >>= flags_by_number version) >>= λ flags. Some (Flags flags)
+step_part _ kinds.Code i d = code_at i d >>= λ n. Some (Code n)
+step_part _ kinds.Outcome i d = whole_at i d >>= λ n. Some (Outcome n)
+
+-- the parts of kinds from item i on, and nothing more in a step of so many items
+abbrev pub step_parts : Version → List PartKind → ℕ → ℕ → Data → Option (List Part)
+step_parts version [] i count d = if i == count then Some [] else None
+step_parts version (kind ∷ kinds) i count d = step_part version kind i d >>= λ part. step_parts version kinds (i + width_of kind) count d >>= λ parts. Some (part ∷ parts)
 
 -- the kind of step that has this word in a version
 abbrev pub verb_in : Version → List ℕ → Option Verb
 verb_in version word = verb_named word >>= λ verb. if is_later verb && not (is_second version) then None else Some verb
 
--- the ask of a step of this kind: it has as many items as its form
+-- the ask of a step of this kind that has so many items
 abbrev pub ask_with : Version → Verb → ℕ → Data → Option Ask
-ask_with version verb count d = if count == items_of (form_of verb) then (parts_in version (form_of verb) d >>= ask_of verb) else None
+ask_with version verb count d = step_parts version (part_kinds verb) 1 count d >>= ask_of verb
 
 -- the ask of a step: a word, and what stands behind it
 abbrev pub ask_in : Version → Data → Option Ask

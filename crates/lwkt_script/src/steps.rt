@@ -1,7 +1,7 @@
-ghost use Rattle.std.specs.Prelude.{◌≡◌, ◌≤◌, ◌<◌, length, [], IfOk};
+ghost use Rattle.std.specs.Prelude.{◌≡◌, ◌+◌, ◌≤◌, ◌<◌, length, [], IfOk};
 ghost use Rattle.serde_json.specs.View.{view, items_view};
 ghost use Rattle.lwkt_script.specs.Outcome.{Gives, each};
-ghost use Rattle.lwkt_script.specs.Step.{small_at, code_at, whole_at, token_in, message_in, record_in, sending_in, flags_under, flags_by_number, items_of, parts_in, verb_in, ask_with, ask_in};
+ghost use Rattle.lwkt_script.specs.Step.{small_at, code_at, whole_at, flags_under, flags_by_number, width_of, step_part, step_parts, verb_in, ask_with, ask_in};
 ghost use Rattle.lwkt_script.specs.Format.{step};
 
 use crate::fields::{item_count, number};
@@ -9,17 +9,11 @@ use crate::records::blob_in;
 use crate::versions::Version;
 use lwkt_base::memory::push;
 use lwkt_base::steps::{ask_of, verb_named};
-use lwkt_base::{Ask, Blob, Call, CpuId, Fault, Flags, Form, MsgId, Parts, ThreadId, TokId, Verb};
+use lwkt_base::{
+    Ask, Call, CpuId, Fault, Flags, MsgId, Part, PartKind, Parts, ThreadId, TokId, Verb,
+};
 use serde_json::Value;
 use std::alloc::Global;
-
-/// What a step sends: a message, the thread that it goes to, and the call.
-#[derive(Clone, Copy)]
-pub struct Sending {
-    msg: MsgId,
-    to: ThreadId,
-    call: Call,
-}
 
 /// Item i of a list as the number of a token, a cell, a message, a processor or a thread.
 pub fn small_at(value: &Value, i: usize) -> Option<u8>
@@ -39,47 +33,6 @@ fn code_at(value: &Value, i: usize) -> Option<u32>
         Some(n) => Some(n as u32),
         None => None,
     }
-}
-
-// Item 1, a token.
-fn token_in(value: &Value) -> Option<TokId>
-    ensures { result ≡ token_in (view value.now) }
-{
-    Some(TokId(small_at(value, 1)?))
-}
-
-// Item 1, a message.
-fn message_in(value: &Value) -> Option<MsgId>
-    ensures { result ≡ message_in (view value.now) }
-{
-    Some(MsgId(small_at(value, 1)?))
-}
-
-// Item 2, a record.
-fn record_in(value: &Value) -> Option<Blob>
-    ensures { result ≡ record_in (view value.now) }
-{
-    blob_in(65, value.get(2usize)?)
-}
-
-// What items 1 to 5 of a step send.
-#[tactic(auto, unfolding(crate::specs::Step::sending_in))]
-fn sending_in(value: &Value) -> Option<Sending>
-    ensures { result ≡ sending_in (view value.now) }
-{
-    let msg = small_at(value, 1)?;
-    let cpu = small_at(value, 2)?;
-    let thread = small_at(value, 3)?;
-    let op = code_at(value, 4)?;
-    let arg = whole_at(value, 5)?;
-    Some(Sending {
-        msg: MsgId(msg),
-        to: ThreadId {
-            cpu: CpuId(cpu),
-            thread,
-        },
-        call: Call { arg, op },
-    })
 }
 
 // The flags of a number: 1 for dropable plus 2 for abortable.
@@ -116,42 +69,54 @@ pub fn whole_at(value: &Value, i: usize) -> Option<u64>
     value.get(i)?.as_u64()
 }
 
-// How many items a step of a form has, its word too.
-fn items_of(form: Form) -> usize
-    ensures { result ≡ items_of form }
+// How many items a part of a kind takes.
+fn width_of(kind: PartKind) -> usize
+    ensures value { result ≡ width_of kind }
+    ensures few { result ≤ 2 }
 {
-    match form {
-        Form::Alone => 1,
-        Form::Token | Form::Message => 2,
-        Form::Cell | Form::More | Form::Record => 3,
-        Form::Value | Form::Answer => 4,
-        Form::Call => 6,
-        Form::Sending => 7,
+    match kind {
+        PartKind::Cell | PartKind::Target | PartKind::Call => 2,
+        _ => 1,
     }
 }
 
-// What stands behind the word of a step, in this form.
-fn parts_in(version: Version, form: Form, value: &Value) -> Option<Parts>
-    ensures { result ≡ parts_in version form (view value.now) }
+// The part of a kind from item i on.
+fn step_part(version: Version, kind: PartKind, value: &Value, i: usize) -> Option<Part>
+    requires { i ≤ 100 }
+    ensures { result ≡ step_part version kind i (view value.now) }
 {
-    Some(match form {
-        Form::Alone => Parts::Alone,
-        Form::Token => Parts::Token(token_in(value)?),
-        Form::Cell => Parts::Cell(token_in(value)?, small_at(value, 2)?),
-        Form::Value => Parts::Value(token_in(value)?, small_at(value, 2)?, whole_at(value, 3)?),
-        Form::More => Parts::More(token_in(value)?, whole_at(value, 2)?),
-        Form::Record => Parts::Record(token_in(value)?, record_in(value)?),
-        Form::Message => Parts::Message(message_in(value)?),
-        Form::Call => {
-            let Sending { msg, to, call } = sending_in(value)?;
-            Parts::Call(msg, to, call)
-        }
-        Form::Sending => {
-            let Sending { msg, to, call } = sending_in(value)?;
-            Parts::Sending(msg, to, call, flags_of(version, whole_at(value, 6)?)?)
-        }
-        Form::Answer => Parts::Answer(message_in(value)?, code_at(value, 2)?, whole_at(value, 3)?),
+    Some(match kind {
+        PartKind::Token => Part::Token(TokId(small_at(value, i)?)),
+        PartKind::Cell => Part::Cell(TokId(small_at(value, i)?), small_at(value, i + 1)?),
+        PartKind::Value => Part::Value(whole_at(value, i)?),
+        PartKind::Record => Part::Record(blob_in(65, value.get(i)?)?),
+        PartKind::Message => Part::Message(MsgId(small_at(value, i)?)),
+        PartKind::Target => Part::Target(ThreadId {
+            cpu: CpuId(small_at(value, i)?),
+            thread: small_at(value, i + 1)?,
+        }),
+        PartKind::Call => Part::Call(Call {
+            op: code_at(value, i)?,
+            arg: whole_at(value, i + 1)?,
+        }),
+        PartKind::Flags => Part::Flags(flags_of(version, whole_at(value, i)?)?),
+        PartKind::Code => Part::Code(code_at(value, i)?),
+        PartKind::Outcome => Part::Outcome(whole_at(value, i)?),
     })
+}
+
+// The parts of these kinds behind the word of a step that has so many items, and nothing more.
+fn step_parts(version: Version, kinds: &[PartKind], count: usize, value: &Value) -> Option<Parts>
+    requires { length kinds.now ≤ 4 }
+    ensures { result ≡ step_parts version kinds.now 1 count (view value.now) }
+{
+    let mut parts = Parts::of(&[]);
+    let mut at = 1;
+    for kind in kinds {
+        parts.push(step_part(version, *kind, value, at)?);
+        at += width_of(*kind);
+    }
+    if at == count { Some(parts) } else { None }
 }
 
 // The kind of step that has this word in a version.
@@ -169,11 +134,8 @@ fn verb_in(version: Version, word: &str) -> Option<Verb>
 fn ask_with(version: Version, verb: Verb, count: usize, value: &Value) -> Option<Ask>
     ensures { result ≡ ask_with version verb count (view value.now) }
 {
-    let form = verb.form();
-    if count != items_of(form) {
-        return None;
-    }
-    ask_of(verb, parts_in(version, form, value)?)
+    let parts = step_parts(version, verb.kinds(), count, value)?;
+    ask_of(verb, parts.as_slice())
 }
 
 // The ask that a step stands for.
