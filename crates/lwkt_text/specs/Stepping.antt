@@ -1,15 +1,15 @@
 -- The steps of a thread (own): a word of the table of steps, and what stands behind it.
-use Rattle.std.specs.Prelude.{ℕ, ◌+◌, List, codes, if◌then◌else◌, Option, Result, Ok}
+use Rattle.std.specs.Prelude.{ℕ, ◌+◌, List, [], ◌∷◌, codes, if◌then◌else◌, Option, Result, Ok}
 use Rattle.std.specs.Option.{ok_or}
 use Rattle.lwkt_base.specs.declared.asks.Ask.{Ask}
-use Rattle.lwkt_base.specs.declared.records.Call.{Call}
-use Rattle.lwkt_base.specs.declared.records.Flags.{Flags}
-use Rattle.lwkt_base.specs.declared.steps.Form.{Form}
-use Rattle.lwkt_base.specs.declared.steps.Form.TheVariants as forms
-use Rattle.lwkt_base.specs.declared.steps.Parts.{Parts}
-use Rattle.lwkt_base.specs.declared.steps.Parts.TheVariants as parts
-use Rattle.lwkt_base.specs.Step.{verb_named, form_of, ask_of}
-use Rattle.lwkt_text.specs.declared.steps.Sending.{Sending}
+use Rattle.lwkt_base.specs.declared.names.ThreadId.{ThreadId}
+use Rattle.lwkt_base.specs.declared.records.Call.{Call as CallOf}
+use Rattle.lwkt_base.specs.declared.records.Flags.{Flags as FlagsOf}
+use Rattle.lwkt_base.specs.declared.steps.Part.{Part}
+use Rattle.lwkt_base.specs.declared.steps.Part.TheVariants.{Token, Cell, Value, Record, Message, Target, Call, Flags, Code, Outcome}
+use Rattle.lwkt_base.specs.declared.steps.PartKind.{PartKind}
+use Rattle.lwkt_base.specs.declared.steps.PartKind.TheVariants as kinds
+use Rattle.lwkt_base.specs.Step.{verb_named, part_kinds, ask_of}
 use Rattle.lwkt_text.specs.declared.tables.Names.{Names}
 use Rattle.lwkt_text.specs.declared.words.Word.{Word}
 use Rattle.lwkt_text.specs.declared.wrongs.Wanted.TheVariants.{Arrow}
@@ -20,7 +20,7 @@ use Rattle.lwkt_text.specs.Naming.{token_id_at, message_id_at, cell_by_words, th
 use Rattle.lwkt_text.specs.Outcome.{◌>>=◌, ◌>>◌}
 
 -- `op N arg N` from word i on, each of them 0 where it is left out
-unfoldable pub call_at : List Word → ℕ → Result Call Wrong
+unfoldable pub call_at : List Word → ℕ → Result CallOf Wrong
 call_at ws i = do
   op ← optional ws i (codes "op") 0 4294967295 0
   arg ← optional ws (past_key ws i (codes "op")) (codes "arg") 0 18446744073709551615 0
@@ -29,15 +29,6 @@ call_at ws i = do
 -- the place behind them
 abbrev pub call_end : List Word → ℕ → ℕ
 call_end ws i = past_key ws (past_key ws i (codes "op")) (codes "arg")
-
--- `M -> THREAD op N arg N` from word 1 on, and the place behind
-unfoldable pub sending_of : Names → List Word → Result Sending Wrong
-sending_of names ws = do
-  msg ← message_id_at names ws 1
-  demand_at ws 2 (whats.Word Arrow) (is_at ws 2 (codes "->"))
-  to ← thread_id_at names ws 3
-  call ← call_at ws (3 + thread_length ws 3)
-  Ok (record { msg = msg; to = to; call = call; end = call_end ws (3 + thread_length ws 3) })
 
 -- the place behind a word that may stand at i
 abbrev pub past : List Word → ℕ → List ℕ → ℕ
@@ -51,7 +42,7 @@ abbrev pub past_abortable : List Word → ℕ → ℕ
 past_abortable ws i = past ws (past_dropable ws i) (codes "abortable")
 
 -- `dropable abortable priority` from word i on, as they are there
-abbrev pub flags_at : List Word → ℕ → Flags
+abbrev pub flags_at : List Word → ℕ → FlagsOf
 flags_at ws i = record { dropable = is_at ws i (codes "dropable"); abortable = is_at ws (past_dropable ws i) (codes "abortable"); priority = is_at ws (past_abortable ws i) (codes "priority") }
 
 -- the place behind them
@@ -62,30 +53,35 @@ flags_end ws i = past ws (past_abortable ws i) (codes "priority")
 abbrev pub last_number : List Word → ℕ → ℕ → Result ℕ Wrong
 last_number ws i high = if is_at ws i (codes "") then Ok 0 else number_at ws i 0 high
 
--- these parts, and nothing more from word i on
-abbrev pub ended : List Word → ℕ → Parts → Result Parts Wrong
-ended ws i found = ends_at ws i >> Ok found
+-- `-> THREAD` from word i on
+abbrev pub target_at : Names → List Word → ℕ → Result ThreadId Wrong
+target_at names ws i = demand_at ws i (whats.Word Arrow) (is_at ws i (codes "->")) >> thread_id_at names ws (i + 1)
 
--- `M ERROR RESULT`; a result, or both, that are left out are 0
-unfoldable pub answer_of : Names → List Word → Result Parts Wrong
-answer_of names ws = do
-  msg ← message_id_at names ws 1
-  error ← last_number ws 2 4294967295
-  result ← last_number ws 3 18446744073709551615
-  ended ws 4 (parts.Answer msg error result)
+-- the part of a kind from word i on; an error or a result that is left out is 0
+abbrev pub part_by_words : Names → PartKind → List Word → ℕ → Result Part Wrong
+part_by_words names kinds.Token ws i = token_id_at names ws i >>= λ tok. Ok (Token tok)
+part_by_words names kinds.Cell ws i = cell_by_words names ws i >>= λ p. Ok (Cell p.tok p.cell)
+part_by_words names kinds.Value ws i = number_at ws i 0 18446744073709551615 >>= λ n. Ok (Value n)
+part_by_words names kinds.Record ws i = bytes_at ws i 65 >>= λ blob. Ok (Record blob)
+part_by_words names kinds.Message ws i = message_id_at names ws i >>= λ msg. Ok (Message msg)
+part_by_words names kinds.Target ws i = target_at names ws i >>= λ to. Ok (Target to)
+part_by_words names kinds.Call ws i = call_at ws i >>= λ call. Ok (Call call)
+part_by_words names kinds.Flags ws i = Ok (Flags (flags_at ws i))
+part_by_words names kinds.Code ws i = last_number ws i 4294967295 >>= λ n. Ok (Code n)
+part_by_words names kinds.Outcome ws i = last_number ws i 18446744073709551615 >>= λ n. Ok (Outcome n)
 
--- what stands behind the word of a step, in this form
-abbrev pub parts_at : Names → Form → List Word → Result Parts Wrong
-parts_at names forms.Alone ws = ended ws 1 parts.Alone
-parts_at names forms.Token ws = token_id_at names ws 1 >>= λ tok. ended ws 2 (parts.Token tok)
-parts_at names forms.Cell ws = cell_by_words names ws 1 >>= λ p. ended ws 4 (parts.Cell p.tok p.cell)
-parts_at names forms.Value ws = cell_by_words names ws 1 >>= λ p. number_at ws 4 0 18446744073709551615 >>= λ v. ended ws 5 (parts.Value p.tok p.cell v)
-parts_at names forms.More ws = token_id_at names ws 1 >>= λ tok. number_at ws 2 0 18446744073709551615 >>= λ k. ended ws 3 (parts.More tok k)
-parts_at names forms.Record ws = token_id_at names ws 1 >>= λ tok. bytes_at ws 2 65 >>= λ blob. ended ws 3 (parts.Record tok blob)
-parts_at names forms.Message ws = message_id_at names ws 1 >>= λ msg. ended ws 2 (parts.Message msg)
-parts_at names forms.Call ws = sending_of names ws >>= λ s. ended ws s.end (parts.Call s.msg s.to s.call)
-parts_at names forms.Sending ws = sending_of names ws >>= λ s. ended ws (flags_end ws s.end) (parts.Sending s.msg s.to s.call (flags_at ws s.end))
-parts_at names forms.Answer ws = answer_of names ws
+-- the place behind such a part
+abbrev pub part_end : PartKind → List Word → ℕ → ℕ
+part_end kinds.Cell ws i = i + 3
+part_end kinds.Target ws i = i + 1 + thread_length ws (i + 1)
+part_end kinds.Call ws i = call_end ws i
+part_end kinds.Flags ws i = flags_end ws i
+part_end _ ws i = i + 1
+
+-- the parts of kinds from word i on, and nothing more
+abbrev pub parts_at : Names → List PartKind → List Word → ℕ → Result (List Part) Wrong
+parts_at names [] ws i = ends_at ws i >> Ok []
+parts_at names (kind ∷ kinds) ws i = part_by_words names kind ws i >>= λ part. parts_at names kinds ws (part_end kind ws i) >>= λ parts. Ok (part ∷ parts)
 
 -- what word 0 makes known, if it is the word of a step
 abbrev pub known : {A : Type 0} → List Word → Option A → Result A Wrong
@@ -93,4 +89,4 @@ known ws found = ok_or found (wrong_at ws 0 whats.Keyword)
 
 -- the ask of a step: a word of the table of steps, and what stands behind it
 abbrev pub step_ask : Names → List Word → Result Ask Wrong
-step_ask names ws = known ws (verb_named (text_at ws 0)) >>= λ verb. parts_at names (form_of verb) ws >>= λ found. known ws (ask_of verb found)
+step_ask names ws = known ws (verb_named (text_at ws 0)) >>= λ verb. parts_at names (part_kinds verb) ws 1 >>= λ parts. known ws (ask_of verb parts)

@@ -8,9 +8,7 @@ use crate::sames::same_script;
 use crate::unsaid::Unsaid;
 use lwkt_base::hexes::digits_of;
 use lwkt_base::steps::step_of;
-use lwkt_base::{
-    Ask, Blob, Call, Fault, Flags, Law, MsgId, MsgSpec, OutOfMemory, Parts, ThreadId, TokSpec,
-};
+use lwkt_base::{Ask, Blob, Fault, Flags, Law, MsgSpec, OutOfMemory, Part, TokSpec};
 use lwkt_script::{Script, ThreadSpec, Version, read_script};
 use std::alloc::Global;
 
@@ -33,10 +31,9 @@ fn is_guarded(token: &TokSpec) -> bool {
 
 // Whether an ask needs a version with records and messages sent with priority.
 fn is_of_second(ask: &Ask) -> bool {
-    match step_of(ask) {
-        (_, Parts::Sending(_, _, _, flags)) => flags.priority,
-        (verb, _) => verb.is_later(),
-    }
+    let (verb, parts) = step_of(ask);
+    verb.is_later()
+        || parts.as_slice().iter().any(|part| matches!(part, Part::Flags(flags) if flags.priority))
 }
 
 // The least version in which a script can be written.
@@ -101,23 +98,10 @@ fn write_message(page: &mut Sheet, message: &MsgSpec) -> Result<(), OutOfMemory>
     page.text("}")
 }
 
-// A number of a token, a message or a processor.
-fn write_one(page: &mut Sheet, n: u8) -> Result<(), OutOfMemory> {
-    page.tagged(", ", u64::from(n))
-}
-
-// Such a number and one more.
-fn write_two(page: &mut Sheet, first: u8, second: u64) -> Result<(), OutOfMemory> {
-    write_one(page, first)?;
+// Two numbers.
+fn write_two(page: &mut Sheet, first: u64, second: u64) -> Result<(), OutOfMemory> {
+    page.tagged(", ", first)?;
     page.tagged(", ", second)
-}
-
-// What is sent: a message, a thread, op and arg.
-fn write_call(page: &mut Sheet, msg: MsgId, to: ThreadId, call: Call) -> Result<(), OutOfMemory> {
-    write_one(page, msg.0)?;
-    write_two(page, to.cpu.0, u64::from(to.thread))?;
-    page.tagged(", ", u64::from(call.op))?;
-    page.tagged(", ", call.arg)
 }
 
 fn number_of_flags(flags: Flags) -> u64 {
@@ -127,33 +111,22 @@ fn number_of_flags(flags: Flags) -> u64 {
     dropable + abortable + priority
 }
 
-// What stands behind the word of a step.
-fn write_parts(page: &mut Sheet, parts: Parts) -> Result<(), OutOfMemory> {
-    match parts {
-        Parts::Alone => Ok(()),
-        Parts::Token(tok) => write_one(page, tok.0),
-        Parts::Cell(tok, cell) => write_two(page, tok.0, u64::from(cell)),
-        Parts::Value(tok, cell, value) => {
-            write_two(page, tok.0, u64::from(cell))?;
-            page.tagged(", ", value)
-        }
-        Parts::More(tok, more) => write_two(page, tok.0, more),
-        Parts::Record(tok, blob) => {
-            write_one(page, tok.0)?;
+fn write_part(page: &mut Sheet, part: &Part) -> Result<(), OutOfMemory> {
+    match *part {
+        Part::Token(tok) => page.tagged(", ", u64::from(tok.0)),
+        Part::Cell(tok, cell) => write_two(page, u64::from(tok.0), u64::from(cell)),
+        Part::Value(value) => page.tagged(", ", value),
+        Part::Record(blob) => {
             page.text(", \"")?;
             write_bytes(page, &blob)?;
             page.text("\"")
         }
-        Parts::Message(msg) => write_one(page, msg.0),
-        Parts::Call(msg, to, call) => write_call(page, msg, to, call),
-        Parts::Sending(msg, to, call, flags) => {
-            write_call(page, msg, to, call)?;
-            page.tagged(", ", number_of_flags(flags))
-        }
-        Parts::Answer(msg, error, outcome) => {
-            write_two(page, msg.0, u64::from(error))?;
-            page.tagged(", ", outcome)
-        }
+        Part::Message(msg) => page.tagged(", ", u64::from(msg.0)),
+        Part::Target(to) => write_two(page, u64::from(to.cpu.0), u64::from(to.thread)),
+        Part::Call(call) => write_two(page, u64::from(call.op), call.arg),
+        Part::Flags(flags) => page.tagged(", ", number_of_flags(flags)),
+        Part::Code(error) => page.tagged(", ", u64::from(error)),
+        Part::Outcome(outcome) => page.tagged(", ", outcome),
     }
 }
 
@@ -163,7 +136,10 @@ fn write_ask(page: &mut Sheet, ask: &Ask) -> Result<(), OutOfMemory> {
     page.text("\"")?;
     page.text(verb.word())?;
     page.text("\"")?;
-    write_parts(page, parts)
+    for part in parts.as_slice() {
+        write_part(page, part)?;
+    }
+    Ok(())
 }
 
 fn write_steps(page: &mut Sheet, steps: &[Ask]) -> Result<(), OutOfMemory> {

@@ -1,5 +1,5 @@
-ghost use Rattle.std.specs.Prelude.{◌≡◌, ◌≤◌, ◌+◌, IfOk};
-ghost use Rattle.lwkt_text.specs.Stepping.{call_at, call_end, sending_of, past, past_dropable, past_abortable, flags_at, flags_end, last_number, ended, answer_of, parts_at, known, step_ask};
+ghost use Rattle.std.specs.Prelude.{◌≡◌, ◌≤◌, ◌+◌, length, IfOk};
+ghost use Rattle.lwkt_text.specs.Stepping.{call_at, call_end, past, past_dropable, past_abortable, flags_at, flags_end, last_number, target_at, part_end, part_by_words, parts_at, known, step_ask};
 
 use crate::looks::{
     bytes_at, demand_at, ends_at, is_at, number_at, optional, past_key, text_at, wrong_at,
@@ -8,16 +8,7 @@ use crate::tables::{Names, cell_at, message_id_at, thread_id_at, thread_length, 
 use crate::words::Word;
 use crate::wrongs::{Wanted, What, Wrong};
 use lwkt_base::steps::{ask_of, verb_named};
-use lwkt_base::{Ask, Call, Flags, Form, MsgId, Parts, ThreadId};
-
-/// What a step sends, and the place of the first word behind it.
-#[derive(Clone, Copy)]
-pub struct Sending {
-    msg: MsgId,
-    to: ThreadId,
-    call: Call,
-    end: usize,
-}
+use lwkt_base::{Ask, Call, Flags, Part, PartKind, Parts, ThreadId};
 
 const MOST_CODE: u64 = 4_294_967_295;
 
@@ -39,25 +30,6 @@ pub fn call_end(words: &[Word], i: usize) -> usize
     ensures most { result ≤ i + 4 }
 {
     past_key(words, past_key(words, i, "op"), "arg")
-}
-
-// What a step sends.
-#[tactic(auto, unfolding(crate::specs::Stepping::sending_of))]
-fn sending_of(names: &Names, words: &[Word]) -> Result<Sending, Wrong>
-    ensures exact { result ≡ sending_of names.now words.now }
-    ensures most { IfOk result (λ s. s.end ≤ 10) }
-{
-    let msg = message_id_at(names, words, 1)?;
-    demand_at(words, 2, What::Word(Wanted::Arrow), is_at(words, 2, "->"))?;
-    let to = thread_id_at(names, words, 3)?;
-    let from = 3 + thread_length(words, 3);
-    let call = call_at(words, from)?;
-    Ok(Sending {
-        msg,
-        to,
-        call,
-        end: call_end(words, from),
-    })
 }
 
 // The place behind a word that may stand at i.
@@ -102,7 +74,8 @@ fn flags_at(words: &[Word], i: usize) -> Flags
 // The place behind them.
 fn flags_end(words: &[Word], i: usize) -> usize
     requires { i ≤ 100 }
-    ensures { result ≡ flags_end words.now i }
+    ensures exact { result ≡ flags_end words.now i }
+    ensures most { result ≤ i + 3 }
 {
     past(words, past_abortable(words, i), "priority")
 }
@@ -118,66 +91,65 @@ pub fn last_number(words: &[Word], i: usize, high: u64) -> Result<u64, Wrong>
     number_at(words, i, 0, high)
 }
 
-// `M ERROR RESULT`.
-#[tactic(auto, unfolding(crate::specs::Stepping::answer_of))]
-fn answer_of(names: &Names, words: &[Word]) -> Result<Parts, Wrong>
-    ensures { result ≡ answer_of names.now words.now }
+// `-> THREAD` from word i on.
+fn target_at(names: &Names, words: &[Word], i: usize) -> Result<ThreadId, Wrong>
+    requires { i ≤ 100 }
+    ensures { result ≡ target_at names.now words.now i }
 {
-    let msg = message_id_at(names, words, 1)?;
-    let error = last_number(words, 2, MOST_CODE)? as u32;
-    let outcome = last_number(words, 3, u64::MAX)?;
-    ended(words, 4, Parts::Answer(msg, error, outcome))
+    demand_at(words, i, What::Word(Wanted::Arrow), is_at(words, i, "->"))?;
+    thread_id_at(names, words, i + 1)
 }
 
-// These parts, and nothing more from word i on.
-fn ended(words: &[Word], i: usize, parts: Parts) -> Result<Parts, Wrong>
-    ensures { result ≡ ended words.now i parts }
+// The part of a kind from word i on.
+fn part_by_words(names: &Names, kind: PartKind, words: &[Word], i: usize) -> Result<Part, Wrong>
+    requires { i ≤ 100 }
+    ensures { result ≡ part_by_words names.now kind words.now i }
 {
-    ends_at(words, i)?;
-    Ok(parts)
+    Ok(match kind {
+        PartKind::Token => Part::Token(token_id_at(names, words, i)?),
+        PartKind::Cell => {
+            let place = cell_at(names, words, i)?;
+            Part::Cell(place.tok, place.cell)
+        }
+        PartKind::Value => Part::Value(number_at(words, i, 0, u64::MAX)?),
+        PartKind::Record => Part::Record(bytes_at(words, i, 65)?),
+        PartKind::Message => Part::Message(message_id_at(names, words, i)?),
+        PartKind::Target => Part::Target(target_at(names, words, i)?),
+        PartKind::Call => Part::Call(call_at(words, i)?),
+        PartKind::Flags => Part::Flags(flags_at(words, i)),
+        PartKind::Code => Part::Code(last_number(words, i, MOST_CODE)? as u32),
+        PartKind::Outcome => Part::Outcome(last_number(words, i, u64::MAX)?),
+    })
 }
 
-// What stands behind the word of a step, in this form.
-fn parts_at(names: &Names, form: Form, words: &[Word]) -> Result<Parts, Wrong>
-    ensures { result ≡ parts_at names.now form words.now }
+// The place behind such a part.
+fn part_end(kind: PartKind, words: &[Word], i: usize) -> usize
+    requires { i ≤ 100 }
+    ensures exact { result ≡ part_end kind words.now i }
+    ensures most { result ≤ i + 4 }
 {
-    match form {
-        Form::Alone => ended(words, 1, Parts::Alone),
-        Form::Token => ended(words, 2, Parts::Token(token_id_at(names, words, 1)?)),
-        Form::Message => ended(words, 2, Parts::Message(message_id_at(names, words, 1)?)),
-        Form::Cell => {
-            let place = cell_at(names, words, 1)?;
-            ended(words, 4, Parts::Cell(place.tok, place.cell))
-        }
-        Form::Value => {
-            let place = cell_at(names, words, 1)?;
-            let value = number_at(words, 4, 0, u64::MAX)?;
-            ended(words, 5, Parts::Value(place.tok, place.cell, value))
-        }
-        Form::More => {
-            let tok = token_id_at(names, words, 1)?;
-            ended(
-                words,
-                3,
-                Parts::More(tok, number_at(words, 2, 0, u64::MAX)?),
-            )
-        }
-        Form::Record => {
-            let tok = token_id_at(names, words, 1)?;
-            ended(words, 3, Parts::Record(tok, bytes_at(words, 2, 65)?))
-        }
-        Form::Call => {
-            let s = sending_of(names, words)?;
-            ended(words, s.end, Parts::Call(s.msg, s.to, s.call))
-        }
-        Form::Sending => {
-            let s = sending_of(names, words)?;
-            let flags = flags_at(words, s.end);
-            let end = flags_end(words, s.end);
-            ended(words, end, Parts::Sending(s.msg, s.to, s.call, flags))
-        }
-        Form::Answer => answer_of(names, words),
+    match kind {
+        PartKind::Cell => i + 3,
+        PartKind::Target => i + 1 + thread_length(words, i + 1),
+        PartKind::Call => call_end(words, i),
+        PartKind::Flags => flags_end(words, i),
+        _ => i + 1,
     }
+}
+
+// The parts of these kinds behind the word of a step, and nothing more.
+fn parts_at(names: &Names, kinds: &[PartKind], words: &[Word]) -> Result<Parts, Wrong>
+    requires { length kinds.now ≤ 4 }
+    ensures { result ≡ parts_at names.now kinds.now words.now 1 }
+{
+    let mut parts = Parts::of(&[]);
+    let mut at = 1;
+    for kind in kinds {
+        parts.push(part_by_words(names, *kind, words, at)?);
+        at = part_end(*kind, words, at);
+    }
+    ends_at(words, at)?;
+    Ok(parts)
 }
 
 // What word 0 makes known, if it is the word of a step.
@@ -192,6 +164,6 @@ pub fn step_ask(names: &Names, words: &[Word]) -> Result<Ask, Wrong>
     ensures { result ≡ step_ask names.now words.now }
 {
     let verb = known(words, verb_named(text_at(words, 0)))?;
-    let parts = parts_at(names, verb.form(), words)?;
-    known(words, ask_of(verb, parts))
+    let parts = parts_at(names, verb.kinds(), words)?;
+    known(words, ask_of(verb, parts.as_slice()))
 }

@@ -9,7 +9,7 @@ use crate::sames::same_script;
 use crate::unsaid::Unsaid;
 use lwkt_base::steps::step_of;
 use lwkt_base::{
-    Ask, Blob, Call, Flags, MsgId, MsgSpec, OutOfMemory, Parts, ThreadId, TokId, TokSpec,
+    Ask, Blob, Call, Flags, MsgId, MsgSpec, OutOfMemory, Part, ThreadId, TokId, TokSpec,
 };
 use lwkt_script::{Script, ThreadSpec};
 use std::alloc::Global;
@@ -84,23 +84,8 @@ fn write_msg(page: &mut Sheet, known: Known, msg: MsgId) -> Result<(), OutOfMemo
     page.number(u64::from(msg.0))
 }
 
-// A cell of a token.
-fn write_cell(page: &mut Sheet, known: Known, tok: TokId, cell: u8) -> Result<(), OutOfMemory> {
-    write_tok(page, known, tok)?;
-    page.tagged(".", u64::from(cell))
-}
-
-// What is sent: a message, a thread, and what is asked for.
-fn write_call(
-    page: &mut Sheet,
-    known: Known,
-    msg: MsgId,
-    to: ThreadId,
-    call: Call,
-) -> Result<(), OutOfMemory> {
-    write_msg(page, known, msg)?;
-    page.text(" -> ")?;
-    write_id(page, to)?;
+// What is asked for.
+fn write_call(page: &mut Sheet, call: Call) -> Result<(), OutOfMemory> {
     if call.op > 0 {
         page.tagged(", op ", u64::from(call.op))?;
     }
@@ -123,45 +108,40 @@ fn write_flags(page: &mut Sheet, flags: Flags) -> Result<(), OutOfMemory> {
     Ok(())
 }
 
-// What stands behind the word of a step.
-fn write_parts(page: &mut Sheet, known: Known, parts: Parts) -> Result<(), OutOfMemory> {
-    match parts {
-        Parts::Alone => Ok(()),
-        Parts::Token(tok) => write_tok(page, known, tok),
-        Parts::Cell(tok, cell) => write_cell(page, known, tok, cell),
-        Parts::Value(tok, cell, value) => {
-            write_cell(page, known, tok, cell)?;
-            page.tagged(" ", value)
-        }
-        Parts::More(tok, more) => {
+fn write_part(page: &mut Sheet, known: Known, part: &Part) -> Result<(), OutOfMemory> {
+    match *part {
+        Part::Token(tok) => write_tok(page, known, tok),
+        Part::Cell(tok, cell) => {
             write_tok(page, known, tok)?;
-            page.tagged(" ", more)
+            page.tagged(".", u64::from(cell))
         }
-        Parts::Record(tok, blob) => {
-            write_tok(page, known, tok)?;
-            write_record(page, " ", &blob)
+        Part::Value(value) => page.tagged(" ", value),
+        Part::Record(blob) => write_record(page, " ", &blob),
+        Part::Message(msg) => write_msg(page, known, msg),
+        Part::Target(to) => {
+            page.text(" -> ")?;
+            write_id(page, to)
         }
-        Parts::Message(msg) => write_msg(page, known, msg),
-        Parts::Call(msg, to, call) => write_call(page, known, msg, to, call),
-        Parts::Sending(msg, to, call, flags) => {
-            write_call(page, known, msg, to, call)?;
-            write_flags(page, flags)
-        }
-        Parts::Answer(msg, error, outcome) => {
-            write_msg(page, known, msg)?;
-            page.tagged(" ", u64::from(error))?;
-            page.tagged(" ", outcome)
-        }
+        Part::Call(call) => write_call(page, call),
+        Part::Flags(flags) => write_flags(page, flags),
+        Part::Code(error) => page.tagged(" ", u64::from(error)),
+        Part::Outcome(outcome) => page.tagged(" ", outcome),
     }
+}
+
+fn write_step(page: &mut Sheet, known: Known, ask: &Ask) -> Result<(), OutOfMemory> {
+    let (verb, parts) = step_of(ask);
+    page.text("    ")?;
+    page.text(verb.word())?;
+    for part in parts.as_slice() {
+        write_part(page, known, part)?;
+    }
+    page.text("\n")
 }
 
 fn write_steps(page: &mut Sheet, known: Known, steps: &[Ask]) -> Result<(), OutOfMemory> {
     for ask in steps {
-        let (verb, parts) = step_of(ask);
-        page.text("    ")?;
-        page.text(verb.word())?;
-        write_parts(page, known, parts)?;
-        page.text("\n")?;
+        write_step(page, known, ask)?;
     }
     Ok(())
 }
