@@ -10,7 +10,7 @@ use crate::sayings::put;
 use crate::sentences::{place_in_sentence, starts_of, word_from};
 use lwkt_base::memory::push;
 use lwkt_base::steps::verb_named;
-use lwkt_base::{Form, OutOfMemory};
+use lwkt_base::{OutOfMemory, PartKind};
 use lwkt_report::Sink;
 use std::alloc::Global;
 
@@ -39,21 +39,11 @@ fn may_take(word: &[u8]) -> bool {
         Ok(text) => verb_named(text),
         Err(_) => None,
     };
-    match verb {
-        None => false,
-        Some(verb) => !matches!(
-            verb.form(),
-            Form::Alone
-                | Form::Cell
-                | Form::Value
-                | Form::More
-                | Form::Record
-                | Form::Message
-                | Form::Call
-                | Form::Sending
-                | Form::Answer
-        ),
-    }
+    let kinds: &[PartKind] = match verb {
+        Some(verb) => verb.kinds(),
+        None => &[],
+    };
+    !kinds.is_empty() && kinds.iter().all(|kind| *kind == PartKind::Token)
 }
 
 impl<'t> Held<'t> {

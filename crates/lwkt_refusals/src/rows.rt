@@ -3,9 +3,9 @@ use crate::members;
 use crate::members::show_numbers;
 use crate::parts::Part;
 use crate::records::{is_record, show_no_record};
-use crate::step_forms::behind_step;
+use crate::step_forms::form_of_part;
 use crate::words::Words;
-use lwkt_base::{VERBS, Verb};
+use lwkt_base::{PartKind, VERBS, Verb};
 
 /// The number of a token, a cell, a message, a processor or a thread.
 pub(crate) const SMALL: Want = Want::UpTo(255);
@@ -76,8 +76,8 @@ impl Kind {
     fn shape(self, i: usize) -> Option<Shape> {
         match self {
             Kind::Step | Kind::SecondStep => VERBS.get(i).map(|verb| step_shape(*verb)),
-            Kind::Event => EVENTS.get(i).copied(),
-            Kind::End => ENDS.get(i).copied(),
+            Kind::Event => EVENTS.get(i).map(|row| row_shape(*row)),
+            Kind::End => ENDS.get(i).map(|row| row_shape(*row)),
         }
     }
 
@@ -119,10 +119,13 @@ impl Kind {
     }
 }
 
-// A word, and what may stand behind it.
-type Shape = (&'static str, &'static [Want]);
+// A word, the kinds of the parts of a step that may stand behind it, and what else may.
+type Shape = (&'static str, &'static [PartKind], &'static [Want]);
 
-const EVENTS: [Shape; 19] = [
+// A word, and what may stand behind it.
+type Row = (&'static str, &'static [Want]);
+
+const EVENTS: [Row; 19] = [
     ("load", &[SMALL, SMALL]),
     ("take", &[SMALL, SMALL]),
     ("share", &[SMALL, SMALL]),
@@ -144,16 +147,21 @@ const EVENTS: [Shape; 19] = [
     ("abort", &[SMALL, SMALL]),
 ];
 
-const ENDS: [Shape; 4] = [
+const ENDS: [Row; 4] = [
     ("rest", &[SMALL, WHOLE]),
     ("out", &[SMALL, SMALL, WHOLE]),
     ("with", &[SMALL, SMALL, WHOLE]),
     ("back", &[SMALL, SMALL, WHOLE]),
 ];
 
-// The word of a kind of step, and what may stand behind it.
+// A kind of step, as a shape.
 fn step_shape(verb: Verb) -> Shape {
-    (verb.word(), behind_step(verb.form()).0)
+    (verb.word(), verb.kinds(), &[])
+}
+
+// A row of a table, as a shape.
+fn row_shape(row: Row) -> Shape {
+    (row.0, &[], row.1)
 }
 
 // Whether only steps of version 2 have this word.
@@ -165,7 +173,24 @@ fn is_later(word: &str) -> bool {
 
 // How many parts a list of a shape has.
 fn count_of(shape: Shape) -> usize {
-    shape.1.len().saturating_add(1)
+    let mut count = shape.2.len().saturating_add(1);
+    for kind in shape.1 {
+        count = count.saturating_add(form_of_part(*kind).0.len());
+    }
+    count
+}
+
+// What may stand at a place behind the word of a shape.
+fn want_at(shape: Shape, place: usize) -> Option<Want> {
+    let mut left = place;
+    for kind in shape.1 {
+        let wants = form_of_part(*kind).0;
+        if let Some(want) = wants.get(left) {
+            return Some(*want);
+        }
+        left = left.saturating_sub(wants.len());
+    }
+    shape.2.get(left).copied()
 }
 
 // The shape that begins with a word and has so many parts, if there is one.
@@ -230,16 +255,15 @@ fn show_no_row(out: &mut Words, part: Part<'_>) {
 }
 
 // Appends which part of a list is bad.
-fn show_part(out: &mut Words, list: Part<'_>, wants: &[Want], kind: Kind) {
-    for (i, want) in wants.iter().enumerate() {
-        let place = i.saturating_add(1);
-        let Some(part) = list.item(place) else {
+fn show_part(out: &mut Words, list: Part<'_>, shape: Shape, kind: Kind) {
+    for place in 1..count_of(shape) {
+        let (Some(want), Some(part)) = (want_at(shape, place - 1), list.item(place)) else {
             return;
         };
-        if !fits(part, *want, kind) {
+        if !fits(part, want, kind) {
             out.point(part);
             out.size(" has a part ", place);
-            return match *want {
+            return match want {
                 Want::UpTo(limit) => out.number(" that is no whole number 0 to ", limit),
                 Want::Flags => out.number(" that is no whole number 0 to ", kind.most_flags()),
                 Want::Row => show_no_row(out, part),
@@ -293,7 +317,7 @@ fn show_behind(out: &mut Words, list: Part<'_>, kind: Kind) {
     }
     let count = list.count().unwrap_or(0);
     if let Some(shape) = shape_of(word, count, kind) {
-        return show_part(out, list, shape.1, kind);
+        return show_part(out, list, shape, kind);
     }
     if !show_count(out, word, count, kind) {
         out.add(" has a word that no ");

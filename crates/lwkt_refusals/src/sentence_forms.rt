@@ -1,31 +1,19 @@
 //! How sentences are written, in the letters of docs/LANGUAGE.md.
 
-use crate::step_forms::behind_step;
+use crate::pages::Page;
+use crate::step_forms::form_of_part;
+use lwkt_base::PartKind;
 use lwkt_base::steps::verb_named;
 
-/// How a sentence is written: its first word, and what stands behind it.
-pub type SentenceForm = (&'static str, &'static str);
-
-// How a part of the machine is written, by its first word.
-fn part_form(word: &str) -> Option<SentenceForm> {
+// What stands behind the first word of a part of the machine.
+fn behind_part(word: &str) -> Option<&'static str> {
     match word {
-        "turns" => Some(("turns", " N")),
-        "idle" => Some(("idle", " N")),
-        "cpus" => Some(("cpus", " N")),
-        "token" => Some((
-            "token",
-            " NAME [LAW [N]] [gen N] [record BYTES] [cells CELL ..]",
-        )),
-        "message" => Some(("message", " NAME of TH [round N]")),
-        "thread" => Some(("thread", " NAME on N [repeat N]")),
+        "turns" | "idle" | "cpus" => Some(" N"),
+        "token" => Some(" NAME [LAW [N]] [gen N] [record BYTES] [cells CELL ..]"),
+        "message" => Some(" NAME of TH [round N]"),
+        "thread" => Some(" NAME on N [repeat N]"),
         _ => None,
     }
-}
-
-// How a step is written, by its word.
-fn step_form(word: &str) -> Option<SentenceForm> {
-    let verb = verb_named(word)?;
-    Some((verb.word(), behind_step(verb.form()).1))
 }
 
 // How a claim is written that names no subject, by its first word.
@@ -55,9 +43,24 @@ fn subject_form(word: &str) -> Option<&'static str> {
     }
 }
 
-/// How a sentence is written that begins with this word, if it is no expectation.
-pub fn sentence_form(word: &str) -> Option<SentenceForm> {
-    part_form(word).or(step_form(word))
+/// Appends how a sentence is written that begins with this word, if it is no expectation; says whether it isn't.
+pub fn show_sentence(page: &mut Page, word: &str) -> bool {
+    let (behind, kinds): (&'static str, &'static [PartKind]) = match (
+        behind_part(word),
+        verb_named(word),
+    ) {
+        (Some(behind), _) => (behind, &[]),
+        (None, Some(verb)) => ("", verb.kinds()),
+        (None, None) => return false,
+    };
+    page.add(": the sentence is written `");
+    page.add(word);
+    page.add(behind);
+    for kind in kinds {
+        page.add(form_of_part(*kind).1);
+    }
+    page.add("`");
+    true
 }
 
 /// How a claim is written, by its first two words.

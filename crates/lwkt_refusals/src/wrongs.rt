@@ -6,7 +6,7 @@ use crate::messages::{add_end, add_start};
 use crate::pages::Page;
 use crate::places::{Place, add_head, part_of, place_from};
 use crate::proposals::{NAME_LIMIT, is_keyword, proposal};
-use crate::sentence_forms::{claim_form, sentence_form};
+use crate::sentence_forms::{claim_form, show_sentence};
 use crate::sentences::{place_in_sentence, sentence_at, word_from};
 use lwkt_base::OutOfMemory;
 use lwkt_base::memory::from_slice;
@@ -146,11 +146,7 @@ fn add_quoted(page: &mut Page, bytes: &[u8], at: usize) {
 // How the sentence of a place is written, or the claim in it.
 fn add_form(alloc: Global, page: &mut Page, bytes: &[u8], at: usize) -> Result<(), OutOfMemory> {
     let first = word_at(alloc, bytes, place_in_sentence(bytes, at, 0))?;
-    if let Some((word, behind)) = sentence_form(first.as_str()) {
-        page.add(": the sentence is written `");
-        page.add(word);
-        page.add(behind);
-        page.add("`");
+    if show_sentence(page, first.as_str()) {
         return Ok(());
     }
     let subject = word_at(alloc, bytes, place_in_sentence(bytes, at, 1))?;
