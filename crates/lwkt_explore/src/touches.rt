@@ -1,7 +1,7 @@
 //! What turns of a processor may look at or change that others look at or change too: tokens, messages, and the lanes between
 //! processors. It is never too little; it may be too much.
 use lwkt_base::steps::step_of;
-use lwkt_base::{Ask, Parts, Ref, ThreadId};
+use lwkt_base::{Ask, Part, Ref};
 
 /// Tokens, messages and processors, each as a bit.
 #[derive(Clone, Copy, Debug, PartialEq, Eq)]
@@ -56,33 +56,38 @@ impl Touch {
     }
 }
 
-/// What a step touches by itself: its token, its message, and the processor that it sends to.
-pub(crate) fn touched_by(ask: Ask) -> Touch {
-    match step_of(&ask).1 {
-        Parts::Alone => NOTHING,
-        Parts::Token(tok)
-        | Parts::Cell(tok, _)
-        | Parts::Value(tok, _, _)
-        | Parts::More(tok, _)
-        | Parts::Record(tok, _) => Touch {
+// What a part of a step names.
+fn named_by(part: &Part) -> Touch {
+    match *part {
+        Part::Token(tok) | Part::Cell(tok, _) => Touch {
             tokens: bit(usize::from(tok.0)),
             ..NOTHING
         },
-        Parts::Message(msg) | Parts::Answer(msg, _, _) => Touch {
+        Part::Message(msg) => Touch {
             messages: bit(usize::from(msg.0)),
             ..NOTHING
         },
-        Parts::Call(msg, to, _) | Parts::Sending(msg, to, _, _) => sent(usize::from(msg.0), to),
+        Part::Target(to) => Touch {
+            targets: cpu_bit(usize::from(to.cpu.0)),
+            ..NOTHING
+        },
+        Part::Value(_)
+        | Part::Record(_)
+        | Part::Call(_)
+        | Part::Flags(_)
+        | Part::Code(_)
+        | Part::Outcome(_) => NOTHING,
     }
 }
 
-// What the sending of a message touches.
-fn sent(msg: usize, to: ThreadId) -> Touch {
-    Touch {
-        tokens: 0,
-        messages: bit(msg),
-        targets: cpu_bit(usize::from(to.cpu.0)),
+/// What a step touches by itself: its tokens, its message, and the processor that it sends to.
+pub(crate) fn touched_by(ask: Ask) -> Touch {
+    let (_, parts) = step_of(&ask);
+    let mut touch = NOTHING;
+    for part in parts.as_slice() {
+        touch = touch.and(named_by(part));
     }
+    touch
 }
 
 /// What steps touch by themselves.

@@ -1,23 +1,24 @@
 -- Asks that have the same text.
-use Rattle.std.proofs.Common.{◌≡◌, ◌<◌, ◌/◌, ◌%◌, ◌==◌, ℕ, Bool, true, false, List, [], ◌∷◌, ◌++◌, Option, Some, refl, sym, ap, ap₂, ◌∙◌, arith, codes, append_assoc, append-nil, if◌then◌else◌, bytes_eq, get_or, flat_map}
+use Rattle.std.proofs.Common.{◌≡◌, ◌<◌, ◌/◌, ◌%◌, ◌==◌, ℕ, Bool, true, false, List, [], ◌∷◌, ◌++◌, Option, Some, refl, sym, ap, ap₂, ◌∙◌, arith, codes, append_assoc, append-nil, if◌then◌else◌, bytes_eq, get_or, drop, flat_map, ◌||◌, rules}
 use Rattle.std.specs.Fmt.{decimal}
+use Rattle.std.specs.List.{list_any}
+use Rattle.std.proofs.lemmas.Grind.{flat_map-append}
 use Rattle.std.proofs.lemmas.Bool.{false≢true}
 use Rattle.std.proofs.lemmas.List.{append_cancel_left}
 use Rattle.lwkt_base.specs.declared.asks.Ask.{Ask}
 use Rattle.lwkt_base.specs.declared.asks.Ask.TheVariants.{Get, WriteBlob, Send}
-use Rattle.lwkt_base.specs.declared.names.ThreadId.{ThreadId}
 use Rattle.lwkt_base.specs.declared.records.Flags.{Flags}
-use Rattle.lwkt_base.specs.declared.steps.Form.{Form}
-use Rattle.lwkt_base.specs.declared.steps.Form.TheVariants as forms
-use Rattle.lwkt_base.specs.declared.steps.Parts.{Parts}
-use Rattle.lwkt_base.specs.declared.steps.Parts.TheVariants as parts
+use Rattle.lwkt_base.specs.declared.steps.Part.{Part}
+use Rattle.lwkt_base.specs.declared.steps.Part.TheVariants as parts
+use Rattle.lwkt_base.specs.declared.steps.PartKind.{PartKind}
+use Rattle.lwkt_base.specs.declared.steps.PartKind.TheVariants as kinds
 use Rattle.lwkt_base.specs.declared.steps.Verb.{Verb}
 use Rattle.lwkt_base.specs.declared.steps.Verb.TheVariants as verbs
-use Rattle.lwkt_base.specs.Step.{step_of, form_of, verb_named, ask_of, fits}
-use Rattle.lwkt_base.proofs.StepLemmas.{words_tell}
+use Rattle.lwkt_base.specs.Step.{step_of, part_kinds, verb_named, ask_of, is_of_kind, WordsTellVerbs}
+use Rattle.lwkt_script.specs.Step.{width_of}
 use Rattle.lwkt_trace.specs.Written.{comma}
 use Rattle.lwkt_scenes.specs.Apart.{part_numbers, numbers_of, AreAllWords, ask_writes_record, TextsTellAsks}
-use Rattle.lwkt_scenes.specs.Words.{ask_text, ask_word, ask_parts, flags_number, parts_text}
+use Rattle.lwkt_scenes.specs.Words.{ask_text, ask_word, ask_parts, flags_number, part_text, parts_text}
 use Rattle.lwkt_scenes.proofs.AskTexts.{Unquoted, word_unquoted}
 use Rattle.lwkt_scenes.proofs.Splits.{IsDigit, same_split, same_number}
 
@@ -25,18 +26,13 @@ use Rattle.lwkt_scenes.proofs.Splits.{IsDigit, same_split, same_number}
 text_is : (ask : Ask) → ask_text ask ≡ codes "[\"" ++ (ask_word ask ++ (codes "\"" ++ (ask_parts ask ++ codes "]")))
 text_is ask = simp append_assoc
 
--- texts in a row, from the front on
+-- two texts in a row, from the front on
 row_of_two : (a b : List ℕ) → a ++ b ≡ a ++ (b ++ [])
 row_of_two a b = simp append-nil
 
-row_of_three : (a b c : List ℕ) → a ++ b ++ c ≡ a ++ (b ++ (c ++ []))
-row_of_three a b c = simp (append_assoc, append-nil)
-
-row_of_five : (a b c d e : List ℕ) → a ++ b ++ c ++ d ++ e ≡ a ++ (b ++ (c ++ (d ++ (e ++ []))))
-row_of_five a b c d e = simp (append_assoc, append-nil)
-
-row_of_six : (a b c d e f : List ℕ) → a ++ b ++ c ++ d ++ e ++ f ≡ a ++ (b ++ (c ++ (d ++ (e ++ (f ++ [])))))
-row_of_six a b c d e f = simp (append_assoc, append-nil)
+-- neither of two
+or_false : (a b : Bool) → (a || b) ≡ false → (a ≡ false) × (b ≡ false)
+or_false a b is = search rules
 
 -- whether a step writes a record
 abbrev writes_record : Verb → Bool
@@ -47,26 +43,37 @@ record_is : (ask : Ask) → ask_writes_record ask ≡ writes_record (step_of ask
 record_is (Get tok) = refl
 record_is _ = refl
 
--- the parts of a step that has no record are its numbers
-numbered : (found : Parts) → fits forms.Record found ≡ false → parts_text found ≡ flat_map comma (part_numbers found)
-numbered parts.Alone never = refl
+-- whether a part is a record
+abbrev is_record : Part → Bool
+is_record part = is_of_kind kinds.Record part
+
+-- a part that is no record is its numbers
+numbered : (part : Part) → is_record part ≡ false → part_text part ≡ flat_map comma (part_numbers part)
 numbered (parts.Token tok) never = sym (append-nil (comma tok.0))
 numbered (parts.Cell tok cell) never = row_of_two (comma tok.0) (comma cell)
-numbered (parts.Value tok cell value) never = row_of_three (comma tok.0) (comma cell) (comma value)
-numbered (parts.More tok more) never = row_of_two (comma tok.0) (comma more)
-numbered (parts.Record tok blob) never = absurd (false≢true (sym never))
+numbered (parts.Value value) never = sym (append-nil (comma value))
+numbered (parts.Record blob) never = absurd (false≢true (sym never))
 numbered (parts.Message message) never = sym (append-nil (comma message.0))
-numbered (parts.Call message to call) never = row_of_five (comma message.0) (comma to.cpu.0) (comma to.thread) (comma call.op) (comma call.arg)
-numbered (parts.Sending message to call flags) never = row_of_six (comma message.0) (comma to.cpu.0) (comma to.thread) (comma call.op) (comma call.arg) (comma (flags_number flags))
-numbered (parts.Answer message error outcome) never = row_of_three (comma message.0) (comma error) (comma outcome)
+numbered (parts.Target to) never = row_of_two (comma to.cpu.0) (comma to.thread)
+numbered (parts.Call call) never = row_of_two (comma call.op) (comma call.arg)
+numbered (parts.Flags flags) never = sym (append-nil (comma (flags_number flags)))
+numbered (parts.Code error) never = sym (append-nil (comma error))
+numbered (parts.Outcome outcome) never = sym (append-nil (comma outcome))
+
+-- and so are parts of which none is one
+all_numbered : (found : List Part) → list_any is_record found ≡ false → parts_text found ≡ flat_map comma (flat_map part_numbers found)
+all_numbered [] never = refl
+all_numbered (part ∷ more) never =
+    let first = or_false (is_record part) (list_any is_record more) never in
+    ap₂ (λ (text : List ℕ) (behind : List ℕ). text ++ behind) (numbered part first.0) (all_numbered more first.1) ∙ sym (flat_map-append comma (part_numbers part) (flat_map part_numbers more))
 
 -- an ask that writes no record has none among its parts
-no_record_part : (ask : Ask) → ask_writes_record ask ≡ false → fits forms.Record (step_of ask).1 ≡ false
-no_record_part (WriteBlob tok blob) never = never
+no_record_part : (ask : Ask) → ask_writes_record ask ≡ false → list_any is_record (step_of ask).1 ≡ false
+no_record_part (WriteBlob tok blob) never = absurd (false≢true (sym never))
 no_record_part _ never = refl
 
 parts_are : (ask : Ask) → ask_writes_record ask ≡ false → ask_parts ask ≡ flat_map comma (numbers_of ask)
-parts_are ask never = numbered (step_of ask).1 (no_record_part ask never)
+parts_are ask never = all_numbered (step_of ask).1 (no_record_part ask never)
 
 -- flags by their number
 abbrev flags_of : ℕ → Flags
@@ -86,25 +93,27 @@ flags_kept false false false = refl
 abbrev at : ℕ → List ℕ → ℕ
 at place numbers = get_or numbers place 0
 
-abbrev to_of : List ℕ → ThreadId
-to_of numbers = record { cpu = record { 0 = at 1 numbers }; thread = at 2 numbers }
+-- a part of a kind by its numbers, the first of these
+abbrev part_by : PartKind → List ℕ → Part
+part_by kinds.Token ns = parts.Token (record { 0 = at 0 ns })
+part_by kinds.Cell ns = parts.Cell (record { 0 = at 0 ns }) (at 1 ns)
+part_by kinds.Value ns = parts.Value (at 0 ns)
+part_by kinds.Record ns = parts.Record []
+part_by kinds.Message ns = parts.Message (record { 0 = at 0 ns })
+part_by kinds.Target ns = parts.Target (record { cpu = record { 0 = at 0 ns }; thread = at 1 ns })
+part_by kinds.Call ns = parts.Call (record { op = at 0 ns; arg = at 1 ns })
+part_by kinds.Flags ns = parts.Flags (flags_of (at 0 ns))
+part_by kinds.Code ns = parts.Code (at 0 ns)
+part_by kinds.Outcome ns = parts.Outcome (at 0 ns)
 
--- parts of a form by their numbers
-abbrev parts_by : Form → List ℕ → Parts
-parts_by forms.Alone ns = parts.Alone
-parts_by forms.Token ns = parts.Token (record { 0 = at 0 ns })
-parts_by forms.Cell ns = parts.Cell (record { 0 = at 0 ns }) (at 1 ns)
-parts_by forms.Value ns = parts.Value (record { 0 = at 0 ns }) (at 1 ns) (at 2 ns)
-parts_by forms.More ns = parts.More (record { 0 = at 0 ns }) (at 1 ns)
-parts_by forms.Record ns = parts.Alone
-parts_by forms.Message ns = parts.Message (record { 0 = at 0 ns })
-parts_by forms.Call ns = parts.Call (record { 0 = at 0 ns }) (to_of ns) (record { op = at 3 ns; arg = at 4 ns })
-parts_by forms.Sending ns = parts.Sending (record { 0 = at 0 ns }) (to_of ns) (record { op = at 3 ns; arg = at 4 ns }) (flags_of (at 5 ns))
-parts_by forms.Answer ns = parts.Answer (record { 0 = at 0 ns }) (at 1 ns) (at 2 ns)
+-- parts of kinds by their numbers
+abbrev parts_by : List PartKind → List ℕ → List Part
+parts_by [] ns = []
+parts_by (kind ∷ more) ns = part_by kind ns ∷ parts_by more (drop (width_of kind) ns)
 
 -- an ask by its kind and its numbers
 abbrev ask_by : Verb → List ℕ → Option Ask
-ask_by verb ns = ask_of verb (parts_by (form_of verb) ns)
+ask_by verb ns = ask_of verb (parts_by (part_kinds verb) ns)
 
 ask_kept : (ask : Ask) → ask_writes_record ask ≡ false → ask_by (step_of ask).0 (numbers_of ask) ≡ Some ask
 ask_kept (WriteBlob tok blob) never = absurd (false≢true (sym never))
@@ -114,6 +123,11 @@ ask_kept _ never = refl
 -- what is there once
 same_some : {A : Type 0} (a b : A) → Some a ≡ Some b → a ≡ b
 same_some a b e = cc
+
+-- each kind of step has a word of its own
+words_tell : WordsTellVerbs
+words_tell verbs.Get = refl
+words_tell _ = refl
 
 -- asks of one word are of one kind
 same_verb : (one other : Ask) → ask_word one ≡ ask_word other → (step_of one).0 ≡ (step_of other).0

@@ -1,21 +1,18 @@
 -- Characters that the texts of asks and steps don't have.
-use Rattle.std.proofs.Common.{◌≡◌, ◌≢◌, ◌+◌, ◌/◌, ◌%◌, ◌==◌, ℕ, true, not, List, [], ◌++◌, refl, arith, length, take, codes, if◌then◌else◌, nat_lt, nat_le}
+use Rattle.std.proofs.Common.{◌≡◌, ◌≢◌, ◌+◌, ◌/◌, ◌%◌, ◌==◌, ℕ, true, not, List, [], ◌∷◌, ◌++◌, refl, arith, length, take, codes, if◌then◌else◌, nat_lt, nat_le}
 use Rattle.std.specs.Fmt.{decimal}
 use Rattle.std.specs.List.{list_all}
 use Rattle.lwkt_base.specs.Hex.{digit_text, byte_text, hex_text}
 use Rattle.lwkt_base.specs.declared.asks.Ask.{Ask}
-use Rattle.lwkt_base.specs.declared.names.MsgId.{MsgId}
-use Rattle.lwkt_base.specs.declared.names.ThreadId.{ThreadId}
-use Rattle.lwkt_base.specs.declared.records.Call.{Call}
-use Rattle.lwkt_base.specs.declared.steps.Parts.{Parts}
-use Rattle.lwkt_base.specs.declared.steps.Parts.TheVariants as parts
+use Rattle.lwkt_base.specs.declared.steps.Part.{Part}
+use Rattle.lwkt_base.specs.declared.steps.Part.TheVariants as parts
 use Rattle.lwkt_base.specs.declared.steps.Verb.{Verb}
 use Rattle.lwkt_base.specs.declared.steps.Verb.TheVariants.{Get}
 use Rattle.lwkt_base.specs.Step.{step_of, word_of}
 use Rattle.lwkt_trace.specs.Written.{comma, blob_text, past_text}
 use Rattle.lwkt_scenes.specs.declared.stories.Step.{Step}
 use Rattle.lwkt_scenes.specs.Lines.{time_text, step_text}
-use Rattle.lwkt_scenes.specs.Words.{ask_word, ask_parts, flags_number, call_text, parts_text}
+use Rattle.lwkt_scenes.specs.Words.{ask_word, ask_parts, flags_number, part_text, parts_text}
 use Rattle.lwkt_scenes.proofs.Splits.{Each, IsDigit, each_append, each_if, each_flat, none_of, decimal_none}
 
 -- a character that isn't a quotation mark
@@ -55,13 +52,8 @@ comma_inside n = each_append Inside (codes ",") (decimal n) (none_of 93 refl (co
 then_inside : (xs ys : List ℕ) → Each Inside xs → Each Inside ys → Each Inside (xs ++ ys)
 then_inside xs ys a b = each_append Inside xs ys a b
 
-call_inside : (message : MsgId) (to : ThreadId) (call : Call) → Each Inside (call_text message to call)
-call_inside message to call =
-    let two : List ℕ = comma message.0 ++ comma to.cpu.0 in
-    let three : List ℕ = two ++ comma to.thread in
-    let four : List ℕ = three ++ comma call.op in
-    then_inside four (comma call.arg)
-    (then_inside three (comma call.op) (then_inside two (comma to.thread) (then_inside (comma message.0) (comma to.cpu.0) (comma_inside message.0) (comma_inside to.cpu.0)) (comma_inside to.thread)) (comma_inside call.op)) (comma_inside call.arg)
+two_inside : (m n : ℕ) → Each Inside (comma m ++ comma n)
+two_inside m n = then_inside (comma m) (comma n) (comma_inside m) (comma_inside n)
 
 digit_inside : (n : ℕ) → Each Inside (digit_text n)
 digit_inside n =
@@ -97,17 +89,21 @@ blob_inside blob =
     then_inside (digits ++ past_text blob) (codes "\"")
     (then_inside digits (past_text blob) (then_inside (codes "\"") (hex_text (take 64 blob)) quote_inside (each_flat Inside byte_text byte_inside (take 64 blob))) (past_inside blob)) quote_inside
 
-parts_inside : (found : Parts) → Each Inside (parts_text found)
-parts_inside parts.Alone = tt
-parts_inside (parts.Token tok) = comma_inside tok.0
-parts_inside (parts.Cell tok cell) = then_inside (comma tok.0) (comma cell) (comma_inside tok.0) (comma_inside cell)
-parts_inside (parts.Value tok cell value) = then_inside (comma tok.0 ++ comma cell) (comma value) (then_inside (comma tok.0) (comma cell) (comma_inside tok.0) (comma_inside cell)) (comma_inside value)
-parts_inside (parts.More tok more) = then_inside (comma tok.0) (comma more) (comma_inside tok.0) (comma_inside more)
-parts_inside (parts.Record tok blob) = then_inside (comma tok.0 ++ codes ",") (blob_text blob) (then_inside (comma tok.0) (codes ",") (comma_inside tok.0) (none_of 93 refl (codes ",") refl)) (blob_inside blob)
-parts_inside (parts.Message message) = comma_inside message.0
-parts_inside (parts.Call message to call) = call_inside message to call
-parts_inside (parts.Sending message to call flags) = then_inside (call_text message to call) (comma (flags_number flags)) (call_inside message to call) (comma_inside (flags_number flags))
-parts_inside (parts.Answer message error outcome) = then_inside (comma message.0 ++ comma error) (comma outcome) (then_inside (comma message.0) (comma error) (comma_inside message.0) (comma_inside error)) (comma_inside outcome)
+part_inside : (part : Part) → Each Inside (part_text part)
+part_inside (parts.Token tok) = comma_inside tok.0
+part_inside (parts.Cell tok cell) = two_inside tok.0 cell
+part_inside (parts.Value value) = comma_inside value
+part_inside (parts.Record blob) = then_inside (codes ",") (blob_text blob) (none_of 93 refl (codes ",") refl) (blob_inside blob)
+part_inside (parts.Message message) = comma_inside message.0
+part_inside (parts.Target to) = two_inside to.cpu.0 to.thread
+part_inside (parts.Call call) = two_inside call.op call.arg
+part_inside (parts.Flags flags) = comma_inside (flags_number flags)
+part_inside (parts.Code error) = comma_inside error
+part_inside (parts.Outcome outcome) = comma_inside outcome
+
+parts_inside : (found : List Part) → Each Inside (parts_text found)
+parts_inside [] = tt
+parts_inside (part ∷ more) = then_inside (part_text part) (parts_text more) (part_inside part) (parts_inside more)
 
 -- the text of an ask but for its end
 abbrev pub ask_front : Ask → List ℕ

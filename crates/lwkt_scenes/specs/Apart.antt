@@ -1,9 +1,10 @@
 -- What can be told from the line of a turn (own).
 use Rattle.std.specs.Prelude.{◌≡◌, ◌<◌, ◌^◌, ℕ, Bool, true, false, List, [], ◌∷◌, Option, None, Some, IfSome}
+use Rattle.std.specs.List.{flat_map}
 use Rattle.lwkt_base.specs.declared.asks.Ask.{Ask}
 use Rattle.lwkt_base.specs.declared.asks.Ask.TheVariants.{WriteBlob}
-use Rattle.lwkt_base.specs.declared.steps.Parts.{Parts}
-use Rattle.lwkt_base.specs.declared.steps.Parts.TheVariants as parts
+use Rattle.lwkt_base.specs.declared.steps.Part.{Part}
+use Rattle.lwkt_base.specs.declared.steps.Part.TheVariants as parts
 use Rattle.lwkt_base.specs.Step.{step_of}
 use Rattle.lwkt_verdict.specs.declared.turns.Poll.{Poll}
 use Rattle.lwkt_scenes.specs.Words.{ask_text, ask_word, flags_number}
@@ -51,22 +52,22 @@ pub record AreAlike (one other : TurnTold) : Type 0 where
 abbrev pub LinesTellTurns : Type 0
 LinesTellTurns = (one other : TurnTold) (line : List ℕ) → AreWords one → AreWords other → IsLineOf one line → IsLineOf other line → AreAlike one other
 
--- the numbers among the parts of a step
-abbrev pub part_numbers : Parts → List ℕ
-part_numbers parts.Alone = []
+-- the numbers of a part of a step
+abbrev pub part_numbers : Part → List ℕ
 part_numbers (parts.Token tok) = tok.0 ∷ []
 part_numbers (parts.Cell tok cell) = tok.0 ∷ cell ∷ []
-part_numbers (parts.Value tok cell value) = tok.0 ∷ cell ∷ value ∷ []
-part_numbers (parts.More tok more) = tok.0 ∷ more ∷ []
-part_numbers (parts.Record tok blob) = tok.0 ∷ []
+part_numbers (parts.Value value) = value ∷ []
+part_numbers (parts.Record blob) = []
 part_numbers (parts.Message message) = message.0 ∷ []
-part_numbers (parts.Call message to call) = message.0 ∷ to.cpu.0 ∷ to.thread ∷ call.op ∷ call.arg ∷ []
-part_numbers (parts.Sending message to call flags) = message.0 ∷ to.cpu.0 ∷ to.thread ∷ call.op ∷ call.arg ∷ flags_number flags ∷ []
-part_numbers (parts.Answer message error outcome) = message.0 ∷ error ∷ outcome ∷ []
+part_numbers (parts.Target to) = to.cpu.0 ∷ to.thread ∷ []
+part_numbers (parts.Call call) = call.op ∷ call.arg ∷ []
+part_numbers (parts.Flags flags) = flags_number flags ∷ []
+part_numbers (parts.Code error) = error ∷ []
+part_numbers (parts.Outcome outcome) = outcome ∷ []
 
 -- the numbers that stand behind the word of an ask
 abbrev pub numbers_of : Ask → List ℕ
-numbers_of ask = part_numbers (step_of ask).1
+numbers_of ask = flat_map part_numbers (step_of ask).1
 
 -- numbers of a word each
 abbrev pub AreAllWords : List ℕ → Type 0

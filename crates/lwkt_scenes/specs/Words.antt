@@ -1,7 +1,7 @@
 -- The words of asks and answers (own).
 use Rattle.std.specs.Prelude.{ℕ, ◌+◌, ◌==◌, ◌&&◌, ◌||◌, nat_le, nat_lt, Bool, not, List, [], ◌++◌, length, take, codes, if◌then◌else◌}
 use Rattle.std.specs.Fmt.{decimal}
-use Rattle.std.specs.List.{list_all}
+use Rattle.std.specs.List.{list_all, flat_map}
 use Rattle.lwkt_base.specs.Fault.{number_of, fault_message}
 use Rattle.lwkt_base.specs.Hex.{hex_text}
 use Rattle.lwkt_base.specs.Step.{step_of, word_of}
@@ -13,11 +13,10 @@ use Rattle.lwkt_base.specs.declared.asks.Item.TheVariants.{Request, Answered}
 use Rattle.lwkt_base.specs.declared.faults.Fault.{Fault}
 use Rattle.lwkt_base.specs.declared.names.MsgId.{MsgId}
 use Rattle.lwkt_base.specs.declared.names.ThreadId.{ThreadId}
-use Rattle.lwkt_base.specs.declared.records.Call.{Call}
 use Rattle.lwkt_base.specs.declared.records.Flags.{Flags}
 use Rattle.lwkt_base.specs.declared.records.Rec.{Rec}
-use Rattle.lwkt_base.specs.declared.steps.Parts.{Parts}
-use Rattle.lwkt_base.specs.declared.steps.Parts.TheVariants as parts
+use Rattle.lwkt_base.specs.declared.steps.Part.{Part}
+use Rattle.lwkt_base.specs.declared.steps.Part.TheVariants as parts
 use Rattle.lwkt_trace.specs.Written.{comma, blob_text}
 
 -- a thread by its processor and its number: `1.0`
@@ -36,22 +35,22 @@ ask_word ask = word_of (step_of ask).0
 abbrev pub flags_number : Flags → ℕ
 flags_number flags = (if flags.dropable then 1 else 0) + (if flags.abortable then 2 else 0) + (if flags.priority then 4 else 0)
 
--- a message, the thread that it goes to, and what it asks for
-abbrev pub call_text : MsgId → ThreadId → Call → List ℕ
-call_text message to call = comma message.0 ++ comma to.cpu.0 ++ comma to.thread ++ comma call.op ++ comma call.arg
+-- a part of a step after a comma, each of its numbers after one
+abbrev pub part_text : Part → List ℕ
+part_text (parts.Token tok) = comma tok.0
+part_text (parts.Cell tok cell) = comma tok.0 ++ comma cell
+part_text (parts.Value value) = comma value
+part_text (parts.Record blob) = codes "," ++ blob_text blob
+part_text (parts.Message message) = comma message.0
+part_text (parts.Target to) = comma to.cpu.0 ++ comma to.thread
+part_text (parts.Call call) = comma call.op ++ comma call.arg
+part_text (parts.Flags flags) = comma (flags_number flags)
+part_text (parts.Code error) = comma error
+part_text (parts.Outcome outcome) = comma outcome
 
--- the parts of a step, each after a comma
-abbrev pub parts_text : Parts → List ℕ
-parts_text parts.Alone = []
-parts_text (parts.Token tok) = comma tok.0
-parts_text (parts.Cell tok cell) = comma tok.0 ++ comma cell
-parts_text (parts.Value tok cell value) = comma tok.0 ++ comma cell ++ comma value
-parts_text (parts.More tok more) = comma tok.0 ++ comma more
-parts_text (parts.Record tok blob) = comma tok.0 ++ codes "," ++ blob_text blob
-parts_text (parts.Message message) = comma message.0
-parts_text (parts.Call message to call) = call_text message to call
-parts_text (parts.Sending message to call flags) = call_text message to call ++ comma (flags_number flags)
-parts_text (parts.Answer message error outcome) = comma message.0 ++ comma error ++ comma outcome
+-- the parts of a step, one after another
+abbrev pub parts_text : List Part → List ℕ
+parts_text found = flat_map part_text found
 
 -- what stands behind the word of an ask
 abbrev pub ask_parts : Ask → List ℕ

@@ -2,12 +2,12 @@ ghost use Rattle.std.specs.Prelude.{◌≡◌, ◌++◌};
 ghost use Rattle.std.specs.Fmt.{decimal};
 ghost use Rattle.lwkt_refusals.specs.Pages.{GrowsBy};
 ghost use Rattle.lwkt_trace.specs.Written.{comma};
-ghost use Rattle.lwkt_scenes.specs.Words.{thread_text, call_text, flags_number, parts_text, ask_text, fault_text, item_text, dropped_text, refused_text, answer_text};
+ghost use Rattle.lwkt_scenes.specs.Words.{thread_text, flags_number, part_text, parts_text, ask_text, fault_text, item_text, dropped_text, refused_text, answer_text};
 
 use crate::pages::Page;
 use crate::records::{show_digits, show_record};
 use lwkt_base::steps::step_of;
-use lwkt_base::{Answer, Ask, Call, Fault, Flags, Item, Mode, MsgId, Parts, Rec, ThreadId};
+use lwkt_base::{Answer, Ask, Fault, Flags, Item, Mode, MsgId, Part, Rec, ThreadId};
 
 /// Appends a thread by its processor and its number: `1.0`.
 pub(crate) fn show_thread(out: &mut Page, id: ThreadId)
@@ -17,22 +17,12 @@ pub(crate) fn show_thread(out: &mut Page, id: ThreadId)
     out.number(".", u64::from(id.thread));
 }
 
-// Appends a number after a comma.
-fn show_part(out: &mut Page, number: u64)
-    ensures { GrowsBy out.old out.new (comma number) }
+// Appends two numbers, each after a comma.
+fn show_two(out: &mut Page, first: u64, second: u64)
+    ensures { GrowsBy out.old out.new (comma first ++ comma second) }
 {
-    out.number(",", number)
-}
-
-// Appends a message, a thread and a call.
-fn show_call(out: &mut Page, msg: MsgId, to: ThreadId, call: Call)
-    ensures { GrowsBy out.old out.new (call_text msg to call) }
-{
-    show_part(out, u64::from(msg.0));
-    show_part(out, u64::from(to.cpu.0));
-    show_part(out, u64::from(to.thread));
-    show_part(out, u64::from(call.op));
-    show_part(out, call.arg)
+    out.number(",", first);
+    out.number(",", second)
 }
 
 // The flags of a send as a number.
@@ -45,42 +35,33 @@ fn flags_number(flags: Flags) -> u8
     dropable + abortable + priority
 }
 
-// Appends the parts of a step, each after a comma.
-fn show_parts(out: &mut Page, parts: Parts)
-    ensures { GrowsBy out.old out.new (parts_text parts) }
+// Appends a part of a step after a comma.
+fn show_part(out: &mut Page, part: &Part)
+    ensures { GrowsBy out.old out.new (part_text part.now) }
 {
-    match parts {
-        Parts::Alone => out.add(""),
-        Parts::Token(tok) => show_part(out, u64::from(tok.0)),
-        Parts::Cell(tok, cell) => {
-            show_part(out, u64::from(tok.0));
-            show_part(out, u64::from(cell))
-        }
-        Parts::Value(tok, cell, value) => {
-            show_part(out, u64::from(tok.0));
-            show_part(out, u64::from(cell));
-            show_part(out, value)
-        }
-        Parts::More(tok, more) => {
-            show_part(out, u64::from(tok.0));
-            show_part(out, more)
-        }
-        Parts::Record(tok, blob) => {
-            show_part(out, u64::from(tok.0));
+    match *part {
+        Part::Token(tok) => out.number(",", u64::from(tok.0)),
+        Part::Cell(tok, cell) => show_two(out, u64::from(tok.0), u64::from(cell)),
+        Part::Value(value) => out.number(",", value),
+        Part::Record(blob) => {
             out.add(",");
             show_digits(out, &blob)
         }
-        Parts::Message(msg) => show_part(out, u64::from(msg.0)),
-        Parts::Call(msg, to, call) => show_call(out, msg, to, call),
-        Parts::Sending(msg, to, call, flags) => {
-            show_call(out, msg, to, call);
-            show_part(out, u64::from(flags_number(flags)))
-        }
-        Parts::Answer(msg, error, outcome) => {
-            show_part(out, u64::from(msg.0));
-            show_part(out, u64::from(error));
-            show_part(out, outcome)
-        }
+        Part::Message(msg) => out.number(",", u64::from(msg.0)),
+        Part::Target(to) => show_two(out, u64::from(to.cpu.0), u64::from(to.thread)),
+        Part::Call(call) => show_two(out, u64::from(call.op), call.arg),
+        Part::Flags(flags) => out.number(",", u64::from(flags_number(flags))),
+        Part::Code(error) => out.number(",", u64::from(error)),
+        Part::Outcome(outcome) => out.number(",", outcome),
+    }
+}
+
+// Appends the parts of a step.
+fn show_parts(out: &mut Page, parts: &[Part])
+    ensures { GrowsBy out.old out.new (parts_text parts.now) }
+{
+    for part in parts {
+        show_part(out, part);
     }
 }
 
@@ -92,7 +73,7 @@ pub(crate) fn show_ask(out: &mut Page, ask: &Ask)
     out.add("[\"");
     out.add(verb.word());
     out.add("\"");
-    show_parts(out, parts);
+    show_parts(out, parts.as_slice());
     out.add("]");
 }
 
