@@ -16,7 +16,6 @@ use crate::foreign::foreign_word;
 use crate::performing::perform;
 use crate::written::written;
 use lwkt_base::memory;
-use lwkt_refusals::Speaker;
 use lwkt_report::{
     Complaint, NotedReader, NotedWriter, Program, ReaderSource, Sink, WordsFault, WriterSink,
     complain,
@@ -33,12 +32,20 @@ use std::time::Clock;
 // What is said of an argument that isn't UTF-8.
 const FOREIGN_WORDS: &str = " isn't UTF-8; give such a file as standard input, by < FILE\n";
 
+// How `lwkt_run` is called.
+const RUN_USAGE: &str = "\
+usage: lwkt_run turns [FILE]     run a script in rounds, on one thread, and write its report
+       lwkt_run threads [FILE]   the same with a thread for each processor
+       lwkt_run --help           say more
+example: ./lwkt_run turns examples/tally_add.json
+";
+
 // Writes the usage line of `lwkt_run`, and says how it is called.
 fn misused<O: Write, E: Sink>(sink: &mut WriterSink<NotedWriter<O>>, errors: &mut E) -> Ending
     ensures { TellsUsage (record { old = O.contents sink.old.writer.writer; new = O.contents sink.new.writer.writer; failed = sink.new.failed; error = sink.new.writer.error; flushed = sink.new.flushed; before = E.contents errors.old; after = E.contents errors.new; lost = E.has_failed errors.new }) result }
 {
     complain(sink, Program::Run, Complaint::Usage);
-    Speaker::Run.say_usage(errors);
+    put(errors, RUN_USAGE);
     Ending::Done(1)
 }
 

@@ -7,7 +7,7 @@ ghost use Rattle.lwkt.specs.Answering.{IsByOldName, lines_shown};
 use crate::failures::Failure;
 use lwkt_base::memory::{from_str, push_str};
 use lwkt_base::{Fault, OutOfMemory, memory};
-use lwkt_refusals::{Speaker, has_no_reader, say_of_file, say_opening};
+use lwkt_refusals::{has_no_reader, say_of_file, say_opening};
 use lwkt_report::{Sink, push_escaped, write_whole};
 use lwkt_request::{Form, Task};
 use lwkt_text::Input;
@@ -24,14 +24,14 @@ pub struct Origin<'o> {
 }
 
 impl<'o> Origin<'o> {
-    /// Who says why it isn't read.
-    pub fn speaker(self) -> Speaker {
+    /// The command that reads it from standard input.
+    pub fn piped(self) -> &'static str {
         match self.task {
-            Task::Run { .. } => Speaker::Run,
-            Task::Show { .. } => Speaker::Show,
-            Task::Check { .. } => Speaker::Check,
-            Task::Text(_) => Speaker::Text,
-            Task::Explore(_) => Speaker::Explore,
+            Task::Run { .. } => "lwkt run <",
+            Task::Show { .. } => "lwkt show <",
+            Task::Check { .. } => "lwkt check <",
+            Task::Text(_) => "lwkt text --text <",
+            Task::Explore(_) => "lwkt explore <",
         }
     }
 

@@ -45,7 +45,7 @@ pub fn read_said<E: Sink>(
         Err(unread) => {
             let fault = fault_of(&unread);
             if !matches!(unread, Unread::Memory(_)) {
-                say_unread(alloc, errors, origin.speaker(), origin.path, bytes, &unread);
+                say_unread(alloc, errors, origin.piped(), origin.path, bytes, &unread);
             }
             Err(fault)
         }

@@ -3,7 +3,7 @@
 
 use lwkt_base::memory::put;
 use lwkt_base::{Fault, OutOfMemory};
-use lwkt_refusals::{Speaker, say_of_file, say_opening, say_unread, say_untraced};
+use lwkt_refusals::{say_of_file, say_opening, say_unread, say_untraced};
 use lwkt_report::{Page, READ_LIMIT, write_whole};
 use lwkt_script::read_script;
 use lwkt_text::{Input, Many, Unread, Wrong, is_text};
@@ -32,7 +32,7 @@ pub fn say_whole(alloc: Global, page: &mut Page, words: &str) {
 /// Says why a script in either form isn't read.
 pub fn say_input(alloc: Global, page: &mut Page, script: &[u8], unread: &Unread) {
     // Where no file is named, who speaks doesn't matter.
-    say_unread(alloc, page, Speaker::Run, None, script, unread);
+    say_unread(alloc, page, "lwkt run <", None, script, unread);
 }
 
 /// Says all that is wrong with a text.

@@ -92,34 +92,3 @@ pub(crate) fn breach_in(
     }
     None
 }
-
-// What is said of the first token of a text whose opening breaks its law, if there is one.
-fn text_breach(alloc: Global, bytes: &[u8]) -> Result<Option<Words>, OutOfMemory> {
-    match read_text(alloc, bytes) {
-        Ok(Reading { script, names, .. }) => Ok(breach_in(
-            alloc,
-            bytes,
-            script.tokens.as_slice(),
-            Some(&names),
-        )),
-        Err(Refusal::Memory(refused)) => Err(refused),
-        Err(Refusal::Wrongs(_)) => Ok(None),
-    }
-}
-
-/// Why the opening of a text is refused with this fault: the token whose opening breaks its law, and how; or the fault's own text.
-///
-/// Refused if memory is.
-pub fn opening_said(alloc: Global, bytes: &[u8], fault: Fault) -> Result<String, OutOfMemory> {
-    let mut page = Page::new(alloc);
-    let words = if fault == Fault::LawBroken {
-        text_breach(alloc, bytes)?
-    } else {
-        None
-    };
-    match words {
-        Some(words) => page.add_page(&words.page),
-        None => page.fault("", fault),
-    }
-    page.whole()
-}

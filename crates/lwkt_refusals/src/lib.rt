@@ -36,13 +36,11 @@ mod untraced;
 mod words;
 mod wrongs;
 
-pub use breaches::{opening_said, show_breach};
+pub use breaches::show_breach;
 pub use files::say_of_file;
 pub use pages::Page;
 pub use places::{Place, add_head, place_from};
-pub use refusals::{Document, refusal};
 pub use releases::say_releases;
-pub use sayings::{Speaker, has_no_reader};
+pub use sayings::has_no_reader;
 pub use unread::{say_opening, say_unread};
 pub use untraced::{say_untraced, say_untraced_line};
-pub use wrongs::wrongs_said;

@@ -17,7 +17,7 @@ use std::alloc::Global;
 
 /// What a text that was refused had to be.
 #[derive(Clone, Copy, Debug, PartialEq, Eq)]
-pub enum Document {
+pub(crate) enum Document {
     /// A script.
     Script,
     /// A trace.
@@ -48,13 +48,6 @@ impl Document {
             Document::Trace => show_trace_place(out, whole, place),
         }
     }
-}
-
-// Appends a line and a column.
-fn show_place(out: &mut Page, place: Place) {
-    out.size("line ", place.line);
-    out.size(", column ", place.column());
-    out.add(": ");
 }
 
 // Whether a text begins with a byte order mark.
@@ -115,12 +108,6 @@ fn show_text(alloc: Global, out: &mut Words, document: Document, bytes: &[u8]) {
     }
 }
 
-// Appends words, behind the line and the column of the part that they are about.
-fn show_words(out: &mut Page, bytes: &[u8], words: &Words) {
-    show_place(out, place_from(bytes, Place::FIRST, words.place));
-    out.add_page(&words.page);
-}
-
 /// What is bad at a place.
 pub(crate) fn part_words(alloc: Global, document: Document, bytes: &[u8], place: u32) -> Words {
     let mut words = Words::new(alloc);
@@ -172,29 +159,6 @@ pub(crate) fn opening_words(alloc: Global, document: Document, bytes: &[u8]) -> 
     let whole = Part::whole(bytes);
     let tokens = tokens_in(alloc, document, whole, whole.member("tokens")?)?;
     breach_in(alloc, bytes, tokens.as_slice(), None)
-}
-
-/// Why these bytes are refused with this fault, in words and without a line end: what is bad, and the line and the column
-/// at which it stands, both counted from 1; a column is a byte. Of any other fault than `Script` and `LawBroken` its text.
-///
-/// Refused if memory is.
-pub fn refusal(
-    alloc: Global,
-    document: Document,
-    bytes: &[u8],
-    fault: Fault,
-) -> Result<String, OutOfMemory> {
-    let mut out = Page::new(alloc);
-    let words = match fault {
-        Fault::Script { place } => Some(part_words(alloc, document, bytes, place)),
-        Fault::LawBroken => opening_words(alloc, document, bytes),
-        _ => None,
-    };
-    match words {
-        Some(words) => show_words(&mut out, bytes, &words),
-        None => out.fault("", fault),
-    }
-    out.whole()
 }
 
 // The most bytes of a line.

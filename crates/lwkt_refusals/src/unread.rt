@@ -8,7 +8,7 @@ use crate::parts::Part;
 use crate::places::{Place, place_from};
 use crate::proposals::{KEYWORDS, is_keyword};
 use crate::refusals::{Document, part_words};
-use crate::sayings::{Speaker, put};
+use crate::sayings::put;
 use crate::trace_forms::{is_in_lines, is_whole_trace};
 use crate::words::Words;
 use crate::wrongs::wrongs_told;
@@ -98,13 +98,7 @@ fn is_object(alloc: Global, bytes: &[u8]) -> bool {
 }
 
 // Appends that a file with the name of a text holds JSON.
-fn add_misnamed(
-    alloc: Global,
-    page: &mut Page,
-    speaker: Speaker,
-    name: Option<&str>,
-    bytes: &[u8],
-) {
+fn add_misnamed(alloc: Global, page: &mut Page, piped: &str, name: Option<&str>, bytes: &[u8]) {
     let mut words = Words::new(alloc);
     words.point(Part::whole(bytes));
     words.add("this is JSON, and a file whose name ends in .lwkt holds a text");
@@ -112,7 +106,7 @@ fn add_misnamed(
     let command = if is_whole_trace(bytes) {
         "lwkt check"
     } else {
-        speaker.piped()
+        piped
     };
     add_try(page, command, name);
 }
@@ -121,13 +115,13 @@ fn add_misnamed(
 fn add_text(
     alloc: Global,
     page: &mut Page,
-    speaker: Speaker,
+    piped: &str,
     name: Option<&str>,
     bytes: &[u8],
     wrongs: &[Wrong],
 ) {
     if is_named_text(name) && is_object(alloc, bytes) {
-        return add_misnamed(alloc, page, speaker, name, bytes);
+        return add_misnamed(alloc, page, piped, name, bytes);
     }
     match wrongs_told(alloc, name, bytes, wrongs) {
         Ok(told) => page.add(told.as_str()),
@@ -147,14 +141,14 @@ pub(crate) fn put_page<E: Sink>(errors: &mut E, page: Page)
 
 /// Says why input isn't read that is a script in JSON or a text: of each cause `lwkt: FILE:LINE:COLUMN: WORDS`, the line with a mark
 /// under the place, and where a known word is near `` did you mean `WORD`? ``; at the end `try: COMMAND`, if a command helps. Of
-/// JSON the first bad part is the only cause, and its fault's number stands behind the words; of a text there are up to 100, as of
-/// `wrongs_said`. Input that comes from no named file is called `standard input`.
+/// JSON the first bad part is the only cause, and its fault's number stands behind the words; of a text there are up to 100.
+/// Input that comes from no named file is called `standard input`. `piped` is the command that reads a script from there.
 ///
 /// If memory is refused, it says only that.
 pub fn say_unread<E: Sink>(
     alloc: Global,
     errors: &mut E,
-    speaker: Speaker,
+    piped: &str,
     name: Option<&str>,
     bytes: &[u8],
     unread: &Unread,
@@ -166,7 +160,7 @@ pub fn say_unread<E: Sink>(
         Unread::Memory(_) => page.add(NO_MEMORY),
         Unread::Json { place } => add_json(alloc, &mut page, name, bytes, *place),
         Unread::Wrongs(wrongs) => {
-            add_text(alloc, &mut page, speaker, name, bytes, wrongs.as_slice())
+            add_text(alloc, &mut page, piped, name, bytes, wrongs.as_slice())
         }
     }
     put_page(errors, page);

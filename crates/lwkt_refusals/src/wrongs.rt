@@ -1,35 +1,24 @@
 //! What is wrong with a text, in words.
 use crate::absences::add_absent;
 use crate::cells::{cell_with_token, has_name, near_cell};
-use crate::marks::{add_mark, add_shown};
+use crate::marks::add_shown;
 use crate::messages::{add_end, add_start};
 use crate::pages::Page;
-use crate::places::{Place, add_head, part_of, place_from};
+use crate::places::{Place, part_of, place_from};
 use crate::proposals::{NAME_LIMIT, is_keyword, proposal};
 use crate::sentence_forms::{claim_form, show_sentence};
 use crate::sentences::{place_in_sentence, sentence_at, word_from};
 use lwkt_base::OutOfMemory;
 use lwkt_base::memory::from_slice;
-use lwkt_text::{Many, Names, Wanted, What, Wrong, names_of};
+use lwkt_text::{Names, Wanted, What, Wrong, names_of};
 use std::alloc::Global;
 
 // Of how many places it is said what is wrong there.
 const FAULT_LIMIT: usize = 100;
 
-// How what is wrong is written.
-#[derive(Clone, Copy, Debug, PartialEq, Eq)]
-enum Form {
-    // `FILE:LINE:COLUMN: WORDS (NEAR?)`, without the file where none is named; then the line with a mark.
-    Line,
-    // A message of the program, in which the near word has a line of its own.
-    Message,
-}
-
 // A text that something is wrong with.
 #[derive(Clone, Copy)]
 struct Faulty<'t> {
-    // How it is written what is wrong.
-    form: Form,
     // What it is called, where that is known.
     path: Option<&'t str>,
     // What it is.
@@ -228,24 +217,6 @@ fn add_words(
     Ok(())
 }
 
-// Appends what a line begins with: `FILE:LINE:COLUMN: `, without the file where none is named.
-fn add_line_start(page: &mut Page, path: Option<&str>, place: Place) {
-    add_head(page, path, place);
-    page.size(":", place.column());
-    page.add(": ");
-}
-
-// Ends a line with the near word, if there is one, and appends the line of the text with a mark under the place.
-fn add_line_end(page: &mut Page, bytes: &[u8], place: Place, near: Option<&str>) {
-    if let Some(name) = near {
-        page.add(" (");
-        page.add(name);
-        page.add("?)");
-    }
-    page.add("\n");
-    add_mark(page, bytes, place);
-}
-
 // A name that is nearly the word at the place of what is wrong, if there is one.
 fn near_name<'t>(
     alloc: Global,
@@ -274,15 +245,9 @@ fn add_wrong(
         None => near_name(alloc, text, wrong, word.as_str())?,
     };
     let near = near.filter(|near| *near != word.as_str());
-    match text.form {
-        Form::Line => add_line_start(page, text.path, place),
-        Form::Message => add_start(page, text.path, place),
-    }
+    add_start(page, text.path, place);
     add_words(alloc, page, text, wrong)?;
-    match text.form {
-        Form::Line => add_line_end(page, text.bytes, place, near),
-        Form::Message => add_end(page, text.bytes, place, near),
-    }
+    add_end(page, text.bytes, place, near);
     Ok(())
 }
 
@@ -294,22 +259,23 @@ fn add_rest(page: &mut Page, count: usize) {
     }
 }
 
-// What is wrong with a text, in this form and in the order of the places.
-fn said_as(
+/// What is wrong with a text, in the order of the places: of each a message `lwkt: FILE:LINE:COLUMN: WORDS`, the line with a mark
+/// under the place, and the near word if there is one. Of a line of more than 120 bytes what surrounds the place is shown, with `..`
+/// where it is cut. Of more than 100 places the first 100, and `and N more` for the others.
+pub(crate) fn wrongs_told(
     alloc: Global,
-    form: Form,
     path: Option<&str>,
     bytes: &[u8],
-    mut wrongs: Vec<Wrong>,
+    wrongs: &[Wrong],
 ) -> Result<String, OutOfMemory> {
     let names = names_of(alloc, bytes)?;
     let text = Faulty {
-        form,
         path,
         bytes,
         names: &names,
         says_cpus: sentence_at(bytes, "cpus", 0).is_some(),
     };
+    let mut wrongs = from_slice(alloc, wrongs)?;
     wrongs.sort_unstable_by_key(|wrong| wrong.at);
     let mut page = Page::new(alloc);
     let mut place = Place::FIRST;
@@ -319,29 +285,4 @@ fn said_as(
     }
     add_rest(&mut page, wrongs.len());
     page.whole()
-}
-
-/// What is wrong with a text, in the order of the places: of each `FILE:LINE:COLUMN: WORDS`, then the line and a mark under the
-/// place; without the file where none is named. Of a line of more than 120 bytes what surrounds the place is shown, with `..` where
-/// it is cut. Of more than 100 places the first 100, and `and N more` for the others.
-///
-/// Refused if memory is.
-pub fn wrongs_said(
-    alloc: Global,
-    path: Option<&str>,
-    bytes: &[u8],
-    wrongs: Many<Wrong>,
-) -> Result<String, OutOfMemory> {
-    said_as(alloc, Form::Line, path, bytes, wrongs.into_vec())
-}
-
-/// The same as messages of the program.
-pub(crate) fn wrongs_told(
-    alloc: Global,
-    name: Option<&str>,
-    bytes: &[u8],
-    wrongs: &[Wrong],
-) -> Result<String, OutOfMemory> {
-    let wrongs = from_slice(alloc, wrongs)?;
-    said_as(alloc, Form::Message, name, bytes, wrongs)
 }
