@@ -182,51 +182,32 @@ fn pass_on<E: Sink>(errors: &mut E, said: &WriterSink<Vec<u8>>) {
     }
 }
 
-// Performs a task by the name `lwkt_run`: where a terminal shows both, the line of a fault stands before what is said of it.
-fn perform_by_old_name<R: Threads + Sync + Clock, I: Read, O: Write, E: Sink>(
+// The same. By the name `lwkt_run` `said` gets what `errors` gets by the others.
+fn answered_by_name<R: Threads + Sync + Clock, S: Source, K: Sink, E: Sink>(
     rt: &R,
     alloc: Global,
     origin: Origin<'_>,
     order: Option<&[u8]>,
-    source: &mut ReaderSource<NotedReader<I>>,
-    sink: &mut WriterSink<NotedWriter<O>>,
+    source: &mut S,
+    sink: &mut K,
+    said: &mut WriterSink<Vec<u8>>,
     errors: &mut E,
-) -> Ending
+) -> Result<u8, Failure>
     requires { TakesScript origin.task }
-    ensures performs { Performs origin.entry.task (option_copied order.entry) (option_copied origin.entry.path) source.new.failed sink.new.failed (IsTrue sink.new.flushed) (I.remaining source.old.reader.reader) (O.contents sink.old.writer.writer) (O.contents sink.new.writer.writer) result }
-    ensures failed_source { source.old.failed ≡ false → IsTrue source.new.failed → result ≡ Ending.Stream }
-    ensures failed_sink { complains origin.entry.task ≡ false → sink.old.failed ≡ false → IsTrue sink.new.failed → result ≡ Ending.Stream }
+    ensures answers { AnswersRead origin.entry.task (option_copied order.entry) (option_copied origin.entry.path) (S.left source.old) (K.contents sink.old) (K.contents sink.new) result }
+    ensures blames { result ≡ Err Failure.Stream → IsTrue (S.has_failed source.new) ⊎ IsTrue (K.has_failed sink.new) }
+    ensures flushed { OnOk result (K.is_flushed sink.new) }
+    ensures unfailed { (result ≡ Err Failure.Stream → ⊥) → (S.has_failed source.new ≡ S.has_failed source.old) × (K.has_failed sink.new ≡ K.has_failed sink.old) }
 {
-    let mut said = WriterSink::new(Vec::new(alloc));
-    let answer = answered(rt, alloc, origin, order, source, sink, &mut said);
-    complain_of(origin.task, sink, &answer);
-    pass_on(errors, &said);
-    say_streams(alloc, errors, origin, &answer, source, sink);
-    ending_of(&answer)
+    if is_by_old_name(origin.task) {
+        answered(rt, alloc, origin, order, source, sink, said)
+    } else {
+        answered(rt, alloc, origin, order, source, sink, errors)
+    }
 }
 
-// Performs a task by the name of a subcommand, or an older one without such a line.
-fn perform_by_name<R: Threads + Sync + Clock, I: Read, O: Write, E: Sink>(
-    rt: &R,
-    alloc: Global,
-    origin: Origin<'_>,
-    order: Option<&[u8]>,
-    source: &mut ReaderSource<NotedReader<I>>,
-    sink: &mut WriterSink<NotedWriter<O>>,
-    errors: &mut E,
-) -> Ending
-    requires { TakesScript origin.task }
-    ensures performs { Performs origin.entry.task (option_copied order.entry) (option_copied origin.entry.path) source.new.failed sink.new.failed (IsTrue sink.new.flushed) (I.remaining source.old.reader.reader) (O.contents sink.old.writer.writer) (O.contents sink.new.writer.writer) result }
-    ensures failed_source { source.old.failed ≡ false → IsTrue source.new.failed → result ≡ Ending.Stream }
-    ensures failed_sink { complains origin.entry.task ≡ false → sink.old.failed ≡ false → IsTrue sink.new.failed → result ≡ Ending.Stream }
-{
-    let answer = answered(rt, alloc, origin, order, source, sink, errors);
-    complain_of(origin.task, sink, &answer);
-    say_streams(alloc, errors, origin, &answer, source, sink);
-    ending_of(&answer)
-}
-
-// Performs a task that takes a script, and answers how that ended.
+// Performs a task that takes a script, and answers how that ended. By the name `lwkt_run` the line of a fault comes before what is said
+// of it, for a terminal that shows both.
 fn perform_on_script<R: Threads + Sync + Clock, I: Read, O: Write, E: Sink>(
     rt: &R,
     alloc: Global,
@@ -241,11 +222,12 @@ fn perform_on_script<R: Threads + Sync + Clock, I: Read, O: Write, E: Sink>(
     ensures failed_source { source.old.failed ≡ false → IsTrue source.new.failed → result ≡ Ending.Stream }
     ensures failed_sink { complains origin.entry.task ≡ false → sink.old.failed ≡ false → IsTrue sink.new.failed → result ≡ Ending.Stream }
 {
-    if is_by_old_name(origin.task) {
-        perform_by_old_name(rt, alloc, origin, order, source, sink, errors)
-    } else {
-        perform_by_name(rt, alloc, origin, order, source, sink, errors)
-    }
+    let mut said = WriterSink::new(Vec::new(alloc));
+    let answer = answered_by_name(rt, alloc, origin, order, source, sink, &mut said, errors);
+    complain_of(origin.task, sink, &answer);
+    pass_on(errors, &said);
+    say_streams(alloc, errors, origin, &answer, source, sink);
+    ending_of(&answer)
 }
 
 // The order that a request names.
