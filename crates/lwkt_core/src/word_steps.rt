@@ -1,6 +1,8 @@
+//! The steps on a token's word, for those who bring an atomic exchange of their own: each gives the word to store in place of the one that
+//! was read, or why the step can't be made. They touch no memory.
 ghost use Rattle.std.specs.Prelude.{◌≡◌, ℕ};
 ghost use Rattle.lwkt_base.specs.TokenWord.{word_of, Fits};
-ghost use Rattle.lwkt_kernel.specs.Steps.{exclusive_taken, shared_taken, gained, marked, one_given, exclusive_ended, clean_given, written_given};
+ghost use Rattle.lwkt_core.specs.WordSteps.{exclusive_taken, shared_taken, gained, marked, one_given, exclusive_ended, clean_given, written_given};
 
 use lwkt_base::{Fault, LAST_GENERATION, TokWord};
 

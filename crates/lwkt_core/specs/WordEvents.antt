@@ -11,7 +11,7 @@ use Rattle.lwkt_core.specs.declared.tokens.Token.{Token}
 use Rattle.lwkt_core.specs.Machine.{Machine, IsSafe}
 use Rattle.lwkt_core.specs.Picture.{picture_of}
 use Rattle.lwkt_core.specs.Tokens.{held_by, TokenNeeds, token_after}
-use Rattle.lwkt_kernel.specs.Steps.{exclusive_taken, shared_taken, gained, marked, one_given, clean_given, written_given}
+use Rattle.lwkt_core.specs.WordSteps.{exclusive_taken, shared_taken, gained, marked, one_given, clean_given, written_given}
 
 -- the word of the token after an event (own)
 abbrev pub word_after : Token → Event → ℕ

@@ -25,8 +25,8 @@ use Rattle.lwkt_core.specs.Tokens.{held_by, IsFree, IsNotLastExclusive, IsSafeTo
 use Rattle.lwkt_core.specs.Picture.{count_of_held, picture_of}
 use Rattle.lwkt_core.proofs.MachineMoves.{references_le}
 use Rattle.lwkt_core.proofs.PictureLemmas.{IsOpen-from_picture, IsFree-from_picture, picture-open, picture-free, picture-taken, picture-shared, count-le, fit}
-use Rattle.lwkt_kernel.specs.Steps.{exclusive_taken, shared_taken, gained, one_given, exclusive_ended, clean_given, written_given}
-use Rattle.lwkt_kernel.specs.Events.{word_after, StepsAreEvents}
+use Rattle.lwkt_core.specs.WordSteps.{exclusive_taken, shared_taken, gained, one_given, exclusive_ended, clean_given, written_given}
+use Rattle.lwkt_core.specs.WordEvents.{word_after, StepsAreEvents}
 
 -- a test of a list stays as it was where an element passes as the one before it did
 list_any-set : {A : Type 0} (p : A → Bool) (xs : List A) (i : ℕ) (y d : A) → i < length xs → p y ≡ p (get_or xs i d) → list_any p (set xs i y) ≡ list_any p xs
