@@ -1,11 +1,9 @@
 //! The steps on a token's word as functions for C; include/lwkt.h declares them. They take no memory, and call nothing.
-#![tactic(auto)]
-
 ghost use Rattle.std.specs.Prelude.{◌≡◌, ℕ};
 ghost use Rattle.lwkt_base.specs.declared.words.TokWord.{TokWord};
 ghost use Rattle.lwkt_base.specs.TokenWord.{word_of, Fits};
 ghost use Rattle.lwkt_core.specs.WordSteps.{exclusive_taken, shared_taken, gained, marked, one_given, clean_given, written_given};
-ghost use Rattle.lwkt_words.specs.Answers.{AnswersStep};
+ghost use Rattle.lwkt_seats.specs.Words.{AnswersStep};
 
 use lwkt_base::Fault;
 use lwkt_core::word_steps::{again, give_clean, give_one, give_written, mark, share, take};
