@@ -1,11 +1,6 @@
 //! A processor: its threads, what their bodies may ask for, and the turns in which one of them at a time runs while its whole list is
-//! held. An ask is performed as the call that it makes on the processor's hold.
-//!
-//! Words: a *body* is what a thread does: it is *polled* with an answer and asks for the next thing; what is *next* for its thread
-//! is to run on, to be ready, to wait or to end; to *leave* is to give up all tokens first; a *turn* takes mail in, chooses a thread and polls its body once; a *search* tries the lists of the threads that
-//! are ready, from the *cursor* on, once round; a thread is *worn* if its list met a last generation; a *phase* is what a
-//! thread is doing; a processor is *at rest* between turns; a *stop* ends its threads; one processor *sees* what another, that
-//! is at hand too, has sent to it.
+//! held. Callers get of each turn which thread it ran, what that asked, and the events that came of it. Notes of other processors are
+//! taken in from lanes, which are the caller's.
 #![tactic(auto)]
 
 pub mod answers;

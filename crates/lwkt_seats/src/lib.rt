@@ -1,7 +1,5 @@
-//! Tokens for C: the steps on a token's word, and a bank of tokens, with a seat for each of the caller's threads; include/lwkt.h declares the calls. A bank's *desk* has a
-//! *place* for each seat, where it rests between calls: a call takes the seat out and puts it back, so a second call on it at the
-//! same time finds the place empty, and says so. A close takes all seats out, and marks their places as closed for good; all that
-//! it needs was made at the opening, so that it can't fail for memory.
+//! Tokens for C: the steps on a token's word, and a bank of tokens with a seat for each of the caller's threads; include/lwkt.h declares the
+//! calls. Two calls on one seat at the same time find that out, and the second is refused. A close can't fail for memory.
 #![tactic(auto)]
 
 mod answers;

@@ -1,16 +1,10 @@
 //! A value that one processor writes, and of which two others keep a copy, which they read anew only where its version has changed.
-#![tactic(auto)]
-
 ghost use Rattle.std.specs.Prelude.{◌≡◌, ◌+◌, All, IfOk};
 
-mod parties;
-
+use crate::parties::{Party, SHARED};
 use lwkt_base::{Fault, OutOfMemory};
 use lwkt_program::{Closed, LIMITS, Machine, Stepper, makers};
-use parties::{Party, SHARED};
 use std::alloc::Global;
-use std::io;
-use std::process::ExitCode;
 use std::thread::Threads;
 
 // The bodies of one processor.
@@ -21,9 +15,9 @@ fn alone(alloc: Global, reads: bool) -> Result<Vec<Stepper<Party>>, OutOfMemory>
     makers::list(alloc, [party])
 }
 
-// Runs a writer and two readers. Each comes back with as many rounds behind it and left as it began with, and each round of a reader
-// was a hit or a miss.
-fn run<R: Threads + Sync>(rt: &R, alloc: Global) -> Result<Closed<Stepper<Party>>, Fault>
+/// Runs a writer and two readers. Each comes back with as many rounds behind it and left as it began with, and each round of a reader
+/// was a hit or a miss.
+pub fn run<R: Threads + Sync>(rt: &R, alloc: Global) -> Result<Closed<Stepper<Party>>, Fault>
     ensures rounds { IfOk result (λ closed. All (λ v. All (λ b. b.steps.hits + b.steps.misses + b.steps.left ≡ 20) v.items) closed.bodies.items) }
 {
     let tokens = [makers::order(alloc, &[0, 0])?];
@@ -35,14 +29,4 @@ fn run<R: Threads + Sync>(rt: &R, alloc: Global) -> Result<Closed<Stepper<Party>
     let room = machine.room(alloc)?;
     machine.drive(rt, &LIMITS);
     Ok(machine.close_in(room))
-}
-
-fn main(rt: HostRuntime) -> io::Result<ExitCode> {
-    let Ok(closed) = run(&rt, rt.alloc()) else {
-        println!(rt; "the run was refused")?;
-        return Ok(ExitCode::from(1));
-    };
-    let (version, value) = (closed.cell(SHARED, 0), closed.cell(SHARED, 1));
-    println!(rt; "version {version}, value {value}")?;
-    Ok(ExitCode::SUCCESS)
 }

@@ -1,20 +1,17 @@
 //! Three accounts under one token, between which two processors transfer units, each on a thread of its own.
-#![tactic(auto)]
-
 ghost use Rattle.std.specs.Prelude.{◌≡◌, IfOk, sum, slice_index_or, []};
 
 use lwkt_base::{Answer, Ask, Fault, OutOfMemory, TokId};
 use lwkt_program::{Closed, LIMITS, Machine, Stepper, Steps, makers};
 use std::alloc::Global;
-use std::io;
-use std::process::ExitCode;
 use std::thread::Threads;
 
-const ACCOUNTS: TokId = TokId(0);
+/// The token of the accounts.
+pub const ACCOUNTS: TokId = TokId(0);
 
 /// Transfers a unit from the first account to another one, in a section of its own; again and again.
 #[derive(Drop)]
-struct Teller {
+pub struct Teller {
     to: u8,
     left: u32,
 }
@@ -64,8 +61,8 @@ fn alone(alloc: Global, to: u8) -> Result<Vec<Stepper<Teller>>, OutOfMemory> {
     makers::list(alloc, [teller])
 }
 
-// Runs both tellers. No unit is lost and none is made.
-fn run<R: Threads + Sync>(rt: &R, alloc: Global) -> Result<Closed<Stepper<Teller>>, Fault>
+/// Runs both tellers. No unit is lost and none is made.
+pub fn run<R: Threads + Sync>(rt: &R, alloc: Global) -> Result<Closed<Stepper<Teller>>, Fault>
     ensures kept { IfOk result (λ closed. sum (slice_index_or closed.tokens.rows.items 0 []) ≡ 300) }
 {
     let tokens = [makers::sum(alloc, &[300, 0, 0], 300)?];
@@ -76,15 +73,4 @@ fn run<R: Threads + Sync>(rt: &R, alloc: Global) -> Result<Closed<Stepper<Teller
     let room = machine.room(alloc)?;
     machine.drive(rt, &LIMITS);
     Ok(machine.close_in(room))
-}
-
-fn main(rt: HostRuntime) -> io::Result<ExitCode> {
-    let Ok(closed) = run(&rt, rt.alloc()) else {
-        println!(rt; "the run was refused")?;
-        return Ok(ExitCode::from(1));
-    };
-    let (first, second) = (closed.cell(ACCOUNTS, 0), closed.cell(ACCOUNTS, 1));
-    let third = closed.cell(ACCOUNTS, 2);
-    println!(rt; "accounts {first} {second} {third}")?;
-    Ok(ExitCode::SUCCESS)
 }
