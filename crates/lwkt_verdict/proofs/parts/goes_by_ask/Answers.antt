@@ -4,11 +4,11 @@ use Rattle.lwkt_core.specs.declared.events.Event.{Event}
 use Rattle.lwkt_core.specs.Machine.{Machine}
 use Rattle.lwkt_verdict.specs.Parts.{after_all}
 use Rattle.lwkt_verdict.proofs.PartMoves.{after_cut}
-use Rattle.lwkt_verdict.proofs.parts.expected_of.Goals as goal
+use Rattle.lwkt_verdict.proofs.parts.goes_by_ask.Goals as goal
 
-pub returns-clause-moved : goal.returns-clause-moved
-returns-clause-moved c = λ yes.
+pub returns-then-goes_quietly-clause-moved : goal.returns-then-goes_quietly-clause-moved
+returns-then-goes_quietly-clause-moved c = λ yes.
     let part = c.args.part.now in
     let place = c.own_place-place.result in
     let short : length (drop place part) ≤ length part - place = simp length-drop (omega arith) in
-    c.expected_from.ensures.moved yes ∙ ap (λ (es : List Event). after_all c.goes_quietly.new.state es) (take_all (length part - place) (drop place part) short) ∙ ap (λ (k : Machine). after_all k (drop place part)) (c.goes_quietly.ensures.moved c.if-not-goes_quietly.false) ∙ sym (after_cut c.args.state.now part place)
+    c.goes_from.ensures.moved yes ∙ ap (λ (es : List Event). after_all c.goes_quietly.new.state es) (take_all (length part - place) (drop place part) short) ∙ ap (λ (k : Machine). after_all k (drop place part)) (c.goes_quietly.ensures.moved c.if-goes_quietly.true) ∙ sym (after_cut c.args.state.now part place)
