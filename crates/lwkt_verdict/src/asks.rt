@@ -4,26 +4,6 @@ ghost use Rattle.lwkt_verdict.specs.Asks.{refusals, may_refuse, may_be_done, may
 
 use lwkt_base::{Answer, Ask, Blob, Call, Entry, Item, TokId};
 
-// Whether an ask stores this record in this token.
-fn is_storing(ask: &Ask, tok: TokId, blob: &Blob) -> bool
-    ensures { IsTrue result ↔ (ask.now ≡ WriteBlob tok blob.now) }
-{
-    match ask {
-        Ask::WriteBlob(other, stored) => *other == tok && stored.is_same(blob),
-        _ => false,
-    }
-}
-
-/// Whether two asks are one.
-pub fn is_same(one: &Ask, other: &Ask) -> bool
-    ensures { IsTrue result ↔ (one.now ≡ other.now) }
-{
-    match one {
-        Ask::WriteBlob(tok, blob) => is_storing(other, *tok, blob),
-        _ => *one == *other,
-    }
-}
-
 // The numbers of the faults with which an ask can be refused.
 fn refusals(ask: &Ask) -> &'static [u8]
     ensures { result.now ≡ refusals ask.now }
@@ -234,5 +214,25 @@ pub fn entry_of(ask: Ask, answer: Answer) -> Option<Entry>
         Answer::Got(item) => Some(item_entry(item)),
         Answer::NoMsg => Some(Entry::NoMessage),
         Answer::Refused(fault) => Some(Entry::Refused(fault.number())),
+    }
+}
+
+// Whether an ask stores this record in this token.
+fn is_storing(ask: &Ask, tok: TokId, blob: &Blob) -> bool
+    ensures { IsTrue result ↔ (ask.now ≡ WriteBlob tok blob.now) }
+{
+    match ask {
+        Ask::WriteBlob(other, stored) => *other == tok && stored.is_same(blob),
+        _ => false,
+    }
+}
+
+/// Whether two asks are one.
+pub fn is_same(one: &Ask, other: &Ask) -> bool
+    ensures { IsTrue result ↔ (one.now ≡ other.now) }
+{
+    match one {
+        Ask::WriteBlob(tok, blob) => is_storing(other, *tok, blob),
+        _ => *one == *other,
     }
 }

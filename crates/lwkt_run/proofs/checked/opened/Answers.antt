@@ -4,7 +4,7 @@ use Rattle.std.specs.Prelude.{IfErr}
 use Rattle.lwkt_seating.specs.Opened.{DeclinesTables}
 use Rattle.lwkt_machine.proofs.OpenMoves.{declines_more}
 use Rattle.lwkt_run.specs.Run.{DeclinesRun}
-use Rattle.lwkt_run.proofs.runs.opened.Goals as goal
+use Rattle.lwkt_run.proofs.checked.opened.Goals as goal
 
 pub returns-clause-refused : goal.returns-clause-refused
 returns-clause-refused c =

@@ -1,35 +1,44 @@
-use Rattle.std.proofs.Common.{inl, refl, subst}
-use Rattle.std.specs.Prelude.{Bool, false}
-use Rattle.lwkt_port.proofs.Chaining.{chain_none, chain_more}
-use Rattle.lwkt_run.specs.Running.{Scene, kept_in_record, scene, MakesKeptRound, RoundTold}
-use Rattle.lwkt_run.proofs.rounds.make_rounds.Goals as goal
+use Rattle.std.proofs.Common.{arith}
+use Rattle.lwkt_run.specs.Driving.{Stand, stand}
+use Rattle.lwkt_run.proofs.DriveMoves.{rounds_none, rounds_more, rounds_end, rounds_stop, rounds_all}
+use Rattle.lwkt_run.proofs.rounds.drive_rounds.Goals as goal
 
 pub loop-round-init : goal.loop-round-init
-loop-round-init c = chain_none Scene (MakesKeptRound false) (scene c.args.machine.now c.args.trace.now.items (kept_in_record c.args.kept.now))
+loop-round-init g c = rounds_none (stand c.args.machine.now (g.K.Keeper.kept c.args.keeper.now) c.args.events.now c.args.follower.now)
 
 pub loop-round-preserved : goal.loop-round-preserved
-loop-round-preserved c =
+loop-round-preserved g c =
     let l = c.loop-round in
-    let F : Bool → Type 0 = λ over. RoundTold (scene l.machine l.trace.items (kept_in_record l.kept)) (scene c.make_round.new.machine c.make_round.new.trace.items (kept_in_record c.make_round.new.kept)) over in
-    let told = subst F c.if-branch.false c.in_ok-make_round.ensures.ok in
-    chain_more Scene (MakesKeptRound false) l._round (scene c.args.machine.now c.args.trace.now.items (kept_in_record c.args.kept.now)) (scene l.machine l.trace.items (kept_in_record l.kept)) (scene c.make_round.new.machine c.make_round.new.trace.items (kept_in_record c.make_round.new.kept)) l.invariant told.round
+    let n = c.drive_round.new in
+    let first : Stand = stand c.args.machine.now (g.K.Keeper.kept c.args.keeper.now) c.args.events.now c.args.follower.now in
+    let old : Stand = stand l.machine (g.K.Keeper.kept l.keeper) l.events l.follower in
+    let new : Stand = stand n.machine (g.K.Keeper.kept n.keeper) n.events n.follower in
+    let told = rw (c.in-Some-false.is, c.in-Some-false.field-0-test) at c.in_ok-drive_round.ensures.ok in
+    rounds_more l._round first old new l.invariant told
 
-pub returns-then-branch : goal.returns-then-branch
-returns-then-branch c =
+pub returns-in-Some-true : goal.returns-in-Some-true
+returns-in-Some-true g c =
     let l = c.loop-round in
-    let F : Bool → Type 0 = λ over. RoundTold (scene l.machine l.trace.items (kept_in_record l.kept)) (scene c.make_round.new.machine c.make_round.new.trace.items (kept_in_record c.make_round.new.kept)) over in
-    let told = subst F c.if-branch.true c.in_ok-make_round.ensures.ok in
-    record {
-      ok = inl (
-        l._round,
-        (
-          c.loop-round-test.true,
-          record {
-            mid = scene l.machine l.trace.items (kept_in_record l.kept);
-            earlier = l.invariant;
-            last = told.round;
-            over = told.over_is refl;
-          },
-        ),
-      );
-    }
+    let n = c.drive_round.new in
+    let first : Stand = stand c.args.machine.now (g.K.Keeper.kept c.args.keeper.now) c.args.events.now c.args.follower.now in
+    let old : Stand = stand l.machine (g.K.Keeper.kept l.keeper) l.events l.follower in
+    let new : Stand = stand n.machine (g.K.Keeper.kept n.keeper) n.events n.follower in
+    let told = rw (c.in-Some-true.is, c.in-Some-true.field-0-test) at c.in_ok-drive_round.ensures.ok in
+    record { ok = rounds_end c.args.limit l._round first old new c.loop-round-test.true l.invariant told }
+
+pub returns-in-None : goal.returns-in-None
+returns-in-None g c =
+    let l = c.loop-round in
+    let n = c.drive_round.new in
+    let first : Stand = stand c.args.machine.now (g.K.Keeper.kept c.args.keeper.now) c.args.events.now c.args.follower.now in
+    let old : Stand = stand l.machine (g.K.Keeper.kept l.keeper) l.events l.follower in
+    let new : Stand = stand n.machine (g.K.Keeper.kept n.keeper) n.events n.follower in
+    let told = rw c.in-None.is at c.in_ok-drive_round.ensures.ok in
+    record { ok = rounds_stop c.args.limit l._round first old new c.loop-round-test.true l.invariant told }
+
+pub returns : goal.returns
+returns g c =
+    let l = c.loop-round in
+    let first : Stand = stand c.args.machine.now (g.K.Keeper.kept c.args.keeper.now) c.args.events.now c.args.follower.now in
+    let old : Stand = stand l.machine (g.K.Keeper.kept l.keeper) l.events l.follower in
+    record { ok = rounds_all c.args.limit l._round first old (omega (arith, c.loop-round-test.false, l.auto._round-end)) l.invariant }

@@ -1,5 +1,6 @@
-use Rattle.lwkt_run.specs.Running.{kept_in_record, scene, GoRounds}
-use Rattle.lwkt_run.proofs.rounds.make_rounds.Given as goal
+use Rattle.lwkt_run.specs.Driving.{stand}
+use Rattle.lwkt_run.proofs.DriveMoves.{RoundsSoFar}
+use Rattle.lwkt_run.proofs.rounds.drive_rounds.Given as goal
 
 abbrev pub invariant-loop-round : goal.invariant-loop-round
-invariant-loop-round l = GoRounds l._round (scene l.initial.machine l.initial.trace.items (kept_in_record l.initial.kept)) (scene l.machine l.trace.items (kept_in_record l.kept))
+invariant-loop-round g l = RoundsSoFar l._round (stand l.initial.machine (g.K.Keeper.kept l.initial.keeper) l.initial.events l.initial.follower) (stand l.machine (g.K.Keeper.kept l.keeper) l.events l.follower)

@@ -1,35 +1,43 @@
-use Rattle.std.proofs.Common.{◌≡◌, ◌++◌, ◌+◌, ◌∷◌, [], ℕ, List, refl, sym, subst, ap, ◌∙◌, take, append_assoc, append-nil, arith}
-use Rattle.std.proofs.lemmas.List.{take_more, take_all}
+use Rattle.std.proofs.Common.{◌≡◌, refl, sym, ◌∙◌, arith}
 use Rattle.std.proofs.lemmas.Option.{unwrap_or-slice_get}
-use Rattle.lwkt_port.proofs.Chaining.{chain_none, chain_more}
 use Rattle.lwkt_verdict.specs.Run.{whose}
-use Rattle.lwkt_run.specs.Running.{Scene, kept_in_record, scene, MakesTurnAt}
-use Rattle.lwkt_run.proofs.rounds.make_turns.Goals as goal
+use Rattle.lwkt_run.specs.Driving.{Stand, stand}
+use Rattle.lwkt_run.proofs.DriveMoves.{turns_none, turns_more, turns_stop, turns_all}
+use Rattle.lwkt_run.proofs.rounds.drive_turns.Goals as goal
 
 pub loop-at-init : goal.loop-at-init
-loop-at-init c = record {
-  as_many = refl;
-  turns = chain_none Scene (λ k. MakesTurnAt (whose c.args.order.now k)) (scene c.args.machine.now c.args.trace.now.items (kept_in_record c.args.kept.now));
-  order = sym (append-nil c.args.kept.now.order.items);
-}
+loop-at-init g c = record { as_many = refl; made = turns_none c.args.order.now (stand c.args.machine.now (g.K.Keeper.kept c.args.keeper.now) c.args.events.now c.args.follower.now) }
 
 pub loop-at-preserved : goal.loop-at-preserved
-loop-at-preserved c =
+loop-at-preserved g c =
     let l = c.loop-at in
-    let ok = c.in_ok-make_turn.ensures.ok in
+    let n = c.drive_turn.new in
     let all = c.args.order.now in
-    let before = c.args.kept.now.order.items in
-    let named : c.from.result ≡ whose all l.at = c.from.ensures ∙ sym (unwrap_or-slice_get all l.at 0) in
-    let x : Scene = scene l.machine l.trace.items (kept_in_record l.kept) in
-    let y : Scene = scene c.make_turn.new.machine c.make_turn.new.trace.items (kept_in_record c.make_turn.new.kept) in
-    let more : take (l.at + 1) all ≡ take l.at all ++ c.from.result ∷ [] = take_more all l.at 0 c.loop-at-test.true ∙ ap (λ (n : ℕ). take l.at all ++ n ∷ []) (sym c.from.ensures) in
+    let first : Stand = stand c.args.machine.now (g.K.Keeper.kept c.args.keeper.now) c.args.events.now c.args.follower.now in
+    let old : Stand = stand l.machine (g.K.Keeper.kept l.keeper) l.events l.follower in
+    let new : Stand = stand n.machine (g.K.Keeper.kept n.keeper) n.events n.follower in
+    let driven = rw c.in-Some.is at c.in_ok-drive_turn.ensures.ok in
+    let named : c.from-cpu.result ≡ whose all l.at = c.from-cpu.ensures ∙ sym (unwrap_or-slice_get all l.at 0) in
     record {
-      as_many = c.make_turn.ensures.as_many ∙ l.invariant.as_many;
-      turns = chain_more Scene (λ k. MakesTurnAt (whose all k)) l.at (scene c.args.machine.now c.args.trace.now.items (kept_in_record c.args.kept.now)) x y l.invariant.turns (subst (λ k. MakesTurnAt k x y) named (ok.0, ok.1.0));
-      order = ok.1.0.keeps.order ∙ ap (λ (os : List ℕ). os ++ c.from.result ∷ []) l.invariant.order ∙ append_assoc before (take l.at all) (c.from.result ∷ []) ∙ ap (λ (os : List ℕ). before ++ os) (sym more);
+      as_many = c.drive_turn.ensures.as_many ∙ l.invariant.as_many;
+      made = turns_more all l.at c.from-cpu.result _ first old new named l.invariant.made driven;
     }
 
-pub returns-clause-order : goal.returns-clause-order
-returns-clause-order c =
+pub returns-in-None : goal.returns-in-None
+returns-in-None g c =
     let l = c.loop-at in
-    l.invariant.order ∙ ap (λ (os : List ℕ). c.args.kept.now.order.items ++ os) (take_all l.at c.args.order.now (omega (arith, c.loop-at-test.false)))
+    let n = c.drive_turn.new in
+    let all = c.args.order.now in
+    let first : Stand = stand c.args.machine.now (g.K.Keeper.kept c.args.keeper.now) c.args.events.now c.args.follower.now in
+    let old : Stand = stand l.machine (g.K.Keeper.kept l.keeper) l.events l.follower in
+    let new : Stand = stand n.machine (g.K.Keeper.kept n.keeper) n.events n.follower in
+    let driven = rw c.in-None.is at c.in_ok-drive_turn.ensures.ok in
+    let named : c.from-cpu.result ≡ whose all l.at = c.from-cpu.ensures ∙ sym (unwrap_or-slice_get all l.at 0) in
+    record { ok = turns_stop all l.at c.from-cpu.result first old new (omega (arith, c.loop-at-test.true, l.auto.at-end)) named l.invariant.made driven }
+
+pub returns : goal.returns
+returns g c =
+    let l = c.loop-at in
+    let first : Stand = stand c.args.machine.now (g.K.Keeper.kept c.args.keeper.now) c.args.events.now c.args.follower.now in
+    let old : Stand = stand l.machine (g.K.Keeper.kept l.keeper) l.events l.follower in
+    record { ok = turns_all c.args.order.now l.at first old (omega (arith, c.loop-at-test.false, l.auto.at-end)) l.invariant.made }
