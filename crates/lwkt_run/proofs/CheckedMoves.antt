@@ -362,4 +362,4 @@ within_machine script (Along order) m same of = subst (λ n. All (λ x. x < n) o
 -- what a verdict says of a stop that is read as a slice, it says of its events
 pub saying : (verdict : Verdict) (follows : Bool) (events : ℕ) (E : List Event → Type 0) (read stops : List Event) → read ≡ stops → ((verdict ≡ Lawful) × (IsTrue follows × E read)) ⊎ (verdict ≡ Unlawful events) → ((verdict ≡ Lawful) × (IsTrue follows × E stops)) ⊎ (verdict ≡ Unlawful events)
 saying verdict follows events E read stops same (inl lawful) = inl (lawful.0, (lawful.1.0, subst E same lawful.1.1))
-saying verdict follows events E read stops same (inr no) = inr no
+saying verdict follows events E read stops same (inr said) = inr said
