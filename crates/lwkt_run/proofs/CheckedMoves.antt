@@ -1,5 +1,5 @@
 -- What a run left that was driven and checked.
-use Rattle.std.proofs.Common.{◌≡◌, ◌∙◌, ◌⊎◌, ℕ, ◌+◌, ◌*◌, ◌%◌, ◌<◌, ◌≤◌, Bool, true, false, List, [], ◌∷◌, ◌++◌, length, take, drop, map, refl, ap, ap₂, sym, subst, inl, inr, arith, Option, Some, None, append-nil, mul-le-mul_right}
+use Rattle.std.proofs.Common.{◌≡◌, ◌∙◌, ◌⊎◌, ℕ, ◌+◌, ◌*◌, ◌%◌, ◌<◌, ◌≤◌, Bool, true, false, List, [], ◌++◌, length, drop, map, refl, ap, sym, subst, inl, inr, arith, Option, Some, None, append-nil, mul-le-mul_right}
 use Rattle.std.specs.Prelude.{All, IfSome, IsTrue, Vec}
 use Rattle.std.specs.declared.alloc.Global.{Global}
 use Rattle.std.proofs.Math.Seq.{take-length}
@@ -26,12 +26,12 @@ use Rattle.lwkt_verdict.specs.Parts.{after_all}
 use Rattle.lwkt_verdict.specs.Run.{GoesRound}
 use Rattle.lwkt_run.specs.Checked.{EndsSo, IsMadeOf, LeavesChecked}
 use Rattle.lwkt_run.specs.Courses.{ClosesBy, IsRunBy}
-use Rattle.lwkt_run.specs.Driving.{Pair, pair, HasFollowed, FollowsTurns, StopsInRounds, StopsAlong, Stand, IsOf, IsAt, IsStopped, IsDriven, IsWithin, HasTurns, IsCourseOf, pace_of}
-use Rattle.lwkt_run.specs.Judging.{ids_of, StoodAt, events_of, IsVerdict}
+use Rattle.lwkt_run.specs.Driving.{pair, Stand, IsOf, IsAt, IsDriven, IsWithin, HasTurns, IsCourseOf, pace_of}
+use Rattle.lwkt_run.specs.Judging.{ids_of, StoodAt, IsVerdict}
 use Rattle.lwkt_run.specs.Keeping.{Kept, Story, none_kept, none_told, story_as}
 use Rattle.lwkt_run.specs.Leaving.{Leaves}
 use Rattle.lwkt_run.specs.Run.{opening_of_script, AreMadeOf, IsJudgedBy, MayClose, RunsAlong, RunsBy, RunsInRounds}
-use Rattle.lwkt_run.specs.Running.{HasThreads, Scene, scene, ShowThreads, MakesTurnAt, MakesSome, MakesTurns, HasMadeRounds}
+use Rattle.lwkt_run.specs.Running.{HasThreads, Scene, scene, ShowThreads, MakesTurnAt, MakesTurns, HasMadeRounds}
 use Rattle.lwkt_run.specs.Threaded.{ShowsLeft}
 use Rattle.lwkt_run.specs.Values.{AreValuesOf}
 use Rattle.lwkt_run.specs.declared.endings.Left.{Left}

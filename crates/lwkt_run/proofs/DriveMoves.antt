@@ -1,5 +1,5 @@
 -- What a driver did turn by turn, of any run that it may have begun with.
-use Rattle.std.proofs.Common.{◌≡◌, ℕ, ◌+◌, ◌*◌, ◌<◌, ◌≤◌, Bool, true, false, List, [], ◌∷◌, ◌++◌, length, min, refl, ap, sym, ◌∙◌, subst, inl, inr, arith, Option, Some, None, append-nil}
+use Rattle.std.proofs.Common.{◌≡◌, ℕ, ◌+◌, ◌<◌, ◌≤◌, Bool, true, false, List, [], ◌∷◌, ◌++◌, length, min, refl, ap, sym, ◌∙◌, subst, inl, inr, arith, Option, Some, None}
 use Rattle.std.specs.Prelude.{Vec, IfSome, option_map, sum_by}
 use Rattle.std.specs.declared.alloc.Global.{Global}
 use Rattle.std.proofs.lemmas.List.Sums.{sum_by-append}
@@ -14,10 +14,10 @@ use Rattle.lwkt_machine.proofs.StopMoves.{AreOverBelow}
 use Rattle.lwkt_verdict.specs.declared.turns.Turn.{Turn}
 use Rattle.lwkt_verdict.specs.Run.{whose}
 use Rattle.lwkt_run.specs.declared.polled.Polled.{Polled}
-use Rattle.lwkt_run.specs.Judging.{events_of, StoodAt}
+use Rattle.lwkt_run.specs.Judging.{events_of}
 use Rattle.lwkt_run.specs.Keeping.{Story, kept_after, story_after, turn_of}
 use Rattle.lwkt_run.specs.Running.{Scene, scene, HasBeenAsked, says_over, both, MakesKeptTurn, MakesTurnAt, MakesSome}
-use Rattle.lwkt_run.specs.Driving.{Pair, pair, Walk, walk, GoesOnBy, FollowsTurn, FollowsTurnAt, FollowsTurns, FollowsStep, FollowsRound, HasFollowed, StopsInRound, StopsInRounds, StopsAlong, Stand, IsOf, IsAt, IsStopped, TurnDriven, RoundDriven, RoundsDriven, TurnsDriven}
+use Rattle.lwkt_run.specs.Driving.{Pair, pair, Walk, walk, GoesOnBy, FollowsTurnAt, FollowsStep, FollowsRound, Stand, IsAt, TurnDriven, RoundDriven, RoundsDriven, TurnsDriven}
 use Rattle.lwkt_run.proofs.OrderMoves.{chain_maps}
 use Rattle.lwkt_run.proofs.RoundMoves.{over_later, both_true, says_all}
 use Rattle.lwkt_run.proofs.StandMoves.{some_made}

@@ -1,5 +1,5 @@
 -- A run that was followed to its end is a run of its script.
-use Rattle.std.proofs.Common.{◌≡◌, ◌⊎◌, ℕ, ◌+◌, ◌-◌, ◌*◌, ◌%◌, ◌<◌, ◌≤◌, true, false, List, [], ◌∷◌, ◌++◌, length, drop, refl, ap, sym, ◌∙◌, subst, inl, inr, arith, All, append-nil, mod-lt, is_some, mul-le-mul_right}
+use Rattle.std.proofs.Common.{◌≡◌, ℕ, ◌+◌, ◌*◌, ◌%◌, ◌<◌, ◌≤◌, true, false, List, [], ◌∷◌, ◌++◌, length, refl, ap, sym, ◌∙◌, subst, inl, inr, arith, All, append-nil, mod-lt, is_some, mul-le-mul_right}
 use Rattle.std.specs.Prelude.{option_and_then, slice_get}
 use Rattle.std.proofs.lemmas.List.Elements.{All-nil, All-cons, All-weaker}
 use Rattle.std.proofs.lemmas.Nat.{mod-mul-add}
@@ -17,18 +17,18 @@ use Rattle.lwkt_machine.specs.Machines.{Rig}
 use Rattle.lwkt_verdict.specs.declared.turns.Poll.{Poll}
 use Rattle.lwkt_verdict.specs.declared.turns.Turn.{Turn}
 use Rattle.lwkt_verdict.specs.declared.turns.Pace.{Pace}
-use Rattle.lwkt_verdict.specs.declared.turns.Pace.TheVariants.{Rounds, Named}
+use Rattle.lwkt_verdict.specs.declared.turns.Pace.TheVariants.{Rounds}
 use Rattle.lwkt_verdict.specs.Parts.{after_all}
 use Rattle.lwkt_verdict.specs.Run.{poll_of, AreListed, IsPaired, GoesRound, AreRounds, KeepsPace, IsScriptRun, RunsThrough}
 use Rattle.lwkt_verdict.specs.Follow.{Follow, Begins, EndsHere, none_answered}
 use Rattle.lwkt_run.specs.Keeping.{none_kept}
 use Rattle.lwkt_run.specs.Running.{Scene, scene}
-use Rattle.lwkt_run.specs.Driving.{Pair, pair, FollowsTurns, HasFollowed}
+use Rattle.lwkt_run.specs.Driving.{Pair, pair}
 use Rattle.lwkt_verdict.proofs.TraceMoves.{traces_happen}
 use Rattle.lwkt_run.proofs.FillMoves.{filled}
 use Rattle.lwkt_run.proofs.OrderMoves.{Rounded, rounded}
 use Rattle.lwkt_run.proofs.TrackMoves.{IsFront, tracks_none}
-use Rattle.lwkt_run.proofs.StandMoves.{Stands, Unpolled, RoundsAre, after_join, rounds_are}
+use Rattle.lwkt_run.proofs.StandMoves.{Stands, Unpolled, RoundsAre, after_join}
 
 -- events leave the processors
 at_cpus : (m : Machine) (e : Event) (place : Place) → (after_at m e place).cpus ≡ m.cpus

@@ -17,11 +17,11 @@ use Rattle.lwkt_verdict.specs.Parts.{after_all}
 use Rattle.lwkt_verdict.specs.Threads.{slot_of}
 use Rattle.lwkt_verdict.specs.Follow.{Follow, none_answered}
 use Rattle.lwkt_verdict.specs.Run.{whose}
-use Rattle.lwkt_run.specs.Keeping.{Kept, kept_as, kept_after, KeepsTurn, polls_after, polls_answered, turn_of}
-use Rattle.lwkt_run.specs.Running.{Scene, Going, going, HasBeenAsked, says_over, both, TakesTurn, MakesKeptRound, GoRounds, HasMadeRounds}
-use Rattle.lwkt_run.specs.Driving.{Pair, GoesOnBy, FollowsTurn, FollowsTurnAt, FollowsTurns, FollowsStep, FollowsRound, HasFollowed, EndFollowed, Walk, walk}
+use Rattle.lwkt_run.specs.Keeping.{Kept, kept_as, kept_after, KeepsTurn, polls_after, turn_of}
+use Rattle.lwkt_run.specs.Running.{Scene, Going, going, HasBeenAsked, says_over, TakesTurn, MakesKeptRound, GoRounds, HasMadeRounds}
+use Rattle.lwkt_run.specs.Driving.{Pair, GoesOnBy, FollowsTurn, FollowsTurnAt, FollowsTurns, FollowsStep, FollowsRound, HasFollowed, Walk, walk}
 use Rattle.lwkt_run.proofs.FillMoves.{filled, filled_after, filled_told}
-use Rattle.lwkt_run.proofs.OrderMoves.{GoTurns, Turned as TurnedSo, chain_maps, turned_more, rounds_turned}
+use Rattle.lwkt_run.proofs.OrderMoves.{GoTurns, chain_maps, turned_more, rounds_turned}
 use Rattle.lwkt_run.proofs.RoundMoves.{chain_keeps, both_true, says_all}
 use Rattle.lwkt_run.proofs.TrackMoves.{Tracks, tracks_on}
 

@@ -1,21 +1,16 @@
-use Rattle.std.proofs.Common.{zero, suc, inl, inr, ◌≡◌, ℕ, ◌+◌, ◌-◌, ◌<◌, ◌≤◌, List, [], ◌∷◌, ◌++◌, length, refl, sym, ap, ◌∙◌, subst, arith, rules, Option, Some, None, append-nil, append_assoc, length-append}
-use Rattle.std.specs.Prelude.{◌==◌, ◌↔◌, Bool, min, slice_get, slice_index_or, slice_set, true, false, if◌then◌else◌, MatchOption, IfSome}
+use Rattle.std.proofs.Common.{zero, suc, ◌≡◌, ℕ, ◌+◌, ◌-◌, ◌<◌, List, [], ◌∷◌, ◌++◌, length, refl, sym, ap, ◌∙◌, arith, rules, Option, Some, None, append-nil, append_assoc}
+use Rattle.std.specs.Prelude.{Bool, min, slice_get, slice_set}
 use Rattle.std.specs.List.{cons_option}
 use Rattle.std.specs.Option.{option_map_or}
-use Rattle.std.proofs.lemmas.Bool.{cases_eq}
 use Rattle.std.proofs.lemmas.List.{length_push}
-use Rattle.std.proofs.lemmas.Option.{slice_get-get_or}
 use Rattle.std.proofs.lemmas.List.Elements.{filter_map-append}
 use Rattle.lwkt_base.specs.declared.entries.Entry.{Entry}
-use Rattle.lwkt_base.specs.declared.names.ThreadId.{ThreadId}
 use Rattle.lwkt_verdict.specs.declared.turns.Poll.{Poll}
-use Rattle.lwkt_script.specs.declared.scripts.ThreadSpec.{ThreadSpec}
-use Rattle.lwkt_report.specs.declared.closings.ThreadLine.{ThreadLine}
 use Rattle.lwkt_verdict.specs.declared.progress.Asked.{Asked}
 use Rattle.lwkt_verdict.specs.declared.progress.Progress.{Progress}
 use Rattle.lwkt_verdict.specs.declared.progress.Piece.{Piece}
 use Rattle.lwkt_verdict.specs.Threads.{slot_of, asked_in, asked_by, logged_by, entries_of, progress_of, progress_after}
-use Rattle.lwkt_verdict.specs.Run.{came, asked_of_poll, PollFits}
+use Rattle.lwkt_verdict.specs.Run.{came, asked_of_poll}
 
 -- what a turn more asked of a thread
 pub asked_push : (slot : ℕ) (before : List Piece) (p : Piece) → asked_by slot (before ++ p ∷ []) ≡ asked_by slot before ++ asked_in slot p

@@ -1,13 +1,7 @@
-use Rattle.std.proofs.Common.{zero, suc, inl, inr, ◌≡◌, ℕ, ◌+◌, ◌-◌, ◌*◌, ◌/◌, ◌%◌, ◌<◌, ◌≤◌, List, [], ◌∷◌, length, get_or, refl, sym, ap, ◌∙◌, subst, arith}
-use Rattle.std.specs.Prelude.{◌↔◌, ◌&&◌, IsTrue, Bool, nat_eq, All}
-use Rattle.std.proofs.lemmas.List.Elements.{All-nil, All-cons}
-use Rattle.std.proofs.lemmas.Bool.{cases_lt, and_parts, eqb-true, eq-eqb}
-use Rattle.std.proofs.lemmas.List.{get_or_default}
+use Rattle.std.proofs.Common.{◌≡◌, ℕ, ◌+◌, ◌-◌, ◌*◌, ◌/◌, ◌%◌, ◌<◌, ◌≤◌, refl, sym, ap, ◌∙◌, subst, arith}
 use Rattle.std.proofs.lemmas.Nat.{mul-le, div-add-mod', div-mul-add, mod-mul-add, mod_below}
-use Rattle.std.proofs.Math.Nat.{add-mod_right}
-use native.Mathlib.Nat.{add-mul, mod-eq_of_lt}
+use native.Mathlib.Nat.{add-mul}
 use Rattle.lwkt_verdict.specs.declared.spots.Spot.{Spot}
-use Rattle.lwkt_verdict.specs.Run.{GoesRound}
 use Rattle.lwkt_verdict.specs.Spots.{spot_at}
 
 -- a number by its rounds and its step is that of the ask which stands there

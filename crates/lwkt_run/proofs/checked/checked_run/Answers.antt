@@ -1,4 +1,4 @@
-use Rattle.std.proofs.Common.{◌≡◌, ◌∙◌, List, ap, refl, subst, arith}
+use Rattle.std.proofs.Common.{◌∙◌, List, ap, refl, subst, arith}
 use Rattle.lwkt_bank.specs.Seats.{BankId}
 use Rattle.lwkt_core.specs.declared.events.Event.{Event}
 use Rattle.lwkt_core.specs.Machine.{Machine}

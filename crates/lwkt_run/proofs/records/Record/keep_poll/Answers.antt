@@ -1,4 +1,4 @@
-use Rattle.std.proofs.Common.{sym, ◌≡◌, ◌∙◌, ◌<◌, ◌+◌, ◌*◌, ap, subst, ℕ, List, length, set, arith, Option, Some}
+use Rattle.std.proofs.Common.{sym, ◌≡◌, ◌<◌, ◌+◌, ◌*◌, ap, subst, ℕ, List, length, set, arith, Option, Some}
 use Rattle.lwkt_verdict.specs.declared.turns.Poll.{Poll}
 use Rattle.lwkt_verdict.specs.Threads.{slot_of}
 use Rattle.lwkt_run.proofs.KeepMoves.{ArePlaces, answered_long, places_pushed}
