@@ -1,12 +1,12 @@
 use Rattle.std.proofs.Common.{◌≤◌, ◌-◌, length, take}
-use Rattle.lwkt_checker.specs.Stands.{StandsBehind}
-use Rattle.lwkt_checker.proofs.framed.behind.Given as goal
+use Rattle.lwkt_checker.specs.Knows.{KnowsWritten}
+use Rattle.lwkt_checker.proofs.framed.fed.Given as goal
 
--- this is where one stands behind the events so far
+-- the judge was fed the events so far
 abbrev pub invariant-loop-from : goal.invariant-loop-from
 invariant-loop-from l = record {
   within : l.from ≤ length l.text;
-  stands : StandsBehind l.fn.opened (take l.from l.text) l.standing l.number;
+  knows : KnowsWritten l.opening (take l.from l.text) l.judge;
 }
 
 abbrev pub decreases-loop-from : goal.decreases-loop-from
