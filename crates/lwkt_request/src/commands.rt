@@ -88,20 +88,42 @@ fn with_file<'a>(
     with(command, file(alloc, help))
 }
 
-// The command with its texts for `-h`.
-fn in_short<'a>(command: Command<'a>, page: Page) -> Command<'a>
+// The command with what `-h` says it does.
+fn with_about<'a>(command: Command<'a>, text: &'static str) -> Command<'a>
     ensures { (app : App) → IsBuilt app command.entry → IsBuilt app result }
 {
-    command.about(page.about).after_help(page.after)
+    command.about(text)
+}
+
+// The command with what `--help` says it does.
+fn with_long_about<'a>(command: Command<'a>, text: &'static str) -> Command<'a>
+    ensures { (app : App) → IsBuilt app command.entry → IsBuilt app result }
+{
+    command.long_about(text)
+}
+
+// The command with the end of `-h`.
+fn with_end<'a>(command: Command<'a>, text: &'static str) -> Command<'a>
+    ensures { (app : App) → IsBuilt app command.entry → IsBuilt app result }
+{
+    command.after_help(text)
+}
+
+// The command with the end of `--help`.
+fn with_long_end<'a>(command: Command<'a>, text: &'static str) -> Command<'a>
+    ensures { (app : App) → IsBuilt app command.entry → IsBuilt app result }
+{
+    command.after_long_help(text)
 }
 
 // The command with its texts for `-h` and `--help`.
 fn described<'a>(command: Command<'a>, page: Page) -> Command<'a>
     ensures { (app : App) → IsBuilt app command.entry → IsBuilt app result }
 {
-    in_short(command, page)
-        .long_about(page.long_about)
-        .after_long_help(page.long_after)
+    let command = with_about(command, page.about);
+    let command = with_long_about(command, page.long_about);
+    let command = with_end(command, page.after);
+    with_long_end(command, page.long_after)
 }
 
 fn run_command<'a>(alloc: Global) -> Result<Command<'a>, OutOfMemory>
