@@ -36,7 +36,7 @@
 //
 // Any number of threads may call at once: a call shares nothing with another one. No call waits, starts a thread, prints, reads a
 // file or ends the process. What memory it takes it gives back before it returns. The calls on words take none, and call nothing:
-// the part of the archive that has them can be linked into a kernel.
+// linked with --gc-sections they bring in no other part of the archive, as a kernel wants it.
 #ifndef LWKT_H
 #define LWKT_H
 

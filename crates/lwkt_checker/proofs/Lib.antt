@@ -3,6 +3,7 @@ pub mod Tellings
 pub mod Sayings
 pub mod Closings
 pub mod Stops
+pub mod Knowing
 pub mod Framing
 pub mod LineLemmas
 pub mod ToldLines

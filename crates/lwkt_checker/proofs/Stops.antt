@@ -17,12 +17,13 @@ use Rattle.lwkt_trace.specs.declared.traces.Told.{Told}
 use Rattle.lwkt_trace.specs.declared.traces.Trace.{Trace}
 use Rattle.lwkt_checker.specs.Told.{event_told, events_told}
 use Rattle.lwkt_checker.specs.Said.{IsReason, IsDifference, IsDifferenceOf, SaysWhy}
-use Rattle.lwkt_checker.specs.Judgement.{opening_of, AreValues, AreClosing, Finds, IsFound, DeclinesTrace, RefusesRead}
+use Rattle.lwkt_checker.specs.Judgement.{opening_of, AreValues, AreClosing, Finds, IsFound, OpensTrace, IsJudgedTrace, DeclinesTrace, RefusesRead}
+use Rattle.lwkt_checker.specs.declared.judges.Finding.{Finding}
 use Rattle.lwkt_checker.specs.declared.judges.Finding.TheVariants.{Lawful, Unlawful}
 use Rattle.lwkt_checker.proofs.ToldRuns.{length-events_told, ran_whole}
-use Rattle.lwkt_checker.specs.Stands.{with_told, with_last, ClosesSo, StandsWith, OpensSo}
+use Rattle.lwkt_checker.specs.Stands.{with_told, with_last, ClosesSo, StandsWith}
 use Rattle.lwkt_checker.specs.declared.standings.Standing.{Standing}
-use Rattle.lwkt_checker.specs.declared.standings.Standing.TheVariants.{Awaits, Plays, Fails, Declined}
+use Rattle.lwkt_checker.specs.declared.standings.Standing.TheVariants.{Plays, Fails, Declined}
 
 -- the events of one that is told behind others are theirs and its own
 events_told-more : (m : Machine) (told : List Told) (x : Told) (mid : Machine) → Run m (events_told m told) mid → events_told m (told ++ x ∷ []) ≡ events_told m told ++ event_told mid x ∷ []
@@ -159,10 +160,18 @@ stopped_more m told others index text s =
       says = s.says;
     }
 
+-- an opening keeps the limits and the laws, whatever events and closing values stand behind it
+opens_with : (trace : Trace) (events : List Told) (last : Option Closing) → OpensTrace trace → OpensTrace (record { cpus = trace.cpus; tokens = trace.tokens; messages = trace.messages; events = events; last = last })
+opens_with trace events last opens = record { within = opens.within; lawful = opens.lawful }
+
+judged_with : (trace : Trace) (events : List Told) (last : Option Closing) (finding : Finding) → OpensTrace trace → IsFound (record { cpus = trace.cpus; tokens = trace.tokens; messages = trace.messages; events = events; last = last }) finding
+    → IsJudgedTrace (record { cpus = trace.cpus; tokens = trace.tokens; messages = trace.messages; events = events; last = last }) finding
+judged_with trace events last finding opens found = record { opens = opens_with trace events last opens; found = found }
+
 -- where a judge stands with one event more: the event can happen
 pub plays_more : (trace : Trace) (x : Told) (mid n : Machine) → trace.last ≡ None → StandsWith trace (Plays mid) → Happens mid (event_told mid x) n → StandsWith (with_told trace x) (Plays n)
 plays_more trace x mid n open_still so step =
-    (run_more (opening_of trace) trace.events x mid n so.0 step, subst (λ (o : Option Closing). ClosesSo o n) (sym open_still) tt)
+    (opens_with trace (trace.events ++ x ∷ []) trace.last so.0, (run_more (opening_of trace) trace.events x mid n so.1.0 step, subst (λ (o : Option Closing). ClosesSo o n) (sym open_still) tt))
 
 -- it can't
 pub fails_more : (trace : Trace) (x : Told) (mid : Machine) (index : ℕ) (why : String Global) → trace.last ≡ None → index ≡ length trace.events → StandsWith trace (Plays mid) → (Needs mid (event_told mid x) → ⊥) → IsReason mid index x (string_bytes why)
@@ -170,18 +179,18 @@ pub fails_more : (trace : Trace) (x : Told) (mid : Machine) (index : ℕ) (why :
 fails_more trace x mid index why open_still counted so fails reason =
     let m = opening_of trace in
     let all = trace.events ++ x ∷ [] in
-    let stops : StopsAt m (events_told m all) index mid = subst (λ (n : ℕ). StopsAt m (events_told m all) n mid) (sym counted) (stops_more m trace.events x mid so.0 fails) in
+    let stops : StopsAt m (events_told m all) index mid = subst (λ (n : ℕ). StopsAt m (events_told m all) n mid) (sym counted) (stops_more m trace.events x mid so.1.0 fails) in
     let s : Stopped m all index (string_bytes why) = record { mid = mid; stops = stops; at = mid; ran = stops.before; told_at = x; is = ap (slice_get all) counted ∙ get_next trace.events x; says = reason } in
-    found_alone (with_told trace x) index why open_still s
+    judged_with trace all trace.last (Unlawful index why) so.0 (found_alone (with_told trace x) index why open_still s)
 
 -- one before it couldn't
 failed_more : (trace : Trace) (x : Told) (index : ℕ) (why : String Global) → trace.last ≡ None → StandsWith trace (Fails index why) → StandsWith (with_told trace x) (Fails index why)
-failed_more trace x index why open_still found =
-    found_alone (with_told trace x) index why open_still (stopped_more (opening_of trace) trace.events (x ∷ []) index (string_bytes why) (stopped_of trace index why open_still found))
+failed_more trace x index why open_still judged =
+    judged_with trace (trace.events ++ x ∷ []) trace.last (Unlawful index why) judged.opens
+    (found_alone (with_told trace x) index why open_still (stopped_more (opening_of trace) trace.events (x ∷ []) index (string_bytes why) (stopped_of trace index why open_still judged.found)))
 
 -- no events are played any more
 pub stays_more : (trace : Trace) (x : Told) (s : Standing) → ((mid : Machine) → s ≡ Plays mid → ⊥) → trace.last ≡ None → StandsWith trace s → StandsWith (with_told trace x) s
-stays_more trace x Awaits ended open_still so = so
 stays_more trace x (Plays mid) ended open_still so = absurd (ended mid refl)
 stays_more trace x (Fails index why) ended open_still so = failed_more trace x index why open_still so
 stays_more trace x (Declined (Memory why)) ended open_still so = tt
@@ -191,7 +200,7 @@ stays_more trace x (Declined _) ended open_still so = absurd so
 
 -- where it stands with closing values: the machine closes so
 pub plays_last : (trace : Trace) (closing : Closing) (last : Final) (mid : Machine) → AreValues closing last → StandsWith trace (Plays mid) → Closes mid last → StandsWith (with_last trace closing) (Plays mid)
-plays_last trace closing last mid values so closes = (so.0, (last, (values, closes)))
+plays_last trace closing last mid values so closes = (opens_with trace trace.events (Some closing) so.0, (so.1.0, (last, (values, closes))))
 
 -- it doesn't
 pub fails_last : (trace : Trace) (closing : Closing) (last : Final) (mid : Machine) (count : ℕ) (why : String Global) → count ≡ length trace.events → AreValues closing last → StandsWith trace (Plays mid) → (Closes mid last → ⊥) → IsDifference mid last (string_bytes why)
@@ -201,17 +210,17 @@ fails_last trace closing last mid count why counted values so differs difference
     let es = events_told m trace.events in
     let same : length es ≡ count = length-events_told m trace.events ∙ sym counted in
     let none : slice_get trace.events count ≡ None = slice_get_past trace.events count (omega (arith, counted)) in
-    let ran : Run m (take count es) mid = subst (λ (n : ℕ). Run m (take n es) mid) (sym counted) (ran_whole m trace.events mid so.0) in
-    (Some last, (values, (subst (λ (n : ℕ). FailsAt m es last n) same (FailsAt-close m es last mid so.0 differs), (mid, (ran, subst (λ (o : Option Told). MatchOption o (IsDifferenceOf mid (Some last) (string_bytes why)) (λ t. IsReason mid count t (string_bytes why))) (sym none) difference)))))
+    let ran : Run m (take count es) mid = subst (λ (n : ℕ). Run m (take n es) mid) (sym counted) (ran_whole m trace.events mid so.1.0) in
+    judged_with trace trace.events (Some closing) (Unlawful count why) so.0
+    (Some last, (values, (subst (λ (n : ℕ). FailsAt m es last n) same (FailsAt-close m es last mid so.1.0 differs), (mid, (ran, subst (λ (o : Option Told). MatchOption o (IsDifferenceOf mid (Some last) (string_bytes why)) (λ t. IsReason mid count t (string_bytes why))) (sym none) difference)))))
 
 -- an event before them couldn't happen
 failed_last : (trace : Trace) (closing : Closing) (last : Final) (index : ℕ) (why : String Global) → trace.last ≡ None → AreValues closing last → StandsWith trace (Fails index why) → StandsWith (with_last trace closing) (Fails index why)
-failed_last trace closing last index why open_still values found =
-    found_closed trace closing last index why values (stopped_of trace index why open_still found)
+failed_last trace closing last index why open_still values judged =
+    judged_with trace trace.events (Some closing) (Unlawful index why) judged.opens (found_closed trace closing last index why values (stopped_of trace index why open_still judged.found))
 
 -- no events are played any more
 pub stays_last : (trace : Trace) (closing : Closing) (last : Final) (s : Standing) → ((mid : Machine) → s ≡ Plays mid → ⊥) → trace.last ≡ None → AreValues closing last → StandsWith trace s → StandsWith (with_last trace closing) s
-stays_last trace closing last Awaits ended open_still values so = so
 stays_last trace closing last (Plays mid) ended open_still values so = absurd (ended mid refl)
 stays_last trace closing last (Fails index why) ended open_still values so = failed_last trace closing last index why open_still values so
 stays_last trace closing last (Declined (Memory why)) ended open_still values so = tt
@@ -224,15 +233,8 @@ lawful_so : (trace : Trace) (o : Option Closing) (mid : Machine) → trace.last 
 lawful_so trace None mid is run so = (None, (subst (λ (o : Option Closing). AreClosing o None) (sym is) tt, ((mid, run), tt)))
 lawful_so trace (Some closing) mid is run so = (Some so.0, (subst (λ (o : Option Closing). AreClosing o (Some so.0)) (sym is) so.1.0, ((mid, (run, so.1.1)), tt)))
 
-pub lawful : (trace : Trace) (mid : Machine) → StandsWith trace (Plays mid) → IsFound trace Lawful
-lawful trace mid so = lawful_so trace trace.last mid refl so.0 so.1
-
--- an opening is as it was, whatever events and closing values stand behind it
-pub opens_with : (trace : Trace) (events : List Told) (last : Option Closing) (s : Standing) → OpensSo trace s → OpensSo (record { cpus = trace.cpus; tokens = trace.tokens; messages = trace.messages; events = events; last = last }) s
-opens_with trace events last Awaits opens = tt
-opens_with trace events last (Plays state) opens = record { within = opens.within; lawful = opens.lawful }
-opens_with trace events last (Fails index why) opens = record { within = opens.within; lawful = opens.lawful }
-opens_with trace events last (Declined fault) opens = tt
+pub lawful : (trace : Trace) (mid : Machine) → StandsWith trace (Plays mid) → IsJudgedTrace trace Lawful
+lawful trace mid so = record { opens = so.0; found = lawful_so trace trace.last mid refl so.1.0 so.1.1 }
 
 -- a trace whose opening is refused is refused
 pub refuses_declined : (read : Result Trace ℕ) (trace : Trace) (fault : Refusal) → read ≡ Ok trace → DeclinesTrace trace fault → RefusesRead read fault

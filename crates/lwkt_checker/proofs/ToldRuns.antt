@@ -1,6 +1,6 @@
 -- The events that are told, one after another.
-use Rattle.std.proofs.Common.{zero, suc, ◌≡◌, ◌<◌, ◌≤◌, ℕ, List, [], ◌∷◌, length, get_or, take, take_all, refl, ap, sym, ◌∙◌, subst, arith, Option, Some, None}
-use Rattle.std.specs.Prelude.{◌+◌, slice_get, IsSomeAnd}
+use Rattle.std.proofs.Common.{suc, ◌≡◌, List, [], ◌∷◌, length, take, take_all, refl, ap, sym, ◌∙◌, subst, arith, Option, Some, None}
+use Rattle.std.specs.Prelude.{slice_get, IsSomeAnd}
 use Rattle.std.specs.Option.{option_map_or}
 use Rattle.lwkt_base.specs.declared.names.CpuId.{CpuId}
 use Rattle.lwkt_base.specs.declared.names.TokId.{TokId}
@@ -9,9 +9,8 @@ use Rattle.lwkt_core.specs.declared.tokens.Token.{Token}
 use Rattle.lwkt_core.specs.declared.events.Event.{Event}
 use Rattle.lwkt_core.specs.declared.events.Event.TheVariants.{GiveWritten}
 use Rattle.lwkt_core.specs.Tokens.{section_at, TokenNeeds}
-use Rattle.lwkt_core.specs.Machine.{Machine, Needs, Happens, after}
-use Rattle.lwkt_core.specs.Trace.{Run, StopsAt}
-use Rattle.lwkt_core.proofs.TraceLemmas.{Run_more, Run_all, StopsAt-event}
+use Rattle.lwkt_core.specs.Machine.{Machine, Needs, after}
+use Rattle.lwkt_core.specs.Trace.{Run}
 use Rattle.lwkt_trace.specs.declared.traces.Told.{Told}
 use Rattle.lwkt_trace.specs.declared.traces.Told.TheVariants.{Whole, Given}
 use Rattle.lwkt_checker.specs.Told.{no_section, event_told, events_told, IsTold, ToldIsOnly}
@@ -20,34 +19,6 @@ use Rattle.lwkt_checker.specs.Told.{no_section, event_told, events_told, IsTold,
 pub length-events_told : (m : Machine) (told : List Told) → length (events_told m told) ≡ length told
 length-events_told m [] = refl
 length-events_told m (x ∷ xs) = ap suc (length-events_told (after m (event_told m x)) xs)
-
--- the event of an index is the one that is told in the machine that those before it lead to
-told_at : (m : Machine) (told : List Told) (i : ℕ) (e : Event) (x : Told) (mid : Machine) → i < length told → Run m (take i (events_told m told)) mid → get_or (events_told m told) i e ≡ event_told mid (get_or told i x)
-told_at m [] i e x mid inside run = absurd (omega arith)
-told_at m (y ∷ ys) zero e x mid inside run = ap (λ (k : Machine). event_told k y) (sym run)
-told_at m (y ∷ ys) (suc i) e x mid inside run =
-    let next = after m (event_told m y) in
-    told_at next ys i e x mid (omega arith) (subst (λ (k : Machine). Run k (take i (events_told next ys)) mid) run.1.0.1 run.1.1)
-
--- a loop's step: the run so far goes on by the event that is told at its index
-pub told_more : (m : Machine) (told : List Told) (i : ℕ) (x : Told) (mid n : Machine) → i < length told → Run m (take i (events_told m told)) mid → Happens mid (event_told mid (get_or told i x)) n → Run m (take (i + 1) (events_told m told)) n
-told_more m told i x mid n inside run step =
-    let e = event_told mid x in
-    let long = length-events_told m told in
-    Run_more m (events_told m told) i e mid n (omega arith) run (subst (λ (y : Event). Happens mid y n) (sym (told_at m told i e x mid inside run)) step)
-
--- a loop that stops: the event that is told at its index can't happen
-pub told_stops : (m : Machine) (told : List Told) (i : ℕ) (x : Told) (mid : Machine) → i < length told → Run m (take i (events_told m told)) mid → ¬ Needs mid (event_told mid (get_or told i x)) → StopsAt m (events_told m told) i mid
-told_stops m told i x mid inside run fails =
-    let e = event_told mid x in
-    let long = length-events_told m told in
-    StopsAt-event m (events_told m told) i mid e (omega arith) run (subst (λ (y : Event). ¬ Needs mid y) (sym (told_at m told i e x mid inside run)) fails)
-
--- a loop's end: all that is told has happened
-pub told_ends : (m : Machine) (told : List Told) (i : ℕ) (mid : Machine) → length told ≤ i → Run m (take i (events_told m told)) mid → Run m (events_told m told) mid
-told_ends m told i mid past run =
-    let long = length-events_told m told in
-    Run_all m (events_told m told) i mid (omega arith) run
 
 -- the section of a written give that can happen is the token's own
 own_section : (o : Option Token) (cpu : CpuId) (t : TokId) (section : Section) → IsSomeAnd o (λ tok. TokenNeeds tok (GiveWritten cpu t section)) → section ≡ option_map_or (section_at t) o (no_section t)

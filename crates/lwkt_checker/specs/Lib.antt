@@ -4,6 +4,7 @@ pub mod Output
 pub mod Said
 pub mod Shown
 pub mod Stands
+pub mod Knows
 pub mod Line
 pub mod LineFormat
 pub mod LineReading

@@ -1,13 +1,14 @@
-ghost use Rattle.std.specs.Prelude.{◌≡◌, ◌<◌, None, Some, IfOk, OnOk, IfErr, MatchOption, length, slice_get, string_bytes};
-ghost use Rattle.lwkt_checker.specs.Said.{IsReason, IsDifference};
-ghost use Rattle.lwkt_checker.specs.Judgement.{opening_of, AreClosing, FindsWhy, OpensTrace, IsJudgedTrace, DeclinesTrace, finding_text};
+//! The one judge of traces. A trace is fed to it piece by piece, wherever the pieces come from: its opening, then its events one
+//! after another, and at last its closing values, if it has some.
+ghost use Rattle.std.specs.Prelude.{◌≡◌, ◌+◌, ◌<◌, [], true, false, None, IfOk, IfErr, string_bytes};
+ghost use Rattle.lwkt_trace.specs.declared.traces.Trace.{Trace};
+ghost use Rattle.lwkt_checker.specs.Judgement.{IsJudgedTrace, DeclinesTrace, finding_text};
+ghost use Rattle.lwkt_checker.specs.Stands.{with_told, with_last, closed_so};
+ghost use Rattle.lwkt_checker.specs.Knows.{Knows};
 
-use crate::differences::difference;
-use crate::lacks::reason;
-use crate::plays::{play_told, play_told_to_close};
+use crate::standings::Standing;
 use lwkt_base::memory::{push_str, put};
 use lwkt_base::{Fault, OutOfMemory};
-use lwkt_core::{Final, State};
 use lwkt_trace::{Closing, Told, Trace};
 use std::alloc::Global;
 
@@ -21,122 +22,90 @@ pub enum Finding {
     Unlawful { index: usize, why: String },
 }
 
-/// The opening state of a trace.
-///
-/// Refused with `Limits` or `LawBroken` for its opening, and with `Memory` if an allocation is.
-pub fn opened(alloc: Global, trace: &Trace) -> Result<State, Fault>
-    ensures ok { IfOk result (λ state. state ≡ opening_of trace.now) }
-    ensures opens { OnOk result (OpensTrace trace.now) }
-    ensures refused { IfErr result (λ fault. DeclinesTrace trace.now fault) }
-{
-    State::open(
-        alloc,
-        trace.tokens.as_slice(),
-        trace.messages.as_slice(),
-        usize::from(trace.cpus),
-    )
+/// A judge of a trace, of which it keeps nothing but where it stands.
+#[derive(Debug, Drop)]
+pub struct Judge {
+    /// How many events there were so far.
+    pub count: usize,
+    /// Whether the closing values have come.
+    pub closed: bool,
+    /// Where it stands with what it was fed.
+    pub standing: Standing,
 }
 
-// The closing values as the model has them.
-fn last_of(last: Option<Closing>) -> Option<Final>
-    ensures { AreClosing last result }
-{
-    match last {
-        None => None,
-        Some(closing) => Some(closing.into_final()),
+impl Judge {
+    /// A judge that was fed an opening: a trace in which nothing has happened yet, and which has no closing values.
+    pub fn opened(alloc: Global, opening: &Trace) -> Result<Judge, OutOfMemory>
+        requires events { opening.now.events ≡ [] }
+        requires last { opening.now.last ≡ None }
+        ensures knows { IfOk result (Knows opening.now) }
+        ensures counts { IfOk result (λ judge. (judge.count ≡ 0) × (judge.closed ≡ false)) }
+    {
+        Ok(Judge {
+            count: 0,
+            closed: false,
+            standing: Standing::opened(alloc, opening)?,
+        })
     }
-}
 
-// Why the event of an index can't happen in a state.
-fn reason_at(
-    alloc: Global,
-    state: &State,
-    events: &[Told],
-    index: usize,
-) -> Result<String, OutOfMemory>
-    requires { index < length events.now }
-    ensures { IfOk result (λ why. MatchOption (slice_get events.now index) (Unit {0}) (λ told. IsReason state.now index told (string_bytes why))) }
-{
-    reason(alloc, state, index, &events[index])
-}
-
-// What is said of the state in which events fail at an index.
-fn why_of(
-    alloc: Global,
-    state: &State,
-    events: &[Told],
-    index: usize,
-    last: &Final,
-) -> Result<String, OutOfMemory>
-    ensures { IfOk result (λ why. MatchOption (slice_get events.now index) (IsDifference state.now last.now (string_bytes why)) (λ told. IsReason state.now index told (string_bytes why))) }
-{
-    match events.get(index) {
-        Some(told) => reason(alloc, state, index, told),
-        None => difference(alloc, state, last),
+    /// The judge with one event more.
+    pub fn and_event(self, alloc: Global, told: &Told) -> Result<Judge, OutOfMemory>
+        requires open { self.closed ≡ false }
+        requires room { self.count < 18446744073709551615 }
+        ensures knows { IfOk result (λ after. (trace : Trace) → Knows trace self → Knows (with_told trace told.now) after) }
+        ensures counts { IfOk result (λ after. (after.count ≡ self.count + 1) × (after.closed ≡ false)) }
+    {
+        let Judge {
+            count,
+            standing,
+            ..
+        } = self;
+        Ok(Judge {
+            count: count + 1,
+            closed: false,
+            standing: standing.and_event(alloc, count, told)?,
+        })
     }
-}
 
-// What events alone are found to be, from an opening state.
-fn found_alone(alloc: Global, opening: State, events: &[Told]) -> Result<Finding, OutOfMemory>
-    ensures { IfOk result (λ finding. FindsWhy opening events.now None finding) }
-{
-    let mut state = opening;
-    match play_told(&mut state, events) {
-        Ok(()) => Ok(Finding::Lawful),
-        Err(index) => Ok(Finding::Unlawful {
-            index,
-            why: reason_at(alloc, &state, events, index)?,
-        }),
+    /// The judge with closing values behind the events.
+    pub fn and_closing(self, alloc: Global, closing: Closing) -> Result<Judge, OutOfMemory>
+        requires { self.closed ≡ false }
+        ensures knows { IfOk result (λ after. (trace : Trace) → Knows trace self → Knows (with_last trace closing) after) }
+        ensures counts { IfOk result (λ after. (after.count ≡ self.count) × (after.closed ≡ true)) }
+    {
+        let Judge {
+            count,
+            standing,
+            ..
+        } = self;
+        let last = closing.into_final();
+        Ok(Judge {
+            count,
+            closed: true,
+            standing: standing.and_closing(alloc, count, &last)?,
+        })
     }
-}
 
-// What events with closing values are found to be, from an opening state.
-fn found_closing(
-    alloc: Global,
-    opening: State,
-    events: &[Told],
-    last: &Final,
-) -> Result<Finding, OutOfMemory>
-    ensures { IfOk result (λ finding. FindsWhy opening events.now (Some last.now) finding) }
-{
-    let mut state = opening;
-    match play_told_to_close(&mut state, events, last) {
-        Ok(()) => Ok(Finding::Lawful),
-        Err(index) => Ok(Finding::Unlawful {
-            index,
-            why: why_of(alloc, &state, events, index, last)?,
-        }),
+    /// The judge with closing values behind the events, or with none.
+    pub fn and_last(self, alloc: Global, last: Option<Closing>) -> Result<Judge, OutOfMemory>
+        requires { self.closed ≡ false }
+        ensures { IfOk result (λ after. (trace : Trace) → Knows trace self → Knows (closed_so trace last) after) }
+    {
+        match last {
+            None => Ok(self),
+            Some(closing) => Ok(self.and_closing(alloc, closing)?),
+        }
     }
-}
 
-// What events and closing values are found to be, from an opening state.
-fn found(
-    alloc: Global,
-    opening: State,
-    events: &[Told],
-    last: &Option<Final>,
-) -> Result<Finding, OutOfMemory>
-    ensures { IfOk result (λ finding. FindsWhy opening events.now last.now finding) }
-{
-    match last {
-        None => found_alone(alloc, opening, events),
-        Some(last) => found_closing(alloc, opening, events, last),
-    }
-}
-
-/// What a trace is: lawful, or the index at which it fails and why.
-///
-/// Refused with `Limits` or `LawBroken` for its opening, and with `Memory` if an allocation is.
-pub fn judge(alloc: Global, trace: Trace) -> Result<Finding, Fault>
-    ensures ok { IfOk result (λ finding. IsJudgedTrace trace finding) }
-    ensures refused { IfErr result (λ fault. DeclinesTrace trace fault) }
-{
-    let opening = opened(alloc, &trace)?;
-    let Trace { events, last, .. } = trace;
-    let last = last_of(last);
-    match found(alloc, opening, events.as_slice(), &last) {
-        Ok(finding) => Ok(finding),
-        Err(refused) => Err(Fault::Memory(refused)),
+    /// What the trace is: lawful, or the index at which it fails and why.
+    ///
+    /// Refused with `Limits` or `LawBroken` for its opening.
+    pub fn finding(self) -> Result<Finding, Fault>
+        ensures found { IfOk result (λ finding. (trace : Trace) → Knows trace self → IsJudgedTrace trace finding) }
+        ensures refused { IfErr result (λ fault. (trace : Trace) → Knows trace self → DeclinesTrace trace fault) }
+    {
+        let Judge { standing, .. } = self;
+        standing.finding()
     }
 }
 

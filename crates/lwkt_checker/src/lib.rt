@@ -5,9 +5,10 @@
 //!
 //! Words: a *finding* is that a trace is lawful, or the index at which it fails; the *reason* is the first need that isn't
 //! met there; a *difference* is a closing value that isn't the one that the events lead to. A *line* is what stands before a
-//! line feed, or behind the last one; a judge is *told* one piece after another, and *stands* with the trace of what it was
-//! told: it plays the events, or knows why the trace is unlawful or its opening refused; what is *left* of a source are the
-//! bytes that it gave and that stand in no line yet, and those that it still has.
+//! line feed, or behind the last one; a judge is *fed* one piece after another, by three feeders (`trees` from a trace that was
+//! read whole, `framed` from a text, `line_judges` from lines), and *stands* with the trace of what it was fed: it plays the
+//! events, or knows why the trace is unlawful or its opening refused; what is *left* of a source are the bytes that it gave and
+//! that stand in no line yet, and those that it still has.
 #![tactic(auto)]
 
 mod differences;
@@ -23,15 +24,17 @@ mod lines;
 mod plays;
 mod programs;
 mod standings;
+mod trees;
 mod words;
 
 pub use differences::difference;
 pub use framed::found_written;
-pub use judges::{Finding, finding_text, judge};
+pub use judges::{Finding, Judge, finding_text};
 pub use lacks::reason;
 pub use line_checks::{check_lines, judge_lines};
 pub use line_judges::LineJudge;
 pub use lines::{LINE_LIMIT, Lines};
-pub use plays::{event_told, play_told, play_told_to_close, told_is_only};
+pub use plays::{event_told, told_is_only};
 pub use programs::{check_keeping, check_stream, run_checker, say_outcome, status_of};
 pub use standings::Standing;
+pub use trees::found_whole;

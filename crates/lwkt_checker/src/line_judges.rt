@@ -1,21 +1,20 @@
-ghost use Rattle.std.specs.Prelude.{◌≡◌, ◌+◌, ◌<◌, ℕ, [], false, Option, Some, None, Result, Ok, IfOk, IfErr, MatchOption};
-ghost use Rattle.lwkt_script.specs.Outcome.{Gives, IsFaultOf as IsRefused, part};
-ghost use Rattle.lwkt_trace.specs.declared.traces.Trace.{Trace};
-ghost use Rattle.lwkt_checker.specs.Judgement.{IsJudgedTrace, DeclinesTrace};
-ghost use Rattle.lwkt_checker.specs.Line.{value_of};
-ghost use Rattle.lwkt_checker.specs.LineFormat.{event_place, with_event, with_closing, with_line, next};
-ghost use Rattle.lwkt_checker.specs.Stands.{StandsWith, OpensSo, awaits};
-ghost use Rattle.lwkt_checker.specs.LineJudged.{JudgeKnows, Judges, lines_left};
+ghost use Rattle.std.specs.Prelude.{◌≡◌, ◌<◌, ℕ, false, Option, Some, None, Ok, IfOk, IfErr, MatchOption};
 ghost use Rattle.serde_json.specs.Data.{Data};
 ghost use Rattle.serde_json.specs.View.{view};
+ghost use Rattle.lwkt_script.specs.Outcome.{Gives, IsFaultOf as IsRefused, part};
 ghost use Rattle.lwkt_trace.specs.Words.{event_of};
+ghost use Rattle.lwkt_trace.specs.declared.traces.Trace.{Trace};
+ghost use Rattle.lwkt_checker.specs.Judgement.{IsJudgedTrace, DeclinesTrace};
+ghost use Rattle.lwkt_checker.specs.Knows.{Knows};
+ghost use Rattle.lwkt_checker.specs.Line.{value_of};
+ghost use Rattle.lwkt_checker.specs.LineFormat.{event_place, with_event, with_closing, with_line, next};
+ghost use Rattle.lwkt_checker.specs.LineJudged.{KnowsSo, Judges, lines_behind, lines_still, lines_left};
 
-use crate::judges::Finding;
+use crate::judges::{Finding, Judge};
 use crate::line_openings::opened;
 use crate::line_values::value_of;
-use crate::standings::Standing;
 use lwkt_base::Fault;
-use lwkt_trace::{Told, Trace, closing_at, event_of, told_alone, written_event};
+use lwkt_trace::{Told, closing_at, event_of, told_alone, written_event};
 use serde_json::Value;
 use std::alloc::Global;
 
@@ -25,15 +24,11 @@ const EVENT_LIMIT: usize = 1_000_000_000_000_000;
 // The most events whose places have numbers of their own.
 const PLACE_LIMIT: usize = 50_000_000;
 
-/// A judge of a trace that is told to it line by line, and of which it keeps nothing but where it stands.
+/// Feeds a judge a trace line by line.
 #[derive(Debug, Drop)]
 pub struct LineJudge {
-    /// How many events there were so far.
-    pub count: usize,
-    /// Whether the closing values have come.
-    pub closed: bool,
-    /// Where it stands with what it was told.
-    pub standing: Standing,
+    /// The judge of the lines so far, or none before the first.
+    pub judge: Option<Judge>,
 }
 
 // The place of the event of an index.
@@ -54,23 +49,110 @@ fn value_at(alloc: Global, place: u32, line: &[u8]) -> Result<Value, Fault>
     }
 }
 
-// The judge to whom the opening was told.
-fn opened_by(alloc: Global, line: &[u8]) -> Result<LineJudge, Fault>
-    ensures told { IfOk result (λ judge. (trace : Trace) × ((next None line.now ≡ Ok (Some trace)) × JudgeKnows judge trace)) }
-    ensures fewer { IfOk result (λ judge. lines_left judge < 1000000000000002) }
+// The judge of the opening that a line is.
+fn opened_by(alloc: Global, line: &[u8]) -> Result<Judge, Fault>
+    ensures told { IfOk result (λ judge. (trace : Trace) × ((next None line.now ≡ Ok (Some trace)) × Knows trace judge)) }
+    ensures fewer { IfOk result (λ judge. lines_behind judge < 1000000000000002) }
     ensures refused { IfErr result (λ fault. IsRefused fault (next None line.now)) }
 {
     let value = value_at(alloc, 0, line)?;
-    let trace = opened(alloc, &value)?;
-    let standing = match Standing::opened(alloc, &trace) {
-        Ok(standing) => standing,
-        Err(refused) => return Err(Fault::Memory(refused)),
+    let opening = opened(alloc, &value)?;
+    match Judge::opened(alloc, &opening) {
+        Ok(judge) => Ok(judge),
+        Err(refused) => Err(Fault::Memory(refused)),
+    }
+}
+
+// The judge with an event that is told so.
+fn with_told(alloc: Global, judge: Judge, told: &Told) -> Result<Judge, Fault>
+    requires { judge.closed ≡ false }
+    ensures told { IfOk result (λ after. (trace : Trace) (d : Data) → Knows trace judge → event_of d ≡ Some told.now → (u : Trace) × ((with_event trace d ≡ Ok u) × Knows u after)) }
+    ensures fewer { IfOk result (λ after. lines_behind after < lines_behind judge) }
+    ensures refused { IfErr result (λ fault. (trace : Trace) (d : Data) → Knows trace judge → event_of d ≡ Some told.now → IsRefused fault (with_event trace d)) }
+{
+    if judge.count >= EVENT_LIMIT {
+        return Err(Fault::Script {
+            place: event_place(judge.count),
+        });
+    }
+    match judge.and_event(alloc, told) {
+        Ok(after) => Ok(after),
+        Err(refused) => Err(Fault::Memory(refused)),
+    }
+}
+
+// The judge with the event that a value is.
+fn with_event(alloc: Global, judge: Judge, value: &Value) -> Result<Judge, Fault>
+    requires { judge.closed ≡ false }
+    ensures told { IfOk result (λ after. (trace : Trace) → Knows trace judge → (u : Trace) × ((with_event trace (view value.now) ≡ Ok u) × Knows u after)) }
+    ensures fewer { IfOk result (λ after. lines_behind after < lines_behind judge) }
+    ensures refused { IfErr result (λ fault. (trace : Trace) → Knows trace judge → IsRefused fault (with_event trace (view value.now))) }
+{
+    match event_of(value) {
+        Some(told) => with_told(alloc, judge, &told),
+        None => Err(Fault::Script {
+            place: event_place(judge.count),
+        }),
+    }
+}
+
+// The judge with the closing values that a value is.
+fn with_closing(alloc: Global, judge: Judge, value: &Value) -> Result<Judge, Fault>
+    requires { judge.closed ≡ false }
+    ensures told { IfOk result (λ after. (trace : Trace) → Knows trace judge → (u : Trace) × ((with_closing trace (view value.now) ≡ Ok u) × Knows u after)) }
+    ensures fewer { IfOk result (λ after. lines_behind after < lines_behind judge) }
+    ensures refused { IfErr result (λ fault. (trace : Trace) → IsRefused fault (with_closing trace (view value.now))) }
+{
+    let closing = closing_at(alloc, value)?;
+    match judge.and_closing(alloc, closing) {
+        Ok(after) => Ok(after),
+        Err(refused) => Err(Fault::Memory(refused)),
+    }
+}
+
+// The judge with what a line is, before the closing values.
+fn with_value_of(alloc: Global, judge: Judge, line: &[u8]) -> Result<Judge, Fault>
+    requires { judge.closed ≡ false }
+    ensures told { IfOk result (λ after. (trace : Trace) → Knows trace judge → (u : Trace) × ((with_line trace line.now ≡ Ok u) × Knows u after)) }
+    ensures fewer { IfOk result (λ after. lines_behind after < lines_behind judge) }
+    ensures refused { IfErr result (λ fault. (trace : Trace) → Knows trace judge → IsRefused fault (with_line trace line.now)) }
+{
+    let value = match value_at(alloc, event_place(judge.count), line) {
+        Ok(value) => value,
+        Err(fault) => return Err(fault),
     };
-    Ok(LineJudge {
-        count: 0,
-        closed: false,
-        standing,
-    })
+    if value.is_object() {
+        with_closing(alloc, judge, &value)
+    } else {
+        with_event(alloc, judge, &value)
+    }
+}
+
+// The judge with a line behind the opening, which is read by its bytes alone where it is an event just as it is written.
+fn with_line(alloc: Global, judge: Judge, line: &[u8]) -> Result<Judge, Fault>
+    ensures told { IfOk result (λ after. (trace : Trace) → Knows trace judge → (u : Trace) × ((with_line trace line.now ≡ Ok u) × Knows u after)) }
+    ensures fewer { IfOk result (λ after. lines_behind after < lines_behind judge) }
+    ensures refused { IfErr result (λ fault. (trace : Trace) → Knows trace judge → IsRefused fault (with_line trace line.now)) }
+{
+    if judge.closed {
+        return Err(Fault::Script { place: 6 });
+    }
+    match written_event(line) {
+        Some(event) => with_told(alloc, judge, &told_alone(&event)),
+        None => with_value_of(alloc, judge, line),
+    }
+}
+
+// The judge with a line more.
+fn with_next(alloc: Global, judge: Option<Judge>, line: &[u8]) -> Result<Judge, Fault>
+    ensures told { IfOk result (λ after. (before : Option Trace) → KnowsSo judge before → (u : Trace) × ((next before line.now ≡ Ok (Some u)) × Knows u after)) }
+    ensures fewer { IfOk result (λ after. lines_behind after < lines_still judge) }
+    ensures refused { IfErr result (λ fault. (before : Option Trace) → KnowsSo judge before → IsRefused fault (next before line.now)) }
+{
+    match judge {
+        None => opened_by(alloc, line),
+        Some(judge) => with_line(alloc, judge, line),
+    }
 }
 
 impl LineJudge {
@@ -78,120 +160,7 @@ impl LineJudge {
     pub fn new() -> LineJudge
         ensures { Judges result None }
     {
-        LineJudge {
-            count: 0,
-            closed: false,
-            standing: Standing::Awaits,
-        }
-    }
-
-    // Whether no line has come yet.
-    fn awaits(&self) -> bool
-        ensures { result ≡ awaits self.now.standing }
-    {
-        matches!(self.standing, Standing::Awaits)
-    }
-
-    // Takes an event that is told so.
-    fn and_told(self, alloc: Global, told: &Told) -> Result<LineJudge, Fault>
-        requires { awaits self.standing ≡ false }
-        ensures told { IfOk result (λ judge. (trace : Trace) (d : Data) → trace.last ≡ None → JudgeKnows self trace → event_of d ≡ Some told.now → (after : Trace) × ((with_event trace d ≡ Ok after) × JudgeKnows judge after)) }
-        ensures fewer { IfOk result (λ judge. lines_left judge < lines_left self) }
-        ensures refused { IfErr result (λ fault. (trace : Trace) (d : Data) → JudgeKnows self trace → event_of d ≡ Some told.now → IsRefused fault (with_event trace d)) }
-    {
-        let LineJudge {
-            count,
-            closed,
-            standing,
-        } = self;
-        if count >= EVENT_LIMIT {
-            return Err(Fault::Script {
-                place: event_place(count),
-            });
-        }
-        match standing.and_event(alloc, count, told) {
-            Ok(standing) => Ok(LineJudge {
-                count: count + 1,
-                closed,
-                standing,
-            }),
-            Err(refused) => Err(Fault::Memory(refused)),
-        }
-    }
-
-    // Takes an event.
-    fn and_event(self, alloc: Global, value: &Value) -> Result<LineJudge, Fault>
-        requires { awaits self.standing ≡ false }
-        ensures told { IfOk result (λ judge. (trace : Trace) → trace.last ≡ None → JudgeKnows self trace → (after : Trace) × ((with_event trace (view value.now) ≡ Ok after) × JudgeKnows judge after)) }
-        ensures fewer { IfOk result (λ judge. lines_left judge < lines_left self) }
-        ensures refused { IfErr result (λ fault. (trace : Trace) → JudgeKnows self trace → IsRefused fault (with_event trace (view value.now))) }
-    {
-        match event_of(value) {
-            Some(told) => self.and_told(alloc, &told),
-            None => Err(Fault::Script {
-                place: event_place(self.count),
-            }),
-        }
-    }
-
-    // Takes the closing values.
-    fn and_closing(self, alloc: Global, value: &Value) -> Result<LineJudge, Fault>
-        requires begun { awaits self.standing ≡ false }
-        requires open { self.closed ≡ false }
-        ensures told { IfOk result (λ judge. (trace : Trace) → trace.last ≡ None → JudgeKnows self trace → (after : Trace) × ((with_closing trace (view value.now) ≡ Ok after) × JudgeKnows judge after)) }
-        ensures fewer { IfOk result (λ judge. lines_left judge < lines_left self) }
-        ensures refused { IfErr result (λ fault. (trace : Trace) → IsRefused fault (with_closing trace (view value.now))) }
-    {
-        let LineJudge {
-            count,
-            standing,
-            ..
-        } = self;
-        let closing = closing_at(alloc, value)?;
-        let last = closing.into_final();
-        match standing.and_closing(alloc, count, &last) {
-            Ok(standing) => Ok(LineJudge {
-                count,
-                closed: true,
-                standing,
-            }),
-            Err(refused) => Err(Fault::Memory(refused)),
-        }
-    }
-
-    // Takes a line behind the opening, before the closing values.
-    fn and_line(self, alloc: Global, line: &[u8]) -> Result<LineJudge, Fault>
-        requires begun { awaits self.standing ≡ false }
-        requires open { self.closed ≡ false }
-        ensures told { IfOk result (λ judge. (trace : Trace) → JudgeKnows self trace → (after : Trace) × ((with_line trace line.now ≡ Ok after) × JudgeKnows judge after)) }
-        ensures fewer { IfOk result (λ judge. lines_left judge < lines_left self) }
-        ensures refused { IfErr result (λ fault. (trace : Trace) → JudgeKnows self trace → IsRefused fault (with_line trace line.now)) }
-    {
-        let value = match value_at(alloc, event_place(self.count), line) {
-            Ok(value) => value,
-            Err(fault) => return Err(fault),
-        };
-        if value.is_object() {
-            self.and_closing(alloc, &value)
-        } else {
-            self.and_event(alloc, &value)
-        }
-    }
-
-    // Takes a line behind the opening, which is read by its bytes alone where it is an event just as it is written.
-    fn and_further(self, alloc: Global, line: &[u8]) -> Result<LineJudge, Fault>
-        requires { awaits self.standing ≡ false }
-        ensures told { IfOk result (λ judge. (trace : Trace) → JudgeKnows self trace → (after : Trace) × ((with_line trace line.now ≡ Ok after) × JudgeKnows judge after)) }
-        ensures fewer { IfOk result (λ judge. lines_left judge < lines_left self) }
-        ensures refused { IfErr result (λ fault. (trace : Trace) → JudgeKnows self trace → IsRefused fault (with_line trace line.now)) }
-    {
-        if self.closed {
-            return Err(Fault::Script { place: 6 });
-        }
-        match written_event(line) {
-            Some(event) => self.and_told(alloc, &told_alone(&event)),
-            None => self.and_line(alloc, line),
-        }
+        LineJudge { judge: None }
     }
 
     /// Takes the next line of the trace: the opening, or behind it an event, or the closing values, which no line follows.
@@ -212,10 +181,10 @@ impl LineJudge {
         ensures fewer { IfOk result (λ judge. lines_left judge < lines_left self) }
         ensures refused { IfErr result (λ fault. (before : Option Trace) → Judges self before → IsRefused fault (next before line.now)) }
     {
-        if self.awaits() {
-            opened_by(alloc, line)
-        } else {
-            self.and_further(alloc, line)
+        let LineJudge { judge } = self;
+        match with_next(alloc, judge, line) {
+            Ok(judge) => Ok(LineJudge { judge: Some(judge) }),
+            Err(fault) => Err(fault),
         }
     }
 
@@ -226,7 +195,10 @@ impl LineJudge {
         ensures found { IfOk result (λ finding. (told : Option Trace) → Judges self told → MatchOption told ⊥ (λ trace. IsJudgedTrace trace finding)) }
         ensures refused { IfErr result (λ fault. (told : Option Trace) → Judges self told → MatchOption told (fault ≡ Fault.Script 0) (λ trace. DeclinesTrace trace fault)) }
     {
-        let LineJudge { standing, .. } = self;
-        standing.finding()
+        let LineJudge { judge } = self;
+        match judge {
+            None => Err(Fault::Script { place: 0 }),
+            Some(judge) => judge.finding(),
+        }
     }
 }

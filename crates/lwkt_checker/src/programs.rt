@@ -6,7 +6,8 @@ ghost use Rattle.lwkt_report.specs.Complaint.{fault_line, IsSaid};
 ghost use Rattle.lwkt_checker.specs.Output.{WritesFinding, TellsFinding, LeavesRead, status_of, Complains, ChecksAs};
 
 use crate::framed::found_written;
-use crate::judges::{Finding, finding_text, judge};
+use crate::judges::{Finding, finding_text};
+use crate::trees::found_whole;
 use lwkt_base::Fault;
 use lwkt_report::{
     Complaint, Program, RunFault, Sink, Source, complain, complaint_of, read_up_to, write_whole,
@@ -22,7 +23,7 @@ fn finding_of(alloc: Global, bytes: &[u8]) -> Result<Finding, Fault>
 {
     match found_written(alloc, bytes)? {
         Some(finding) => Ok(finding),
-        None => judge(alloc, read_trace(alloc, bytes)?),
+        None => found_whole(alloc, read_trace(alloc, bytes)?),
     }
 }
 

@@ -1,11 +1,11 @@
-ghost use Rattle.std.specs.Prelude.{◌≡◌, [], true, false, None, Err, IfOk, IfErr, length};
+ghost use Rattle.std.specs.Prelude.{◌≡◌, [], None, IfOk, IfErr, OnOk, length};
 ghost use Rattle.lwkt_trace.specs.declared.traces.Closing.{Closing};
 ghost use Rattle.lwkt_trace.specs.declared.traces.Trace.{Trace};
-ghost use Rattle.lwkt_checker.specs.Judgement.{AreValues, OpensTrace, IsJudgedTrace, DeclinesTrace};
-ghost use Rattle.lwkt_checker.specs.Stands.{with_told, with_last, StandsWith, OpensSo, awaits};
+ghost use Rattle.lwkt_checker.specs.Judgement.{opening_of, AreValues, OpensTrace, IsJudgedTrace, DeclinesTrace};
+ghost use Rattle.lwkt_checker.specs.Stands.{with_told, with_last, StandsWith};
 
 use crate::differences::difference;
-use crate::judges::{Finding, opened};
+use crate::judges::Finding;
 use crate::lacks::reason;
 use crate::plays::event_told;
 use lwkt_base::{Fault, OutOfMemory};
@@ -13,11 +13,9 @@ use lwkt_core::{Final, State};
 use lwkt_trace::{Told, Trace};
 use std::alloc::Global;
 
-/// Where a judge stands with a trace that is told to it piece by piece.
+/// Where a judge stands with a trace that is fed to it piece by piece.
 #[derive(Debug, Drop)]
 pub enum Standing {
-    /// The opening wasn't told yet.
-    Awaits,
     /// All events so far can happen one after another, and lead to this state, which closes as the closing values say, where they
     /// have come.
     Plays(State),
@@ -28,16 +26,30 @@ pub enum Standing {
     Declined(Fault),
 }
 
+// The opening state of a trace.
+//
+// Refused with `Limits` or `LawBroken` for its opening, and with `Memory` if an allocation is.
+fn opening_of(alloc: Global, trace: &Trace) -> Result<State, Fault>
+    ensures ok { IfOk result (λ state. state ≡ opening_of trace.now) }
+    ensures opens { OnOk result (OpensTrace trace.now) }
+    ensures refused { IfErr result (λ fault. DeclinesTrace trace.now fault) }
+{
+    State::open(
+        alloc,
+        trace.tokens.as_slice(),
+        trace.messages.as_slice(),
+        usize::from(trace.cpus),
+    )
+}
+
 impl Standing {
     /// Where the judge stands with a trace in which nothing has happened yet.
     pub fn opened(alloc: Global, trace: &Trace) -> Result<Standing, OutOfMemory>
         requires events { trace.now.events ≡ [] }
         requires last { trace.now.last ≡ None }
-        ensures stands { IfOk result (λ standing. StandsWith trace.now standing) }
-        ensures begun { IfOk result (λ standing. awaits standing ≡ false) }
-        ensures opens { IfOk result (λ standing. OpensSo trace.now standing) }
+        ensures { IfOk result (StandsWith trace.now) }
     {
-        match opened(alloc, trace) {
+        match opening_of(alloc, trace) {
             Ok(state) => Ok(Standing::Plays(state)),
             Err(Fault::Memory(refused)) => Err(refused),
             Err(fault) => Ok(Standing::Declined(fault)),
@@ -51,9 +63,7 @@ impl Standing {
         index: usize,
         told: &Told,
     ) -> Result<Standing, OutOfMemory>
-        ensures stands { IfOk result (λ after. (trace : Trace) → trace.last ≡ None → index ≡ length trace.events → StandsWith trace self → StandsWith (with_told trace told.now) after) }
-        ensures begun { IfOk result (λ after. awaits after ≡ awaits self) }
-        ensures opens { IfOk result (λ after. (trace : Trace) → OpensSo trace self → OpensSo trace after) }
+        ensures { IfOk result (λ after. (trace : Trace) → trace.last ≡ None → index ≡ length trace.events → StandsWith trace self → StandsWith (with_told trace told.now) after) }
     {
         match self {
             Standing::Plays(state) => played(alloc, state, index, told),
@@ -68,9 +78,7 @@ impl Standing {
         count: usize,
         last: &Final,
     ) -> Result<Standing, OutOfMemory>
-        ensures stands { IfOk result (λ after. (trace : Trace) (closing : Closing) → trace.last ≡ None → count ≡ length trace.events → AreValues closing last.now → StandsWith trace self → StandsWith (with_last trace closing) after) }
-        ensures begun { IfOk result (λ after. awaits after ≡ awaits self) }
-        ensures opens { IfOk result (λ after. (trace : Trace) → OpensSo trace self → OpensSo trace after) }
+        ensures { IfOk result (λ after. (trace : Trace) (closing : Closing) → trace.last ≡ None → count ≡ length trace.events → AreValues closing last.now → StandsWith trace self → StandsWith (with_last trace closing) after) }
     {
         match self {
             Standing::Plays(state) => closed(alloc, state, count, last),
@@ -80,14 +88,12 @@ impl Standing {
 
     /// What the trace is: lawful, or the index at which it fails and why.
     ///
-    /// Refused with `Limits` or `LawBroken` for its opening, and with `Script` and place 0 where that wasn't told.
+    /// Refused with `Limits` or `LawBroken` for its opening.
     pub fn finding(self) -> Result<Finding, Fault>
-        ensures found { IfOk result (λ finding. (trace : Trace) → StandsWith trace self → OpensSo trace self → IsJudgedTrace trace finding) }
+        ensures found { IfOk result (λ finding. (trace : Trace) → StandsWith trace self → IsJudgedTrace trace finding) }
         ensures refused { IfErr result (λ fault. (trace : Trace) → StandsWith trace self → DeclinesTrace trace fault) }
-        ensures untold { awaits self ≡ true → result ≡ Err (Fault.Script 0) }
     {
         match self {
-            Standing::Awaits => Err(Fault::Script { place: 0 }),
             Standing::Plays(_) => Ok(Finding::Lawful),
             Standing::Fails { index, why } => Ok(Finding::Unlawful { index, why }),
             Standing::Declined(fault) => Err(fault),
@@ -97,9 +103,7 @@ impl Standing {
 
 // Where a judge stands that plays the event of an index in this state.
 fn played(alloc: Global, state: State, index: usize, told: &Told) -> Result<Standing, OutOfMemory>
-    ensures stands { IfOk result (λ after. (trace : Trace) → trace.last ≡ None → index ≡ length trace.events → StandsWith trace (Standing.Plays state) → StandsWith (with_told trace told.now) after) }
-    ensures begun { IfOk result (λ after. awaits after ≡ false) }
-    ensures opens { IfOk result (λ after. (trace : Trace) → OpensTrace trace → OpensSo trace after) }
+    ensures { IfOk result (λ after. (trace : Trace) → trace.last ≡ None → index ≡ length trace.events → StandsWith trace (Standing.Plays state) → StandsWith (with_told trace told.now) after) }
 {
     let mut state = state;
     let event = event_told(&state, told);
@@ -114,9 +118,7 @@ fn played(alloc: Global, state: State, index: usize, told: &Told) -> Result<Stan
 
 // Where a judge stands that closes this state, behind so many events.
 fn closed(alloc: Global, state: State, count: usize, last: &Final) -> Result<Standing, OutOfMemory>
-    ensures stands { IfOk result (λ after. (trace : Trace) (closing : Closing) → trace.last ≡ None → count ≡ length trace.events → AreValues closing last.now → StandsWith trace (Standing.Plays state) → StandsWith (with_last trace closing) after) }
-    ensures begun { IfOk result (λ after. awaits after ≡ false) }
-    ensures opens { IfOk result (λ after. (trace : Trace) → OpensTrace trace → OpensSo trace after) }
+    ensures { IfOk result (λ after. (trace : Trace) (closing : Closing) → trace.last ≡ None → count ≡ length trace.events → AreValues closing last.now → StandsWith trace (Standing.Plays state) → StandsWith (with_last trace closing) after) }
 {
     if state.closes(last) {
         return Ok(Standing::Plays(state));

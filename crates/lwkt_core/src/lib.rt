@@ -1,5 +1,5 @@
 //! The model of the threading layer as plain data: a machine of tokens and messages, the events of its processors, what
-//! each event needs and leaves, a checker of traces, and one of the written sections of tokens.
+//! each event needs and leaves, a checker of traces, one of the written sections of tokens, and the steps on a token's word as events.
 //!
 //! Words: a *machine* is the state of all tokens and messages, and it is *safe* if its tokens and messages are; an *event*
 //! is one atomic step of one processor; its *needs* say when it can happen, and a *lack* is the first need that isn't met; a
@@ -20,6 +20,8 @@ pub mod safety;
 pub mod sections;
 pub mod states;
 pub mod tokens;
+mod word_laws;
+pub mod word_steps;
 
 pub use checks::{check, check_events, play, play_to_close};
 pub use events::Event;
@@ -30,3 +32,4 @@ pub use openings::{all_open_lawfully, are_within};
 pub use sections::check_sections;
 pub use states::State;
 pub use tokens::Token;
+pub use word_laws::steps_are_events;

@@ -1,10 +1,10 @@
 -- What comes next for a thread whose answer is kept already.
 use Rattle.std.proofs.Common.{◌≡◌, refl, ap}
 use Rattle.lwkt_base.specs.declared.asks.Answer.{Answer}
-use Rattle.lwkt_ask.specs.declared.nexts.AnswerKept.{AnswerKept}
-use Rattle.lwkt_ask.specs.declared.nexts.Next.{Next}
-use Rattle.lwkt_ask.specs.declared.nexts.Next.TheVariants.{Runs, Readies, AwaitsItem, AwaitsReply, Exits, Faults}
-use Rattle.lwkt_ask.specs.Nexts.{next_with, KeepsAnswer}
+use Rattle.lwkt_cpu.specs.declared.nexts.AnswerKept.{AnswerKept}
+use Rattle.lwkt_cpu.specs.declared.nexts.Next.{Next}
+use Rattle.lwkt_cpu.specs.declared.nexts.Next.TheVariants.{Runs, Readies, AwaitsItem, AwaitsReply, Exits, Faults}
+use Rattle.lwkt_cpu.specs.Nexts.{next_with, KeepsAnswer}
 use Rattle.lwkt_cpu.specs.declared.threads.Thread.{Thread}
 use Rattle.lwkt_cpu.specs.Polling.{became}
 

@@ -16,9 +16,9 @@ use Rattle.lwkt_hold.specs.Runs.{Ran}
 use Rattle.lwkt_hold.proofs.RunMoves.{ran_weaker}
 use Rattle.lwkt_msg.specs.Desks.{messages_of}
 use Rattle.lwkt_port.specs.Posts.{Post}
-use Rattle.lwkt_ask.specs.declared.nexts.Next.{Next}
-use Rattle.lwkt_ask.specs.declared.nexts.Next.TheVariants.{Exits}
-use Rattle.lwkt_ask.specs.Nexts.{unless_broken}
+use Rattle.lwkt_cpu.specs.declared.nexts.Next.{Next}
+use Rattle.lwkt_cpu.specs.declared.nexts.Next.TheVariants.{Exits}
+use Rattle.lwkt_cpu.specs.Nexts.{unless_broken}
 use Rattle.lwkt_cpu.specs.declared.phases.Phase.{Phase}
 use Rattle.lwkt_cpu.specs.declared.phases.Phase.TheVariants.{Live, Exited}
 use Rattle.lwkt_cpu.specs.declared.threads.Thread.{Thread}

@@ -14,8 +14,8 @@ use Rattle.lwkt_hold.specs.declared.answers.Resumed.TheVariants.{All, Passed}
 use Rattle.lwkt_hold.specs.Givings.{gives_all}
 use Rattle.lwkt_hold.specs.Takings.{takes_all}
 use Rattle.lwkt_msg.specs.Desks.{Desk}
-use Rattle.lwkt_ask.specs.Telling.{TellsMail, TellsTokensOnly}
-use Rattle.lwkt_ask.proofs.TellMoves.{quiet_none, mail_none, mail_then, mail_quiet, quiet_mail, plain_append, plain_takes_all, plain_gives_all}
+use Rattle.lwkt_cpu.specs.Telling.{TellsMail, TellsTokensOnly}
+use Rattle.lwkt_cpu.proofs.TellMoves.{quiet_none, mail_none, mail_then, mail_quiet, quiet_mail, plain_append, plain_takes_all, plain_gives_all}
 use Rattle.lwkt_cpu.specs.declared.answers.Turned.{Turned}
 use Rattle.lwkt_cpu.specs.Processors.{Processor}
 use Rattle.lwkt_cpu.specs.Ending.{is_worn}

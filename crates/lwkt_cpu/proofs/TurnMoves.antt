@@ -8,7 +8,7 @@ use Rattle.lwkt_core.specs.declared.events.Event.{Event}
 use Rattle.lwkt_bank.specs.Seats.{BankId}
 use Rattle.lwkt_hold.proofs.RunMoves.{ran_with_room}
 use Rattle.lwkt_port.specs.Posts.{IsSamePost}
-use Rattle.lwkt_ask.specs.Telling.{TellsMail}
+use Rattle.lwkt_cpu.specs.Telling.{TellsMail}
 use Rattle.lwkt_cpu.specs.declared.answers.Turned.{Turned}
 use Rattle.lwkt_cpu.specs.Processors.{Processor}
 use Rattle.lwkt_cpu.specs.Turning.{IsOfThread, MakesTurn}

@@ -7,9 +7,9 @@ use Rattle.lwkt_core.specs.declared.events.Event.{Event}
 use Rattle.lwkt_bank.specs.declared.seats.CpuSeat.{CpuSeat}
 use Rattle.lwkt_bank.specs.Seats.{BankId}
 use Rattle.lwkt_port.specs.Posts.{Post}
-use Rattle.lwkt_ask.specs.declared.nexts.Next.{Next}
-use Rattle.lwkt_ask.specs.declared.nexts.Next.TheVariants.{Runs, Readies, AwaitsItem, AwaitsReply, Exits, Faults}
-use Rattle.lwkt_ask.specs.Table.{Performs}
+use Rattle.lwkt_cpu.specs.declared.nexts.Next.{Next}
+use Rattle.lwkt_cpu.specs.declared.nexts.Next.TheVariants.{Runs, Readies, AwaitsItem, AwaitsReply, Exits, Faults}
+use Rattle.lwkt_cpu.specs.Table.{Performs}
 use Rattle.lwkt_cpu.specs.declared.phases.Phase.TheVariants.{AwaitsItem as Awaits, AwaitsReply as AwaitsFor, Exited, Faulted}
 use Rattle.lwkt_cpu.specs.declared.threads.Thread.{Thread}
 use Rattle.lwkt_cpu.specs.Processors.{is_over}

@@ -6,9 +6,9 @@ use Rattle.lwkt_core.specs.declared.events.Event.{Event}
 use Rattle.lwkt_bank.specs.Seats.{holding}
 use Rattle.lwkt_port.specs.Closings.{PostCloses, PostPays}
 use Rattle.lwkt_port.specs.Posts.{Post}
-use Rattle.lwkt_ask.specs.declared.nexts.Next.{Next}
-use Rattle.lwkt_ask.specs.declared.nexts.Next.TheVariants.{Exits}
-use Rattle.lwkt_ask.specs.Leaving.{GivesUp}
+use Rattle.lwkt_cpu.specs.declared.nexts.Next.{Next}
+use Rattle.lwkt_cpu.specs.declared.nexts.Next.TheVariants.{Exits}
+use Rattle.lwkt_cpu.specs.Leaving.{GivesUp}
 use Rattle.lwkt_cpu.specs.declared.phases.Phase.TheVariants.{Exited}
 use Rattle.lwkt_cpu.specs.declared.threads.Thread.{Thread}
 use Rattle.lwkt_cpu.specs.Processors.{Processor, is_over, AllOver}

@@ -7,7 +7,7 @@ use Rattle.lwkt_core.specs.declared.events.Event.{Event}
 use Rattle.lwkt_bank.specs.Seats.{BankId, holding}
 use Rattle.lwkt_hold.specs.Runs.{Ran as Runs}
 use Rattle.lwkt_port.specs.Posts.{IsSamePost}
-use Rattle.lwkt_ask.specs.Telling.{TellsMail}
+use Rattle.lwkt_cpu.specs.Telling.{TellsMail}
 use Rattle.lwkt_cpu.specs.declared.phases.Phase.TheVariants.{Live}
 use Rattle.lwkt_cpu.specs.declared.answers.Turned.{Turned}
 use Rattle.lwkt_cpu.specs.declared.answers.Turned.TheVariants.{Ran, Idle, AllExited}

@@ -1,12 +1,12 @@
 //! Many turns of a processor.
 ghost use Rattle.std.specs.Prelude.{◌≡◌, ◌≢◌, true, false, ◌+◌, ◌<◌, ◌^◌, IfOk, OnErr, Err};
 ghost use Rattle.lwkt_bank.specs.Seats.{id_of, bank_of};
-ghost use Rattle.lwkt_ask.specs.Telling.{TellsMail};
+ghost use Rattle.lwkt_cpu.specs.Telling.{TellsMail};
 ghost use Rattle.lwkt_cpu.specs.Driving.{with_turn, Drives, DrivesShort};
 
+use crate::Body;
 use crate::answers::{Drove, Turned};
 use crate::cpus::Cpu;
-use lwkt_ask::Body;
 use lwkt_bank::Bank;
 use lwkt_base::Fault;
 use lwkt_core::Event;

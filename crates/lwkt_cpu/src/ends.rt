@@ -3,12 +3,12 @@ ghost use Rattle.std.specs.Prelude.{◌≡◌, ◌<◌, ◌≤◌, length};
 ghost use Rattle.lwkt_port.specs.Posts.{IsSamePost};
 ghost use Rattle.lwkt_cpu.specs.Searches.{ended_by};
 ghost use Rattle.lwkt_cpu.specs.Ending.{ClosesIf, ClosesPorts, includes};
-ghost use Rattle.lwkt_ask.specs.Nexts.{next_with};
+ghost use Rattle.lwkt_cpu.specs.Nexts.{next_with};
 ghost use Rattle.lwkt_cpu.specs.Polling.{became, goes_on};
 
 use crate::phases::{Phase, ToClose};
 use crate::threads::Thread;
-use lwkt_ask::{AnswerKept, Next};
+use crate::{AnswerKept, Next};
 use lwkt_base::TokList;
 use lwkt_port::Ports;
 

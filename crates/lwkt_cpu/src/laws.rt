@@ -1,8 +1,8 @@
 //! What threads that drive processors of their own may rest on, as theorems.
 ghost use Rattle.lwkt_cpu.specs.Laws.{TurnsArePartsOfRuns, MailsArePartsOfRuns};
 
+use crate::Body;
 use crate::cpus::Cpu;
-use lwkt_ask::Body;
 use lwkt_bank::{Bank, laws as bank_laws};
 use lwkt_msg::{MsgBook, laws as book_laws};
 

@@ -1,18 +1,22 @@
-//! A processor: its threads, and the turns in which one of them at a time runs while its whole list is held.
-//!
-//! Words: a *turn* takes mail in, chooses a thread and polls its body once; a *search* tries the lists of the threads that
-//! are ready, from the *cursor* on, once round; a thread is *worn* if its list met a last generation; a *phase* is what a
-//! thread is doing; a processor is *at rest* between turns; a *stop* ends its threads; one processor *sees* what another, that
-//! is at hand too, has sent to it.
+//! A processor: its threads, what their bodies may ask for, and the turns in which one of them at a time runs while its whole list is
+//! held. Callers get of each turn which thread it ran, what that asked, and the events that came of it. Notes of other processors are
+//! taken in from lanes, which are the caller's.
 #![tactic(auto)]
 
 pub mod answers;
+pub mod bodies;
+pub mod boxed;
+mod calls;
 pub mod counts;
 pub mod cpus;
 pub mod drives;
 mod encodings;
 mod ends;
 pub mod laws;
+pub mod leaves;
+mod mails;
+pub mod nexts;
+pub mod performs;
 pub mod phases;
 mod polls;
 mod searches;
@@ -23,8 +27,11 @@ pub mod turns;
 mod wakes;
 
 pub use answers::{Drove, Status, Turned};
+pub use bodies::Body;
 pub use counts::Progress;
 pub use cpus::Cpu;
-pub use lwkt_ask::Body;
+pub use leaves::exit;
+pub use nexts::{AnswerKept, Next};
+pub use performs::perform;
 pub use stops::STOP_EVENTS;
 pub use turns::TURN_EVENTS;

@@ -10,13 +10,13 @@ ghost use Rattle.lwkt_cpu.specs.Processors.{IsSettled, Awaits, is_over};
 ghost use Rattle.lwkt_cpu.specs.Ending.{ClosesIf};
 ghost use Rattle.lwkt_msg.specs.Desks.{desk_cpu, messages_of};
 ghost use Rattle.lwkt_port.specs.Posts.{IsSamePost};
-ghost use Rattle.lwkt_ask.specs.Telling.{TellsMail};
+ghost use Rattle.lwkt_cpu.specs.Telling.{TellsMail};
 ghost use Rattle.lwkt_cpu.specs.Polling.{Polls};
 
 use crate::ends::{close_if, go_on};
 use crate::phases::Phase;
 use crate::threads::Thread;
-use lwkt_ask::{Body, perform};
+use crate::{Body, perform};
 use lwkt_bank::Bank;
 use lwkt_base::TokList;
 use lwkt_core::Event;

@@ -10,7 +10,7 @@ ghost use Rattle.lwkt_hold.specs.declared.answers.Missed.{Missed};
 ghost use Rattle.lwkt_hold.specs.Stays.{RunsUnseen};
 ghost use Rattle.lwkt_cpu.specs.Searches.{missed_by, IsPassedOver, MayBeTried, TriesToHold, TriesList, Skips, point, IsIn, SkipsTo, FindsIn, FindsThread, IsOfOne};
 ghost use Rattle.lwkt_cpu.specs.Processors.{KeepsBusyWord, AreThere, AllKeepBusyWords};
-ghost use Rattle.lwkt_ask.specs.Telling.{TellsTokensOnly};
+ghost use Rattle.lwkt_cpu.specs.Telling.{TellsTokensOnly};
 
 use crate::ends::end;
 use crate::phases::Phase;

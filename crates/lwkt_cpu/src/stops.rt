@@ -12,16 +12,16 @@ ghost use Rattle.lwkt_port.specs.Closings.{PostPays};
 ghost use Rattle.lwkt_port.specs.Posts.{IsSamePost};
 ghost use Rattle.lwkt_port.specs.Tellings.{TellsDeeds};
 ghost use Rattle.lwkt_port.specs.Works.{Grew};
-ghost use Rattle.lwkt_ask.specs.Telling.{TellsMail, TellsTokensOnly};
+ghost use Rattle.lwkt_cpu.specs.Telling.{TellsMail, TellsTokensOnly};
 ghost use Rattle.lwkt_cpu.specs.Ending.{ClosesPorts, has_not_ended};
 ghost use Rattle.lwkt_cpu.specs.Stopping.{stopped, AreThreadsStopped, Halts, HaltsRunning, Stops};
 
 use crate::cpus::Cpu;
 use crate::ends::{close_all, end, go_on};
+use crate::exit;
 use crate::phases::{Phase, ToClose};
 use crate::threads::Thread;
 use crate::turns::TURN_EVENTS;
-use lwkt_ask::exit;
 use lwkt_bank::{Bank, CpuSeat};
 use lwkt_base::Fault;
 use lwkt_base::memory::reserve;

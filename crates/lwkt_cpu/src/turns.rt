@@ -7,8 +7,9 @@ ghost use Rattle.lwkt_cpu.specs.Processors.{AllOver, IsAtRest};
 ghost use Rattle.lwkt_cpu.specs.Searches.{IsOfOne};
 ghost use Rattle.lwkt_cpu.specs.Turning.{cursor_after, Chooses, RunsOne, IsMailed, IsOfThread, HasSameEvents, LacksRoom, MakesTurn};
 ghost use Rattle.lwkt_cpu.specs.Waking.{TakesMail, AreWoken};
-ghost use Rattle.lwkt_ask.specs.Telling.{TellsMail, TellsTokensOnly};
+ghost use Rattle.lwkt_cpu.specs.Telling.{TellsMail, TellsTokensOnly};
 
+use crate::Body;
 use crate::answers::Turned;
 use crate::cpus::Cpu;
 use crate::ends::close_all;
@@ -16,7 +17,6 @@ use crate::phases::ToClose;
 use crate::polls::poll_one;
 use crate::searches::find;
 use crate::wakes::wake_all;
-use lwkt_ask::Body;
 use lwkt_bank::Bank;
 use lwkt_base::Fault;
 use lwkt_base::memory::reserve;

@@ -12,7 +12,7 @@ use Rattle.lwkt_table.specs.declared.seats.Deed.{Deed}
 use Rattle.lwkt_core.specs.Events.{cpu_of}
 use Rattle.lwkt_table.specs.History.{events_by, events_in}
 use Rattle.lwkt_table.proofs.HistoryLemmas.{events_by-grows}
-use Rattle.lwkt_ask.specs.Telling.{is_of_message, TellsMail}
+use Rattle.lwkt_cpu.specs.Telling.{is_of_message, TellsMail}
 use Rattle.lwkt_base.specs.declared.owners.MsgEnd.{MsgEnd}
 use Rattle.lwkt_bank.specs.declared.seats.CpuSeat.{CpuSeat}
 use Rattle.lwkt_bank.specs.Gathered.{IsNew}

@@ -9,7 +9,7 @@ use Rattle.lwkt_core.specs.Events.{cpu_of}
 use Rattle.lwkt_table.specs.History.{AreOthers, Passes, events_in, events_by}
 use Rattle.lwkt_core.specs.Machine.{Machine}
 use Rattle.lwkt_core.specs.Trace.{Run, end_of}
-use Rattle.lwkt_ask.specs.Telling.{is_of_message, TellsMail}
+use Rattle.lwkt_cpu.specs.Telling.{is_of_message, TellsMail}
 use Rattle.lwkt_base.specs.declared.owners.MsgEnd.{MsgEnd}
 use Rattle.lwkt_bank.specs.declared.closed.Closed.{Closed}
 use Rattle.lwkt_bank.specs.declared.seats.CpuSeat.{CpuSeat}

@@ -1,121 +1,34 @@
-//! A buffer of four places between a producer and a consumer, on two processors, each driven by a thread of its own.
+//! Three programs of threads of one's own: a buffer, accounts, and copies of a value. Each has its claim at its function `run`.
 #![tactic(auto)]
 
-ghost use Rattle.std.specs.Prelude.{◌≡◌, IfOk, sum, slice_index_or, []};
+mod accounts;
+mod buffer;
+mod caches;
+mod parties;
 
-use lwkt_base::{Answer, Ask, Call, Fault, MsgId, OutOfMemory, TokId};
-use lwkt_program::{Closed, LIMITS, Machine, Stepper, Steps, makers};
-use std::alloc::Global;
+use accounts::ACCOUNTS;
+use buffer::BUFFER;
+use parties::SHARED;
 use std::io;
 use std::process::ExitCode;
-use std::thread::Threads;
-
-/// The buffer that both share: how many of its four places are free, and how many are taken.
-const BUFFER: TokId = TokId(0);
-
-/// The producer's message.
-const SIGNAL: MsgId = MsgId(0);
-
-/// Takes a place, or gives one back, in a section of its own; then the producer signals, and the consumer replies and waits for
-/// the next signal.
-#[derive(Drop)]
-struct Worker {
-    produces: bool,
-    left: u32,
-    taken: u64,
-}
-
-impl Worker {
-    // Begins the next round, if there is one.
-    fn again(&mut self) -> Ask {
-        if self.left == 0 {
-            return Ask::Exit;
-        }
-        self.left -= 1;
-        if self.produces {
-            Ask::Get(BUFFER)
-        } else {
-            Ask::WaitPort
-        }
-    }
-
-    // One place more is taken, or one fewer.
-    fn count(&mut self, taken: u64) -> Ask {
-        self.taken = if self.produces {
-            taken.wrapping_add(1)
-        } else {
-            taken.wrapping_sub(1)
-        };
-        Ask::Write(BUFFER, 1, self.taken)
-    }
-
-    // The section is over: the producer tells of it, and the consumer answers.
-    fn tell(&self) -> Ask {
-        if self.produces {
-            Ask::Do(SIGNAL, makers::thread(1, 0), Call { arg: 0, op: 1 })
-        } else {
-            Ask::Reply(SIGNAL, 0, self.taken)
-        }
-    }
-}
-
-impl Steps for Worker {
-    ghost kept = { λ w. Unit {0} };
-
-    fn begin(&mut self) -> Ask {
-        self.again()
-    }
-
-    fn answered(&mut self, asked: Ask, answer: Answer) -> Ask {
-        match (asked, answer) {
-            (Ask::WaitPort, _) => Ask::Get(BUFFER),
-            (Ask::Get(_), _) => Ask::Read(BUFFER, 1),
-            (Ask::Read(_, _), Answer::Value(taken)) => self.count(taken),
-            (Ask::Write(_, 1, _), _) => Ask::Write(BUFFER, 0, 4_u64.wrapping_sub(self.taken)),
-            (Ask::Write(_, _, _), _) => Ask::Rel(BUFFER),
-            (Ask::Rel(_), _) => self.tell(),
-            _ => self.again(),
-        }
-    }
-
-    fn refused(&mut self, _asked: Ask, _fault: Fault) -> Ask {
-        Ask::Exit
-    }
-}
-
-// The one thread of a processor, with ten rounds to make.
-fn lone_thread(alloc: Global, produces: bool) -> Result<Vec<Stepper<Worker>>, OutOfMemory> {
-    let worker = Worker {
-        produces,
-        left: 10,
-        taken: 0,
-    };
-    makers::list(alloc, [Stepper::new(worker)])
-}
-
-// Runs producer and consumer. All places are there in the end.
-fn run<R: Threads + Sync>(rt: &R, alloc: Global) -> Result<Closed<Stepper<Worker>>, Fault>
-    ensures all { IfOk result (λ closed. sum (slice_index_or closed.tokens.rows.items 0 []) ≡ 4) }
-{
-    let tokens = [makers::sum(alloc, &[4, 0], 4)?];
-    let messages = [makers::message(makers::thread(0, 0))];
-    let bodies = makers::list(
-        alloc,
-        [lone_thread(alloc, true)?, lone_thread(alloc, false)?],
-    )?;
-    let mut machine = Machine::open(alloc, &tokens, &messages, bodies)?;
-    let room = machine.room(alloc)?;
-    machine.drive(rt, &LIMITS);
-    Ok(machine.close_in(room))
-}
 
 fn main(rt: HostRuntime) -> io::Result<ExitCode> {
-    let Ok(closed) = run(&rt, rt.alloc()) else {
-        println!(rt; "the run was refused")?;
+    let Ok(closed) = buffer::run(&rt, rt.alloc()) else {
         return Ok(ExitCode::from(1));
     };
     let (free, taken) = (closed.cell(BUFFER, 0), closed.cell(BUFFER, 1));
     let sections = closed.generation(BUFFER);
     println!(rt; "{free} places free, {taken} taken, after {sections} sections")?;
+    let Ok(closed) = accounts::run(&rt, rt.alloc()) else {
+        return Ok(ExitCode::from(1));
+    };
+    let (first, second) = (closed.cell(ACCOUNTS, 0), closed.cell(ACCOUNTS, 1));
+    let third = closed.cell(ACCOUNTS, 2);
+    println!(rt; "accounts {first} {second} {third}")?;
+    let Ok(closed) = caches::run(&rt, rt.alloc()) else {
+        return Ok(ExitCode::from(1));
+    };
+    let (version, value) = (closed.cell(SHARED, 0), closed.cell(SHARED, 1));
+    println!(rt; "version {version}, value {value}")?;
     Ok(ExitCode::SUCCESS)
 }

@@ -56,14 +56,14 @@ AreWhole outcomes = All (λ outcome. outcome.kind ≢ Cut) outcomes.all.items
 abbrev pub HasEnded : Outcomes → Type 0
 HasEnded outcomes = Any (λ outcome. outcome.kind ≡ Ended) outcomes.all.items
 
--- the run of the script along some order has the verdict `unlawful at` this index
+-- a run of the script along some order was stopped with the verdict `unlawful` at this index: the check said no there
 pub record HasUnlawfulRun (script : Script) (index : ℕ) : Type 0 where
   pub order : List ℕ
   pub run : TurnsRun
   pub is_run : IsOrderRun script order run
   pub unlawful : run.closing.verdict ≡ UnlawfulVerdict index
 
--- why a search of a script is refused: the verdict on a run along some order isn't `lawful`, or its machine isn't opened
+-- why a search of a script is refused: the check of a run along some order said no, or its machine isn't opened
 abbrev pub RefusesSearch : Script → Fault → Type 0
 RefusesSearch script (Unlawful index) = HasUnlawfulRun script index
 RefusesSearch script fault = DeclinesRun script fault

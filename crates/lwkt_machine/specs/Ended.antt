@@ -2,7 +2,7 @@
 use Rattle.std.specs.Prelude.{◌≡◌, ℕ, List, length, Vec, Some, slice_get, slice_set}
 use Rattle.std.specs.declared.alloc.Global.{Global}
 use Rattle.lwkt_core.specs.declared.events.Event.{Event}
-use Rattle.lwkt_ask.specs.Telling.{TellsMail}
+use Rattle.lwkt_cpu.specs.Telling.{TellsMail}
 use Rattle.lwkt_bank.specs.Seats.{bank_of}
 use Rattle.lwkt_hold.specs.Runs.{Ran}
 use Rattle.lwkt_port.specs.Chains.{Chain}

@@ -3,7 +3,7 @@ ghost use Rattle.std.specs.Prelude.{◌≡◌, ℕ, ◌<◌, All, OnOk, OnErr, S
 ghost use Rattle.lwkt_bank.specs.Seats.{id_of};
 ghost use Rattle.lwkt_hold.specs.Runs.{Ran};
 ghost use Rattle.lwkt_port.specs.Posts.{IsSamePost};
-ghost use Rattle.lwkt_ask.specs.Telling.{TellsMail};
+ghost use Rattle.lwkt_cpu.specs.Telling.{TellsMail};
 ghost use Rattle.lwkt_cpu.specs.Stopping.{Stops};
 ghost use Rattle.lwkt_cpu.specs.Turning.{IsMailed, HasSameEvents};
 ghost use Rattle.lwkt_machine.specs.Machines.{IsOfMachine};

@@ -6,12 +6,15 @@ use Rattle.clap.specs.declared.builder.action.ArgAction.TheVariants.{SetTrue}
 use Rattle.clap.specs.declared.builder.command.Command.{Command}
 use Rattle.clap.specs.declared.builder.command.Command.TheViews.{out-Command}
 
--- `--NAME`, `--NAME VALUE`, and what is no option
+-- an argument that is named behind `--`; `--NAME`, `--NAME VALUE`, and what is no option
+abbrev pub named : Text → Rule
+named name = record (new_rule name) { long = Some name }
+
 abbrev pub flag : Text → Rule
-flag name = record (new_rule name) { long = Some name; action = Some SetTrue }
+flag name = record (named name) { action = Some SetTrue }
 
 abbrev pub valued : Text → Rule
-valued name = record (new_rule name) { long = Some name; value_names = 1 }
+valued name = record (named name) { value_names = 1 }
 
 abbrev pub file : Rule
 file = new_rule (codes "FILE")

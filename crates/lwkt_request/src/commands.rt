@@ -2,7 +2,7 @@
 ghost use Rattle.std.specs.Prelude.{◌≡◌, false, IfOk};
 ghost use Rattle.clap.specs.Words.{App, Rule, rule_of, with_rule, with_subcommand};
 ghost use Rattle.clap.specs.Simple.{on_top};
-ghost use Rattle.lwkt_request.specs.CommandLine.{IsBuilt, check, command_line, explore, file, flag, run, show, text, top, valued, with_settings};
+ghost use Rattle.lwkt_request.specs.CommandLine.{IsBuilt, check, command_line, explore, file, flag, named, run, show, text, top, valued, with_settings};
 
 use crate::pages::{
     CHECK, EXPLORE, EXPLORE_FILE, LWKT, Page, RUN, SCRIPT_FILE, SHOW, TEXT, TRACE_FILE, VERSION,
@@ -12,15 +12,20 @@ use lwkt_base::OutOfMemory;
 use lwkt_base::memory::{with_argument, with_bin_name, with_subcommand};
 use std::alloc::Global;
 
+// An argument of this name, behind `--` too.
+fn named<'a>(alloc: Global, name: &'a str, help: &'a str) -> Arg<'a>
+    ensures rule { rule_of result ≡ named name.entry.now }
+    ensures local { result.global ≡ false }
+{
+    Arg::new(alloc, name).long(name).help(help)
+}
+
 // `--NAME`.
 fn flag<'a>(alloc: Global, name: &'a str, help: &'a str) -> Arg<'a>
     ensures rule { rule_of result ≡ flag name.entry.now }
     ensures local { result.global ≡ false }
 {
-    Arg::new(alloc, name)
-        .long(name)
-        .action(ArgAction::SetTrue)
-        .help(help)
+    named(alloc, name, help).action(ArgAction::SetTrue)
 }
 
 // `--NAME VALUE`.
@@ -28,10 +33,7 @@ fn valued<'a>(alloc: Global, name: &'a str, value: &'a str, help: &'a str) -> Ar
     ensures rule { rule_of result ≡ valued name.entry.now }
     ensures local { result.global ≡ false }
 {
-    Arg::new(alloc, name)
-        .long(name)
-        .value_name(value)
-        .help(help)
+    named(alloc, name, help).value_name(value)
 }
 
 // `FILE`.
@@ -50,138 +52,221 @@ fn with<'a>(command: Command<'a>, arg: Arg<'a>) -> Result<Command<'a>, OutOfMemo
     with_argument(command, arg)
 }
 
+// The command with `--NAME`.
+fn with_flag<'a>(
+    alloc: Global,
+    command: Command<'a>,
+    name: &'a str,
+    help: &'a str,
+) -> Result<Command<'a>, OutOfMemory>
+    ensures { IfOk result (λ more. (app : App) → IsBuilt app command.entry → IsBuilt (with_rule app (flag name.entry.now)) more) }
+{
+    with(command, flag(alloc, name, help))
+}
+
+// The command with `--NAME VALUE`.
+fn with_value<'a>(
+    alloc: Global,
+    command: Command<'a>,
+    name: &'a str,
+    value: &'a str,
+    help: &'a str,
+) -> Result<Command<'a>, OutOfMemory>
+    ensures { IfOk result (λ more. (app : App) → IsBuilt app command.entry → IsBuilt (with_rule app (valued name.entry.now)) more) }
+{
+    with(command, valued(alloc, name, value, help))
+}
+
+// The command with `FILE`.
+fn with_file<'a>(
+    alloc: Global,
+    command: Command<'a>,
+    help: &'a str,
+) -> Result<Command<'a>, OutOfMemory>
+    ensures { IfOk result (λ more. (app : App) → IsBuilt app command.entry → IsBuilt (with_rule app file) more) }
+{
+    with(command, file(alloc, help))
+}
+
+// The command with what `-h` says it does.
+fn with_about<'a>(command: Command<'a>, text: &'static str) -> Command<'a>
+    ensures { (app : App) → IsBuilt app command.entry → IsBuilt app result }
+{
+    command.about(text)
+}
+
+// The command with what `--help` says it does.
+fn with_long_about<'a>(command: Command<'a>, text: &'static str) -> Command<'a>
+    ensures { (app : App) → IsBuilt app command.entry → IsBuilt app result }
+{
+    command.long_about(text)
+}
+
+// The command with the end of `-h`.
+fn with_end<'a>(command: Command<'a>, text: &'static str) -> Command<'a>
+    ensures { (app : App) → IsBuilt app command.entry → IsBuilt app result }
+{
+    command.after_help(text)
+}
+
+// The command with the end of `--help`.
+fn with_long_end<'a>(command: Command<'a>, text: &'static str) -> Command<'a>
+    ensures { (app : App) → IsBuilt app command.entry → IsBuilt app result }
+{
+    command.after_long_help(text)
+}
+
 // The command with its texts for `-h` and `--help`.
 fn described<'a>(command: Command<'a>, page: Page) -> Command<'a>
     ensures { (app : App) → IsBuilt app command.entry → IsBuilt app result }
 {
-    command
-        .about(page.about)
-        .long_about(page.long_about)
-        .after_help(page.after)
-        .after_long_help(page.long_after)
+    let command = with_about(command, page.about);
+    let command = with_long_about(command, page.long_about);
+    let command = with_end(command, page.after);
+    with_long_end(command, page.long_after)
 }
 
 fn run_command<'a>(alloc: Global) -> Result<Command<'a>, OutOfMemory>
     ensures { IfOk result (IsBuilt run) }
 {
     let command = described(Command::new(alloc, "run"), RUN);
-    let threads = flag(
+    let command = with_flag(
         alloc,
+        command,
         "threads",
         "Run each processor on an OS thread of its own",
-    );
-    let command = with(command, threads)?;
-    with(command, file(alloc, SCRIPT_FILE))
+    )?;
+    with_file(alloc, command, SCRIPT_FILE)
 }
 
 fn show_command<'a>(alloc: Global) -> Result<Command<'a>, OutOfMemory>
     ensures { IfOk result (IsBuilt show) }
 {
-    let threads = flag(
+    let command = described(Command::new(alloc, "show"), SHOW);
+    let command = with_flag(
         alloc,
+        command,
         "threads",
         "Run each processor on an OS thread; wants --chains",
-    );
-    let order = valued(
+    )?;
+    let command = with_value(
         alloc,
+        command,
         "order",
         "ORDER",
         "Run in this order of turns, such as 0,1,0",
-    );
-    let turns = valued(
+    )?;
+    let command = with_value(
         alloc,
+        command,
         "turns",
         "A..B",
         "Show only turns A to B, counted from 0",
-    );
-    let rounds = valued(
+    )?;
+    let command = with_value(
         alloc,
+        command,
         "rounds",
         "A..B",
         "Show only rounds A to B, counted from 0",
-    );
-    let svg = flag(alloc, "svg", "Draw the turns as a picture, in SVG");
-    let trace = flag(alloc, "trace", "Write the run as a trace, for lwkt check");
-    let chains = flag(alloc, "chains", "List the written sections of each token");
-    let command = described(Command::new(alloc, "show"), SHOW);
-    let command = with(with(command, threads)?, order)?;
-    let command = with(with(command, turns)?, rounds)?;
-    let command = with(with(command, svg)?, trace)?;
-    with(with(command, chains)?, file(alloc, SCRIPT_FILE))
+    )?;
+    let command = with_flag(alloc, command, "svg", "Draw the turns as a picture, in SVG")?;
+    let command = with_flag(
+        alloc,
+        command,
+        "trace",
+        "Write the run as a trace, for lwkt check",
+    )?;
+    let command = with_flag(
+        alloc,
+        command,
+        "chains",
+        "List the written sections of each token",
+    )?;
+    with_file(alloc, command, SCRIPT_FILE)
 }
 
 fn check_command<'a>(alloc: Global) -> Result<Command<'a>, OutOfMemory>
     ensures { IfOk result (IsBuilt check) }
 {
     let command = described(Command::new(alloc, "check"), CHECK);
-    let lines = flag(
+    let command = with_flag(
         alloc,
+        command,
         "lines",
         "Read a trace with an event a line, of any length",
-    );
-    let command = with(command, lines)?;
-    with(command, file(alloc, TRACE_FILE))
+    )?;
+    with_file(alloc, command, TRACE_FILE)
 }
 
 fn text_command<'a>(alloc: Global) -> Result<Command<'a>, OutOfMemory>
     ensures { IfOk result (IsBuilt text) }
 {
-    let json = flag(alloc, "json", "Write the script as JSON");
-    let text = flag(alloc, "text", "Write the script as a text");
-    let run = flag(
+    let command = described(Command::new(alloc, "text"), TEXT);
+    let command = with_flag(alloc, command, "json", "Write the script as JSON")?;
+    let command = with_flag(alloc, command, "text", "Write the script as a text")?;
+    let command = with_flag(
         alloc,
+        command,
         "run",
         "Run the script in rounds, and judge its expectations",
-    );
-    let command = described(Command::new(alloc, "text"), TEXT);
-    let command = with(with(command, json)?, text)?;
-    with(with(command, run)?, file(alloc, SCRIPT_FILE))
+    )?;
+    with_file(alloc, command, SCRIPT_FILE)
 }
 
 fn explore_command<'a>(alloc: Global) -> Result<Command<'a>, OutOfMemory>
     ensures { IfOk result (IsBuilt explore) }
 {
-    let plain = flag(
+    let command = described(Command::new(alloc, "explore"), EXPLORE);
+    let command = with_flag(
         alloc,
+        command,
         "plain",
         "Try the turns of every processor from each state",
-    );
-    let states = valued(
+    )?;
+    let command = with_value(
         alloc,
+        command,
         "states",
         "N",
         "Store at most N states, by default 1000000",
-    );
-    let turns = valued(
+    )?;
+    let command = with_value(
         alloc,
+        command,
         "turns",
         "N",
         "Try orders of at most N turns, by default 100000",
-    );
-    let random = valued(alloc, "random", "N", "Try N random orders in place of all");
-    let seed = valued(
+    )?;
+    let command = with_value(
         alloc,
+        command,
+        "random",
+        "N",
+        "Try N random orders in place of all",
+    )?;
+    let command = with_value(
+        alloc,
+        command,
         "seed",
         "S",
         "Choose the random orders by S, by default 0",
-    );
-    let seconds = valued(
+    )?;
+    let command = with_value(
         alloc,
+        command,
         "seconds",
         "N",
         "Stop after N seconds, and print what was found",
-    );
-    let progress = flag(
+    )?;
+    let command = with_flag(
         alloc,
+        command,
         "progress",
         "Report each second how far the search is",
-    );
-    let all = flag(alloc, "all", "Try each script of the folder FILE");
-    let command = described(Command::new(alloc, "explore"), EXPLORE);
-    let command = with(with(with(command, plain)?, states)?, turns)?;
-    let command = with(with(with(command, random)?, seed)?, seconds)?;
-    let command = with(with(command, progress)?, all)?;
-    with(command, file(alloc, EXPLORE_FILE))
+    )?;
+    let command = with_flag(alloc, command, "all", "Try each script of the folder FILE")?;
+    with_file(alloc, command, EXPLORE_FILE)
 }
 
 // The command with one more subcommand.

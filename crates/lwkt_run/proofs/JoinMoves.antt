@@ -23,7 +23,7 @@ use Rattle.lwkt_core.specs.Opening.{opening, opened_token, opened_message}
 use Rattle.lwkt_core.specs.Tokens.{token_after}
 use Rattle.lwkt_core.specs.Trace.{Run, end_of, shown_tallies}
 use Rattle.lwkt_core.proofs.MachineMoves.{after_token, after_message}
-use Rattle.lwkt_ask.specs.Telling.{is_of_message}
+use Rattle.lwkt_cpu.specs.Telling.{is_of_message}
 use Rattle.lwkt_bank.specs.Told.{IsDone, first_machine}
 use Rattle.lwkt_hold.specs.Steps.{is_of_token, Tells}
 use Rattle.lwkt_msg.specs.Book.{Mail, no_mail, opened_mail}

@@ -12,10 +12,10 @@ use Rattle.lwkt_verdict.specs.declared.turns.Pace.{Pace}
 use Rattle.lwkt_run.proofs.ChainMoves.{trace_chains}
 use Rattle.lwkt_run.specs.Keeping.{kept_as}
 use Rattle.lwkt_run.specs.Judging.{IsVerdict}
-use Rattle.lwkt_run.specs.Run.{opening_of_script, ShowsClosing, RunsAt, IsJudgedBy}
+use Rattle.lwkt_run.specs.Run.{opening_of_script, ShowsClosing, RunsBy, IsJudgedBy}
 
 -- what was kept of a run is judged, whatever it is
-pub judged : (script : Script) (closing : Closing) (m : Machine) (pace : Pace) (order : List ℕ) (last : Final) (trace : List Event) (polls : List Poll) (turns : List Turn) → m ≡ opening_of_script script → ShowsClosing closing last → RunsAt pace script order closing.threads.items (kept_as order turns polls) trace last → IsVerdict closing.verdict m pace order script.threads closing.threads.items last trace polls turns → AreWithin script.cpus script.tokens script.messages → AllOpenLawfully script.tokens → IsJudgedBy pace script closing order trace polls turns
+pub judged : (script : Script) (closing : Closing) (m : Machine) (pace : Pace) (order : List ℕ) (last : Final) (trace : List Event) (polls : List Poll) (turns : List Turn) → m ≡ opening_of_script script → ShowsClosing closing last → RunsBy closing.verdict pace script order closing.threads.items (kept_as order turns polls) trace last → IsVerdict closing.verdict m pace order script.threads closing.threads.items last trace polls turns → AreWithin script.cpus script.tokens script.messages → AllOpenLawfully script.tokens → IsJudgedBy pace script closing order trace polls turns
 judged script closing m pace order last trace polls turns same shown runs by within lawful = record {
   last = last;
   shows = shown;

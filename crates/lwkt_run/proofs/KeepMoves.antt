@@ -1,7 +1,6 @@
 -- The place of a thread's last poll, as polls are kept.
 use Rattle.std.proofs.Common.{◌≡◌, ◌≢◌, ℕ, zero, suc, ◌+◌, ◌<◌, ◌==◌, Bool, true, false, List, [], ◌∷◌, ◌++◌, length, get_or, set, refl, ap, sym, ◌∙◌, subst, inl, inr, arith, Option, Some, None, replicate, eq-eqb, ne_eqb}
-use Rattle.std.specs.Prelude.{slice_get, slice_set, if◌then◌else◌, Result, Ok, Err}
-use Rattle.std.specs.Result.{OnOk, OnErr}
+use Rattle.std.specs.Prelude.{slice_get, slice_set, if◌then◌else◌}
 use Rattle.std.specs.Option.{option_map_or}
 use Rattle.std.proofs.lemmas.Bool.{cases_eq}
 use Rattle.std.proofs.lemmas.List.{length-set}
@@ -120,8 +119,3 @@ none_at (suc n) (suc i) less = none_at n i (omega (arith, less))
 
 pub places_none : (polls : List Poll) → polls ≡ [] → ArePlaces (replicate 128 None) polls
 places_none polls none = λ k less. none_at 128 k less ∙ ap (λ (ps : List Poll). Some (last_place k ps)) (sym none)
-
--- what holds of a list that a call changed or left
-pub either_way : {A E : Type 0} (r : Result A E) (new one other : List Poll) (F : List Poll → Type 0) → OnOk r (new ≡ one) → OnErr r (new ≡ other) → F one → F other → F new
-either_way (Ok x) new one other F ok err a b = subst F (sym ok) a
-either_way (Err e) new one other F ok err a b = subst F (sym err) b

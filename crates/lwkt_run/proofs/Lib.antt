@@ -1,10 +1,11 @@
 pub mod ArriveMoves
 pub mod ChainMoves
+pub mod CheckedMoves
 pub mod CloseMoves
+pub mod DriveMoves
 pub mod EndedMoves
 pub mod FillMoves
 pub mod FollowMoves
-pub mod FollowedMoves
 pub mod GatherMoves
 pub mod IdMoves
 pub mod JoinMoves
@@ -26,4 +27,3 @@ pub mod ThreadedMoves
 pub mod ToldMoves
 pub mod TrackMoves
 pub mod TurnMoves
-pub mod VerdictMoves

@@ -1,20 +1,22 @@
 -- Rounds are the turns of an order that goes round the processors.
-use Rattle.std.proofs.Common.{◌≡◌, ℕ, zero, suc, ◌+◌, ◌*◌, ◌%◌, ◌<◌, ◌≤◌, List, [], ◌∷◌, ◌++◌, length, refl, ap, sym, ◌∙◌, subst, inl, inr, arith}
+use Rattle.std.proofs.Common.{◌≡◌, ℕ, zero, suc, ◌+◌, ◌*◌, ◌%◌, ◌<◌, ◌≤◌, List, [], ◌∷◌, ◌++◌, length, take, get_or, refl, ap, sym, ◌∙◌, subst, inl, inr, arith, append-nil, append_assoc}
 use Rattle.std.specs.Prelude.{Bool, true, false}
-use Rattle.std.proofs.lemmas.List.{length-set, length_push}
+use Rattle.std.proofs.Math.Seq.{take-nil}
+use Rattle.std.proofs.lemmas.List.{length-set, length_push, take_more, length-take-le}
+use Rattle.std.proofs.lemmas.Option.{unwrap_or-slice_get}
 use Rattle.std.proofs.lemmas.Nat.{mod-mul-add}
 use Rattle.lwkt_port.specs.Chains.{Chain}
 use Rattle.lwkt_port.proofs.Chaining.{chain_none, chain_more}
 use Rattle.lwkt_machine.proofs.SightMoves.{zip_long, sent_looked}
 use Rattle.lwkt_verdict.specs.Run.{whose, GoesRound}
-use Rattle.lwkt_run.specs.Running.{Scene, scene, Going, going, TakesTurn, MakesTurnAt, MakesTurns, MakesKeptRound, HasMadeRounds}
+use Rattle.lwkt_run.specs.Running.{Scene, scene, Going, going, TakesTurn, MakesTurnAt, MakesSome, MakesTurns, MakesKeptRound, HasMadeRounds}
 use Rattle.lwkt_run.specs.Keeping.{none_kept}
 use Rattle.lwkt_run.specs.Orders.{RoundsAreAnOrder}
 use Rattle.lwkt_run.proofs.IdMoves.{opened_has}
 use Rattle.lwkt_run.proofs.RoundMoves.{round_keeps}
 
 -- the steps of a chain are steps of another one
-chain_maps : (A B : Type 0) (f : A → B) (S : ℕ → A → A → Type 0) (T : ℕ → B → B → Type 0) (bound : ℕ) → ((k : ℕ) (u v : A) → k < bound → S k u v → T k (f u) (f v)) → (n : ℕ) (x y : A) → n ≤ bound → Chain A S n x y → Chain B T n (f x) (f y)
+pub chain_maps : (A B : Type 0) (f : A → B) (S : ℕ → A → A → Type 0) (T : ℕ → B → B → Type 0) (bound : ℕ) → ((k : ℕ) (u v : A) → k < bound → S k u v → T k (f u) (f v)) → (n : ℕ) (x y : A) → n ≤ bound → Chain A S n x y → Chain B T n (f x) (f y)
 unfolding Chain
 chain_maps A B f S T bound does zero x y few chain = ap f chain
 chain_maps A B f S T bound does (suc n) x y few chain =
@@ -23,7 +25,7 @@ chain_maps A B f S T bound does (suc n) x y few chain =
     (f chain.0, chain_maps A B f S T bound does n x chain.0 less chain.1, does n chain.0 y here chain.2)
 
 -- a chain behind another one
-chain_then : (A : Type 0) (S : ℕ → A → A → Type 0) (n m : ℕ) (x y z : A) → Chain A S n x y → Chain A (λ j. S (n + j)) m y z → Chain A S (n + m) x z
+pub chain_then : (A : Type 0) (S : ℕ → A → A → Type 0) (n m : ℕ) (x y z : A) → Chain A S n x y → Chain A (λ j. S (n + j)) m y z → Chain A S (n + m) x z
 unfolding Chain
 chain_then A S n zero x y z front rest =
     let e : n ≡ n + zero = omega arith in
@@ -35,7 +37,7 @@ chain_then A S n (suc m) x y z front rest =
     subst F e (chain_more A S (n + m) x rest.0 z (chain_then A S n m x y rest.0 front rest.1) rest.2)
 
 -- the turns of so many processors, again and again
-abbrev GoTurns : ℕ → ℕ → Scene → Scene → Type 0
+abbrev pub GoTurns : ℕ → ℕ → Scene → Scene → Type 0
 GoTurns cpus n x y = Chain Scene (λ k. MakesTurnAt (k % cpus)) n x y
 
 -- a round behind so many others
@@ -59,11 +61,11 @@ keeps_round : (cpus : ℕ) (over : Bool) (number : ℕ) (x y : Scene) → MakesK
 keeps_round cpus over number x y round same = round_keeps (λ z. length z.machine.cpus ≡ cpus) (turn_keeps cpus) over number x y round same
 
 -- a scene after so many rounds
-record Turned (cpus count : ℕ) (x y : Scene) : Type 0 where
+pub record Turned (cpus count : ℕ) (x y : Scene) : Type 0 where
   pub turns : GoTurns cpus (count * cpus) x y
   pub same : length y.machine.cpus ≡ cpus
 
-turned_more : (over : Bool) (number cpus count : ℕ) (x y z : Scene) → Turned cpus count x y → MakesKeptRound over number y z → Turned cpus (count + 1) x z
+pub turned_more : (over : Bool) (number cpus count : ℕ) (x y z : Scene) → Turned cpus count x y → MakesKeptRound over number y z → Turned cpus (count + 1) x z
 turned_more over number cpus count x y z turned round =
     let e : count * cpus + cpus ≡ (count + 1) * cpus = omega arith in
     let F : ℕ → Type 0 = λ n. GoTurns cpus n x z in
@@ -72,7 +74,7 @@ turned_more over number cpus count x y z turned round =
       same = keeps_round cpus over number y z round turned.same;
     }
 
-rounds_turned : (cpus : ℕ) (count : ℕ) (x y : Scene) → length x.machine.cpus ≡ cpus → Chain Scene (MakesKeptRound false) count x y → Turned cpus count x y
+pub rounds_turned : (cpus : ℕ) (count : ℕ) (x y : Scene) → length x.machine.cpus ≡ cpus → Chain Scene (MakesKeptRound false) count x y → Turned cpus count x y
 unfolding Chain
 rounds_turned cpus zero x y same chain =
     let F : Scene → Type 0 = λ z. Turned cpus zero x z in
@@ -143,6 +145,63 @@ along cpus n x y turns =
     subst (λ c. MakesTurnAt c u v) (sym named) turn in
     let all : n ≤ n = omega arith in
     subst (λ m. Chain Scene T m x y) (sym (list_long cpus n)) (chain_maps Scene Scene (λ z. z) S T n does n x y all turns)
+
+-- so many turns in rounds add their processors to the order that is kept
+turned_order : (cpus n : ℕ) (x y : Scene) → GoTurns cpus n x y → y.kept.order ≡ x.kept.order ++ round_list cpus n
+unfolding Chain round_list
+turned_order cpus zero x y turns = ap (λ (z : Scene). z.kept.order) turns ∙ sym (append-nil x.kept.order)
+turned_order cpus (suc n) x y turns =
+    turns.2.1.keeps.order ∙ ap (λ (o : List ℕ). o ++ (n % cpus) ∷ []) (turned_order cpus n x turns.0 turns.1) ∙ append_assoc x.kept.order (round_list cpus n) ((n % cpus) ∷ [])
+
+-- turns in rounds, by the order that is kept of them
+pub record Rounded (cpus n : ℕ) (x y : Scene) : Type 0 where
+  pub along : MakesTurns y.kept.order x y
+  pub goes : GoesRound cpus 0 y.kept.order
+  pub long : length y.kept.order ≡ n
+
+pub rounded : (cpus n : ℕ) (x y : Scene) → x.kept.order ≡ [] → GoTurns cpus n x y → Rounded cpus n x y
+rounded cpus n x y none turns =
+    let is : y.kept.order ≡ round_list cpus n = turned_order cpus n x y turns ∙ ap (λ (o : List ℕ). o ++ round_list cpus n) none in
+    record {
+      along = subst (λ o. MakesTurns o x y) (sym is) (along cpus n x y turns);
+      goes = subst (GoesRound cpus 0) (sym is) (list_goes cpus n);
+      long = ap length is ∙ list_long cpus n;
+    }
+
+-- some turns of an order add its front to the order that is kept
+some_order : (order : List ℕ) (n : ℕ) (x y : Scene) → n ≤ length order → MakesSome order n x y → y.kept.order ≡ x.kept.order ++ take n order
+unfolding Chain
+some_order order zero x y few turns = ap (λ (z : Scene). z.kept.order) turns ∙ sym (append-nil x.kept.order)
+some_order order (suc n) x y few turns =
+    let less : n ≤ length order = omega (arith, few) in
+    let here : n < length order = omega (arith, few) in
+    let w = whose order n in
+    let named : get_or order n 0 ≡ w = sym (unwrap_or-slice_get order n 0) in
+    let e : n + 1 ≡ suc n = omega arith in
+    let more : take n order ++ w ∷ [] ≡ take (suc n) order = ap (λ (k : ℕ). take n order ++ k ∷ []) (sym named) ∙ sym (take_more order n 0 here) ∙ ap (λ (k : ℕ). take k order) e in
+    turns.2.1.keeps.order ∙ ap (λ (o : List ℕ). o ++ w ∷ []) (some_order order n x turns.0 less turns.1) ∙ append_assoc x.kept.order (take n order) (w ∷ []) ∙ ap (λ (o : List ℕ). x.kept.order ++ o) more
+
+whose_front : (order : List ℕ) (n k : ℕ) → k < n → whose (take n order) k ≡ whose order k
+whose_front [] n k less = ap (λ (o : List ℕ). whose o k) (take-nil n)
+whose_front (x ∷ order) zero k less = absurd (omega (arith, less))
+whose_front (x ∷ order) (suc n) zero less = refl
+whose_front (x ∷ order) (suc n) (suc k) less = whose_front order n k (omega (arith, less))
+
+-- some turns of an order, by the order that is kept of them
+pub record Fronted (order : List ℕ) (n : ℕ) (x y : Scene) : Type 0 where
+  pub along : MakesTurns y.kept.order x y
+  pub front : y.kept.order ≡ take n order
+
+pub fronted : (order : List ℕ) (n : ℕ) (x y : Scene) → n ≤ length order → x.kept.order ≡ [] → MakesSome order n x y → Fronted order n x y
+fronted order n x y few none turns =
+    let front : y.kept.order ≡ take n order = some_order order n x y few turns ∙ ap (λ (o : List ℕ). o ++ take n order) none in
+    let S : ℕ → Scene → Scene → Type 0 = λ k. MakesTurnAt (whose order k) in
+    let T : ℕ → Scene → Scene → Type 0 = λ k. MakesTurnAt (whose (take n order) k) in
+    let does : (k : ℕ) (u v : Scene) → k < n → S k u v → T k u v = λ k u v less turn. subst (λ c. MakesTurnAt c u v) (sym (whose_front order n k less)) turn in
+    let all : n ≤ n = omega arith in
+    let long : length (take n order) ≡ n = length-take-le n order few in
+    let chain : MakesTurns (take n order) x y = subst (λ m. Chain Scene T m x y) (sym long) (chain_maps Scene Scene (λ z. z) S T n does n x y all turns) in
+    record { along = subst (λ o. MakesTurns o x y) (sym front) chain; front = front }
 
 pub rounds_along : RoundsAreAnOrder
 rounds_along script lines kept trace last run =

@@ -120,10 +120,7 @@ rounds_keep P keeps limit x y rounds p =
 pub turns_keep : (P : Scene → Type 0) → ((cpu : ℕ) (x y : Scene) → MakesTurnAt cpu x y → P x → P y) → (order : List ℕ) (x y : Scene) → MakesTurns order x y → P x → P y
 turns_keep P keeps order x y turns p = chain_keeps Scene (λ k. MakesTurnAt (whose order k)) P (λ k v w turn q. keeps (whose order k) v w turn q) (length order) x y turns p
 
-pub has_rounds : (cpus : ℕ) (threads : List ThreadSpec) (limit : ℕ) (x y : Scene) → HasMadeRounds limit x y → HasThreads cpus threads x.machine.cpus → HasThreads cpus threads y.machine.cpus
-has_rounds cpus threads limit x y rounds has = rounds_keep (λ z. HasThreads cpus threads z.machine.cpus) (has_turn cpus threads) limit x y rounds has
-
--- the turns of an order do
+-- the turns of an order keep the threads of a machine
 pub has_turns : (cpus : ℕ) (threads : List ThreadSpec) (order : List ℕ) (x y : Scene) → MakesTurns order x y → HasThreads cpus threads x.machine.cpus → HasThreads cpus threads y.machine.cpus
 has_turns cpus threads order x y turns has = turns_keep (λ z. HasThreads cpus threads z.machine.cpus) (has_turn cpus threads) order x y turns has
 
@@ -163,15 +160,6 @@ over_later cpu old new t u turned d is below =
     let G : List (Processor Scripted) → Type 0 = λ ps. AreOverBelow (cpu + 1) ps in
     let o = e.turns in
     subst G (sym o.cpus) (over_more e.seen cpu o.now (slice_get_within e.seen cpu o.before o.at_before) o.does.turns.1 (over_looked cpu old.cpus e.seen (sent_looked cpu old.cpus e.seen e.sees) below))
-
--- rounds keep the bank
-pub rounds_bank : (limit : ℕ) (x y : Scene) → HasMadeRounds limit x y → y.machine.bank ≡ x.machine.bank
-rounds_bank limit x y rounds =
-    rounds_keep (λ z. z.machine.bank ≡ x.machine.bank) (λ cpu v w turn p. turn.1.makes.turns.bank ∙ p) limit x y rounds refl
-
-pub rounds_book : (limit : ℕ) (x y : Scene) → HasMadeRounds limit x y → y.machine.book ≡ x.machine.book
-rounds_book limit x y rounds =
-    rounds_keep (λ z. z.machine.book ≡ x.machine.book) (λ cpu v w turn p. turn.1.makes.turns.book ∙ p) limit x y rounds refl
 
 false_is_true : false ≡ true → ⊥
 false_is_true is = cc

@@ -1,5 +1,5 @@
 -- A run that a check has followed so far, whatever comes of it: what its last asks are answered, and which turns follow.
-use Rattle.std.proofs.Common.{◌≡◌, ℕ, ◌+◌, ◌<◌, ◌≤◌, List, [], ◌∷◌, ◌++◌, length, take, drop, min, refl, ap, sym, ◌∙◌, subst, arith, Option, Some, None, append_assoc, length-append}
+use Rattle.std.proofs.Common.{◌≡◌, ℕ, ◌+◌, ◌≤◌, List, [], ◌∷◌, ◌++◌, length, take, drop, refl, ap, sym, ◌∙◌, subst, arith, Option, Some, None, append_assoc, length-append}
 use Rattle.std.specs.Prelude.{slice_get, unwrap_or}
 use Rattle.std.proofs.Math.Seq.{drop-append_seam}
 use Rattle.std.proofs.lemmas.List.{length_push}
@@ -15,8 +15,8 @@ use Rattle.lwkt_verdict.specs.Parts.{after_all}
 use Rattle.lwkt_verdict.specs.Run.{whose, poll_of, piece, TurnFits, RunsThrough}
 use Rattle.lwkt_verdict.specs.Threads.{slot_of}
 use Rattle.lwkt_verdict.specs.Follow.{Follow, AllBear, AreShown, GoesOn, answered_at, Begins}
-use Rattle.lwkt_run.specs.Keeping.{Kept, kept_as, none_kept, polls_after, turn_of}
-use Rattle.lwkt_run.specs.Following.{GoesOnBy}
+use Rattle.lwkt_run.specs.Keeping.{Kept, none_kept, kept_after, polls_after, turn_of}
+use Rattle.lwkt_run.specs.Driving.{GoesOnBy}
 use Rattle.lwkt_run.specs.declared.polled.Polled.{Polled}
 use Rattle.lwkt_run.proofs.FillMoves.{answered, filled, filled_long, filled_after}
 
@@ -94,32 +94,28 @@ track_on plans opening turns trace f g cpu part poll former answers lines polls 
           subst (λ ts. R ts ((trace ++ part) ++ events)) (sym (append_assoc turns (t ∷ []) later)) (subst (λ es. R (turns ++ t ∷ later) es) (sym (append_assoc trace part events)) whole);
     }
 
--- what is kept after a turn more
-abbrev pub kept_after : ℕ → ℕ → Option Polled → Kept → Kept
-kept_after cpu events asks kept = kept_as (kept.order ++ cpu ∷ []) (kept.turns ++ turn_of asks events (length kept.polls) ∷ []) (polls_after asks kept.polls)
-
 whose_named : (order whole : List ℕ) (cpu : ℕ) → IsFront (order ++ cpu ∷ []) whole → whose whole (length order) ≡ cpu
 whose_named order whole cpu is = ap (λ o. unwrap_or o 0) (front_get ℕ order whole cpu is)
 
 -- the poll of a turn that is kept now
-poll_kept : (answers : ℕ → Option Answer) (p : Polled) (events : ℕ) (kept polls : List Poll) → length kept < 4294967295 → IsFront (filled answers (polls_after (Some p) kept)) polls
+poll_kept : (answers : ℕ → Option Answer) (p : Polled) (events : ℕ) (kept polls : List Poll) → IsFront (filled answers (polls_after (Some p) kept)) polls
     → (IsFront (filled (answered_at (slot_of p.thread) (Some p.told) answers) kept) polls × (poll_of polls (turn_of (Some p) events (length kept)) ≡ Some (record { answer = answers (slot_of p.thread); ask = p.asked; thread = p.thread })))
-poll_kept answers p events kept polls few front =
+poll_kept answers p events kept polls front =
     let new : Poll = record { answer = None; ask = p.asked; thread = p.thread } in
     let older : List Poll = filled (answered_at (slot_of p.thread) (Some p.told) answers) kept in
     let e = filled_after (slot_of p.thread) p.told answers new kept refl in
     let is : IsFront (older ++ answered (answers (slot_of p.thread)) new ∷ []) polls = subst (λ qs. IsFront qs polls) e front in
-    let place : min (length kept) 4294967295 ≡ length older = omega (arith, few, filled_long (answered_at (slot_of p.thread) (Some p.told) answers) kept) in
+    let place : length kept ≡ length older = sym (filled_long (answered_at (slot_of p.thread) (Some p.told) answers) kept) in
     (less_front Poll older polls _ is, ap (λ k. slice_get polls k) place ∙ front_get Poll older polls _ is)
 
 -- a turn more that is kept
-pub tracks_on : (plans : List ThreadSpec) (opening : Machine) (kept : Kept) (trace : List Event) (f g : Follow) (cpu : ℕ) (asks : Option Polled) (part : List Event) → f.plans ≡ plans → length kept.order ≡ length kept.turns → length kept.polls < 4294967295 → GoesOnBy cpu asks part f g → Tracks plans opening kept trace f → Tracks plans opening (kept_after cpu (length part) asks kept) (trace ++ part) g
-tracks_on plans opening kept trace f g cpu None part threads long few goes tracks answers lines polls order bear fronts named =
+pub tracks_on : (plans : List ThreadSpec) (opening : Machine) (kept : Kept) (trace : List Event) (f g : Follow) (cpu : ℕ) (asks : Option Polled) (part : List Event) → f.plans ≡ plans → length kept.order ≡ length kept.turns → GoesOnBy cpu asks part f g → Tracks plans opening kept trace f → Tracks plans opening (kept_after cpu (length part) asks kept) (trace ++ part) g
+tracks_on plans opening kept trace f g cpu None part threads long goes tracks answers lines polls order bear fronts named =
     let here : whose order (length kept.turns) ≡ cpu = ap (whose order) (sym long) ∙ whose_named kept.order order cpu named in
     track_on plans opening kept.turns trace f g cpu part _ _ answers lines polls order (turn_of None (length part) (length kept.polls)) threads goes bear here refl refl
     (tracks answers lines polls order (goes.bear answers lines bear) fronts (less_front ℕ kept.order order cpu named))
-tracks_on plans opening kept trace f g cpu (Some p) part threads long few goes tracks answers lines polls order bear fronts named =
+tracks_on plans opening kept trace f g cpu (Some p) part threads long goes tracks answers lines polls order bear fronts named =
     let here : whose order (length kept.turns) ≡ cpu = ap (whose order) (sym long) ∙ whose_named kept.order order cpu named in
-    let q = poll_kept answers p (length part) kept.polls polls few fronts in
+    let q = poll_kept answers p (length part) kept.polls polls fronts in
     track_on plans opening kept.turns trace f g cpu part _ _ answers lines polls order (turn_of (Some p) (length part) (length kept.polls)) threads goes bear here refl q.1
     (tracks (answered_at (slot_of p.thread) (Some p.told) answers) lines polls order (goes.bear answers lines bear) q.0 (less_front ℕ kept.order order cpu named))

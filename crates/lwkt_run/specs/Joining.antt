@@ -9,7 +9,7 @@ use Rattle.lwkt_core.specs.declared.tokens.Token.{Token}
 use Rattle.lwkt_core.specs.Machine.{machine}
 use Rattle.lwkt_core.specs.Opening.{opening}
 use Rattle.lwkt_core.specs.Trace.{Run, IsLawfulTrace}
-use Rattle.lwkt_ask.specs.Telling.{is_of_message}
+use Rattle.lwkt_cpu.specs.Telling.{is_of_message}
 use Rattle.lwkt_hold.specs.Steps.{is_of_token, Tells}
 use Rattle.lwkt_threads.specs.Parts.{of_cpu}
 

@@ -1,7 +1,8 @@
--- What is kept of a run beside its trace (own).
-use Rattle.std.specs.Prelude.{◌≡◌, ℕ, ◌+◌, ◌==◌, if◌then◌else◌, List, [], ◌∷◌, ◌++◌, length, min, Option, Some, None, option_map}
+-- What is kept of a run (own).
+use Rattle.std.specs.Prelude.{◌≡◌, ℕ, ◌+◌, ◌==◌, if◌then◌else◌, List, [], ◌∷◌, ◌++◌, length, Option, Some, None, option_map}
 use Rattle.std.specs.Option.{option_map_or}
 use Rattle.lwkt_base.specs.declared.asks.Answer.{Answer}
+use Rattle.lwkt_core.specs.declared.events.Event.{Event}
 use Rattle.lwkt_core.specs.Machine.{changed}
 use Rattle.lwkt_verdict.specs.declared.turns.Poll.{Poll}
 use Rattle.lwkt_verdict.specs.declared.turns.Turn.{Turn}
@@ -44,12 +45,31 @@ abbrev pub polls_after : Option Polled → List Poll → List Poll
 polls_after None polls = polls
 polls_after (Some p) polls = polls_answered (slot_of p.thread) p.told polls ++ record { answer = None; ask = p.asked; thread = p.thread } ∷ []
 
--- a turn of so many events, by what it asked, where there were so many polls before: the place of its poll, as far as 32 bits go
+-- a turn of so many events, by what it asked, where there were so many polls before: the place of its poll
 abbrev pub turn_of : Option Polled → ℕ → ℕ → Turn
-turn_of asks events before = record { poll = option_map (λ p. min before 4294967295) asks; events = events }
+turn_of asks events before = record { poll = option_map (λ p. before) asks; events = events }
 
 -- a turn of a processor is kept: its processor, its number of events and its poll, and nothing else changes
 pub record KeepsTurn (cpu events : ℕ) (asks : Option Polled) (old new : Kept) : Type 0 where
   pub order : new.order ≡ old.order ++ cpu ∷ []
   pub turns : new.turns ≡ old.turns ++ turn_of asks events (length old.polls) ∷ []
   pub polls : new.polls ≡ polls_after asks old.polls
+
+-- what is kept after a turn more
+abbrev pub kept_after : ℕ → ℕ → Option Polled → Kept → Kept
+kept_after cpu events asks kept = kept_as (kept.order ++ cpu ∷ []) (kept.turns ++ turn_of asks events (length kept.polls) ∷ []) (polls_after asks kept.polls)
+
+-- all that is kept of a run so far: the events of its turns, and the turns
+pub record Story : Type 0 where
+  pub trace : List Event
+  pub kept : Kept
+
+abbrev pub story_as : List Event → Kept → Story
+story_as trace kept = record { trace = trace; kept = kept }
+
+abbrev pub none_told : Story
+none_told = story_as [] none_kept
+
+-- the same after a turn more of a processor, by what it asked and by its events
+abbrev pub story_after : ℕ → Option Polled → List Event → Story → Story
+story_after cpu asks part story = story_as (story.trace ++ part) (kept_after cpu (length part) asks story.kept)

@@ -1,6 +1,8 @@
 pub mod Arriving
 pub mod Chains
-pub mod Following
+pub mod Driving
+pub mod Checked
+pub mod Courses
 pub mod Joining
 pub mod Keeping
 pub mod Judging

@@ -1,5 +1,5 @@
 use Rattle.std.specs.Global.{Global}
-use Rattle.std.specs.Prelude.{codes, ◌<◌, length, All, string_bytes, String, Vec, ◌≡◌, ◌⊎◌, ℕ, Bool, true, false, List, [], ◌++◌, map, take, Option, is_some, unwrap_or, IfSome, Result, Ok, Err}
+use Rattle.std.specs.Prelude.{codes, ◌<◌, ◌≤◌, ◌*◌, length, All, string_bytes, String, Vec, ◌≡◌, ◌⊎◌, ℕ, Bool, true, false, List, [], ◌++◌, map, take, Option, is_some, unwrap_or, IfSome, Result, Ok, Err}
 use Rattle.std.specs.List.{list_all, range_with_len}
 use Rattle.std.specs.Io.KnownBytes.{Appends, Keeps}
 use Rattle.lwkt_base.specs.declared.faults.Fault.{Fault as Refusal}
@@ -26,6 +26,7 @@ use Rattle.lwkt_verdict.specs.declared.turns.Poll.{Poll}
 use Rattle.lwkt_verdict.specs.declared.turns.Turn.{Turn}
 use Rattle.lwkt_verdict.specs.declared.turns.Pace.{Pace}
 use Rattle.lwkt_verdict.specs.declared.turns.Pace.TheVariants.{Rounds, Named}
+use Rattle.lwkt_verdict.specs.Run.{GoesRound}
 use Rattle.lwkt_machine.specs.declared.closings.Closed.{Closed as ClosedMachine}
 use Rattle.lwkt_machine.specs.Machines.{Rig}
 use Rattle.lwkt_machine.specs.Opened.{IsOpenedMachine, Declines as IsDeclined}
@@ -107,13 +108,31 @@ abbrev pub RunsAt : Pace → Script → List ℕ → List ThreadLine → Kept �
 RunsAt (Rounds limit) script order lines kept trace last = (limit ≡ script.turns) × RunsInRounds script lines kept trace last
 RunsAt Named script order lines kept trace last = RunsAlong script order lines kept trace last
 
+-- the same of a run at a pace that was stopped where a check said no: the turns that were made are those of an order; in rounds of one
+-- that goes round the processors, from 0 on, and has no more turns than the script's rounds
+abbrev pub StopsAt : Pace → Script → List ℕ → List ThreadLine → Kept → List Event → Final → Type 0
+StopsAt (Rounds limit) script order lines kept trace last = (limit ≡ script.turns) × (GoesRound script.cpus 0 order × ((length order ≤ limit * script.cpus) × RunsAlong script order lines kept trace last))
+StopsAt Named script order lines kept trace last = RunsAlong script order lines kept trace last
+
+-- the same of a run by its verdict: whole, or stopped where the check said no
+abbrev pub RunsBy : Verdict → Pace → Script → List ℕ → List ThreadLine → Kept → List Event → Final → Type 0
+RunsBy Closed pace script order lines kept trace last = RunsAt pace script order lines kept trace last
+RunsBy Lawful pace script order lines kept trace last = RunsAt pace script order lines kept trace last
+RunsBy (Unlawful index) pace script order lines kept trace last = StopsAt pace script order lines kept trace last
+
+-- the turns that were made of an order, by the verdict on them: all, or a front of them, where the check said no
+abbrev pub AreMadeOf : Verdict → List ℕ → List ℕ → Type 0
+AreMadeOf Closed order made = made ≡ order
+AreMadeOf Lawful order made = made ≡ order
+AreMadeOf (Unlawful index) order made = (rest : List ℕ) × (order ≡ made ++ rest)
+
 -- a report gives its verdict on this trace and the turns of this order with their polls, which were kept of a run of the script at
 -- this pace, from its opening to the values and the threads' ends that it shows. The written sections of that run are chains from the
 -- opening rows to those of the token lines, whatever the verdict; where it is lawful, so are those of the trace, in its order (own)
 pub record IsJudgedBy (pace : Pace) (script : Script) (closing : Closing) (order : List ℕ) (trace : List Event) (polls : List Poll) (turns : List Turn) : Type 0 where
   pub last : Final
   pub shows : ShowsClosing closing last
-  pub runs : RunsAt pace script order closing.threads.items (kept_as order turns polls) trace last
+  pub runs : RunsBy closing.verdict pace script order closing.threads.items (kept_as order turns polls) trace last
   pub by : IsVerdict closing.verdict (opening_of_script script) pace order script.threads closing.threads.items last trace polls turns
   pub chains : closing.verdict ≡ Lawful → WritesChains (opening_of_script script) trace last
 
@@ -157,22 +176,25 @@ pub record HasRun (bytes : List ℕ) (end : End) (text : List ℕ) : Type 0 wher
 -- a run of the script in rounds, with a trace, turns and polls that the verdict of what is shown is on (own)
 pub record IsTurnsRun (script : Script) (run : TurnsRun) : Type 0 where
   pub closes : MayClose (Rounds script.turns) script run.closing
-  pub judged : IsJudgedBy (Rounds script.turns) script run.closing run.order.items run.trace.items run.polls run.turns.items
+  pub judged : IsJudgedBy (Rounds script.turns) script run.closing run.order.items run.trace.items run.polls.items run.turns.items
 
--- a run of the script along this order, with the order, a trace, turns and polls that the verdict of what is shown is on (own)
+-- a run of the script along this order, or along a front of it, where the check said no; with the order, a trace, turns and polls that
+-- the verdict of what is shown is on (own)
 pub record IsOrderRun (script : Script) (order : List ℕ) (run : TurnsRun) : Type 0 where
-  pub is_order : run.order.items ≡ order
+  pub made : AreMadeOf run.closing.verdict order run.order.items
   pub closes : MayClose Named script run.closing
-  pub judged : IsJudgedBy Named script run.closing run.order.items run.trace.items run.polls run.turns.items
+  pub judged : IsJudgedBy Named script run.closing run.order.items run.trace.items run.polls.items run.turns.items
 
--- a run of the script along exactly this order may close so: there are a trace, and turns of this order with their polls, that the
--- verdict of what is shown is on (own)
+-- a run of the script along exactly this order, or along a front of it, where the check said no, may close so: there are a trace, and
+-- turns of what was made of the order with their polls, that the verdict of what is shown is on (own)
 pub record ClosesAlong (script : Script) (order : List ℕ) (closing : Closing) : Type 0 where
   pub closes : MayClose Named script closing
+  pub made : List ℕ
+  pub made_of : AreMadeOf closing.verdict order made
   pub trace : List Event
   pub polls : List Poll
   pub turns : List Turn
-  pub judged : IsJudgedBy Named script closing order trace polls turns
+  pub judged : IsJudgedBy Named script closing made trace polls turns
 
 -- why a run of this script is refused: its machine isn't opened
 abbrev pub DeclinesRun : Script → Refusal → Type 0

@@ -18,7 +18,7 @@ use Rattle.lwkt_script.specs.Format.{threads_on}
 use Rattle.lwkt_verdict.specs.Run.{whose}
 use Rattle.lwkt_run.specs.declared.polled.Polled.{Polled}
 use Rattle.lwkt_run.specs.declared.records.Record.{Record}
-use Rattle.lwkt_run.specs.Keeping.{Kept, kept_as, KeepsTurn}
+use Rattle.lwkt_run.specs.Keeping.{Kept, kept_as, KeepsTurn, Story, story_as}
 
 -- so many processors, each with as many threads as a script has on it
 pub record HasThreads (cpus : ℕ) (threads : List ThreadSpec) (processors : List (Processor Scripted)) : Type 0 where
@@ -77,8 +77,8 @@ abbrev pub scene : Rig → List Event → Kept → Scene
 scene machine trace kept = record { machine = machine; trace = trace; kept = kept }
 
 -- what a record keeps
-abbrev pub kept_in_record : Record → Kept
-kept_in_record r = kept_as r.order.items r.turns.items r.polls
+abbrev pub story_in_record : Record → Story
+story_in_record r = story_as r.trace.items (kept_as r.order.items r.turns.items r.polls.items)
 
 -- the processor of this number makes a turn, which says this; its events are told into an empty room, and are the part by which the
 -- trace grows; and it is kept as it was: with its processor, the number of its events, and what it asked
@@ -135,11 +135,6 @@ MakesKeptRound over number x y = Chain Going TakesTurn (length x.machine.cpus) (
 -- so many rounds, none of which was over
 abbrev pub GoRounds : ℕ → Scene → Scene → Type 0
 GoRounds count x y = Chain Scene (MakesKeptRound false) count x y
-
--- a round was made, and told whether it was over; if it was, every thread of each processor has ended
-pub record RoundTold (x y : Scene) (over : Bool) : Type 0 where
-  pub round : MakesKeptRound over 0 x y
-  pub over_is : over ≡ true → AreOver y.machine.cpus
 
 -- so many rounds that weren't over, and then one that was: every thread of each processor has ended
 pub record EndRounds (count : ℕ) (x y : Scene) : Type 0 where

@@ -7,13 +7,15 @@ ghost use Rattle.lwkt_machine.specs.Closing.{IsRoomFor};
 ghost use Rattle.lwkt_machine.specs.Machines.{ShowsBody};
 ghost use Rattle.lwkt_run.specs.Leaving.{Leaves};
 ghost use Rattle.lwkt_run.specs.Running.{HasThreads, ShowThreads, IsLogOf, log_in};
+ghost use Rattle.lwkt_run.specs.Threaded.{ShowsLeft};
 ghost use Rattle.lwkt_run.specs.Values.{AreValuesOf};
 
+use crate::lines::token_lines;
 use lwkt_base::memory::{from_slice, push, with_capacity_for};
 use lwkt_base::{OutOfMemory, ThreadId};
 use lwkt_core::{Event, Final};
 use lwkt_machine::{CloseRoom, Closed, Machine, Standing};
-use lwkt_report::{Log, ThreadLine};
+use lwkt_report::{Closing, Log, ThreadLine, Verdict};
 use lwkt_script::Script;
 use std::alloc::Global;
 
@@ -127,4 +129,25 @@ pub fn left_by(
     let threads = thread_lines(alloc, &machine)?;
     let last = close(script, machine, close_room, trace)?;
     Ok(Left { last, threads })
+}
+
+/// What a report shows of what a run left, with this verdict. That the values are of the script's tokens is the caller's condition.
+pub fn closing_of(
+    alloc: Global,
+    script: &Script,
+    left: Left,
+    verdict: Verdict,
+) -> Result<Closing, OutOfMemory>
+    requires { AreValuesOf script.now.tokens left.last }
+    ensures { IfOk result (λ closing. ShowsLeft script.now.tokens left.threads.items left.last verdict closing) }
+{
+    let Left { last, threads } = left;
+    let tokens = token_lines(alloc, script.tokens.as_slice(), &last)?;
+    let Final { messages, .. } = last;
+    Ok(Closing {
+        tokens,
+        messages,
+        threads,
+        verdict,
+    })
 }

@@ -6,10 +6,9 @@ ghost use Rattle.lwkt_run.specs.Modes.{MayCloseBy, HasRunBy, RunsJsonAs};
 ghost use Rattle.lwkt_run.specs.Run.{RunsAs, AsksTurns, DeclinesRun, Refuses, exit_status, SaysAfterRun};
 ghost use Rattle.lwkt_run.specs.Threaded.{RunsOnThreadsAs, AsksThreads, AsksNoRun};
 
-use crate::followed::close_turns;
 use crate::modes::Mode;
 use crate::reports::{Done, conclude, done_of};
-use crate::runs::{End, run_turns};
+use crate::runs::{End, close_turns, run_turns};
 use crate::threaded::{close_threads, run_threads};
 use lwkt_base::Fault;
 use lwkt_report::{Closing, Complaint, Program, RunFault, Sink, Source, complain, complaint_of};

@@ -1,73 +1,85 @@
-//! What is kept of a run beside its trace.
-ghost use Rattle.std.specs.Prelude.{◌≡◌, ℕ, ◌<◌, Some, slice_get, min};
-ghost use Rattle.lwkt_run.specs.Keeping.{last_place};
+//! All that is kept of a run that is shown.
+ghost use Rattle.std.specs.Prelude.{◌≡◌, ℕ, ◌<◌, Some, slice_get};
+ghost use Rattle.lwkt_core.specs.Machine.{changed};
+ghost use Rattle.lwkt_run.specs.Keeping.{last_place, with_answer};
 
+use crate::keepers::Keeper;
 use crate::polled::PolledRef;
 use lwkt_base::memory::push;
 use lwkt_base::{Answer, OutOfMemory};
-use lwkt_verdict::{PollList, TurnRow};
+use lwkt_core::Event;
+use lwkt_events::EventList;
+use lwkt_verdict::{Poll, Turn};
 use std::alloc::Global;
 
 // As many threads as there can be, 16 of each of 8 processors.
 const THREAD_LIMIT: usize = 128;
 
-/// What is kept of a run beside its trace: the processor of each turn, the turns in order, and their polls.
+/// What is kept of a run: its trace, the processor of each turn, the turns in order, and their polls.
 #[derive(Drop)]
 pub struct Record {
+    /// The events of all turns, in order.
+    pub trace: EventList,
     /// The processor of each turn, in order, 0 to 7.
     pub order: Vec<u8>,
     /// The polls, in order, each with its answer if its thread was polled again.
-    pub polls: PollList,
+    pub polls: Vec<Poll>,
     /// The turns, in order: as many as `order` has.
-    pub turns: Vec<TurnRow>,
+    pub turns: Vec<Turn>,
     // Of each thread the place of its last poll, 16 threads for each processor.
     last: [Option<usize>; THREAD_LIMIT],
-    ghost places: { (slot : ℕ) → slot < 128 → slice_get last slot ≡ Some (last_place slot polls) },
+    ghost places: { (slot : ℕ) → slot < 128 → slice_get last slot ≡ Some (last_place slot polls.items) },
 }
 
-// The place of a poll behind so many others, as far as 32 bits go.
-fn place_behind(before: usize) -> u32
-    ensures { result ≡ min before 4294967295 }
+// The poll at a place, if there is one, gets this answer.
+fn answer_poll(polls: &mut Vec<Poll>, place: usize, told: &Answer)
+    ensures { polls.new.items ≡ changed (with_answer told.now) polls.old.items place }
 {
-    before.min(u32::MAX as usize) as u32
+    if place < polls.len() {
+        let poll = &mut polls[place];
+        poll.answer = Some(*told);
+    }
 }
 
 impl Record {
     ghost use Rattle.std.specs.Prelude.{IfSome, OnOk, option_map};
     ghost use Rattle.lwkt_verdict.specs.Threads.{slot_of};
-    ghost use Rattle.lwkt_run.specs.Keeping.{polled_of, none_kept, kept_as, polls_answered, polls_after, KeepsTurn};
+    ghost use Rattle.lwkt_run.specs.Keeping.{polled_of, none_told, polls_answered, polls_after};
+    ghost use Rattle.lwkt_run.specs.Running.{story_in_record};
 
     /// Nothing kept yet. Takes no memory.
     pub fn new(alloc: Global) -> Self
-        ensures { kept_as result.order.items result.turns.items result.polls ≡ none_kept }
+        ensures { story_in_record result ≡ none_told }
     {
         Record {
+            trace: EventList::new(alloc),
             order: Vec::new(alloc),
-            polls: PollList::new(alloc),
+            polls: Vec::new(alloc),
             turns: Vec::new(alloc),
             last: [None; THREAD_LIMIT],
         }
     }
 
     // The last poll of a thread, if it was polled before, gets its answer.
-    fn answer(&mut self, slot: usize, told: &Answer) -> Result<(), OutOfMemory>
+    fn answer(&mut self, slot: usize, told: &Answer)
         requires { slot < 128 }
-        ensures polls { OnOk result (self.new.polls ≡ polls_answered slot told.now self.old.polls) }
+        ensures polls { self.new.polls.items ≡ polls_answered slot told.now self.old.polls.items }
         ensures turns { self.new.turns ≡ self.old.turns }
         ensures order { self.new.order ≡ self.old.order }
+        ensures trace { self.new.trace ≡ self.old.trace }
     {
         if let Some(place) = self.last[slot] {
-            self.polls.set_answer(place, told)?;
+            answer_poll(&mut self.polls, place, told);
         }
-        Ok(())
     }
 
     // Keeps a poll, and the answer to what its thread asked before, if it was polled before.
     fn keep_poll(&mut self, polled: PolledRef<'_>) -> Result<(), OutOfMemory>
         requires { slot_of polled.thread < 128 }
-        ensures polls { OnOk result (self.new.polls ≡ polls_after (Some (polled_of polled.entry)) self.old.polls) }
+        ensures polls { OnOk result (self.new.polls.items ≡ polls_after (Some (polled_of polled.entry)) self.old.polls.items) }
         ensures turns { self.new.turns ≡ self.old.turns }
         ensures order { self.new.order ≡ self.old.order }
+        ensures trace { self.new.trace ≡ self.old.trace }
     {
         let PolledRef {
             thread,
@@ -76,34 +88,48 @@ impl Record {
         } = polled;
         let slot = 16 * usize::from(thread.cpu.0) + usize::from(thread.thread);
         let place = self.polls.len();
-        self.answer(slot, told)?;
-        self.polls.push(thread, asked)?;
+        self.answer(slot, told);
+        push(
+            &mut self.polls,
+            Poll {
+                answer: None,
+                ask: *asked,
+                thread,
+            },
+        )?;
         self.last[slot] = Some(place);
         Ok(())
     }
+}
 
-    /// Keeps a turn of a processor, 0 to 7, by which the trace grew by `events`, and, if it polled a thread, the poll. The answer
-    /// that the thread was given is put to its poll before.
-    ///
-    /// Where memory is refused, the turn may be kept in part, so nothing follows from the record any more.
-    pub fn keep(
+impl Keeper for Record {
+    ghost use Rattle.std.specs.Prelude.{Some};
+    ghost use Rattle.lwkt_run.specs.Running.{story_in_record};
+
+    ghost kept = { λ r. Some (story_in_record r) };
+
+    fn note(
         &mut self,
         cpu: u8,
-        events: u16,
+        part: &[Event],
         asks: Option<PolledRef<'_>>,
-    ) -> Result<(), OutOfMemory>
-        requires { IfSome asks (λ p. slot_of p.thread < 128) }
-        ensures { OnOk result (KeepsTurn cpu events (option_map polled_of asks.entry) (kept_as self.old.order.items self.old.turns.items self.old.polls) (kept_as self.new.order.items self.new.turns.items self.new.polls)) }
-    {
+    ) -> Result<(), OutOfMemory> {
         let before = self.polls.len();
         let poll = match asks {
             None => None,
             Some(polled) => {
                 self.keep_poll(polled)?;
-                Some(place_behind(before))
+                Some(before)
             }
         };
-        push(&mut self.turns, TurnRow::of(poll, events))?;
+        self.trace.append(part)?;
+        push(
+            &mut self.turns,
+            Turn {
+                poll,
+                events: part.len(),
+            },
+        )?;
         push(&mut self.order, cpu)
     }
 }

@@ -1,17 +1,39 @@
-//! The rounds of a run.
-ghost use Rattle.std.specs.Prelude.{◌≡◌, ◌<◌, ◌≤◌, ◌++◌, All, length, IfOk, IfSome, OnOk, OnErr, Err, option_map};
-ghost use Rattle.lwkt_cpu.specs.declared.answers.Turned.{Turned};
+//! The turns of a run: made one by one, kept by a keeper, and followed by a check, until it says no.
+ghost use Rattle.std.specs.Prelude.{◌≡◌, ◌↔◌, ◌<◌, ◌≤◌, IsTrue, All, length, IfOk, IfSome, option_map};
 ghost use Rattle.lwkt_verdict.specs.Threads.{slot_of};
+ghost use Rattle.lwkt_run.specs.Driving.{GoesOnBy, TurnDriven, RoundDriven, RoundsDriven, TurnsDriven, IsDriven, IsWithin, HasTurns, stand};
 ghost use Rattle.lwkt_run.specs.Keeping.{polled_of};
-ghost use Rattle.lwkt_run.specs.Running.{WasPolled, HasPolled, IsPolledAt, HasBeenAsked, MakesKeptTurn, kept_in_record, scene, says_over, both as both_so, RoundTold, HasMadeRounds, MakesTurns};
+ghost use Rattle.lwkt_run.specs.Running.{WasPolled, HasPolled, IsPolledAt, HasBeenAsked, says_over, both as both_so};
 
+use crate::keepers::Keeper;
 use crate::polled::PolledRef;
-use crate::records::Record;
 use lwkt_base::{CpuId, OutOfMemory, ThreadId};
 use lwkt_core::Event;
 use lwkt_cpu::Turned;
-use lwkt_events::EventList;
 use lwkt_machine::Machine;
+use lwkt_verdict::Follower;
+
+/// Which turns a run makes.
+#[derive(Clone, Copy)]
+pub enum Course<'a> {
+    /// So many rounds of one turn of each processor, by rising number, or fewer: up to the first in which each turn says that every thread
+    /// of its processor has ended.
+    Rounds(u32),
+    /// The turn of each processor that an order names, 0 to 7, one after another.
+    Along(&'a [u8]),
+}
+
+impl Course<'_> {
+    /// Whether rounds, if these are to be made, are some.
+    pub fn has_turns(self) -> bool
+        ensures { IsTrue result ↔ HasTurns self.entry }
+    {
+        match self {
+            Course::Rounds(limit) => limit > 0,
+            Course::Along(_) => true,
+        }
+    }
+}
 
 // What the last turn of a processor asked, which polled this thread.
 fn polled_at(machine: &Machine, cpu: usize, thread: usize) -> PolledRef<'_>
@@ -32,7 +54,7 @@ fn polled_at(machine: &Machine, cpu: usize, thread: usize) -> PolledRef<'_>
 }
 
 // What the last turn of a processor asked, which says this.
-pub(crate) fn asks_of(machine: &Machine, cpu: usize, turned: Turned) -> Option<PolledRef<'_>>
+fn asks_of(machine: &Machine, cpu: usize, turned: Turned) -> Option<PolledRef<'_>>
     requires processor { cpu < 8 }
     requires polled { HasPolled cpu machine.now turned }
     ensures asked { HasBeenAsked cpu machine.now turned (option_map polled_of result) }
@@ -45,98 +67,148 @@ pub(crate) fn asks_of(machine: &Machine, cpu: usize, turned: Turned) -> Option<P
 }
 
 // Whether a turn says that every thread has ended.
-pub(crate) fn is_over(turned: Turned) -> bool
+fn is_over(turned: Turned) -> bool
     ensures { result ≡ says_over turned }
 {
     matches!(turned, Turned::AllExited)
 }
 
 // Whether both are so.
-pub(crate) fn both(a: bool, b: bool) -> bool
+fn both(a: bool, b: bool) -> bool
     ensures { result ≡ both_so a b }
 {
     a && b
 }
 
-// Makes a turn of a processor, which is kept, and says whether all its threads have ended. The turn's events are told into the room,
-// in place of what that had, and go behind the trace.
-fn make_turn(
+// Whether a turn of a processor fits the turns before it; the check then goes on by it.
+fn fits(
+    follower: &mut Follower<'_>,
+    cpu: usize,
+    asks: Option<PolledRef<'_>>,
+    part: &[Event],
+) -> Result<bool, OutOfMemory>
+    requires processor { cpu < 8 }
+    ensures { IfOk result (λ yes. IsTrue yes → GoesOnBy cpu (option_map polled_of asks.entry) part.now follower.old follower.new) }
+{
+    match asks {
+        None => Ok(follower.rest(cpu, part)),
+        Some(polled) => follower.poll(cpu, polled.thread, polled.told, polled.asked, part),
+    }
+}
+
+// Makes a turn of a processor, which is kept, and says whether all its threads have ended; `None` where the check says that the turn
+// doesn't fit. The turn's events are told into the room, in place of what that had, and are counted if the turn fits.
+fn drive_turn<K: Keeper>(
     machine: &mut Machine,
     cpu: usize,
     room: &mut Vec<Event>,
-    trace: &mut EventList,
-    kept: &mut Record,
-) -> Result<bool, OutOfMemory>
+    follower: &mut Follower<'_>,
+    keeper: &mut K,
+    events: &mut usize,
+) -> Result<Option<bool>, OutOfMemory>
     requires there { cpu < length machine.old.cpus }
     requires few { length machine.old.cpus ≤ 8 }
-    ensures ok { IfOk result (λ over. (turned : Turned) × (MakesKeptTurn cpu turned (scene machine.old trace.old.items (kept_in_record kept.old)) (scene machine.new trace.new.items (kept_in_record kept.new)) × (over ≡ says_over turned))) }
+    ensures ok { IfOk result (λ told. TurnDriven cpu told (stand machine.old (K.kept keeper.old) events.old follower.old) (stand machine.new (K.kept keeper.new) events.new follower.new)) }
     ensures as_many { length machine.new.cpus ≡ length machine.old.cpus }
 {
     room.clear();
     let turned = machine.turn(cpu, room)?;
     let asks = asks_of(machine, cpu, turned);
-    let events = room.len() as u16;
-    trace.append(room.as_slice())?;
-    kept.keep(cpu as u8, events, asks)?;
-    Ok(is_over(turned))
+    let part = room.as_slice();
+    keeper.note(cpu as u8, part, asks)?;
+    if !fits(follower, cpu, asks, part)? {
+        return Ok(None);
+    }
+    *events = events.saturating_add(part.len());
+    Ok(Some(is_over(turned)))
 }
 
-// Makes a round, one turn of each processor, and says whether all said that their threads have ended.
-fn make_round(
+// Makes a round, one turn of each processor, and says whether all said that their threads have ended; `None` where the check says that a
+// turn doesn't fit, which is the last one then.
+fn drive_round<K: Keeper>(
     machine: &mut Machine,
     room: &mut Vec<Event>,
-    trace: &mut EventList,
-    kept: &mut Record,
-) -> Result<bool, OutOfMemory>
-    ensures ok { IfOk result (λ over. RoundTold (scene machine.old trace.old.items (kept_in_record kept.old)) (scene machine.new trace.new.items (kept_in_record kept.new)) over) }
+    follower: &mut Follower<'_>,
+    keeper: &mut K,
+    events: &mut usize,
+) -> Result<Option<bool>, OutOfMemory>
+    ensures ok { IfOk result (λ told. RoundDriven told (stand machine.old (K.kept keeper.old) events.old follower.old) (stand machine.new (K.kept keeper.new) events.new follower.new)) }
 {
     let mut over = true;
     for cpu in 0..machine.cpus() {
-        let ended = make_turn(machine, cpu, room, trace, kept)?;
-        over = both(over, ended);
+        match drive_turn(machine, cpu, room, follower, keeper, events)? {
+            None => return Ok(None),
+            Some(ended) => over = both(over, ended),
+        }
     }
-    Ok(over)
+    Ok(Some(over))
 }
 
-/// Makes the turn of each processor that an order names, one after another, and keeps each. A turn's events are told into the room, in
-/// place of what that had, and go behind the trace. That the processors are there is the caller's condition.
-///
-/// Refused if memory for a turn's events or for keeping it is. The turns before are made then, and nothing follows from what was kept.
-pub fn make_turns(
-    machine: &mut Machine,
-    order: &[u8],
-    room: &mut Vec<Event>,
-    trace: &mut EventList,
-    kept: &mut Record,
-) -> Result<(), OutOfMemory>
-    requires processors { All (λ x. x < length machine.old.cpus) order.now }
-    requires few { length machine.old.cpus ≤ 8 }
-    ensures ok { OnOk result (MakesTurns order.now (scene machine.old trace.old.items (kept_in_record kept.old)) (scene machine.new trace.new.items (kept_in_record kept.new))) }
-    ensures order { OnOk result (kept.new.order.items ≡ kept.old.order.items ++ order.now) }
-{
-    for at in 0..order.len() {
-        make_turn(machine, usize::from(order[at]), room, trace, kept)?;
-    }
-    Ok(())
-}
-
-/// Makes `limit` rounds of one turn for each processor, by rising number, or fewer: up to the first in which each turn says that
-/// every thread of its processor has ended. Keeps each turn, as `make_turns` does.
-///
-/// Refused as `make_turns` is.
-pub fn make_rounds(
+// Makes rounds, so many or up to the first in which each turn says that every thread of its processor has ended. Says whether the check
+// followed them; if it doesn't, the last turn is the first that it says no to.
+fn drive_rounds<K: Keeper>(
     machine: &mut Machine,
     limit: u32,
     room: &mut Vec<Event>,
-    trace: &mut EventList,
-    kept: &mut Record,
-) -> Result<(), OutOfMemory>
-    ensures ok { OnOk result (HasMadeRounds limit (scene machine.old trace.old.items (kept_in_record kept.old)) (scene machine.new trace.new.items (kept_in_record kept.new))) }
+    follower: &mut Follower<'_>,
+    keeper: &mut K,
+    events: &mut usize,
+) -> Result<bool, OutOfMemory>
+    ensures ok { IfOk result (λ fits. RoundsDriven limit fits (stand machine.old (K.kept keeper.old) events.old follower.old) (stand machine.new (K.kept keeper.new) events.new follower.new)) }
 {
     for _round in 0..limit {
-        if make_round(machine, room, trace, kept)? {
-            return Ok(());
+        match drive_round(machine, room, follower, keeper, events)? {
+            None => return Ok(false),
+            Some(true) => return Ok(true),
+            Some(false) => {}
         }
     }
-    Ok(())
+    Ok(true)
+}
+
+// Makes the turn of each processor that an order names, one after another. Says whether the check followed them; if it doesn't, the last
+// turn is the first that it says no to.
+fn drive_turns<K: Keeper>(
+    machine: &mut Machine,
+    order: &[u8],
+    room: &mut Vec<Event>,
+    follower: &mut Follower<'_>,
+    keeper: &mut K,
+    events: &mut usize,
+) -> Result<bool, OutOfMemory>
+    requires processors { All (λ x. x < length machine.old.cpus) order.now }
+    requires few { length machine.old.cpus ≤ 8 }
+    ensures ok { IfOk result (λ fits. TurnsDriven order.now fits (stand machine.old (K.kept keeper.old) events.old follower.old) (stand machine.new (K.kept keeper.new) events.new follower.new)) }
+{
+    for at in 0..order.len() {
+        let cpu = usize::from(order[at]);
+        match drive_turn(machine, cpu, room, follower, keeper, events)? {
+            None => return Ok(false),
+            Some(_) => {}
+        }
+    }
+    Ok(true)
+}
+
+/// Makes the turns of a course, each of which the keeper takes and the check follows. Says whether the check followed all; if it doesn't,
+/// the last turn is the first that it says no to, and the machine is left where it stands then. The events of the turns that fit are
+/// counted, as far as the number goes. A turn's events are told into the room, in place of what that had.
+///
+/// Refused with `Memory` if memory for a turn's events, for keeping it or for the check is. The turns before are made then.
+pub fn drive<K: Keeper>(
+    machine: &mut Machine,
+    course: Course<'_>,
+    room: &mut Vec<Event>,
+    follower: &mut Follower<'_>,
+    keeper: &mut K,
+    events: &mut usize,
+) -> Result<bool, OutOfMemory>
+    requires processors { IsWithin (length machine.old.cpus) course }
+    requires few { length machine.old.cpus ≤ 8 }
+    ensures ok { IfOk result (λ fits. IsDriven course.entry fits (stand machine.old (K.kept keeper.old) events.old follower.old) (stand machine.new (K.kept keeper.new) events.new follower.new)) }
+{
+    match course {
+        Course::Rounds(limit) => drive_rounds(machine, limit, room, follower, keeper, events),
+        Course::Along(order) => drive_turns(machine, order, room, follower, keeper, events),
+    }
 }

@@ -1,27 +1,21 @@
-ghost use Rattle.std.specs.Prelude.{◌≡◌, ◌⊎◌, ◌<◌, All, map, is_some, IfOk, IfErr, OnOk, Err, IsTrue, string_bytes};
+ghost use Rattle.std.specs.Prelude.{◌≡◌, ◌⊎◌, ◌↔◌, IfOk, IfErr, OnOk, Err, IsTrue, string_bytes};
 ghost use Rattle.std.specs.List.{list_all};
 ghost use Rattle.lwkt_base.specs.Threads.{has_ended};
-ghost use Rattle.lwkt_core.specs.Opening.{AreWithin, AllOpenLawfully};
-ghost use Rattle.lwkt_machine.specs.Opened.{AreFew};
-ghost use Rattle.lwkt_run.specs.Judging.{ids_of};
-ghost use Rattle.lwkt_run.specs.Running.{kept_in_record};
-ghost use Rattle.lwkt_run.specs.Values.{is_tally, AreValuesOf};
-ghost use Rattle.lwkt_run.specs.Run.{opening_of_script, RunsInRounds, RunsAlong, RunsAt, IsJudgedBy, MayClose, IsTurnsRun, IsOrderRun, ClosesAlong, DeclinesAlong, end_told, HasRun, DeclinesRun, Refuses, TellsRounds};
+ghost use Rattle.lwkt_run.specs.Driving.{IsCourseOf};
+ghost use Rattle.lwkt_run.specs.Courses.{ClosesBy, IsRunBy};
+ghost use Rattle.lwkt_run.specs.Run.{AreThere, MayClose, IsTurnsRun, IsOrderRun, ClosesAlong, DeclinesAlong, end_told, HasRun, DeclinesRun, Refuses, TellsRounds};
 
-use crate::endings::{Left, left_by};
-use crate::followed::close_turns;
-use crate::lines::token_lines;
+use crate::checked::{Checked, checked_run};
+use crate::endings::closing_of;
+use crate::keepers::NoKeeper;
 use crate::records::Record;
 use crate::reports::{Done, conclude, done_of};
-use crate::rounds::{make_rounds, make_turns};
-use crate::verdicts::verdict_of;
-use lwkt_base::{Fault, OutOfMemory};
-use lwkt_core::{Event, Final, State};
+use crate::rounds::Course;
+use lwkt_base::Fault;
 use lwkt_events::EventList;
-use lwkt_machine::Machine;
 use lwkt_report::{Closing, RunFault, Sink, Source, ThreadLine, Verdict, read_capped};
 use lwkt_script::{Script, read_script};
-use lwkt_verdict::{Pace, PollList, TurnRow, are_processors};
+use lwkt_verdict::{Pace, Poll, Turn, are_processors};
 use std::alloc::Global;
 
 /// How a run ended, by its report.
@@ -32,178 +26,58 @@ pub enum End {
     /// A thread hadn't ended when the last turn was made: the script's turns or the order were used up, or, on threads, the gate
     /// had said no, or no turn could change anything any more.
     TurnsOut,
-    /// The verdict is `Unlawful`: the trace was not lawful, or the turns were no run of the script; on threads, the written
-    /// sections were no chains.
+    /// The verdict is `Unlawful`: the check of the run said no, and the run was stopped there; on threads, the written sections were no
+    /// chains.
     Unlawful,
 }
 
-/// A run of a script, in rounds or along an order of its processors: all that was kept of the run, and what its report shows.
+/// A run of a script, in rounds or along an order of its processors: all that was kept of the run, and what its report shows. If the
+/// check said no, the last turn is the one that it said no to, or else it said no to the end.
 #[derive(Drop)]
 pub struct TurnsRun {
     /// The events of all turns in order, and after them those of the stop.
     pub trace: EventList,
     /// The polls of all turns, in order, each with its answer if its thread was polled again.
-    pub polls: PollList,
+    pub polls: Vec<Poll>,
     /// The turns in order.
-    pub turns: Vec<TurnRow>,
+    pub turns: Vec<Turn>,
     /// The processor of each turn, in order, 0 to 7.
     pub order: Vec<u8>,
     /// What the report shows; its verdict is that on this trace and these turns.
     pub closing: Closing,
 }
 
-// The report's contents: what a run left, with the verdict on its trace and its turns. The events are read into the room, in place of
-// what that had.
-fn closing_of(
-    alloc: Global,
-    script: &Script,
-    pace: Pace,
-    opening: State,
-    again: State,
-    left: Left,
-    trace: &EventList,
-    kept: &Record,
-    room: &mut Vec<Event>,
-) -> Result<Closing, OutOfMemory>
-    requires opening { opening ≡ opening_of_script script.now }
-    requires again { again ≡ opening_of_script script.now }
-    requires within { AreWithin script.now.cpus script.now.tokens script.now.messages }
-    requires lawful { AllOpenLawfully script.now.tokens }
-    requires values { AreValuesOf script.now.tokens left.last }
-    requires threads { map (λ line. line.id) left.threads.items ≡ ids_of script.now.cpus script.now.threads }
-    requires runs { RunsAt pace script.now kept.now.order.items left.threads.items (kept_in_record kept.now) trace.now.items left.last }
-    ensures kinds { IfOk result (λ closing. map (λ line. is_some line.tallies) closing.tokens.items ≡ map (λ spec. is_tally spec.law) script.now.tokens) }
-    ensures threads { IfOk result (λ closing. map (λ line. line.id) closing.threads.items ≡ ids_of script.now.cpus script.now.threads) }
-    ensures judged { IfOk result (λ closing. IsJudgedBy pace script.now closing kept.now.order.items trace.now.items kept.now.polls kept.now.turns.items) }
+// What the report of a run of a script along a course shows, of which nothing is kept.
+fn close_course(alloc: Global, script: &Script, course: Course<'_>) -> Result<Closing, Fault>
+    requires { IsCourseOf script.now course }
+    ensures closes { IfOk result (λ closing. ClosesBy course.entry script.now closing) }
+    ensures refused { IfErr result (λ fault. DeclinesRun script.now fault) }
 {
-    let Left { last, threads } = left;
-    let tokens = token_lines(alloc, script.tokens.as_slice(), &last)?;
-    let verdict = verdict_of(
-        opening,
-        again,
-        pace,
-        &kept.order,
-        script.threads.as_slice(),
-        &threads,
-        &last,
-        trace,
-        kept,
-        room,
-    )?;
-    let Final { messages, .. } = last;
-    Ok(Closing {
-        tokens,
-        messages,
-        threads,
+    let Checked { left, verdict, .. } = checked_run(alloc, script, course, NoKeeper)?;
+    Ok(closing_of(alloc, script, left, verdict)?)
+}
+
+// Runs a script along a course, and gives out all that was kept of the run.
+fn run_course(alloc: Global, script: &Script, course: Course<'_>) -> Result<TurnsRun, Fault>
+    requires { IsCourseOf script.now course }
+    ensures ok { IfOk result (λ run. IsRunBy course.entry script.now run) }
+    ensures refused { IfErr result (λ fault. DeclinesRun script.now fault) }
+{
+    let Checked {
+        left,
+        stops,
+        keeper,
         verdict,
-    })
-}
-
-// The opening state of a script.
-pub(crate) fn opened(alloc: Global, script: &Script) -> Result<State, Fault>
-    requires few { AreFew script.now.cpus script.now.threads }
-    ensures ok { IfOk result (λ state. state ≡ opening_of_script script.now) }
-    ensures within { OnOk result (AreWithin script.now.cpus script.now.tokens script.now.messages) }
-    ensures lawful { OnOk result (AllOpenLawfully script.now.tokens) }
-    ensures refused { IfErr result (λ fault. DeclinesRun script.now fault) }
-{
-    State::open(
-        alloc,
-        script.tokens.as_slice(),
-        script.messages.as_slice(),
-        usize::from(script.cpus),
-    )
-}
-
-// What a run of a script left: its trace, its turns, the machine's end, and the room that its turns were told into.
-#[derive(Drop)]
-struct Made {
-    trace: EventList,
-    kept: Record,
-    left: Left,
-    room: Vec<Event>,
-}
-
-// Makes the rounds of a script.
-fn run_of(alloc: Global, script: &Script) -> Result<Made, Fault>
-    ensures values { IfOk result (λ made. AreValuesOf script.now.tokens made.left.last) }
-    ensures runs { IfOk result (λ made. RunsInRounds script.now made.left.threads.items (kept_in_record made.kept) made.trace.items made.left.last) }
-    ensures threads { IfOk result (λ made. map (λ line. line.id) made.left.threads.items ≡ ids_of script.now.cpus script.now.threads) }
-    ensures few { OnOk result (AreFew script.now.cpus script.now.threads) }
-    ensures refused { IfErr result (λ fault. DeclinesRun script.now fault) }
-{
-    let mut machine = Machine::open(alloc, script)?;
-    let close_room = machine.room(alloc)?;
-    let mut room = Vec::new(alloc);
-    let mut trace = EventList::new(alloc);
-    let mut kept = Record::new(alloc);
-    make_rounds(&mut machine, script.turns, &mut room, &mut trace, &mut kept)?;
-    room.clear();
-    let left = left_by(alloc, script, machine, close_room, &mut room)?;
-    trace.append(room.as_slice())?;
-    Ok(Made {
-        trace,
-        kept,
-        left,
-        room,
-    })
-}
-
-// Makes the turns of a script that an order names, each of a processor that is there.
-fn run_along(alloc: Global, script: &Script, order: &[u8]) -> Result<Made, Fault>
-    requires processors { All (λ x. x < script.now.cpus) order.now }
-    ensures values { IfOk result (λ made. AreValuesOf script.now.tokens made.left.last) }
-    ensures order { IfOk result (λ made. made.kept.order.items ≡ order.now) }
-    ensures runs { IfOk result (λ made. RunsAlong script.now made.kept.order.items made.left.threads.items (kept_in_record made.kept) made.trace.items made.left.last) }
-    ensures threads { IfOk result (λ made. map (λ line. line.id) made.left.threads.items ≡ ids_of script.now.cpus script.now.threads) }
-    ensures few { OnOk result (AreFew script.now.cpus script.now.threads) }
-    ensures refused { IfErr result (λ fault. DeclinesRun script.now fault) }
-{
-    let mut machine = Machine::open(alloc, script)?;
-    let close_room = machine.room(alloc)?;
-    let mut room = Vec::new(alloc);
-    let mut trace = EventList::new(alloc);
-    let mut kept = Record::new(alloc);
-    make_turns(&mut machine, order, &mut room, &mut trace, &mut kept)?;
-    room.clear();
-    let left = left_by(alloc, script, machine, close_room, &mut room)?;
-    trace.append(room.as_slice())?;
-    Ok(Made {
-        trace,
-        kept,
-        left,
-        room,
-    })
-}
-
-// What was made of a script at a pace, with the verdict on it.
-fn judged_run(alloc: Global, pace: Pace, script: &Script, made: Made) -> Result<TurnsRun, Fault>
-    requires values { AreValuesOf script.now.tokens made.left.last }
-    requires threads { map (λ line. line.id) made.left.threads.items ≡ ids_of script.now.cpus script.now.threads }
-    requires runs { RunsAt pace script.now made.kept.order.items made.left.threads.items (kept_in_record made.kept) made.trace.items made.left.last }
-    requires few { AreFew script.now.cpus script.now.threads }
-    ensures order { IfOk result (λ run. run.order ≡ made.kept.order) }
-    ensures closes { IfOk result (λ run. MayClose pace script.now run.closing) }
-    ensures judged { IfOk result (λ run. IsJudgedBy pace script.now run.closing run.order.items run.trace.items run.polls run.turns.items) }
-    ensures refused { IfErr result (λ fault. DeclinesRun script.now fault) }
-{
-    let opening = opened(alloc, script)?;
-    let again = opened(alloc, script)?;
-    let Made {
-        trace,
-        kept,
-        left,
-        mut room,
-    } = made;
-    let closing = closing_of(
-        alloc, script, pace, opening, again, left, &trace, &kept, &mut room,
-    )?;
+    } = checked_run(alloc, script, course, Record::new(alloc))?;
     let Record {
+        mut trace,
         order,
         polls,
         turns,
         ..
-    } = kept;
+    } = keeper;
+    trace.append(stops.as_slice())?;
+    let closing = closing_of(alloc, script, left, verdict)?;
     Ok(TurnsRun {
         trace,
         polls,
@@ -213,19 +87,37 @@ fn judged_run(alloc: Global, pace: Pace, script: &Script, made: Made) -> Result<
     })
 }
 
-/// Runs a script in rounds, on one thread, and gives out all that was kept of the run.
+/// Runs a script in rounds, on one thread, and gives what its report shows. A check follows the run as it is made, and nothing is kept of
+/// it. If the check says no to a turn, that is the last one; a script whose `turns` are 0 has no run in rounds, and the check says no.
+///
+/// Refused with `Limits` or `LawBroken` for the script's opening, and with `Memory` if memory is refused.
+pub fn close_turns(alloc: Global, script: &Script) -> Result<Closing, Fault>
+    ensures closes { IfOk result (λ closing. MayClose (Pace.Rounds script.now.turns) script.now closing) }
+    ensures refused { IfErr result (λ fault. DeclinesRun script.now fault) }
+{
+    close_course(alloc, script, Course::Rounds(script.turns))
+}
+
+/// Runs a script in rounds, as `close_turns` does, and gives out all that was kept of the run.
 ///
 /// Refused with `Limits` or `LawBroken` for the script's opening, and with `Memory` if memory is refused.
 pub fn turns_run_of(alloc: Global, script: &Script) -> Result<TurnsRun, Fault>
     ensures ok { IfOk result (λ run. IsTurnsRun script.now run) }
     ensures refused { IfErr result (λ fault. DeclinesRun script.now fault) }
 {
-    let made = run_of(alloc, script)?;
-    judged_run(alloc, Pace::Rounds(script.turns), script, made)
+    run_course(alloc, script, Course::Rounds(script.turns))
+}
+
+// Whether an order names processors of a script alone.
+fn are_there(script: &Script, order: &[u8]) -> bool
+    ensures { IsTrue result ↔ AreThere script.now order.now }
+{
+    are_processors(usize::from(script.cpus), order)
 }
 
 /// Runs a script along an order of its processors, on one thread: each makes its turn when it is named, and after the last one they
-/// stop. Gives out all that was kept of the run. The number of rounds in the script doesn't count.
+/// stop. A check follows the run as it is made; if it says no to a turn, that is the last one. Gives out all that was kept of the run. The
+/// number of rounds in the script doesn't count.
 ///
 /// Refused with `NoPort` if the order names a processor that isn't there, with `Limits` or `LawBroken` for the script's opening, and
 /// with `Memory` if memory is refused.
@@ -233,22 +125,23 @@ pub fn order_run_of(alloc: Global, script: &Script, order: &[u8]) -> Result<Turn
     ensures ok { IfOk result (λ run. IsOrderRun script.now order.now run) }
     ensures refused { IfErr result (λ fault. DeclinesAlong script.now order.now fault) }
 {
-    if !are_processors(usize::from(script.cpus), order) {
+    if !are_there(script, order) {
         return Err(Fault::NoPort);
     }
-    let made = run_along(alloc, script, order)?;
-    judged_run(alloc, Pace::Named, script, made)
+    run_course(alloc, script, Course::Along(order))
 }
 
-/// Runs a script along an order, as `order_run_of` does, and gives what its report shows.
+/// Runs a script along an order, as `order_run_of` does, and gives what its report shows. Nothing is kept of the run.
 ///
 /// Refused as `order_run_of` is.
 pub fn close_along(alloc: Global, script: &Script, order: &[u8]) -> Result<Closing, Fault>
     ensures closes { IfOk result (λ closing. ClosesAlong script.now order.now closing) }
     ensures refused { IfErr result (λ fault. DeclinesAlong script.now order.now fault) }
 {
-    let TurnsRun { closing, .. } = order_run_of(alloc, script, order)?;
-    Ok(closing)
+    if !are_there(script, order) {
+        return Err(Fault::NoPort);
+    }
+    close_course(alloc, script, Course::Along(order))
 }
 
 /// How a run ended, by the contents of its report: `Unlawful` by its verdict, else by whether every thread had ended.

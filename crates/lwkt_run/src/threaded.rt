@@ -4,19 +4,18 @@ ghost use Rattle.lwkt_core.specs.Opening.{AreWithin, AllOpenLawfully};
 ghost use Rattle.lwkt_run.specs.Judging.{ids_of};
 ghost use Rattle.lwkt_run.specs.Values.{AreValuesOf};
 ghost use Rattle.lwkt_run.specs.Run.{DeclinesRun, Refuses};
-ghost use Rattle.lwkt_run.specs.Threaded.{TellARun, ShowsLeft, MayCloseOnThreads, IsThreadRecord, HasThreadedRun, TellsOnThreads, lets_all};
+ghost use Rattle.lwkt_run.specs.Threaded.{TellARun, MayCloseOnThreads, IsThreadRecord, HasThreadedRun, TellsOnThreads, lets_all};
 
-use crate::endings::{Left, left_by};
+use crate::endings::{Left, closing_of, left_by};
 use crate::givers::givers_of;
-use crate::lines::token_lines;
 use crate::reports::{Done, conclude, done_of};
 use crate::runs::End;
 use crate::tellings::{judged, judged_told, sections_in_order};
 use lwkt_base::{CpuId, Fault, OutOfMemory, Section};
-use lwkt_core::{Event, Final};
+use lwkt_core::Event;
 use lwkt_events::EventList;
 use lwkt_machine::Machine;
-use lwkt_report::{Closing, RunFault, Sink, Source, Verdict, read_capped};
+use lwkt_report::{Closing, RunFault, Sink, Source, read_capped};
 use lwkt_script::{Script, read_script};
 use lwkt_threads::{Gate, Limits, OpenGate, Outcome, drive_machine};
 use std::alloc::Global;
@@ -69,27 +68,6 @@ fn told_of<R: Threads + Sync, G: Gate + Sync>(
         left,
         traces,
         stops,
-    })
-}
-
-// What a report shows of what a run left, with this verdict.
-fn closing_of(
-    alloc: Global,
-    script: &Script,
-    left: Left,
-    verdict: Verdict,
-) -> Result<Closing, OutOfMemory>
-    requires { AreValuesOf script.now.tokens left.last }
-    ensures { IfOk result (λ closing. ShowsLeft script.now.tokens left.threads.items left.last verdict closing) }
-{
-    let Left { last, threads } = left;
-    let tokens = token_lines(alloc, script.tokens.as_slice(), &last)?;
-    let Final { messages, .. } = last;
-    Ok(Closing {
-        tokens,
-        messages,
-        threads,
-        verdict,
     })
 }
 

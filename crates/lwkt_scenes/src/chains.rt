@@ -68,7 +68,7 @@ impl Chains {
         let mut from = 0usize;
         for (number, turn) in run.turns.iter().enumerate() {
             self.follow_turn(&scene_of(run, number, turn, from));
-            from = from.saturating_add(usize::from(turn.events()));
+            from = from.saturating_add(turn.events);
         }
         self.follow(part_of(run.trace, from, run.trace.len()), None);
     }

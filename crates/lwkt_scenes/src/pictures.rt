@@ -188,7 +188,7 @@ fn note_turns(
             play_turn(alloc, sketch, replay, &scene)?;
         }
         note_events(sketch, replay, &scene)?;
-        from = from.saturating_add(usize::from(turn.events()));
+        from = from.saturating_add(turn.events);
     }
     sketch.finish()
 }

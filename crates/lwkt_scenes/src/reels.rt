@@ -2,7 +2,7 @@ use crate::scenes::round_length;
 use lwkt_core::Event;
 use lwkt_report::Closing;
 use lwkt_script::Script;
-use lwkt_verdict::{PollList, TurnRow};
+use lwkt_verdict::{Poll, Turn};
 
 /// A run of a script, in rounds or along an order of its processors: what was kept of it, and what its report shows.
 #[derive(Clone, Copy)]
@@ -12,9 +12,9 @@ pub struct Reel<'a> {
     /// The events of all turns in order, and after them those of the stop.
     pub trace: &'a [Event],
     /// The polls of all turns, in order.
-    pub polls: &'a PollList,
+    pub polls: &'a [Poll],
     /// The turns in order.
-    pub turns: &'a [TurnRow],
+    pub turns: &'a [Turn],
     /// Of a run along an order the processor of each turn, 0 to 7; of a run in rounds nothing.
     pub order: Option<&'a [u8]>,
     /// What the report shows.

@@ -6,7 +6,7 @@ ghost use Rattle.lwkt_scenes.specs.Lines.{round_length, round_of, processor_of_t
 use crate::reels::Reel;
 use lwkt_core::Event;
 use lwkt_verdict::turns::poll_of;
-use lwkt_verdict::{Poll, TurnRow};
+use lwkt_verdict::{Poll, Turn};
 
 /// One turn of a run: its number, its processor, what it asked, and its events.
 #[derive(Clone, Copy)]
@@ -69,7 +69,7 @@ fn processor_of_turn(run: &Reel, number: usize) -> u8
 }
 
 /// The turn of a number, whose events begin at a place of the trace.
-pub(crate) fn scene_of<'a>(run: &Reel<'a>, number: usize, turn: &TurnRow, from: usize) -> Scene<'a>
+pub(crate) fn scene_of<'a>(run: &Reel<'a>, number: usize, turn: &Turn, from: usize) -> Scene<'a>
     ensures number { result.number ≡ number }
     ensures round { result.round ≡ round_of (option_copied run.now.order) run.now.script.now.cpus number }
     ensures cpu { result.cpu ≡ processor_of_turn (option_copied run.now.order) run.now.script.now.cpus number }
@@ -80,6 +80,6 @@ pub(crate) fn scene_of<'a>(run: &Reel<'a>, number: usize, turn: &TurnRow, from: 
         round: round_of(run, number),
         cpu: processor_of_turn(run, number),
         poll: poll_of(run.polls, turn),
-        part: part_of(run.trace, from, usize::from(turn.events())),
+        part: part_of(run.trace, from, turn.events),
     }
 }

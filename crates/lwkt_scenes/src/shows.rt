@@ -91,7 +91,7 @@ fn show_turns(
     for (number, turn) in run.turns.iter().enumerate() {
         let scene = scene_of(run, number, turn, from);
         show_one(alloc, out, replay, &scene, is_shown(chosen, number));
-        from = from.saturating_add(usize::from(turn.events()));
+        from = from.saturating_add(turn.events);
     }
     from
 }

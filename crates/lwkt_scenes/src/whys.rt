@@ -14,7 +14,7 @@ fn pass_all(alloc: Global, run: &Reel, replay: &mut Replay) {
     for (number, turn) in run.turns.iter().enumerate() {
         let scene = scene_of(run, number, turn, from);
         pass_turn(alloc, replay, &scene);
-        from = from.saturating_add(usize::from(turn.events()));
+        from = from.saturating_add(turn.events);
     }
 }
 

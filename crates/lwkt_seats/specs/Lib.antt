@@ -14,3 +14,4 @@ pub mod Closes
 pub mod Closings
 pub mod Openings
 pub mod Handles
+pub mod Words

@@ -1,7 +1,5 @@
-//! A bank of tokens for C, with a seat for each of the caller's threads; include/lwkt.h declares the calls. A bank's *desk* has a
-//! *place* for each seat, where it rests between calls: a call takes the seat out and puts it back, so a second call on it at the
-//! same time finds the place empty, and says so. A close takes all seats out, and marks their places as closed for good; all that
-//! it needs was made at the opening, so that it can't fail for memory.
+//! Tokens for C: the steps on a token's word, and a bank of tokens with a seat for each of the caller's threads; include/lwkt.h declares the
+//! calls. Two calls on one seat at the same time find that out, and the second is refused. A close can't fail for memory.
 #![tactic(auto)]
 
 mod answers;
@@ -26,6 +24,7 @@ mod references;
 mod resumes;
 mod spots;
 mod tokens;
+mod word_calls;
 
 pub use close_calls::lwkt_bank_close;
 pub use closings::LwktClosing;
@@ -40,3 +39,7 @@ pub use openings::lwkt_bank_open;
 pub use record_calls::{lwkt_read_record, lwkt_write_record};
 pub use references::LwktReference;
 pub use tokens::LwktToken;
+pub use word_calls::{
+    lwkt_word_again, lwkt_word_give_clean, lwkt_word_give_one, lwkt_word_give_written,
+    lwkt_word_mark, lwkt_word_share, lwkt_word_take,
+};

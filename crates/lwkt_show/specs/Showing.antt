@@ -22,7 +22,7 @@ chosen_by options = record { counted = options.counted; first = options.first; l
 -- the lines of a run in rounds, or along an order: of each turn that the options choose its line, one behind another, then some words,
 -- and then the run's report
 abbrev pub ShowsLines : Options → Option (List ℕ) → Script → TurnsRun → List ℕ → Type 0
-ShowsLines options order script run text = AreLinesOf (chosen_by options) order script.cpus run.polls run.turns.items run.closing text
+ShowsLines options order script run text = AreLinesOf (chosen_by options) order script.cpus run.polls.items run.turns.items run.closing text
 
 -- what is said of a text that shows what was kept: it has the lines of the chosen turns, and ends with the report; a trace is the text of
 -- the script's opening, of all events and of what the report closes with; of the other views nothing is said

@@ -13,7 +13,7 @@ use Rattle.lwkt_core.specs.declared.events.Event.{Event}
 use Rattle.lwkt_table.specs.declared.seats.SeatKind.{SeatKind}
 use Rattle.lwkt_events.specs.ShortEvents.{KeptTrace}
 use Rattle.lwkt_core.specs.Events.{cpu_of}
-use Rattle.lwkt_ask.specs.Telling.{TellsMail}
+use Rattle.lwkt_cpu.specs.Telling.{TellsMail}
 use Rattle.lwkt_bank.specs.Seats.{BankId}
 use Rattle.lwkt_hold.specs.Runs.{Ran}
 use Rattle.lwkt_msg.specs.Desks.{Shelf, desk_cpu}

@@ -2,11 +2,10 @@
 use Rattle.std.proofs.Common.{◌≡◌, ℕ, ◌+◌, ◌≤◌, List, [], ◌++◌, length, map, Option, Result, Ok, Err, refl, sym, ap, ap₂, ◌∙◌, subst, arith, append_assoc}
 use Rattle.std.specs.Prelude.{codes}
 use Rattle.std.proofs.lemmas.List.{length-append}
-use Rattle.serde_json.specs.Data.{object, no_members, member}
+use Rattle.serde_json.specs.Data.{Data, object, no_members, member}
 use Rattle.lwkt_base.specs.declared.openings.MsgSpec.{MsgSpec}
 use Rattle.lwkt_base.specs.declared.openings.TokSpec.{TokSpec}
 use Rattle.lwkt_core.specs.declared.events.Event.{Event}
-use Rattle.lwkt_report.specs.declared.closings.Closing as report
 use Rattle.lwkt_script.specs.declared.scripts.Script.{Script}
 use Rattle.lwkt_script.specs.Field.{number_in}
 use Rattle.lwkt_script.specs.Outcome.{◌>>=◌, part, each}
@@ -14,14 +13,14 @@ use Rattle.lwkt_trace.specs.Format.{event, message_behind, closing, trace, trace
 use Rattle.lwkt_trace.specs.Guard.{guarded}
 use Rattle.lwkt_trace.specs.Printed.{HasWords, ItemsHaveWords}
 use Rattle.lwkt_trace.specs.Readback.{number_data, items_as, events_data, messages_data, told_alone, AreTellable}
-use Rattle.lwkt_trace.specs.Recognised.{AreWritten, with_events, Frames}
-use Rattle.lwkt_trace.specs.Values.{token_data, closing_data, trace_data}
-use Rattle.lwkt_trace.specs.Written.{member_name, parted, line_at, event_text, cpus_text, tokens_text, messages_text, events_text, closing_text, trace_text, front_text, back_text}
+use Rattle.lwkt_trace.specs.Recognised.{AreWritten, IsBack, with_events, Frames}
+use Rattle.lwkt_trace.specs.Values.{token_data, last_data}
+use Rattle.lwkt_trace.specs.Written.{front_text}
 use Rattle.lwkt_trace.specs.declared.traces.Closing.{Closing}
 use Rattle.lwkt_trace.specs.declared.traces.Told.{Told}
 use Rattle.lwkt_trace.specs.declared.traces.Trace.{Trace}
 use Rattle.lwkt_trace.proofs.EventLists.{lists_read_back}
-use Rattle.lwkt_trace.proofs.WrittenTexts.{value_read}
+use Rattle.lwkt_trace.proofs.WrittenTexts.{data_with, framed, framed_read}
 
 -- ---- the value of a trace, with events put in
 
@@ -54,33 +53,24 @@ put_events (Ok cpus) b f l told = put_tokens cpus b (f cpus) l told
 put_events (Err place) b f l told = refl
 
 -- the parts of the value of a trace
-abbrev of_parts : Script → report.Closing → Result (List Told) ℕ → Result Trace ℕ
-of_parts script c events =
-    assembled (part 3 (number_in (codes "cpus") 1 8 (object (member (codes "cpus") (number_data script.cpus) no_members)))) (each guarded [] (items_as token_data script.tokens)) (λ cpus. each (message_behind cpus) [] (messages_data script.messages)) events (closing (closing_data c))
+abbrev of_parts : Script → Data → Result (List Told) ℕ → Result Trace ℕ
+of_parts script last events =
+    assembled (part 3 (number_in (codes "cpus") 1 8 (object (member (codes "cpus") (number_data script.cpus) no_members)))) (each guarded [] (items_as token_data script.tokens)) (λ cpus. each (message_behind cpus) [] (messages_data script.messages)) events (closing last)
 
-value_parts : (script : Script) (events : List Event) (c : report.Closing) → trace (trace_data script events c) ≡ of_parts script c (each event [] (events_data events))
+value_parts : (script : Script) (events : List Event) (last : Data) → trace (data_with script events last) ≡ of_parts script last (each event [] (events_data events))
 unfolding trace
-value_parts script events c = refl
+value_parts script events last = refl
 
 -- a value without events is a trace: with events it is this trace with these events
-value_with : (script : Script) (events : List Event) (c : report.Closing) (t : Trace) → AreTellable events → length events ≤ 50000000 → trace (trace_data script [] c) ≡ Ok t
-    → trace (trace_data script events c) ≡ Ok (with_events t (map told_alone events))
-value_with script events c t are few is =
+value_with : (script : Script) (events : List Event) (last : Data) (t : Trace) → AreTellable events → length events ≤ 50000000 → trace (data_with script [] last) ≡ Ok t
+    → trace (data_with script events last) ≡ Ok (with_events t (map told_alone events))
+value_with script events last t are few is =
     let told : List Told = map told_alone events in
-    value_parts script events c ∙ ap (of_parts script c) (lists_read_back events are few)
-    ∙ put_events (part 3 (number_in (codes "cpus") 1 8 (object (member (codes "cpus") (number_data script.cpus) no_members)))) (each guarded [] (items_as token_data script.tokens)) (λ cpus. each (message_behind cpus) [] (messages_data script.messages)) (closing (closing_data c)) told
-    ∙ ap (put_in told) (sym (value_parts script [] c) ∙ is)
+    value_parts script events last ∙ ap (of_parts script last) (lists_read_back events are few)
+    ∙ put_events (part 3 (number_in (codes "cpus") 1 8 (object (member (codes "cpus") (number_data script.cpus) no_members)))) (each guarded [] (items_as token_data script.tokens)) (λ cpus. each (message_behind cpus) [] (messages_data script.messages)) (closing last) told
+    ∙ ap (put_in told) (sym (value_parts script [] last) ∙ is)
 
 -- ---- the text of a trace, in three parts
-
-grouped : (a n b p e c z : List ℕ) → ((a ++ (((n ++ b) ++ p) ++ e)) ++ c) ++ z ≡ ((a ++ n) ++ b) ++ (p ++ ((e ++ c) ++ z))
-grouped a n b p e c z = simp append_assoc
-
-whole_text : (script : Script) (events : List Event) (c : report.Closing)
-    → trace_text script events c ≡ front_text script.cpus script.tokens script.messages ++ (parted line_at event_text 0 events ++ back_text c)
-unfolding trace_text front_text back_text events_text
-whole_text script events c =
-    grouped (codes "{" ++ cpus_text script.cpus ++ tokens_text script.tokens ++ messages_text script.messages) (member_name (codes "events")) (codes "[") (parted line_at event_text 0 events) (codes "],\n") (closing_text c) (codes "}\n")
 
 -- a script with this opening
 abbrev script_of : Trace → Script
@@ -94,14 +84,15 @@ shorter a b c most h =
     let one = length-append a (b ++ c) in let two = length-append b c in let three = length-append a c in omega (arith, h, one, two, three)
 
 -- what is written round events frames them
-pub framed : (front back : List ℕ) (t : Trace) (c : report.Closing) → trace_of (front ++ back) ≡ Ok t → front ≡ front_text t.cpus t.tokens t.messages → back ≡ back_text c
-    → HasWords (number_data t.cpus) → ItemsHaveWords (items_as token_data t.tokens) → ItemsHaveWords (messages_data t.messages) → HasWords (closing_data c) → Frames front back t
-framed front back t c is front_is back_is cpus tokens messages last = λ text events are few short.
+pub frames : (front back : List ℕ) (t : Trace) → trace_of (front ++ back) ≡ Ok t → front ≡ front_text t.cpus t.tokens t.messages → IsBack back
+    → HasWords (number_data t.cpus) → ItemsHaveWords (items_as token_data t.tokens) → ItemsHaveWords (messages_data t.messages) → Frames front back t
+frames front back t is front_is behind cpus tokens messages = λ text events are few short.
     let script : Script = script_of t in
+    let last = behind.last in
     let one : HasWords (number_data 1) = omega arith in
-    let bare : front ++ back ≡ trace_text script [] c = ap₂ (λ (l m : List ℕ). l ++ m) front_is back_is ∙ sym (whole_text script [] c) in
-    let whole : front ++ (text ++ back) ≡ trace_text script events c = parts_equal front text back _ _ _ front_is are.text_is back_is ∙ sym (whole_text script events c) in
-    let bare_short : length (trace_text script [] c) ≤ 268435456 = subst (λ (l : List ℕ). length l ≤ 268435456) bare (shorter front text back 268435456 short) in
-    let whole_short : length (trace_text script events c) ≤ 268435456 = subst (λ (l : List ℕ). length l ≤ 268435456) whole short in
-    let bare_read : trace (trace_data script [] c) ≡ Ok t = sym (value_read script [] c (cpus, (tt, (last, (messages, (tokens, (one, tt)))))) bare_short) ∙ ap trace_of (sym bare) ∙ is in
-    ap trace_of whole ∙ value_read script events c (cpus, (are.words, (last, (messages, (tokens, (one, tt)))))) whole_short ∙ value_with script events c t are.tellable few bare_read
+    let bare : front ++ back ≡ framed script [] last = ap₂ (λ (l m : List ℕ). l ++ m) front_is behind.text_is in
+    let whole : front ++ (text ++ back) ≡ framed script events last = parts_equal front text back _ _ _ front_is are.text_is behind.text_is in
+    let bare_short : length (framed script [] last) ≤ 268435456 = subst (λ (l : List ℕ). length l ≤ 268435456) bare (shorter front text back 268435456 short) in
+    let whole_short : length (framed script events last) ≤ 268435456 = subst (λ (l : List ℕ). length l ≤ 268435456) whole short in
+    let bare_read : trace (data_with script [] (last_data last)) ≡ Ok t = sym (framed_read script [] last (cpus, (tt, (behind.words, (messages, (tokens, (one, tt)))))) bare_short) ∙ ap trace_of (sym bare) ∙ is in
+    ap trace_of whole ∙ framed_read script events last (cpus, (are.words, (behind.words, (messages, (tokens, (one, tt)))))) whole_short ∙ value_with script events (last_data last) t are.tellable few bare_read

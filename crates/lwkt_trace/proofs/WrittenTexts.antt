@@ -1,11 +1,11 @@
 -- The text of a trace is a text of its value, and is read as the trace.
-use Rattle.std.proofs.Common.{◌≡◌, ℕ, ◌<◌, ◌≤◌, ◌^◌, List, [], ◌++◌, length, Bool, true, false, Some, decimal, IsAscii, refl, sym, ap, ◌∙◌, subst, arith, append_assoc}
+use Rattle.std.proofs.Common.{◌≡◌, ℕ, ◌<◌, ◌≤◌, ◌^◌, List, [], ◌++◌, length, Bool, true, false, Option, Some, None, decimal, IsAscii, refl, sym, ap, ◌∙◌, subst, arith, append_assoc}
 use Rattle.std.specs.Prelude.{codes, if◌then◌else◌}
 use Rattle.std.specs.List.{list_any}
 use Rattle.std.proofs.lemmas.Fmt.{decimal_digit}
 use Rattle.std.proofs.lemmas.Str.{IsUtf8-from_ascii, IsAscii-append}
 use Rattle.json.specs.Lex.{lex}
-use Rattle.serde_json.specs.Data.{Data, array, object, Members, no_members, put}
+use Rattle.serde_json.specs.Data.{Data, array, object, Members, no_members, member, put}
 use Rattle.serde_json.specs.Read.{read}
 use Rattle.lwkt_base.specs.declared.owners.MsgEnd.{MsgEnd}
 use Rattle.lwkt_core.specs.declared.events.Event.{Event}
@@ -13,12 +13,12 @@ use Rattle.lwkt_report.specs.declared.closings.Closing as report
 use Rattle.lwkt_report.specs.declared.closings.TokenLine.{TokenLine}
 use Rattle.lwkt_script.specs.declared.scripts.Script.{Script}
 use Rattle.lwkt_trace.specs.Format.{trace, trace_of}
-use Rattle.lwkt_trace.specs.Written.{member_name, parted, comma_at, line_at, row_text, generation_text, tally_text, last_record_text, has_record, token_text, message_text, event_text, end_text, listed_text, cpus_text, tokens_text, messages_text, events_text, rows_text, generations_text, all_tallies_text, ends_text, closing_text, trace_text}
-use Rattle.lwkt_trace.specs.Readback.{items_as, event_data, end_data, ends_data, message_data}
-use Rattle.lwkt_trace.specs.Values.{token_data, row_data, generation_data, tally_data, record_data, closing_data, trace_data}
+use Rattle.lwkt_trace.specs.Written.{member_name, parted, comma_at, line_at, row_text, generation_text, tally_text, last_record_text, has_record, token_text, message_text, event_text, end_text, listed_text, cpus_text, tokens_text, messages_text, events_text, rows_text, generations_text, all_tallies_text, ends_text, closing_text, trace_text, front_text, back_text}
+use Rattle.lwkt_trace.specs.Readback.{number_data, items_as, event_data, events_data, end_data, ends_data, message_data, messages_data}
+use Rattle.lwkt_trace.specs.Values.{token_data, row_data, generation_data, tally_data, record_data, closing_data, last_data, trace_data}
 use Rattle.lwkt_trace.specs.Printed.{HasWords, ItemsHaveWords, TextIsOfValue, WrittenIsReadBack}
 use Rattle.lwkt_trace.proofs.ClosingValues.{closing_by}
-use Rattle.lwkt_trace.proofs.JsonTexts.{deeper, plain_from, ascii_from, Tells, number_tells, comma_is, line_is, array_tells, MembersTell, no_more_members, member_first, member_more, object_tells, comma_breaks, line_breaks, parts_tell}
+use Rattle.lwkt_trace.proofs.JsonTexts.{deeper, plain_from, ascii_from, Tells, number_tells, null_tells, comma_is, line_is, array_tells, MembersTell, no_more_members, member_first, member_more, object_tells, comma_breaks, line_breaks, parts_tell}
 use Rattle.lwkt_trace.proofs.Lexemes.{text_is}
 use Rattle.lwkt_trace.proofs.PartTexts.{numbers_tell, token_tells, message_tells, end_tells, event_tells, tallies_tell, last_blob_tells}
 use Rattle.lwkt_trace.proofs.TraceTexts.{text_read}
@@ -104,26 +104,45 @@ closing_tells c words =
     let recorded : Bool = list_any has_record c.tokens.items in
     subst (λ (t : List ℕ). Tells t (closing_data c) 4) (sym (closing_grouped recorded c.tokens.items c.messages.items)) (closing_tells_by recorded c.tokens.items c.messages.items words)
 
+-- the closing values as they are written, or null
+abbrev pub last_inside : Option report.Closing → List ℕ
+last_inside None = codes "null"
+last_inside (Some c) = closing_inside (list_any has_record c.tokens.items) c.tokens.items c.messages.items
+
+last_tells : (last : Option report.Closing) → HasWords (last_data last) → Tells (last_inside last) (last_data last) 4
+last_tells None words = null_tells 4
+last_tells (Some c) words = closing_tells c words
+
 -- ---- the whole trace
 
-abbrev trace_members : Script → List Event → report.Closing → List ℕ
-trace_members script events c =
+-- the value of a trace, with that of its closing values
+abbrev pub data_with : Script → List Event → Data → Data
+data_with script events last =
+    object (member (codes "cpus") (number_data script.cpus) (
+    member (codes "events") (array (events_data events)) (
+    member (codes "last") last (
+    member (codes "messages") (array (messages_data script.messages)) (
+    member (codes "tokens") (array (items_as token_data script.tokens)) (
+    member (codes "version") (number_data 1) no_members))))))
+
+abbrev trace_members : Script → List Event → List ℕ → List ℕ
+trace_members script events last =
     member_name (codes "version") ++ (decimal 1 ++ (codes "," ++ (
     member_name (codes "cpus") ++ (decimal script.cpus ++ (codes ",\n" ++ (
     member_name (codes "tokens") ++ (listed line_at token_text script.tokens ++ (codes ",\n" ++ (
     member_name (codes "messages") ++ (listed line_at message_text script.messages ++ (codes ",\n" ++ (
     member_name (codes "events") ++ (listed line_at event_text events ++ (codes ",\n" ++ (
-    member_name (codes "last") ++ (closing_inside (list_any has_record c.tokens.items) c.tokens.items c.messages.items ++ codes "}"))))))))))))))))
+    member_name (codes "last") ++ (last ++ codes "}"))))))))))))))))
 
-trace_tells : (script : Script) (events : List Event) (c : report.Closing) → HasWords (trace_data script events c) → Tells (codes "{" ++ trace_members script events c) (trace_data script events c) 5
-trace_tells script events c words =
+trace_tells : (script : Script) (events : List Event) (text : List ℕ) (last : Data) → Tells text last 4 → HasWords (data_with script events last) → Tells (codes "{" ++ trace_members script events text) (data_with script events last) 5
+trace_tells script events text last tells words =
     let four : 3 ≤ 4 = omega arith in
     let one : 1 < 2 ^ 64 = omega arith in
     let event_list = deeper 4 four (array_tells 2 (parts_tell line_at line_breaks event_text event_data 2 event_tells events words.1.0)) in
     let message_list = deeper 4 four (array_tells 2 (parts_tell line_at line_breaks message_text message_data 2 message_tells script.messages words.1.1.1.0)) in
     let token_list = deeper 4 four (array_tells 2 (parts_tell line_at line_breaks token_text token_data 2 token_tells script.tokens words.1.1.1.1.0)) in
-    let last = member_more (codes "last") (plain_from (codes "last") refl) (closing_tells c words.1.1.0) (no_more_members true 4) (codes ",\n") line_is in
-    let event_member = member_more (codes "events") (plain_from (codes "events") refl) event_list last (codes ",\n") line_is in
+    let last_member = member_more (codes "last") (plain_from (codes "last") refl) tells (no_more_members true 4) (codes ",\n") line_is in
+    let event_member = member_more (codes "events") (plain_from (codes "events") refl) event_list last_member (codes ",\n") line_is in
     let message_member = member_more (codes "messages") (plain_from (codes "messages") refl) message_list event_member (codes ",\n") line_is in
     let token_member = member_more (codes "tokens") (plain_from (codes "tokens") refl) token_list message_member (codes ",\n") line_is in
     let cpus = member_more (codes "cpus") (plain_from (codes "cpus") refl) (number_tells script.cpus 4 words.0) token_member (codes ",") comma_is in
@@ -132,10 +151,23 @@ trace_tells script events c words =
 one_digit : decimal 1 ≡ codes "1"
 one_digit = decimal_digit 1 (omega arith)
 
--- the text as it is written: a line feed stands behind the object
-trace_grouped : (script : Script) (events : List Event) (c : report.Closing) → trace_text script events c ≡ (codes "{" ++ trace_members script events c) ++ codes "\n"
-unfolding trace_text cpus_text tokens_text messages_text events_text closing_text
-trace_grouped script events c = simp (one_digit, append_assoc)
+-- the text of a trace in three parts
+abbrev pub framed : Script → List Event → Option report.Closing → List ℕ
+framed script events last = front_text script.cpus script.tokens script.messages ++ (parted line_at event_text 0 events ++ back_text last)
+
+-- as it is written: a line feed stands behind the object
+framed_grouped : (script : Script) (events : List Event) (last : Option report.Closing) → framed script events last ≡ (codes "{" ++ trace_members script events (last_inside last)) ++ codes "\n"
+unfolding front_text back_text cpus_text tokens_text messages_text closing_text
+framed_grouped script events None = simp (one_digit, append_assoc)
+framed_grouped script events (Some c) = simp (one_digit, append_assoc)
+
+grouped : (a n b p e c z : List ℕ) → ((a ++ (((n ++ b) ++ p) ++ e)) ++ c) ++ z ≡ ((a ++ n) ++ b) ++ (p ++ ((e ++ c) ++ z))
+grouped a n b p e c z = simp append_assoc
+
+whole_text : (script : Script) (events : List Event) (c : report.Closing) → trace_text script events c ≡ framed script events (Some c)
+unfolding trace_text front_text back_text events_text
+whole_text script events c =
+    grouped (codes "{" ++ cpus_text script.cpus ++ tokens_text script.tokens ++ messages_text script.messages) (member_name (codes "events")) (codes "[") (parted line_at event_text 0 events) (codes "],\n") (closing_text c) (codes "}\n")
 
 text_ends : (text : List ℕ) (d : Data) → Tells text d 5 → read (text ++ codes "\n") ≡ Some d
 unfolding lex
@@ -144,15 +176,20 @@ text_ends text d is =
 
 pub text_is_of_value : TextIsOfValue
 text_is_of_value script events c words =
-    ap read (trace_grouped script events c) ∙ text_ends (codes "{" ++ trace_members script events c) (trace_data script events c) (trace_tells script events c words)
+    ap read (whole_text script events c ∙ framed_grouped script events (Some c))
+    ∙ text_ends (codes "{" ++ trace_members script events (last_inside (Some c))) (trace_data script events c) (trace_tells script events (last_inside (Some c)) (closing_data c) (last_tells (Some c) words.1.1.0) words)
 
 -- at most 268435456 bytes that a trace is written as are read as their value is
-pub value_read : (script : Script) (events : List Event) (c : report.Closing) → HasWords (trace_data script events c) → length (trace_text script events c) ≤ 268435456 → trace_of (trace_text script events c) ≡ trace (trace_data script events c)
-value_read script events c words short =
-    let inside = trace_tells script events c words in
-    let ascii : IsAscii (trace_text script events c) =
-    subst IsAscii (sym (trace_grouped script events c)) (IsAscii-append (codes "{" ++ trace_members script events c) (codes "\n") inside.ascii (ascii_from (codes "\n") refl)) in
-    text_read (trace_text script events c) (trace_data script events c) short (IsUtf8-from_ascii (trace_text script events c) ascii) (text_is_of_value script events c words)
+pub framed_read : (script : Script) (events : List Event) (last : Option report.Closing) → HasWords (data_with script events (last_data last)) → length (framed script events last) ≤ 268435456
+    → trace_of (framed script events last) ≡ trace (data_with script events (last_data last))
+framed_read script events last words short =
+    let inside = trace_tells script events (last_inside last) (last_data last) (last_tells last words.1.1.0) words in
+    let text : List ℕ = codes "{" ++ trace_members script events (last_inside last) in
+    let same = framed_grouped script events last in
+    let ascii : IsAscii (text ++ codes "\n") = IsAscii-append text (codes "\n") inside.ascii (ascii_from (codes "\n") refl) in
+    ap trace_of same ∙ text_read (text ++ codes "\n") (data_with script events (last_data last)) (subst (λ (l : List ℕ). length l ≤ 268435456) same short) (IsUtf8-from_ascii (text ++ codes "\n") ascii) (text_ends text (data_with script events (last_data last)) inside)
 
 pub written_read_back : WrittenIsReadBack
-written_read_back script events c is words short = value_read script events c words short ∙ trace_read_back script events c is
+written_read_back script events c is words short =
+    let same = whole_text script events c in
+    ap trace_of same ∙ framed_read script events (Some c) words (subst (λ (l : List ℕ). length l ≤ 268435456) same short) ∙ trace_read_back script events c is

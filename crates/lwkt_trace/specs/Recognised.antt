@@ -1,11 +1,13 @@
 -- Texts that are written just as this crate writes them: an event, events one after another, and what stands round them in a
 -- trace (own).
-use Rattle.std.specs.Prelude.{◌≡◌, ℕ, ◌<◌, ◌≤◌, List, ◌++◌, length, map, take, Ok}
+use Rattle.std.specs.Prelude.{◌≡◌, ℕ, ◌<◌, ◌≤◌, List, ◌++◌, length, map, take, Option, Ok}
 use Rattle.lwkt_core.specs.declared.events.Event.{Event}
 use Rattle.lwkt_trace.specs.Format.{trace_of}
 use Rattle.lwkt_trace.specs.Printed.{HasWords, ItemsHaveWords}
 use Rattle.lwkt_trace.specs.Readback.{event_data, events_data, told_alone, IsTellable, AreTellable}
-use Rattle.lwkt_trace.specs.Written.{parted, line_at, event_text}
+use Rattle.lwkt_report.specs.declared.closings.Closing as report
+use Rattle.lwkt_trace.specs.Values.{last_data}
+use Rattle.lwkt_trace.specs.Written.{parted, line_at, event_text, back_text}
 use Rattle.lwkt_trace.specs.declared.traces.Told.{Told}
 use Rattle.lwkt_trace.specs.declared.traces.Trace.{Trace}
 
@@ -29,6 +31,12 @@ pub record AreWritten (text : List ℕ) (events : List Event) : Type 0 where
   pub text_is : text ≡ parted line_at event_text 0 events
   pub tellable : AreTellable events
   pub words : ItemsHaveWords (events_data events)
+
+-- the bytes are the text behind the events of a trace, with closing values whose numbers are all of 64 bits or with none
+pub record IsBack (back : List ℕ) : Type 0 where
+  pub last : Option report.Closing
+  pub text_is : back ≡ back_text last
+  pub words : HasWords (last_data last)
 
 -- a trace with these events in place of its own
 abbrev pub with_events : Trace → List Told → Trace

@@ -82,6 +82,11 @@ closing_data c =
     object (member (codes "gens") (array (items_as generation_data c.tokens.items)) (
     member (codes "messages") (array (ends_data c.messages.items)) (records_members c.tokens.items)))
 
+-- the same, or null where there are none
+abbrev pub last_data : Option report.Closing → Data
+last_data None = null
+last_data (Some c) = closing_data c
+
 -- the closing values of a report as a trace has them: tallies of each token, none where its law isn't Tally
 abbrev pub told_closing : report.Closing → Closing
 told_closing c = record {

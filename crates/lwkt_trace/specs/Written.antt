@@ -219,9 +219,14 @@ unfoldable pub trace_text : Script → List Event → Closing → List ℕ
 trace_text script events closing =
     codes "{" ++ cpus_text script.cpus ++ tokens_text script.tokens ++ messages_text script.messages ++ events_text events ++ closing_text closing ++ codes "}\n"
 
--- the same text up to its events, and behind them
+-- the same text up to its events, and behind them, where the closing values may be left out
 unfoldable pub front_text : ℕ → List TokSpec → List MsgSpec → List ℕ
 front_text cpus tokens messages = codes "{" ++ cpus_text cpus ++ tokens_text tokens ++ messages_text messages ++ member_name (codes "events") ++ codes "["
 
-unfoldable pub back_text : Closing → List ℕ
-back_text closing = codes "],\n" ++ closing_text closing ++ codes "}\n"
+-- the closing values, or null where there are none
+abbrev pub last_text : Option Closing → List ℕ
+last_text None = member_name (codes "last") ++ codes "null"
+last_text (Some closing) = closing_text closing
+
+unfoldable pub back_text : Option Closing → List ℕ
+back_text last = codes "],\n" ++ last_text last ++ codes "}\n"

@@ -3,10 +3,10 @@
 //! Words: the *front* and the *back* of a text are what stands before and behind its events, and *frame* them.
 ghost use Rattle.std.specs.Prelude.{◌≡◌, ◌++◌, Ok, IsTrue, IfOk, IfSome};
 ghost use Rattle.lwkt_trace.specs.Format.{trace_of};
-ghost use Rattle.lwkt_trace.specs.Written.{front_text, back_text};
-ghost use Rattle.lwkt_trace.specs.Recognised.{Frames};
+ghost use Rattle.lwkt_trace.specs.Written.{front_text};
+ghost use Rattle.lwkt_trace.specs.Recognised.{IsBack, Frames};
 
-use crate::ranges::{words_of_closing, words_of_opening};
+use crate::ranges::{words_of_last, words_of_opening};
 use crate::readers::read_trace;
 use crate::traces::{Closing, Trace};
 use crate::writers::{back_text, front_text};
@@ -18,7 +18,7 @@ use std::alloc::Global;
 // What a front ends with, and a back begins with.
 const FRONT_END: &[u8] = b"\"events\":[";
 
-const BACK_BEGIN: &[u8] = b"],\n\"last\":{";
+const BACK_BEGIN: &[u8] = b"],\n\"last\":";
 
 // How many bytes of a text a front or a back may have, that is looked for.
 const LIMIT: usize = 65_536;
@@ -94,11 +94,8 @@ fn line_of(
     }
 }
 
-// The closing values as a report has them, if there are some.
-fn reported(alloc: Global, last: &Option<Closing>) -> Result<Option<Reported>, OutOfMemory> {
-    let Some(closing) = last else {
-        return Ok(None);
-    };
+// The closing values as a report has them, if all of them are given.
+fn reported(alloc: Global, closing: &Closing) -> Result<Option<Reported>, OutOfMemory> {
     let mut tokens = Vec::new(alloc);
     for (place, cells) in closing.rows.as_slice().iter().enumerate() {
         let Some(line) = line_of(alloc, closing, place, cells)? else {
@@ -127,12 +124,26 @@ fn is_front(alloc: Global, front: &[u8], trace: &Trace) -> Result<bool, OutOfMem
     Ok(text.as_bytes() == front)
 }
 
-// Whether the back of a text is just as it is written for these closing values.
-fn is_back(alloc: Global, back: &[u8], closing: &Reported) -> Result<bool, OutOfMemory>
-    ensures { IfOk result (λ is. IsTrue is → back.now ≡ back_text closing.now) }
+// Whether the back of a text is just as it is written for these closing values, or for none.
+fn is_back_of(alloc: Global, back: &[u8], last: &Option<Reported>) -> Result<bool, OutOfMemory>
+    ensures { IfOk result (λ is. IsTrue is → IsBack back.now) }
 {
-    let text = back_text(alloc, closing)?;
+    words_of_last(last);
+    let text = back_text(alloc, last)?;
     Ok(text.as_bytes() == back)
+}
+
+// Whether the back of a text is just as it is written for some closing values, which likely are these, or for none.
+fn is_back(alloc: Global, back: &[u8], last: &Option<Closing>) -> Result<bool, OutOfMemory>
+    ensures { IfOk result (λ is. IsTrue is → IsBack back.now) }
+{
+    let Some(closing) = last else {
+        return is_back_of(alloc, back, &None);
+    };
+    match reported(alloc, closing)? {
+        None => Ok(false),
+        some => is_back_of(alloc, back, &some),
+    }
 }
 
 /// The trace without events that these two parts of a text are, if they are just as `trace_text` writes them: whatever events
@@ -143,15 +154,11 @@ pub fn frame_of(alloc: Global, front: &[u8], back: &[u8]) -> Result<Option<Trace
     let Some(trace) = bare_trace(alloc, front, back)? else {
         return Ok(None);
     };
-    let Some(closing) = reported(alloc, &trace.last)? else {
-        return Ok(None);
-    };
     words_of_opening(&trace);
-    words_of_closing(&closing);
     if !is_front(alloc, front, &trace)? {
         return Ok(None);
     }
-    if !is_back(alloc, back, &closing)? {
+    if !is_back(alloc, back, &trace.last)? {
         return Ok(None);
     }
     Ok(Some(trace))

@@ -2,7 +2,7 @@
 //! done for it when a program runs but to look at each number.
 ghost use Rattle.lwkt_trace.specs.Printed.{HasWords, ItemsHaveWords};
 ghost use Rattle.lwkt_trace.specs.Readback.{number_data, message_data, ends_data, end_data, messages_data, items_as, AreBytes};
-ghost use Rattle.lwkt_trace.specs.Values.{token_data, row_data, generation_data, tally_data, tallies_data, record_data, closing_data};
+ghost use Rattle.lwkt_trace.specs.Values.{token_data, row_data, generation_data, tally_data, tallies_data, record_data, closing_data, last_data};
 
 use crate::traces::Trace;
 use lwkt_base::{Cells, MsgEnd, MsgSpec, Owner, TokSpec};
@@ -121,10 +121,19 @@ fn words_of_lines(lines: &[TokenLine])
     }
 }
 
-/// The closing values.
-pub fn words_of_closing(closing: &Closing)
+// The closing values.
+fn words_of_closing(closing: &Closing)
     ensures { HasWords (closing_data closing.now) }
 {
     words_of_lines(closing.tokens.as_slice());
     words_of_ends(closing.messages.as_slice());
+}
+
+/// The closing values, or none.
+pub fn words_of_last(last: &Option<Closing>)
+    ensures { HasWords (last_data last.now) }
+{
+    if let Some(closing) = last {
+        words_of_closing(closing);
+    }
 }

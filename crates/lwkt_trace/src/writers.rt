@@ -2,7 +2,7 @@
 ghost use Rattle.std.specs.Prelude.{◌≡◌, ◌++◌, OnOk, IfOk, string_bytes};
 ghost use Rattle.std.specs.Fmt.{decimal};
 ghost use Rattle.std.specs.List.{list_any};
-ghost use Rattle.lwkt_trace.specs.Written.{comma_at, line_at, member_name, parted, list_text, blob_text, guard_text, cells_text, law_member_text, param_text, gen_text, token_text, message_text, rest_text, event_text, owner_json, end_text, tallies_text, last_blob_text, row_text, generation_text, tally_text, last_record_text, has_record, records_text, listed_text, cpus_text, tokens_text, messages_text, events_text, rows_text, generations_text, all_tallies_text, ends_text, closing_text, trace_text, front_text, back_text};
+ghost use Rattle.lwkt_trace.specs.Written.{comma_at, line_at, member_name, parted, list_text, blob_text, guard_text, cells_text, law_member_text, param_text, gen_text, token_text, message_text, rest_text, event_text, owner_json, end_text, tallies_text, last_blob_text, row_text, generation_text, tally_text, last_record_text, has_record, records_text, listed_text, cpus_text, tokens_text, messages_text, events_text, rows_text, generations_text, all_tallies_text, ends_text, closing_text, trace_text, front_text, last_text, back_text};
 
 use crate::words::{event_word, law_name};
 use lwkt_base::hexes::show_hex;
@@ -501,14 +501,27 @@ pub fn front_text(
     Ok(out)
 }
 
-/// The same text behind its events.
+// Appends the closing values, or null where there are none.
+fn show_last(out: &mut String, last: &Option<Closing>) -> Result<(), OutOfMemory>
+    ensures { OnOk result (string_bytes out.new ≡ string_bytes out.old ++ last_text last.now) }
+{
+    match last {
+        None => {
+            show_name(out, "last")?;
+            push_str(out, "null")
+        }
+        Some(closing) => show_closing(out, closing),
+    }
+}
+
+/// The same text behind its events, with closing values or without any.
 #[tactic(auto, unfolding(crate::specs::Written::back_text))]
-pub fn back_text(alloc: Global, closing: &Closing) -> Result<String, OutOfMemory>
-    ensures { IfOk result (λ text. string_bytes text ≡ back_text closing.now) }
+pub fn back_text(alloc: Global, last: &Option<Closing>) -> Result<String, OutOfMemory>
+    ensures { IfOk result (λ text. string_bytes text ≡ back_text last.now) }
 {
     let mut out = String::new(alloc);
     push_str(&mut out, "],\n")?;
-    show_closing(&mut out, closing)?;
+    show_last(&mut out, last)?;
     push_str(&mut out, "}\n")?;
     Ok(out)
 }

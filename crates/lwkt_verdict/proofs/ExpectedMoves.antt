@@ -1,5 +1,5 @@
 use Rattle.std.proofs.Common.{inl, inr, ◌≡◌, ℕ, ◌<◌, List, [], ◌∷◌, length, drop, get_or, arith, refl, ap, ◌∙◌, subst, Option, Some, None}
-use Rattle.std.specs.Prelude.{◌⊎◌, Bool, true, false, not, ◌==◌, ◌&&◌, is_some, if◌then◌else◌, IfSome}
+use Rattle.std.specs.Prelude.{◌⊎◌, Bool, true, false, not, ◌==◌, ◌&&◌, is_some, if◌then◌else◌}
 use Rattle.std.proofs.lemmas.Bool.{false≢true, and_parts}
 use Rattle.lwkt_base.specs.declared.asks.Ask.{Ask}
 use Rattle.lwkt_base.specs.declared.asks.Ask.TheVariants.{Read as ReadAsk, ReadBlob as ReadBlobAsk}
@@ -20,11 +20,6 @@ use Rattle.lwkt_verdict.specs.Followed.{expected_by, expected_without}
 not_refused : (b : Bool) → not b ≡ true → b ≡ false
 not_refused true is = absurd (false≢true is)
 not_refused false is = refl
-
--- what follows from a fact of an option's value
-pub IfSome-weaker : {X : Type 0} (o : Option X) (P Q : X → Type 0) → ((x : X) → P x → Q x) → IfSome o P → IfSome o Q
-IfSome-weaker None P Q f p = tt
-IfSome-weaker (Some x) P Q f p = f x p
 
 -- an answer that is this value is no refusal
 value_unrefused : (answer : Option Answer) (value : ℕ) → agrees answer value ≡ true → is_refused answer ≡ false

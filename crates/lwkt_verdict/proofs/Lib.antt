@@ -1,13 +1,10 @@
 pub mod PartMoves
 pub mod PlanMoves
-pub mod PollMoves
 pub mod ShowMoves
 pub mod EndMoves
-pub mod RunMoves
 pub mod LawMoves
 pub mod TraceMoves
 pub mod HistoryMoves
-pub mod ShortMoves
 pub mod SpotMoves
 pub mod ExpectedMoves
 pub mod KnownMoves

@@ -1,22 +1,16 @@
-use Rattle.std.proofs.Common.{zero, suc, inl, inr, ◌≡◌, ℕ, ◌+◌, ◌-◌, ◌<◌, ◌≤◌, List, [], ◌∷◌, ◌++◌, length, refl, sym, ap, ◌∙◌, subst, arith, rules, Option, Some, None, append-nil, append_assoc, length-append}
-use Rattle.std.specs.Prelude.{◌==◌, ◌↔◌, Bool, min, slice_get, slice_index_or, slice_set, true, false, if◌then◌else◌, MatchOption, IfSome}
+use Rattle.std.proofs.Common.{zero, suc, ◌≡◌, ℕ, ◌+◌, ◌-◌, ◌<◌, List, [], ◌∷◌, ◌++◌, length, refl, sym, ap, ◌∙◌, arith, rules, Option, Some, None, append-nil, append_assoc}
+use Rattle.std.specs.Prelude.{Bool, min, slice_get, slice_set}
 use Rattle.std.specs.List.{cons_option}
 use Rattle.std.specs.Option.{option_map_or}
-use Rattle.std.proofs.lemmas.Bool.{cases_eq}
 use Rattle.std.proofs.lemmas.List.{length_push}
-use Rattle.std.proofs.lemmas.Option.{slice_get-get_or}
 use Rattle.std.proofs.lemmas.List.Elements.{filter_map-append}
 use Rattle.lwkt_base.specs.declared.entries.Entry.{Entry}
-use Rattle.lwkt_base.specs.declared.names.ThreadId.{ThreadId}
 use Rattle.lwkt_verdict.specs.declared.turns.Poll.{Poll}
-use Rattle.lwkt_script.specs.declared.scripts.ThreadSpec.{ThreadSpec}
-use Rattle.lwkt_report.specs.declared.closings.ThreadLine.{ThreadLine}
 use Rattle.lwkt_verdict.specs.declared.progress.Asked.{Asked}
 use Rattle.lwkt_verdict.specs.declared.progress.Progress.{Progress}
 use Rattle.lwkt_verdict.specs.declared.progress.Piece.{Piece}
 use Rattle.lwkt_verdict.specs.Threads.{slot_of, asked_in, asked_by, logged_by, entries_of, progress_of, progress_after}
-use Rattle.lwkt_verdict.specs.Run.{came, asked_of_poll, PollFits}
-use Rattle.lwkt_verdict.specs.Progressed.{ShowsProgress}
+use Rattle.lwkt_verdict.specs.Run.{came, asked_of_poll}
 
 -- what a turn more asked of a thread
 pub asked_push : (slot : ℕ) (before : List Piece) (p : Piece) → asked_by slot (before ++ p ∷ []) ≡ asked_by slot before ++ asked_in slot p
@@ -82,92 +76,3 @@ get_set_other (x ∷ xs) zero zero v apart = absurd (apart refl)
 get_set_other (x ∷ xs) zero (suc j) v apart = refl
 get_set_other (x ∷ xs) (suc i) zero v apart = refl
 get_set_other (x ∷ xs) (suc i) (suc j) v apart = get_set_other xs i j v (λ is. apart (ap suc is))
-
-pub length_set : {A : Type 0} (xs : List A) (i : ℕ) (v : A) → length (slice_set xs i v) ≡ length xs
-length_set [] i v = refl
-length_set (x ∷ xs) zero v = refl
-length_set (x ∷ xs) (suc i) v = ap suc (length_set xs i v)
-
--- the table before the first turn
-pub shows_start : (table : List Progress) → length table ≡ 128 → ((k : ℕ) (d : Progress) → k < 128 → slice_index_or table k d ≡ record { polls = 0; last = None; logged = 0 }) → ShowsProgress [] table
-shows_start table room start =
-    let p : Progress = record { polls = 0; last = None; logged = 0 } in
-    record {
-      room = room;
-      at = λ k inside. slice_get-get_or table k p (let w = room in omega arith) ∙ ap (λ (x : Progress). Some x) (start k p inside);
-    }
-
--- after a turn without an ask
-pub shows_idle : (before : List Piece) (table : List Progress) (blocked : Bool) → ShowsProgress before table → ShowsProgress (before ++ record { poll = None; blocked = blocked } ∷ []) table
-shows_idle before table blocked shows = record {
-  room = shows.room;
-  at = λ k inside. shows.at k inside ∙ ap (λ (p : Progress). Some p) (sym (came_other k before (record { poll = None; blocked = blocked }) refl));
-}
-
--- after a turn that polled a thread
-pub shows_poll : (before : List Piece) (table new : List Progress) (q : Poll) (blocked : Bool) → ShowsProgress before table → slot_of q.thread < 128 → new ≡ slice_set table (slot_of q.thread) (progress_after (came before (slot_of q.thread)) (asked_of_poll q blocked)) → ShowsProgress (before ++ record { poll = Some q; blocked = blocked } ∷ []) new
-shows_poll before table new q blocked shows inside is =
-    let slot = slot_of q.thread in
-    let p : Piece = record { poll = Some q; blocked = blocked } in
-    let v : Progress = progress_after (came before slot) (asked_of_poll q blocked) in
-    record {
-      room = ap (λ (t : List Progress). length t) is ∙ length_set table slot v ∙ shows.room;
-      at = λ k below. ap (λ (t : List Progress). slice_get t k) is ∙ elim (cases_eq slot k) [
-        | inl same ↦ (let F : ℕ → Type 0 = λ j. slice_get (slice_set table slot v) j ≡ Some (came (before ++ p ∷ []) j) in
-            let room : slot < length table = (let w = shows.room in omega arith) in
-            subst F same (get_set table slot v room ∙ ap (λ (x : Progress). Some x) (sym (came_next slot before p (asked_of_poll q blocked) (asked_here slot q blocked refl)))))
-        | inr apart ↦ get_set_other table slot k v apart ∙ shows.at k below ∙ ap (λ (x : Progress). Some x) (sym (came_other k before p (asked_there k q blocked apart)))
-      ];
-    }
-
--- one turn asks a thread at most once
-if_few : (b : Bool) (a : Asked) → length (if b then (a ∷ []) else []) ≤ 1
-if_few true a = omega arith
-if_few false a = omega arith
-
-few_in : (o : Option Poll) (f : Poll → List Asked) → ((q : Poll) → length (f q) ≤ 1) → length (option_map_or f o []) ≤ 1
-few_in None f few = omega arith
-few_in (Some q) f few = few q
-
-asked_once : (slot : ℕ) (p : Piece) → length (asked_in slot p) ≤ 1
-asked_once slot p = few_in p.poll (λ q. if slot_of q.thread == slot then (asked_of_poll q p.blocked ∷ []) else []) (λ q. if_few (slot_of q.thread == slot) (asked_of_poll q p.blocked))
-
--- a poll that fits is of one of the threads that there can be
-inside_by : (plans : List ThreadSpec) (lines : List ThreadLine) (cpu : ℕ) (o : Option Progress) (q : Poll) → cpu < 8 → MatchOption o ⊥ (λ p. PollFits plans lines cpu p q) → slot_of q.thread < 128
-inside_by plans lines cpu None q small right = absurd right
-inside_by plans lines cpu (Some p) q small right =
-    let here = right.here in
-    let few = right.numbered in
-    omega arith
-
--- a poll fits by a table of how far the threads have come exactly if it fits how far its thread has come
-pub fits_shown : (plans : List ThreadSpec) (lines : List ThreadLine) (cpu : ℕ) (before : List Piece) (table : List Progress) (q : Poll) (thread : ThreadId) → cpu < 8 → ShowsProgress before table → q.thread ≡ thread → MatchOption (slice_get table (slot_of thread)) ⊥ (λ p. PollFits plans lines cpu p q) ↔ PollFits plans lines cpu (came before (slot_of q.thread)) q
-fits_shown plans lines cpu before table q thread small shows is =
-    let slot = slot_of q.thread in
-    let F : Option Progress → Type 0 = λ o. MatchOption o ⊥ (λ p. PollFits plans lines cpu p q) in
-    let T : ThreadId → Type 0 = λ t. F (slice_get table (slot_of t)) in (
-      (λ right. let here : F (slice_get table slot) = subst T (sym is) right in subst F (shows.at slot (inside_by plans lines cpu (slice_get table slot) q small here)) here),
-      (λ fits. subst T is (subst F (sym (shows.at slot (inside_by plans lines cpu (Some (came before slot)) q small fits))) fits)),
-    )
-
--- no thread was asked more often than there were turns
-asked_few : (slot : ℕ) (before : List Piece) → length (asked_by slot before) ≤ length before
-asked_few slot [] = omega arith
-asked_few slot (p ∷ ps) =
-    let once = asked_once slot p in
-    let less = asked_few slot ps in
-    simp length-append (omega arith)
-
-pub few_polls : (before : List Piece) (table : List Progress) (k : ℕ) → ShowsProgress before table → length before < 18446744073709551615 → k < 128 → IfSome (slice_get table k) (λ p. p.polls < 18446744073709551615)
-few_polls before table k shows few inside =
-    let F : Option Progress → Type 0 = λ o. IfSome o (λ p. p.polls < 18446744073709551615) in
-    let less = asked_few k before in
-    subst F (sym (shows.at k inside)) (omega arith)
-
--- the same, by what the check of a poll says
-pub shows_polled : (plans : List ThreadSpec) (lines : List ThreadLine) (cpu : ℕ) (before : List Piece) (table new : List Progress) (q : Poll) (blocked : Bool) → cpu < 8 → ShowsProgress before table → MatchOption (slice_get table (slot_of q.thread)) ⊥ (λ p. PollFits plans lines cpu p q) → MatchOption (slice_get table (slot_of q.thread)) ⊥ (λ p. new ≡ slice_set table (slot_of q.thread) (progress_after p (asked_of_poll q blocked))) → ShowsProgress (before ++ record { poll = Some q; blocked = blocked } ∷ []) new
-shows_polled plans lines cpu before table new q blocked small shows right moved =
-    let slot = slot_of q.thread in
-    let inside : slot < 128 = inside_by plans lines cpu (slice_get table slot) q small right in
-    let F : Option Progress → Type 0 = λ o. MatchOption o ⊥ (λ p. new ≡ slice_set table slot (progress_after p (asked_of_poll q blocked))) in
-    shows_poll before table new q blocked shows inside (subst F (shows.at slot inside) moved)

@@ -1,4 +1,4 @@
-use Rattle.std.proofs.Common.{◌≡◌, ◌∙◌, inl, inr, ℕ, List, [], ◌∷◌, ◌++◌, take, drop, refl, sym, ap, subst, append_assoc, Option, Some, None}
+use Rattle.std.proofs.Common.{inl, inr, ℕ, List, [], ◌∷◌, ◌++◌, take, drop, refl, sym, subst, Option, Some, None}
 use Rattle.std.proofs.lemmas.List.{take-append-drop}
 use Rattle.lwkt_base.specs.declared.asks.Ask.{Ask}
 use Rattle.lwkt_base.specs.declared.asks.Answer.{Answer}
@@ -55,23 +55,3 @@ runs_happen plans lines polls order m before (t ∷ ts) events runs =
 pub traces_happen : TracesOfRunsHappen
 traces_happen plans pace order opening polls turns trace lines run =
     runs_happen plans lines polls order opening [] turns trace run.runs
-
--- a check of a trace in the middle: the events before those that are left led from the machine at its start to the one that it is at
-pub record Led (start : Machine) (trace : List Event) (m : Machine) (rest : List Event) : Type 0 where
-  pub front : List Event
-  pub whole : trace ≡ front ++ rest
-  pub run : Run start front m
-
--- a part more
-pub led_on : (start : Machine) (trace : List Event) (m : Machine) (rest : List Event) (count : ℕ) (n : Machine) (part later : List Event) → Led start trace m rest → part ≡ take count rest → later ≡ drop count rest → Run m part n → Led start trace n later
-led_on start trace m rest count n part later led is_part is_later run =
-    let cut : rest ≡ part ++ later = sym (take-append-drop count rest) ∙ ap (λ (xs : List Event). xs ++ drop count rest) (sym is_part) ∙ ap (λ (ys : List Event). part ++ ys) (sym is_later) in
-    record {
-      front = led.front ++ part;
-      whole = led.whole ∙ ap (λ (ys : List Event). led.front ++ ys) cut ∙ sym (append_assoc led.front part later);
-      run = run_join start m n led.front part led.run run;
-    }
-
--- after the last event
-pub led_to_end : (start : Machine) (trace : List Event) (m n : Machine) (rest : List Event) → Led start trace m rest → Run m rest n → Run start trace n
-led_to_end start trace m n rest led run = subst (λ (ys : List Event). Run start ys n) (sym led.whole) (run_join start m n led.front rest led.run run)

@@ -3,12 +3,7 @@ pub mod Owns
 pub mod Parts
 pub mod Threads
 pub mod Spots
-pub mod Turns
 pub mod Run
-pub mod Shorts
-pub mod Homes
-pub mod Progressed
 pub mod Laws
 pub mod Follow
 pub mod Followed
-pub mod Kinds

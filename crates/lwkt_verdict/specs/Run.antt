@@ -49,10 +49,6 @@ pub record PollFits (plans : List ThreadSpec) (lines : List ThreadLine) (cpu : �
 abbrev pub Idles : List ThreadSpec → ℕ → (ℕ → Progress) → Type 0
 Idles plans cpu progress = (n : ℕ) → n < 16 → MatchOption (plan_of_thread cpu n plans) (Unit {0}) (λ plan. Rests (progress (16 * cpu + n)))
 
--- the same of one thread, by a table of how far the threads have come
-abbrev pub IdlesAt : List ThreadSpec → ℕ → List Progress → ℕ → Type 0
-IdlesAt plans cpu table n = MatchOption (plan_of_thread cpu n plans) (Unit {0}) (λ plan. MatchOption (slice_get table (16 * cpu + n)) ⊥ Rests)
-
 -- the part of a turn with or without an ask
 abbrev pub MakesPart : Machine → Option Poll → List Event → Type 0
 MakesPart m poll part = MatchOption poll (GoesQuietly m part) (λ q. IsPartOf m q.ask q.answer part)

@@ -1,7 +1,8 @@
-ghost use Rattle.std.specs.Prelude.{◌≡◌, ◌==◌};
-ghost use Rattle.lwkt_verdict.specs.Asks.{refusals, may_refuse, may_be_done, may_give_value, may_give_bytes, may_drop, is_reply_to, may_give_item, may_find_nothing, may_answer, is_refused, makes_event, is_do, is_exit, may_wait, may_block, value_entry, item_entry, entry_of};
+ghost use Rattle.std.specs.Prelude.{◌≡◌, ◌==◌, ◌↔◌, IsTrue};
+ghost use Rattle.lwkt_base.specs.declared.asks.Ask.TheVariants.{WriteBlob};
+ghost use Rattle.lwkt_verdict.specs.Asks.{refusals, may_refuse, may_be_done, may_give_value, may_give_bytes, may_drop, is_reply_to, may_give_item, may_find_nothing, may_answer, makes_event, is_do, is_exit, may_wait, may_block, value_entry, item_entry, entry_of};
 
-use lwkt_base::{Answer, Ask, Call, Entry, Item};
+use lwkt_base::{Answer, Ask, Blob, Call, Entry, Item, TokId};
 
 // The numbers of the faults with which an ask can be refused.
 fn refusals(ask: &Ask) -> &'static [u8]
@@ -125,16 +126,6 @@ pub fn may_answer(ask: &Ask, answer: &Answer) -> bool
     }
 }
 
-/// Whether an ask has an answer, and it is a refusal.
-pub fn is_refused(answer: &Option<Answer>) -> bool
-    ensures { result ≡ is_refused answer.now }
-{
-    match answer {
-        Some(Answer::Refused(_)) => true,
-        _ => false,
-    }
-}
-
 /// Whether an ask that isn't refused makes an event of its own.
 pub fn makes_event(ask: &Ask) -> bool
     ensures { result ≡ makes_event ask.now }
@@ -223,5 +214,25 @@ pub fn entry_of(ask: Ask, answer: Answer) -> Option<Entry>
         Answer::Got(item) => Some(item_entry(item)),
         Answer::NoMsg => Some(Entry::NoMessage),
         Answer::Refused(fault) => Some(Entry::Refused(fault.number())),
+    }
+}
+
+// Whether an ask stores this record in this token.
+fn is_storing(ask: &Ask, tok: TokId, blob: &Blob) -> bool
+    ensures { IsTrue result ↔ (ask.now ≡ WriteBlob tok blob.now) }
+{
+    match ask {
+        Ask::WriteBlob(other, stored) => *other == tok && stored.is_same(blob),
+        _ => false,
+    }
+}
+
+/// Whether two asks are one.
+pub fn is_same(one: &Ask, other: &Ask) -> bool
+    ensures { IsTrue result ↔ (one.now ≡ other.now) }
+{
+    match one {
+        Ask::WriteBlob(tok, blob) => is_storing(other, *tok, blob),
+        _ => *one == *other,
     }
 }

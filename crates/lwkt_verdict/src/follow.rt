@@ -5,16 +5,13 @@ ghost use Rattle.lwkt_base.specs.declared.asks.Ask.TheVariants.{Exit};
 ghost use Rattle.lwkt_verdict.specs.Parts.{after_all, GoesQuietly};
 ghost use Rattle.lwkt_verdict.specs.Threads.{plan_of_thread, line_of};
 ghost use Rattle.lwkt_verdict.specs.Follow.{Follow, Begins, GoesOnByPoll, GoesOnUnasked, EndsHere, AreThreads};
-ghost use Rattle.lwkt_verdict.specs.Followed.{unpolled, Asks, IsPolled, IsKept, MayRest, IsEnded, AllThreads, KeepsPlans, AreKept, MayAllRest};
+ghost use Rattle.lwkt_verdict.specs.Followed.{unpolled, IsPolled, IsKept, MayRest, IsEnded, AllThreads, KeepsPlans, AreKept, MayAllRest};
 
-use crate::checks::are_of;
+use crate::asks::is_same;
 use crate::followed::Followed;
-use crate::homes::THREAD_LIMIT;
-use crate::owns::has_blocked;
-use crate::parts::{expected_of, goes_quietly};
-use crate::plans::{find_line, find_thread};
+use crate::parts::{are_of, goes_quietly};
+use crate::plans::{THREAD_LIMIT, find_line, find_thread};
 use crate::rounds::are_listed;
-use crate::short_asks::is_same;
 use lwkt_base::memory::{push, with_capacity};
 use lwkt_base::{Answer, Ask, OutOfMemory, ThreadId};
 use lwkt_core::{Event, State};
@@ -27,8 +24,8 @@ use std::marker::Model;
 /// polled, what it asked last, which answers that can have, and the first 32 entries of its log; and beside the threads the machine that
 /// the trace so far leads to.
 ///
-/// What it says of a turn holds for each of these answers. It may say no where `is_script_run` says yes: of an ask to write that is
-/// refused although the events of its turn have the write that it asks for.
+/// What it says of a turn holds for each of these answers. It may say no of a run of the script: of an ask to write that is refused
+/// although the events of its turn have the write that it asks for.
 #[derive(Drop)]
 pub struct Follower<'p> {
     plans: &'p [ThreadSpec],
@@ -90,23 +87,6 @@ fn unpolled_threads<'p>(
     Ok(table)
 }
 
-// Whether a thread may ask this, whose next ask it is, by this part of the trace; it and the machine then go on.
-#[inline(always)]
-fn goes_on<'p>(followed: &mut Followed<'p>, state: &mut State, ask: &'p Ask, part: &[Event]) -> bool
-    requires few { followed.old.polls < 2 ^ 64 - 1 }
-    ensures plan { followed.new.plan ≡ followed.old.plan }
-    ensures asked { IsTrue result → Asks state.old ask.now part.now followed.old followed.new }
-    ensures moved { IsTrue result → state.new ≡ after_all state.old part.now }
-{
-    match expected_of(state, ask, part) {
-        None => false,
-        Some(shown) => {
-            followed.go_on(ask, has_blocked(ask, part), shown);
-            true
-        }
-    }
-}
-
 // Whether a thread that was told this may be polled with this ask and this part of the trace; it and the machine then go on.
 #[inline(always)]
 fn asks<'p>(
@@ -128,7 +108,7 @@ fn asks<'p>(
     let Some(ask) = followed.next_ask(end) else {
         return Ok(false);
     };
-    Ok(is_same(ask, asked) && goes_on(followed, state, ask, part))
+    Ok(is_same(ask, asked) && followed.go_on(state, ask, part))
 }
 
 // Whether each thread of a processor rests.

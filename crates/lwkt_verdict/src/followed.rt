@@ -5,16 +5,19 @@ ghost use Rattle.lwkt_base.specs.declared.asks.Ask.TheVariants.{Exit};
 ghost use Rattle.lwkt_verdict.specs.Asks.{entry_of};
 ghost use Rattle.lwkt_verdict.specs.Threads.{ask_at, may_end};
 ghost use Rattle.lwkt_verdict.specs.Follow.{Awaited, Known, is_expected, come};
-ghost use Rattle.lwkt_verdict.specs.Followed.{count_of, unpolled, log_with, Hears, after_asking, IsKept, MayRest, IsEnded};
-ghost use Rattle.lwkt_verdict.specs.Kinds.{shown_as};
+ghost use Rattle.lwkt_verdict.specs.Followed.{count_of, unpolled, log_with, Hears, Asks, IsKept, MayRest, IsEnded};
+ghost use Rattle.lwkt_verdict.specs.Parts.{after_all};
 
 use crate::asks::{entry_of, may_answer};
-use crate::expected::{Expectation, Shown};
+use crate::expected::Expected;
+use crate::owns::has_blocked;
+use crate::parts::goes_by_ask;
 use crate::plans::ask_at;
-use crate::progress::{Asked, LOG_LIMIT, is_same, may_end_after};
+use crate::progress::{LOG_LIMIT, is_same, may_end_after};
 use crate::spots::Spot;
 use lwkt_base::memory::push;
 use lwkt_base::{Answer, Ask, Entry, OutOfMemory, ThreadState};
+use lwkt_core::{Event, State};
 use lwkt_report::ThreadLine;
 use lwkt_script::ThreadSpec;
 use std::alloc::Global;
@@ -32,7 +35,7 @@ pub struct Followed<'p> {
     // What the thread last asked, whether its part shows that it blocked the thread, and which answers it can have.
     last: Option<&'p Ask>,
     blocked: bool,
-    expected: Expectation,
+    expected: Expected,
     // The first 32 entries that the answers before made.
     log: Vec<Entry>,
 }
@@ -125,14 +128,7 @@ fn may_end(state: ThreadState, last: Option<&Ask>, blocked: bool) -> bool
 {
     match last {
         None => matches!(state, ThreadState::Ready),
-        Some(ask) => may_end_after(
-            state,
-            &Asked {
-                ask: *ask,
-                answer: None,
-                blocked,
-            },
-        ),
+        Some(ask) => may_end_after(state, ask, blocked),
     }
 }
 
@@ -148,7 +144,7 @@ impl<'p> Followed<'p> {
             spot: Spot::first(),
             last: None,
             blocked: false,
-            expected: Expectation::any(),
+            expected: Expected::Any,
             log: Vec::new(alloc),
         }
     }
@@ -186,17 +182,22 @@ impl<'p> Followed<'p> {
         }
     }
 
-    /// The thread has asked this.
+    /// Whether the thread may ask this, whose next ask it is, by this part of the trace. If so, it has asked it, and the machine goes on.
     #[inline(always)]
-    pub fn go_on(&mut self, ask: &'p Ask, blocked: bool, shown: Shown<'_>)
+    pub fn go_on(&mut self, state: &mut State, ask: &'p Ask, part: &[Event]) -> bool
         requires few { self.old.polls < 2 ^ 64 - 1 }
-        ensures { self.new ≡ after_asking self.old (record { ask = ask.now; blocked = blocked; expected = shown_as shown.entry }) }
+        ensures plan { self.new.plan ≡ self.old.plan }
+        ensures asked { IsTrue result → Asks state.old ask.now part.now self.old self.new }
+        ensures moved { IsTrue result → state.new ≡ after_all state.old part.now }
     {
+        if !goes_by_ask(state, ask, part, &mut self.expected) {
+            return false;
+        }
         self.spot = self.spot.next(self.count);
         self.polls += 1;
         self.last = Some(ask);
-        self.blocked = blocked;
-        self.expected.note(shown);
+        self.blocked = has_blocked(ask, part);
+        true
     }
 
     /// Whether the thread, if it is there, rests: it is blocked by what it last asked. That isn't refused any more then.

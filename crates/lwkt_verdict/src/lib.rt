@@ -5,36 +5,24 @@
 //! asked, and the answer that it was given later; a *piece* is a turn's poll and its *part* of the trace; a turn *fits* if its
 //! piece is what the threads may do then; the *progress* of a thread is how far it is in its steps and its log, the
 //! *spot* of an ask how many rounds of all steps were made before it, and which step it is; a *pace* says how
-//! turns follow one another; a *short* ask or answer lies in the row of its poll, a *wide* one in a list beside
-//! the rows, and a *long* one, which has a record, in another. A *follower* checks a run while it is made: of the last ask of each
-//! thread it knows which answers are *expected*.
+//! turns follow one another. A *follower* checks a run while it is made: of the last ask of each thread it knows which answers are
+//! *expected*.
 #![tactic(auto)]
 
 mod asks;
-mod checks;
-mod ends;
 mod expected;
 mod follow;
 mod followed;
-mod homes;
 pub mod laws;
 mod owns;
 mod parts;
-mod places;
 mod plans;
-mod poll_lists;
-mod polls;
 mod progress;
 mod rounds;
-mod row_numbers;
-mod short_answers;
-mod short_asks;
 mod spots;
 pub mod turns;
 
 pub use asks::entry_of;
-pub use checks::is_script_run;
 pub use follow::Follower;
-pub use poll_lists::PollList;
 pub use rounds::are_processors;
-pub use turns::{Pace, Poll, Turn, TurnRow};
+pub use turns::{Pace, Poll, Turn};

@@ -1,11 +1,11 @@
-ghost use Rattle.std.specs.Prelude.{◌≡◌, ◌≤◌, ◌↔◌, ◌+◌, ◌==◌, IsTrue, length, slice_get, Some};
+ghost use Rattle.std.specs.Prelude.{◌≡◌, ◌≤◌, ◌↔◌, ◌+◌, ◌==◌, IsTrue, length, slice_get, None, Some};
 ghost use Rattle.lwkt_base.specs.declared.holdings.Held.TheVariants.{Holds};
 ghost use Rattle.lwkt_base.specs.declared.names.Mode.TheVariants.{Exclusive};
-ghost use Rattle.lwkt_verdict.specs.Owns.{can_break, MayEndBroken, MayStoreFirst, MayPutFirst, IsQuiet, agrees, agrees_with_record, is_read, is_write, is_record_read, is_record_write, is_raise, is_send_of, is_reply_of, is_abort_of, is_drop_of, is_own, is_send, first_send, own_place, ends_taking, has_blocked};
+ghost use Rattle.lwkt_verdict.specs.Owns.{can_break, MayEndBroken, MayStoreFirst, MayPutFirst, IsQuiet, is_read, is_write, is_record_read, is_record_write, is_raise, is_send_of, is_reply_of, is_abort_of, is_drop_of, is_own, is_send, first_send, own_place, ends_taking, has_blocked};
 
 use crate::asks::is_do;
 use lwkt_base::blobs::same_bytes;
-use lwkt_base::{Answer, Ask, Blob, CpuId, Held, Law, Mode, TokId};
+use lwkt_base::{Ask, Blob, CpuId, Held, Law, Mode, TokId};
 use lwkt_core::{Event, State, Token};
 
 // Whether a law is one that a section can break.
@@ -114,39 +114,12 @@ pub fn is_quiet(state: &State, event: &Event) -> bool
     }
 }
 
-// Whether an answer, if there is one, is this value.
-fn agrees(answer: &Option<Answer>, value: u64) -> bool
-    ensures { result ≡ agrees answer.now value }
-{
-    match answer {
-        None => true,
-        Some(Answer::Value(given)) => *given == value,
-        Some(_) => false,
-    }
-}
-
-// Whether an answer, if there is one, is this record.
-fn agrees_with_record(answer: &Option<Answer>, blob: &Blob) -> bool
-    ensures { result ≡ agrees_with_record answer.now blob.now }
-{
-    match answer {
-        None => true,
-        Some(Answer::Bytes(given)) => same_bytes(given, blob),
-        Some(_) => false,
-    }
-}
-
-// Whether an event reads this cell, and the value agrees with the answer.
-fn is_read(wanted: TokId, at: u8, answer: &Option<Answer>, event: &Event) -> bool
-    ensures { result ≡ is_read wanted.0 at answer.now event.now }
+// Whether an event reads this cell.
+fn is_read(wanted: TokId, at: u8, event: &Event) -> bool
+    ensures { result ≡ is_read wanted.0 at None event.now }
 {
     match *event {
-        Event::Read {
-            tok,
-            cell,
-            value,
-            ..
-        } => tok.0 == wanted.0 && cell == at && agrees(answer, value),
+        Event::Read { tok, cell, .. } => tok.0 == wanted.0 && cell == at,
         _ => false,
     }
 }
@@ -166,12 +139,12 @@ fn is_write(wanted: TokId, at: u8, stored: u64, event: &Event) -> bool
     }
 }
 
-// Whether an event reads this token's record, and that agrees with the answer.
-fn is_record_read(wanted: TokId, answer: &Option<Answer>, event: &Event) -> bool
-    ensures { result ≡ is_record_read wanted.0 answer.now event.now }
+// Whether an event reads this token's record.
+fn is_record_read(wanted: TokId, event: &Event) -> bool
+    ensures { result ≡ is_record_read wanted.0 None event.now }
 {
     match event {
-        Event::ReadBlob { tok, blob, .. } => tok.0 == wanted.0 && agrees_with_record(answer, blob),
+        Event::ReadBlob { tok, .. } => tok.0 == wanted.0,
         _ => false,
     }
 }
@@ -254,15 +227,15 @@ fn is_drop_of(wanted: u8, event: &Event) -> bool
     }
 }
 
-/// Whether an event is what an ask makes, with this answer or none yet.
-pub fn is_own(state: &State, ask: &Ask, answer: &Option<Answer>, event: &Event) -> bool
-    ensures { result ≡ is_own state.now ask.now answer.now event.now }
+/// Whether an event is what an ask makes, which has no answer yet.
+pub fn is_own(state: &State, ask: &Ask, event: &Event) -> bool
+    ensures { result ≡ is_own state.now ask.now None event.now }
 {
     match ask {
-        Ask::Read(tok, cell) => is_read(*tok, *cell, answer, event),
+        Ask::Read(tok, cell) => is_read(*tok, *cell, event),
         Ask::Write(tok, cell, value) => is_write(*tok, *cell, *value, event),
         Ask::Add(tok, more) => is_raise(state.cell(*tok, 0), *tok, *more, event),
-        Ask::ReadBlob(tok) => is_record_read(*tok, answer, event),
+        Ask::ReadBlob(tok) => is_record_read(*tok, event),
         Ask::WriteBlob(tok, blob) => is_record_write(*tok, blob, event),
         Ask::Send(msg, to, _, _) => is_send_of(msg.0, to.cpu.0, event),
         Ask::Do(msg, to, _) => is_send_of(msg.0, to.cpu.0, event),

@@ -1,17 +1,24 @@
-ghost use Rattle.std.specs.Prelude.{◌≡◌, ◌↔◌, IsTrue, true, false, Option, IfSome, is_some};
+ghost use Rattle.std.specs.Prelude.{◌≡◌, ◌↔◌, All, IsTrue, true, Option};
+ghost use Rattle.lwkt_core.specs.Events.{cpu_of};
 ghost use Rattle.lwkt_core.specs.Machine.{Needs, after};
-ghost use Rattle.lwkt_verdict.specs.Owns.{IsQuiet, is_own};
-ghost use Rattle.lwkt_verdict.specs.Parts.{after_all, GoesQuietly, must_make, may_make, GoesFrom, IsPartOf};
+ghost use Rattle.lwkt_verdict.specs.Owns.{IsQuiet};
+ghost use Rattle.lwkt_verdict.specs.Parts.{after_all, GoesQuietly, GoesFrom, IsPartOf};
 ghost use Rattle.lwkt_base.specs.declared.asks.Answer.{Answer};
 ghost use Rattle.lwkt_verdict.specs.Follow.{is_expected};
 ghost use Rattle.lwkt_verdict.specs.Followed.{expected_by, expected_without};
-ghost use Rattle.lwkt_verdict.specs.Kinds.{shown_as};
 
-use crate::asks::{is_refused, makes_event};
-use crate::expected::Shown;
+use crate::asks::makes_event;
+use crate::expected::Expected;
 use crate::owns::{is_own, is_quiet, own_place};
-use lwkt_base::{Answer, Ask};
+use lwkt_base::Ask;
 use lwkt_core::{Event, State};
+
+/// Whether each event of a part is of this processor.
+pub fn are_of(cpu: usize, part: &[Event]) -> bool
+    ensures { IsTrue result ↔ All (λ e. cpu_of e ≡ cpu) part.now }
+{
+    part.iter().all(|event| usize::from(event.cpu().0) == cpu)
+}
 
 // Makes an event happen, if it can and may happen unasked.
 fn goes_quietly_by_one(state: &mut State, event: &Event) -> bool
@@ -43,118 +50,80 @@ pub fn goes_quietly(state: &mut State, events: &[Event]) -> bool
     events.is_empty() || go_quietly(state, events)
 }
 
-// Whether the event of an ask has to be there.
-fn must_make(ask: &Ask, answer: &Option<Answer>) -> bool
-    ensures { result ≡ must_make ask.now answer.now }
-{
-    makes_event(ask) && answer.is_some() && !is_refused(answer)
-}
-
-// Whether the event of an ask can be there.
-fn may_make(ask: &Ask, answer: &Option<Answer>) -> bool
-    ensures { result ≡ may_make ask.now answer.now }
-{
-    makes_event(ask) && !is_refused(answer)
-}
-
-// Whether an event is the one that an ask made.
-fn is_made(state: &State, ask: &Ask, answer: &Option<Answer>, event: &Event) -> bool
-    ensures { IsTrue result ↔ ((may_make ask.now answer.now ≡ true) × (is_own state.now ask.now answer.now event.now ≡ true)) }
-{
-    may_make(ask, answer) && is_own(state, ask, answer, event)
-}
-
-// Makes the events happen, if they can, from the place of an ask's own event on.
-fn goes_from(state: &mut State, ask: &Ask, answer: &Option<Answer>, events: &[Event]) -> bool
-    ensures right { IsTrue result ↔ GoesFrom state.old ask.now answer.now events.now }
-    ensures moved { IsTrue result → state.new ≡ after_all state.old events.now }
-{
-    match events {
-        [] => !must_make(ask, answer),
-        [event, rest @ ..] => {
-            if is_made(state, ask, answer, event) {
-                state.step(event).is_ok() && goes_quietly(state, rest)
-            } else {
-                !must_make(ask, answer) && goes_quietly(state, events)
-            }
-        }
-    }
-}
-
-/// Makes the events of a part happen, if they can and are what a turn that polled a thread with this ask can have made.
-pub fn is_part_of(state: &mut State, ask: &Ask, answer: &Option<Answer>, part: &[Event]) -> bool
-    ensures right { IsTrue result ↔ IsPartOf state.old ask.now answer.now part.now }
-    ensures moved { IsTrue result → state.new ≡ after_all state.old part.now }
-{
-    let place = own_place(ask, part);
-    goes_quietly(state, &part[..place]) && goes_from(state, ask, answer, &part[place..])
-}
-
 // Which answers an ask can have that made this event.
 #[inline(always)]
-fn expected_by(event: &Event) -> Shown<'_>
-    ensures { shown_as result ≡ expected_by event.now }
+fn note_event(expected: &mut Expected, event: &Event)
+    ensures { expected.new ≡ expected_by event.now }
 {
     match event {
-        Event::Read { value, .. } => Shown::Value(*value),
-        Event::ReadBlob { blob, .. } => Shown::Bytes(blob),
-        Event::Reply { .. } => Shown::Any,
-        _ => Shown::NoRefusal,
+        Event::Read { value, .. } => *expected = Expected::Value(*value),
+        Event::ReadBlob { blob, .. } => *expected = Expected::Bytes(*blob),
+        Event::Reply { .. } => *expected = Expected::Any,
+        _ => *expected = Expected::NoRefusal,
     }
 }
 
 // Which answers an ask can have whose event isn't there.
 #[inline(always)]
-fn expected_without<'e>(ask: &Ask) -> Shown<'e>
-    ensures { shown_as result ≡ expected_without ask.now }
+fn note_none(expected: &mut Expected, ask: &Ask)
+    ensures { expected.new ≡ expected_without ask.now }
 {
     if makes_event(ask) {
-        Shown::Refusal
+        *expected = Expected::Refusal;
     } else {
-        Shown::Any
+        *expected = Expected::Any;
     }
 }
 
-// Makes an ask's own event happen, if it can, and then what may happen unasked. If so, which answers the ask can have.
-fn expected_after<'e>(state: &mut State, event: &'e Event, rest: &[Event]) -> Option<Shown<'e>>
-    ensures right { IfSome result (λ s. (shown_as s ≡ expected_by event.now) × (Needs state.old event.now × GoesQuietly (after state.old event.now) rest.now)) }
-    ensures moved { is_some result ≡ true → state.new ≡ after_all (after state.old event.now) rest.now }
+// Makes an ask's own event happen, if it can, and then what may happen unasked. If so, notes which answers the ask can have.
+fn goes_by_own(state: &mut State, event: &Event, rest: &[Event], expected: &mut Expected) -> bool
+    ensures right { IsTrue result → (expected.new ≡ expected_by event.now) × (Needs state.old event.now × GoesQuietly (after state.old event.now) rest.now) }
+    ensures moved { IsTrue result → state.new ≡ after_all (after state.old event.now) rest.now }
 {
     if state.step(event).is_ok() && goes_quietly(state, rest) {
-        Some(expected_by(event))
+        note_event(expected, event);
+        true
     } else {
-        None
+        false
     }
 }
 
-// Makes the events happen, if they can, from the place of an ask's own event on. If so, which answers the ask can have.
-fn expected_from<'e>(state: &mut State, ask: &Ask, events: &'e [Event]) -> Option<Shown<'e>>
-    ensures right { IfSome result (λ s. (answer : Option Answer) → is_expected (shown_as s) answer ≡ true → GoesFrom state.old ask.now answer events.now) }
-    ensures moved { is_some result ≡ true → state.new ≡ after_all state.old events.now }
+// Makes the events happen, if they can, where the ask's own event isn't among them. If so, notes which answers the ask can have.
+fn goes_without_own(state: &mut State, ask: &Ask, events: &[Event], expected: &mut Expected) -> bool
+    ensures right { IsTrue result → (expected.new ≡ expected_without ask.now) × GoesQuietly state.old events.now }
+    ensures moved { IsTrue result → state.new ≡ after_all state.old events.now }
+{
+    if goes_quietly(state, events) {
+        note_none(expected, ask);
+        true
+    } else {
+        false
+    }
+}
+
+// Makes the events happen, if they can, from the place of an ask's own event on. If so, notes which answers the ask can have.
+fn goes_from(state: &mut State, ask: &Ask, events: &[Event], expected: &mut Expected) -> bool
+    ensures right { IsTrue result → (answer : Option Answer) → is_expected expected.new answer ≡ true → GoesFrom state.old ask.now answer events.now }
+    ensures moved { IsTrue result → state.new ≡ after_all state.old events.now }
 {
     match events {
-        [] => Some(expected_without(ask)),
+        [] => goes_without_own(state, ask, events, expected),
         [event, rest @ ..] => {
-            if makes_event(ask) && is_own(state, ask, &None, event) {
-                expected_after(state, event, rest)
-            } else if goes_quietly(state, events) {
-                Some(expected_without(ask))
+            if makes_event(ask) && is_own(state, ask, event) {
+                goes_by_own(state, event, rest, expected)
             } else {
-                None
+                goes_without_own(state, ask, events, expected)
             }
         }
     }
 }
 
 /// Makes the events of a part happen, if they can and are what a turn that polled a thread with this ask can have made, whose answer isn't
-/// known yet. If so, which answers it can have.
-pub fn expected_of<'e>(state: &mut State, ask: &Ask, part: &'e [Event]) -> Option<Shown<'e>>
-    ensures right { IfSome result (λ s. (answer : Option Answer) → is_expected (shown_as s) answer ≡ true → IsPartOf state.old ask.now answer part.now) }
-    ensures moved { is_some result ≡ true → state.new ≡ after_all state.old part.now }
+/// known yet. If so, notes which answers it can have.
+pub fn goes_by_ask(state: &mut State, ask: &Ask, part: &[Event], expected: &mut Expected) -> bool
+    ensures right { IsTrue result → (answer : Option Answer) → is_expected expected.new answer ≡ true → IsPartOf state.old ask.now answer part.now }
+    ensures moved { IsTrue result → state.new ≡ after_all state.old part.now }
 {
     let place = own_place(ask, part);
-    if !goes_quietly(state, &part[..place]) {
-        return None;
-    }
-    expected_from(state, ask, &part[place..])
+    goes_quietly(state, &part[..place]) && goes_from(state, ask, &part[place..], expected)
 }

@@ -9,6 +9,9 @@ use lwkt_base::{Ask, ThreadId};
 use lwkt_report::ThreadLine;
 use lwkt_script::ThreadSpec;
 
+/// How many threads there can be: 16 for each of 8 processors.
+pub const THREAD_LIMIT: usize = 128;
+
 /// A thread's number among those of all processors, 16 for each.
 pub fn slot_of(id: ThreadId) -> usize
     ensures slot { result ≡ slot_of id }

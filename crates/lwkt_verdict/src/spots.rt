@@ -22,17 +22,6 @@ impl Spot {
         Spot { rounds: 0, step: 0 }
     }
 
-    /// Where ask k stands of a thread with so many steps.
-    pub fn of(count: u64, k: u64) -> Spot
-        requires { 0 < count }
-        ensures { result ≡ spot_at count k }
-    {
-        Spot {
-            rounds: k / count,
-            step: k % count,
-        }
-    }
-
     /// Where the ask after this one stands, of a thread with so many steps. Where this is no ask's spot, any.
     #[inline(always)]
     pub fn next(self, count: u64) -> Spot

@@ -6,11 +6,11 @@ use Rattle.lwkt_checker.specs.Said.{IsReason}
 use Rattle.lwkt_checker.proofs.Stops.{plays_more, fails_more}
 use Rattle.lwkt_checker.proofs.standings.played.Goals as goal
 
-pub returns-in-Ok-clause-stands : goal.returns-in-Ok-clause-stands
-returns-in-Ok-clause-stands c = λ trace open_still counted so.
+pub returns-in-Ok : goal.returns-in-Ok
+returns-in-Ok c = λ trace open_still counted so.
     plays_more trace c.args.told.now c.args.state c.step.new.self open_still so (subst (λ (e : Event). Happens c.args.state e c.step.new.self) c.event_told-event.ensures c.in-Ok.ensures.ok)
 
-pub returns-in_ok-reason-in-Err-clause-stands : goal.returns-in_ok-reason-in-Err-clause-stands
-returns-in_ok-reason-in-Err-clause-stands c = λ trace open_still counted so.
+pub returns-in_ok-reason-in-Err : goal.returns-in_ok-reason-in-Err
+returns-in_ok-reason-in-Err c = λ trace open_still counted so.
     fails_more trace c.args.told.now c.args.state c.args.index c.in_ok-reason-in-Err.field-0 open_still counted so (subst (λ (e : Event). ¬ Needs c.args.state e) c.event_told-event.ensures c.in-Err.ensures.refused)
     (subst (λ (m : Machine). IsReason m c.args.index c.args.told.now (string_bytes c.in_ok-reason-in-Err.field-0)) c.in-Err.ensures.unchanged c.in_ok-reason-in-Err.ensures)

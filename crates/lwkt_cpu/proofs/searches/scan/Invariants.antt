@@ -2,7 +2,7 @@ use Rattle.std.proofs.Common.{◌≡◌, ◌-◌, ◌*◌}
 use Rattle.lwkt_base.specs.Holding.{holds_nothing}
 use Rattle.lwkt_bank.specs.Seats.{holding}
 use Rattle.lwkt_hold.specs.Runs.{Ran}
-use Rattle.lwkt_ask.specs.Telling.{TellsTokensOnly}
+use Rattle.lwkt_cpu.specs.Telling.{TellsTokensOnly}
 use Rattle.lwkt_cpu.specs.Searches.{point, SkipsTo, IsOfOne}
 use Rattle.lwkt_cpu.proofs.searches.scan.Given as goal
 

@@ -12,5 +12,5 @@ returns-then-is_same-clause-polled c = λ yes.
     let mid = c.hear.new.self in
     let same : c.in-Some.ask.now ≡ a.asked.now = c.is_same.ensures.0 c.if-is_same.true in
     let Next : Ask → Type 0 = λ ask. MatchOption mid.plan ⊥ (λ plan. ask_at plan mid.polls ≡ Some ask) in
-    let Asked : Ask → Type 0 = λ ask. Asks a.state.now ask a.part.now mid c.goes_on.new.followed in
-    is_polled a.state.now a.told.now a.asked.now a.part.now a.followed.now mid c.goes_on.new.followed c.hear.ensures.few (c.in_ok-hear.ensures.heard c.if-not-branch.false) (subst Next same c.in-Some.ensures.asks) (subst Asked same (c.goes_on.ensures.asked yes))
+    let Asked : Ask → Type 0 = λ ask. Asks a.state.now ask a.part.now mid c.go_on.new.self in
+    is_polled a.state.now a.told.now a.asked.now a.part.now a.followed.now mid c.go_on.new.self c.hear.ensures.few (c.in_ok-hear.ensures.heard c.if-not-branch.false) (subst Next same c.in-Some.ensures.asks) (subst Asked same (c.go_on.ensures.asked yes))

@@ -1,10 +1,5 @@
-use Rattle.std.proofs.Common.{refl}
 use Rattle.lwkt_checker.proofs.Stops.{stays_more}
 use Rattle.lwkt_checker.proofs.standings.Standing.and_event.Goals as goal
 
 pub returns-in_default : goal.returns-in_default
-returns-in_default c = record {
-  stands = λ trace open_still counted so. stays_more trace c.args.told.now c.args.self c.in_default.not-Plays open_still so;
-  begun = refl;
-  opens = λ trace opens. opens;
-}
+returns-in_default c = λ trace open_still counted so. stays_more trace c.args.told.now c.args.self c.in_default.not-Plays open_still so

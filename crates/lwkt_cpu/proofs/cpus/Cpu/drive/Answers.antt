@@ -1,7 +1,7 @@
 use Rattle.std.proofs.Common.{◌≡◌, arith}
 use Rattle.lwkt_bank.specs.Seats.{id_of}
 use Rattle.lwkt_cpu.proofs.DriveMoves.{driven_more, drives_all, drives_over, on_err, short}
-use Rattle.lwkt_ask.proofs.TellMoves.{mail_then}
+use Rattle.lwkt_cpu.proofs.TellMoves.{mail_then}
 use Rattle.lwkt_cpu.proofs.ToldMoves.{made_told}
 use Rattle.lwkt_cpu.specs.Driving.{DrivesShort}
 use Rattle.lwkt_cpu.proofs.cpus.Cpu.drive.Goals as goal

@@ -2,8 +2,8 @@ use Rattle.std.proofs.Common.{List, subst}
 use Rattle.lwkt_core.specs.declared.events.Event.{Event}
 use Rattle.lwkt_hold.proofs.RunMoves.{ran_with_room}
 use Rattle.lwkt_hold.proofs.ReadMoves.{ran_still}
-use Rattle.lwkt_ask.specs.Telling.{TellsMail}
-use Rattle.lwkt_ask.proofs.TellMoves.{mail_none}
+use Rattle.lwkt_cpu.specs.Telling.{TellsMail}
+use Rattle.lwkt_cpu.proofs.TellMoves.{mail_none}
 use Rattle.lwkt_cpu.specs.Turning.{IsMailed}
 use Rattle.lwkt_cpu.proofs.StopMoves.{stop_from_room}
 use Rattle.lwkt_cpu.proofs.ToldMoves.{quiet_items}

@@ -5,9 +5,9 @@ use Rattle.lwkt_bank.specs.Seats.{holding}
 use Rattle.lwkt_hold.specs.Runs.{Ran}
 use Rattle.lwkt_hold.proofs.RunMoves.{ran_then, ran_weaker}
 use Rattle.lwkt_msg.specs.Desks.{Desk, desk_cpu}
-use Rattle.lwkt_ask.specs.Telling.{TellsMail}
-use Rattle.lwkt_ask.proofs.MailMoves.{ran_mail}
-use Rattle.lwkt_ask.proofs.TellMoves.{mail_none, mail_then, mail_told}
+use Rattle.lwkt_cpu.specs.Telling.{TellsMail}
+use Rattle.lwkt_cpu.proofs.MailMoves.{ran_mail}
+use Rattle.lwkt_cpu.proofs.TellMoves.{mail_none, mail_then, mail_told}
 use Rattle.lwkt_cpu.specs.declared.threads.Thread.{Thread}
 use Rattle.lwkt_cpu.specs.Processors.{AllOver}
 use Rattle.lwkt_cpu.specs.Searches.{IsOfOne}

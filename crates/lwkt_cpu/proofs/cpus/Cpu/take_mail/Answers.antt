@@ -3,9 +3,9 @@ use Rattle.lwkt_hold.specs.Runs.{Ran}
 use Rattle.lwkt_msg.specs.Desks.{desk_cpu}
 use Rattle.lwkt_port.specs.Posts.{IsSamePost}
 use Rattle.lwkt_port.proofs.Telling.{tells_then}
-use Rattle.lwkt_ask.specs.Telling.{TellsMail}
-use Rattle.lwkt_ask.proofs.MailMoves.{ran_mail}
-use Rattle.lwkt_ask.proofs.TellMoves.{mail_told}
+use Rattle.lwkt_cpu.specs.Telling.{TellsMail}
+use Rattle.lwkt_cpu.proofs.MailMoves.{ran_mail}
+use Rattle.lwkt_cpu.proofs.TellMoves.{mail_told}
 use Rattle.lwkt_cpu.specs.declared.threads.Thread.{Thread}
 use Rattle.lwkt_cpu.specs.Processors.{Processor, IsAtRest, processor_of}
 use Rattle.lwkt_cpu.specs.Turning.{IsMailed}

@@ -1,5 +1,5 @@
 use Rattle.lwkt_bank.specs.Seats.{id_of}
-use Rattle.lwkt_ask.proofs.TellMoves.{mail_none}
+use Rattle.lwkt_cpu.proofs.TellMoves.{mail_none}
 use Rattle.lwkt_cpu.proofs.ToldMoves.{quiet_items}
 use Rattle.lwkt_cpu.proofs.TurnMoves.{turn_from_room}
 use Rattle.lwkt_cpu.proofs.WakeMoves.{post_none}

@@ -1,6 +1,6 @@
 use Rattle.std.proofs.Common.{ℕ, refl, sym, ◌∙◌, subst, arith, Option}
 use Rattle.std.proofs.lemmas.Bool.{false≢true}
-use Rattle.lwkt_ask.proofs.TellMoves.{mail_then}
+use Rattle.lwkt_cpu.proofs.TellMoves.{mail_then}
 use Rattle.lwkt_cpu.specs.Turning.{Chooses}
 use Rattle.lwkt_cpu.proofs.RestMoves.{turn_ran, search_ran}
 use Rattle.lwkt_cpu.proofs.ToldMoves.{chosen_post, chosen_told}

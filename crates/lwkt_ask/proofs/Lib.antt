@@ -1,4 +1,0 @@
-pub mod AskMoves
-pub mod BoxMoves
-pub mod MailMoves
-pub mod TellMoves

@@ -1,0 +1,70 @@
+//! Feeds a judge the trace that was read whole.
+ghost use Rattle.std.specs.Prelude.{◌≡◌, [], None, IfOk, IfErr};
+ghost use Rattle.lwkt_trace.specs.Recognised.{with_events};
+ghost use Rattle.lwkt_checker.specs.Judgement.{IsJudgedTrace, DeclinesTrace};
+ghost use Rattle.lwkt_checker.specs.Stands.{opening_alone};
+ghost use Rattle.lwkt_checker.specs.Knows.{Knows};
+
+use crate::judges::{Finding, Judge};
+use lwkt_base::{Fault, OutOfMemory};
+use lwkt_script::Parts;
+use lwkt_trace::{Closing, Told, Trace};
+use std::alloc::Global;
+
+/// A trace in three parts: a trace in which nothing has happened yet, the events, and the closing values.
+pub fn parted(alloc: Global, trace: Trace) -> (Trace, Parts<Told>, Option<Closing>)
+    ensures opening { result.0 ≡ opening_alone trace }
+    ensures events { result.1 ≡ trace.events }
+    ensures last { result.2 ≡ trace.last }
+{
+    let Trace {
+        cpus,
+        tokens,
+        messages,
+        events,
+        last,
+    } = trace;
+    let opening = Trace {
+        cpus,
+        tokens,
+        messages,
+        events: Parts::from_vec(Vec::new(alloc)),
+        last: None,
+    };
+    (opening, events, last)
+}
+
+// A judge that was fed an opening and events.
+fn fed(alloc: Global, opening: &Trace, events: &[Told]) -> Result<Judge, OutOfMemory>
+    requires events { opening.now.events ≡ [] }
+    requires last { opening.now.last ≡ None }
+    ensures { IfOk result (Knows (with_events opening.now events.now)) }
+{
+    let mut judge = Judge::opened(alloc, opening)?;
+    for told in events {
+        judge = judge.and_event(alloc, told)?;
+    }
+    Ok(judge)
+}
+
+// A judge that was fed a trace.
+fn fed_whole(alloc: Global, trace: Trace) -> Result<Judge, OutOfMemory>
+    ensures { IfOk result (Knows trace) }
+{
+    let (opening, events, last) = parted(alloc, trace);
+    let judge = fed(alloc, &opening, events.as_slice())?;
+    Ok(judge.and_last(alloc, last)?)
+}
+
+/// What a trace is: lawful, or the index at which it fails and why.
+///
+/// Refused with `Limits` or `LawBroken` for its opening, and with `Memory` if an allocation is.
+pub fn found_whole(alloc: Global, trace: Trace) -> Result<Finding, Fault>
+    ensures ok { IfOk result (λ finding. IsJudgedTrace trace finding) }
+    ensures refused { IfErr result (λ fault. DeclinesTrace trace fault) }
+{
+    match fed_whole(alloc, trace) {
+        Ok(judge) => judge.finding(),
+        Err(refused) => Err(Fault::Memory(refused)),
+    }
+}

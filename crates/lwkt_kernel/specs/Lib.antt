@@ -1,2 +1,0 @@
-pub mod Steps
-pub mod Events

@@ -1,0 +1,40 @@
+-- A run of a script that was driven and checked (own).
+use Rattle.std.specs.Prelude.{◌≡◌, ℕ, List, ◌++◌, map, Option, IfSome}
+use Rattle.lwkt_core.specs.declared.events.Event.{Event}
+use Rattle.lwkt_core.specs.Opening.{AreWithin, AllOpenLawfully}
+use Rattle.lwkt_core.specs.Trace.{Closes}
+use Rattle.lwkt_report.specs.declared.closings.Verdict.{Verdict}
+use Rattle.lwkt_script.specs.declared.scripts.Script.{Script}
+use Rattle.lwkt_verdict.specs.Follow.{Follow, EndsHere}
+use Rattle.lwkt_verdict.specs.Parts.{after_all}
+use Rattle.lwkt_run.specs.Driving.{pace_of}
+use Rattle.lwkt_run.specs.Judging.{ids_of, IsVerdict}
+use Rattle.lwkt_run.specs.Keeping.{Story}
+use Rattle.lwkt_run.specs.Run.{opening_of_script, RunsBy, AreMadeOf}
+use Rattle.lwkt_run.specs.Values.{AreValuesOf}
+use Rattle.lwkt_run.specs.declared.endings.Left.{Left}
+use Rattle.lwkt_run.specs.declared.rounds.Course.{Course}
+use Rattle.lwkt_run.specs.declared.rounds.Course.TheVariants.{Rounds, Along}
+
+-- a check that has followed a run says that it ends so: with what is left, and with these events of the stop
+pub record EndsSo (f : Follow) (left : Left) (stop : List Event) : Type 0 where
+  pub ends : EndsHere f left.threads.items stop
+  pub closes : Closes (after_all f.machine stop) left.last
+
+-- these are the processors of the turns that were made of a course, by the verdict on them
+abbrev pub IsMadeOf : Verdict → Course → List ℕ → Type 0
+IsMadeOf verdict (Rounds limit) made = Unit {0}
+IsMadeOf verdict (Along order) made = AreMadeOf verdict order.now made
+
+-- a run of a script left this, and the check of it says this verdict: the opening was accepted, each thread has its line, and there is a
+-- story, which is what was kept, if anything was, of a run that leaves this, and on which that is the verdict
+pub record LeavesChecked (course : Course) (script : Script) (kept : Option Story) (left : Left) (stops : List Event) (verdict : Verdict) : Type 0 where
+  pub within : AreWithin script.cpus script.tokens script.messages
+  pub lawful_opening : AllOpenLawfully script.tokens
+  pub values : AreValuesOf script.tokens left.last
+  pub threads : map (λ line. line.id) left.threads.items ≡ ids_of script.cpus script.threads
+  pub story : Story
+  pub shown : IfSome kept (λ s. s ≡ story)
+  pub made : IsMadeOf verdict course story.kept.order
+  pub runs : RunsBy verdict (pace_of course) script story.kept.order left.threads.items story.kept (story.trace ++ stops) left.last
+  pub by : IsVerdict verdict (opening_of_script script) (pace_of course) story.kept.order script.threads left.threads.items left.last (story.trace ++ stops) story.kept.polls story.kept.turns

@@ -1,0 +1,140 @@
+//! A run of a script that a check follows to its end, or up to the turn that it says no to.
+ghost use Rattle.std.specs.Prelude.{◌≡◌, ◌⊎◌, IsTrue, IfOk, IfErr, IfSome, OnOk};
+ghost use Rattle.lwkt_base.specs.declared.asks.Ask.TheVariants.{Exit};
+ghost use Rattle.lwkt_core.specs.Opening.{AreWithin, AllOpenLawfully};
+ghost use Rattle.lwkt_machine.specs.Opened.{AreFew};
+ghost use Rattle.lwkt_verdict.specs.Follow.{Begins};
+ghost use Rattle.lwkt_run.specs.Checked.{EndsSo, LeavesChecked};
+ghost use Rattle.lwkt_run.specs.Driving.{IsCourseOf, HasTurns};
+ghost use Rattle.lwkt_run.specs.Keeping.{none_told};
+ghost use Rattle.lwkt_run.specs.Run.{opening_of_script, DeclinesRun};
+
+use crate::endings::{Left, left_by};
+use crate::keepers::Keeper;
+use crate::rounds::{Course, drive};
+use lwkt_base::{Ask, Fault, OutOfMemory};
+use lwkt_core::{Event, State};
+use lwkt_machine::Machine;
+use lwkt_report::Verdict;
+use lwkt_script::Script;
+use lwkt_verdict::Follower;
+use std::alloc::Global;
+
+/// What a run left that was checked, the events of its stop, what was kept of its turns, and the verdict.
+#[derive(Drop)]
+pub struct Checked<K: Keeper> {
+    /// The closing values, and the lines of the threads.
+    pub left: Left,
+    /// The events of the stop.
+    pub stops: Vec<Event>,
+    /// What was kept of the turns.
+    pub keeper: K,
+    /// What the check says of the run.
+    pub verdict: Verdict,
+}
+
+// The opening state of a script.
+fn opened(alloc: Global, script: &Script) -> Result<State, Fault>
+    requires few { AreFew script.now.cpus script.now.threads }
+    ensures ok { IfOk result (λ state. state ≡ opening_of_script script.now) }
+    ensures within { OnOk result (AreWithin script.now.cpus script.now.tokens script.now.messages) }
+    ensures lawful { OnOk result (AllOpenLawfully script.now.tokens) }
+    ensures refused { IfErr result (λ fault. DeclinesRun script.now fault) }
+{
+    State::open(
+        alloc,
+        script.tokens.as_slice(),
+        script.messages.as_slice(),
+        usize::from(script.cpus),
+    )
+}
+
+// A check of a run of a script from this opening on; `end` is the ask that ends a thread.
+fn follower_of<'p>(
+    alloc: Global,
+    script: &'p Script,
+    opening: State,
+    end: &'p Ask,
+) -> Result<Follower<'p>, OutOfMemory>
+    requires end { end.now ≡ Exit }
+    ensures begins { IfOk result (λ f. Begins script.now.threads opening f) }
+{
+    Follower::new(alloc, script.threads.as_slice(), opening, end)
+}
+
+// Whether the check followed all turns of a course, and these are some, if they are rounds.
+fn is_followed(fits: bool, course: Course<'_>) -> bool
+    ensures { IsTrue result → IsTrue fits × HasTurns course.entry }
+{
+    fits && course.has_turns()
+}
+
+// Whether the check of a run says that the run ends so: with these events of the stop, and with what is left.
+fn ends_so(follower: Follower<'_>, left: &Left, stops: &[Event]) -> bool
+    ensures { IsTrue result → EndsSo follower.entry left.now stops.now }
+{
+    match follower.ends(&left.threads, stops) {
+        Some(state) => state.closes(&left.last),
+        None => false,
+    }
+}
+
+// The verdict on a run, by whether the check followed its turns, whose events are so many, and by what is left.
+fn verdict_of(
+    follows: bool,
+    events: usize,
+    follower: Follower<'_>,
+    left: &Left,
+    stops: &[Event],
+) -> Verdict
+    ensures { ((result ≡ Verdict.Lawful) × (IsTrue follows × EndsSo follower.entry left.now stops.now)) ⊎ (result ≡ Verdict.Unlawful events) }
+{
+    if follows && ends_so(follower, left, stops) {
+        Verdict::Lawful
+    } else {
+        Verdict::Unlawful { index: events }
+    }
+}
+
+/// Runs a script along a course, which is one of it, and checks the run while it is made. The keeper, which has kept nothing yet, takes
+/// each turn. If the check says no, the machine is stopped and closed where it stands then.
+///
+/// Refused with `Limits` or `LawBroken` for the script's opening, and with `Memory` if memory is refused.
+pub fn checked_run<K: Keeper + Drop>(
+    alloc: Global,
+    script: &Script,
+    course: Course<'_>,
+    keeper: K,
+) -> Result<Checked<K>, Fault>
+    requires course { IsCourseOf script.now course }
+    requires fresh { IfSome (K.kept keeper) (λ story. story ≡ none_told) }
+    ensures leaves { IfOk result (λ run. LeavesChecked course.entry script.now (K.kept run.keeper) run.left run.stops.items run.verdict) }
+    ensures refused { IfErr result (λ fault. DeclinesRun script.now fault) }
+{
+    let mut keeper = keeper;
+    let mut machine = Machine::open(alloc, script)?;
+    let close_room = machine.room(alloc)?;
+    let opening = opened(alloc, script)?;
+    let end = Ask::Exit;
+    let mut follower = follower_of(alloc, script, opening, &end)?;
+    let mut room = Vec::new(alloc);
+    let mut events = 0;
+    let fits = drive(
+        &mut machine,
+        course,
+        &mut room,
+        &mut follower,
+        &mut keeper,
+        &mut events,
+    )?;
+    room.clear();
+    let left = left_by(alloc, script, machine, close_room, &mut room)?;
+    let follows = is_followed(fits, course);
+    let verdict = verdict_of(follows, events, follower, &left, room.as_slice());
+    Ok(Checked {
+        left,
+        stops: room,
+        keeper,
+        verdict,
+    })
+}
