@@ -253,13 +253,13 @@ fn fault_of(label: &Label, ends: bool) -> Option<Fault> {
 // Notes a fault in a list without it that has room; says whether it was noted.
 fn note_fault(noted: &mut [Option<Fault>; FAULT_LIMIT], fault: Fault) -> bool {
     for slot in noted.iter_mut() {
-        match *slot {
-            Some(old) if old.number() == fault.number() => return false,
-            Some(_) => {}
-            None => {
-                *slot = Some(fault);
-                return true;
-            }
+        let found = *slot;
+        let Some(old) = found else {
+            *slot = Some(fault);
+            return true;
+        };
+        if old.number() == fault.number() {
+            return false;
         }
     }
     false
