@@ -12,8 +12,8 @@ use lwkt_base::memory::{from_slice, push, reserve};
 use lwkt_base::{Fault, OutOfMemory};
 use lwkt_report::{Closing, Verdict, report_front};
 use lwkt_run::{End, TurnsRun, end_told, order_run_of};
-use lwkt_scenes::{Reel, whys_of};
 use lwkt_script::Script;
+use lwkt_show::{Reel, whys_of};
 use std::alloc::Global;
 
 /// How a run along an order stood when it stopped.
