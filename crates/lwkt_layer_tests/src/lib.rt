@@ -1,5 +1,5 @@
-//! The layers below a machine: the worked rows of words, checkers, bank, holds, book, lanes, ports and processors that are no
-//! scripts or look at token words, threads that share a message and a lane, and that each call which takes memory succeeds with
+//! The layers below a machine: the worked rows of words, checkers, book and lanes, those of bank, holds, ports and processors that look
+//! at token words or go on where memory was refused, a lane between two threads, and that each call which takes memory succeeds with
 //! ample memory. What a clause of a layer says isn't tried again.
 //!
 //! Where a call for memory is refused a row is played once more, so each has to go as it is told with any one call refused, too:
