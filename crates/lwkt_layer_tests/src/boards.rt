@@ -83,7 +83,19 @@ fn seat_of(
     Ok(seat)
 }
 
-// A turn of the processor of this number.
+// A turn of a processor, and of the one of this number.
+fn turn_one(
+    bank: &Bank,
+    book: &MsgBook,
+    cpu: &mut Cpu<ScriptBody>,
+    trace: &mut Vec<Event>,
+) -> Result<Turned, Fault>
+    requires { IsOfMachine (id_of bank.now) book.now cpu.old }
+    ensures { IsOfMachine (id_of bank.now) book.now cpu.new }
+{
+    cpu.turn(bank, book, trace)
+}
+
 fn turn_of(
     bank: &Bank,
     book: &MsgBook,
@@ -95,12 +107,25 @@ fn turn_of(
     ensures { All (IsOfMachine (id_of bank.now) book.now) cpus.new.items }
 {
     match cpus.get_mut(at) {
-        Some(cpu) => cpu.turn(bank, book, trace),
+        Some(cpu) => turn_one(bank, book, cpu, trace),
         None => Err(Fault::Limits),
     }
 }
 
-// Turns of the processor of this number, at most so many.
+// Turns of a processor, at most so many, and of the one of this number.
+fn drive_one(
+    bank: &Bank,
+    book: &MsgBook,
+    cpu: &mut Cpu<ScriptBody>,
+    limit: u64,
+    trace: &mut Vec<Event>,
+) -> Result<Drove, Fault>
+    requires { IsOfMachine (id_of bank.now) book.now cpu.old }
+    ensures { IsOfMachine (id_of bank.now) book.now cpu.new }
+{
+    cpu.drive(bank, book, limit, trace)
+}
+
 fn drive_of(
     bank: &Bank,
     book: &MsgBook,
@@ -113,12 +138,24 @@ fn drive_of(
     ensures { All (IsOfMachine (id_of bank.now) book.now) cpus.new.items }
 {
     match cpus.get_mut(at) {
-        Some(cpu) => cpu.drive(bank, book, limit, trace),
+        Some(cpu) => drive_one(bank, book, cpu, limit, trace),
         None => Err(Fault::Limits),
     }
 }
 
-// The processor of this number stops.
+// A processor stops, and the one of this number.
+fn stop_one(
+    bank: &Bank,
+    book: &MsgBook,
+    cpu: &mut Cpu<ScriptBody>,
+    trace: &mut Vec<Event>,
+) -> Result<(), Fault>
+    requires { IsOfMachine (id_of bank.now) book.now cpu.old }
+    ensures { IsOfMachine (id_of bank.now) book.now cpu.new }
+{
+    cpu.stop(bank, book, trace)
+}
+
 fn stop_of(
     bank: &Bank,
     book: &MsgBook,
@@ -130,15 +167,23 @@ fn stop_of(
     ensures { All (IsOfMachine (id_of bank.now) book.now) cpus.new.items }
 {
     match cpus.get_mut(at) {
-        Some(cpu) => cpu.stop(bank, book, trace),
+        Some(cpu) => stop_one(bank, book, cpu, trace),
         None => Err(Fault::Limits),
     }
+}
+
+// The parts of the machine of a script.
+fn parts_of(alloc: Global, script: &[u8]) -> Result<(Bank, MsgBook, Vec<Cpu<ScriptBody>>), Fault>
+    ensures { IfOk result (λ parts. All (IsOfMachine (id_of parts.0) parts.1) parts.2.items) }
+{
+    let machine = opened(alloc, script)?;
+    Ok(machine.take_apart())
 }
 
 impl Board {
     /// The board of a script, whose last processor has no threads.
     pub fn open(alloc: Global, script: &[u8]) -> Result<Board, Fault> {
-        let (bank, book, mut cpus) = opened(alloc, script)?.take_apart();
+        let (bank, book, mut cpus) = parts_of(alloc, script)?;
         let Some(last) = cpus.pop() else {
             return Err(Fault::Limits);
         };
