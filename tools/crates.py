@@ -35,6 +35,12 @@ def below(crates, names):
     return found
 
 
+def sources(name):
+    """Returns the files that a proof of the crate reads, beside those of the crates below."""
+    parts = [f"{TOP}/crates/{name}/{part}" for part in ("src", "specs", "proofs")]
+    return sorted(f"{at}/{file}" for part in parts for at, _, files in os.walk(part) for file in files)
+
+
 def copy_tree(crates, names, room):
     """Copies these crates, without their mutants and what was built of them, into the folder room."""
     # (rt wants its folder to be the top of a repository)
@@ -57,6 +63,12 @@ def prove(room, seconds=None):
 def kit():
     """Returns the folder of the Rattle kit."""
     return os.path.dirname(subprocess.run(["rt", "doc"], stdout=subprocess.PIPE, text=True, check=True).stdout.strip())
+
+
+def kit_text():
+    """Returns what names the kit, and the size and the time of its compiler."""
+    compiler = os.stat(f"{kit()}/bin/rattle")
+    return subprocess.run(["rt", "version"], stdout=subprocess.PIPE, text=True).stdout, compiler.st_size, compiler.st_mtime_ns
 
 
 def logic_words(crates, name):
