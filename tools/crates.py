@@ -1,6 +1,7 @@
 """The crates of the tree, copies of them that `rt ci` has built, and checks over these; for bench/edits and tools/quick."""
 
 import collections
+import functools
 import os
 import re
 import shutil
@@ -60,6 +61,7 @@ def prove(room, seconds=None):
     return "\n".join(ran.stdout.split("\n")[-5:]) if ran.returncode else None
 
 
+@functools.lru_cache(maxsize=None)
 def kit():
     """Returns the folder of the Rattle kit."""
     return os.path.dirname(subprocess.run(["rt", "doc"], stdout=subprocess.PIPE, text=True, check=True).stdout.strip())
