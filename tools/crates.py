@@ -10,6 +10,8 @@ import subprocess
 TOP = os.path.dirname(os.path.dirname(os.path.abspath(__file__)))
 # A crate: its kind as crates.txt has it, and what it uses, also from the kit.
 Crate = collections.namedtuple("Crate", "name kind uses")
+# How a command is run that reads nothing and whose output is looked at.
+PIPED = {"stdin": subprocess.DEVNULL, "stdout": subprocess.PIPE, "stderr": subprocess.STDOUT, "errors": "replace"}
 
 
 def read(file):
@@ -55,7 +57,7 @@ def copy_tree(crates, names, room):
 def prove(room, seconds=None):
     """Has `rt ci` prove the crates in the folder room, or take what it proved of them on this machine before. Returns what is wrong, or None."""
     try:
-        ran = subprocess.run(["rt", "ci"], cwd=room, stdin=subprocess.DEVNULL, stdout=subprocess.PIPE, stderr=subprocess.STDOUT, errors="replace", timeout=seconds)
+        ran = subprocess.run(["rt", "ci"], cwd=room, timeout=seconds, **PIPED)
     except subprocess.TimeoutExpired:
         return f"not proved in {seconds} s"
     return "\n".join(ran.stdout.split("\n")[-5:]) if ran.returncode else None
@@ -110,5 +112,5 @@ def words_over_sources(crates, name):
 
 def run(words, folder):
     """Runs a check in this folder. Returns its status and what it said."""
-    ran = subprocess.run(words, cwd=folder, stdin=subprocess.DEVNULL, stdout=subprocess.PIPE, stderr=subprocess.STDOUT, errors="replace")
+    ran = subprocess.run(words, cwd=folder, **PIPED)
     return ran.returncode, ran.stdout
