@@ -16,7 +16,7 @@ use lwkt_core::Event;
 use lwkt_cpu::{Body, Cpu, Drove, Turned};
 use lwkt_lane::{Lanes, open_lanes};
 use lwkt_msg::{MsgBook, MsgSeat};
-use lwkt_seating::{Rest, Tables, open_tables, origins_of};
+use lwkt_machine::{Rest, Tables, open_tables, origins_of};
 use std::alloc::Global;
 
 /// A bank and a book for three processors, two of them, and the seats of the third one.

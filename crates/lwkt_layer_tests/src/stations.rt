@@ -9,7 +9,7 @@ use lwkt_core::Event;
 use lwkt_lane::{Lanes, open_lanes};
 use lwkt_msg::{MsgBook, MsgSeat};
 use lwkt_port::Ports;
-use lwkt_seating::origins_of;
+use lwkt_machine::origins_of;
 use std::alloc::Global;
 
 /// Leave for nothing.

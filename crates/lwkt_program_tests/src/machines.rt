@@ -4,7 +4,7 @@ use crate::cautious::{Cautious, ends_at_a_refusal};
 use crate::listed::{Listed, TOKEN};
 use lwkt_base::{Ask, CpuId, Fault, Row, Section, TokSpec};
 use lwkt_core::Event;
-use lwkt_program::{Closed, Ending, LIMITS, Machine, Stepper, Turned, makers};
+use lwkt_machine::{Closed, Ending, LIMITS, Machine, Stepper, Turned, makers};
 use std::alloc::Global;
 use std::thread::Threads;
 

@@ -1,7 +1,7 @@
 use Rattle.std.proofs.Common.{◌<◌, length, arith}
 use Rattle.lwkt_bank.specs.Seats.{id_of}
-use Rattle.lwkt_seating.proofs.OpenMoves.{rest_first}
-use Rattle.lwkt_seating.proofs.SeatMoves.{first_seat, first_desk}
+use Rattle.lwkt_machine.proofs.TableMoves.{rest_first}
+use Rattle.lwkt_machine.proofs.SeatMoves.{first_seat, first_desk}
 use Rattle.lwkt_layer_tests.proofs.boards.Board.seat.Goals as goal
 
 pub next-requires-clause-rest : goal.next-requires-clause-rest
