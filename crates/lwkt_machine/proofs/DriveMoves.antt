@@ -1,5 +1,5 @@
 -- A machine whose processors were driven is still one.
-use Rattle.std.proofs.Common.{◌≡◌, ◌∙◌, ℕ, List, length, ap, sym, subst, Some}
+use Rattle.std.proofs.Common.{◌∙◌, ℕ, List, sym, subst}
 use Rattle.std.specs.Prelude.{All, Bool}
 use Rattle.std.specs.List.{AllZip}
 use Rattle.lwkt_base.specs.declared.names.CpuId.{CpuId}

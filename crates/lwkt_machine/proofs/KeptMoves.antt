@@ -1,5 +1,5 @@
 -- What each poll of a body keeps is kept by turns, and by drives.
-use Rattle.std.proofs.Common.{◌≡◌, ◌<◌, ℕ, List, [], ◌∷◌, length, sym, subst}
+use Rattle.std.proofs.Common.{◌<◌, ℕ, List, [], ◌∷◌, length, sym, subst}
 use Rattle.std.specs.Prelude.{Bool, Vec, All, Option, Some, None}
 use Rattle.std.specs.List.{AllZip}
 use Rattle.std.specs.declared.alloc.Global.{Global}
@@ -14,7 +14,7 @@ use Rattle.lwkt_cpu.specs.declared.answers.Turned.{Turned}
 use Rattle.lwkt_cpu.specs.declared.answers.Turned.TheVariants.{Ran, Idle, AllExited}
 use Rattle.lwkt_cpu.specs.Processors.{Processor}
 use Rattle.lwkt_cpu.specs.Turning.{Chooses, RunsOne, Turns, MakesTurn}
-use Rattle.lwkt_drive.specs.Appending.{AppendsTurn, AppendsTurns}
+use Rattle.lwkt_drive.specs.Appending.{AppendsTurns}
 use Rattle.lwkt_drive.specs.declared.driven.Driven.{Driven}
 use Rattle.lwkt_drive.specs.declared.driven.Limits.{Limits}
 use Rattle.lwkt_drive.specs.Course.{IsDriven}

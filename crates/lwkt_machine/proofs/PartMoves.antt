@@ -31,7 +31,7 @@ use Rattle.lwkt_machine.specs.Bodies.{Scripted, IsPolled}
 use Rattle.lwkt_machine.specs.Drives.{IsDrivenMachine}
 use Rattle.lwkt_machine.specs.Ended.{EndsWith, IsClosedMachine}
 use Rattle.lwkt_machine.specs.Machines.{Rig, processors}
-use Rattle.lwkt_machine.specs.Opened.{IsOpenedCpu, IsOpenedDriven}
+use Rattle.lwkt_machine.specs.Opened.{IsOpenedCpu}
 use Rattle.lwkt_machine.specs.Parts.{AreJustOpened, parts_of, TellTheRuns}
 use Rattle.lwkt_machine.specs.Scripts.{bodies_on, IsOpenedScript}
 use Rattle.lwkt_machine.proofs.DrivenMoves.{driven_at, long_processors, processor_at}

@@ -1,6 +1,6 @@
 -- Turns and rounds, one after another.
 use Rattle.std.proofs.Common.{◌≡◌, ◌≢◌, ◌⊎◌, ◌∙◌, ℕ, ◌+◌, ◌<◌, List, [], ◌∷◌, ◌++◌, length, length-append, refl, ap, subst, inl, inr, arith}
-use Rattle.std.specs.Prelude.{Bool, true, false, All, Result, Ok, Err, OnErr}
+use Rattle.std.specs.Prelude.{Bool, true, false, All}
 use Rattle.std.proofs.lemmas.List.Elements.{All-push}
 use Rattle.lwkt_base.specs.declared.asks.Ask.{Ask}
 use Rattle.lwkt_base.specs.declared.asks.Answer.{Answer}

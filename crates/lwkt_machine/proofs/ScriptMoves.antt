@@ -1,5 +1,5 @@
 -- What a script's machine is opened with.
-use Rattle.std.proofs.Common.{◌≡◌, ◌∙◌, ℕ, ◌+◌, ◌<◌, ◌≤◌, ◌==◌, List, [], ◌∷◌, ◌++◌, length, get_or, refl, ap, sym, subst, inl, inr, arith, Some}
+use Rattle.std.proofs.Common.{◌≡◌, ◌∙◌, ℕ, ◌+◌, ◌<◌, ◌≤◌, ◌==◌, List, [], ◌∷◌, ◌++◌, length, ap, sym, subst, inl, inr, arith, Some}
 use Rattle.std.specs.Prelude.{All, Vec, filter, slice_get}
 use Rattle.std.specs.declared.alloc.Global.{Global}
 use Rattle.std.proofs.lemmas.Bool.{cases_eq}
@@ -9,17 +9,14 @@ use Rattle.std.proofs.lemmas.List.Sums.{length-filter}
 use Rattle.std.proofs.lemmas.Option.{slice_get_within}
 use Rattle.lwkt_base.specs.declared.faults.Fault.{Fault}
 use Rattle.lwkt_base.specs.declared.faults.Fault.TheVariants.{Memory, Limits, LawBroken}
-use Rattle.lwkt_base.specs.declared.openings.MsgSpec.{MsgSpec}
-use Rattle.lwkt_base.specs.declared.openings.TokSpec.{TokSpec}
 use Rattle.lwkt_core.specs.Opening.{AreWithin}
 use Rattle.lwkt_cpu.specs.Processors.{Processor}
 use Rattle.lwkt_script.specs.declared.scripts.Script.{Script}
 use Rattle.lwkt_script.specs.declared.scripts.ThreadSpec.{ThreadSpec}
 use Rattle.lwkt_script.specs.Format.{threads_on}
-use Rattle.lwkt_drive.specs.declared.driven.Driven.{Driven}
 use Rattle.lwkt_lane.proofs.PlaceMoves.{get_there}
 use Rattle.lwkt_machine.specs.Bodies.{Scripted}
-use Rattle.lwkt_machine.specs.Machines.{Rig, processors}
+use Rattle.lwkt_machine.specs.Machines.{Rig}
 use Rattle.lwkt_machine.specs.Opened.{Declines, DeclinesTables, IsOpenedCpu, IsOpenedMachine, IsWithin}
 use Rattle.lwkt_machine.specs.Scripts.{body_of, bodies_on, AreBodiesOf, AreFew, DeclinesScript, IsOpenedScript, IsScriptWithin}
 use Rattle.lwkt_machine.proofs.DrivenMoves.{long_processors}

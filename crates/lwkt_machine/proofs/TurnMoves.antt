@@ -1,5 +1,5 @@
 -- One processor of a machine makes a turn, after it saw what was sent to it, and the parts of the machine still belong together.
-use Rattle.std.proofs.Common.{◌≡◌, ◌≢◌, ◌∙◌, ℕ, ◌<◌, ◌++◌, [], List, length, set, get_or, refl, ap, sym, subst, arith, Some}
+use Rattle.std.proofs.Common.{◌≡◌, ◌∙◌, ℕ, ◌<◌, ◌++◌, List, length, set, get_or, refl, ap, sym, subst, arith, Some}
 use Rattle.std.specs.Prelude.{All, Vec, slice_get}
 use Rattle.std.specs.List.{AllZip}
 use Rattle.std.specs.declared.alloc.Global.{Global}
@@ -17,12 +17,11 @@ use Rattle.lwkt_cpu.specs.Turning.{MakesTurn}
 use Rattle.lwkt_cpu.proofs.SightMoves.{IsLooked}
 use Rattle.lwkt_events.specs.ShortEvents.{KeptTrace}
 use Rattle.lwkt_lane.proofs.PlaceMoves.{get_set_same, get_set_other, some_same}
-use Rattle.lwkt_drive.specs.Appending.{AppendsTurn}
 use Rattle.lwkt_drive.specs.declared.driven.Driven.{Driven}
 use Rattle.lwkt_machine.specs.Machines.{Has, processors, rig_of, AreOneMachine}
 use Rattle.lwkt_machine.specs.Ended.{AreSameCpus}
 use Rattle.lwkt_machine.specs.Sights.{KeepsLog, SeesSent}
-use Rattle.lwkt_machine.specs.Turns.{KeepsPart, KeepsPartAt, StaysAt, StaysPut, TurnsAt, TurnsKept}
+use Rattle.lwkt_machine.specs.Turns.{KeepsPart, KeepsPartAt, StaysAt, StaysPut, TurnsAt}
 use Rattle.lwkt_machine.proofs.DrivenMoves.{processors_put}
 use Rattle.lwkt_machine.proofs.KeptMoves.{Keeps, kept_turn}
 use Rattle.lwkt_machine.proofs.ListMoves.{all_at, all_from_get, zip_get, zip_long}

@@ -250,7 +250,7 @@ part_kept : (p : Event → Bool) (cpu : ℕ) (events own : List Event) → filte
 part_kept p cpu events own is = filter_both p (λ (e : Event). cpu_of e == cpu) events ∙ ap (of_cpu cpu) is
 
 -- two runs of a machine's halves, and what the processors' parts tell of them, are one run of it
-pub one_run : (cpus : ℕ) (tokens : List TokSpec) (messages : List MsgSpec) (opened : Rig Scripted) (closed : Closed) (last : Final) (parts : List (List Event))
+pub one_run : (cpus : ℕ) (tokens : List TokSpec) (messages : List MsgSpec) (opened : Rig Scripted) (closed : Closed Scripted) (last : Final) (parts : List (List Event))
     → TellTheRuns opened closed parts → first_machine opened.bank.plans (length opened.cpus) ≡ opening cpus tokens [] → machine_of opened.book.cpus (first_mails opened.book.specs) ≡ opening cpus [] messages
     → last.rows ≡ closed.tokens.rows → last.gens ≡ closed.tokens.gens → last.tallies ≡ closed.tokens.tallies → last.blobs ≡ closed.tokens.blobs → last.messages ≡ closed.messages → AreOneRun cpus tokens messages last parts
 one_run cpus tokens messages opened closed last parts tells tokens_from messages_from rows gens tallies blobs mails =

@@ -10,7 +10,6 @@ use Rattle.lwkt_base.specs.declared.asks.Ask.{Ask}
 use Rattle.lwkt_base.specs.declared.asks.Answer.{Answer}
 use Rattle.lwkt_base.specs.declared.names.CpuId.{CpuId}
 use Rattle.lwkt_core.specs.declared.events.Event.{Event}
-use Rattle.lwkt_events.specs.ShortEvents.{KeptTrace}
 use Rattle.lwkt_bank.specs.Seats.{BankId}
 use Rattle.lwkt_port.specs.Chains.{Chain}
 use Rattle.lwkt_cpu.specs.declared.answers.Turned.{Turned}
@@ -22,7 +21,7 @@ use Rattle.lwkt_cpu.specs.Turning.{Chooses, Turns, MakesTurn}
 use Rattle.lwkt_cpu.specs.Waking.{Ward, ward, WakesAt}
 use Rattle.lwkt_cpu.proofs.SearchMoves.{finds_long}
 use Rattle.lwkt_cpu.proofs.SightMoves.{IsLooked}
-use Rattle.lwkt_lane.proofs.PlaceMoves.{some_same, get_there, get_set_same, get_set_other}
+use Rattle.lwkt_lane.proofs.PlaceMoves.{some_same, get_set_same, get_set_other}
 use Rattle.lwkt_drive.specs.declared.driven.Limits.{Limits}
 use Rattle.lwkt_machine.specs.Bodies.{Scripted, IsPolled}
 use Rattle.lwkt_machine.specs.Machines.{Rig}

@@ -1,5 +1,5 @@
 use Rattle.std.specs.Global.{Global}
-use Rattle.std.specs.Prelude.{codes, ◌<◌, ◌≤◌, ◌*◌, length, All, string_bytes, String, Vec, ◌≡◌, ◌⊎◌, ℕ, Bool, true, false, List, [], ◌++◌, map, take, Option, is_some, unwrap_or, IfSome, Result, Ok, Err}
+use Rattle.std.specs.Prelude.{codes, ◌<◌, ◌≤◌, ◌*◌, length, All, string_bytes, String, ◌≡◌, ◌⊎◌, ℕ, Bool, true, false, List, [], ◌++◌, map, take, Option, is_some, unwrap_or, IfSome, Result, Ok, Err}
 use Rattle.std.specs.List.{list_all, range_with_len}
 use Rattle.std.specs.Io.KnownBytes.{Appends, Keeps}
 use Rattle.lwkt_base.specs.declared.faults.Fault.{Fault as Refusal}

@@ -1,6 +1,6 @@
 -- What a run on threads writes and answers (own).
 use Rattle.std.specs.Global.{Global}
-use Rattle.std.specs.Prelude.{codes, length, All, string_bytes, String, Vec, ◌≡◌, ℕ, Bool, true, List, [], map, is_some, Option, Result, Ok}
+use Rattle.std.specs.Prelude.{codes, length, All, string_bytes, String, ◌≡◌, ℕ, Bool, true, List, [], map, is_some, Option, Result, Ok}
 use Rattle.lwkt_base.specs.declared.names.CpuId.{CpuId}
 use Rattle.lwkt_core.specs.declared.events.Event.{Event}
 use Rattle.lwkt_events.specs.ShortEvents.{KeptTrace}

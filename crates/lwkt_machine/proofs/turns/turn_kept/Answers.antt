@@ -1,4 +1,4 @@
-use Rattle.std.proofs.Common.{◌≡◌, ◌<◌, ◌∙◌, List, length, length-set, get_or, set, refl, ap, sym, subst, arith, Some}
+use Rattle.std.proofs.Common.{◌≡◌, ◌<◌, List, length, length-set, get_or, set, ap, sym, subst, arith, Some}
 use Rattle.std.specs.Prelude.{slice_get}
 use Rattle.std.proofs.lemmas.Option.{slice_get-get_or}
 use Rattle.lwkt_bank.specs.Seats.{id_of, cpus_of}

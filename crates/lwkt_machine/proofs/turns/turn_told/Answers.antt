@@ -1,6 +1,5 @@
-use Rattle.std.proofs.Common.{◌≡◌, ◌<◌, ◌∙◌, List, length, length-set, get_or, set, sym, subst, arith, Some}
+use Rattle.std.proofs.Common.{◌≡◌, List, get_or, set, sym, subst, arith, Some}
 use Rattle.std.specs.Prelude.{slice_get}
-use Rattle.std.specs.List.{AllZip}
 use Rattle.std.proofs.lemmas.Option.{slice_get-get_or}
 use Rattle.lwkt_bank.specs.Seats.{id_of, cpus_of}
 use Rattle.lwkt_cpu.specs.Processors.{Processor}
@@ -9,7 +8,7 @@ use Rattle.lwkt_drive.specs.declared.driven.Driven.{Driven}
 use Rattle.lwkt_machine.specs.Machines.{processors, AreOneMachine}
 use Rattle.lwkt_machine.specs.Sights.{KeepsLog}
 use Rattle.lwkt_machine.proofs.DrivenMoves.{logs_set, processor_at, processors_set}
-use Rattle.lwkt_machine.proofs.ListMoves.{all_at, zip_there}
+use Rattle.lwkt_machine.proofs.ListMoves.{zip_there}
 use Rattle.lwkt_machine.proofs.SameMoves.{same_of}
 use Rattle.lwkt_machine.proofs.SightMoves.{looked_same, sent_looked}
 use Rattle.lwkt_machine.proofs.TurnMoves.{turned_at, turned_whole}

@@ -9,7 +9,7 @@ use Rattle.lwkt_msg.specs.Desks.{Desk, AreClosed}
 use Rattle.lwkt_cpu.specs.Processors.{Processor}
 use Rattle.lwkt_drive.specs.declared.driven.Driven.{Driven}
 use Rattle.lwkt_drive.specs.Course.{IsAtTables}
-use Rattle.lwkt_machine.specs.Ended.{HaveEnded, AreOver, AreRetired, IsClosedMachine}
+use Rattle.lwkt_machine.specs.Ended.{HaveEnded, AreOver, AreRetired}
 use Rattle.lwkt_machine.specs.Machines.{Has, Rig, AreLawful, Lasts, processors}
 use Rattle.lwkt_machine.proofs.DrivenMoves.{at_tables, each_driven}
 use Rattle.lwkt_lane.proofs.PlaceMoves.{refilled}

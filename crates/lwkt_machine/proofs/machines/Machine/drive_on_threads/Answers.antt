@@ -1,4 +1,4 @@
-use Rattle.std.proofs.Common.{◌≡◌, ◌++◌, ◌∙◌, List, length, take, drop, refl, ap, sym, subst}
+use Rattle.std.proofs.Common.{◌++◌, ◌∙◌, List, length, take, drop, refl, sym, subst}
 use Rattle.std.specs.Prelude.{All}
 use Rattle.std.specs.List.{AllZip}
 use Rattle.lwkt_bank.specs.Seats.{id_of, cpus_of}

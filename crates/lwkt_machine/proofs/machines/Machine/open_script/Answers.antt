@@ -1,11 +1,5 @@
-use Rattle.std.proofs.Common.{◌≡◌, List, length, rules, subst, ◌∙◌}
-use Rattle.std.specs.Prelude.{IfErr, IfOk, OnOk}
-use Rattle.std.proofs.lemmas.Result.{IfErr-weaker, IfOk-weaker, on_ok_weaker}
-use Rattle.lwkt_core.specs.Opening.{AreWithin, AllOpenLawfully}
-use Rattle.lwkt_script.specs.declared.scripts.ThreadSpec.{ThreadSpec}
-use Rattle.lwkt_machine.specs.Opened.{Declines, IsOpenedMachine, IsWithin}
-use Rattle.lwkt_machine.specs.Scripts.{AreBodiesOf, AreFew, DeclinesScript, IsOpenedScript}
-use Rattle.lwkt_machine.proofs.ScriptMoves.{declines_script, nothing_kept, opened_script, within_script}
+use Rattle.std.proofs.Common.{rules}
+use Rattle.lwkt_machine.proofs.ScriptMoves.{nothing_kept}
 use Rattle.lwkt_machine.proofs.machines.Machine.open_script.Goals as goal
 
 pub returns-then-not-are_few-clause-refused : goal.returns-then-not-are_few-clause-refused

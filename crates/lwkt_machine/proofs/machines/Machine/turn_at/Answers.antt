@@ -1,4 +1,4 @@
-use Rattle.std.proofs.Common.{◌≡◌, ◌++◌, ◌∙◌, List, length, take, drop, sym, subst}
+use Rattle.std.proofs.Common.{◌++◌, ◌∙◌, List, length, take, drop, sym, subst}
 use Rattle.std.specs.Prelude.{IfOk, OnErr}
 use Rattle.lwkt_bank.specs.Seats.{id_of, cpus_of}
 use Rattle.lwkt_drive.specs.declared.driven.Driven.{Driven}
