@@ -71,7 +71,7 @@ all_at P xs k x at all =
 -- a list with the element at a place in its own stead
 pub set_same : {A : Type 0} (xs : List A) (k : ℕ) (x y : A) → slice_get xs k ≡ Some x → y ≡ x → set xs k y ≡ xs
 set_same [] k x y at same = refl
-set_same (z ∷ xs) zero x y at same = ap (λ w. w ∷ xs) (same ∙ some_same x z (Some x) refl at)
+set_same (z ∷ xs) zero x y at same = ap (λ w. w ∷ xs) (same ∙ some_same x z (slice_get (z ∷ xs) 0) at refl)
 set_same (z ∷ xs) (suc k) x y at same = ap (λ ws. z ∷ ws) (set_same xs k x y at same)
 
 -- two lists that fit are as long, and fit at each place

@@ -1,5 +1,5 @@
 -- One processor of a machine makes a turn, after it saw what was sent to it, and the parts of the machine still belong together.
-use Rattle.std.proofs.Common.{◌≡◌, ◌∙◌, ℕ, ◌<◌, ◌++◌, List, length, set, get_or, refl, ap, sym, subst, arith, Some}
+use Rattle.std.proofs.Common.{◌≡◌, ◌∙◌, ℕ, ◌<◌, ◌≤◌, ◌++◌, List, length, set, get_or, refl, ap, sym, subst, arith, Some}
 use Rattle.std.specs.Prelude.{All, Vec, slice_get}
 use Rattle.std.specs.List.{AllZip}
 use Rattle.std.specs.declared.alloc.Global.{Global}
@@ -58,6 +58,13 @@ module _ {B : Type 0} where
     bank = refl;
     book = refl;
   }
+
+  -- a processor whose trace was given room has changed no more than that
+  pub room_stays : (d r : Driven B) → r ≡ record d { trace = r.trace; room = r.room } → r.trace.items ≡ d.trace.items → d.trace.capacity ≤ r.trace.capacity → StaysPut d r
+  room_stays d r rest items capacity =
+      let cpu : r.cpu ≡ d.cpu = ap (λ (y : Driven B). y.cpu) rest in
+      let put : Processor B → Driven B = λ p. record d { cpu = p; trace = r.trace; room = r.room } in
+      record { cpu = cpu; items = items; capacity = capacity; rest = rest ∙ ap put (sym cpu) }
 
   -- only the room of a processor's trace has changed
   pub stays_at : (bank : BankId) (book : Shelf) (olds : List (Driven B)) (k : ℕ) (d e : Driven B) → slice_get olds k ≡ Some d → StaysPut d e → StaysAt k (rig_of bank book olds) (rig_of bank book (set olds k e))

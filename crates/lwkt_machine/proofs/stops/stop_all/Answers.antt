@@ -34,6 +34,13 @@ returns-in_err-stop_one-clause-err g c =
       stays = record { before = p; now = q; at_before = is; does = c.in_err-stop_one.ensures.err; cpus = refl };
     })
 
+pub returns-in_err-stop_one-clause-same : goal.returns-in_err-stop_one-clause-same
+returns-in_err-stop_one-clause-same g c =
+    let l = c.loop-number in
+    let d = c.index-cpus-number.result in
+    let within : l.number < length l.cpus = omega (arith, c.loop-number-test.true, l.auto.cpus) in
+    stopped_same c.args.cpus.now l.cpus l.number (get_or l.cpus l.number d) c.stop_one.new.driven within (slice_get-get_or l.cpus l.number d within) c.stop_one.ensures.same l.invariant.same
+
 pub loop-number-preserved : goal.loop-number-preserved
 loop-number-preserved g c =
     let l = c.loop-number in

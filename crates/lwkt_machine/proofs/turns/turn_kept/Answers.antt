@@ -13,7 +13,7 @@ use Rattle.lwkt_machine.proofs.DrivenMoves.{processor_at, processors_put, proces
 use Rattle.lwkt_machine.proofs.ListMoves.{zip_there}
 use Rattle.lwkt_machine.proofs.SameMoves.{on_err, same_of}
 use Rattle.lwkt_machine.proofs.SightMoves.{looked_same, sent_looked}
-use Rattle.lwkt_machine.proofs.TurnMoves.{part_kept, stays_at, turned_at, turned_whole}
+use Rattle.lwkt_machine.proofs.TurnMoves.{part_kept, room_stays, stays_at, turned_at, turned_whole}
 use Rattle.lwkt_machine.proofs.turns.turn_kept.Goals as goal
 
 pub returns-in_err-make_room-clause-err : goal.returns-in_err-make_room-clause-err
@@ -28,7 +28,7 @@ returns-in_err-make_room-clause-err g c =
     let cpu : r.cpu ≡ d.cpu = ap (λ (y : Driven Body). y.cpu) c.make_room.ensures.rest in
     let same : processors (set olds k r) ≡ processors olds = processors_put olds k d r at cpu in
     on_err c.from_residual.result (StaysAt k (rig_of (id_of c.args.bank.now) c.args.book.now olds) (rig_of (id_of c.args.bank.now) c.args.book.now (set olds k r)))
-    (stays_at (id_of c.args.bank.now) c.args.book.now olds k d r at (record { cpu = cpu; items = c.make_room.ensures.items; capacity = c.make_room.ensures.capacity; rest = c.make_room.ensures.rest }))
+    (stays_at (id_of c.args.bank.now) c.args.book.now olds k d r at (room_stays d r c.make_room.ensures.rest c.make_room.ensures.items c.make_room.ensures.capacity))
 
 pub returns-in_err-make_room-clause-whole : goal.returns-in_err-make_room-clause-whole
 returns-in_err-make_room-clause-whole g c =
@@ -147,7 +147,7 @@ returns-clause-ok g c =
       part = made.part;
       none = made.none;
       makes = turned_at g.B.Body.polled g.B.Lasting.kept (cpus_of c.args.bank.now) (id_of c.args.bank.now) c.args.book.now olds (set mids k e) (processors mids) k m.cpu e.cpu made.room made.part turned c.requires.whole sees there made.does (processors_set mids k e);
-      keeps = part_kept olds mids k d r m e made.part.items at (record { cpu = cpu; items = c.make_room.ensures.items; capacity = c.make_room.ensures.capacity; rest = c.make_room.ensures.rest }) c.see_sent.ensures.logs here made.grown c.turn_in_room.ensures.rest;
+      keeps = part_kept olds mids k d r m e made.part.items at (room_stays d r c.make_room.ensures.rest c.make_room.ensures.items c.make_room.ensures.capacity) c.see_sent.ensures.logs here made.grown c.turn_in_room.ensures.rest;
     }
 
 pub returns-clause-whole : goal.returns-clause-whole

@@ -1,6 +1,6 @@
 use Rattle.std.proofs.Common.{rules}
 use Rattle.lwkt_machine.proofs.ScriptMoves.{nothing_kept}
-use Rattle.lwkt_machine.proofs.machines.Machine.open_script.Goals as goal
+use Rattle.lwkt_machine.proofs.machines.Machine+ScriptBody.open_script.Goals as goal
 
 pub returns-then-not-are_few-clause-refused : goal.returns-then-not-are_few-clause-refused
 returns-then-not-are_few-clause-refused c = λ within. c.are_few.ensures.no c.if-not-are_few.true within.few
