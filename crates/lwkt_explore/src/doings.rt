@@ -104,7 +104,13 @@ impl Doing {
     }
 
     // Notes a thread that has made so many polls.
-    fn note_thread(&mut self, machine: &Machine<ScriptBody>, cpu: usize, place: usize, spec: &ThreadSpec) {
+    fn note_thread(
+        &mut self,
+        machine: &Machine<ScriptBody>,
+        cpu: usize,
+        place: usize,
+        spec: &ThreadSpec,
+    ) {
         let (Some(status), Some(body)) = (machine.thread(cpu, place), machine.body(cpu, place))
         else {
             return;
@@ -184,7 +190,12 @@ impl Doings {
     }
 
     // Notes the next thread of a script.
-    fn note_thread(&mut self, machine: &Machine<ScriptBody>, spec: &ThreadSpec, counts: &mut [usize; 8]) {
+    fn note_thread(
+        &mut self,
+        machine: &Machine<ScriptBody>,
+        spec: &ThreadSpec,
+        counts: &mut [usize; 8],
+    ) {
         let cpu = usize::from(spec.cpu.0);
         let (Some(doing), Some(count)) = (self.all.get_mut(cpu), counts.get_mut(cpu)) else {
             return;

@@ -15,8 +15,8 @@ use lwkt_base::{Answer, Ask, Fault, MsgEnd, MsgSpec, OutOfMemory, ThreadState, T
 use lwkt_core::Event;
 use lwkt_cpu::{Body, Cpu, Drove, Turned};
 use lwkt_lane::{Lanes, open_lanes};
-use lwkt_msg::{MsgBook, MsgSeat};
 use lwkt_machine::{Rest, Tables, open_tables, origins_of};
+use lwkt_msg::{MsgBook, MsgSeat};
 use std::alloc::Global;
 
 /// A bank and a book for three processors, two of them, and the seats of the third one.

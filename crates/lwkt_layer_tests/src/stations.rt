@@ -7,9 +7,9 @@ use lwkt_base::memory::with_capacity;
 use lwkt_base::{Call, CpuId, Fault, Flags, Item, MsgId, MsgSpec, Rec, ThreadId};
 use lwkt_core::Event;
 use lwkt_lane::{Lanes, open_lanes};
+use lwkt_machine::origins_of;
 use lwkt_msg::{MsgBook, MsgSeat};
 use lwkt_port::Ports;
-use lwkt_machine::origins_of;
 use std::alloc::Global;
 
 /// Leave for nothing.

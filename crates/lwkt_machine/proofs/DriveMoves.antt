@@ -29,13 +29,18 @@ module _ {B : Type 0} where
         let d = zip_get (WasDriven polled answers bank limits) olds news zip k e.0 e.1.0 in
         let was = all_at (IsAtTables bank book.table) olds k d.0 d.1.0 at_olds in
         let is = all_at (IsAtTables bank book.table) news k e.0 e.1.0 at_news in
-        let F : Processor B → Type 0 = λ p. IsSameCpu d.0.cpu p in
-        (d.0.cpu, (processor_at olds k d.0 d.1.0, subst F e.1.1 (record {
-          bank = is.bank_is ∙ sym was.bank_is;
-          table = is.book_is ∙ sym was.book_is;
-          number = d.1.1.seat;
-          ports = kept_ports polled bank d.0.cpu e.0.cpu d.0.trace.items e.0.trace.items d.1.1.turns d.1.1.made;
-        })));
+        let F : Processor B → Type 0 = λ p. IsSameCpu d.0.cpu p in (
+          d.0.cpu,
+          (
+            processor_at olds k d.0 d.1.0,
+            subst F e.1.1 (record {
+              bank = is.bank_is ∙ sym was.bank_is;
+              table = is.book_is ∙ sym was.book_is;
+              number = d.1.1.seat;
+              ports = kept_ports polled bank d.0.cpu e.0.cpu d.0.trace.items e.0.trace.items d.1.1.turns d.1.1.made;
+            }),
+          ),
+        );
   }
 
   -- and one machine

@@ -4,9 +4,9 @@ ghost use Rattle.std.specs.Option.{option_copied};
 ghost use Rattle.lwkt_machine.specs.Bodies.{unpolled, next_ask, after_ask, entry_for, entry_told, logged, asks_of};
 
 use crate::lasting::Lasting;
-use lwkt_cpu::Body;
 use lwkt_base::memory::{MOST_ROOM, extend_from_slice, push, with_capacity};
 use lwkt_base::{Answer, Ask, Entry, OutOfMemory};
+use lwkt_cpu::Body;
 use lwkt_script::entry_of;
 use std::alloc::Global;
 use std::marker::Model;
