@@ -7,7 +7,7 @@ use crate::traders::{ROUNDS, Trader};
 use lwkt_base::memory::boxed;
 use lwkt_base::{Ask, CpuId, Fault, MsgEnd, OutOfMemory, Owner, Row, Section, TokSpec};
 use lwkt_core::Event;
-use lwkt_program::{Body, Closed, Ending, LIMITS, Machine, Stepper, Turned, makers};
+use lwkt_machine::{Body, Closed, Ending, LIMITS, Machine, Stepper, Turned, makers};
 use std::alloc::Global;
 use std::thread::Threads;
 

@@ -3,11 +3,10 @@
 use crate::gates::{Kind, Watch};
 use lwkt_base::memory::from_str;
 use lwkt_base::{CpuId, Fault, OutOfMemory, ThreadState};
-use lwkt_machine::Machine;
+use lwkt_machine::{Limits, Machine, ScriptBody};
 use lwkt_report::Page;
 use lwkt_run::{End, RunFault, run_program, run_threads_gated};
 use lwkt_script::read_script;
-use lwkt_threads::{Limits, Outcome, drive_machine_on_threads};
 use std::alloc::Global;
 use std::thread::Threads;
 
@@ -152,7 +151,7 @@ fn each_round_is_dropped_or_answered(rt: HostRuntime) {
 }
 
 // Whether the first thread of a processor stands so.
-fn stands(machine: &Machine, cpu: usize, wanted: ThreadState) -> bool {
+fn stands(machine: &Machine<ScriptBody>, cpu: usize, wanted: ThreadState) -> bool {
     match machine.thread(cpu, 0) {
         Some(status) => status.state == wanted,
         None => false,
@@ -168,14 +167,13 @@ fn leaves<R: Threads + Sync>(
     wanted: &[ThreadState],
 ) -> Result<bool, Fault> {
     let script = read_script(alloc, script)?;
-    let machine = Machine::open(alloc, &script)?;
+    let mut machine = Machine::open_script(alloc, &script)?;
     let limits = Limits {
         turns: script.turns,
         idle: script.idle,
     };
     let gate = Watch::new(Kind::Open);
-    let outcome = drive_machine_on_threads(rt, threads, alloc, &gate, &limits, machine)?;
-    let Outcome { machine, .. } = outcome;
+    machine.drive_on_threads(rt, threads, &gate, &limits)?;
     let states = wanted
         .iter()
         .enumerate()

@@ -1,7 +1,6 @@
 -- What a run left that was driven and checked.
 use Rattle.std.proofs.Common.{◌≡◌, ◌∙◌, ◌⊎◌, ℕ, ◌+◌, ◌*◌, ◌%◌, ◌<◌, ◌≤◌, Bool, true, false, List, [], ◌++◌, length, drop, map, refl, ap, sym, subst, inl, inr, arith, Option, Some, None, append-nil, mul-le-mul_right}
-use Rattle.std.specs.Prelude.{All, IfSome, IsTrue, Vec}
-use Rattle.std.specs.declared.alloc.Global.{Global}
+use Rattle.std.specs.Prelude.{All, IfSome, IsTrue}
 use Rattle.std.proofs.Math.Seq.{take-length}
 use Rattle.std.proofs.lemmas.List.{take-append-drop}
 use Rattle.std.proofs.lemmas.Nat.{mod-mul-add}
@@ -9,9 +8,10 @@ use Rattle.lwkt_core.specs.declared.events.Event.{Event}
 use Rattle.lwkt_core.specs.declared.finals.Final.{Final}
 use Rattle.lwkt_core.specs.Opening.{AreWithin, AllOpenLawfully}
 use Rattle.lwkt_base.specs.Threads.{has_ended}
+use Rattle.lwkt_machine.specs.Bodies.{Scripted}
 use Rattle.lwkt_machine.specs.Ended.{AreOver}
 use Rattle.lwkt_machine.specs.Machines.{Rig}
-use Rattle.lwkt_machine.specs.Opened.{IsOpenedMachine}
+use Rattle.lwkt_machine.specs.Scripts.{IsOpenedScript}
 use Rattle.lwkt_port.specs.Chains.{Chain}
 use Rattle.lwkt_report.specs.declared.closings.Closing.{Closing}
 use Rattle.lwkt_report.specs.declared.closings.ThreadLine.{ThreadLine}
@@ -75,7 +75,7 @@ stopped_turns cpus count n x mid y few rounds turns =
     chain_then Scene (λ k. MakesTurnAt (k % cpus)) (count * cpus) (n + 1) x mid y rounds (chain_maps Scene Scene (λ z. z) MakesTurnAt T (n + 1) does (n + 1) mid y all turns)
 
 same_cpus : (s : Stand) (x : Scene) (cpus : ℕ) → IsOf s x → length s.machine.cpus ≡ cpus → length x.machine.cpus ≡ cpus
-same_cpus s x cpus of many = ap (λ (m : Rig). length m.cpus) of.machine ∙ many
+same_cpus s x cpus of many = ap (λ (m : Rig Scripted). length m.cpus) of.machine ∙ many
 
 by_rounds : (limit cpus n : ℕ) (x : Scene) (t : Stand) (y : Scene) → x.kept.order ≡ [] → n ≤ limit * cpus → GoTurns cpus n x y → IsOf t y → StoodAt t.events y.kept.turns → DroveTo (Rounds limit) cpus x t y
 by_rounds limit cpus n x t y none few turns of stood =
@@ -132,15 +132,14 @@ pub at_first : (s : Stand) → IfSome s.kept (λ story. story ≡ none_told) →
 at_first s none zero_events = record { of = record { machine = refl; kept = keeps_none s.kept none }; counted = zero_events }
 
 -- all that is known where a machine was driven, stopped and closed
-pub record Closes (script : Script) (s t : Stand) (left : Left) (none stops : Vec Event Global) : Type 0 where
-  pub opens : IsOpenedMachine script s.machine
+pub record Closes (script : Script) (s t : Stand) (left : Left) (stops : List Event) : Type 0 where
+  pub opens : IsOpenedScript script s.machine
   pub within : AreWithin script.cpus script.tokens script.messages
   pub lawful : AllOpenLawfully script.tokens
   pub values : AreValuesOf script.tokens left.last
   pub ids : map (λ line. line.id) left.threads.items ≡ ids_of script.cpus script.threads
   pub shown : ShowThreads left.threads.items t.machine
-  pub empty : none.items ≡ []
-  pub leaves : Leaves t.machine none stops left.last
+  pub leaves : Leaves t.machine stops left.last
   pub begins : Begins script.threads (opening_of_script script) s.follow
   pub fresh : IfSome s.kept (λ story. story ≡ none_told)
   pub uncounted : s.events ≡ 0
@@ -157,41 +156,37 @@ same_scene : (t : Stand) (y : Scene) → IsOf t y → y ≡ scene_of t y
 same_scene t y of = ap (λ m. scene m y.trace y.kept) of.machine
 
 -- the turns that were made are a run along their order
-runs_along : (script : Script) (s t : Stand) (left : Left) (none stops : Vec Event Global) (y : Scene) → Closes script s t left none stops → IsOf t y → MakesTurns y.kept.order (first_of s) y → RunsAlong script y.kept.order left.threads.items y.kept (y.trace ++ stops.items) left.last
-runs_along script s t left none stops y c of along =
+runs_along : (script : Script) (s t : Stand) (left : Left) (stops : List Event) (y : Scene) → Closes script s t left stops → IsOf t y → MakesTurns y.kept.order (first_of s) y → RunsAlong script y.kept.order left.threads.items y.kept (y.trace ++ stops) left.last
+runs_along script s t left stops y c of along =
     let turns : MakesTurns y.kept.order (first_of s) (scene_of t y) = subst (λ z. MakesTurns y.kept.order (first_of s) z) (same_scene t y of) along in
     record {
       opened = s.machine;
       made = t.machine;
       told = y.trace;
-      none = none;
       stops = stops;
       opens = c.opens;
       along = turns;
       shown = c.shown;
-      empty = c.empty;
       leaves = c.leaves;
       trace_is = refl;
-      tells = turns_tell script y.kept.order s.machine t.machine y.trace none stops y.kept left.last c.leaves c.opens c.within c.lawful c.empty turns;
+      tells = turns_tell script y.kept.order s.machine t.machine y.trace stops y.kept left.last c.leaves c.opens c.within c.lawful turns;
     }
 
 -- rounds that were made are a run in rounds
-runs_in_rounds : (script : Script) (s t : Stand) (left : Left) (none stops : Vec Event Global) (y : Scene) → Closes script s t left none stops → IsOf t y → HasMadeRounds script.turns (first_of s) y → RunsInRounds script left.threads.items y.kept (y.trace ++ stops.items) left.last
-runs_in_rounds script s t left none stops y c of made =
+runs_in_rounds : (script : Script) (s t : Stand) (left : Left) (stops : List Event) (y : Scene) → Closes script s t left stops → IsOf t y → HasMadeRounds script.turns (first_of s) y → RunsInRounds script left.threads.items y.kept (y.trace ++ stops) left.last
+runs_in_rounds script s t left stops y c of made =
     let rounds : HasMadeRounds script.turns (first_of s) (scene_of t y) = subst (λ z. HasMadeRounds script.turns (first_of s) z) (same_scene t y of) made in
     record {
       opened = s.machine;
       made = t.machine;
       told = y.trace;
-      none = none;
       stops = stops;
       opens = c.opens;
       rounds = rounds;
       shown = c.shown;
-      empty = c.empty;
       leaves = c.leaves;
       trace_is = refl;
-      tells = rounds_tell script s.machine t.machine y.trace none stops y.kept left.last c.leaves c.opens c.within c.lawful c.empty rounds;
+      tells = rounds_tell script s.machine t.machine y.trace stops y.kept left.last c.leaves c.opens c.within c.lawful rounds;
     }
 
 -- where the check said no
@@ -203,8 +198,8 @@ unlawful_runs : (index : ℕ) (script : Script) (course : Course) (lines : List 
 unlawful_runs index script (Rounds limit) lines kept trace last of front runs = (of, (front.0, (front.1, runs)))
 unlawful_runs index script (Along order) lines kept trace last of front runs = runs
 
-leaves_unlawful : (script : Script) (course : Course) (s t : Stand) (left : Left) (none stops : Vec Event Global) (y : Scene) → IsCourseOf script course → Closes script s t left none stops → DroveTo course script.cpus (first_of s) t y → LeavesChecked course script t.kept left stops.items (Unlawful t.events)
-leaves_unlawful script course s t left none stops y of c d = record {
+leaves_unlawful : (script : Script) (course : Course) (s t : Stand) (left : Left) (stops : List Event) (y : Scene) → IsCourseOf script course → Closes script s t left stops → DroveTo course script.cpus (first_of s) t y → LeavesChecked course script t.kept left stops (Unlawful t.events)
+leaves_unlawful script course s t left stops y of c d = record {
   within = c.within;
   lawful_opening = c.lawful;
   values = c.values;
@@ -212,13 +207,13 @@ leaves_unlawful script course s t left none stops y of c d = record {
   story = story_as y.trace y.kept;
   shown = keeps_story t.kept y d.of.kept;
   made = unlawful_made t.events course script.cpus y.kept.order d.front;
-  runs = unlawful_runs t.events script course left.threads.items y.kept (y.trace ++ stops.items) left.last of d.front (runs_along script s t left none stops y c d.of d.along);
+  runs = unlawful_runs t.events script course left.threads.items y.kept (y.trace ++ stops) left.last of d.front (runs_along script s t left stops y c d.of d.along);
   by = d.stood;
 }
 
 -- where the check followed the run to its end
-leaves_lawful : (script : Script) (course : Course) (s t : Stand) (left : Left) (none stops : Vec Event Global) → IsCourseOf script course → Closes script s t left none stops → IsDriven course true s t → HasTurns course → EndsSo t.follow left stops.items → LeavesChecked course script t.kept left stops.items Lawful
-leaves_lawful script (Rounds limit) s t left none stops of c driven some ends =
+leaves_lawful : (script : Script) (course : Course) (s t : Stand) (left : Left) (stops : List Event) → IsCourseOf script course → Closes script s t left stops → IsDriven course true s t → HasTurns course → EndsSo t.follow left stops → LeavesChecked course script t.kept left stops Lawful
+leaves_lawful script (Rounds limit) s t left stops of c driven some ends =
     let x = first_of s in
     let d = driven x (at_first s c.fresh c.uncounted) in
     let y = d.0 in
@@ -226,7 +221,7 @@ leaves_lawful script (Rounds limit) s t left none stops of c driven some ends =
     let r : RoundsAre script.cpus limit x y = rounds_are script.cpus limit (pair x s.follow) (pair y t.follow) c.opens.as_many d.1.1 in
     let stands : Stands script.threads opening (pair y t.follow) = rounds_stand script.threads opening limit (pair x s.follow) (pair y t.follow) d.1.1 (stands_none script.threads opening s.machine s.follow c.begins) in
     let ended : AreOver y.machine.cpus → All (λ line. has_ended line.state ≡ true) left.threads.items = λ over. lines_ended left.threads.items y.machine (subst (ShowThreads left.threads.items) (sym d.1.0.of.machine) c.shown) over in
-    let w : Whole script.threads (InRounds limit) opening (pair y t.follow) left.threads.items stops.items = rounds_whole script.threads limit opening x (pair y t.follow) left.threads.items stops.items c.within.some_processor some refl r stands ended ends.ends in
+    let w : Whole script.threads (InRounds limit) opening (pair y t.follow) left.threads.items stops = rounds_whole script.threads limit opening x (pair y t.follow) left.threads.items stops c.within.some_processor some refl r stands ended ends.ends in
     record {
       within = c.within;
       lawful_opening = c.lawful;
@@ -235,10 +230,10 @@ leaves_lawful script (Rounds limit) s t left none stops of c driven some ends =
       story = story_as y.trace y.kept;
       shown = keeps_story t.kept y d.1.0.of.kept;
       made = tt;
-      runs = (of, runs_in_rounds script s t left none stops y c d.1.0.of (subst (λ n. HasMadeRounds n x y) of r.rounds));
-      by = ((after_all t.follow.machine stops.items, (w.happens, ends.closes)), w.run);
+      runs = (of, runs_in_rounds script s t left stops y c d.1.0.of (subst (λ n. HasMadeRounds n x y) of r.rounds));
+      by = ((after_all t.follow.machine stops, (w.happens, ends.closes)), w.run);
     }
-leaves_lawful script (Along order) s t left none stops of c driven some ends =
+leaves_lawful script (Along order) s t left stops of c driven some ends =
     let x = first_of s in
     let d = driven x (at_first s c.fresh c.uncounted) in
     let y = d.0 in
@@ -249,7 +244,7 @@ leaves_lawful script (Along order) s t left none stops of c driven some ends =
     let is : y.kept.order ≡ order.now = f.front ∙ take-length order.now in
     let stands : Stands script.threads opening (pair y t.follow) = order_stands script.threads opening order.now (pair x s.follow) (pair y t.follow) d.1.1 (stands_none script.threads opening s.machine s.follow c.begins) in
     let within : All (λ cpu. cpu < script.cpus) y.kept.order = subst (All (λ cpu. cpu < script.cpus)) (sym is) of in
-    let w : Whole script.threads Named opening (pair y t.follow) left.threads.items stops.items = followed_whole script.threads Named opening (pair y t.follow) left.threads.items stops.items stands within tt ends.ends in
+    let w : Whole script.threads Named opening (pair y t.follow) left.threads.items stops = followed_whole script.threads Named opening (pair y t.follow) left.threads.items stops stands within tt ends.ends in
     record {
       within = c.within;
       lawful_opening = c.lawful;
@@ -258,19 +253,19 @@ leaves_lawful script (Along order) s t left none stops of c driven some ends =
       story = story_as y.trace y.kept;
       shown = keeps_story t.kept y d.1.0.of.kept;
       made = is;
-      runs = runs_along script s t left none stops y c d.1.0.of f.along;
-      by = ((after_all t.follow.machine stops.items, (w.happens, ends.closes)), w.run);
+      runs = runs_along script s t left stops y c d.1.0.of f.along;
+      by = ((after_all t.follow.machine stops, (w.happens, ends.closes)), w.run);
     }
 
 -- either way
-pub leaves_checked : (script : Script) (course : Course) (fits follows : Bool) (s t : Stand) (left : Left) (none stops : Vec Event Global) (verdict : Verdict) → IsCourseOf script course → Closes script s t left none stops → IsDriven course fits s t → (IsTrue follows → IsTrue fits × HasTurns course) → ((verdict ≡ Lawful) × (IsTrue follows × EndsSo t.follow left stops.items)) ⊎ (verdict ≡ Unlawful t.events) → LeavesChecked course script t.kept left stops.items verdict
-leaves_checked script course fits follows s t left none stops verdict of c driven all (inl lawful) =
+pub leaves_checked : (script : Script) (course : Course) (fits follows : Bool) (s t : Stand) (left : Left) (stops : List Event) (verdict : Verdict) → IsCourseOf script course → Closes script s t left stops → IsDriven course fits s t → (IsTrue follows → IsTrue fits × HasTurns course) → ((verdict ≡ Lawful) × (IsTrue follows × EndsSo t.follow left stops)) ⊎ (verdict ≡ Unlawful t.events) → LeavesChecked course script t.kept left stops verdict
+leaves_checked script course fits follows s t left stops verdict of c driven all (inl lawful) =
     let is = all lawful.1.0 in
     let so : IsDriven course true s t = subst (λ b. IsDriven course b s t) is.0 driven in
-    subst (λ v. LeavesChecked course script t.kept left stops.items v) (sym lawful.0) (leaves_lawful script course s t left none stops of c so is.1 lawful.1.1)
-leaves_checked script course fits follows s t left none stops verdict of c driven all (inr is) =
+    subst (λ v. LeavesChecked course script t.kept left stops v) (sym lawful.0) (leaves_lawful script course s t left stops of c so is.1 lawful.1.1)
+leaves_checked script course fits follows s t left stops verdict of c driven all (inr is) =
     let d = drove course script.cpus fits s t (first_of s) c.opens.as_many refl (at_first s c.fresh c.uncounted) driven in
-    subst (λ v. LeavesChecked course script t.kept left stops.items v) (sym is) (leaves_unlawful script course s t left none stops d.0 of c d.1)
+    subst (λ v. LeavesChecked course script t.kept left stops v) (sym is) (leaves_unlawful script course s t left stops d.0 of c d.1)
 
 -- the report of what is left
 pub closes_so : (course : Course) (script : Script) (kept : Option Story) (left : Left) (stops : List Event) (verdict : Verdict) (closing : Closing) (l : LeavesChecked course script kept left stops verdict) → ShowsLeft script.tokens left.threads.items left.last verdict closing → IsJudgedBy (pace_of course) script closing l.story.kept.order (l.story.trace ++ stops) l.story.kept.polls l.story.kept.turns
@@ -341,7 +336,7 @@ pub record KeepsAll (script : Script) (s t : Stand) : Type 0 where
   pub book : t.machine.book ≡ s.machine.book
   pub has : HasThreads script.cpus script.threads t.machine.cpus
 
-pub keeps_all : (script : Script) (course : Course) (fits : Bool) (s t : Stand) → IsOpenedMachine script s.machine → IfSome s.kept (λ story. story ≡ none_told) → s.events ≡ 0 → IsDriven course fits s t → KeepsAll script s t
+pub keeps_all : (script : Script) (course : Course) (fits : Bool) (s t : Stand) → IsOpenedScript script s.machine → IfSome s.kept (λ story. story ≡ none_told) → s.events ≡ 0 → IsDriven course fits s t → KeepsAll script s t
 keeps_all script course fits s t opens fresh uncounted driven =
     let x = first_of s in
     let d = drove course script.cpus fits s t x opens.as_many refl (at_first s fresh uncounted) driven in
@@ -349,13 +344,13 @@ keeps_all script course fits s t opens fresh uncounted driven =
     let order = y.kept.order in
     let same = d.1.of.machine in
     record {
-      bank = ap (λ (m : Rig). m.bank) (sym same) ∙ turns_bank order x y d.1.along;
-      book = ap (λ (m : Rig). m.book) (sym same) ∙ turns_book order x y d.1.along;
-      has = subst (λ (m : Rig). HasThreads script.cpus script.threads m.cpus) same (has_turns script.cpus script.threads order x y d.1.along (opened_has script s.machine opens));
+      bank = ap (λ (m : Rig Scripted). m.bank) (sym same) ∙ turns_bank order x y d.1.along;
+      book = ap (λ (m : Rig Scripted). m.book) (sym same) ∙ turns_book order x y d.1.along;
+      has = subst (λ (m : Rig Scripted). HasThreads script.cpus script.threads m.cpus) same (has_turns script.cpus script.threads order x y d.1.along (opened_has script s.machine opens));
     }
 
 -- a course of a script is within its machine
-pub within_machine : (script : Script) (course : Course) (m : Rig) → length m.cpus ≡ script.cpus → IsCourseOf script course → IsWithin (length m.cpus) course
+pub within_machine : (script : Script) (course : Course) (m : Rig Scripted) → length m.cpus ≡ script.cpus → IsCourseOf script course → IsWithin (length m.cpus) course
 within_machine script (Rounds limit) m same of = tt
 within_machine script (Along order) m same of = subst (λ n. All (λ x. x < n) order.now) (sym same) of
 

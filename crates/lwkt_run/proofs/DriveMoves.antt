@@ -8,9 +8,9 @@ use Rattle.lwkt_core.specs.declared.events.Event.{Event}
 use Rattle.lwkt_port.specs.Chains.{Chain}
 use Rattle.lwkt_port.proofs.Chaining.{chain_none, chain_more}
 use Rattle.lwkt_cpu.specs.declared.answers.Turned.{Turned}
+use Rattle.lwkt_machine.specs.Bodies.{Scripted, IsPolled}
 use Rattle.lwkt_machine.specs.Machines.{Rig}
 use Rattle.lwkt_machine.specs.Turns.{TurnsAt}
-use Rattle.lwkt_machine.proofs.StopMoves.{AreOverBelow}
 use Rattle.lwkt_verdict.specs.declared.turns.Turn.{Turn}
 use Rattle.lwkt_verdict.specs.Run.{whose}
 use Rattle.lwkt_run.specs.declared.polled.Polled.{Polled}
@@ -19,29 +19,29 @@ use Rattle.lwkt_run.specs.Keeping.{Story, kept_after, story_after, turn_of}
 use Rattle.lwkt_run.specs.Running.{Scene, scene, HasBeenAsked, says_over, both, MakesKeptTurn, MakesTurnAt, MakesSome}
 use Rattle.lwkt_run.specs.Driving.{Pair, pair, Walk, walk, GoesOnBy, FollowsTurnAt, FollowsStep, FollowsRound, Stand, IsAt, TurnDriven, RoundDriven, RoundsDriven, TurnsDriven}
 use Rattle.lwkt_run.proofs.OrderMoves.{chain_maps}
-use Rattle.lwkt_run.proofs.RoundMoves.{over_later, both_true, says_all}
+use Rattle.lwkt_run.proofs.RoundMoves.{AreOverBelow, over_later, both_true, says_all}
 use Rattle.lwkt_run.proofs.StandMoves.{some_made}
 
 -- a scene after a turn
-abbrev scene_after : ℕ → Option Polled → List Event → Rig → Scene → Scene
+abbrev scene_after : ℕ → Option Polled → List Event → Rig Scripted → Scene → Scene
 scene_after cpu asks part m x = scene m (x.trace ++ part) (kept_after cpu (length part) asks x.kept)
 
 -- what a keeper has, it has of a scene; and after a turn of the scene after that
 abbrev Shows : Option Story → Scene → Type 0
 Shows kept x = IfSome kept (λ story. (x.trace ≡ story.trace) × (x.kept ≡ story.kept))
 
-shows_more : (cpu : ℕ) (asks : Option Polled) (part : List Event) (m : Rig) (x : Scene) (old : Option Story) → Shows old x → Shows (option_map (story_after cpu asks part) old) (scene_after cpu asks part m x)
+shows_more : (cpu : ℕ) (asks : Option Polled) (part : List Event) (m : Rig Scripted) (x : Scene) (old : Option Story) → Shows old x → Shows (option_map (story_after cpu asks part) old) (scene_after cpu asks part m x)
 shows_more cpu asks part m x None is = tt
 shows_more cpu asks part m x (Some story) is =
     (ap (λ es. es ++ part) is.0, ap (λ k. kept_after cpu (length part) asks k) is.1)
 
 -- a turn of a machine is kept in the scene after it
-abbrev turn_kept : (cpu : ℕ) (turned : Turned) (m n : Rig) (room part : Vec Event Global) (asks : Option Polled) (x : Scene) → x.machine ≡ m → room.items ≡ [] → TurnsAt cpu m n room part turned → HasBeenAsked cpu n turned asks → MakesKeptTurn cpu turned x (scene_after cpu asks part.items n x)
+abbrev turn_kept : (cpu : ℕ) (turned : Turned) (m n : Rig Scripted) (room part : Vec Event Global) (asks : Option Polled) (x : Scene) → x.machine ≡ m → room.items ≡ [] → TurnsAt IsPolled cpu m n room part turned → HasBeenAsked cpu n turned asks → MakesKeptTurn cpu turned x (scene_after cpu asks part.items n x)
 turn_kept cpu turned m n room part asks x same none makes asked = record {
   room = room;
   part = part;
   none = none;
-  makes = subst (λ k. TurnsAt cpu k n room part turned) (sym same) makes;
+  makes = subst (λ k. TurnsAt IsPolled cpu k n room part turned) (sym same) makes;
   grown = refl;
   events = length part.items;
   counted = refl;
@@ -63,7 +63,7 @@ pub record Turns (cpu : ℕ) (turned : Turned) (asks : Option Polled) (s t : Sta
   pub room : Vec Event Global
   pub part : Vec Event Global
   pub none : room.items ≡ []
-  pub makes : TurnsAt cpu s.machine t.machine room part turned
+  pub makes : TurnsAt IsPolled cpu s.machine t.machine room part turned
   pub asked : HasBeenAsked cpu t.machine turned asks
   pub kept : t.kept ≡ option_map (story_after cpu asks part.items) s.kept
 
@@ -155,8 +155,8 @@ pub within_ends : (cpu : ℕ) (over : Bool) (s t : Stand) → cpu ≡ length s.m
 within_ends cpu over s t whole same so_far x at =
     let w = so_far x at in
     let y = w.to in
-    let long : cpu ≡ length x.machine.cpus = whole ∙ sym (ap (λ (m : Rig). length m.cpus) at.of.machine) in
-    let all : cpu ≡ length y.machine.cpus = whole ∙ sym same ∙ sym (ap (λ (m : Rig). length m.cpus) w.at.of.machine) in (
+    let long : cpu ≡ length x.machine.cpus = whole ∙ sym (ap (λ (m : Rig Scripted). length m.cpus) at.of.machine) in
+    let all : cpu ≡ length y.machine.cpus = whole ∙ sym same ∙ sym (ap (λ (m : Rig Scripted). length m.cpus) w.at.of.machine) in (
       y,
       (
         w.at,

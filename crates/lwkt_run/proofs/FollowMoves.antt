@@ -12,6 +12,7 @@ use Rattle.lwkt_core.specs.Machine.{Machine, after, after_at}
 use Rattle.lwkt_core.specs.Trace.{Run}
 use Rattle.lwkt_script.specs.declared.scripts.ThreadSpec.{ThreadSpec}
 use Rattle.lwkt_report.specs.declared.closings.ThreadLine.{ThreadLine}
+use Rattle.lwkt_machine.specs.Bodies.{Scripted}
 use Rattle.lwkt_machine.specs.Ended.{AreOver}
 use Rattle.lwkt_machine.specs.Machines.{Rig}
 use Rattle.lwkt_verdict.specs.declared.turns.Poll.{Poll}
@@ -54,7 +55,7 @@ no_poll : (polls : List Poll) (t : Turn) → Unpolled t → is_some (poll_of pol
 no_poll polls t is = ap (λ o. is_some (option_and_then (slice_get polls) o)) is
 
 -- before the first turn
-pub stands_none : (plans : List ThreadSpec) (opening : Machine) (opened : Rig) (f : Follow) → Begins plans opening f → Stands plans opening (pair (scene opened [] none_kept) f)
+pub stands_none : (plans : List ThreadSpec) (opening : Machine) (opened : Rig Scripted) (f : Follow) → Begins plans opening f → Stands plans opening (pair (scene opened [] none_kept) f)
 stands_none plans opening opened f begins = record {
   tracks = tracks_none plans opening f begins;
   threads = begins.plans;

@@ -8,6 +8,7 @@ use Rattle.lwkt_core.specs.Machine.{Machine, after}
 use Rattle.lwkt_script.specs.declared.scripts.ThreadSpec.{ThreadSpec}
 use Rattle.lwkt_port.specs.Chains.{Chain}
 use Rattle.lwkt_cpu.specs.declared.answers.Turned.{Turned}
+use Rattle.lwkt_machine.specs.Bodies.{Scripted}
 use Rattle.lwkt_machine.specs.Ended.{AreOver}
 use Rattle.lwkt_machine.specs.Machines.{Rig}
 use Rattle.lwkt_run.specs.declared.polled.Polled.{Polled}
@@ -109,7 +110,7 @@ abbrev pub Unpolled : Turn → Type 0
 Unpolled t = t.poll ≡ None
 
 -- a turn that says that every thread has ended is one
-unpolled : (cpu : ℕ) (m : Rig) (turned : Turned) (asks : Option Polled) (events before : ℕ) → HasBeenAsked cpu m turned asks → says_over turned ≡ true → Unpolled (turn_of asks events before)
+unpolled : (cpu : ℕ) (m : Rig Scripted) (turned : Turned) (asks : Option Polled) (events before : ℕ) → HasBeenAsked cpu m turned asks → says_over turned ≡ true → Unpolled (turn_of asks events before)
 unpolled cpu m turned asks events before asked over =
     let none : asks ≡ None = subst (λ t. HasBeenAsked cpu m t asks) (says_all turned over) asked in
     ap (λ o. (turn_of o events before).poll) none

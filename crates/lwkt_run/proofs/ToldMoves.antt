@@ -15,7 +15,7 @@ use Rattle.lwkt_core.specs.RunSections.{section_in, sections_told}
 use Rattle.lwkt_table.specs.Sections.{sections_by}
 use Rattle.lwkt_table.proofs.PartLemmas.{permutation_same, flat_map-kept, flat_map-parted}
 use Rattle.lwkt_hold.specs.Steps.{may_be_untold, is_of_token, Tells}
-use Rattle.lwkt_threads.specs.Parts.{of_cpu, parts_from}
+use Rattle.lwkt_run.specs.Parts.{of_cpu, parts_from}
 use Rattle.lwkt_run.specs.Telling.{sections_of_all}
 
 -- an event that may be untold, or is of no token, tells no section

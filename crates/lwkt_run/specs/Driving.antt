@@ -5,6 +5,7 @@ use Rattle.std.specs.Prelude.{◌≡◌, ◌⊎◌, ℕ, ◌+◌, ◌<◌, Bool,
 use Rattle.lwkt_core.specs.declared.events.Event.{Event}
 use Rattle.lwkt_port.specs.Chains.{Chain}
 use Rattle.lwkt_cpu.specs.declared.answers.Turned.{Turned}
+use Rattle.lwkt_machine.specs.Bodies.{Scripted}
 use Rattle.lwkt_machine.specs.Ended.{AreOver}
 use Rattle.lwkt_machine.specs.Machines.{Rig}
 use Rattle.lwkt_script.specs.declared.scripts.Script.{Script}
@@ -91,12 +92,12 @@ StopsAlong order x y = (n : ℕ) × ((n < length order) × MakesSome order (n + 
 
 -- where a driver stands: its machine, what is kept of the run, if anything is, how many events it has counted, and the check
 pub record Stand : Type 0 where
-  pub machine : Rig
+  pub machine : Rig Scripted
   pub kept : Option Story
   pub events : ℕ
   pub follow : Follow
 
-abbrev pub stand : Rig → Option Story → ℕ → Follow → Stand
+abbrev pub stand : Rig Scripted → Option Story → ℕ → Follow → Stand
 stand machine kept events follow = record { machine = machine; kept = kept; events = events; follow = follow }
 
 -- a scene has the machine of a driver, and what that keeps, if it keeps anything

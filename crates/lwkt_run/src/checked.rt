@@ -2,14 +2,14 @@
 ghost use Rattle.std.specs.Prelude.{◌≡◌, ◌⊎◌, IsTrue, IfOk, IfErr, IfSome, OnOk};
 ghost use Rattle.lwkt_base.specs.declared.asks.Ask.TheVariants.{Exit};
 ghost use Rattle.lwkt_core.specs.Opening.{AreWithin, AllOpenLawfully};
-ghost use Rattle.lwkt_machine.specs.Opened.{AreFew};
+ghost use Rattle.lwkt_machine.specs.Scripts.{AreFew};
 ghost use Rattle.lwkt_verdict.specs.Follow.{Begins};
 ghost use Rattle.lwkt_run.specs.Checked.{EndsSo, LeavesChecked};
 ghost use Rattle.lwkt_run.specs.Driving.{IsCourseOf, HasTurns};
 ghost use Rattle.lwkt_run.specs.Keeping.{none_told};
 ghost use Rattle.lwkt_run.specs.Run.{opening_of_script, DeclinesRun};
 
-use crate::endings::{Left, left_by};
+use crate::endings::{Left, Told, left_by};
 use crate::keepers::Keeper;
 use crate::rounds::{Course, drive};
 use lwkt_base::{Ask, Fault, OutOfMemory};
@@ -112,7 +112,7 @@ pub fn checked_run<K: Keeper + Drop>(
     ensures refused { IfErr result (λ fault. DeclinesRun script.now fault) }
 {
     let mut keeper = keeper;
-    let mut machine = Machine::open(alloc, script)?;
+    let mut machine = Machine::open_script(alloc, script)?;
     let close_room = machine.room(alloc)?;
     let opening = opened(alloc, script)?;
     let end = Ask::Exit;
@@ -127,13 +127,12 @@ pub fn checked_run<K: Keeper + Drop>(
         &mut keeper,
         &mut events,
     )?;
-    room.clear();
-    let left = left_by(alloc, script, machine, close_room, &mut room)?;
+    let Told { left, stops, .. } = left_by(alloc, script, machine, close_room)?;
     let follows = is_followed(fits, course);
-    let verdict = verdict_of(follows, events, follower, &left, room.as_slice());
+    let verdict = verdict_of(follows, events, follower, &left, stops.as_slice());
     Ok(Checked {
         left,
-        stops: room,
+        stops,
         keeper,
         verdict,
     })

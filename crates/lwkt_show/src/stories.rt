@@ -8,7 +8,8 @@ use lwkt_base::{
 };
 use lwkt_core::{Event, State, Token};
 use lwkt_refusals::Page;
-use lwkt_verdict::{Poll, entry_of};
+use lwkt_script::entry_of;
+use lwkt_verdict::Poll;
 use std::alloc::Global;
 
 // The most entries of a log.

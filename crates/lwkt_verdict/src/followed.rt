@@ -2,13 +2,13 @@
 ghost use Rattle.std.specs.Prelude.{◌≡◌, ℕ, ◌<◌, ◌+◌, ◌^◌, ◌-◌, ◌↔◌, ◌≤◌, IsTrue, true, false, length, max, Option, Some, None, is_some, MatchOption, IfOk, IfSome, OnOk, option_map};
 ghost use Rattle.std.specs.Option.{option_copied, option_map_or};
 ghost use Rattle.lwkt_base.specs.declared.asks.Ask.TheVariants.{Exit};
-ghost use Rattle.lwkt_verdict.specs.Asks.{entry_of};
+ghost use Rattle.lwkt_script.specs.Logs.{entry_of};
 ghost use Rattle.lwkt_verdict.specs.Threads.{ask_at, may_end};
 ghost use Rattle.lwkt_verdict.specs.Follow.{Awaited, Known, is_expected, come};
 ghost use Rattle.lwkt_verdict.specs.Followed.{count_of, unpolled, log_with, Hears, Asks, IsKept, MayRest, IsEnded};
 ghost use Rattle.lwkt_verdict.specs.Parts.{after_all};
 
-use crate::asks::{entry_of, may_answer};
+use crate::asks::may_answer;
 use crate::expected::Expected;
 use crate::owns::has_blocked;
 use crate::parts::goes_by_ask;
@@ -19,7 +19,7 @@ use lwkt_base::memory::push;
 use lwkt_base::{Answer, Ask, Entry, OutOfMemory, ThreadState};
 use lwkt_core::{Event, State};
 use lwkt_report::ThreadLine;
-use lwkt_script::ThreadSpec;
+use lwkt_script::{ThreadSpec, entry_of};
 use std::alloc::Global;
 use std::marker::Model;
 
