@@ -2,7 +2,7 @@
 
 use crate::listed::TOKEN;
 use lwkt_base::{Answer, Ask, Blob, Call, Fault, Item, MsgId};
-use lwkt_program::{Stepper, Steps, makers};
+use lwkt_machine::{Stepper, Steps, makers};
 
 /// The message of the calls, which thread 0.0 makes to thread 1.0.
 pub const MESSAGE: MsgId = MsgId(0);
