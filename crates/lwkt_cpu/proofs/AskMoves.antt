@@ -77,8 +77,8 @@ pub switched : (refs now : List Ref) (new : Ref) (a b : CpuSeat) (t u : Vec Even
 switched refs now new a b t u x why is m = let F : Acquired → Type 0 = λ y. Acquires refs now new a b t u y in subst F is m
 
 -- the token of a reference that wasn't refused exists
-pub there_for : {A : Type 0} (bank : BankId) (s : CpuSeat) (refs : List Ref) (new : Ref) (Late : Fault → Type 0) (x : A) → bank_of s ≡ bank → RefusedBy {A} (get_refusal bank refs new) Late (Ok x) → new.tok.0 < tokens_of (bank_of s)
-there_for {A} bank s refs new Late x of_bank told = let same = ap (λ (b : BankId). tokens_of b) of_bank in omega (arith, same, get_there {A} bank refs new Late x told)
+pub there_for : {A : Type 0} (bank : BankId) (s : CpuSeat) (refs : List Ref) (new : Ref) (Late : Fault → Type 0) (x : A) → bank_of s ≡ bank → RefusedBy {A = A} (get_refusal bank refs new) Late (Ok x) → new.tok.0 < tokens_of (bank_of s)
+there_for {A} bank s refs new Late x of_bank told = let same = ap (λ (b : BankId). tokens_of b) of_bank in omega (arith, same, get_there {A = A} bank refs new Late x told)
 
 -- after a refusal the list is held as before, and after a try it is held
 pub unmoved : (refs now : List Ref) (a b : CpuSeat) (t u : Vec Event Global) → holding a ≡ holding_of refs → now ≡ refs → ChangesNothing a b t u → holding b ≡ holding_of now

@@ -22,12 +22,12 @@ by_mode (Some Exclusive) shared fault next is = cc
 
 -- a law that isn't Tally
 pub untallied : (law : Law) → law ≢ Tally → is_tally law ≡ false
-untallied Any no = refl
-untallied Sum no = refl
-untallied Order no = refl
-untallied Cap no = refl
-untallied Tally no = absurd (no refl)
-untallied Len no = refl
+untallied Any other = refl
+untallied Sum other = refl
+untallied Order other = refl
+untallied Cap other = refl
+untallied Tally other = absurd (other refl)
+untallied Len other = refl
 
 pub tallied_or : (law : Law) → (law ≡ Tally) ⊎ (law ≢ Tally)
 tallied_or Any = inr (λ is. cc)
@@ -65,7 +65,7 @@ module _ (bank : BankId) (refs : List Ref) (tok cell : ℕ) where
   write_tally there inside mine is = rw (lt-leb (tokens_of bank) tok there, lt-leb (plan_of bank tok).cells cell inside, mine, is) refl
 
   pub write_allowed : tok < tokens_of bank → cell < (plan_of bank tok).cells → first_mode refs tok ≡ Some Exclusive → (plan_of bank tok).law ≢ Tally → None ≡ write_refusal bank refs tok cell
-  write_allowed there inside mine no = rw (lt-leb (tokens_of bank) tok there, lt-leb (plan_of bank tok).cells cell inside, mine, untallied (plan_of bank tok).law no) refl
+  write_allowed there inside mine other = rw (lt-leb (tokens_of bank) tok there, lt-leb (plan_of bank tok).cells cell inside, mine, untallied (plan_of bank tok).law other) refl
 
 -- the tests of an addition
 module _ (bank : BankId) (refs : List Ref) (tok total : ℕ) where
@@ -76,7 +76,7 @@ module _ (bank : BankId) (refs : List Ref) (tok total : ℕ) where
   add_by_mode fault there is = rw (lt-leb (tokens_of bank) tok there) (by_mode (first_mode refs tok) SharedWrite fault (if not (is_tally (plan_of bank tok).law) then Some TallyOnly else (if nat_le (2 ^ 64) total then Some Overflow else None)) is)
 
   pub add_untallied : tok < tokens_of bank → first_mode refs tok ≡ Some Exclusive → (plan_of bank tok).law ≢ Tally → Some TallyOnly ≡ add_refusal bank refs tok total
-  add_untallied there mine no = rw (lt-leb (tokens_of bank) tok there, mine, untallied (plan_of bank tok).law no) refl
+  add_untallied there mine other = rw (lt-leb (tokens_of bank) tok there, mine, untallied (plan_of bank tok).law other) refl
 
   pub add_overflow : tok < tokens_of bank → first_mode refs tok ≡ Some Exclusive → (plan_of bank tok).law ≡ Tally → 2 ^ 64 ≤ total → Some Overflow ≡ add_refusal bank refs tok total
   add_overflow there mine is over = rw (lt-leb (tokens_of bank) tok there, mine, is, le-leb (2 ^ 64) total over) refl
@@ -111,10 +111,10 @@ module _ (bank : BankId) (refs : List Ref) (tok : ℕ) where
 
 -- the tests of an ask for a reference
 no_upgrade : (mode : Mode) (first : Option Mode) → (mode ≡ Exclusive → first ≡ Some Shared → ⊥) → is_upgrade mode first ≡ false
-no_upgrade Exclusive None no = refl
-no_upgrade Exclusive (Some Exclusive) no = refl
-no_upgrade Exclusive (Some Shared) no = absurd (no refl refl)
-no_upgrade Shared first no = refl
+no_upgrade Exclusive None other = refl
+no_upgrade Exclusive (Some Exclusive) other = refl
+no_upgrade Exclusive (Some Shared) other = absurd (other refl refl)
+no_upgrade Shared first other = refl
 
 module _ (bank : BankId) (refs : List Ref) (new : Ref) where
   pub get_no_token : tokens_of bank ≤ new.tok.0 → Some NoToken ≡ get_refusal bank refs new
@@ -127,7 +127,7 @@ module _ (bank : BankId) (refs : List Ref) (new : Ref) where
   get_upgrade there room mine first = rw (lt-leb (tokens_of bank) new.tok.0 there, ne_eqb (length refs) 32 room, mine, first) refl
 
   pub get_allowed : new.tok.0 < tokens_of bank → (length refs ≡ 32 → ⊥) → (new.mode ≡ Exclusive → first_mode refs new.tok.0 ≡ Some Shared → ⊥) → None ≡ get_refusal bank refs new
-  get_allowed there room no = rw (lt-leb (tokens_of bank) new.tok.0 there, ne_eqb (length refs) 32 room, no_upgrade new.mode (first_mode refs new.tok.0) no) refl
+  get_allowed there room other = rw (lt-leb (tokens_of bank) new.tok.0 there, ne_eqb (length refs) 32 room, no_upgrade new.mode (first_mode refs new.tok.0) other) refl
 
 -- a call that is refused beforehand, and one that isn't
 pub refused_first : {A : Type 0} (first : Option Fault) (Late : Fault → Type 0) (result : Result A Fault) (fault : Fault) → Some fault ≡ first → result ≡ Err fault → RefusedBy first Late result
@@ -137,11 +137,11 @@ pub refused_late : {A : Type 0} (first : Option Fault) (Late : Fault → Type 0)
 refused_late first Late result is late = let F : Option Fault → Type 0 = λ o. RefusedBy o Late result in subst F is late
 
 -- the token of a reference that wasn't refused exists
-pub get_there : {A : Type 0} (bank : BankId) (refs : List Ref) (new : Ref) (Late : Fault → Type 0) (x : A) → RefusedBy {A} (get_refusal bank refs new) Late (Ok x) → new.tok.0 < tokens_of bank
+pub get_there : {A : Type 0} (bank : BankId) (refs : List Ref) (new : Ref) (Late : Fault → Type 0) (x : A) → RefusedBy {A = A} (get_refusal bank refs new) Late (Ok x) → new.tok.0 < tokens_of bank
 get_there {A} bank refs new Late x told = elim (cases_lt new.tok.0 (tokens_of bank)) [
   | inl below ↦ below
   | inr over ↦ absurd (
-      let F : Option Fault → Type 0 = λ o. RefusedBy {A} o Late (Ok x) in
+      let F : Option Fault → Type 0 = λ o. RefusedBy {A = A} o Late (Ok x) in
       let wrong : ◌≡◌ {A = Result A Fault} (Ok x) (Err NoToken) = subst F (sym (get_no_token bank refs new over)) told in
       cc)
 ]

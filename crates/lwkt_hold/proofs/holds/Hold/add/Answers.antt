@@ -80,7 +80,7 @@ returns-clause-refused c =
         | inl below ↦ add_allowed bank refs tok total there c.in_ok-may_write.ensures.ok (sym law ∙ is) below
         | inr over ↦ let told = e.overflow.1 (is, over) in cc
       ]
-      | inr no ↦ let told = e.tally.1 no in cc
+      | inr other ↦ let told = e.tally.1 other in cc
     ]
 
 pub returns-then-tok-tokens-clause-keeps : goal.returns-then-tok-tokens-clause-keeps
