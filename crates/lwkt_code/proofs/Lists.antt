@@ -147,7 +147,7 @@ module _ (asks : List Ask) (repeat : ℕ) where
       let a = h.asked (omega arith) in
       ⊎_elim
       (λ z. let t : s.left ≡ 0 = omega arith in asks_exit s k (ends s k h (omega arith) (rw t refl) t))
-      (λ z. asks_again s h.q k e f (omega arith) p (rw (ne_eqb s.left 0 (λ z. omega arith), a) refl) (omega arith))
+      (λ z. asks_again s h.q k e f (omega arith) p (rw (ne_eqb s.left 0 (λ y. omega arith), a) refl) (omega arith))
       (cases_lt s.left 1))
       (cases_lt s.at (length asks))
 

@@ -2,7 +2,7 @@
 use Rattle.std.proofs.Common.{◌≡◌, ◌≢◌, ℕ, zero, suc, ◌+◌, ◌-◌, ◌*◌, ◌<◌, ◌≤◌, Bool, true, false, cond, List, [], ◌∷◌, length, replicate, get_or, Option, refl, sym, ap, ◌∙◌, subst, inl, inr, ⊎_elim, arith}
 use Rattle.std.specs.Prelude.{nat_lt, slice_get, slice_index, ◌==◌, ◌⊎◌}
 use Rattle.std.proofs.Math.ListN.{set, length-set}
-use Rattle.std.proofs.lemmas.Bool.{lt-ltb, le-ltb, cases_lt, ne_eqb}
+use Rattle.std.proofs.lemmas.Bool.{lt-ltb, le-ltb, cases_lt, ne_eqb, eq-eqb}
 use Rattle.std.proofs.lemmas.List.{get_or-set_same, get_or-set_other, get_or_past, get_or-replicate, length-replicate}
 use Rattle.std.proofs.lemmas.Option.{slice_get_past}
 use Rattle.lwkt_code.specs.declared.steps.Step.{Step}
@@ -19,8 +19,7 @@ behind : (k m : ℕ) → m ≤ k → k ≢ m → m < k
 behind k m l n = ⊎_elim (λ a. a) (λ g. let e : k ≡ m = omega arith in absurd (n e)) (cases_lt m k)
 
 eqb_refl : (n : ℕ) → (n == n) ≡ true
-eqb_refl zero = refl
-eqb_refl (suc n) = eqb_refl n
+eqb_refl n = eq-eqb n n refl
 
 -- how many places have no mark
 abbrev bare : ℕ → ℕ
@@ -111,7 +110,7 @@ pub one_marked : (steps : List Step) (marks : List ℕ) (begin at back : ℕ) �
 one_marked steps marks begin at back w h r = (λ k l. marked steps marks begin at back w h r k l (same_or_other k at), one_less marks at back w r.free r.some)
 
 -- before anything is marked
-no_marks : (n k : ℕ) → get_or (replicate n 0) k 0 ≡ 0
+no_marks : (n k : ℕ) → slice_index (replicate n 0) k ≡ 0
 no_marks n k = ⊎_elim (λ l. get_or-replicate n k 0 0 l) (λ g. get_or_past (replicate n 0) k 0 (let e = length-replicate n 0 in omega arith)) (cases_lt k n)
 
 pub none_marked : (steps : List Step) (begin : ℕ) (marks : List ℕ) (n : ℕ) → marks ≡ replicate n 0 → AreMarks steps begin marks

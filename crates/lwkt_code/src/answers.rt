@@ -8,7 +8,7 @@ use crate::values::put;
 use lwkt_base::{Answer, Fault, Item, Verb};
 
 /// The numbers that an answer holds, for the first place of its ask, the second and the third.
-#[derive(Clone, Copy, Debug, PartialEq, Eq)]
+#[derive(Clone, Copy)]
 pub struct Held {
     pub first: Option<u64>,
     pub second: Option<u64>,

@@ -9,7 +9,7 @@ use crate::steps::Step;
 pub const MOST_STEPS: usize = 512;
 
 // Where a step may lead without an ask.
-#[derive(Clone, Copy, Debug, PartialEq, Eq)]
+#[derive(Clone, Copy)]
 pub enum Leads {
     Nowhere,
     To(usize),

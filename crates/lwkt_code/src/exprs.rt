@@ -1,7 +1,7 @@
 //! Expressions and conditions over the variables of a thread.
 
 /// An operator of expressions.
-#[derive(Clone, Copy, Debug, PartialEq, Eq)]
+#[derive(Clone, Copy)]
 pub enum Operator {
     Plus,
     Minus,
@@ -11,7 +11,7 @@ pub enum Operator {
 }
 
 /// An expression.
-#[derive(Debug, Drop)]
+#[derive(Drop)]
 pub enum Expr {
     Number(u64),
     Variable(u8),
@@ -19,7 +19,7 @@ pub enum Expr {
 }
 
 /// A comparison of two numbers.
-#[derive(Clone, Copy, Debug, PartialEq, Eq)]
+#[derive(Clone, Copy)]
 pub enum Comparison {
     Equal,
     Unequal,
@@ -30,7 +30,7 @@ pub enum Comparison {
 }
 
 /// A condition.
-#[derive(Debug, Drop)]
+#[derive(Drop)]
 pub enum Cond {
     Compare(Comparison, Expr, Expr),
     And(Box<Cond>, Box<Cond>),

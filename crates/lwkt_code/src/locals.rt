@@ -1,7 +1,7 @@
 use lwkt_base::Ask;
 
 /// Where a thread stands in its program.
-#[derive(Clone, Copy, Debug, PartialEq, Eq)]
+#[derive(Clone, Copy)]
 pub struct Local {
     /// The place of its next step.
     pub at: usize,
@@ -18,7 +18,7 @@ pub struct Local {
 }
 
 /// What a thread wants of its turn.
-#[derive(Clone, Copy, Debug, PartialEq, Eq)]
+#[derive(Clone, Copy)]
 pub enum Wanted {
     Ask(Ask),
     /// To end, since the assertion of this number doesn't hold.

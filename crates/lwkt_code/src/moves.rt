@@ -96,9 +96,9 @@ fn act(steps: &[Step], local: &mut Local) -> Option<Wanted>
             }
             None
         }
-        Some(Step::Assert(c, n)) => {
+        Some(Step::Assert(cond, n)) => {
             local.at += 1;
-            if holds(c, &local.vars) {
+            if holds(cond, &local.vars) {
                 None
             } else {
                 local.asked = true;

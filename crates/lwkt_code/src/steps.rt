@@ -4,7 +4,7 @@ use crate::exprs::{Cond, Expr};
 use lwkt_base::{Ask, Blob, Flags, Verb};
 
 /// What stands behind the word of an ask, of each kind that `lwkt_base` has.
-#[derive(Debug, Drop)]
+#[derive(Drop)]
 pub enum Operand {
     Token(Expr),
     /// A token and a cell.
@@ -22,7 +22,7 @@ pub enum Operand {
 }
 
 /// An ask whose numbers are expressions.
-#[derive(Debug, Drop)]
+#[derive(Drop)]
 pub struct Wish {
     pub verb: Verb,
     /// What stands behind the word, in order.
@@ -30,7 +30,7 @@ pub struct Wish {
 }
 
 /// The variables that take what the answer to an ask holds, in order.
-#[derive(Clone, Copy, Debug, PartialEq, Eq)]
+#[derive(Clone, Copy)]
 pub enum Places {
     Nowhere,
     One(u8),
@@ -39,7 +39,7 @@ pub enum Places {
 }
 
 /// One step. Places count from 0, and the place behind the last step is the end.
-#[derive(Debug, Drop)]
+#[derive(Drop)]
 pub enum Step {
     /// An ask that is the same each time, and whose answer is put nowhere.
     Fixed(Ask),
