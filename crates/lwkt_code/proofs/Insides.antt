@@ -1,6 +1,6 @@
 -- What steps lead to if none is wrong by itself.
 use Rattle.std.proofs.Common.{◌≡◌, ℕ, suc, ◌+◌, ◌<◌, ◌≤◌, Bool, true, false, cond, List, length, Option, Some, None, refl, inl, inr, ⊎_elim, arith}
-use Rattle.std.specs.Prelude.{slice_get, nat_le, option_and_then, ◌⊎◌}
+use Rattle.std.specs.Prelude.{slice_get, nat_le, option_and_then, ◌⊎◌, MatchOption}
 use Rattle.std.specs.Option.{option_or}
 use Rattle.std.proofs.lemmas.Bool.{cases_lt}
 use Rattle.std.proofs.lemmas.Bool.Decides.{nat_tests}
@@ -9,8 +9,10 @@ use Rattle.lwkt_code.specs.declared.checks.Flaw.{Flaw}
 use Rattle.lwkt_code.specs.declared.steps.Step.{Step}
 use Rattle.lwkt_code.specs.declared.steps.Step.TheVariants.{Fixed, Make, Set, Fault, Unless, Goto, Count, Again, Assert}
 use Rattle.lwkt_code.specs.Flaws.{flaw_of, flaw_of_jump, flaw_of_cond, flaw_of_counter}
-use Rattle.lwkt_code.specs.Accepted.{leads_to, leads_from, IsOneOf, IsInside}
-use Rattle.lwkt_code.specs.Programs.{flaw_at, IsFlawless}
+use Rattle.lwkt_code.specs.Accepted.{leads_to, leads_from, IsOneOf, IsInside, IsCircle}
+use Rattle.lwkt_code.specs.Marks.{Opens}
+use Rattle.lwkt_code.specs.Programs.{flaw_at, IsFlawless, IsSound, IsWrong, circle_of}
+use Rattle.lwkt_code.proofs.Marking.{accepted}
 
 or_none : (p q : Option Flaw) → option_or p q ≡ None → q ≡ None
 or_none None q e = e
@@ -49,3 +51,12 @@ past_flawless n o e = rw e refl
 
 pub all_flawless : (steps : List Step) → ((k : ℕ) → k < length steps → flaw_at steps k ≡ None) → IsFlawless steps
 all_flawless steps h k = ⊎_elim (λ w. h k w) (λ g. past_flawless (length steps) (slice_get steps k) (slice_get_past steps k g)) (cases_lt k (length steps))
+
+-- steps that are right by themselves, and from which no way without an ask leads back, are a program
+sound : (steps : List Step) → ((k : ℕ) → k < length steps → flaw_at steps k ≡ None) → ((k : ℕ) → k < length steps → Opens steps k) → IsSound steps
+sound steps f o = let a = all_flawless steps f in record { flawless = a; accepted = accepted steps (flawless_inside steps a) o }
+
+pub told_wrong : (steps : List Step) (found : Option (ℕ × ℕ)) → ((k : ℕ) → k < length steps → flaw_at steps k ≡ None)
+    → MatchOption found ((k : ℕ) → k < length steps → Opens steps k) (λ r. IsCircle steps r.0 r.1) → MatchOption (circle_of found) (IsSound steps) (IsWrong steps)
+told_wrong steps None f h = sound steps f h
+told_wrong steps (Some circle) f h = (all_flawless steps f, h)

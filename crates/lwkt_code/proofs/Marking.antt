@@ -1,6 +1,6 @@
 -- Marks at the places from which a way leads back to the beginning of a loop.
-use Rattle.std.proofs.Common.{◌≡◌, ◌≢◌, ℕ, zero, suc, ◌+◌, ◌-◌, ◌*◌, ◌<◌, ◌≤◌, Bool, true, false, cond, List, [], ◌∷◌, length, replicate, get_or, Option, refl, sym, ap, ◌∙◌, subst, inl, inr, ⊎_elim, arith}
-use Rattle.std.specs.Prelude.{nat_lt, slice_get, slice_index, ◌==◌, ◌⊎◌}
+use Rattle.std.proofs.Common.{◌≡◌, ◌≢◌, ℕ, zero, suc, ◌+◌, ◌-◌, ◌*◌, ◌<◌, ◌≤◌, Bool, true, false, cond, List, [], ◌∷◌, length, replicate, get_or, Option, Some, None, refl, sym, ap, ◌∙◌, subst, inl, inr, ⊎_elim, arith}
+use Rattle.std.specs.Prelude.{nat_lt, slice_get, slice_index, ◌==◌, ◌⊎◌, MatchOption, if◌then◌else◌}
 use Rattle.std.proofs.Math.ListN.{set, length-set}
 use Rattle.std.proofs.lemmas.Bool.{lt-ltb, le-ltb, cases_lt, ne_eqb, eq-eqb}
 use Rattle.std.proofs.lemmas.List.{get_or-set_same, get_or-set_other, get_or_past, get_or-replicate, length-replicate}
@@ -150,6 +150,13 @@ opens steps marks begin h e = (
       (cases_lt at (length steps)))
       (same_or_other at begin),
 )
+
+-- what the mark of the beginning says
+pub told_circle : (steps : List Step) (marks : List ℕ) (begin back : ℕ) → back ≡ back_from steps marks begin begin → AreMarks steps begin marks
+    → ((k : ℕ) → begin < k → k < length steps → slice_index marks k ≡ 0 → back_from steps marks begin k ≡ 0)
+    → MatchOption (if back == 0 then None else Some (back - 1)) (Opens steps begin) (IsCircle steps begin)
+told_circle steps marks begin zero e h all = opens steps marks begin all (sym e)
+told_circle steps marks begin (suc n) e h all = subst (λ m. LeadsBack steps begin begin (m - 1)) (sym e) (leads_back steps marks begin begin h (omega arith))
 
 -- ranks of the places from one on, as far as they lead there
 record Ranked (steps : List Step) (m : ℕ) : Type 0 where

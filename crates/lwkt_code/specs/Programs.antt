@@ -37,6 +37,11 @@ pub record IsSound (steps : List Step) : Type 0 where
 abbrev pub IsFirstFlaw : List Step → ℕ → Flaw → Type 0
 IsFirstFlaw steps at flaw = (flaw_at steps at ≡ Some flaw) × ((before : ℕ) → before < at → flaw_at steps before ≡ None)
 
+-- what is wrong with steps that have this loop without an ask, if they have one
+abbrev pub circle_of : Option (ℕ × ℕ) → Option Wrong
+circle_of None = None
+circle_of (Some circle) = Some (Circle circle.0 circle.1)
+
 -- why steps aren't a program
 abbrev pub IsWrong : List Step → Wrong → Type 0
 IsWrong steps TooMany = 512 < length steps

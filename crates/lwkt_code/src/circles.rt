@@ -1,6 +1,6 @@
 //! Loops without an ask.
-ghost use Rattle.std.specs.Prelude.{◌≡◌, ℕ, ◌+◌, ◌<◌, ◌≤◌, MatchOption, length, slice_get, slice_index, replicate};
-ghost use Rattle.lwkt_code.specs.Accepted.{IsInside, IsAccepted, IsCircle, leads_to};
+ghost use Rattle.std.specs.Prelude.{◌≡◌, ℕ, ◌+◌, ◌-◌, ◌<◌, ◌≤◌, ◌==◌, if◌then◌else◌, Some, None, MatchOption, length, slice_get, slice_index, replicate};
+ghost use Rattle.lwkt_code.specs.Accepted.{IsCircle, leads_to};
 ghost use Rattle.lwkt_code.specs.Marks.{back_by, back_of, back_from, AreMarks, IsReady, Opens, places};
 
 use crate::steps::Step;
@@ -98,9 +98,16 @@ fn mark(steps: &[Step], marks: &mut [usize; 513], begin: usize)
     loop {
         match find_ready(steps, marks, begin) {
             None => return,
-            Some((at, back)) => marks[at] = back,
+            Some(ready) => marks[ready.0] = ready.1,
         }
     }
+}
+
+// The place that a mark stands for.
+fn place_of(back: usize) -> Option<usize>
+    ensures { result ≡ (if back == 0 then None else Some (back - 1)) }
+{
+    if back == 0 { None } else { Some(back - 1) }
 }
 
 // The last place of a loop without an ask that begins there.
@@ -111,15 +118,13 @@ fn circle_from(steps: &[Step], begin: usize) -> Option<usize>
 {
     let mut marks = [0; 513];
     mark(steps, &mut marks, begin);
-    let back = back_from(steps, &marks, begin, begin);
-    if back > 0 { Some(back - 1) } else { None }
+    place_of(back_from(steps, &marks, begin, begin))
 }
 
 /// The first place and the last one of a loop without an ask: of those that begin first.
 pub fn find_circle(steps: &[Step]) -> Option<(usize, usize)>
     requires few { length steps.now ≤ 512 }
-    requires inside { IsInside steps.now }
-    ensures { MatchOption result (IsAccepted steps.now) (λ r. IsCircle steps.now r.0 r.1) }
+    ensures { MatchOption result ((k : ℕ) → k < length steps.now → Opens steps.now k) (λ r. IsCircle steps.now r.0 r.1) }
 {
     for begin in 0..steps.len() {
         match circle_from(steps, begin) {

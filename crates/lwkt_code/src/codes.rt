@@ -1,6 +1,6 @@
 //! Whole programs.
-ghost use Rattle.std.specs.Prelude.{◌≡◌, ◌≤◌, IfOk, IfErr, Option, Some, None, MatchOption, length, slice_get};
-ghost use Rattle.lwkt_code.specs.Programs.{IsSound, flaw_at, IsFlawless, IsFirstFlaw, IsWrong, start};
+ghost use Rattle.std.specs.Prelude.{◌≡◌, ℕ, ◌<◌, ◌≤◌, IfOk, IfErr, Option, Some, None, MatchOption, length, slice_get};
+ghost use Rattle.lwkt_code.specs.Programs.{IsSound, flaw_at, IsFirstFlaw, circle_of, IsWrong, start};
 ghost use Rattle.lwkt_code.specs.Answers.{last_step, logs};
 ghost use Rattle.lwkt_code.specs.Next.{next};
 
@@ -61,7 +61,7 @@ fn flaw_at(steps: &[Step], at: usize) -> Option<Flaw>
 
 // The first step that is wrong by itself.
 fn find_flaw(steps: &[Step]) -> Option<(usize, Flaw)>
-    ensures { MatchOption result (IsFlawless steps.now) (λ r. IsFirstFlaw steps.now r.0 r.1) }
+    ensures { MatchOption result ((k : ℕ) → k < length steps.now → flaw_at steps.now k ≡ None) (λ r. IsFirstFlaw steps.now r.0 r.1) }
 {
     for at in 0..steps.len() {
         match flaw_at(steps, at) {
@@ -72,6 +72,25 @@ fn find_flaw(steps: &[Step]) -> Option<(usize, Flaw)>
     None
 }
 
+// What is wrong with steps that have such a loop.
+fn of_circle(found: Option<(usize, usize)>) -> Option<Wrong>
+    ensures { result ≡ circle_of found }
+{
+    match found {
+        None => None,
+        Some(circle) => Some(Wrong::Circle(circle.0, circle.1)),
+    }
+}
+
+// What is wrong with steps that are right by themselves.
+fn find_wrong_circle(steps: &[Step]) -> Option<Wrong>
+    requires few { length steps.now ≤ 512 }
+    requires flawless { (k : ℕ) → k < length steps.now → flaw_at steps.now k ≡ None }
+    ensures { MatchOption result (IsSound steps.now) (IsWrong steps.now) }
+{
+    of_circle(find_circle(steps))
+}
+
 // What is wrong with steps.
 fn find_wrong(steps: &[Step]) -> Option<Wrong>
     ensures { MatchOption result (IsSound steps.now) (IsWrong steps.now) }
@@ -80,12 +99,8 @@ fn find_wrong(steps: &[Step]) -> Option<Wrong>
         return Some(Wrong::TooMany);
     }
     match find_flaw(steps) {
-        None => {}
-        Some((at, flaw)) => return Some(Wrong::Step(at, flaw)),
-    }
-    match find_circle(steps) {
-        None => None,
-        Some((begin, end)) => Some(Wrong::Circle(begin, end)),
+        None => find_wrong_circle(steps),
+        Some(found) => Some(Wrong::Step(found.0, found.1)),
     }
 }
 
