@@ -111,7 +111,7 @@ one_marked steps marks begin at back w h r = (λ k l. marked steps marks begin a
 
 -- before anything is marked
 no_marks : (n k : ℕ) → slice_index (replicate n 0) k ≡ 0
-no_marks n k = ⊎_elim (λ l. get_or-replicate n k 0 0 l) (λ g. get_or_past (replicate n 0) k 0 (let e = length-replicate n 0 in omega arith)) (cases_lt k n)
+no_marks n k = ⊎_elim (λ l. get_or-replicate n k 0 0 l) (λ g. get_or_past (replicate n 0) k 0 (let e : length (replicate {A = ℕ} n 0) ≡ n = length-replicate _ _ in omega arith)) (cases_lt k n)
 
 pub none_marked : (steps : List Step) (begin : ℕ) (marks : List ℕ) (n : ℕ) → marks ≡ replicate n 0 → AreMarks steps begin marks
 none_marked steps begin marks n e k l = let z : get_or marks k 0 ≡ 0 = ap (λ (xs : List ℕ). get_or xs k 0) e ∙ no_marks n k in absurd (omega arith)
@@ -156,7 +156,9 @@ pub told_circle : (steps : List Step) (marks : List ℕ) (begin back : ℕ) → 
     → ((k : ℕ) → begin < k → k < length steps → slice_index marks k ≡ 0 → back_from steps marks begin k ≡ 0)
     → MatchOption (if back == 0 then None else Some (back - 1)) (Opens steps begin) (IsCircle steps begin)
 told_circle steps marks begin zero e h all = opens steps marks begin all (sym e)
-told_circle steps marks begin (suc n) e h all = subst (λ m. LeadsBack steps begin begin (m - 1)) (sym e) (leads_back steps marks begin begin h (omega arith))
+told_circle steps marks begin (suc n) e h all =
+    let b : LeadsBack steps begin begin (suc n - 1) = subst (λ m. LeadsBack steps begin begin (m - 1)) (sym e) (leads_back steps marks begin begin h (omega arith)) in
+    rw (ne_eqb (suc n) 0 (λ z. omega arith)) b
 
 -- ranks of the places from one on, as far as they lead there
 record Ranked (steps : List Step) (m : ℕ) : Type 0 where
