@@ -5,8 +5,8 @@ ghost use Rattle.lwkt_explore.specs.Claims.{is_standing, is_place, has_faulted, 
 
 use crate::readings::sum_of;
 use lwkt_base::blobs::same_bytes;
-use lwkt_base::{Call, Entry, MsgId, MsgState, Owner, ThreadId, ThreadState};
-use lwkt_report::{Closing, ThreadLine};
+use lwkt_base::{Call, Entry, MsgId, MsgState, Owner, ThreadId, ThreadLine, ThreadState};
+use lwkt_report::Closing;
 use lwkt_text::claims::{Claim, Relation, Standing};
 
 /// Whether something is so, as far as a report tells.

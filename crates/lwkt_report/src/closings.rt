@@ -1,5 +1,4 @@
-use crate::logs::Log;
-use lwkt_base::{Blob, Cells, MsgEnd, ThreadId, ThreadState, TokList};
+use lwkt_base::{Blob, Cells, MsgEnd, ThreadLine};
 
 /// What a token is at the end of a run.
 #[derive(Debug, Drop)]
@@ -12,19 +11,6 @@ pub struct TokenLine {
     pub tallies: Option<Cells>,
     /// The record, of at most 64 bytes, if the token guards one.
     pub blob: Option<Blob>,
-}
-
-/// What a thread is when a run stops.
-#[derive(Debug, Drop)]
-pub struct ThreadLine {
-    /// The thread.
-    pub id: ThreadId,
-    /// Whether it could go on, waited, or had ended, and by what.
-    pub state: ThreadState,
-    /// The references that it then has.
-    pub list: TokList,
-    /// The first 32 of the answers that it was given.
-    pub log: Log,
 }
 
 /// What a run says of its own trace.

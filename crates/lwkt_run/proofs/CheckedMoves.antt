@@ -14,7 +14,7 @@ use Rattle.lwkt_machine.specs.Machines.{Rig}
 use Rattle.lwkt_machine.specs.Scripts.{IsOpenedScript}
 use Rattle.lwkt_port.specs.Chains.{Chain}
 use Rattle.lwkt_report.specs.declared.closings.Closing.{Closing}
-use Rattle.lwkt_report.specs.declared.closings.ThreadLine.{ThreadLine}
+use Rattle.lwkt_base.specs.declared.threads.ThreadLine.{ThreadLine}
 use Rattle.lwkt_report.specs.declared.closings.Verdict.{Verdict}
 use Rattle.lwkt_report.specs.declared.closings.Verdict.TheVariants.{Lawful, Unlawful}
 use Rattle.lwkt_script.specs.declared.scripts.Script.{Script}

@@ -15,7 +15,7 @@ use Rattle.lwkt_machine.specs.Ended.{AreOver}
 use Rattle.lwkt_machine.specs.Machines.{Rig}
 use Rattle.lwkt_machine.specs.Standings.{standing_of, standings_on, standings_of}
 use Rattle.lwkt_machine.specs.declared.standings.Standing.{Standing}
-use Rattle.lwkt_report.specs.declared.closings.ThreadLine.{ThreadLine}
+use Rattle.lwkt_base.specs.declared.threads.ThreadLine.{ThreadLine}
 use Rattle.lwkt_run.specs.Running.{ShowThreads}
 
 abbrev Ended : ThreadState → Type 0

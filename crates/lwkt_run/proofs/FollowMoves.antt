@@ -11,7 +11,7 @@ use Rattle.lwkt_core.specs.Events.{place_of}
 use Rattle.lwkt_core.specs.Machine.{Machine, after, after_at}
 use Rattle.lwkt_core.specs.Trace.{Run}
 use Rattle.lwkt_script.specs.declared.scripts.ThreadSpec.{ThreadSpec}
-use Rattle.lwkt_report.specs.declared.closings.ThreadLine.{ThreadLine}
+use Rattle.lwkt_base.specs.declared.threads.ThreadLine.{ThreadLine}
 use Rattle.lwkt_machine.specs.Bodies.{Scripted}
 use Rattle.lwkt_machine.specs.Ended.{AreOver}
 use Rattle.lwkt_machine.specs.Machines.{Rig}

@@ -27,7 +27,7 @@ use Rattle.lwkt_table.proofs.SectionParts.{chains_in_any_order, deeds_below, par
 use Rattle.lwkt_core.proofs.RunChainLemmas.{IsSettled, open_settled}
 use Rattle.lwkt_core.proofs.SafetyLemmas.{stays}
 use Rattle.lwkt_report.specs.declared.closings.Closing.{Closing}
-use Rattle.lwkt_report.specs.declared.closings.ThreadLine.{ThreadLine}
+use Rattle.lwkt_base.specs.declared.threads.ThreadLine.{ThreadLine}
 use Rattle.lwkt_report.specs.declared.closings.Verdict.{Verdict}
 use Rattle.lwkt_report.specs.declared.closings.Verdict.TheVariants.{Closed, Lawful, Unlawful}
 use Rattle.lwkt_script.specs.declared.scripts.Script.{Script}

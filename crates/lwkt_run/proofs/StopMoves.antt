@@ -17,7 +17,7 @@ use Rattle.lwkt_machine.specs.Machines.{Rig}
 use Rattle.lwkt_machine.specs.Scripts.{IsOpenedScript}
 use Rattle.lwkt_machine.proofs.DrivenMoves.{long_processors}
 use Rattle.lwkt_machine.proofs.PartMoves.{driven_many, script_opened, stop_own, told_by_traces}
-use Rattle.lwkt_report.specs.declared.closings.ThreadLine.{ThreadLine}
+use Rattle.lwkt_base.specs.declared.threads.ThreadLine.{ThreadLine}
 use Rattle.lwkt_script.specs.declared.scripts.Script.{Script}
 use Rattle.lwkt_run.specs.Leaving.{Leaves}
 use Rattle.lwkt_run.specs.Threaded.{RunsOnThreads}

@@ -21,7 +21,7 @@ use Rattle.lwkt_msg.specs.Told.{first_mails}
 use Rattle.lwkt_machine.specs.Bodies.{Scripted, IsPolled}
 use Rattle.lwkt_machine.specs.Machines.{Rig}
 use Rattle.lwkt_machine.specs.Scripts.{IsOpenedScript}
-use Rattle.lwkt_report.specs.declared.closings.ThreadLine.{ThreadLine}
+use Rattle.lwkt_base.specs.declared.threads.ThreadLine.{ThreadLine}
 use Rattle.lwkt_script.specs.declared.scripts.Script.{Script}
 use Rattle.lwkt_machine.specs.Drives.{IsDrivenMachine}
 use Rattle.lwkt_run.specs.Parts.{of_cpu, parts_from}

@@ -10,7 +10,7 @@ use Rattle.lwkt_core.specs.declared.finals.Final.{Final}
 use Rattle.lwkt_core.specs.Machine.{Machine}
 use Rattle.lwkt_core.specs.Opening.{opening, AreWithin, AllOpenLawfully}
 use Rattle.lwkt_report.specs.declared.closings.Closing.{Closing}
-use Rattle.lwkt_report.specs.declared.closings.ThreadLine.{ThreadLine}
+use Rattle.lwkt_base.specs.declared.threads.ThreadLine.{ThreadLine}
 use Rattle.lwkt_report.specs.declared.closings.Verdict.{Verdict}
 use Rattle.lwkt_report.specs.declared.closings.Verdict.TheVariants.{Closed, Lawful, Unlawful}
 use Rattle.lwkt_report.specs.declared.complaints.Program.TheVariants.{Run as RunProgram}

@@ -20,7 +20,7 @@ use Rattle.lwkt_machine.specs.Drives.{IsDrivenMachine}
 use Rattle.lwkt_machine.specs.Parts.{TellTheRuns}
 use Rattle.lwkt_run.specs.Parts.{parts_from}
 use Rattle.lwkt_report.specs.declared.closings.Closing.{Closing}
-use Rattle.lwkt_report.specs.declared.closings.ThreadLine.{ThreadLine}
+use Rattle.lwkt_base.specs.declared.threads.ThreadLine.{ThreadLine}
 use Rattle.lwkt_report.specs.declared.closings.Verdict.{Verdict}
 use Rattle.lwkt_report.specs.declared.closings.Verdict.TheVariants.{Closed}
 use Rattle.lwkt_report.specs.declared.streams.RunFault.{RunFault}

@@ -3,9 +3,8 @@ use crate::replays::Replay;
 use crate::stories::{Logged, Story};
 use crate::turns::show_step;
 use crate::words::{fill, show_ask, show_fault, show_thread};
-use lwkt_base::{Blob, Entry, ThreadState};
+use lwkt_base::{Blob, Entry, ThreadLine, ThreadState};
 use lwkt_refusals::Page;
-use lwkt_report::ThreadLine;
 
 // Appends the rule by which a thread ended faulted, with its values.
 fn show_rule(out: &mut Page, replay: &Replay, story: &Story) {

@@ -7,7 +7,7 @@ use Rattle.lwkt_core.specs.declared.events.Event.{Event}
 use Rattle.lwkt_core.specs.declared.events.Event.TheVariants.{Read, ReadBlob, Reply}
 use Rattle.lwkt_core.specs.Machine.{Machine}
 use Rattle.lwkt_script.specs.declared.scripts.ThreadSpec.{ThreadSpec}
-use Rattle.lwkt_report.specs.declared.closings.ThreadLine.{ThreadLine}
+use Rattle.lwkt_base.specs.declared.threads.ThreadLine.{ThreadLine}
 use Rattle.lwkt_verdict.specs.declared.expected.Expected.{Expected}
 use Rattle.lwkt_verdict.specs.declared.expected.Expected.TheVariants.{Any, NoRefusal, Refusal, Value, Bytes}
 use Rattle.lwkt_verdict.specs.Asks.{may_answer, makes_event}

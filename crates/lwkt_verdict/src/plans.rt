@@ -6,8 +6,7 @@ ghost use Rattle.lwkt_script.specs.Logs.{nth_ask};
 ghost use Rattle.lwkt_verdict.specs.Threads.{plan_of_thread, line_of, slot_of, ask_at};
 
 use crate::spots::Spot;
-use lwkt_base::{Ask, ThreadId};
-use lwkt_report::ThreadLine;
+use lwkt_base::{Ask, ThreadId, ThreadLine};
 use lwkt_script::ThreadSpec;
 
 /// How many threads there can be: 16 for each of 8 processors.

@@ -1,6 +1,6 @@
 use Rattle.std.proofs.Common.{◌≡◌, ◌∙◌, List, ap, map, sym, subst}
 use Rattle.std.proofs.lemmas.Result.{IfOk-weaker}
-use Rattle.lwkt_report.specs.declared.closings.ThreadLine.{ThreadLine}
+use Rattle.lwkt_base.specs.declared.threads.ThreadLine.{ThreadLine}
 use Rattle.lwkt_run.specs.Judging.{ids_of}
 use Rattle.lwkt_run.specs.Leaving.{IsLeftBy, LeavesTold}
 use Rattle.lwkt_run.specs.Running.{ShowThreads}

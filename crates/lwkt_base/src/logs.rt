@@ -1,6 +1,6 @@
 ghost use Rattle.std.specs.Prelude.{◌≡◌};
 
-use lwkt_base::Entry;
+use crate::entries::Entry;
 use std::marker::Model;
 
 /// What a thread's log has, the earliest entry first. Made from a vector, and given back as one, without taking memory.
