@@ -4,7 +4,7 @@ use crate::entries::Entry;
 use std::marker::Model;
 
 /// What a thread's log has, the earliest entry first. Made from a vector, and given back as one, without taking memory.
-#[derive(Debug, Drop)]
+#[derive(Drop)]
 pub struct Log {
     entries: Vec<Entry>,
 }

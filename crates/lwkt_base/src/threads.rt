@@ -31,7 +31,7 @@ impl ThreadState {
 }
 
 /// What a thread is when a run stops.
-#[derive(Debug, Drop)]
+#[derive(Drop)]
 pub struct ThreadLine {
     /// The thread.
     pub id: ThreadId,

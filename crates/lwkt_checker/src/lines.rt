@@ -18,7 +18,7 @@ pub const LINE_LIMIT: usize = 1_048_576;
 const CHUNK: usize = 4096;
 
 /// The lines of a source, read one after the other.
-#[derive(Debug, Drop)]
+#[derive(Drop)]
 pub struct Lines {
     /// The bytes that the source gave last.
     pub room: Vec<u8>,

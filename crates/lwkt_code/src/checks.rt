@@ -11,7 +11,7 @@ use lwkt_base::Verb;
 pub const MOST_OPERATORS: u32 = 16;
 
 /// What is wrong with a step.
-#[derive(Clone, Copy, Debug, PartialEq, Eq)]
+#[derive(Clone, Copy, PartialEq, Eq)]
 pub enum Flaw {
     /// It names a variable that isn't there: there are 0 to 7.
     NoVariable,

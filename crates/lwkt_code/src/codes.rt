@@ -15,7 +15,7 @@ use lwkt_base::Answer;
 use std::marker::Model;
 
 /// Why steps aren't a program.
-#[derive(Clone, Copy, Debug, PartialEq, Eq)]
+#[derive(Clone, Copy, PartialEq, Eq)]
 pub enum Wrong {
     /// There are more than 512.
     TooMany,

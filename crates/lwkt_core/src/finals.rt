@@ -7,7 +7,7 @@ use lwkt_base::blobs::are_same;
 use lwkt_base::{Blob, Cells, Law, MsgEnd};
 
 /// The closing values of a machine.
-#[derive(Debug, Drop)]
+#[derive(Drop)]
 pub struct Final {
     /// Each token's cells.
     pub rows: Vec<Cells>,

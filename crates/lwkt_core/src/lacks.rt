@@ -9,7 +9,7 @@ use crate::tokens::Token;
 use lwkt_base::{Blob, CpuId, LAST_GENERATION, Owner, Section, TokId};
 
 /// The first need of an event that isn't met.
-#[derive(Clone, Copy, Debug, PartialEq, Eq)]
+#[derive(Clone, Copy, PartialEq, Eq)]
 pub enum Lack {
     /// There is no processor of the event's number.
     NoProcessor,

@@ -7,7 +7,7 @@ use lwkt_base::{CpuId, Owner, ThreadId};
 pub const LAST_ROUND: u64 = 2251799813685247;
 
 /// One message of the model: what is declared of it, its state, and how often each thing was done with it.
-#[derive(Clone, Copy, Debug, PartialEq, Eq)]
+#[derive(Clone, Copy, PartialEq, Eq)]
 pub struct Message {
     /// The thread that owns the message while it is at rest.
     pub origin: ThreadId,

@@ -8,7 +8,7 @@ use lwkt_base::{Blob, Cells, CpuId, Held, LAST_GENERATION, Law, Mode, Section, T
 pub const CPU_LIMIT: usize = 8;
 
 /// One token of the model: what is declared of it, and its state.
-#[derive(Debug, Drop)]
+#[derive(Drop)]
 pub struct Token {
     /// The law that the token declares.
     pub law: Law,

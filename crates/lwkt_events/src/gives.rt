@@ -6,7 +6,7 @@ use lwkt_base::{CpuId, Section};
 use lwkt_core::Event;
 
 /// A written give: an exclusive holder gave its token back, whose section has changed something.
-#[derive(Clone, Copy, Debug, PartialEq, Eq)]
+#[derive(Clone, Copy, PartialEq, Eq)]
 pub struct Give {
     /// The processor that gave the token back, 0 to 7.
     pub cpu: CpuId,

@@ -11,7 +11,7 @@ use std::alloc::Global;
 use std::marker::Model;
 
 /// Written sections of one token, at least one, each of which begins with the row and at the generation that the one before it came to.
-#[derive(Clone, Copy, Debug, PartialEq, Eq)]
+#[derive(Clone, Copy, PartialEq, Eq)]
 pub struct Stretch {
     /// The row at the beginning of the first section.
     pub before: Row,

@@ -10,7 +10,7 @@ use lwkt_report::Closing;
 use lwkt_text::claims::{Claim, Relation, Standing};
 
 /// Whether something is so, as far as a report tells.
-#[derive(Clone, Copy, Debug, PartialEq, Eq)]
+#[derive(Clone, Copy, PartialEq, Eq)]
 pub enum Truth {
     /// It is so.
     Yes,

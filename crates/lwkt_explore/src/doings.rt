@@ -6,7 +6,7 @@ use lwkt_machine::{Machine, ScriptBody};
 use lwkt_script::{Script, ThreadSpec};
 
 /// What a processor may touch.
-#[derive(Clone, Copy, Debug, PartialEq, Eq)]
+#[derive(Clone, Copy, PartialEq, Eq)]
 pub(crate) struct Doing {
     // in its next turn
     next: Touch,

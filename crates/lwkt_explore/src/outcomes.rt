@@ -17,7 +17,7 @@ use lwkt_show::{Reel, whys_of};
 use std::alloc::Global;
 
 /// How a run along an order stood when it stopped.
-#[derive(Clone, Copy, Debug, PartialEq, Eq)]
+#[derive(Clone, Copy, PartialEq, Eq)]
 pub enum Kind {
     /// Every thread has ended. A turn may still change something: messages may be under way.
     Ended,
@@ -28,7 +28,7 @@ pub enum Kind {
 }
 
 /// How the state stands that an order leads to.
-#[derive(Clone, Copy, Debug, PartialEq, Eq)]
+#[derive(Clone, Copy, PartialEq, Eq)]
 pub(crate) enum Stand {
     /// No turn changes anything.
     Quiet,

@@ -12,7 +12,7 @@ use lwkt_msg::{MsgBook, MsgSeat, Reaped};
 use std::alloc::Global;
 
 /// Of which processor a message is, to which one it was sent, and its round, as the model has them.
-#[derive(Clone, Copy, Debug, PartialEq, Eq)]
+#[derive(Clone, Copy, PartialEq, Eq)]
 pub struct Sent {
     /// The processor of the message's origin, 0 to 7.
     pub origin: usize,

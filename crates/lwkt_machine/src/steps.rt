@@ -7,7 +7,7 @@ use lwkt_base::{Answer, Ask, Fault};
 use lwkt_cpu::Body;
 
 /// What a thread was told before it asks.
-#[derive(Clone, Copy, Debug, PartialEq, Eq)]
+#[derive(Clone, Copy, PartialEq, Eq)]
 pub enum Told {
     /// Nothing: it was never polled.
     Nothing,

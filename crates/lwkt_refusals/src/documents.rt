@@ -6,7 +6,7 @@ use crate::tokens::{Guarding, show_message, show_no_record, show_token};
 use crate::words::Words;
 
 /// What a text that was refused had to be.
-#[derive(Clone, Copy, Debug, PartialEq, Eq)]
+#[derive(Clone, Copy, PartialEq, Eq)]
 pub(crate) enum Document {
     /// A script.
     Script,

@@ -2,7 +2,7 @@
 use crate::pages::Page;
 
 /// A line of a text, and where something stands in it.
-#[derive(Clone, Copy, Debug, PartialEq, Eq)]
+#[derive(Clone, Copy, PartialEq, Eq)]
 pub struct Place {
     /// The line's number, from 1 on.
     pub line: usize,

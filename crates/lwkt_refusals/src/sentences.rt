@@ -5,7 +5,7 @@ use lwkt_base::memory::push;
 use std::alloc::Global;
 
 // What a byte is to a word.
-#[derive(Clone, Copy, Debug, PartialEq, Eq)]
+#[derive(Clone, Copy, PartialEq, Eq)]
 enum Kind {
     // It parts words and belongs to none.
     Gap,
@@ -105,7 +105,7 @@ pub(crate) fn word_in_sentence(bytes: &[u8], at: usize, number: usize) -> &str {
 }
 
 // Where in a text a byte stands.
-#[derive(Clone, Copy, Debug, PartialEq, Eq)]
+#[derive(Clone, Copy, PartialEq, Eq)]
 enum Stage {
     // Before the first word of a sentence.
     Before,

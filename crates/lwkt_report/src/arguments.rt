@@ -8,7 +8,7 @@ use std::rt::Env;
 use thiserror::Error;
 
 /// Why the arguments of a program can't be told.
-#[derive(Clone, Copy, Debug, PartialEq, Eq, Error)]
+#[derive(Clone, Copy, PartialEq, Eq, Error)]
 pub enum WordsFault {
     /// Memory for them was refused.
     #[error("{0}")]

@@ -1,7 +1,7 @@
 use lwkt_base::{Blob, Cells, MsgEnd, ThreadLine};
 
 /// What a token is at the end of a run.
-#[derive(Debug, Drop)]
+#[derive(Drop)]
 pub struct TokenLine {
     /// The generation, 0 to 70368744177663.
     pub generation: u64,
@@ -14,7 +14,7 @@ pub struct TokenLine {
 }
 
 /// What a run says of its own trace.
-#[derive(Clone, Copy, Debug, PartialEq, Eq)]
+#[derive(Clone, Copy, PartialEq, Eq)]
 pub enum Verdict {
     /// Nothing: the run was made by several threads, and its steps lie in no known order.
     Closed,
@@ -25,7 +25,7 @@ pub enum Verdict {
 }
 
 /// All that a report shows of a run that has ended.
-#[derive(Debug, Drop)]
+#[derive(Drop)]
 pub struct Closing {
     /// The tokens, by number.
     pub tokens: Vec<TokenLine>,

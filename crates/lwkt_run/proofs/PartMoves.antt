@@ -91,9 +91,9 @@ pub of_cpu_stops : (stops : List (Vec Event Global)) → ((k : ℕ) (stop : Vec 
 of_cpu_stops stops own k stop at =
     let z : k ≡ 0 + k = omega arith in
     let from : AreOwnFrom 0 stops = λ j next here. (
-        let y : j ≡ 0 + j = omega arith in
-        let F : ℕ → Type 0 = λ i. All (λ (e : Event). cpu_of e ≡ i) next.items in
-        subst F y (own j next here)) in
+    let y : j ≡ 0 + j = omega arith in
+    let F : ℕ → Type 0 = λ i. All (λ (e : Event). cpu_of e ≡ i) next.items in
+    subst F y (own j next here)) in
     ap (λ (j : ℕ). of_cpu j (events_of_stops stops)) z ∙ of_cpu_from 0 stops from k stop at
 
 -- what holds of the events of each stop

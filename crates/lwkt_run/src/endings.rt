@@ -73,7 +73,10 @@ fn thread_line(
 }
 
 // The lines of a machine's threads.
-fn thread_lines(alloc: Global, machine: &Machine<ScriptBody>) -> Result<Vec<ThreadLine>, OutOfMemory>
+fn thread_lines(
+    alloc: Global,
+    machine: &Machine<ScriptBody>,
+) -> Result<Vec<ThreadLine>, OutOfMemory>
     ensures { IfOk result (λ lines. ShowThreads lines.items machine.now) }
 {
     let standings = machine.standings(alloc)?;

@@ -19,7 +19,7 @@ use lwkt_verdict::{Pace, Poll, Turn, are_processors};
 use std::alloc::Global;
 
 /// How a run ended, by its report.
-#[derive(Clone, Copy, Debug, PartialEq, Eq)]
+#[derive(Clone, Copy, PartialEq, Eq)]
 pub enum End {
     /// Every thread had ended, exited or faulted.
     Ended,

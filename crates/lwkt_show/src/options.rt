@@ -1,7 +1,7 @@
 use crate::reels::round_length;
 
 /// In which form a run is shown.
-#[derive(Clone, Copy, Debug, PartialEq, Eq)]
+#[derive(Clone, Copy, PartialEq, Eq)]
 pub enum View {
     /// A line for each turn that is chosen, why threads haven't ended, and the report.
     Lines,
@@ -14,7 +14,7 @@ pub enum View {
 }
 
 /// What a range counts.
-#[derive(Clone, Copy, Debug, PartialEq, Eq)]
+#[derive(Clone, Copy, PartialEq, Eq)]
 pub enum Counted {
     /// Turns of processors.
     Turns,
@@ -23,7 +23,7 @@ pub enum Counted {
 }
 
 /// How a run is shown, and which of its turns. These may be after the end of the run.
-#[derive(Clone, Copy, Debug, PartialEq, Eq)]
+#[derive(Clone, Copy, PartialEq, Eq)]
 pub struct Options {
     /// How the run is shown.
     pub view: View,

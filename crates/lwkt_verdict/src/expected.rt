@@ -8,7 +8,7 @@ use lwkt_base::{Answer, Blob};
 
 /// Which answers an ask can have by its turn's part of the trace, beside none at all. Of these it may be able to have only some, whatever
 /// its part. A check writes it where it keeps it, since a record is long.
-#[derive(Clone, Copy, Debug, PartialEq, Eq)]
+#[derive(Clone, Copy, PartialEq, Eq)]
 pub enum Expected {
     /// Any: the ask makes no event of its own, or its event may have happened unasked too.
     Any,

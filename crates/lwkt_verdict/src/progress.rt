@@ -11,7 +11,7 @@ pub const LOG_LIMIT: usize = 32;
 
 /// An ask of a thread, its answer, if it has one, and whether its part of the trace shows that it blocked the thread. Only proofs have
 /// values of it.
-#[derive(Clone, Copy, Debug, PartialEq, Eq)]
+#[derive(Clone, Copy, PartialEq, Eq)]
 pub struct Asked {
     /// What the thread asked.
     pub ask: Ask,
@@ -22,7 +22,7 @@ pub struct Asked {
 }
 
 /// How far a thread has come. Only proofs have values of it.
-#[derive(Clone, Copy, Debug, PartialEq, Eq)]
+#[derive(Clone, Copy, PartialEq, Eq)]
 pub struct Progress {
     /// How many times it was polled.
     pub polls: u64,
@@ -33,7 +33,7 @@ pub struct Progress {
 }
 
 /// What a turn was. Only proofs have values of it.
-#[derive(Clone, Copy, Debug, PartialEq, Eq)]
+#[derive(Clone, Copy, PartialEq, Eq)]
 pub struct Piece {
     /// The poll that was made in it, if one was.
     pub poll: Option<Poll>,

@@ -2,8 +2,8 @@ ghost use Rattle.std.specs.Prelude.{◌≡◌, ◌<◌, ◌≤◌, ◌↔◌, Is
 ghost use Rattle.lwkt_verdict.specs.Threads.{slot_of};
 ghost use Rattle.lwkt_verdict.specs.Run.{AreListed};
 
-use lwkt_base::ThreadLine;
 use crate::plans::slot_of;
+use lwkt_base::ThreadLine;
 
 // Whether a line is of a thread that can be, and comes after those before it.
 fn is_listed(cpus: usize, least: usize, line: &ThreadLine) -> bool
