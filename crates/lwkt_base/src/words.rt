@@ -1,9 +1,7 @@
 ghost use Rattle.std.specs.Prelude.{◌≡◌, ℕ, ◌+◌, ◌<◌, ◌^◌, false};
 
+use crate::limits::LAST_GENERATION;
 use crate::names::Mode;
-
-/// The last generation of a token: 2 ^ 46 - 1.
-pub const LAST_GENERATION: u64 = 70368744177663;
 
 /// The parts of a token's count word (lwkt_token.c; the generation is own). From the lowest bit: the exclusive bit, the
 /// mark, 16 bits of count, 46 bits of generation.

@@ -1,10 +1,8 @@
 ghost use Rattle.std.specs.Prelude.{◌≡◌, ◌↔◌, ℕ, ◌+◌, true, ◌<◌, ◌≤◌, IsTrue};
 
 use crate::events::Event;
+use lwkt_base::limits::LAST_ROUND;
 use lwkt_base::{CpuId, Owner, ThreadId};
-
-/// The last round of a message: 2 ^ 51 - 1.
-pub const LAST_ROUND: u64 = 2251799813685247;
 
 /// One message of the model: what is declared of it, its state, and how often each thing was done with it.
 #[derive(Clone, Copy, PartialEq, Eq)]

@@ -11,8 +11,8 @@ use crate::machines::Machine;
 use crate::processors::seat_all;
 use crate::seatings::{Rest, origins_of};
 use crate::tables::{Tables, open_tables};
+use lwkt_base::limits::THREAD_LIMIT;
 use lwkt_base::{Fault, MsgSpec, OutOfMemory, TokSpec};
-use lwkt_cpu::cpus::THREAD_LIMIT;
 use lwkt_lane::{Lanes, open_lanes};
 use std::alloc::Global;
 

@@ -6,9 +6,9 @@ ghost use Rattle.lwkt_machine.specs.Scripts.{bodies_on, AreBodiesOf, AreFew, Dec
 
 use crate::bodies::ScriptBody;
 use crate::machines::Machine;
+use lwkt_base::limits::THREAD_LIMIT;
 use lwkt_base::memory::push;
 use lwkt_base::{Fault, OutOfMemory};
-use lwkt_cpu::cpus::THREAD_LIMIT;
 use lwkt_script::{Script, ThreadSpec};
 use std::alloc::Global;
 

@@ -5,11 +5,9 @@ use crate::places::{Place, place_from};
 use crate::sentence_forms::kinds_of;
 use crate::sentences::{NAME_LIMIT, starts_of, word_in_sentence};
 use lwkt_base::PartKind;
+use lwkt_base::limits::LIST_LIMIT;
 use lwkt_base::memory::push;
 use std::alloc::Global;
-
-// The most tokens that a thread has at once.
-const LIST_LIMIT: usize = 32;
 
 // Of how many releases it is said.
 const REMARK_LIMIT: usize = 100;

@@ -3,11 +3,9 @@ use crate::checks::{WHOLE, show_numbers};
 use crate::parts::Part;
 use crate::tokens::{is_record, show_no_record};
 use crate::words::Words;
+use lwkt_base::limits::CELL_LIMIT;
 use lwkt_base::steps::verb_named;
 use lwkt_base::{PartKind, VERBS};
-
-// The most cells of a row.
-const CELL_LIMIT: usize = 4;
 
 // The most bytes of a record in a list.
 const RECORD_LIMIT: usize = 65;

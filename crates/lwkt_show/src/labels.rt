@@ -1,6 +1,7 @@
 //! Labels above turns: what was refused, whose thread ended, which message was sent. No two of them overlap.
-use crate::layouts::{CPU_LIMIT, Grid, seat_of, zeros};
+use crate::layouts::{Grid, seat_of, zeros};
 use crate::shapes::{digits, text_width};
+use lwkt_base::limits::CPU_LIMIT;
 use lwkt_base::memory::push;
 use lwkt_base::{Fault, MsgId, OutOfMemory};
 use std::alloc::Global;

@@ -1,15 +1,10 @@
 //! Where the parts of a picture stand.
 use crate::shapes::Point;
 use lwkt_base::OutOfMemory;
+use lwkt_base::limits::{CPU_LIMIT, TOKEN_LIMIT};
 use lwkt_base::memory::push;
 use lwkt_core::Event;
 use std::alloc::Global;
-
-/// The most processors of a script.
-pub(crate) const CPU_LIMIT: usize = 8;
-
-/// The most tokens of a script.
-pub(crate) const TOKEN_LIMIT: usize = 64;
 
 /// The width of a round, in pixels.
 pub(crate) const COLUMN: usize = 32;

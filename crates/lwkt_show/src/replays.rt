@@ -5,6 +5,7 @@ use crate::stories::{Doing, Outcome, Story, doing_after};
 use crate::tokens::Runners;
 use crate::tries::{held_after, taker};
 use crate::words::fill;
+use lwkt_base::limits::MESSAGE_LIMIT;
 use lwkt_base::memory::push;
 use lwkt_base::{Answer, Ask, Blob, Fault, Law, MsgId, ThreadId, ThreadLine, ThreadState, TokId};
 use lwkt_core::{Event, State};
@@ -12,9 +13,6 @@ use lwkt_refusals::{Page, show_breach};
 use lwkt_script::{Script, ThreadSpec};
 use lwkt_verdict::Poll;
 use std::alloc::Global;
-
-// The most messages of a script.
-const MESSAGE_LIMIT: usize = 64;
 
 /// A run that is made again event by event, and how far its threads have come.
 #[derive(Drop)]

@@ -1,18 +1,16 @@
 //! What a picture has, noted turn by turn, before it is known where it stands.
 use crate::boxes::Content;
 use crate::labels::{Labels, Tag};
-use crate::layouts::{CPU_LIMIT, Grid, Spot, TOKEN_LIMIT, slot_of};
+use crate::layouts::{Grid, Spot, slot_of};
 use crate::replays::Replay;
 use crate::shapes::Look;
+use lwkt_base::limits::{CPU_LIMIT, MESSAGE_LIMIT, TOKEN_LIMIT};
 use lwkt_base::memory::push;
 use lwkt_base::{Mode, MsgId, OutOfMemory};
 use lwkt_core::Event;
 use lwkt_refusals::Page;
 use lwkt_trace::words::{Subject, subject_of};
 use std::alloc::Global;
-
-// The most messages of a script.
-const MESSAGE_LIMIT: usize = 64;
 
 /// The box of a turn.
 #[derive(Drop)]

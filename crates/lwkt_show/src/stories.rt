@@ -1,19 +1,16 @@
 use crate::events::show_owner;
 use crate::tokens::{Runners, excludes, show_holders, show_word};
 use crate::words::{mode_word, show_thread};
+use lwkt_base::limits::{LAST_GENERATION, LOG_LIMIT};
 use lwkt_base::memory::push;
 use lwkt_base::{
-    Answer, Ask, Fault, LAST_GENERATION, Mode, MsgId, OutOfMemory, Ref, ThreadId, ThreadState,
-    TokId, TokList,
+    Answer, Ask, Fault, Mode, MsgId, OutOfMemory, Ref, ThreadId, ThreadState, TokId, TokList,
 };
 use lwkt_core::{Event, State, Token};
 use lwkt_refusals::Page;
 use lwkt_script::entry_of;
 use lwkt_verdict::Poll;
 use std::alloc::Global;
-
-// The most entries of a log.
-const LOG_LIMIT: usize = 32;
 
 /// What a thread is doing between two turns.
 #[derive(Clone, Copy, PartialEq, Eq)]

@@ -1,5 +1,6 @@
 use crate::words::{fill, mode_word, show_thread};
-use lwkt_base::{CpuId, Held, LAST_GENERATION, Mode, Ref, ThreadId};
+use lwkt_base::limits::LAST_GENERATION;
+use lwkt_base::{CpuId, Held, Mode, Ref, ThreadId};
 use lwkt_core::Token;
 use lwkt_refusals::Page;
 

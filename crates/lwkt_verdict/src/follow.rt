@@ -10,8 +10,9 @@ ghost use Rattle.lwkt_verdict.specs.Followed.{unpolled, IsPolled, IsKept, MayRes
 use crate::asks::is_same;
 use crate::followed::Followed;
 use crate::parts::{are_of, goes_quietly};
-use crate::plans::{THREAD_LIMIT, find_line, find_thread};
+use crate::plans::{find_line, find_thread};
 use crate::rounds::are_listed;
+use lwkt_base::limits::MACHINE_THREADS;
 use lwkt_base::memory::{push, with_capacity};
 use lwkt_base::{Answer, Ask, OutOfMemory, ThreadId, ThreadLine};
 use lwkt_core::{Event, State};
@@ -76,8 +77,8 @@ fn unpolled_threads<'p>(
 ) -> Result<Vec<Followed<'p>>, OutOfMemory>
     ensures { IfOk result (λ table. (length table.items ≡ 128) × AllThreads (λ k t. t ≡ unpolled (plan_of_thread (k / 16) (k % 16) plans.now)) table.items) }
 {
-    let mut table = with_capacity(alloc, THREAD_LIMIT)?;
-    for slot in 0..THREAD_LIMIT {
+    let mut table = with_capacity(alloc, MACHINE_THREADS)?;
+    for slot in 0..MACHINE_THREADS {
         push(
             &mut table,
             Followed::unpolled(alloc, thread_at(plans, slot)),
@@ -131,7 +132,7 @@ fn all_end(table: &[Followed<'_>], lines: &[ThreadLine]) -> bool
     requires room { length table.now ≡ 128 }
     ensures { IsTrue result → AllThreads (λ k t. IsEnded t (line_of k lines.now)) table.now }
 {
-    for slot in 0..THREAD_LIMIT {
+    for slot in 0..MACHINE_THREADS {
         if !table[slot].ends_as(line_at(lines, slot)) {
             return false;
         }

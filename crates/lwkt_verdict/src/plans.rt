@@ -6,11 +6,9 @@ ghost use Rattle.lwkt_script.specs.Logs.{nth_ask};
 ghost use Rattle.lwkt_verdict.specs.Threads.{plan_of_thread, line_of, slot_of, ask_at};
 
 use crate::spots::Spot;
+use lwkt_base::limits::MACHINE_THREADS;
 use lwkt_base::{Ask, ThreadId, ThreadLine};
 use lwkt_script::ThreadSpec;
-
-/// How many threads there can be: 16 for each of 8 processors.
-pub const THREAD_LIMIT: usize = 128;
 
 /// A thread's number among those of all processors, 16 for each.
 pub fn slot_of(id: ThreadId) -> usize

@@ -4,10 +4,8 @@ ghost use Rattle.lwkt_verdict.specs.Threads.{may_fault, may_end_after};
 
 use crate::asks::{is_exit, may_block, may_wait};
 use crate::turns::Poll;
+use lwkt_base::limits::LOG_LIMIT;
 use lwkt_base::{Answer, Ask, Blob, Entry, ThreadState};
-
-/// The most entries of a log.
-pub const LOG_LIMIT: usize = 32;
 
 /// An ask of a thread, its answer, if it has one, and whether its part of the trace shows that it blocked the thread. Only proofs have
 /// values of it.
