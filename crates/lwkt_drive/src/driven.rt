@@ -6,7 +6,7 @@ use crate::gates::Gate;
 use lwkt_base::{CpuId, OutOfMemory};
 use lwkt_core::Event;
 use lwkt_cpu::{Cpu, Drove};
-use lwkt_events::EventList;
+use crate::event_lists::EventList;
 use std::alloc::Global;
 
 /// Why a processor made no further turn. What is said of other processors no clause claims.
