@@ -17,7 +17,7 @@ pub returns-in_err-bodies-clause-many : goal.returns-in_err-bodies-clause-many
 returns-in_err-bodies-clause-many c = λ many. absurd (many (c.are_few.ensures.yes c.if-not-are_few.false))
 
 pub open-requires : goal.open-requires
-open-requires c = nothing_kept c.in_ok-bodies.bodies.items
+open-requires c = record { kept = nothing_kept c.in_ok-bodies.bodies.items }
 
 pub returns-clause-ok : goal.returns-clause-ok
 returns-clause-ok c =
