@@ -29,14 +29,22 @@ def last_name(text):
     return (re.findall(r"\w+", text) or [""])[-1]
 
 
+def given_in(line):
+    """Returns the names with which an impl block's type is written, by its first line, that aren't parameters of the block."""
+    found = re.match(r"impl(<.*?>)? (?:.* for )?(\w.*)", line)
+    names = re.findall(r"'?\w+", found[2])[1:] if found else []
+    return [it for it in names if it not in re.findall(r"'?\w+", found[1] or "") and it != "'_"]
+
+
 def type_of(line):
-    """Returns the name of the type that an impl block is of, by its first line, with that of the trait behind it."""
+    """Returns the name of the type that an impl block is of, by its first line, with that of the trait behind it. Of a block for some of the
+    type's parameters alone these are in the name."""
     depth, plain = 0, ""
     for letter in line[len("impl") :]:
         depth += (letter == "<") - (letter == ">")
         plain += letter if depth == 0 and letter not in "<>" else ""
     trait, _, of = plain.rpartition(" for ")
-    return last_name(of) + last_name(trait)
+    return last_name(of) + last_name(trait) if trait else "+".join([last_name(of), *given_in(line)])
 
 
 def function_at(text, place):
@@ -95,13 +103,6 @@ def homes_of(folder):
     return {name: [*them][0] for name, them in found.items() if len(them) == 1}
 
 
-def is_plain(line):
-    """Returns whether an impl block, by its first line, is of a type itself: not of a trait, nor of a type for some of its parameters alone."""
-    head, of = re.match(r"impl(<.*?>)? (.*)", line).groups() if re.match(r"impl(<.*?>)? \w", line) else ("", " for ")
-    given = re.findall(r"'?\w+", re.sub(r"^\w+", "", of.removesuffix(" {")))
-    return " for " not in of and {*given} <= {*re.findall(r"'?\w+", head or ""), "'_"}
-
-
 def body_of(lines, at, indent):
     """Returns between which lines the body of the function stands whose head begins at this line, or None where it has none of its own lines."""
     for begin in range(at, len(lines)):
@@ -120,7 +121,7 @@ def without_bodies(text, path, whole, homes):
     while at < len(lines):
         line, found = lines[at], FUNCTION.match(lines[at])
         if line.startswith("impl"):
-            of_type, is_type = type_of(line), is_plain(line)
+            of_type, is_type = type_of(line), " for " not in line and not given_in(line)
         elif re.match(r"(pub(\([a-z]+\))? )?trait ", line):
             is_type = False
         elif line == "}":
