@@ -111,6 +111,10 @@ def words_over_sources(crates, name):
 
 
 def run(words, folder):
-    """Runs a check in this folder. Returns its status and what it said."""
-    ran = subprocess.run(words, cwd=folder, **PIPED)
-    return ran.returncode, ran.stdout
+    """Runs a check in this folder. Returns its status, what it said and the seconds of processor time that it took."""
+    ran = subprocess.Popen(words, cwd=folder, **PIPED)
+    said = ran.stdout.read()
+    _, ended, used = os.wait4(ran.pid, 0)
+    ran.returncode = os.waitstatus_to_exitcode(ended)
+    ran.stdout.close()
+    return ran.returncode, said, used.ru_utime + used.ru_stime
