@@ -1,21 +1,11 @@
 //! Processors: the worked rows, turn by turn.
-ghost use Rattle.std.specs.Prelude.{◌≡◌, [], IfOk, IfSome};
-ghost use Rattle.lwkt_base.specs.Holding.{holds_nothing};
-ghost use Rattle.lwkt_bank.specs.Seats.{holding};
-ghost use Rattle.lwkt_msg.specs.Desks.{AreSeats, IsOpened, desk_cpu};
 
 use crate::boards::{Board, IDLE, Line, Logged, RAN, Row, goes};
-use crate::fixtures::{closed_by, is_right, open_bank};
+use crate::fixtures::{closed_by, is_right};
 use crate::port::MANY_SENDS;
-use lwkt_bank::CpuSeat;
-use lwkt_base::memory::push;
 use lwkt_base::{CpuId, Fault, MsgEnd, MsgId, Owner, ThreadState, TokId};
 use lwkt_core::Event;
-use lwkt_cpu::{Cpu, Turned};
-use lwkt_lane::{Lanes, open_lanes};
-use lwkt_machine::ScriptBody;
-use lwkt_msg::{MsgBook, MsgSeat};
-use lwkt_port::Ports;
+use lwkt_cpu::Turned;
 use std::alloc::Global;
 
 const CPU: CpuId = CpuId(0);
@@ -109,64 +99,6 @@ fn are_refused(alloc: Global) -> Result<bool, Fault> {
 fn asks_of_nothing(rt: HostRuntime) {
     let alloc = rt.alloc();
     assert!(rt; is_right(are_refused(alloc), are_refused(alloc)));
-}
-
-// The seat of a book of one processor.
-fn only_seat(mut seats: Vec<MsgSeat>, book: &MsgBook) -> Option<MsgSeat>
-    requires { AreSeats 1 book.now seats.items }
-    ensures { IfSome result (λ seat. IsOpened 0 book.now seat) }
-{
-    let seat = seats.pop()?;
-    Some(seat)
-}
-
-// The ports of the only processor, for 16 threads, at a book without messages.
-fn only_ports(alloc: Global, book: &MsgBook, seat: MsgSeat) -> Result<Ports, Fault>
-    requires opened { IsOpened 0 book.now seat }
-    requires specs { book.now.specs ≡ [] }
-    ensures { IfOk result (λ ports. desk_cpu ports.seat ≡ desk_cpu seat) }
-{
-    let Lanes { mut outs, mut ins } = open_lanes(alloc, 1)?;
-    let (Some(out), Some(into)) = (outs.pop(), ins.pop()) else {
-        return Err(Fault::Limits);
-    };
-    let cpu = seat.cpu();
-    Ports::new(alloc, cpu, seat, out, into, &[], 16)
-}
-
-// Why no processor of 17 bodies is made over these seats.
-fn refusal(alloc: Global, seat: CpuSeat, ports: Ports) -> Result<Option<Fault>, Fault>
-    requires mine { desk_cpu ports.seat ≡ seat.cpu }
-    requires empty { holding seat ≡ holds_nothing }
-{
-    let mut bodies = Vec::new(alloc);
-    for _number in 0..17 {
-        push(&mut bodies, ScriptBody::new(alloc, &[], 1)?)?;
-    }
-    match Cpu::new(alloc, seat, ports, bodies) {
-        Ok(_) => Ok(None),
-        Err(Fault::Memory(refused)) => Err(Fault::Memory(refused)),
-        Err(fault) => Ok(Some(fault)),
-    }
-}
-
-fn are_too_many(alloc: Global) -> Result<bool, Fault> {
-    let (_bank, mut seats) = open_bank(alloc, &[], 1)?;
-    let (book, mails) = MsgBook::open(alloc, &[], 1)?;
-    let (Some(seat), Some(mail)) = (seats.pop(), only_seat(mails, &book)) else {
-        return Ok(false);
-    };
-    if mail.cpu() != seat.cpu() {
-        return Ok(false);
-    }
-    let ports = only_ports(alloc, &book, mail)?;
-    Ok(refusal(alloc, seat, ports)? == Some(Fault::Limits))
-}
-
-#[test]
-fn seventeen_bodies(rt: HostRuntime) {
-    let alloc = rt.alloc();
-    assert!(rt; is_right(are_too_many(alloc), are_too_many(alloc)));
 }
 
 // Whether the first 32 messages are on their way, and the last one is at rest at its opening round.
