@@ -2,7 +2,7 @@ use Rattle.std.proofs.Common.{◌≡◌, ◌+◌, ℕ, List, length, min, refl, 
 use Rattle.std.specs.Prelude.{option_map}
 use Rattle.lwkt_core.specs.declared.events.Event.{Event}
 use Rattle.lwkt_run.specs.declared.polled.Polled.{Polled}
-use Rattle.lwkt_run.specs.Driving.{GoesOnBy, Stand, stand}
+use Rattle.lwkt_run.specs.Driving.{GoesOnBy, DeclinesBy, Stand, stand}
 use Rattle.lwkt_run.specs.Keeping.{polled_of, story_after}
 use Rattle.lwkt_run.proofs.DriveMoves.{Turns, turn_unfit, turn_fits}
 use Rattle.lwkt_run.proofs.PollMoves.{turn_polled}
@@ -26,7 +26,8 @@ returns-then-not-branch-clause-ok g c =
       asked = c.asks_of-asks.ensures.asked;
       kept = subst K c.as_slice-part.ensures.value c.in_ok-note.ensures;
     } in
-    turn_unfit c.args.cpu c.in_ok-turned.turned asks s t made refl
+    let D : List Event → Type 0 = λ es. DeclinesBy c.args.cpu asks es c.args.follower.now in
+    turn_unfit c.args.cpu c.in_ok-turned.turned asks s t made refl (subst D c.as_slice-part.ensures.value (c.in_ok-fits.ensures.declines c.if-not-branch.true))
 
 pub returns-clause-ok : goal.returns-clause-ok
 returns-clause-ok g c =
@@ -47,4 +48,4 @@ returns-clause-ok g c =
     } in
     let N : ℕ → ℕ = λ n. min (c.args.events.now + n) 18446744073709551615 in
     let counted : c.saturating_add.result ≡ N (length c.turn.new.trace.items) = c.saturating_add.ensures ∙ ap N (ap length value) in
-    turn_fits c.args.cpu c.in_ok-turned.turned asks c.is_over.result s t made counted (subst G value (c.in_ok-fits.ensures c.if-not-branch.false)) c.is_over.ensures
+    turn_fits c.args.cpu c.in_ok-turned.turned asks c.is_over.result s t made counted (subst G value (c.in_ok-fits.ensures.goes c.if-not-branch.false)) c.is_over.ensures
