@@ -2,11 +2,11 @@
 ghost use Rattle.std.specs.Prelude.{◌≡◌, true, false, []};
 ghost use Rattle.lwkt_cpu.specs.Driving.{none_driven};
 
+use crate::event_lists::EventList;
 use crate::gates::Gate;
 use lwkt_base::{CpuId, OutOfMemory};
 use lwkt_core::Event;
 use lwkt_cpu::{Cpu, Drove};
-use lwkt_events::EventList;
 use std::alloc::Global;
 
 /// Why a processor made no further turn. What is said of other processors no clause claims.

@@ -11,7 +11,7 @@ use Rattle.lwkt_base.specs.Holding.{Holding}
 use Rattle.lwkt_core.specs.declared.events.Event.{Event}
 use Rattle.lwkt_core.specs.Events.{cpu_of}
 use Rattle.lwkt_table.specs.declared.seats.SeatKind.{SeatKind}
-use Rattle.lwkt_events.specs.ShortEvents.{KeptTrace}
+use Rattle.lwkt_drive.specs.ShortEvents.{KeptTrace}
 use Rattle.lwkt_bank.specs.Seats.{BankId}
 use Rattle.lwkt_hold.specs.Runs.{Ran}
 use Rattle.lwkt_lane.proofs.PlaceMoves.{some_same, get_there}

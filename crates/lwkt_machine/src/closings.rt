@@ -12,8 +12,7 @@ use lwkt_base::memory::{push, with_capacity, with_capacity_for};
 use lwkt_base::{MsgEnd, OutOfMemory, TokId};
 use lwkt_core::Event;
 use lwkt_cpu::STOP_EVENTS;
-use lwkt_drive::Driven;
-use lwkt_events::EventList;
+use lwkt_drive::{Driven, EventList};
 use lwkt_msg::MsgSeat;
 use std::alloc::Global;
 

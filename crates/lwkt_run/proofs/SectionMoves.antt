@@ -8,7 +8,7 @@ use Rattle.lwkt_base.specs.declared.names.CpuId.{CpuId}
 use Rattle.lwkt_base.specs.declared.openings.TokSpec.{TokSpec}
 use Rattle.lwkt_base.specs.declared.sections.Section.{Section}
 use Rattle.lwkt_core.specs.declared.events.Event.{Event}
-use Rattle.lwkt_events.specs.ShortEvents.{KeptTrace}
+use Rattle.lwkt_drive.specs.ShortEvents.{KeptTrace}
 use Rattle.lwkt_core.specs.declared.finals.Final.{Final}
 use Rattle.lwkt_core.specs.declared.tokens.Token.{Token}
 use Rattle.lwkt_core.specs.Tokens.{IsFree, IsOpen, IsSafeToken}

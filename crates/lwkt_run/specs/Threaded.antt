@@ -3,7 +3,7 @@ use Rattle.std.specs.Global.{Global}
 use Rattle.std.specs.Prelude.{codes, length, All, string_bytes, String, ◌≡◌, ℕ, Bool, true, List, [], map, is_some, Option, Result, Ok}
 use Rattle.lwkt_base.specs.declared.names.CpuId.{CpuId}
 use Rattle.lwkt_core.specs.declared.events.Event.{Event}
-use Rattle.lwkt_events.specs.ShortEvents.{KeptTrace}
+use Rattle.lwkt_drive.specs.ShortEvents.{KeptTrace}
 use Rattle.lwkt_core.specs.declared.finals.Final.{Final}
 use Rattle.lwkt_base.specs.declared.openings.TokSpec.{TokSpec}
 use Rattle.lwkt_base.specs.declared.sections.Section.{Section}

@@ -14,7 +14,7 @@ use crate::lines::token_lines;
 use lwkt_base::memory::{extend_from_slice, from_slice, push, with_capacity_for};
 use lwkt_base::{Log, OutOfMemory, ThreadId, ThreadLine};
 use lwkt_core::{Event, Final};
-use lwkt_events::EventList;
+use lwkt_drive::EventList;
 use lwkt_machine::{CloseRoom, Closed, Machine, ScriptBody, Standing};
 use lwkt_report::{Closing, Verdict};
 use lwkt_script::Script;

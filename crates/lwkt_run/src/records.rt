@@ -9,7 +9,7 @@ use lwkt_base::limits::MACHINE_THREADS;
 use lwkt_base::memory::push;
 use lwkt_base::{Answer, OutOfMemory};
 use lwkt_core::Event;
-use lwkt_events::EventList;
+use lwkt_drive::EventList;
 use lwkt_verdict::{Poll, Turn};
 use std::alloc::Global;
 

@@ -12,7 +12,7 @@ use crate::records::Record;
 use crate::reports::{Done, conclude, done_of};
 use crate::rounds::Course;
 use lwkt_base::{Fault, ThreadLine};
-use lwkt_events::EventList;
+use lwkt_drive::EventList;
 use lwkt_report::{Closing, RunFault, Sink, Source, Verdict, read_capped};
 use lwkt_script::{Script, read_script};
 use lwkt_verdict::{Pace, Poll, Turn, are_processors};
