@@ -1,8 +1,8 @@
 -- What a run left that was driven and checked.
-use Rattle.std.proofs.Common.{◌≡◌, ◌∙◌, ◌⊎◌, ℕ, ◌+◌, ◌*◌, ◌%◌, ◌<◌, ◌≤◌, Bool, true, false, List, [], ◌++◌, length, drop, map, refl, ap, sym, subst, inl, inr, arith, Option, Some, None, append-nil, mul-le-mul_right, zero-mul}
+use Rattle.std.proofs.Common.{◌≡◌, ◌∙◌, ◌⊎◌, ℕ, ◌+◌, ◌*◌, ◌%◌, ◌<◌, ◌≤◌, Bool, true, false, List, [], ◌++◌, length, drop, map, refl, ap, sym, subst, inl, inr, arith, Option, Some, None, append-nil, length-append, mul-le-mul_right, zero-mul}
 use Rattle.std.specs.Prelude.{◌↔◌, All, IfSome, IsTrue}
 use Rattle.std.proofs.Math.Seq.{take-length}
-use Rattle.std.proofs.lemmas.List.{take-append-drop}
+use Rattle.std.proofs.lemmas.List.{take-append-drop, length_push}
 use Rattle.std.proofs.lemmas.Nat.{mod-mul-add}
 use Rattle.lwkt_core.specs.declared.events.Event.{Event}
 use Rattle.lwkt_core.specs.declared.finals.Final.{Final}
@@ -30,9 +30,9 @@ use Rattle.lwkt_verdict.specs.Parts.{after_all}
 use Rattle.lwkt_verdict.specs.Run.{GoesRound, AreRounds, KeepsPace, IsScriptRun, whose}
 use Rattle.lwkt_run.specs.Checked.{EndsSo, DeclinesSo, IsMadeOf, LeavesChecked}
 use Rattle.lwkt_run.specs.Courses.{ClosesBy, IsRunBy}
-use Rattle.lwkt_run.specs.Driving.{Pair, pair, DeclinesTurn, FollowsStep, Walk, walk, Stand, IsOf, IsAt, IsDriven, IsWithin, HasTurns, IsCourseOf, pace_of}
-use Rattle.lwkt_run.specs.Judging.{ids_of, CountsBefore, IsVerdict}
-use Rattle.lwkt_run.specs.Keeping.{Kept, Story, none_kept, none_told, story_as}
+use Rattle.lwkt_run.specs.Driving.{Pair, pair, DeclinesTurn, FollowsStep, Walk, walk, Stand, IsOf, IsAt, IsDriven, IsWithin, IsShort, HasTurns, IsCourseOf, pace_of}
+use Rattle.lwkt_run.specs.Judging.{ids_of, CountsBefore, FitBefore, IsVerdict}
+use Rattle.lwkt_run.specs.Keeping.{Kept, Story, turn_of, none_kept, none_told, story_as}
 use Rattle.lwkt_run.specs.Leaving.{Leaves}
 use Rattle.lwkt_run.specs.Run.{opening_of_script, AreMadeOf, IsJudgedBy, MayClose, RunsAlong, RunsBy, RunsInRounds}
 use Rattle.lwkt_run.specs.Running.{HasThreads, Scene, scene, ShowThreads, MakesTurnAt, MakesSome, MakesTurns, HasMadeRounds}
@@ -49,7 +49,7 @@ use Rattle.lwkt_run.proofs.IdMoves.{opened_has}
 use Rattle.lwkt_run.proofs.JudgeMoves.{judged}
 use Rattle.lwkt_run.proofs.OrderMoves.{GoTurns, chain_maps, chain_then, rounds_turned, Rounded, rounded, Fronted, fronted}
 use Rattle.lwkt_run.proofs.RoundMoves.{has_turns, turns_bank, turns_book}
-use Rattle.lwkt_run.proofs.StandMoves.{Stands, RoundsAre, rounds_are, rounds_stand, order_stands, some_made, some_stand, front_stands, walk_stands, none_begins}
+use Rattle.lwkt_run.proofs.StandMoves.{Stands, RoundsAre, rounds_are, rounds_stand, order_stands, some_made, some_stand, front_stands, walk_stands, none_begins, begun_before, before_is}
 use Rattle.lwkt_run.proofs.TurnMoves.{rounds_tell, turns_tell}
 
 -- an order is a front of a course: in rounds it goes round the processors, and has no more turns than these rounds
@@ -115,16 +115,20 @@ drove (Rounds limit) cpus false s t x many none at driven =
     let front = rounds_turned cpus count x mid.at (same_cpus s x cpus at.of many) (some_made count (pair x s.follow) mid rounds) in
     let few : n + 1 ≤ cpus = omega (arith, stop.1.0, front.same) in
     let up : count + 1 ≤ limit = omega (arith, d.1.1.1.0) in
-    let bound : count * cpus + (n + 1) ≤ limit * cpus = omega (arith, mul-le-mul_right cpus up, few) in
-    (y, by_rounds limit cpus (count * cpus + (n + 1)) false s x t y none bound (stopped_turns cpus count n x mid.at y few front.turns (part_made n mid w y walked last)) d.1.0.of
-      (λ plans opening stands. (d.1.0.stood, (n, (w.at, (walk_stands plans opening n (walk mid true) w walked (some_stand plans opening count (pair x s.follow) mid rounds stands), last))))))
+    let bound : count * cpus + (n + 1) ≤ limit * cpus = omega (arith, mul-le-mul_right cpus up, few) in (
+      y,
+      by_rounds limit cpus (count * cpus + (n + 1)) false s x t y none bound (stopped_turns cpus count n x mid.at y few front.turns (part_made n mid w y walked last)) d.1.0.of
+          (λ plans opening stands. (d.1.0.stood, (n, (w.at, (walk_stands plans opening n (walk mid true) w walked (some_stand plans opening count (pair x s.follow) mid rounds stands), last))))),
+    )
 drove (Rounds limit) cpus true s t x many none at driven =
     let d = driven x at in
     let y = d.0 in
     let r = rounds_are cpus limit (pair x s.follow) (pair y t.follow) (same_cpus s x cpus at.of many) d.1.1 in
-    let least : r.count ≤ limit = elim r.last [ inl is ↦ omega (arith, is) | inr before ↦ omega (arith, before.0) ] in
-    (y, by_rounds limit cpus (r.count * cpus) true s x t y none (mul-le-mul_right cpus least) r.turns d.1.0.of
-      (λ plans opening stands. (d.1.0, (rounds_stand plans opening limit (pair x s.follow) (pair y t.follow) d.1.1 stands, r))))
+    let least : r.count ≤ limit = elim r.last [ inl is ↦ omega (arith, is) | inr before ↦ omega (arith, before.0) ] in (
+      y,
+      by_rounds limit cpus (r.count * cpus) true s x t y none (mul-le-mul_right cpus least) r.turns d.1.0.of
+          (λ plans opening stands. (d.1.0, (rounds_stand plans opening limit (pair x s.follow) (pair y t.follow) d.1.1 stands, r))),
+    )
 drove (Along order) cpus false s t x many none at driven =
     let d = driven x at in
     let y = d.0 in
@@ -316,12 +320,27 @@ no_course script (Rounds limit) follows left stops y all no run = elim (cases_lt
 no_course script (Along order) follows left stops y all no run = false≢true (sym no ∙ all (refl, tt))
 
 -- why the check said no
-says_no : (script : Script) (course : Course) (fits follows : Bool) (s t : Stand) (left : Left) (stops : List Event) (y : Scene) → Closes script s t left stops → DroveTo course script.cpus fits s (first_of s) t y → (IsTrue fits × HasTurns course → IsTrue follows) → (follows ≡ false) ⊎ DeclinesSo t.follow left stops → SaysNo script course left stops t y
-says_no script course false follows s t left stops y c d all why =
+short_order : (course : Course) (cpus : ℕ) (made : List ℕ) → cpus ≤ 8 → IsShort course → IsFrontOf course cpus made → length made ≤ 18446744073709551615
+short_order (Rounds limit) cpus made few short front = omega (arith, front.1, mul-le-mul_right cpus short, few)
+short_order (Along order) cpus made few short front = omega (arith, ap (λ (o : List ℕ). length o) front.1, length-append made front.0, short)
+
+says_no : (script : Script) (course : Course) (fits follows : Bool) (s t : Stand) (left : Left) (stops : List Event) (y : Scene) → IsShort course → Closes script s t left stops → DroveTo course script.cpus fits s (first_of s) t y → (IsTrue fits × HasTurns course → IsTrue follows) → (follows ≡ false) ⊎ DeclinesSo t.follow left stops → SaysNo script course left stops t y
+says_no script course false follows s t left stops y short c d all why =
     let opening = opening_of_script script in
     let w = d.why script.threads opening (stands_none script.threads opening s.machine s.follow c.begins) in
-    inl (record { stood = w.0; misfits = λ few lines runs. none_begins script.threads opening w.1.0 w.1.1.0 y w.1.1.1.1 w.1.1.1.0 stops few lines runs })
-says_no script course true follows s t left stops y c d all why =
+    let turn = w.1.1.1.1.turn in
+    let same = before_is w.1.1.0.at.kept.turns w.0.before (turn_of turn.asks turn.events (length w.1.1.0.at.kept.polls)) w.0.last (sym turn.keeps.turns ∙ w.0.turns_are) in
+    let p = w.1.1.0 in
+    let cpus : script.cpus ≤ 8 = c.within.processors in
+    let order : length y.kept.order ≤ 18446744073709551615 = short_order course script.cpus y.kept.order cpus short d.front in
+    let few : length y.kept.turns ≤ 18446744073709551615 = omega (arith, order, ap (λ (o : List ℕ). length o) turn.keeps.order, length_push p.at.kept.order w.1.0, ap (λ (ts : List Turn). length ts) turn.keeps.turns, length_push p.at.kept.turns (turn_of turn.asks turn.events (length p.at.kept.polls)), w.1.1.1.0.long) in
+    let F : List Turn → Type 0 = λ ts. FitBefore opening y.kept.order script.threads (y.trace ++ stops) y.kept.polls ts in
+    inl (record {
+      stood = w.0;
+      fits = subst F same (begun_before script.threads opening w.1.0 w.1.1.0 y w.1.1.1.1 w.1.1.1.0 stops);
+      misfits = λ lines runs. none_begins script.threads opening w.1.0 w.1.1.0 y w.1.1.1.1 w.1.1.1.0 stops few lines runs;
+    })
+says_no script course true follows s t left stops y short c d all why =
     let opening = opening_of_script script in
     let w = d.why script.threads opening (stands_none script.threads opening s.machine s.follow c.begins) in
     inr (record {
@@ -338,14 +357,14 @@ abbrev pub Says : Verdict → Bool → ℕ → (List Event → Type 0) → (List
 Says verdict follows events E D stops = ((verdict ≡ Lawful) × (IsTrue follows × E stops)) ⊎ ((verdict ≡ Unlawful events) × ((follows ≡ false) ⊎ D stops))
 
 -- either way
-pub leaves_checked : (script : Script) (course : Course) (fits follows : Bool) (s t : Stand) (left : Left) (stops : List Event) (verdict : Verdict) → IsCourseOf script course → Closes script s t left stops → IsDriven course fits s t → (IsTrue follows ↔ (IsTrue fits × HasTurns course)) → Says verdict follows t.events (EndsSo t.follow left) (DeclinesSo t.follow left) stops → LeavesChecked course script t.kept left stops verdict
-leaves_checked script course fits follows s t left stops verdict of c driven all (inl lawful) =
+pub leaves_checked : (script : Script) (course : Course) (fits follows : Bool) (s t : Stand) (left : Left) (stops : List Event) (verdict : Verdict) → IsShort course → IsCourseOf script course → Closes script s t left stops → IsDriven course fits s t → (IsTrue follows ↔ (IsTrue fits × HasTurns course)) → Says verdict follows t.events (EndsSo t.follow left) (DeclinesSo t.follow left) stops → LeavesChecked course script t.kept left stops verdict
+leaves_checked script course fits follows s t left stops verdict short of c driven all (inl lawful) =
     let is = all.0 lawful.1.0 in
     let so : IsDriven course true s t = subst (λ b. IsDriven course b s t) is.0 driven in
     subst (λ v. LeavesChecked course script t.kept left stops v) (sym lawful.0) (leaves_lawful script course s t left stops of c so is.1 lawful.1.1)
-leaves_checked script course fits follows s t left stops verdict of c driven all (inr said) =
+leaves_checked script course fits follows s t left stops verdict short of c driven all (inr said) =
     let d = drove course script.cpus fits s t (first_of s) c.opens.as_many refl (at_first s c.fresh c.uncounted) driven in
-    subst (λ v. LeavesChecked course script t.kept left stops v) (sym said.0) (leaves_unlawful script course fits s t left stops d.0 of c d.1 (says_no script course fits follows s t left stops d.0 c d.1 all.1 said.1))
+    subst (λ v. LeavesChecked course script t.kept left stops v) (sym said.0) (leaves_unlawful script course fits s t left stops d.0 of c d.1 (says_no script course fits follows s t left stops d.0 short c d.1 all.1 said.1))
 
 -- the report of what is left
 pub closes_so : (course : Course) (script : Script) (kept : Option Story) (left : Left) (stops : List Event) (verdict : Verdict) (closing : Closing) (l : LeavesChecked course script kept left stops verdict) → ShowsLeft script.tokens left.threads.items left.last verdict closing → IsJudgedBy (pace_of course) script closing l.story.kept.order (l.story.trace ++ stops) l.story.kept.polls l.story.kept.turns

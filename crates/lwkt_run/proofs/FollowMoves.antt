@@ -30,7 +30,7 @@ use Rattle.lwkt_run.specs.Driving.{Pair, pair}
 use Rattle.lwkt_verdict.proofs.TraceMoves.{traces_happen}
 use Rattle.lwkt_run.proofs.FillMoves.{filled}
 use Rattle.lwkt_run.proofs.OrderMoves.{Rounded, rounded}
-use Rattle.lwkt_run.proofs.TrackMoves.{IsFront, tracks_none, through_run, knows_none}
+use Rattle.lwkt_run.proofs.TrackMoves.{IsFront, tracks_none, through_run, run_through, knows_none}
 use Rattle.lwkt_run.proofs.StandMoves.{Stands, Unpolled, RoundsAre, after_join}
 
 -- events leave the processors
@@ -61,6 +61,7 @@ pub stands_none : (plans : List ThreadSpec) (opening : Machine) (opened : Rig Sc
 stands_none plans opening opened f begins = record {
   tracks = tracks_none plans opening f begins;
   knows = knows_none plans opening f begins;
+  shown = λ answers. ([], begins.shown answers);
   threads = begins.plans;
   led = begins.machine;
   long = refl;
@@ -111,8 +112,8 @@ runs_whole plans opening p lines stop stands ends =
     let polls : IsFront (filled none_answered kept.polls) kept.polls = ([], sym (append-nil _ ∙ stands.waits)) in
     let order : IsFront kept.order kept.order = ([], sym (append-nil kept.order)) in
     let track = stands.tracks none_answered lines kept.polls kept.order ends.bear polls order in
-    let end : RunsThrough plans lines kept.polls kept.order p.follow.machine track.before [] stop = subst (λ ps. RunsThrough ps lines kept.polls kept.order p.follow.machine track.before [] stop) stands.threads (ends.ends track.before track.shown) in
-    subst (λ ts. RunsThrough plans lines kept.polls kept.order opening [] ts (p.at.trace ++ stop)) (append-nil kept.turns) (track.on [] stop end)
+    let end : EndsRun plans lines p.follow.machine track.before stop = subst (λ ps. EndsRun ps lines p.follow.machine track.before stop) stands.threads (ends.ends track.before track.shown) in
+    subst (λ ts. RunsThrough plans lines kept.polls kept.order opening [] ts (p.at.trace ++ stop)) (append-nil kept.turns) (run_through plans lines kept.polls kept.order opening [] (kept.turns ++ []) (p.at.trace ++ stop) (track.on true [] stop end))
 
 -- a trace and what is kept of its turns are a run of the script to its end
 pub record Whole (plans : List ThreadSpec) (pace : Pace) (opening : Machine) (p : Pair) (lines : List ThreadLine) (stop : List Event) : Type 0 where

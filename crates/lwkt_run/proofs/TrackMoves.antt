@@ -37,63 +37,6 @@ front_get : (A : Type 0) (front whole : List A) (x : A) → IsFront (front ++ x 
 front_get A front whole x is =
     ap (λ xs. slice_get xs (length front)) (is.1 ∙ append_assoc front (x ∷ []) is.0) ∙ push_get A front is.0 x
 
--- so far these turns made this trace: with these answers to the last asks, these lines, polls and this order they lead to where the check
--- stands, and what runs from there on, ran from the opening on
-pub record Track (plans : List ThreadSpec) (opening : Machine) (turns : List Turn) (trace : List Event) (f : Follow) (answers : ℕ → Option Answer) (lines : List ThreadLine) (polls : List Poll) (order : List ℕ) : Type 0 where
-  pub before : List Piece
-  pub shown : AreShown before f.table answers
-  pub long : length before ≡ length turns
-  pub on : (later : List Turn) (events : List Event) → RunsThrough plans lines polls order f.machine before later events → RunsThrough plans lines polls order opening [] (turns ++ later) (trace ++ events)
-
--- the same of all answers, lines, polls and orders that can still come of it
-abbrev pub Tracks : List ThreadSpec → Machine → Kept → List Event → Follow → Type 0
-Tracks plans opening kept trace f = (answers : ℕ → Option Answer) (lines : List ThreadLine) (polls : List Poll) (order : List ℕ) → AllBear f.table answers lines → IsFront (filled answers kept.polls) polls → IsFront kept.order order → Track plans opening kept.turns trace f answers lines polls order
-
--- before the first turn
-pub tracks_none : (plans : List ThreadSpec) (opening : Machine) (f : Follow) → Begins plans opening f → Tracks plans opening none_kept [] f
-tracks_none plans opening f begins answers lines polls order bear fronts named = record {
-  before = [];
-  shown = begins.shown answers;
-  long = refl;
-  on = λ later events runs. subst (λ m. RunsThrough plans lines polls order m [] later events) begins.machine runs;
-}
-
-take_front : (xs ys : List Event) → take (length xs) (xs ++ ys) ≡ xs
-take_front [] ys = refl
-take_front (x ∷ xs) ys = ap (λ zs. x ∷ zs) (take_front xs ys)
-
--- a turn and what runs after it
-runs_on : (plans : List ThreadSpec) (lines : List ThreadLine) (polls : List Poll) (order : List ℕ) (m : Machine) (before : List Piece) (t : Turn) (later : List Turn) (poll : Option Poll) (part events : List Event) → t.events ≡ length part → poll_of polls t ≡ poll → TurnFits plans lines (whose order (length before)) m before poll part → RunsThrough plans lines polls order (after_all m part) (before ++ piece poll part ∷ []) later events
-    → RunsThrough plans lines polls order m before (t ∷ later) (part ++ events)
-runs_on plans lines polls order m before t later poll part events count is fits runs =
-    let front : take t.events (part ++ events) ≡ part = ap (λ n. take n (part ++ events)) count ∙ take_front part events in
-    let back : drop t.events (part ++ events) ≡ events = ap (λ n. drop n (part ++ events)) count ∙ drop-append_seam part events in
-    let few : t.events ≤ length (part ++ events) = omega (arith, count, length-append part events) in
-    let F : Option Poll → List Event → List Event → Type 0 = λ p es fs. TurnFits plans lines (whose order (length before)) m before p es × RunsThrough plans lines polls order (after_all m es) (before ++ piece p es ∷ []) later fs in
-    let a : F poll part (drop t.events (part ++ events)) = subst (λ fs. F poll part fs) (sym back) (fits, runs) in
-    let b : F poll (take t.events (part ++ events)) (drop t.events (part ++ events)) = subst (λ es. F poll es (drop t.events (part ++ events))) (sym front) a in
-    (few, subst (λ p. F p (take t.events (part ++ events)) (drop t.events (part ++ events))) (sym is) b)
-
--- a turn more
-track_on : (plans : List ThreadSpec) (opening : Machine) (turns : List Turn) (trace : List Event) (f g : Follow) (cpu : ℕ) (part : List Event) (poll : (ℕ → Option Answer) → Option Poll) (former : (ℕ → Option Answer) → ℕ → Option Answer) (answers : ℕ → Option Answer) (lines : List ThreadLine) (polls : List Poll) (order : List ℕ) (t : Turn) → f.plans ≡ plans → GoesOn cpu part poll former f g → AllBear g.table answers lines → whose order (length turns) ≡ cpu → t.events ≡ length part → poll_of polls t ≡ poll answers
-    → Track plans opening turns trace f (former answers) lines polls order → Track plans opening (turns ++ t ∷ []) (trace ++ part) g answers lines polls order
-track_on plans opening turns trace f g cpu part poll former answers lines polls order t threads goes bear named count is track =
-    let more : List Piece = track.before ++ piece (poll answers) part ∷ [] in
-    let e : length more ≡ length (turns ++ t ∷ []) = length_push track.before (piece (poll answers) part) ∙ ap (λ n. n + 1) track.long ∙ sym (length_push turns t) in
-    let here : whose order (length track.before) ≡ cpu = ap (whose order) track.long ∙ named in
-    let fits : TurnFits f.plans lines cpu f.machine track.before (poll answers) part = goes.fits answers lines bear track.before track.shown in
-    let fits_here : TurnFits plans lines (whose order (length track.before)) f.machine track.before (poll answers) part = subst (λ c. TurnFits plans lines c f.machine track.before (poll answers) part) (sym here) (subst (λ ps. TurnFits ps lines cpu f.machine track.before (poll answers) part) threads fits) in
-    record {
-      before = more;
-      shown = goes.shown answers track.before track.shown;
-      long = e;
-      on = λ later events runs.
-          let next : RunsThrough plans lines polls order (after_all f.machine part) more later events = subst (λ m. RunsThrough plans lines polls order m more later events) goes.machine runs in
-          let whole = track.on (t ∷ later) (part ++ events) (runs_on plans lines polls order f.machine track.before t later (poll answers) part events count is fits_here next) in
-          let R : List Turn → List Event → Type 0 = λ ts es. RunsThrough plans lines polls order opening [] ts es in
-          subst (λ ts. R ts ((trace ++ part) ++ events)) (sym (append_assoc turns (t ∷ []) later)) (subst (λ es. R (turns ++ t ∷ later) es) (sym (append_assoc trace part events)) whole);
-    }
-
 -- what comes behind some turns: the end of a run, or anything
 abbrev pub EndsIf : Bool → List ThreadSpec → List ThreadLine → Machine → List Piece → List Event → Type 0
 EndsIf true plans lines m before events = EndsRun plans lines m before events
@@ -112,6 +55,71 @@ through_run plans lines polls order m before (t ∷ turns) events runs = (runs.0
 pub through_begun : (plans : List ThreadSpec) (lines : List ThreadLine) (polls : List Poll) (order : List ℕ) (m : Machine) (before : List Piece) (turns : List Turn) (events : List Event) → BeginRun plans lines polls order m before turns events → Through false plans lines polls order m before turns events
 through_begun plans lines polls order m before [] events runs = tt
 through_begun plans lines polls order m before (t ∷ turns) events runs = (runs.0, (runs.1.0, through_begun plans lines polls order _ _ turns _ runs.1.1))
+
+pub run_through : (plans : List ThreadSpec) (lines : List ThreadLine) (polls : List Poll) (order : List ℕ) (m : Machine) (before : List Piece) (turns : List Turn) (events : List Event) → Through true plans lines polls order m before turns events → RunsThrough plans lines polls order m before turns events
+run_through plans lines polls order m before [] events runs = runs
+run_through plans lines polls order m before (t ∷ turns) events runs = (runs.0, (runs.1.0, run_through plans lines polls order _ _ turns _ runs.1.1))
+
+pub begun_through : (plans : List ThreadSpec) (lines : List ThreadLine) (polls : List Poll) (order : List ℕ) (m : Machine) (before : List Piece) (turns : List Turn) (events : List Event) → Through false plans lines polls order m before turns events → BeginRun plans lines polls order m before turns events
+begun_through plans lines polls order m before [] events runs = tt
+begun_through plans lines polls order m before (t ∷ turns) events runs = (runs.0, (runs.1.0, begun_through plans lines polls order _ _ turns _ runs.1.1))
+
+-- so far these turns made this trace: with these answers to the last asks, these lines, polls and this order they lead to where the check
+-- stands, and what runs from there on, ran from the opening on
+pub record Track (plans : List ThreadSpec) (opening : Machine) (turns : List Turn) (trace : List Event) (f : Follow) (answers : ℕ → Option Answer) (lines : List ThreadLine) (polls : List Poll) (order : List ℕ) : Type 0 where
+  pub before : List Piece
+  pub shown : AreShown before f.table answers
+  pub long : length before ≡ length turns
+  pub on : (ends : Bool) (later : List Turn) (events : List Event) → Through ends plans lines polls order f.machine before later events → Through ends plans lines polls order opening [] (turns ++ later) (trace ++ events)
+
+-- the same of all answers, lines, polls and orders that can still come of it
+abbrev pub Tracks : List ThreadSpec → Machine → Kept → List Event → Follow → Type 0
+Tracks plans opening kept trace f = (answers : ℕ → Option Answer) (lines : List ThreadLine) (polls : List Poll) (order : List ℕ) → AllBear f.table answers lines → IsFront (filled answers kept.polls) polls → IsFront kept.order order → Track plans opening kept.turns trace f answers lines polls order
+
+-- before the first turn
+pub tracks_none : (plans : List ThreadSpec) (opening : Machine) (f : Follow) → Begins plans opening f → Tracks plans opening none_kept [] f
+tracks_none plans opening f begins answers lines polls order bear fronts named = record {
+  before = [];
+  shown = begins.shown answers;
+  long = refl;
+  on = λ ends later events runs. subst (λ m. Through ends plans lines polls order m [] later events) begins.machine runs;
+}
+
+take_front : (xs ys : List Event) → take (length xs) (xs ++ ys) ≡ xs
+take_front [] ys = refl
+take_front (x ∷ xs) ys = ap (λ zs. x ∷ zs) (take_front xs ys)
+
+-- a turn and what runs after it
+runs_on : (ends : Bool) (plans : List ThreadSpec) (lines : List ThreadLine) (polls : List Poll) (order : List ℕ) (m : Machine) (before : List Piece) (t : Turn) (later : List Turn) (poll : Option Poll) (part events : List Event) → t.events ≡ length part → poll_of polls t ≡ poll → TurnFits plans lines (whose order (length before)) m before poll part → Through ends plans lines polls order (after_all m part) (before ++ piece poll part ∷ []) later events
+    → Through ends plans lines polls order m before (t ∷ later) (part ++ events)
+runs_on ends plans lines polls order m before t later poll part events count is fits runs =
+    let front : take t.events (part ++ events) ≡ part = ap (λ n. take n (part ++ events)) count ∙ take_front part events in
+    let back : drop t.events (part ++ events) ≡ events = ap (λ n. drop n (part ++ events)) count ∙ drop-append_seam part events in
+    let few : t.events ≤ length (part ++ events) = omega (arith, count, length-append part events) in
+    let F : Option Poll → List Event → List Event → Type 0 = λ p es fs. TurnFits plans lines (whose order (length before)) m before p es × Through ends plans lines polls order (after_all m es) (before ++ piece p es ∷ []) later fs in
+    let a : F poll part (drop t.events (part ++ events)) = subst (λ fs. F poll part fs) (sym back) (fits, runs) in
+    let b : F poll (take t.events (part ++ events)) (drop t.events (part ++ events)) = subst (λ es. F poll es (drop t.events (part ++ events))) (sym front) a in
+    (few, subst (λ p. F p (take t.events (part ++ events)) (drop t.events (part ++ events))) (sym is) b)
+
+-- a turn more
+track_on : (plans : List ThreadSpec) (opening : Machine) (turns : List Turn) (trace : List Event) (f g : Follow) (cpu : ℕ) (part : List Event) (poll : (ℕ → Option Answer) → Option Poll) (former : (ℕ → Option Answer) → ℕ → Option Answer) (answers : ℕ → Option Answer) (lines : List ThreadLine) (polls : List Poll) (order : List ℕ) (t : Turn) → f.plans ≡ plans → GoesOn cpu part poll former f g → AllBear g.table answers lines → whose order (length turns) ≡ cpu → t.events ≡ length part → poll_of polls t ≡ poll answers
+    → Track plans opening turns trace f (former answers) lines polls order → Track plans opening (turns ++ t ∷ []) (trace ++ part) g answers lines polls order
+track_on plans opening turns trace f g cpu part poll former answers lines polls order t threads goes bear named count is track =
+    let more : List Piece = track.before ++ piece (poll answers) part ∷ [] in
+    let e : length more ≡ length (turns ++ t ∷ []) = length_push track.before (piece (poll answers) part) ∙ ap (λ n. n + 1) track.long ∙ sym (length_push turns t) in
+    let here : whose order (length track.before) ≡ cpu = ap (whose order) track.long ∙ named in
+    let fits : TurnFits f.plans lines cpu f.machine track.before (poll answers) part = goes.fits answers lines bear track.before track.shown in
+    let fits_here : TurnFits plans lines (whose order (length track.before)) f.machine track.before (poll answers) part = subst (λ c. TurnFits plans lines c f.machine track.before (poll answers) part) (sym here) (subst (λ ps. TurnFits ps lines cpu f.machine track.before (poll answers) part) threads fits) in
+    record {
+      before = more;
+      shown = goes.shown answers track.before track.shown;
+      long = e;
+      on = λ ends later events runs.
+          let next : Through ends plans lines polls order (after_all f.machine part) more later events = subst (λ m. Through ends plans lines polls order m more later events) goes.machine runs in
+          let whole = track.on ends (t ∷ later) (part ++ events) (runs_on ends plans lines polls order f.machine track.before t later (poll answers) part events count is fits_here next) in
+          let R : List Turn → List Event → Type 0 = λ ts es. Through ends plans lines polls order opening [] ts es in
+          subst (λ ts. R ts ((trace ++ part) ++ events)) (sym (append_assoc turns (t ∷ []) later)) (subst (λ es. R (turns ++ t ∷ later) es) (sym (append_assoc trace part events)) whole);
+    }
 
 -- a turn, and what runs after it, out of both
 pub runs_off : (ends : Bool) (plans : List ThreadSpec) (lines : List ThreadLine) (polls : List Poll) (order : List ℕ) (m : Machine) (before : List Piece) (t : Turn) (later : List Turn) (poll : Option Poll) (part events : List Event) → t.events ≡ length part → poll_of polls t ≡ poll → Through ends plans lines polls order m before (t ∷ later) (part ++ events)

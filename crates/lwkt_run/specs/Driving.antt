@@ -1,7 +1,7 @@
 -- How the machine of a script is driven: turn by turn, each of which is kept, and followed by a check (own).
 --
 -- Where nothing is kept, the code has no list of the turns so far. So what a driver did is said of each run that it may have begun with.
-use Rattle.std.specs.Prelude.{◌≡◌, ◌⊎◌, ℕ, ◌+◌, ◌<◌, Bool, true, false, List, length, All, Option, Some, None, IfSome}
+use Rattle.std.specs.Prelude.{◌≡◌, ◌⊎◌, ℕ, ◌+◌, ◌<◌, ◌≤◌, Bool, true, false, List, length, All, Option, Some, None, IfSome}
 use Rattle.lwkt_core.specs.declared.events.Event.{Event}
 use Rattle.lwkt_port.specs.Chains.{Chain}
 use Rattle.lwkt_cpu.specs.declared.answers.Turned.{Turned}
@@ -157,6 +157,11 @@ IsDriven (Along order) fits s t = TurnsDriven order.now fits s t
 abbrev pub IsWithin : ℕ → Course → Type 0
 IsWithin cpus (Rounds limit) = Unit {0}
 IsWithin cpus (Along order) = All (λ x. x < cpus) order.now
+
+-- a course has fewer turns than the check counts
+abbrev pub IsShort : Course → Type 0
+IsShort (Rounds limit) = limit ≤ 4294967295
+IsShort (Along order) = length order.now ≤ 18446744073709551615
 
 -- a course may be that of a lawful run: rounds are some
 abbrev pub HasTurns : Course → Type 0

@@ -423,9 +423,9 @@ pub own_first : (m : Machine) (ask : Ask) (x : Expected) (e : Event) (events res
 own_first m ask x e events rest is makes own noted happens answer =
     let by = noted.1.1 in
     let to : is_expected x answer ≡ true → GoesFrom m ask answer events = λ so. (let expected : is_expected (expected_by noted.0 e) answer ≡ true = subst (λ (y : Expected). is_expected y answer ≡ true) by so in
-        subst (λ (es : List Event). GoesFrom m ask answer es) (sym is) (from_own m ask noted.0 answer e rest noted.1.0.0 makes own expected happens)) in
+    subst (λ (es : List Event). GoesFrom m ask answer es) (sym is) (from_own m ask noted.0 answer e rest noted.1.0.0 makes own expected happens)) in
     let from : GoesFrom m ask answer events → is_expected x answer ≡ true = λ goes. (let so : GoesFrom m ask answer (e ∷ rest) = subst (λ (es : List Event). GoesFrom m ask answer es) is goes in
-        subst (λ (y : Expected). is_expected y answer ≡ true) (sym by) (made_expects m ask noted.0 answer e rest noted.1.0.1 so)) in
+    subst (λ (y : Expected). is_expected y answer ≡ true) (sym by) (made_expects m ask noted.0 answer e rest noted.1.0.1 so)) in
     (to, from)
 
 pub own_open : (x : Expected) (e : Event) (m : Machine) → ((unasked : Bool) × ((IsTrue unasked ↔ IsQuiet m e) × (x ≡ expected_by unasked e))) → x ≡ Refusal → ⊥

@@ -1,4 +1,4 @@
-use Rattle.std.proofs.Common.{inl, inr, ◌≡◌, ℕ, ◌+◌, ◌*◌, ◌/◌, ◌%◌, ◌<◌, ◌≤◌, ◌==◌, List, [], ◌∷◌, ◌++◌, length, get_or, take, drop, refl, sym, ap, ◌∙◌, subst, arith, Option, Some, None, length-append}
+use Rattle.std.proofs.Common.{inl, inr, zero, suc, ◌≡◌, ℕ, ◌+◌, ◌*◌, ◌/◌, ◌%◌, ◌<◌, ◌≤◌, ◌==◌, List, [], ◌∷◌, ◌++◌, length, get_or, take, drop, refl, sym, ap, ◌∙◌, subst, arith, Option, Some, None, length-append}
 use Rattle.std.specs.Option.{option_map_or}
 use Rattle.std.specs.Prelude.{Bool, true, false, slice_get, slice_set, if◌then◌else◌, MatchOption, All, is_some, option_map, Result, Ok, Err, IfOk}
 use Rattle.std.proofs.lemmas.Bool.{cases_eq, cases_lt, eq-eqb, ne_eqb}
@@ -22,7 +22,8 @@ use Rattle.lwkt_verdict.specs.Parts.{after_all, GoesQuietly, IsPartOf}
 use Rattle.lwkt_verdict.specs.Threads.{slot_of, asked_in, asked_by, plan_of_thread, line_of, progress_after, ask_at, MayAsk, IsLogged, Rests, EndsAsTold}
 use Rattle.lwkt_verdict.specs.Run.{piece, came, asked_of_poll, PollFits, TurnFits, Idles, AreListed}
 use Rattle.lwkt_verdict.specs.Follow.{Awaited, Known, Follow, is_expected, asked_so, come, Bears, AllBear, Allows, AllAllow, AreShown, AreThreads, answered_at, none_answered, poll_so, GoesOnByPoll, DeclinesPoll, GoesOnUnasked, DeclinesUnasked, EndsHere, DeclinesEnd}
-use Rattle.lwkt_verdict.specs.Followed.{IsPolled, MayHear, MayBePolled, IsKept, MayRest, AllowsRest, MayNotRest, IsEnded, MayEnd, AllThreads, AllPairs, KeepsPlans, AreKept, MayAllRest, AllowAllRest, OneMayNotRest}
+use Rattle.lwkt_verdict.proofs.KnownMoves.{unpolled_allows}
+use Rattle.lwkt_verdict.specs.Followed.{unpolled, IsPolled, MayHear, MayBePolled, IsKept, MayRest, AllowsRest, MayNotRest, IsEnded, MayEnd, AllThreads, AllPairs, KeepsPlans, AreKept, MayAllRest, AllowAllRest, OneMayNotRest}
 use Rattle.lwkt_verdict.proofs.EndMoves.{slot_cpu}
 use Rattle.lwkt_verdict.proofs.ShowMoves.{came_other, came_next, asked_here, asked_there, get_set, get_set_other}
 
@@ -181,10 +182,11 @@ goes_by_poll cpu thread told asked part old new t u processor own few events thr
 asked_few : (slot : ℕ) (p : Piece) → length (asked_in slot p) ≤ 1
 asked_few slot p = go p.poll
   where
-    one : (b : Bool) (a : Asked) → length (if b then a ∷ [] else []) ≤ 1
+    one : (b : Bool) (a : Asked) → length {A = Asked} (if b then a ∷ [] else []) ≤ 1
     one true a = omega arith
     one false a = omega arith
-    go : (o : Option Poll) → length (option_map_or (λ q. if slot_of q.thread == slot then record { ask = q.ask; answer = q.answer; blocked = p.blocked } ∷ [] else []) o []) ≤ 1
+
+    go : (o : Option Poll) → length {A = Asked} (asked_in slot (record { poll = o; blocked = p.blocked })) ≤ 1
     go None = omega arith
     go (Some q) = one (slot_of q.thread == slot) (record { ask = q.ask; answer = q.answer; blocked = p.blocked })
 
@@ -235,6 +237,11 @@ declines_at cpu thread told asked part plans table m place t processor own few i
 pub ok_both : {X Y : Type 0} (r : Result X Y) (P Q R : X → Type 0) → ((x : X) → P x → Q x → R x) → IfOk r P → IfOk r Q → IfOk r R
 ok_both (Ok x) P Q R f p q = f x p q
 ok_both (Err e) P Q R f p q = tt
+
+-- and from one
+pub ok_one : {X Y : Type 0} (r : Result X Y) (P R : X → Type 0) → ((x : X) → P x → R x) → IfOk r P → IfOk r R
+ok_one (Ok x) P R f p = f x p
+ok_one (Err e) P R f p = tt
 
 -- the same, by the place in the table that was written
 pub goes_at : (cpu : ℕ) (thread : ThreadId) (told : Answer) (asked : Ask) (part : List Event) (plans : List ThreadSpec) (table : List Known) (m n : Machine) (place : ℕ) (t u : Known) → cpu < 8 → thread.cpu.0 ≡ cpu → thread.thread < 16 → place ≡ 16 * cpu + thread.thread → All (λ e. cpu_of e ≡ cpu) part → AreThreads plans table → t ≡ get_or table place t → u.plan ≡ t.plan → IsPolled m told asked part t u → n ≡ after_all m part → GoesOnByPoll cpu thread told asked part (record { plans = plans; table = table; machine = m }) (record { plans = plans; table = slice_set table place u; machine = n })
@@ -444,6 +451,7 @@ rest_allowed cpu n old table t u processor few room is may so_far left k below =
   where
     past : 16 * cpu + (n + 1) ≤ 16 * cpu + n → ⊥
     past is = omega (arith, is)
+
     less : 16 * cpu + (n + 1) ≤ k → 16 * cpu + n ≤ k
     less is = omega (arith, is)
 
@@ -456,6 +464,28 @@ all_allowed cpu old table so_far k below = mapped _ _ (slice_get old k) (λ t p.
       | inl below ↦ absurd (not (omega (arith, from, below)))
       | inr past ↦ past
     ]
+
+-- a thread is there
+some_of : (table : List Known) (k : ℕ) → k < length table → (t : Known) × (slice_get table k ≡ Some t)
+some_of [] k inside = absurd (omega arith)
+some_of (t ∷ table) zero inside = (t, refl)
+some_of (t ∷ table) (suc k) inside = some_of table k (omega arith)
+
+pub none_allowed : (cpu : ℕ) (table : List Known) → length table ≡ 128 → Allowed cpu 0 table table
+none_allowed cpu table room k below =
+    let one = some_of table k (omega (arith, room, below)) in
+    let t = one.0 in
+    let P : Known → Known → Type 0 = λ x y. (16 * cpu ≤ k → k < 16 * cpu + 0 → AllowsRest x y) × ((16 * cpu ≤ k → 16 * cpu + 0 ≤ k) → y ≡ x) in
+    let both : P t t = ((λ from to. absurd (omega (arith, from, to))), (λ other. refl)) in
+    here (λ x. MatchOption (slice_get table k) ⊥ (P x)) (slice_get table k) t one.1 (here (P t) (slice_get table k) t one.1 both)
+
+-- one thread can't rest
+pub one_loud : (cpu n : ℕ) (old table : List Known) (t : Known) → cpu < 8 → n < 16 → length table ≡ 128 → t ≡ get_or table (16 * cpu + n) t → MayNotRest (get_or table (16 * cpu + n) t) → Left cpu n old table → OneMayNotRest cpu old
+one_loud cpu n old table t processor few room is loud left =
+    let place = 16 * cpu + n in
+    let inside : place < length table = omega (arith, room) in
+    let at : slice_get old place ≡ Some t = sym (left place (omega arith)) ∙ slice_get-get_or table place t inside ∙ ap (λ (x : Known). Some x) (sym is) in
+    (n, (few, here MayNotRest (slice_get old place) t at (subst MayNotRest (sym is) loud)))
 
 pub rest_more : (cpu n : ℕ) (old table : List Known) (t u : Known) → cpu < 8 → n < 16 → length table ≡ 128 → t ≡ get_or table (16 * cpu + n) t → IsKept (get_or table (16 * cpu + n) t) u → MayRest (get_or table (16 * cpu + n) t) u → AreKept old table → Rested cpu n old table → Left cpu n old table → AreKept old (slice_set table (16 * cpu + n) u) × (Rested cpu (n + 1) old (slice_set table (16 * cpu + n) u) × Left cpu (n + 1) old (slice_set table (16 * cpu + n) u))
 rest_more cpu n old table t u processor few room is is_kept may_rest so_far rested left =
@@ -474,3 +504,17 @@ rest_more cpu n old table t u processor few room is is_kept may_rest so_far rest
 -- a vector that was written whole has what was written
 pub filled : (new items : List Known) (n : ℕ) → length new ≡ n → take n (new ++ drop (length new) items) ≡ new
 filled new items n is = take_at new (drop (length new) items) n is
+
+-- threads that were never polled
+pub begins_shown : (plan : ℕ → Option ThreadSpec) (table : List Known) (answers : ℕ → Option Answer) → AllThreads (λ k t. t ≡ unpolled (plan k)) table → AreShown [] table answers
+begins_shown plan table answers all k below = mapped (λ t. t ≡ unpolled (plan k)) (λ t. came [] k ≡ come t (answers k)) (slice_get table k) (λ t is. sym (ap (λ (x : Known). come x (answers k)) is)) (all k below)
+
+pub begins_allows : (plan : ℕ → Option ThreadSpec) (table : List Known) (answers : ℕ → Option Answer) (lines : List ThreadLine) → AllThreads (λ k t. t ≡ unpolled (plan k)) table → AllAllow table answers lines
+begins_allows plan table answers lines all k below = mapped (λ t. t ≡ unpolled (plan k)) (λ t. Allows t (answers k) (line_of k lines)) (slice_get table k) (λ t is. subst (λ (x : Known). Allows x (answers k) (line_of k lines)) (sym is) (unpolled_allows (plan k) (answers k) (line_of k lines))) (all k below)
+
+-- a thread that doesn't end as its line says refutes the end of all
+pub one_open : (table : List Known) (lines : List ThreadLine) (k : ℕ) (t : Known) (line : Option ThreadLine) → k < 128 → length table ≡ 128 → t ≡ get_or table k t → line ≡ line_of k lines → ¬ MayEnd t line → ¬ AllThreads (λ j x. MayEnd x (line_of j lines)) table
+one_open table lines k t line below room is same unfit all =
+    let inside : k < length table = omega (arith, room) in
+    let at : slice_get table k ≡ Some t = slice_get-get_or table k t inside ∙ ap (λ (x : Known). Some x) (sym is) in
+    unfit (subst (MayEnd t) (sym same) (there (λ x. MayEnd x (line_of k lines)) (slice_get table k) t at (all k below)))

@@ -142,15 +142,15 @@ not_so false is = refl
 
 -- a thread that rests, which is there, was blocked by what it last asked, and that wasn't refused
 pub rest_allows : (plan : ThreadSpec) (polls : ℕ) (ask : Ask) (blocked : Bool) (old new : Expected) (log : List Entry) → ((answer : Option Answer) → is_expected old answer ≡ true → is_refused answer ≡ false → is_expected new answer ≡ true) → ¬ (new ≡ Refusal) → AllowsRest (known_so (Some plan) polls ask blocked old log) (known_so (Some plan) polls ask blocked new log)
-rest_allows plan polls ask blocked old new log kept open answer None allows rests = absurd (none-some (record { ask = ask; blocked = blocked; expected = old }) (sym allows.bears))
-rest_allows plan polls ask blocked old new log kept open answer (Some line) allows rests = record {
+rest_allows plan polls ask blocked old new log kept opens answer None allows rests = absurd (none-some (record { ask = ask; blocked = blocked; expected = old }) (sym allows.bears))
+rest_allows plan polls ask blocked old new log kept opens answer (Some line) allows rests = record {
   bears = record {
     expected = kept answer allows.bears.expected (not_so (is_refused answer) (and_parts (not (is_refused answer)) blocked rests).0);
     answers = allows.bears.answers;
     entries = allows.bears.entries;
     entry = allows.bears.entry;
   };
-  unblocked = λ is. absurd (open is);
+  unblocked = λ is. absurd (opens is);
 }
 
 -- a thread that is there can't rest: it was never polled, or didn't block, or is refused

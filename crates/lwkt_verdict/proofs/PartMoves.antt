@@ -65,19 +65,20 @@ send_loud m (Abort cpu msg) is quiet = false≢true is
 -- what may happen unasked from the first send on has none
 no_send : (m : Machine) (es : List Event) → GoesQuietly m (drop (first_send es) es) → length es ≤ first_send es
 no_send m [] quiet = omega arith
-no_send m (e ∷ es) quiet = go (is_send e) refl
+no_send m (e ∷ es) quiet = go (is_send e) refl (no_send m es)
   where
-    go : (b : Bool) → is_send e ≡ b → length (e ∷ es) ≤ first_send (e ∷ es)
-    go true is =
+    go : (b : Bool) → is_send e ≡ b → (GoesQuietly m (drop (first_send es) es) → length es ≤ first_send es) → length (e ∷ es) ≤ first_send (e ∷ es)
+    go true is rest =
         let n : first_send (e ∷ es) ≡ 0 = ap (λ b. if b then 0 else (first_send es + 1)) is in
         let all : GoesQuietly m (e ∷ es) = subst (λ k. GoesQuietly m (drop k (e ∷ es))) n quiet in
         absurd (send_loud m e is all.1.0)
-    go false is =
+    go false is rest =
         let up : first_send es + 1 ≡ suc (first_send es) = omega arith in
         let n : first_send (e ∷ es) ≡ suc (first_send es) = ap (λ b. if b then 0 else (first_send es + 1)) is ∙ up in
-        let rest : GoesQuietly m (drop (first_send es) es) = subst (λ k. GoesQuietly m (drop k (e ∷ es))) n quiet in
-        let so_far = no_send m es rest in
-        omega (arith, n, so_far)
+        let less : GoesQuietly m (drop (first_send es) es) = subst (λ k. GoesQuietly m (drop k (e ∷ es))) n quiet in
+        let so_far = rest less in
+        let long : length (e ∷ es) ≡ length es + 1 = omega arith in
+        omega (arith, n, so_far, long)
 
 -- an ask that makes an event, where only what may happen unasked is left from its place on, hasn't blocked
 pub is_unblocked : (m : Machine) (ask : Ask) (part : List Event) → makes_event ask ≡ true → GoesQuietly m (drop (own_place ask part) part) → has_blocked ask part ≡ false
