@@ -3,7 +3,7 @@ ghost use Rattle.std.specs.Prelude.{◌≡◌, All, IfOk};
 ghost use Rattle.lwkt_bank.specs.Seats.{id_of, bank_of};
 ghost use Rattle.lwkt_machine.specs.Machines.{IsOfMachine};
 
-use crate::fixtures::opened;
+use crate::parts::parts_of;
 use lwkt_bank::{Bank, CpuSeat};
 use lwkt_base::{Entry, Fault, ThreadState, TokId};
 use lwkt_core::Event;
@@ -170,14 +170,6 @@ fn stop_of(
         Some(cpu) => stop_one(bank, book, cpu, trace),
         None => Err(Fault::Limits),
     }
-}
-
-// The parts of the machine of a script.
-fn parts_of(alloc: Global, script: &[u8]) -> Result<(Bank, MsgBook, Vec<Cpu<ScriptBody>>), Fault>
-    ensures { IfOk result (λ parts. All (IsOfMachine (id_of parts.0) parts.1) parts.2.items) }
-{
-    let machine = opened(alloc, script)?;
-    Ok(machine.take_apart())
 }
 
 impl Board {

@@ -7,7 +7,7 @@ ghost use Rattle.lwkt_bank.specs.Seats.{id_of, cpus_of, holding};
 use lwkt_bank::{Bank, CpuSeat};
 use lwkt_base::memory::from_slice;
 use lwkt_base::{Cells, CpuId, Fault, Flags, Law, MsgSpec, OutOfMemory, ThreadId, TokSpec};
-use lwkt_machine::{Closed, Machine};
+use lwkt_machine::{Closed, Machine, ScriptBody};
 use lwkt_script::read_script;
 use std::alloc::Global;
 
@@ -26,12 +26,6 @@ pub const NO_FLAGS: Flags = Flags {
     abortable: false,
     priority: false,
 };
-
-/// The machine of a script.
-pub fn opened(alloc: Global, script: &[u8]) -> Result<Machine, Fault> {
-    let script = read_script(alloc, script)?;
-    Machine::open(alloc, &script)
-}
 
 /// A token of one cell.
 pub fn token(alloc: Global, law: Law, param: u64, cell: u64) -> Result<TokSpec, OutOfMemory> {
@@ -66,15 +60,12 @@ pub fn is_right(first: Result<bool, Fault>, again: Result<bool, Fault>) -> bool 
     }
 }
 
-/// What the machine of a script leaves after turns of these processors.
-pub fn closed_by(alloc: Global, script: &[u8], order: &[usize]) -> Result<Closed, Fault> {
-    let mut machine = opened(alloc, script)?;
-    let mut trace = Vec::new(alloc);
+/// What the machine of a script leaves after turns of these processors, in this order.
+pub fn closed_by(alloc: Global, script: &[u8], order: &[u8]) -> Result<Closed<ScriptBody>, Fault> {
+    let script = read_script(alloc, script)?;
+    let mut machine = Machine::open_script(alloc, &script)?;
     for cpu in order {
-        if *cpu < machine.cpus() {
-            machine.turn(*cpu, &mut trace)?;
-        }
+        machine.turn(CpuId(*cpu))?;
     }
-    machine.stop(&mut trace)?;
     Ok(machine.close(alloc)?)
 }

@@ -23,6 +23,8 @@ mod hold;
 #[cfg(test)]
 mod lane;
 #[cfg(test)]
+mod parts;
+#[cfg(test)]
 mod port;
 #[cfg(test)]
 mod words;

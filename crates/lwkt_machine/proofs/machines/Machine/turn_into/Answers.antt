@@ -6,6 +6,7 @@ use Rattle.lwkt_machine.specs.Machines.{Rig, rig_of, processors, AreOneMachine}
 use Rattle.lwkt_machine.specs.Sights.{KeepsLog}
 use Rattle.lwkt_machine.specs.Turns.{TurnsAt}
 use Rattle.lwkt_lane.proofs.PlaceMoves.{refilled}
+use Rattle.lwkt_machine.proofs.DrivenMoves.{logs_none}
 use Rattle.lwkt_machine.proofs.machines.Machine.turn_into.Goals as goal
 
 pub turn_told-requires-clause-whole : goal.turn_told-requires-clause-whole
@@ -37,6 +38,9 @@ returns-clause-ok g c =
     let F : List (Driven g.row.B.Denot) → Type 0 = λ xs. TurnsAt {B = g.row.B.Denot} g.B.Body.polled k (rig i.cpus.items) (rig xs) c.args.trace.now u turned in
     let H : Rig g.row.B.Denot → Type 0 = λ m. TurnsAt {B = g.row.B.Denot} g.B.Body.polled k m (rig (take i.cpus.len (news ++ drop (length news) i.cpus.items))) c.args.trace.now u turned in
     subst H c.self.view_is (subst F (sym back) made)
+
+pub returns-in_err-reserve-clause-logs : goal.returns-in_err-reserve-clause-logs
+returns-in_err-reserve-clause-logs g c = logs_none c.args.self.now.driven
 
 pub returns-clause-logs : goal.returns-clause-logs
 returns-clause-logs g c =

@@ -2,7 +2,7 @@ use Rattle.std.proofs.Common.{◌∙◌}
 use Rattle.lwkt_bank.specs.Seats.{id_of, cpus_of}
 use Rattle.lwkt_machine.specs.Bodies.{Scripted}
 use Rattle.lwkt_machine.proofs.EncodeMoves.{seats_of_book}
-use Rattle.lwkt_machine.proofs.machines.Machine+ScriptBody.encode.Goals as goal
+use Rattle.lwkt_machine.proofs.encodings.Machine+ScriptBody.encode.Goals as goal
 
 pub add_messages-requires : goal.add_messages-requires
 add_messages-requires c =
