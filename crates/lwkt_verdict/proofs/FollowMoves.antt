@@ -1,5 +1,4 @@
 use Rattle.std.proofs.Common.{inl, inr, zero, suc, ◌≡◌, ℕ, ◌+◌, ◌*◌, ◌/◌, ◌%◌, ◌<◌, ◌≤◌, ◌==◌, List, [], ◌∷◌, ◌++◌, length, get_or, take, drop, refl, sym, ap, ◌∙◌, subst, arith, Option, Some, None, length-append}
-use Rattle.std.specs.Option.{option_map_or}
 use Rattle.std.specs.Prelude.{Bool, true, false, slice_get, slice_set, if◌then◌else◌, MatchOption, All, is_some, option_map, Result, Ok, Err, IfOk}
 use Rattle.std.proofs.lemmas.Bool.{cases_eq, cases_lt, eq-eqb, ne_eqb}
 use Rattle.std.proofs.lemmas.List.{take_at}
