@@ -313,17 +313,18 @@ kept_pace script (Along order) s t left stops y c of stands made = inr tt
 
 -- whether the check followed what is a run of the script
 no_course : (script : Script) (course : Course) (follows : Bool) (left : Left) (stops : List Event) (y : Scene) → (IsTrue true × HasTurns course → IsTrue follows) → follows ≡ false → IsScriptRun script.threads (pace_of course) y.kept.order (opening_of_script script) y.kept.polls y.kept.turns (y.trace ++ stops) left.threads.items → ⊥
-no_course script (Rounds limit) follows left stops y all no run = elim (cases_lt 0 limit) [
-  | inl some ↦ false≢true (sym no ∙ all (refl, some))
+no_course script (Rounds limit) follows left stops y all not_so run = elim (cases_lt 0 limit) [
+  | inl some ↦ false≢true (sym not_so ∙ all (refl, some))
   | inr none ↦ (let is : limit ≡ 0 = omega (arith, none) in no_rounds y.kept.polls (opening_of_script script).cpus limit y.kept.order y.kept.turns left.threads.items is run.paced)
 ]
-no_course script (Along order) follows left stops y all no run = false≢true (sym no ∙ all (refl, tt))
+no_course script (Along order) follows left stops y all not_so run = false≢true (sym not_so ∙ all (refl, tt))
 
--- why the check said no
+-- turns of a course are fewer than are counted
 short_order : (course : Course) (cpus : ℕ) (made : List ℕ) → cpus ≤ 8 → IsShort course → IsFrontOf course cpus made → length made ≤ 18446744073709551615
 short_order (Rounds limit) cpus made few short front = omega (arith, front.1, mul-le-mul_right cpus short, few)
 short_order (Along order) cpus made few short front = omega (arith, ap (λ (o : List ℕ). length o) front.1, length-append made front.0, short)
 
+-- why the check said no
 says_no : (script : Script) (course : Course) (fits follows : Bool) (s t : Stand) (left : Left) (stops : List Event) (y : Scene) → IsShort course → Closes script s t left stops → DroveTo course script.cpus fits s (first_of s) t y → (IsTrue fits × HasTurns course → IsTrue follows) → (follows ≡ false) ⊎ DeclinesSo t.follow left stops → SaysNo script course left stops t y
 says_no script course false follows s t left stops y short c d all why =
     let opening = opening_of_script script in
@@ -347,7 +348,7 @@ says_no script course true follows s t left stops y short c d all why =
       whole = kept_pace script course s t left stops y c d.of w.1.0 w.1.1;
       counted = w.0.counted;
       misfits = λ run. elim why [
-        | inl no ↦ no_course script course follows left stops y all no run.1
+        | inl not_so ↦ no_course script course follows left stops y all not_so run.1
         | inr declines ↦ no_run script.threads (pace_of course) opening (pair y t.follow) left stops w.1.0 declines run.0 run.1
       ];
     })

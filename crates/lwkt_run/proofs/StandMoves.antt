@@ -18,9 +18,9 @@ use Rattle.lwkt_verdict.specs.Parts.{after_all}
 use Rattle.lwkt_verdict.specs.Threads.{slot_of}
 use Rattle.lwkt_base.specs.declared.asks.Answer.{Answer}
 use Rattle.lwkt_verdict.specs.declared.progress.Piece.{Piece}
-use Rattle.lwkt_verdict.specs.Follow.{Follow, AreShown, answered_at, none_answered}
+use Rattle.lwkt_verdict.specs.Follow.{Follow, AreShown, answered_at, none_answered, poll_so}
 use Rattle.lwkt_base.specs.declared.threads.ThreadLine.{ThreadLine}
-use Rattle.lwkt_verdict.specs.Run.{whose, BeginRun}
+use Rattle.lwkt_verdict.specs.Run.{whose, piece, BeginRun}
 use Rattle.lwkt_run.specs.Keeping.{Kept, kept_as, kept_after, KeepsTurn, polls_after, turn_of}
 use Rattle.lwkt_run.specs.Running.{Scene, Going, going, HasBeenAsked, says_over, TakesTurn, MakesKeptRound, GoRounds, HasMadeRounds}
 use Rattle.lwkt_run.specs.Driving.{Pair, GoesOnBy, FollowsTurn, FollowsTurnAt, DeclinesTurn, FollowsTurns, FollowsStep, FollowsRound, HasFollowed, Walk, walk}
@@ -66,10 +66,10 @@ goes_machine cpu (Some p) part f g goes = goes.machine
 goes_shown : (cpu : ℕ) (asks : Option Polled) (part : List Event) (f g : Follow) → GoesOnBy cpu asks part f g → ((answers : ℕ → Option Answer) → (before : List Piece) × AreShown before f.table answers) → (answers : ℕ → Option Answer) → (before : List Piece) × AreShown before g.table answers
 goes_shown cpu None part f g goes shown answers =
     let old = shown answers in
-    (_, goes.shown answers old.0 old.1)
+    (old.0 ++ piece None part ∷ [], goes.shown answers old.0 old.1)
 goes_shown cpu (Some p) part f g goes shown answers =
     let old = shown (answered_at (slot_of p.thread) (Some p.told) answers) in
-    (_, goes.shown answers old.0 old.1)
+    (old.0 ++ piece (poll_so p.thread p.asked answers) part ∷ [], goes.shown answers old.0 old.1)
 
 -- the last polls after a turn have no answer
 still_wait : (asks : Option Polled) (polls : List Poll) → filled none_answered polls ≡ polls → filled none_answered (polls_after asks polls) ≡ polls_after asks polls
@@ -133,9 +133,9 @@ begun_before plans opening cpu p y d s stops =
     let order : IsFront old.order y.kept.order = (cpu ∷ [], t.keeps.order) in
     let track = s.tracks none_answered lines old.polls y.kept.order bear polls order in
     let whole = track.on false [] (part ++ stops) tt in
-    let joined : p.at.trace ++ part ++ stops ≡ y.trace ++ stops = sym (append_assoc p.at.trace part stops) ∙ ap (λ es. es ++ stops) (sym t.grown) in
+    let joined : p.at.trace ++ (part ++ stops) ≡ y.trace ++ stops = sym (append_assoc p.at.trace part stops) ∙ ap (λ es. es ++ stops) (sym t.grown) in
     let R : List Turn → List Event → Type 0 = λ ts es. Through false plans lines old.polls y.kept.order opening [] ts es in
-    let so : R old.turns (y.trace ++ stops) = subst (λ es. R old.turns es) joined (subst (λ ts. R ts (p.at.trace ++ part ++ stops)) (append-nil old.turns) whole) in
+    let so : R old.turns (y.trace ++ stops) = subst (λ es. R old.turns es) joined (subst (λ ts. R ts (p.at.trace ++ (part ++ stops))) (append-nil old.turns) whole) in
     record { asks = t.asks; earlier = old.polls; polls_are = t.keeps.polls; lines = lines; begin = begun_through plans lines old.polls y.kept.order opening [] old.turns (y.trace ++ stops) so }
 
 -- the turns before the last one

@@ -3,6 +3,7 @@ use Rattle.std.proofs.Common.{zero, suc, inl, inr, ◌≡◌, ℕ, ◌+◌, ◌-
 use Rattle.std.specs.Prelude.{slice_get, if◌then◌else◌, MatchOption, option_map, option_and_then}
 use Rattle.std.proofs.lemmas.Bool.{cases_eq}
 use Rattle.std.proofs.lemmas.List.{take_all}
+use Rattle.std.proofs.lemmas.Option.{none-some}
 use Rattle.lwkt_base.specs.declared.entries.Entry.{Entry}
 use Rattle.lwkt_base.specs.declared.threads.ThreadLine.{ThreadLine}
 use Rattle.lwkt_base.specs.declared.threads.ThreadState.TheVariants.{Ready}
@@ -34,6 +35,8 @@ line_there k n t ls apart = ap (λ b. if b then Some (line_for n t) else line_of
 
 -- the line of a thread that is there
 line_at : (n j : ℕ) (table : List Known) (t : Known) → slice_get table j ≡ Some t → (k : ℕ) → k ≡ n + j → line_of k (lines_of n table) ≡ Some (line_for k t)
+line_at n zero [] t at k is = absurd (none-some t at)
+line_at n (suc j) [] t at k is = absurd (none-some t at)
 line_at n zero (x ∷ table) t at k is =
     let same : n ≡ k = omega (arith, is) in
     let x_is : x ≡ t = cc in

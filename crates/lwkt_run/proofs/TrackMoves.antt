@@ -50,19 +50,19 @@ Through ends plans lines polls order m before (turn ∷ turns) events =
 
 pub through_run : (plans : List ThreadSpec) (lines : List ThreadLine) (polls : List Poll) (order : List ℕ) (m : Machine) (before : List Piece) (turns : List Turn) (events : List Event) → RunsThrough plans lines polls order m before turns events → Through true plans lines polls order m before turns events
 through_run plans lines polls order m before [] events runs = runs
-through_run plans lines polls order m before (t ∷ turns) events runs = (runs.0, (runs.1.0, through_run plans lines polls order _ _ turns _ runs.1.1))
+through_run plans lines polls order m before (t ∷ turns) events runs = (runs.0, (runs.1.0, through_run plans lines polls order (after_all m (take t.events events)) (before ++ piece (poll_of polls t) (take t.events events) ∷ []) turns (drop t.events events) runs.1.1))
 
 pub through_begun : (plans : List ThreadSpec) (lines : List ThreadLine) (polls : List Poll) (order : List ℕ) (m : Machine) (before : List Piece) (turns : List Turn) (events : List Event) → BeginRun plans lines polls order m before turns events → Through false plans lines polls order m before turns events
 through_begun plans lines polls order m before [] events runs = tt
-through_begun plans lines polls order m before (t ∷ turns) events runs = (runs.0, (runs.1.0, through_begun plans lines polls order _ _ turns _ runs.1.1))
+through_begun plans lines polls order m before (t ∷ turns) events runs = (runs.0, (runs.1.0, through_begun plans lines polls order (after_all m (take t.events events)) (before ++ piece (poll_of polls t) (take t.events events) ∷ []) turns (drop t.events events) runs.1.1))
 
 pub run_through : (plans : List ThreadSpec) (lines : List ThreadLine) (polls : List Poll) (order : List ℕ) (m : Machine) (before : List Piece) (turns : List Turn) (events : List Event) → Through true plans lines polls order m before turns events → RunsThrough plans lines polls order m before turns events
 run_through plans lines polls order m before [] events runs = runs
-run_through plans lines polls order m before (t ∷ turns) events runs = (runs.0, (runs.1.0, run_through plans lines polls order _ _ turns _ runs.1.1))
+run_through plans lines polls order m before (t ∷ turns) events runs = (runs.0, (runs.1.0, run_through plans lines polls order (after_all m (take t.events events)) (before ++ piece (poll_of polls t) (take t.events events) ∷ []) turns (drop t.events events) runs.1.1))
 
 pub begun_through : (plans : List ThreadSpec) (lines : List ThreadLine) (polls : List Poll) (order : List ℕ) (m : Machine) (before : List Piece) (turns : List Turn) (events : List Event) → Through false plans lines polls order m before turns events → BeginRun plans lines polls order m before turns events
 begun_through plans lines polls order m before [] events runs = tt
-begun_through plans lines polls order m before (t ∷ turns) events runs = (runs.0, (runs.1.0, begun_through plans lines polls order _ _ turns _ runs.1.1))
+begun_through plans lines polls order m before (t ∷ turns) events runs = (runs.0, (runs.1.0, begun_through plans lines polls order (after_all m (take t.events events)) (before ++ piece (poll_of polls t) (take t.events events) ∷ []) turns (drop t.events events) runs.1.1))
 
 -- so far these turns made this trace: with these answers to the last asks, these lines, polls and this order they lead to where the check
 -- stands, and what runs from there on, ran from the opening on
@@ -170,7 +170,7 @@ know_on ends plans turns f g cpu part poll former answers lines polls order t la
     }
 
 -- what runs through some turns and one more, runs through these turns, and then that one
-one_more : (ends : Bool) (plans : List ThreadSpec) (opening : Machine) (lines : List ThreadLine) (polls : List Poll) (order : List ℕ) (turns later : List Turn) (t : Turn) (trace part events : List Event) → Through ends plans lines polls order opening [] ((turns ++ t ∷ []) ++ later) ((trace ++ part) ++ events) → Through ends plans lines polls order opening [] (turns ++ t ∷ later) (trace ++ part ++ events)
+one_more : (ends : Bool) (plans : List ThreadSpec) (opening : Machine) (lines : List ThreadLine) (polls : List Poll) (order : List ℕ) (turns later : List Turn) (t : Turn) (trace part events : List Event) → Through ends plans lines polls order opening [] ((turns ++ t ∷ []) ++ later) ((trace ++ part) ++ events) → Through ends plans lines polls order opening [] (turns ++ t ∷ later) (trace ++ (part ++ events))
 one_more ends plans opening lines polls order turns later t trace part events runs =
     let R : List Turn → List Event → Type 0 = λ ts es. Through ends plans lines polls order opening [] ts es in
     subst (λ es. R (turns ++ t ∷ later) es) (append_assoc trace part events) (subst (λ ts. R ts ((trace ++ part) ++ events)) (append_assoc turns (t ∷ []) later) runs)
