@@ -14,7 +14,7 @@ use Rattle.lwkt_verdict.specs.declared.progress.Piece.{Piece}
 use Rattle.lwkt_verdict.specs.Parts.{after_all}
 use Rattle.lwkt_verdict.specs.Run.{whose, poll_of, piece, TurnFits, EndsRun, RunsThrough, BeginRun}
 use Rattle.lwkt_verdict.specs.Threads.{slot_of}
-use Rattle.lwkt_verdict.specs.Follow.{Follow, AllBear, AllAllow, AreShown, GoesOn, Declines, answered_at, none_answered, Begins}
+use Rattle.lwkt_verdict.specs.Follow.{Follow, AllBear, AllAllow, AreShown, GoesOn, Declines, answered_at, none_answered, poll_so, Begins}
 use Rattle.lwkt_run.specs.Keeping.{Kept, none_kept, kept_after, polls_after, turn_of}
 use Rattle.lwkt_run.specs.Driving.{GoesOnBy, DeclinesBy}
 use Rattle.lwkt_run.specs.declared.polled.Polled.{Polled}
@@ -233,7 +233,7 @@ declined_on plans opening kept trace f cpu None part threads long few waits more
     let here : whose order (length kept.turns) ≡ cpu = ap (whose order) (sym long) ∙ whose_named kept.order order cpu named in
     let B : List Turn → Type 0 = λ ts. BeginRun plans lines kept.polls order opening [] ts ((trace ++ part) ++ events) in
     let through = through_begun plans lines kept.polls order opening [] ((kept.turns ++ t ∷ []) ++ []) ((trace ++ part) ++ events) (subst B (sym (append-nil (kept.turns ++ t ∷ []))) runs) in
-    declined plans kept.turns f cpu part _ _ lines kept.polls order t events threads declines here refl refl few
+    declined plans kept.turns f cpu part (λ answers. None) (λ answers. answers) lines kept.polls order t events threads declines here refl refl few
     (knows false none_answered lines kept.polls order fronts (less_front ℕ kept.order order cpu named) (t ∷ []) (part ++ events) (one_more false plans opening lines kept.polls order kept.turns [] t trace part events through))
 declined_on plans opening kept trace f cpu (Some p) part threads long few waits more declines knows lines events runs =
     let t : Turn = turn_of (Some p) (length part) (length kept.polls) in
@@ -245,5 +245,5 @@ declined_on plans opening kept trace f cpu (Some p) part threads long few waits 
     let here : whose order (length kept.turns) ≡ cpu = ap (whose order) (sym long) ∙ whose_named kept.order order cpu named in
     let B : List Turn → Type 0 = λ ts. BeginRun plans lines polls order opening [] ts ((trace ++ part) ++ events) in
     let through = through_begun plans lines polls order opening [] ((kept.turns ++ t ∷ []) ++ []) ((trace ++ part) ++ events) (subst B (sym (append-nil (kept.turns ++ t ∷ []))) runs) in
-    declined plans kept.turns f cpu part _ _ lines polls order t events threads declines here refl q.1 few
+    declined plans kept.turns f cpu part (poll_so p.thread p.asked) (answered_at (slot_of p.thread) (Some p.told)) lines polls order t events threads declines here refl q.1 few
     (knows false (answered_at (slot_of p.thread) (Some p.told) none_answered) lines polls order q.0 (less_front ℕ kept.order order cpu named) (t ∷ []) (part ++ events) (one_more false plans opening lines polls order kept.turns [] t trace part events through))
