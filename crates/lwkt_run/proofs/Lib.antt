@@ -28,3 +28,4 @@ pub mod ThreadedMoves
 pub mod ToldMoves
 pub mod TrackMoves
 pub mod TurnMoves
+pub mod TableLines

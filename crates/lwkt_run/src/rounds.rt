@@ -1,7 +1,7 @@
 //! The turns of a run: made one by one, kept by a keeper, and followed by a check, until it says no.
-ghost use Rattle.std.specs.Prelude.{◌≡◌, ◌↔◌, ◌<◌, ◌≤◌, IsTrue, All, length, IfOk, IfSome, option_map};
+ghost use Rattle.std.specs.Prelude.{◌≡◌, ◌↔◌, ◌<◌, ◌≤◌, IsTrue, false, All, length, IfOk, IfSome, option_map};
 ghost use Rattle.lwkt_verdict.specs.Threads.{slot_of};
-ghost use Rattle.lwkt_run.specs.Driving.{GoesOnBy, TurnDriven, RoundDriven, RoundsDriven, TurnsDriven, IsDriven, IsWithin, HasTurns, stand};
+ghost use Rattle.lwkt_run.specs.Driving.{GoesOnBy, DeclinesBy, TurnDriven, RoundDriven, RoundsDriven, TurnsDriven, IsDriven, IsWithin, IsShort, HasTurns, stand};
 ghost use Rattle.lwkt_run.specs.Keeping.{polled_of};
 ghost use Rattle.lwkt_run.specs.Running.{WasPolled, HasPolled, IsPolledAt, HasBeenAsked, says_over, both as both_so};
 
@@ -88,7 +88,8 @@ fn fits(
     part: &[Event],
 ) -> Result<bool, OutOfMemory>
     requires processor { cpu < 8 }
-    ensures { IfOk result (λ yes. IsTrue yes → GoesOnBy cpu (option_map polled_of asks.entry) part.now follower.old follower.new) }
+    ensures goes { IfOk result (λ yes. IsTrue yes → GoesOnBy cpu (option_map polled_of asks.entry) part.now follower.old follower.new) }
+    ensures declines { IfOk result (λ yes. yes ≡ false → DeclinesBy cpu (option_map polled_of asks.entry) part.now follower.old) }
 {
     match asks {
         None => Ok(follower.rest(cpu, part)),
@@ -205,6 +206,7 @@ pub fn drive<K: Keeper>(
 ) -> Result<bool, OutOfMemory>
     requires processors { IsWithin (length machine.old.cpus) course }
     requires few { length machine.old.cpus ≤ 8 }
+    ensures short { IsShort course.entry }
     ensures ok { IfOk result (λ fits. IsDriven course.entry fits (stand machine.old (K.kept keeper.old) events.old follower.old) (stand machine.new (K.kept keeper.new) events.new follower.new)) }
 {
     match course {

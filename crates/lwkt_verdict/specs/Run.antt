@@ -76,6 +76,13 @@ RunsThrough plans lines polls order m before [] events = EndsRun plans lines m b
 RunsThrough plans lines polls order m before (turn ∷ turns) events =
     (turn.events ≤ length events) × (TurnFits plans lines (whose order (length before)) m before (poll_of polls turn) (take turn.events events) × RunsThrough plans lines polls order (after_all m (take turn.events events)) (before ++ piece (poll_of polls turn) (take turn.events events) ∷ []) turns (drop turn.events events))
 
+-- turns of an order begin a run, whatever comes after them: each of them fits the turns before it, and its part of the trace the
+-- machine that it finds
+abbrev pub BeginRun : List ThreadSpec → List ThreadLine → List Poll → List ℕ → Machine → List Piece → List Turn → List Event → Type 0
+BeginRun plans lines polls order m before [] events = Unit {0}
+BeginRun plans lines polls order m before (turn ∷ turns) events =
+    (turn.events ≤ length events) × (TurnFits plans lines (whose order (length before)) m before (poll_of polls turn) (take turn.events events) × BeginRun plans lines polls order (after_all m (take turn.events events)) (before ++ piece (poll_of polls turn) (take turn.events events) ∷ []) turns (drop turn.events events))
+
 -- a thread and its line are both there, or neither is
 abbrev pub IsPaired : List ThreadSpec → List ThreadLine → ℕ → ℕ → Type 0
 IsPaired plans lines cpu n = is_some (plan_of_thread cpu n plans) ≡ is_some (line_of (16 * cpu + n) lines)

@@ -1,5 +1,6 @@
 //! Which answers an ask can have, by its turn's part of the trace.
 ghost use Rattle.std.specs.Prelude.{◌≡◌, IsTrue, true, false, Option, Some};
+ghost use Rattle.lwkt_verdict.specs.declared.expected.Expected.TheVariants.{Refusal};
 ghost use Rattle.lwkt_base.specs.declared.asks.Answer.{Answer};
 ghost use Rattle.lwkt_verdict.specs.Asks.{is_refused};
 
@@ -47,7 +48,10 @@ impl Expected {
 
     /// Whether there are some that are no refusals. From now on those alone, if so.
     pub fn leave_refusals(&mut self) -> bool
-        ensures { IsTrue result → (answer : Option Answer) → is_expected self.new answer ≡ true → (is_expected self.old answer ≡ true) × (is_refused answer ≡ false) }
+        ensures left { IsTrue result → (answer : Option Answer) → is_expected self.new answer ≡ true → (is_expected self.old answer ≡ true) × (is_refused answer ≡ false) }
+        ensures kept { IsTrue result → (answer : Option Answer) → is_expected self.old answer ≡ true → is_refused answer ≡ false → is_expected self.new answer ≡ true }
+        ensures open { IsTrue result → ¬ (self.new ≡ Refusal) }
+        ensures none { result ≡ false → self.old ≡ Refusal }
     {
         match self {
             Expected::Any => {

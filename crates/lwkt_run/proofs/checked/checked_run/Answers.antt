@@ -3,7 +3,7 @@ use Rattle.lwkt_bank.specs.Seats.{BankId}
 use Rattle.lwkt_core.specs.declared.events.Event.{Event}
 use Rattle.lwkt_core.specs.Machine.{Machine}
 use Rattle.lwkt_verdict.specs.Follow.{Begins}
-use Rattle.lwkt_run.specs.Checked.{EndsSo}
+use Rattle.lwkt_run.specs.Checked.{EndsSo, DeclinesSo}
 use Rattle.lwkt_run.specs.Driving.{Stand, stand}
 use Rattle.lwkt_run.proofs.CheckedMoves.{Closes, KeepsAll, keeps_all, within_machine, leaves_checked, saying}
 use Rattle.lwkt_run.proofs.IdMoves.{opened_has}
@@ -67,5 +67,6 @@ returns-clause-leaves g c =
       uncounted = refl;
     } in
     let E : List Event → Type 0 = λ es. EndsSo n.follower left es in
-    let said = saying c.verdict_of-verdict.result c.is_followed-follows.result n.events E c.as_slice.result.now stops c.as_slice.ensures.value c.verdict_of-verdict.ensures in
-    leaves_checked script c.args.course c.in_ok-fits.fits c.is_followed-follows.result s t left stops c.verdict_of-verdict.result c.requires.course closes c.in_ok-fits.ensures.ok c.is_followed-follows.ensures said
+    let D : List Event → Type 0 = λ es. DeclinesSo n.follower left es in
+    let said = saying c.verdict_of-verdict.result c.is_followed-follows.result n.events E D c.as_slice.result.now stops c.as_slice.ensures.value c.verdict_of-verdict.ensures in
+    leaves_checked script c.args.course c.in_ok-fits.fits c.is_followed-follows.result s t left stops c.verdict_of-verdict.result c.drive.ensures.short c.requires.course closes c.in_ok-fits.ensures.ok c.is_followed-follows.ensures said
