@@ -1,53 +1,26 @@
-//! Machines for bodies of any kind: each call that takes memory succeeds with ample memory, and its answer is as it must be. The
-//! bodies are boxed, so that one machine has those of several kinds.
+//! Machines for bodies of one's own: each call that takes memory succeeds with ample memory, and its answer is as it must be.
 
 use crate::cautious::{Cautious, ends_at_a_refusal};
 use crate::listed::{Listed, TOKEN};
 use crate::traders::{ROUNDS, Trader};
-use lwkt_base::memory::boxed;
-use lwkt_base::{Ask, CpuId, Fault, MsgEnd, OutOfMemory, Owner, Row, Section, TokSpec};
+use lwkt_base::{Ask, CpuId, Fault, MsgEnd, Owner, Row, Section, TokSpec};
 use lwkt_core::Event;
-use lwkt_machine::{Body, Closed, Ending, LIMITS, Machine, Stepper, Turned, makers};
+use lwkt_machine::{Closed, Ending, LIMITS, Machine, Stepper, Turned, makers};
 use std::alloc::Global;
 use std::thread::Threads;
 
-type Boxed = Box<dyn Body + Send + Drop>;
-
-// A body that asks these things.
-fn listed(alloc: Global, asks: [Ask; 3]) -> Result<Boxed, OutOfMemory> {
-    let body: Boxed = boxed(alloc, Listed::new(asks))?;
-    Ok(body)
-}
-
-// A body that takes the token, writes this value, and asks one thing more.
-fn writer(alloc: Global, value: u64, then: Ask) -> Result<Boxed, OutOfMemory> {
-    let asks = [Ask::Get(TOKEN), Ask::Write(TOKEN, 0, value), then];
-    listed(alloc, asks)
-}
-
-// Two processors with a body each, and a message of the first.
-fn two(
+// Two processors with a thread each: the first takes the token, writes this value and asks one thing more, and the second ends.
+fn one(
     alloc: Global,
     token: TokSpec,
-    first: Boxed,
-    second: Boxed,
-) -> Result<Machine<Boxed>, Fault> {
-    let one = makers::list(alloc, [first])?;
-    let other = makers::list(alloc, [second])?;
-    let bodies = makers::list(alloc, [one, other])?;
-    Machine::open(
-        alloc,
-        &[token],
-        &[makers::message(makers::thread(0, 0))],
-        bodies,
-    )
-}
-
-// The same where the first writes in a section, and the second ends.
-fn one(alloc: Global, token: TokSpec, value: u64, then: Ask) -> Result<Machine<Boxed>, Fault> {
-    let first = writer(alloc, value, then)?;
-    let second = listed(alloc, [Ask::Exit; 3])?;
-    two(alloc, token, first, second)
+    value: u64,
+    then: Ask,
+) -> Result<Machine<Stepper<Listed>>, Fault> {
+    let asks = [Ask::Get(TOKEN), Ask::Write(TOKEN, 0, value), then];
+    let first = makers::list(alloc, [Listed::new(asks)])?;
+    let second = makers::list(alloc, [Listed::new([Ask::Exit; 3])])?;
+    let bodies = makers::list(alloc, [first, second])?;
+    Machine::open(alloc, &[token], &[], bodies)
 }
 
 // The events of the section.
@@ -75,7 +48,7 @@ fn section() -> [Event; 3] {
 }
 
 // Whether a machine closes with the events of the section, its row and its generation.
-fn has_section(alloc: Global, closed: &Closed<Boxed>) -> Result<bool, Fault> {
+fn has_section(alloc: Global, closed: &Closed<Stepper<Listed>>) -> Result<bool, Fault> {
     let Some(trace) = closed.traces.first() else {
         return Ok(false);
     };
@@ -100,7 +73,7 @@ fn a_machine_is_driven(rt: HostRuntime) {
 }
 
 // Whether a token is closed with this first cell and generation.
-fn is_left(closed: &Closed<Boxed>, cell: u64, generation: u64) -> bool {
+fn is_left<B>(closed: &Closed<B>, cell: u64, generation: u64) -> bool {
     closed.cell(TOKEN, 0) == cell && closed.generation(TOKEN) == generation
 }
 
@@ -153,18 +126,14 @@ fn tokens_are_declared(rt: HostRuntime) {
     assert!(rt; are_declared(rt.alloc()) == Ok(true));
 }
 
-// A body that calls, or serves the calls.
-fn trader(alloc: Global, serves: bool) -> Result<Boxed, OutOfMemory> {
-    let body: Boxed = boxed(alloc, Trader::new(serves))?;
-    Ok(body)
-}
-
 // What two threads leave of which one calls and the other serves, and which hand a record to and fro.
-fn traded<R: Threads + Sync>(rt: &R, alloc: Global) -> Result<Closed<Boxed>, Fault> {
+fn traded<R: Threads + Sync>(rt: &R, alloc: Global) -> Result<Closed<Stepper<Trader>>, Fault> {
     let token = makers::guarding(makers::any(alloc, &[0])?, &[0; 64])?;
-    let caller = trader(alloc, false)?;
-    let server = trader(alloc, true)?;
-    let mut machine = two(alloc, token, caller, server)?;
+    let message = makers::message(makers::thread(0, 0));
+    let caller = makers::list(alloc, [Trader::new(false)])?;
+    let server = makers::list(alloc, [Trader::new(true)])?;
+    let bodies = makers::list(alloc, [caller, server])?;
+    let mut machine = Machine::open(alloc, &[token], &[message], bodies)?;
     machine.drive(rt, &LIMITS);
     Ok(machine.close(alloc)?)
 }

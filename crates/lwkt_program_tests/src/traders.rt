@@ -83,6 +83,15 @@ impl Trader {
             _ => Ask::Exit,
         }
     }
+
+    // What it asks after the answer to any other ask.
+    fn hear(&mut self, answer: Answer) -> Ask {
+        match answer {
+            Answer::Bytes(record) => self.hand_on(record),
+            Answer::Got(item) => self.take(item),
+            _ => self.go_on(),
+        }
+    }
 }
 
 impl Steps for Trader {
@@ -97,13 +106,11 @@ impl Steps for Trader {
     }
 
     fn answered(&mut self, asked: Ask, answer: Answer) -> Ask {
-        match (asked, answer) {
-            (Ask::Get(_), _) => Ask::ReadBlob(TOKEN),
-            (_, Answer::Bytes(record)) => self.hand_on(record),
-            (Ask::WriteBlob(..), _) => Ask::Rel(TOKEN),
-            (Ask::Rel(_), _) => self.tell(),
-            (_, Answer::Got(item)) => self.take(item),
-            _ => self.go_on(),
+        match asked {
+            Ask::Get(_) => Ask::ReadBlob(TOKEN),
+            Ask::WriteBlob(..) => Ask::Rel(TOKEN),
+            Ask::Rel(_) => self.tell(),
+            _ => self.hear(answer),
         }
     }
 
