@@ -6,14 +6,12 @@ ghost use Rattle.lwkt.specs.Making.{IsForm, IsShort};
 use crate::failures::Failure;
 use crate::runs::report_of;
 use crate::written::Made;
+use lwkt_base::limits::SCRIPT_BYTES;
 use lwkt_request::Form;
 use lwkt_run::Mode;
 use lwkt_text::{Input, Unsaid, json_of, text_of};
 use std::alloc::Global;
 use std::thread::Threads;
-
-// The most bytes of a script, in either form.
-const LENGTH_LIMIT: usize = 1_048_576;
 
 // A form of a script, unless it is too long for one.
 fn made_of(alloc: Global, form: Result<String, Unsaid>) -> Result<Made, Failure>
@@ -23,7 +21,7 @@ fn made_of(alloc: Global, form: Result<String, Unsaid>) -> Result<Made, Failure>
     ensures declined { IfErr result DeclinesWritten }
 {
     match form {
-        Ok(text) if text.len() <= LENGTH_LIMIT => Ok(Made {
+        Ok(text) if text.len() <= SCRIPT_BYTES => Ok(Made {
             text,
             status: 0,
             verdicts: String::new(alloc),

@@ -17,13 +17,12 @@ use Rattle.lwkt_base.specs.declared.laws.Law.TheVariants.{Any, Sum, Order, Cap, 
 use Rattle.lwkt_base.specs.declared.holdings.Held.{Held}
 use Rattle.lwkt_base.specs.declared.holdings.Held.TheVariants.{Nothing, Holds}
 use Rattle.lwkt_base.specs.declared.words.Decision.TheVariants.{Take as Takes}
-use Rattle.lwkt_base.specs.declared.words.TheConstants.{LAST_GENERATION}
+use Rattle.lwkt_base.specs.declared.limits.TheConstants.{CPU_LIMIT, LAST_GENERATION}
 use Rattle.lwkt_base.specs.Holding.{references_in, is_exclusive, is_held, one_more, one_less}
 use Rattle.lwkt_base.specs.Law.{Obeys}
 use Rattle.lwkt_base.specs.TokenWord.{bit, word_of, decision}
 use Rattle.lwkt_base.specs.declared.sections.Section.{Section}
 use Rattle.lwkt_core.specs.declared.tokens.Token.{Token}
-use Rattle.lwkt_core.specs.declared.tokens.TheConstants.{CPU_LIMIT}
 use Rattle.lwkt_core.specs.declared.events.Event.TheVariants.{Take, Share, Again, Mark, GiveOne, GiveClean, GiveWritten, Write, WriteBlob}
 use Rattle.lwkt_core.specs.Tokens.{held_by, length_of, tally_of, IsFree, IsOpen, IsNotLastExclusive, IsSafeToken, token_after, tallies_after}
 use Rattle.lwkt_core.specs.Picture.{count_of_held, picture_of}

@@ -1,7 +1,7 @@
 use lwkt_base::{Blob, Section};
 
 /// What a try to take a token answers.
-#[derive(Clone, Copy, Debug, PartialEq, Eq)]
+#[derive(Clone, Copy, PartialEq, Eq)]
 pub enum Try {
     /// The token was taken, at this generation.
     Got { generation: u64 },
@@ -14,7 +14,7 @@ pub enum Try {
 }
 
 /// What giving a reference back answers.
-#[derive(Clone, Copy, Debug, PartialEq, Eq)]
+#[derive(Clone, Copy, PartialEq, Eq)]
 pub enum Given {
     /// A reference that doesn't end an exclusive holding.
     One,
@@ -25,7 +25,7 @@ pub enum Given {
 }
 
 /// What a restore stored.
-#[derive(Clone, Copy, Debug)]
+#[derive(Clone, Copy)]
 pub struct Stored {
     /// The values of the cells, by their numbers.
     pub cells: [Option<u64>; 4],

@@ -1,7 +1,7 @@
 use lwkt_base::{Blob, Cells};
 
 /// The closing values of a bank, by token.
-#[derive(Debug, Drop)]
+#[derive(Drop)]
 pub struct Closed {
     /// Each token's cells.
     pub rows: Vec<Cells>,

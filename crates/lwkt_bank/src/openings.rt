@@ -6,8 +6,9 @@ ghost use Rattle.lwkt_bank.specs.Opened.{plan_of_spec, plans_of, slot_of_spec, o
 
 use crate::places::GENERATION;
 use crate::views::Plan;
+use lwkt_base::limits::LAST_GENERATION;
 use lwkt_base::memory::{extend_from_slice, push, with_capacity_for};
-use lwkt_base::{Blob, LAST_GENERATION, Law, OutOfMemory, TokSpec};
+use lwkt_base::{Blob, Law, OutOfMemory, TokSpec};
 use lwkt_core::are_within as model_within;
 use std::alloc::Global;
 

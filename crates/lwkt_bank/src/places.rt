@@ -3,7 +3,8 @@ ghost use Rattle.std.specs.Prelude.{◌≡◌};
 ghost use Rattle.lwkt_bank.specs.Views.{generation_in};
 ghost use Rattle.lwkt_bank.specs.Rule.{token_word, cell_word};
 
-use lwkt_base::{LAST_GENERATION, TokId};
+use lwkt_base::TokId;
+use lwkt_base::limits::LAST_GENERATION;
 
 /// How much one generation is in a token word.
 pub(crate) const GENERATION: u64 = 262144;

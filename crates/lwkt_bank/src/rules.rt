@@ -3,7 +3,7 @@ use atomic_table::TableRule;
 use lwkt_base::Blob;
 
 /// What the bank's table is told once, when it is made.
-#[derive(Debug, Drop)]
+#[derive(Drop)]
 pub struct Key {
     /// The tokens, by their numbers.
     pub plans: Vec<Plan>,

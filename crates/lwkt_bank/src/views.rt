@@ -2,7 +2,7 @@ use lwkt_base::{Blob, CpuId, Held, Law};
 use lwkt_table::{Chapter, Deed, SeatKind};
 
 /// What is declared of a token at the opening.
-#[derive(Clone, Copy, Debug)]
+#[derive(Clone, Copy)]
 pub struct Plan {
     /// The opening generation.
     pub generation: u64,

@@ -4,7 +4,7 @@ use Rattle.lwkt_base.specs.declared.names.Mode.TheVariants.{Exclusive, Shared}
 use Rattle.lwkt_base.specs.declared.words.TokWord.{TokWord}
 use Rattle.lwkt_base.specs.declared.words.Decision.{Decision}
 use Rattle.lwkt_base.specs.declared.words.Decision.TheVariants.{Take, Held, Marked, Worn}
-use Rattle.lwkt_base.specs.declared.words.TheConstants.{LAST_GENERATION}
+use Rattle.lwkt_base.specs.declared.limits.TheConstants.{LAST_GENERATION}
 
 -- 1 for true, 0 for false
 abbrev pub bit : Bool → ℕ

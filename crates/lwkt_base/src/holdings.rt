@@ -4,7 +4,7 @@ use crate::names::Mode;
 
 /// What a processor holds of one token: nothing, or the mode of its first reference and the number of references
 /// beyond that one.
-#[derive(Clone, Copy, Debug, PartialEq, Eq)]
+#[derive(Clone, Copy, PartialEq, Eq)]
 pub enum Held {
     Nothing,
     Holds(Mode, u8),

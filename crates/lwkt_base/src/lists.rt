@@ -1,11 +1,9 @@
 ghost use Rattle.std.specs.Prelude.{◌≡◌, ◌≢◌, ◌⊎◌, ℕ, ◌-◌, ◌<◌, ◌≤◌, ◌↔◌, List, [], ◌∷◌, ◌++◌, Option, Some, None, Ok, Err, IsTrue, OnOk, OnErr, IfOk, take, length, slice_get};
 
 use crate::faults::Fault;
+use crate::limits::LIST_LIMIT;
 use crate::names::{Mode, Ref, TokId};
 use std::marker::Model;
-
-/// The most references on a list.
-pub const LIST_LIMIT: usize = 32;
 
 /// A thread's references, in the order in which they were acquired. It is always a lawful list: a token whose first
 /// reference is shared has only shared references on it.

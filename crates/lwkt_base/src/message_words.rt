@@ -3,7 +3,7 @@ ghost use Rattle.std.specs.Prelude.{◌≡◌, ◌+◌, ◌*◌, ◌%◌, ◌<�
 use crate::names::CpuId;
 
 /// Where a message is, as its word shows it (msgport(9); the four states are own).
-#[derive(Clone, Copy, Debug, PartialEq, Eq)]
+#[derive(Clone, Copy, PartialEq, Eq)]
 pub enum MsgState {
     /// At rest, with its origin.
     Rest,
@@ -17,7 +17,7 @@ pub enum MsgState {
 
 /// The parts of a message's word (flags of msgport(9); the layout is own). From the lowest bit: 2 bits of state, the abort
 /// request, MSGF_SYNC, MSGF_DROPABLE, MSGF_ABORTABLE, MSGF_PRIORITY, 3 bits of origin, 3 bits of target, 51 bits of round.
-#[derive(Clone, Copy, Debug, PartialEq, Eq)]
+#[derive(Clone, Copy, PartialEq, Eq)]
 pub struct MsgWord {
     /// The opening round plus the sends: 0 to 2251799813685247.
     pub round: u64,

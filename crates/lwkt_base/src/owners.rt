@@ -2,7 +2,7 @@ use crate::names::CpuId;
 
 /// Who has a message. The origin is always the processor of the message's own thread (msgport(9); the four states are
 /// own).
-#[derive(Clone, Copy, Debug, PartialEq, Eq)]
+#[derive(Clone, Copy, PartialEq, Eq)]
 pub enum Owner {
     /// At rest, with its origin.
     Rest { origin: CpuId },
@@ -15,7 +15,7 @@ pub enum Owner {
 }
 
 /// What a message is at the end of a run.
-#[derive(Clone, Copy, Debug, PartialEq, Eq)]
+#[derive(Clone, Copy, PartialEq, Eq)]
 pub struct MsgEnd {
     /// The opening round plus the sends, 0 to 2251799813685247.
     pub round: u64,

@@ -5,7 +5,7 @@ use std::marker::Model;
 /// The cells of one token by value, in order: 0 to 4. It takes no memory of its own.
 ///
 /// The cells past the last one are 0, so that two rows with the same cells are one (own).
-#[derive(Clone, Copy, Debug, PartialEq, Eq)]
+#[derive(Clone, Copy, PartialEq, Eq)]
 pub struct Row {
     cells: [u64; 4],
     len: u8,
@@ -50,7 +50,7 @@ impl Row {
 }
 
 /// The rows and generations of tokens, by token. Made from a vector, and given back as one, without taking memory.
-#[derive(Debug, Drop)]
+#[derive(Drop)]
 pub struct Rows {
     items: Vec<(Row, u64)>,
 }

@@ -2,7 +2,7 @@ use crate::names::TokId;
 use crate::rows::Row;
 
 /// A written section of a token: it began in a generation with one row, and left another one to the next generation.
-#[derive(Clone, Copy, Debug, PartialEq, Eq)]
+#[derive(Clone, Copy, PartialEq, Eq)]
 pub struct Section {
     /// The row at its beginning.
     pub before: Row,

@@ -9,7 +9,7 @@ use crate::records::{Call, Flags};
 use std::marker::Model;
 
 /// The kind of a step. Each is that of `Ask`.
-#[derive(Clone, Copy, Debug, PartialEq, Eq)]
+#[derive(Clone, Copy, PartialEq, Eq)]
 pub enum Verb {
     Get,
     GetShared,
@@ -58,7 +58,7 @@ pub const VERBS: [Verb; 20] = [
 ];
 
 /// What may stand at a place behind the word of a step.
-#[derive(Clone, Copy, Debug, PartialEq, Eq)]
+#[derive(Clone, Copy, PartialEq, Eq)]
 pub enum PartKind {
     /// A token.
     Token,
@@ -83,7 +83,7 @@ pub enum PartKind {
 }
 
 /// A part of a step, of each kind.
-#[derive(Clone, Copy, Debug, PartialEq, Eq)]
+#[derive(Clone, Copy, PartialEq, Eq)]
 pub enum Part {
     Token(TokId),
     Cell(TokId, u8),

@@ -2,6 +2,9 @@ ghost use Rattle.std.specs.Prelude.{◌≡◌};
 ghost use Rattle.lwkt_base.specs.Threads.{has_ended};
 
 use crate::faults::Fault;
+use crate::lists::TokList;
+use crate::logs::Log;
+use crate::names::ThreadId;
 
 /// What a thread is doing between two turns of its processor.
 #[derive(Clone, Copy, Debug, PartialEq, Eq)]
@@ -25,4 +28,17 @@ impl ThreadState {
     {
         matches!(self, ThreadState::Exited | ThreadState::Faulted(_))
     }
+}
+
+/// What a thread is when a run stops.
+#[derive(Drop)]
+pub struct ThreadLine {
+    /// The thread.
+    pub id: ThreadId,
+    /// Whether it could go on, waited, or had ended, and by what.
+    pub state: ThreadState,
+    /// The references that it then has.
+    pub list: TokList,
+    /// The first 32 of the answers that it was given.
+    pub log: Log,
 }

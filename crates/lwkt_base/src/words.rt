@@ -1,13 +1,11 @@
 ghost use Rattle.std.specs.Prelude.{◌≡◌, ℕ, ◌+◌, ◌<◌, ◌^◌, false};
 
+use crate::limits::LAST_GENERATION;
 use crate::names::Mode;
-
-/// The last generation of a token: 2 ^ 46 - 1.
-pub const LAST_GENERATION: u64 = 70368744177663;
 
 /// The parts of a token's count word (lwkt_token.c; the generation is own). From the lowest bit: the exclusive bit, the
 /// mark, 16 bits of count, 46 bits of generation.
-#[derive(Clone, Copy, Debug, PartialEq, Eq)]
+#[derive(Clone, Copy, PartialEq, Eq)]
 pub struct TokWord {
     /// The written sections, from the opening generation on: 0 to `LAST_GENERATION`.
     pub generation: u64,
@@ -20,7 +18,7 @@ pub struct TokWord {
 }
 
 /// What a token word answers a processor that doesn't hold the token and asks for a reference.
-#[derive(Clone, Copy, Debug, PartialEq, Eq)]
+#[derive(Clone, Copy, PartialEq, Eq)]
 pub enum Decision {
     /// It can be taken; the word that it then has.
     Take(u64),

@@ -13,7 +13,7 @@ use lwkt_trace::words::show_numbers;
 use std::alloc::Global;
 
 /// What a token has otherwise than its closing values.
-#[derive(Clone, Copy, Debug)]
+#[derive(Clone, Copy)]
 pub enum Other {
     /// Somebody holds it.
     Holders,

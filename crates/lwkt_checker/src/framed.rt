@@ -8,12 +8,10 @@ ghost use Rattle.lwkt_checker.specs.Knows.{Knows, KnowsWritten};
 
 use crate::judges::{Finding, Judge};
 use crate::trees::parted;
+use lwkt_base::limits::{TRACE_BYTES, TRACE_EVENTS};
 use lwkt_base::{Fault, OutOfMemory};
-use lwkt_trace::{LENGTH_LIMIT, Trace, frame_of, next_written, parts_of, told_alone};
+use lwkt_trace::{Trace, frame_of, next_written, parts_of, told_alone};
 use std::alloc::Global;
-
-// The most events of a trace.
-const EVENT_LIMIT: usize = 50_000_000;
 
 // A judge that was fed an opening and the events of a text, if the text has nothing but events as they are written.
 fn fed(alloc: Global, opening: &Trace, text: &[u8]) -> Result<Option<Judge>, OutOfMemory>
@@ -24,7 +22,7 @@ fn fed(alloc: Global, opening: &Trace, text: &[u8]) -> Result<Option<Judge>, Out
     let mut judge = Judge::opened(alloc, opening)?;
     let mut from = 0;
     while from < text.len() {
-        if judge.count >= EVENT_LIMIT {
+        if judge.count >= TRACE_EVENTS {
             return Ok(None);
         }
         let Some((event, size)) = next_written(&text[from..], judge.count) else {
@@ -52,7 +50,7 @@ fn fed_with(alloc: Global, trace: Trace, text: &[u8]) -> Result<Option<Judge>, O
 fn fed_of(alloc: Global, bytes: &[u8]) -> Result<Option<Judge>, OutOfMemory>
     ensures { IfOk result (λ found. IfSome found (λ judge. (trace : Trace) × ((trace_of bytes.now ≡ Ok trace) × Knows trace judge))) }
 {
-    if bytes.len() > LENGTH_LIMIT {
+    if bytes.len() > TRACE_BYTES {
         return Ok(None);
     }
     let Some((front, events, back)) = parts_of(bytes) else {

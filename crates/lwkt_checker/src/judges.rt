@@ -13,7 +13,7 @@ use lwkt_trace::{Closing, Told, Trace};
 use std::alloc::Global;
 
 /// What a trace was found to be.
-#[derive(Debug, Drop)]
+#[derive(Drop)]
 pub enum Finding {
     /// The events can happen one after another, and end with the closing values, where there are any.
     Lawful,
@@ -23,7 +23,7 @@ pub enum Finding {
 }
 
 /// A judge of a trace, of which it keeps nothing but where it stands.
-#[derive(Debug, Drop)]
+#[derive(Drop)]
 pub struct Judge {
     /// How many events there were so far.
     pub count: usize,

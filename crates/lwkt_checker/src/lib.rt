@@ -33,7 +33,7 @@ pub use judges::{Finding, Judge, finding_text};
 pub use lacks::reason;
 pub use line_checks::{check_lines, judge_lines};
 pub use line_judges::LineJudge;
-pub use lines::{LINE_LIMIT, Lines};
+pub use lines::Lines;
 pub use plays::{event_told, told_is_only};
 pub use programs::{check_keeping, check_stream, run_checker, say_outcome, status_of};
 pub use standings::Standing;

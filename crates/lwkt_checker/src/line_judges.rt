@@ -25,7 +25,7 @@ const EVENT_LIMIT: usize = 1_000_000_000_000_000;
 const PLACE_LIMIT: usize = 50_000_000;
 
 /// Feeds a judge a trace line by line.
-#[derive(Debug, Drop)]
+#[derive(Drop)]
 pub struct LineJudge {
     /// The judge of the lines so far, or none before the first.
     pub judge: Option<Judge>,

@@ -4,13 +4,12 @@ ghost use Rattle.lwkt_script.specs.Outcome.{Gives};
 ghost use Rattle.lwkt_checker.specs.LineFormat.{is_opening, opened};
 
 use lwkt_base::Fault;
+use lwkt_base::limits::MOST_CPUS;
 use lwkt_script::Parts;
 use lwkt_script::fields::{has, has_members, list_at, number_at};
 use lwkt_trace::{Trace, guarded_of, messages_of};
 use serde_json::Value;
 use std::alloc::Global;
-
-const CPU_LIMIT: u64 = 8;
 
 // Whether the value is an object with exactly the four members.
 fn is_opening(value: &Value) -> bool
@@ -34,7 +33,7 @@ pub fn opened(alloc: Global, value: &Value) -> Result<Trace, Fault>
     let token_items = list_at(1, value, "tokens")?;
     let message_items = list_at(1, value, "messages")?;
     number_at(2, value, "version", 1, 1)?;
-    let cpus = number_at(3, value, "cpus", 1, CPU_LIMIT)? as u8;
+    let cpus = number_at(3, value, "cpus", 1, MOST_CPUS)? as u8;
     let tokens = guarded_of(alloc, token_items.as_slice())?;
     let messages = messages_of(alloc, cpus, message_items.as_slice())?;
     Ok(Trace {

@@ -2,8 +2,8 @@ ghost use Rattle.std.specs.Prelude.{◌≡◌, IfOk, option_map};
 ghost use Rattle.serde_json.specs.View.{view};
 ghost use Rattle.lwkt_checker.specs.Line.{value_of};
 
-use crate::lines::LINE_LIMIT;
 use lwkt_base::OutOfMemory;
+use lwkt_base::limits::LINE_BYTES;
 use lwkt_base::memory::read_json;
 use serde_json::Value;
 use std::alloc::Global;
@@ -13,7 +13,7 @@ use std::alloc::Global;
 pub fn value_of(alloc: Global, line: &[u8]) -> Result<Option<Value>, OutOfMemory>
     ensures { IfOk result (λ value. option_map view value ≡ value_of line.now) }
 {
-    if line.len() > LINE_LIMIT {
+    if line.len() > LINE_BYTES {
         return Ok(None);
     }
     match read_json(alloc, line)? {

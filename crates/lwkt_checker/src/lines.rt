@@ -6,19 +6,17 @@ ghost use Rattle.lwkt_checker.specs.Line.{is_line_feed};
 ghost use Rattle.lwkt_checker.specs.LineReading.{IsLineFront, unread, left_of, IsNextLine};
 
 use lwkt_base::OutOfMemory;
+use lwkt_base::limits::LINE_BYTES;
 use lwkt_base::memory::extend_from_slice;
 use lwkt_report::{RunFault, Source};
 use std::alloc::Global;
 use std::mem::swap;
 
-/// The most bytes of a line.
-pub const LINE_LIMIT: usize = 1_048_576;
-
 // How many bytes are asked for at once.
 const CHUNK: usize = 4096;
 
 /// The lines of a source, read one after the other.
-#[derive(Debug, Drop)]
+#[derive(Drop)]
 pub struct Lines {
     /// The bytes that the source gave last.
     pub room: Vec<u8>,
@@ -153,7 +151,7 @@ impl Lines {
         ensures only { OnErr result ((result ≡ Err RunFault.Stream) ⊎ (result ≡ Err (RunFault.Fault no_memory))) }
     {
         self.begin();
-        while self.line.len() <= LINE_LIMIT {
+        while self.line.len() <= LINE_BYTES {
             if !self.fill(source)? {
                 return Ok(false);
             }

@@ -9,10 +9,11 @@ use crate::framed::found_written;
 use crate::judges::{Finding, finding_text};
 use crate::trees::found_whole;
 use lwkt_base::Fault;
+use lwkt_base::limits::TRACE_BYTES;
 use lwkt_report::{
     Complaint, Program, RunFault, Sink, Source, complain, complaint_of, read_up_to, write_whole,
 };
-use lwkt_trace::{LENGTH_LIMIT, read_trace};
+use lwkt_trace::read_trace;
 use std::alloc::Global;
 
 // What the trace that the bytes are is found to be: as its events are read, where it is written so that they can be; else of
@@ -66,7 +67,7 @@ pub fn check_keeping<S: Source, K: Sink>(
     ensures flushed { OnOk result (K.is_flushed sink.new) }
     ensures unfailed { OnOk result ((S.has_failed source.new ≡ S.has_failed source.old) × (K.has_failed sink.new ≡ K.has_failed sink.old)) }
 {
-    match read_up_to(alloc, source, LENGTH_LIMIT + 1) {
+    match read_up_to(alloc, source, TRACE_BYTES + 1) {
         Ok(bytes) => *read = bytes,
         Err(fault) => return Err(fault),
     }

@@ -14,7 +14,7 @@ use lwkt_trace::{Told, Trace};
 use std::alloc::Global;
 
 /// Where a judge stands with a trace that is fed to it piece by piece.
-#[derive(Debug, Drop)]
+#[derive(Drop)]
 pub enum Standing {
     /// All events so far can happen one after another, and lead to this state, which closes as the closing values say, where they
     /// have come.

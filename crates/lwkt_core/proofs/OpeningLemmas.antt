@@ -12,7 +12,7 @@ use Rattle.lwkt_base.specs.declared.openings.MsgSpec.{MsgSpec}
 use Rattle.lwkt_base.specs.Holding.{references_in, is_exclusive}
 use Rattle.lwkt_base.specs.Law.{Obeys, OpensLawfully, IsTallied}
 use Rattle.lwkt_core.specs.declared.tokens.Token.{Token}
-use Rattle.lwkt_core.specs.declared.tokens.TheConstants.{CPU_LIMIT}
+use Rattle.lwkt_base.specs.declared.limits.TheConstants.{CPU_LIMIT}
 use Rattle.lwkt_core.specs.declared.messages.Message.{Message}
 use Rattle.lwkt_core.specs.Tokens.{held_by, length_of, IsSafeToken, IsExclusiveHolder}
 use Rattle.lwkt_core.specs.Messages.{IsSafeMessage}

@@ -14,7 +14,7 @@ use Rattle.lwkt_base.specs.declared.holdings.Held.{Held}
 use Rattle.lwkt_base.specs.declared.holdings.Held.TheVariants.{Nothing, Holds}
 use Rattle.lwkt_base.specs.declared.words.TokWord.{TokWord}
 use Rattle.lwkt_base.specs.declared.words.Decision.TheVariants.{Take as TakeTo, Held as IsHeldBack, Marked, Worn}
-use Rattle.lwkt_base.specs.declared.words.TheConstants.{LAST_GENERATION}
+use Rattle.lwkt_base.specs.declared.limits.TheConstants.{LAST_GENERATION}
 use Rattle.lwkt_base.specs.Holding.{references_in, is_exclusive}
 use Rattle.lwkt_base.specs.TokenWord.{bit, word_of, decision}
 use Rattle.lwkt_core.specs.declared.tokens.Token.{Token}

@@ -16,7 +16,7 @@ use Rattle.lwkt_base.specs.declared.holdings.Held.{Held}
 use Rattle.lwkt_base.specs.declared.holdings.Held.TheVariants.{Nothing, Holds}
 use Rattle.lwkt_base.specs.declared.sections.Section.{Section}
 use Rattle.lwkt_base.specs.declared.words.TokWord.{TokWord}
-use Rattle.lwkt_base.specs.declared.words.TheConstants.{LAST_GENERATION}
+use Rattle.lwkt_base.specs.declared.limits.TheConstants.{LAST_GENERATION}
 use Rattle.lwkt_base.specs.Holding.{is_exclusive, is_held, one_more, one_less}
 use Rattle.lwkt_base.specs.TokenWord.{word_of}
 use Rattle.lwkt_core.specs.declared.events.Event.TheVariants.{Again, GiveOne, GiveClean, GiveWritten}

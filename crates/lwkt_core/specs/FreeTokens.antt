@@ -9,7 +9,7 @@ use Rattle.lwkt_base.specs.declared.names.Ref.{Ref}
 use Rattle.lwkt_base.specs.declared.holdings.Held.{Held}
 use Rattle.lwkt_base.specs.declared.holdings.Held.TheVariants.{Nothing, Holds}
 use Rattle.lwkt_base.specs.declared.words.Decision.TheVariants.{Take as TakeTo, Held as IsHeldBack}
-use Rattle.lwkt_base.specs.declared.words.TheConstants.{LAST_GENERATION}
+use Rattle.lwkt_base.specs.declared.limits.TheConstants.{LAST_GENERATION}
 use Rattle.lwkt_base.specs.Refs.{is_to}
 use Rattle.lwkt_base.specs.Holding.{Holding, holds_nothing, added, holding_of, mode_of}
 use Rattle.lwkt_base.specs.TokenWord.{word_of, decision}

@@ -3,10 +3,9 @@ use Rattle.std.specs.Prelude.{◌≡◌, ◌⊎◌, ℕ, ◌+◌, ◌<◌, ◌�
 use Rattle.lwkt_base.specs.declared.names.Mode.TheVariants.{Exclusive}
 use Rattle.lwkt_base.specs.declared.holdings.Held.TheVariants.{Nothing, Holds}
 use Rattle.lwkt_base.specs.declared.owners.Owner.TheVariants.{Rest}
-use Rattle.lwkt_base.specs.declared.words.TheConstants.{LAST_GENERATION}
+use Rattle.lwkt_base.specs.declared.limits.TheConstants.{LAST_GENERATION, LAST_ROUND}
 use Rattle.lwkt_core.specs.declared.tokens.Token.{Token}
 use Rattle.lwkt_core.specs.declared.messages.Message.{Message}
-use Rattle.lwkt_core.specs.declared.messages.TheConstants.{LAST_ROUND}
 use Rattle.lwkt_core.specs.declared.lacks.Lack.{Lack}
 use Rattle.lwkt_core.specs.declared.lacks.Lack.TheVariants.{NoProcessor, NoToken, NoMessage, TooManyReferences, Held, HeldExclusively, HeldAlready, LastGeneration, NotHeld, NotHeldExclusively, LastExclusive, FurtherReferences, RowChanged, RecordChanged, RowUnchanged, LawBroken, OtherSection, NoCell, OtherValue, LessThanBefore, NoRecord, OtherRecord, RecordLong, NotAtRest, NoTarget, LastRound, OtherRound, NotOut, NotTaken, NotReplied, NotAway}
 use Rattle.lwkt_core.specs.declared.events.Event.{Event}

@@ -7,10 +7,8 @@ use Rattle.lwkt_base.specs.declared.openings.TokSpec.{TokSpec}
 use Rattle.lwkt_base.specs.declared.openings.MsgSpec.{MsgSpec}
 use Rattle.lwkt_base.specs.Law.{OpensLawfully}
 use Rattle.lwkt_core.specs.declared.tokens.Token.{Token}
-use Rattle.lwkt_base.specs.declared.words.TheConstants.{LAST_GENERATION}
-use Rattle.lwkt_core.specs.declared.tokens.TheConstants.{CPU_LIMIT}
+use Rattle.lwkt_base.specs.declared.limits.TheConstants.{CPU_LIMIT, LAST_GENERATION, LAST_ROUND}
 use Rattle.lwkt_core.specs.declared.messages.Message.{Message}
-use Rattle.lwkt_core.specs.declared.messages.TheConstants.{LAST_ROUND}
 use Rattle.lwkt_core.specs.Tokens.{IsShort, length_of}
 use Rattle.lwkt_core.specs.Machine.{Machine}
 

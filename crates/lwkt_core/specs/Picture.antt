@@ -10,7 +10,7 @@ use Rattle.lwkt_base.specs.declared.words.Decision.TheVariants.{Take as TakeTo}
 use Rattle.lwkt_base.specs.Holding.{is_exclusive}
 use Rattle.lwkt_base.specs.TokenWord.{word_of, decision, Fits}
 use Rattle.lwkt_core.specs.declared.tokens.Token.{Token}
-use Rattle.lwkt_core.specs.declared.tokens.TheConstants.{CPU_LIMIT}
+use Rattle.lwkt_base.specs.declared.limits.TheConstants.{CPU_LIMIT}
 use Rattle.lwkt_core.specs.declared.events.Event.TheVariants.{Take, Share}
 use Rattle.lwkt_core.specs.Tokens.{held_by, IsSafeToken, TokenNeeds, token_after}
 use Rattle.lwkt_core.specs.Machine.{Machine, IsSafe}

@@ -11,8 +11,7 @@ use Rattle.lwkt_base.specs.declared.holdings.Held.TheVariants.{Nothing, Holds}
 use Rattle.lwkt_base.specs.Holding.{is_exclusive, is_held, one_more, one_less}
 use Rattle.lwkt_base.specs.Law.{Obeys, IsTallied}
 use Rattle.lwkt_core.specs.declared.tokens.Token.{Token}
-use Rattle.lwkt_base.specs.declared.words.TheConstants.{LAST_GENERATION}
-use Rattle.lwkt_core.specs.declared.tokens.TheConstants.{CPU_LIMIT}
+use Rattle.lwkt_base.specs.declared.limits.TheConstants.{CPU_LIMIT, LAST_GENERATION}
 use Rattle.lwkt_core.specs.declared.events.Event.{Event}
 use Rattle.lwkt_core.specs.declared.events.Event.TheVariants.{Load, Take, Share, Again, Mark, GiveOne, GiveClean, GiveWritten, Read, Write, ReadBlob, WriteBlob, Send, TakeMsg, DropMsg, Reply, Reap, Abort}
 

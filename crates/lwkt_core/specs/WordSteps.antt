@@ -3,7 +3,7 @@ use Rattle.std.specs.Prelude.{ℕ, ◌+◌, ◌-◌, ◌==◌, ◌&&◌, ◌||�
 use Rattle.lwkt_base.specs.declared.faults.Fault.{Fault}
 use Rattle.lwkt_base.specs.declared.faults.Fault.TheVariants.{Busy, Worn, NotHeld, NotLast, Limits}
 use Rattle.lwkt_base.specs.declared.words.TokWord.{TokWord}
-use Rattle.lwkt_base.specs.declared.words.TheConstants.{LAST_GENERATION}
+use Rattle.lwkt_base.specs.declared.limits.TheConstants.{LAST_GENERATION}
 use Rattle.lwkt_base.specs.TokenWord.{word_of}
 
 -- taken exclusively: the exclusive bit is set and the mark cleared

@@ -1,7 +1,7 @@
 use lwkt_base::{Blob, CpuId, MsgId, Section, TokId};
 
 /// One atomic step of one processor on one token or message.
-#[derive(Clone, Copy, Debug, PartialEq, Eq)]
+#[derive(Clone, Copy, PartialEq, Eq)]
 pub enum Event {
     /// The token's word or a cell was looked at.
     Load {
@@ -106,7 +106,7 @@ pub enum Event {
 }
 
 /// What an event is at: a token or a message, by its number.
-#[derive(Clone, Copy, Debug, PartialEq, Eq)]
+#[derive(Clone, Copy, PartialEq, Eq)]
 pub enum Place {
     AtToken(usize),
     AtMessage(usize),

@@ -2,12 +2,13 @@ ghost use Rattle.std.specs.Prelude.{◌≡◌, ◌≤◌, ◌↔◌, ℕ, map, I
 ghost use Rattle.lwkt_core.specs.Trace.{end_of, shown_tallies};
 
 use crate::messages::Message;
-use crate::tokens::{CPU_LIMIT, Token};
+use crate::tokens::Token;
 use lwkt_base::blobs::are_same;
+use lwkt_base::limits::CPU_LIMIT;
 use lwkt_base::{Blob, Cells, Law, MsgEnd};
 
 /// The closing values of a machine.
-#[derive(Debug, Drop)]
+#[derive(Drop)]
 pub struct Final {
     /// Each token's cells.
     pub rows: Vec<Cells>,

@@ -4,12 +4,13 @@ ghost use Rattle.lwkt_core.specs.Messages.{MessageNeeds};
 ghost use Rattle.lwkt_core.specs.Lacks.{Fails, TokenLacks, MessageLacks, TellsOfToken, TellsOfMessage, LackRefutes};
 
 use crate::events::Event;
-use crate::messages::{LAST_ROUND, Message};
+use crate::messages::Message;
 use crate::tokens::Token;
-use lwkt_base::{Blob, CpuId, LAST_GENERATION, Owner, Section, TokId};
+use lwkt_base::limits::{LAST_GENERATION, LAST_ROUND};
+use lwkt_base::{Blob, CpuId, Owner, Section, TokId};
 
 /// The first need of an event that isn't met.
-#[derive(Clone, Copy, Debug, PartialEq, Eq)]
+#[derive(Clone, Copy, PartialEq, Eq)]
 pub enum Lack {
     /// There is no processor of the event's number.
     NoProcessor,

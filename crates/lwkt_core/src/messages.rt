@@ -1,13 +1,11 @@
 ghost use Rattle.std.specs.Prelude.{◌≡◌, ◌↔◌, ℕ, ◌+◌, true, ◌<◌, ◌≤◌, IsTrue};
 
 use crate::events::Event;
+use lwkt_base::limits::LAST_ROUND;
 use lwkt_base::{CpuId, Owner, ThreadId};
 
-/// The last round of a message: 2 ^ 51 - 1.
-pub const LAST_ROUND: u64 = 2251799813685247;
-
 /// One message of the model: what is declared of it, its state, and how often each thing was done with it.
-#[derive(Clone, Copy, Debug, PartialEq, Eq)]
+#[derive(Clone, Copy, PartialEq, Eq)]
 pub struct Message {
     /// The thread that owns the message while it is at rest.
     pub origin: ThreadId,

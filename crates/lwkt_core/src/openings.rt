@@ -3,11 +3,12 @@ ghost use Rattle.lwkt_base.specs.Law.{OpensLawfully};
 ghost use Rattle.lwkt_core.specs.Tokens.{IsShort};
 ghost use Rattle.lwkt_core.specs.Opening.{opened_token, opened_message, IsRecordWithin, IsTokenWithin, IsMessageWithin, AreWithin, AllOpenLawfully};
 
-use crate::messages::{LAST_ROUND, Message};
-use crate::tokens::{CPU_LIMIT, Token};
+use crate::messages::Message;
+use crate::tokens::Token;
 use lwkt_base::blobs::length_of;
+use lwkt_base::limits::{CPU_LIMIT, LAST_GENERATION, LAST_ROUND};
 use lwkt_base::memory::{push, with_capacity_for};
-use lwkt_base::{Blob, Held, LAST_GENERATION, Law, MsgSpec, OutOfMemory, Owner, TokSpec};
+use lwkt_base::{Blob, Held, Law, MsgSpec, OutOfMemory, Owner, TokSpec};
 use std::alloc::Global;
 
 fn opened_token(alloc: Global, spec: &TokSpec) -> Result<Token, OutOfMemory>

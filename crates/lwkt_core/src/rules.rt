@@ -6,8 +6,9 @@ ghost use Rattle.lwkt_core.specs.Events.{cpu_of, adds_reference};
 
 use crate::events::{Event, Place};
 use crate::messages::Message;
-use crate::tokens::{CPU_LIMIT, Token};
+use crate::tokens::Token;
 use lwkt_base::CpuId;
+use lwkt_base::limits::CPU_LIMIT;
 
 /// How many references a processor has in all.
 pub fn references_of(tokens: &[Token], cpu: CpuId) -> usize

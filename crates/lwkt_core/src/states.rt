@@ -11,7 +11,7 @@ use std::alloc::Global;
 use std::marker::Model;
 
 /// The state of the model: a machine of 1 to 8 processors with its tokens and messages. Every state is safe.
-#[derive(Debug, Drop)]
+#[derive(Drop)]
 pub struct State {
     cpus: usize,
     tokens: Vec<Token>,

@@ -2,13 +2,11 @@ ghost use Rattle.std.specs.Prelude.{◌≡◌, ◌↔◌, ℕ, ◌+◌, true, �
 
 use crate::events::Event;
 use lwkt_base::blobs::{are_same, length_of};
-use lwkt_base::{Blob, Cells, CpuId, Held, LAST_GENERATION, Law, Mode, Section, TokId};
-
-/// The most processors of a machine.
-pub const CPU_LIMIT: usize = 8;
+use lwkt_base::limits::{CPU_LIMIT, LAST_GENERATION};
+use lwkt_base::{Blob, Cells, CpuId, Held, Law, Mode, Section, TokId};
 
 /// One token of the model: what is declared of it, and its state.
-#[derive(Debug, Drop)]
+#[derive(Drop)]
 pub struct Token {
     /// The law that the token declares.
     pub law: Law,

@@ -4,7 +4,8 @@ ghost use Rattle.std.specs.Prelude.{◌≡◌, ℕ};
 ghost use Rattle.lwkt_base.specs.TokenWord.{word_of, Fits};
 ghost use Rattle.lwkt_core.specs.WordSteps.{exclusive_taken, shared_taken, gained, marked, one_given, exclusive_ended, clean_given, written_given};
 
-use lwkt_base::{Fault, LAST_GENERATION, TokWord};
+use lwkt_base::limits::LAST_GENERATION;
+use lwkt_base::{Fault, TokWord};
 
 // The most references that a word can count.
 const COUNT_LIMIT: u16 = 65_535;

@@ -1,7 +1,7 @@
 use lwkt_base::{Ref, ThreadState};
 
 /// What a turn answers.
-#[derive(Clone, Copy, Debug, PartialEq, Eq)]
+#[derive(Clone, Copy, PartialEq, Eq)]
 pub enum Turned {
     /// The thread of this number was polled, 0 to 15.
     Ran { thread: usize },
@@ -12,7 +12,7 @@ pub enum Turned {
 }
 
 /// A thread between two turns: what it is doing, and its references.
-#[derive(Clone, Copy, Debug)]
+#[derive(Clone, Copy)]
 pub struct Status<'a> {
     /// What it is doing.
     pub state: ThreadState,
@@ -21,7 +21,7 @@ pub struct Status<'a> {
 }
 
 /// What the turns of a drive came to.
-#[derive(Clone, Copy, Debug, Default, PartialEq, Eq)]
+#[derive(Clone, Copy, Default, PartialEq, Eq)]
 pub struct Drove {
     /// How many turns polled a thread.
     pub ran: u64,

@@ -10,7 +10,7 @@ use lwkt_port::Notes;
 
 /// How far a processor has come, by counts. Where they are the same before and after a turn that polled no thread, the turn moved no
 /// note and ended no thread.
-#[derive(Clone, Copy, Debug, PartialEq, Eq)]
+#[derive(Clone, Copy, PartialEq, Eq)]
 pub struct Progress {
     /// The notes that were taken in so far, modulo 2^64.
     pub taken_in: u64,

@@ -9,15 +9,13 @@ use crate::answers::Status;
 use crate::phases::Phase;
 use crate::threads::Thread;
 use lwkt_bank::CpuSeat;
+use lwkt_base::limits::THREAD_LIMIT;
 use lwkt_base::memory::push;
 use lwkt_base::{Answer, Fault, OutOfMemory, ThreadState, TokList};
 use lwkt_hold::Hold;
 use lwkt_port::Ports;
 use std::alloc::Global;
 use std::marker::Model;
-
-/// The most threads of a processor.
-pub const THREAD_LIMIT: usize = 16;
 
 /// A processor with its threads, at most 16. It is always at rest between two calls: at most one thread runs, every list is lawful,
 /// and the seat holds exactly the list of the running thread, in its modes, or nothing (token(9)).

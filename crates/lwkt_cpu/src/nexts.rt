@@ -1,7 +1,7 @@
 use lwkt_base::{Fault, MsgId};
 
 /// What comes next for a thread whose ask was performed, with the answer that it has then, if it has one.
-#[derive(Clone, Copy, Debug, PartialEq, Eq)]
+#[derive(Clone, Copy, PartialEq, Eq)]
 pub enum Next<A> {
     /// It goes on running, with this answer.
     Runs(A),
@@ -19,5 +19,5 @@ pub enum Next<A> {
 }
 
 /// In place of an answer: it is kept already, where the caller keeps the thread's answers.
-#[derive(Clone, Copy, Debug, PartialEq, Eq)]
+#[derive(Clone, Copy, PartialEq, Eq)]
 pub struct AnswerKept;

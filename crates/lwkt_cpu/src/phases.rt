@@ -3,7 +3,7 @@ ghost use Rattle.std.specs.Prelude.{◌≡◌, ◌≢◌, true, false};
 use lwkt_base::{Fault, MsgId};
 
 /// What a thread is doing, whether it runs or not.
-#[derive(Clone, Copy, Debug, PartialEq, Eq)]
+#[derive(Clone, Copy, PartialEq, Eq)]
 pub enum Phase {
     /// It runs, or can run as soon as its tokens can be held.
     Live,

@@ -2,7 +2,7 @@ use crate::phases::Phase;
 use lwkt_base::{Answer, TokList};
 
 /// The word that refused a thread's list, and the place of the reference that it refused.
-#[derive(Clone, Copy, Debug, PartialEq, Eq)]
+#[derive(Clone, Copy, PartialEq, Eq)]
 pub struct BusyAt {
     pub(crate) word: u64,
     pub(crate) at: usize,

@@ -1,2 +1,6 @@
+pub mod BehindMoves
 pub mod CourseMoves
+pub mod EventMoves
+pub mod StretchChains
+pub mod StretchMoves
 pub mod TellingMoves

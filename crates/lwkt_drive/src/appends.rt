@@ -1,8 +1,8 @@
 //! What a processor does is told into a room, and from there its events go behind its trace.
-ghost use Rattle.std.specs.Prelude.{◌≡◌, ◌+◌, ◌<◌, ◌≤◌, ◌++◌, [], length, vec_len, vec_capacity, IfOk, OnErr, OnOk};
+ghost use Rattle.std.specs.Prelude.{◌≡◌, ◌+◌, ◌<◌, ◌≤◌, ◌++◌, length, IfOk, OnErr, OnOk};
 ghost use Rattle.lwkt_bank.specs.Seats.{id_of};
 ghost use Rattle.lwkt_drive.specs.Course.{IsAtTables};
-ghost use Rattle.lwkt_drive.specs.Appending.{AppendsStop, AppendsTurn, LacksMemory};
+ghost use Rattle.lwkt_drive.specs.Appending.{AppendsStop, AppendsTurn, HasTurnRoom, LacksMemory};
 
 use crate::driven::Driven;
 use lwkt_bank::Bank;
@@ -12,11 +12,11 @@ use lwkt_cpu::{Body, TURN_EVENTS, Turned};
 use lwkt_msg::MsgBook;
 
 impl<B> Driven<B> {
-    // Gives the trace room for the events of a turn or a stop, and as much to the room into which they are told, which is empty then.
-    fn make_room(&mut self) -> Result<(), OutOfMemory>
-        ensures empty { OnOk result (self.new.room.items ≡ []) }
-        ensures room { OnOk result (vec_len self.new.room + 4096 ≤ vec_capacity self.new.room) }
-        ensures trace { OnOk result (length self.new.trace.items + 4096 ≤ self.new.trace.capacity) }
+    /// Gives the trace room for the events of a turn or a stop, and as much to the room into which they are told, which is empty then.
+    ///
+    /// Refused if memory is; the processor and its events are as before then.
+    pub fn make_room(&mut self) -> Result<(), OutOfMemory>
+        ensures room { OnOk result (HasTurnRoom self.new) }
         ensures full { OnErr result (LacksMemory self.new.room self.new.trace) }
         ensures items { self.new.trace.items ≡ self.old.trace.items }
         ensures capacity { self.old.trace.capacity ≤ self.new.trace.capacity }
@@ -39,7 +39,22 @@ impl<B> Driven<B> {
 }
 
 impl<B: Body> Driven<B> {
-    /// Makes a turn, as `Cpu::turn` does. Its events go behind the trace. That the processor is of this bank and book is the caller's
+    /// Makes a turn, as `Cpu::turn` does, in the room that `make_room` has made. Its events go behind the trace. That this room is there,
+    /// and that the processor is of this bank and book is the caller's condition.
+    pub fn turn_in_room(&mut self, bank: &Bank, book: &MsgBook) -> Turned
+        requires at { IsAtTables (id_of bank.now) book.now.table self.old }
+        requires room { HasTurnRoom self.old }
+        ensures makes { AppendsTurn B.polled (id_of bank.now) self.old.cpu self.new.cpu self.old.trace.items self.new.trace.items result }
+        ensures capacity { self.old.trace.capacity ≤ self.new.trace.capacity }
+        ensures rest { self.new ≡ record self.old { cpu = self.new.cpu; trace = self.new.trace; room = self.new.room } }
+        ensures at { IsAtTables (id_of bank.now) book.now.table self.new }
+    {
+        let turned = self.cpu.turn_in_room(bank, book, &mut self.room);
+        self.keep();
+        turned
+    }
+
+    /// Makes a turn, as `turn_in_room` does, in room that is made before. That the processor is of this bank and book is the caller's
     /// condition.
     ///
     /// Refused if memory for 4096 events is, to the room into which turns are told or to the trace; the processor and
@@ -54,9 +69,7 @@ impl<B: Body> Driven<B> {
         ensures at { IsAtTables (id_of bank.now) book.now.table self.new }
     {
         self.make_room()?;
-        let turned = self.cpu.turn_in_room(bank, book, &mut self.room);
-        self.keep();
-        Ok(turned)
+        Ok(self.turn_in_room(bank, book))
     }
 
     /// Stops the processor, as `Cpu::stop` does. The events go behind the trace. That the processor is of this bank and book is the
@@ -67,6 +80,7 @@ impl<B: Body> Driven<B> {
         requires at { IsAtTables (id_of bank.now) book.now.table self.old }
         ensures ok { OnOk result (AppendsStop self.old.cpu self.new.cpu self.old.trace.items self.new.trace.items) }
         ensures err { OnErr result ((self.new.cpu ≡ self.old.cpu) × (self.new.trace.items ≡ self.old.trace.items)) }
+        ensures full { OnErr result (LacksMemory self.new.room self.new.trace) }
         ensures capacity { self.old.trace.capacity ≤ self.new.trace.capacity }
         ensures rest { self.new ≡ record self.old { cpu = self.new.cpu; trace = self.new.trace; room = self.new.room } }
         ensures at { IsAtTables (id_of bank.now) book.now.table self.new }

@@ -2,15 +2,15 @@
 ghost use Rattle.std.specs.Prelude.{◌≡◌, true, false, []};
 ghost use Rattle.lwkt_cpu.specs.Driving.{none_driven};
 
+use crate::event_lists::EventList;
 use crate::gates::Gate;
 use lwkt_base::{CpuId, OutOfMemory};
 use lwkt_core::Event;
 use lwkt_cpu::{Cpu, Drove};
-use lwkt_events::EventList;
 use std::alloc::Global;
 
 /// Why a processor made no further turn. What is said of other processors no clause claims.
-#[derive(Clone, Copy, Debug, PartialEq, Eq)]
+#[derive(Clone, Copy, PartialEq, Eq)]
 pub enum Ending {
     /// It wasn't driven yet.
     NotDriven,
@@ -32,7 +32,7 @@ pub enum Ending {
 }
 
 /// How many turns a processor makes at most in a drive, each 0 to 4294967295.
-#[derive(Clone, Copy, Debug, PartialEq, Eq)]
+#[derive(Clone, Copy, PartialEq, Eq)]
 pub struct Limits {
     /// The most turns that poll a thread.
     pub turns: u32,
@@ -42,7 +42,7 @@ pub struct Limits {
 
 /// What the gate has said to a processor. It is made with the processor, and only the beginning of a drive and the gate's answers
 /// change it.
-#[derive(Debug, Drop)]
+#[derive(Drop)]
 pub struct Said {
     // How many drives have begun, modulo 2^64.
     drives: u64,

@@ -16,7 +16,7 @@ pub trait Gate {
 }
 
 /// Lets every processor go on.
-#[derive(Clone, Copy, Debug)]
+#[derive(Clone, Copy)]
 pub struct OpenGate;
 
 impl Gate for OpenGate {

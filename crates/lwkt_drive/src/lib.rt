@@ -11,14 +11,26 @@
 
 mod appends;
 mod boards;
+mod chains;
 pub mod driven;
 mod drives;
+mod event_lists;
 mod gates;
+mod gives;
 pub mod laws;
+mod packed;
+mod rooms;
+mod short_events;
 mod slices;
+mod stretches;
 mod turns;
 mod watches;
+mod wide_events;
 
+pub use chains::are_chains;
 pub use driven::{Driven, Ending, Limits, Said};
 pub use drives::{drive_all, drive_on_threads};
+pub use event_lists::EventList;
 pub use gates::{Gate, OpenGate};
+pub use gives::{Give, give_of};
+pub use stretches::{Stretch, Stretches};

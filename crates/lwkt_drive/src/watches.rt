@@ -11,7 +11,7 @@ const LONGEST_PAUSE: u32 = 512;
 const WAITS: u32 = 64;
 
 /// What a turn has left: how many turns ran a thread, how many events there are, and how far the processor has come.
-#[derive(Clone, Copy, Debug, PartialEq, Eq)]
+#[derive(Clone, Copy, PartialEq, Eq)]
 pub(crate) struct Sight {
     pub(crate) ran: u64,
     pub(crate) events: usize,

@@ -2,7 +2,7 @@
 ghost use Rattle.std.specs.Prelude.{◌≡◌, IfOk, sum, slice_index_or, []};
 
 use lwkt_base::{Answer, Ask, Fault, OutOfMemory, TokId};
-use lwkt_program::{Closed, LIMITS, Machine, Stepper, Steps, makers};
+use lwkt_machine::{Closed, LIMITS, Machine, Stepper, Steps, makers};
 use std::alloc::Global;
 use std::thread::Threads;
 

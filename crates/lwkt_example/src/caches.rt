@@ -3,7 +3,7 @@ ghost use Rattle.std.specs.Prelude.{◌≡◌, ◌+◌, All, IfOk};
 
 use crate::parties::{Party, SHARED};
 use lwkt_base::{Fault, OutOfMemory};
-use lwkt_program::{Closed, LIMITS, Machine, Stepper, makers};
+use lwkt_machine::{Closed, LIMITS, Machine, Stepper, makers};
 use std::alloc::Global;
 use std::thread::Threads;
 

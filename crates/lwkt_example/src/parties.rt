@@ -2,7 +2,7 @@
 ghost use Rattle.std.specs.Prelude.{◌≡◌, ◌+◌};
 
 use lwkt_base::{Answer, Ask, Fault, TokId};
-use lwkt_program::Steps;
+use lwkt_machine::Steps;
 
 /// The shared value: its version, and the value itself.
 pub const SHARED: TokId = TokId(0);

@@ -15,7 +15,7 @@ use Rattle.lwkt_base.specs.declared.threads.ThreadState.TheVariants as states
 use Rattle.lwkt_base.specs.Fault.{number_of}
 use Rattle.lwkt_base.specs.Threads.{has_ended}
 use Rattle.lwkt_report.specs.declared.closings.Closing.{Closing}
-use Rattle.lwkt_report.specs.declared.closings.ThreadLine.{ThreadLine}
+use Rattle.lwkt_base.specs.declared.threads.ThreadLine.{ThreadLine}
 use Rattle.lwkt_text.specs.declared.claims.Claim.{Claim}
 use Rattle.lwkt_text.specs.declared.claims.Claim.TheVariants as claims
 use Rattle.lwkt_text.specs.declared.claims.Relation.{Relation}

@@ -4,7 +4,7 @@ use crate::touches::{cpu_bit, has};
 
 /// Sets of processors, the smallest first, then the empty ones; each is such that no turn of another processor, whenever it is made,
 /// disturbs the next turn of one in it. Together they have every processor but those whose turn changes nothing.
-#[derive(Clone, Copy, Debug, PartialEq, Eq)]
+#[derive(Clone, Copy, PartialEq, Eq)]
 pub(crate) struct Choice {
     /// The sets, each processor as a bit.
     pub sets: [u8; 8],

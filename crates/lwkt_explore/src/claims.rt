@@ -5,12 +5,13 @@ ghost use Rattle.lwkt_explore.specs.Claims.{is_standing, is_place, has_faulted, 
 
 use crate::readings::sum_of;
 use lwkt_base::blobs::same_bytes;
-use lwkt_base::{Call, Entry, MsgId, MsgState, Owner, ThreadId, ThreadState};
-use lwkt_report::{Closing, ThreadLine};
+use lwkt_base::limits::LOG_LIMIT;
+use lwkt_base::{Call, Entry, MsgId, MsgState, Owner, ThreadId, ThreadLine, ThreadState};
+use lwkt_report::Closing;
 use lwkt_text::claims::{Claim, Relation, Standing};
 
 /// Whether something is so, as far as a report tells.
-#[derive(Clone, Copy, Debug, PartialEq, Eq)]
+#[derive(Clone, Copy, PartialEq, Eq)]
 pub enum Truth {
     /// It is so.
     Yes,
@@ -19,9 +20,6 @@ pub enum Truth {
     /// The report doesn't tell: a log that is full doesn't show an entry, and may lack later ones.
     Open,
 }
-
-// The most entries of a log; later ones aren't kept.
-const LOG_LIMIT: usize = 32;
 
 // Whether a thread stands so.
 fn is_standing(standing: Standing, state: ThreadState) -> bool

@@ -2,11 +2,11 @@
 use crate::mails::Mails;
 use crate::touches::{NOTHING, Touch, disturb, has, listed, touched_by, touched_by_all};
 use lwkt_base::{Ask, ThreadState};
-use lwkt_machine::Machine;
+use lwkt_machine::{Machine, ScriptBody};
 use lwkt_script::{Script, ThreadSpec};
 
 /// What a processor may touch.
-#[derive(Clone, Copy, Debug, PartialEq, Eq)]
+#[derive(Clone, Copy, PartialEq, Eq)]
 pub(crate) struct Doing {
     // in its next turn
     next: Touch,
@@ -104,7 +104,13 @@ impl Doing {
     }
 
     // Notes a thread that has made so many polls.
-    fn note_thread(&mut self, machine: &Machine, cpu: usize, place: usize, spec: &ThreadSpec) {
+    fn note_thread(
+        &mut self,
+        machine: &Machine<ScriptBody>,
+        cpu: usize,
+        place: usize,
+        spec: &ThreadSpec,
+    ) {
         let (Some(status), Some(body)) = (machine.thread(cpu, place), machine.body(cpu, place))
         else {
             return;
@@ -158,7 +164,7 @@ impl Doings {
     }
 
     /// What the threads of a machine's processors may touch, their messages that are away left out.
-    pub(crate) fn of_threads(script: &Script, machine: &Machine) -> Doings {
+    pub(crate) fn of_threads(script: &Script, machine: &Machine<ScriptBody>) -> Doings {
         let mut doings = Doings::none();
         let mut counts = [0usize; 8];
         for spec in script.threads.as_slice() {
@@ -184,7 +190,12 @@ impl Doings {
     }
 
     // Notes the next thread of a script.
-    fn note_thread(&mut self, machine: &Machine, spec: &ThreadSpec, counts: &mut [usize; 8]) {
+    fn note_thread(
+        &mut self,
+        machine: &Machine<ScriptBody>,
+        spec: &ThreadSpec,
+        counts: &mut [usize; 8],
+    ) {
         let cpu = usize::from(spec.cpu.0);
         let (Some(doing), Some(count)) = (self.all.get_mut(cpu), counts.get_mut(cpu)) else {
             return;

@@ -3,7 +3,7 @@ ghost use Rattle.std.specs.Prelude.{◌≡◌};
 ghost use Rattle.lwkt_explore.specs.Extents.{extent_of};
 
 /// What ends a search before every order is tried.
-#[derive(Clone, Copy, Debug, PartialEq, Eq)]
+#[derive(Clone, Copy, PartialEq, Eq)]
 pub enum Bound {
     /// As many states were kept as may be, and a turn led to a further one.
     States,
@@ -16,7 +16,7 @@ pub enum Bound {
 }
 
 /// Whether every order was tried, and if not, what ended the search.
-#[derive(Clone, Copy, Debug, PartialEq, Eq)]
+#[derive(Clone, Copy, PartialEq, Eq)]
 pub enum Extent {
     /// Every order was tried.
     Complete,

@@ -9,7 +9,7 @@ use lwkt_report::{Closing, Verdict};
 use lwkt_text::claims::Expectation;
 
 /// What a run came to, by its outcome and by what the text of its script says of that.
-#[derive(Clone, Copy, Debug, PartialEq, Eq)]
+#[derive(Clone, Copy, PartialEq, Eq)]
 pub enum Judgement {
     /// All that is said of the outcome is so; of a script of which nothing is said every thread has ended.
     Met,

@@ -6,7 +6,7 @@ use lwkt_script::Script;
 use std::alloc::Global;
 
 /// A message of a script.
-#[derive(Clone, Copy, Debug, PartialEq, Eq)]
+#[derive(Clone, Copy, PartialEq, Eq)]
 struct Mail {
     /// The processor that it is of, and those that a step sends it to.
     parties: u8,

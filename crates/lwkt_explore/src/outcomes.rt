@@ -12,12 +12,12 @@ use lwkt_base::memory::{from_slice, push, reserve};
 use lwkt_base::{Fault, OutOfMemory};
 use lwkt_report::{Closing, Verdict, report_front};
 use lwkt_run::{End, TurnsRun, end_told, order_run_of};
-use lwkt_scenes::{Reel, whys_of};
 use lwkt_script::Script;
+use lwkt_show::{Reel, whys_of};
 use std::alloc::Global;
 
 /// How a run along an order stood when it stopped.
-#[derive(Clone, Copy, Debug, PartialEq, Eq)]
+#[derive(Clone, Copy, PartialEq, Eq)]
 pub enum Kind {
     /// Every thread has ended. A turn may still change something: messages may be under way.
     Ended,
@@ -28,7 +28,7 @@ pub enum Kind {
 }
 
 /// How the state stands that an order leads to.
-#[derive(Clone, Copy, Debug, PartialEq, Eq)]
+#[derive(Clone, Copy, PartialEq, Eq)]
 pub(crate) enum Stand {
     /// No turn changes anything.
     Quiet,

@@ -11,7 +11,7 @@ use std::alloc::Global;
 
 /// Which parts a state of a script has: its tokens, its messages as the model has them, its processors, and its messages as the
 /// book has them.
-#[derive(Clone, Copy, Debug, PartialEq, Eq)]
+#[derive(Clone, Copy, PartialEq, Eq)]
 pub(crate) struct Layout {
     tokens: usize,
     messages: usize,

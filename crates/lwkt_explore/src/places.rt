@@ -9,7 +9,7 @@ use crate::states::{add_state, away};
 use lwkt_base::memory::{push, with_capacity};
 use lwkt_base::{Fault, MsgId, OutOfMemory, Owner};
 use lwkt_core::{Event, Message, State};
-use lwkt_machine::{Machine, Sent, Turned};
+use lwkt_machine::{Machine, ScriptBody, Sent, Turned};
 use lwkt_script::Script;
 use std::alloc::Global;
 
@@ -25,7 +25,7 @@ const ROOM: usize = 256;
 /// A machine, and the state of the model that its events led to.
 #[derive(Drop)]
 pub(crate) struct Place {
-    machine: Machine,
+    machine: Machine<ScriptBody>,
     state: State,
     /// Whether each of its events could happen.
     pub is_lawful: bool,
@@ -72,7 +72,7 @@ fn step_all(state: &mut State, trace: &[Event]) -> bool {
 }
 
 // Whether every thread of a processor has ended; so of one that isn't there.
-fn have_ended(machine: &Machine, cpu: usize) -> bool {
+fn have_ended(machine: &Machine<ScriptBody>, cpu: usize) -> bool {
     for thread in 0..THREADS {
         match machine.thread(cpu, thread) {
             Some(status) if status.state.has_ended() => {}
@@ -90,7 +90,7 @@ impl Place {
         ensures within { OnOk result (AreWithin script.now.cpus script.now.tokens script.now.messages) }
         ensures refused { IfErr result (λ fault. DeclinesRun script.now fault) }
     {
-        let machine = Machine::open(alloc, script)?;
+        let machine = Machine::open_script(alloc, script)?;
         let state = State::open(
             alloc,
             script.tokens.as_slice(),
@@ -110,7 +110,7 @@ impl Place {
         ensures as_many { length self.new.machine.cpus ≡ length self.old.machine.cpus }
     {
         trace.clear();
-        let turned = self.machine.turn(cpu, trace)?;
+        let turned = self.machine.turn_into(cpu, trace)?;
         if !step_all(&mut self.state, trace.as_slice()) {
             self.is_lawful = false;
         }

@@ -14,7 +14,7 @@ use lwkt_script::Script;
 use std::alloc::Global;
 
 /// Numbers that look random, the same for a seed on every machine: Steele, Lea and Flood's SplitMix64.
-#[derive(Clone, Copy, Debug, PartialEq, Eq)]
+#[derive(Clone, Copy, PartialEq, Eq)]
 pub(crate) struct Dice {
     state: u64,
 }
@@ -44,7 +44,7 @@ impl Dice {
 }
 
 /// What an order keeps to.
-#[derive(Clone, Copy, Debug, PartialEq, Eq)]
+#[derive(Clone, Copy, PartialEq, Eq)]
 pub(crate) enum Course {
     /// The rounds of a run.
     Rounds,

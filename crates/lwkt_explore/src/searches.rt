@@ -16,7 +16,7 @@ use lwkt_script::Script;
 use std::alloc::Global;
 
 /// What a search may take. If a bound is met, not every order is tried.
-#[derive(Clone, Copy, Debug, PartialEq, Eq)]
+#[derive(Clone, Copy, PartialEq, Eq)]
 pub struct Bounds {
     /// The most states that are kept; the opening is kept in any case. It doesn't bound random orders.
     pub states: usize,
@@ -25,7 +25,7 @@ pub struct Bounds {
 }
 
 /// How a search goes on from a state.
-#[derive(Clone, Copy, Debug, PartialEq, Eq)]
+#[derive(Clone, Copy, PartialEq, Eq)]
 pub enum Method {
     /// By the turn of each processor.
     Plain,
@@ -35,7 +35,7 @@ pub enum Method {
 }
 
 /// What was tried.
-#[derive(Clone, Copy, Debug, PartialEq, Eq)]
+#[derive(Clone, Copy, PartialEq, Eq)]
 pub enum Tried {
     /// The orders of a search that kept so many states.
     States(usize),

@@ -4,7 +4,7 @@ use lwkt_base::steps::step_of;
 use lwkt_base::{Ask, Part, Ref};
 
 /// Tokens, messages and processors, each as a bit.
-#[derive(Clone, Copy, Debug, PartialEq, Eq)]
+#[derive(Clone, Copy, PartialEq, Eq)]
 pub(crate) struct Touch {
     /// The tokens, 0 to 63.
     pub tokens: u64,

@@ -63,7 +63,7 @@ fn keep_memory(alloc: Global) {
 }
 
 /// Where the turns from a state lead.
-#[derive(Clone, Copy, Debug, PartialEq, Eq)]
+#[derive(Clone, Copy, PartialEq, Eq)]
 pub(crate) enum Leads {
     /// No turn changes anything.
     Nowhere,

@@ -1,7 +1,7 @@
 //! Who looks on at a search.
 
 /// How far a search is.
-#[derive(Clone, Copy, Debug, PartialEq, Eq)]
+#[derive(Clone, Copy, PartialEq, Eq)]
 pub struct Seen {
     /// How many states were kept so far, or how many random orders were made.
     pub states: usize,
@@ -18,7 +18,7 @@ pub trait Watch {
 }
 
 /// Nobody looks on: every search goes on.
-#[derive(Clone, Copy, Debug, PartialEq, Eq)]
+#[derive(Clone, Copy, PartialEq, Eq)]
 pub struct Unwatched;
 
 impl Watch for Unwatched {

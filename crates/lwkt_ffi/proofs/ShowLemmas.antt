@@ -1,8 +1,8 @@
 use Rattle.std.proofs.Common.{◌≡◌, ◌⊎◌, ℕ, List, [], ◌∷◌, codes, Option, Result, Ok, Err, inl, refl, ap, sym, subst, ◌∙◌, ⊎_elim, get_or, arith}
 use Rattle.lwkt_base.specs.declared.faults.Fault.{Fault}
 use Rattle.lwkt_base.specs.Fault.{no_memory}
-use Rattle.lwkt_scenes.specs.declared.reels.Counted.{Counted}
-use Rattle.lwkt_scenes.specs.declared.reels.Counted.TheVariants.{Turns, Rounds}
+use Rattle.lwkt_show.specs.declared.options.Counted.{Counted}
+use Rattle.lwkt_show.specs.declared.options.Counted.TheVariants.{Turns, Rounds}
 use Rattle.lwkt_show.specs.declared.options.Options.{Options}
 use Rattle.lwkt_show.specs.declared.options.View.{View}
 use Rattle.lwkt_show.specs.declared.options.View.TheVariants.{Lines, Trace, Picture, Chains}

@@ -1,7 +1,7 @@
 -- Arguments that name an order of turns (own).
 use Rattle.std.specs.Prelude.{◌≡◌, ◌≤◌, Bool, true, false, ℕ, ◌-◌, nat_le, ◌==◌, ◌&&◌, ◌||◌, List, [], ◌∷◌, if◌then◌else◌, codes}
 use Rattle.std.specs.List.{list_all, flat_map}
-use Rattle.lwkt_scenes.specs.declared.reels.Counted.TheVariants.{Turns}
+use Rattle.lwkt_show.specs.declared.options.Counted.TheVariants.{Turns}
 use Rattle.lwkt_show.specs.declared.options.Options.{Options}
 use Rattle.lwkt_ffi.specs.Arguments.{Say, has_range, no_end}
 

@@ -2,8 +2,8 @@
 use Rattle.std.specs.Prelude.{◌≡◌, ◌⊎◌, Bool, true, false, ℕ, ◌<◌, ◌≤◌, ◌^◌, List, [], ◌∷◌, ◌==◌, codes}
 use Rattle.std.specs.List.{before_first, after_first}
 use Rattle.std.specs.Str.Parse.{digits_value, without_leading_plus, IsNumeral}
-use Rattle.lwkt_scenes.specs.declared.reels.Counted.{Counted}
-use Rattle.lwkt_scenes.specs.declared.reels.Counted.TheVariants.{Turns, Rounds}
+use Rattle.lwkt_show.specs.declared.options.Counted.{Counted}
+use Rattle.lwkt_show.specs.declared.options.Counted.TheVariants.{Turns, Rounds}
 use Rattle.lwkt_show.specs.declared.options.View.{View}
 use Rattle.lwkt_show.specs.declared.options.View.TheVariants.{Lines, Trace, Picture, Chains}
 use Rattle.lwkt_show.specs.declared.options.Options.{Options}

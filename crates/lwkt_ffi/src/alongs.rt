@@ -1,7 +1,7 @@
 //! Arguments that ask for a run along an order, shown.
 ghost use Rattle.std.specs.Prelude.{◌≡◌, ◌≤◌, ◌∷◌, ◌++◌, false, ℕ, List, IfOk, IfSome, IsSomeAnd, OnOk, codes, map, string_bytes};
 ghost use Rattle.std.specs.List.{list_all};
-ghost use Rattle.lwkt_scenes.specs.declared.reels.Counted.TheVariants.{Turns};
+ghost use Rattle.lwkt_show.specs.declared.options.Counted.TheVariants.{Turns};
 ghost use Rattle.lwkt_show.specs.declared.options.Options.{Options};
 ghost use Rattle.lwkt_ffi.specs.Arguments.{Say, has_range, no_end};
 ghost use Rattle.lwkt_ffi.specs.Alongs.{is_digit, is_part, turn_of_byte, turns_of, AreAlong};
@@ -9,8 +9,7 @@ ghost use Rattle.lwkt_ffi.specs.Alongs.{is_digit, is_part, turn_of_byte, turns_o
 use crate::arguments::read_options;
 use lwkt_base::OutOfMemory;
 use lwkt_base::memory::push;
-use lwkt_scenes::Counted;
-use lwkt_show::Options;
+use lwkt_show::{Counted, Options};
 use std::alloc::Global;
 
 /// An order of turns, and how the run along it is shown.

@@ -6,7 +6,7 @@ use lwkt_run::End;
 
 /// What came of a call, beside its status and its text.
 #[repr(C)]
-#[derive(Clone, Copy, Debug, PartialEq, Eq)]
+#[derive(Clone, Copy, PartialEq, Eq)]
 pub struct LwktAnswer {
     /// The length of the whole text.
     pub length: usize,

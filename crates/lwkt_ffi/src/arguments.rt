@@ -3,8 +3,7 @@ ghost use Rattle.std.specs.Prelude.{◌≡◌, ◌≢◌, ◌≤◌, ◌∷◌, 
 ghost use Rattle.std.specs.List.{before_first, after_first};
 ghost use Rattle.lwkt_ffi.specs.Arguments.{is_stop, IsBound, IsRange, no_end, IsView, range_word, has_range, Choose, Say, AreOptions};
 
-use lwkt_scenes::Counted;
-use lwkt_show::{Options, View};
+use lwkt_show::{Counted, Options, View};
 
 // All turns, or rounds, from one to another.
 #[derive(Clone, Copy)]

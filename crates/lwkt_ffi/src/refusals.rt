@@ -1,13 +1,13 @@
 //! Why a call makes nothing, in the words of the program of what it reads from standard input: of each cause
 //! `lwkt: standard input:LINE:COLUMN: WORDS`, the line with a mark under the place, a known word that is near, and what to try.
 
+use lwkt_base::limits::TRACE_BYTES;
 use lwkt_base::memory::put;
 use lwkt_base::{Fault, OutOfMemory};
 use lwkt_refusals::{say_of_file, say_opening, say_unread, say_untraced};
 use lwkt_report::{Page, READ_LIMIT, write_whole};
 use lwkt_script::read_script;
 use lwkt_text::{Input, Many, Unread, Wrong, is_text};
-use lwkt_trace::LENGTH_LIMIT;
 use std::alloc::Global;
 
 // What is said where memory was refused.
@@ -97,6 +97,6 @@ pub fn say_json(alloc: Global, page: &mut Page, script: &[u8], fault: Fault) {
 
 /// Says why a trace isn't judged: of its front that is read.
 pub fn say_trace(alloc: Global, page: &mut Page, trace: &[u8], fault: Fault) {
-    let read = &trace[..trace.len().min(LENGTH_LIMIT + 1)];
+    let read = &trace[..trace.len().min(TRACE_BYTES + 1)];
     say_untraced(alloc, page, None, read, fault);
 }

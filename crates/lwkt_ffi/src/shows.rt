@@ -27,7 +27,7 @@ use std::alloc::Global;
 const PAST: &str = "the range lies behind the end of the run";
 
 /// What came of a script that was to be shown.
-#[derive(Clone, Copy, Debug, PartialEq, Eq)]
+#[derive(Clone, Copy, PartialEq, Eq)]
 pub enum Showing {
     /// Its run is shown, and ended so.
     Shown(End),

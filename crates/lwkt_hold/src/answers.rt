@@ -1,7 +1,7 @@
 use lwkt_base::TokId;
 
 /// Why a reference was missed.
-#[derive(Clone, Copy, Debug, PartialEq, Eq)]
+#[derive(Clone, Copy, PartialEq, Eq)]
 pub enum Missed {
     /// The token is held in a way that excludes the request, or marked; the word that was found.
     Busy { word: u64 },
@@ -12,7 +12,7 @@ pub enum Missed {
 }
 
 /// What taking a whole list again answers.
-#[derive(Clone, Copy, Debug, PartialEq, Eq)]
+#[derive(Clone, Copy, PartialEq, Eq)]
 pub enum Resumed {
     /// Every reference of the list is held.
     All,
@@ -21,7 +21,7 @@ pub enum Resumed {
 }
 
 /// What asking for a reference answers.
-#[derive(Clone, Copy, Debug, PartialEq, Eq)]
+#[derive(Clone, Copy, PartialEq, Eq)]
 pub enum Acquired {
     /// The reference is held.
     Got,
@@ -30,7 +30,7 @@ pub enum Acquired {
 }
 
 /// What giving up every reference answers.
-#[derive(Clone, Copy, Debug, PartialEq, Eq)]
+#[derive(Clone, Copy, PartialEq, Eq)]
 pub enum Blocked {
     /// Nothing was restored.
     Clean,

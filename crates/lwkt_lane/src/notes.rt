@@ -1,7 +1,7 @@
 use lwkt_base::MsgId;
 
 /// What a note tells the port that it goes to.
-#[derive(Clone, Copy, Debug, Default, PartialEq, Eq)]
+#[derive(Clone, Copy, Default, PartialEq, Eq)]
 pub enum NoteKind {
     /// The message was sent to the port, and waits to be taken.
     #[default]
@@ -11,7 +11,7 @@ pub enum NoteKind {
 }
 
 /// What a lane carries: that something is to be done with a message. The message's record doesn't travel with it.
-#[derive(Clone, Copy, Debug, Default, PartialEq, Eq)]
+#[derive(Clone, Copy, Default, PartialEq, Eq)]
 pub struct Note {
     /// The round of the message when the note was made, 0 to 2251799813685247.
     pub round: u64,

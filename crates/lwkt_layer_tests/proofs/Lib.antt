@@ -1,2 +1,1 @@
-mod DeskMoves
-pub mod HeldListMoves
+mod Opened

@@ -1,19 +1,12 @@
-//! The message book: the worked rows as a table of calls, and two threads.
-ghost use Rattle.std.specs.Prelude.{◌≡◌, ◌≤◌, IfSome, IfOk, [], ◌∷◌};
+//! The message book: the worked rows as tables of calls.
+ghost use Rattle.std.specs.Prelude.{◌≡◌, IfSome, IfOk, [], ◌∷◌};
 ghost use Rattle.lwkt_msg.specs.Desks.{AreSeats};
 
-use crate::fixtures::goes;
-use crate::stations::{NO_FLAGS, OWN};
+use crate::fixtures::{NO_FLAGS, OWN, is_right};
 use lwkt_base::memory::push;
 use lwkt_base::{Call, CpuId, Fault, MsgEnd, MsgId, MsgSpec, OutOfMemory, Owner, Rec, ThreadId};
 use lwkt_msg::{MsgBook, MsgSeat, Reaped, Taken};
 use std::alloc::Global;
-use std::thread;
-use std::thread::Threads;
-
-const TRIES: u32 = 100_000_000;
-
-const ROUNDS: u64 = 1000;
 
 const LAST_ROUND: u64 = 2_251_799_813_685_247;
 
@@ -177,16 +170,6 @@ const STALE: Told = Told::Taken(Taken::Stale);
 
 const NOT_OWNER: Told = Told::Refused(Fault::NotOwner);
 
-// The record of a message with this argument, as it is sent, and as it is replied to.
-const fn record(arg: u64, error: u32, outcome: u64) -> Rec {
-    Rec {
-        arg,
-        result: outcome,
-        op: 5,
-        error,
-    }
-}
-
 const TAKEN: Told = Told::Taken(Taken::Took {
     rec: Rec {
         arg: 9,
@@ -226,7 +209,8 @@ fn basics_1_to_4(alloc: Global) -> Result<bool, Fault> {
 
 #[test]
 fn book_basics_1_to_4(rt: HostRuntime) {
-    assert!(rt; goes(rt.alloc(), basics_1_to_4));
+    let alloc = rt.alloc();
+    assert!(rt; is_right(basics_1_to_4(alloc), basics_1_to_4(alloc)));
 }
 
 const BASICS_6: &[Line] = &[Line(
@@ -251,115 +235,6 @@ fn basics_6(alloc: Global) -> Result<bool, Fault> {
 
 #[test]
 fn book_basics_6(rt: HostRuntime) {
-    assert!(rt; goes(rt.alloc(), basics_6));
-}
-
-// The record of the message's reply in this round, once it is back.
-fn reply_of(book: &MsgBook, seat: &mut MsgSeat, round: u64) -> Option<Rec>
-    requires { seat.old.table ≡ book.now.table }
-    ensures { seat.new.table ≡ seat.old.table }
-{
-    for _ in 0..TRIES {
-        if let Told::Reaped(Reaped::Done { rec }) = call(book, seat, Ask::Reap(round)) {
-            return Some(rec);
-        }
-        thread::yield_now();
-    }
-    None
-}
-
-// The record of the message of this round, once it is taken.
-fn request_of(book: &MsgBook, seat: &mut MsgSeat, round: u64) -> Option<Rec>
-    requires { seat.old.table ≡ book.now.table }
-    ensures { seat.new.table ≡ seat.old.table }
-{
-    for _ in 0..TRIES {
-        if let Told::Taken(Taken::Took { rec, .. }) = call(book, seat, Ask::Take(round)) {
-            return Some(rec);
-        }
-        thread::yield_now();
-    }
-    None
-}
-
-// Sends the message and reaps its reply. Whether both were as they must be.
-fn converse_once(book: &MsgBook, seat: &mut MsgSeat, round: u64) -> bool
-    requires table { seat.old.table ≡ book.now.table }
-    requires small { round ≤ ROUNDS }
-    ensures { seat.new.table ≡ seat.old.table }
-{
-    let asked = Call { arg: round, op: 5 };
-    let sent = call(book, seat, Ask::Send(MESSAGE, CpuId(1), asked));
-    sent == Told::Sent(round) && reply_of(book, seat, round) == Some(record(round, 0, round + 1))
-}
-
-// Asks so often, and says how often all was as it must be.
-fn ask_all(book: &MsgBook, mut seat: MsgSeat) -> (MsgSeat, u64)
-    requires { seat.table ≡ book.now.table }
-    ensures { result.0.table ≡ seat.table }
-{
-    let mut good = 0;
-    for round in 1..ROUNDS + 1 {
-        if !converse_once(book, &mut seat, round) {
-            break;
-        }
-        good = round;
-    }
-    (seat, good)
-}
-
-// Takes the message and replies to it. Whether both were as they must be.
-fn serve(book: &MsgBook, seat: &mut MsgSeat, round: u64) -> bool
-    requires table { seat.old.table ≡ book.now.table }
-    requires small { round ≤ ROUNDS }
-    ensures { seat.new.table ≡ seat.old.table }
-{
-    let request = request_of(book, seat, round);
-    let replied = call(book, seat, Ask::Reply(0, round + 1));
-    request == Some(record(round, 0, 0)) && replied == Told::Replied
-}
-
-// Serves so often, and says how often all was as it must be.
-fn serve_all(book: &MsgBook, mut seat: MsgSeat) -> (MsgSeat, u64)
-    requires { seat.table ≡ book.now.table }
-    ensures { result.0.table ≡ seat.table }
-{
-    let mut good = 0;
-    for round in 1..ROUNDS + 1 {
-        if !serve(book, &mut seat, round) {
-            break;
-        }
-        good = round;
-    }
-    (seat, good)
-}
-
-// The seats after two threads, of which one asks and one serves, and how often each found all as it must be.
-fn converse<R: Threads + Sync>(
-    rt: &R,
-    book: &MsgBook,
-    first: MsgSeat,
-    second: MsgSeat,
-) -> ((MsgSeat, u64), (MsgSeat, u64))
-    requires first { first.table ≡ book.now.table }
-    requires second { second.table ≡ book.now.table }
-    ensures first { result.0.0.table ≡ book.now.table }
-    ensures second { result.1.0.table ≡ book.now.table }
-{
-    thread::join(rt, || ask_all(book, first), || serve_all(book, second))
-}
-
-fn have_conversed<R: Threads + Sync>(rt: &R, alloc: Global) -> Result<bool, Fault> {
-    let (book, seats) = opened(alloc, OWN)?;
-    let Some((first, second)) = both(seats, &book) else {
-        return Ok(false);
-    };
-    let ((first, asked), (second, served)) = converse(rt, &book, first, second);
-    let all = asked == ROUNDS && served == ROUNDS;
-    Ok(ends_at(alloc, book, first, second, ROUNDS)? && all)
-}
-
-#[test]
-fn book_basics_9(rt: HostRuntime) {
-    assert!(rt; have_conversed(&rt, rt.alloc()) == Ok(true));
+    let alloc = rt.alloc();
+    assert!(rt; is_right(basics_6(alloc), basics_6(alloc)));
 }

@@ -1,9 +1,9 @@
 //! The checkers of traces and of written sections on worked rows, and events that name what isn't there.
 
-use crate::fixtures::{PLAIN, cells, goes, tokens};
+use crate::fixtures::{OWN, is_right, token};
 use lwkt_base::memory::{from_slice, push};
 use lwkt_base::{
-    CpuId, Fault, MsgEnd, MsgId, MsgSpec, OutOfMemory, Owner, Row, Rows, Section, ThreadId, TokId,
+    Cells, CpuId, Fault, Law, MsgEnd, MsgId, OutOfMemory, Owner, Row, Rows, Section, TokId,
 };
 use lwkt_core::{Event, Final, State, check, check_sections};
 use std::alloc::Global;
@@ -16,37 +16,26 @@ const TOKEN: TokId = TokId(0);
 
 const MESSAGE: MsgId = MsgId(0);
 
-// A message of thread 0.0.
-const OWN: MsgSpec = MsgSpec {
-    round: 0,
-    origin: ThreadId {
-        cpu: FIRST,
-        thread: 0,
-    },
-};
-
 // Two processors, a token of one cell and a message of the first processor.
 fn opening(alloc: Global) -> Result<State, Fault> {
-    let specs = tokens(alloc, &[PLAIN])?;
-    State::open(alloc, &specs, &[OWN], 2)
+    State::open(alloc, &[token(alloc, Law::Any, 0, 0)?], &[OWN], 2)
+}
+
+// A list of one token's cells.
+fn one_row(alloc: Global, items: &[u64]) -> Result<Vec<Cells>, OutOfMemory> {
+    let mut rows = Vec::new(alloc);
+    push(&mut rows, Cells::from_vec(from_slice(alloc, items)?))?;
+    Ok(rows)
 }
 
 // The closing values of the token's cell and generation, and of the message.
 fn closing(alloc: Global, cell: u64, generation: u64, end: MsgEnd) -> Result<Final, OutOfMemory> {
-    let mut rows = Vec::new(alloc);
-    let mut tallies = Vec::new(alloc);
-    let mut blobs = Vec::new(alloc);
-    push(&mut rows, cells(alloc, &[cell])?)?;
-    push(&mut tallies, cells(alloc, &[])?)?;
-    push(&mut blobs, None)?;
-    let gens = from_slice(alloc, &[generation])?;
-    let messages = from_slice(alloc, &[end])?;
     Ok(Final {
-        rows,
-        gens,
-        tallies,
-        blobs,
-        messages,
+        rows: one_row(alloc, &[cell])?,
+        gens: from_slice(alloc, &[generation])?,
+        tallies: one_row(alloc, &[])?,
+        blobs: from_slice(alloc, &[None])?,
+        messages: from_slice(alloc, &[end])?,
     })
 }
 
@@ -119,7 +108,8 @@ fn verdicts(alloc: Global) -> Result<bool, Fault> {
 
 #[test]
 fn checker_verdicts(rt: HostRuntime) {
-    assert!(rt; goes(rt.alloc(), verdicts));
+    let alloc = rt.alloc();
+    assert!(rt; is_right(verdicts(alloc), verdicts(alloc)));
 }
 
 // The second processor takes the message of this round.
@@ -157,7 +147,8 @@ fn verdicts_on_messages(alloc: Global) -> Result<bool, Fault> {
 
 #[test]
 fn book_basics_7_and_8(rt: HostRuntime) {
-    assert!(rt; goes(rt.alloc(), verdicts_on_messages));
+    let alloc = rt.alloc();
+    assert!(rt; is_right(verdicts_on_messages(alloc), verdicts_on_messages(alloc)));
 }
 
 // Events that name a processor, a token, a cell and a message that aren't there.
@@ -203,7 +194,8 @@ fn are_all_refused(alloc: Global) -> Result<bool, Fault> {
 
 #[test]
 fn events_without_a_place(rt: HostRuntime) {
-    assert!(rt; goes(rt.alloc(), are_all_refused));
+    let alloc = rt.alloc();
+    assert!(rt; is_right(are_all_refused(alloc), are_all_refused(alloc)));
 }
 
 // The row of one token at this cell and generation.
@@ -239,5 +231,6 @@ fn chains(alloc: Global) -> Result<bool, Fault> {
 
 #[test]
 fn section_chains_1_to_4(rt: HostRuntime) {
-    assert!(rt; goes(rt.alloc(), chains));
+    let alloc = rt.alloc();
+    assert!(rt; is_right(chains(alloc), chains(alloc)));
 }

@@ -1,67 +1,71 @@
-//! What the rows share: how they are played, and tokens as they have them.
+//! What the rows share.
+ghost use Rattle.std.specs.Prelude.{◌≡◌, length, All, IfOk};
+ghost use Rattle.lwkt_base.specs.Holding.{holds_nothing};
+ghost use Rattle.lwkt_bank.specs.Closing.{IsReady};
+ghost use Rattle.lwkt_bank.specs.Seats.{id_of, cpus_of, holding};
 
-use lwkt_base::memory::{from_slice, push};
-use lwkt_base::{Blob, Cells, Fault, Law, OutOfMemory, TokSpec};
+use lwkt_bank::{Bank, CpuSeat};
+use lwkt_base::memory::from_slice;
+use lwkt_base::{Cells, CpuId, Fault, Flags, Law, MsgSpec, OutOfMemory, ThreadId, TokSpec};
+use lwkt_machine::{Closed, Machine, ScriptBody};
+use lwkt_script::read_script;
 use std::alloc::Global;
 
-/// Whether all goes as it is told. Where a call for memory was refused it is played once more.
-pub fn goes<F: Fn(Global) -> Result<bool, Fault>>(alloc: Global, play: F) -> bool
-    requires { F.IsAlwaysCallable play }
-{
-    match play(alloc) {
-        Err(Fault::Memory(_)) => play(alloc) == Ok(true),
-        other => other == Ok(true),
-    }
-}
+/// A message of thread 0.0.
+pub const OWN: MsgSpec = MsgSpec {
+    round: 0,
+    origin: ThreadId {
+        cpu: CpuId(0),
+        thread: 0,
+    },
+};
 
-/// A token as it is opened: its law, parameter, generation and cells.
-#[derive(Clone, Copy)]
-pub struct Opened(pub Law, pub u64, pub u64, pub &'static [u64]);
+/// Leave for nothing.
+pub const NO_FLAGS: Flags = Flags {
+    dropable: false,
+    abortable: false,
+    priority: false,
+};
 
-/// A token of one cell under no law.
-pub const PLAIN: Opened = Opened(Law::Any, 0, 0, &[0]);
-
-/// A token of one tally.
-pub const TALLY: Opened = Opened(Law::Tally, 0, 0, &[0]);
-
-/// Two cells whose sum is 10.
-pub const SUM: Opened = Opened(Law::Sum, 10, 0, &[5, 5]);
-
-/// Cells of these values.
-pub fn cells(alloc: Global, items: &[u64]) -> Result<Cells, OutOfMemory> {
-    Ok(Cells::from_vec(from_slice(alloc, items)?))
-}
-
-fn token(alloc: Global, opened: &Opened) -> Result<TokSpec, OutOfMemory> {
+/// A token of one cell.
+pub fn token(alloc: Global, law: Law, param: u64, cell: u64) -> Result<TokSpec, OutOfMemory> {
+    let cells = Cells::from_vec(from_slice(alloc, &[cell])?);
     Ok(TokSpec {
-        cells: cells(alloc, opened.3)?,
-        law: opened.0,
-        param: opened.1,
-        generation: opened.2,
+        cells,
+        law,
+        param,
+        generation: 0,
         blob: None,
     })
 }
 
-/// The tokens of an opening.
-pub fn tokens(alloc: Global, opening: &[Opened]) -> Result<Vec<TokSpec>, OutOfMemory> {
-    let mut specs = Vec::new(alloc);
-    for opened in opening {
-        push(&mut specs, token(alloc, opened)?)?;
-    }
-    Ok(specs)
+/// A bank of these tokens, with a seat for each of so many processors, which holds nothing and can be given back.
+pub fn open_bank(
+    alloc: Global,
+    specs: &[TokSpec],
+    cpus: usize,
+) -> Result<(Bank, Vec<CpuSeat>), Fault>
+    ensures ready { IfOk result (λ opened. All (IsReady (id_of opened.0)) opened.1.items) }
+    ensures empty { IfOk result (λ opened. All (λ seat. holding seat ≡ holds_nothing) opened.1.items) }
+    ensures all { IfOk result (λ opened. length opened.1.items ≡ cpus_of opened.0) }
+{
+    Bank::open(alloc, specs, cpus)
 }
 
-/// The record of these bytes, the first 255 if there are more.
-pub fn record(bytes: &[u8]) -> Blob {
-    if bytes.len() > 255 {
-        return Blob::of(&bytes[..255]);
+/// Whether all goes as it is told, or, where a call for memory was refused, does when it is made once more.
+pub fn is_right(first: Result<bool, Fault>, again: Result<bool, Fault>) -> bool {
+    match first {
+        Err(Fault::Memory(_)) => again == Ok(true),
+        other => other == Ok(true),
     }
-    Blob::of(bytes)
 }
 
-/// Gives a record to the first token of an opening.
-pub fn guard(specs: &mut [TokSpec], bytes: &[u8]) {
-    if let Some(spec) = specs.first_mut() {
-        spec.blob = Some(record(bytes));
+/// What the machine of a script leaves after turns of these processors, in this order.
+pub fn closed_by(alloc: Global, script: &[u8], order: &[u8]) -> Result<Closed<ScriptBody>, Fault> {
+    let script = read_script(alloc, script)?;
+    let mut machine = Machine::open_script(alloc, &script)?;
+    for cpu in order {
+        machine.turn(CpuId(*cpu))?;
     }
+    Ok(machine.close(alloc)?)
 }

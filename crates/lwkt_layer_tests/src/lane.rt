@@ -1,7 +1,7 @@
 //! Lanes: the worked row, what no clause says of a pop, and a million notes between two threads.
 ghost use Rattle.lwkt_lane.specs.Lane.{IsLane};
 
-use crate::fixtures::goes;
+use crate::fixtures::is_right;
 use lwkt_base::{Fault, MsgId};
 use lwkt_lane::{LaneIn, LaneOut, Note, NoteKind, lane, settle};
 use std::alloc::Global;
@@ -106,7 +106,8 @@ fn in_hand(alloc: Global) -> Result<bool, Fault> {
 
 #[test]
 fn lane_in_hand(rt: HostRuntime) {
-    assert!(rt; goes(rt.alloc(), in_hand));
+    let alloc = rt.alloc();
+    assert!(rt; is_right(in_hand(alloc), in_hand(alloc)));
 }
 
 // A note goes into the queue at once if that has room, also where a note in hand goes first.
@@ -135,7 +136,8 @@ fn at_once(alloc: Global) -> Result<bool, Fault> {
 
 #[test]
 fn a_note_with_room_is_not_kept_in_hand(rt: HostRuntime) {
-    assert!(rt; goes(rt.alloc(), at_once));
+    let alloc = rt.alloc();
+    assert!(rt; is_right(at_once(alloc), at_once(alloc)));
 }
 
 // How many of the notes 0, 1, .. were pushed, and whether the last of them left the sender's hand.

@@ -1,5 +1,6 @@
-//! The layers below a machine: the worked rows of words, checkers, bank, holds, book, lanes, ports and processors, races between
-//! threads, and that each call which takes memory succeeds with ample memory. What a clause of a layer says isn't tried again.
+//! The layers below a machine: the worked rows of words, checkers, book and lanes, those of bank, holds, ports and processors that look
+//! at token words or go on where memory was refused, a lane between two threads, and that each call which takes memory succeeds with
+//! ample memory. What a clause of a layer says isn't tried again.
 //!
 //! Where a call for memory is refused a row is played once more, so each has to go as it is told with any one call refused, too:
 //! `bench/refused` tries this.
@@ -16,22 +17,14 @@ mod checks;
 #[cfg(test)]
 mod cpu;
 #[cfg(test)]
-mod desks;
-#[cfg(test)]
 mod fixtures;
 #[cfg(test)]
 mod hold;
 #[cfg(test)]
-mod holds;
-#[cfg(test)]
 mod lane;
 #[cfg(test)]
+mod parts;
+#[cfg(test)]
 mod port;
-#[cfg(test)]
-mod races;
-#[cfg(test)]
-mod scripts;
-#[cfg(test)]
-mod stations;
 #[cfg(test)]
 mod words;

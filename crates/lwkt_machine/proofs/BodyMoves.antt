@@ -12,7 +12,7 @@ use Rattle.lwkt_base.specs.declared.asks.Ask.TheVariants.{Exit}
 use Rattle.lwkt_base.specs.declared.asks.Answer.{Answer}
 use Rattle.lwkt_base.specs.declared.asks.Answer.TheVariants.{Begin, Done}
 use Rattle.lwkt_base.specs.declared.entries.Entry.{Entry}
-use Rattle.lwkt_verdict.specs.Threads.{ask_in}
+use Rattle.lwkt_script.specs.Logs.{nth_ask}
 use Rattle.lwkt_machine.specs.Bodies.{Scripted, unpolled, entry_for, entry_told, logged, after_poll}
 use Rattle.lwkt_lane.proofs.PlaceMoves.{refilled_front}
 use Rattle.lwkt_machine.specs.Laws.{ArePolls, entries_made, AsksAreTheScripts, LogsAreFirstEntries}
@@ -23,7 +23,7 @@ is_counted repeat zero polls below = absurd (omega (arith, below, mul-zero repea
 is_counted repeat (suc n) polls below = (omega (arith, below), omega (arith, below), omega arith)
 
 -- the next ask is then the step of the number that is left over
-pub small_step : (steps : List Ask) (repeat polls step : ℕ) → polls < min (repeat * length steps) 18446744073709551615 → (0 < length steps → step ≡ polls % length steps) → (step < length steps) × (slice_get steps step ≡ Some (unwrap_or (ask_in repeat steps polls) Exit))
+pub small_step : (steps : List Ask) (repeat polls step : ℕ) → polls < min (repeat * length steps) 18446744073709551615 → (0 < length steps → step ≡ polls % length steps) → (step < length steps) × (slice_get steps step ≡ Some (unwrap_or (nth_ask repeat steps polls) Exit))
 small_step steps repeat polls step below at =
     let small = is_counted repeat (length steps) polls below in
     let rounds : polls / length steps < repeat = div_below polls (length steps) repeat small.2 small.1 in
@@ -47,19 +47,19 @@ ask_at_step (s ∷ steps) zero below = refl
 ask_at_step (s ∷ steps) (suc k) below = ask_at_step steps k (omega (arith, below))
 
 -- where the next ask of a body stands: without steps, after all of them, and before that
-pub next_without_steps : (asks : List Ask) (repeat count polls : ℕ) → length asks ≡ count + 1 → count ≡ 0 → slice_get (take count asks ++ Exit ∷ []) count ≡ Some (unwrap_or (ask_in repeat (take count asks) polls) Exit)
+pub next_without_steps : (asks : List Ask) (repeat count polls : ℕ) → length asks ≡ count + 1 → count ≡ 0 → slice_get (take count asks ++ Exit ∷ []) count ≡ Some (unwrap_or (nth_ask repeat (take count asks) polls) Exit)
 next_without_steps asks repeat count polls is none =
     let long = length_steps asks count is in
     let last = ask_at_end (take count asks) count (sym long) in
     grind (arith, nat_tests)
 
-pub next_at_end : (asks : List Ask) (repeat count polls : ℕ) → length asks ≡ count + 1 → 0 < count → repeat ≤ polls / count → slice_get (take count asks ++ Exit ∷ []) count ≡ Some (unwrap_or (ask_in repeat (take count asks) polls) Exit)
+pub next_at_end : (asks : List Ask) (repeat count polls : ℕ) → length asks ≡ count + 1 → 0 < count → repeat ≤ polls / count → slice_get (take count asks ++ Exit ∷ []) count ≡ Some (unwrap_or (nth_ask repeat (take count asks) polls) Exit)
 next_at_end asks repeat count polls is some done =
     let long = length_steps asks count is in
     let last = ask_at_end (take count asks) count (sym long) in
     grind (arith, nat_tests)
 
-pub next_at_step : (asks : List Ask) (repeat count polls : ℕ) → length asks ≡ count + 1 → 0 < count → polls / count < repeat → slice_get (take count asks ++ Exit ∷ []) (polls % count) ≡ Some (unwrap_or (ask_in repeat (take count asks) polls) Exit)
+pub next_at_step : (asks : List Ask) (repeat count polls : ℕ) → length asks ≡ count + 1 → 0 < count → polls / count < repeat → slice_get (take count asks ++ Exit ∷ []) (polls % count) ≡ Some (unwrap_or (nth_ask repeat (take count asks) polls) Exit)
 next_at_step asks repeat count polls is some more =
     let long = length_steps asks count is in
     let inside : polls % count < count = mod_below polls count some in
@@ -67,12 +67,12 @@ next_at_step asks repeat count polls is some more =
     let same = ask_at_step (take count asks) (polls % count) inside_steps in
     grind (arith, nat_tests, slice_get_cases)
 
-asks_from : (steps : List Ask) (repeat : ℕ) (polls : List (Answer × Ask)) (old b : Scripted) → old.steps ≡ steps → old.repeat ≡ repeat → old.polls + length polls ≤ 18446744073709551615 → ArePolls old polls b → (k : ℕ) (q : Answer × Ask) → slice_get polls k ≡ Some q → q.1 ≡ unwrap_or (ask_in repeat steps (old.polls + k)) Exit
+asks_from : (steps : List Ask) (repeat : ℕ) (polls : List (Answer × Ask)) (old b : Scripted) → old.steps ≡ steps → old.repeat ≡ repeat → old.polls + length polls ≤ 18446744073709551615 → ArePolls old polls b → (k : ℕ) (q : Answer × Ask) → slice_get polls k ≡ Some q → q.1 ≡ unwrap_or (nth_ask repeat steps (old.polls + k)) Exit
 asks_from steps repeat [] old b is many few are k q at = absurd (let e : ◌≡◌ {A = Option (Answer × Ask)} None (Some q) = at in cc)
 asks_from steps repeat (p ∷ polls) old b is many few are zero q at =
     let same : p ≡ q = cc in
     let z : old.polls ≡ old.polls + 0 = omega arith in
-    ap (λ (x : Answer × Ask). x.1) (sym same) ∙ are.1.0.0 ∙ ap (λ xs. unwrap_or (ask_in old.repeat xs old.polls) Exit) is ∙ ap (λ n. unwrap_or (ask_in n steps old.polls) Exit) many ∙ ap (λ n. unwrap_or (ask_in repeat steps n) Exit) z
+    ap (λ (x : Answer × Ask). x.1) (sym same) ∙ are.1.0.0 ∙ ap (λ xs. unwrap_or (nth_ask old.repeat xs old.polls) Exit) is ∙ ap (λ n. unwrap_or (nth_ask n steps old.polls) Exit) many ∙ ap (λ n. unwrap_or (nth_ask repeat steps n) Exit) z
 asks_from steps repeat (p ∷ polls) old b is many few are (suc k) q at =
     let mid = are.0 in
     let step : mid ≡ after_poll p.0 old = are.1.0.1 in
@@ -80,13 +80,13 @@ asks_from steps repeat (p ∷ polls) old b is many few are (suc k) q at =
     let small : min (old.polls + 1) 18446744073709551615 ≡ old.polls + 1 = grind (arith, nat_tests) in
     let n : mid.polls + k ≡ old.polls + suc k = omega (arith, counted, small) in
     asks_from steps repeat polls mid b (ap (λ (x : Scripted). x.steps) step ∙ is) (ap (λ (x : Scripted). x.repeat) step ∙ many) (omega (arith, few, counted, small)) are.1.1 k q at
-    ∙ ap (λ m. unwrap_or (ask_in repeat steps m) Exit) n
+    ∙ ap (λ m. unwrap_or (nth_ask repeat steps m) Exit) n
 
 pub asks_are : AsksAreTheScripts
 asks_are steps repeat polls b few are k q at =
     let z : 0 + k ≡ k = omega arith in
     let room : 0 + length polls ≤ 18446744073709551615 = omega (arith, few) in
-    asks_from steps repeat polls (unpolled steps repeat) b refl refl room are k q at ∙ ap (λ m. unwrap_or (ask_in repeat steps m) Exit) z
+    asks_from steps repeat polls (unpolled steps repeat) b refl refl room are k q at ∙ ap (λ m. unwrap_or (nth_ask repeat steps m) Exit) z
 
 take_all : {A : Type 0} (xs : List A) (n : ℕ) → length xs ≤ n → xs ≡ take n (xs ++ [])
 take_all {A = A} [] zero few = refl

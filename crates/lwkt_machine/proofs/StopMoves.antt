@@ -1,88 +1,136 @@
 -- Processors stop, one after another.
-use Rattle.std.proofs.Common.{◌≡◌, ℕ, zero, suc, ◌+◌, ◌<◌, List, [], ◌∷◌, length, set, get_or, refl, ap, sym, ◌∙◌, subst, inl, inr, arith, Some, Result, Ok, Err}
-use Rattle.std.specs.Prelude.{All, OnErr, slice_get}
+use Rattle.std.proofs.Common.{◌≡◌, ◌∙◌, ℕ, ◌+◌, ◌<◌, ◌≤◌, List, length, get_or, set, refl, sym, subst, inl, inr, arith, Some, Result, Ok, Err}
+use Rattle.std.specs.Prelude.{All, OnErr, OnOk, Vec, slice_get}
+use Rattle.std.specs.declared.alloc.Global.{Global}
 use Rattle.std.proofs.lemmas.Bool.{cases_eq}
 use Rattle.std.proofs.lemmas.List.{length-set}
-use Rattle.std.proofs.lemmas.List.Elements.{All-get_or}
-use Rattle.std.proofs.lemmas.Option.{slice_get_within, get_or_from_slice_get}
-use Rattle.lwkt_bank.specs.Seats.{BankId}
-use Rattle.lwkt_msg.specs.Desks.{Shelf}
+use Rattle.std.proofs.lemmas.Option.{slice_get_within, slice_get-get_or}
+use Rattle.lwkt_lane.proofs.PlaceMoves.{get_set_same, get_set_other, get_there, some_same}
+use Rattle.lwkt_drive.specs.declared.driven.Driven.{Driven}
+use Rattle.lwkt_core.specs.declared.events.Event.{Event}
 use Rattle.lwkt_cpu.specs.Processors.{Processor, AllOver}
-use Rattle.lwkt_lane.proofs.PlaceMoves.{get_set_same, get_set_other, some_same}
-use Rattle.lwkt_cpu.proofs.SightMoves.{joined_stay}
-use Rattle.lwkt_cpu.proofs.WakeMoves.{post_none, post_then}
-use Rattle.lwkt_machine.specs.Bodies.{Scripted}
-use Rattle.lwkt_machine.specs.Machines.{IsOfMachine, AreOneMachine}
-use Rattle.lwkt_machine.specs.Ended.{IsSameCpu, AreSameCpus}
-use Rattle.lwkt_seating.proofs.ListMoves.{all_from_get}
+use Rattle.lwkt_drive.specs.Appending.{AppendsStop}
+use Rattle.lwkt_machine.specs.Machines.{processors}
+use Rattle.lwkt_machine.specs.Ended.{AreOver, AreSameCpus, AreStopped, EndsWith, HaveEnded, HaveStopped, IsSameCpu, IsStopped, IsStopRoom}
+use Rattle.lwkt_machine.proofs.DrivenMoves.{driven_at, long_processors, processor_at, processors_set}
+use Rattle.lwkt_machine.proofs.SameMoves.{same_set, same_self}
 
-pub same_none : (cpus : List (Processor Scripted)) → AreSameCpus cpus cpus
-same_none cpus = record { as_many = refl; each = λ k q at. (q, (at, record { bank = refl; table = refl; number = refl; ports = post_none q.post })) }
-
-same_then : (p q r : Processor Scripted) → IsSameCpu p q → IsSameCpu q r → IsSameCpu p r
-same_then p q r a b = record { bank = b.bank ∙ a.bank; table = b.table ∙ a.table; number = b.number ∙ a.number; ports = post_then p.post q.post r.post a.ports b.ports }
-
--- one of them is another, and still the same
-pub same_set : (olds mids : List (Processor Scripted)) (k : ℕ) (p q : Processor Scripted) → k < length mids → slice_get mids k ≡ Some p → IsSameCpu p q → AreSameCpus olds mids → AreSameCpus olds (set mids k q)
-same_set olds mids k p q within at same all = record {
-  as_many = length-set mids k q ∙ all.as_many;
-  each = λ j x is. elim (cases_eq j k) [
-    | inl here ↦
-        let F : ℕ → Type 0 = λ i. slice_get (set mids k q) i ≡ Some x in
-        let e : q ≡ x = some_same q x (Some q) refl (sym (get_set_same mids k q within) ∙ subst F here is) in
-        let old = all.each k p at in
-        let G : Processor Scripted → Type 0 = λ y. (o : Processor Scripted) × ((slice_get olds k ≡ Some o) × IsSameCpu o y) in
-        let H : ℕ → Type 0 = λ i. (o : Processor Scripted) × ((slice_get olds i ≡ Some o) × IsSameCpu o x) in
-        subst H (sym here) (subst G e (old.0, (old.1.0, same_then old.0 p q old.1.1 same)))
-    | inr apart ↦ all.each j x (sym (get_set_other mids k j q apart) ∙ is)
+-- the next one stops
+pub stopped_more : {B : Type 0} (olds mids : List (Driven B)) (at : ℕ) (p q : Driven B) → at < length mids → slice_get mids at ≡ Some p → IsStopped p q → HaveStopped at olds mids → HaveStopped (at + 1) olds (set mids at q)
+stopped_more {B} olds mids at p q within here stops so_far = record {
+  as_many = length-set mids at q ∙ so_far.as_many;
+  below = λ k x y less was is. elim (cases_eq k at) [
+    | inl same ↦
+        let F : ℕ → Type 0 = λ i. slice_get (set mids at q) i ≡ Some y in
+        let G : ℕ → Type 0 = λ i. slice_get olds i ≡ Some x in
+        let H : Driven B → Type 0 = λ z. IsStopped z y in
+        let K : Driven B → Type 0 = λ z. IsStopped p z in
+        let q_y : q ≡ y = some_same q y (Some q) refl (sym (get_set_same mids at q within) ∙ subst F same is) in
+        let p_x : p ≡ x = some_same p x (slice_get mids at) here (so_far.above at (omega arith) ∙ subst G same was) in
+        subst H p_x (subst K q_y stops)
+    | inr apart ↦ so_far.below k x y (omega (arith, less, apart)) was (sym (get_set_other mids at k q apart) ∙ is)
   ];
+  above = λ k more. get_set_other mids at k q (λ e. omega (arith, e, more)) ∙ so_far.above k (omega (arith, more));
 }
 
--- a processor that is still the same is of the bank and the book that it was of
-pub same_of : (bank : BankId) (book : Shelf) (olds news : List (Processor Scripted)) (k : ℕ) (q : Processor Scripted) → slice_get news k ≡ Some q → AreSameCpus olds news → All (IsOfMachine bank book) olds → IsOfMachine bank book q
-same_of bank book olds news k q at same all =
-    let x = same.each k q at in
-    let p = x.0 in
-    let within = slice_get_within olds k p x.1.0 in
-    let e : get_or olds k p ≡ p = get_or_from_slice_get olds k p p x.1.0 in
-    let of : IsOfMachine bank book p = subst (IsOfMachine bank book) e (All-get_or (IsOfMachine bank book) olds k p within all) in
-    record { bank_is = x.1.1.bank ∙ of.bank_is; table_is = x.1.1.table ∙ of.table_is }
-
--- the processors of a machine that are still the same make it whole
-pub parts_same : (seats : ℕ) (bank : BankId) (book : Shelf) (olds news : List (Processor Scripted)) → AreSameCpus olds news → AreOneMachine seats bank book olds → AreOneMachine seats bank book news
-parts_same seats bank book olds news same parts = record {
-  seats_are = parts.seats_are ∙ sym same.as_many;
-  mails_are = parts.mails_are ∙ sym same.as_many;
-  few = omega (arith, parts.few, same.as_many);
-  each = all_from_get (IsOfMachine bank book) news (λ k q at. same_of bank book olds news k q at same parts.each);
-  numbered = λ k q at.
-      let x = same.each k q at in
-      ap (λ (i : _). i.0) x.1.1.number ∙ parts.numbered k x.0 x.1.0;
-  joined = λ i j s p at_s at_p.
-      let x = same.each i s at_s in
-      let y = same.each j p at_p in
-      joined_stay x.0 s y.0 p x.1.1.number y.1.1.number x.1.1.ports y.1.1.ports (parts.joined i j x.0 y.0 x.1.0 y.1.0);
+-- none has stopped yet
+pub stopped_none : {B : Type 0} (olds : List (Driven B)) → HaveStopped 0 olds olds
+stopped_none olds = record {
+  as_many = refl;
+  below = λ k p q less was is. absurd (omega (arith, less));
+  above = λ k more. refl;
 }
 
-pub on_err : {T E : Type 0} (r : Result T E) (P : Type 0) → P → OnErr r P
-on_err (Ok x) P p = tt
-on_err (Err e) P p = p
+-- one that stops, or stays as it is, is still the same one
+pub stop_same : {B E : Type 0} (r : Result (Unit {0}) E) (old new : Driven B) → OnOk r (AppendsStop old.cpu new.cpu old.trace.items new.trace.items) → OnErr r ((new.cpu ≡ old.cpu) × (new.trace.items ≡ old.trace.items)) → IsSameCpu old.cpu new.cpu
+stop_same (Ok done) old new stops stays =
+    let d = stops.does in
+    record { bank = d.ran.bank; table = d.told.same.table; number = d.ran.cpu; ports = d.same }
+stop_same {B} (Err e) old new stops stays =
+    let F : Processor B → Type 0 = λ q. IsSameCpu old.cpu q in
+    subst F (sym stays.0) (same_self old.cpu)
 
-pub set_same : (cpus : List (Processor Scripted)) (k : ℕ) (p q : Processor Scripted) → slice_get cpus k ≡ Some p → q ≡ p → set cpus k q ≡ cpus
-set_same [] k p q at same = refl
-set_same (x ∷ cpus) zero p q at same = ap (λ y. y ∷ cpus) (same ∙ some_same p x (Some x) at refl)
-set_same (x ∷ cpus) (suc k) p q at same = ap (λ ys. x ∷ ys) (set_same cpus k p q at same)
+-- and so are all of which one is
+pub stopped_same : {B : Type 0} (olds mids : List (Driven B)) (at : ℕ) (p q : Driven B) → at < length mids → slice_get mids at ≡ Some p → IsSameCpu p.cpu q.cpu → AreSameCpus (processors olds) (processors mids) → AreSameCpus (processors olds) (processors (set mids at q))
+stopped_same {B} olds mids at p q within here same so_far =
+    let F : List (Processor B) → Type 0 = λ cpus. AreSameCpus (processors olds) cpus in
+    let there : at < length (processors mids) = omega (arith, within, long_processors mids) in
+    subst F (sym (processors_set mids at q)) (same_set (processors olds) (processors mids) at p.cpu q.cpu there (processor_at mids at p here) same so_far)
 
--- the processors below a number are over
-abbrev pub AreOverBelow : ℕ → List (Processor Scripted) → Type 0
-AreOverBelow n cpus = (k : ℕ) (p : Processor Scripted) → k < n → slice_get cpus k ≡ Some p → AllOver p.threads
+-- all have stopped
+pub stopped_all : {B : Type 0} (olds news : List (Driven B)) (count : ℕ) → count ≡ length olds → HaveStopped count olds news → AreStopped olds news
+stopped_all {B} olds news count all so_far =
+    let F : ℕ → Type 0 = λ n. HaveStopped n olds news in
+    subst F all so_far
 
-pub over_more : (cpus : List (Processor Scripted)) (at : ℕ) (q : Processor Scripted) → at < length cpus → AllOver q.threads → AreOverBelow at cpus → AreOverBelow (at + 1) (set cpus at q)
-over_more cpus at q within over below k x less is = elim (cases_eq k at) [
-  | inl here ↦
-      let F : ℕ → Type 0 = λ i. slice_get (set cpus at q) i ≡ Some x in
-      let e : q ≡ x = some_same q x (Some q) refl (sym (get_set_same cpus at q within) ∙ subst F here is) in
-      let G : Processor Scripted → Type 0 = λ y. AllOver y.threads in
-      subst G e over
-  | inr apart ↦ below k x (omega (arith, less, apart)) (sym (get_set_other cpus at k q apart) ∙ is)
-]
+-- every thread of those that have stopped has ended
+pub stopped_over : {B : Type 0} (olds news : List (Driven B)) → AreStopped olds news → AreOver (processors news)
+stopped_over {B} olds news stopped k p is =
+    let d = driven_at news k p is in
+    let within = slice_get_within news k d.0 d.1.0 in
+    let less : k < length olds = omega (arith, within, stopped.as_many) in
+    let was = get_there olds k less in
+    let F : Processor B → Type 0 = λ q. AllOver q.threads in
+    subst F d.1.1 (stopped.below k was.0 d.0 less was.1 d.1.0).stops.does.stops.over
+
+-- the next one stops, and its events are in its list
+pub ended_more : {B : Type 0} (olds mids : List (Driven B)) (stops : List (Vec Event Global)) (at : ℕ) (p q : Driven B) (stop : Vec Event Global) → at < length mids → at < length stops → slice_get mids at ≡ Some p → EndsWith p q stop → HaveEnded at olds mids stops → HaveEnded (at + 1) olds (set mids at q) (set stops at stop)
+ended_more {B} olds mids stops at p q stop within there here ends so_far = record {
+  as_many = length-set mids at q ∙ so_far.as_many;
+  stops_are = length-set stops at stop ∙ so_far.stops_are;
+  below = λ k x y v less was is told. elim (cases_eq k at) [
+    | inl same ↦
+        let F : ℕ → Type 0 = λ i. slice_get (set mids at q) i ≡ Some y in
+        let G : ℕ → Type 0 = λ i. slice_get olds i ≡ Some x in
+        let H : ℕ → Type 0 = λ i. slice_get (set stops at stop) i ≡ Some v in
+        let K : Driven B → Type 0 = λ z. EndsWith z y v in
+        let L : Driven B → Type 0 = λ z. EndsWith p z v in
+        let M : Vec Event Global → Type 0 = λ z. EndsWith p q z in
+        let q_y : q ≡ y = some_same q y (Some q) refl (sym (get_set_same mids at q within) ∙ subst F same is) in
+        let p_x : p ≡ x = some_same p x (slice_get mids at) here (so_far.above at (omega arith) ∙ subst G same was) in
+        let stop_v : stop ≡ v = some_same stop v (Some stop) refl (sym (get_set_same stops at stop there) ∙ subst H same told) in
+        subst K p_x (subst L q_y (subst M stop_v ends))
+    | inr apart ↦ so_far.below k x y v (omega (arith, less, apart)) was (sym (get_set_other mids at k q apart) ∙ is) (sym (get_set_other stops at k stop apart) ∙ told)
+  ];
+  above = λ k more. get_set_other mids at k q (λ e. omega (arith, e, more)) ∙ so_far.above k (omega (arith, more));
+}
+
+-- all have stopped
+pub ended_all : {B : Type 0} (olds news : List (Driven B)) (stops : List (Vec Event Global)) (count : ℕ) → count ≡ length olds → HaveEnded count olds news stops → HaveEnded (length olds) olds news stops
+ended_all {B} olds news stops count all so_far =
+    let F : ℕ → Type 0 = λ n. HaveEnded n olds news stops in
+    subst F all so_far
+
+-- none has stopped yet
+pub ended_none : {B : Type 0} (olds : List (Driven B)) (stops : List (Vec Event Global)) → length stops ≡ length olds → HaveEnded 0 olds olds stops
+ended_none olds stops many = record {
+  as_many = refl;
+  stops_are = many;
+  below = λ k p q stop less was is told. absurd (omega (arith, less));
+  above = λ k more. refl;
+}
+
+-- every thread of those that have stopped has ended
+pub ended_over : {B : Type 0} (olds news : List (Driven B)) (stops : List (Vec Event Global)) → HaveEnded (length olds) olds news stops → AreOver (processors news)
+ended_over {B} olds news stops ended k p is =
+    let d = driven_at news k p is in
+    let within = slice_get_within news k d.0 d.1.0 in
+    let less : k < length olds = omega (arith, within, ended.as_many) in
+    let told : k < length stops = omega (arith, less, ended.stops_are) in
+    let was = get_there olds k less in
+    let stop = get_there stops k told in
+    let F : Processor B → Type 0 = λ q. AllOver q.threads in
+    subst F d.1.1 (ended.below k was.0 d.0 stop.0 less was.1 d.1.0 stop.1).stops.does.stops.over
+
+-- the lists from this number on are empty and have room for the events of a stop
+abbrev pub AreRoomsFrom : ℕ → List (Vec Event Global) → Type 0
+AreRoomsFrom from stops = (k : ℕ) (v : Vec Event Global) → from ≤ k → slice_get stops k ≡ Some v → IsStopRoom v
+
+pub rooms_first : (stops : List (Vec Event Global)) → All IsStopRoom stops → AreRoomsFrom 0 stops
+rooms_first stops all k v from is =
+    let within = slice_get_within stops k v is in
+    let same : get_or stops k v ≡ v = some_same (get_or stops k v) v (slice_get stops k) (slice_get-get_or stops k v within) is in
+    subst IsStopRoom same (all k v within)
+
+pub rooms_more : (stops : List (Vec Event Global)) (at : ℕ) (stop : Vec Event Global) → AreRoomsFrom at stops → AreRoomsFrom (at + 1) (set stops at stop)
+rooms_more stops at stop rooms k v from is = rooms k v (omega (arith, from)) (sym (get_set_other stops at k stop (λ same. omega (arith, same, from))) ∙ is)

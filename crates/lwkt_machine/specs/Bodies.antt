@@ -4,8 +4,7 @@ use Rattle.lwkt_base.specs.declared.asks.Ask.{Ask}
 use Rattle.lwkt_base.specs.declared.asks.Ask.TheVariants.{Exit}
 use Rattle.lwkt_base.specs.declared.asks.Answer.{Answer}
 use Rattle.lwkt_base.specs.declared.entries.Entry.{Entry}
-use Rattle.lwkt_verdict.specs.Asks.{entry_of}
-use Rattle.lwkt_verdict.specs.Threads.{ask_in}
+use Rattle.lwkt_script.specs.Logs.{entry_of, nth_ask}
 
 -- what callers see of a body: its steps and how many times it makes them, how many polls it has had, what it asked at the last of
 -- them and which answer it was given there, and its log
@@ -27,7 +26,7 @@ unpolled steps repeat = record { steps = steps; repeat = repeat; polls = 0; aske
 
 -- what a body asks next: the script's ask of that number, and Exit after the last
 abbrev pub next_ask : Scripted → Ask
-next_ask b = unwrap_or (ask_in b.repeat b.steps b.polls) Exit
+next_ask b = unwrap_or (nth_ask b.repeat b.steps b.polls) Exit
 
 -- a body that has asked what is next
 abbrev pub after_ask : Scripted → Scripted

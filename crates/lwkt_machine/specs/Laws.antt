@@ -4,7 +4,7 @@ use Rattle.lwkt_base.specs.declared.asks.Ask.{Ask}
 use Rattle.lwkt_base.specs.declared.asks.Ask.TheVariants.{Exit}
 use Rattle.lwkt_base.specs.declared.asks.Answer.{Answer}
 use Rattle.lwkt_base.specs.declared.entries.Entry.{Entry}
-use Rattle.lwkt_verdict.specs.Threads.{ask_in}
+use Rattle.lwkt_script.specs.Logs.{nth_ask}
 use Rattle.lwkt_machine.specs.Bodies.{Scripted, unpolled, entry_for, IsPolled}
 
 -- polls of a body one after another: the answer that it was given at each, and what it asked there
@@ -19,7 +19,7 @@ entries_made asked (q ∷ qs) = option_to_list (entry_for asked q.0) ++ entries_
 
 -- a theorem: the asks of a body are those of its script, each by the number of polls before it
 abbrev pub AsksAreTheScripts : Type 0
-AsksAreTheScripts = (steps : List Ask) (repeat : ℕ) (polls : List (Answer × Ask)) (b : Scripted) → length polls ≤ 18446744073709551615 → ArePolls (unpolled steps repeat) polls b → (k : ℕ) (q : Answer × Ask) → slice_get polls k ≡ Some q → q.1 ≡ unwrap_or (ask_in repeat steps k) Exit
+AsksAreTheScripts = (steps : List Ask) (repeat : ℕ) (polls : List (Answer × Ask)) (b : Scripted) → length polls ≤ 18446744073709551615 → ArePolls (unpolled steps repeat) polls b → (k : ℕ) (q : Answer × Ask) → slice_get polls k ≡ Some q → q.1 ≡ unwrap_or (nth_ask repeat steps k) Exit
 
 -- a theorem: the log of a body is the first 32 entries that the answers to its asks make
 abbrev pub LogsAreFirstEntries : Type 0

@@ -1,11 +1,14 @@
 pub mod Bodies
-pub mod Closing
+pub mod Drives
 pub mod Encoded
 pub mod Ended
 pub mod Laws
 pub mod Machines
 pub mod Opened
-pub mod Retiring
+pub mod Parts
+pub mod Scripts
+pub mod Seating
 pub mod Sights
 pub mod Standings
+pub mod Steps
 pub mod Turns

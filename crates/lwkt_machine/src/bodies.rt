@@ -3,15 +3,14 @@ ghost use Rattle.std.specs.Prelude.{◌≡◌, ℕ, ◌+◌, ◌%◌, ◌<◌, �
 ghost use Rattle.std.specs.Option.{option_copied};
 ghost use Rattle.lwkt_machine.specs.Bodies.{unpolled, next_ask, after_ask, entry_for, entry_told, logged, asks_of};
 
+use crate::lasting::Lasting;
+use lwkt_base::limits::LOG_LIMIT;
 use lwkt_base::memory::{MOST_ROOM, extend_from_slice, push, with_capacity};
 use lwkt_base::{Answer, Ask, Entry, OutOfMemory};
 use lwkt_cpu::Body;
-use lwkt_verdict::entry_of;
+use lwkt_script::entry_of;
 use std::alloc::Global;
 use std::marker::Model;
-
-/// The most entries of a log. Later answers make none.
-pub const LOG_LIMIT: usize = 32;
 
 /// The body of a script's thread: it asks its steps in order, so many times over, and then `Exit`, and `Exit` ever after. Its
 /// log has the first 32 entries that its answers make; an answer `Done` makes none.
@@ -254,4 +253,11 @@ impl Body for ScriptBody {
         let next = self.ask_next();
         *self.ask_at(next)
     }
+}
+
+// A script's body keeps nothing in particular.
+impl Lasting for ScriptBody {
+    ghost kept = { λ b. Unit {0} };
+
+    ghost keeps = { λ b last ask d step before. before };
 }

@@ -7,11 +7,12 @@ use crate::machines::Machine;
 use lwkt_base::memory::push;
 use lwkt_base::{Blob, Entry, Fault, MsgId, OutOfMemory, Rec};
 use lwkt_cpu::Cpu;
+use lwkt_drive::Driven;
 use lwkt_msg::{MsgBook, MsgSeat, Reaped};
 use std::alloc::Global;
 
 /// Of which processor a message is, to which one it was sent, and its round, as the model has them.
-#[derive(Clone, Copy, Debug, PartialEq, Eq)]
+#[derive(Clone, Copy, PartialEq, Eq)]
 pub struct Sent {
     /// The processor of the message's origin, 0 to 7.
     pub origin: usize,
@@ -237,20 +238,20 @@ fn add_cpus(
     alloc: Global,
     words: &mut Vec<u64>,
     ends: &mut Vec<usize>,
-    cpus: Vec<Cpu<ScriptBody>>,
+    cpus: Vec<Driven<ScriptBody>>,
 ) -> Result<Vec<MsgSeat>, OutOfMemory>
-    ensures { IfOk result (λ seats. seats.items ≡ map (λ p. p.post.seat) cpus.items) }
+    ensures { IfOk result (λ seats. seats.items ≡ map (λ d. d.cpu.post.seat) cpus.items) }
 {
     let mut seats = Vec::new(alloc);
-    for cpu in cpus {
-        let seat = add_cpu(words, cpu)?;
+    for driven in cpus {
+        let seat = add_cpu(words, driven.cpu)?;
         push(&mut seats, seat)?;
         end_part(words.as_slice(), ends)?;
     }
     Ok(seats)
 }
 
-impl Machine {
+impl Machine<ScriptBody> {
     /// Appends to `words` what tells this machine apart from what it was or will be at another time, but for what its trace says of
     /// tokens and messages: its processors with their threads, ports, lanes and bodies, and the records of the messages that are
     /// away. Much of it can't be seen without a step of a processor, so the machine is given up. `sent` has one for each message,

@@ -1,9 +1,25 @@
-//! Laws of the bodies of a script's threads.
+//! Laws of the bodies of a script's threads, and of what the processors of a machine did.
 ghost use Rattle.lwkt_machine.specs.Laws.{AsksAreTheScripts, LogsAreFirstEntries};
+ghost use Rattle.lwkt_machine.specs.Parts.{DrivesTellTheRuns, ThreadsTellTheRuns};
+
+use crate::lasting::Lasting;
+use lwkt_drive::Gate;
 
 /// The theorem that over all its polls a body asks what its script says, each ask by its number and `Exit` after the last, and its
 /// log is the first 32 entries that the answers to its asks make.
 pub fn bodies_follow_scripts()
     ensures asks { AsksAreTheScripts }
     ensures logs { LogsAreFirstEntries }
+{}
+
+/// The theorem that what the processors of a machine did from its opening on, each in its turns on a thread of its own and then in
+/// its stop, are the parts of one run of the model on tokens and of one on messages, which lead from what was declared to the
+/// closing values.
+pub fn drives_tell_the_runs<B: Lasting, G: Gate>()
+    ensures { DrivesTellTheRuns B.polled G.answers }
+{}
+
+/// The same theorem of the machine of a script.
+pub fn threads_tell_the_runs<G: Gate>()
+    ensures { ThreadsTellTheRuns G.answers }
 {}

@@ -1,24 +1,42 @@
-//! The machine of a script: its bank, its book and its processors, whose threads make the script's steps.
+//! A machine: its bank, its book and its processors, whose threads are bodies of any kind, a script's among them. It is opened, its
+//! processors make turns, one at a time or each on a thread of its own, and at its close each token's row meets the law that was
+//! declared.
 //!
-//! Words: a *lane* leads from each processor to each; a machine is *wired* if each lane has its two ends at its two
-//! processors; a *script body* makes the steps of a thread of the script, so many times over, and keeps its *log*; a machine
-//! is *opened*, *stopped* and *closed*.
+//! Words: the *tables* of a machine are its bank and its book; a *lane* leads from each processor to each, and a machine is *wired* if
+//! each lane has its two ends at its two processors; a *maker* makes a token, a message or a thread of the declaration; a *stepper*
+//! keeps the answer to each of its asks beside it; what a body *keeps* is an invariant that holds after each poll; a *script body*
+//! makes the steps of a thread of a script, so many times over, and keeps its *log*.
 #![tactic(auto)]
 
 pub mod bodies;
 pub mod closings;
+pub mod drives;
 mod encodings;
+pub mod lasting;
 pub mod laws;
 pub mod machines;
+pub mod makers;
 pub mod openings;
-mod seatings;
+mod processors;
+mod rounds;
+pub mod scripts;
+pub mod seatings;
 mod sights;
 pub mod standings;
-pub mod stops;
+pub mod steps;
+mod stops;
+pub mod tables;
+mod turns;
 
 pub use bodies::ScriptBody;
 pub use closings::{CloseRoom, Closed};
+pub use drives::LIMITS;
 pub use encodings::Sent;
-pub use lwkt_cpu::{Cpu, Status, Turned};
+pub use lasting::Lasting;
+pub use lwkt_cpu::{Body, Cpu, Status, Turned};
+pub use lwkt_drive::{Ending, Gate, Limits, OpenGate};
 pub use machines::Machine;
+pub use seatings::{Rest, origins_of};
 pub use standings::Standing;
+pub use steps::{Stepper, Steps, Told};
+pub use tables::{Tables, open_tables};

@@ -1,96 +1,84 @@
 //! The opening of a machine.
-ghost use Rattle.std.specs.Prelude.{◌≡◌, ◌≤◌, true, false, IfOk, IfErr, OnOk, Err};
-ghost use Rattle.lwkt_core.specs.Opening.{AreWithin, AllOpenLawfully};
+ghost use Rattle.std.specs.Prelude.{◌≡◌, ◌≤◌, ◌↔◌, All, IfErr, IfOk, IsTrue, OnOk, length};
 ghost use Rattle.lwkt_bank.specs.Gathered.{IsOpened};
+ghost use Rattle.lwkt_core.specs.Opening.{AreWithin, AllOpenLawfully};
 ghost use Rattle.lwkt_msg.specs.Desks.{AreOpened};
-ghost use Rattle.lwkt_script.specs.Format.{threads_on};
-ghost use Rattle.lwkt_machine.specs.Opened.{IsOpenedMachine, AreFew, Declines};
+ghost use Rattle.lwkt_machine.specs.Machines.{AreKept};
+ghost use Rattle.lwkt_machine.specs.Opened.{Declines, IsOpenedMachine, IsWithin};
 
+use crate::lasting::Lasting;
 use crate::machines::Machine;
-use crate::seatings::seat_all;
-use lwkt_base::{Fault, OutOfMemory};
-use lwkt_cpu::cpus::THREAD_LIMIT;
+use crate::processors::seat_all;
+use crate::seatings::{Rest, origins_of};
+use crate::tables::{Tables, open_tables};
+use lwkt_base::limits::THREAD_LIMIT;
+use lwkt_base::{Fault, MsgSpec, OutOfMemory, TokSpec};
 use lwkt_lane::{Lanes, open_lanes};
-use lwkt_script::{Script, ThreadSpec};
-use lwkt_seating::{Rest, Tables, open_tables, origins_of};
 use std::alloc::Global;
 
-// How many of these threads are of a processor.
-fn threads_on(threads: &[ThreadSpec], cpu: usize) -> usize
-    ensures { result ≡ threads_on cpu threads.now }
+// Whether no list has more bodies than a processor may have threads.
+fn are_few<B>(lists: &[Vec<B>]) -> bool
+    ensures { IsTrue result ↔ All (λ v. length v.items ≤ 16) lists.now }
 {
-    threads
-        .iter()
-        .filter(|spec| spec.cpu.0 as usize == cpu)
-        .count()
+    lists.iter().all(|list| list.len() <= THREAD_LIMIT)
 }
 
-// Whether no processor of a script has more threads than it may have.
-fn are_few(script: &Script) -> bool
-    ensures yes { result ≡ true → AreFew script.now.cpus script.now.threads }
-    ensures no { result ≡ false → ¬ AreFew script.now.cpus script.now.threads }
-{
-    let threads = script.threads.as_slice();
-    for cpu in 0..usize::from(script.cpus) {
-        if threads_on(threads, cpu) > THREAD_LIMIT {
-            return false;
-        }
-    }
-    true
-}
-
-// A machine at the tables of a script, with the script's threads.
-fn open_at(alloc: Global, script: &Script, tables: Tables) -> Result<Machine, OutOfMemory>
-    requires bank { IsOpened script.now.cpus script.now.tokens tables.bank tables.seats.items }
-    requires book { AreOpened script.now.cpus script.now.messages tables.book tables.mails.items }
-    requires few { script.now.cpus ≤ 8 }
-    requires threads { AreFew script.now.cpus script.now.threads }
-    ensures { IfOk result (λ machine. IsOpenedMachine script.now machine) }
-{
-    let Tables {
-        bank,
-        seats,
-        book,
-        mails,
-    } = tables;
-    let Lanes { outs, ins } = open_lanes(alloc, usize::from(script.cpus))?;
-    let origins = origins_of(alloc, script.messages.as_slice())?;
-    let mut rest = Rest {
-        seats,
-        mails,
-        outs,
-        ins,
-    };
-    let threads = script.threads.as_slice();
-    let cpus = seat_all(alloc, &bank, &book, &mut rest, &origins, threads)?;
-    Ok(Machine { bank, book, cpus })
-}
-
-impl Machine {
-    /// Opens the machine of a script: a bank of its tokens, a book of its messages, and its processors, with lanes for 32 notes
-    /// from each to each. Each thread of the script is one of its processor, in the script's order, and was never polled.
-    ///
-    /// Refused with `Limits` only if a limit is passed: 8 processors, 64 tokens, 4 cells or 64 bytes of a token, 64 messages, 16
-    /// threads of a processor, or another one of the model's (`AreWithin`); with `LawBroken` only if it is within the limits and an
-    /// opening row, with the length of its record, breaks its law; and else with `Memory`, if memory is refused. Whether a
-    /// processor has too many threads is looked at first.
-    pub fn open(alloc: Global, script: &Script) -> Result<Machine, Fault>
-        ensures ok { IfOk result (λ machine. IsOpenedMachine script.now machine) }
-        ensures within { OnOk result (AreWithin script.now.cpus script.now.tokens script.now.messages) }
-        ensures few { OnOk result (AreFew script.now.cpus script.now.threads) }
-        ensures lawful { OnOk result (AllOpenLawfully script.now.tokens) }
-        ensures many { ¬ AreFew script.now.cpus script.now.threads → result ≡ Err Fault.Limits }
-        ensures refused { IfErr result (λ fault. Declines script.now fault) }
+impl<B: Lasting + Drop> Machine<B> {
+    // A machine at tables that were just opened.
+    fn open_at(
+        alloc: Global,
+        tokens: &[TokSpec],
+        messages: &[MsgSpec],
+        tables: Tables,
+        bodies: Vec<Vec<B>>,
+    ) -> Result<Self, OutOfMemory>
+        requires bank { IsOpened (length bodies.items) tokens.now tables.bank tables.seats.items }
+        requires book { AreOpened (length bodies.items) messages.now tables.book tables.mails.items }
+        requires cpus { length bodies.items ≤ 8 }
+        requires few { All (λ v. length v.items ≤ 16) bodies.items }
+        requires kept { AreKept B.kept bodies.items }
+        ensures { IfOk result (λ machine. IsOpenedMachine tokens.now messages.now bodies.items machine) }
     {
-        if !are_few(script) {
+        let _ = tokens;
+        let Tables {
+            bank,
+            seats,
+            book,
+            mails,
+        } = tables;
+        let Lanes { outs, ins } = open_lanes(alloc, bodies.len())?;
+        let origins = origins_of(alloc, messages)?;
+        let mut rest = Rest {
+            seats,
+            mails,
+            outs,
+            ins,
+        };
+        let cpus = seat_all(alloc, &bank, &book, &mut rest, &origins, bodies)?;
+        Ok(Machine { bank, book, cpus })
+    }
+
+    /// Opens a machine of these tokens and messages, with a processor for each list of bodies and a thread for each body, in order.
+    /// Each body is as it was handed in, and no thread was polled. That what a body keeps holds of each is the caller's condition.
+    ///
+    /// Refused with `Limits` only if a limit is passed: 1 to 8 processors, 64 tokens, 4 cells or 64 bytes of a token, 64 messages, 16
+    /// bodies of a processor, or another one of the model's (`AreWithin`); with `LawBroken` only if it is within the limits and an
+    /// opening row, with the length of its record, breaks its law; and else with `Memory`, if memory is refused.
+    pub fn open(
+        alloc: Global,
+        tokens: &[TokSpec],
+        messages: &[MsgSpec],
+        bodies: Vec<Vec<B>>,
+    ) -> Result<Self, Fault>
+        requires kept { AreKept B.kept bodies.items }
+        ensures ok { IfOk result (λ machine. IsOpenedMachine tokens.now messages.now bodies.items machine) }
+        ensures within { OnOk result (IsWithin tokens.now messages.now bodies.items × AllOpenLawfully tokens.now) }
+        ensures refused { IfErr result (λ fault. Declines tokens.now messages.now bodies.items fault) }
+    {
+        if !are_few(&bodies) {
             return Err(Fault::Limits);
         }
-        let tables = open_tables(
-            alloc,
-            script.tokens.as_slice(),
-            script.messages.as_slice(),
-            usize::from(script.cpus),
-        )?;
-        Ok(open_at(alloc, script, tables)?)
+        let tables = open_tables(alloc, tokens, messages, bodies.len())?;
+        Ok(Machine::open_at(alloc, tokens, messages, tables, bodies)?)
     }
 }

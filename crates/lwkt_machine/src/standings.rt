@@ -3,7 +3,7 @@ ghost use Rattle.std.specs.Prelude.{◌≡◌, ◌<◌, ◌≤◌, ◌++◌, len
 ghost use Rattle.lwkt_base.specs.Refs.{IsLawfulList};
 ghost use Rattle.lwkt_cpu.specs.Processors.{is_running};
 
-use crate::bodies::ScriptBody;
+use crate::lasting::Lasting;
 use crate::machines::Machine;
 use lwkt_base::memory::push;
 use lwkt_base::{CpuId, OutOfMemory, Ref, ThreadId, ThreadState, TokList};
@@ -38,7 +38,7 @@ impl Standing {
     ghost use Rattle.lwkt_machine.specs.Standings.{standing_of, standings_on};
 
     // How a thread of this processor stands.
-    fn of_thread(cpu: &Cpu<ScriptBody>, id: ThreadId) -> Standing
+    fn of_thread<B>(cpu: &Cpu<B>, id: ThreadId) -> Standing
         requires { id.thread < length cpu.now.threads }
         ensures { IsSomeAnd (slice_get cpu.now.threads id.thread) (λ t. result ≡ standing_of id.cpu.0 id.thread (is_running cpu.now.running id.thread) t) }
     {
@@ -51,8 +51,8 @@ impl Standing {
     }
 
     // How each thread of the processor of this number stands.
-    fn of_processor(
-        cpu: &Cpu<ScriptBody>,
+    fn of_processor<B>(
+        cpu: &Cpu<B>,
         number: u8,
         standings: &mut Vec<Standing>,
     ) -> Result<(), OutOfMemory>
@@ -69,7 +69,7 @@ impl Standing {
     }
 }
 
-impl Machine {
+impl<B: Lasting> Machine<B> {
     ghost use Rattle.lwkt_machine.specs.Standings.{standings_of};
 
     /// How each thread stands, by processor, then by number: what it is doing, and its list.
@@ -80,7 +80,7 @@ impl Machine {
     {
         let mut standings = Vec::new(alloc);
         for number in 0..self.cpus.len() {
-            Standing::of_processor(&self.cpus[number], number as u8, &mut standings)?;
+            Standing::of_processor(&self.cpus[number].cpu, number as u8, &mut standings)?;
         }
         Ok(standings)
     }

@@ -21,8 +21,7 @@ use Rattle.lwkt_core.specs.declared.events.Event.TheVariants.{Send, TakeMsg, Dro
 use Rattle.lwkt_core.specs.declared.events.Place.{Place}
 use Rattle.lwkt_core.specs.declared.events.Place.TheVariants.{AtMessage}
 use Rattle.lwkt_core.specs.declared.messages.Message.{Message}
-use Rattle.lwkt_core.specs.declared.messages.TheConstants.{LAST_ROUND}
-use Rattle.lwkt_core.specs.declared.tokens.TheConstants.{CPU_LIMIT}
+use Rattle.lwkt_base.specs.declared.limits.TheConstants.{CPU_LIMIT, LAST_ROUND}
 use Rattle.lwkt_table.specs.declared.seats.Deed.{Deed}
 use Rattle.lwkt_table.specs.declared.seats.SeatKind.{SeatKind}
 use Rattle.lwkt_table.specs.declared.seats.SeatKind.TheVariants.{Of}

@@ -12,7 +12,7 @@ use Rattle.lwkt_base.specs.MessageWord.{message_word, MessageFits}
 use Rattle.lwkt_core.specs.declared.events.Event.{Event}
 use Rattle.lwkt_core.specs.declared.events.Event.TheVariants.{Send, TakeMsg, DropMsg, Reply, Reap, Abort}
 use Rattle.lwkt_core.specs.declared.events.Place.TheVariants.{AtMessage}
-use Rattle.lwkt_core.specs.declared.messages.TheConstants.{LAST_ROUND}
+use Rattle.lwkt_base.specs.declared.limits.TheConstants.{LAST_ROUND}
 use Rattle.lwkt_table.specs.declared.seats.Deed.{Deed}
 use Rattle.lwkt_table.specs.declared.seats.Operation.{Operation}
 use Rattle.lwkt_table.specs.declared.seats.Operation.TheVariants.{Store, Exchange, Add, Or}

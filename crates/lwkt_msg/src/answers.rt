@@ -1,7 +1,7 @@
 use lwkt_base::Rec;
 
 /// What a take answers.
-#[derive(Clone, Copy, Debug, PartialEq, Eq)]
+#[derive(Clone, Copy, PartialEq, Eq)]
 pub enum Taken {
     /// The message was taken: its record, as it was sent, whether its origin has asked for it to be aborted, and whether it
     /// was sent with priority.
@@ -17,7 +17,7 @@ pub enum Taken {
 }
 
 /// What a reap answers.
-#[derive(Clone, Copy, Debug, PartialEq, Eq)]
+#[derive(Clone, Copy, PartialEq, Eq)]
 pub enum Reaped {
     /// The message is at rest again: its record, with the call that was sent and the error and result of its reply.
     Done { rec: Rec },

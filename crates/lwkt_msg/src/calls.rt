@@ -10,8 +10,8 @@ ghost use Rattle.lwkt_msg.specs.Plays.{IsLooked, IsSat, IsSameSeat};
 use crate::answers::{Reaped, Taken};
 use crate::rules::{Place, Top};
 use crate::steps::{answer, fetch, look, put, recall, request, win};
+use lwkt_base::limits::LAST_ROUND;
 use lwkt_base::{Call, CpuId, Fault, Flags, MsgState, MsgWord, Rec};
-use lwkt_core::messages::LAST_ROUND;
 
 /// What a sender asks for.
 #[derive(Clone, Copy)]

@@ -8,7 +8,7 @@ ghost use Rattle.lwkt_msg.specs.Views.{call_of, at, who, flags_of, sent, answere
 ghost use Rattle.lwkt_msg.specs.Deeds.{sends, replies};
 ghost use Rattle.lwkt_msg.specs.Calls.{answered_rec};
 ghost use Rattle.lwkt_msg.specs.Hands.{IsOwn, IsInHand};
-ghost use Rattle.lwkt_core.specs.declared.messages.TheConstants.{LAST_ROUND};
+ghost use Rattle.lwkt_base.specs.declared.limits.TheConstants.{LAST_ROUND};
 ghost use Rattle.lwkt_msg.specs.Steps.{sent_word, rest_word};
 ghost use Rattle.lwkt_msg.specs.Plays.{IsAfter, Looked, HasWon, HasLost, HasFetched, HasRecalled, HasMissed, HasAsked, IsSat, IsSameSeat, IsInFront};
 

@@ -8,7 +8,7 @@ use crate::posts::Ports;
 use crate::queues::{Port, count};
 
 /// How many notes the ports of a processor's threads have, by where these are.
-#[derive(Clone, Copy, Debug, PartialEq, Eq)]
+#[derive(Clone, Copy, PartialEq, Eq)]
 pub struct Notes {
     /// In hand at sending ends, whose lanes were full.
     pub in_hand: usize,

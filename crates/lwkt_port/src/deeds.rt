@@ -14,7 +14,7 @@ use lwkt_lane::Note;
 use lwkt_msg::{MsgBook, Reaped, Taken};
 
 /// For whom a request is taken.
-#[derive(Clone, Copy, Debug, PartialEq, Eq)]
+#[derive(Clone, Copy, PartialEq, Eq)]
 pub enum Claim {
     /// The thread of the port.
     Thread(u8),

@@ -19,7 +19,7 @@ use lwkt_lane::{Note, NoteKind};
 use lwkt_msg::{MsgBook, Reaped, Taken};
 
 /// What became of a note that a thread was served with.
-#[derive(Clone, Copy, Debug, PartialEq, Eq)]
+#[derive(Clone, Copy, PartialEq, Eq)]
 pub enum Served {
     /// It was stale, or a request that was aborted before the thread saw it.
     Passed,

@@ -14,7 +14,7 @@ use lwkt_lane::{Note, NoteKind};
 use lwkt_msg::{MsgBook, Reaped};
 
 /// What became of a note that came over a lane.
-#[derive(Clone, Copy, Debug, PartialEq, Eq)]
+#[derive(Clone, Copy, PartialEq, Eq)]
 pub enum Fate {
     /// It names no message or no port, and nothing was done.
     Foreign,

@@ -5,7 +5,7 @@ ghost use Rattle.lwkt_port.specs.Mails.{kept_mail_at};
 use lwkt_base::{Rec, ThreadId};
 
 /// What the ports of a processor keep of a message.
-#[derive(Clone, Copy, Debug, PartialEq, Eq)]
+#[derive(Clone, Copy, PartialEq, Eq)]
 pub struct Mail {
     /// The thread that owns the message while it is at rest.
     pub origin: ThreadId,

@@ -2,7 +2,7 @@
 ghost use Rattle.std.specs.Prelude.{◌≡◌};
 
 use lwkt_base::{Answer, Ask, Fault, TokId};
-use lwkt_program::{Body, Stepper, Steps};
+use lwkt_machine::{Body, Stepper, Steps};
 
 /// Gives a token up that it doesn't hold, and ends once that is refused. Were it answered, it would ask again.
 #[derive(Drop)]
@@ -13,7 +13,7 @@ pub struct Cautious {
 impl Steps for Cautious {
     ghost use Rattle.lwkt_base.specs.declared.asks.Ask.{Ask};
     ghost use Rattle.lwkt_base.specs.declared.faults.Fault.{Fault};
-    ghost use Rattle.lwkt_program.specs.declared.steps.Told.{Told};
+    ghost use Rattle.lwkt_machine.specs.declared.steps.Told.{Told};
 
     ghost kept = { λ c. Unit {0} };
 

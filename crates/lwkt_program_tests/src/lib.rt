@@ -17,3 +17,5 @@ mod stops;
 mod streams;
 #[cfg(test)]
 mod threads;
+#[cfg(test)]
+mod traders;

@@ -1,7 +1,7 @@
 //! Bodies that ask what they are listed with.
 
 use lwkt_base::{Answer, Ask, Fault, TokId};
-use lwkt_program::{Stepper, Steps};
+use lwkt_machine::{Stepper, Steps};
 
 /// The token of the rows.
 pub const TOKEN: TokId = TokId(0);

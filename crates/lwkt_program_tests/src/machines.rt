@@ -1,23 +1,25 @@
-//! Machines for bodies of any kind: each call that takes memory succeeds with ample memory, and its answer is as it must be.
+//! Machines for bodies of one's own: each call that takes memory succeeds with ample memory, and its answer is as it must be.
 
 use crate::cautious::{Cautious, ends_at_a_refusal};
 use crate::listed::{Listed, TOKEN};
-use lwkt_base::{Ask, CpuId, Fault, Row, Section, TokSpec};
+use crate::traders::{ROUNDS, Trader};
+use lwkt_base::{Ask, CpuId, Fault, MsgEnd, Owner, Row, Section, TokSpec};
 use lwkt_core::Event;
-use lwkt_program::{Closed, Ending, LIMITS, Machine, Stepper, Turned, makers};
+use lwkt_machine::{Closed, Ending, LIMITS, Machine, Stepper, Turned, makers};
 use std::alloc::Global;
 use std::thread::Threads;
 
-// Two processors with a thread each: the first writes in a section, the second ends.
-fn two(alloc: Global, token: TokSpec, value: u64) -> Result<Machine<Stepper<Listed>>, Fault> {
-    let asks = [
-        Ask::Get(TOKEN),
-        Ask::Write(TOKEN, 0, value),
-        Ask::Rel(TOKEN),
-    ];
-    let one = makers::list(alloc, [Listed::new(asks)])?;
-    let other = makers::list(alloc, [Listed::new([Ask::Exit; 3])])?;
-    let bodies = makers::list(alloc, [one, other])?;
+// Two processors with a thread each: the first takes the token, writes this value and asks one thing more, and the second ends.
+fn one(
+    alloc: Global,
+    token: TokSpec,
+    value: u64,
+    then: Ask,
+) -> Result<Machine<Stepper<Listed>>, Fault> {
+    let asks = [Ask::Get(TOKEN), Ask::Write(TOKEN, 0, value), then];
+    let first = makers::list(alloc, [Listed::new(asks)])?;
+    let second = makers::list(alloc, [Listed::new([Ask::Exit; 3])])?;
+    let bodies = makers::list(alloc, [first, second])?;
     Machine::open(alloc, &[token], &[], bodies)
 }
 
@@ -47,17 +49,17 @@ fn section() -> [Event; 3] {
 
 // Whether a machine closes with the events of the section, its row and its generation.
 fn has_section(alloc: Global, closed: &Closed<Stepper<Listed>>) -> Result<bool, Fault> {
-    let events = match closed.traces.first() {
-        Some(trace) => trace.whole(alloc)?,
-        None => Vec::new(alloc),
+    let Some(trace) = closed.traces.first() else {
+        return Ok(false);
     };
+    let events = trace.whole(alloc)?;
     let row = closed.row(TOKEN) == [7].as_slice() && closed.generation(TOKEN) == 1;
     Ok(row && events.as_slice() == section().as_slice())
 }
 
 // A turn, and then all the others, each processor on a thread.
 fn drives<R: Threads + Sync>(rt: &R, alloc: Global) -> Result<bool, Fault> {
-    let mut machine = two(alloc, makers::any(alloc, &[3])?, 7)?;
+    let mut machine = one(alloc, makers::any(alloc, &[3])?, 7, Ask::Rel(TOKEN))?;
     let ran = machine.turn(CpuId(0))? == Turned::Ran { thread: 0 };
     machine.drive(rt, &LIMITS);
     let over = machine.ending(CpuId(0)) == Some(Ending::AllExited);
@@ -70,13 +72,17 @@ fn a_machine_is_driven(rt: HostRuntime) {
     assert!(rt; drives(&rt, rt.alloc()) == Ok(true));
 }
 
+// Whether a token is closed with this first cell and generation.
+fn is_left<B>(closed: &Closed<B>, cell: u64, generation: u64) -> bool {
+    closed.cell(TOKEN, 0) == cell && closed.generation(TOKEN) == generation
+}
+
 // A stop within a section that has broken its law undoes it.
 fn stops(alloc: Global) -> Result<bool, Fault> {
-    let mut machine = two(alloc, makers::sum(alloc, &[5, 0], 5)?, 4)?;
+    let mut machine = one(alloc, makers::sum(alloc, &[5, 0], 5)?, 4, Ask::Yield)?;
     machine.run(2)?;
     machine.stop()?;
-    let closed = machine.close(alloc)?;
-    Ok(closed.row(TOKEN) == [5, 0].as_slice() && closed.generation(TOKEN) == 0)
+    Ok(is_left(&machine.close(alloc)?, 5, 0))
 }
 
 #[test]
@@ -84,24 +90,35 @@ fn a_stop_undoes_a_broken_section(rt: HostRuntime) {
     assert!(rt; stops(rt.alloc()) == Ok(true));
 }
 
-// Whether a token that is declared so is closed with its first cell, a section of it having written this value, or nothing.
-fn closes(alloc: Global, token: TokSpec, value: u64, cell: u64) -> Result<bool, Fault> {
-    let mut machine = two(alloc, token, value)?;
+// Whether a token that is declared so is closed with this first cell and generation, once a value was written and `then` asked.
+fn closes(
+    alloc: Global,
+    token: TokSpec,
+    value: u64,
+    then: Ask,
+    cell: u64,
+    generation: u64,
+) -> Result<bool, Fault> {
+    let mut machine = one(alloc, token, value, then)?;
     machine.run(9)?;
-    let closed = machine.close(alloc)?;
-    Ok(closed.cell(TOKEN, 0) == cell)
+    Ok(is_left(&machine.close(alloc)?, cell, generation))
+}
+
+#[test]
+fn law_broken_at_wait(rt: HostRuntime) {
+    let alloc = rt.alloc();
+    let sum = makers::sum(alloc, &[5, 5], 10).expect(&rt, "a token");
+    assert!(rt; closes(alloc, sum, 9, Ask::WaitPort, 5, 0) == Ok(true));
 }
 
 // Sections that obey a law and that break it.
 fn are_declared(alloc: Global) -> Result<bool, Fault> {
-    let record = makers::guarding(makers::any(alloc, &[0])?, b"abc")?;
-    Ok(
-        closes(alloc, makers::order(alloc, &[1, 2])?, 2, 2)?
-            && closes(alloc, makers::cap(alloc, &[1], 3)?, 4, 1)?
-            && closes(alloc, makers::tally(alloc, 7)?, 8, 7)?
-            && closes(alloc, makers::len(alloc, &[3], b"abc")?, 2, 3)?
-            && closes(alloc, record, 2, 2)?,
-    )
+    let rel = Ask::Rel(TOKEN);
+    let order = closes(alloc, makers::order(alloc, &[1, 2])?, 2, rel, 2, 1)?;
+    let cap = closes(alloc, makers::cap(alloc, &[1], 3)?, 4, rel, 1, 0)?;
+    let tally = closes(alloc, makers::tally(alloc, 7)?, 8, rel, 7, 0)?;
+    let len = closes(alloc, makers::len(alloc, &[3], b"abc")?, 2, rel, 3, 0)?;
+    Ok(order && cap && tally && len)
 }
 
 #[test]
@@ -109,22 +126,38 @@ fn tokens_are_declared(rt: HostRuntime) {
     assert!(rt; are_declared(rt.alloc()) == Ok(true));
 }
 
-// How often a body that gives up a token that it doesn't hold was refused, by the close.
-fn refusals(alloc: Global) -> Result<Option<u32>, Fault> {
-    let bodies = makers::list(alloc, [Stepper::new(Cautious { refusals: 0 })])?;
-    let lists = makers::list(alloc, [bodies])?;
-    let mut machine = Machine::open(alloc, &[makers::any(alloc, &[0])?], &[], lists)?;
-    machine.run(9)?;
-    let closed = machine.close(alloc)?;
-    Ok(match closed.bodies.first() {
-        Some(list) => list.first().map(|body| body.steps.refusals),
-        None => None,
-    })
+// What two threads leave of which one calls and the other serves, and which hand a record to and fro.
+fn traded<R: Threads + Sync>(rt: &R, alloc: Global) -> Result<Closed<Stepper<Trader>>, Fault> {
+    let token = makers::guarding(makers::any(alloc, &[0])?, &[0; 64])?;
+    let message = makers::message(makers::thread(0, 0));
+    let caller = makers::list(alloc, [Trader::new(false)])?;
+    let server = makers::list(alloc, [Trader::new(true)])?;
+    let bodies = makers::list(alloc, [caller, server])?;
+    let mut machine = Machine::open(alloc, &[token], &[message], bodies)?;
+    machine.drive(rt, &LIMITS);
+    Ok(machine.close(alloc)?)
+}
+
+// Each of 1000 calls is served and answered, with each record found whole: a body that doesn't find it so ends, and both numbers stay
+// lower.
+#[test]
+fn book_basics_9(rt: HostRuntime) {
+    let end = MsgEnd {
+        round: ROUNDS,
+        state: Owner::Rest { origin: CpuId(0) },
+    };
+    match traded(&rt, rt.alloc()) {
+        Ok(closed) => {
+            assert!(rt;
+                is_left(&closed, 0, 2 * ROUNDS) && closed.messages.as_slice() == [end].as_slice()
+            );
+        }
+        Err(_) => assert!(rt; false),
+    }
 }
 
 #[test]
 fn a_refusal_is_told_as_one(rt: HostRuntime) {
     let mut alone = Stepper::new(Cautious { refusals: 0 });
     assert!(rt; ends_at_a_refusal(&mut alone, Fault::NotHeld) == Ask::Exit);
-    assert!(rt; refusals(rt.alloc()) == Ok(Some(1)));
 }

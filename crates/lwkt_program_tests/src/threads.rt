@@ -3,11 +3,10 @@
 use crate::gates::{Kind, Watch};
 use lwkt_base::memory::from_str;
 use lwkt_base::{CpuId, Fault, OutOfMemory, ThreadState};
-use lwkt_machine::Machine;
+use lwkt_machine::{Limits, Machine, ScriptBody};
 use lwkt_report::Page;
 use lwkt_run::{End, RunFault, run_program, run_threads_gated};
 use lwkt_script::read_script;
-use lwkt_threads::{Limits, Outcome, drive_machine_on_threads};
 use std::alloc::Global;
 use std::thread::Threads;
 
@@ -128,8 +127,31 @@ fn a_slow_processor_is_waited_for(rt: HostRuntime) {
     }
 }
 
+// A thread sends a message, drops it or asks for it to be aborted, and waits for a reply where it wasn't dropped last, 5000 times;
+// another one answers what it takes.
+const DROPS_AND_ABORTS: &[u8] =
+    b"{\"version\":1,\"turns\":1000000,\"idle\":100000000,\"cpus\":2,\"tokens\":[],\"messages\":[{\"of\":[0,0],\"round\":0}],\"threads\":[{\"cpu\":0,\"repeat\":5000,\"steps\":[[\"send\",0,1,0,5,9,3],[\"drop\",0],[\"send\",0,1,0,5,9,3],[\"yield\"],[\"drop\",0],[\"send\",0,1,0,5,9,3],[\"abort\",0],[\"wait\"]]},{\"cpu\":1,\"repeat\":20000,\"steps\":[[\"wait\"],[\"isab\",0],[\"reply\",0,7,42]]}]}";
+
+// Whether the sender has ended, and its message is at rest: each of its rounds was dropped or answered, and each answer came.
+fn has_rested(text: &[u8]) -> bool {
+    let mut lines = text.split(|byte| *byte == b'\n');
+    let (Some(message), Some(sender)) = (lines.next(), lines.next()) else {
+        return false;
+    };
+    message.ends_with(b" rest") && sender.starts_with(b"thread 0.0 exited ")
+}
+
+#[test]
+fn each_round_is_dropped_or_answered(rt: HostRuntime) {
+    let gate = Watch::new(Kind::Open);
+    match run(&rt, rt.alloc(), DROPS_AND_ABORTS, &gate) {
+        Ok((end, page)) => assert!(rt; end == End::TurnsOut && has_rested(&page.text)),
+        Err(_) => assert!(rt; false),
+    }
+}
+
 // Whether the first thread of a processor stands so.
-fn stands(machine: &Machine, cpu: usize, wanted: ThreadState) -> bool {
+fn stands(machine: &Machine<ScriptBody>, cpu: usize, wanted: ThreadState) -> bool {
     match machine.thread(cpu, 0) {
         Some(status) => status.state == wanted,
         None => false,
@@ -145,14 +167,13 @@ fn leaves<R: Threads + Sync>(
     wanted: &[ThreadState],
 ) -> Result<bool, Fault> {
     let script = read_script(alloc, script)?;
-    let machine = Machine::open(alloc, &script)?;
+    let mut machine = Machine::open_script(alloc, &script)?;
     let limits = Limits {
         turns: script.turns,
         idle: script.idle,
     };
     let gate = Watch::new(Kind::Open);
-    let outcome = drive_machine_on_threads(rt, threads, alloc, &gate, &limits, machine)?;
-    let Outcome { machine, .. } = outcome;
+    machine.drive_on_threads(rt, threads, &gate, &limits)?;
     let states = wanted
         .iter()
         .enumerate()

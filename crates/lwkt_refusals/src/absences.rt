@@ -5,29 +5,22 @@ use lwkt_text::{Mention, Names};
 
 // Appends which parts of a kind there are: `; there are tokens 0 to 2`.
 fn add_there(page: &mut Page, kind: &str, count: usize) {
-    page.add(match count {
-        0 => "; there is no ",
-        1 => "; there is only ",
-        _ => "; there are ",
-    });
-    page.add(kind);
     match count {
-        0 => {}
-        1 => page.add(" 0"),
-        _ => page.size("s 0 to ", count.saturating_sub(1)),
+        0 => page.say(("; there is no ", kind)),
+        1 => page.say(("; there is only ", kind, " 0")),
+        _ => page.say(("; there are ", kind, "s 0 to ", count.saturating_sub(1))),
     }
 }
 
 // Appends a part by its kind and its number, and which parts of the kind there are.
 fn add_part(page: &mut Page, kind: &str, number: u8, count: usize) {
-    page.add(kind);
-    page.number(" ", u64::from(number));
+    page.say((kind, " ", number));
     add_there(page, kind, count);
 }
 
 // Appends a token by its name.
 fn add_token(page: &mut Page, names: &Names, tok: TokId) {
-    page.add(" of token ");
+    page.say(" of token ");
     if let Some(name) = names.tokens.as_slice().get(tok.0 as usize) {
         page.show(name.as_str());
     }
@@ -52,7 +45,7 @@ fn add_no_cell(page: &mut Page, names: &Names, tok: TokId, cell: u8) {
         Some(cells) => cells.len(),
         None => 0,
     };
-    page.number("cell ", u64::from(cell));
+    page.say(("cell ", cell));
     add_token(page, names, tok);
     add_there(page, "cell", count);
 }
@@ -65,9 +58,9 @@ fn add_no_tally(page: &mut Page, names: &Names, tok: TokId, cpu: CpuId) {
     if cpu.0 >= names.cpus {
         return add_part(page, "processor", cpu.0, names.cpus as usize);
     }
-    page.add("a tally");
+    page.say("a tally");
     add_token(page, names, tok);
-    page.add("; its law isn't tally");
+    page.say("; its law isn't tally");
 }
 
 /// Appends what a claim names and the script doesn't have, and what of its kind there is.
@@ -79,9 +72,6 @@ pub(crate) fn add_absent(page: &mut Page, names: &Names, mention: Mention) {
         Mention::Cell(tok, cell) => add_no_cell(page, names, tok, cell),
         Mention::Tally(tok, cpu) => add_no_tally(page, names, tok, cpu),
         Mention::Message(msg) => add_part(page, "message", msg.0, names.messages.len()),
-        Mention::Thread(id) => {
-            page.number("thread ", u64::from(id.cpu.0));
-            page.number(".", u64::from(id.thread));
-        }
+        Mention::Thread(id) => page.say(("thread ", id.cpu.0, ".", id.thread)),
     }
 }

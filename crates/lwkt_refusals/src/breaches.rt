@@ -4,36 +4,33 @@ use crate::parts::Part;
 use crate::sentences::{place_in_sentence, sentence_at};
 use crate::words::Words;
 use lwkt_base::blobs::length_of;
-use lwkt_base::{Fault, Law, OutOfMemory, TokSpec};
-use lwkt_text::{Names, Reading, Refusal, read_text};
+use lwkt_base::{Law, TokSpec};
+use lwkt_text::Names;
 use std::alloc::Global;
 
 /// Appends how cells break a law: `cells 9 5 do not add up to 10`.
 pub fn show_breach(out: &mut Page, law: Law, param: u64, cells: &[u64]) {
-    out.add("cells");
+    out.say("cells");
     out.numbers(cells);
     match law {
-        Law::Any => out.add(" obey every law"),
-        Law::Sum => out.number(" do not add up to ", param),
-        Law::Order => out.add(" are not in rising order"),
-        Law::Cap => out.number(" are not all at most ", param),
-        Law::Tally => out.number(" are not the one cell ", param),
-        Law::Len => out.add(" do not begin with the length of the record"),
+        Law::Any => out.say(" obey every law"),
+        Law::Sum => out.say((" do not add up to ", param)),
+        Law::Order => out.say(" are not in rising order"),
+        Law::Cap => out.say((" are not all at most ", param)),
+        Law::Tally => out.say((" are not the one cell ", param)),
+        Law::Len => out.say(" do not begin with the length of the record"),
     }
-}
-
-// Appends how long a record is.
-fn show_length(out: &mut Page, length: u64) {
-    out.number(", which has ", length);
-    out.add(if length == 1 { " byte" } else { " bytes" });
 }
 
 // Appends how the opening of a token breaks its law, with the length of its record where the law asks for it:
 // `cells 3 do not begin with the length of the record, which has 2 bytes`.
 fn show_opening_breach(out: &mut Page, spec: &TokSpec) {
     show_breach(out, spec.law, spec.param, spec.cells.as_slice());
-    if let (Law::Len, Some(length)) = (spec.law, length_of(&spec.blob)) {
-        show_length(out, length);
+    if spec.law == Law::Len {
+        if let Some(length) = length_of(&spec.blob) {
+            let noun = if length == 1 { " byte" } else { " bytes" };
+            out.say((", which has ", length, noun));
+        }
     }
 }
 
@@ -43,36 +40,40 @@ fn is_lawful(spec: &TokSpec) -> bool {
         .holds(spec.cells.as_slice(), spec.param, length_of(&spec.blob))
 }
 
-// Where the name of a token stands in a text.
-fn name_at(bytes: &[u8], number: usize) -> usize {
+// Where the token of a number is in a list in JSON, or its name in a text.
+fn place_of(bytes: &[u8], names: Option<&Names>, number: usize) -> usize {
+    if names.is_none() {
+        let tokens = Part::whole(bytes).member("tokens");
+        let item = tokens.and_then(|tokens| tokens.item(number));
+        return item.map_or(0, |item| item.from);
+    }
     match sentence_at(bytes, "token", number) {
         Some(at) => place_in_sentence(bytes, at, 1),
         None => 0,
     }
 }
 
-// The token of a list in JSON.
-fn item_of(bytes: &[u8], number: usize) -> Option<Part<'_>> {
-    Part::whole(bytes).member("tokens")?.item(number)
-}
-
-// Points at a token, and appends its name in a text, or its number in JSON.
-fn show_token(out: &mut Words, bytes: &[u8], names: Option<&Names>, number: usize) {
-    out.add("the opening of token ");
+// What is said of a token whose opening breaks its law.
+fn breach_of(
+    alloc: Global,
+    bytes: &[u8],
+    names: Option<&Names>,
+    number: usize,
+    spec: &TokSpec,
+) -> Words {
+    let mut words = Words::new(alloc);
+    words.place = place_of(bytes, names, number);
+    words.page.say("the opening of token ");
     match names {
         Some(names) => {
             let name = names.tokens.as_slice().get(number);
-            out.place = name_at(bytes, number);
-            out.add(name.map_or("", |name| name.as_str()));
+            words.page.say(name.map_or("", |name| name.as_str()));
         }
-        None => {
-            if let Some(item) = item_of(bytes, number) {
-                out.point(item);
-            }
-            out.size("", number);
-        }
+        None => words.page.say(number),
     }
-    out.add(": ");
+    words.page.say(": ");
+    show_opening_breach(&mut words.page, spec);
+    words
 }
 
 /// What is said of the first token whose opening breaks its law, if there is one; of a text, which gives names, by its name.
@@ -84,10 +85,7 @@ pub(crate) fn breach_in(
 ) -> Option<Words> {
     for (number, spec) in tokens.iter().enumerate() {
         if !is_lawful(spec) {
-            let mut words = Words::new(alloc);
-            show_token(&mut words, bytes, names, number);
-            show_opening_breach(&mut words.page, spec);
-            return Some(words);
+            return Some(breach_of(alloc, bytes, names, number, spec));
         }
     }
     None

@@ -9,38 +9,31 @@
 
 mod absences;
 mod breaches;
-mod cells;
-mod files;
-mod items;
+mod checks;
+mod documents;
 mod marks;
-mod members;
 mod messages;
 mod pages;
 mod parts;
 mod places;
 mod proposals;
-mod records;
 mod refusals;
 mod releases;
 mod rows;
 mod sayings;
-mod scripts;
 mod sentence_forms;
 mod sentences;
 mod spans;
-mod step_forms;
-mod trace_forms;
-mod traces;
+mod tokens;
 mod unread;
 mod untraced;
 mod words;
 mod wrongs;
 
 pub use breaches::show_breach;
-pub use files::say_of_file;
 pub use pages::Page;
 pub use places::{Place, add_head, place_from};
-pub use releases::say_releases;
-pub use sayings::has_no_reader;
-pub use unread::{say_opening, say_unread};
-pub use untraced::{say_untraced, say_untraced_line};
+pub use sayings::{
+    has_no_reader, say_of_file, say_opening, say_releases, say_unread, say_untraced,
+    say_untraced_line,
+};

@@ -5,7 +5,7 @@ ghost use Rattle.lwkt_base.specs.Fault.{fault_message};
 ghost use Rattle.lwkt_refusals.specs.Pages.{GrowsBy};
 ghost use Rattle.lwkt_report.specs.Escape.{escaped, letter_shown};
 
-use lwkt_base::memory::{push_char, push_number, push_str, put};
+use lwkt_base::memory::{Piece, push_char, put};
 use lwkt_base::{Fault, OutOfMemory};
 use lwkt_report::{push_escaped, push_shown};
 use std::alloc::Global;
@@ -31,16 +31,20 @@ impl Page {
         }
     }
 
+    /// Appends a piece, or several in turn, as in `page.say(("event ", index, ": "))`.
+    pub fn say<P: Piece>(&mut self, piece: P)
+        ensures { GrowsBy self.old self.new (P.text piece) }
+    {
+        if self.lost.is_none() {
+            self.lost = put(&mut self.text, piece).err();
+        }
+    }
+
     /// Appends a text.
     pub fn add(&mut self, text: &str)
         ensures { GrowsBy self.old self.new text.now }
     {
-        if self.lost.is_none() {
-            match push_str(&mut self.text, text) {
-                Ok(()) => {}
-                Err(refused) => self.lost = Some(refused),
-            }
-        }
+        self.say(text)
     }
 
     /// Appends a character.
@@ -48,10 +52,7 @@ impl Page {
         ensures { letter < 128 → GrowsBy self.old self.new (letter ∷ []) }
     {
         if self.lost.is_none() {
-            match push_char(&mut self.text, letter) {
-                Ok(()) => {}
-                Err(refused) => self.lost = Some(refused),
-            }
+            self.lost = push_char(&mut self.text, letter).err();
         }
     }
 
@@ -60,10 +61,7 @@ impl Page {
         ensures { GrowsBy self.old self.new (letter_shown letter) }
     {
         if self.lost.is_none() {
-            match push_shown(&mut self.text, letter) {
-                Ok(()) => {}
-                Err(refused) => self.lost = Some(refused),
-            }
+            self.lost = push_shown(&mut self.text, letter).err();
         }
     }
 
@@ -72,22 +70,7 @@ impl Page {
         ensures { GrowsBy self.old self.new (escaped text.now) }
     {
         if self.lost.is_none() {
-            match push_escaped(&mut self.text, text) {
-                Ok(()) => {}
-                Err(refused) => self.lost = Some(refused),
-            }
-        }
-    }
-
-    // Appends a number.
-    fn digits(&mut self, number: u64)
-        ensures { GrowsBy self.old self.new (decimal number) }
-    {
-        if self.lost.is_none() {
-            match push_number(&mut self.text, number) {
-                Ok(()) => {}
-                Err(refused) => self.lost = Some(refused),
-            }
+            self.lost = push_escaped(&mut self.text, text).err();
         }
     }
 
@@ -95,8 +78,7 @@ impl Page {
     pub fn number(&mut self, before: &str, number: u64)
         ensures { GrowsBy self.old self.new (before.now ++ decimal number) }
     {
-        self.add(before);
-        self.digits(number)
+        self.say((before, number))
     }
 
     /// Appends a text, and a number of parts behind it.
@@ -116,24 +98,11 @@ impl Page {
         }
     }
 
-    // Appends the message of a fault.
-    fn message(&mut self, fault: Fault)
-        ensures { GrowsBy self.old self.new (fault_message fault) }
-    {
-        if self.lost.is_none() {
-            match put(&mut self.text, fault) {
-                Ok(()) => {}
-                Err(refused) => self.lost = Some(refused),
-            }
-        }
-    }
-
     /// Appends a text, and the message of a fault behind it.
     pub fn fault(&mut self, before: &str, fault: Fault)
         ensures { GrowsBy self.old self.new (before.now ++ fault_message fault) }
     {
-        self.add(before);
-        self.message(fault)
+        self.say((before, fault))
     }
 
     /// Appends what was made on another page.

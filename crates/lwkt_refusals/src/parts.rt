@@ -1,39 +1,38 @@
 //! A part of a JSON text, by where it stands there.
-use crate::spans::{Span, byte_at, is_string_of, past_mark, past_space, span_from};
+use crate::spans::{byte_at, is_string_of, past_mark, past_space, past_value};
 use std::str;
 
 /// A part of a JSON text, by where it stands there.
 #[derive(Clone, Copy)]
 pub(crate) struct Part<'a> {
     text: &'a [u8],
-    span: Span,
+    /// The place of its first byte.
+    pub(crate) from: usize,
+    // The place behind its last byte.
+    to: usize,
 }
 
 impl<'a> Part<'a> {
+    // The part that begins at the first byte from here on that is no white space.
+    fn at(text: &'a [u8], from: usize) -> Part<'a> {
+        let from = past_space(text, from);
+        let to = past_value(text, from);
+        Part { text, from, to }
+    }
+
     /// The whole of a text.
     pub(crate) fn whole(text: &'a [u8]) -> Part<'a> {
-        let span = span_from(text, 0);
-        Part { text, span }
-    }
-
-    // The part of the same text at another place.
-    fn at(&self, span: Span) -> Part<'a> {
-        Part { span, ..*self }
-    }
-
-    /// The place at which it begins.
-    pub(crate) fn from(&self) -> usize {
-        self.span.from
+        Part::at(text, 0)
     }
 
     /// How many bytes it has.
     pub(crate) fn len(&self) -> usize {
-        self.span.to.saturating_sub(self.span.from)
+        self.to.saturating_sub(self.from)
     }
 
     /// It as it was written.
     pub(crate) fn written(&self) -> &'a str {
-        match self.text.get(self.span.from..self.span.to) {
+        match self.text.get(self.from..self.to) {
             Some(bytes) => str::from_utf8(bytes).unwrap_or(""),
             None => "",
         }
@@ -46,27 +45,12 @@ impl<'a> Part<'a> {
 
     /// Its first byte, or 0 where there is none.
     pub(crate) fn first(&self) -> u8 {
-        byte_at(self.text, self.span.from)
-    }
-
-    /// Whether it is an object.
-    pub(crate) fn is_object(&self) -> bool {
-        self.first() == b'{'
-    }
-
-    /// Whether it is a list.
-    pub(crate) fn is_list(&self) -> bool {
-        self.first() == b'['
-    }
-
-    /// Whether it is a string.
-    pub(crate) fn is_string(&self) -> bool {
-        self.first() == b'"'
+        byte_at(self.text, self.from)
     }
 
     /// Whether it is the string of these characters, which are ASCII's.
     pub(crate) fn is_text(&self, letters: &str) -> bool {
-        is_string_of(self.text, self.span.from, letters)
+        is_string_of(self.text, self.from, letters)
     }
 
     /// The whole number that it is.
@@ -76,17 +60,17 @@ impl<'a> Part<'a> {
 
     /// The item or the name behind an item or a member's value, if there is one.
     pub(crate) fn behind(&self, part: Part<'a>) -> Option<Part<'a>> {
-        let end = past_space(self.text, part.span.to);
+        let end = past_space(self.text, part.to);
         if byte_at(self.text, end) != b',' {
             return None;
         }
-        Some(self.at(span_from(self.text, end.saturating_add(1))))
+        Some(Part::at(self.text, end.saturating_add(1)))
     }
 
-    // The first part of a list or an object.
-    fn first_part(&self) -> Option<Part<'a>> {
-        let inner = self.at(span_from(self.text, self.span.from.saturating_add(1)));
-        if matches!(inner.first(), b']' | b'}') {
+    // The first part of what begins with this bracket, if it does and isn't empty.
+    fn inside(&self, bracket: u8) -> Option<Part<'a>> {
+        let inner = Part::at(self.text, self.from.saturating_add(1));
+        if self.first() != bracket || matches!(inner.first(), b']' | b'}') {
             return None;
         }
         Some(inner)
@@ -94,29 +78,39 @@ impl<'a> Part<'a> {
 
     // The value behind a member's name.
     fn value(&self) -> Part<'a> {
-        self.at(span_from(self.text, past_mark(self.text, self.span.to)))
+        Part::at(self.text, past_mark(self.text, self.to))
     }
 
     /// The item of a list at a place.
     pub(crate) fn item(&self, place: usize) -> Option<Part<'a>> {
-        if !self.is_list() {
-            return None;
-        }
-        let mut item = self.first_part()?;
+        let mut item = self.inside(b'[')?;
         for _before in 0..place {
             item = self.behind(item)?;
         }
         Some(item)
     }
 
+    /// The first item of a list that is no whole number.
+    pub(crate) fn odd_item(&self) -> Option<Part<'a>> {
+        let mut next = self.inside(b'[');
+        for _turn in self.from..self.to {
+            let item = next?;
+            if item.number().is_none() {
+                return Some(item);
+            }
+            next = self.behind(item);
+        }
+        None
+    }
+
     /// How many items it has, if it is a list.
     pub(crate) fn count(&self) -> Option<usize> {
-        if !self.is_list() {
+        if self.first() != b'[' {
             return None;
         }
         let mut count = 0usize;
-        let mut next = self.first_part();
-        for _turn in self.span.from..self.span.to {
+        let mut next = self.inside(b'[');
+        for _turn in self.from..self.to {
             let Some(item) = next else {
                 break;
             };
@@ -128,12 +122,9 @@ impl<'a> Part<'a> {
 
     /// The member of an object that has this name: the last one that has it.
     pub(crate) fn member(&self, name: &str) -> Option<Part<'a>> {
-        if !self.is_object() {
-            return None;
-        }
         let mut found = None;
-        let mut next = self.first_part();
-        for _turn in self.span.from..self.span.to {
+        let mut next = self.inside(b'{');
+        for _turn in self.from..self.to {
             let Some(key) = next else {
                 break;
             };
@@ -146,13 +137,15 @@ impl<'a> Part<'a> {
         found
     }
 
+    /// The whole number that a member is.
+    pub(crate) fn number_of(&self, name: &str) -> Option<u64> {
+        self.member(name)?.number()
+    }
+
     /// The name of the first member of an object that has none of these names.
     pub(crate) fn stranger(&self, names: &[&'static str]) -> Option<Part<'a>> {
-        if !self.is_object() {
-            return None;
-        }
-        let mut next = self.first_part();
-        for _turn in self.span.from..self.span.to {
+        let mut next = self.inside(b'{');
+        for _turn in self.from..self.to {
             let key = next?;
             if !names.iter().any(|name| key.is_text(name)) {
                 return Some(key);

@@ -2,7 +2,7 @@
 use crate::pages::Page;
 
 /// A line of a text, and where something stands in it.
-#[derive(Clone, Copy, Debug, PartialEq, Eq)]
+#[derive(Clone, Copy, PartialEq, Eq)]
 pub struct Place {
     /// The line's number, from 1 on.
     pub line: usize,
@@ -47,14 +47,10 @@ pub fn part_from(bytes: &[u8], from: usize, most: usize) -> &[u8] {
 
 /// How many of these bytes stand before the end of a line.
 pub fn line_length(bytes: &[u8]) -> usize {
-    let mut count = 0usize;
-    for byte in bytes {
-        if *byte == b'\n' {
-            return count;
-        }
-        count = count.saturating_add(1);
+    match bytes.iter().position(|byte| *byte == b'\n') {
+        Some(count) => count,
+        None => bytes.len(),
     }
-    count
 }
 
 /// The place of the byte that so many others stand before, or of the end if there are fewer. Only the bytes behind `last`, a place
@@ -96,7 +92,7 @@ pub fn offset_of(bytes: &[u8], line: usize, column: usize) -> usize {
 pub fn add_head(page: &mut Page, path: Option<&str>, place: Place) {
     if let Some(path) = path {
         page.show(path);
-        page.add(":");
+        page.say(":");
     }
-    page.size("", place.line);
+    page.say(place.line);
 }

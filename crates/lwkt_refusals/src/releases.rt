@@ -1,21 +1,13 @@
 //! Releases that are refused if another token was taken later, as a text tells them.
-ghost use Rattle.lwkt_refusals.specs.Sayings.{SaysMore};
-
-use crate::marks::add_shown;
-use crate::messages::{add_end, add_start};
+use crate::messages::{Source, add_end, add_start};
 use crate::pages::Page;
 use crate::places::{Place, place_from};
-use crate::proposals::NAME_LIMIT;
-use crate::sayings::put;
-use crate::sentences::{place_in_sentence, starts_of, word_from};
+use crate::sentence_forms::kinds_of;
+use crate::sentences::{NAME_LIMIT, starts_of, word_in_sentence};
+use lwkt_base::PartKind;
+use lwkt_base::limits::LIST_LIMIT;
 use lwkt_base::memory::push;
-use lwkt_base::steps::verb_named;
-use lwkt_base::{OutOfMemory, PartKind};
-use lwkt_report::Sink;
 use std::alloc::Global;
-
-// The most tokens that a thread has at once.
-const LIST_LIMIT: usize = 32;
 
 // Of how many releases it is said.
 const REMARK_LIMIT: usize = 100;
@@ -23,26 +15,19 @@ const REMARK_LIMIT: usize = 100;
 // The tokens that a thread has taken, if it was given them, and not released, the first first, as its steps name them.
 #[derive(Drop)]
 struct Held<'t> {
-    words: Vec<&'t [u8]>,
+    words: Vec<&'t str>,
     // Whether the thread's steps so far tell which tokens these are.
     is_known: bool,
 }
 
 // Whether a word is a name that is followed: no number, and not long.
-fn is_name(word: &[u8]) -> bool {
-    word.len() <= NAME_LIMIT && matches!(word, [b'A'..=b'Z' | b'a'..=b'z' | b'_', ..])
+fn is_name(word: &str) -> bool {
+    word.len() <= NAME_LIMIT && matches!(word.as_bytes(), [b'A'..=b'Z' | b'a'..=b'z' | b'_', ..])
 }
 
 // Whether a word is that of a step that isn't followed and may take tokens: one that goes with tokens alone.
-fn may_take(word: &[u8]) -> bool {
-    let verb = match str::from_utf8(word) {
-        Ok(text) => verb_named(text),
-        Err(_) => None,
-    };
-    let kinds: &[PartKind] = match verb {
-        Some(verb) => verb.kinds(),
-        None => &[],
-    };
+fn may_take(word: &str) -> bool {
+    let kinds = kinds_of(word);
     !kinds.is_empty() && kinds.iter().all(|kind| *kind == PartKind::Token)
 }
 
@@ -60,27 +45,25 @@ impl<'t> Held<'t> {
         self.is_known = is_known;
     }
 
-    fn has(&self, word: &[u8]) -> bool {
-        self.words.iter().any(|held| *held == word)
-    }
-
     // A token is taken, or is tried to be. One that is named by its number isn't followed.
-    fn take(&mut self, word: &'t [u8]) -> Result<(), OutOfMemory> {
+    fn take(&mut self, page: &mut Page, word: &'t str) {
         if !is_name(word) || self.words.len() >= LIST_LIMIT {
-            self.begin(false);
-            return Ok(());
+            return self.begin(false);
         }
-        push(&mut self.words, word)
+        if let Err(refused) = push(&mut self.words, word) {
+            page.lose(refused);
+        }
     }
 
     // A token is released; the one that has to be released before it, if there is one.
-    fn release(&mut self, word: &[u8]) -> Option<&'t [u8]> {
+    fn release(&mut self, word: &str) -> Option<&'t str> {
         let last = *self.words.as_slice().last()?;
         if last == word {
             let _ = self.words.pop();
             return None;
         }
-        if self.has(word) { Some(last) } else { None }
+        let has_it = self.words.iter().any(|held| *held == word);
+        if has_it { Some(last) } else { None }
     }
 
     // The last two change places.
@@ -92,89 +75,74 @@ impl<'t> Held<'t> {
     }
 
     // What the sentence that begins with these two words does; the token that has to be released before the one that it releases.
-    fn follow(&mut self, first: &[u8], second: &'t [u8]) -> Result<Option<&'t [u8]>, OutOfMemory> {
+    fn follow(&mut self, page: &mut Page, first: &str, second: &'t str) -> Option<&'t str> {
         match first {
-            b"thread" => self.begin(true),
+            "thread" => self.begin(true),
             _ if !self.is_known => {}
-            b"get" | b"gets" | b"try" => self.take(second)?,
-            b"rel" => return Ok(self.release(second)),
-            b"swap" => self.swap(),
-            b"exit" => self.begin(false),
-            b"rrec" => {}
+            "get" | "gets" | "try" => self.take(page, second),
+            "rel" => return self.release(second),
+            "swap" => self.swap(),
+            "exit" => self.begin(false),
+            "rrec" => {}
             _ if may_take(first) => self.begin(false),
             _ => {}
         }
-        Ok(None)
+        None
     }
 }
 
 // Appends when a release is refused, and what to do.
-fn add_release(
-    page: &mut Page,
-    name: Option<&str>,
-    bytes: &[u8],
-    place: Place,
-    word: &[u8],
-    before: &[u8],
-) {
-    add_start(page, name, place);
-    page.add("`rel ");
-    add_shown(page, word);
-    page.add("` is refused with fault 12 if the thread has ");
-    add_shown(page, before);
-    page.add(", which it takes later: release that first");
-    add_end(page, bytes, place, None);
-}
-
-// A word of the sentence that begins at a place; of a long one its beginning, which is too long too.
-fn word_at(bytes: &[u8], start: usize, number: usize) -> &[u8] {
-    word_from(
-        bytes,
-        place_in_sentence(bytes, start, number),
-        NAME_LIMIT.saturating_add(1),
-    )
+fn add_release(page: &mut Page, source: Source<'_>, place: Place, word: &str, before: &str) {
+    add_start(page, source.name, place);
+    page.say((
+        "`rel ",
+        word,
+        "` is refused with fault 12 if the thread has ",
+        before,
+    ));
+    page.say(", which it takes later: release that first");
+    add_end(page, source.bytes, place, "");
 }
 
 // Whether the sentence that begins at a place expects such a refusal.
 fn expects_refusal(bytes: &[u8], start: usize) -> bool {
-    matches!(word_at(bytes, start, 0), b"always" | b"sometimes")
-        && matches!(word_at(bytes, start, 2), b"refused")
-        && matches!(word_at(bytes, start, 3), b"12")
+    matches!(word_in_sentence(bytes, start, 0), "always" | "sometimes")
+        && word_in_sentence(bytes, start, 2) == "refused"
+        && word_in_sentence(bytes, start, 3) == "12"
 }
 
-// What is said of the releases of a text.
-fn releases_said(alloc: Global, name: Option<&str>, bytes: &[u8]) -> Result<String, OutOfMemory> {
-    let mut page = Page::new(alloc);
-    let mut held = Held::new(alloc);
+// Appends what is said of the releases of a text whose sentences begin at these places.
+fn add_releases(page: &mut Page, source: Source<'_>, starts: &[usize]) {
+    let bytes = source.bytes;
+    let mut held = Held::new(source.alloc);
     let mut place = Place::FIRST;
     let mut left = REMARK_LIMIT;
-    let starts = starts_of(alloc, bytes)?;
-    if starts.iter().any(|start| expects_refusal(bytes, *start)) {
-        return page.whole();
-    }
-    for start in &starts {
-        let second = word_at(bytes, *start, 1);
-        if let Some(before) = held.follow(word_at(bytes, *start, 0), second)? {
+    for start in starts {
+        let second = word_in_sentence(bytes, *start, 1);
+        let first = word_in_sentence(bytes, *start, 0);
+        if let Some(before) = held.follow(page, first, second) {
             if left > 0 {
                 place = place_from(bytes, place, *start);
-                add_release(&mut page, name, bytes, place, second, before);
+                add_release(page, source, place, second, before);
                 left -= 1;
             }
         }
     }
-    page.whole()
 }
 
-/// Says of each release of a text that is refused if the thread has another token, which it takes later, in the form of `say_unread`, at
-/// its line: the token that has to be released first. It says nothing if the text expects fault 12. Only the first pass of a thread's
-/// steps is looked at, up to a step after which the text doesn't tell what the thread has.
-///
-/// If memory is refused, it says nothing.
-pub fn say_releases<E: Sink>(alloc: Global, errors: &mut E, name: Option<&str>, bytes: &[u8])
-    ensures { SaysMore (E.has_failed errors.old) (E.has_failed errors.new) (E.contents errors.old) (E.contents errors.new) }
-{
-    match releases_said(alloc, name, bytes) {
-        Ok(text) => put(errors, text.as_str()),
-        Err(_) => put(errors, ""),
+/// What is said of the releases of a text: nothing if it expects that one is refused.
+pub(crate) fn releases_said(source: Source<'_>) -> Page {
+    let mut page = Page::new(source.alloc);
+    match starts_of(source.alloc, source.bytes) {
+        Ok(starts) => {
+            if !starts
+                .iter()
+                .any(|start| expects_refusal(source.bytes, *start))
+            {
+                add_releases(&mut page, source, starts.as_slice());
+            }
+        }
+        Err(refused) => page.lose(refused),
     }
+    page
 }

@@ -1,31 +1,14 @@
 //! What is bad of a list that begins with a word and goes on with numbers and rows.
-use crate::members;
-use crate::members::show_numbers;
+use crate::checks::{WHOLE, show_numbers};
 use crate::parts::Part;
-use crate::records::{is_record, show_no_record};
-use crate::step_forms::form_of_part;
+use crate::tokens::{is_record, show_no_record};
 use crate::words::Words;
-use lwkt_base::{PartKind, VERBS, Verb};
+use lwkt_base::limits::CELL_LIMIT;
+use lwkt_base::steps::verb_named;
+use lwkt_base::{PartKind, VERBS};
 
-/// The number of a token, a cell, a message, a processor or a thread.
-pub(crate) const SMALL: Want = Want::UpTo(255);
-
-/// A number of 32 bits.
-pub(crate) const CODE: Want = Want::UpTo(4_294_967_295);
-
-/// The flags of a send.
-pub(crate) const FLAGS: Want = Want::Flags;
-
-/// Any whole number.
-pub(crate) const WHOLE: Want = Want::UpTo(members::WHOLE);
-
-const ROW: Want = Want::Row;
-
-/// A record.
-pub(crate) const RECORD: Want = Want::Record;
-
-// The most cells of a row.
-const CELL_LIMIT: usize = 4;
+// The most bytes of a record in a list.
+const RECORD_LIMIT: usize = 65;
 
 /// What may stand at a place of a list.
 #[derive(Clone, Copy)]
@@ -40,8 +23,33 @@ pub(crate) enum Want {
     Record,
 }
 
+// The number of a token, a cell, a message, a processor or a thread.
+const SMALL: Want = Want::UpTo(255);
+
+// A number of 32 bits.
+const CODE: Want = Want::UpTo(4_294_967_295);
+
+// Any whole number.
+const ANY: Want = Want::UpTo(WHOLE);
+
+/// What may stand for a part of this kind in JSON, and how it is written in a text, in the letters of docs/LANGUAGE.md.
+pub(crate) fn form_of_part(kind: PartKind) -> (&'static [Want], &'static str) {
+    match kind {
+        PartKind::Token => (&[SMALL], " T"),
+        PartKind::Cell => (&[SMALL, SMALL], " T.C"),
+        PartKind::Value => (&[ANY], " N"),
+        PartKind::Record => (&[Want::Record], " BYTES"),
+        PartKind::Message => (&[SMALL], " M"),
+        PartKind::Target => (&[SMALL, SMALL], " -> TH"),
+        PartKind::Call => (&[CODE, ANY], " [op N] [arg N]"),
+        PartKind::Flags => (&[Want::Flags], " [dropable] [abortable] [priority]"),
+        PartKind::Code => (&[CODE], " [ERROR"),
+        PartKind::Outcome => (&[ANY], " [RESULT]]"),
+    }
+}
+
 /// What a list stands for.
-#[derive(Clone, Copy)]
+#[derive(Clone, Copy, PartialEq, Eq)]
 pub(crate) enum Kind {
     /// A step of a script of version 1.
     Step,
@@ -51,6 +59,49 @@ pub(crate) enum Kind {
     Event,
     /// The end of a message in a trace.
     End,
+}
+
+// A word that a list may begin with, the parts that may stand behind it, and how many rows behind those.
+type Shape = (&'static str, &'static [PartKind], usize);
+
+// A processor, and a token or a message; in JSON two numbers as a token and a cell are.
+const PLACE: PartKind = PartKind::Cell;
+
+const EVENTS: [Shape; 19] = [
+    ("load", &[PLACE], 0),
+    ("take", &[PLACE], 0),
+    ("share", &[PLACE], 0),
+    ("again", &[PLACE], 0),
+    ("mark", &[PLACE], 0),
+    ("give_one", &[PLACE], 0),
+    ("give_clean", &[PLACE], 0),
+    ("give_written", &[PLACE], 0),
+    ("give_written", &[PLACE, PartKind::Value], 2),
+    ("read", &[PLACE, PartKind::Token, PartKind::Value], 0),
+    ("write", &[PLACE, PartKind::Token, PartKind::Value], 0),
+    ("read_record", &[PLACE, PartKind::Record], 0),
+    ("write_record", &[PLACE, PartKind::Record], 0),
+    ("send", &[PLACE, PartKind::Token, PartKind::Value], 0),
+    ("take_msg", &[PLACE, PartKind::Value], 0),
+    ("drop", &[PLACE], 0),
+    ("reply", &[PLACE], 0),
+    ("reap", &[PLACE], 0),
+    ("abort", &[PLACE], 0),
+];
+
+const ENDS: [Shape; 4] = [
+    ("rest", &[PartKind::Token, PartKind::Value], 0),
+    ("out", &[PLACE, PartKind::Value], 0),
+    ("with", &[PLACE, PartKind::Value], 0),
+    ("back", &[PLACE, PartKind::Value], 0),
+];
+
+// The most shapes of a kind.
+const SHAPE_LIMIT: usize = 20;
+
+// Whether only steps of version 2 have this word.
+fn is_later(word: &str) -> bool {
+    matches!(verb_named(word), Some(verb) if verb.is_later())
 }
 
 impl Kind {
@@ -63,37 +114,20 @@ impl Kind {
         }
     }
 
-    // How many shapes it has.
-    fn count(self) -> usize {
-        match self {
-            Kind::Step | Kind::SecondStep => VERBS.len(),
-            Kind::Event => EVENTS.len(),
-            Kind::End => ENDS.len(),
-        }
-    }
-
     // One of the words that it may begin with, and what may stand behind it, if there are so many.
     fn shape(self, i: usize) -> Option<Shape> {
         match self {
-            Kind::Step | Kind::SecondStep => VERBS.get(i).map(|verb| step_shape(*verb)),
-            Kind::Event => EVENTS.get(i).map(|row| row_shape(*row)),
-            Kind::End => ENDS.get(i).map(|row| row_shape(*row)),
-        }
-    }
-
-    // Whether a word is none of this kind, though it is one of the other version's.
-    fn lacks(self, word: Part<'_>) -> bool {
-        match self {
-            Kind::Step => VERBS
-                .iter()
-                .any(|verb| verb.is_later() && word.is_text(verb.word())),
-            _ => false,
+            Kind::Step | Kind::SecondStep => VERBS
+                .get(i)
+                .map(|verb| (verb.word(), verb.kinds(), 0)),
+            Kind::Event => EVENTS.get(i).copied(),
+            Kind::End => ENDS.get(i).copied(),
         }
     }
 
     // Notes the word of this kind that a word is most like, among those that only steps of version 2 have or among the others.
-    fn propose_some(self, out: &mut Words, word: Part<'_>, are_later: bool) {
-        for i in 0..self.count() {
+    fn propose(self, out: &mut Words, word: Part<'_>, are_later: bool) {
+        for i in 0..SHAPE_LIMIT {
             if let Some(shape) = self.shape(i) {
                 if is_later(shape.0) == are_later {
                     out.propose(word, shape.0);
@@ -102,78 +136,20 @@ impl Kind {
         }
     }
 
-    // Notes the word of this kind that a word is most like.
-    fn propose(self, out: &mut Words, word: Part<'_>) {
-        self.propose_some(out, word, false);
-        if matches!(self, Kind::SecondStep) {
-            self.propose_some(out, word, true);
+    // The most that a number at a place may be, if it has to be one.
+    fn limit(self, want: Want) -> Option<u64> {
+        match want {
+            Want::UpTo(limit) => Some(limit),
+            Want::Flags if self == Kind::SecondStep => Some(7),
+            Want::Flags => Some(3),
+            Want::Row | Want::Record => None,
         }
     }
-
-    // The most that flags are.
-    fn most_flags(self) -> u64 {
-        match self {
-            Kind::SecondStep => 7,
-            _ => 3,
-        }
-    }
-}
-
-// A word, the kinds of the parts of a step that may stand behind it, and what else may.
-type Shape = (&'static str, &'static [PartKind], &'static [Want]);
-
-// A word, and what may stand behind it.
-type Row = (&'static str, &'static [Want]);
-
-const EVENTS: [Row; 19] = [
-    ("load", &[SMALL, SMALL]),
-    ("take", &[SMALL, SMALL]),
-    ("share", &[SMALL, SMALL]),
-    ("again", &[SMALL, SMALL]),
-    ("mark", &[SMALL, SMALL]),
-    ("give_one", &[SMALL, SMALL]),
-    ("give_clean", &[SMALL, SMALL]),
-    ("give_written", &[SMALL, SMALL]),
-    ("give_written", &[SMALL, SMALL, WHOLE, ROW, ROW]),
-    ("read", &[SMALL, SMALL, SMALL, WHOLE]),
-    ("write", &[SMALL, SMALL, SMALL, WHOLE]),
-    ("read_record", &[SMALL, SMALL, RECORD]),
-    ("write_record", &[SMALL, SMALL, RECORD]),
-    ("send", &[SMALL, SMALL, SMALL, WHOLE]),
-    ("take_msg", &[SMALL, SMALL, WHOLE]),
-    ("drop", &[SMALL, SMALL]),
-    ("reply", &[SMALL, SMALL]),
-    ("reap", &[SMALL, SMALL]),
-    ("abort", &[SMALL, SMALL]),
-];
-
-const ENDS: [Row; 4] = [
-    ("rest", &[SMALL, WHOLE]),
-    ("out", &[SMALL, SMALL, WHOLE]),
-    ("with", &[SMALL, SMALL, WHOLE]),
-    ("back", &[SMALL, SMALL, WHOLE]),
-];
-
-// A kind of step, as a shape.
-fn step_shape(verb: Verb) -> Shape {
-    (verb.word(), verb.kinds(), &[])
-}
-
-// A row of a table, as a shape.
-fn row_shape(row: Row) -> Shape {
-    (row.0, &[], row.1)
-}
-
-// Whether only steps of version 2 have this word.
-fn is_later(word: &str) -> bool {
-    VERBS
-        .iter()
-        .any(|verb| verb.is_later() && verb.word() == word)
 }
 
 // How many parts a list of a shape has.
 fn count_of(shape: Shape) -> usize {
-    let mut count = shape.2.len().saturating_add(1);
+    let mut count = shape.2.saturating_add(1);
     for kind in shape.1 {
         count = count.saturating_add(form_of_part(*kind).0.len());
     }
@@ -190,16 +166,19 @@ fn want_at(shape: Shape, place: usize) -> Option<Want> {
         }
         left = left.saturating_sub(wants.len());
     }
-    shape.2.get(left).copied()
+    if left < shape.2 {
+        Some(Want::Row)
+    } else {
+        None
+    }
 }
 
 // The shape that begins with a word and has so many parts, if there is one.
 fn shape_of(word: Part<'_>, count: usize, kind: Kind) -> Option<Shape> {
-    for i in 0..kind.count() {
-        if let Some(shape) = kind.shape(i) {
-            if word.is_text(shape.0) && count_of(shape) == count {
-                return Some(shape);
-            }
+    for i in 0..SHAPE_LIMIT {
+        let shape = kind.shape(i)?;
+        if word.is_text(shape.0) && count_of(shape) == count {
+            return Some(shape);
         }
     }
     None
@@ -207,50 +186,40 @@ fn shape_of(word: Part<'_>, count: usize, kind: Kind) -> Option<Shape> {
 
 // Whether a part is a list of at most so many parts as a row has cells.
 fn is_short_list(part: Part<'_>) -> bool {
-    match part.count() {
-        Some(count) => count <= CELL_LIMIT,
-        None => false,
-    }
-}
-
-// Whether a part is a row.
-fn is_row(part: Part<'_>) -> bool {
-    if !is_short_list(part) {
-        return false;
-    }
-    for place in 0..CELL_LIMIT {
-        if let Some(cell) = part.item(place) {
-            if cell.number().is_none() {
-                return false;
-            }
-        }
-    }
-    true
-}
-
-// Whether a part is a whole number up to this one.
-fn is_up_to(part: Part<'_>, limit: u64) -> bool {
-    part.number().is_some() && part.number() <= Some(limit)
+    matches!(part.count(), Some(count) if count <= CELL_LIMIT)
 }
 
 // Whether a part is what is wanted.
 fn fits(part: Part<'_>, want: Want, kind: Kind) -> bool {
     match want {
-        Want::UpTo(limit) => is_up_to(part, limit),
-        Want::Flags => is_up_to(part, kind.most_flags()),
-        Want::Row => is_row(part),
-        Want::Record => is_record(part, 65),
+        Want::Row => is_short_list(part) && part.odd_item().is_none(),
+        Want::Record => is_record(part, RECORD_LIMIT),
+        _ => part.number().is_some() && part.number() <= kind.limit(want),
     }
 }
 
 // Appends what is bad of a part that isn't a row.
 fn show_no_row(out: &mut Words, part: Part<'_>) {
     if is_short_list(part) {
-        out.add(" in which ");
+        out.page.say(" in which ");
         show_numbers(out, part, "a cell");
     } else {
-        out.size(" that is no list of at most ", CELL_LIMIT);
-        out.add(" cells");
+        out.page
+            .say((" that is no list of at most ", CELL_LIMIT, " cells"));
+    }
+}
+
+// Appends what is bad of the part at a place of a list, which isn't what is wanted.
+fn show_unfit(out: &mut Words, part: Part<'_>, place: usize, want: Want, kind: Kind) {
+    out.point(part);
+    out.page.say((" has a part ", place));
+    if let Some(limit) = kind.limit(want) {
+        out.page.say((" that is no whole number 0 to ", limit));
+    } else if matches!(want, Want::Row) {
+        show_no_row(out, part);
+    } else {
+        out.page.say(" that is ");
+        show_no_record(out, RECORD_LIMIT);
     }
 }
 
@@ -261,42 +230,26 @@ fn show_part(out: &mut Words, list: Part<'_>, shape: Shape, kind: Kind) {
             return;
         };
         if !fits(part, want, kind) {
-            out.point(part);
-            out.size(" has a part ", place);
-            return match want {
-                Want::UpTo(limit) => out.number(" that is no whole number 0 to ", limit),
-                Want::Flags => out.number(" that is no whole number 0 to ", kind.most_flags()),
-                Want::Row => show_no_row(out, part),
-                Want::Record => {
-                    out.add(" that is ");
-                    show_no_record(out, 65)
-                }
-            };
+            return show_unfit(out, part, place, want, kind);
         }
     }
-    out.add(" is refused");
-}
-
-// Appends how many parts a list with a word has, and how many one of this shape has; of a further shape only the latter.
-fn show_shape(out: &mut Words, shape: Shape, count: usize, is_further: bool) {
-    if is_further {
-        out.size(" or ", count_of(shape));
-    } else {
-        out.parts(" has ", count);
-        out.add(", ");
-        out.add(shape.0);
-        out.size(" has ", count_of(shape));
-    }
+    out.page.say(" is refused");
 }
 
 // Appends how many parts a list with a word has, and how many it may have, if there is a shape with the word; says whether
 // there is.
 fn show_count(out: &mut Words, word: Part<'_>, count: usize, kind: Kind) -> bool {
+    let noun = if count == 1 { " part, " } else { " parts, " };
     let mut is_known = false;
-    for i in 0..kind.count() {
+    for i in 0..SHAPE_LIMIT {
         if let Some(shape) = kind.shape(i) {
             if word.is_text(shape.0) {
-                show_shape(out, shape, count, is_known);
+                if is_known {
+                    out.page.say(" or ");
+                } else {
+                    out.page.say((" has ", count, noun, shape.0, " has "));
+                }
+                out.page.say(count_of(shape));
                 is_known = true;
             }
         }
@@ -304,36 +257,44 @@ fn show_count(out: &mut Words, word: Part<'_>, count: usize, kind: Kind) -> bool
     is_known
 }
 
-// Appends what is bad of a list behind its text.
-fn show_behind(out: &mut Words, list: Part<'_>, kind: Kind) {
-    let Some(word) = list.item(0) else {
-        return out.add(" doesn't begin with a word");
-    };
-    if !word.is_string() {
-        return out.add(" doesn't begin with a word");
+// Appends that a list begins with a word that no list of its kind has.
+fn show_no_word(out: &mut Words, word: Part<'_>, kind: Kind) {
+    out.page.say((" has a word that no ", kind.name(), " has"));
+    kind.propose(out, word, false);
+    if kind == Kind::SecondStep {
+        kind.propose(out, word, true);
     }
-    if kind.lacks(word) {
-        return out.add(" has a word that steps have in version 2 alone");
+}
+
+// Whether a word is one that steps have in version 2 alone.
+fn is_second(word: Part<'_>) -> bool {
+    VERBS
+        .iter()
+        .any(|verb| verb.is_later() && word.is_text(verb.word()))
+}
+
+// Appends what is bad of a list that begins with a word.
+fn show_behind(out: &mut Words, list: Part<'_>, word: Part<'_>, kind: Kind) {
+    if kind == Kind::Step && is_second(word) {
+        return out
+            .page
+            .say(" has a word that steps have in version 2 alone");
     }
     let count = list.count().unwrap_or(0);
     if let Some(shape) = shape_of(word, count, kind) {
         return show_part(out, list, shape, kind);
     }
     if !show_count(out, word, count, kind) {
-        out.add(" has a word that no ");
-        out.add(kind.name());
-        out.add(" has");
-        kind.propose(out, word);
+        show_no_word(out, word, kind);
     }
 }
 
 /// Appends what is bad of a list of a kind.
 pub(crate) fn show_row(out: &mut Words, list: Part<'_>, kind: Kind) {
-    out.point(list);
-    out.part(list);
-    if list.is_list() {
-        show_behind(out, list, kind);
-    } else {
-        out.add(" is no list");
+    out.quote("", list, "");
+    match list.item(0) {
+        Some(word) if word.first() == b'"' => show_behind(out, list, word, kind),
+        _ if list.first() == b'[' => out.page.say(" doesn't begin with a word"),
+        _ => out.page.say(" is no list"),
     }
 }

@@ -5,7 +5,7 @@ use lwkt_base::memory::push;
 use std::alloc::Global;
 
 // What a byte is to a word.
-#[derive(Clone, Copy, Debug, PartialEq, Eq)]
+#[derive(Clone, Copy, PartialEq, Eq)]
 enum Kind {
     // It parts words and belongs to none.
     Gap,
@@ -32,14 +32,10 @@ fn kind_of(byte: u8) -> Kind {
 
 // How many of these bytes stand before the first of another kind.
 fn run_length(bytes: &[u8], kind: Kind) -> usize {
-    let mut count = 0usize;
-    for byte in bytes {
-        if kind_of(*byte) != kind {
-            return count;
-        }
-        count = count.saturating_add(1);
+    match bytes.iter().position(|byte| kind_of(*byte) != kind) {
+        Some(count) => count,
+        None => bytes.len(),
     }
-    count
 }
 
 // How many bytes the word has that these bytes begin with, if they begin with one.
@@ -59,6 +55,15 @@ fn word_length(bytes: &[u8]) -> usize {
 pub fn word_from(bytes: &[u8], at: usize, most: usize) -> &[u8] {
     let rest = part_from(bytes, at, most);
     part_of(rest, 0, word_length(rest))
+}
+
+/// The most characters of a word for which a name is proposed, and of such a name.
+pub(crate) const NAME_LIMIT: usize = 64;
+
+/// The word that begins at a place, or `?` if it is no text; of one that is too long for a name its beginning, which is too long too.
+pub(crate) fn word_at(bytes: &[u8], at: usize) -> &str {
+    let word = word_from(bytes, at, NAME_LIMIT.saturating_add(1));
+    str::from_utf8(word).unwrap_or("?")
 }
 
 // Where the next word begins, or where the sentence ends, from a place behind a word on.
@@ -94,8 +99,13 @@ pub fn place_in_sentence(bytes: &[u8], at: usize, number: usize) -> usize {
     place
 }
 
+/// Word `number` of the sentence of a place, as `word_at` reads it.
+pub(crate) fn word_in_sentence(bytes: &[u8], at: usize, number: usize) -> &str {
+    word_at(bytes, place_in_sentence(bytes, at, number))
+}
+
 // Where in a text a byte stands.
-#[derive(Clone, Copy, Debug, PartialEq, Eq)]
+#[derive(Clone, Copy, PartialEq, Eq)]
 enum Stage {
     // Before the first word of a sentence.
     Before,

@@ -1,14 +1,5 @@
 //! Where the parts of a JSON text begin and end.
 
-/// Where a part of a text begins, and where what is behind it does.
-#[derive(Clone, Copy, Debug, PartialEq, Eq)]
-pub struct Span {
-    /// The place of its first byte.
-    pub from: usize,
-    /// The place behind its last byte.
-    pub to: usize,
-}
-
 /// The byte at a place, or 0 behind the end.
 pub fn byte_at(text: &[u8], at: usize) -> u8 {
     match text.get(at) {
@@ -88,50 +79,19 @@ pub fn past_value(text: &[u8], from: usize) -> usize {
     }
 }
 
-/// The part that begins at the first byte from here on that is no white space.
-pub fn span_from(text: &[u8], from: usize) -> Span {
-    let from = past_space(text, from);
-    Span {
-        from,
-        to: past_value(text, from),
-    }
-}
-
 /// The place behind the next byte that is no white space: behind the comma or the colon between two parts.
 pub fn past_mark(text: &[u8], from: usize) -> usize {
     past_space(text, from).saturating_add(1)
-}
-
-// The value of a hexadecimal digit.
-fn digit_of(byte: u8) -> u32 {
-    match byte {
-        b'0'..=b'9' => u32::from(byte - b'0'),
-        b'a'..=b'f' => u32::from(byte - b'a') + 10,
-        b'A'..=b'F' => u32::from(byte - b'A') + 10,
-        _ => 0,
-    }
 }
 
 // The number that four hexadecimal digits are.
 fn code_at(text: &[u8], at: usize) -> u32 {
     let mut code = 0u32;
     for i in 0..4usize {
-        let digit = digit_of(byte_at(text, at.saturating_add(i)));
-        code = code.saturating_mul(16).saturating_add(digit);
+        let digit = (byte_at(text, at.saturating_add(i)) as char).to_digit(16);
+        code = code.saturating_mul(16).saturating_add(digit.unwrap_or(0));
     }
     code
-}
-
-// The character that stands behind a backslash, if that is one of ASCII's.
-fn escaped(mark: u8) -> u32 {
-    match mark {
-        b'b' => 8,
-        b't' => 9,
-        b'n' => 10,
-        b'f' => 12,
-        b'r' => 13,
-        _ => u32::from(mark),
-    }
 }
 
 // The character of a string at a place, if it is one of ASCII's, and the place behind it.
@@ -140,12 +100,16 @@ fn letter_at(text: &[u8], at: usize) -> (u32, usize) {
     if byte != b'\\' {
         return (u32::from(byte), at.saturating_add(1));
     }
-    let mark = byte_at(text, at.saturating_add(1));
     let behind = at.saturating_add(2);
-    if mark == b'u' {
-        return (code_at(text, behind), behind.saturating_add(4));
+    match byte_at(text, at.saturating_add(1)) {
+        b'u' => (code_at(text, behind), behind.saturating_add(4)),
+        b'b' => (8, behind),
+        b't' => (9, behind),
+        b'n' => (10, behind),
+        b'f' => (12, behind),
+        b'r' => (13, behind),
+        mark => (u32::from(mark), behind),
     }
-    (escaped(mark), behind)
 }
 
 /// Whether the part that begins here is the string of these characters, which are ASCII's.

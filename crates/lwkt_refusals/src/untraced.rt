@@ -1,188 +1,117 @@
-//! Why a trace is refused, as messages of the program.
-ghost use Rattle.lwkt_refusals.specs.Sayings.{SaysMore};
-
-use crate::messages::{add_end, add_fault, add_name, add_start, add_try};
+//! Why a trace is refused, and what input looks like that isn't the trace that it had to be.
+use crate::documents::Document;
+use crate::messages::{Source, add_try, add_words, add_words_at};
 use crate::pages::Page;
 use crate::parts::Part;
-use crate::places::Place;
-use crate::refusals::{Document, line_words, opening_words, part_words};
-use crate::trace_forms::{begins_text, is_in_lines, is_whole_trace};
-use crate::unread::{NO_MEMORY, add_words, put_page};
+use crate::places::{Place, line_length, part_of};
+use crate::refusals::part_words;
 use crate::words::Words;
 use lwkt_base::Fault;
-use lwkt_report::Sink;
+use lwkt_base::memory::read_json;
 use lwkt_text::{is_named_text, is_text};
 use std::alloc::Global;
 
-/// What is said of a trace in lines that had to be one text.
-pub(crate) const IN_LINES: &str = "this is a trace in lines";
+// What is said of input that isn't the trace that it had to be, and the command that reads it.
+type Other = (&'static str, &'static str);
 
-// What input is that isn't the trace that it had to be.
-#[derive(Clone, Copy)]
-enum Other {
-    // A script, in JSON or as a text.
-    Script,
-    // A trace in lines.
-    Lines,
-    // A trace of one text.
-    Whole,
+// A script, in JSON or as a text.
+const SCRIPT: Other = ("this is a script, and no trace", "lwkt run");
+
+// A trace in lines.
+const LINES: Other = ("this is a trace in lines", "lwkt check --lines");
+
+// A trace of one text.
+const WHOLE: Other = (
+    "this is a trace of one text, and not one in lines",
+    "lwkt check",
+);
+
+/// Whether bytes look like a trace of one text: they have events, and no threads.
+pub(crate) fn is_whole_trace(bytes: &[u8]) -> bool {
+    let whole = Part::whole(bytes);
+    whole.member("events").is_some() && whole.member("threads").is_none()
 }
 
-impl Other {
-    // What is said of it.
-    fn words(self) -> &'static str {
-        match self {
-            Other::Script => "this is a script, and no trace",
-            Other::Lines => IN_LINES,
-            Other::Whole => "this is a trace of one text, and not one in lines",
-        }
-    }
+/// Whether bytes that are no JSON text look like a trace in lines: the first line is by itself an opening, without events.
+pub(crate) fn is_in_lines(alloc: Global, bytes: &[u8]) -> bool {
+    let line = part_of(bytes, 0, line_length(bytes));
+    let opening = Part::whole(line);
+    opening.member("tokens").is_some()
+        && opening.member("events").is_none()
+        && matches!(read_json(alloc, line), Ok(Ok(_)))
+}
 
-    // The command that reads it.
-    fn command(self) -> &'static str {
-        match self {
-            Other::Script => "lwkt run",
-            Other::Lines => "lwkt check --lines",
-            Other::Whole => "lwkt check",
-        }
-    }
+// Whether the first line of a trace in lines looks like the beginning of a trace of one text: it begins an object, and doesn't end
+// it.
+fn begins_text(alloc: Global, line: &[u8]) -> bool {
+    Part::whole(line).first() == b'{'
+        && matches!(read_json(alloc, line), Ok(Err(error)) if error.is_eof())
 }
 
 // Whether bytes that are no trace are a script.
-fn is_script(alloc: Global, name: Option<&str>, bytes: &[u8]) -> bool {
-    Part::whole(bytes).member("threads").is_some()
-        || is_named_text(name)
-        || matches!(is_text(alloc, bytes), Ok(true))
+fn is_script(source: Source<'_>) -> bool {
+    Part::whole(source.bytes).member("threads").is_some()
+        || is_named_text(source.name)
+        || matches!(is_text(source.alloc, source.bytes), Ok(true))
 }
 
-// What bytes are that had to be a trace of one text.
-fn other_than_whole(alloc: Global, name: Option<&str>, bytes: &[u8], place: u32) -> Option<Other> {
+// What input is that had to be a trace of one text.
+fn other_than_whole(source: Source<'_>, place: u32) -> Option<Other> {
     if place > 1 {
         None
-    } else if is_script(alloc, name, bytes) {
-        Some(Other::Script)
-    } else if place == 0 && is_in_lines(alloc, bytes) {
-        Some(Other::Lines)
+    } else if is_script(source) {
+        Some(SCRIPT)
+    } else if place == 0 && is_in_lines(source.alloc, source.bytes) {
+        Some(LINES)
     } else {
         None
     }
 }
 
 // What input is that had to be a trace in lines, by its first line.
-fn other_than_lines(
-    alloc: Global,
-    name: Option<&str>,
-    number: usize,
-    line: &[u8],
-) -> Option<Other> {
+fn other_than_lines(source: Source<'_>, number: usize) -> Option<Other> {
     if number > 1 {
         None
-    } else if is_script(alloc, name, line) {
-        Some(Other::Script)
-    } else if is_whole_trace(line) || begins_text(alloc, line) {
-        Some(Other::Whole)
+    } else if is_script(source) {
+        Some(SCRIPT)
+    } else if is_whole_trace(source.bytes) || begins_text(source.alloc, source.bytes) {
+        Some(WHOLE)
     } else {
         None
     }
 }
 
-// What is said of input that is something else.
-fn other_words(alloc: Global, other: Other, bytes: &[u8]) -> Words {
-    let mut words = Words::new(alloc);
-    words.point(Part::whole(bytes));
-    words.add(other.words());
+// What is said of input that is something else, or is bad at a place.
+fn words_of(document: Document, source: Source<'_>, place: u32, other: Option<Other>) -> Words {
+    let Some((said, _)) = other else {
+        return part_words(source.alloc, document, source.bytes, place);
+    };
+    let mut words = Words::new(source.alloc);
+    words.point(Part::whole(source.bytes));
+    words.page.say(said);
     words
 }
 
-// Appends which command reads input that is something else.
-fn add_command(page: &mut Page, other: Option<Other>, name: Option<&str>) {
-    if let Some(other) = other {
-        add_try(page, other.command(), name);
-    }
-}
-
-// Appends why a trace of one text is refused at a place.
-fn add_place(alloc: Global, page: &mut Page, name: Option<&str>, bytes: &[u8], place: u32) {
-    let other = other_than_whole(alloc, name, bytes, place);
-    let mut words = match other {
-        Some(other) => other_words(alloc, other, bytes),
-        None => part_words(alloc, Document::Trace, bytes, place),
+/// Appends why a trace of one text is refused at a place, or a line of a trace in lines.
+pub(crate) fn add_untraced(page: &mut Page, document: Document, source: Source<'_>, place: u32) {
+    let other = match document {
+        Document::Line(number) => other_than_lines(source, number),
+        _ => other_than_whole(source, place),
     };
-    add_fault(&mut words.page, Fault::Script { place });
-    add_words(page, name, bytes, &words);
-    add_command(page, other, name);
-}
-
-// Appends why the opening of a trace is refused.
-fn add_opening(alloc: Global, page: &mut Page, name: Option<&str>, bytes: &[u8], fault: Fault) {
-    let words = if fault == Fault::LawBroken {
-        opening_words(alloc, Document::Trace, bytes)
-    } else {
-        None
-    };
-    match words {
-        Some(mut words) => {
-            add_fault(&mut words.page, fault);
-            add_words(page, name, bytes, &words);
+    let words = words_of(document, source, place, other);
+    let fault = Some(Fault::Script { place });
+    match document {
+        Document::Line(line) => {
+            let place = Place {
+                line,
+                before: words.place,
+                start: 0,
+            };
+            add_words_at(page, source, place, &words, fault);
         }
-        None => {
-            add_name(page, name);
-            page.fault(": ", fault);
-            add_fault(page, fault);
-            page.add("\n");
-        }
+        _ => add_words(page, source, &words, fault),
     }
-}
-
-/// Says why a trace of one text is refused with this fault: `lwkt: FILE:LINE:COLUMN: WORDS (FAULT)`, and the line with a mark under the
-/// place; where a known word is near `` did you mean `WORD`? ``; and `try: COMMAND` if it is something else that a command reads. Of any
-/// other fault than `Script` and `LawBroken` its text, without a line. Input that comes from no named file is called `standard input`.
-///
-/// If memory is refused, it says only that.
-pub fn say_untraced<E: Sink>(
-    alloc: Global,
-    errors: &mut E,
-    name: Option<&str>,
-    bytes: &[u8],
-    fault: Fault,
-)
-    ensures { SaysMore (E.has_failed errors.old) (E.has_failed errors.new) (E.contents errors.old) (E.contents errors.new) }
-{
-    let mut page = Page::new(alloc);
-    match fault {
-        Fault::Memory(_) => page.add(NO_MEMORY),
-        Fault::Script { place } => add_place(alloc, &mut page, name, bytes, place),
-        fault => add_opening(alloc, &mut page, name, bytes, fault),
+    if let Some((_, command)) = other {
+        add_try(page, command, source.name);
     }
-    put_page(errors, page);
-}
-
-/// Says why a line of a trace in lines, which has this number, counted from 1, is refused at this place, in the form of `say_untraced`.
-pub fn say_untraced_line<E: Sink>(
-    alloc: Global,
-    errors: &mut E,
-    name: Option<&str>,
-    number: usize,
-    line: &[u8],
-    place: u32,
-)
-    ensures { SaysMore (E.has_failed errors.old) (E.has_failed errors.new) (E.contents errors.old) (E.contents errors.new) }
-{
-    let other = other_than_lines(alloc, name, number, line);
-    let mut words = match other {
-        Some(other) => other_words(alloc, other, line),
-        None => line_words(alloc, number, line, place),
-    };
-    add_fault(&mut words.page, Fault::Script { place });
-    let place = Place {
-        line: number,
-        before: words.place,
-        start: 0,
-    };
-    let mut page = Page::new(alloc);
-    add_start(&mut page, name, place);
-    page.add_page(&words.page);
-    add_end(&mut page, line, place, words.near());
-    add_command(&mut page, other, name);
-    put_page(errors, page);
 }

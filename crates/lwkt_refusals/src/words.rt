@@ -1,7 +1,7 @@
 //! What is said of a bad part of JSON.
 use crate::pages::Page;
 use crate::parts::Part;
-use crate::proposals::{Near, nearer};
+use crate::proposals::{NO_NAME, Near, nearer};
 use std::alloc::Global;
 
 // The longest part that is shown whole, in bytes.
@@ -12,52 +12,36 @@ const PART_LIMIT: usize = 200;
 pub(crate) struct Words {
     pub(crate) page: Page,
     pub(crate) place: usize,
-    near: Option<Near<'static>>,
-    alloc: Global,
+    near: Near<'static>,
+    pub(crate) alloc: Global,
 }
 
 impl Words {
     /// No words, of the beginning of the text.
     pub(crate) fn new(alloc: Global) -> Words {
+        let page = Page::new(alloc);
         Words {
-            page: Page::new(alloc),
+            page,
             place: 0,
-            near: None,
+            near: NO_NAME,
             alloc,
         }
     }
 
     /// Notes that this is the bad part.
     pub(crate) fn point(&mut self, part: Part<'_>) {
-        self.place = part.from();
+        self.place = part.from;
     }
 
     /// Notes a known word, if the part is more like it than like those that were noted before.
     pub(crate) fn propose(&mut self, part: Part<'_>, word: &'static str) {
-        match nearer(self.alloc, part.unquoted(), self.near, word) {
-            Ok(near) => self.near = near,
-            Err(refused) => self.page.lose(refused),
-        }
+        let near = nearer(&mut self.page, self.alloc, part.unquoted(), self.near, word);
+        self.near = near;
     }
 
-    /// The known word that the part is most like, if it is like one.
-    pub(crate) fn near(&self) -> Option<&'static str> {
-        self.near.map(|near| near.name)
-    }
-
-    /// Appends a text.
-    pub(crate) fn add(&mut self, text: &str) {
-        self.page.add(text);
-    }
-
-    /// Appends a text, and a number behind it.
-    pub(crate) fn number(&mut self, before: &str, number: u64) {
-        self.page.number(before, number);
-    }
-
-    /// Appends a text, and a number of parts behind it.
-    pub(crate) fn size(&mut self, before: &str, number: usize) {
-        self.page.size(before, number);
+    /// The known word that the part is most like, or the empty one if it is like none.
+    pub(crate) fn near(&self) -> &'static str {
+        self.near.name
     }
 
     // Appends a text of input without white space, but for that in its strings.
@@ -75,27 +59,15 @@ impl Words {
         }
     }
 
-    /// Appends a part as it was written, on one line, where it is short.
-    pub(crate) fn part(&mut self, part: Part<'_>) {
+    /// Points at a part, and appends it as it was written, on one line where it is short, between two texts.
+    pub(crate) fn quote(&mut self, before: &str, part: Part<'_>, behind: &str) {
+        self.point(part);
+        self.page.say(before);
         if part.len() > PART_LIMIT {
-            self.size("a part of ", part.len());
-            self.add(" bytes");
+            self.page.say(("a part of ", part.len(), " bytes"));
         } else {
             self.close(part.written());
         }
-    }
-
-    /// Appends names, each after a space.
-    pub(crate) fn names(&mut self, names: &[&'static str]) {
-        for name in names {
-            self.add(" ");
-            self.add(*name);
-        }
-    }
-
-    /// Appends a number of parts of a list: `2 parts`.
-    pub(crate) fn parts(&mut self, before: &str, count: usize) {
-        self.size(before, count);
-        self.add(if count == 1 { " part" } else { " parts" });
+        self.page.say(behind);
     }
 }

@@ -13,7 +13,7 @@ use Rattle.lwkt_base.specs.Fault.{number_of}
 use Rattle.lwkt_base.specs.Hex.{bytes_text}
 use Rattle.lwkt_report.specs.declared.closings.Closing.{Closing}
 use Rattle.lwkt_report.specs.declared.closings.TokenLine.{TokenLine}
-use Rattle.lwkt_report.specs.declared.closings.ThreadLine.{ThreadLine}
+use Rattle.lwkt_base.specs.declared.threads.ThreadLine.{ThreadLine}
 use Rattle.lwkt_base.specs.declared.entries.Entry.{Entry}
 use Rattle.lwkt_base.specs.declared.entries.Entry.TheVariants.{Value, Bytes, Aborted, Request, Reply, NoMessage, Dropped, Refused}
 use Rattle.lwkt_report.specs.declared.closings.Verdict.{Verdict}

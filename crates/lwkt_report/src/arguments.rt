@@ -5,16 +5,13 @@ ghost use Rattle.lwkt_report.specs.declared.arguments.WordsFault.TheVariants.{Me
 use lwkt_base::OutOfMemory;
 use lwkt_base::memory::arguments_of;
 use std::rt::Env;
-use thiserror::Error;
 
 /// Why the arguments of a program can't be told.
-#[derive(Clone, Copy, Debug, PartialEq, Eq, Error)]
+#[derive(Clone, Copy)]
 pub enum WordsFault {
     /// Memory for them was refused.
-    #[error("{0}")]
     Memory(OutOfMemory),
     /// One isn't UTF-8.
-    #[error("an argument isn't UTF-8")]
     NotUtf8,
 }
 

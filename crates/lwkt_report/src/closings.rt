@@ -1,8 +1,7 @@
-use crate::logs::Log;
-use lwkt_base::{Blob, Cells, MsgEnd, ThreadId, ThreadState, TokList};
+use lwkt_base::{Blob, Cells, MsgEnd, ThreadLine};
 
 /// What a token is at the end of a run.
-#[derive(Debug, Drop)]
+#[derive(Drop)]
 pub struct TokenLine {
     /// The generation, 0 to 70368744177663.
     pub generation: u64,
@@ -14,21 +13,8 @@ pub struct TokenLine {
     pub blob: Option<Blob>,
 }
 
-/// What a thread is when a run stops.
-#[derive(Debug, Drop)]
-pub struct ThreadLine {
-    /// The thread.
-    pub id: ThreadId,
-    /// Whether it could go on, waited, or had ended, and by what.
-    pub state: ThreadState,
-    /// The references that it then has.
-    pub list: TokList,
-    /// The first 32 of the answers that it was given.
-    pub log: Log,
-}
-
 /// What a run says of its own trace.
-#[derive(Clone, Copy, Debug, PartialEq, Eq)]
+#[derive(Clone, Copy, PartialEq, Eq)]
 pub enum Verdict {
     /// Nothing: the run was made by several threads, and its steps lie in no known order.
     Closed,
@@ -39,7 +25,7 @@ pub enum Verdict {
 }
 
 /// All that a report shows of a run that has ended.
-#[derive(Debug, Drop)]
+#[derive(Drop)]
 pub struct Closing {
     /// The tokens, by number.
     pub tokens: Vec<TokenLine>,

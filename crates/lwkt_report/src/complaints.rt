@@ -8,7 +8,7 @@ use itoa::Buffer;
 use lwkt_base::Fault;
 
 /// A program, by the name that its lines begin with.
-#[derive(Clone, Copy, Debug, PartialEq, Eq)]
+#[derive(Clone, Copy, PartialEq, Eq)]
 pub enum Program {
     /// `lwkt_run`.
     Run,
@@ -17,7 +17,7 @@ pub enum Program {
 }
 
 /// What a program says where there is no whole report.
-#[derive(Clone, Copy, Debug, PartialEq, Eq)]
+#[derive(Clone, Copy, PartialEq, Eq)]
 pub enum Complaint {
     /// The arguments are not those of the program.
     Usage,

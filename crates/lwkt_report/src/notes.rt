@@ -5,7 +5,7 @@ use std::io;
 use std::io::{Read, Write};
 
 /// Any reader, with the error of its last call that failed. It gives what the reader gives.
-#[derive(Debug, Drop)]
+#[derive(Drop)]
 pub struct NotedReader<R> {
     /// The reader.
     pub reader: R,
@@ -40,7 +40,7 @@ impl<R: Read> Read for NotedReader<R> {
 }
 
 /// Any writer, with the error of its last call that failed. It takes what the writer takes.
-#[derive(Debug, Drop)]
+#[derive(Drop)]
 pub struct NotedWriter<W> {
     /// The writer.
     pub writer: W,

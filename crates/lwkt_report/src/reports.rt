@@ -2,11 +2,11 @@ ghost use Rattle.std.specs.Prelude.{◌≡◌, ◌++◌, OnOk, IfOk, string_byte
 ghost use Rattle.std.specs.List.{flat_map};
 ghost use Rattle.lwkt_report.specs.Report.{token_line, tally_line, record_line, message_line, thread_line, verdict_line, numbered_lines, front_text, report_text};
 
-use crate::closings::{Closing, ThreadLine, TokenLine, Verdict};
+use crate::closings::{Closing, TokenLine, Verdict};
 use crate::listings::{show_listed, show_spaced};
 use crate::parts::Shown;
 use lwkt_base::memory::{push_str, put};
-use lwkt_base::{Blob, Cells, MsgEnd, OutOfMemory};
+use lwkt_base::{Blob, Cells, MsgEnd, OutOfMemory, ThreadLine};
 use std::alloc::Global;
 
 fn show_tally(tok: usize, tallies: &Option<Cells>, out: &mut String) -> Result<(), OutOfMemory>

@@ -47,7 +47,7 @@ pub trait Sink {
 }
 
 /// Any writer. A write that was interrupted, or that takes no byte of some, has failed; it is not made again.
-#[derive(Debug, Drop)]
+#[derive(Drop)]
 pub struct WriterSink<W> {
     /// The writer.
     pub writer: W,
@@ -99,7 +99,7 @@ impl<W: Write> Sink for WriterSink<W> {
 }
 
 /// Text in memory. It takes all that fits the room that it has, and more where memory is there.
-#[derive(Debug, Drop)]
+#[derive(Drop)]
 pub struct Page {
     /// The bytes that were put, in order.
     pub text: Vec<u8>,

@@ -43,7 +43,7 @@ impl Source for &[u8] {
 }
 
 /// Any reader, which is not called again once a call of it has failed. A call that was interrupted has failed.
-#[derive(Debug, Drop)]
+#[derive(Drop)]
 pub struct ReaderSource<R> {
     /// The reader.
     pub reader: R,

@@ -6,8 +6,8 @@ use Rattle.std.specs.Str.{all_ascii_digits, bytes_eq}
 use Rattle.std.specs.Str.Parse.{digits_value, without_leading_plus}
 use Rattle.clap.specs.Lexer.{strip_byte}
 use Rattle.clap.specs.Words.{Text}
-use Rattle.lwkt_scenes.specs.declared.reels.Counted.{Counted}
-use Rattle.lwkt_scenes.specs.declared.reels.Counted.TheVariants.{Turns, Rounds}
+use Rattle.lwkt_show.specs.declared.options.Counted.{Counted}
+use Rattle.lwkt_show.specs.declared.options.Counted.TheVariants.{Turns, Rounds}
 use Rattle.lwkt_request.specs.declared.ranges.Range.{Range}
 
 -- the number that a text is: its decimal digits, perhaps behind a plus, if there are any, for a number below 2 ^ 64

@@ -3,7 +3,7 @@ use lwkt_explore::{Bounds, Method};
 use lwkt_show::Options;
 
 /// Which orders of a script's turns are tried, and how.
-#[derive(Clone, Copy, Debug, PartialEq, Eq)]
+#[derive(Clone, Copy, PartialEq, Eq)]
 pub struct Search {
     /// `--states` and `--turns`: 1000000 and 100000 if they aren't named.
     pub bounds: Bounds,
@@ -22,7 +22,7 @@ pub struct Search {
 }
 
 /// What `lwkt text` makes of a script.
-#[derive(Clone, Copy, Debug, PartialEq, Eq)]
+#[derive(Clone, Copy, PartialEq, Eq)]
 pub enum Form {
     /// The script as JSON.
     Json,
@@ -33,7 +33,7 @@ pub enum Form {
 }
 
 /// What is to be done with what is read.
-#[derive(Clone, Copy, Debug, PartialEq, Eq)]
+#[derive(Clone, Copy, PartialEq, Eq)]
 pub enum Task {
     /// A script is run and reported.
     Run {
@@ -62,7 +62,7 @@ pub enum Task {
 }
 
 /// A request.
-#[derive(Debug, Drop)]
+#[derive(Drop)]
 pub struct Request {
     /// What is to be done.
     pub task: Task,
@@ -73,7 +73,7 @@ pub struct Request {
 }
 
 /// What the words of a command line ask for.
-#[derive(Debug, Drop)]
+#[derive(Drop)]
 pub enum Asked {
     /// This request.
     Do(Request),

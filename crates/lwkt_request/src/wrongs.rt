@@ -4,7 +4,7 @@ use lwkt_base::memory::{from_str, push_str, put};
 use std::alloc::Global;
 
 /// Why the options of a subcommand ask for nothing. An option stands with its dashes, a value beside it.
-#[derive(Clone, Copy, Debug)]
+#[derive(Clone, Copy)]
 pub(crate) enum Wrong<'a> {
     /// The value is no whole number below 2^64.
     Number(&'static str, &'a str),

@@ -11,7 +11,8 @@ use Rattle.lwkt_cpu.specs.Processors.{Processor}
 use Rattle.lwkt_lane.proofs.PlaceMoves.{some_same, get_there, get_set_other}
 use Rattle.lwkt_cpu.proofs.SightMoves.{IsLooked}
 use Rattle.lwkt_machine.specs.Bodies.{Scripted}
-use Rattle.lwkt_machine.proofs.SightMoves.{zip_long, zip_get, sent_looked}
+use Rattle.lwkt_machine.proofs.ListMoves.{zip_long, zip_get}
+use Rattle.lwkt_machine.proofs.SightMoves.{sent_looked}
 use Rattle.lwkt_verdict.specs.Run.{whose}
 use Rattle.lwkt_run.specs.Arriving.{NotesArrive}
 use Rattle.lwkt_run.specs.Running.{Scene, MakesTurnAt}

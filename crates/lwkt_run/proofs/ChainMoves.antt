@@ -11,7 +11,7 @@ use Rattle.lwkt_base.specs.Holding.{is_exclusive}
 use Rattle.lwkt_core.specs.declared.events.Event.{Event}
 use Rattle.lwkt_core.specs.declared.finals.Final.{Final}
 use Rattle.lwkt_core.specs.declared.tokens.Token.{Token}
-use Rattle.lwkt_core.specs.declared.tokens.TheConstants.{CPU_LIMIT}
+use Rattle.lwkt_base.specs.declared.limits.TheConstants.{CPU_LIMIT}
 use Rattle.lwkt_core.specs.Tokens.{IsFree, IsOpen}
 use Rattle.lwkt_core.specs.Machine.{Machine}
 use Rattle.lwkt_core.specs.Trace.{Run, IsLawfulTrace}

@@ -8,40 +8,39 @@ use Rattle.lwkt_core.specs.declared.events.Event.{Event}
 use Rattle.lwkt_port.specs.Chains.{Chain}
 use Rattle.lwkt_port.proofs.Chaining.{chain_none, chain_more}
 use Rattle.lwkt_cpu.specs.declared.answers.Turned.{Turned}
+use Rattle.lwkt_machine.specs.Bodies.{Scripted, IsPolled}
 use Rattle.lwkt_machine.specs.Machines.{Rig}
 use Rattle.lwkt_machine.specs.Turns.{TurnsAt}
-use Rattle.lwkt_machine.proofs.StopMoves.{AreOverBelow}
 use Rattle.lwkt_verdict.specs.declared.turns.Turn.{Turn}
 use Rattle.lwkt_verdict.specs.Run.{whose}
 use Rattle.lwkt_run.specs.declared.polled.Polled.{Polled}
 use Rattle.lwkt_run.specs.Judging.{events_of}
 use Rattle.lwkt_run.specs.Keeping.{Story, kept_after, story_after, turn_of}
 use Rattle.lwkt_run.specs.Running.{Scene, scene, HasBeenAsked, says_over, both, MakesKeptTurn, MakesTurnAt, MakesSome}
-use Rattle.lwkt_run.specs.Driving.{Pair, pair, Walk, walk, GoesOnBy, FollowsTurnAt, FollowsStep, FollowsRound, Stand, IsAt, TurnDriven, RoundDriven, RoundsDriven, TurnsDriven}
+use Rattle.lwkt_run.specs.Driving.{Pair, pair, Walk, walk, GoesOnBy, DeclinesBy, DeclinesTurn, FollowsTurnAt, FollowsStep, FollowsRound, Stand, IsAt, TurnDriven, RoundDriven, RoundsDriven, TurnsDriven}
 use Rattle.lwkt_run.proofs.OrderMoves.{chain_maps}
-use Rattle.lwkt_run.proofs.RoundMoves.{over_later, both_true, says_all}
-use Rattle.lwkt_run.proofs.StandMoves.{some_made}
+use Rattle.lwkt_run.proofs.RoundMoves.{AreOverBelow, over_later, both_true, says_all}
 
 -- a scene after a turn
-abbrev scene_after : ℕ → Option Polled → List Event → Rig → Scene → Scene
+abbrev scene_after : ℕ → Option Polled → List Event → Rig Scripted → Scene → Scene
 scene_after cpu asks part m x = scene m (x.trace ++ part) (kept_after cpu (length part) asks x.kept)
 
 -- what a keeper has, it has of a scene; and after a turn of the scene after that
 abbrev Shows : Option Story → Scene → Type 0
 Shows kept x = IfSome kept (λ story. (x.trace ≡ story.trace) × (x.kept ≡ story.kept))
 
-shows_more : (cpu : ℕ) (asks : Option Polled) (part : List Event) (m : Rig) (x : Scene) (old : Option Story) → Shows old x → Shows (option_map (story_after cpu asks part) old) (scene_after cpu asks part m x)
+shows_more : (cpu : ℕ) (asks : Option Polled) (part : List Event) (m : Rig Scripted) (x : Scene) (old : Option Story) → Shows old x → Shows (option_map (story_after cpu asks part) old) (scene_after cpu asks part m x)
 shows_more cpu asks part m x None is = tt
 shows_more cpu asks part m x (Some story) is =
     (ap (λ es. es ++ part) is.0, ap (λ k. kept_after cpu (length part) asks k) is.1)
 
 -- a turn of a machine is kept in the scene after it
-abbrev turn_kept : (cpu : ℕ) (turned : Turned) (m n : Rig) (room part : Vec Event Global) (asks : Option Polled) (x : Scene) → x.machine ≡ m → room.items ≡ [] → TurnsAt cpu m n room part turned → HasBeenAsked cpu n turned asks → MakesKeptTurn cpu turned x (scene_after cpu asks part.items n x)
+abbrev turn_kept : (cpu : ℕ) (turned : Turned) (m n : Rig Scripted) (room part : Vec Event Global) (asks : Option Polled) (x : Scene) → x.machine ≡ m → room.items ≡ [] → TurnsAt IsPolled cpu m n room part turned → HasBeenAsked cpu n turned asks → MakesKeptTurn cpu turned x (scene_after cpu asks part.items n x)
 turn_kept cpu turned m n room part asks x same none makes asked = record {
   room = room;
   part = part;
   none = none;
-  makes = subst (λ k. TurnsAt cpu k n room part turned) (sym same) makes;
+  makes = subst (λ k. TurnsAt IsPolled cpu k n room part turned) (sym same) makes;
   grown = refl;
   events = length part.items;
   counted = refl;
@@ -63,13 +62,13 @@ pub record Turns (cpu : ℕ) (turned : Turned) (asks : Option Polled) (s t : Sta
   pub room : Vec Event Global
   pub part : Vec Event Global
   pub none : room.items ≡ []
-  pub makes : TurnsAt cpu s.machine t.machine room part turned
+  pub makes : TurnsAt IsPolled cpu s.machine t.machine room part turned
   pub asked : HasBeenAsked cpu t.machine turned asks
   pub kept : t.kept ≡ option_map (story_after cpu asks part.items) s.kept
 
 -- the check says no to it
-pub turn_unfit : (cpu : ℕ) (turned : Turned) (asks : Option Polled) (s t : Stand) → Turns cpu turned asks s t → t.events ≡ s.events → TurnDriven cpu None s t
-turn_unfit cpu turned asks s t made same x at =
+pub turn_unfit : (cpu : ℕ) (turned : Turned) (asks : Option Polled) (s t : Stand) (made : Turns cpu turned asks s t) → t.events ≡ s.events → DeclinesBy cpu asks made.part.items s.follow → TurnDriven cpu None s t
+turn_unfit cpu turned asks s t made same declines x at =
     let part : List Event = made.part.items in
     let y : Scene = scene_after cpu asks part t.machine x in
     let kept : Shows t.kept y = subst (λ k. Shows k y) (sym made.kept) (shows_more cpu asks part t.machine x s.kept at.of.kept) in (
@@ -77,9 +76,9 @@ turn_unfit cpu turned asks s t made same x at =
       (
         record {
           of = record { machine = refl; kept = kept };
-          stood = record { before = x.kept.turns; last = turn_of asks (length part) (length x.kept.polls) ∷ []; turns_are = refl; one = omega arith; counted = same ∙ at.counted };
+          stood = record { before = x.kept.turns; last = turn_of asks (length part) (length x.kept.polls); turns_are = refl; counted = same ∙ at.counted };
         },
-        (turned, turn_kept cpu turned s.machine t.machine made.room made.part asks x at.of.machine made.none made.makes made.asked),
+        record { turned = turned; turn = turn_kept cpu turned s.machine t.machine made.room made.part asks x at.of.machine made.none made.makes made.asked; declines = declines },
       ),
     )
 
@@ -145,18 +144,15 @@ pub within_stops : (cpu : ℕ) (over : Bool) (s t u : Stand) → cpu < length s.
 within_stops cpu over s t u less so_far driven x at =
     let w = so_far x at in
     let d = driven w.to w.at in
-    let f : Walk → Scene = λ v. v.at.at in
-    let all : cpu ≤ cpu = omega arith in
-    let turns : Chain Scene MakesTurnAt cpu x w.to = chain_maps Walk Scene f FollowsStep MakesTurnAt cpu (λ k a b below step. (step.0, step.1.0.turn)) cpu (walk (pair x s.follow) true) (walk (pair w.to t.follow) over) all w.turns in
     let here : cpu < length x.machine.cpus = subst (λ m. cpu < length m.cpus) (sym at.of.machine) less in
-    (d.0, (d.1.0, (cpu, (here, chain_more Scene MakesTurnAt cpu x w.to d.0 turns d.1.1))))
+    (d.0, (d.1.0, (cpu, (here, (walk (pair w.to t.follow) over, (w.turns, d.1.1))))))
 
 pub within_ends : (cpu : ℕ) (over : Bool) (s t : Stand) → cpu ≡ length s.machine.cpus → length t.machine.cpus ≡ length s.machine.cpus → WithinRound cpu over s t → RoundDriven (Some over) s t
 within_ends cpu over s t whole same so_far x at =
     let w = so_far x at in
     let y = w.to in
-    let long : cpu ≡ length x.machine.cpus = whole ∙ sym (ap (λ (m : Rig). length m.cpus) at.of.machine) in
-    let all : cpu ≡ length y.machine.cpus = whole ∙ sym same ∙ sym (ap (λ (m : Rig). length m.cpus) w.at.of.machine) in (
+    let long : cpu ≡ length x.machine.cpus = whole ∙ sym (ap (λ (m : Rig Scripted). length m.cpus) at.of.machine) in
+    let all : cpu ≡ length y.machine.cpus = whole ∙ sym same ∙ sym (ap (λ (m : Rig Scripted). length m.cpus) w.at.of.machine) in (
       y,
       (
         w.at,
@@ -190,7 +186,7 @@ pub rounds_stop : (limit count : ℕ) (s t u : Stand) → count < limit → Roun
 rounds_stop limit count s t u less so_far driven x at =
     let w = so_far x at in
     let d = driven w.0 w.1.0 in
-    (d.0, (d.1.0, (count, (less, (w.0, (some_made count (pair x s.follow) (pair w.0 t.follow) w.1.1, d.1.1))))))
+    (d.0, (d.1.0, (count, (less, (pair w.0 t.follow, (w.1.1, d.1.1))))))
 
 pub rounds_all : (limit count : ℕ) (s t : Stand) → count ≡ limit → RoundsSoFar count s t → RoundsDriven limit true s t
 rounds_all limit count s t all so_far x at =
@@ -221,8 +217,8 @@ pub turns_stop : (order : List ℕ) (count cpu : ℕ) (s t u : Stand) → count 
 turns_stop order count cpu s t u less named so_far driven x at =
     let w = so_far x at in
     let d = driven w.0 w.1.0 in
-    let turn : MakesTurnAt (whose order count) w.0 d.0 = subst (λ k. MakesTurnAt k w.0 d.0) named d.1.1 in
-    (d.0, (d.1.0, (count, (less, chain_more Scene (λ k. MakesTurnAt (whose order k)) count x w.0 d.0 (turns_made order count (pair x s.follow) (pair w.0 t.follow) w.1.1) turn))))
+    let turn : DeclinesTurn (whose order count) (pair w.0 t.follow) d.0 = subst (λ k. DeclinesTurn k (pair w.0 t.follow) d.0) named d.1.1 in
+    (d.0, (d.1.0, (count, (less, (pair w.0 t.follow, (w.1.1, turn))))))
 
 pub turns_all : (order : List ℕ) (count : ℕ) (s t : Stand) → count ≡ length order → TurnsSoFar order count s t → TurnsDriven order true s t
 turns_all order count s t all so_far x at =

@@ -15,7 +15,7 @@ use Rattle.lwkt_machine.specs.Ended.{AreOver}
 use Rattle.lwkt_machine.specs.Machines.{Rig}
 use Rattle.lwkt_machine.specs.Standings.{standing_of, standings_on, standings_of}
 use Rattle.lwkt_machine.specs.declared.standings.Standing.{Standing}
-use Rattle.lwkt_report.specs.declared.closings.ThreadLine.{ThreadLine}
+use Rattle.lwkt_base.specs.declared.threads.ThreadLine.{ThreadLine}
 use Rattle.lwkt_run.specs.Running.{ShowThreads}
 
 abbrev Ended : ThreadState → Type 0
@@ -57,7 +57,7 @@ lines_say (line ∷ lines) all =
     All-cons SaysEnded line lines (All-head Ended line.state rest all) (lines_say lines (All-tail Ended line.state rest all))
 
 -- where every thread of a machine has ended, its lines say so
-pub lines_ended : (lines : List ThreadLine) (m : Rig) → ShowThreads lines m → AreOver m.cpus → All (λ line. has_ended line.state ≡ true) lines
+pub lines_ended : (lines : List ThreadLine) (m : Rig Scripted) → ShowThreads lines m → AreOver m.cpus → All (λ line. has_ended line.state ≡ true) lines
 lines_ended lines m shown over =
     let F : List ThreadState → Type 0 = λ states. All Ended states in
     lines_say lines (subst F (sym shown.states) (All-map Ended (λ (s : Standing). s.state) (standings_of m.cpus) (all_ended_from m.cpus 0 over)))

@@ -9,9 +9,12 @@ use Rattle.lwkt_core.specs.declared.events.Place.{Place}
 use Rattle.lwkt_core.specs.declared.events.Place.TheVariants.{AtToken, AtMessage}
 use Rattle.lwkt_core.specs.Events.{place_of}
 use Rattle.lwkt_core.specs.Machine.{Machine, after, after_at}
-use Rattle.lwkt_core.specs.Trace.{Run}
+use Rattle.lwkt_core.specs.Trace.{Run, IsLawfulTrace, Closes}
+use Rattle.lwkt_run.specs.Checked.{DeclinesSo}
+use Rattle.lwkt_run.specs.declared.endings.Left.{Left}
 use Rattle.lwkt_script.specs.declared.scripts.ThreadSpec.{ThreadSpec}
-use Rattle.lwkt_report.specs.declared.closings.ThreadLine.{ThreadLine}
+use Rattle.lwkt_base.specs.declared.threads.ThreadLine.{ThreadLine}
+use Rattle.lwkt_machine.specs.Bodies.{Scripted}
 use Rattle.lwkt_machine.specs.Ended.{AreOver}
 use Rattle.lwkt_machine.specs.Machines.{Rig}
 use Rattle.lwkt_verdict.specs.declared.turns.Poll.{Poll}
@@ -19,7 +22,7 @@ use Rattle.lwkt_verdict.specs.declared.turns.Turn.{Turn}
 use Rattle.lwkt_verdict.specs.declared.turns.Pace.{Pace}
 use Rattle.lwkt_verdict.specs.declared.turns.Pace.TheVariants.{Rounds}
 use Rattle.lwkt_verdict.specs.Parts.{after_all}
-use Rattle.lwkt_verdict.specs.Run.{poll_of, AreListed, IsPaired, GoesRound, AreRounds, KeepsPace, IsScriptRun, RunsThrough}
+use Rattle.lwkt_verdict.specs.Run.{poll_of, EndsRun, AreListed, IsPaired, GoesRound, AreRounds, KeepsPace, IsScriptRun, RunsThrough}
 use Rattle.lwkt_verdict.specs.Follow.{Follow, Begins, EndsHere, none_answered}
 use Rattle.lwkt_run.specs.Keeping.{none_kept}
 use Rattle.lwkt_run.specs.Running.{Scene, scene}
@@ -27,7 +30,7 @@ use Rattle.lwkt_run.specs.Driving.{Pair, pair}
 use Rattle.lwkt_verdict.proofs.TraceMoves.{traces_happen}
 use Rattle.lwkt_run.proofs.FillMoves.{filled}
 use Rattle.lwkt_run.proofs.OrderMoves.{Rounded, rounded}
-use Rattle.lwkt_run.proofs.TrackMoves.{IsFront, tracks_none}
+use Rattle.lwkt_run.proofs.TrackMoves.{IsFront, tracks_none, through_run, run_through, knows_none}
 use Rattle.lwkt_run.proofs.StandMoves.{Stands, Unpolled, RoundsAre, after_join}
 
 -- events leave the processors
@@ -35,7 +38,7 @@ at_cpus : (m : Machine) (e : Event) (place : Place) → (after_at m e place).cpu
 at_cpus m e (AtToken i) = refl
 at_cpus m e (AtMessage i) = refl
 
-after_cpus : (m : Machine) (events : List Event) → (after_all m events).cpus ≡ m.cpus
+pub after_cpus : (m : Machine) (events : List Event) → (after_all m events).cpus ≡ m.cpus
 after_cpus m [] = refl
 after_cpus m (e ∷ events) = after_cpus (after m e) events ∙ at_cpus m e (place_of e)
 
@@ -54,9 +57,11 @@ no_poll : (polls : List Poll) (t : Turn) → Unpolled t → is_some (poll_of pol
 no_poll polls t is = ap (λ o. is_some (option_and_then (slice_get polls) o)) is
 
 -- before the first turn
-pub stands_none : (plans : List ThreadSpec) (opening : Machine) (opened : Rig) (f : Follow) → Begins plans opening f → Stands plans opening (pair (scene opened [] none_kept) f)
+pub stands_none : (plans : List ThreadSpec) (opening : Machine) (opened : Rig Scripted) (f : Follow) → Begins plans opening f → Stands plans opening (pair (scene opened [] none_kept) f)
 stands_none plans opening opened f begins = record {
   tracks = tracks_none plans opening f begins;
+  knows = knows_none plans opening f begins;
+  shown = λ answers. ([], begins.shown answers);
   threads = begins.plans;
   led = begins.machine;
   long = refl;
@@ -64,7 +69,7 @@ stands_none plans opening opened f begins = record {
 }
 
 -- the rounds that were made are those of the script, or fewer
-paced : (cpus limit : ℕ) (x y : Scene) (lines : List ThreadLine) → 0 < cpus → 0 < limit → x.kept.order ≡ [] → length y.kept.order ≡ length y.kept.turns → RoundsAre cpus limit x y → (AreOver y.machine.cpus → All (λ line. has_ended line.state ≡ true) lines) → AreRounds y.kept.polls cpus limit y.kept.order y.kept.turns lines
+pub paced : (cpus limit : ℕ) (x y : Scene) (lines : List ThreadLine) → 0 < cpus → 0 < limit → x.kept.order ≡ [] → length y.kept.order ≡ length y.kept.turns → RoundsAre cpus limit x y → (AreOver y.machine.cpus → All (λ line. has_ended line.state ≡ true) lines) → AreRounds y.kept.polls cpus limit y.kept.order y.kept.turns lines
 paced cpus limit x y lines some_cpu some_turn none same made ended =
     let kept = y.kept in
     let r : Rounded cpus (made.count * cpus) x y = rounded cpus (made.count * cpus) x y none made.turns in
@@ -88,7 +93,7 @@ paced cpus limit x y lines some_cpu some_turn none same made ended =
       ];
     }
 
-run_after : (m n : Machine) (events : List Event) → Run m events n → n ≡ after_all m events
+pub run_after : (m n : Machine) (events : List Event) → Run m events n → n ≡ after_all m events
 run_after m n [] run = run
 run_after m n (e ∷ events) run =
     run_after run.0 n events run.1.1 ∙ ap (λ k. after_all k events) run.1.0.1
@@ -107,8 +112,8 @@ runs_whole plans opening p lines stop stands ends =
     let polls : IsFront (filled none_answered kept.polls) kept.polls = ([], sym (append-nil _ ∙ stands.waits)) in
     let order : IsFront kept.order kept.order = ([], sym (append-nil kept.order)) in
     let track = stands.tracks none_answered lines kept.polls kept.order ends.bear polls order in
-    let end : RunsThrough plans lines kept.polls kept.order p.follow.machine track.before [] stop = subst (λ ps. RunsThrough ps lines kept.polls kept.order p.follow.machine track.before [] stop) stands.threads (ends.ends track.before track.shown) in
-    subst (λ ts. RunsThrough plans lines kept.polls kept.order opening [] ts (p.at.trace ++ stop)) (append-nil kept.turns) (track.on [] stop end)
+    let end : EndsRun plans lines p.follow.machine track.before stop = subst (λ ps. EndsRun ps lines p.follow.machine track.before stop) stands.threads (ends.ends track.before track.shown) in
+    subst (λ ts. RunsThrough plans lines kept.polls kept.order opening [] ts (p.at.trace ++ stop)) (append-nil kept.turns) (run_through plans lines kept.polls kept.order opening [] (kept.turns ++ []) (p.at.trace ++ stop) (track.on true [] stop end))
 
 -- a trace and what is kept of its turns are a run of the script to its end
 pub record Whole (plans : List ThreadSpec) (pace : Pace) (opening : Machine) (p : Pair) (lines : List ThreadLine) (stop : List Event) : Type 0 where
@@ -133,3 +138,20 @@ pub rounds_whole : (plans : List ThreadSpec) (limit : ℕ) (opening : Machine) (
 rounds_whole plans limit opening x p lines stop some_cpu some_turn none made stands ended ends =
     let is = paced opening.cpus limit x p.at lines some_cpu some_turn none stands.long made ended in
     followed_whole plans (Rounds limit) opening p lines stop stands (goes_within opening.cpus 0 p.at.kept.order some_cpu is.round) is ends
+
+-- where the check says that the run doesn't end so, it isn't a run of the script that closes so
+pub no_run : (plans : List ThreadSpec) (pace : Pace) (opening : Machine) (p : Pair) (left : Left) (stop : List Event) → Stands plans opening p → DeclinesSo p.follow left stop → IsLawfulTrace opening (p.at.trace ++ stop) left.last → IsScriptRun plans pace p.at.kept.order opening p.at.kept.polls p.at.kept.turns (p.at.trace ++ stop) left.threads.items → ⊥
+no_run plans pace opening p left stop stands declines lawful run =
+    let kept = p.at.kept in
+    let lines = left.threads.items in
+    let f = p.follow in
+    let polls : IsFront (filled none_answered kept.polls) kept.polls = ([], sym (append-nil _ ∙ stands.waits)) in
+    let order : IsFront kept.order kept.order = ([], sym (append-nil kept.order)) in
+    let R : List Turn → Type 0 = λ ts. RunsThrough plans lines kept.polls kept.order opening [] ts (p.at.trace ++ stop) in
+    let through = through_run plans lines kept.polls kept.order opening [] (kept.turns ++ []) (p.at.trace ++ stop) (subst R (sym (append-nil kept.turns)) run.runs) in
+    let k = stands.knows true none_answered lines kept.polls kept.order polls order [] stop through in
+    let cpus : f.machine.cpus ≡ opening.cpus = ap (λ (m : Machine). m.cpus) stands.led ∙ after_cpus opening p.at.trace in
+    let listed : AreListed f.machine.cpus 0 lines = subst (λ n. AreListed n 0 lines) (sym cpus) run.listed in
+    let ends : EndsRun f.plans lines f.machine k.before stop = subst (λ ps. EndsRun ps lines f.machine k.before stop) (sym stands.threads) k.on in
+    let last : lawful.0 ≡ after_all f.machine stop = run_after opening lawful.0 (p.at.trace ++ stop) lawful.1.0 ∙ after_join opening p.at.trace stop ∙ ap (λ m. after_all m stop) (sym stands.led) in
+    declines k.before k.allow k.shown listed ends (subst (λ m. Closes m left.last) last lawful.1.1)

@@ -7,8 +7,8 @@ use Rattle.lwkt_base.specs.declared.openings.TokSpec.{TokSpec}
 use Rattle.lwkt_base.specs.declared.sections.Section.{Section}
 use Rattle.lwkt_core.specs.declared.events.Event.{Event}
 use Rattle.lwkt_core.specs.declared.events.Event.TheVariants.{GiveWritten}
-use Rattle.lwkt_events.specs.declared.gives.Give.{Give}
-use Rattle.lwkt_events.specs.Gives.{give_of}
+use Rattle.lwkt_drive.specs.declared.gives.Give.{Give}
+use Rattle.lwkt_drive.specs.Gives.{give_of}
 use Rattle.lwkt_core.specs.RunSections.{section_in, sections_told}
 use Rattle.lwkt_run.specs.Telling.{opening_rows}
 

@@ -11,7 +11,7 @@ use Rattle.lwkt_cpu.specs.Processors.{Processor, is_running}
 use Rattle.lwkt_machine.specs.declared.standings.Standing.{Standing}
 use Rattle.lwkt_machine.specs.Bodies.{Scripted}
 use Rattle.lwkt_machine.specs.Machines.{Rig}
-use Rattle.lwkt_machine.specs.Opened.{body_of, bodies_on, IsOpenedMachine}
+use Rattle.lwkt_machine.specs.Scripts.{body_of, bodies_on, IsOpenedScript}
 use Rattle.lwkt_machine.specs.Standings.{standing_of, standings_on, standings_of}
 use Rattle.lwkt_script.specs.declared.scripts.Script.{Script}
 use Rattle.lwkt_script.specs.declared.scripts.ThreadSpec.{ThreadSpec}
@@ -74,7 +74,7 @@ long_copies zero x = refl
 long_copies (suc n) x = ap suc (long_copies n x)
 
 -- a machine as it is opened has the script's threads
-pub opened_has : (script : Script) (m : Rig) → IsOpenedMachine script m → HasThreads script.cpus script.threads m.cpus
+pub opened_has : (script : Script) (m : Rig Scripted) → IsOpenedScript script m → HasThreads script.cpus script.threads m.cpus
 opened_has script m opened = record {
   as_many = opened.as_many;
   each = λ k p at.

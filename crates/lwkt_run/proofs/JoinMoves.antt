@@ -29,9 +29,11 @@ use Rattle.lwkt_hold.specs.Steps.{is_of_token, Tells}
 use Rattle.lwkt_msg.specs.Book.{Mail, no_mail, opened_mail}
 use Rattle.lwkt_msg.specs.Steps.{machine_of}
 use Rattle.lwkt_msg.specs.Told.{IsDone as IsMailDone, first_mails}
+use Rattle.lwkt_machine.specs.Bodies.{Scripted}
 use Rattle.lwkt_machine.specs.declared.closings.Closed.{Closed}
 use Rattle.lwkt_machine.specs.Machines.{Rig}
-use Rattle.lwkt_threads.specs.Parts.{of_cpu, TellTheRuns}
+use Rattle.lwkt_machine.specs.Parts.{TellTheRuns}
+use Rattle.lwkt_run.specs.Parts.{of_cpu}
 use Rattle.lwkt_run.specs.Joining.{AreOneRun, RunsJoin}
 
 -- an event is at a token, or at a message
@@ -248,7 +250,7 @@ part_kept : (p : Event → Bool) (cpu : ℕ) (events own : List Event) → filte
 part_kept p cpu events own is = filter_both p (λ (e : Event). cpu_of e == cpu) events ∙ ap (of_cpu cpu) is
 
 -- two runs of a machine's halves, and what the processors' parts tell of them, are one run of it
-pub one_run : (cpus : ℕ) (tokens : List TokSpec) (messages : List MsgSpec) (opened : Rig) (closed : Closed) (last : Final) (parts : List (List Event))
+pub one_run : (cpus : ℕ) (tokens : List TokSpec) (messages : List MsgSpec) (opened : Rig Scripted) (closed : Closed Scripted) (last : Final) (parts : List (List Event))
     → TellTheRuns opened closed parts → first_machine opened.bank.plans (length opened.cpus) ≡ opening cpus tokens [] → machine_of opened.book.cpus (first_mails opened.book.specs) ≡ opening cpus [] messages
     → last.rows ≡ closed.tokens.rows → last.gens ≡ closed.tokens.gens → last.tallies ≡ closed.tokens.tallies → last.blobs ≡ closed.tokens.blobs → last.messages ≡ closed.messages → AreOneRun cpus tokens messages last parts
 one_run cpus tokens messages opened closed last parts tells tokens_from messages_from rows gens tallies blobs mails =

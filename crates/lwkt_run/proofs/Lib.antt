@@ -20,6 +20,7 @@ pub mod RoundMoves
 pub mod RunLemmas
 pub mod SectionMoves
 pub mod StandMoves
+pub mod PartMoves
 pub mod StopMoves
 pub mod StretchLemmas
 pub mod ThreadedLemmas
@@ -27,3 +28,4 @@ pub mod ThreadedMoves
 pub mod ToldMoves
 pub mod TrackMoves
 pub mod TurnMoves
+pub mod TableLines

@@ -7,7 +7,8 @@ use Rattle.std.proofs.lemmas.Option.{unwrap_or-slice_get}
 use Rattle.std.proofs.lemmas.Nat.{mod-mul-add}
 use Rattle.lwkt_port.specs.Chains.{Chain}
 use Rattle.lwkt_port.proofs.Chaining.{chain_none, chain_more}
-use Rattle.lwkt_machine.proofs.SightMoves.{zip_long, sent_looked}
+use Rattle.lwkt_machine.proofs.ListMoves.{zip_long}
+use Rattle.lwkt_machine.proofs.SightMoves.{sent_looked}
 use Rattle.lwkt_verdict.specs.Run.{whose, GoesRound}
 use Rattle.lwkt_run.specs.Running.{Scene, scene, Going, going, TakesTurn, MakesTurnAt, MakesSome, MakesTurns, MakesKeptRound, HasMadeRounds}
 use Rattle.lwkt_run.specs.Keeping.{none_kept}
@@ -216,12 +217,10 @@ rounds_along script lines kept trace last run =
           opened = run.opened;
           made = run.made;
           told = run.told;
-          none = run.none;
           stops = run.stops;
           opens = run.opens;
           along = along script.cpus t.0 x y t.1;
           shown = run.shown;
-          empty = run.empty;
           leaves = run.leaves;
           trace_is = run.trace_is;
           tells = run.tells;

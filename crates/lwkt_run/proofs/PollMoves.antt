@@ -11,13 +11,13 @@ use Rattle.lwkt_cpu.specs.declared.answers.Turned.{Turned}
 use Rattle.lwkt_cpu.specs.declared.answers.Turned.TheVariants.{Ran, Idle, AllExited}
 use Rattle.lwkt_cpu.specs.Processors.{Processor}
 use Rattle.lwkt_lane.proofs.PlaceMoves.{get_set_same}
-use Rattle.lwkt_machine.specs.Bodies.{Scripted}
+use Rattle.lwkt_machine.specs.Bodies.{Scripted, IsPolled}
 use Rattle.lwkt_machine.specs.Machines.{Rig, ShowsBody}
 use Rattle.lwkt_machine.specs.Turns.{TurnsAt}
 use Rattle.lwkt_run.specs.Running.{WasPolled, HasPolled}
 
 -- the thread that a turn ran was polled, with the answer that was kept for it, and its body asked
-pub turn_polled : (cpu : ℕ) (old new : Rig) (t u : Vec Event Global) (turned : Turned) → TurnsAt cpu old new t u turned → HasPolled cpu new turned
+pub turn_polled : (cpu : ℕ) (old new : Rig Scripted) (t u : Vec Event Global) (turned : Turned) → TurnsAt IsPolled cpu old new t u turned → HasPolled cpu new turned
 turn_polled cpu old new t u (Ran place) made =
     let d = made.turns in
     let m = d.does in
@@ -50,13 +50,13 @@ turn_polled cpu old new t u Idle d = record {}
 turn_polled cpu old new t u AllExited d = record {}
 
 -- a body that is there is told
-nothing_there : (m : Rig) (cpu thread : ℕ) → (o : Option (Processor Scripted)) → slice_get m.cpus cpu ≡ o → IsSomeAnd o (λ q. thread < length q.threads) → ShowsBody m cpu thread None → ⊥
+nothing_there : (m : Rig Scripted) (cpu thread : ℕ) → (o : Option (Processor Scripted)) → slice_get m.cpus cpu ≡ o → IsSomeAnd o (λ q. thread < length q.threads) → ShowsBody m cpu thread None → ⊥
 nothing_there m cpu thread None at some none = some
 nothing_there m cpu thread (Some q) at some (inl far) = absurd (omega (arith, far, slice_get_within m.cpus cpu q at))
 nothing_there m cpu thread (Some q) at some (inr few) =
     let F : Option (Processor Scripted) → Type 0 = λ o. IsSomeAnd o (λ p. length p.threads ≤ thread) in
     absurd (omega (arith, some, subst F at few))
 
-pub body_told : {A : Type 0} (f : A → Scripted) (m : Rig) (cpu thread : ℕ) (o : Option A) → WasPolled m cpu thread → ShowsBody m cpu thread (option_map f o) → IsSome o
+pub body_told : {A : Type 0} (f : A → Scripted) (m : Rig Scripted) (cpu thread : ℕ) (o : Option A) → WasPolled m cpu thread → ShowsBody m cpu thread (option_map f o) → IsSome o
 body_told f m cpu thread None was shown = absurd (nothing_there m cpu thread (slice_get m.cpus cpu) refl was.0 shown)
 body_told f m cpu thread (Some x) was shown = search rules

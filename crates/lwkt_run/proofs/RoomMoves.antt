@@ -4,14 +4,14 @@ use Rattle.lwkt_bank.specs.Seats.{BankId}
 use Rattle.lwkt_cpu.specs.Processors.{Processor}
 use Rattle.lwkt_msg.specs.Desks.{Shelf}
 use Rattle.lwkt_machine.specs.Bodies.{Scripted}
-use Rattle.lwkt_machine.specs.Closing.{IsRoomFor}
+use Rattle.lwkt_machine.specs.Ended.{IsRoomFor}
 use Rattle.lwkt_machine.specs.Machines.{Rig}
 use Rattle.lwkt_machine.specs.declared.closings.CloseRoom.{CloseRoom}
 use Rattle.lwkt_script.specs.declared.scripts.ThreadSpec.{ThreadSpec}
 use Rattle.lwkt_run.specs.Running.{HasThreads}
 
 -- where its bank, its book and the number of its processors are the same
-pub room_stays : (old new : Rig) (room : CloseRoom) → new.bank ≡ old.bank → new.book ≡ old.book → length new.cpus ≡ length old.cpus → IsRoomFor old.bank old.book (length old.cpus) room → IsRoomFor new.bank new.book (length new.cpus) room
+pub room_stays : (old new : Rig Scripted) (room : CloseRoom Scripted) → new.bank ≡ old.bank → new.book ≡ old.book → length new.cpus ≡ length old.cpus → IsRoomFor old.bank old.book (length old.cpus) room → IsRoomFor new.bank new.book (length new.cpus) room
 room_stays old new room bank book many is =
     let F : BankId → Type 0 = λ b. IsRoomFor b old.book (length old.cpus) room in
     let G : Shelf → Type 0 = λ s. IsRoomFor new.bank s (length old.cpus) room in

@@ -10,7 +10,6 @@ use Rattle.lwkt_base.specs.declared.asks.Ask.{Ask}
 use Rattle.lwkt_base.specs.declared.asks.Answer.{Answer}
 use Rattle.lwkt_base.specs.declared.names.CpuId.{CpuId}
 use Rattle.lwkt_core.specs.declared.events.Event.{Event}
-use Rattle.lwkt_events.specs.ShortEvents.{KeptTrace}
 use Rattle.lwkt_bank.specs.Seats.{BankId}
 use Rattle.lwkt_port.specs.Chains.{Chain}
 use Rattle.lwkt_cpu.specs.declared.answers.Turned.{Turned}
@@ -22,16 +21,20 @@ use Rattle.lwkt_cpu.specs.Turning.{Chooses, Turns, MakesTurn}
 use Rattle.lwkt_cpu.specs.Waking.{Ward, ward, WakesAt}
 use Rattle.lwkt_cpu.proofs.SearchMoves.{finds_long}
 use Rattle.lwkt_cpu.proofs.SightMoves.{IsLooked}
-use Rattle.lwkt_lane.proofs.PlaceMoves.{some_same, get_there, get_set_same, get_set_other}
+use Rattle.lwkt_lane.proofs.PlaceMoves.{some_same, get_set_same, get_set_other}
 use Rattle.lwkt_drive.specs.declared.driven.Limits.{Limits}
 use Rattle.lwkt_machine.specs.Bodies.{Scripted, IsPolled}
 use Rattle.lwkt_machine.specs.Machines.{Rig}
 use Rattle.lwkt_machine.specs.Turns.{TurnsAt}
-use Rattle.lwkt_machine.proofs.SightMoves.{zip_long, zip_get, sent_looked}
-use Rattle.lwkt_machine.proofs.StopMoves.{AreOverBelow, over_more}
+use Rattle.lwkt_machine.proofs.ListMoves.{zip_long, zip_get}
+use Rattle.lwkt_machine.proofs.SightMoves.{sent_looked}
+use Rattle.lwkt_machine.specs.Drives.{IsDrivenMachine}
+use Rattle.lwkt_machine.proofs.DrivenMoves.{driven_at, processor_at}
+use Rattle.lwkt_machine.proofs.PartMoves.{driven_many}
 use Rattle.lwkt_script.specs.declared.scripts.ThreadSpec.{ThreadSpec}
 use Rattle.lwkt_script.specs.Format.{threads_on}
-use Rattle.lwkt_threads.specs.Driven.{WasDriven, AreDriven}
+use Rattle.lwkt_drive.specs.declared.driven.Driven.{Driven}
+use Rattle.lwkt_drive.specs.Course.{IsDriven}
 use Rattle.lwkt_verdict.specs.Run.{whose}
 use Rattle.lwkt_run.specs.Running.{HasThreads, Scene, Going, going, says_over, both, TakesTurn, MakesTurnAt, MakesTurns, MakesKeptRound, HasMadeRounds}
 
@@ -92,7 +95,7 @@ has_looked cpus threads olds news zip has = record {
       ap (λ (y : Processor Scripted). length y.threads) x.1.1.else_same ∙ has.each k x.0 x.1.0;
 }
 
-pub has_turned : (cpus : ℕ) (threads : List ThreadSpec) (cpu : ℕ) (old new : Rig) (t u : Vec Event Global) (turned : Turned) → TurnsAt cpu old new t u turned → HasThreads cpus threads old.cpus → HasThreads cpus threads new.cpus
+pub has_turned : (cpus : ℕ) (threads : List ThreadSpec) (cpu : ℕ) (old new : Rig Scripted) (t u : Vec Event Global) (turned : Turned) → TurnsAt IsPolled cpu old new t u turned → HasThreads cpus threads old.cpus → HasThreads cpus threads new.cpus
 has_turned cpus threads cpu old new t u turned d has =
     let F : List (Processor Scripted) → Type 0 = λ ps. HasThreads cpus threads ps in
     let e = d.turns in
@@ -126,24 +129,38 @@ has_turns cpus threads order x y turns has = turns_keep (λ z. HasThreads cpus t
 
 -- and keep the bank
 pub turns_bank : (order : List ℕ) (x y : Scene) → MakesTurns order x y → y.machine.bank ≡ x.machine.bank
-turns_bank order x y turns = turns_keep (λ z. z.machine.bank ≡ x.machine.bank) (λ cpu v w turn h. turn.1.makes.turns.bank ∙ h) order x y turns refl
+turns_bank order x y turns = turns_keep (λ z. z.machine.bank ≡ x.machine.bank) (λ cpu v w turn h. turn.1.makes.bank ∙ h) order x y turns refl
 
 -- and the book
 pub turns_book : (order : List ℕ) (x y : Scene) → MakesTurns order x y → y.machine.book ≡ x.machine.book
-turns_book order x y turns = turns_keep (λ z. z.machine.book ≡ x.machine.book) (λ cpu v w turn h. turn.1.makes.turns.book ∙ h) order x y turns refl
+turns_book order x y turns = turns_keep (λ z. z.machine.book ≡ x.machine.book) (λ cpu v w turn h. turn.1.makes.book ∙ h) order x y turns refl
 
 -- a machine that was driven
-pub has_driven : (answers : CpuId → ℕ → Bool → Type 0) (limits : Limits) (bank : BankId) (cpus : ℕ) (threads : List ThreadSpec) (olds news : List (Processor Scripted)) (traces : List KeptTrace) → AreDriven answers limits bank olds news traces → HasThreads cpus threads olds → HasThreads cpus threads news
-has_driven answers limits bank cpus threads olds news traces d has = record {
-  as_many = d.as_many ∙ has.as_many;
-  each = λ k q at.
-      let within : k < length olds = omega (arith, slice_get_within news k q at, d.as_many) in
-      let p = get_there olds k within in
-      let t = get_there traces k (omega (arith, d.traces_are, within)) in
-      let w : WasDriven answers limits bank p.0 q t.0 = d.each k p.0 q t.0 p.1 at t.1 in
-      let f : Processor Scripted → ℕ = λ x. length x.threads in
-      ap f (sym w.cpu) ∙ kept_long IsPolled bank w.old.cpu w.new.cpu w.old.trace.items w.new.trace.items w.driven.turns w.driven.made ∙ ap f w.fresh.cpu ∙ has.each k p.0 p.1;
-}
+pub has_driven : (answers : CpuId → ℕ → Bool → Type 0) (limits : Limits) (cpus : ℕ) (threads : List ThreadSpec) (old new : Rig Scripted) → IsDrivenMachine IsPolled answers limits old new → HasThreads cpus threads old.cpus → HasThreads cpus threads new.cpus
+has_driven answers limits cpus threads old new drives has =
+    let Is : Driven Scripted → Driven Scripted → Type 0 = λ d e. IsDriven IsPolled answers old.bank limits d e e.ending in
+    record {
+      as_many = driven_many IsPolled answers limits old new drives ∙ has.as_many;
+      each = λ k q at.
+          let e = driven_at new.driven k q (ap (λ (ps : List (Processor Scripted)). slice_get ps k) (sym drives.news) ∙ at) in
+          let d = zip_get Is old.driven new.driven drives.driven k e.0 e.1.0 in
+          let was : slice_get old.cpus k ≡ Some d.0.cpu = ap (λ (ps : List (Processor Scripted)). slice_get ps k) drives.olds ∙ processor_at old.driven k d.0 d.1.0 in
+          ap (λ (x : Processor Scripted). length x.threads) (sym e.1.1) ∙ kept_long IsPolled old.bank d.0.cpu e.0.cpu d.0.trace.items e.0.trace.items d.1.1.turns d.1.1.made ∙ has.each k d.0.cpu was;
+    }
+
+-- the processors below a number are over
+abbrev pub AreOverBelow : ℕ → List (Processor Scripted) → Type 0
+AreOverBelow n cpus = (k : ℕ) (p : Processor Scripted) → k < n → slice_get cpus k ≡ Some p → AllOver p.threads
+
+pub over_more : (cpus : List (Processor Scripted)) (at : ℕ) (q : Processor Scripted) → at < length cpus → AllOver q.threads → AreOverBelow at cpus → AreOverBelow (at + 1) (set cpus at q)
+over_more cpus at q within over below k x less is = elim (cases_eq k at) [
+  | inl here ↦
+      let F : ℕ → Type 0 = λ i. slice_get (set cpus at q) i ≡ Some x in
+      let e : q ≡ x = some_same q x (Some q) refl (sym (get_set_same cpus at q within) ∙ subst F here is) in
+      let G : Processor Scripted → Type 0 = λ y. AllOver y.threads in
+      subst G e over
+  | inr apart ↦ below k x (omega (arith, less, apart)) (sym (get_set_other cpus at k q apart) ∙ is)
+]
 
 -- processors that were looked at are over still
 over_looked : (n : ℕ) (olds news : List (Processor Scripted)) → AllZip (IsLooked {B = Scripted}) olds news → AreOverBelow n olds → AreOverBelow n news
@@ -153,10 +170,10 @@ over_looked n olds news zip below k q less at =
     subst F (sym x.1.1.else_same) (below k x.0 less x.1.0)
 
 -- a turn that says that every thread of its processor has ended, and the processors before it are over
-pub over_later : (cpu : ℕ) (old new : Rig) (t u : Vec Event Global) (turned : Turned) → TurnsAt cpu old new t u turned → turned ≡ AllExited → AreOverBelow cpu old.cpus → AreOverBelow (cpu + 1) new.cpus
+pub over_later : (cpu : ℕ) (old new : Rig Scripted) (t u : Vec Event Global) (turned : Turned) → TurnsAt IsPolled cpu old new t u turned → turned ≡ AllExited → AreOverBelow cpu old.cpus → AreOverBelow (cpu + 1) new.cpus
 over_later cpu old new t u turned d is below =
-    let F : Turned → Type 0 = λ x. TurnsAt cpu old new t u x in
-    let e : TurnsAt cpu old new t u AllExited = subst F is d in
+    let F : Turned → Type 0 = λ x. TurnsAt IsPolled cpu old new t u x in
+    let e : TurnsAt IsPolled cpu old new t u AllExited = subst F is d in
     let G : List (Processor Scripted) → Type 0 = λ ps. AreOverBelow (cpu + 1) ps in
     let o = e.turns in
     subst G (sym o.cpus) (over_more e.seen cpu o.now (slice_get_within e.seen cpu o.before o.at_before) o.does.turns.1 (over_looked cpu old.cpus e.seen (sent_looked cpu old.cpus e.seen e.sees) below))

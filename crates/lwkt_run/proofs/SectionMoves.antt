@@ -8,7 +8,7 @@ use Rattle.lwkt_base.specs.declared.names.CpuId.{CpuId}
 use Rattle.lwkt_base.specs.declared.openings.TokSpec.{TokSpec}
 use Rattle.lwkt_base.specs.declared.sections.Section.{Section}
 use Rattle.lwkt_core.specs.declared.events.Event.{Event}
-use Rattle.lwkt_events.specs.ShortEvents.{KeptTrace}
+use Rattle.lwkt_drive.specs.ShortEvents.{KeptTrace}
 use Rattle.lwkt_core.specs.declared.finals.Final.{Final}
 use Rattle.lwkt_core.specs.declared.tokens.Token.{Token}
 use Rattle.lwkt_core.specs.Tokens.{IsFree, IsOpen, IsSafeToken}
@@ -27,7 +27,7 @@ use Rattle.lwkt_table.proofs.SectionParts.{chains_in_any_order, deeds_below, par
 use Rattle.lwkt_core.proofs.RunChainLemmas.{IsSettled, open_settled}
 use Rattle.lwkt_core.proofs.SafetyLemmas.{stays}
 use Rattle.lwkt_report.specs.declared.closings.Closing.{Closing}
-use Rattle.lwkt_report.specs.declared.closings.ThreadLine.{ThreadLine}
+use Rattle.lwkt_base.specs.declared.threads.ThreadLine.{ThreadLine}
 use Rattle.lwkt_report.specs.declared.closings.Verdict.{Verdict}
 use Rattle.lwkt_report.specs.declared.closings.Verdict.TheVariants.{Closed, Lawful, Unlawful}
 use Rattle.lwkt_script.specs.declared.scripts.Script.{Script}
@@ -37,7 +37,7 @@ use Rattle.lwkt_run.specs.Threaded.{RunsOnThreads, TellARun, ShowsLeft, MayClose
 use Rattle.lwkt_run.specs.Values.{AreValuesOf}
 use Rattle.lwkt_run.proofs.ChainMoves.{opens_open, free_open, without_messages, tokens_chain}
 use Rattle.lwkt_run.proofs.GatherMoves.{as_many_rows}
-use Rattle.lwkt_run.proofs.StopMoves.{stops_own}
+use Rattle.lwkt_run.proofs.StopMoves.{stops_own, traces_many}
 use Rattle.lwkt_run.proofs.ToldMoves.{told_by_all}
 
 -- the rows that tokens are opened with are those of the model's opening
@@ -63,7 +63,7 @@ module _ (answers : CpuId → ℕ → Bool → Type 0) (script : Script) (lines 
   written = sections_in from (events_in history)
 
   abbrev told : List Section
-  told = sections_of_all runs.traces runs.stops.items
+  told = sections_of_all runs.traces runs.stops
 
   run : Run from (events_in history) to
   run = subst (λ (x : Machine). Run x (events_in history) to) runs.tokens_from runs.tells.tokens.run
@@ -84,13 +84,13 @@ module _ (answers : CpuId → ℕ → Bool → Type 0) (script : Script) (lines 
   settled_last = open_settled to safe_last (All-weaker IsFree IsOpen free_open to.tokens runs.tells.tokens.ends.free)
 
   others : (cpu : ℕ) → length runs.traces ≤ cpu → AreOthers cpu history
-  others cpu past = let d = runs.drives.cpus in runs.tells.tokens.others cpu (omega (arith, past, d.traces_are))
+  others cpu past = runs.tells.tokens.others cpu (omega (arith, past, traces_many answers script lines last runs))
 
   -- what traces and stop tell are the sections of the history, one processor's after another's
   told_by_cpus : IsPermutation (sections_by (length runs.traces) history) told
   told_by_cpus =
-      let own = stops_own answers (record { turns = script.turns; idle = script.idle }) script runs.opened runs.driven runs.leaves.stopped runs.traces runs.none runs.stops runs.opens runs.drives runs.empty runs.leaves.stops in
-      told_by_all history runs.traces runs.stops.items (λ cpu part at. (runs.tells.tokens.told cpu part at).0) own
+      let own = stops_own answers script lines last runs in
+      told_by_all history runs.traces runs.stops (λ cpu part at. (runs.tells.tokens.told cpu part at).0) own
 
   -- and so are those that the run has written
   written_told : IsPermutation told written
@@ -102,7 +102,7 @@ module _ (answers : CpuId → ℕ → Bool → Type 0) (script : Script) (lines 
   written_chains : AreInOrder written × AreSectionChains (rows_of from) (closing_rows last) written
   written_chains = tokens_chain script.cpus script.tokens script.messages _ _ _ _ last within lawful runs.tokens_from runs.tells.tokens.run runs.tells.tokens.ends runs.leaves.rows runs.leaves.gens
 
-  pub written_in_order : TellChains from runs.traces runs.stops.items last written
+  pub written_in_order : TellChains from runs.traces runs.stops last written
   written_in_order = record { told = written_told; ordered = written_chains.0; chains = written_chains.1 }
 
   -- what is told, by token and generation, is what the run has written
@@ -132,7 +132,7 @@ module _ (answers : CpuId → ℕ → Bool → Type 0) (script : Script) (last :
   abbrev r : RunsOnThreads answers script closing.threads.items last
   r = tells.runs
 
-  same_told : sections_of_all r.traces r.stops.items ≡ sections_of_all traces stops
+  same_told : sections_of_all r.traces r.stops ≡ sections_of_all traces stops
   same_told = λ i. sections_of_all (tells.traces_are i) (tells.stops_are i)
 
   abbrev closes_so : IsVerdictOnAll verdict (opening_rows script.tokens) (closing_rows last) (sections_of_all traces stops) → MayCloseOnThreads answers script closing

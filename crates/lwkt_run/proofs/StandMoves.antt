@@ -1,13 +1,14 @@
 -- Turns that were made and followed, and what is kept of them.
-use Rattle.std.proofs.Common.{◌≡◌, ℕ, zero, suc, ◌+◌, ◌-◌, ◌*◌, ◌<◌, ◌≤◌, ◌⊎◌, Bool, true, false, List, [], ◌∷◌, ◌++◌, length, drop, refl, ap, ap₂, sym, ◌∙◌, subst, inl, inr, arith, Option, Some, None, All, append_assoc, append-nil, length-append, eq-or-lt_of_le}
+use Rattle.std.proofs.Common.{◌≡◌, ℕ, zero, suc, ◌+◌, ◌-◌, ◌*◌, ◌<◌, ◌≤◌, ◌⊎◌, Bool, true, false, List, [], ◌∷◌, ◌++◌, length, take, drop, refl, ap, ap₂, sym, ◌∙◌, subst, inl, inr, arith, Option, Some, None, All, append_assoc, append-nil, length-append, eq-or-lt_of_le}
 use Rattle.std.proofs.Math.Seq.{drop-append_seam}
-use Rattle.std.proofs.lemmas.List.{length_push}
+use Rattle.std.proofs.lemmas.List.{length_push, take_at}
 use Rattle.std.proofs.lemmas.List.Elements.{All-nil, All-push}
 use Rattle.lwkt_core.specs.declared.events.Event.{Event}
 use Rattle.lwkt_core.specs.Machine.{Machine, after}
 use Rattle.lwkt_script.specs.declared.scripts.ThreadSpec.{ThreadSpec}
 use Rattle.lwkt_port.specs.Chains.{Chain}
 use Rattle.lwkt_cpu.specs.declared.answers.Turned.{Turned}
+use Rattle.lwkt_machine.specs.Bodies.{Scripted}
 use Rattle.lwkt_machine.specs.Ended.{AreOver}
 use Rattle.lwkt_machine.specs.Machines.{Rig}
 use Rattle.lwkt_run.specs.declared.polled.Polled.{Polled}
@@ -15,15 +16,20 @@ use Rattle.lwkt_verdict.specs.declared.turns.Poll.{Poll}
 use Rattle.lwkt_verdict.specs.declared.turns.Turn.{Turn}
 use Rattle.lwkt_verdict.specs.Parts.{after_all}
 use Rattle.lwkt_verdict.specs.Threads.{slot_of}
-use Rattle.lwkt_verdict.specs.Follow.{Follow, none_answered}
-use Rattle.lwkt_verdict.specs.Run.{whose}
+use Rattle.lwkt_base.specs.declared.asks.Answer.{Answer}
+use Rattle.lwkt_verdict.specs.declared.progress.Piece.{Piece}
+use Rattle.lwkt_verdict.specs.Follow.{Follow, AreShown, answered_at, none_answered, poll_so}
+use Rattle.lwkt_base.specs.declared.threads.ThreadLine.{ThreadLine}
+use Rattle.lwkt_verdict.specs.Run.{whose, piece, BeginRun}
 use Rattle.lwkt_run.specs.Keeping.{Kept, kept_as, kept_after, KeepsTurn, polls_after, turn_of}
 use Rattle.lwkt_run.specs.Running.{Scene, Going, going, HasBeenAsked, says_over, TakesTurn, MakesKeptRound, GoRounds, HasMadeRounds}
-use Rattle.lwkt_run.specs.Driving.{Pair, GoesOnBy, FollowsTurn, FollowsTurnAt, FollowsTurns, FollowsStep, FollowsRound, HasFollowed, Walk, walk}
+use Rattle.lwkt_run.specs.Driving.{Pair, GoesOnBy, FollowsTurn, FollowsTurnAt, DeclinesTurn, FollowsTurns, FollowsStep, FollowsRound, HasFollowed, Walk, walk}
 use Rattle.lwkt_run.proofs.FillMoves.{filled, filled_after, filled_told}
 use Rattle.lwkt_run.proofs.OrderMoves.{GoTurns, chain_maps, turned_more, rounds_turned}
 use Rattle.lwkt_run.proofs.RoundMoves.{chain_keeps, both_true, says_all}
-use Rattle.lwkt_run.proofs.TrackMoves.{Tracks, tracks_on}
+use Rattle.lwkt_run.specs.Judging.{FitBefore}
+use Rattle.lwkt_run.proofs.TableLines.{lines_of, all_bear}
+use Rattle.lwkt_run.proofs.TrackMoves.{IsFront, Tracks, tracks_on, Knows, knows_on, declined_on, Through, begun_through}
 
 -- what each step of a chain takes one further, the chain takes so many further
 pub chain_counts : (A : Type 0) (S : ℕ → A → A → Type 0) (R : ℕ → A → Type 0) → ((k : ℕ) (u v : A) → S k u v → R k u → R (k + 1) v) → (n : ℕ) (x y : A) → Chain A S n x y → R 0 x → R n y
@@ -37,6 +43,8 @@ chain_counts A S R does (suc n) x y chain r =
 -- so far: a scene, and the check that follows it
 pub record Stands (plans : List ThreadSpec) (opening : Machine) (p : Pair) : Type 0 where
   pub tracks : Tracks plans opening p.at.kept p.at.trace p.follow
+  pub knows : Knows plans opening p.at.kept p.at.trace p.follow
+  pub shown : (answers : ℕ → Option Answer) → (before : List Piece) × AreShown before p.follow.table answers
   pub threads : p.follow.plans ≡ plans
   pub led : p.follow.machine ≡ after_all opening p.at.trace
   pub long : length p.at.kept.order ≡ length p.at.kept.turns
@@ -54,6 +62,14 @@ goes_threads cpu (Some p) part f g goes = goes.plans
 goes_machine : (cpu : ℕ) (asks : Option Polled) (part : List Event) (f g : Follow) → GoesOnBy cpu asks part f g → g.machine ≡ after_all f.machine part
 goes_machine cpu None part f g goes = goes.machine
 goes_machine cpu (Some p) part f g goes = goes.machine
+
+goes_shown : (cpu : ℕ) (asks : Option Polled) (part : List Event) (f g : Follow) → GoesOnBy cpu asks part f g → ((answers : ℕ → Option Answer) → (before : List Piece) × AreShown before f.table answers) → (answers : ℕ → Option Answer) → (before : List Piece) × AreShown before g.table answers
+goes_shown cpu None part f g goes shown answers =
+    let old = shown answers in
+    (old.0 ++ piece None part ∷ [], goes.shown answers old.0 old.1)
+goes_shown cpu (Some p) part f g goes shown answers =
+    let old = shown (answered_at (slot_of p.thread) (Some p.told) answers) in
+    (old.0 ++ piece (poll_so p.thread p.asked answers) part ∷ [], goes.shown answers old.0 old.1)
 
 -- the last polls after a turn have no answer
 still_wait : (asks : Option Polled) (polls : List Poll) → filled none_answered polls ≡ polls → filled none_answered (polls_after asks polls) ≡ polls_after asks polls
@@ -78,23 +94,70 @@ stands_on plans opening cpu turned p q step s =
     let kept : q.at.kept ≡ more = kept_is cpu t.events t.asks part old q.at.kept t.counted t.keeps in
     let T : Kept → List Event → Type 0 = λ k es. Tracks plans opening k es q.follow in
     let tracks : T more (p.at.trace ++ part) = tracks_on plans opening old p.at.trace p.follow q.follow cpu t.asks part s.threads s.long step.goes s.tracks in
+    let K : Kept → List Event → Type 0 = λ k es. Knows plans opening k es q.follow in
+    let knows : K more (p.at.trace ++ part) = knows_on plans opening old p.at.trace p.follow q.follow cpu t.asks part s.threads s.long step.goes s.knows in
     let longer : length more.order ≡ length more.turns = length_push old.order cpu ∙ ap (λ n. n + 1) s.long ∙ sym (length_push old.turns (turn_of t.asks (length part) (length old.polls))) in
     record {
       tracks = subst (λ k. T k q.at.trace) (sym kept) (subst (λ es. T more es) (sym t.grown) tracks);
+      knows = subst (λ k. K k q.at.trace) (sym kept) (subst (λ es. K more es) (sym t.grown) knows);
+      shown = goes_shown cpu t.asks part p.follow q.follow step.goes s.shown;
       threads = goes_threads cpu t.asks part p.follow q.follow step.goes ∙ s.threads;
       led = goes_machine cpu t.asks part p.follow q.follow step.goes ∙ ap (λ m. after_all m part) s.led ∙ sym (after_join opening p.at.trace part) ∙ ap (λ es. after_all opening es) (sym t.grown);
       long = subst (λ k. length k.order ≡ length k.turns) (sym kept) longer;
       waits = subst (λ k. filled none_answered k.polls ≡ k.polls) (sym kept) (still_wait t.asks old.polls s.waits);
     }
 
+-- a turn more that the check doesn't go on by: no run of the script begins with these turns
+pub none_begins : (plans : List ThreadSpec) (opening : Machine) (cpu : ℕ) (p : Pair) (y : Scene) → DeclinesTurn cpu p y → Stands plans opening p → (stops : List Event) → length y.kept.turns ≤ 18446744073709551615 → (lines : List ThreadLine) → BeginRun plans lines y.kept.polls y.kept.order opening [] y.kept.turns (y.trace ++ stops) → ⊥
+none_begins plans opening cpu p y d s stops few lines runs =
+    let t = d.turn in
+    let part : List Event = t.part.items in
+    let old = p.at.kept in
+    let more : Kept = kept_after cpu (length part) t.asks old in
+    let kept : y.kept ≡ more = kept_is cpu t.events t.asks part old y.kept t.counted t.keeps in
+    let B : Kept → List Event → Type 0 = λ k es. BeginRun plans lines k.polls k.order opening [] k.turns (es ++ stops) in
+    let begun : B more (p.at.trace ++ part) = subst (λ es. B more es) t.grown (subst (λ k. B k y.trace) kept runs) in
+    let long : length y.kept.turns ≡ length old.turns + 1 = ap (λ (k : Kept). length k.turns) kept ∙ length_push old.turns (turn_of t.asks (length part) (length old.polls)) in
+    declined_on plans opening old p.at.trace p.follow cpu t.asks part s.threads s.long (omega (arith, long, few)) s.waits (still_wait t.asks old.polls s.waits) d.declines s.knows lines stops begun
+
+-- the turns so far begin one
+pub begun_before : (plans : List ThreadSpec) (opening : Machine) (cpu : ℕ) (p : Pair) (y : Scene) → DeclinesTurn cpu p y → Stands plans opening p → (stops : List Event) → FitBefore opening y.kept.order plans (y.trace ++ stops) y.kept.polls p.at.kept.turns
+begun_before plans opening cpu p y d s stops =
+    let t = d.turn in
+    let part : List Event = t.part.items in
+    let old = p.at.kept in
+    let seen = s.shown none_answered in
+    let lines : List ThreadLine = lines_of 0 p.follow.table in
+    let bear = all_bear p.follow.table seen.0 seen.1 in
+    let polls : IsFront (filled none_answered old.polls) old.polls = ([], sym (append-nil _ ∙ s.waits)) in
+    let order : IsFront old.order y.kept.order = (cpu ∷ [], t.keeps.order) in
+    let track = s.tracks none_answered lines old.polls y.kept.order bear polls order in
+    let whole = track.on false [] (part ++ stops) tt in
+    let joined : p.at.trace ++ (part ++ stops) ≡ y.trace ++ stops = sym (append_assoc p.at.trace part stops) ∙ ap (λ es. es ++ stops) (sym t.grown) in
+    let R : List Turn → List Event → Type 0 = λ ts es. Through false plans lines old.polls y.kept.order opening [] ts es in
+    let so : R old.turns (y.trace ++ stops) = subst (λ es. R old.turns es) joined (subst (λ ts. R ts (p.at.trace ++ (part ++ stops))) (append-nil old.turns) whole) in
+    record { asks = t.asks; earlier = old.polls; polls_are = t.keeps.polls; lines = lines; begin = begun_through plans lines old.polls y.kept.order opening [] old.turns (y.trace ++ stops) so }
+
+-- the turns before the last one
+pub before_is : (xs ys : List Turn) (x y : Turn) → xs ++ x ∷ [] ≡ ys ++ y ∷ [] → xs ≡ ys
+before_is xs ys x y is =
+    let long : length xs ≡ length ys = omega (arith, ap length is, length_push xs x, length_push ys y) in
+    sym (take_at xs (x ∷ []) (length xs) refl) ∙ ap (λ ts. take (length xs) ts) is ∙ ap (λ n. take n (ys ++ y ∷ [])) long ∙ take_at ys (y ∷ []) (length ys) refl
+
 -- the turns of an order
 pub order_stands : (plans : List ThreadSpec) (opening : Machine) (order : List ℕ) (p q : Pair) → FollowsTurns order p q → Stands plans opening p → Stands plans opening q
 order_stands plans opening order p q turns s = chain_keeps Pair (λ k. FollowsTurnAt (whose order k)) (Stands plans opening) (λ k u v step r. stands_on plans opening (whose order k) step.0 u v step.1 r) (length order) p q turns s
 
+pub front_stands : (plans : List ThreadSpec) (opening : Machine) (order : List ℕ) (n : ℕ) (p q : Pair) → Chain Pair (λ k. FollowsTurnAt (whose order k)) n p q → Stands plans opening p → Stands plans opening q
+front_stands plans opening order n p q turns s = chain_keeps Pair (λ k. FollowsTurnAt (whose order k)) (Stands plans opening) (λ k u v step r. stands_on plans opening (whose order k) step.0 u v step.1 r) n p q turns s
+
+pub walk_stands : (plans : List ThreadSpec) (opening : Machine) (n : ℕ) (v w : Walk) → Chain Walk FollowsStep n v w → Stands plans opening v.at → Stands plans opening w.at
+walk_stands plans opening n v w turns s = chain_keeps Walk FollowsStep (λ z. Stands plans opening z.at) (λ k a b step r. stands_on plans opening k step.0 a.at b.at step.1.0 r) n v w turns s
+
 round_stands : (plans : List ThreadSpec) (opening : Machine) (over : Bool) (number : ℕ) (p q : Pair) → FollowsRound over number p q → Stands plans opening p → Stands plans opening q
 round_stands plans opening over number p q round s = chain_keeps Walk FollowsStep (λ w. Stands plans opening w.at) (λ k u v step r. stands_on plans opening k step.0 u.at v.at step.1.0 r) (length p.at.machine.cpus) (walk p true) (walk q over) round s
 
-some_stand : (plans : List ThreadSpec) (opening : Machine) (count : ℕ) (p q : Pair) → Chain Pair (FollowsRound false) count p q → Stands plans opening p → Stands plans opening q
+pub some_stand : (plans : List ThreadSpec) (opening : Machine) (count : ℕ) (p q : Pair) → Chain Pair (FollowsRound false) count p q → Stands plans opening p → Stands plans opening q
 some_stand plans opening count p q rounds s = chain_keeps Pair (FollowsRound false) (Stands plans opening) (λ k u v round r. round_stands plans opening false k u v round r) count p q rounds s
 
 -- and the rounds of a run
@@ -109,7 +172,7 @@ abbrev pub Unpolled : Turn → Type 0
 Unpolled t = t.poll ≡ None
 
 -- a turn that says that every thread has ended is one
-unpolled : (cpu : ℕ) (m : Rig) (turned : Turned) (asks : Option Polled) (events before : ℕ) → HasBeenAsked cpu m turned asks → says_over turned ≡ true → Unpolled (turn_of asks events before)
+unpolled : (cpu : ℕ) (m : Rig Scripted) (turned : Turned) (asks : Option Polled) (events before : ℕ) → HasBeenAsked cpu m turned asks → says_over turned ≡ true → Unpolled (turn_of asks events before)
 unpolled cpu m turned asks events before asked over =
     let none : asks ≡ None = subst (λ t. HasBeenAsked cpu m t asks) (says_all turned over) asked in
     ap (λ o. (turn_of o events before).poll) none

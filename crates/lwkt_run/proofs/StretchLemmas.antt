@@ -6,10 +6,10 @@ use Rattle.std.proofs.lemmas.List.Elements.{All-append}
 use Rattle.std.proofs.lemmas.List.Sorted.{IsPermutation-refl, IsPermutation-trans, IsPermutation-append}
 use Rattle.lwkt_base.specs.declared.sections.Section.{Section}
 use Rattle.lwkt_core.specs.RunSections.{sections_told}
-use Rattle.lwkt_events.specs.ShortEvents.{KeptTrace}
-use Rattle.lwkt_events.specs.declared.stretches.Stretch.{Stretch}
-use Rattle.lwkt_events.specs.Stretches.{StandFor}
-use Rattle.lwkt_events.proofs.StretchMoves.{Part, IsPart}
+use Rattle.lwkt_drive.specs.ShortEvents.{KeptTrace}
+use Rattle.lwkt_drive.specs.declared.stretches.Stretch.{Stretch}
+use Rattle.lwkt_drive.specs.Stretches.{StandFor}
+use Rattle.lwkt_drive.proofs.StretchMoves.{Part, IsPart}
 
 pub stand_both : (xs ys : List Stretch) (ss ts : List Section) → StandFor xs ss → StandFor ys ts → StandFor (xs ++ ys) (ss ++ ts)
 stand_both xs ys ss ts a b = record {

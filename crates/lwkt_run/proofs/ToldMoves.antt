@@ -6,7 +6,7 @@ use Rattle.std.proofs.lemmas.List.Concat.{flat_map-append}
 use Rattle.std.proofs.lemmas.List.Sorted.{IsPermutation-refl, IsPermutation-sym, IsPermutation-trans, IsPermutation-append_left, IsPermutation-append_right, IsPermutation-append_comm}
 use Rattle.lwkt_base.specs.declared.sections.Section.{Section}
 use Rattle.lwkt_core.specs.declared.events.Event.{Event}
-use Rattle.lwkt_events.specs.ShortEvents.{KeptTrace}
+use Rattle.lwkt_drive.specs.ShortEvents.{KeptTrace}
 use Rattle.lwkt_core.specs.declared.events.Event.TheVariants.{GiveWritten}
 use Rattle.lwkt_table.specs.declared.seats.Deed.{Deed}
 use Rattle.lwkt_core.specs.Events.{cpu_of}
@@ -15,7 +15,7 @@ use Rattle.lwkt_core.specs.RunSections.{section_in, sections_told}
 use Rattle.lwkt_table.specs.Sections.{sections_by}
 use Rattle.lwkt_table.proofs.PartLemmas.{permutation_same, flat_map-kept, flat_map-parted}
 use Rattle.lwkt_hold.specs.Steps.{may_be_untold, is_of_token, Tells}
-use Rattle.lwkt_threads.specs.Parts.{of_cpu, parts_from}
+use Rattle.lwkt_run.specs.Parts.{of_cpu, parts_from}
 use Rattle.lwkt_run.specs.Telling.{sections_of_all}
 
 -- an event that may be untold, or is of no token, tells no section

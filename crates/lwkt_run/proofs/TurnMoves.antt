@@ -1,24 +1,32 @@
 -- What the processors did in turns, one after another, and then as they stopped, is one run.
-use Rattle.std.proofs.Common.{◌≡◌, ℕ, ◌+◌, ◌<◌, List, [], ◌++◌, length, refl, ap, sym, ◌∙◌, subst, arith, append-nil, Some}
-use Rattle.std.specs.Prelude.{Vec, slice_get}
+use Rattle.std.proofs.Common.{◌≡◌, ℕ, ◌+◌, ◌<◌, List, [], ◌++◌, length, set, refl, ap, sym, ◌∙◌, subst, inl, inr, arith, append-nil, Some}
+use Rattle.std.specs.Prelude.{All, Vec, slice_get}
 use Rattle.std.specs.List.{AllZip}
 use Rattle.std.specs.declared.alloc.Global.{Global}
+use Rattle.std.proofs.lemmas.Bool.{cases_eq}
+use Rattle.std.proofs.lemmas.List.{length-set}
 use Rattle.std.proofs.lemmas.List.FromFn.{length-map-range_with_len, get_or-map-range_with_len}
 use Rattle.std.proofs.lemmas.Option.{slice_get_within, get_or_from_slice_get}
 use Rattle.lwkt_core.specs.declared.events.Event.{Event}
 use Rattle.lwkt_core.specs.declared.finals.Final.{Final}
+use Rattle.lwkt_core.specs.Events.{cpu_of}
+use Rattle.lwkt_bank.specs.Seats.{BankId}
+use Rattle.lwkt_lane.proofs.PlaceMoves.{get_set_other, get_set_same, some_same}
 use Rattle.lwkt_core.specs.Opening.{AreWithin, AllOpenLawfully}
-use Rattle.lwkt_cpu.specs.Turning.{IsOfThread}
+use Rattle.lwkt_cpu.specs.declared.answers.Turned.{Turned}
+use Rattle.lwkt_cpu.specs.Turning.{IsOfThread, MakesTurn}
 use Rattle.lwkt_cpu.specs.Processors.{Processor}
 use Rattle.lwkt_cpu.proofs.SightMoves.{IsLooked}
-use Rattle.lwkt_machine.proofs.SightMoves.{zip_long, zip_get, sent_looked}
-use Rattle.lwkt_machine.specs.Bodies.{Scripted}
-use Rattle.lwkt_machine.specs.Ended.{stage}
+use Rattle.lwkt_machine.proofs.ListMoves.{zip_long, zip_get}
+use Rattle.lwkt_machine.proofs.SightMoves.{sent_looked}
+use Rattle.lwkt_machine.specs.Bodies.{Scripted, IsPolled}
 use Rattle.lwkt_machine.specs.Machines.{Rig}
-use Rattle.lwkt_machine.specs.Opened.{IsOpenedMachine}
+use Rattle.lwkt_machine.specs.Scripts.{bodies_on, IsOpenedScript}
 use Rattle.lwkt_script.specs.declared.scripts.Script.{Script}
-use Rattle.lwkt_threads.specs.Parts.{of_cpu, TellTheRuns}
-use Rattle.lwkt_threads.proofs.PartMoves.{IsToldAt, AreTold, of_cpu_more, told_opened, told_moved, rest_tells}
+use Rattle.lwkt_machine.specs.Parts.{TellTheRuns}
+use Rattle.lwkt_run.specs.Parts.{of_cpu}
+use Rattle.lwkt_machine.proofs.PartMoves.{IsToldAt, close_tells, stop_own, told_done, told_opened}
+use Rattle.lwkt_run.proofs.PartMoves.{of_cpu_more, of_cpu_other, of_cpu_own, of_cpu_stops}
 use Rattle.lwkt_run.specs.Keeping.{Kept, none_kept}
 use Rattle.lwkt_run.specs.Leaving.{Leaves}
 use Rattle.lwkt_run.specs.Running.{Scene, scene, MakesTurnAt, MakesTurns, HasMadeRounds}
@@ -30,7 +38,7 @@ use Rattle.lwkt_run.proofs.RoundMoves.{rounds_keep, turns_keep}
 use Rattle.lwkt_run.proofs.ThreadedMoves.{tokens_from, messages_from}
 
 -- the machine of a scene is still the one that was opened, and each of its processors is told by its own events among the scene's
-record Stands (opened : Rig) (z : Scene) : Type 0 where
+record Stands (opened : Rig Scripted) (z : Scene) : Type 0 where
   as_many : length z.machine.cpus ≡ length opened.cpus
   told : (k : ℕ) (p : Processor Scripted) → slice_get z.machine.cpus k ≡ Some p → IsToldAt k p (of_cpu k z.trace)
   bank : z.machine.bank ≡ opened.bank
@@ -44,36 +52,53 @@ told_looked fronts olds news zip told k q at =
     let F : Processor Scripted → Type 0 = λ y. IsToldAt k y (fronts k) in
     subst F (sym x.1.1.else_same) (record { seat = w.seat; desk = w.desk; tokens = w.tokens; mails = w.mails })
 
--- processors over an empty room, which fronts tell
-at_none : (count : ℕ) (fronts : ℕ → List Event) (cpus : List (Processor Scripted)) (room : Vec Event Global) → length cpus ≡ count → room.items ≡ [] → ((k : ℕ) (p : Processor Scripted) → slice_get cpus k ≡ Some p → IsToldAt k p (fronts k)) → AreTold count fronts (stage cpus room)
-at_none count fronts cpus room many none told = record {
-  as_many = many;
-  each = λ k p at.
-      let same : fronts k ++ of_cpu k room.items ≡ fronts k = ap (λ (es : List Event). fronts k ++ of_cpu k es) none ∙ append-nil (fronts k) in
-      subst (λ (es : List Event). IsToldAt k p es) (sym same) (told k p at);
-}
+-- a turn of one of them
+told_turn : (trace : List Event) (cpu : ℕ) (bank : BankId) (olds : List (Processor Scripted)) (p q : Processor Scripted) (room part : Vec Event Global) (turned : Turned) → room.items ≡ [] → slice_get olds cpu ≡ Some p → MakesTurn IsPolled bank p q room part turned → ((k : ℕ) (x : Processor Scripted) → slice_get olds k ≡ Some x → IsToldAt k x (of_cpu k trace)) → (k : ℕ) (x : Processor Scripted) → slice_get (set olds cpu q) k ≡ Some x → IsToldAt k x (of_cpu k (trace ++ part.items))
+told_turn trace cpu bank olds p q room part turned none at made told k x is =
+    let done = made.ran.done in
+    let items : done ≡ part.items = sym (made.ran.trace ∙ ap (λ (es : List Event). es ++ done) none) in
+    let before : IsToldAt cpu p (of_cpu cpu trace) = told cpu p at in
+    let O : ℕ × List Event → Type 0 = λ i. All (λ (e : Event). cpu_of e ≡ i.0) i.1 in
+    let own : All (λ (e : Event). cpu_of e ≡ cpu) part.items = subst O (λ i. (before.seat i, items i)) made.ran.own in
+    elim (cases_eq k cpu) [
+      | inl same ↦
+          let within : cpu < length olds = slice_get_within olds cpu p at in
+          let F : ℕ → Type 0 = λ i. slice_get (set olds cpu q) i ≡ Some x in
+          let e : q ≡ x = some_same q x (Some q) refl (sym (get_set_same olds cpu q within) ∙ subst F same is) in
+          let now = told_done cpu (IsOfThread p.threads q.threads) 4096 p q room part none made.ran made.told (of_cpu cpu trace) before in
+          let mine : of_cpu cpu trace ++ part.items ≡ of_cpu cpu (trace ++ part.items) = ap (λ (es : List Event). of_cpu cpu trace ++ es) (sym (of_cpu_own cpu part.items own)) ∙ sym (of_cpu_more cpu trace (trace ++ part.items) part.items refl) in
+          let G : List Event → Type 0 = λ es. IsToldAt cpu q es in
+          let H : Processor Scripted → Type 0 = λ z. IsToldAt cpu z (of_cpu cpu (trace ++ part.items)) in
+          let K : ℕ → Type 0 = λ i. IsToldAt i x (of_cpu i (trace ++ part.items)) in
+          subst K (sym same) (subst H e (subst G mine now))
+      | inr apart ↦
+          let was : slice_get olds k ≡ Some x = sym (get_set_other olds cpu k q apart) ∙ is in
+          let mine : of_cpu k trace ≡ of_cpu k (trace ++ part.items) = sym (append-nil (of_cpu k trace)) ∙ ap (λ (es : List Event). of_cpu k trace ++ es) (sym (of_cpu_other k cpu part.items (λ other. apart (sym other)) own)) ∙ sym (of_cpu_more k trace (trace ++ part.items) part.items refl) in
+          let G : List Event → Type 0 = λ es. IsToldAt k x es in
+          subst G mine (told k x was)
+    ]
 
-stands_turn : (opened : Rig) (cpu : ℕ) (x y : Scene) → MakesTurnAt cpu x y → Stands opened x → Stands opened y
+stands_turn : (opened : Rig Scripted) (cpu : ℕ) (x y : Scene) → MakesTurnAt cpu x y → Stands opened x → Stands opened y
 stands_turn opened cpu x y turn s =
     let t = turn.1 in
-    let seen = t.makes.seen in
-    let d = t.makes.turns in
-    let count = length opened.cpus in
-    let fronts : ℕ → List Event = λ k. of_cpu k x.trace in
-    let zip = sent_looked cpu x.machine.cpus seen t.makes.sees in
-    let first = at_none count fronts seen t.room (zip_long (IsLooked {B = Scripted}) x.machine.cpus seen zip ∙ s.as_many) t.none (told_looked fronts x.machine.cpus seen zip s.told) in
-    let now : AreTold count fronts (stage y.machine.cpus t.part) = told_moved (IsOfThread d.before.threads d.now.threads) 4096 count fronts cpu (stage seen t.room) (stage y.machine.cpus t.part) d.before d.now d.at_before d.cpus d.does.ran d.does.told first in
+    let m = t.makes in
+    let d = m.turns in
+    let zip = sent_looked cpu x.machine.cpus m.seen m.sees in
+    let first = told_looked (λ k. of_cpu k x.trace) x.machine.cpus m.seen zip s.told in
     record {
-      as_many = now.as_many;
-      told = λ k p at. subst (λ (es : List Event). IsToldAt k p es) (sym (of_cpu_more k x.trace y.trace t.part.items t.grown)) (now.each k p at);
-      bank = d.bank ∙ s.bank;
-      book = d.book ∙ s.book;
+      as_many = ap length d.cpus ∙ length-set m.seen cpu d.now ∙ zip_long (IsLooked {B = Scripted}) x.machine.cpus m.seen zip ∙ s.as_many;
+      told = λ k p at.
+          let here : slice_get (set m.seen cpu d.now) k ≡ Some p = ap (λ (ps : List (Processor Scripted)). slice_get ps k) (sym d.cpus) ∙ at in
+          let F : List Event → Type 0 = λ es. IsToldAt k p (of_cpu k es) in
+          subst F (sym t.grown) (told_turn x.trace cpu x.machine.bank m.seen d.before d.now t.room t.part turn.0 t.none d.at_before d.does first k p here);
+      bank = m.bank ∙ s.bank;
+      book = m.book ∙ s.book;
     }
 
-stands_opened : (script : Script) (opened : Rig) → IsOpenedMachine script opened → Stands opened (scene opened [] none_kept)
+stands_opened : (script : Script) (opened : Rig Scripted) → IsOpenedScript script opened → Stands opened (scene opened [] none_kept)
 stands_opened script opened opens = record {
   as_many = refl;
-  told = λ k p at. told_opened opened.bank opened.book script.threads k p (opens.each k p at);
+  told = λ k p at. told_opened opened.bank opened.book k (bodies_on k script.threads) p (opens.each k p at);
   bank = refl;
   book = refl;
 }
@@ -86,15 +111,17 @@ part_in cpus trace k part at =
     let here : 0 + k ≡ k = omega arith in
     (within, sym (get_or_from_slice_get (parts_in cpus trace) k part [] at) ∙ get_or-map-range_with_len f 0 cpus k k [] within here)
 
-stands_tells : (script : Script) (opened : Rig) (z : Scene) (none stops : Vec Event Global) (last : Final) (leaves : Leaves z.machine none stops last) → IsOpenedMachine script opened → AreWithin script.cpus script.tokens script.messages → AllOpenLawfully script.tokens → none.items ≡ [] → Stands opened z → TellsOneRun script opened leaves.closed last (z.trace ++ stops.items)
-stands_tells script opened z none stops last leaves opens within lawful empty s =
-    let whole : List Event = z.trace ++ stops.items in
+stands_tells : (script : Script) (opened : Rig Scripted) (z : Scene) (stops : List Event) (last : Final) (leaves : Leaves z.machine stops last) → IsOpenedScript script opened → AreWithin script.cpus script.tokens script.messages → AllOpenLawfully script.tokens → Stands opened z → TellsOneRun script opened leaves.closed last (z.trace ++ stops)
+stands_tells script opened z stops last leaves opens within lawful s =
+    let whole : List Event = z.trace ++ stops in
     let fronts : ℕ → List Event = λ k. of_cpu k z.trace in
     let parts = parts_in script.cpus whole in
-    let are : (k : ℕ) (part : List Event) → slice_get parts k ≡ Some part → (k < length opened.cpus) × (part ≡ fronts k ++ of_cpu k stops.items) = λ k part at.
-    let p = part_in script.cpus whole k part at in
-    (subst (λ n. k < n) (sym opens.as_many) p.0, p.1 ∙ of_cpu_more k z.trace whole stops.items refl) in
-    let tells : TellTheRuns opened leaves.closed parts = rest_tells opened z.machine leaves.stopped fronts none stops leaves.closed parts s.bank s.book (at_none (length opened.cpus) fronts z.machine.cpus none s.as_many empty s.told) leaves.stops leaves.closes are in
+    let own = stop_own z.machine leaves.closed leaves.closes (λ k p at. (s.told k p at).seat) in
+    let tells : TellTheRuns opened leaves.closed parts = close_tells opened z.machine fronts leaves.closed parts s.bank s.book s.as_many s.told leaves.closes (λ k part at.
+    let p = part_in script.cpus whole k part at in (
+      subst (λ n. k < n) (sym opens.as_many) p.0,
+      λ stop there. p.1 ∙ of_cpu_more k z.trace whole stops refl ∙ ap (λ (es : List Event). fronts k ++ es) (ap (of_cpu k) leaves.stops_are ∙ of_cpu_stops leaves.closed.stops.items own k stop there),
+    )) in
     let one : AreOneRun script.cpus script.tokens script.messages last parts = one_run script.cpus script.tokens script.messages opened leaves.closed last parts tells (tokens_from script opened opens within) (messages_from script opened opens) leaves.rows leaves.gens leaves.tallies leaves.blobs leaves.messages in
     record {
       tells = tells;
@@ -102,12 +129,12 @@ stands_tells script opened z none stops last leaves opens within lawful empty s 
       chains = trace_chains script.cpus script.tokens script.messages one.events last within lawful one.lawful;
     }
 
-pub rounds_tell : (script : Script) (opened made : Rig) (told : List Event) (none stops : Vec Event Global) (kept : Kept) (last : Final) (leaves : Leaves made none stops last) → IsOpenedMachine script opened → AreWithin script.cpus script.tokens script.messages → AllOpenLawfully script.tokens → none.items ≡ [] → HasMadeRounds script.turns (scene opened [] none_kept) (scene made told kept) → TellsOneRun script opened leaves.closed last (told ++ stops.items)
-rounds_tell script opened made told none stops kept last leaves opens within lawful empty rounds =
-    stands_tells script opened (scene made told kept) none stops last leaves opens within lawful empty
+pub rounds_tell : (script : Script) (opened made : Rig Scripted) (told : List Event) (stops : List Event) (kept : Kept) (last : Final) (leaves : Leaves made stops last) → IsOpenedScript script opened → AreWithin script.cpus script.tokens script.messages → AllOpenLawfully script.tokens → HasMadeRounds script.turns (scene opened [] none_kept) (scene made told kept) → TellsOneRun script opened leaves.closed last (told ++ stops)
+rounds_tell script opened made told stops kept last leaves opens within lawful rounds =
+    stands_tells script opened (scene made told kept) stops last leaves opens within lawful
     (rounds_keep (Stands opened) (stands_turn opened) script.turns (scene opened [] none_kept) (scene made told kept) rounds (stands_opened script opened opens))
 
-pub turns_tell : (script : Script) (order : List ℕ) (opened made : Rig) (told : List Event) (none stops : Vec Event Global) (kept : Kept) (last : Final) (leaves : Leaves made none stops last) → IsOpenedMachine script opened → AreWithin script.cpus script.tokens script.messages → AllOpenLawfully script.tokens → none.items ≡ [] → MakesTurns order (scene opened [] none_kept) (scene made told kept) → TellsOneRun script opened leaves.closed last (told ++ stops.items)
-turns_tell script order opened made told none stops kept last leaves opens within lawful empty along =
-    stands_tells script opened (scene made told kept) none stops last leaves opens within lawful empty
+pub turns_tell : (script : Script) (order : List ℕ) (opened made : Rig Scripted) (told : List Event) (stops : List Event) (kept : Kept) (last : Final) (leaves : Leaves made stops last) → IsOpenedScript script opened → AreWithin script.cpus script.tokens script.messages → AllOpenLawfully script.tokens → MakesTurns order (scene opened [] none_kept) (scene made told kept) → TellsOneRun script opened leaves.closed last (told ++ stops)
+turns_tell script order opened made told stops kept last leaves opens within lawful along =
+    stands_tells script opened (scene made told kept) stops last leaves opens within lawful
     (turns_keep (Stands opened) (stands_turn opened) order (scene opened [] none_kept) (scene made told kept) along (stands_opened script opened opens))

@@ -5,8 +5,10 @@ use Rattle.lwkt_core.specs.Opening.{AreWithin, AllOpenLawfully}
 use Rattle.lwkt_core.specs.Trace.{Closes}
 use Rattle.lwkt_report.specs.declared.closings.Verdict.{Verdict}
 use Rattle.lwkt_script.specs.declared.scripts.Script.{Script}
-use Rattle.lwkt_verdict.specs.Follow.{Follow, EndsHere}
+use Rattle.lwkt_verdict.specs.declared.progress.Piece.{Piece}
+use Rattle.lwkt_verdict.specs.Follow.{Follow, AllAllow, AreShown, none_answered, EndsHere}
 use Rattle.lwkt_verdict.specs.Parts.{after_all}
+use Rattle.lwkt_verdict.specs.Run.{AreListed, EndsRun}
 use Rattle.lwkt_run.specs.Driving.{pace_of}
 use Rattle.lwkt_run.specs.Judging.{ids_of, IsVerdict}
 use Rattle.lwkt_run.specs.Keeping.{Story}
@@ -20,6 +22,11 @@ use Rattle.lwkt_run.specs.declared.rounds.Course.TheVariants.{Rounds, Along}
 pub record EndsSo (f : Follow) (left : Left) (stop : List Event) : Type 0 where
   pub ends : EndsHere f left.threads.items stop
   pub closes : Closes (after_all f.machine stop) left.last
+
+-- such a check says that the run doesn't end so: whatever its turns were, their end isn't one of a run of the script, or it doesn't lead to
+-- these closing values
+abbrev pub DeclinesSo : Follow → Left → List Event → Type 0
+DeclinesSo f left stop = (before : List Piece) → AllAllow f.table none_answered left.threads.items → AreShown before f.table none_answered → AreListed f.machine.cpus 0 left.threads.items → EndsRun f.plans left.threads.items f.machine before stop → ¬ Closes (after_all f.machine stop) left.last
 
 -- these are the processors of the turns that were made of a course, by the verdict on them
 abbrev pub IsMadeOf : Verdict → Course → List ℕ → Type 0

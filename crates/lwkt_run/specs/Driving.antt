@@ -1,20 +1,21 @@
 -- How the machine of a script is driven: turn by turn, each of which is kept, and followed by a check (own).
 --
 -- Where nothing is kept, the code has no list of the turns so far. So what a driver did is said of each run that it may have begun with.
-use Rattle.std.specs.Prelude.{◌≡◌, ◌⊎◌, ℕ, ◌+◌, ◌<◌, Bool, true, false, List, length, All, Option, Some, None, IfSome}
+use Rattle.std.specs.Prelude.{◌≡◌, ◌⊎◌, ℕ, ◌+◌, ◌<◌, ◌≤◌, Bool, true, false, List, length, All, Option, Some, None, IfSome}
 use Rattle.lwkt_core.specs.declared.events.Event.{Event}
 use Rattle.lwkt_port.specs.Chains.{Chain}
 use Rattle.lwkt_cpu.specs.declared.answers.Turned.{Turned}
+use Rattle.lwkt_machine.specs.Bodies.{Scripted}
 use Rattle.lwkt_machine.specs.Ended.{AreOver}
 use Rattle.lwkt_machine.specs.Machines.{Rig}
 use Rattle.lwkt_script.specs.declared.scripts.Script.{Script}
 use Rattle.lwkt_verdict.specs.declared.turns.Pace.{Pace}
 use Rattle.lwkt_verdict.specs.declared.turns.Pace.TheVariants.{Rounds as InRounds, Named}
-use Rattle.lwkt_verdict.specs.Follow.{Follow, GoesOnByPoll, GoesOnUnasked}
+use Rattle.lwkt_verdict.specs.Follow.{Follow, GoesOnByPoll, DeclinesPoll, GoesOnUnasked, DeclinesUnasked}
 use Rattle.lwkt_verdict.specs.Run.{whose}
-use Rattle.lwkt_run.specs.Judging.{StoodAt, events_of}
+use Rattle.lwkt_run.specs.Judging.{CountsBefore, events_of}
 use Rattle.lwkt_run.specs.Keeping.{Story}
-use Rattle.lwkt_run.specs.Running.{Scene, MakesKeptTurn, MakesTurnAt, MakesSome, GoRounds, says_over, both}
+use Rattle.lwkt_run.specs.Running.{Scene, MakesKeptTurn, says_over, both}
 use Rattle.lwkt_run.specs.declared.polled.Polled.{Polled}
 use Rattle.lwkt_run.specs.declared.rounds.Course.{Course}
 use Rattle.lwkt_run.specs.declared.rounds.Course.TheVariants.{Rounds, Along}
@@ -32,6 +33,11 @@ abbrev pub GoesOnBy : ℕ → Option Polled → List Event → Follow → Follow
 GoesOnBy cpu None part old new = GoesOnUnasked cpu part old new
 GoesOnBy cpu (Some p) part old new = GoesOnByPoll cpu p.thread p.told p.asked part old new
 
+-- the check doesn't go on by a turn that asked this, or nothing
+abbrev pub DeclinesBy : ℕ → Option Polled → List Event → Follow → Type 0
+DeclinesBy cpu None part f = DeclinesUnasked cpu part f
+DeclinesBy cpu (Some p) part f = DeclinesPoll cpu p.thread p.told p.asked part f
+
 -- the processor of this number makes a turn, which says this and is kept; and the check goes on by what it asked and by its events
 pub record FollowsTurn (cpu : ℕ) (turned : Turned) (x y : Pair) : Type 0 where
   pub turn : MakesKeptTurn cpu turned x.at y.at
@@ -39,6 +45,12 @@ pub record FollowsTurn (cpu : ℕ) (turned : Turned) (x y : Pair) : Type 0 where
 
 abbrev pub FollowsTurnAt : ℕ → Pair → Pair → Type 0
 FollowsTurnAt cpu x y = (turned : Turned) × FollowsTurn cpu turned x y
+
+-- the processor of this number makes a turn, which is kept; and the check doesn't go on by it
+pub record DeclinesTurn (cpu : ℕ) (x : Pair) (y : Scene) : Type 0 where
+  pub turned : Turned
+  pub turn : MakesKeptTurn cpu turned x.at y
+  pub declines : DeclinesBy cpu turn.asks turn.part.items x.follow
 
 -- the turns of an order are made and followed, one after another
 abbrev pub FollowsTurns : List ℕ → Pair → Pair → Type 0
@@ -77,26 +89,27 @@ pub record EndFollowed (count : ℕ) (x y : Pair) : Type 0 where
 abbrev pub HasFollowed : ℕ → Pair → Pair → Type 0
 HasFollowed limit x y = ((count : ℕ) × ((count < limit) × EndFollowed count x y)) ⊎ Chain Pair (FollowsRound false) limit x y
 
--- of a round the processors up to one made their turns, from 0 on
-abbrev pub StopsInRound : Scene → Scene → Type 0
-StopsInRound x y = (n : ℕ) × ((n < length x.machine.cpus) × Chain Scene MakesTurnAt (n + 1) x y)
+-- of a round the processors up to one made their turns, from 0 on, which were followed; and the one after them made a turn that the check
+-- doesn't go on by
+abbrev pub StopsInRound : Pair → Scene → Type 0
+StopsInRound x y = (n : ℕ) × ((n < length x.at.machine.cpus) × ((w : Walk) × (Chain Walk FollowsStep n (walk x true) w × DeclinesTurn n w.at y)))
 
--- fewer rounds than the limit says were made, none of which was over, and then some turns of one more
-abbrev pub StopsInRounds : ℕ → Scene → Scene → Type 0
-StopsInRounds limit x y = (count : ℕ) × ((count < limit) × ((mid : Scene) × (GoRounds count x mid × StopsInRound mid y)))
+-- fewer rounds than the limit says were made and followed, none of which was over, and then the check said no in one more
+abbrev pub StopsInRounds : ℕ → Pair → Scene → Type 0
+StopsInRounds limit x y = (count : ℕ) × ((count < limit) × ((mid : Pair) × (Chain Pair (FollowsRound false) count x mid × StopsInRound mid y)))
 
--- some turns of an order were made, at least one
-abbrev pub StopsAlong : List ℕ → Scene → Scene → Type 0
-StopsAlong order x y = (n : ℕ) × ((n < length order) × MakesSome order (n + 1) x y)
+-- some turns of an order were made and followed, and then one more that the check doesn't go on by
+abbrev pub StopsAlong : List ℕ → Pair → Scene → Type 0
+StopsAlong order x y = (n : ℕ) × ((n < length order) × ((mid : Pair) × (Chain Pair (λ k. FollowsTurnAt (whose order k)) n x mid × DeclinesTurn (whose order n) mid y)))
 
 -- where a driver stands: its machine, what is kept of the run, if anything is, how many events it has counted, and the check
 pub record Stand : Type 0 where
-  pub machine : Rig
+  pub machine : Rig Scripted
   pub kept : Option Story
   pub events : ℕ
   pub follow : Follow
 
-abbrev pub stand : Rig → Option Story → ℕ → Follow → Stand
+abbrev pub stand : Rig Scripted → Option Story → ℕ → Follow → Stand
 stand machine kept events follow = record { machine = machine; kept = kept; events = events; follow = follow }
 
 -- a scene has the machine of a driver, and what that keeps, if it keeps anything
@@ -112,27 +125,27 @@ pub record IsAt (s : Stand) (x : Scene) : Type 0 where
 -- the same, where the check said no to the last turn, whose events aren't counted
 pub record IsStopped (s : Stand) (x : Scene) : Type 0 where
   pub of : IsOf s x
-  pub stood : StoodAt s.events x.kept.turns
+  pub stood : CountsBefore s.events x.kept.turns
 
 -- a driver made a turn, which the check said no to; or which it followed, and whether the turn says that every thread of its processor has
 -- ended
 abbrev pub TurnDriven : ℕ → Option Bool → Stand → Stand → Type 0
-TurnDriven cpu None s t = (x : Scene) → IsAt s x → (y : Scene) × (IsStopped t y × MakesTurnAt cpu x y)
+TurnDriven cpu None s t = (x : Scene) → IsAt s x → (y : Scene) × (IsStopped t y × DeclinesTurn cpu (pair x s.follow) y)
 TurnDriven cpu (Some over) s t = (x : Scene) → IsAt s x → (y : Scene) × (IsAt t y × ((turned : Turned) × (FollowsTurn cpu turned (pair x s.follow) (pair y t.follow) × (over ≡ says_over turned))))
 
 -- a driver made a round, up to a turn that the check said no to; or a whole one, and whether it was over
 abbrev pub RoundDriven : Option Bool → Stand → Stand → Type 0
-RoundDriven None s t = (x : Scene) → IsAt s x → (y : Scene) × (IsStopped t y × StopsInRound x y)
+RoundDriven None s t = (x : Scene) → IsAt s x → (y : Scene) × (IsStopped t y × StopsInRound (pair x s.follow) y)
 RoundDriven (Some over) s t = (x : Scene) → IsAt s x → (y : Scene) × (IsAt t y × RoundFollowed (pair x s.follow) (pair y t.follow) over)
 
 -- a driver made rounds, up to a turn that the check said no to; or all
 abbrev pub RoundsDriven : ℕ → Bool → Stand → Stand → Type 0
-RoundsDriven limit false s t = (x : Scene) → IsAt s x → (y : Scene) × (IsStopped t y × StopsInRounds limit x y)
+RoundsDriven limit false s t = (x : Scene) → IsAt s x → (y : Scene) × (IsStopped t y × StopsInRounds limit (pair x s.follow) y)
 RoundsDriven limit true s t = (x : Scene) → IsAt s x → (y : Scene) × (IsAt t y × HasFollowed limit (pair x s.follow) (pair y t.follow))
 
 -- a driver made the turns of an order, up to one that the check said no to; or all
 abbrev pub TurnsDriven : List ℕ → Bool → Stand → Stand → Type 0
-TurnsDriven order false s t = (x : Scene) → IsAt s x → (y : Scene) × (IsStopped t y × StopsAlong order x y)
+TurnsDriven order false s t = (x : Scene) → IsAt s x → (y : Scene) × (IsStopped t y × StopsAlong order (pair x s.follow) y)
 TurnsDriven order true s t = (x : Scene) → IsAt s x → (y : Scene) × (IsAt t y × FollowsTurns order (pair x s.follow) (pair y t.follow))
 
 -- the same by the course of a run
@@ -144,6 +157,11 @@ IsDriven (Along order) fits s t = TurnsDriven order.now fits s t
 abbrev pub IsWithin : ℕ → Course → Type 0
 IsWithin cpus (Rounds limit) = Unit {0}
 IsWithin cpus (Along order) = All (λ x. x < cpus) order.now
+
+-- a course has fewer turns than the check counts
+abbrev pub IsShort : Course → Type 0
+IsShort (Rounds limit) = limit ≤ 4294967295
+IsShort (Along order) = length order.now ≤ 18446744073709551615
 
 -- a course may be that of a lawful run: rounds are some
 abbrev pub HasTurns : Course → Type 0

@@ -11,7 +11,7 @@ use Rattle.lwkt_core.specs.Opening.{opening}
 use Rattle.lwkt_core.specs.Trace.{Run, IsLawfulTrace}
 use Rattle.lwkt_cpu.specs.Telling.{is_of_message}
 use Rattle.lwkt_hold.specs.Steps.{is_of_token, Tells}
-use Rattle.lwkt_threads.specs.Parts.{of_cpu}
+use Rattle.lwkt_run.specs.Parts.{of_cpu}
 
 -- what the processors did, by number, are the parts of one run of the whole machine: its events happen one after another, from the
 -- opening to these closing values, and of these each processor's on tokens are those that its part tells, in order, and its own on

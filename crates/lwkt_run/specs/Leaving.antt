@@ -1,21 +1,39 @@
 -- What a machine leaves (own).
-use Rattle.std.specs.Prelude.{◌≡◌, Vec}
+use Rattle.std.specs.Prelude.{◌≡◌, List, flat_map, Vec}
 use Rattle.std.specs.declared.alloc.Global.{Global}
 use Rattle.lwkt_core.specs.declared.events.Event.{Event}
 use Rattle.lwkt_core.specs.declared.finals.Final.{Final}
 use Rattle.lwkt_machine.specs.declared.closings.Closed.{Closed}
-use Rattle.lwkt_machine.specs.Closing.{IsClosedMachine}
-use Rattle.lwkt_machine.specs.Ended.{StopsAll}
+use Rattle.lwkt_machine.specs.Bodies.{Scripted}
+use Rattle.lwkt_machine.specs.Ended.{IsClosedMachine}
 use Rattle.lwkt_machine.specs.Machines.{Rig}
+use Rattle.lwkt_run.specs.declared.endings.Told.{Told}
 
--- these closing values are those that the bank and the book of a machine gave, after its processors stopped
-pub record Leaves (m : Rig) (t u : Vec Event Global) (last : Final) : Type 0 where
-  pub stopped : Rig
-  pub closed : Closed
-  pub stops : StopsAll m stopped t u
-  pub closes : IsClosedMachine stopped closed
+-- the events of the stops of processors, one processor's after another's
+abbrev pub events_of_stops : List (Vec Event Global) → List Event
+events_of_stops stops = flat_map (λ (stop : Vec Event Global). stop.items) stops
+
+-- these closing values are those that the bank and the book of a machine gave as it closed, and these are the events of its stop
+pub record Leaves (m : Rig Scripted) (stops : List Event) (last : Final) : Type 0 where
+  pub closed : Closed Scripted
+  pub closes : IsClosedMachine m closed
+  pub stops_are : stops ≡ events_of_stops closed.stops.items
   pub rows : last.rows ≡ closed.tokens.rows
   pub gens : last.gens ≡ closed.tokens.gens
   pub tallies : last.tallies ≡ closed.tokens.tallies
   pub blobs : last.blobs ≡ closed.tokens.blobs
   pub messages : last.messages ≡ closed.messages
+
+-- what is told of a machine that closed so: its closing values, the traces that it has kept, and the events of its stop
+pub record IsLeftBy (closed : Closed Scripted) (told : Told) : Type 0 where
+  pub stops : told.stops.items ≡ events_of_stops closed.stops.items
+  pub traces : told.traces.items ≡ closed.traces.items
+  pub rows : told.left.last.rows ≡ closed.tokens.rows
+  pub gens : told.left.last.gens ≡ closed.tokens.gens
+  pub tallies : told.left.last.tallies ≡ closed.tokens.tallies
+  pub blobs : told.left.last.blobs ≡ closed.tokens.blobs
+  pub messages : told.left.last.messages ≡ closed.messages
+
+-- what is told of a run is what its machine left
+abbrev pub LeavesTold : Rig Scripted → Told → Type 0
+LeavesTold m told = (leaves : Leaves m told.stops.items told.left.last) × (told.traces.items ≡ leaves.closed.traces.items)

@@ -14,3 +14,4 @@ pub mod Values
 pub mod Threaded
 pub mod Telling
 pub mod Modes
+pub mod Parts

@@ -1,5 +1,5 @@
 use Rattle.std.specs.Global.{Global}
-use Rattle.std.specs.Prelude.{codes, ◌<◌, ◌≤◌, ◌*◌, length, All, string_bytes, String, Vec, ◌≡◌, ◌⊎◌, ℕ, Bool, true, false, List, [], ◌++◌, map, take, Option, is_some, unwrap_or, IfSome, Result, Ok, Err}
+use Rattle.std.specs.Prelude.{codes, ◌<◌, ◌≤◌, ◌*◌, length, All, string_bytes, String, ◌≡◌, ◌⊎◌, ℕ, Bool, true, false, List, [], ◌++◌, map, take, Option, is_some, unwrap_or, IfSome, Result, Ok, Err}
 use Rattle.std.specs.List.{list_all, range_with_len}
 use Rattle.std.specs.Io.KnownBytes.{Appends, Keeps}
 use Rattle.lwkt_base.specs.declared.faults.Fault.{Fault as Refusal}
@@ -10,7 +10,7 @@ use Rattle.lwkt_core.specs.declared.finals.Final.{Final}
 use Rattle.lwkt_core.specs.Machine.{Machine}
 use Rattle.lwkt_core.specs.Opening.{opening, AreWithin, AllOpenLawfully}
 use Rattle.lwkt_report.specs.declared.closings.Closing.{Closing}
-use Rattle.lwkt_report.specs.declared.closings.ThreadLine.{ThreadLine}
+use Rattle.lwkt_base.specs.declared.threads.ThreadLine.{ThreadLine}
 use Rattle.lwkt_report.specs.declared.closings.Verdict.{Verdict}
 use Rattle.lwkt_report.specs.declared.closings.Verdict.TheVariants.{Closed, Lawful, Unlawful}
 use Rattle.lwkt_report.specs.declared.complaints.Program.TheVariants.{Run as RunProgram}
@@ -27,10 +27,12 @@ use Rattle.lwkt_verdict.specs.declared.turns.Turn.{Turn}
 use Rattle.lwkt_verdict.specs.declared.turns.Pace.{Pace}
 use Rattle.lwkt_verdict.specs.declared.turns.Pace.TheVariants.{Rounds, Named}
 use Rattle.lwkt_verdict.specs.Run.{GoesRound}
+use Rattle.lwkt_machine.specs.Bodies.{Scripted}
 use Rattle.lwkt_machine.specs.declared.closings.Closed.{Closed as ClosedMachine}
 use Rattle.lwkt_machine.specs.Machines.{Rig}
-use Rattle.lwkt_machine.specs.Opened.{IsOpenedMachine, Declines as IsDeclined}
-use Rattle.lwkt_threads.specs.Parts.{of_cpu, TellTheRuns}
+use Rattle.lwkt_machine.specs.Scripts.{IsOpenedScript, DeclinesScript as IsDeclined}
+use Rattle.lwkt_machine.specs.Parts.{TellTheRuns}
+use Rattle.lwkt_run.specs.Parts.{of_cpu}
 use Rattle.lwkt_run.specs.Chains.{WritesChains}
 use Rattle.lwkt_run.specs.Joining.{AreOneRun}
 use Rattle.lwkt_run.specs.Keeping.{Kept, kept_as, none_kept}
@@ -63,7 +65,7 @@ parts_in cpus trace = map (λ cpu. of_cpu cpu trace) (range_with_len 0 cpus)
 -- the parts of one run of the model on tokens and of one on messages, to the values at the close; and so of one run of the whole
 -- machine, from the script's opening to these closing values; and the written sections of that run are chains, of each token one from
 -- its opening row to its closing one (own)
-pub record TellsOneRun (script : Script) (opened : Rig) (closed : ClosedMachine) (last : Final) (trace : List Event) : Type 0 where
+pub record TellsOneRun (script : Script) (opened : Rig Scripted) (closed : ClosedMachine Scripted) (last : Final) (trace : List Event) : Type 0 where
   pub tells : TellTheRuns opened closed (parts_in script.cpus trace)
   pub one : AreOneRun script.cpus script.tokens script.messages last (parts_in script.cpus trace)
   pub chains : WritesChains (opening_of_script script) one.events last
@@ -73,34 +75,30 @@ pub record TellsOneRun (script : Script) (opened : Rig) (closed : ClosedMachine)
 -- else; the lines show how its threads stood then; it stopped, and its bank and its book were closed with these values; what its
 -- processors did is one run of the model (own)
 pub record RunsInRounds (script : Script) (lines : List ThreadLine) (kept : Kept) (trace : List Event) (last : Final) : Type 0 where
-  pub opened : Rig
-  pub made : Rig
+  pub opened : Rig Scripted
+  pub made : Rig Scripted
   pub told : List Event
-  pub none : Vec Event Global
-  pub stops : Vec Event Global
-  pub opens : IsOpenedMachine script opened
+  pub stops : List Event
+  pub opens : IsOpenedScript script opened
   pub rounds : HasMadeRounds script.turns (scene opened [] none_kept) (scene made told kept)
   pub shown : ShowThreads lines made
-  pub empty : none.items ≡ []
-  pub leaves : Leaves made none stops last
-  pub trace_is : trace ≡ told ++ stops.items
+  pub leaves : Leaves made stops last
+  pub trace_is : trace ≡ told ++ stops
   pub tells : TellsOneRun script opened leaves.closed last trace
 
 -- the same of a run along an order of processors: the script's machine was opened, and made the turn of each processor that the
 -- order names, one after another, and each of these turns was kept, and nothing else; the lines show how its threads stood then; it
 -- stopped, and its bank and its book were closed with these values; what its processors did is one run of the model (own)
 pub record RunsAlong (script : Script) (order : List ℕ) (lines : List ThreadLine) (kept : Kept) (trace : List Event) (last : Final) : Type 0 where
-  pub opened : Rig
-  pub made : Rig
+  pub opened : Rig Scripted
+  pub made : Rig Scripted
   pub told : List Event
-  pub none : Vec Event Global
-  pub stops : Vec Event Global
-  pub opens : IsOpenedMachine script opened
+  pub stops : List Event
+  pub opens : IsOpenedScript script opened
   pub along : MakesTurns order (scene opened [] none_kept) (scene made told kept)
   pub shown : ShowThreads lines made
-  pub empty : none.items ≡ []
-  pub leaves : Leaves made none stops last
-  pub trace_is : trace ≡ told ++ stops.items
+  pub leaves : Leaves made stops last
+  pub trace_is : trace ≡ told ++ stops
   pub tells : TellsOneRun script opened leaves.closed last trace
 
 -- the same of a run at a pace: in the rounds of the script, or along an order

@@ -7,12 +7,12 @@ use Rattle.lwkt_port.specs.Chains.{Chain}
 use Rattle.lwkt_cpu.specs.declared.answers.Turned.{Turned}
 use Rattle.lwkt_cpu.specs.declared.answers.Turned.TheVariants.{Ran, Idle, AllExited}
 use Rattle.lwkt_cpu.specs.Processors.{Processor}
-use Rattle.lwkt_machine.specs.Bodies.{Scripted}
+use Rattle.lwkt_machine.specs.Bodies.{Scripted, IsPolled}
 use Rattle.lwkt_machine.specs.Ended.{AreOver}
 use Rattle.lwkt_machine.specs.Machines.{Rig, ShowsBody}
 use Rattle.lwkt_machine.specs.Standings.{standings_of}
 use Rattle.lwkt_machine.specs.Turns.{TurnsAt}
-use Rattle.lwkt_report.specs.declared.closings.ThreadLine.{ThreadLine}
+use Rattle.lwkt_base.specs.declared.threads.ThreadLine.{ThreadLine}
 use Rattle.lwkt_script.specs.declared.scripts.ThreadSpec.{ThreadSpec}
 use Rattle.lwkt_script.specs.Format.{threads_on}
 use Rattle.lwkt_verdict.specs.Run.{whose}
@@ -31,19 +31,19 @@ log_in None = []
 log_in (Some body) = body.log
 
 -- a line shows the log of its thread's body
-abbrev pub IsLogOf : Rig → ThreadLine → Type 0
+abbrev pub IsLogOf : Rig Scripted → ThreadLine → Type 0
 IsLogOf m line = (body : Option Scripted) × (ShowsBody m line.id.cpu.0 line.id.thread body × (line.log ≡ log_in body))
 
 -- the lines of threads show how a machine's threads stand, each in its place: what it is doing and its references; and what its body
 -- has logged
-pub record ShowThreads (lines : List ThreadLine) (m : Rig) : Type 0 where
+pub record ShowThreads (lines : List ThreadLine) (m : Rig Scripted) : Type 0 where
   pub ids : map (λ line. line.id) lines ≡ map (λ s. s.id) (standings_of m.cpus)
   pub states : map (λ line. line.state) lines ≡ map (λ s. s.state) (standings_of m.cpus)
   pub lists : map (λ line. line.list) lines ≡ map (λ s. s.list) (standings_of m.cpus)
   pub logs : All (IsLogOf m) lines
 
 -- what the last poll of a thread was: its body was given this answer to what it asked before, and asked this
-pub record IsPolledAt (m : Rig) (cpu thread : ℕ) (p : Polled) : Type 0 where
+pub record IsPolledAt (m : Rig Scripted) (cpu thread : ℕ) (p : Polled) : Type 0 where
   pub id : p.thread ≡ record { cpu = record { 0 = cpu }; thread = thread }
   pub body : Scripted
   pub shown : ShowsBody m cpu thread (Some body)
@@ -52,28 +52,28 @@ pub record IsPolledAt (m : Rig) (cpu thread : ℕ) (p : Polled) : Type 0 where
 
 -- what a turn of a processor asked, by its answer and the machine that it left: nothing where it ran no thread, else what the thread
 -- was told and asked that ran
-abbrev pub HasBeenAsked : ℕ → Rig → Turned → Option Polled → Type 0
+abbrev pub HasBeenAsked : ℕ → Rig Scripted → Turned → Option Polled → Type 0
 HasBeenAsked cpu m (Ran thread) None = ⊥
 HasBeenAsked cpu m (Ran thread) (Some p) = IsPolledAt m cpu thread p
 HasBeenAsked cpu m Idle asks = asks ≡ None
 HasBeenAsked cpu m AllExited asks = asks ≡ None
 
 -- a thread that is there was polled; and so was the one that a turn ran, which is one of a processor's 16 threads
-abbrev pub WasPolled : Rig → ℕ → ℕ → Type 0
+abbrev pub WasPolled : Rig Scripted → ℕ → ℕ → Type 0
 WasPolled m cpu thread = IsSomeAnd (slice_get m.cpus cpu) (λ q. thread < length q.threads) × ((p : Polled) × IsPolledAt m cpu thread p)
 
-abbrev pub HasPolled : ℕ → Rig → Turned → Type 0
+abbrev pub HasPolled : ℕ → Rig Scripted → Turned → Type 0
 HasPolled cpu m (Ran thread) = (thread < 16) × WasPolled m cpu thread
 HasPolled cpu m Idle = Unit {0}
 HasPolled cpu m AllExited = Unit {0}
 
 -- a machine, the trace of its events, and what is kept of its turns
 pub record Scene : Type 0 where
-  pub machine : Rig
+  pub machine : Rig Scripted
   pub trace : List Event
   pub kept : Kept
 
-abbrev pub scene : Rig → List Event → Kept → Scene
+abbrev pub scene : Rig Scripted → List Event → Kept → Scene
 scene machine trace kept = record { machine = machine; trace = trace; kept = kept }
 
 -- what a record keeps
@@ -86,7 +86,7 @@ pub record MakesKeptTurn (cpu : ℕ) (turned : Turned) (x y : Scene) : Type 0 wh
   pub room : Vec Event Global
   pub part : Vec Event Global
   pub none : room.items ≡ []
-  pub makes : TurnsAt cpu x.machine y.machine room part turned
+  pub makes : TurnsAt IsPolled cpu x.machine y.machine room part turned
   pub grown : y.trace ≡ x.trace ++ part.items
   pub events : ℕ
   pub counted : length part.items ≡ events

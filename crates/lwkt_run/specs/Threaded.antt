@@ -1,9 +1,9 @@
 -- What a run on threads writes and answers (own).
 use Rattle.std.specs.Global.{Global}
-use Rattle.std.specs.Prelude.{codes, length, All, string_bytes, String, Vec, ◌≡◌, ℕ, Bool, true, List, [], map, is_some, Option, Result, Ok}
+use Rattle.std.specs.Prelude.{codes, length, All, string_bytes, String, ◌≡◌, ℕ, Bool, true, List, [], map, is_some, Option, Result, Ok}
 use Rattle.lwkt_base.specs.declared.names.CpuId.{CpuId}
 use Rattle.lwkt_core.specs.declared.events.Event.{Event}
-use Rattle.lwkt_events.specs.ShortEvents.{KeptTrace}
+use Rattle.lwkt_drive.specs.ShortEvents.{KeptTrace}
 use Rattle.lwkt_core.specs.declared.finals.Final.{Final}
 use Rattle.lwkt_base.specs.declared.openings.TokSpec.{TokSpec}
 use Rattle.lwkt_base.specs.declared.sections.Section.{Section}
@@ -13,12 +13,14 @@ use Rattle.lwkt_core.specs.Opening.{opening, AreWithin, AllOpenLawfully}
 use Rattle.lwkt_bank.specs.Told.{first_machine}
 use Rattle.lwkt_msg.specs.Steps.{machine_of}
 use Rattle.lwkt_msg.specs.Told.{first_mails}
+use Rattle.lwkt_machine.specs.Bodies.{Scripted, IsPolled}
 use Rattle.lwkt_machine.specs.Machines.{Rig}
-use Rattle.lwkt_machine.specs.Opened.{IsOpenedMachine}
-use Rattle.lwkt_threads.specs.Driven.{IsDrivenMachine}
-use Rattle.lwkt_threads.specs.Parts.{parts_from, TellTheRuns}
+use Rattle.lwkt_machine.specs.Scripts.{IsOpenedScript}
+use Rattle.lwkt_machine.specs.Drives.{IsDrivenMachine}
+use Rattle.lwkt_machine.specs.Parts.{TellTheRuns}
+use Rattle.lwkt_run.specs.Parts.{parts_from}
 use Rattle.lwkt_report.specs.declared.closings.Closing.{Closing}
-use Rattle.lwkt_report.specs.declared.closings.ThreadLine.{ThreadLine}
+use Rattle.lwkt_base.specs.declared.threads.ThreadLine.{ThreadLine}
 use Rattle.lwkt_report.specs.declared.closings.Verdict.{Verdict}
 use Rattle.lwkt_report.specs.declared.closings.Verdict.TheVariants.{Closed}
 use Rattle.lwkt_report.specs.declared.streams.RunFault.{RunFault}
@@ -43,26 +45,25 @@ use Rattle.lwkt_run.specs.Run.{ShowsClosing, end_told, TellsBy, SaysAfterRun, ex
 -- processor did, in its turns and then in its stop, are the parts of one run of the model on tokens and of one on messages, from the
 -- script's opening to these values, and so of one run of the whole machine (own)
 pub record RunsOnThreads (answers : CpuId → ℕ → Bool → Type 0) (script : Script) (lines : List ThreadLine) (last : Final) : Type 0 where
-  pub opened : Rig
-  pub driven : Rig
+  pub opened : Rig Scripted
+  pub driven : Rig Scripted
   pub traces : List KeptTrace
-  pub none : Vec Event Global
-  pub stops : Vec Event Global
-  pub opens : IsOpenedMachine script opened
-  pub drives : IsDrivenMachine answers (record { turns = script.turns; idle = script.idle }) opened driven traces
-  pub empty : none.items ≡ []
+  pub stops : List Event
+  pub opens : IsOpenedScript script opened
+  pub drives : IsDrivenMachine IsPolled answers (record { turns = script.turns; idle = script.idle }) opened driven
   pub shown : ShowThreads lines driven
-  pub leaves : Leaves driven none stops last
-  pub tells : TellTheRuns opened leaves.closed (parts_from 0 traces stops.items)
+  pub leaves : Leaves driven stops last
+  pub traces_are : traces ≡ leaves.closed.traces.items
+  pub tells : TellTheRuns opened leaves.closed (parts_from 0 traces stops)
   pub tokens_from : first_machine opened.bank.plans (length opened.cpus) ≡ opening script.cpus script.tokens []
   pub messages_from : machine_of opened.book.cpus (first_mails opened.book.specs) ≡ opening script.cpus [] script.messages
-  pub one : AreOneRun script.cpus script.tokens script.messages last (parts_from 0 traces stops.items)
+  pub one : AreOneRun script.cpus script.tokens script.messages last (parts_from 0 traces stops)
 
 -- what was told of a run on threads that has these closing values and lines: the traces of its processors, and the events of its stop
 pub record TellARun (answers : CpuId → ℕ → Bool → Type 0) (script : Script) (lines : List ThreadLine) (last : Final) (traces : List KeptTrace) (stops : List Event) : Type 0 where
   pub runs : RunsOnThreads answers script lines last
   pub traces_are : runs.traces ≡ traces
-  pub stops_are : runs.stops.items ≡ stops
+  pub stops_are : runs.stops ≡ stops
 
 -- what a report shows with these lines of threads, closing values of tokens that are opened so, and verdict
 pub record ShowsLeft (specs : List TokSpec) (lines : List ThreadLine) (last : Final) (verdict : Verdict) (closing : Closing) : Type 0 where
@@ -86,7 +87,7 @@ pub record MayCloseOnThreads (answers : CpuId → ℕ → Bool → Type 0) (scri
   pub runs : RunsOnThreads answers script closing.threads.items last
   pub chains : WritesChains (opening script.cpus script.tokens []) (events_in runs.tells.tokens.history) last
   pub sections : List Section
-  pub told : TellChains (opening script.cpus script.tokens []) runs.traces runs.stops.items last sections
+  pub told : TellChains (opening script.cpus script.tokens []) runs.traces runs.stops last sections
   pub written : sections ≡ sections_in (opening script.cpus script.tokens []) (events_in runs.tells.tokens.history)
 
 -- what was kept of a run of the script on threads: what its report shows, and the written sections that its traces and its stop tell,

@@ -1,15 +1,15 @@
 //! A run of a script that a check follows to its end, or up to the turn that it says no to.
-ghost use Rattle.std.specs.Prelude.{◌≡◌, ◌⊎◌, IsTrue, IfOk, IfErr, IfSome, OnOk};
+ghost use Rattle.std.specs.Prelude.{◌≡◌, ◌⊎◌, ◌↔◌, IsTrue, false, IfOk, IfErr, IfSome, OnOk};
 ghost use Rattle.lwkt_base.specs.declared.asks.Ask.TheVariants.{Exit};
 ghost use Rattle.lwkt_core.specs.Opening.{AreWithin, AllOpenLawfully};
-ghost use Rattle.lwkt_machine.specs.Opened.{AreFew};
+ghost use Rattle.lwkt_machine.specs.Scripts.{AreFew};
 ghost use Rattle.lwkt_verdict.specs.Follow.{Begins};
-ghost use Rattle.lwkt_run.specs.Checked.{EndsSo, LeavesChecked};
+ghost use Rattle.lwkt_run.specs.Checked.{EndsSo, DeclinesSo, LeavesChecked};
 ghost use Rattle.lwkt_run.specs.Driving.{IsCourseOf, HasTurns};
 ghost use Rattle.lwkt_run.specs.Keeping.{none_told};
 ghost use Rattle.lwkt_run.specs.Run.{opening_of_script, DeclinesRun};
 
-use crate::endings::{Left, left_by};
+use crate::endings::{Left, Told, left_by};
 use crate::keepers::Keeper;
 use crate::rounds::{Course, drive};
 use lwkt_base::{Ask, Fault, OutOfMemory};
@@ -64,14 +64,15 @@ fn follower_of<'p>(
 
 // Whether the check followed all turns of a course, and these are some, if they are rounds.
 fn is_followed(fits: bool, course: Course<'_>) -> bool
-    ensures { IsTrue result → IsTrue fits × HasTurns course.entry }
+    ensures { IsTrue result ↔ (IsTrue fits × HasTurns course.entry) }
 {
     fits && course.has_turns()
 }
 
 // Whether the check of a run says that the run ends so: with these events of the stop, and with what is left.
 fn ends_so(follower: Follower<'_>, left: &Left, stops: &[Event]) -> bool
-    ensures { IsTrue result → EndsSo follower.entry left.now stops.now }
+    ensures ends { IsTrue result → EndsSo follower.entry left.now stops.now }
+    ensures declines { result ≡ false → DeclinesSo follower.entry left.now stops.now }
 {
     match follower.ends(&left.threads, stops) {
         Some(state) => state.closes(&left.last),
@@ -87,7 +88,7 @@ fn verdict_of(
     left: &Left,
     stops: &[Event],
 ) -> Verdict
-    ensures { ((result ≡ Verdict.Lawful) × (IsTrue follows × EndsSo follower.entry left.now stops.now)) ⊎ (result ≡ Verdict.Unlawful events) }
+    ensures { ((result ≡ Verdict.Lawful) × (IsTrue follows × EndsSo follower.entry left.now stops.now)) ⊎ ((result ≡ Verdict.Unlawful events) × ((follows ≡ false) ⊎ DeclinesSo follower.entry left.now stops.now)) }
 {
     if follows && ends_so(follower, left, stops) {
         Verdict::Lawful
@@ -112,7 +113,7 @@ pub fn checked_run<K: Keeper + Drop>(
     ensures refused { IfErr result (λ fault. DeclinesRun script.now fault) }
 {
     let mut keeper = keeper;
-    let mut machine = Machine::open(alloc, script)?;
+    let mut machine = Machine::open_script(alloc, script)?;
     let close_room = machine.room(alloc)?;
     let opening = opened(alloc, script)?;
     let end = Ask::Exit;
@@ -127,13 +128,12 @@ pub fn checked_run<K: Keeper + Drop>(
         &mut keeper,
         &mut events,
     )?;
-    room.clear();
-    let left = left_by(alloc, script, machine, close_room, &mut room)?;
+    let Told { left, stops, .. } = left_by(alloc, script, machine, close_room)?;
     let follows = is_followed(fits, course);
-    let verdict = verdict_of(follows, events, follower, &left, room.as_slice());
+    let verdict = verdict_of(follows, events, follower, &left, stops.as_slice());
     Ok(Checked {
         left,
-        stops: room,
+        stops,
         keeper,
         verdict,
     })

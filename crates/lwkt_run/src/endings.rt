@@ -3,19 +3,20 @@ ghost use Rattle.std.specs.Prelude.{◌≡◌, length, map, IfOk, Option};
 ghost use Rattle.lwkt_bank.specs.Opened.{plans_of};
 ghost use Rattle.lwkt_run.specs.Judging.{ids_of};
 ghost use Rattle.lwkt_machine.specs.Bodies.{Scripted};
-ghost use Rattle.lwkt_machine.specs.Closing.{IsRoomFor};
+ghost use Rattle.lwkt_machine.specs.Ended.{IsRoomFor};
 ghost use Rattle.lwkt_machine.specs.Machines.{ShowsBody};
-ghost use Rattle.lwkt_run.specs.Leaving.{Leaves};
+ghost use Rattle.lwkt_run.specs.Leaving.{events_of_stops, IsLeftBy, LeavesTold};
 ghost use Rattle.lwkt_run.specs.Running.{HasThreads, ShowThreads, IsLogOf, log_in};
 ghost use Rattle.lwkt_run.specs.Threaded.{ShowsLeft};
 ghost use Rattle.lwkt_run.specs.Values.{AreValuesOf};
 
 use crate::lines::token_lines;
-use lwkt_base::memory::{from_slice, push, with_capacity_for};
-use lwkt_base::{OutOfMemory, ThreadId};
+use lwkt_base::memory::{extend_from_slice, from_slice, push, with_capacity_for};
+use lwkt_base::{Log, OutOfMemory, ThreadId, ThreadLine};
 use lwkt_core::{Event, Final};
-use lwkt_machine::{CloseRoom, Closed, Machine, Standing};
-use lwkt_report::{Closing, Log, ThreadLine, Verdict};
+use lwkt_drive::EventList;
+use lwkt_machine::{CloseRoom, Closed, Machine, ScriptBody, Standing};
+use lwkt_report::{Closing, Verdict};
 use lwkt_script::Script;
 use std::alloc::Global;
 
@@ -28,8 +29,19 @@ pub struct Left {
     pub threads: Vec<ThreadLine>,
 }
 
+/// What a run left, and what its processors told: in the traces that their machine has kept, and of its stop.
+#[derive(Drop)]
+pub struct Told {
+    /// The closing values, and the lines of the threads.
+    pub left: Left,
+    /// The events of the turns that were kept, by processor.
+    pub traces: Vec<EventList>,
+    /// The events of the stop, one processor's after another's.
+    pub stops: Vec<Event>,
+}
+
 // What a thread has logged.
-fn log_of(alloc: Global, machine: &Machine, id: ThreadId) -> Result<Log, OutOfMemory>
+fn log_of(alloc: Global, machine: &Machine<ScriptBody>, id: ThreadId) -> Result<Log, OutOfMemory>
     ensures { IfOk result (λ log. (body : Option Scripted) × (ShowsBody machine.now id.cpu.0 id.thread body × (log ≡ log_in body))) }
 {
     let entries = match machine.body(usize::from(id.cpu.0), usize::from(id.thread)) {
@@ -42,7 +54,7 @@ fn log_of(alloc: Global, machine: &Machine, id: ThreadId) -> Result<Log, OutOfMe
 // The line of a thread that stands so.
 fn thread_line(
     alloc: Global,
-    machine: &Machine,
+    machine: &Machine<ScriptBody>,
     standing: Standing,
 ) -> Result<ThreadLine, OutOfMemory>
     ensures id { IfOk result (λ line. line.id ≡ standing.id) }
@@ -61,7 +73,10 @@ fn thread_line(
 }
 
 // The lines of a machine's threads.
-fn thread_lines(alloc: Global, machine: &Machine) -> Result<Vec<ThreadLine>, OutOfMemory>
+fn thread_lines(
+    alloc: Global,
+    machine: &Machine<ScriptBody>,
+) -> Result<Vec<ThreadLine>, OutOfMemory>
     ensures { IfOk result (λ lines. ShowThreads lines.items machine.now) }
 {
     let standings = machine.standings(alloc)?;
@@ -72,63 +87,74 @@ fn thread_lines(alloc: Global, machine: &Machine) -> Result<Vec<ThreadLine>, Out
     Ok(lines)
 }
 
-// Stops a machine whose bank has the tokens of a script, and closes it in room that was made for that: its closing values. Only for
-// the events of the stop memory may be refused.
-fn close(
-    script: &Script,
-    machine: Machine,
-    close_room: CloseRoom,
-    trace: &mut Vec<Event>,
-) -> Result<Final, OutOfMemory>
-    requires bank { machine.bank.plans ≡ plans_of script.now.tokens }
-    requires room { IsRoomFor machine.bank machine.book (length machine.cpus) close_room }
-    ensures values { IfOk result (λ last. AreValuesOf script.now.tokens last) }
-    ensures leaves { IfOk result (λ last. Leaves machine trace.old trace.new last) }
+// The events of the stops of processors, one processor's after another's.
+fn joined(alloc: Global, stops: &[Vec<Event>]) -> Result<Vec<Event>, OutOfMemory>
+    ensures { IfOk result (λ all. all.items ≡ events_of_stops stops.now) }
 {
-    let mut machine = machine;
-    machine.stop(trace)?;
+    let mut all = Vec::new(alloc);
+    for stop in stops {
+        extend_from_slice(&mut all, stop)?;
+    }
+    Ok(all)
+}
+
+// What is told of a run that left these lines of threads, and whose machine closed so.
+fn told_at_close(
+    alloc: Global,
+    threads: Vec<ThreadLine>,
+    closed: Closed<ScriptBody>,
+) -> Result<Told, OutOfMemory>
+    ensures left { IfOk result (λ told. IsLeftBy closed told) }
+    ensures threads { IfOk result (λ told. told.left.threads.items ≡ threads.items) }
+{
     let Closed {
         tokens,
         messages,
+        traces,
+        stops,
         ..
-    } = machine.close_in(close_room);
+    } = closed;
     let lwkt_bank::Closed {
         rows,
         gens,
         tallies,
         blobs,
     } = tokens;
-    Ok(Final {
+    let last = Final {
         rows,
         gens,
         tallies,
         blobs,
         messages,
+    };
+    Ok(Told {
+        left: Left { last, threads },
+        traces,
+        stops: joined(alloc, &stops)?,
     })
 }
 
-/// Takes the lines of the threads of a script's machine, stops it, and closes it in room that was made for that. The events of the stop
-/// are appended to the trace. That the machine is of this script, and the room for its close, is the caller's condition.
+/// Takes the lines of the threads of a script's machine, and closes it in room that was made for that, by which it stops. That the
+/// machine is of this script, and the room for its close, is the caller's condition.
 ///
 /// Refused if memory for the lines of the threads or for the events of the stop is; the machine is gone then.
 pub fn left_by(
     alloc: Global,
     script: &Script,
-    machine: Machine,
-    close_room: CloseRoom,
-    trace: &mut Vec<Event>,
-) -> Result<Left, OutOfMemory>
+    machine: Machine<ScriptBody>,
+    close_room: CloseRoom<ScriptBody>,
+) -> Result<Told, OutOfMemory>
     requires bank { machine.bank.plans ≡ plans_of script.now.tokens }
     requires room { IsRoomFor machine.bank machine.book (length machine.cpus) close_room }
     requires threads { HasThreads script.now.cpus script.now.threads machine.cpus }
-    ensures values { IfOk result (λ left. AreValuesOf script.now.tokens left.last) }
-    ensures leaves { IfOk result (λ left. Leaves machine trace.old trace.new left.last) }
-    ensures shown { IfOk result (λ left. ShowThreads left.threads.items machine) }
-    ensures threads { IfOk result (λ left. map (λ line. line.id) left.threads.items ≡ ids_of script.now.cpus script.now.threads) }
+    ensures values { IfOk result (λ told. AreValuesOf script.now.tokens told.left.last) }
+    ensures leaves { IfOk result (λ told. LeavesTold machine told) }
+    ensures shown { IfOk result (λ told. ShowThreads told.left.threads.items machine) }
+    ensures threads { IfOk result (λ told. map (λ line. line.id) told.left.threads.items ≡ ids_of script.now.cpus script.now.threads) }
 {
+    let _ = script;
     let threads = thread_lines(alloc, &machine)?;
-    let last = close(script, machine, close_room, trace)?;
-    Ok(Left { last, threads })
+    told_at_close(alloc, threads, machine.close_in(close_room))
 }
 
 /// What a report shows of what a run left, with this verdict. That the values are of the script's tokens is the caller's condition.

@@ -2,7 +2,7 @@
 use lwkt_base::memory::{push, with_capacity_for};
 use lwkt_base::{CpuId, OutOfMemory};
 use lwkt_core::Event;
-use lwkt_events::{EventList, Give, give_of};
+use lwkt_drive::{EventList, Give, give_of};
 use std::alloc::Global;
 
 // A section, and the processor that ended it by giving the token back.

@@ -22,9 +22,9 @@ mod stretches;
 mod tellings;
 mod threaded;
 
+pub use lwkt_machine::{Gate, OpenGate};
 pub use lwkt_report::{RunFault, Verdict};
 pub use lwkt_script::{Script, read_script};
-pub use lwkt_threads::{Gate, OpenGate};
 pub use modes::Mode;
 pub use programs::{
     asks_threads, asks_turns, close_by, exit_status, finish, run_program, run_read,

@@ -1,7 +1,7 @@
 //! How a script is driven.
 
 /// How the processors of a script are driven.
-#[derive(Clone, Copy, Debug, PartialEq, Eq)]
+#[derive(Clone, Copy, PartialEq, Eq)]
 pub enum Mode {
     /// In rounds, on one thread.
     Turns,

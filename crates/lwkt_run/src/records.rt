@@ -5,15 +5,13 @@ ghost use Rattle.lwkt_run.specs.Keeping.{last_place, with_answer};
 
 use crate::keepers::Keeper;
 use crate::polled::PolledRef;
+use lwkt_base::limits::MACHINE_THREADS;
 use lwkt_base::memory::push;
 use lwkt_base::{Answer, OutOfMemory};
 use lwkt_core::Event;
-use lwkt_events::EventList;
+use lwkt_drive::EventList;
 use lwkt_verdict::{Poll, Turn};
 use std::alloc::Global;
-
-// As many threads as there can be, 16 of each of 8 processors.
-const THREAD_LIMIT: usize = 128;
 
 /// What is kept of a run: its trace, the processor of each turn, the turns in order, and their polls.
 #[derive(Drop)]
@@ -27,7 +25,7 @@ pub struct Record {
     /// The turns, in order: as many as `order` has.
     pub turns: Vec<Turn>,
     // Of each thread the place of its last poll, 16 threads for each processor.
-    last: [Option<usize>; THREAD_LIMIT],
+    last: [Option<usize>; MACHINE_THREADS],
     ghost places: { (slot : ℕ) → slot < 128 → slice_get last slot ≡ Some (last_place slot polls.items) },
 }
 
@@ -56,7 +54,7 @@ impl Record {
             order: Vec::new(alloc),
             polls: Vec::new(alloc),
             turns: Vec::new(alloc),
-            last: [None; THREAD_LIMIT],
+            last: [None; MACHINE_THREADS],
         }
     }
 

@@ -1,7 +1,7 @@
 //! The turns of a run: made one by one, kept by a keeper, and followed by a check, until it says no.
-ghost use Rattle.std.specs.Prelude.{◌≡◌, ◌↔◌, ◌<◌, ◌≤◌, IsTrue, All, length, IfOk, IfSome, option_map};
+ghost use Rattle.std.specs.Prelude.{◌≡◌, ◌↔◌, ◌<◌, ◌≤◌, IsTrue, false, All, length, IfOk, IfSome, option_map};
 ghost use Rattle.lwkt_verdict.specs.Threads.{slot_of};
-ghost use Rattle.lwkt_run.specs.Driving.{GoesOnBy, TurnDriven, RoundDriven, RoundsDriven, TurnsDriven, IsDriven, IsWithin, HasTurns, stand};
+ghost use Rattle.lwkt_run.specs.Driving.{GoesOnBy, DeclinesBy, TurnDriven, RoundDriven, RoundsDriven, TurnsDriven, IsDriven, IsWithin, IsShort, HasTurns, stand};
 ghost use Rattle.lwkt_run.specs.Keeping.{polled_of};
 ghost use Rattle.lwkt_run.specs.Running.{WasPolled, HasPolled, IsPolledAt, HasBeenAsked, says_over, both as both_so};
 
@@ -10,7 +10,7 @@ use crate::polled::PolledRef;
 use lwkt_base::{CpuId, OutOfMemory, ThreadId};
 use lwkt_core::Event;
 use lwkt_cpu::Turned;
-use lwkt_machine::Machine;
+use lwkt_machine::{Machine, ScriptBody};
 use lwkt_verdict::Follower;
 
 /// Which turns a run makes.
@@ -36,7 +36,7 @@ impl Course<'_> {
 }
 
 // What the last turn of a processor asked, which polled this thread.
-fn polled_at(machine: &Machine, cpu: usize, thread: usize) -> PolledRef<'_>
+fn polled_at(machine: &Machine<ScriptBody>, cpu: usize, thread: usize) -> PolledRef<'_>
     requires processor { cpu < 8 }
     requires numbered { thread < 16 }
     requires polled { WasPolled machine.now cpu thread }
@@ -54,7 +54,7 @@ fn polled_at(machine: &Machine, cpu: usize, thread: usize) -> PolledRef<'_>
 }
 
 // What the last turn of a processor asked, which says this.
-fn asks_of(machine: &Machine, cpu: usize, turned: Turned) -> Option<PolledRef<'_>>
+fn asks_of(machine: &Machine<ScriptBody>, cpu: usize, turned: Turned) -> Option<PolledRef<'_>>
     requires processor { cpu < 8 }
     requires polled { HasPolled cpu machine.now turned }
     ensures asked { HasBeenAsked cpu machine.now turned (option_map polled_of result) }
@@ -88,7 +88,8 @@ fn fits(
     part: &[Event],
 ) -> Result<bool, OutOfMemory>
     requires processor { cpu < 8 }
-    ensures { IfOk result (λ yes. IsTrue yes → GoesOnBy cpu (option_map polled_of asks.entry) part.now follower.old follower.new) }
+    ensures goes { IfOk result (λ yes. IsTrue yes → GoesOnBy cpu (option_map polled_of asks.entry) part.now follower.old follower.new) }
+    ensures declines { IfOk result (λ yes. yes ≡ false → DeclinesBy cpu (option_map polled_of asks.entry) part.now follower.old) }
 {
     match asks {
         None => Ok(follower.rest(cpu, part)),
@@ -99,7 +100,7 @@ fn fits(
 // Makes a turn of a processor, which is kept, and says whether all its threads have ended; `None` where the check says that the turn
 // doesn't fit. The turn's events are told into the room, in place of what that had, and are counted if the turn fits.
 fn drive_turn<K: Keeper>(
-    machine: &mut Machine,
+    machine: &mut Machine<ScriptBody>,
     cpu: usize,
     room: &mut Vec<Event>,
     follower: &mut Follower<'_>,
@@ -112,7 +113,7 @@ fn drive_turn<K: Keeper>(
     ensures as_many { length machine.new.cpus ≡ length machine.old.cpus }
 {
     room.clear();
-    let turned = machine.turn(cpu, room)?;
+    let turned = machine.turn_into(cpu, room)?;
     let asks = asks_of(machine, cpu, turned);
     let part = room.as_slice();
     keeper.note(cpu as u8, part, asks)?;
@@ -126,7 +127,7 @@ fn drive_turn<K: Keeper>(
 // Makes a round, one turn of each processor, and says whether all said that their threads have ended; `None` where the check says that a
 // turn doesn't fit, which is the last one then.
 fn drive_round<K: Keeper>(
-    machine: &mut Machine,
+    machine: &mut Machine<ScriptBody>,
     room: &mut Vec<Event>,
     follower: &mut Follower<'_>,
     keeper: &mut K,
@@ -147,7 +148,7 @@ fn drive_round<K: Keeper>(
 // Makes rounds, so many or up to the first in which each turn says that every thread of its processor has ended. Says whether the check
 // followed them; if it doesn't, the last turn is the first that it says no to.
 fn drive_rounds<K: Keeper>(
-    machine: &mut Machine,
+    machine: &mut Machine<ScriptBody>,
     limit: u32,
     room: &mut Vec<Event>,
     follower: &mut Follower<'_>,
@@ -169,7 +170,7 @@ fn drive_rounds<K: Keeper>(
 // Makes the turn of each processor that an order names, one after another. Says whether the check followed them; if it doesn't, the last
 // turn is the first that it says no to.
 fn drive_turns<K: Keeper>(
-    machine: &mut Machine,
+    machine: &mut Machine<ScriptBody>,
     order: &[u8],
     room: &mut Vec<Event>,
     follower: &mut Follower<'_>,
@@ -196,7 +197,7 @@ fn drive_turns<K: Keeper>(
 ///
 /// Refused with `Memory` if memory for a turn's events, for keeping it or for the check is. The turns before are made then.
 pub fn drive<K: Keeper>(
-    machine: &mut Machine,
+    machine: &mut Machine<ScriptBody>,
     course: Course<'_>,
     room: &mut Vec<Event>,
     follower: &mut Follower<'_>,
@@ -205,6 +206,7 @@ pub fn drive<K: Keeper>(
 ) -> Result<bool, OutOfMemory>
     requires processors { IsWithin (length machine.old.cpus) course }
     requires few { length machine.old.cpus ≤ 8 }
+    ensures short { IsShort course.entry }
     ensures ok { IfOk result (λ fits. IsDriven course.entry fits (stand machine.old (K.kept keeper.old) events.old follower.old) (stand machine.new (K.kept keeper.new) events.new follower.new)) }
 {
     match course {

@@ -11,15 +11,15 @@ use crate::keepers::NoKeeper;
 use crate::records::Record;
 use crate::reports::{Done, conclude, done_of};
 use crate::rounds::Course;
-use lwkt_base::Fault;
-use lwkt_events::EventList;
-use lwkt_report::{Closing, RunFault, Sink, Source, ThreadLine, Verdict, read_capped};
+use lwkt_base::{Fault, ThreadLine};
+use lwkt_drive::EventList;
+use lwkt_report::{Closing, RunFault, Sink, Source, Verdict, read_capped};
 use lwkt_script::{Script, read_script};
 use lwkt_verdict::{Pace, Poll, Turn, are_processors};
 use std::alloc::Global;
 
 /// How a run ended, by its report.
-#[derive(Clone, Copy, Debug, PartialEq, Eq)]
+#[derive(Clone, Copy, PartialEq, Eq)]
 pub enum End {
     /// Every thread had ended, exited or faulted.
     Ended,

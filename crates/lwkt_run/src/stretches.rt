@@ -1,14 +1,14 @@
 //! The stretches of the written sections that the traces of a run tell.
 ghost use Rattle.std.specs.Prelude.{◌≡◌, ◌<◌, ℕ, length, IfOk, slice_index_or, flat_map};
 ghost use Rattle.lwkt_core.specs.RunSections.{sections_told};
-ghost use Rattle.lwkt_events.specs.ShortEvents.{KeptTrace};
-ghost use Rattle.lwkt_events.specs.Stretches.{StandFor};
+ghost use Rattle.lwkt_drive.specs.ShortEvents.{KeptTrace};
+ghost use Rattle.lwkt_drive.specs.Stretches.{StandFor};
 ghost use Rattle.lwkt_run.specs.Telling.{sections_of_all};
 
 use lwkt_base::OutOfMemory;
 use lwkt_base::memory::{extend_from_slice, map_places};
 use lwkt_core::Event;
-use lwkt_events::{EventList, Stretch, Stretches};
+use lwkt_drive::{EventList, Stretch, Stretches};
 use std::alloc::Global;
 use std::thread::Threads;
 

@@ -7,7 +7,7 @@ use crate::stretches::stretches_of;
 use lwkt_base::memory::{push, with_capacity_for};
 use lwkt_base::{Fault, OutOfMemory, Row, Rows, Section, TokSpec};
 use lwkt_core::{Event, Final, check_sections};
-use lwkt_events::{EventList, are_chains};
+use lwkt_drive::{EventList, are_chains};
 use lwkt_report::Verdict;
 use std::alloc::Global;
 use std::thread::Threads;

@@ -6,18 +6,15 @@ ghost use Rattle.lwkt_run.specs.Values.{AreValuesOf};
 ghost use Rattle.lwkt_run.specs.Run.{DeclinesRun, Refuses};
 ghost use Rattle.lwkt_run.specs.Threaded.{TellARun, MayCloseOnThreads, IsThreadRecord, HasThreadedRun, TellsOnThreads, lets_all};
 
-use crate::endings::{Left, closing_of, left_by};
+use crate::endings::{Told, closing_of, left_by};
 use crate::givers::givers_of;
 use crate::reports::{Done, conclude, done_of};
 use crate::runs::End;
 use crate::tellings::{judged, judged_told, sections_in_order};
 use lwkt_base::{CpuId, Fault, OutOfMemory, Section};
-use lwkt_core::Event;
-use lwkt_events::EventList;
-use lwkt_machine::Machine;
+use lwkt_machine::{Gate, Limits, Machine, OpenGate};
 use lwkt_report::{Closing, RunFault, Sink, Source, read_capped};
 use lwkt_script::{Script, read_script};
-use lwkt_threads::{Gate, Limits, OpenGate, Outcome, drive_machine};
 use std::alloc::Global;
 use std::thread::Threads;
 
@@ -31,14 +28,6 @@ pub struct ThreadRecord {
     pub sections: Vec<Section>,
     /// Of each section, in the same order, the processor that ended it, 0 to 7.
     pub givers: Vec<CpuId>,
-}
-
-// What a run on threads left, and what its processors and its stop told.
-#[derive(Drop)]
-struct Told {
-    left: Left,
-    traces: Vec<EventList>,
-    stops: Vec<Event>,
 }
 
 // Drives the processors of a script on threads, and closes their machine.
@@ -55,20 +44,15 @@ fn told_of<R: Threads + Sync, G: Gate + Sync>(
     ensures lawful { OnOk result (AllOpenLawfully script.now.tokens) }
     ensures refused { IfErr result (λ fault. DeclinesRun script.now fault) }
 {
-    let machine = Machine::open(alloc, script)?;
+    let mut machine = Machine::open_script(alloc, script)?;
     let close_room = machine.room(alloc)?;
     let limits = Limits {
         turns: script.turns,
         idle: script.idle,
     };
-    let Outcome { machine, traces } = drive_machine(rt, alloc, gate, &limits, machine)?;
-    let mut stops = Vec::new(alloc);
-    let left = left_by(alloc, script, machine, close_room, &mut stops)?;
-    Ok(Told {
-        left,
-        traces,
-        stops,
-    })
+    let threads = machine.cpus();
+    machine.drive_on_threads(rt, threads, gate, &limits)?;
+    Ok(left_by(alloc, script, machine, close_room)?)
 }
 
 // What the report of a run on threads shows, with the verdict on the sections that were told.

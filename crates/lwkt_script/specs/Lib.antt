@@ -6,3 +6,4 @@ pub mod Member
 pub mod Step
 pub mod Format
 pub mod Limits
+pub mod Logs

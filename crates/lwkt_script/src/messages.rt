@@ -6,14 +6,11 @@ ghost use Rattle.lwkt_script.specs.Format.{message_at, message};
 ghost use Rattle.lwkt_script.specs.Limits.{IsOrigin, IsMessage};
 
 use crate::fields::{has_members, item_count, number, number_at};
+use lwkt_base::limits::{LAST_ROUND, MESSAGE_LIMIT};
 use lwkt_base::memory::push;
 use lwkt_base::{CpuId, Fault, MsgSpec, ThreadId};
 use serde_json::Value;
 use std::alloc::Global;
-
-const MESSAGE_LIMIT: usize = 64;
-
-const LAST_ROUND: u64 = 2_251_799_813_685_247;
 
 // The processor and the thread that are written as a list of two numbers.
 #[tactic(auto, unfolding(crate::specs::Member::thread_of))]

@@ -3,7 +3,7 @@ ghost use Rattle.std.specs.Prelude.{◌≡◌, List};
 use std::marker::Model;
 
 /// The parts of one kind of a script, in order.
-#[derive(Debug, Drop)]
+#[derive(Drop)]
 pub struct Parts<T> {
     items: Vec<T>,
 }

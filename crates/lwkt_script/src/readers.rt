@@ -13,17 +13,10 @@ use crate::threads::threads_of;
 use crate::tokens::tokens_of;
 use crate::versions::version_of;
 use lwkt_base::Fault;
+use lwkt_base::limits::{MOST_CPUS, MOST_IDLE, MOST_TURNS, SCRIPT_BYTES};
 use lwkt_base::memory::read_json;
 use serde_json::Value;
 use std::alloc::Global;
-
-const LENGTH_LIMIT: usize = 1_048_576;
-
-const MOST_TURNS: u64 = 1_000_000;
-
-const MOST_IDLE: u64 = 100_000_000;
-
-const MOST_CPUS: u64 = 8;
 
 // Whether the value is an object with exactly the seven members.
 fn is_whole(value: &Value) -> bool
@@ -91,7 +84,7 @@ pub fn read_script(alloc: Global, bytes: &[u8]) -> Result<Script, Fault>
     // No memory is taken for no bytes or for too many.
     ensures memory { result ≡ Err no_memory → (0 < length bytes.now) × (length bytes.now ≤ 1048576) }
 {
-    if bytes.len() > LENGTH_LIMIT {
+    if bytes.len() > SCRIPT_BYTES {
         return Err(Fault::Script { place: 0 });
     }
     match read_json(alloc, bytes)? {

@@ -2,7 +2,7 @@ use crate::parts::Parts;
 use lwkt_base::{Ask, CpuId, MsgSpec, TokSpec};
 
 /// A script, read.
-#[derive(Debug, Drop)]
+#[derive(Drop)]
 pub struct Script {
     /// How many rounds a run makes at most, 1 to 1000000.
     pub turns: u32,
@@ -19,7 +19,7 @@ pub struct Script {
 }
 
 /// One thread of a script.
-#[derive(Debug, Drop)]
+#[derive(Drop)]
 pub struct ThreadSpec {
     /// The thread's processor, below the script's `cpus`.
     pub cpu: CpuId,

@@ -9,16 +9,11 @@ use crate::parts::Parts;
 use crate::scripts::ThreadSpec;
 use crate::steps::steps_of;
 use crate::versions::Version;
+use lwkt_base::limits::{MOST_REPEATS, STEP_LIMIT, THREAD_LIMIT};
 use lwkt_base::memory::push;
 use lwkt_base::{CpuId, Fault};
 use serde_json::Value;
 use std::alloc::Global;
-
-const STEP_LIMIT: usize = 256;
-
-const THREAD_LIMIT: usize = 16;
-
-const MOST_REPEATS: u64 = 1_000_000;
 
 // How many of these threads are of a processor.
 fn threads_on(cpu: u8, threads: &[ThreadSpec]) -> usize

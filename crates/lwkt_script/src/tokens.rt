@@ -8,14 +8,11 @@ ghost use Rattle.lwkt_script.specs.Limits.{IsToken};
 use crate::fields::{has_members, list_at, number_at};
 use crate::records::{may_guard, record_in};
 use crate::versions::Version;
+use lwkt_base::limits::{LAST_GENERATION, TOKEN_LIMIT};
 use lwkt_base::memory::push;
 use lwkt_base::{Cells, Fault, Law, TokSpec};
 use serde_json::Value;
 use std::alloc::Global;
-
-const TOKEN_LIMIT: usize = 64;
-
-const LAST_GENERATION: u64 = 70_368_744_177_663;
 
 // The law of a name, in any version.
 fn law_of(name: &str) -> Option<Law>

@@ -4,7 +4,7 @@ ghost use Rattle.lwkt_script.specs.Version.{version_of, is_second, has_law, toke
 use lwkt_base::Law;
 
 /// The version of the format that a script, or a part of it, is written in.
-#[derive(Clone, Copy, Debug, PartialEq, Eq)]
+#[derive(Clone, Copy, PartialEq, Eq)]
 pub enum Version {
     /// No token has a record, and no message is sent with priority.
     First,

@@ -4,8 +4,9 @@ ghost use Rattle.lwkt_base.specs.Law.{OpensLawfully};
 ghost use Rattle.lwkt_core.specs.Opening.{IsTokenWithin};
 
 use lwkt_base::blobs::length_of;
+use lwkt_base::limits::LAST_GENERATION;
 use lwkt_base::memory::from_slice;
-use lwkt_base::{Blob, Cells, LAST_GENERATION, Law, OutOfMemory, TokSpec};
+use lwkt_base::{Blob, Cells, Law, OutOfMemory, TokSpec};
 use std::alloc::Global;
 
 /// A token as C declares it.

@@ -3,7 +3,7 @@ use Rattle.std.proofs.Common.{◌≡◌, inl, inr, ℕ, List, Option, None, Some
 use Rattle.lwkt_base.specs.declared.faults.Fault.{Fault}
 use Rattle.lwkt_base.specs.Fault.{no_memory}
 use Rattle.lwkt_run.specs.declared.runs.TurnsRun.{TurnsRun}
-use Rattle.lwkt_scenes.specs.Shown.{MayBeRefused}
+use Rattle.lwkt_show.specs.Shown.{MayBeRefused}
 use Rattle.lwkt_script.specs.declared.scripts.Script.{Script}
 use Rattle.lwkt_show.specs.Showing.{DeclinesShow, IsRunOf}
 

@@ -1,1 +1,5 @@
+pub mod Apart
+pub mod Lines
 pub mod Showing
+pub mod Shown
+pub mod Words

@@ -7,22 +7,17 @@ use Rattle.lwkt_run.specs.declared.runs.End.{End}
 use Rattle.lwkt_run.specs.declared.runs.TurnsRun.{TurnsRun}
 use Rattle.lwkt_run.specs.declared.threaded.ThreadRecord.{ThreadRecord}
 use Rattle.lwkt_script.specs.declared.scripts.Script.{Script}
-use Rattle.lwkt_scenes.specs.declared.reels.Chosen.{Chosen}
-use Rattle.lwkt_scenes.specs.Lines.{AreLinesOf}
-use Rattle.lwkt_scenes.specs.Shown.{first_turn}
+use Rattle.lwkt_show.specs.Lines.{AreLinesOf}
+use Rattle.lwkt_show.specs.Shown.{first_turn}
 use Rattle.lwkt_trace.specs.Written.{trace_text}
 use Rattle.lwkt_show.specs.declared.options.Options.{Options}
 use Rattle.lwkt_show.specs.declared.options.View.{View}
 use Rattle.lwkt_show.specs.declared.options.View.TheVariants.{Lines, Trace, Picture, Chains}
 
--- the turns or rounds that these options choose
-abbrev pub chosen_by : Options → Chosen
-chosen_by options = record { counted = options.counted; first = options.first; last = options.last }
-
 -- the lines of a run in rounds, or along an order: of each turn that the options choose its line, one behind another, then some words,
 -- and then the run's report
 abbrev pub ShowsLines : Options → Option (List ℕ) → Script → TurnsRun → List ℕ → Type 0
-ShowsLines options order script run text = AreLinesOf (chosen_by options) order script.cpus run.polls.items run.turns.items run.closing text
+ShowsLines options order script run text = AreLinesOf options order script.cpus run.polls.items run.turns.items run.closing text
 
 -- what is said of a text that shows what was kept: it has the lines of the chosen turns, and ends with the report; a trace is the text of
 -- the script's opening, of all events and of what the report closes with; of the other views nothing is said

@@ -1,14 +1,39 @@
-//! Shows a run of a script: as lines, as a trace, as a picture, or by its written sections.
+//! Shows a run of a script: turn by turn as lines, as a trace for `lwkt_check`, as a picture, or as the written sections of each token;
+//! and says why its threads haven't ended.
 //!
 //! Words: the *options* say which turns are *chosen* and in which form they are shown; a run goes in rounds or *along* an order of
-//! its processors; a run that made none of the chosen turns ended *before* them.
+//! its processors; a run that made none of the chosen turns ended *before* them. A *reel* is what was kept of a run, and a *scene* one turn
+//! of it; a *replay* makes it again, event by event; a *story* is what happened to one thread so far; a *picture* has bars for held
+//! tokens and arrows for messages, and a *sketch* is what it has before it is known where that stands.
 #![tactic(auto)]
 
+mod boxes;
+mod chains;
+mod drawings;
+mod ends;
+mod events;
+mod labels;
+mod laws;
+mod layouts;
+mod legends;
+mod lines;
 mod options;
+mod pictures;
+mod records;
+mod reels;
+mod replays;
+mod shapes;
 mod shows;
-mod threads;
+mod sketches;
+mod stories;
+mod tokens;
+mod tries;
+mod turns;
+mod whys;
+mod words;
 
-pub use lwkt_scenes::Counted;
-pub use options::{Options, View};
-pub use shows::{Shown, show_script};
-pub use threads::show_threads;
+pub use laws::{lines_tell_turns, texts_tell_asks};
+pub use options::{Counted, Options, View};
+pub use reels::Reel;
+pub use shows::{Shown, show_script, show_threads};
+pub use whys::whys_of;

@@ -1,15 +1,21 @@
-//! A run in rounds or along an order, shown.
+//! A run, shown: in rounds, along an order, or on threads.
 ghost use Rattle.std.specs.Prelude.{◌≡◌, ◌↔◌, IfErr, IfOk, IfSome, IsNone, IsTrue, string_bytes};
 ghost use Rattle.std.specs.Option.{option_copied};
-ghost use Rattle.lwkt_scenes.specs.Shown.{MayBeRefused};
-ghost use Rattle.lwkt_show.specs.Showing.{DeclinesShow, EndsBefore, EndsBeforeChosen, IsRunOf, IsShown, ShowsAs, chosen_by};
+ghost use Rattle.lwkt_run.specs.Run.{DeclinesRun};
+ghost use Rattle.lwkt_show.specs.Shown.{MayBeRefused};
+ghost use Rattle.lwkt_show.specs.Showing.{DeclinesShow, EndsBefore, EndsBeforeChosen, IsRunOf, IsShown, IsShownOnThreads, ShowsAs};
 
+use crate::chains::{chains_of, chains_of_sections};
+use crate::lines::lines_of;
 use crate::options::{Options, View};
+use crate::pictures::picture_of;
+use crate::reels::Reel;
 use lwkt_base::Fault;
-use lwkt_run::{End, TurnsRun, end_told, order_run_of, turns_run_of};
-use lwkt_scenes::{Chosen, Reel, chains_of, lines_of, picture_of, trace_of};
+use lwkt_run::{End, ThreadRecord, TurnsRun, end_told, order_run_of, record_threads, turns_run_of};
 use lwkt_script::Script;
+use lwkt_trace::trace_text;
 use std::alloc::Global;
+use std::thread::Threads;
 
 /// A run that is shown.
 #[derive(Drop)]
@@ -18,17 +24,6 @@ pub struct Shown {
     pub text: String,
     /// How it ended.
     pub end: End,
-}
-
-// The range of these options.
-fn chosen_of(options: Options) -> Chosen
-    ensures { result ≡ chosen_by options }
-{
-    Chosen {
-        counted: options.counted,
-        first: options.first,
-        last: options.last,
-    }
 }
 
 // Runs a script in rounds, or along an order.
@@ -46,7 +41,7 @@ fn run_of(alloc: Global, script: &Script, order: Option<&[u8]>) -> Result<TurnsR
 fn ends_before(script: &Script, options: Options, order: Option<&[u8]>, run: &TurnsRun) -> bool
     ensures { IsTrue result ↔ EndsBefore options (option_copied order.entry) script.now run.now }
 {
-    let is_past = chosen_of(options).is_past(script.cpus, run.turns.len());
+    let is_past = options.is_past(script.cpus, run.turns.len());
     match order {
         None => is_past,
         Some(_) => options.first > 0 && is_past,
@@ -73,11 +68,10 @@ fn text_of(
         order,
         closing: &run.closing,
     };
-    let chosen = chosen_of(options);
     match options.view {
-        View::Lines => lines_of(alloc, &reel, chosen),
-        View::Trace => Ok(trace_of(alloc, &reel)?),
-        View::Picture => picture_of(alloc, &reel, chosen),
+        View::Lines => lines_of(alloc, &reel, options),
+        View::Trace => Ok(trace_text(alloc, script, &events, &run.closing)?),
+        View::Picture => picture_of(alloc, &reel, options),
         View::Chains => Ok(chains_of(alloc, &reel)?),
     }
 }
@@ -106,4 +100,25 @@ pub fn show_script(
         Ok(text) => Ok(Some(Shown { text, end })),
         Err(fault) => Err(fault),
     }
+}
+
+/// Runs a script on threads, as `close_threads` of lwkt_run does, and shows the written sections of each token.
+///
+/// Refused with `Limits` or `LawBroken` for the script's opening, and with `Memory` if memory is refused.
+pub fn show_threads<R: Threads + Sync>(
+    rt: &R,
+    alloc: Global,
+    script: &Script,
+) -> Result<Shown, Fault>
+    ensures shown { IfOk result (λ shown. IsShownOnThreads script.now shown.end (string_bytes shown.text)) }
+    ensures refused { IfErr result (λ fault. DeclinesRun script.now fault) }
+{
+    let ThreadRecord {
+        closing,
+        sections,
+        givers,
+    } = record_threads(rt, alloc, script)?;
+    let end = end_told(&closing);
+    let text = chains_of_sections(alloc, script, &sections, &givers, &closing)?;
+    Ok(Shown { text, end })
 }

@@ -3,7 +3,7 @@ use lwkt_core::Event;
 
 /// Whose view of a table of seats a view is. Bank and book split one seat off for each processor at their opening, and
 /// join them at their close. Only proofs have values of it.
-#[derive(Clone, Copy, Debug, PartialEq, Eq)]
+#[derive(Clone, Copy, PartialEq, Eq)]
 pub enum SeatKind {
     /// The clerk, which has made so many seats and taken so many back.
     Clerk { made: u64, back: u64 },
@@ -14,7 +14,7 @@ pub enum SeatKind {
 }
 
 /// What an atomic step on a word does.
-#[derive(Clone, Copy, Debug, PartialEq, Eq)]
+#[derive(Clone, Copy, PartialEq, Eq)]
 pub enum Operation {
     Load,
     /// Stores this word.
@@ -30,7 +30,7 @@ pub enum Operation {
 }
 
 /// One step of a seat on the word of a token or a message. Only proofs have values of it.
-#[derive(Clone, Copy, Debug, PartialEq, Eq)]
+#[derive(Clone, Copy, PartialEq, Eq)]
 pub struct WordStep {
     /// The number of the token or message.
     pub at: u64,

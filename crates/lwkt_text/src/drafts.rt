@@ -11,6 +11,7 @@ use crate::sayings::{Said, told_by};
 use crate::tables::Names;
 use crate::words::{Sentence, Word};
 use crate::wrongs::{Slip, What, Wrong};
+use lwkt_base::limits::{MESSAGE_LIMIT, STEP_LIMIT, THREAD_LIMIT, TOKEN_LIMIT};
 use lwkt_base::{Ask, MsgSpec, OutOfMemory, TokSpec};
 use lwkt_script::{Parts, ThreadSpec};
 use std::alloc::Global;
@@ -37,14 +38,6 @@ pub struct Draft {
     /// What is wrong so far.
     pub faults: Many<Wrong>,
 }
-
-const TOKEN_LIMIT: usize = 64;
-
-const MESSAGE_LIMIT: usize = 64;
-
-const THREAD_LIMIT: usize = 16;
-
-const STEP_LIMIT: usize = 256;
 
 /// How many of these threads are of a processor.
 pub(crate) fn threads_on(cpu: u8, threads: &[ThreadSpec]) -> usize

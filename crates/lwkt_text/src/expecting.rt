@@ -12,6 +12,7 @@ use crate::steps::{call_at, call_end, last_number};
 use crate::tables::{Names, cell_at, message_id_at, named_thread, token_id_at};
 use crate::words::Word;
 use crate::wrongs::{Slip, Wanted, What, Wrong};
+use lwkt_base::limits::MOST_CODE;
 use lwkt_base::{CpuId, Entry, MsgState, ThreadId};
 use std::alloc::Global;
 
@@ -32,8 +33,6 @@ pub struct Sum {
     /// The place of the first word behind them.
     pub end: usize,
 }
-
-const MOST_CODE: u64 = 4_294_967_295;
 
 // `tally T . P` from word i on.
 #[tactic(auto, unfolding(crate::specs::Claiming::tally_term_at))]

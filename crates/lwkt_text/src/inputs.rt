@@ -15,12 +15,10 @@ use crate::scans::sentences_of;
 use crate::tables::Names;
 use crate::words::{Sentence, Word};
 use crate::wrongs::{What, Wrong};
+use lwkt_base::limits::SCRIPT_BYTES;
 use lwkt_base::{Fault, OutOfMemory};
 use lwkt_script::{Script, read_script};
 use std::alloc::Global;
-
-// The most bytes that a script in either form may have.
-const LENGTH_LIMIT: usize = 1_048_576;
 
 /// A script that was read, in JSON or as a text.
 #[derive(Drop)]
@@ -75,7 +73,7 @@ fn sentences_within(alloc: Global, bytes: &[u8]) -> Result<Option<Many<Sentence>
     ensures some { IfOk result (λ read. IfSome read (λ sentences. (length bytes.now ≤ 1048576) × (sentences ≡ sentences_of bytes.now) × (one_declares sentences ≡ true))) }
     ensures none { IfOk result (λ read. IfNone read ((nat_le (length bytes.now) 1048576 && one_declares (sentences_of bytes.now)) ≡ false)) }
 {
-    if bytes.len() > LENGTH_LIMIT {
+    if bytes.len() > SCRIPT_BYTES {
         return Ok(None);
     }
     let sentences = sentences_of(alloc, bytes)?;
@@ -127,7 +125,7 @@ fn too_long(alloc: Global) -> Unread
 {
     let mut wrongs = Many::new(alloc);
     let wrong = Wrong {
-        at: LENGTH_LIMIT,
+        at: SCRIPT_BYTES,
         what: What::Length,
     };
     match wrongs.push(wrong) {
@@ -143,7 +141,7 @@ fn read_named(alloc: Global, bytes: &[u8]) -> Result<Input, Unread>
     ensures there { IfOk result (λ input. NamesWhatIsThere input.script input.expectations) }
     ensures err { IfErr result (λ unread. IsUnread unread (text_input (reading_within bytes.now))) }
 {
-    if bytes.len() > LENGTH_LIMIT {
+    if bytes.len() > SCRIPT_BYTES {
         return Err(too_long(alloc));
     }
     text_input(read_text(alloc, bytes))

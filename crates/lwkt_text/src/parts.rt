@@ -14,6 +14,7 @@ use crate::slips::checked;
 use crate::tables::{Names, position, thread_id_at, thread_length};
 use crate::words::Word;
 use crate::wrongs::{Slip, Wanted, What, Wrong};
+use lwkt_base::limits::{LAST_GENERATION, LAST_ROUND, MOST_REPEATS};
 use lwkt_base::{Blob, Cells, CpuId, Law, MsgSpec, OutOfMemory, TokSpec};
 use lwkt_script::records::may_guard;
 use std::alloc::Global;
@@ -37,12 +38,6 @@ pub struct Head {
     /// How many times the thread makes its steps, 1 to 1000000.
     pub repeat: u32,
 }
-
-const LAST_GENERATION: u64 = 70_368_744_177_663;
-
-const LAST_ROUND: u64 = 2_251_799_813_685_247;
-
-const MOST_REPEATS: u64 = 1_000_000;
 
 impl CellList {
     fn new(alloc: Global) -> Self

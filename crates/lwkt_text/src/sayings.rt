@@ -12,6 +12,7 @@ use crate::steps::step_ask;
 use crate::tables::Names;
 use crate::words::Word;
 use crate::wrongs::{Slip, What, Wrong};
+use lwkt_base::limits::{MOST_IDLE, MOST_TURNS};
 use lwkt_base::{Ask, MsgSpec, TokSpec};
 use std::alloc::Global;
 
@@ -31,10 +32,6 @@ pub enum Said {
     Step(Ask),
     Expect(Expectation),
 }
-
-const MOST_TURNS: u64 = 1_000_000;
-
-const MOST_IDLE: u64 = 100_000_000;
 
 // `KEY N`
 fn setting(words: &[Word], high: u64) -> Result<u64, Wrong>

@@ -7,10 +7,9 @@ use crate::looks::{
 use crate::tables::{Names, cell_at, message_id_at, thread_id_at, thread_length, token_id_at};
 use crate::words::Word;
 use crate::wrongs::{Wanted, What, Wrong};
+use lwkt_base::limits::MOST_CODE;
 use lwkt_base::steps::{ask_of, verb_named};
 use lwkt_base::{Ask, Call, Flags, Part, PartKind, Parts, ThreadId};
-
-const MOST_CODE: u64 = 4_294_967_295;
 
 /// `op N arg N` from word i on, each of them 0 where it is left out.
 #[tactic(auto, unfolding(crate::specs::Stepping::call_at))]

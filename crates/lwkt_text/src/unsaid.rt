@@ -4,7 +4,7 @@ ghost use Rattle.lwkt_text.specs.declared.unsaid.Unsaid.TheVariants.{Memory};
 use lwkt_base::OutOfMemory;
 
 /// Why a script isn't written as a text.
-#[derive(Clone, Copy, Debug, PartialEq, Eq)]
+#[derive(Clone, Copy, PartialEq, Eq)]
 pub enum Unsaid {
     /// Memory was refused.
     Memory(OutOfMemory),

@@ -6,6 +6,7 @@ ghost use Rattle.lwkt_trace.specs.Format.{event};
 
 use crate::sections::section_in;
 use crate::traces::Told;
+use lwkt_base::limits::TRACE_EVENTS;
 use lwkt_base::memory::push;
 use lwkt_base::{Blob, CpuId, Fault, MsgId, Section, TokId};
 use lwkt_core::Event;
@@ -14,8 +15,6 @@ use lwkt_script::records::blob_in;
 use lwkt_script::steps::{small_at, whole_at};
 use serde_json::Value;
 use std::alloc::Global;
-
-const EVENT_LIMIT: usize = 50_000_000;
 
 // The event of a word with a processor and a token, but for a written give.
 fn with_token(word: &str, cpu: u8, tok: u8) -> Option<Event>
@@ -205,7 +204,7 @@ pub fn event_of(value: &Value) -> Option<Told>
 fn event(before: &[Told], value: &Value) -> Result<Told, Fault>
     ensures { Gives (λ e. e) result (event before.now (view value.now)) }
 {
-    if before.len() >= EVENT_LIMIT {
+    if before.len() >= TRACE_EVENTS {
         return Err(Fault::Script { place: 51_000_000 });
     }
     match event_of(value) {

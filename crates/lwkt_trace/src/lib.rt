@@ -29,7 +29,7 @@ pub use laws::{
     written_traces_are_read_back,
 };
 pub use openings::messages_of;
-pub use readers::{LENGTH_LIMIT, read_trace};
+pub use readers::read_trace;
 pub use traces::{Closing, Told, Trace};
 pub use writers::trace_text;
 pub use written::{next_written, told_alone, written_event};

@@ -3,13 +3,12 @@ ghost use Rattle.serde_json.specs.View.{view, items_view};
 ghost use Rattle.lwkt_script.specs.Outcome.{Gives, each};
 ghost use Rattle.lwkt_trace.specs.Format.{message_behind};
 
+use lwkt_base::limits::MESSAGE_LIMIT;
 use lwkt_base::memory::push;
 use lwkt_base::{Fault, MsgSpec};
 use lwkt_script::messages::message_at;
 use serde_json::Value;
 use std::alloc::Global;
-
-const MESSAGE_LIMIT: usize = 64;
 
 // The message after those.
 fn message(cpus: u8, before: &[MsgSpec], value: &Value) -> Result<MsgSpec, Fault>

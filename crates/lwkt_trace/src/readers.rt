@@ -10,16 +10,12 @@ use crate::guards::guarded_of;
 use crate::openings::messages_of;
 use crate::traces::Trace;
 use lwkt_base::Fault;
+use lwkt_base::limits::{MOST_CPUS, TRACE_BYTES};
 use lwkt_base::memory::read_json;
 use lwkt_script::Parts;
 use lwkt_script::fields::{has, has_members, list_at, number_at};
 use serde_json::Value;
 use std::alloc::Global;
-
-/// The most bytes of a trace.
-pub const LENGTH_LIMIT: usize = 268_435_456;
-
-const CPU_LIMIT: u64 = 8;
 
 // Whether the value is an object with exactly the six members.
 fn is_whole(value: &Value) -> bool
@@ -42,7 +38,7 @@ fn trace(alloc: Global, value: &Value) -> Result<Trace, Fault>
         return Err(Fault::Script { place: 1 });
     };
     number_at(2, value, "version", 1, 1)?;
-    let cpus = number_at(3, value, "cpus", 1, CPU_LIMIT)? as u8;
+    let cpus = number_at(3, value, "cpus", 1, MOST_CPUS)? as u8;
     let tokens = guarded_of(alloc, token_items.as_slice())?;
     let messages = messages_of(alloc, cpus, message_items.as_slice())?;
     let events = events_of(alloc, event_items.as_slice())?;
@@ -84,7 +80,7 @@ pub fn read_trace(alloc: Global, bytes: &[u8]) -> Result<Trace, Fault>
     // No memory is taken for no bytes or for too many.
     ensures memory { result ≡ Err no_memory → (0 < length bytes.now) × (length bytes.now ≤ 268435456) }
 {
-    if bytes.len() > LENGTH_LIMIT {
+    if bytes.len() > TRACE_BYTES {
         return Err(Fault::Script { place: 0 });
     }
     match read_json(alloc, bytes)? {

@@ -2,11 +2,10 @@ ghost use Rattle.std.specs.Prelude.{◌≡◌, ◌≤◌};
 ghost use Rattle.serde_json.specs.View.{view, items_view};
 ghost use Rattle.lwkt_trace.specs.Words.{row_of, row_item, section_items};
 
+use lwkt_base::limits::CELL_LIMIT;
 use lwkt_base::{Row, Section, TokId};
 use lwkt_script::steps::whole_at;
 use serde_json::Value;
-
-const CELL_LIMIT: usize = 4;
 
 // The row of some numbers.
 #[tactic(auto, using(lwkt_script::proofs::Counts::items_counted))]

@@ -5,7 +5,7 @@ use lwkt_core::{Event, Final};
 use lwkt_script::Parts;
 
 /// An event as a trace tells it.
-#[derive(Clone, Copy, Debug)]
+#[derive(Clone, Copy)]
 pub enum Told {
     /// The whole event.
     Whole(Event),
@@ -14,7 +14,7 @@ pub enum Told {
 }
 
 /// The closing values of a trace.
-#[derive(Debug, Drop)]
+#[derive(Drop)]
 pub struct Closing {
     /// Each token's cells.
     pub rows: Parts<Cells>,
@@ -48,7 +48,7 @@ impl Closing {
 }
 
 /// A trace, read.
-#[derive(Debug, Drop)]
+#[derive(Drop)]
 pub struct Trace {
     /// How many processors there are, 1 to 8.
     pub cpus: u8,

@@ -13,6 +13,7 @@ use crate::words::event_word;
 use arrayvec::ArrayVec;
 use itoa::Buffer;
 use lwkt_base::hexes::digits_of;
+use lwkt_base::limits::RECORD_LIMIT;
 use lwkt_base::{Blob, CpuId, MsgId, Row, Section, TokId};
 use lwkt_core::Event;
 use lwkt_script::records::blob_of;
@@ -25,9 +26,6 @@ const SHORT_LIMIT: usize = 64;
 
 // The most numbers of an event.
 const NUMBERS: usize = 4;
-
-// The most bytes of a record.
-const RECORD: usize = 64;
 
 // Appends bytes, if there is room.
 fn put<const SIZE: usize>(text: &mut ArrayVec<u8, SIZE>, bytes: &[u8]) -> Option<()>
@@ -251,7 +249,7 @@ fn at_round(word: &[u8], cpu: CpuId, msg: u8, round: u64) -> Option<Event>
 fn record_of(digits: &[u8]) -> Option<Blob>
     ensures { IfSome result IsToldBlob }
 {
-    let blob = blob_of(RECORD, digits)?;
+    let blob = blob_of(RECORD_LIMIT, digits)?;
     words_of_bytes(blob.as_slice());
     Some(blob)
 }

@@ -1,6 +1,6 @@
-use Rattle.std.proofs.Common.{inl, inr, ◌≡◌, ℕ, ◌+◌, ◌*◌, ◌/◌, ◌<◌, ◌≤◌, List, [], ◌∷◌, ◌++◌, length, get_or, take, drop, refl, sym, ap, ◌∙◌, subst, arith, Option, Some, None}
-use Rattle.std.specs.Prelude.{true, false, slice_get, slice_set, if◌then◌else◌, MatchOption, All, is_some, option_map, Result, Ok, Err, IfOk}
-use Rattle.std.proofs.lemmas.Bool.{cases_eq, eq-eqb, ne_eqb}
+use Rattle.std.proofs.Common.{inl, inr, zero, suc, ◌≡◌, ℕ, ◌+◌, ◌*◌, ◌/◌, ◌%◌, ◌<◌, ◌≤◌, ◌==◌, List, [], ◌∷◌, ◌++◌, length, get_or, take, drop, refl, sym, ap, ◌∙◌, subst, arith, Option, Some, None, length-append}
+use Rattle.std.specs.Prelude.{Bool, true, false, slice_get, slice_set, if◌then◌else◌, MatchOption, All, is_some, option_map, Result, Ok, Err, IfOk}
+use Rattle.std.proofs.lemmas.Bool.{cases_eq, cases_lt, eq-eqb, ne_eqb}
 use Rattle.std.proofs.lemmas.List.{take_at}
 use Rattle.std.proofs.lemmas.Option.{none-some, slice_get-get_or}
 use Rattle.lwkt_base.specs.declared.asks.Ask.{Ask}
@@ -10,17 +10,19 @@ use Rattle.lwkt_core.specs.declared.events.Event.{Event}
 use Rattle.lwkt_core.specs.Events.{cpu_of}
 use Rattle.lwkt_core.specs.Machine.{Machine}
 use Rattle.lwkt_script.specs.declared.scripts.ThreadSpec.{ThreadSpec}
-use Rattle.lwkt_report.specs.declared.closings.ThreadLine.{ThreadLine}
+use Rattle.lwkt_base.specs.declared.threads.ThreadLine.{ThreadLine}
 use Rattle.lwkt_verdict.specs.declared.turns.Poll.{Poll}
 use Rattle.lwkt_verdict.specs.declared.progress.Asked.{Asked}
 use Rattle.lwkt_verdict.specs.declared.progress.Progress.{Progress}
 use Rattle.lwkt_verdict.specs.declared.progress.Piece.{Piece}
 use Rattle.lwkt_verdict.specs.Owns.{has_blocked}
-use Rattle.lwkt_verdict.specs.Parts.{after_all, GoesQuietly}
-use Rattle.lwkt_verdict.specs.Threads.{slot_of, plan_of_thread, line_of, progress_after, ask_at, MayAsk, IsLogged, Rests, EndsAsTold}
-use Rattle.lwkt_verdict.specs.Run.{piece, came, asked_of_poll, PollFits, Idles, AreListed}
-use Rattle.lwkt_verdict.specs.Follow.{Awaited, Known, Follow, asked_so, come, Bears, AllBear, AreShown, AreThreads, answered_at, none_answered, GoesOnByPoll, GoesOnUnasked, EndsHere}
-use Rattle.lwkt_verdict.specs.Followed.{IsPolled, IsKept, MayRest, IsEnded, AllThreads, AllPairs, KeepsPlans, AreKept, MayAllRest}
+use Rattle.lwkt_verdict.specs.Asks.{may_answer}
+use Rattle.lwkt_verdict.specs.Parts.{after_all, GoesQuietly, IsPartOf}
+use Rattle.lwkt_verdict.specs.Threads.{slot_of, asked_in, asked_by, plan_of_thread, line_of, progress_after, ask_at, MayAsk, IsLogged, Rests, EndsAsTold}
+use Rattle.lwkt_verdict.specs.Run.{piece, came, asked_of_poll, PollFits, TurnFits, Idles, AreListed}
+use Rattle.lwkt_verdict.specs.Follow.{Awaited, Known, Follow, is_expected, asked_so, come, Bears, AllBear, Allows, AllAllow, AreShown, AreThreads, answered_at, none_answered, poll_so, GoesOnByPoll, DeclinesPoll, GoesOnUnasked, DeclinesUnasked, EndsHere, DeclinesEnd}
+use Rattle.lwkt_verdict.proofs.KnownMoves.{unpolled_allows}
+use Rattle.lwkt_verdict.specs.Followed.{unpolled, IsPolled, MayHear, MayBePolled, IsKept, MayRest, AllowsRest, MayNotRest, IsEnded, MayEnd, AllThreads, AllPairs, KeepsPlans, AreKept, MayAllRest, AllowAllRest, OneMayNotRest}
 use Rattle.lwkt_verdict.proofs.EndMoves.{slot_cpu}
 use Rattle.lwkt_verdict.proofs.ShowMoves.{came_other, came_next, asked_here, asked_there, get_set, get_set_other}
 
@@ -121,6 +123,31 @@ poll_fits m told asked part plans lines cpu thread t u line answer own few plann
       logs = subst L own (here (λ l. IsLogged l (come t (Some told)) (record { ask = asked; answer = answer; blocked = false })) (line_of (slot_of thread) lines) line at (polled.logs answer line bears));
     }
 
+-- what is possible of a thread that was polled, it is after the poll, where that fits
+allows_told : (m : Machine) (told : Answer) (asked : Ask) (part : List Event) (t u : Known) (o : Option ThreadLine) (answer : Option Answer) → IsPolled m told asked part t u → Allows t (Some told) o → MatchOption answer (Unit {0}) (λ a. may_answer asked a ≡ true) → MatchOption o ⊥ (λ line. IsLogged line (come t (Some told)) (record { ask = asked; answer = answer; blocked = false })) → IsPartOf m asked answer part → Allows u answer o
+allows_told m told asked part t u None answer polled allows answers logs makes = absurd logs
+allows_told m told asked part t u (Some line) answer polled allows answers logs makes = record { bears = polled.allows answer line allows.bears answers logs makes; unblocked = polled.unblocked }
+
+allows_by : (m : Machine) (told : Answer) (thread : ThreadId) (asked : Ask) (part : List Event) (plans : List ThreadSpec) (cpu : ℕ) (table : List Known) (t u : Known) → slot_of thread < 128 → slot_of thread < length table → slice_get table (slot_of thread) ≡ Some t → IsPolled m told asked part t u → (answers : ℕ → Option Answer) (lines : List ThreadLine) → AllAllow table (answered_at (slot_of thread) (Some told) answers) lines → (before : List Piece) → AreShown before table (answered_at (slot_of thread) (Some told) answers) → TurnFits plans lines cpu m before (poll_so thread asked answers) part → AllAllow (slice_set table (slot_of thread) u) answers lines
+allows_by m told thread asked part plans cpu table t u small inside at polled answers lines allow before shown fits k below =
+    let slot = slot_of thread in
+    let a : Asked = record { ask = asked; answer = answers slot; blocked = false } in
+    let A : Option Answer → Known → Type 0 = λ answer x. Allows x answer (line_of slot lines) in
+    let G : ℕ → Type 0 = λ j. MatchOption (slice_get (slice_set table slot u) j) ⊥ (λ x. Allows x (answers j) (line_of j lines)) in
+    elim (cases_eq slot k) [
+      | inl is ↦ (let old : A (answered_at slot (Some told) answers slot) t = there (A (answered_at slot (Some told) answers slot)) (slice_get table slot) t at (allow slot small) in
+          let told_so : A (Some told) t = subst (λ (x : Option Answer). A x t) (told_here slot (Some told) answers) old in
+          let L : ℕ → Type 0 = λ c. MatchOption (line_of (16 * c + thread.thread) lines) ⊥ (λ line. IsLogged line (came before slot) a) in
+          let logs : MatchOption (line_of slot lines) ⊥ (λ line. IsLogged line (came before slot) a) = subst L (sym fits.polls.here) fits.polls.logs in
+          let P : Progress → Type 0 = λ p. MatchOption (line_of slot lines) ⊥ (λ line. IsLogged line p a) in
+          let logs_so : P (come t (Some told)) = subst P (came_told told table slot t before answers small at shown) logs in
+          let new : A (answers slot) u = allows_told m told asked part t u (line_of slot lines) (answers slot) polled told_so fits.polls.answers logs_so fits.makes in
+          subst G is (here (A (answers slot)) (slice_get (slice_set table slot u) slot) u (get_set table slot u inside) new))
+      | inr apart ↦ (let O : Option Known → Type 0 = λ o. MatchOption o ⊥ (λ x. Allows x (answers k) (line_of k lines)) in
+          let B : Option Answer → Type 0 = λ answer. MatchOption (slice_get table k) ⊥ (λ x. Allows x answer (line_of k lines)) in
+          subst O (sym (get_set_other table slot k u apart)) (subst B (told_there slot k (Some told) answers apart) (allow k below)))
+    ]
+
 -- a check goes on by a turn that polled a thread
 pub goes_by_poll : (cpu : ℕ) (thread : ThreadId) (told : Answer) (asked : Ask) (part : List Event) (old new : Follow) (t u : Known) → cpu < 8 → thread.cpu.0 ≡ cpu → thread.thread < 16 → All (λ e. cpu_of e ≡ cpu) part → AreThreads old.plans old.table → slice_get old.table (slot_of thread) ≡ Some t → new ≡ record { plans = old.plans; table = slice_set old.table (slot_of thread) u; machine = after_all old.machine part } → u.plan ≡ t.plan → IsPolled old.machine told asked part t u → GoesOnByPoll cpu thread told asked part old new
 goes_by_poll cpu thread told asked part old new t u processor own few events threads at is same polled =
@@ -146,13 +173,74 @@ goes_by_poll cpu thread told asked part old new t u processor own few events thr
             makes = polled.makes (answers slot) line.0 line.1.1;
             polls = subst Fits (sym (came_told told old.table slot t before answers small at shown)) (poll_fits old.machine told asked part old.plans lines cpu thread t u line.0 (answers slot) own few planned line.1.0 polled line.1.1);
           });
-      shown = λ answers lines bear before shown. shown_by old.machine told part old.table slot t u (record { answer = answers slot; ask = asked; thread = thread }) refl small inside at polled answers refl before shown;
+      shown = λ answers before shown. shown_by old.machine told part old.table slot t u (record { answer = answers slot; ask = asked; thread = thread }) refl small inside at polled answers refl before shown;
+      allows = λ answers lines allow before shown fits. allows_by old.machine told thread asked part old.plans cpu old.table t u small inside at polled answers lines allow before shown fits;
+    })
+
+-- what a turn asked of a thread is one ask at most
+asked_few : (slot : ℕ) (p : Piece) → length (asked_in slot p) ≤ 1
+asked_few slot p = go p.poll
+  where
+    one : (b : Bool) (a : Asked) → length {A = Asked} (if b then a ∷ [] else []) ≤ 1
+    one true a = omega arith
+    one false a = omega arith
+
+    go : (o : Option Poll) → length {A = Asked} (asked_in slot (record { poll = o; blocked = p.blocked })) ≤ 1
+    go None = omega arith
+    go (Some q) = one (slot_of q.thread == slot) (record { ask = q.ask; answer = q.answer; blocked = p.blocked })
+
+-- so a thread was polled no more often than there were turns
+polled_few : (slot : ℕ) (before : List Piece) → length (asked_by slot before) ≤ length before
+polled_few slot [] = omega arith
+polled_few slot (p ∷ before) = omega (arith, asked_few slot p, polled_few slot before, length-append (asked_in slot p) (asked_by slot before))
+
+-- what its last ask was answered, where that is possible
+hears_by : (told : Answer) (o : Option Awaited) → MatchOption o (Unit {0}) (λ w. is_expected w.expected (Some told) ≡ true) → MatchOption o (Unit {0}) (λ w. may_answer w.ask told ≡ true) → MatchOption o (Unit {0}) (λ w. (is_expected w.expected (Some told) ≡ true) × (may_answer w.ask told ≡ true))
+hears_by told None expected answers = tt
+hears_by told (Some w) expected answers = (expected, answers)
+
+may_hear : (told : Answer) (t : Known) (o : Option ThreadLine) → Allows t (Some told) o → MayHear told t
+may_hear told t None allows =
+    let F : Option Awaited → Type 0 = λ o. MatchOption o (Unit {0}) (λ w. (is_expected w.expected (Some told) ≡ true) × (may_answer w.ask told ≡ true)) in
+    subst F (sym allows.bears) tt
+may_hear told t (Some line) allows = hears_by told t.last allows.bears.expected allows.bears.answers
+
+-- a check doesn't go on by a poll that its thread can't have had
+pub declines_at : (cpu : ℕ) (thread : ThreadId) (told : Answer) (asked : Ask) (part : List Event) (plans : List ThreadSpec) (table : List Known) (m : Machine) (place : ℕ) (t : Known) → cpu < 8 → thread.cpu.0 ≡ cpu → thread.thread < 16 → place ≡ 16 * cpu + thread.thread → AreThreads plans table → t ≡ get_or table place t → ¬ MayBePolled m told asked part t → DeclinesPoll cpu thread told asked part (follow plans table m)
+declines_at cpu thread told asked part plans table m place t processor own few is_place threads is unfit lines before turns allow shown fits =
+    let slot = slot_of thread in
+    let same : place ≡ slot = is_place ∙ ap (λ k. 16 * k + thread.thread) (sym own) in
+    let small : slot < 128 = omega (arith, own) in
+    let inside : place < length table = omega (arith, is_place, threads.0) in
+    let at_place : slice_get table place ≡ Some t = slice_get-get_or table place t inside ∙ ap (λ (x : Known). Some x) (sym is) in
+    let at : slice_get table slot ≡ Some t = ap (λ k. slice_get table k) (sym same) ∙ at_place in
+    let A : Option Answer → Type 0 = λ answer. Allows t answer (line_of slot lines) in
+    let old : A (answered_at slot (Some told) none_answered slot) = there (λ x. Allows x (answered_at slot (Some told) none_answered slot) (line_of slot lines)) (slice_get table slot) t at (allow slot small) in
+    let allowed : A (Some told) = subst A (told_here slot (Some told) none_answered) old in
+    let came_so : came before slot ≡ come t (Some told) = came_told told table slot t before none_answered small at shown in
+    let polls : length (asked_by slot before) ≡ t.polls = ap (λ (p : Progress). p.polls) came_so in
+    let P : ℕ → Type 0 = λ c. MatchOption (slice_get table (16 * c + thread.thread)) ⊥ (λ x. x.plan ≡ plan_of_thread cpu thread.thread plans) in
+    let planned : t.plan ≡ plan_of_thread cpu thread.thread plans = there (λ x. x.plan ≡ plan_of_thread cpu thread.thread plans) (slice_get table slot) t at (subst P (sym own) (threads.1 cpu thread.thread processor few)) in
+    let May : Progress → ThreadSpec → Type 0 = λ p plan. MayAsk plan p asked in
+    let M : Progress → Type 0 = λ p. MatchOption (plan_of_thread cpu thread.thread plans) ⊥ (May p) in
+    let next : M (come t (Some told)) = subst M came_so fits.polls.asks in
+    let N : Option ThreadSpec → Type 0 = λ o. MatchOption o ⊥ (λ plan. ask_at plan t.polls ≡ Some asked) in
+    unfit (record {
+      few = omega (arith, polls, polled_few slot before, turns);
+      hears = may_hear told t (line_of slot lines) allowed;
+      asks = subst N (sym planned) (mapped (May (come t (Some told))) (λ plan. ask_at plan t.polls ≡ Some asked) (plan_of_thread cpu thread.thread plans) (λ plan may. may.0) next);
+      makes = fits.makes;
     })
 
 -- what follows from two facts of what a call returned, if it returned
 pub ok_both : {X Y : Type 0} (r : Result X Y) (P Q R : X → Type 0) → ((x : X) → P x → Q x → R x) → IfOk r P → IfOk r Q → IfOk r R
 ok_both (Ok x) P Q R f p q = f x p q
 ok_both (Err e) P Q R f p q = tt
+
+-- and from one
+pub ok_one : {X Y : Type 0} (r : Result X Y) (P R : X → Type 0) → ((x : X) → P x → R x) → IfOk r P → IfOk r R
+ok_one (Ok x) P R f p = f x p
+ok_one (Err e) P R f p = tt
 
 -- the same, by the place in the table that was written
 pub goes_at : (cpu : ℕ) (thread : ThreadId) (told : Answer) (asked : Ask) (part : List Event) (plans : List ThreadSpec) (table : List Known) (m n : Machine) (place : ℕ) (t u : Known) → cpu < 8 → thread.cpu.0 ≡ cpu → thread.thread < 16 → place ≡ 16 * cpu + thread.thread → All (λ e. cpu_of e ≡ cpu) part → AreThreads plans table → t ≡ get_or table place t → u.plan ≡ t.plan → IsPolled m told asked part t u → n ≡ after_all m part → GoesOnByPoll cpu thread told asked part (record { plans = plans; table = table; machine = m }) (record { plans = plans; table = slice_set table place u; machine = n })
@@ -208,14 +296,54 @@ idles_by cpu plans table after processor threads kept rests answers lines bear b
     let resting = there (λ u. k / 16 ≡ cpu → MayRest one.0 u) (slice_get after k) other.0 other.1.0 (there (λ t. MatchOption (slice_get after k) ⊥ (λ u. k / 16 ≡ cpu → MayRest t u)) (slice_get table k) one.0 one.1.0 (rests k below)) in
     rests_by one.0 other.0 (plan_of_thread cpu n plans) (line_of k lines) (answers k) (came before k) one.1.1 other.1.1 (resting (slot_cpu cpu n few)) (there (BearsAt (line_of k lines) (answers k)) (slice_get after k) other.0 other.1.0 (bear k below)) (there (λ t. came before k ≡ come t (answers k)) (slice_get table k) one.0 one.1.0 (shown k below))
 
+-- what is possible of the threads, of which one processor's rest
+allows_kept : (cpu : ℕ) (plans : List ThreadSpec) (table after : List Known) → cpu < 8 → AreThreads plans table → AllowAllRest cpu table after → (answers : ℕ → Option Answer) (lines : List ThreadLine) → AllAllow table answers lines → (before : List Piece) → AreShown before table answers → Idles plans cpu (came before) → AllAllow after answers lines
+allows_kept cpu plans table after processor threads rests answers lines allow before shown idles k below =
+    let one = some_at (λ t. Allows t (answers k) (line_of k lines)) (slice_get table k) (allow k below) in
+    let t = one.0 in
+    let other = pair_at (λ x u. (k / 16 ≡ cpu → AllowsRest x u) × (¬ (k / 16 ≡ cpu) → u ≡ x)) (slice_get table k) (slice_get after k) t one.1.0 (rests k below) in
+    let u = other.0 in
+    let A : Known → Type 0 = λ x. Allows x (answers k) (line_of k lines) in
+    let now : A u = elim (cases_eq (k / 16) cpu) [
+      | inl is ↦ (let n = k % 16 in
+          let few : n < 16 = omega arith in
+          let place : 16 * cpu + n ≡ k = omega (arith, is) in
+          let T : ℕ → Type 0 = λ j. MatchOption (slice_get table j) ⊥ (λ x. x.plan ≡ plan_of_thread cpu n plans) in
+          let planned : t.plan ≡ plan_of_thread cpu n plans = there (λ x. x.plan ≡ plan_of_thread cpu n plans) (slice_get table k) t one.1.0 (subst T place (threads.1 cpu n processor few)) in
+          let came_so : came before k ≡ come t (answers k) = there (λ x. came before k ≡ come x (answers k)) (slice_get table k) t one.1.0 (shown k below) in
+          let R : Progress → Option ThreadSpec → Type 0 = λ p o. MatchOption o (Unit {0}) (λ plan. Rests p) in
+          let Q : ℕ → Type 0 = λ j. R (came before j) (plan_of_thread cpu n plans) in
+          let idle : R (came before k) (plan_of_thread cpu n plans) = subst Q place (idles n few) in
+          let rest : R (come t (answers k)) t.plan = subst (λ (p : Progress). R p t.plan) came_so (subst (λ (o : Option ThreadSpec). R (came before k) o) (sym planned) idle) in
+          other.1.1.0 is (answers k) (line_of k lines) one.1.1 rest)
+      | inr apart ↦ subst A (sym (other.1.1.1 apart)) one.1.1
+    ] in
+    here A (slice_get after k) u other.1.0 now
+
+-- a check doesn't go on by a turn that polled no thread, where one can't rest
+pub declines_rest : (cpu : ℕ) (part : List Event) (plans : List ThreadSpec) (table : List Known) (m : Machine) → cpu < 8 → AreThreads plans table → OneMayNotRest cpu table → DeclinesUnasked cpu part (follow plans table m)
+declines_rest cpu part plans table m processor threads loud lines before turns allow shown fits =
+    let n = loud.0 in
+    let few : n < 16 = loud.1.0 in
+    let k = 16 * cpu + n in
+    let below : k < 128 = omega (arith, few, processor) in
+    let one = some_at (λ t. t.plan ≡ plan_of_thread cpu n plans) (slice_get table k) (threads.1 cpu n processor few) in
+    let t = one.0 in
+    let may_not : MayNotRest t = there MayNotRest (slice_get table k) t one.1.0 loud.1.1 in
+    let allows : Allows t None (line_of k lines) = there (λ x. Allows x None (line_of k lines)) (slice_get table k) t one.1.0 (allow k below) in
+    let came_so : came before k ≡ come t None = there (λ x. came before k ≡ come x None) (slice_get table k) t one.1.0 (shown k below) in
+    let R : Progress → Option ThreadSpec → Type 0 = λ p o. MatchOption o (Unit {0}) (λ plan. Rests p) in
+    may_not (line_of k lines) allows (subst (λ (p : Progress). R p t.plan) came_so (subst (λ (o : Option ThreadSpec). R (came before k) o) (sym one.1.1) (fits.polls n few)))
+
 -- a check goes on by a turn that polled no thread
-pub goes_unasked : (cpu : ℕ) (part : List Event) (plans : List ThreadSpec) (table after : List Known) (m n : Machine) → cpu < 8 → All (λ e. cpu_of e ≡ cpu) part → AreThreads plans table → GoesQuietly m part → n ≡ after_all m part → AreKept table after → MayAllRest cpu table after → GoesOnUnasked cpu part (follow plans table m) (follow plans after n)
-goes_unasked cpu part plans table after m n processor events threads quiet moved kept rests = record {
+pub goes_unasked : (cpu : ℕ) (part : List Event) (plans : List ThreadSpec) (table after : List Known) (m n : Machine) → cpu < 8 → All (λ e. cpu_of e ≡ cpu) part → AreThreads plans table → GoesQuietly m part → n ≡ after_all m part → AreKept table after → MayAllRest cpu table after → AllowAllRest cpu table after → GoesOnUnasked cpu part (follow plans table m) (follow plans after n)
+goes_unasked cpu part plans table after m n processor events threads quiet moved kept rests allow = record {
   plans = refl;
   machine = moved;
   bear = bear_kept table after kept;
   fits = λ answers lines bear before shown. record { own = events; makes = quiet; polls = idles_by cpu plans table after processor threads kept rests answers lines bear before shown };
-  shown = λ answers lines bear before shown. shown_kept table after part kept answers before shown;
+  shown = λ answers before shown. shown_kept table after part kept answers before shown;
+  allows = λ answers lines allows before shown fits. allows_kept cpu plans table after processor threads allow answers lines allows before shown fits.polls;
 }
 
 -- the threads stay in their places
@@ -259,6 +387,29 @@ ends_here plans table m lines stop threads listed ended quiet =
       ends = λ before shown. record { quiet = quiet; ends = ends before shown };
     }
 
+-- the run doesn't end where a thread doesn't end as its line says
+pub declines_end : (plans : List ThreadSpec) (table : List Known) (m : Machine) (lines : List ThreadLine) (stop : List Event) → AreThreads plans table → ¬ AllThreads (λ k t. MayEnd t (line_of k lines)) table → DeclinesEnd (follow plans table m) lines stop
+declines_end plans table m lines stop threads unfit before allow shown listed ends = unfit (λ k below.
+    let cpu = k / 16 in
+    let n = k % 16 in
+    let processor : cpu < 8 = omega (arith, below) in
+    let few : n < 16 = omega arith in
+    let place : 16 * cpu + n ≡ k = omega arith in
+    let T : ℕ → Type 0 = λ j. MatchOption (slice_get table j) ⊥ (λ x. x.plan ≡ plan_of_thread cpu n plans) in
+    let one = some_at (λ t. t.plan ≡ plan_of_thread cpu n plans) (slice_get table k) (subst T place (threads.1 cpu n processor few)) in
+    let t = one.0 in
+    let allows : Allows t None (line_of k lines) = there (λ x. Allows x None (line_of k lines)) (slice_get table k) t one.1.0 (allow k below) in
+    let came_so : came before k ≡ come t None = there (λ x. came before k ≡ come x None) (slice_get table k) t one.1.0 (shown k below) in
+    let E : ℕ → Type 0 = λ j. EndsAsTold (plan_of_thread cpu n plans) (line_of j lines) (came before j) in
+    let told : E k = subst E place (ends.ends cpu n processor few) in
+    let F : Option ThreadSpec → Type 0 = λ o. EndsAsTold o (line_of k lines) (come t None) in
+    let so : F t.plan = subst F (sym one.1.1) (subst (λ (p : Progress). EndsAsTold (plan_of_thread cpu n plans) (line_of k lines) p) came_so told) in
+    here (λ x. MayEnd x (line_of k lines)) (slice_get table k) t one.1.0 (record { ends = so; logs = begun t (line_of k lines) allows }))
+  where
+    begun : (t : Known) (o : Option ThreadLine) → Allows t None o → MatchOption o (Unit {0}) (λ l. take (length t.log) l.log ≡ t.log)
+    begun t None allows = tt
+    begun t (Some line) allows = allows.bears.entries
+
 -- a number below the one after another, and not that one, is below that
 below_but : (k n : ℕ) → (n ≡ k → ⊥) → k < n + 1 → k < n
 below_but k n apart below = omega (arith, λ (is : n ≡ k). apart is)
@@ -279,6 +430,62 @@ written P old table place k t u inside at now others =
           subst O (sym (get_set_other table place k u apart)) (others apart))
     ]
 
+-- of the threads of a processor so far each can have rested, and no other one changes
+abbrev pub Allowed : ℕ → ℕ → List Known → List Known → Type 0
+Allowed cpu n old table = AllPairs (λ k t u. (16 * cpu ≤ k → k < 16 * cpu + n → AllowsRest t u) × ((16 * cpu ≤ k → 16 * cpu + n ≤ k) → u ≡ t)) old table
+
+pub rest_allowed : (cpu n : ℕ) (old table : List Known) (t u : Known) → cpu < 8 → n < 16 → length table ≡ 128 → t ≡ get_or table (16 * cpu + n) t → AllowsRest (get_or table (16 * cpu + n) t) u → Allowed cpu n old table → Left cpu n old table → Allowed cpu (n + 1) old (slice_set table (16 * cpu + n) u)
+rest_allowed cpu n old table t u processor few room is may so_far left k below =
+    let place = 16 * cpu + n in
+    let may_so : AllowsRest t u = subst (λ (x : Known). AllowsRest x u) (sym is) may in
+    let inside : place < length table = omega (arith, room) in
+    let at : slice_get old place ≡ Some t = sym (left place (omega arith)) ∙ slice_get-get_or table place t inside ∙ ap (λ (x : Known). Some x) (sym is) in
+    let P : ℕ → ℕ → Known → Known → Type 0 = λ m j x y. (16 * cpu ≤ j → j < 16 * cpu + m → AllowsRest x y) × ((16 * cpu ≤ j → 16 * cpu + m ≤ j) → y ≡ x) in
+    let G : ℕ → Type 0 = λ j. MatchOption (slice_get old j) ⊥ (λ x. MatchOption (slice_get (slice_set table place u) j) ⊥ (P (n + 1) j x)) in
+    let O : Option Known → Type 0 = λ o. MatchOption (slice_get old k) ⊥ (λ x. MatchOption o ⊥ (P (n + 1) k x)) in
+    elim (cases_eq place k) [
+      | inl same ↦ subst G same (here (λ x. MatchOption (slice_get (slice_set table place u) place) ⊥ (P (n + 1) place x)) (slice_get old place) t at (here (P (n + 1) place t) (slice_get (slice_set table place u) place) u (get_set table place u inside) ((λ from to. may_so), (λ other. absurd (past (other (omega arith)))))))
+      | inr apart ↦ subst O (sym (get_set_other table place k u apart)) (mapped (λ x. MatchOption (slice_get table k) ⊥ (P n k x)) (λ x. MatchOption (slice_get table k) ⊥ (P (n + 1) k x)) (slice_get old k) (λ x p. mapped (P n k x) (P (n + 1) k x) (slice_get table k) (λ y f. ((λ from to. f.0 from (below_but k place apart (omega (arith, to)))), (λ other. f.1 (λ from. less (other from))))) p) (so_far k below))
+    ]
+  where
+    past : 16 * cpu + (n + 1) ≤ 16 * cpu + n → ⊥
+    past is = omega (arith, is)
+
+    less : 16 * cpu + (n + 1) ≤ k → 16 * cpu + n ≤ k
+    less is = omega (arith, is)
+
+-- all of them
+pub all_allowed : (cpu : ℕ) (old table : List Known) → Allowed cpu 16 old table → AllowAllRest cpu old table
+all_allowed cpu old table so_far k below = mapped _ _ (slice_get old k) (λ t p. mapped _ _ (slice_get table k) (λ u f. ((λ is. f.0 (omega (arith, is)) (omega (arith, is))), (λ not. f.1 (λ from. above not from)))) p) (so_far k below)
+  where
+    above : (k / 16 ≡ cpu → ⊥) → 16 * cpu ≤ k → 16 * cpu + 16 ≤ k
+    above not from = elim (cases_lt k (16 * cpu + 16)) [
+      | inl below ↦ absurd (not (omega (arith, from, below)))
+      | inr past ↦ past
+    ]
+
+-- a thread is there
+some_of : (table : List Known) (k : ℕ) → k < length table → (t : Known) × (slice_get table k ≡ Some t)
+some_of [] k inside = absurd (omega arith)
+some_of (t ∷ table) zero inside = (t, refl)
+some_of (t ∷ table) (suc k) inside = some_of table k (omega arith)
+
+pub none_allowed : (cpu : ℕ) (table : List Known) → length table ≡ 128 → Allowed cpu 0 table table
+none_allowed cpu table room k below =
+    let one = some_of table k (omega (arith, room, below)) in
+    let t = one.0 in
+    let P : Known → Known → Type 0 = λ x y. (16 * cpu ≤ k → k < 16 * cpu + 0 → AllowsRest x y) × ((16 * cpu ≤ k → 16 * cpu + 0 ≤ k) → y ≡ x) in
+    let both : P t t = ((λ from to. absurd (omega (arith, from, to))), (λ other. refl)) in
+    here (λ x. MatchOption (slice_get table k) ⊥ (P x)) (slice_get table k) t one.1 (here (P t) (slice_get table k) t one.1 both)
+
+-- one thread can't rest
+pub one_loud : (cpu n : ℕ) (old table : List Known) (t : Known) → cpu < 8 → n < 16 → length table ≡ 128 → t ≡ get_or table (16 * cpu + n) t → MayNotRest (get_or table (16 * cpu + n) t) → Left cpu n old table → OneMayNotRest cpu old
+one_loud cpu n old table t processor few room is loud left =
+    let place = 16 * cpu + n in
+    let inside : place < length table = omega (arith, room) in
+    let at : slice_get old place ≡ Some t = sym (left place (omega arith)) ∙ slice_get-get_or table place t inside ∙ ap (λ (x : Known). Some x) (sym is) in
+    (n, (few, here MayNotRest (slice_get old place) t at (subst MayNotRest (sym is) loud)))
+
 pub rest_more : (cpu n : ℕ) (old table : List Known) (t u : Known) → cpu < 8 → n < 16 → length table ≡ 128 → t ≡ get_or table (16 * cpu + n) t → IsKept (get_or table (16 * cpu + n) t) u → MayRest (get_or table (16 * cpu + n) t) u → AreKept old table → Rested cpu n old table → Left cpu n old table → AreKept old (slice_set table (16 * cpu + n) u) × (Rested cpu (n + 1) old (slice_set table (16 * cpu + n) u) × Left cpu (n + 1) old (slice_set table (16 * cpu + n) u))
 rest_more cpu n old table t u processor few room is is_kept may_rest so_far rested left =
     let place = 16 * cpu + n in
@@ -296,3 +503,17 @@ rest_more cpu n old table t u processor few room is is_kept may_rest so_far rest
 -- a vector that was written whole has what was written
 pub filled : (new items : List Known) (n : ℕ) → length new ≡ n → take n (new ++ drop (length new) items) ≡ new
 filled new items n is = take_at new (drop (length new) items) n is
+
+-- threads that were never polled
+pub begins_shown : (plan : ℕ → Option ThreadSpec) (table : List Known) (answers : ℕ → Option Answer) → AllThreads (λ k t. t ≡ unpolled (plan k)) table → AreShown [] table answers
+begins_shown plan table answers all k below = mapped (λ t. t ≡ unpolled (plan k)) (λ t. came [] k ≡ come t (answers k)) (slice_get table k) (λ t is. sym (ap (λ (x : Known). come x (answers k)) is)) (all k below)
+
+pub begins_allows : (plan : ℕ → Option ThreadSpec) (table : List Known) (answers : ℕ → Option Answer) (lines : List ThreadLine) → AllThreads (λ k t. t ≡ unpolled (plan k)) table → AllAllow table answers lines
+begins_allows plan table answers lines all k below = mapped (λ t. t ≡ unpolled (plan k)) (λ t. Allows t (answers k) (line_of k lines)) (slice_get table k) (λ t is. subst (λ (x : Known). Allows x (answers k) (line_of k lines)) (sym is) (unpolled_allows (plan k) (answers k) (line_of k lines))) (all k below)
+
+-- a thread that doesn't end as its line says refutes the end of all
+pub one_open : (table : List Known) (lines : List ThreadLine) (k : ℕ) (t : Known) (line : Option ThreadLine) → k < 128 → length table ≡ 128 → t ≡ get_or table k t → line ≡ line_of k lines → ¬ MayEnd t line → ¬ AllThreads (λ j x. MayEnd x (line_of j lines)) table
+one_open table lines k t line below room is same unfit all =
+    let inside : k < length table = omega (arith, room) in
+    let at : slice_get table k ≡ Some t = slice_get-get_or table k t inside ∙ ap (λ (x : Known). Some x) (sym is) in
+    unfit (subst (MayEnd t) (sym same) (there (λ x. MayEnd x (line_of k lines)) (slice_get table k) t at (all k below)))

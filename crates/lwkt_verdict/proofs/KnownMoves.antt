@@ -1,8 +1,14 @@
 use Rattle.std.proofs.Common.{zero, suc, inl, inr, ◌≡◌, ℕ, ◌+◌, ◌<◌, ◌≤◌, List, [], ◌∷◌, ◌++◌, length, take, refl, sym, ap, ◌∙◌, subst, arith, Option, Some, None}
-use Rattle.std.specs.Prelude.{nat_lt, min, slice_get, if◌then◌else◌, MatchOption}
+use Rattle.std.specs.Prelude.{Bool, true, false, not, option_and_then, nat_lt, min, slice_get, if◌then◌else◌, MatchOption}
 use Rattle.std.specs.Option.{option_map_or}
-use Rattle.std.proofs.lemmas.Bool.{cases_lt, lt-ltb, le-ltb}
-use Rattle.std.proofs.lemmas.List.{take-take, take_at, length_push}
+use Rattle.std.proofs.lemmas.Bool.{cases_lt, lt-ltb, le-ltb, false≢true, and_parts}
+use Rattle.std.proofs.lemmas.List.{take-take, take_at, take_all, length_push}
+use Rattle.std.proofs.lemmas.Option.{none-some}
+use Rattle.lwkt_base.specs.declared.threads.ThreadLine.{ThreadLine}
+use Rattle.lwkt_script.specs.declared.scripts.ThreadSpec.{ThreadSpec}
+use Rattle.lwkt_verdict.specs.declared.expected.Expected.{Expected}
+use Rattle.lwkt_verdict.specs.declared.expected.Expected.TheVariants.{Refusal}
+use Rattle.lwkt_verdict.specs.Asks.{is_refused}
 use Rattle.lwkt_base.specs.declared.asks.Ask.{Ask}
 use Rattle.lwkt_base.specs.declared.asks.Answer.{Answer}
 use Rattle.lwkt_base.specs.declared.entries.Entry.{Entry}
@@ -12,8 +18,8 @@ use Rattle.lwkt_verdict.specs.declared.progress.Asked.{Asked}
 use Rattle.lwkt_verdict.specs.declared.progress.Progress.{Progress}
 use Rattle.lwkt_verdict.specs.Owns.{has_blocked}
 use Rattle.lwkt_verdict.specs.Threads.{ask_at, logged_by}
-use Rattle.lwkt_verdict.specs.Follow.{Awaited, Known, asked_so, entry_so}
-use Rattle.lwkt_verdict.specs.Followed.{log_with, Hears, after_asking, Asks, IsPolled, IsKept}
+use Rattle.lwkt_verdict.specs.Follow.{Awaited, Known, is_expected, asked_so, entry_so, come, Allows}
+use Rattle.lwkt_verdict.specs.Followed.{log_with, unpolled, Hears, after_asking, Asks, IsPolled, IsKept, AllowsRest, MayNotRest}
 
 -- a test of two numbers in order, and not in order
 if_below : {A : Type 0} (m n : ℕ) (x y : A) → m < n → (if nat_lt m n then x else y) ≡ x
@@ -55,6 +61,26 @@ begins_before xs ys e is =
       sym (get_of_front ys n (length xs) inside) ∙ ap (λ (es : List Entry). slice_get es (length xs)) is ∙ get_last xs e,
     )
 
+-- the front of a list with one item more
+take_next : (ys : List Entry) (n : ℕ) (e : Entry) → slice_get ys n ≡ Some e → take (suc n) ys ≡ take n ys ++ e ∷ []
+take_next [] n e at = absurd (none-some e at)
+take_next (y ∷ ys) zero e at =
+    let same : y ≡ e = cc in
+    ap (λ x. x ∷ []) same
+take_next (y ∷ ys) (suc n) e at = ap (λ es. y ∷ es) (take_next ys n e at)
+
+-- what begins with a log, and has an entry, if there is one, behind it, begins with both
+back_of : (log : List Entry) (o : Option Entry) (whole : List Entry) → take (length log) whole ≡ log → MatchOption o (Unit {0}) (λ e. length log < 32 → slice_get whole (length log) ≡ Some e) → take (length (log_with log o)) whole ≡ log_with log o
+back_of log None whole is at = is
+back_of log (Some e) whole is at =
+    let F : List Entry → Type 0 = λ es. take (length es) whole ≡ es in
+    elim (cases_lt (length log) 32) [
+      | inl below ↦ (let long : length (log ++ e ∷ []) ≡ suc (length log) = length_push log e ∙ omega arith in
+          let both : F (log ++ e ∷ []) = ap (λ n. take n whole) long ∙ take_next whole (length log) e (at below) ∙ ap (λ es. es ++ e ∷ []) is in
+          subst F (sym (if_below (length log) 32 (log ++ e ∷ []) log below)) both)
+      | inr past ↦ subst F (sym (if_past (length log) 32 (log ++ e ∷ []) log past)) is
+    ]
+
 -- the same of a log with an entry more, or none
 front_of : (log : List Entry) (o : Option Entry) (whole : List Entry) → take (length (log_with log o)) whole ≡ log_with log o → (take (length log) whole ≡ log) × MatchOption o (Unit {0}) (λ e. length log < 32 → slice_get whole (length log) ≡ Some e)
 front_of log None whole is = (is, tt)
@@ -89,8 +115,64 @@ is_polled m told asked part old mid new few hears next asks =
       answers = λ answer line b. b.answers;
       logs = λ answer line b. (let F : ℕ → Type 0 = λ n. MatchOption (logged_by (asked_so w answer)) (Unit {0}) (λ e. n < 32 → slice_get line.log n ≡ Some e) in subst F long b.entry);
       makes = λ answer line b. asks.makes answer b.expected;
+      allows = λ answer line b answers logs makes. (let F : ℕ → Type 0 = λ n. MatchOption (logged_by (asked_so w answer)) (Unit {0}) (λ e. n < 32 → slice_get line.log n ≡ Some e) in
+          record { expected = asks.expects answer makes; answers = answers; entries = back_of old.log (entry_so old (Some told)) line.log b.entries b.entry; entry = subst F (sym long) logs });
+      unblocked = asks.unblocked;
     })
 
 -- a thread of which nothing more is known
 pub same_kept : (t : Known) → IsKept t t
 same_kept t = record { plan = refl; came = λ answer. refl; bears = λ answer line b. b }
+
+-- what is known of a thread that was never polled allows any line
+pub unpolled_allows : (plan : Option ThreadSpec) (answer : Option Answer) (line : Option ThreadLine) → Allows (unpolled plan) answer line
+unpolled_allows plan answer None = record { bears = refl; unblocked = tt }
+unpolled_allows plan answer (Some line) = record { bears = record { expected = tt; answers = tt; entries = refl; entry = tt }; unblocked = tt }
+
+-- the same of a thread of which nothing more is known
+pub same_allows : (t : Known) → AllowsRest t t
+same_allows t answer line allows rests = allows
+
+abbrev known_so : Option ThreadSpec → ℕ → Ask → Bool → Expected → List Entry → Known
+known_so plan polls ask blocked expected log = record { plan = plan; polls = polls; last = Some (record { ask = ask; blocked = blocked; expected = expected }); log = log }
+
+not_so : (b : Bool) → not b ≡ true → b ≡ false
+not_so true is = absurd (false≢true is)
+not_so false is = refl
+
+-- a thread that rests, which is there, was blocked by what it last asked, and that wasn't refused
+pub rest_allows : (plan : ThreadSpec) (polls : ℕ) (ask : Ask) (blocked : Bool) (old new : Expected) (log : List Entry) → ((answer : Option Answer) → is_expected old answer ≡ true → is_refused answer ≡ false → is_expected new answer ≡ true) → ¬ (new ≡ Refusal) → AllowsRest (known_so (Some plan) polls ask blocked old log) (known_so (Some plan) polls ask blocked new log)
+rest_allows plan polls ask blocked old new log kept opens answer None allows rests = absurd (none-some (record { ask = ask; blocked = blocked; expected = old }) (sym allows.bears))
+rest_allows plan polls ask blocked old new log kept opens answer (Some line) allows rests = record {
+  bears = record {
+    expected = kept answer allows.bears.expected (not_so (is_refused answer) (and_parts (not (is_refused answer)) blocked rests).0);
+    answers = allows.bears.answers;
+    entries = allows.bears.entries;
+    entry = allows.bears.entry;
+  };
+  unblocked = λ is. absurd (opens is);
+}
+
+-- a thread that is there can't rest: it was never polled, or didn't block, or is refused
+pub never_rests : (plan : ThreadSpec) (polls : ℕ) (log : List Entry) → MayNotRest (record { plan = Some plan; polls = polls; last = None; log = log })
+never_rests plan polls log line allows rests = rests
+
+pub unblocked_rests : (plan : ThreadSpec) (polls : ℕ) (ask : Ask) (blocked : Bool) (expected : Expected) (log : List Entry) → blocked ≡ false → MayNotRest (known_so (Some plan) polls ask blocked expected log)
+unblocked_rests plan polls ask blocked expected log is line allows rests = false≢true (sym is ∙ rests)
+
+pub refused_rests : (plan : ThreadSpec) (polls : ℕ) (ask : Ask) (blocked : Bool) (expected : Expected) (log : List Entry) → expected ≡ Refusal → MayNotRest (known_so (Some plan) polls ask blocked expected log)
+refused_rests plan polls ask blocked expected log is line allows rests = false≢true (sym (allows.unblocked is) ∙ rests)
+
+-- how many entries a thread has whose last ask has no answer
+pub open_logged : (t : Known) → (come t None).logged ≡ length t.log
+open_logged t = go t.last
+  where
+    go : (o : Option Awaited) → option_map_or (λ (e : Entry). min 32 (length t.log + 1)) (option_and_then (λ w. logged_by (asked_so w None)) o) (length t.log) ≡ length t.log
+    go None = refl
+    go (Some w) = refl
+
+-- a line that has as many entries as a log, with which it begins, has that log
+pub whole_log : (log whole : List Entry) → take (length log) whole ≡ log → length whole ≡ length log → log ≡ whole
+whole_log log whole is long =
+    let all : length whole ≤ length log = omega (arith, long) in
+    sym is ∙ take_all (length log) whole all

@@ -1,4 +1,4 @@
--- What an ask can be answered, what it leaves of the thread that made it, and what its answer puts in a log (own).
+-- What an ask can be answered, and what it leaves of the thread that made it (own).
 use Rattle.std.specs.Prelude.{ℕ, ◌==◌, nat_le, Bool, true, false, List, [], ◌∷◌, Option, Some, None}
 use Rattle.std.specs.List.{list_any}
 use Rattle.lwkt_base.specs.declared.asks.Ask.{Ask}
@@ -7,8 +7,6 @@ use Rattle.lwkt_base.specs.declared.asks.Item.{Item}
 use Rattle.lwkt_base.specs.declared.asks.Item.TheVariants.{Request, Answered}
 use Rattle.lwkt_base.specs.declared.asks.Answer.{Answer}
 use Rattle.lwkt_base.specs.declared.asks.Answer.TheVariants.{Begin, Done, Value, Bytes, Dropped, Got, NoMsg, Refused}
-use Rattle.lwkt_base.specs.declared.entries.Entry.{Entry}
-use Rattle.lwkt_base.specs.declared.entries.Entry.TheVariants.{Value as ValueEntry, Bytes as BytesEntry, Aborted, Request as RequestEntry, Reply as ReplyEntry, NoMessage, Dropped as DroppedEntry, Refused as RefusedEntry}
 use Rattle.lwkt_base.specs.Fault.{number_of}
 
 -- the numbers of the faults with which an ask can be refused
@@ -164,24 +162,3 @@ may_block (Do msg to call) = true
 may_block WaitPort = true
 may_block Yield = true
 may_block _ = false
-
--- the entry of a value: of a question whether a message is to be aborted, or of a read
-abbrev pub value_entry : Ask → ℕ → Entry
-value_entry (IsAborted msg) value = Aborted (value == 1)
-value_entry _ value = ValueEntry value
-
--- the entry of an item
-abbrev pub item_entry : Item → Entry
-item_entry (Request msg call) = RequestEntry msg call
-item_entry (Answered msg error outcome) = ReplyEntry msg error outcome
-
--- what an answer to an ask puts in the log
-abbrev pub entry_of : Ask → Answer → Option Entry
-entry_of ask Begin = None
-entry_of ask Done = None
-entry_of ask (Value value) = Some (value_entry ask value)
-entry_of ask (Bytes blob) = Some (BytesEntry blob)
-entry_of ask (Dropped msg rec) = Some (DroppedEntry msg (record { arg = rec.arg; op = rec.op }))
-entry_of ask (Got item) = Some (item_entry item)
-entry_of ask NoMsg = Some NoMessage
-entry_of ask (Refused fault) = Some (RefusedEntry (number_of fault))

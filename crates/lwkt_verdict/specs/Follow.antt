@@ -2,7 +2,7 @@
 --
 -- What an ask is answered is known when its thread is polled again. So of each thread the check keeps its last ask and which answers this
 -- one can have by its turn's part of the trace; what it says of a turn holds for each of them.
-use Rattle.std.specs.Prelude.{◌≡◌, ℕ, ◌+◌, ◌*◌, ◌<◌, ◌==◌, Bool, true, not, List, [], ◌∷◌, ◌++◌, length, take, min, slice_get, if◌then◌else◌, Option, Some, None, MatchOption, option_map, option_and_then}
+use Rattle.std.specs.Prelude.{◌≡◌, ℕ, ◌+◌, ◌*◌, ◌<◌, ◌==◌, Bool, true, false, not, List, [], ◌∷◌, ◌++◌, length, take, min, slice_get, if◌then◌else◌, Option, Some, None, MatchOption, option_map, option_and_then}
 use Rattle.std.specs.Option.{option_map_or}
 use Rattle.lwkt_base.specs.declared.asks.Ask.{Ask}
 use Rattle.lwkt_base.specs.declared.asks.Answer.{Answer}
@@ -11,7 +11,7 @@ use Rattle.lwkt_base.specs.declared.names.ThreadId.{ThreadId}
 use Rattle.lwkt_core.specs.declared.events.Event.{Event}
 use Rattle.lwkt_core.specs.Machine.{Machine}
 use Rattle.lwkt_script.specs.declared.scripts.ThreadSpec.{ThreadSpec}
-use Rattle.lwkt_report.specs.declared.closings.ThreadLine.{ThreadLine}
+use Rattle.lwkt_base.specs.declared.threads.ThreadLine.{ThreadLine}
 use Rattle.lwkt_verdict.specs.declared.expected.Expected.{Expected}
 use Rattle.lwkt_verdict.specs.declared.expected.Expected.TheVariants.{Any, NoRefusal, Refusal, Value, Bytes}
 use Rattle.lwkt_verdict.specs.declared.progress.Asked.{Asked}
@@ -70,6 +70,16 @@ pub record Bears (t : Known) (answer : Option Answer) (line : ThreadLine) : Type
 abbrev pub AllBear : List Known → (ℕ → Option Answer) → List ThreadLine → Type 0
 AllBear table answers lines = (k : ℕ) → k < 128 → MatchOption (slice_get table k) ⊥ (λ t. MatchOption (line_of k lines) (t.plan ≡ None) (Bears t (answers k)))
 
+-- what is possible of a thread so far, if its last ask gets this answer: it has a line, which bears it, or has none and was never polled;
+-- and an ask whose event isn't there hasn't blocked it
+pub record Allows (t : Known) (answer : Option Answer) (line : Option ThreadLine) : Type 0 where
+  pub bears : MatchOption line (t.last ≡ None) (Bears t answer)
+  pub unblocked : MatchOption t.last (Unit {0}) (λ w. w.expected ≡ Refusal → w.blocked ≡ false)
+
+-- the same of all threads
+abbrev pub AllAllow : List Known → (ℕ → Option Answer) → List ThreadLine → Type 0
+AllAllow table answers lines = (k : ℕ) → k < 128 → MatchOption (slice_get table k) ⊥ (λ t. Allows t (answers k) (line_of k lines))
+
 -- so far the threads have come after these turns, where their last asks get these answers
 abbrev pub AreShown : List Piece → List Known → (ℕ → Option Answer) → Type 0
 AreShown before table answers = (k : ℕ) → k < 128 → MatchOption (slice_get table k) ⊥ (λ t. came before k ≡ come t (answers k))
@@ -92,28 +102,46 @@ answered_at slot answer answers k = if k == slot then answer else answers k
 abbrev pub none_answered : ℕ → Option Answer
 none_answered k = None
 
--- a check goes on by a turn of a processor with this part of the trace: whatever answers the last asks get after it that are expected, with
--- these and the former ones the turn fits the turns before, and with these the threads have come so far
+-- a check goes on by a turn of a processor with this part of the trace. Whatever answers the last asks get after it that are expected, with
+-- these and the former ones the turn fits the turns before, and with these the threads have come so far. And whatever answers they get with
+-- which the turn fits, these are expected
 pub record GoesOn (cpu : ℕ) (part : List Event) (poll : (ℕ → Option Answer) → Option Poll) (former : (ℕ → Option Answer) → ℕ → Option Answer) (old new : Follow) : Type 0 where
   pub plans : new.plans ≡ old.plans
   pub machine : new.machine ≡ after_all old.machine part
   pub bear : (answers : ℕ → Option Answer) (lines : List ThreadLine) → AllBear new.table answers lines → AllBear old.table (former answers) lines
   pub fits : (answers : ℕ → Option Answer) (lines : List ThreadLine) → AllBear new.table answers lines → (before : List Piece) → AreShown before old.table (former answers) → TurnFits old.plans lines cpu old.machine before (poll answers) part
-  pub shown : (answers : ℕ → Option Answer) (lines : List ThreadLine) → AllBear new.table answers lines → (before : List Piece) → AreShown before old.table (former answers) → AreShown (before ++ piece (poll answers) part ∷ []) new.table answers
+  pub shown : (answers : ℕ → Option Answer) (before : List Piece) → AreShown before old.table (former answers) → AreShown (before ++ piece (poll answers) part ∷ []) new.table answers
+  pub allows : (answers : ℕ → Option Answer) (lines : List ThreadLine) → AllAllow old.table (former answers) lines → (before : List Piece) → AreShown before old.table (former answers) → TurnFits old.plans lines cpu old.machine before (poll answers) part → AllAllow new.table answers lines
+
+-- a check doesn't go on by a turn: whatever answers the asks before got, the turn fits no turns before it. So many turns are
+-- fewer than are counted
+abbrev pub Declines : ℕ → List Event → ((ℕ → Option Answer) → Option Poll) → ((ℕ → Option Answer) → ℕ → Option Answer) → Follow → Type 0
+Declines cpu part poll former f = (lines : List ThreadLine) (before : List Piece) → length before < 18446744073709551615 → AllAllow f.table (former none_answered) lines → AreShown before f.table (former none_answered) → ¬ TurnFits f.plans lines cpu f.machine before (poll none_answered) part
+
+-- the poll of a thread which asked this, by the answers that the last asks get
+abbrev pub poll_so : ThreadId → Ask → (ℕ → Option Answer) → Option Poll
+poll_so thread asked answers = Some (record { answer = answers (slot_of thread); ask = asked; thread = thread })
 
 -- a turn that polled this thread, which was told this, the answer to its ask before, and asked this
 abbrev pub GoesOnByPoll : ℕ → ThreadId → Answer → Ask → List Event → Follow → Follow → Type 0
-GoesOnByPoll cpu thread told asked part old new = GoesOn cpu part (λ answers. Some (record { answer = answers (slot_of thread); ask = asked; thread = thread })) (answered_at (slot_of thread) (Some told)) old new
+GoesOnByPoll cpu thread told asked part old new = GoesOn cpu part (poll_so thread asked) (answered_at (slot_of thread) (Some told)) old new
+
+abbrev pub DeclinesPoll : ℕ → ThreadId → Answer → Ask → List Event → Follow → Type 0
+DeclinesPoll cpu thread told asked part f = Declines cpu part (poll_so thread asked) (answered_at (slot_of thread) (Some told)) f
 
 -- a turn that polled no thread
 abbrev pub GoesOnUnasked : ℕ → List Event → Follow → Follow → Type 0
 GoesOnUnasked cpu part old new = GoesOn cpu part (λ answers. None) (λ answers. answers) old new
+
+abbrev pub DeclinesUnasked : ℕ → List Event → Follow → Type 0
+DeclinesUnasked cpu part f = Declines cpu part (λ answers. None) (λ answers. answers) f
 
 -- a check that has followed no turn yet
 pub record Begins (script : List ThreadSpec) (opening : Machine) (f : Follow) : Type 0 where
   pub plans : f.plans ≡ script
   pub machine : f.machine ≡ opening
   pub shown : (answers : ℕ → Option Answer) → AreShown [] f.table answers
+  pub allows : (answers : ℕ → Option Answer) (lines : List ThreadLine) → AllAllow f.table answers lines
 
 -- the run ends here, as these lines say, with the events of the stop
 pub record EndsHere (f : Follow) (lines : List ThreadLine) (stop : List Event) : Type 0 where
@@ -121,3 +149,7 @@ pub record EndsHere (f : Follow) (lines : List ThreadLine) (stop : List Event) :
   pub paired : (cpu n : ℕ) → cpu < 8 → n < 16 → IsPaired f.plans lines cpu n
   pub bear : AllBear f.table none_answered lines
   pub ends : (before : List Piece) → AreShown before f.table none_answered → EndsRun f.plans lines f.machine before stop
+
+-- the run doesn't end here, as these lines say, with the events of the stop
+abbrev pub DeclinesEnd : Follow → List ThreadLine → List Event → Type 0
+DeclinesEnd f lines stop = (before : List Piece) → AllAllow f.table none_answered lines → AreShown before f.table none_answered → AreListed f.machine.cpus 0 lines → ¬ EndsRun f.plans lines f.machine before stop

@@ -1,27 +1,26 @@
 -- What a turn leaves of what a check knows of one thread that follows a run (own).
-use Rattle.std.specs.Prelude.{◌≡◌, ℕ, ◌+◌, ◌/◌, ◌<◌, nat_lt, Bool, true, false, List, [], ◌∷◌, ◌++◌, length, max, slice_get, if◌then◌else◌, Option, Some, None, MatchOption, option_map}
+use Rattle.std.specs.Prelude.{◌≡◌, ℕ, ◌+◌, ◌*◌, ◌/◌, ◌<◌, nat_lt, Bool, true, false, List, [], ◌∷◌, ◌++◌, length, take, max, slice_get, if◌then◌else◌, Option, Some, None, MatchOption, option_map}
 use Rattle.lwkt_base.specs.declared.asks.Ask.{Ask}
 use Rattle.lwkt_base.specs.declared.asks.Answer.{Answer}
 use Rattle.lwkt_base.specs.declared.entries.Entry.{Entry}
 use Rattle.lwkt_core.specs.declared.events.Event.{Event}
-use Rattle.lwkt_core.specs.declared.events.Event.TheVariants.{Read, ReadBlob, Reply}
+use Rattle.lwkt_core.specs.declared.events.Event.TheVariants.{Read, ReadBlob}
 use Rattle.lwkt_core.specs.Machine.{Machine}
 use Rattle.lwkt_script.specs.declared.scripts.ThreadSpec.{ThreadSpec}
-use Rattle.lwkt_report.specs.declared.closings.ThreadLine.{ThreadLine}
+use Rattle.lwkt_base.specs.declared.threads.ThreadLine.{ThreadLine}
 use Rattle.lwkt_verdict.specs.declared.expected.Expected.{Expected}
 use Rattle.lwkt_verdict.specs.declared.expected.Expected.TheVariants.{Any, NoRefusal, Refusal, Value, Bytes}
 use Rattle.lwkt_verdict.specs.Asks.{may_answer, makes_event}
 use Rattle.lwkt_verdict.specs.Owns.{has_blocked}
 use Rattle.lwkt_verdict.specs.Parts.{IsPartOf}
 use Rattle.lwkt_verdict.specs.Threads.{ask_at, progress_after, IsLogged, Rests, EndsAsTold}
-use Rattle.lwkt_verdict.specs.Follow.{is_expected, Awaited, Known, entry_so, come, Bears}
+use Rattle.lwkt_verdict.specs.Follow.{is_expected, Awaited, Known, entry_so, come, Bears, Allows}
 
--- which answers an ask can have that stands at this event of its own: any at a reply, which may have happened unasked as well
-abbrev pub expected_by : Event → Expected
-expected_by (Read cpu tok cell value) = Value value
-expected_by (ReadBlob cpu tok blob) = Bytes blob
-expected_by (Reply cpu msg) = Any
-expected_by _ = NoRefusal
+-- which answers an ask can have that stands at this event of its own: any at one that may have happened unasked as well
+abbrev pub expected_by : Bool → Event → Expected
+expected_by unasked (Read cpu tok cell value) = Value value
+expected_by unasked (ReadBlob cpu tok blob) = Bytes blob
+expected_by unasked _ = if unasked then Any else NoRefusal
 
 -- which answers an ask can have whose event isn't there
 abbrev pub expected_without : Ask → Expected
@@ -55,11 +54,28 @@ pub record Hears (told : Answer) (old new : Known) : Type 0 where
 abbrev pub after_asking : Known → Awaited → Known
 after_asking t w = record { plan = t.plan; polls = t.polls + 1; last = Some w; log = t.log }
 
--- the thread has asked this, by this part of the trace: which answers it can have, and whether it is blocked
+-- the thread has asked this, by this part of the trace: which answers it can have, exactly, and whether it is blocked
 pub record Asks (m : Machine) (asked : Ask) (part : List Event) (old new : Known) : Type 0 where
   pub expected : Expected
   pub noted : new ≡ after_asking old (record { ask = asked; blocked = has_blocked asked part; expected = expected })
   pub makes : (answer : Option Answer) → is_expected expected answer ≡ true → IsPartOf m asked answer part
+  pub expects : (answer : Option Answer) → IsPartOf m asked answer part → is_expected expected answer ≡ true
+  pub unblocked : expected ≡ Refusal → has_blocked asked part ≡ false
+
+-- what the thread last asked, if anything, can have been answered so
+abbrev pub MayHear : Answer → Known → Type 0
+MayHear told t = MatchOption t.last (Unit {0}) (λ w. (is_expected w.expected (Some told) ≡ true) × (may_answer w.ask told ≡ true))
+
+-- the thread has this ask next
+abbrev pub MayAskNext : Ask → Known → Type 0
+MayAskNext asked t = MatchOption t.plan ⊥ (λ plan. ask_at plan t.polls ≡ Some asked)
+
+-- the thread can be polled: told this, asking this, by this part of the trace
+pub record MayBePolled (m : Machine) (told : Answer) (asked : Ask) (part : List Event) (t : Known) : Type 0 where
+  pub few : t.polls < 18446744073709551615
+  pub hears : MayHear told t
+  pub asks : MayAskNext asked t
+  pub makes : IsPartOf m asked None part
 
 -- the thread was polled, was told this, the answer to the ask before, and asked this: whatever that is answered, if its line bears it
 pub record IsPolled (m : Machine) (told : Answer) (asked : Ask) (part : List Event) (old new : Known) : Type 0 where
@@ -69,6 +85,8 @@ pub record IsPolled (m : Machine) (told : Answer) (asked : Ask) (part : List Eve
   pub answers : (answer : Option Answer) (line : ThreadLine) → Bears new answer line → MatchOption answer (Unit {0}) (λ a. may_answer asked a ≡ true)
   pub logs : (answer : Option Answer) (line : ThreadLine) → Bears new answer line → IsLogged line (come old (Some told)) (record { ask = asked; answer = answer; blocked = false })
   pub makes : (answer : Option Answer) (line : ThreadLine) → Bears new answer line → IsPartOf m asked answer part
+  pub allows : (answer : Option Answer) (line : ThreadLine) → Bears old (Some told) line → MatchOption answer (Unit {0}) (λ a. may_answer asked a ≡ true) → IsLogged line (come old (Some told)) (record { ask = asked; answer = answer; blocked = false }) → IsPartOf m asked answer part → Bears new answer line
+  pub unblocked : MatchOption new.last (Unit {0}) (λ w. w.expected ≡ Refusal → w.blocked ≡ false)
 
 -- the thread has come as far as before, with no more answers that its last ask can have
 pub record IsKept (old new : Known) : Type 0 where
@@ -79,6 +97,19 @@ pub record IsKept (old new : Known) : Type 0 where
 -- the thread, if it is there, may rest, whatever its last ask is answered, if its line bears that
 abbrev pub MayRest : Known → Known → Type 0
 MayRest old new = MatchOption old.plan (Unit {0}) (λ plan. (answer : Option Answer) (line : ThreadLine) → Bears new answer line → Rests (come old answer))
+
+-- the thread, if it is there, can have rested: then its last ask was answered so
+abbrev pub AllowsRest : Known → Known → Type 0
+AllowsRest old new = (answer : Option Answer) (line : Option ThreadLine) → Allows old answer line → MatchOption old.plan (Unit {0}) (λ plan. Rests (come old answer)) → Allows new answer line
+
+-- the thread is there and can't have rested
+abbrev pub MayNotRest : Known → Type 0
+MayNotRest t = (line : Option ThreadLine) → Allows t None line → ¬ MatchOption t.plan (Unit {0}) (λ plan. Rests (come t None))
+
+-- the thread ends as its line says, if it is there, and so far its log begins the line's
+pub record MayEnd (t : Known) (line : Option ThreadLine) : Type 0 where
+  pub ends : EndsAsTold t.plan line (come t None)
+  pub logs : MatchOption line (Unit {0}) (λ l. take (length t.log) l.log ≡ t.log)
 
 -- the thread ends as its line says, if it is there
 pub record IsEnded (t : Known) (line : Option ThreadLine) : Type 0 where
@@ -104,3 +135,11 @@ AreKept old new = AllPairs (λ k. IsKept) old new
 -- each thread of a processor may rest
 abbrev pub MayAllRest : ℕ → List Known → List Known → Type 0
 MayAllRest cpu old new = AllPairs (λ k t u. k / 16 ≡ cpu → MayRest t u) old new
+
+-- each thread of a processor can have rested, and no other one changes
+abbrev pub AllowAllRest : ℕ → List Known → List Known → Type 0
+AllowAllRest cpu old new = AllPairs (λ k t u. (k / 16 ≡ cpu → AllowsRest t u) × (¬ (k / 16 ≡ cpu) → u ≡ t)) old new
+
+-- a thread of a processor can't have rested
+abbrev pub OneMayNotRest : ℕ → List Known → Type 0
+OneMayNotRest cpu table = (n : ℕ) × ((n < 16) × MatchOption (slice_get table (16 * cpu + n)) ⊥ MayNotRest)

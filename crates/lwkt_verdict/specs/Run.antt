@@ -6,7 +6,7 @@ use Rattle.lwkt_core.specs.declared.events.Event.{Event}
 use Rattle.lwkt_core.specs.Events.{cpu_of}
 use Rattle.lwkt_core.specs.Machine.{Machine}
 use Rattle.lwkt_script.specs.declared.scripts.ThreadSpec.{ThreadSpec}
-use Rattle.lwkt_report.specs.declared.closings.ThreadLine.{ThreadLine}
+use Rattle.lwkt_base.specs.declared.threads.ThreadLine.{ThreadLine}
 use Rattle.lwkt_verdict.specs.declared.turns.Poll.{Poll}
 use Rattle.lwkt_verdict.specs.declared.turns.Turn.{Turn}
 use Rattle.lwkt_verdict.specs.declared.turns.Pace.{Pace}
@@ -75,6 +75,13 @@ abbrev pub RunsThrough : List ThreadSpec → List ThreadLine → List Poll → L
 RunsThrough plans lines polls order m before [] events = EndsRun plans lines m before events
 RunsThrough plans lines polls order m before (turn ∷ turns) events =
     (turn.events ≤ length events) × (TurnFits plans lines (whose order (length before)) m before (poll_of polls turn) (take turn.events events) × RunsThrough plans lines polls order (after_all m (take turn.events events)) (before ++ piece (poll_of polls turn) (take turn.events events) ∷ []) turns (drop turn.events events))
+
+-- turns of an order begin a run, whatever comes after them: each of them fits the turns before it, and its part of the trace the
+-- machine that it finds
+abbrev pub BeginRun : List ThreadSpec → List ThreadLine → List Poll → List ℕ → Machine → List Piece → List Turn → List Event → Type 0
+BeginRun plans lines polls order m before [] events = Unit {0}
+BeginRun plans lines polls order m before (turn ∷ turns) events =
+    (turn.events ≤ length events) × (TurnFits plans lines (whose order (length before)) m before (poll_of polls turn) (take turn.events events) × BeginRun plans lines polls order (after_all m (take turn.events events)) (before ++ piece (poll_of polls turn) (take turn.events events) ∷ []) turns (drop turn.events events))
 
 -- a thread and its line are both there, or neither is
 abbrev pub IsPaired : List ThreadSpec → List ThreadLine → ℕ → ℕ → Type 0

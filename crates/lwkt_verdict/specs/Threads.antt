@@ -1,19 +1,19 @@
 -- What one thread of a script asks, is answered and logs, and how it ends (own).
-use Rattle.std.specs.Prelude.{◌≡◌, ℕ, ◌+◌, ◌-◌, ◌*◌, ◌/◌, ◌%◌, ◌<◌, ◌==◌, ◌&&◌, ◌||◌, nat_lt, Bool, true, false, not, List, [], ◌∷◌, ◌++◌, length, min, slice_get, filter_map, Option, Some, None, MatchOption, option_and_then, is_some, if◌then◌else◌}
+use Rattle.std.specs.Prelude.{◌≡◌, ℕ, ◌+◌, ◌-◌, ◌*◌, ◌<◌, ◌==◌, ◌&&◌, ◌||◌, Bool, true, false, not, List, [], ◌∷◌, ◌++◌, length, min, slice_get, filter_map, Option, Some, None, MatchOption, option_and_then, is_some, if◌then◌else◌}
 use Rattle.std.specs.Option.{option_map_or}
 use Rattle.lwkt_base.specs.declared.names.ThreadId.{ThreadId}
 use Rattle.lwkt_base.specs.declared.threads.ThreadState.{ThreadState}
 use Rattle.lwkt_base.specs.declared.threads.ThreadState.TheVariants.{Ready, Waiting, Running, Exited, Faulted}
 use Rattle.lwkt_base.specs.declared.asks.Ask.{Ask}
-use Rattle.lwkt_base.specs.declared.asks.Ask.TheVariants.{Exit}
 use Rattle.lwkt_base.specs.declared.entries.Entry.{Entry}
 use Rattle.lwkt_base.specs.Fault.{number_of}
 use Rattle.lwkt_script.specs.declared.scripts.ThreadSpec.{ThreadSpec}
-use Rattle.lwkt_report.specs.declared.closings.ThreadLine.{ThreadLine}
+use Rattle.lwkt_base.specs.declared.threads.ThreadLine.{ThreadLine}
 use Rattle.lwkt_verdict.specs.declared.progress.Asked.{Asked}
 use Rattle.lwkt_verdict.specs.declared.progress.Progress.{Progress}
 use Rattle.lwkt_verdict.specs.declared.progress.Piece.{Piece}
-use Rattle.lwkt_verdict.specs.Asks.{entry_of, is_refused, is_exit, may_block, may_wait}
+use Rattle.lwkt_script.specs.Logs.{entry_of, nth_ask}
+use Rattle.lwkt_verdict.specs.Asks.{is_refused, is_exit, may_block, may_wait}
 
 -- a thread's number among those of all processors, 16 for each
 abbrev pub slot_of : ThreadId → ℕ
@@ -29,15 +29,9 @@ abbrev pub line_of : ℕ → List ThreadLine → Option ThreadLine
 line_of slot [] = None
 line_of slot (l ∷ ls) = if slot_of l.id == slot then Some l else line_of slot ls
 
--- ask k of a thread: its steps, so many times over, and then Exit
-abbrev pub ask_in : ℕ → List Ask → ℕ → Option Ask
-ask_in repeat steps k =
-    if length steps == 0 then (if k == 0 then Some Exit else None) else (
-    if nat_lt (k / length steps) repeat then slice_get steps (k % length steps) else (
-    if k / length steps == repeat && k % length steps == 0 then Some Exit else None))
-
+-- ask k of a thread
 abbrev pub ask_at : ThreadSpec → ℕ → Option Ask
-ask_at plan k = ask_in plan.repeat plan.steps k
+ask_at plan k = nth_ask plan.repeat plan.steps k
 
 -- what a turn asked of a thread
 abbrev pub asked_in : ℕ → Piece → List Asked

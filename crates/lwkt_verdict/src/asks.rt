@@ -1,8 +1,8 @@
 ghost use Rattle.std.specs.Prelude.{◌≡◌, ◌==◌, ◌↔◌, IsTrue};
 ghost use Rattle.lwkt_base.specs.declared.asks.Ask.TheVariants.{WriteBlob};
-ghost use Rattle.lwkt_verdict.specs.Asks.{refusals, may_refuse, may_be_done, may_give_value, may_give_bytes, may_drop, is_reply_to, may_give_item, may_find_nothing, may_answer, makes_event, is_do, is_exit, may_wait, may_block, value_entry, item_entry, entry_of};
+ghost use Rattle.lwkt_verdict.specs.Asks.{refusals, may_refuse, may_be_done, may_give_value, may_give_bytes, may_drop, is_reply_to, may_give_item, may_find_nothing, may_answer, makes_event, is_do, is_exit, may_wait, may_block};
 
-use lwkt_base::{Answer, Ask, Blob, Call, Entry, Item, TokId};
+use lwkt_base::{Answer, Ask, Blob, Item, TokId};
 
 // The numbers of the faults with which an ask can be refused.
 fn refusals(ask: &Ask) -> &'static [u8]
@@ -174,47 +174,6 @@ pub fn may_block(ask: &Ask) -> bool
         ask,
         Ask::Get(_) | Ask::GetShared(_) | Ask::Do(..) | Ask::WaitPort | Ask::Yield
     )
-}
-
-// The entry of a value: of a question whether a message is to be aborted, or of a read.
-fn value_entry(ask: Ask, value: u64) -> Entry
-    ensures { result ≡ value_entry ask value }
-{
-    match ask {
-        Ask::IsAborted(_) => Entry::Aborted(value == 1),
-        _ => Entry::Value(value),
-    }
-}
-
-// The entry of an item.
-fn item_entry(item: Item) -> Entry
-    ensures { result ≡ item_entry item }
-{
-    match item {
-        Item::Request(msg, call) => Entry::Request(msg, call),
-        Item::Answered(msg, error, outcome) => Entry::Reply(msg, error, outcome),
-    }
-}
-
-/// What an answer to an ask puts in the log.
-pub fn entry_of(ask: Ask, answer: Answer) -> Option<Entry>
-    ensures { result ≡ entry_of ask answer }
-{
-    match answer {
-        Answer::Begin | Answer::Done => None,
-        Answer::Value(value) => Some(value_entry(ask, value)),
-        Answer::Bytes(blob) => Some(Entry::Bytes(blob)),
-        Answer::Dropped(msg, rec) => Some(Entry::Dropped(
-            msg,
-            Call {
-                arg: rec.arg,
-                op: rec.op,
-            },
-        )),
-        Answer::Got(item) => Some(item_entry(item)),
-        Answer::NoMsg => Some(Entry::NoMessage),
-        Answer::Refused(fault) => Some(Entry::Refused(fault.number())),
-    }
 }
 
 // Whether an ask stores this record in this token.

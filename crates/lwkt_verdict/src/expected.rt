@@ -1,5 +1,6 @@
 //! Which answers an ask can have, by its turn's part of the trace.
 ghost use Rattle.std.specs.Prelude.{◌≡◌, IsTrue, true, false, Option, Some};
+ghost use Rattle.lwkt_verdict.specs.declared.expected.Expected.TheVariants.{Refusal};
 ghost use Rattle.lwkt_base.specs.declared.asks.Answer.{Answer};
 ghost use Rattle.lwkt_verdict.specs.Asks.{is_refused};
 
@@ -8,7 +9,7 @@ use lwkt_base::{Answer, Blob};
 
 /// Which answers an ask can have by its turn's part of the trace, beside none at all. Of these it may be able to have only some, whatever
 /// its part. A check writes it where it keeps it, since a record is long.
-#[derive(Clone, Copy, Debug, PartialEq, Eq)]
+#[derive(Clone, Copy, PartialEq, Eq)]
 pub enum Expected {
     /// Any: the ask makes no event of its own, or its event may have happened unasked too.
     Any,
@@ -47,7 +48,10 @@ impl Expected {
 
     /// Whether there are some that are no refusals. From now on those alone, if so.
     pub fn leave_refusals(&mut self) -> bool
-        ensures { IsTrue result → (answer : Option Answer) → is_expected self.new answer ≡ true → (is_expected self.old answer ≡ true) × (is_refused answer ≡ false) }
+        ensures left { IsTrue result → (answer : Option Answer) → is_expected self.new answer ≡ true → (is_expected self.old answer ≡ true) × (is_refused answer ≡ false) }
+        ensures kept { IsTrue result → (answer : Option Answer) → is_expected self.old answer ≡ true → is_refused answer ≡ false → is_expected self.new answer ≡ true }
+        ensures open { IsTrue result → ¬ (self.new ≡ Refusal) }
+        ensures none { result ≡ false → self.old ≡ Refusal }
     {
         match self {
             Expected::Any => {

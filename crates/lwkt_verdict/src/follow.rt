@@ -1,21 +1,21 @@
 //! A check that follows a run turn by turn, and keeps no turn.
-ghost use Rattle.std.specs.Prelude.{◌≡◌, ℕ, ◌<◌, ◌+◌, ◌*◌, ◌/◌, ◌%◌, ◌^◌, ◌-◌, ◌≤◌, ◌↔◌, IsTrue, IfOk, IfSome, MatchOption, length, slice_get, Some, is_some, option_map};
+ghost use Rattle.std.specs.Prelude.{◌≡◌, ℕ, ◌<◌, ◌+◌, ◌*◌, ◌/◌, ◌%◌, ◌^◌, ◌-◌, ◌≤◌, ◌↔◌, IsTrue, IfOk, IfSome, MatchOption, length, slice_get, false, Some, is_some, option_map};
 ghost use Rattle.std.specs.Option.{option_copied};
 ghost use Rattle.lwkt_base.specs.declared.asks.Ask.TheVariants.{Exit};
 ghost use Rattle.lwkt_verdict.specs.Parts.{after_all, GoesQuietly};
 ghost use Rattle.lwkt_verdict.specs.Threads.{plan_of_thread, line_of};
-ghost use Rattle.lwkt_verdict.specs.Follow.{Follow, Begins, GoesOnByPoll, GoesOnUnasked, EndsHere, AreThreads};
-ghost use Rattle.lwkt_verdict.specs.Followed.{unpolled, IsPolled, IsKept, MayRest, IsEnded, AllThreads, KeepsPlans, AreKept, MayAllRest};
+ghost use Rattle.lwkt_verdict.specs.Follow.{Follow, Begins, GoesOnByPoll, DeclinesPoll, GoesOnUnasked, DeclinesUnasked, EndsHere, DeclinesEnd, AreThreads};
+ghost use Rattle.lwkt_verdict.specs.Followed.{unpolled, IsPolled, MayBePolled, IsKept, MayRest, IsEnded, MayEnd, AllThreads, KeepsPlans, AreKept, MayAllRest, AllowAllRest, OneMayNotRest};
 
 use crate::asks::is_same;
 use crate::followed::Followed;
 use crate::parts::{are_of, goes_quietly};
-use crate::plans::{THREAD_LIMIT, find_line, find_thread};
+use crate::plans::{find_line, find_thread};
 use crate::rounds::are_listed;
+use lwkt_base::limits::MACHINE_THREADS;
 use lwkt_base::memory::{push, with_capacity};
-use lwkt_base::{Answer, Ask, OutOfMemory, ThreadId};
+use lwkt_base::{Answer, Ask, OutOfMemory, ThreadId, ThreadLine};
 use lwkt_core::{Event, State};
-use lwkt_report::ThreadLine;
 use lwkt_script::ThreadSpec;
 use std::alloc::Global;
 use std::marker::Model;
@@ -24,8 +24,7 @@ use std::marker::Model;
 /// polled, what it asked last, which answers that can have, and the first 32 entries of its log; and beside the threads the machine that
 /// the trace so far leads to.
 ///
-/// What it says of a turn holds for each of these answers. It may say no of a run of the script: of an ask to write that is refused
-/// although the events of its turn have the write that it asks for.
+/// What it says of a turn holds for each of these answers. It says no exactly of a turn that fits none of the turns before it.
 #[derive(Drop)]
 pub struct Follower<'p> {
     plans: &'p [ThreadSpec],
@@ -77,8 +76,8 @@ fn unpolled_threads<'p>(
 ) -> Result<Vec<Followed<'p>>, OutOfMemory>
     ensures { IfOk result (λ table. (length table.items ≡ 128) × AllThreads (λ k t. t ≡ unpolled (plan_of_thread (k / 16) (k % 16) plans.now)) table.items) }
 {
-    let mut table = with_capacity(alloc, THREAD_LIMIT)?;
-    for slot in 0..THREAD_LIMIT {
+    let mut table = with_capacity(alloc, MACHINE_THREADS)?;
+    for slot in 0..MACHINE_THREADS {
         push(
             &mut table,
             Followed::unpolled(alloc, thread_at(plans, slot)),
@@ -100,6 +99,7 @@ fn asks<'p>(
     requires end { end.now ≡ Exit }
     ensures plan { followed.new.plan ≡ followed.old.plan }
     ensures polled { IfOk result (λ yes. IsTrue yes → IsPolled state.old told.now asked.now part.now followed.old followed.new) }
+    ensures declines { IfOk result (λ yes. yes ≡ false → ¬ MayBePolled state.old told.now asked.now part.now followed.old) }
     ensures moved { IfOk result (λ yes. IsTrue yes → state.new ≡ after_all state.old part.now) }
 {
     if !followed.hear(told)? {
@@ -118,6 +118,8 @@ fn all_rest(table: &mut [Followed<'_>], cpu: usize) -> bool
     ensures plans { KeepsPlans table.old table.new }
     ensures kept { IsTrue result → AreKept table.old table.new }
     ensures rests { IsTrue result → MayAllRest cpu table.old table.new }
+    ensures allows { IsTrue result → AllowAllRest cpu table.old table.new }
+    ensures declines { result ≡ false → OneMayNotRest cpu table.old }
 {
     for n in 0..16 {
         if !table[16 * cpu + n].rest() {
@@ -130,9 +132,10 @@ fn all_rest(table: &mut [Followed<'_>], cpu: usize) -> bool
 // Whether each thread ends as its line says.
 fn all_end(table: &[Followed<'_>], lines: &[ThreadLine]) -> bool
     requires room { length table.now ≡ 128 }
-    ensures { IsTrue result → AllThreads (λ k t. IsEnded t (line_of k lines.now)) table.now }
+    ensures ends { IsTrue result → AllThreads (λ k t. IsEnded t (line_of k lines.now)) table.now }
+    ensures declines { result ≡ false → ¬ AllThreads (λ k t. MayEnd t (line_of k lines.now)) table.now }
 {
-    for slot in 0..THREAD_LIMIT {
+    for slot in 0..MACHINE_THREADS {
         if !table[slot].ends_as(line_at(lines, slot)) {
             return false;
         }
@@ -175,7 +178,8 @@ impl<'p> Follower<'p> {
         part: &[Event],
     ) -> Result<bool, OutOfMemory>
         requires processor { cpu < 8 }
-        ensures { IfOk result (λ yes. IsTrue yes → GoesOnByPoll cpu thread told.now asked.now part.now self.old self.new) }
+        ensures goes { IfOk result (λ yes. IsTrue yes → GoesOnByPoll cpu thread told.now asked.now part.now self.old self.new) }
+        ensures declines { IfOk result (λ yes. yes ≡ false → DeclinesPoll cpu thread told.now asked.now part.now self.old) }
     {
         if usize::from(thread.cpu.0) != cpu || thread.thread >= 16 || !are_of(cpu, part) {
             return Ok(false);
@@ -195,7 +199,8 @@ impl<'p> Follower<'p> {
     /// check goes on by it; else nothing follows from the check any more.
     pub fn rest(&mut self, cpu: usize, part: &[Event]) -> bool
         requires processor { cpu < 8 }
-        ensures { IsTrue result → GoesOnUnasked cpu part.now self.old self.new }
+        ensures goes { IsTrue result → GoesOnUnasked cpu part.now self.old self.new }
+        ensures declines { result ≡ false → DeclinesUnasked cpu part.now self.old }
     {
         if !are_of(cpu, part) {
             return false;
@@ -209,6 +214,7 @@ impl<'p> Follower<'p> {
     /// Whether the run ends here as these lines say, with these events of the stop. If so, the machine that they lead to.
     pub fn ends(self, lines: &[ThreadLine], stop: &[Event]) -> Option<State>
         ensures ends { IfSome result (λ state. EndsHere self.entry lines.now stop.now) }
+        ensures declines { is_some result ≡ false → DeclinesEnd self.entry lines.now stop.now }
         ensures moved { IfSome result (λ state. state ≡ after_all self.entry.machine stop.now) }
     {
         if !are_listed(self.state.cpus(), lines) || !all_end(self.table.as_slice(), lines) {

@@ -2,24 +2,25 @@
 ghost use Rattle.std.specs.Prelude.{◌≡◌, ℕ, ◌<◌, ◌+◌, ◌^◌, ◌-◌, ◌↔◌, ◌≤◌, IsTrue, true, false, length, max, Option, Some, None, is_some, MatchOption, IfOk, IfSome, OnOk, option_map};
 ghost use Rattle.std.specs.Option.{option_copied, option_map_or};
 ghost use Rattle.lwkt_base.specs.declared.asks.Ask.TheVariants.{Exit};
-ghost use Rattle.lwkt_verdict.specs.Asks.{entry_of};
+ghost use Rattle.lwkt_script.specs.Logs.{entry_of};
 ghost use Rattle.lwkt_verdict.specs.Threads.{ask_at, may_end};
 ghost use Rattle.lwkt_verdict.specs.Follow.{Awaited, Known, is_expected, come};
-ghost use Rattle.lwkt_verdict.specs.Followed.{count_of, unpolled, log_with, Hears, Asks, IsKept, MayRest, IsEnded};
-ghost use Rattle.lwkt_verdict.specs.Parts.{after_all};
+ghost use Rattle.lwkt_base.specs.declared.asks.Ask.{Ask};
+ghost use Rattle.lwkt_verdict.specs.Followed.{count_of, unpolled, log_with, Hears, Asks, MayHear, MayAskNext, IsKept, MayRest, AllowsRest, MayNotRest, IsEnded, MayEnd};
+ghost use Rattle.lwkt_verdict.specs.Parts.{after_all, IsPartOf};
 
-use crate::asks::{entry_of, may_answer};
+use crate::asks::may_answer;
 use crate::expected::Expected;
 use crate::owns::has_blocked;
 use crate::parts::goes_by_ask;
 use crate::plans::ask_at;
-use crate::progress::{LOG_LIMIT, is_same, may_end_after};
+use crate::progress::{is_same, may_end_after};
 use crate::spots::Spot;
+use lwkt_base::limits::LOG_LIMIT;
 use lwkt_base::memory::push;
-use lwkt_base::{Answer, Ask, Entry, OutOfMemory, ThreadState};
+use lwkt_base::{Answer, Ask, Entry, OutOfMemory, ThreadLine, ThreadState};
 use lwkt_core::{Event, State};
-use lwkt_report::ThreadLine;
-use lwkt_script::ThreadSpec;
+use lwkt_script::{ThreadSpec, entry_of};
 use std::alloc::Global;
 use std::marker::Model;
 
@@ -105,7 +106,7 @@ fn note(log: &mut Vec<Entry>, ask: &Ask, told: &Answer) -> Result<(), OutOfMemor
 // Whether two logs are one, where they are as long.
 fn are_same_below(log: &[Entry], other: &[Entry]) -> bool
     requires long { length log.now ≡ length other.now }
-    ensures { IsTrue result → log.now ≡ other.now }
+    ensures { IsTrue result ↔ (log.now ≡ other.now) }
 {
     for at in 0..log.len() {
         if !is_same(&log[at], &other[at]) {
@@ -117,7 +118,7 @@ fn are_same_below(log: &[Entry], other: &[Entry]) -> bool
 
 // Whether two logs are one.
 fn are_same(log: &[Entry], other: &[Entry]) -> bool
-    ensures { IsTrue result → log.now ≡ other.now }
+    ensures { IsTrue result ↔ (log.now ≡ other.now) }
 {
     log.len() == other.len() && are_same_below(log, other)
 }
@@ -155,6 +156,7 @@ impl<'p> Followed<'p> {
         ensures plan { self.new.plan ≡ self.old.plan }
         ensures few { length self.old.log ≤ 32 }
         ensures heard { IfOk result (λ yes. IsTrue yes → Hears told.now self.old self.new) }
+        ensures declines { IfOk result (λ yes. yes ≡ false → ¬ MayHear told.now self.old) }
     {
         let Some(ask) = self.last else {
             return Ok(true);
@@ -172,6 +174,7 @@ impl<'p> Followed<'p> {
         requires end { end.now ≡ Exit }
         ensures asks { IfSome (option_copied result) (λ ask. MatchOption self.now.plan ⊥ (λ plan. ask_at plan self.now.polls ≡ Some ask)) }
         ensures few { is_some result ≡ true → self.now.polls < 2 ^ 64 - 1 }
+        ensures none { is_some result ≡ false → self.now.polls < 2 ^ 64 - 1 → (asked : Ask) → ¬ MayAskNext asked self.now }
     {
         if self.polls == u64::MAX {
             return None;
@@ -188,6 +191,7 @@ impl<'p> Followed<'p> {
         requires few { self.old.polls < 2 ^ 64 - 1 }
         ensures plan { self.new.plan ≡ self.old.plan }
         ensures asked { IsTrue result → Asks state.old ask.now part.now self.old self.new }
+        ensures declines { result ≡ false → ¬ IsPartOf state.old ask.now None part.now }
         ensures moved { IsTrue result → state.new ≡ after_all state.old part.now }
     {
         if !goes_by_ask(state, ask, part, &mut self.expected) {
@@ -205,6 +209,8 @@ impl<'p> Followed<'p> {
         ensures plan { self.new.plan ≡ self.old.plan }
         ensures kept { IsTrue result → IsKept self.old self.new }
         ensures rests { IsTrue result → MayRest self.old self.new }
+        ensures allows { IsTrue result → AllowsRest self.old self.new }
+        ensures declines { result ≡ false → MayNotRest self.old }
     {
         if self.plan.is_none() {
             return true;
@@ -217,7 +223,8 @@ impl<'p> Followed<'p> {
 
     /// Whether the thread, if it is there, ends as its line says, if there is one.
     pub fn ends_as(&self, line: Option<&ThreadLine>) -> bool
-        ensures { IsTrue result → IsEnded self.now (option_copied line.entry) }
+        ensures ends { IsTrue result → IsEnded self.now (option_copied line.entry) }
+        ensures declines { result ≡ false → ¬ MayEnd self.now (option_copied line.entry) }
     {
         match (self.plan, line) {
             (None, None) => true,

@@ -22,7 +22,6 @@ mod rounds;
 mod spots;
 pub mod turns;
 
-pub use asks::entry_of;
 pub use follow::Follower;
 pub use rounds::are_processors;
 pub use turns::{Pace, Poll, Turn};

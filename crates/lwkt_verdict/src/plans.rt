@@ -2,15 +2,13 @@ ghost use Rattle.std.specs.Prelude.{◌≡◌, ◌<◌, ◌^◌, Some, None, if�
 ghost use Rattle.std.specs.Option.{option_copied};
 ghost use Rattle.lwkt_base.specs.declared.asks.Ask.TheVariants.{Exit};
 ghost use Rattle.lwkt_verdict.specs.Spots.{spot_at};
-ghost use Rattle.lwkt_verdict.specs.Threads.{plan_of_thread, line_of, slot_of, ask_in, ask_at};
+ghost use Rattle.lwkt_script.specs.Logs.{nth_ask};
+ghost use Rattle.lwkt_verdict.specs.Threads.{plan_of_thread, line_of, slot_of, ask_at};
 
 use crate::spots::Spot;
-use lwkt_base::{Ask, ThreadId};
-use lwkt_report::ThreadLine;
+use lwkt_base::limits::MACHINE_THREADS;
+use lwkt_base::{Ask, ThreadId, ThreadLine};
 use lwkt_script::ThreadSpec;
-
-/// How many threads there can be: 16 for each of 8 processors.
-pub const THREAD_LIMIT: usize = 128;
 
 /// A thread's number among those of all processors, 16 for each.
 pub fn slot_of(id: ThreadId) -> usize
@@ -34,7 +32,7 @@ fn end_if(next: bool, end: &Ask) -> Option<&Ask>
 fn ask_in<'p>(repeat: u64, steps: &'p [Ask], k: u64, spot: Spot, end: &'p Ask) -> Option<&'p Ask>
     requires spot { 0 < length steps.now → spot ≡ spot_at (length steps.now) k }
     requires end { end.now ≡ Exit }
-    ensures { option_copied result ≡ ask_in repeat steps.now k }
+    ensures { option_copied result ≡ nth_ask repeat steps.now k }
 {
     if steps.is_empty() {
         return end_if(k == 0, end);

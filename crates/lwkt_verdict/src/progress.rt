@@ -4,14 +4,12 @@ ghost use Rattle.lwkt_verdict.specs.Threads.{may_fault, may_end_after};
 
 use crate::asks::{is_exit, may_block, may_wait};
 use crate::turns::Poll;
+use lwkt_base::limits::LOG_LIMIT;
 use lwkt_base::{Answer, Ask, Blob, Entry, ThreadState};
-
-/// The most entries of a log.
-pub const LOG_LIMIT: usize = 32;
 
 /// An ask of a thread, its answer, if it has one, and whether its part of the trace shows that it blocked the thread. Only proofs have
 /// values of it.
-#[derive(Clone, Copy, Debug, PartialEq, Eq)]
+#[derive(Clone, Copy, PartialEq, Eq)]
 pub struct Asked {
     /// What the thread asked.
     pub ask: Ask,
@@ -22,7 +20,7 @@ pub struct Asked {
 }
 
 /// How far a thread has come. Only proofs have values of it.
-#[derive(Clone, Copy, Debug, PartialEq, Eq)]
+#[derive(Clone, Copy, PartialEq, Eq)]
 pub struct Progress {
     /// How many times it was polled.
     pub polls: u64,
@@ -33,7 +31,7 @@ pub struct Progress {
 }
 
 /// What a turn was. Only proofs have values of it.
-#[derive(Clone, Copy, Debug, PartialEq, Eq)]
+#[derive(Clone, Copy, PartialEq, Eq)]
 pub struct Piece {
     /// The poll that was made in it, if one was.
     pub poll: Option<Poll>,

@@ -3,7 +3,7 @@ ghost use Rattle.lwkt_verdict.specs.Threads.{slot_of};
 ghost use Rattle.lwkt_verdict.specs.Run.{AreListed};
 
 use crate::plans::slot_of;
-use lwkt_report::ThreadLine;
+use lwkt_base::ThreadLine;
 
 // Whether a line is of a thread that can be, and comes after those before it.
 fn is_listed(cpus: usize, least: usize, line: &ThreadLine) -> bool

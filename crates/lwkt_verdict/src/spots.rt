@@ -5,7 +5,7 @@ ghost use Rattle.std.specs.Prelude.{◌≡◌, ℕ, ◌<◌, ◌+◌, ◌^◌};
 ghost use Rattle.lwkt_verdict.specs.Spots.{spot_at};
 
 /// Where an ask stands of a thread that makes its steps over and over.
-#[derive(Clone, Copy, Debug, PartialEq, Eq)]
+#[derive(Clone, Copy, PartialEq, Eq)]
 pub struct Spot {
     /// How many times the thread has made all its steps before, 0 to 18446744073709551615.
     pub rounds: u64,

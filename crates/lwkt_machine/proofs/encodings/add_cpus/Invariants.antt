@@ -1,5 +1,5 @@
 use Rattle.std.proofs.Common.{◌≡◌, map}
 use Rattle.lwkt_machine.proofs.encodings.add_cpus.Given as goal
 
-abbrev pub invariant-loop-cpu : goal.invariant-loop-cpu
-invariant-loop-cpu l = l.seats.items ≡ map (λ p. p.post.seat) l.yielded
+abbrev pub invariant-loop-driven : goal.invariant-loop-driven
+invariant-loop-driven l = l.seats.items ≡ map (λ d. d.cpu.post.seat) l.yielded

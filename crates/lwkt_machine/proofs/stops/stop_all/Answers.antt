@@ -1,58 +1,57 @@
-use Rattle.std.proofs.Common.{◌≡◌, ◌<◌, List, sym, refl, subst, set, get_or, length, arith, Some}
+use Rattle.std.proofs.Common.{◌≡◌, ◌<◌, length, get_or, set, refl, arith, Some}
 use Rattle.std.specs.Prelude.{slice_get}
-use Rattle.std.proofs.lemmas.Option.{slice_get-get_or, slice_get_within}
+use Rattle.std.proofs.lemmas.List.Elements.{All-set}
+use Rattle.std.proofs.lemmas.Option.{slice_get-get_or}
 use Rattle.lwkt_bank.specs.Seats.{id_of}
-use Rattle.lwkt_port.proofs.Chaining.{chain_none, chain_more}
-use Rattle.lwkt_cpu.specs.Processors.{Processor}
-use Rattle.lwkt_machine.specs.Bodies.{Scripted}
-use Rattle.lwkt_machine.specs.Ended.{AreStoppedShort, Stage, stage, StopsCpu}
-use Rattle.lwkt_machine.proofs.StopMoves.{same_none, same_set, same_of, on_err, set_same, over_more}
+use Rattle.lwkt_drive.specs.Course.{IsAtTables}
+use Rattle.lwkt_machine.specs.Ended.{AreStoppedShort}
+use Rattle.lwkt_machine.specs.Machines.{Lasts, processors}
+use Rattle.lwkt_machine.proofs.SameMoves.{on_err, same_none}
+use Rattle.lwkt_machine.proofs.StopMoves.{stopped_more, stopped_none, stopped_same}
 use Rattle.lwkt_machine.proofs.stops.stop_all.Goals as goal
 
-pub loop-at-init : goal.loop-at-init
-loop-at-init c = record {
-  stopped = chain_none Stage StopsCpu (stage c.args.cpus.now c.args.trace.now);
-  same = same_none c.args.cpus.now;
-  over = λ k p less at. absurd (omega (arith, less));
+pub loop-number-init : goal.loop-number-init
+loop-number-init g c = record {
+  at = c.requires.at;
+  kept = c.requires.kept;
+  same = same_none (processors {B = g.row.B.Denot} c.args.cpus.now);
+  so_far = stopped_none {B = g.row.B.Denot} c.args.cpus.now;
 }
 
-pub stop_one-requires : goal.stop_one-requires
-stop_one-requires c =
-    let l = c.loop-at in
-    let d = c.index-cpus-at.result in
-    let within : l.at < length l.cpus = omega (arith, c.loop-at-test.true, l.auto.cpus) in
-    same_of (id_of c.args.bank.now) c.args.book.now c.args.cpus.now l.cpus l.at (get_or l.cpus l.at d) (slice_get-get_or l.cpus l.at d within) l.invariant.same c.requires.of
-
 pub returns-in_err-stop_one-clause-err : goal.returns-in_err-stop_one-clause-err
-returns-in_err-stop_one-clause-err c =
-    let l = c.loop-at in
-    let d = c.index-cpus-at.result in
-    let within : l.at < length l.cpus = omega (arith, c.loop-at-test.true, l.auto.cpus) in
-    let p = get_or l.cpus l.at d in
-    let q = c.stop_one.new.cpu in
-    let same = c.in_err-stop_one.ensures.err in
-    let still = set_same l.cpus l.at p q (slice_get-get_or l.cpus l.at d within) same.0 in
-    let F : List (Processor Scripted) → Type 0 = λ xs. AreStoppedShort c.args.cpus.now xs c.args.trace.now c.stop_one.new.trace in
-    on_err c.from_residual.result (AreStoppedShort c.args.cpus.now (set l.cpus l.at q) c.args.trace.now c.stop_one.new.trace)
-    (subst F (sym still) (l.at, (l.trace, (l.invariant.stopped, same.1.0))))
+returns-in_err-stop_one-clause-err g c =
+    let l = c.loop-number in
+    let d = c.index-cpus-number.result in
+    let within : l.number < length l.cpus = omega (arith, c.loop-number-test.true, l.auto.cpus) in
+    let p = get_or l.cpus l.number d in
+    let q = c.stop_one.new.driven in
+    let is : slice_get l.cpus l.number ≡ Some p = slice_get-get_or l.cpus l.number d within in
+    on_err c.from_residual.result (AreStoppedShort {B = g.row.B.Denot} c.args.cpus.now (set l.cpus l.number q))
+    (record {
+      count = l.number;
+      mids = l.cpus;
+      stopped = l.invariant.so_far;
+      stays = record { before = p; now = q; at_before = is; does = c.in_err-stop_one.ensures.err; cpus = refl };
+    })
 
-pub loop-at-preserved : goal.loop-at-preserved
-loop-at-preserved c =
-    let l = c.loop-at in
-    let d = c.index-cpus-at.result in
-    let within : l.at < length l.cpus = omega (arith, c.loop-at-test.true, l.auto.cpus) in
-    let p = get_or l.cpus l.at d in
-    let q = c.stop_one.new.cpu in
-    let is : slice_get l.cpus l.at ≡ Some p = slice_get-get_or l.cpus l.at d within in
-    let stops = c.in_ok-stop_one.ensures.ok in
-    let ran = c.stop_one.ensures.ran in
+pub returns-in_err-stop_one-clause-same : goal.returns-in_err-stop_one-clause-same
+returns-in_err-stop_one-clause-same g c =
+    let l = c.loop-number in
+    let d = c.index-cpus-number.result in
+    let within : l.number < length l.cpus = omega (arith, c.loop-number-test.true, l.auto.cpus) in
+    stopped_same c.args.cpus.now l.cpus l.number (get_or l.cpus l.number d) c.stop_one.new.driven within (slice_get-get_or l.cpus l.number d within) c.stop_one.ensures.same l.invariant.same
+
+pub loop-number-preserved : goal.loop-number-preserved
+loop-number-preserved g c =
+    let l = c.loop-number in
+    let d = c.index-cpus-number.result in
+    let within : l.number < length l.cpus = omega (arith, c.loop-number-test.true, l.auto.cpus) in
+    let p = get_or l.cpus l.number d in
+    let q = c.stop_one.new.driven in
+    let is : slice_get l.cpus l.number ≡ Some p = slice_get-get_or l.cpus l.number d within in
     record {
-      stopped = chain_more Stage StopsCpu l.at (stage c.args.cpus.now c.args.trace.now) (stage l.cpus l.trace) (stage (set l.cpus l.at q) c.stop_one.new.trace) l.invariant.stopped (p, (q, (is, record { stops = stops; most = 258; ran = ran; told = c.stop_one.ensures.told }, refl)));
-      same = same_set c.args.cpus.now l.cpus l.at p q within is (record { bank = ran.bank; table = c.stop_one.ensures.told.same.table; number = ran.cpu; ports = c.stop_one.ensures.same }) l.invariant.same;
-      over = over_more l.cpus l.at q within stops.over l.invariant.over;
+      at = All-set (IsAtTables {B = g.row.B.Denot} (id_of c.args.bank.now) c.args.book.now.table) l.cpus l.number q c.stop_one.ensures.at l.invariant.at;
+      kept = All-set (Lasts {B = g.row.B.Denot} g.B.Lasting.kept) l.cpus l.number q c.stop_one.ensures.kept l.invariant.kept;
+      same = stopped_same c.args.cpus.now l.cpus l.number p q within is c.stop_one.ensures.same l.invariant.same;
+      so_far = stopped_more {B = g.row.B.Denot} c.args.cpus.now l.cpus l.number p q within is c.in_ok-stop_one.ensures.ok l.invariant.so_far;
     }
-
-pub returns-clause-over : goal.returns-clause-over
-returns-clause-over c =
-    let l = c.loop-at in
-    λ k p at. l.invariant.over k p (omega (arith, slice_get_within l.cpus k p at, c.loop-at-test.false, l.auto.cpus)) at

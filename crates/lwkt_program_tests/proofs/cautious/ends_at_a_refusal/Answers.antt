@@ -1,7 +1,7 @@
 use Rattle.std.proofs.Common.{Option, ap}
 use Rattle.lwkt_base.specs.declared.asks.Ask.{Ask}
 use Rattle.lwkt_base.specs.declared.asks.Answer.TheVariants.{Refused}
-use Rattle.lwkt_program.specs.Steps.{told_of}
+use Rattle.lwkt_machine.specs.Steps.{told_of}
 use Rattle.lwkt_program_tests.proofs.cautious.ends_at_a_refusal.Goals as goal
 
 pub returns : goal.returns

@@ -3,7 +3,7 @@ use Rattle.lwkt_bank.specs.Seats.{BankId}
 use Rattle.lwkt_core.specs.declared.events.Event.{Event}
 use Rattle.lwkt_core.specs.Machine.{Machine}
 use Rattle.lwkt_verdict.specs.Follow.{Begins}
-use Rattle.lwkt_run.specs.Checked.{EndsSo}
+use Rattle.lwkt_run.specs.Checked.{EndsSo, DeclinesSo}
 use Rattle.lwkt_run.specs.Driving.{Stand, stand}
 use Rattle.lwkt_run.proofs.CheckedMoves.{Closes, KeepsAll, keeps_all, within_machine, leaves_checked, saying}
 use Rattle.lwkt_run.proofs.IdMoves.{opened_has}
@@ -47,24 +47,26 @@ returns-clause-leaves g c =
     let script = c.args.script.now in
     let opened = c.in_ok-machine in
     let follower = c.in_ok-follower in
-    let left = c.in_ok-left in
+    let told = c.in_ok-left in
+    let left = told.field-0.left in
+    let stops = told.field-0.stops.items in
     let s : Stand = stand opened.machine (g.K.Keeper.kept c.args.keeper) 0 follower.follower in
     let n = c.drive.new in
     let t : Stand = stand n.machine (g.K.Keeper.kept n.keeper) n.events n.follower in
     let B : Machine → Type 0 = λ m. Begins script.threads m follower.follower in
-    let closes : Closes script s t left.left c.clear.new.self c.left_by.new.trace = record {
+    let closes : Closes script s t left stops = record {
       opens = opened.ensures.ok;
       within = opened.ensures.within;
       lawful = opened.ensures.lawful;
-      values = left.ensures.values;
-      ids = left.ensures.threads;
-      shown = left.ensures.shown;
-      empty = c.clear.ensures.items;
-      leaves = left.ensures.leaves;
+      values = told.ensures.values;
+      ids = told.ensures.threads;
+      shown = told.ensures.shown;
+      leaves = told.ensures.leaves.0;
       begins = subst B c.in_ok-opening.ensures.ok follower.ensures.begins;
       fresh = c.requires.fresh;
       uncounted = refl;
     } in
-    let E : List Event → Type 0 = λ es. EndsSo n.follower left.left es in
-    let said = saying c.verdict_of-verdict.result c.is_followed-follows.result n.events E c.as_slice.result.now c.left_by.new.trace.items c.as_slice.ensures.value c.verdict_of-verdict.ensures in
-    leaves_checked script c.args.course c.in_ok-fits.fits c.is_followed-follows.result s t left.left c.clear.new.self c.left_by.new.trace c.verdict_of-verdict.result c.requires.course closes c.in_ok-fits.ensures.ok c.is_followed-follows.ensures said
+    let E : List Event → Type 0 = λ es. EndsSo n.follower left es in
+    let D : List Event → Type 0 = λ es. DeclinesSo n.follower left es in
+    let said = saying c.verdict_of-verdict.result c.is_followed-follows.result n.events E D c.as_slice.result.now stops c.as_slice.ensures.value c.verdict_of-verdict.ensures in
+    leaves_checked script c.args.course c.in_ok-fits.fits c.is_followed-follows.result s t left stops c.verdict_of-verdict.result c.drive.ensures.short c.requires.course closes c.in_ok-fits.ensures.ok c.is_followed-follows.ensures said

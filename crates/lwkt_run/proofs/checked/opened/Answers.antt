@@ -1,8 +1,8 @@
 use Rattle.std.proofs.Common.{rules}
 use Rattle.std.proofs.lemmas.Result.{IfErr-weaker}
 use Rattle.std.specs.Prelude.{IfErr}
-use Rattle.lwkt_seating.specs.Opened.{DeclinesTables}
-use Rattle.lwkt_machine.proofs.OpenMoves.{declines_more}
+use Rattle.lwkt_machine.specs.Opened.{DeclinesTables}
+use Rattle.lwkt_machine.proofs.ScriptMoves.{declines_more}
 use Rattle.lwkt_run.specs.Run.{DeclinesRun}
 use Rattle.lwkt_run.proofs.checked.opened.Goals as goal
 

@@ -2,7 +2,7 @@ use Rattle.std.proofs.Common.{◌∷◌, [], List, sym, subst}
 use Rattle.std.specs.Prelude.{All}
 use Rattle.std.proofs.lemmas.List.Elements.{All-append, All-cons, All-nil}
 use Rattle.lwkt_machine.specs.declared.standings.Standing.{Standing}
-use Rattle.lwkt_report.specs.declared.closings.ThreadLine.{ThreadLine}
+use Rattle.lwkt_base.specs.declared.threads.ThreadLine.{ThreadLine}
 use Rattle.lwkt_run.specs.Running.{IsLogOf}
 use Rattle.lwkt_run.proofs.IdMoves.{shown_more}
 use Rattle.lwkt_run.proofs.endings.thread_lines.Goals as goal

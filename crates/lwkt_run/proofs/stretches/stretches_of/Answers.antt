@@ -1,9 +1,9 @@
 use Rattle.std.proofs.Common.{◌≡◌, ◌∙◌, List, [], ◌++◌, ap, sym, subst}
 use Rattle.lwkt_base.specs.declared.sections.Section.{Section}
 use Rattle.lwkt_core.specs.RunSections.{sections_told}
-use Rattle.lwkt_events.specs.declared.stretches.Stretch.{Stretch}
-use Rattle.lwkt_events.specs.Stretches.{StandFor}
-use Rattle.lwkt_events.proofs.StretchMoves.{none}
+use Rattle.lwkt_drive.specs.declared.stretches.Stretch.{Stretch}
+use Rattle.lwkt_drive.specs.Stretches.{StandFor}
+use Rattle.lwkt_drive.proofs.StretchMoves.{none}
 use Rattle.lwkt_run.specs.Telling.{sections_of_all}
 use Rattle.lwkt_run.proofs.StretchLemmas.{stand_both}
 use Rattle.lwkt_run.proofs.stretches.stretches_of.Goals as goal

@@ -2,9 +2,9 @@ use Rattle.std.proofs.Common.{◌≡◌, ◌∙◌, ℕ, ◌+◌, ◌<◌, List,
 use Rattle.std.specs.Prelude.{IfOk}
 use Rattle.lwkt_base.specs.declared.sections.Section.{Section}
 use Rattle.lwkt_core.specs.RunSections.{sections_told}
-use Rattle.lwkt_events.specs.ShortEvents.{KeptTrace}
-use Rattle.lwkt_events.specs.declared.stretches.Stretch.{Stretch}
-use Rattle.lwkt_events.specs.Stretches.{StandFor}
+use Rattle.lwkt_drive.specs.ShortEvents.{KeptTrace}
+use Rattle.lwkt_drive.specs.declared.stretches.Stretch.{Stretch}
+use Rattle.lwkt_drive.specs.Stretches.{StandFor}
 use Rattle.lwkt_run.proofs.StretchLemmas.{stand_both, traces_more}
 use Rattle.lwkt_run.proofs.stretches.stretches_of_traces.Goals as goal
 

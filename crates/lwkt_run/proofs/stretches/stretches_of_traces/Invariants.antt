@@ -1,6 +1,6 @@
 use Rattle.std.proofs.Common.{flat_map, take}
 use Rattle.lwkt_core.specs.RunSections.{sections_told}
-use Rattle.lwkt_events.specs.Stretches.{StandFor}
+use Rattle.lwkt_drive.specs.Stretches.{StandFor}
 use Rattle.lwkt_run.proofs.stretches.stretches_of_traces.Given as goal
 
 abbrev pub invariant-loop-at : goal.invariant-loop-at

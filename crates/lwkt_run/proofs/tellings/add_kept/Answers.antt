@@ -4,8 +4,8 @@ use Rattle.std.specs.declared.alloc.Global.{Global}
 use Rattle.lwkt_base.specs.declared.sections.Section.{Section}
 use Rattle.lwkt_core.specs.declared.events.Event.{Event}
 use Rattle.lwkt_core.specs.RunSections.{sections_told}
-use Rattle.lwkt_events.specs.declared.gives.Give.{Give}
-use Rattle.lwkt_events.specs.Gives.{give_of}
+use Rattle.lwkt_drive.specs.declared.gives.Give.{Give}
+use Rattle.lwkt_drive.specs.Gives.{give_of}
 use Rattle.lwkt_run.proofs.GatherMoves.{none_more, one_more}
 use Rattle.lwkt_run.proofs.tellings.add_kept.Goals as goal
 use Rattle.lwkt_run.proofs.tellings.add_kept.Goals.{in-Some+in_ok-push, in_default}

@@ -1,6 +1,6 @@
 use Rattle.std.proofs.Common.{subst, sym, IfOk, string_bytes, option_copied}
-use Rattle.lwkt_scenes.specs.Lines.{AreLinesOf}
-use Rattle.lwkt_show.specs.Showing.{chosen_by, ShowsBy}
+use Rattle.lwkt_show.specs.Lines.{AreLinesOf}
+use Rattle.lwkt_show.specs.Showing.{ShowsBy}
 use Rattle.lwkt_show.proofs.shows.text_of.Goals as goal
 
 pub returns-in-Lines : goal.returns-in-Lines
@@ -9,7 +9,6 @@ returns-in-Lines c =
     let script = c.args.script.now in
     let order = option_copied c.args.order in
     let answer = c.lines_of.result in
-    let chose = subst (λ ch. IfOk answer (λ text. AreLinesOf ch order script.cpus c.deref-2.result.now c.deref-3.result.now run.closing (string_bytes text))) c.chosen_of-chosen.ensures c.lines_of.ensures.lines in
-    let polled = subst (λ ps. IfOk answer (λ text. AreLinesOf (chosen_by c.args.options) order script.cpus ps c.deref-3.result.now run.closing (string_bytes text))) c.deref-2.ensures.value chose in
-    let turned = subst (λ ts. IfOk answer (λ text. AreLinesOf (chosen_by c.args.options) order script.cpus run.polls.items ts run.closing (string_bytes text))) c.deref-3.ensures.value polled in
+    let polled = subst (λ ps. IfOk answer (λ text. AreLinesOf c.args.options order script.cpus ps c.deref-3.result.now run.closing (string_bytes text))) c.deref-2.ensures.value c.lines_of.ensures.lines in
+    let turned = subst (λ ts. IfOk answer (λ text. AreLinesOf c.args.options order script.cpus run.polls.items ts run.closing (string_bytes text))) c.deref-3.ensures.value polled in
     record { shows = subst (λ view. IfOk answer (λ text. ShowsBy view c.args.options order script run (string_bytes text))) (sym c.in-Lines.is) turned; refused = c.lines_of.ensures.refused }

@@ -11,7 +11,7 @@ use Rattle.lwkt_machine.proofs.ListMoves.{enumerate_more, some_there}
 use Rattle.lwkt_machine.proofs.standings.Standing.of_processor.Goals as goal
 
 pub loop-thread-preserved : goal.loop-thread-preserved
-loop-thread-preserved c =
+loop-thread-preserved g c =
     let l = c.loop-thread in
     let p = c.args.cpu.now in
     let n = c.args.number in

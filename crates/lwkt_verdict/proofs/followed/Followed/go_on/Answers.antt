@@ -11,5 +11,7 @@ returns-clause-asked c =
     rw (← c.self.view_is) (λ yes. record {
       expected = c.goes_by_ask.new.expected;
       noted = ap K c.has_blocked-self-inside.ensures;
-      makes = c.goes_by_ask.ensures.right c.if-not-goes_by_ask.false;
+      makes = c.goes_by_ask.ensures.makes c.if-not-goes_by_ask.false;
+      expects = c.goes_by_ask.ensures.expects c.if-not-goes_by_ask.false;
+      unblocked = c.goes_by_ask.ensures.unblocked c.if-not-goes_by_ask.false;
     })

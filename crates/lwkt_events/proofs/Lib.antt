@@ -1,4 +1,0 @@
-pub mod BehindMoves
-pub mod EventMoves
-pub mod StretchChains
-pub mod StretchMoves

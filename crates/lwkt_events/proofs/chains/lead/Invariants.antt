@@ -1,6 +1,0 @@
-use Rattle.std.proofs.Common.{take}
-use Rattle.lwkt_events.specs.Stretches.{Lead}
-use Rattle.lwkt_events.proofs.chains.lead.Given as goal
-
-abbrev pub invariant-loop-stretch : goal.invariant-loop-stretch
-invariant-loop-stretch l = Lead l.initial.rows.items (take l.stretch-index l.stretches) l.rows.items

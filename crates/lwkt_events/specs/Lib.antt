@@ -1,3 +1,0 @@
-pub mod Gives
-pub mod ShortEvents
-pub mod Stretches

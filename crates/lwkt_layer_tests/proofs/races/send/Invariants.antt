@@ -1,5 +1,0 @@
-use Rattle.lwkt_layer_tests.specs.Stations.{AreOverSeat}
-use Rattle.lwkt_layer_tests.proofs.races.send.Given as goal
-
-abbrev pub invariant-loop : goal.invariant-loop
-invariant-loop l = AreOverSeat l.book 1 l.ports

@@ -1,4 +1,0 @@
-pub mod Boards
-pub mod Desks
-pub mod HeldLists
-pub mod Stations

@@ -1,6 +1,0 @@
-pub mod AskPartings
-pub mod AskTexts
-pub mod Partings
-pub mod Pieces
-pub mod Rows
-pub mod Splits

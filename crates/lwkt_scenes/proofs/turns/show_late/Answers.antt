@@ -1,5 +1,0 @@
-use Rattle.lwkt_scenes.proofs.Pieces.{joined}
-use Rattle.lwkt_scenes.proofs.turns.show_late.Goals as goal
-
-pub returns : goal.returns
-returns c = joined c.add.ensures c.show_answer.ensures

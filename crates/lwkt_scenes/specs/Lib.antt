@@ -1,4 +1,0 @@
-pub mod Apart
-pub mod Lines
-pub mod Shown
-pub mod Words

@@ -1,3 +1,0 @@
-pub mod ListMoves
-pub mod OpenMoves
-pub mod SeatMoves

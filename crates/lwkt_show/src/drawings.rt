@@ -1,0 +1,279 @@
+//! How the parts of a picture are drawn.
+use crate::boxes::show_box;
+use crate::labels::{Label, Tag};
+use crate::layouts::{COLUMN, Layout, ROW, Spot};
+use crate::shapes::{
+    BOLD, Point, VALUE, digits, draw, show_flag, show_line, show_rect, show_ring, show_text_at,
+};
+use crate::sketches::{Bar, Sketch, Stored, TurnBox, Way};
+use crate::words::{mode_word, show_fault};
+use lwkt_base::{Fault, Mode};
+use lwkt_refusals::Page;
+
+// How far right of a round's beginning messages leave and arrive.
+const STALK: usize = 24;
+
+/// The class of a bar.
+pub(crate) fn bar_class(mode: Mode) -> &'static str {
+    match mode {
+        Mode::Exclusive => "full",
+        Mode::Shared => "hatched",
+    }
+}
+
+// Appends what a bar says, and its end.
+fn show_bar_title(out: &mut Page, bar: &Bar) {
+    draw(out, "><title>token @ held ", &[bar.spot.tok]);
+    out.add(mode_word(bar.mode));
+    let numbers = [bar.spot.cpu, bar.spot.round, bar.until];
+    draw(
+        out,
+        " by processor @, rounds @ to @</title></rect>\n",
+        &numbers,
+    );
+}
+
+// Where a bar begins in a band: at the band's edge if it goes on from before.
+fn bar_begin(layout: &Layout, bar: &Bar, band: usize) -> usize {
+    let begin = layout.grid.begin(band);
+    if bar.spot.round < begin {
+        return layout.grid.x(begin);
+    }
+    layout.grid.x(bar.spot.round).saturating_add(2)
+}
+
+// Where a bar ends in a band: at the band's edge if it goes on behind it.
+fn bar_end(layout: &Layout, bar: &Bar, band: usize) -> usize {
+    if bar.until > layout.grid.end(band) {
+        return layout.grid.right(band);
+    }
+    layout.grid.x(bar.until).saturating_add(COLUMN - 2)
+}
+
+// Appends a bar in each band in which it stands.
+fn draw_bar(out: &mut Page, layout: &Layout, bar: &Bar) {
+    let last = layout.grid.band(bar.until);
+    for band in layout.grid.band(bar.spot.round)..last.saturating_add(1) {
+        if let Some(y) = layout.row(band, bar.spot.cpu, bar.spot.tok) {
+            let x = bar_begin(layout, bar, band);
+            let width = bar_end(layout, bar, band).saturating_sub(x);
+            show_rect(out, Point { x, y }, width, ROW - 4, bar_class(bar.mode));
+            show_bar_title(out, bar);
+        }
+    }
+}
+
+// The first digits of a number, so many.
+fn front_of(number: u64, count: usize) -> u64 {
+    let mut rest = number;
+    for _place in 0..digits(number).saturating_sub(count) {
+        rest /= 10;
+    }
+    rest
+}
+
+// Appends a value in so many letters: the cell and its value, or its first digits where it is longer.
+fn show_value(out: &mut Page, stored: &Stored, room: usize) {
+    let before = digits(u64::from(stored.cell)).saturating_add(1);
+    let behind = if stored.more { 2 } else { 0 };
+    let all = before
+        .saturating_add(digits(stored.value))
+        .saturating_add(behind);
+    out.number("", u64::from(stored.cell));
+    out.add(":");
+    let left = room.saturating_sub(before.saturating_add(2));
+    if all <= room {
+        out.number("", stored.value);
+    } else if left > 0 {
+        out.number("", front_of(stored.value, left));
+    }
+    if all > room || stored.more {
+        out.add("..");
+    }
+}
+
+/// Appends a value in so many letters.
+pub(crate) fn show_stored(out: &mut Page, at: Point, stored: &Stored, room: usize) {
+    show_text_at(out, at, VALUE);
+    let numbers = [stored.spot.tok, usize::from(stored.cell)];
+    draw(out, "<title>token @: cell @ is now ", &numbers);
+    out.number("", stored.value);
+    if stored.more {
+        out.add("; further cells are stored in the same turn");
+    }
+    out.add("</title>");
+    show_value(out, stored, room);
+    out.add("</text>\n");
+}
+
+// Appends a value on its token's bar.
+fn draw_value(out: &mut Page, layout: &Layout, stored: &Stored) {
+    let Some(at) = layout.spot(stored.spot) else {
+        return;
+    };
+    let round = stored.spot.round;
+    let behind = layout.grid.end(layout.grid.band(round)).saturating_add(1);
+    let rounds = stored.until.min(behind).saturating_sub(round).max(1);
+    let room = rounds.saturating_mul(COLUMN).saturating_sub(1) / 6;
+    show_stored(out, at.by(2, 9), stored, room);
+}
+
+// Appends a mark in the row of the processor that set it.
+fn draw_mark(out: &mut Page, layout: &Layout, mark: Spot) {
+    let Some(at) = layout.spot(mark) else {
+        return;
+    };
+    let x = at.x.saturating_add(COLUMN / 2);
+    let y = at.y.saturating_sub(2);
+    show_flag(out, Point { x, y });
+    let numbers = [mark.tok, mark.cpu, mark.round];
+    draw(
+        out,
+        "><title>token @ marked by processor @ in round @</title></path>\n",
+        &numbers,
+    );
+}
+
+// How far below two processors' turns a line from the one to the other begins and ends.
+fn sides(cpu: usize, to: usize) -> (usize, usize) {
+    if to > cpu {
+        (ROW, 0)
+    } else if to < cpu {
+        (0, ROW)
+    } else {
+        (ROW + 3, ROW + 3)
+    }
+}
+
+// Where a line between two processors leaves a band or comes into it.
+fn halfway(layout: &Layout, band: usize, cpu: usize, to: usize, x: usize) -> Point {
+    let (down, up) = sides(cpu, to);
+    let from = layout.top(band, cpu).saturating_add(down);
+    let until = layout.top(band, to).saturating_add(up);
+    Point {
+        x,
+        y: from.saturating_add(until) / 2,
+    }
+}
+
+// Appends the lines of a message that arrives at a processor in a round: one, or where it arrives in another band two.
+fn draw_arrow(out: &mut Page, layout: &Layout, way: &Way, cpu: usize, until: usize) {
+    let grid = layout.grid;
+    let (down, up) = sides(way.cpu, cpu);
+    let from = layout.turn(way.since, way.cpu).by(STALK, down);
+    let to = layout.turn(until, cpu).by(STALK, up);
+    let (band, to_band) = (grid.band(way.since), grid.band(until));
+    let begins = way.since >= grid.first;
+    if begins && band == to_band {
+        return show_line(out, from, to, way.look, true);
+    }
+    if begins {
+        let edge = halfway(layout, band, way.cpu, cpu, grid.right(band));
+        show_line(out, from, edge, way.look, false);
+    }
+    let x = grid.x(grid.begin(to_band));
+    let edge = halfway(layout, to_band, way.cpu, cpu, x);
+    show_line(out, edge, to, way.look, true);
+}
+
+// Appends the title of a message on its way.
+fn show_way(out: &mut Page, way: &Way) {
+    out.add("<g><title>");
+    out.add(if way.look.is_urgent { "urgent " } else { "" });
+    out.add(if way.look.is_reply { "reply to " } else { "" });
+    out.number("message ", u64::from(way.msg.0));
+    out.number(", round ", way.round);
+    draw(out, ": from processor @ in round @", &[way.cpu, way.since]);
+    match way.end {
+        Some((cpu, until)) => draw(out, " to processor @ in round @", &[cpu, until]),
+        None => out.add(", not taken"),
+    }
+    out.add("</title>");
+}
+
+// Appends a message on its way.
+fn draw_way(out: &mut Page, layout: &Layout, way: &Way) {
+    show_way(out, way);
+    match way.end {
+        Some((cpu, until)) => draw_arrow(out, layout, way, cpu, until),
+        None => show_ring(out, layout.turn(way.since, way.cpu).by(STALK, ROW)),
+    }
+    out.add("</g>\n");
+}
+
+// Appends the box of a turn.
+fn draw_box(out: &mut Page, layout: &Layout, turn: &TurnBox) {
+    let at = layout.turn(turn.round, turn.cpu);
+    out.add("<g><title>");
+    out.add_line(&turn.line);
+    out.add("</title>");
+    show_box(out, at, turn.content, turn.crossed);
+    out.add("</g>\n");
+}
+
+// Appends a fault in bold, and in words where the pointer rests on it.
+fn show_fault_label(out: &mut Page, at: Point, fault: Fault, ends: bool) {
+    show_text_at(out, at, BOLD);
+    out.add("<title>");
+    out.add(if ends {
+        "a thread ended faulted "
+    } else {
+        "refused "
+    });
+    show_fault(out, fault);
+    out.add("</title>");
+    out.number(if ends { "x" } else { "!" }, u64::from(fault.number()));
+}
+
+// Appends a label above a turn.
+fn draw_label(out: &mut Page, layout: &Layout, label: &Label) {
+    let at = Point {
+        x: label.x,
+        y: layout.label(label.round, label.cpu, label.line),
+    };
+    match label.tag {
+        Tag::Fault(fault, ends) => show_fault_label(out, at, fault, ends),
+        Tag::Mail(msg, round) => {
+            show_text_at(out, at, "");
+            out.number("m", u64::from(msg.0));
+            out.number(" r", round);
+        }
+        Tag::Abort(msg) => {
+            show_text_at(out, at, "");
+            out.number("abort m", u64::from(msg.0));
+        }
+    }
+    out.add("</text>\n");
+}
+
+// Appends messages, replies, and the bars of tokens: what lies behind.
+fn draw_behind(out: &mut Page, layout: &Layout, ways: &[Way], bars: &[Bar]) {
+    for way in ways {
+        draw_way(out, layout, way);
+    }
+    for bar in bars {
+        draw_bar(out, layout, bar);
+    }
+}
+
+// Appends marks and values, which lie over the boxes of turns.
+fn draw_over(out: &mut Page, layout: &Layout, marks: &[Spot], values: &[Stored]) {
+    for mark in marks {
+        draw_mark(out, layout, *mark);
+    }
+    for stored in values {
+        draw_value(out, layout, stored);
+    }
+}
+
+/// Appends what a picture has: what lies behind first.
+pub(crate) fn draw_sketch(out: &mut Page, layout: &Layout, sketch: &Sketch) {
+    draw_behind(out, layout, &sketch.ways, &sketch.bars);
+    for turn in &sketch.boxes {
+        draw_box(out, layout, turn);
+    }
+    draw_over(out, layout, &sketch.marks, &sketch.values);
+    for label in &sketch.labels.list {
+        draw_label(out, layout, label);
+    }
+}

@@ -1,0 +1,306 @@
+//! What the parts of a picture mean, of those that it has.
+use crate::boxes::{Content, Kind, show_box};
+use crate::drawings::{bar_class, show_stored};
+use crate::labels::{Label, Tag};
+use crate::layouts::COLUMN;
+use crate::shapes::{
+    BOLD, Look, Point, show_flag, show_label, show_line, show_rect, show_ring, show_text_at,
+    show_word, text_width,
+};
+use crate::sketches::{Bar, Sketch, Stored, TurnBox, Way};
+use lwkt_base::{Fault, Mode};
+use lwkt_refusals::Page;
+use std::alloc::Global;
+
+// How high a line of the legend is, and what stands between two of its parts.
+const LINE: usize = 20;
+
+const GAP: usize = 14;
+
+// How wide the sign of a line or a bar is.
+const SIGN: usize = 24;
+
+// The most letters of a fault's text, and the most faults that are told.
+const FAULT_LETTERS: usize = 40;
+
+const FAULT_LIMIT: usize = 12;
+
+// A legend as far as it is made, and where its next part stands.
+#[derive(Drop)]
+struct Legend {
+    page: Page,
+    at: Point,
+    width: usize,
+}
+
+impl Legend {
+    // Where the next sign stands that is so wide, and behind which so many letters stand; on a new line if there is no room.
+    fn next(&mut self, sign: usize, letters: usize) -> Point {
+        let room = sign.saturating_add(text_width(letters)).saturating_add(4);
+        if self.at.x > 4 && self.at.x.saturating_add(room) > self.width {
+            self.at = Point {
+                x: 4,
+                y: self.at.y.saturating_add(LINE),
+            };
+        }
+        let at = self.at;
+        self.at = at.by(room.saturating_add(GAP), 0);
+        at
+    }
+
+    // Appends a meaning behind a sign that is so wide.
+    fn mean(&mut self, at: Point, sign: usize, meaning: &str) {
+        let at = at.by(sign.saturating_add(4), 10);
+        show_word(&mut self.page, at, meaning);
+        self.page.add("\n");
+    }
+
+    // Appends a box and its meaning.
+    fn add_box(&mut self, content: Content, meaning: &str) {
+        let at = self.next(COLUMN, meaning.len());
+        show_box(&mut self.page, at, content, false);
+        self.mean(at, COLUMN, meaning);
+    }
+
+    // Appends the sign of a bar and its meaning.
+    fn add_bar(&mut self, mode: Mode, meaning: &str) {
+        let at = self.next(SIGN, meaning.len());
+        show_rect(&mut self.page, at.by(0, 2), SIGN, 10, bar_class(mode));
+        self.page.add("/>");
+        self.mean(at, SIGN, meaning);
+    }
+
+    // Appends a value on a bar, and the meaning of values.
+    fn add_value(&mut self, stored: &Stored) {
+        let meaning = "a cell and what it is now";
+        let at = self.next(2 * SIGN, meaning.len());
+        show_rect(&mut self.page, at.by(0, 2), 2 * SIGN, 10, "full");
+        self.page.add("/>");
+        show_stored(&mut self.page, at.by(3, 11), stored, 7);
+        self.mean(at, 2 * SIGN, meaning);
+    }
+
+    // Appends the flag of marks, and its meaning.
+    fn add_flag(&mut self) {
+        let meaning = "marked by this processor, which wants it exclusively";
+        let at = self.next(SIGN / 2, meaning.len());
+        show_flag(&mut self.page, at.by(1, 0));
+        self.page.add("/>");
+        self.mean(at, SIGN / 2, meaning);
+    }
+
+    // Appends the sign of a message's line, and its meaning.
+    fn add_line(&mut self, is_reply: bool, is_urgent: bool, meaning: &str) {
+        let at = self.next(SIGN, meaning.len());
+        let look = Look {
+            is_reply,
+            is_urgent,
+        };
+        show_line(&mut self.page, at.by(0, 7), at.by(SIGN, 7), look, true);
+        self.mean(at, SIGN, meaning);
+    }
+
+    // Appends the ring of messages that weren't taken, and its meaning.
+    fn add_ring(&mut self) {
+        let meaning = "not taken";
+        let at = self.next(SIGN / 2, meaning.len());
+        show_ring(&mut self.page, at.by(4, 0));
+        self.mean(at, SIGN / 2, meaning);
+    }
+
+    // Appends a word and its meaning.
+    fn add_word(&mut self, word: &str, meaning: &str) {
+        let sign = text_width(word.len());
+        let at = self.next(sign, meaning.len());
+        show_word(&mut self.page, at.by(0, 10), word);
+        self.mean(at, sign, meaning);
+    }
+
+    // Appends a fault by its number, behind a sign, and its text.
+    fn add_fault(&mut self, sign: &str, fault: Fault) {
+        let at = self.next(SIGN, FAULT_LETTERS);
+        let number = usize::from(fault.number());
+        show_label(&mut self.page, at.by(0, 10), BOLD, sign, number);
+        show_text_at(&mut self.page, at.by(SIGN + 4, 10), "");
+        self.page.fault("", fault);
+        self.page.add("</text>\n");
+    }
+}
+
+// The first box that tells this; without a kind the first that tells of further threads.
+fn first_box(boxes: &[TurnBox], kind: Option<Kind>) -> Option<Content> {
+    for turn in boxes {
+        let tells = match kind {
+            Some(kind) => turn.content.kind == kind,
+            None => turn.content.more,
+        };
+        if tells {
+            return Some(turn.content);
+        }
+    }
+    None
+}
+
+// Appends what a kind of boxes means, where there is one.
+fn add_kind(legend: &mut Legend, boxes: &[TurnBox], kind: Option<Kind>, meaning: &str) {
+    if let Some(content) = first_box(boxes, kind) {
+        let more = kind.is_none();
+        legend.add_box(Content { more, ..content }, meaning);
+    }
+}
+
+// Appends what boxes mean.
+fn add_boxes(legend: &mut Legend, boxes: &[TurnBox]) {
+    let reply = "none runs: one waits for the reply to this message";
+    add_kind(legend, boxes, Some(Kind::Thread), "this thread runs");
+    add_kind(
+        legend,
+        boxes,
+        Some(Kind::Token),
+        "none runs: one waits for this token",
+    );
+    add_kind(legend, boxes, Some(Kind::Reply), reply);
+    add_kind(
+        legend,
+        boxes,
+        Some(Kind::Port),
+        "none runs: one waits for its port",
+    );
+    add_kind(legend, boxes, Some(Kind::Ready), "none runs: one is ready");
+    add_kind(legend, boxes, None, "and others wait for something else");
+    add_kind(legend, boxes, Some(Kind::Empty), "no thread is left");
+}
+
+// Appends what the bars of a mode mean, where there is one.
+fn add_bars(legend: &mut Legend, bars: &[Bar], mode: Mode, meaning: &str) {
+    for bar in bars {
+        if bar.mode == mode {
+            return legend.add_bar(mode, meaning);
+        }
+    }
+}
+
+// Appends what stands in the rows of tokens.
+fn add_rows(legend: &mut Legend, sketch: &Sketch) {
+    add_bars(legend, &sketch.bars, Mode::Exclusive, "held exclusively");
+    add_bars(legend, &sketch.bars, Mode::Shared, "held shared");
+    if let Some(stored) = sketch.values.first() {
+        legend.add_value(stored);
+    }
+    if !sketch.marks.is_empty() {
+        legend.add_flag();
+    }
+}
+
+// Which lines of messages a picture has.
+#[derive(Clone, Copy)]
+struct Seen {
+    sent: bool,
+    urgent: bool,
+    reply: bool,
+    lost: bool,
+}
+
+// The lines of messages of a picture.
+fn seen_ways(ways: &[Way]) -> Seen {
+    let mut seen = Seen {
+        sent: false,
+        urgent: false,
+        reply: false,
+        lost: false,
+    };
+    for way in ways {
+        let arrives = way.end.is_some();
+        seen = Seen {
+            sent: seen.sent || (arrives && !way.look.is_reply),
+            urgent: seen.urgent || (arrives && way.look.is_urgent),
+            reply: seen.reply || (arrives && way.look.is_reply),
+            lost: seen.lost || !arrives,
+        };
+    }
+    seen
+}
+
+// Appends what the lines of messages mean.
+fn add_ways(legend: &mut Legend, ways: &[Way]) {
+    let seen = seen_ways(ways);
+    if !ways.is_empty() {
+        legend.add_word("m0 r1", "message 0, in its round 1");
+    }
+    if seen.sent {
+        legend.add_line(false, false, "from its sending to its taking");
+    }
+    if seen.reply {
+        legend.add_line(true, false, "its reply");
+    }
+    if seen.urgent {
+        let meaning = "sent with priority, or the reply to such a message";
+        legend.add_line(false, true, meaning);
+    }
+    if seen.lost {
+        legend.add_ring();
+    }
+}
+
+// The fault that a label tells, of a thread's end or of a refusal.
+fn fault_of(label: &Label, ends: bool) -> Option<Fault> {
+    match label.tag {
+        Tag::Fault(fault, is_end) if is_end == ends => Some(fault),
+        _ => None,
+    }
+}
+
+// Notes a fault in a list without it that has room; says whether it was noted.
+fn note_fault(noted: &mut [Option<Fault>; FAULT_LIMIT], fault: Fault) -> bool {
+    for slot in noted.iter_mut() {
+        let found = *slot;
+        let Some(old) = found else {
+            *slot = Some(fault);
+            return true;
+        };
+        if old.number() == fault.number() {
+            return false;
+        }
+    }
+    false
+}
+
+// Appends the faults of refusals or of threads' ends, each one once, behind the meaning of their sign.
+fn add_faults(legend: &mut Legend, labels: &[Label], ends: bool, sign: &str, meaning: &str) {
+    let mut noted = [None; FAULT_LIMIT];
+    let mut some = false;
+    for label in labels {
+        if let Some(fault) = fault_of(label, ends) {
+            if !some {
+                legend.add_word(sign, meaning);
+                some = true;
+            }
+            if note_fault(&mut noted, fault) {
+                legend.add_fault(sign, fault);
+            }
+        }
+    }
+}
+
+/// What the parts of a picture mean that it has, from this height on, so wide; and where it ends.
+pub(crate) fn legend_of(alloc: Global, sketch: &Sketch, y: usize, width: usize) -> (Page, usize) {
+    let mut legend = Legend {
+        page: Page::new(alloc),
+        at: Point { x: 4, y },
+        width,
+    };
+    let labels = sketch.labels.list.as_slice();
+    add_boxes(&mut legend, &sketch.boxes);
+    add_rows(&mut legend, sketch);
+    add_ways(&mut legend, &sketch.ways);
+    add_faults(
+        &mut legend,
+        labels,
+        false,
+        "!",
+        "what was asked was refused:",
+    );
+    add_faults(&mut legend, labels, true, "x", "a thread ended:");
+    let end = legend.at.y.saturating_add(LINE);
+    (legend.page, end)
+}

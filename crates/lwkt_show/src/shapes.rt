@@ -1,0 +1,147 @@
+//! The shapes of a picture, and how long its words are.
+use lwkt_refusals::Page;
+
+/// The class of a text in bold.
+pub(crate) const BOLD: &str = " class=\"bold\"";
+
+/// The class of a text on a full bar.
+pub(crate) const VALUE: &str = " class=\"value\"";
+
+/// How wide so many letters are, in pixels.
+pub(crate) fn text_width(letters: usize) -> usize {
+    letters
+        .saturating_mul(6)
+        .saturating_add(letters / 16)
+        .saturating_add(1)
+}
+
+/// How many digits a number has.
+pub(crate) fn digits(number: u64) -> usize {
+    let mut rest = number;
+    let mut count = 1usize;
+    for _place in 0..20u8 {
+        if rest > 9 {
+            rest /= 10;
+            count = count.saturating_add(1);
+        }
+    }
+    count
+}
+
+/// A place in a picture, in pixels from the left and from above.
+#[derive(Clone, Copy)]
+pub(crate) struct Point {
+    /// How far from the left.
+    pub x: usize,
+    /// How far from above.
+    pub y: usize,
+}
+
+impl Point {
+    /// The place so far right of it, and so far below.
+    pub(crate) fn by(self, x: usize, y: usize) -> Point {
+        Point {
+            x: self.x.saturating_add(x),
+            y: self.y.saturating_add(y),
+        }
+    }
+}
+
+/// Appends a text of a picture in which a number stands for each `@`.
+pub(crate) fn draw(out: &mut Page, text: &str, numbers: &[usize]) {
+    let mut rest = text;
+    for number in numbers {
+        if let Some((before, behind)) = rest.split_once("@") {
+            out.size(before, *number);
+            rest = behind;
+        }
+    }
+    out.add(rest);
+}
+
+/// Appends a rectangle up to its class.
+pub(crate) fn show_rect(out: &mut Page, at: Point, width: usize, height: usize, class: &str) {
+    let numbers = [at.x, at.y, width, height];
+    draw(
+        out,
+        "<rect x=\"@\" y=\"@\" width=\"@\" height=\"@\" class=\"",
+        &numbers,
+    );
+    out.add(class);
+    out.add("\"");
+}
+
+/// Appends the beginning of a text at a place, of a class or none.
+pub(crate) fn show_text_at(out: &mut Page, at: Point, class: &str) {
+    draw(out, "<text x=\"@\" y=\"@\"", &[at.x, at.y]);
+    out.add(class);
+    out.add(">");
+}
+
+/// Appends a text at a place that is a word and a number.
+pub(crate) fn show_label(out: &mut Page, at: Point, class: &str, word: &str, number: usize) {
+    show_text_at(out, at, class);
+    out.size(word, number);
+    out.add("</text>");
+}
+
+/// Appends a text at a place.
+pub(crate) fn show_word(out: &mut Page, at: Point, word: &str) {
+    show_text_at(out, at, "");
+    out.add(word);
+    out.add("</text>");
+}
+
+/// Appends a path of a class that begins at a place.
+pub(crate) fn show_path(out: &mut Page, at: Point, path: &str, class: &str) {
+    draw(out, "<path d=\"M@ @", &[at.x, at.y]);
+    out.add(path);
+    out.add("\" class=\"");
+    out.add(class);
+    out.add("\"");
+}
+
+/// How the line of a message looks.
+#[derive(Clone, Copy)]
+pub(crate) struct Look {
+    /// It is dashed.
+    pub is_reply: bool,
+    /// It is three times as thick.
+    pub is_urgent: bool,
+}
+
+/// Appends a line of a message, dashed for a reply and thick if it is urgent; with an arrow head if it arrives.
+pub(crate) fn show_line(out: &mut Page, from: Point, to: Point, look: Look, arrives: bool) {
+    let numbers = [from.x, from.y, to.x, to.y];
+    draw(
+        out,
+        "<line x1=\"@\" y1=\"@\" x2=\"@\" y2=\"@\" class=\"way\"",
+        &numbers,
+    );
+    if look.is_urgent {
+        out.add(" style=\"stroke-width:3\"");
+    }
+    if look.is_reply {
+        out.add(" stroke-dasharray=\"5 3\"");
+    }
+    if arrives {
+        out.add(" marker-end=\"url(#head)\"");
+    }
+    out.add("/>");
+}
+
+/// Appends the flag of a mark.
+pub(crate) fn show_flag(out: &mut Page, at: Point) {
+    show_path(out, at, "v14m0 -14l9 4l-9 4", "flag");
+}
+
+/// Appends the ring of a message that nobody took.
+pub(crate) fn show_ring(out: &mut Page, at: Point) {
+    show_path(out, at, "v7", "way");
+    let middle = at.by(0, 10);
+    draw(
+        out,
+        "/><circle cx=\"@\" cy=\"@\" r=\"3\" class=\"way\"/>",
+        &[middle.x, middle.y],
+    );
+}

@@ -1,0 +1,364 @@
+//! What a picture has, noted turn by turn, before it is known where it stands.
+use crate::boxes::Content;
+use crate::labels::{Labels, Tag};
+use crate::layouts::{Grid, Spot, slot_of};
+use crate::replays::Replay;
+use crate::shapes::Look;
+use lwkt_base::limits::{CPU_LIMIT, MESSAGE_LIMIT, TOKEN_LIMIT};
+use lwkt_base::memory::push;
+use lwkt_base::{Mode, MsgId, OutOfMemory};
+use lwkt_core::Event;
+use lwkt_refusals::Page;
+use lwkt_trace::words::{Subject, subject_of};
+use std::alloc::Global;
+
+/// The box of a turn.
+#[derive(Drop)]
+pub(crate) struct TurnBox {
+    /// The turn's round, counted from 0.
+    pub round: usize,
+    /// Its processor, 0 to 7.
+    pub cpu: usize,
+    /// What stands in it.
+    pub content: Content,
+    /// Whether a thread ended faulted in it.
+    pub crossed: bool,
+    /// The turn's line.
+    pub line: Page,
+}
+
+/// A token that a processor held, from round to round.
+#[derive(Clone, Copy)]
+pub(crate) struct Bar {
+    /// The token, and the round in which it was taken.
+    pub spot: Spot,
+    /// The last round in which it was held.
+    pub until: usize,
+    /// How it was held.
+    pub mode: Mode,
+    references: usize,
+    // The last value that was stored under it, by its place in the list of values.
+    value: Option<usize>,
+}
+
+/// A value that was stored in a cell.
+#[derive(Clone, Copy)]
+pub(crate) struct Stored {
+    /// The token, and the round in which it was stored.
+    pub spot: Spot,
+    /// The cell, 0 to 3.
+    pub cell: u8,
+    /// The value.
+    pub value: u64,
+    /// Whether further cells were stored in the same turn.
+    pub more: bool,
+    /// The round from which on the next value stands in the same row, or the token isn't held.
+    pub until: usize,
+}
+
+/// A message or a reply that left a processor in a round.
+#[derive(Clone, Copy)]
+pub(crate) struct Way {
+    /// The message.
+    pub msg: MsgId,
+    /// The message's own round.
+    pub round: u64,
+    /// How its line looks.
+    pub look: Look,
+    /// The processor that it left, 0 to 7.
+    pub cpu: usize,
+    /// The round of the run in which it left.
+    pub since: usize,
+    /// The processor that it came to, and when, if it did.
+    pub end: Option<(usize, usize)>,
+}
+
+/// What a picture has.
+#[derive(Drop)]
+pub(crate) struct Sketch {
+    /// The rounds that it shows.
+    pub grid: Grid,
+    /// The turns.
+    pub boxes: Vec<TurnBox>,
+    /// The tokens that were held.
+    pub bars: Vec<Bar>,
+    /// The values that were stored.
+    pub values: Vec<Stored>,
+    /// The exclusive requests that marked a token.
+    pub marks: Vec<Spot>,
+    /// The messages and replies.
+    pub ways: Vec<Way>,
+    /// The labels above turns.
+    pub labels: Labels,
+    // The tokens that are held now, and the messages that are on their way.
+    held: Vec<Option<Bar>>,
+    away: [Option<Way>; MESSAGE_LIMIT],
+}
+
+// A table without a bar.
+fn no_bars(alloc: Global) -> Result<Vec<Option<Bar>>, OutOfMemory> {
+    let mut bars = Vec::new(alloc);
+    for _slot in 0..CPU_LIMIT * TOKEN_LIMIT {
+        push(&mut bars, None)?;
+    }
+    Ok(bars)
+}
+
+// A bar with so many references.
+fn with_references(bar: Bar, references: usize) -> Option<Bar> {
+    if references == 0 {
+        return None;
+    }
+    Some(Bar { references, ..bar })
+}
+
+impl Sketch {
+    /// A picture of these rounds in which nothing is yet.
+    pub(crate) fn new(alloc: Global, grid: Grid) -> Result<Self, OutOfMemory> {
+        let labels = Labels::new(alloc, grid)?;
+        let held = no_bars(alloc)?;
+        Ok(Sketch {
+            grid,
+            boxes: Vec::new(alloc),
+            bars: Vec::new(alloc),
+            values: Vec::new(alloc),
+            marks: Vec::new(alloc),
+            ways: Vec::new(alloc),
+            labels,
+            held,
+            away: [None; MESSAGE_LIMIT],
+        })
+    }
+
+    /// Adds a label above a turn that is shown.
+    pub(crate) fn tag(&mut self, round: usize, cpu: usize, tag: Tag) -> Result<(), OutOfMemory> {
+        if round < self.grid.first {
+            return Ok(());
+        }
+        self.labels.add(round, cpu, tag)
+    }
+
+    // The bar of a token that a processor holds.
+    fn bar(&self, cpu: usize, tok: usize) -> Option<Bar> {
+        self.held.get(slot_of(cpu, tok)).copied().unwrap_or(None)
+    }
+
+    // Notes what a processor holds of a token.
+    fn set_bar(&mut self, cpu: usize, tok: usize, bar: Option<Bar>) {
+        if let Some(slot) = self.held.get_mut(slot_of(cpu, tok)) {
+            *slot = bar;
+        }
+    }
+
+    // A processor has a reference more, from this round on.
+    fn hold(&mut self, spot: Spot, mode: Mode) {
+        let bar = self.bar(spot.cpu, spot.tok).unwrap_or(Bar {
+            spot,
+            until: spot.round,
+            mode,
+            references: 0,
+            value: None,
+        });
+        let bar = with_references(bar, bar.references.saturating_add(1));
+        self.set_bar(spot.cpu, spot.tok, bar);
+    }
+
+    // The last value under a bar.
+    fn value_of(&mut self, bar: Bar) -> Option<&mut Stored> {
+        self.values.get_mut(bar.value?)
+    }
+
+    // The room of the last value under a bar ends before this round.
+    fn end_value(&mut self, bar: Bar, round: usize) {
+        if let Some(value) = self.value_of(bar) {
+            value.until = round;
+        }
+    }
+
+    // Adds a bar that goes on until this round, if it is shown.
+    fn end_bar(&mut self, bar: Bar, until: usize) -> Result<(), OutOfMemory> {
+        self.end_value(bar, until.saturating_add(1));
+        if !self.grid.is_shown(bar.spot.round, until) {
+            return Ok(());
+        }
+        push(&mut self.bars, Bar { until, ..bar })
+    }
+
+    // A processor gives back a reference in this round; the bar ends with the last one.
+    fn give(&mut self, spot: Spot) -> Result<(), OutOfMemory> {
+        let Some(bar) = self.bar(spot.cpu, spot.tok) else {
+            return Ok(());
+        };
+        let left = with_references(bar, bar.references.saturating_sub(1));
+        self.set_bar(spot.cpu, spot.tok, left);
+        if left.is_some() {
+            return Ok(());
+        }
+        self.end_bar(bar, spot.round)
+    }
+
+    // Notes that further cells are stored in the turn of the last value under a bar; says whether there is one.
+    fn is_further(&mut self, bar: Bar, round: usize) -> bool {
+        match self.value_of(bar) {
+            Some(value) if value.spot.round == round => {
+                value.more = true;
+                true
+            }
+            _ => false,
+        }
+    }
+
+    // Adds a value that a processor stored, if it is shown.
+    fn store(&mut self, spot: Spot, cell: u8, value: u64) -> Result<(), OutOfMemory> {
+        let Some(bar) = self.bar(spot.cpu, spot.tok) else {
+            return Ok(());
+        };
+        if spot.round < self.grid.first || self.is_further(bar, spot.round) {
+            return Ok(());
+        }
+        self.end_value(bar, spot.round);
+        let bar = Bar {
+            value: Some(self.values.len()),
+            ..bar
+        };
+        self.set_bar(spot.cpu, spot.tok, Some(bar));
+        let stored = Stored {
+            spot,
+            cell,
+            value,
+            more: false,
+            until: spot.round.saturating_add(1),
+        };
+        push(&mut self.values, stored)
+    }
+
+    // Adds a mark, if it is shown.
+    fn mark(&mut self, spot: Spot) -> Result<(), OutOfMemory> {
+        if spot.round < self.grid.first {
+            return Ok(());
+        }
+        push(&mut self.marks, spot)
+    }
+
+    // A message or a reply leaves a processor.
+    fn leave(&mut self, way: Way) -> Result<(), OutOfMemory> {
+        if let Some(slot) = self.away.get_mut(usize::from(way.msg.0)) {
+            *slot = Some(way);
+        }
+        self.tag(way.since, way.cpu, Tag::Mail(way.msg, way.round))
+    }
+
+    // The way of a message that arrives, or is taken back.
+    fn take_way(&mut self, msg: MsgId) -> Option<Way> {
+        self.away.get_mut(usize::from(msg.0))?.take()
+    }
+
+    // A message or a reply arrives at a processor, or is taken back.
+    fn arrive(&mut self, msg: MsgId, cpu: usize, round: usize) -> Result<(), OutOfMemory> {
+        let Some(way) = self.take_way(msg) else {
+            return Ok(());
+        };
+        if !self.grid.is_shown(way.since, round) {
+            return Ok(());
+        }
+        if way.since < self.grid.first || self.grid.band(way.since) != self.grid.band(round) {
+            self.tag(round, cpu, Tag::Mail(msg, way.round))?;
+        }
+        let end = Some((cpu, round));
+        push(&mut self.ways, Way { end, ..way })
+    }
+
+    // Notes an event of a message.
+    fn note_mail(
+        &mut self,
+        replay: &Replay,
+        event: &Event,
+        msg: MsgId,
+        since: usize,
+    ) -> Result<(), OutOfMemory> {
+        let cpu = usize::from(event.cpu().0);
+        match *event {
+            Event::Send { .. } | Event::Reply { .. } => {
+                let look = Look {
+                    is_reply: matches!(event, Event::Reply { .. }),
+                    is_urgent: replay.is_urgent(msg),
+                };
+                self.leave(Way {
+                    msg,
+                    round: replay.round_of(event, msg),
+                    look,
+                    cpu,
+                    since,
+                    end: None,
+                })
+            }
+            Event::TakeMsg { .. } | Event::Reap { .. } | Event::DropMsg { .. } => {
+                self.arrive(msg, cpu, since)
+            }
+            Event::Abort { .. } => self.tag(since, cpu, Tag::Abort(msg)),
+            _ => Ok(()),
+        }
+    }
+
+    // Notes an event of a token.
+    fn note_token(&mut self, event: &Event, spot: Spot) -> Result<(), OutOfMemory> {
+        match *event {
+            Event::Take { .. } => self.hold(spot, Mode::Exclusive),
+            Event::Share { .. } | Event::Again { .. } => self.hold(spot, Mode::Shared),
+            Event::Mark { .. } => return self.mark(spot),
+            Event::GiveOne { .. } | Event::GiveClean { .. } | Event::GiveWritten { .. } => {
+                return self.give(spot);
+            }
+            Event::Write { cell, value, .. } => return self.store(spot, cell, value),
+            _ => {}
+        }
+        Ok(())
+    }
+
+    /// Notes an event of a round, whose turn has been made.
+    pub(crate) fn note(
+        &mut self,
+        replay: &Replay,
+        event: &Event,
+        round: usize,
+    ) -> Result<(), OutOfMemory> {
+        match subject_of(event) {
+            Subject::Message(msg) => self.note_mail(replay, event, msg, round),
+            Subject::Token(tok) => {
+                let cpu = usize::from(event.cpu().0);
+                let tok = usize::from(tok.0);
+                self.note_token(event, Spot { cpu, tok, round })
+            }
+        }
+    }
+
+    // Adds what a processor still holds after the last round.
+    fn finish_bars(&mut self, cpu: usize) -> Result<(), OutOfMemory> {
+        for tok in 0..TOKEN_LIMIT {
+            if let Some(bar) = self.bar(cpu, tok) {
+                self.end_bar(bar, self.grid.last)?;
+            }
+        }
+        Ok(())
+    }
+
+    // Adds what is still on its way behind the last round.
+    fn finish_mail(&mut self) -> Result<(), OutOfMemory> {
+        for msg in 0..MESSAGE_LIMIT {
+            if let Some(way) = self.away.get(msg).copied().unwrap_or(None) {
+                if way.since >= self.grid.first {
+                    push(&mut self.ways, way)?;
+                }
+            }
+        }
+        Ok(())
+    }
+
+    /// Adds what is still held and still on its way after the last round.
+    pub(crate) fn finish(&mut self) -> Result<(), OutOfMemory> {
+        for cpu in 0..CPU_LIMIT {
+            self.finish_bars(cpu)?;
+        }
+        self.finish_mail()
+    }
+}

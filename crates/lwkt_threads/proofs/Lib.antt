@@ -1,2 +1,0 @@
-pub mod MachineMoves
-pub mod PartMoves
