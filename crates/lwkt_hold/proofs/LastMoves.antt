@@ -1,5 +1,5 @@
 use Rattle.std.proofs.Common.{◌≡◌, ◌≢◌, ◌⊎◌, ℕ, ◌+◌, ◌<◌, true, List, [], ◌∷◌, ◌++◌, length, take, refl, ap, sym, ◌∙◌, subst, arith, inl, inr, Option, Some, None, Result, Ok, Err, length-append, add-zero}
-use Rattle.std.specs.Prelude.{◌↔◌, All, IfOk, OnOk, OnErr, IsSomeAnd, slice_get, Vec, vec_len, filter}
+use Rattle.std.specs.Prelude.{◌↔◌, All, IfOk, IfErr, OnOk, OnErr, IsSomeAnd, slice_get, Vec, vec_len, filter}
 use Rattle.std.specs.List.{AllZip}
 use Rattle.std.specs.declared.alloc.Global.{Global}
 use Rattle.std.proofs.lemmas.List.{take_at, take_all, same_from_push}

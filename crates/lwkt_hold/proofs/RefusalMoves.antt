@@ -12,7 +12,7 @@ use Rattle.lwkt_base.specs.declared.names.Mode.TheVariants.{Exclusive, Shared}
 use Rattle.lwkt_base.specs.declared.names.Ref.{Ref}
 use Rattle.lwkt_base.specs.Refs.{first_mode}
 use Rattle.lwkt_bank.specs.Seats.{BankId, tokens_of, plan_of}
-use Rattle.lwkt_hold.specs.Refusals.{is_tally, unless_exclusive, read_refusal, write_refusal, add_refusal, record_refusal, record_read_refusal, record_write_refusal, is_upgrade, get_refusal, RefusedBy}
+use Rattle.lwkt_hold.specs.Refusals.{is_tally, unless_exclusive, read_refusal, write_refusal, add_refusal, record_read_refusal, record_write_refusal, is_upgrade, get_refusal, RefusedBy}
 
 -- a fault of the mode comes before what follows
 pub by_mode : (mode : Option Mode) (shared fault : Fault) (next : Option Fault) → Some fault ≡ unless_exclusive mode shared None → Some fault ≡ unless_exclusive mode shared next

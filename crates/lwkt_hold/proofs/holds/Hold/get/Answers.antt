@@ -1,9 +1,8 @@
-use Rattle.std.proofs.Common.{◌≡◌, ◌∙◌, ap, Ok, Err, [], ◌∷◌, ◌++◌, List, length, refl, subst, arith}
-use Rattle.std.specs.Prelude.{Vec, Result}
+use Rattle.std.proofs.Common.{◌≡◌, ◌∙◌, ap, Ok, Err, [], ◌∷◌, ◌++◌, List, length, refl, subst, arith, rules}
+use Rattle.std.specs.Prelude.{Vec}
 use Rattle.std.specs.declared.alloc.Global.{Global}
 use Rattle.std.proofs.lemmas.Result.{err_from_is_err_and}
 use Rattle.lwkt_base.specs.Holding.{Holding, holding_of}
-use Rattle.lwkt_base.specs.declared.faults.Fault.{Fault}
 use Rattle.lwkt_base.specs.declared.faults.Fault.TheVariants.{Worn as WasWorn}
 use Rattle.lwkt_base.specs.declared.names.CpuId.{CpuId}
 use Rattle.lwkt_base.specs.declared.names.Ref.{Ref}

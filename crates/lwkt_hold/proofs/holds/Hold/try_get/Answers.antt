@@ -1,9 +1,9 @@
-use Rattle.std.proofs.Common.{◌≡◌, ◌∙◌, ap, subst, refl, Ok, Err, List, length}
+use Rattle.std.proofs.Common.{◌≡◌, ◌∙◌, ap, subst, Ok, Err, List, length}
 use Rattle.std.proofs.lemmas.Result.{err_from_is_err_and}
 use Rattle.lwkt_base.specs.declared.names.Ref.{Ref}
 use Rattle.lwkt_bank.specs.Seats.{id_of}
 use Rattle.lwkt_hold.specs.Fronts.{IsFront}
-use Rattle.lwkt_hold.specs.Misses.{Misses, exclusive, fault_of}
+use Rattle.lwkt_hold.specs.Misses.{Misses, exclusive}
 use Rattle.lwkt_hold.specs.Refusals.{get_refusal}
 use Rattle.lwkt_hold.specs.Outcomes.{ChangesNothing, IsMissed}
 use Rattle.lwkt_hold.proofs.LastMoves.{ran_silent, lost_as}
