@@ -30,7 +30,7 @@ use Rattle.lwkt_cpu.specs.declared.nexts.Next.{Next}
 use Rattle.lwkt_cpu.specs.declared.nexts.Next.TheVariants.{Readies}
 use Rattle.lwkt_cpu.specs.Leaving.{GivesUp}
 use Rattle.lwkt_hold.proofs.RunMoves.{ran_then, ran_weaker}
-use Rattle.lwkt_hold.proofs.RefusalMoves.{get_there}
+use Rattle.lwkt_hold.proofs.OutcomeMoves.{get_there}
 
 -- a run within the fronts of one list, as one within those of two, of at most 320 events
 pub ran_left : (refs others : List Ref) (m : ℕ) (a b : CpuSeat) (t u : Vec Event Global) → m ≤ 320 → Ran (IsFront refs) m a b t u → Ran (IsBetween refs others) 320 a b t u

@@ -8,5 +8,4 @@ pub mod LastMoves
 pub mod BlockMoves
 pub mod EventMoves
 pub mod StillMoves
-pub mod RefusalMoves
 pub mod OutcomeMoves

@@ -1,54 +1,19 @@
-use Rattle.std.proofs.Common.{inl, inr, ◌≡◌, ℕ, ◌<◌, ◌≤◌, List, length, Result, Err, ap, ◌∙◌, subst, arith}
-use Rattle.std.specs.Result.{result_err}
-use Rattle.std.proofs.lemmas.Result.{err_from_is_err_and}
-use Rattle.lwkt_base.specs.declared.faults.Fault.{Fault}
+use Rattle.std.proofs.Common.{◌≡◌, ℕ, ◌<◌, List, ap, ◌∙◌, subst, arith}
 use Rattle.lwkt_base.specs.declared.names.Ref.{Ref}
-use Rattle.lwkt_bank.specs.Seats.{BankId, id_of, bank_of, tokens_of, holding}
+use Rattle.lwkt_bank.specs.Seats.{BankId, bank_of, tokens_of, holding}
 use Rattle.lwkt_hold.specs.declared.answers.Missed.{Missed}
 use Rattle.lwkt_hold.specs.Fronts.{IsFront}
 use Rattle.lwkt_hold.specs.Misses.{Misses}
 use Rattle.lwkt_hold.specs.Rows.{SameRow}
-use Rattle.lwkt_hold.specs.Refusals.{get_refusal}
 use Rattle.lwkt_hold.proofs.ReadMoves.{ran_still}
-use Rattle.lwkt_hold.proofs.RefusalMoves.{refused_as, get_no_token, get_full, get_upgrade, get_allowed}
 use Rattle.lwkt_hold.proofs.LastMoves.{last_there, got_as, missed_as, lost_so}
 use Rattle.lwkt_hold.proofs.gets.push_and_take.Goals as goal
-
-pub returns-then-new-tokens-clause-refused : goal.returns-then-new-tokens-clause-refused
-returns-then-new-tokens-clause-refused c =
-    let bank = id_of c.args.bank.now in
-    let over : tokens_of bank ≤ c.args.new.tok.0 = omega (arith, c.if-new-tokens.true, c.tokens.ensures.is) in
-    get_no_token bank c.args.list.now c.args.new over
-
-pub returns-in_err-push-clause-refused : goal.returns-in_err-push-clause-refused
-returns-in_err-push-clause-refused c =
-    let bank = id_of c.args.bank.now in
-    let there : c.args.new.tok.0 < tokens_of bank = omega (arith, c.if-new-tokens.false, c.tokens.ensures.is) in
-    let e = c.in_err-push.ensures in
-    let p = err_from_is_err_and c.from_residual.result c.from_residual.ensures.1 in
-    refused_as c.from_residual.result c.in_err-push.field-0.0 (get_refusal bank c.args.list.now c.args.new) (p.1 ∙ ap Err p.2) (elim e.only [
-      | inl is ↦ ap (λ (r : Result (Unit {0}) Fault). result_err r) is ∙ get_full bank c.args.list.now c.args.new there (e.full.0 is)
-      | inr is ↦ let u = e.upgrade.0 is in ap (λ (r : Result (Unit {0}) Fault). result_err r) is ∙ get_upgrade bank c.args.list.now c.args.new there (λ full. omega (arith, u.0, full)) u.1 u.2
-    ])
 
 pub take_one-requires-clause-there : goal.take_one-requires-clause-there
 take_one-requires-clause-there c =
     let same = ap (λ (b : BankId). tokens_of b) c.requires.of_bank in
     let below : c.args.new.tok.0 < tokens_of (bank_of c.args.seat.now) = omega (arith, c.if-new-tokens.false, c.tokens.ensures.is, same) in
     last_there c.refs.result.now c.args.list.now c.args.new c.len-at.result (tokens_of (bank_of c.args.seat.now)) (c.refs.ensures.value ∙ c.in_ok-push.ensures.ok) c.len-at.ensures.value below
-
-pub returns-clause-refused : goal.returns-clause-refused
-returns-clause-refused c =
-    let bank = id_of c.args.bank.now in
-    let there : c.args.new.tok.0 < tokens_of bank = omega (arith, c.if-new-tokens.false, c.tokens.ensures.is) in
-    let e = c.in_ok-push.ensures in
-    let short : length c.args.list.now ≤ 32 = omega (arith, c.len-at.ensures.value, c.len-at.ensures.within) in
-    get_allowed bank c.args.list.now c.args.new there (λ full. let told = e.full.1 full in cc) (λ mine first.
-    let below : length c.args.list.now < 32 = room_left (length c.args.list.now) short (λ full. let told = e.full.1 full in cc) in
-    let told = e.upgrade.1 (below, mine, first) in cc)
-  where
-    room_left : (n : ℕ) → n ≤ 32 → (n ≡ 32 → ⊥) → n < 32
-    room_left n most other = omega (arith, other)
 
 pub returns-then-new-tokens-clause-ran : goal.returns-then-new-tokens-clause-ran
 returns-then-new-tokens-clause-ran c = ran_still (IsFront c.args.list.now) 1 c.args.seat.now c.args.trace.now
