@@ -1,5 +1,5 @@
 -- What the calls that asks make tell, each as the call's contract says it.
-use Rattle.std.specs.Prelude.{◌≡◌, ◌≢◌, ◌⊎◌, ◌↔◌, ◌<◌, ◌+◌, ℕ, false, true, List, length, Result, Ok, Err, OnOk, OnErr, IfOk, IfErr, None, Vec, slice_index}
+use Rattle.std.specs.Prelude.{◌≡◌, ◌≢◌, ◌⊎◌, ◌↔◌, ◌<◌, ◌+◌, ℕ, false, true, List, length, Result, Err, OnOk, OnErr, IfOk, IfErr, None, Vec, slice_index}
 use Rattle.std.specs.Result.{result_err}
 use Rattle.std.specs.declared.alloc.Global.{Global}
 use Rattle.lwkt_base.specs.declared.names.TokId.{TokId}
