@@ -141,6 +141,7 @@ impl<B: Body> Cpu<B> {
         ensures ok { IfOk result (λ turned. MakesTurn B.polled (id_of bank.now) self.old self.new trace.old trace.new turned) }
         ensures refused { OnErr result ((result ≡ Err no_memory) × LacksRoom trace.new) }
         ensures err { OnErr result ((self.new ≡ self.old) × HasSameEvents trace.old trace.new) }
+        ensures seated { IsSeatedAt (id_of bank.now) book.now.table self.new }
     {
         reserve(trace, TURN_EVENTS)?;
         Ok(self.turn_in_room(bank, book, trace))
