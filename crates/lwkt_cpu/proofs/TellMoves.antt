@@ -27,6 +27,7 @@ use Rattle.lwkt_hold.specs.Givings.{gives, gives_all, Releases, ReleasesAll, Rel
 use Rattle.lwkt_bank.specs.Views.{RecordOf}
 use Rattle.lwkt_hold.specs.Rows.{section_now, write_events, record_write_events}
 use Rattle.lwkt_hold.specs.Steps.{taking}
+use Rattle.lwkt_hold.specs.Outcomes.{Marks}
 use Rattle.lwkt_hold.specs.Takings.{taking_event, takes_all}
 use Rattle.lwkt_msg.specs.Desks.{Desk, desk_cpu, past_of}
 use Rattle.lwkt_msg.specs.Views.{seat_cpu}
@@ -195,14 +196,14 @@ plain_gives_all cpu front (r ∷ refs) = plain_append (gives_all cpu (front ++ r
 pub given_quiet : (a b : CpuSeat) (refs : List Ref) (held : ℕ) (t u : Vec Event Global) (meant next : Next Answer) → GivesUp a b refs held t u meant next → TellsTokensOnly t.items u.items
 given_quiet a b refs held t u meant next g = record { done = g.done; trace_is = g.told; quiet = plain_releases_all a [] (take held refs) g.done g.releases }
 
-marked_quiet : (mode : Mode) (cpu : CpuId) (tok : TokId) (t v : Vec Event Global) → (mode ≡ Exclusive → v.items ≡ t.items ++ Mark cpu tok ∷ []) → (mode ≡ Shared → v ≡ t) → TellsTokensOnly t.items v.items
-marked_quiet Exclusive cpu tok t v marked unmarked = quiet_one t.items v.items (Mark cpu tok) (marked refl) refl
-marked_quiet Shared cpu tok t v marked unmarked = quiet_same t v (unmarked refl)
+marked_quiet : (mode : Mode) (cpu : CpuId) (tok : TokId) (t v : Vec Event Global) → Marks mode cpu tok t v → TellsTokensOnly t.items v.items
+marked_quiet Exclusive cpu tok t v marks = quiet_one t.items v.items (Mark cpu tok) marks refl
+marked_quiet Shared cpu tok t v marks = quiet_same t v marks
 
 acquired_quiet : (bank : BankId) (a b : CpuSeat) (refs now : List Ref) (new : Ref) (t v : Vec Event Global) (result : Result Acquired Fault) → Acquires bank a b refs now new t v result → TellsTokensOnly t.items v.items
-acquired_quiet bank a b refs now new t v (Ok Got) acquires = quiet_one t.items v.items (taking_event a.cpu refs new) (acquires.got refl).1 (plain_takes a.cpu refs new)
-acquired_quiet bank a b refs now new t v (Ok (MustSwitch why)) acquires = marked_quiet new.mode a.cpu new.tok t v (acquires.marked why refl) (acquires.unmarked why refl)
-acquired_quiet bank a b refs now new t v (Err fault) acquires = quiet_same t v acquires.err.1
+acquired_quiet bank a b refs now new t v (Ok Got) acquires = quiet_one t.items v.items (taking_event a.cpu refs new) acquires.ok.told (plain_takes a.cpu refs new)
+acquired_quiet bank a b refs now new t v (Ok (MustSwitch why)) acquires = marked_quiet new.mode a.cpu new.tok t v acquires.ok.marks
+acquired_quiet bank a b refs now new t v (Err fault) acquires = quiet_same t v acquires.err.1.silent
 
 went_on_quiet : (mid b : CpuSeat) (refs now : List Ref) (v u : Vec Event Global) (next : Next Answer) (result : Result Acquired Fault) → GoesOnWith mid b refs now v u next result → TellsTokensOnly v.items u.items
 went_on_quiet mid b refs now v u next (Ok Got) g = quiet_same v u g.1
@@ -213,8 +214,8 @@ pub got_quiet : (bank : BankId) (a b : CpuSeat) (refs now : List Ref) (new : Ref
 got_quiet bank a b refs now new t u next g = quiet_then t.items g.v.items u.items (acquired_quiet bank a g.mid refs now new t g.v g.result g.acquires) (went_on_quiet g.mid b refs now g.v u next g.result g.goes_on)
 
 pub tried_quiet : (bank : BankId) (a b : CpuSeat) (refs now : List Ref) (tok : TokId) (t u : Vec Event Global) (result : Result (Unit {0}) Fault) → Tries bank a b refs now tok t u result → TellsTokensOnly t.items u.items
-tried_quiet bank a b refs now tok t u (Ok x) g = quiet_one t.items u.items (taking_event a.cpu refs (exclusive tok)) g.got.1 (plain_takes a.cpu refs (exclusive tok))
-tried_quiet bank a b refs now tok t u (Err fault) g = quiet_same t u g.err.1
+tried_quiet bank a b refs now tok t u (Ok x) g = quiet_one t.items u.items (taking_event a.cpu refs (exclusive tok)) g.ok.told (plain_takes a.cpu refs (exclusive tok))
+tried_quiet bank a b refs now tok t u (Err fault) g = quiet_same t u g.err.1.silent
 
 released_quiet : (a b : CpuSeat) (refs now : List Ref) (tok : TokId) (restored : Bool) (t u : List Event) → ReleasesLast a b refs now tok restored t u → TellsTokensOnly t u
 released_quiet a b refs now tok restored t u r = record { done = r.done; trace_is = r.told; quiet = plain_releases a (holding a tok.0) tok r.done r.releases }
@@ -227,21 +228,21 @@ rel_quiet a b refs now tok t u (Err fault) r = elim r.err [
 ]
 
 pub read_quiet : (bank : BankId) (a b : CpuSeat) (refs : List Ref) (tok : TokId) (cell : ℕ) (t u : Vec Event Global) (result : Result ℕ Fault) → Reads bank a b refs tok cell t u result → TellsTokensOnly t.items u.items
-read_quiet bank a b refs tok cell t u (Ok value) r = quiet_one t.items u.items (Read a.cpu tok cell value) r.value.1 refl
-read_quiet bank a b refs tok cell t u (Err fault) r = quiet_same t u r.err
+read_quiet bank a b refs tok cell t u (Ok value) r = quiet_one t.items u.items (Read a.cpu tok cell value) r.ok.told refl
+read_quiet bank a b refs tok cell t u (Err fault) r = quiet_same t u r.err.0
 
 pub stored_quiet : (bank : BankId) (a b : CpuSeat) (refs : List Ref) (tok : TokId) (cell value : ℕ) (t u : Vec Event Global) (result : Result (Unit {0}) Fault) → Stores bank a b refs tok cell value t u result → TellsTokensOnly t.items u.items
-stored_quiet bank a b refs tok cell value t u (Ok x) r = quiet_one t.items u.items (Write a.cpu tok cell value) r.written refl
-stored_quiet bank a b refs tok cell value t u (Err fault) r = quiet_same t u r.err.0
+stored_quiet bank a b refs tok cell value t u (Ok x) r = quiet_one t.items u.items (Write a.cpu tok cell value) r.ok.told refl
+stored_quiet bank a b refs tok cell value t u (Err fault) r = quiet_same t u r.err.silent
 
 pub added_quiet : (bank : BankId) (a b : CpuSeat) (refs : List Ref) (tok : TokId) (k : ℕ) (t u : Vec Event Global) (result : Result (Unit {0}) Fault) → Adds bank a b refs tok k t u result → TellsTokensOnly t.items u.items
-added_quiet bank a b refs tok k t u (Ok x) r = quiet_one t.items u.items (Write a.cpu tok 0 _) r.written refl
-added_quiet bank a b refs tok k t u (Err fault) r = quiet_same t u r.err.0
+added_quiet bank a b refs tok k t u (Ok x) r = quiet_one t.items u.items (Write a.cpu tok 0 _) r.ok.told refl
+added_quiet bank a b refs tok k t u (Err fault) r = quiet_same t u r.err.silent
 
 pub record_read_quiet : (bank : BankId) (a b : CpuSeat) (refs : List Ref) (tok : TokId) (t u : Vec Event Global) (result : Result (List ℕ) Fault) → ReadsRecord bank a b refs tok t u result → TellsTokensOnly t.items u.items
-record_read_quiet bank a b refs tok t u (Ok bytes) r = quiet_one t.items u.items (ReadBlob a.cpu tok bytes) r.value.1 refl
+record_read_quiet bank a b refs tok t u (Ok bytes) r = quiet_one t.items u.items (ReadBlob a.cpu tok bytes) r.ok.told refl
 record_read_quiet bank a b refs tok t u (Err fault) r = quiet_same t u r.err.0
 
 pub record_stored_quiet : (bank : BankId) (a b : CpuSeat) (refs : List Ref) (tok : TokId) (bytes : List ℕ) (t u : Vec Event Global) (result : Result (Unit {0}) Fault) → StoresRecord bank a b refs tok bytes t u result → TellsTokensOnly t.items u.items
-record_stored_quiet bank a b refs tok bytes t u (Ok x) r = quiet_one t.items u.items (WriteBlob a.cpu tok bytes) r.written refl
+record_stored_quiet bank a b refs tok bytes t u (Ok x) r = quiet_one t.items u.items (WriteBlob a.cpu tok bytes) r.ok.told refl
 record_stored_quiet bank a b refs tok bytes t u (Err fault) r = quiet_same t u r.err.0

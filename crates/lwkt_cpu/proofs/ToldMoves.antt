@@ -27,6 +27,9 @@ use Rattle.lwkt_cpu.proofs.ShutMoves.{closed_seat}
 pub quiet_items : (t u : List Event) → u ≡ t → TellsTokensOnly t u
 quiet_items t u is = let F : List Event → Type 0 = λ x. TellsTokensOnly t x in subst F (sym is) (quiet_none t)
 
+pub mail_none_at : (a b : Desk) (t u : List Event) → b ≡ a → u ≡ t → TellsMail a b t u
+mail_none_at a b t u is same = let F : Desk → Type 0 = λ d. TellsMail a d t u in subst F (sym is) (mail_none a t u (quiet_items t u same))
+
 -- a resume, whichever it was
 pub resumed_quiet : (cpu : CpuId) (refs : List Ref) (t u : List Event) (r : Resumed) → (r ≡ All → u ≡ t ++ takes_all cpu [] refs) → ((place : ℕ) (why : Missed) → r ≡ Passed place why → u ≡ t ++ (takes_all cpu [] (take place refs) ++ gives_all cpu [] (take place refs))) → TellsTokensOnly t u
 resumed_quiet cpu refs t u All all passed = record { done = takes_all cpu [] refs; trace_is = all refl; quiet = plain_takes_all cpu [] refs }

@@ -4,7 +4,8 @@ use Rattle.lwkt_base.specs.declared.asks.Ask.{Ask}
 use Rattle.lwkt_base.specs.declared.asks.Answer.{Answer}
 use Rattle.lwkt_base.specs.Holding.{Holding, holding_of, holds_nothing}
 use Rattle.lwkt_core.specs.declared.events.Event.{Event}
-use Rattle.lwkt_bank.specs.Seats.{BankId, holding}
+use Rattle.atomic_table.specs.Seated.{TableId}
+use Rattle.lwkt_bank.specs.Seats.{BankId, bank_of, holding}
 use Rattle.lwkt_hold.specs.Runs.{Ran as Runs}
 use Rattle.lwkt_port.specs.Posts.{IsSamePost}
 use Rattle.lwkt_cpu.specs.Telling.{TellsMail}
@@ -17,6 +18,11 @@ use Rattle.lwkt_cpu.specs.Searches.{point, FindsThread, IsOfOne}
 use Rattle.lwkt_cpu.specs.Ending.{is_worn, ClosesPorts}
 use Rattle.lwkt_cpu.specs.Polling.{Polls}
 use Rattle.lwkt_cpu.specs.Waking.{TakesMail}
+
+-- the caller's condition of a turn: the processor's seats are of this bank and this book (own)
+pub record IsSeatedAt {B : Type 0} (bank : BankId) (book : TableId) (p : Processor B) : Type 0 where
+  pub of_bank : bank_of p.seat ≡ bank
+  pub of_book : p.post.seat.table ≡ book
 
 -- where the next search begins: past the thread that was found
 abbrev pub cursor_after : ℕ → Option ℕ → ℕ

@@ -1,9 +1,10 @@
 //! The asks about tokens, each as the call on the hold that it makes.
-ghost use Rattle.std.specs.Prelude.{◌≡◌, ℕ, ◌+◌, ◌<◌, ◌≤◌, List, All, Result, vec_len, vec_capacity};
+ghost use Rattle.std.specs.Prelude.{◌≡◌, ℕ, ◌<◌, List, All, Result};
 ghost use Rattle.lwkt_base.specs.Holding.{holding_of};
 ghost use Rattle.lwkt_base.specs.declared.faults.Fault.{Fault};
 ghost use Rattle.lwkt_bank.specs.Seats.{id_of, bank_of, tokens_of, holding};
 ghost use Rattle.lwkt_hold.specs.Holds.{seat_of};
+ghost use Rattle.lwkt_hold.specs.Ready.{IsReady};
 ghost use Rattle.lwkt_hold.specs.Fronts.{IsFront, IsBetween};
 ghost use Rattle.lwkt_hold.specs.Runs.{Ran};
 ghost use Rattle.lwkt_cpu.specs.Nexts.{kept_list, HoldsAfter, next_with, KeepsAnswer, done_or, value_or, bytes_or};
@@ -63,9 +64,7 @@ pub(crate) fn get(
     last: &mut Answer,
     trace: &mut Vec<Event>,
 ) -> Next<AnswerKept>
-    requires of { bank_of (seat_of hold.old) ≡ id_of bank.now }
-    requires held { holding (seat_of hold.old) ≡ holding_of list.old }
-    requires room { vec_len trace.old + 512 ≤ vec_capacity trace.old }
+    requires { IsReady (id_of bank.now) (seat_of hold.old) list.old trace.old 512 }
     ensures ran { Ran (IsBetween list.old (kept_list (next_with result last.new) list.new)) 320 (seat_of hold.old) (seat_of hold.new) trace.old trace.new }
     ensures held { HoldsAfter (next_with result last.new) (holding (seat_of hold.new)) list.new }
     ensures there { All (λ r. r.tok.0 < tokens_of (bank_of (seat_of hold.old))) list.old → All (λ r. r.tok.0 < tokens_of (bank_of (seat_of hold.old))) list.new }
@@ -92,9 +91,7 @@ pub(crate) fn try_get(
     last: &mut Answer,
     trace: &mut Vec<Event>,
 ) -> AnswerKept
-    requires of { bank_of (seat_of hold.old) ≡ id_of bank.now }
-    requires held { holding (seat_of hold.old) ≡ holding_of list.old }
-    requires room { vec_len trace.old + 512 ≤ vec_capacity trace.old }
+    requires { IsReady (id_of bank.now) (seat_of hold.old) list.old trace.old 512 }
     ensures ran { Ran (IsBetween list.old list.new) 320 (seat_of hold.old) (seat_of hold.new) trace.old trace.new }
     ensures held { holding (seat_of hold.new) ≡ holding_of list.new }
     ensures there { All (λ r. r.tok.0 < tokens_of (bank_of (seat_of hold.old))) list.old → All (λ r. r.tok.0 < tokens_of (bank_of (seat_of hold.old))) list.new }
@@ -114,9 +111,7 @@ pub(crate) fn rel(
     last: &mut Answer,
     trace: &mut Vec<Event>,
 ) -> AnswerKept
-    requires of { bank_of (seat_of hold.old) ≡ id_of bank.now }
-    requires held { holding (seat_of hold.old) ≡ holding_of list.old }
-    requires room { vec_len trace.old + 512 ≤ vec_capacity trace.old }
+    requires { IsReady (id_of bank.now) (seat_of hold.old) list.old trace.old 512 }
     ensures ran { Ran (IsBetween list.old list.new) 320 (seat_of hold.old) (seat_of hold.new) trace.old trace.new }
     ensures held { holding (seat_of hold.new) ≡ holding_of list.new }
     ensures there { All (λ r. r.tok.0 < tokens_of (bank_of (seat_of hold.old))) list.old → All (λ r. r.tok.0 < tokens_of (bank_of (seat_of hold.old))) list.new }
@@ -148,9 +143,7 @@ pub(crate) fn read(
     last: &mut Answer,
     trace: &mut Vec<Event>,
 ) -> AnswerKept
-    requires of { bank_of (seat_of hold.old) ≡ id_of bank.now }
-    requires held { holding (seat_of hold.old) ≡ holding_of list.now }
-    requires room { vec_len trace.old + 512 ≤ vec_capacity trace.old }
+    requires { IsReady (id_of bank.now) (seat_of hold.old) list.now trace.old 512 }
     ensures ran { Ran (IsFront list.now) 1 (seat_of hold.old) (seat_of hold.new) trace.old trace.new }
     ensures held { holding (seat_of hold.new) ≡ holding_of list.now }
     ensures reads { (told : Result ℕ Fault) × (Reads (id_of bank.now) (seat_of hold.old) (seat_of hold.new) list.now tok cell trace.old trace.new told × (last.new ≡ value_or told)) }
@@ -171,9 +164,7 @@ pub(crate) fn write(
     last: &mut Answer,
     trace: &mut Vec<Event>,
 ) -> AnswerKept
-    requires of { bank_of (seat_of hold.old) ≡ id_of bank.now }
-    requires held { holding (seat_of hold.old) ≡ holding_of list.now }
-    requires room { vec_len trace.old + 512 ≤ vec_capacity trace.old }
+    requires { IsReady (id_of bank.now) (seat_of hold.old) list.now trace.old 512 }
     ensures ran { Ran (IsFront list.now) 1 (seat_of hold.old) (seat_of hold.new) trace.old trace.new }
     ensures held { holding (seat_of hold.new) ≡ holding_of list.now }
     ensures stores { (told : Result (Unit {0}) Fault) × (Stores (id_of bank.now) (seat_of hold.old) (seat_of hold.new) list.now tok cell value trace.old trace.new told × (last.new ≡ done_or told)) }
@@ -193,9 +184,7 @@ pub(crate) fn add(
     last: &mut Answer,
     trace: &mut Vec<Event>,
 ) -> AnswerKept
-    requires of { bank_of (seat_of hold.old) ≡ id_of bank.now }
-    requires held { holding (seat_of hold.old) ≡ holding_of list.now }
-    requires room { vec_len trace.old + 512 ≤ vec_capacity trace.old }
+    requires { IsReady (id_of bank.now) (seat_of hold.old) list.now trace.old 512 }
     ensures ran { Ran (IsFront list.now) 1 (seat_of hold.old) (seat_of hold.new) trace.old trace.new }
     ensures held { holding (seat_of hold.new) ≡ holding_of list.now }
     ensures adds { (told : Result (Unit {0}) Fault) × (Adds (id_of bank.now) (seat_of hold.old) (seat_of hold.new) list.now tok k trace.old trace.new told × (last.new ≡ done_or told)) }
@@ -213,9 +202,7 @@ pub(crate) fn read_blob(
     last: &mut Answer,
     trace: &mut Vec<Event>,
 ) -> AnswerKept
-    requires of { bank_of (seat_of hold.old) ≡ id_of bank.now }
-    requires held { holding (seat_of hold.old) ≡ holding_of list.now }
-    requires room { vec_len trace.old + 512 ≤ vec_capacity trace.old }
+    requires { IsReady (id_of bank.now) (seat_of hold.old) list.now trace.old 512 }
     ensures ran { Ran (IsFront list.now) 1 (seat_of hold.old) (seat_of hold.new) trace.old trace.new }
     ensures held { holding (seat_of hold.new) ≡ holding_of list.now }
     ensures reads { (told : Result (List ℕ) Fault) × (ReadsRecord (id_of bank.now) (seat_of hold.old) (seat_of hold.new) list.now tok trace.old trace.new told × (last.new ≡ bytes_or told)) }
@@ -234,9 +221,7 @@ pub(crate) fn write_blob(
     last: &mut Answer,
     trace: &mut Vec<Event>,
 ) -> AnswerKept
-    requires of { bank_of (seat_of hold.old) ≡ id_of bank.now }
-    requires held { holding (seat_of hold.old) ≡ holding_of list.now }
-    requires room { vec_len trace.old + 512 ≤ vec_capacity trace.old }
+    requires { IsReady (id_of bank.now) (seat_of hold.old) list.now trace.old 512 }
     ensures ran { Ran (IsFront list.now) 1 (seat_of hold.old) (seat_of hold.new) trace.old trace.new }
     ensures held { holding (seat_of hold.new) ≡ holding_of list.now }
     ensures stores { (told : Result (Unit {0}) Fault) × (StoresRecord (id_of bank.now) (seat_of hold.old) (seat_of hold.new) list.now tok blob.now trace.old trace.new told × (last.new ≡ done_or told)) }

@@ -1,29 +1,31 @@
 use Rattle.std.proofs.Common.{◌≡◌, ◌≢◌, ◌⊎◌, ℕ, ◌+◌, ◌<◌, true, List, [], ◌∷◌, ◌++◌, length, take, refl, ap, sym, ◌∙◌, subst, arith, inl, inr, Option, Some, None, Result, Ok, Err, length-append, add-zero}
-use Rattle.std.specs.Prelude.{◌↔◌, All, IfOk, OnOk, OnErr, IsSomeAnd, slice_get, Vec, vec_len, filter}
+use Rattle.std.specs.Prelude.{◌↔◌, All, IfOk, IfErr, OnOk, OnErr, IsSomeAnd, slice_get, Vec, vec_len, filter}
 use Rattle.std.specs.List.{AllZip}
 use Rattle.std.specs.declared.alloc.Global.{Global}
 use Rattle.std.proofs.lemmas.List.{take_at, take_all, same_from_push}
 use Rattle.lwkt_base.specs.declared.faults.Fault.{Fault}
 use Rattle.lwkt_base.specs.declared.faults.Fault.TheVariants.{NotHeld, NotLast}
+use Rattle.lwkt_base.specs.declared.names.TokId.{TokId}
 use Rattle.lwkt_base.specs.declared.names.Mode.{Mode}
+use Rattle.lwkt_base.specs.declared.names.Mode.TheVariants.{Exclusive, Shared}
 use Rattle.lwkt_base.specs.declared.names.Ref.{Ref}
 use Rattle.lwkt_base.specs.declared.holdings.Held.{Held}
 use Rattle.lwkt_base.specs.declared.holdings.Held.TheVariants.{Nothing, Holds}
 use Rattle.lwkt_base.specs.Refs.{first_mode, IsLastTo}
 use Rattle.lwkt_base.specs.Holding.{Holding, is_held, one_more, added, removed, holding_of}
 use Rattle.lwkt_core.specs.declared.events.Event.{Event}
+use Rattle.lwkt_core.specs.declared.events.Event.TheVariants.{Mark}
 use Rattle.lwkt_core.specs.Events.{cpu_of}
 use Rattle.lwkt_bank.specs.declared.seats.CpuSeat.{CpuSeat}
 use Rattle.lwkt_bank.specs.Seats.{holding}
 use Rattle.lwkt_hold.specs.declared.answers.Missed.{Missed}
-use Rattle.lwkt_hold.specs.declared.answers.Acquired.{Acquired}
-use Rattle.lwkt_hold.specs.declared.answers.Acquired.TheVariants.{MustSwitch}
 use Rattle.lwkt_base.specs.declared.names.CpuId.{CpuId}
 use Rattle.lwkt_hold.specs.Fronts.{IsFront}
 use Rattle.lwkt_hold.specs.Takings.{taking_event}
 use Rattle.lwkt_table.specs.History.{events_in, steps_in}
 use Rattle.lwkt_hold.specs.Steps.{is_counted, is_of_token, is_on_word, ShowsEvent, Tells}
 use Rattle.lwkt_hold.specs.Runs.{Moves, Ran}
+use Rattle.lwkt_hold.specs.Outcomes.{Marks}
 use Rattle.lwkt_hold.proofs.HoldingMoves.{holding_of_push, removed_added}
 use Rattle.lwkt_hold.proofs.GiveMoves.{more_here, held_more}
 use Rattle.lwkt_hold.proofs.ReadMoves.{mode_of, modes, whole_front}
@@ -112,9 +114,19 @@ ran_silent P Q m n a b t u silent ran =
 pub lost_as : (r : Result (Unit {0}) Missed) (why : Missed) → r ≡ Err why → ◌≡◌ {A = Result (Result (Unit {0}) Missed) Fault} (Ok r) (Ok (Err why))
 lost_as r why is = ap Ok is
 
--- two answers to switch that are equal have one reason
-pub same_switch : (a b : Missed) → ◌≡◌ {A = Result Acquired Fault} (Ok (MustSwitch a)) (Ok (MustSwitch b)) → a ≡ b
-same_switch a b is = cc
+-- what a miss tells, at its reason
+pub missed_as : (r : Result (Unit {0}) Missed) (why : Missed) (P : Missed → Type 0) → ◌≡◌ {A = Result (Result (Unit {0}) Missed) Fault} (Ok r) (Ok (Err why)) → IfErr r P → P why
+missed_as (Ok u) why P is told = absurd (let e = is in cc)
+missed_as (Err e) why P is told = let same : e ≡ why = cc in subst P same told
+
+pub lost_so : (r : Result (Unit {0}) Missed) (why : Missed) (P : Type 0) → ◌≡◌ {A = Result (Result (Unit {0}) Missed) Fault} (Ok r) (Ok (Err why)) → OnErr r P → P
+lost_so (Ok u) why P is told = absurd (let e = is in cc)
+lost_so (Err e) why P is told = told
+
+-- the mark of a miss, by the mode of its reference
+pub marks_by : (mode : Mode) (cpu : CpuId) (tok : TokId) (t u : Vec Event Global) → (mode ≡ Exclusive → u.items ≡ t.items ++ Mark cpu tok ∷ []) → (mode ≡ Shared → u ≡ t) → Marks mode cpu tok t u
+marks_by Exclusive cpu tok t u marked unmarked = marked refl
+marks_by Shared cpu tok t u marked unmarked = unmarked refl
 
 -- the last reference of a list that is held, as the token that is given back
 module _ (s : CpuSeat) (refs front : List Ref) (last : Ref) (tok : ℕ) (held : holding s ≡ holding_of refs) (is : refs ≡ front ++ last ∷ []) (same : last.tok.0 ≡ tok) where

@@ -24,19 +24,19 @@ pub returns-in-WriteBlob-clause-ran : goal.returns-in-WriteBlob-clause-ran
 returns-in-WriteBlob-clause-ran c = ran_left c.args.list.now c.args.list.now 1 c.args.hold.now.seat c.write_blob.new.hold.seat c.args.trace.now c.write_blob.new.trace (omega arith) c.write_blob.ensures.ran
 
 pub returns-in-Send-clause-ran : goal.returns-in-Send-clause-ran
-returns-in-Send-clause-ran c = ran_left c.args.list.now c.args.list.now 1 c.args.hold.now.seat c.args.hold.now.seat c.args.trace.now c.send.new.trace (omega arith) (ran_mail_held c.args.list.now (desk_cpu c.args.ports.now.seat) 1 1 c.args.hold.now.seat c.args.trace.now c.send.new.trace (omega arith) c.requires.mine c.requires.held c.send.ensures.grew)
+returns-in-Send-clause-ran c = ran_left c.args.list.now c.args.list.now 1 c.args.hold.now.seat c.args.hold.now.seat c.args.trace.now c.send.new.trace (omega arith) (ran_mail_held c.args.list.now (desk_cpu c.args.ports.now.seat) 1 1 c.args.hold.now.seat c.args.trace.now c.send.new.trace (omega arith) c.requires.mine c.requires.ready.held c.send.ensures.grew)
 
 pub returns-in-Do-clause-ran : goal.returns-in-Do-clause-ran
 returns-in-Do-clause-ran c = ran_left c.args.list.now (kept_list (next_with c.send_and_wait.result c.send_and_wait.new.last) c.args.list.now) 320 c.args.hold.now.seat c.send_and_wait.new.hold.seat c.args.trace.now c.send_and_wait.new.trace (omega arith) c.send_and_wait.ensures.ran
 
 pub returns-in-Reply-clause-ran : goal.returns-in-Reply-clause-ran
-returns-in-Reply-clause-ran c = ran_left c.args.list.now c.args.list.now 1 c.args.hold.now.seat c.args.hold.now.seat c.args.trace.now c.reply.new.trace (omega arith) (ran_mail_held c.args.list.now (desk_cpu c.args.ports.now.seat) 1 1 c.args.hold.now.seat c.args.trace.now c.reply.new.trace (omega arith) c.requires.mine c.requires.held c.reply.ensures.grew)
+returns-in-Reply-clause-ran c = ran_left c.args.list.now c.args.list.now 1 c.args.hold.now.seat c.args.hold.now.seat c.args.trace.now c.reply.new.trace (omega arith) (ran_mail_held c.args.list.now (desk_cpu c.args.ports.now.seat) 1 1 c.args.hold.now.seat c.args.trace.now c.reply.new.trace (omega arith) c.requires.mine c.requires.ready.held c.reply.ensures.grew)
 
 pub returns-in-Abort-clause-ran : goal.returns-in-Abort-clause-ran
-returns-in-Abort-clause-ran c = ran_left c.args.list.now c.args.list.now 1 c.args.hold.now.seat c.args.hold.now.seat c.args.trace.now c.abort.new.trace (omega arith) (ran_mail_held c.args.list.now (desk_cpu c.args.ports.now.seat) 1 1 c.args.hold.now.seat c.args.trace.now c.abort.new.trace (omega arith) c.requires.mine c.requires.held c.abort.ensures.grew)
+returns-in-Abort-clause-ran c = ran_left c.args.list.now c.args.list.now 1 c.args.hold.now.seat c.args.hold.now.seat c.args.trace.now c.abort.new.trace (omega arith) (ran_mail_held c.args.list.now (desk_cpu c.args.ports.now.seat) 1 1 c.args.hold.now.seat c.args.trace.now c.abort.new.trace (omega arith) c.requires.mine c.requires.ready.held c.abort.ensures.grew)
 
 pub returns-in-DropMsg-clause-ran : goal.returns-in-DropMsg-clause-ran
-returns-in-DropMsg-clause-ran c = ran_left c.args.list.now c.args.list.now 1 c.args.hold.now.seat c.args.hold.now.seat c.args.trace.now c.drop_msg.new.trace (omega arith) (ran_mail_held c.args.list.now (desk_cpu c.args.ports.now.seat) 1 1 c.args.hold.now.seat c.args.trace.now c.drop_msg.new.trace (omega arith) c.requires.mine c.requires.held c.drop_msg.ensures.grew)
+returns-in-DropMsg-clause-ran c = ran_left c.args.list.now c.args.list.now 1 c.args.hold.now.seat c.args.hold.now.seat c.args.trace.now c.drop_msg.new.trace (omega arith) (ran_mail_held c.args.list.now (desk_cpu c.args.ports.now.seat) 1 1 c.args.hold.now.seat c.args.trace.now c.drop_msg.new.trace (omega arith) c.requires.mine c.requires.ready.held c.drop_msg.ensures.grew)
 
 pub returns-in-IsAborted-clause-ran : goal.returns-in-IsAborted-clause-ran
 returns-in-IsAborted-clause-ran c = ran_still (IsBetween c.args.list.now c.args.list.now) 320 c.args.hold.now.seat c.args.trace.now
@@ -45,7 +45,7 @@ pub returns-in-IsAborted-clause-told : goal.returns-in-IsAborted-clause-told
 returns-in-IsAborted-clause-told c = c.is_aborted.ensures.told c.args.trace.now.items
 
 pub returns-in-GetPort-clause-ran : goal.returns-in-GetPort-clause-ran
-returns-in-GetPort-clause-ran c = ran_left c.args.list.now c.args.list.now 128 c.args.hold.now.seat c.args.hold.now.seat c.args.trace.now c.get_port.new.trace (omega arith) (ran_mail_held c.args.list.now (desk_cpu c.args.ports.now.seat) 128 128 c.args.hold.now.seat c.args.trace.now c.get_port.new.trace (omega arith) c.requires.mine c.requires.held c.get_port.ensures.grew)
+returns-in-GetPort-clause-ran c = ran_left c.args.list.now c.args.list.now 128 c.args.hold.now.seat c.args.hold.now.seat c.args.trace.now c.get_port.new.trace (omega arith) (ran_mail_held c.args.list.now (desk_cpu c.args.ports.now.seat) 128 128 c.args.hold.now.seat c.args.trace.now c.get_port.new.trace (omega arith) c.requires.mine c.requires.ready.held c.get_port.ensures.grew)
 
 pub returns-in-WaitPort-clause-ran : goal.returns-in-WaitPort-clause-ran
 returns-in-WaitPort-clause-ran c = ran_left c.args.list.now (kept_list (next_with c.wait_port.result c.wait_port.new.last) c.args.list.now) 320 c.args.hold.now.seat c.wait_port.new.hold.seat c.args.trace.now c.wait_port.new.trace (omega arith) c.wait_port.ensures.ran
