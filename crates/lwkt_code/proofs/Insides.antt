@@ -56,7 +56,7 @@ all_flawless steps h k = ⊎_elim (λ w. h k w) (λ g. past_flawless (length ste
 sound : (steps : List Step) → ((k : ℕ) → k < length steps → flaw_at steps k ≡ None) → ((k : ℕ) → k < length steps → Opens steps k) → IsSound steps
 sound steps f o = let a = all_flawless steps f in record { flawless = a; accepted = accepted steps (flawless_inside steps a) o }
 
-pub told_wrong : (steps : List Step) (found : Option (ℕ × ℕ)) → ((k : ℕ) → k < length steps → flaw_at steps k ≡ None)
+pub found_wrong : (steps : List Step) (found : Option (ℕ × ℕ)) → ((k : ℕ) → k < length steps → flaw_at steps k ≡ None)
     → MatchOption found ((k : ℕ) → k < length steps → Opens steps k) (λ r. IsCircle steps r.0 r.1) → MatchOption (circle_of found) (IsSound steps) (IsWrong steps)
-told_wrong steps None f h = sound steps f h
-told_wrong steps (Some circle) f h = (all_flawless steps f, h)
+found_wrong steps None f h = sound steps f h
+found_wrong steps (Some circle) f h = (all_flawless steps f, h)

@@ -74,7 +74,7 @@ module _ (asks : List Ask) (repeat : ℕ) where
     pub last : is_last s ≡ true
     pub exits : (j : ℕ) → k ≤ j → listed_ask repeat asks j ≡ Exit
 
-  -- a poll, told by its outcome
+  -- a poll, by its outcome
   abbrev Good : ℕ → Wanted × Local → Type 0
   Good k r = (r.0 ≡ AskFor (listed_ask repeat asks k)) × (Within (k + 1) r.1 ⊎ Past (k + 1) r.1)
 

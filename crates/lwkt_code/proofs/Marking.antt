@@ -152,11 +152,11 @@ opens steps marks begin h e = (
 )
 
 -- what the mark of the beginning says
-pub told_circle : (steps : List Step) (marks : List ℕ) (begin back : ℕ) → back ≡ back_from steps marks begin begin → AreMarks steps begin marks
+pub found_circle : (steps : List Step) (marks : List ℕ) (begin back : ℕ) → back ≡ back_from steps marks begin begin → AreMarks steps begin marks
     → ((k : ℕ) → begin < k → k < length steps → slice_index marks k ≡ 0 → back_from steps marks begin k ≡ 0)
     → MatchOption (if back == 0 then None else Some (back - 1)) (Opens steps begin) (IsCircle steps begin)
-told_circle steps marks begin zero e h all = opens steps marks begin all (sym e)
-told_circle steps marks begin (suc n) e h all =
+found_circle steps marks begin zero e h all = opens steps marks begin all (sym e)
+found_circle steps marks begin (suc n) e h all =
     let b : LeadsBack steps begin begin (suc n - 1) = subst (λ m. LeadsBack steps begin begin (m - 1)) (sym e) (leads_back steps marks begin begin h (omega arith)) in
     rw (ne_eqb (suc n) 0 (λ z. omega arith)) b
 

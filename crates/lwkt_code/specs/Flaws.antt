@@ -8,7 +8,7 @@ use Rattle.lwkt_code.specs.declared.exprs.Expr.TheVariants.{Number, Variable, Bo
 use Rattle.lwkt_code.specs.declared.exprs.Cond.{Cond}
 use Rattle.lwkt_code.specs.declared.exprs.Cond.TheVariants.{Compare, And', Or', Not'}
 use Rattle.lwkt_code.specs.declared.checks.Flaw.{Flaw}
-use Rattle.lwkt_code.specs.declared.checks.Flaw.TheVariants.{NoVariable, NoCount, Outside, Large, Parts, Places as TooManyPlaces}
+use Rattle.lwkt_code.specs.declared.checks.Flaw.TheVariants.{NoVariable, NoCount, Outside, Large, StepParts, Places as TooManyPlaces}
 use Rattle.lwkt_code.specs.declared.steps.Operand.{Operand}
 use Rattle.lwkt_code.specs.declared.steps.Operand.TheVariants.{Token, Cell, Value, Record, Message, Target, Call, Flags, Code, Outcome}
 use Rattle.lwkt_code.specs.declared.steps.Places.{Places}
@@ -95,7 +95,7 @@ flaw_of_places most (Three u v w) = if nat_lt most 3 then Some TooManyPlaces els
 
 -- what is wrong with a wish: whether it makes an ask doesn't depend on what its variables hold
 abbrev pub flaw_of_wish : Wish → Places → Option Flaw
-flaw_of_wish wish places = if is_none (made wish (replicate 8 0)) then Some Parts else option_or (flaw_of_operands wish.operands.items) (flaw_of_places (most_places wish.verb) places)
+flaw_of_wish wish places = if is_none (made wish (replicate 8 0)) then Some StepParts else option_or (flaw_of_operands wish.operands.items) (flaw_of_places (most_places wish.verb) places)
 
 -- what is wrong with a step of a program of so many
 abbrev pub flaw_of : ℕ → Step → Option Flaw

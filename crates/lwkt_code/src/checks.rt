@@ -22,7 +22,7 @@ pub enum Flaw {
     /// It has an expression or a condition of more than 16 operators.
     Large,
     /// What stands behind the word of its ask isn't of the ask's kinds.
-    Parts,
+    StepParts,
     /// It has more places than the answer to its ask has numbers.
     Places,
 }
@@ -223,7 +223,7 @@ fn flaw_of_wish(wish: &Wish, places: Places) -> Option<Flaw>
     ensures { result ≡ flaw_of_wish wish.now places }
 {
     if make(wish, &[0; 8]).is_none() {
-        return Some(Flaw::Parts);
+        return Some(Flaw::StepParts);
     }
     flaw_of_operands(wish.operands.as_slice()).or(flaw_of_places(most_places(wish.verb), places))
 }

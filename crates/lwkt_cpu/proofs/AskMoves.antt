@@ -78,7 +78,7 @@ switched refs now new a b t u x why is m = let F : Acquired → Type 0 = λ y. A
 
 -- the token of a reference that wasn't refused exists
 pub there_for : {A : Type 0} (bank : BankId) (s : CpuSeat) (refs : List Ref) (new : Ref) (Late : Fault → Type 0) (x : A) → bank_of s ≡ bank → RefusedBy {A = A} (get_refusal bank refs new) Late (Ok x) → new.tok.0 < tokens_of (bank_of s)
-there_for {A} bank s refs new Late x of_bank told = let same = ap (λ (b : BankId). tokens_of b) of_bank in omega (arith, same, get_there {A = A} bank refs new Late x told)
+there_for {A} bank s refs new Late x of_bank traced = let same = ap (λ (b : BankId). tokens_of b) of_bank in omega (arith, same, get_there {A = A} bank refs new Late x traced)
 
 -- after a refusal the list is held as before, and after a try it is held
 pub unmoved : (refs now : List Ref) (a b : CpuSeat) (t u : Vec Event Global) → holding a ≡ holding_of refs → now ≡ refs → ChangesNothing a b t u → holding b ≡ holding_of now
@@ -90,8 +90,8 @@ tried_holds refs now new a b t u (Err fault) held ok err = unmoved refs now a b 
 
 -- after a try the tokens of the list exist
 pub there_tried : (bank : BankId) (refs now : List Ref) (new : Ref) (a b : CpuSeat) (t u : Vec Event Global) (Late : Fault → Type 0) (r : Result (Unit {0}) Fault) → bank_of a ≡ bank → RefusedBy (get_refusal bank refs new) Late r → OnOk r (Takes refs now new a b t u) → OnErr r ((now ≡ refs) × ChangesNothing a b t u) → There (tokens_of (bank_of a)) refs → There (tokens_of (bank_of a)) now
-there_tried bank refs now new a b t u Late (Ok x) of_bank told ok err all = there_pushed (tokens_of (bank_of a)) refs now new ok.pushed (there_for {A = Unit {0}} bank a refs new Late x of_bank told) all
-there_tried bank refs now new a b t u Late (Err f) of_bank told ok err all = there_same (tokens_of (bank_of a)) refs now err.0 all
+there_tried bank refs now new a b t u Late (Ok x) of_bank traced ok err all = there_pushed (tokens_of (bank_of a)) refs now new ok.pushed (there_for {A = Unit {0}} bank a refs new Late x of_bank traced) all
+there_tried bank refs now new a b t u Late (Err f) of_bank traced ok err all = there_same (tokens_of (bank_of a)) refs now err.0 all
 
 -- after a release: the list is without its last reference, or as before
 there_popped : (n : ℕ) (refs now : List Ref) (last : Ref) → refs ≡ now ++ last ∷ [] → There n refs → There n now

@@ -8,7 +8,7 @@ use Rattle.atomic_table.specs.Seated.{TableId}
 use Rattle.lwkt_bank.specs.Seats.{BankId, bank_of, holding}
 use Rattle.lwkt_hold.specs.Runs.{Ran as Runs}
 use Rattle.lwkt_port.specs.Posts.{IsSamePost}
-use Rattle.lwkt_cpu.specs.Telling.{TellsMail}
+use Rattle.lwkt_cpu.specs.Traced.{TracesMail}
 use Rattle.lwkt_cpu.specs.declared.phases.Phase.TheVariants.{Live}
 use Rattle.lwkt_cpu.specs.declared.answers.Turned.{Turned}
 use Rattle.lwkt_cpu.specs.declared.answers.Turned.TheVariants.{Ran, Idle, AllExited}
@@ -86,6 +86,6 @@ pub record MakesTurn {B : Type 0} (polled : B → Answer → Ask → B → Type 
   pub mail : TakesMail old mid room v
   pub turns : Turns polled bank mid new v u turned
   pub ran : Runs (IsOfThread old.threads new.threads) 4096 old.seat new.seat t u
-  pub told : TellsMail old.post.seat new.post.seat t.items u.items
+  pub traced : TracesMail old.post.seat new.post.seat t.items u.items
   pub ports : IsSamePost old.post new.post
   pub rest : IsAtRest new

@@ -6,7 +6,7 @@ ghost use Rattle.lwkt_hold.specs.Fronts.{IsBetween};
 ghost use Rattle.lwkt_hold.specs.Runs.{Ran};
 ghost use Rattle.lwkt_cpu.specs.Nexts.{kept_list, next_with};
 ghost use Rattle.lwkt_cpu.specs.Table.{Performs, MayPerform, EndsInOrder};
-ghost use Rattle.lwkt_cpu.specs.Telling.{TellsMail};
+ghost use Rattle.lwkt_cpu.specs.Traced.{TracesMail};
 
 use crate::calls::{add, get, read, read_blob, rel, swap, try_get, write, write_blob};
 use crate::leaves::{leave, leave_ready};
@@ -60,7 +60,7 @@ pub fn perform(
     requires { MayPerform (id_of bank.now) book.now.table thread (seat_of hold.old) ports.old list.old trace.old 512 }
     ensures performs { Performs (id_of bank.now) thread (seat_of hold.old) (seat_of hold.new) ports.old ports.new list.old list.new trace.old trace.new ask.now (next_with result last.new) }
     ensures ran { Ran (IsBetween list.old (kept_list (next_with result last.new) list.new)) 320 (seat_of hold.old) (seat_of hold.new) trace.old trace.new }
-    ensures told { TellsMail ports.old.seat ports.new.seat trace.old.items trace.new.items }
+    ensures traced { TracesMail ports.old.seat ports.new.seat trace.old.items trace.new.items }
     ensures order { EndsInOrder (seat_of hold.new) (tokens_of (bank_of (seat_of hold.old))) list.old list.new ports.old ports.new last.old last.new result }
 {
     match *ask {

@@ -251,7 +251,7 @@ impl ShortEvent {
     /// `OutOfMemory` if memory is refused.
     #[inline(always)]
     #[tactic(auto, using(crate::proofs::StretchMoves::no_more))]
-    pub fn tell(
+    pub fn add_to(
         &self,
         cells: &[CellSection],
         longs: &[Event],

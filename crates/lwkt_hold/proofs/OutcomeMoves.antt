@@ -53,11 +53,11 @@ on_err (Err e) P p = p
 
 -- the token of a reference that wasn't refused exists
 pub get_there : {A : Type 0} (bank : BankId) (refs : List Ref) (new : Ref) (Late : Fault → Type 0) (x : A) → RefusedBy {A = A} (get_refusal bank refs new) Late (Ok x) → new.tok.0 < tokens_of bank
-get_there {A} bank refs new Late x told = elim (cases_lt new.tok.0 (tokens_of bank)) [
+get_there {A} bank refs new Late x traced = elim (cases_lt new.tok.0 (tokens_of bank)) [
   | inl below ↦ below
   | inr over ↦ absurd (
       let F : Option Fault → Type 0 = λ o. RefusedBy {A = A} o Late (Ok x) in
       let first : get_refusal bank refs new ≡ Some NoToken = rw (le-leb (tokens_of bank) new.tok.0 over) refl in
-      let wrong : ◌≡◌ {A = Result A Fault} (Ok x) (Err NoToken) = subst F first told in
+      let wrong : ◌≡◌ {A = Result A Fault} (Ok x) (Err NoToken) = subst F first traced in
       cc)
 ]

@@ -19,7 +19,7 @@ use Rattle.lwkt_hold.specs.Rows.{SameRow}
 use Rattle.lwkt_hold.specs.Stays.{Stays, RunsUnseen}
 use Rattle.lwkt_hold.proofs.RunMoves.{changed_steps, ran_quiet}
 use Rattle.lwkt_hold.proofs.TakeMoves.{looked-held}
-use Rattle.lwkt_hold.proofs.ListMoves.{stands_from, same_from, stands_now, looked-stands}
+use Rattle.lwkt_hold.proofs.ListMoves.{keeps_from, same_from, keeps_now, looked-stands}
 
 -- a look at the reference of a place
 pub looked_stays : (s s' : CpuSeat) (refs list : List Ref) (at : ℕ) (d : Ref) (found word : ℕ) (still : Bool) → refs ≡ list → at < length refs → Looked s s' (get_or refs at d).tok.0 found → (still ≡ true → found ≡ word) → (still ≡ false → found ≢ word) → Stays s s' list at word still
@@ -47,7 +47,7 @@ looked_same s s' tok found l other = elim (cases_Bool (eqb other tok)) [
       let same = eqb-true other tok is in
       let e = entry s tok in
       let F : ℕ → Type 0 = λ t. SameRow s s' t in
-      subst F (sym same) (stands_from s s' tok (looked e found) l.changes.here (looked-stands s tok e found (stands_now s tok)))
+      subst F (sym same) (keeps_from s s' tok (looked e found) l.changes.here (looked-stands s tok e found (keeps_now s tok)))
   | inr is ↦ same_from s s' other (l.changes.else_ other (eqb-false other tok is))
 ]
 
@@ -59,7 +59,7 @@ lost_same s s' tok mode alone l other = elim (cases_Bool (eqb other tok)) [
       let e = entry s tok in
       let m = looked e l.word in
       let F : ℕ → Type 0 = λ t. SameRow s s' t in
-      subst F (sym same) (stands_from s s' tok (looked m l.found) l.changes.here (looked-stands s tok m l.found (looked-stands s tok e l.word (stands_now s tok))))
+      subst F (sym same) (keeps_from s s' tok (looked m l.found) l.changes.here (looked-stands s tok m l.found (looked-stands s tok e l.word (keeps_now s tok))))
   | inr is ↦ same_from s s' other (l.changes.else_ other (eqb-false other tok is))
 ]
 

@@ -37,29 +37,29 @@ pub record ChangesNothing (old new : CpuSeat) (before now : Vec Event Global) : 
 -- a cell of a token was read: the value in the token's row, which stays as it was (own)
 pub record Reads (old new : CpuSeat) (tok : TokId) (cell value : ℕ) (before now : Vec Event Global) : Type 0 where
   pub value_is : value ≡ slice_index (row old tok.0) cell
-  pub told : now.items ≡ before.items ++ Read old.cpu tok cell value ∷ []
+  pub traced : now.items ≡ before.items ++ Read old.cpu tok cell value ∷ []
   pub rows : OnlyRow old new tok.0 (row old tok.0)
 
 -- a value was stored in a cell of a token: the token's row has it there, and no other cell or record changed (own)
 pub record Writes (old new : CpuSeat) (tok : TokId) (cell value : ℕ) (before now : Vec Event Global) : Type 0 where
-  pub told : now.items ≡ before.items ++ Write old.cpu tok cell value ∷ []
+  pub traced : now.items ≡ before.items ++ Write old.cpu tok cell value ∷ []
   pub rows : OnlyRow old new tok.0 (slice_set (row old tok.0) cell value)
 
 -- the record of a token was read, and stays as it was (own)
 pub record ReadsRecord (old new : CpuSeat) (tok : TokId) (bytes : List ℕ) (before now : Vec Event Global) : Type 0 where
   pub value_is : blob old tok.0 ≡ Some bytes
-  pub told : now.items ≡ before.items ++ ReadBlob old.cpu tok bytes ∷ []
+  pub traced : now.items ≡ before.items ++ ReadBlob old.cpu tok bytes ∷ []
   pub records : OnlyRecord old new tok.0 (blob old tok.0)
 
 -- the record of a token was written, and no cell or other record changed (own)
 pub record WritesRecord (old new : CpuSeat) (tok : TokId) (bytes : List ℕ) (before now : Vec Event Global) : Type 0 where
-  pub told : now.items ≡ before.items ++ WriteBlob old.cpu tok bytes ∷ []
+  pub traced : now.items ≡ before.items ++ WriteBlob old.cpu tok bytes ∷ []
   pub records : OnlyRecord old new tok.0 (Some bytes)
 
 -- a reference is last on a list and held, as a first one to its token or a further one (token(9))
 pub record Takes (refs now : List Ref) (last : Ref) (old new : CpuSeat) (before after : Vec Event Global) : Type 0 where
   pub pushed : now ≡ refs ++ last ∷ []
-  pub told : after.items ≡ before.items ++ taking_event old.cpu refs last ∷ []
+  pub traced : after.items ≡ before.items ++ taking_event old.cpu refs last ∷ []
   pub held : holding new ≡ holding_of now
   pub rows : TakesRows old new
 

@@ -41,7 +41,7 @@ pub(crate) fn take_one(
     ensures taken { OnOk result (holding seat.new ≡ holding_of (take (at + 1) refs.now)) }
     ensures kept { OnErr result (holding seat.new ≡ holding seat.old) }
     ensures silent { OnErr result (trace.new ≡ trace.old) }
-    ensures told { OnOk result (IsSomeAnd (slice_get refs.now at) (λ r. trace.new.items ≡ trace.old.items ++ taking_event seat.old.cpu (take at refs.now) r ∷ [])) }
+    ensures traced { OnOk result (IsSomeAnd (slice_get refs.now at) (λ r. trace.new.items ≡ trace.old.items ++ taking_event seat.old.cpu (take at refs.now) r ∷ [])) }
     ensures rows { TakesRows seat.old seat.new }
     ensures same { OnErr result ((tok : ℕ) → SameRow seat.old seat.new tok) }
     ensures missed { IfErr result (λ why. Misses seat.old seat.new refs.now at why) }

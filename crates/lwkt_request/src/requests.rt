@@ -78,7 +78,7 @@ pub enum Asked {
     /// This request.
     Do(Request),
     /// A help page or the version: this text, on standard output, with status 0.
-    Tell(String),
+    Print(String),
     /// Nothing that `lwkt` does: this text, on standard error, with status 1.
     Misuse(String),
     /// Nothing that `lwkt_run` does: its usage line `lwkt_run: turns or threads`, on standard output, with status 1.

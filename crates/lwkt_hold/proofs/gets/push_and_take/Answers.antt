@@ -25,8 +25,8 @@ pub returns-clause-got : goal.returns-clause-got
 returns-clause-got c =
     let t = c.take_one in
     λ is.
-    let g = got_as t.result c.refs.result.now c.push.new.self c.args.list.now c.args.new c.len-at.result c.args.seat.now.cpu (holding t.new.seat) c.args.trace.now.items t.new.trace.items c.refs.ensures.value c.in_ok-push.ensures.ok c.len-at.ensures.value t.ensures.taken t.ensures.told is in
-    record { pushed = c.in_ok-push.ensures.ok; told = g.1; held = g.0; rows = t.ensures.rows }
+    let g = got_as t.result c.refs.result.now c.push.new.self c.args.list.now c.args.new c.len-at.result c.args.seat.now.cpu (holding t.new.seat) c.args.trace.now.items t.new.trace.items c.refs.ensures.value c.in_ok-push.ensures.ok c.len-at.ensures.value t.ensures.taken t.ensures.traced is in
+    record { pushed = c.in_ok-push.ensures.ok; traced = g.1; held = g.0; rows = t.ensures.rows }
 
 pub returns-clause-missed : goal.returns-clause-missed
 returns-clause-missed c =

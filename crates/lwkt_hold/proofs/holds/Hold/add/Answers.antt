@@ -7,8 +7,8 @@ use Rattle.lwkt_bank.specs.Deeds.{writes}
 use Rattle.lwkt_bank.specs.Seats.{entry, first_load}
 use Rattle.lwkt_hold.specs.Fronts.{IsFront}
 use Rattle.lwkt_hold.specs.Outcomes.{ChangesNothing}
-use Rattle.lwkt_hold.specs.Steps.{Tells}
-use Rattle.lwkt_hold.proofs.ReadMoves.{exclusive_listed, tells_store, write_ran, unchanged_kept, unchanged_ran}
+use Rattle.lwkt_hold.specs.Steps.{AreTraced}
+use Rattle.lwkt_hold.proofs.ReadMoves.{exclusive_listed, traced_store, write_ran, unchanged_kept, unchanged_ran}
 use Rattle.lwkt_hold.proofs.GiveMoves.{first_load_ran, knowing_kept}
 use Rattle.lwkt_hold.proofs.RunMoves.{holding_kept}
 use Rattle.lwkt_hold.proofs.OutcomeMoves.{on_err, kept_still, nothing_changed, nothing_but_known}
@@ -44,9 +44,9 @@ returns-clause-keeps c =
     let sum = slice_index (entry s c.args.tok.0).row 0 + c.args.k in
     let k = c.in_ok-value.ensures.ok in
     let e = raised (entry s c.args.tok.0) s.cpu c.args.k in
-    let F : ℕ → Type 0 = λ v. Tells (events_in (first_load s.cpu c.args.tok.0 (entry s c.args.tok.0) 0 ++ writes s.cpu c.args.tok.0 0 sum ∷ [])) (Write c.cpu-cpu.result c.args.tok 0 v ∷ []) × (steps_in (first_load s.cpu c.args.tok.0 (entry s c.args.tok.0) 0 ++ writes s.cpu c.args.tok.0 0 sum ∷ []) ≡ []) in
-    let told = subst F (sym c.in_ok-value.ensures.value) (tells_store s c.args.tok c.cpu-cpu.result 0 sum c.cpu-cpu.ensures.is) in
+    let F : ℕ → Type 0 = λ v. AreTraced (events_in (first_load s.cpu c.args.tok.0 (entry s c.args.tok.0) 0 ++ writes s.cpu c.args.tok.0 0 sum ∷ [])) (Write c.cpu-cpu.result c.args.tok 0 v ∷ []) × (steps_in (first_load s.cpu c.args.tok.0 (entry s c.args.tok.0) 0 ++ writes s.cpu c.args.tok.0 0 sum ∷ []) ≡ []) in
+    let traced = subst F (sym c.in_ok-value.ensures.value) (traced_store s c.args.tok c.cpu-cpu.result 0 sum c.cpu-cpu.ensures.is) in
     record {
-      ran = write_ran c.args.list.now s c.add.new.self c.args.tok e _ c.cpu-cpu.result 0 c.in_ok-value.value c.args.trace.now c.note_write.new.trace k told.0 told.1 refl c.requires.held c.cpu-cpu.ensures.is c.note_write.ensures.items c.note_write.ensures.longer c.note_write.ensures.room;
+      ran = write_ran c.args.list.now s c.add.new.self c.args.tok e _ c.cpu-cpu.result 0 c.in_ok-value.value c.args.trace.now c.note_write.new.trace k traced.0 traced.1 refl c.requires.held c.cpu-cpu.ensures.is c.note_write.ensures.items c.note_write.ensures.longer c.note_write.ensures.room;
       held = holding_kept s c.add.new.self c.args.tok.0 (record e { known = k.known }) _ k.changes refl ∙ c.requires.held;
     }

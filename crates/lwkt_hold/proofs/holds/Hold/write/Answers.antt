@@ -2,7 +2,7 @@ use Rattle.std.proofs.Common.{refl, ◌∙◌}
 use Rattle.lwkt_bank.specs.Views.{stored}
 use Rattle.lwkt_bank.specs.Seats.{entry}
 use Rattle.lwkt_hold.specs.Fronts.{IsFront}
-use Rattle.lwkt_hold.proofs.ReadMoves.{exclusive_listed, tells_store, write_ran, unchanged_kept, unchanged_ran}
+use Rattle.lwkt_hold.proofs.ReadMoves.{exclusive_listed, traced_store, write_ran, unchanged_kept, unchanged_ran}
 use Rattle.lwkt_hold.proofs.RunMoves.{holding_kept}
 use Rattle.lwkt_hold.proofs.OutcomeMoves.{kept_still}
 use Rattle.lwkt_hold.proofs.holds.Hold.write.Goals as goal
@@ -32,8 +32,8 @@ returns-clause-keeps c =
     let s = c.args.self.now.seat in
     let k = c.in_ok-store.ensures.ok in
     let e = stored (entry s c.args.tok.0) c.args.cell c.args.value in
-    let told = tells_store s c.args.tok c.cpu-cpu.result c.args.cell c.args.value c.cpu-cpu.ensures.is in
+    let traced = traced_store s c.args.tok c.cpu-cpu.result c.args.cell c.args.value c.cpu-cpu.ensures.is in
     record {
-      ran = write_ran c.args.list.now s c.store.new.self c.args.tok e _ c.cpu-cpu.result c.args.cell c.args.value c.args.trace.now c.note_write.new.trace k told.0 told.1 refl c.requires.held c.cpu-cpu.ensures.is c.note_write.ensures.items c.note_write.ensures.longer c.note_write.ensures.room;
+      ran = write_ran c.args.list.now s c.store.new.self c.args.tok e _ c.cpu-cpu.result c.args.cell c.args.value c.args.trace.now c.note_write.new.trace k traced.0 traced.1 refl c.requires.held c.cpu-cpu.ensures.is c.note_write.ensures.items c.note_write.ensures.longer c.note_write.ensures.room;
       held = holding_kept s c.store.new.self c.args.tok.0 (record e { known = k.known }) _ k.changes refl ∙ c.requires.held;
     }
