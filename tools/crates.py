@@ -54,6 +54,25 @@ def copy_tree(crates, names, room):
     write(f"{room}/crates.txt", "".join(f"{' '.join([it.name, *it.kind.split()])}: {' '.join(it.uses)}\n" for it in map(crates.get, names)))
 
 
+def link(from_file, to_file):
+    try:
+        os.link(from_file, to_file)
+    except OSError:
+        shutil.copy2(from_file, to_file)
+
+
+def take_built(names, room):
+    """Gives the copies in the folder room the libraries of these crates that a run of `rt ci` has just built in the tree. Returns whether all
+    were there."""
+    for name in names:
+        built = f"{TOP}/crates/{name}/out/rlib"
+        if not os.path.isdir(f"{built}/{name}.rlib"):
+            return False
+        # (links, since the run that built them puts older ones in their place when it ends)
+        shutil.copytree(built, f"{room}/crates/{name}/out/rlib", copy_function=link)
+    return True
+
+
 def prove(room, seconds=None):
     """Has `rt ci` prove the crates in the folder room, or take what it proved of them on this machine before. Returns what is wrong, or None."""
     try:

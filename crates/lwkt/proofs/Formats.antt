@@ -17,7 +17,7 @@ use Rattle.lwkt_run.proofs.ReadMoves.{front_gives, has_run_by, runs_json}
 use Rattle.lwkt_run.specs.declared.modes.Mode.{Mode}
 use Rattle.lwkt_run.specs.declared.runs.End.{End}
 use Rattle.lwkt_run.specs.Modes.{HasRunBy, RunsJsonAs}
-use Rattle.lwkt_run.specs.Run.{DeclinesRun, Refuses, end_by, end_told, exit_status}
+use Rattle.lwkt_run.specs.Run.{DeclinesRun, Refuses, end_by, end_of_closing, exit_status}
 use Rattle.lwkt_script.specs.declared.scripts.Script.{Script}
 use Rattle.lwkt_script.specs.Format.{script_of}
 use Rattle.lwkt_script.specs.Outcome.{IsFaultOf}
@@ -43,7 +43,7 @@ status_by verdicts.Lawful false = refl
 status_by (verdicts.Unlawful index) true = refl
 status_by (verdicts.Unlawful index) false = refl
 
-pub status_unasked : (closing : Closing) → status_of_judgement (judgement_of [] closing) ≡ exit_status (Ok (end_told closing))
+pub status_unasked : (closing : Closing) → status_of_judgement (judgement_of [] closing) ≡ exit_status (Ok (end_of_closing closing))
 status_unasked closing = status_by closing.verdict (all_ended closing)
 
 abbrev input_or : Input → Result Input Unread → Input
@@ -88,12 +88,12 @@ abbrev front : List ℕ → List ℕ
 front bytes = take READ_LIMIT bytes
 
 -- a report is that of a run of the JSON
-has_run : (mode : Mode) (bytes text : List ℕ) (input : Input) (status : ℕ) (report : IsReport mode input text status) → json_input (script_of bytes) ≡ Ok input → HasRunBy mode (front bytes) (end_told report.closing) text
+has_run : (mode : Mode) (bytes text : List ℕ) (input : Input) (status : ℕ) (report : IsReport mode input text status) → json_input (script_of bytes) ≡ Ok input → HasRunBy mode (front bytes) (end_of_closing report.closing) text
 has_run mode bytes text input status report is =
-    let Runs : List ℕ → Type 0 = λ t. HasRunBy mode (front bytes) (end_told report.closing) t in
+    let Runs : List ℕ → Type 0 = λ t. HasRunBy mode (front bytes) (end_of_closing report.closing) t in
     subst Runs (sym report.is_text) (has_run_by mode (front bytes) input.script report.closing (front_gives bytes (Ok input.script) (json_read (script_of bytes) input is).0) report.closes)
 
-status_run : (mode : Mode) (bytes text : List ℕ) (input : Input) (status : ℕ) (report : IsReport mode input text status) → json_input (script_of bytes) ≡ Ok input → status ≡ exit_status (Ok (end_told report.closing))
+status_run : (mode : Mode) (bytes text : List ℕ) (input : Input) (status : ℕ) (report : IsReport mode input text status) → json_input (script_of bytes) ≡ Ok input → status ≡ exit_status (Ok (end_of_closing report.closing))
 status_run mode bytes text input status report is =
     report.is_status ∙ ap (λ (said : List Expectation). status_of_judgement (judgement_of said report.closing)) (json_read (script_of bytes) input is).1 ∙ status_unasked report.closing
 
@@ -106,7 +106,7 @@ json_answered : (on_threads : Bool) (order : Option (List ℕ)) (bytes : List �
     → Answers (Run on_threads true) order (json_input (script_of bytes)) old mid answer → SaysAfter true sink mid new answer → (answer ≡ Err Stream → IsTrue source ⊎ IsTrue sink) → status ≡ status_at (ending_of answer)
     → RunsJsonAs (mode_of on_threads) source sink (Some bytes) old new status
 json_answered on_threads order bytes source sink old mid new status (Ok made) (text, (of, wrote)) says blames is =
-    runs_json (mode_of on_threads) source sink (Some bytes) old mid new (Ok (end_told of.1.1.closing)) status
+    runs_json (mode_of on_threads) source sink (Some bytes) old mid new (Ok (end_of_closing of.1.1.closing)) status
     (front bytes, (refl, (text, (has_run (mode_of on_threads) bytes text of.0 made of.1.1 of.1.0, wrote))))
     says (λ never. let no : ⊥ = cc in absurd no) (is ∙ status_run (mode_of on_threads) bytes text of.0 made of.1.1 of.1.0)
 json_answered on_threads order bytes source sink old mid new status (Err (Fault fault)) (keeps, why) says blames is =
@@ -123,7 +123,7 @@ json_answered on_threads order bytes source sink old mid new status (Err Stream)
     runs_json (mode_of on_threads) source sink (Some bytes) old mid new (Err StreamOfRun) status
     (elim stands [
       | inl keeps ↦ inl keeps
-      | inr (text, (made, (of, wrote))) ↦ inr (front bytes, (refl, (end_told of.1.1.closing, (text, (has_run (mode_of on_threads) bytes text of.0 made of.1.1 of.1.0, wrote)))))
+      | inr (text, (made, (of, wrote))) ↦ inr (front bytes, (refl, (end_of_closing of.1.1.closing, (text, (has_run (mode_of on_threads) bytes text of.0 made of.1.1 of.1.0, wrote)))))
     ])
     says (λ same. blames refl) is
 

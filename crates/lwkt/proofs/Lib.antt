@@ -1,5 +1,5 @@
 mod Formats
-mod Tellings
+mod Reporting
 mod Servings
 mod Countings
 mod Threes

@@ -16,7 +16,7 @@ use Rattle.lwkt_report.specs.declared.arguments.WordsFault.TheVariants as words
 use Rattle.lwkt_report.specs.declared.streams.RunFault.{RunFault}
 use Rattle.lwkt_report.specs.declared.streams.RunFault.TheVariants as run
 use Rattle.lwkt_request.specs.declared.requests.Asked.{Asked}
-use Rattle.lwkt_request.specs.declared.requests.Asked.TheVariants.{Do, Tell, Misuse, OldUsage}
+use Rattle.lwkt_request.specs.declared.requests.Asked.TheVariants.{Do, Print, Misuse, OldUsage}
 use Rattle.lwkt_request.specs.declared.requests.Form.TheVariants as form
 use Rattle.lwkt_request.specs.declared.requests.Task.{Task}
 use Rattle.lwkt_request.specs.declared.requests.Task.TheVariants.{Run, Show, Check, Text, Explore}
@@ -161,10 +161,10 @@ by_path (Some name) task order old source left unread s ending (still, serves) =
 
 by_asked : (asked : Asked) (old source : Bool) (left : Option (List ℕ)) (unread unwritten : Type 0) (s : Streams) (ending : Ending) → DoesAsked asked old source left unread unwritten s ending → OwnsThree ending
 by_asked (Do request) old source left unread unwritten s ending does = by_path (wish_by request).path request.task (wish_by request).order old source left unread s ending does
-by_asked (Tell text) old source left unread unwritten s ending (still, inl whole) = by_done ending 0 whole.1.1.1 no_0
-by_asked (Tell text) old source left unread unwritten s ending (still, inr front) = by_stream ending front.1.1
-by_asked (Misuse text) old source left unread unwritten s ending (still, (blank, tells)) = by_done ending 1 tells.1 no_1
-by_asked OldUsage old source left unread unwritten s ending (still, tells) = by_done ending 1 tells.1 no_1
+by_asked (Print text) old source left unread unwritten s ending (still, inl whole) = by_done ending 0 whole.1.1.1 no_0
+by_asked (Print text) old source left unread unwritten s ending (still, inr front) = by_stream ending front.1.1
+by_asked (Misuse text) old source left unread unwritten s ending (still, (blank, reports)) = by_done ending 1 reports.1 no_1
+by_asked OldUsage old source left unread unwritten s ending (still, reports) = by_done ending 1 reports.1 no_1
 
 pub by_does : (said : List (List ℕ)) (source : Bool) (left : Option (List ℕ)) (unread unwritten : Type 0) (s : Streams) (ending : Ending) → Does said source left unread unwritten s ending → OwnsThree ending
 by_does said source left unread unwritten s ending (inl (still, (blank, wants))) = by_memory ending wants

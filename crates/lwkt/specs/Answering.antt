@@ -5,8 +5,8 @@ use Rattle.std.specs.Str.{bytes_eq}
 use Rattle.std.specs.Str.Lines.{lines}
 use Rattle.std.specs.Io.KnownBytes.{Appends, Keeps}
 use Rattle.std.specs.declared.io.Error.{Error}
-use Rattle.lwkt_checker.specs.LineOutput.{TellsOfLines}
-use Rattle.lwkt_checker.specs.Output.{TellsFinding}
+use Rattle.lwkt_checker.specs.LineOutput.{ReportsLines}
+use Rattle.lwkt_checker.specs.Output.{ReportsFinding}
 use Rattle.lwkt_report.specs.declared.complaints.Complaint.TheVariants.{Usage}
 use Rattle.lwkt_report.specs.declared.complaints.Program.TheVariants.{Run as RunProgram}
 use Rattle.lwkt_report.specs.Complaint.{fault_line, IsSaid}
@@ -14,7 +14,7 @@ use Rattle.lwkt_report.specs.Escape.{escaped}
 use Rattle.lwkt_report.specs.Stream.{AppendsFront}
 use Rattle.lwkt_request.specs.Answers.{IsAnswer, asked_in}
 use Rattle.lwkt_request.specs.declared.requests.Asked.{Asked}
-use Rattle.lwkt_request.specs.declared.requests.Asked.TheVariants.{Do, Tell, Misuse, OldUsage}
+use Rattle.lwkt_request.specs.declared.requests.Asked.TheVariants.{Do, Print, Misuse, OldUsage}
 use Rattle.lwkt_request.specs.declared.requests.Task.{Task}
 use Rattle.lwkt_request.specs.declared.requests.Task.TheVariants.{Run, Check, Explore}
 use Rattle.lwkt_request.specs.Wishes.{wish_by, wish_of}
@@ -44,12 +44,12 @@ pub record Streams : Type 0 where
 pub record Serves (task : Task) (order name : Option (List ℕ)) (by_old_name source_failed : Bool) (left : Option (List ℕ)) (s : Streams) (ending : Ending) : Type 0 where
   pub performs : TakesScript task → Performs task order name source_failed s.failed (IsTrue s.flushed) left s.old s.new ending
   pub as_format : (on_threads : Bool) → task ≡ Run on_threads true → RunsByOldName on_threads name source_failed s.failed left s.old s.new (status_at ending)
-  pub checks : task ≡ Check false → ChecksAloud by_old_name TellsFinding source_failed s.failed left s.old s.new (IsUnread s.failed s.error) s.lost s.before s.after ending
-  pub lines : task ≡ Check true → ChecksAloud by_old_name TellsOfLines source_failed s.failed left s.old s.new (IsUnread s.failed s.error) s.lost s.before s.after ending
+  pub checks : task ≡ Check false → ChecksAloud by_old_name ReportsFinding source_failed s.failed left s.old s.new (IsUnread s.failed s.error) s.lost s.before s.after ending
+  pub lines : task ≡ Check true → ChecksAloud by_old_name ReportsLines source_failed s.failed left s.old s.new (IsUnread s.failed s.error) s.lost s.before s.after ending
 
 -- the usage line of `lwkt_run`, with status 1
-abbrev pub TellsUsage : Streams → Ending → Type 0
-TellsUsage s ending = IsSaid s.failed s.old s.new (fault_line RunProgram Usage) × (ending ≡ Done 1)
+abbrev pub PrintsUsage : Streams → Ending → Type 0
+PrintsUsage s ending = IsSaid s.failed s.old s.new (fault_line RunProgram Usage) × (ending ≡ Done 1)
 
 -- words for `lwkt_run`
 abbrev pub IsByOldName : Task → Type 0
@@ -60,7 +60,7 @@ IsByOldName task = (on_threads : Bool) × (task ≡ Run on_threads true)
 abbrev pub ServesFile : Task → Option (List ℕ) → Bool → List ℕ → Streams → Ending → Type 0
 ServesFile task order by_old_name name s ending =
     (Keeps s.old s.new × (ending ≡ Stream))
-    ⊎ ((IsByOldName task × TellsUsage s ending)
+    ⊎ ((IsByOldName task × PrintsUsage s ending)
     ⊎ ((left : Option (List ℕ)) × ((source_failed : Bool) × Serves task order (Some name) by_old_name source_failed left s ending)))
 
 -- whether all scripts of a folder are tried
@@ -79,8 +79,8 @@ ServesBy None task order by_old_name source_failed left unread s ending = Serves
 ServesBy (Some name) task order by_old_name source_failed left unread s ending = unread × ServesNamed (takes_folder task) task order by_old_name name s ending
 
 -- a page is written whole and flushed, with status 0, and no error said; or the sink fails, and a front of it stands
-abbrev pub TellsPage : List ℕ → Streams → Ending → Type 0
-TellsPage text s ending =
+abbrev pub PrintsPage : List ℕ → Streams → Ending → Type 0
+PrintsPage text s ending =
     (Appends s.old s.new text × (IsTrue s.flushed × (Keeps s.before s.after × (ending ≡ Done 0))))
     ⊎ (IsTrue s.failed × (AppendsFront s.old s.new text × (ending ≡ Stream)))
 
@@ -93,16 +93,16 @@ abbrev pub lines_shown : List ℕ → List ℕ
 lines_shown text = flat_map line_shown (lines text)
 
 -- where errors go the lines of a text are said as they are shown, or where that fails a front of them, with status 1
-abbrev pub TellsMisuse : List ℕ → Bool → Option (List ℕ) → Option (List ℕ) → Ending → Type 0
-TellsMisuse text failed old new ending = IsSaid failed old new (lines_shown text) × (ending ≡ Done 1)
+abbrev pub PrintsMisuse : List ℕ → Bool → Option (List ℕ) → Option (List ℕ) → Ending → Type 0
+PrintsMisuse text failed old new ending = IsSaid failed old new (lines_shown text) × (ending ≡ Done 1)
 
 -- what is done for an answer to the words: a request is served, a page written, and for words that ask for nothing said so; of standard
 -- input nothing is read but for a request, and to standard output nothing written but for a request, a page and the words of `lwkt_run`
 abbrev pub DoesAsked : Asked → Bool → Bool → Option (List ℕ) → Type 0 → Type 0 → Streams → Ending → Type 0
 DoesAsked (Do request) by_old_name source_failed left unread unwritten s ending = ServesBy (wish_by request).path request.task (wish_by request).order by_old_name source_failed left unread s ending
-DoesAsked (Tell text) by_old_name source_failed left unread unwritten s ending = unread × TellsPage (string_bytes text) s ending
-DoesAsked (Misuse text) by_old_name source_failed left unread unwritten s ending = unread × (unwritten × TellsMisuse (string_bytes text) s.lost s.before s.after ending)
-DoesAsked OldUsage by_old_name source_failed left unread unwritten s ending = unread × TellsUsage s ending
+DoesAsked (Print text) by_old_name source_failed left unread unwritten s ending = unread × PrintsPage (string_bytes text) s ending
+DoesAsked (Misuse text) by_old_name source_failed left unread unwritten s ending = unread × (unwritten × PrintsMisuse (string_bytes text) s.lost s.before s.after ending)
+DoesAsked OldUsage by_old_name source_failed left unread unwritten s ending = unread × PrintsUsage s ending
 
 -- whether words are those of `lwkt_check`
 abbrev pub names_old_check : List (List ℕ) → Bool

@@ -29,9 +29,9 @@ IsUnread failed error = (failed ≡ true) × HasNoReader error
 
 -- what the program does with a trace, where this is what its check says by its answer: it ends so, and complains, by either name, if it
 -- can't check, but not of a reader that went away; it blames a stream only where one has failed
-pub record ChecksAloud (by_old_name : Bool) (Telling : Option (List ℕ) → Option (List ℕ) → Option (List ℕ) → Result Bool RunFault → Type 0) (source_failed sink_failed : Bool) (left old new : Option (List ℕ)) (unread : Type 0) (failed : Bool) (before after : Option (List ℕ)) (ending : Ending) : Type 0 where
+pub record ChecksAloud (by_old_name : Bool) (Reports : Option (List ℕ) → Option (List ℕ) → Option (List ℕ) → Result Bool RunFault → Type 0) (source_failed sink_failed : Bool) (left old new : Option (List ℕ)) (unread : Type 0) (failed : Bool) (before after : Option (List ℕ)) (ending : Ending) : Type 0 where
   pub outcome : Result Bool RunFault
-  pub tells : Telling left old new outcome
+  pub reports : Reports left old new outcome
   pub complains : (unread × Keeps before after) ⊎ ((unread → ⊥) × ComplainsFirst by_old_name failed before after outcome)
   pub blames : BlamesFailed source_failed sink_failed outcome
   pub is_ending : ending ≡ ending_of_check outcome

@@ -37,7 +37,7 @@ ending_of_check (Err (run.Fault (fault.Memory refused))) = Memory refused
 ending_of_check (Err (run.Fault _)) = Done 1
 ending_of_check (Err run.Stream) = Stream
 
--- how the program ends where its words aren't told
+-- how the program ends where its words aren't known
 abbrev pub ending_of_words : WordsFault → Ending
 ending_of_words (words.Memory refused) = Memory refused
 ending_of_words words.NotUtf8 = Done 1

@@ -2,7 +2,7 @@
 ghost use Rattle.std.specs.Prelude.{◌≡◌, ◌⊎◌, IfErr, IfOk, IsTrue, map, string_bytes};
 ghost use Rattle.std.specs.Option.{option_copied};
 ghost use Rattle.lwkt_request.specs.Wishes.{wish_by};
-ghost use Rattle.lwkt.specs.Answering.{Does, IsByOldName, ServesBy, ServesFile, TellsMisuse, TellsPage, TellsUsage, names_old_check, takes_folder};
+ghost use Rattle.lwkt.specs.Answering.{Does, IsByOldName, ServesBy, ServesFile, PrintsMisuse, PrintsPage, PrintsUsage, names_old_check, takes_folder};
 ghost use Rattle.lwkt.specs.Ending.{OwnsThree, WantsMemory, ending_of_words};
 ghost use Rattle.lwkt.specs.Performing.{order_of};
 
@@ -42,7 +42,7 @@ example: ./lwkt_run turns examples/tally_add.json
 
 // Writes the usage line of `lwkt_run`, and says how it is called.
 fn misused<O: Write, E: Sink>(sink: &mut WriterSink<NotedWriter<O>>, errors: &mut E) -> Ending
-    ensures { TellsUsage (record { old = O.contents sink.old.writer.writer; new = O.contents sink.new.writer.writer; failed = sink.new.failed; error = sink.new.writer.error; flushed = sink.new.flushed; before = E.contents errors.old; after = E.contents errors.new; lost = E.has_failed errors.new }) result }
+    ensures { PrintsUsage (record { old = O.contents sink.old.writer.writer; new = O.contents sink.new.writer.writer; failed = sink.new.failed; error = sink.new.writer.error; flushed = sink.new.flushed; before = E.contents errors.old; after = E.contents errors.new; lost = E.has_failed errors.new }) result }
 {
     complain(sink, Program::Run, Complaint::Usage);
     put(errors, RUN_USAGE);
@@ -127,13 +127,13 @@ fn done<R: Threads + Sync + Clock + Files, I: Read, O: Write, E: Sink>(
 }
 
 // Writes a page that is asked for.
-fn told<O: Write, E: Sink>(
+fn print_page<O: Write, E: Sink>(
     alloc: Global,
     sink: &mut WriterSink<NotedWriter<O>>,
     errors: &mut E,
     text: &str,
 ) -> Ending
-    ensures { TellsPage text.now (record { old = O.contents sink.old.writer.writer; new = O.contents sink.new.writer.writer; failed = sink.new.failed; error = sink.new.writer.error; flushed = sink.new.flushed; before = E.contents errors.old; after = E.contents errors.new; lost = E.has_failed errors.new }) result }
+    ensures { PrintsPage text.now (record { old = O.contents sink.old.writer.writer; new = O.contents sink.new.writer.writer; failed = sink.new.failed; error = sink.new.writer.error; flushed = sink.new.flushed; before = E.contents errors.old; after = E.contents errors.new; lost = E.has_failed errors.new }) result }
 {
     match written(sink, text, 0) {
         Ok(status) => Ending::Done(status),
@@ -146,7 +146,7 @@ fn told<O: Write, E: Sink>(
 
 // Says why words ask for nothing, unless memory is refused.
 fn refused<E: Sink>(alloc: Global, errors: &mut E, text: &str) -> Ending
-    ensures { WantsMemory result ⊎ TellsMisuse text.now (E.has_failed errors.new) (E.contents errors.old) (E.contents errors.new) result }
+    ensures { WantsMemory result ⊎ PrintsMisuse text.now (E.has_failed errors.new) (E.contents errors.old) (E.contents errors.new) result }
 {
     match put_lines(alloc, errors, text) {
         Ok(()) => Ending::Done(1),
@@ -183,7 +183,7 @@ fn answer_to<R: Threads + Sync + Clock + Files, I: Read, O: Write, E: Sink>(
             let by_old_name = names_old_check(words);
             done(rt, alloc, &request, by_old_name, source, sink, errors)
         }
-        Ok(Asked::Tell(text)) => told(alloc, sink, errors, text.as_str()),
+        Ok(Asked::Print(text)) => print_page(alloc, sink, errors, text.as_str()),
         Ok(Asked::Misuse(text)) => refused(alloc, errors, text.as_str()),
         Ok(Asked::OldUsage) => misused(sink, errors),
         Err(refused) => {
@@ -196,14 +196,14 @@ fn answer_to<R: Threads + Sync + Clock + Files, I: Read, O: Write, E: Sink>(
 // Says that an argument isn't UTF-8, and which one, if that is known.
 fn say_foreign<E: Sink>(alloc: Global, errors: &mut E, word: Option<String>) {
     let mut line = String::new(alloc);
-    let told = match &word {
+    let done_line = match &word {
         Some(word) => memory::put(
             &mut line,
             ("lwkt: the argument ", word.as_str(), FOREIGN_WORDS),
         ),
         None => memory::put(&mut line, ("lwkt: an argument", FOREIGN_WORDS)),
     };
-    match told {
+    match done_line {
         Ok(()) => put(errors, line.as_str()),
         Err(_) => say_memory(errors),
     }

@@ -1,8 +1,8 @@
 //! Traces, checked.
 ghost use Rattle.std.specs.Prelude.{◌≡◌, ◌↔◌, ◌⊎◌, false, true, IsTrue};
 ghost use Rattle.std.specs.Io.KnownBytes.{Keeps};
-ghost use Rattle.lwkt_checker.specs.Output.{TellsFinding};
-ghost use Rattle.lwkt_checker.specs.LineOutput.{TellsOfLines};
+ghost use Rattle.lwkt_checker.specs.Output.{ReportsFinding};
+ghost use Rattle.lwkt_checker.specs.LineOutput.{ReportsLines};
 ghost use Rattle.lwkt_refusals.specs.Sayings.{SaysMore};
 ghost use Rattle.lwkt.specs.Checking.{ComplainsFirst, IsUnread, ChecksAloud};
 ghost use Rattle.lwkt.specs.Ending.{ending_of_check};
@@ -161,8 +161,8 @@ pub fn check<I: Read, O: Write, E: Sink>(
     sink: &mut WriterSink<NotedWriter<O>>,
     errors: &mut E,
 ) -> Ending
-    ensures whole { by_lines ≡ false → ChecksAloud by_old_name TellsFinding source.new.failed sink.new.failed (I.remaining source.old.reader.reader) (O.contents sink.old.writer.writer) (O.contents sink.new.writer.writer) (IsUnread sink.new.failed sink.new.writer.error) (E.has_failed errors.new) (E.contents errors.old) (E.contents errors.new) result }
-    ensures lines { by_lines ≡ true → ChecksAloud by_old_name TellsOfLines source.new.failed sink.new.failed (I.remaining source.old.reader.reader) (O.contents sink.old.writer.writer) (O.contents sink.new.writer.writer) (IsUnread sink.new.failed sink.new.writer.error) (E.has_failed errors.new) (E.contents errors.old) (E.contents errors.new) result }
+    ensures whole { by_lines ≡ false → ChecksAloud by_old_name ReportsFinding source.new.failed sink.new.failed (I.remaining source.old.reader.reader) (O.contents sink.old.writer.writer) (O.contents sink.new.writer.writer) (IsUnread sink.new.failed sink.new.writer.error) (E.has_failed errors.new) (E.contents errors.old) (E.contents errors.new) result }
+    ensures lines { by_lines ≡ true → ChecksAloud by_old_name ReportsLines source.new.failed sink.new.failed (I.remaining source.old.reader.reader) (O.contents sink.old.writer.writer) (O.contents sink.new.writer.writer) (IsUnread sink.new.failed sink.new.writer.error) (E.has_failed errors.new) (E.contents errors.old) (E.contents errors.new) result }
 {
     if by_lines {
         let mut lines = Lines::new(alloc);

@@ -5,7 +5,7 @@ ghost use Rattle.lwkt.specs.Ending.{status_at};
 use lwkt_base::OutOfMemory;
 
 /// How what the words ask for ended.
-#[derive(Clone, Copy, PartialEq, Eq)]
+#[derive(Clone, Copy)]
 pub enum Ending {
     /// It was done, or refused, with this exit status.
     Done(u8),

@@ -36,7 +36,7 @@ impl<'o> Origin<'o> {
     }
 
     /// What the verdicts of one run call its file: only `lwkt text` names it, standard input by `-`.
-    pub fn told_path(self) -> Option<&'o str> {
+    pub fn shown_path(self) -> Option<&'o str> {
         match self.task {
             Task::Text(_) => Some(self.path.unwrap_or("-")),
             _ => None,

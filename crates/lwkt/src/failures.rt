@@ -5,7 +5,7 @@ ghost use Rattle.lwkt.specs.declared.failures.Failure.TheVariants as failures;
 use lwkt_base::{Fault, OutOfMemory};
 
 /// Why a task writes nothing, or not all.
-#[derive(Clone, Copy, PartialEq, Eq)]
+#[derive(Clone, Copy)]
 pub enum Failure {
     /// The input, its opening or its order is refused, or memory is, or a run along an order isn't lawful.
     Fault(Fault),

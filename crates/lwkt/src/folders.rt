@@ -37,7 +37,7 @@ fn is_script(name: &[u8]) -> bool {
     name.ends_with(b".lwkt") || name.ends_with(b".json")
 }
 
-// Why the names of a folder aren't told.
+// Why the names of a folder aren't known.
 #[derive(Drop)]
 enum Unlisted {
     // Memory for them was refused.
@@ -99,7 +99,7 @@ fn files_in<R: Files>(rt: &R, alloc: Global, folder: &str) -> Result<Vec<Listed>
     Ok(files)
 }
 
-// Says why the names of a folder aren't told.
+// Says why the names of a folder aren't known.
 fn say_unlisted<E: Sink>(alloc: Global, errors: &mut E, folder: &str, why: Unlisted) -> Ending
     ensures { HasFailed result }
 {
@@ -181,8 +181,8 @@ fn try_named<R: Threads + Sync + Clock + Files, O: Write>(
     Ok(false)
 }
 
-// Tells a file that isn't tried, since its name isn't UTF-8.
-fn tell_foreign<K: Sink>(
+// Names a file that isn't tried, since its name isn't UTF-8.
+fn say_foreign<K: Sink>(
     alloc: Global,
     folder: &str,
     shown: &str,
@@ -191,9 +191,9 @@ fn tell_foreign<K: Sink>(
     ensures { SaysMore (K.has_failed sink.old) (K.has_failed sink.new) (K.contents sink.old) (K.contents sink.new) }
 {
     let folder = escaped(alloc, folder)?;
-    let mut told = from_str(alloc, shown)?;
+    let mut shown_line = from_str(alloc, shown)?;
     memory::put(
-        &mut told,
+        &mut shown_line,
         (
             ": status 3\nlwkt: ",
             folder.as_str(),
@@ -202,7 +202,7 @@ fn tell_foreign<K: Sink>(
             ": the name isn't UTF-8; give such a file as standard input, by < FILE\n",
         ),
     )?;
-    put(sink, told.as_str());
+    put(sink, shown_line.as_str());
     Ok(())
 }
 
@@ -221,7 +221,7 @@ fn try_one<R: Threads + Sync + Clock + Files, O: Write>(
     match file {
         Listed::Named(name) => try_named(rt, alloc, request, folder, name.as_str(), sink),
         Listed::Foreign(shown) => {
-            tell_foreign(alloc, folder, shown.as_str(), sink)?;
+            say_foreign(alloc, folder, shown.as_str(), sink)?;
             Ok(false)
         }
     }

@@ -45,7 +45,7 @@ fn made_of<R: Threads + Sync + Clock, E: Sink>(
     ensures made { IfOk result (λ made. IsMade origin.entry.task (option_copied order.entry) input.now (string_bytes made.text) made.status) }
     ensures declined { IfErr result (Declines origin.entry.task (option_copied order.entry) input.now.script) }
 {
-    let path = origin.told_path();
+    let path = origin.shown_path();
     match origin.task {
         Task::Run { on_threads, .. } => {
             report_of(rt, alloc, mode_of(on_threads), path, bytes, input)
@@ -261,7 +261,7 @@ pub fn perform<R: Threads + Sync + Clock, I: Read, O: Write, E: Sink>(
     // What is written, and how that ended.
     ensures serves { Serves request.now.task (order_of request.now) (option_copied name.entry) by_old_name source.new.failed (I.remaining source.old.reader.reader) (record { old = O.contents sink.old.writer.writer; new = O.contents sink.new.writer.writer; failed = sink.new.failed; error = sink.new.writer.error; flushed = sink.new.flushed; before = E.contents errors.old; after = E.contents errors.new; lost = E.has_failed errors.new }) result }
 
-    // A stream that fails is told.
+    // a stream that fails is reported.
     ensures failed_source { TakesScript request.now.task → source.old.failed ≡ false → IsTrue source.new.failed → result ≡ Ending.Stream }
     ensures failed_sink { TakesScript request.now.task → complains request.now.task ≡ false → sink.old.failed ≡ false → IsTrue sink.new.failed → result ≡ Ending.Stream }
 {

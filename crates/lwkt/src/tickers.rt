@@ -72,7 +72,7 @@ impl<'a, R: Clock, E: Sink> Ticker<'a, R, E> {
     }
 
     // Says how far the search is, if a second has passed since it looked last; then it has looked now.
-    fn tell(&mut self, now: Option<Instant>, seen: Seen)
+    fn say(&mut self, now: Option<Instant>, seen: Seen)
         ensures quiet { self.old.search.progress ≡ false → self.new.errors.now ≡ self.old.errors.now }
         ensures search { self.new.search ≡ self.old.search }
     {
@@ -108,7 +108,7 @@ impl<'a, R: Clock, E: Sink> Watch for Ticker<'a, R, E> {
             return true;
         }
         let now = Instant::now(self.rt).ok();
-        self.tell(now, seen);
+        self.say(now, seen);
         !self.is_over(now)
     }
 }

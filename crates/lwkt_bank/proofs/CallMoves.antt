@@ -23,7 +23,7 @@ use Rattle.lwkt_bank.specs.declared.banks.Bank.{Bank}
 use Rattle.lwkt_bank.specs.Views.{at, count_from, held_of, who, named, ended_section, exchange, one_section}
 use Rattle.lwkt_bank.specs.Deeds.{deed_by, loads, adds_one, marks, gives_one, gives_clean, gives_written, reads, writes, reads_blob, writes_blob}
 use Rattle.lwkt_bank.specs.Hands.{Has, AreHands, IsInHand}
-use Rattle.lwkt_bank.specs.Told.{Told, stays, given_home, Deeds}
+use Rattle.lwkt_bank.specs.Ledger.{Ledger, stays, given_home, Deeds}
 use Rattle.lwkt_bank.specs.Rule.{Bench, token_word, cell_word, plan_at}
 use Rattle.lwkt_bank.specs.Plays.{Amid, at_word, at_cell, takes_out, puts_back, brings_record, reads_record, writes_record, Looks, Exchanges, AddsOne, Marks, GivesOne, GivesClean, GivesWritten, ReadsCell, StoresCell, RaisesCell}
 use Rattle.lwkt_bank.specs.Seats.{IsOf, IsCleanIn, IsLawfulIn, Decides}
@@ -53,10 +53,10 @@ module _ (bank : Bank) (seat : Seat (List ℕ) View) (tok : ℕ) (of : IsOf bank
 
   -- what a step asks whose word becomes f of what it was
   abbrev pub Asks : ℕ → (ℕ → ℕ) → (ℕ → Me (List ℕ) View → Type 0) → Type 0
-  Asks word f then = (seat.table_id ≡ bank.table.shared.table_id) × (word < bank.table.shared.table_id.words) × Allows (Told key.plans.items key.cpus) slots seat.id seat.me word f then
+  Asks word f then = (seat.table_id ≡ bank.table.shared.table_id) × (word < bank.table.shared.table_id.words) × Allows (Ledger key.plans.items key.cpus) slots seat.id seat.me word f then
 
   abbrev plans_are : key.plans.items ≡ bank.key.plans.items
-  plans_are = ap (λ (k : Key). k.plans.items) bank.told
+  plans_are = ap (λ (k : Key). k.plans.items) bank.key_is
 
   there' : tok < length key.plans.items
   there' = let e = ap length plans_are in omega arith
@@ -95,12 +95,12 @@ module _ (bank : Bank) (seat : Seat (List ℕ) View) (tok : ℕ) (of : IsOf bank
   plan_there = ap (λ (ps : List Plan). plan_at ps tok) plans_are
 
   -- nothing lies in the slots of the tokens whose records the seat has in hand
-  hands_out : AreHands v seat.me.1 → (s : Bench) → Told key.plans.items key.cpus s → get_elem? s.views seat.id ≡ some v → (k : ℕ) (bytes : List ℕ) → Has seat.me.1 k bytes → get_elem? s.homes k ≡ some none
-  hands_out hands s told here k bytes has =
+  hands_out : AreHands v seat.me.1 → (s : Bench) → Ledger key.plans.items key.cpus s → get_elem? s.views seat.id ≡ some v → (k : ℕ) (bytes : List ℕ) → Has seat.me.1 k bytes → get_elem? s.homes k ≡ some none
+  hands_out hands s ledger here k bytes has =
       let h = hands.all k bytes has in
       let same : length v.plans ≡ length key.plans.items = ap length (of.plans ∙ sym plans_are) in
       let low = h.0 in
-      slot_out key.plans.items key.cpus seat.id v k of.named (omega arith) s told.rule here h.1
+      slot_out key.plans.items key.cpus seat.id v k of.named (omega arith) s ledger.rule here h.1
 
   -- the record of a token that is held exclusively is in hand
   in_hand : AreHands v seat.me.1 → is_exclusive (at v.tokens tok).held ≡ true → (bytes : List ℕ) → (at v.tokens tok).blob ≡ Some bytes → Has seat.me.1 tok bytes

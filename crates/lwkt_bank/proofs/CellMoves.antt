@@ -72,19 +72,19 @@ loads_more s mid s' tok cell first second =
     subst G one (knowing_both s mid s' tok (last_loads s.cpu tok (entry s tok) cell) (first_load s.cpu tok (entry s tok) cell) first loaded)
 
 -- a section by its parts
-pub section_told : (tok : ℕ) (e : TokenEntry) (section : Section) → section.before ≡ e.first → section.after ≡ e.row → section.generation ≡ e.generation → section.tok.0 ≡ tok → section ≡ ended_section tok e
-section_told tok e section before after generation is = λ i. record { before = before i; after = after i; generation = generation i; tok = record { 0 = is i } }
+pub section_by_parts : (tok : ℕ) (e : TokenEntry) (section : Section) → section.before ≡ e.first → section.after ≡ e.row → section.generation ≡ e.generation → section.tok.0 ≡ tok → section ≡ ended_section tok e
+section_by_parts tok e section before after generation is = λ i. record { before = before i; after = after i; generation = generation i; tok = record { 0 = is i } }
 
 -- the end of a written section after its loads
 pub section_ended : (s mid s' : CpuSeat) (tok : ℕ) (section : Section) → section ≡ ended_section tok (entry s tok) → Knowing s mid tok (entry s tok) (last_loads s.cpu tok (entry s tok) (plan_of (bank_of s) tok).cells) → Stepped mid s' tok (ended (entry mid tok)) (gives_written (ended_section tok (entry mid tok))) → SectionEnded s s' tok section
-section_ended s mid s' tok section told first second =
+section_ended s mid s' tok section section_is first second =
     let F : CpuId → TokenEntry → Type 0 = λ c e. Changes mid s' tok (ended e) (gives_written (ended_section tok e) c tok second.found ∷ []) in
     let gave = subst (λ (e : TokenEntry). F s.cpu e) first.changes.here (subst (λ (c : CpuId). F c (entry mid tok)) first.changes.cpu second.changes) in
     let G : Section → Type 0 = λ x. Changes s s' tok (ended (entry s tok)) (last_loads s.cpu tok (entry s tok) (plan_of (bank_of s) tok).cells ++ gives_written x s.cpu tok second.found ∷ []) in
     record {
-      told = told;
+      section_is = section_is;
       found = second.found;
-      changes = subst G (sym told) (changed_twice s mid s' tok (record (entry s tok) { known = first.known }) (ended (entry s tok)) (last_loads s.cpu tok (entry s tok) (plan_of (bank_of s) tok).cells) (gives_written (ended_section tok (entry s tok)) s.cpu tok second.found ∷ []) first.changes gave);
+      changes = subst G (sym section_is) (changed_twice s mid s' tok (record (entry s tok) { known = first.known }) (ended (entry s tok)) (last_loads s.cpu tok (entry s tok) (plan_of (bank_of s) tok).cells) (gives_written (ended_section tok (entry s tok)) s.cpu tok second.found ∷ []) first.changes gave);
     }
 
 -- an empty list of values is no store, and one value more is one store more

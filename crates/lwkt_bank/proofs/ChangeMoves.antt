@@ -32,7 +32,7 @@ use Rattle.lwkt_bank.specs.Notes.{Keeps, IsNoted, no_note, note_at, begun, note_
 use Rattle.lwkt_bank.specs.declared.notes.TokenNote.{TokenNote}
 use Rattle.lwkt_bank.specs.Seats.{BankId, id_of, bank_of, tokens_of, plan_of, entry, past_of, holding, references, IsOf, Changes, Knowing, written_over, Looked, Took, Lost, Hit, Miss, Decides}
 use Rattle.lwkt_bank.proofs.ViewMoves.{at-here, at-else, at-tok}
-use Rattle.lwkt_bank.proofs.NoteMoves.{seat_told, IsNoted-seen, IsNoted-missed, IsNoted-wrote, Keeps-kept, Keeps-set}
+use Rattle.lwkt_bank.proofs.NoteMoves.{seat_by_number, IsNoted-seen, IsNoted-missed, IsNoted-wrote, Keeps-kept, Keeps-set}
 use Rattle.lwkt_bank.proofs.TurnMoves.{seen-keeps, exclusive_held}
 
 -- a seat is at the bank that it names
@@ -40,16 +40,16 @@ pub is_of : (bank : Bank) (s : CpuSeat) → bank_of s ≡ id_of bank → IsOf ba
 is_of bank s of = record {
   table = ap (λ (b : BankId). b.table) of;
   plans = ap (λ (b : BankId). b.plans) of;
-  named = let told = seat_told s.seat.me.0.kind s.cpu s.kept.seat in told ∙ ap Of (sym (ap seat_cpu told));
+  named = let by_number = seat_by_number s.seat.me.0.kind s.cpu s.kept.seat in by_number ∙ ap Of (sym (ap seat_cpu by_number));
 }
 
--- a number of tokens, told by the seat or by the bank
+-- a number of tokens, as the seat or the bank has it
 pub there_of : (bank : Bank) (s : CpuSeat) (tok : ℕ) → bank_of s ≡ id_of bank → tok < length s.seat.me.0.plans → tok < length bank.key.plans.items
 there_of bank s tok of there = let e = ap (λ (b : BankId). length b.plans) of in omega arith
 
--- a seat's processor, told by its view
+-- a seat's processor, as its view has it
 pub who_is : (s : CpuSeat) → who s.seat.me.0 ≡ s.cpu
-who_is s = ap seat_cpu (seat_told s.seat.me.0.kind s.cpu s.kept.seat)
+who_is s = ap seat_cpu (seat_by_number s.seat.me.0.kind s.cpu s.kept.seat)
 
 -- what a step on the seat's view changes
 pub changed : (s s' : CpuSeat) (tok : ℕ) (e : TokenEntry) (between : List Deed) (deed : CpuId → Deed) → s'.seat.table_id ≡ s.seat.table_id → s'.cpu ≡ s.cpu → ((deed s.cpu).cpu ≡ s.cpu) → AreOthers (who s.seat.me.0).0 between → s'.seat.me.0 ≡ noted between s.seat.me.0 e (deed (who s.seat.me.0)) → e.tok ≡ tok → Changes s s' tok e (deed s.cpu ∷ [])
@@ -264,7 +264,7 @@ keeps_kept s w tok e between d is there is_tok here = Keeps-kept s.notes s.cpu s
 pub entry_tok : (s : CpuSeat) (tok : ℕ) → (entry s tok).tok ≡ tok
 entry_tok s tok = at-tok s.seat.me.0.tokens tok
 
--- what is declared of a token, told by the seat or by the bank
+-- what is declared of a token, as the seat or the bank has it
 pub plan_is : (bank : Bank) (s : CpuSeat) (tok : ℕ) → bank_of s ≡ id_of bank → plan_at s.seat.me.0.plans tok ≡ plan_at bank.key.plans.items tok
 plan_is bank s tok of = ap (λ (b : BankId). plan_at b.plans tok) of
 

@@ -20,7 +20,7 @@ use Rattle.lwkt_table.specs.declared.seats.Operation.TheVariants.{Load as Loads,
 use Rattle.lwkt_table.specs.declared.seats.Deed.{Deed}
 use Rattle.lwkt_core.specs.Events.{cpu_of, place_of}
 use Rattle.lwkt_core.specs.Tokens.{IsNotLastExclusive}
-use Rattle.lwkt_table.specs.History.{left_by, told_by, IsPastOf}
+use Rattle.lwkt_table.specs.History.{left_by, word_by, IsPastOf}
 use Rattle.lwkt_table.proofs.ViewLemmas.{Views-between, Views-noted}
 use Rattle.lwkt_bank.specs.declared.views.Plan.{Plan}
 use Rattle.lwkt_bank.specs.declared.views.TokenEntry.{TokenEntry}
@@ -29,7 +29,7 @@ use Rattle.lwkt_bank.specs.Views.{at, count_from, held_of, who, noted, page_of, 
 use Rattle.lwkt_bank.specs.Deeds.{deed_by, loads, adds_one, marks, gives_one, gives_clean, gives_written, reads, writes, reads_blob, writes_blob}
 use Rattle.lwkt_bank.specs.Hands.{IsInHand}
 use Rattle.lwkt_bank.specs.Rule.{Bench, Homes, moved, Rule, token_word, cell_word, plan_at}
-use Rattle.lwkt_bank.specs.Told.{IsAtCell, IsOperation, word_in, IsDone, first_machine, Told, IsNext, stays, taken_home, given_home, FindsAt, Deeds}
+use Rattle.lwkt_bank.specs.Ledger.{IsAtCell, IsOperation, word_in, IsDone, first_machine, Ledger, IsNext, stays, taken_home, given_home, FindsAt, Deeds}
 use Rattle.lwkt_bank.specs.Plays.{Amid, Looks, Exchanges, AddsOne, Marks, GivesOne, GivesClean, GivesWritten, ReadsCell, StoresCell, RaisesCell, ReadsBlob, WritesBlob}
 use Rattle.lwkt_bank.specs.Seats.{Decides, IsCleanIn, IsLawfulIn}
 use Rattle.lwkt_bank.proofs.SeatMoves.{Steps, look_steps, take_steps, share_steps, again_steps, mark_steps, give_one_steps, give_clean_steps, give_written_steps, read_steps, store_steps, raise_steps, read_blob_steps, write_blob_steps}
@@ -53,27 +53,27 @@ shares_by old new n cpu tok true is = (new, ap (λ (k : ℕ). Exchange k new) (s
 shares_by old new n cpu tok false is = inr (old, new, (refl, eqb-false n old is))
 
 module _ (plans : List Plan) (cpus id : ℕ) (v : View) (kind : v.kind ≡ Of (who v)) where
-  module _ (s : Bench) (told : Told plans cpus s) (here : get_elem? s.views id ≡ some v) where
+  module _ (s : Bench) (ledger : Ledger plans cpus s) (here : get_elem? s.views id ≡ some v) where
     -- what the seat has seen of the history, and what others did since its last deed
-    pub part : IsPastOf told.chronicle.history (who v).0 v.past
-    part = Views-between IsDone page_of (first_machine plans cpus) told.rule.model s.views told.chronicle id v here (who v) kind
+    pub part : IsPastOf ledger.chronicle.history (who v).0 v.past
+    part = Views-between IsDone page_of (first_machine plans cpus) ledger.rule.model s.views ledger.chronicle id v here (who v) kind
 
     -- a deed that is done is one deed more
-    next : (i n : ℕ) (e : TokenEntry) (d : Deed) (homes : Homes) (q : Rule plans cpus (moved s i n id (noted part.0 v e d) homes)) → d.cpu ≡ who v → IsDone told.rule.model d q.model
-        → (after : Told plans cpus (moved s i n id (noted part.0 v e d) homes)) × IsNext plans cpus s (moved s i n id (noted part.0 v e d) homes) told d after
+    next : (i n : ℕ) (e : TokenEntry) (d : Deed) (homes : Homes) (q : Rule plans cpus (moved s i n id (noted part.0 v e d) homes)) → d.cpu ≡ who v → IsDone ledger.rule.model d q.model
+        → (after : Ledger plans cpus (moved s i n id (noted part.0 v e d) homes)) × IsNext plans cpus s (moved s i n id (noted part.0 v e d) homes) ledger d after
     next i n e d homes q own done =
-        let c = Views-noted IsDone page_of (first_machine plans cpus) told.rule.model s.views told.chronicle id v here cpus told.rule.seats (who v) q.model part.0 d (noted part.0 v e d) kind own part.1.0 done refl in
+        let c = Views-noted IsDone page_of (first_machine plans cpus) ledger.rule.model s.views ledger.chronicle id v here cpus ledger.rule.seats (who v) q.model part.0 d (noted part.0 v e d) kind own part.1.0 done refl in
         (record { rule = q; chronicle = c.0 }, record { done = done; grown = c.1 })
 
   -- a step on the count word of a token
   module _ (tok : ℕ) (there : tok < length plans) where
-    word_deeds : (operation : Operation) (event : ℕ → Event) (home : Homes → ℕ → Homes) (R : Homes → List Deed → ℕ → View → Type 0) → ((n : ℕ) → told_by operation n ≡ n) → ((n : ℕ) → (place_of (event n) ≡ AtToken tok) × (cpu_of (event n) ≡ (who v).0)) → ((n : ℕ) → IsOperation (event n) operation n)
+    word_deeds : (operation : Operation) (event : ℕ → Event) (home : Homes → ℕ → Homes) (R : Homes → List Deed → ℕ → View → Type 0) → ((n : ℕ) → word_by operation n ≡ n) → ((n : ℕ) → (place_of (event n) ≡ AtToken tok) × (cpu_of (event n) ≡ (who v).0)) → ((n : ℕ) → IsOperation (event n) operation n)
         → Steps plans cpus id v (token_word tok) (left_by operation) event (λ n. record { at = tok; operation = operation; found = n } ∷ []) home R
         → Deeds plans cpus id v (token_word tok) (left_by operation) (λ n. deed_by (who v) (event n) (record { at = tok; operation = operation; found = n } ∷ [])) home (λ homes n w. Amid v (λ between. R homes between n w))
-    word_deeds operation event home R tells at_tok by steps s told here fits =
+    word_deeds operation event home R shows_it at_tok by steps s ledger here fits =
         let n = slice_index s.words (token_word tok) in
-        let r = told.rule in
-        let p = part s told here in
+        let r = ledger.rule in
+        let p = part s ledger here in
         let x = steps s r p.0 here fits in
         let q = x.1.0 in
         let d = deed_by (who v) (event n) (record { at = tok; operation = operation; found = n } ∷ []) in
@@ -94,25 +94,25 @@ module _ (plans : List Plan) (cpus id : ℕ) (v : View) (kind : v.kind ≡ Of (w
               refl,
               record {
                 place = (at_tok n).0;
-                over = record { found = sym (tells n) ∙ ap (told_by operation) before; leaves = sym after ∙ written ∙ ap (left_by operation) before };
+                over = record { found = sym (shows_it n) ∙ ap (word_by operation) before; leaves = sym after ∙ written ∙ ap (left_by operation) before };
                 operation = subst F before (by n);
               },
             ),
           );
         } in
-        let a = next s told here (token_word tok) (left_by operation n) x.0 d (home s.homes n) q refl done in
+        let a = next s ledger here (token_word tok) (left_by operation n) x.0 d (home s.homes n) q refl done in
         (noted p.0 v x.0 d, (a.0, (a.1, (p.0, (p.1.1, x.1.1.1)))))
 
     -- a step on a cell of a token
     cell_deeds : (i : ℕ) (f : ℕ → ℕ) (event : ℕ → Event) (R : Homes → List Deed → ℕ → View → Type 0) → ((n : ℕ) → IsAtCell (event n) × (cpu_of (event n) ≡ (who v).0))
         → Steps plans cpus id v i f event (λ _. []) stays R → Deeds plans cpus id v i f (λ n. deed_by (who v) (event n) []) stays (λ homes n w. Amid v (λ between. R homes between n w))
-    cell_deeds i f event R at_cell steps s told here fits =
+    cell_deeds i f event R at_cell steps s ledger here fits =
         let n = slice_index s.words i in
-        let p = part s told here in
-        let x = steps s told.rule p.0 here fits in
+        let p = part s ledger here in
+        let x = steps s ledger.rule p.0 here fits in
         let d = deed_by (who v) (event n) [] in
-        let done : IsDone told.rule.model d x.1.0.model = record { event = event n; events = refl; own = (at_cell n).1; records = refl; happens = x.1.1.0; steps = inl ((at_cell n).0, refl) } in
-        let a = next s told here i (f n) x.0 d s.homes x.1.0 refl done in
+        let done : IsDone ledger.rule.model d x.1.0.model = record { event = event n; events = refl; own = (at_cell n).1; records = refl; happens = x.1.1.0; steps = inl ((at_cell n).0, refl) } in
+        let a = next s ledger here i (f n) x.0 d s.homes x.1.0 refl done in
         (noted p.0 v x.0 d, (a.0, (a.1, (p.0, (p.1.1, x.1.1.1)))))
 
     abbrev e : TokenEntry

@@ -26,7 +26,7 @@ use Rattle.lwkt_core.specs.Trace.{Run, shown_tallies}
 use Rattle.lwkt_table.specs.History.{AreOthers, IsPastOf, events_by, steps_by}
 use Rattle.lwkt_table.proofs.HistoryLemmas.{Passes-run, events_by-past, steps_by-past}
 use Rattle.lwkt_table.proofs.ViewLemmas.{Views-part, Views-others}
-use Rattle.lwkt_bank.specs.Told.{IsDone, first_token, first_machine}
+use Rattle.lwkt_bank.specs.Ledger.{IsDone, first_token, first_machine}
 use Rattle.lwkt_base.specs.Law.{Obeys, IsTallied}
 use Rattle.lwkt_bank.specs.declared.views.Plan.{Plan}
 use Rattle.lwkt_bank.specs.Rule.{lies_in, table_words, token_word, cell_word, IsOpeningRow, plan_at, token_at, no_token}
@@ -150,10 +150,10 @@ gathering_more bank v w all rest front s kept k back so_far last is notes named 
           let before = so_far.added tok cpu there in
           let split = ap (λ (xs : List CpuSeat). added_by xs tok cpu) last ∙ total-snoc (λ (x : CpuSeat). amount cpu (entry x tok).added) front s in
           omega arith;
-      told = λ tok cpu there.
+      adds_up = λ tok cpu there.
           let grown = total-snoc (kept_tally tok cpu) kept k in
           let its = kept_is s k tok cpu (omega arith) notes named in
-          let before = so_far.told tok cpu there in
+          let before = so_far.adds_up tok cpu there in
           let split = ap (λ (xs : List CpuSeat). added_by xs tok cpu) last ∙ total-snoc (λ (x : CpuSeat). amount cpu (entry x tok).added) front s in
           omega arith;
       behind = s ∷ so_far.behind;
@@ -189,7 +189,7 @@ gathering_none bank v seats made desk informed ready clean = record {
   ready = ready;
   written = λ tok there. let c = (clean tok).0 in omega arith;
   added = λ tok cpu there. let c = (clean tok).1 cpu in omega arith;
-  told = λ tok cpu there. omega arith;
+  adds_up = λ tok cpu there. omega arith;
   behind = [];
   in_order = sym (append-nil seats);
   recalls = λ tok there. All-nil (λ (s : CpuSeat). Recalls (at v.tokens tok) (entry s tok));
@@ -237,7 +237,7 @@ shown_settled (Some first) (Some bytes) slots tok home same lay in_slots = ap (�
 pub closed_token : (plan : Plan) (cpus : ℕ) (words : List ℕ) (slots : List (List ℕ)) (home : Option (Option (List ℕ))) (kept : List Kept) (tok : ℕ) (tk : Token) (seats : List CpuSeat) (row : List ℕ) (generation : ℕ) (tallies : List ℕ) (blob : RecordOf) (known : TokenEntry) → cpus ≤ 8 → ((bytes : List ℕ) → home ≡ some (some bytes) → get_elem? slots tok ≡ some bytes)
     → Settled plan cpus words home tok tk (written_by seats tok) (λ a. added_by seats tok a) known → All (λ s. Recalls known (entry s tok)) seats → ((a : ℕ) → kept_by kept tok a ≡ added_by seats tok a) → IsRead plan cpus words slots kept tok row generation tallies blob
     → IsClosedToken plan cpus seats tok row generation tallies blob
-closed_token plan cpus words slots home kept tok tk seats row generation tallies blob known few in_slots settled recalls told read =
+closed_token plan cpus words slots home kept tok tk seats row generation tallies blob known few in_slots settled recalls adds_up read =
     let same_row : row ≡ settled.row = ext_get_or 0 row settled.row (read.long ∙ sym settled.long) (λ i inside. let l = read.long in let low : i < plan.cells = omega arith in read.cells i low ∙ settled.cells i low) in
     let same_blob : blob ≡ settled.blob = read.blob_is ∙ shown_settled plan.blob settled.blob slots tok home settled.guard settled.lay in_slots in
     let F : List ℕ → Type 0 = λ r. Obeys plan.law plan.param r (length_of settled.blob) in
@@ -251,7 +251,7 @@ closed_token plan cpus words slots home kept tok tk seats row generation tallies
       generation_is = read.generation_is ∙ settled.generation;
       none = read.none;
       as_many = read.as_many;
-      each = λ tally cpu low. read.each tally cpu low ∙ told cpu;
+      each = λ tally cpu low. read.each tally cpu low ∙ adds_up cpu;
       unwritten = λ same. subst (λ (r : List ℕ). IsOpeningRow plan r) (sym same_row) (settled.opening (sym read.generation_is ∙ same));
       stands = All-weaker (λ (s : CpuSeat). Recalls known (entry s tok)) (λ (s : CpuSeat). IsStill (entry s tok) row blob generation)
           (λ s r.
@@ -275,7 +275,7 @@ closed_token plan cpus words slots home kept tok tk seats row generation tallies
           let sum_is : settled.row ≡ (plan.param + sum settled.tallies) ∷ [] = subst P tally settled.tallied in
           let shown = read.as_many tally in
           let eight = settled.eight in
-          let same : sum settled.tallies ≡ sum tallies = sum_shown tallies settled.tallies (omega arith) (λ a low. read.each tally a (omega arith) ∙ told a ∙ sym (settled.tally a)) (λ a far. settled.absent a (omega arith)) in
+          let same : sum settled.tallies ≡ sum tallies = sum_shown tallies settled.tallies (omega arith) (λ a low. read.each tally a (omega arith) ∙ adds_up a ∙ sym (settled.tally a)) (λ a far. settled.absent a (omega arith)) in
           same_row ∙ sum_is ∙ ap (λ (n : ℕ). (plan.param + n) ∷ []) same;
     }
 
@@ -397,20 +397,20 @@ module _ (bank : BankId) (cpus id : ℕ) (v : View) (words : List ℕ) (slots : 
         free = t.free;
       }
 
-  told_token : (tok : ℕ) → tok < length bank.plans → (a : ℕ) → kept_by kept tok a ≡ added_by seats tok a
-  told_token tok there a = let h = gathered.told tok a there in omega arith
+  adds_up_of : (tok : ℕ) → tok < length bank.plans → (a : ℕ) → kept_by kept tok a ≡ added_by seats tok a
+  adds_up_of tok there a = let h = gathered.adds_up tok a there in omega arith
 
   pub kept_fits : ((k : ℕ) → slice_index words k < 18446744073709551616) → (tok : ℕ) → tok < length bank.plans → (plan_at bank.plans tok).law ≡ Tally → (a : ℕ) → kept_by kept tok a < 18446744073709551616
   kept_fits fits tok there tally a =
       let h = tally_fits (plan_at bank.plans tok) cpus words (get_elem? left.0.homes tok) tok (token_at last tok) (written_by seats tok) (λ b. added_by seats tok b) (at v.tokens tok) (settled_token tok there) tally (fits (cell_word tok 0)) a in
-      let e = told_token tok there a in
+      let e = adds_up_of tok there a in
       omega arith
 
   pub closed_tokens : (closed : Closed) → AreRead bank.plans cpus words slots kept closed (length bank.plans) → (tok : ℕ) → tok < length bank.plans
       → IsClosedToken (plan_at bank.plans tok) cpus seats tok (get_or closed.rows.items tok []) (get_or closed.gens.items tok 0) (get_or closed.tallies.items tok []) (get_or closed.blobs.items tok None)
   closed_tokens closed read tok there =
       closed_token (plan_at bank.plans tok) cpus words slots (get_elem? left.0.homes tok) kept tok (token_at last tok) seats (get_or closed.rows.items tok []) (get_or closed.gens.items tok 0) (get_or closed.tallies.items tok []) (get_or closed.blobs.items tok None) (at v.tokens tok) few (left.1.1.1.1 tok) (settled_token tok there)
-      (subst (λ (xs : List CpuSeat). All (λ (s : CpuSeat). Recalls (at v.tokens tok) (entry s tok)) xs) (sym gathered.in_order) (gathered.recalls tok there)) (told_token tok there) (read.each tok there)
+      (subst (λ (xs : List CpuSeat). All (λ (s : CpuSeat). Recalls (at v.tokens tok) (entry s tok)) xs) (sym gathered.in_order) (gathered.recalls tok there)) (adds_up_of tok there) (read.each tok there)
 
   -- a token that was read is the last machine's
   read_token : (closed : Closed) → AreRead bank.plans cpus words slots kept closed (length bank.plans) → (tok : ℕ) → tok < length bank.plans
@@ -429,7 +429,7 @@ module _ (bank : BankId) (cpus id : ℕ) (v : View) (words : List ℕ) (slots : 
       let f = few in
       let many = r.as_many tally in
       let short : length (take cpus t.tallies) ≡ cpus = length-take-le cpus t.tallies (omega arith) in
-      ext_get_or 0 tallies (take cpus t.tallies) (many ∙ sym short) (λ a inside. let low : a < cpus = omega arith in r.each tally a low ∙ told_token tok there a ∙ sym (t.tally a) ∙ sym (get_or-take cpus t.tallies a 0 low))) in (
+      ext_get_or 0 tallies (take cpus t.tallies) (many ∙ sym short) (λ a inside. let low : a < cpus = omega arith in r.each tally a low ∙ adds_up_of tok there a ∙ sym (t.tally a) ∙ sym (get_or-take cpus t.tallies a 0 low))) in (
         same_row ∙ t.row_is,
         r.generation_is ∙ t.generation_is,
         subst (λ l. F l last.cpus (token_at last tok).tallies) (sym t.law_is) (subst (λ c. F plan.law c (token_at last tok).tallies) (sym processors) (subst (λ ts. F plan.law cpus ts) t.tallies_are shown)),
@@ -476,7 +476,7 @@ module _ (bank : BankId) (cpus id : ℕ) (v : View) (words : List ℕ) (slots : 
   part_of : (s : CpuSeat) → IsChapter v s → IsPastOf history s.cpu.0 (past_of s)
   part_of s c = Views-part IsDone page_of (first_machine bank.plans cpus) last left.0.views left.1.0.chronicle id v left.1.1.0 cpus left.1.0.rule.seats gathered.made (length seats) gathered.desk (omega arith) c.0 (record { cpu = s.cpu; past = past_of s }) c.1
 
-  -- the sections that the processors tell go from the declared rows to the closing ones
+  -- the sections that the processors name go from the declared rows to the closing ones
   declared_settled : (plans : List Plan) → All IsSettled (map first_token plans)
   declared_settled [] = All-nil IsSettled
   declared_settled (p ∷ plans) = All-cons IsSettled (first_token p) (map first_token plans) refl (declared_settled plans)
@@ -484,11 +484,11 @@ module _ (bank : BankId) (cpus id : ℕ) (v : View) (words : List ℕ) (slots : 
   closed_sections : (closed : Closed) → AreRead bank.plans cpus words slots kept closed (length bank.plans) → AreSectionChains (rows_of (first_machine bank.plans cpus)) (zip closed.rows.items closed.gens.items) (sections_by cpus history)
   closed_sections closed read =
       let end = ends closed read in
-      let told = left.1.0 in
+      let ledger = left.1.0 in
       let opening : Machine = first_machine bank.plans cpus in
-      let run = Passes-run IsDone (λ m. m) done_runs opening history last told.chronicle.passes in
-      let settled_last : All IsSettled last.tokens = λ tok d low. (told.rule.safe.each_token tok d low).settled (λ cpu. ap is_exclusive (end.free tok d low cpu)) in
-      let others : (cpu : ℕ) → cpus ≤ cpu → AreOthers cpu history = λ cpu high. Views-others IsDone page_of opening last left.0.views told.chronicle id v left.1.1.0 cpus told.rule.seats gathered.made (length seats) gathered.desk (omega arith) cpu high in
+      let run = Passes-run IsDone (λ m. m) done_runs opening history last ledger.chronicle.passes in
+      let settled_last : All IsSettled last.tokens = λ tok d low. (ledger.rule.safe.each_token tok d low).settled (λ cpu. ap is_exclusive (end.free tok d low cpu)) in
+      let others : (cpu : ℕ) → cpus ≤ cpu → AreOthers cpu history = λ cpu high. Views-others IsDone page_of opening last left.0.views ledger.chronicle id v left.1.1.0 cpus ledger.rule.seats gathered.made (length seats) gathered.desk (omega arith) cpu high in
       let rows : rows_of last ≡ zip closed.rows.items closed.gens.items =
       sym (ap (λ (rs : List (List ℕ)). zip rs closed.gens.items) end.rows ∙ ap (λ (gs : List ℕ). zip (map (λ (tok : Token). tok.row) last.tokens) gs) end.gens ∙ zipped last.tokens) in
       subst (λ (rs : RowsAt). AreSectionChains (rows_of opening) rs (sections_by cpus history)) rows (parts_chains opening history last cpus run (declared_settled bank.plans) settled_last others)
@@ -509,20 +509,20 @@ module _ (bank : BankId) (cpus id : ℕ) (v : View) (words : List ℕ) (slots : 
       }
 
 -- the clerk before it takes a seat back
-pub desk_told : (kind : SeatKind) → clerk_number kind ≡ 1 → (made : ℕ) × (kind ≡ Clerk made 0)
-desk_told (Clerk made back) e = let none : back ≡ 0 = omega arith in (made, ap (Clerk made) none)
-desk_told (Of cpu) e = absurd (omega arith)
-desk_told Spent e = absurd (omega arith)
+pub clerk_by_number : (kind : SeatKind) → clerk_number kind ≡ 1 → (made : ℕ) × (kind ≡ Clerk made 0)
+clerk_by_number (Clerk made back) e = let none : back ≡ 0 = omega arith in (made, ap (Clerk made) none)
+clerk_by_number (Of cpu) e = absurd (omega arith)
+clerk_by_number Spent e = absurd (omega arith)
 
--- the same over a desk, whose table was told what the bank keeps
+-- the same over a desk, whose table was given what the bank keeps
 module _ (desk : ClerkDesk) (id : ℕ) (v : View) (words : List ℕ) (slots : List (List ℕ)) (seats : List CpuSeat) (kept : List Kept)
     (left : Left desk.table.shared.key.plans.items desk.table.shared.key.cpus id v words slots)
     (gathered : Gathering (record { table = desk.table.shared.table_id; plans = desk.table.shared.key.plans.items }) v seats [] kept (length seats)) (all : length seats ≡ desk.key.cpus) where
   left_here : Left desk.key.plans.items desk.key.cpus id v words slots
-  left_here = let F : Key → Type 0 = λ k. Left k.plans.items k.cpus id v words slots in subst F desk.told left
+  left_here = let F : Key → Type 0 = λ k. Left k.plans.items k.cpus id v words slots in subst F desk.key_is left
 
   gathered_here : Gathering (id_of_desk desk) v seats [] kept (length seats)
-  gathered_here = let F : Key → Type 0 = λ k. Gathering (record { table = desk.table.shared.table_id; plans = k.plans.items }) v seats [] kept (length seats) in subst F desk.told gathered
+  gathered_here = let F : Key → Type 0 = λ k. Gathering (record { table = desk.table.shared.table_id; plans = k.plans.items }) v seats [] kept (length seats) in subst F desk.key_is gathered
 
   pub bank_fits : ((k : ℕ) → slice_index words k < 18446744073709551616) → (tok : ℕ) → tok < length desk.key.plans.items → (plan_at desk.key.plans.items tok).law ≡ Tally → (a : ℕ) → kept_by kept tok a < 18446744073709551616
   bank_fits fits tok there tally a = kept_fits (id_of_desk desk) desk.key.cpus id v words slots seats kept left_here gathered_here all fits tok there tally a

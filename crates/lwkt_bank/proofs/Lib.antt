@@ -15,7 +15,7 @@ pub mod CellMoves
 pub mod RowMoves
 pub mod GatherMoves
 pub mod OpenMoves
-pub mod ToldMoves
+pub mod LedgerMoves
 pub mod MadeMoves
 pub mod SpentMoves
 pub mod CloseMoves

@@ -17,7 +17,7 @@ use Rattle.lwkt_core.specs.Tokens.{TokenNeeds, token_after}
 use Rattle.lwkt_core.specs.Picture.{picture_of}
 use Rattle.lwkt_core.specs.Machine.{Machine, machine, PlaceNeeds, Happens, after_at}
 use Rattle.lwkt_core.specs.Trace.{Run}
-use Rattle.lwkt_table.specs.History.{IsStepOver, left_by, told_by, Page, Chronicle}
+use Rattle.lwkt_table.specs.History.{IsStepOver, left_by, word_by, Page, Chronicle}
 use Rattle.lwkt_core.proofs.MachineMoves.{changed_at}
 use Rattle.lwkt_table.proofs.HistoryLemmas.{Passes-run, events_by-past, steps_by-past}
 use Rattle.lwkt_table.proofs.ChronicleLemmas.{Chronicle-same, Chronicle-decides}
@@ -27,9 +27,9 @@ use Rattle.lwkt_table.proofs.GrownMoves.{Views-were_done}
 use Rattle.lwkt_bank.specs.declared.views.Plan.{Plan}
 use Rattle.lwkt_bank.specs.Views.{named, page_of}
 use Rattle.lwkt_bank.specs.Rule.{moved, Bench, Rule, token_word, cell_word, plan_at, token_at, no_token}
-use Rattle.lwkt_bank.specs.Told.{IsAtCell, IsOperation, word_in, IsStepOf, IsDone, first_machine}
-use Rattle.lwkt_bank.specs.Laws.{StatesAreReached, ViewsDecide, OpeningIsDeclared, IsCellMade, IsMade, MadeAsTold, AllMadeAsTold, NothingUntold}
-use Rattle.lwkt_bank.proofs.ToldMoves.{Told-opening, first_opening}
+use Rattle.lwkt_bank.specs.Ledger.{IsAtCell, IsOperation, word_in, IsStepOf, IsDone, first_machine}
+use Rattle.lwkt_bank.specs.Laws.{StatesAreReached, ViewsDecide, OpeningIsDeclared, IsCellMade, IsMade, MadeAsNoted, AllMadeAsNoted, NothingUnnoted}
+use Rattle.lwkt_bank.proofs.LedgerMoves.{Ledger-opening, first_opening}
 
 -- a deed leaves one machine
 one_event : (e f : Event) → e ∷ [] ≡ f ∷ [] → e ≡ f
@@ -47,18 +47,18 @@ done_runs : (m : Machine) (d : Deed) (n : Machine) → IsDone m d n → Run m d.
 done_runs m d n done = let F : List Event → Type 0 = λ es. Run m es n in subst F (sym done.events) (n, (done.happens, refl))
 
 pub reached : StatesAreReached
-reached plans cpus s told =
-    let c = told.chronicle in
+reached plans cpus s ledger =
+    let c = ledger.chronicle in
     let first = first_machine plans cpus in (
       c.history,
       (
-        told.rule.model,
+        ledger.rule.model,
         (
           c.passes,
-          Passes-run IsDone (λ m. m) done_runs first c.history told.rule.model c.passes,
-          told.rule.pictures,
+          Passes-run IsDone (λ m. m) done_runs first c.history ledger.rule.model c.passes,
+          ledger.rule.pictures,
           λ j v cpu here kind.
-              let past = Views-between IsDone page_of first told.rule.model s.views c j v here cpu kind in
+              let past = Views-between IsDone page_of first ledger.rule.model s.views c j v here cpu kind in
               (past, events_by-past c.history cpu.0 v.past past, steps_by-past c.history cpu.0 v.past past),
         ),
       ),
@@ -74,10 +74,10 @@ decided plans cpus s one other =
 
 pub declared : OpeningIsDeclared
 declared cpus specs within lawful =
-    let x = Told-opening cpus specs within lawful in (
+    let x = Ledger-opening cpus specs within lawful in (
       x.0,
-      λ told.
-          let d = decided _ cpus _ told x.0 in
+      λ ledger.
+          let d = decided _ cpus _ ledger x.0 in
           let model = d.1 ∙ x.1 in
           (model, model ∙ sym (first_opening cpus specs within.each_token), d.0 ∙ x.2),
     )
@@ -172,7 +172,7 @@ written_cell (Reply cpu msg) tok i c at needs differs = absurd needs
 written_cell (Reap cpu msg) tok i c at needs differs = absurd needs
 written_cell (Abort cpu msg) tok i c at needs differs = absurd needs
 
--- what is told of a cell is so in the words before and after
+-- what is said of a cell is so in the words before and after
 made_cell : (e : Event) (i cells : ℕ) (tok : Token) (words words' : List ℕ) → place_of e ≡ AtToken i → TokenNeeds tok e → length tok.row ≡ cells → ((c : ℕ) → c < cells → slice_index words (cell_word i c) ≡ slice_index tok.row c)
     → ((c : ℕ) → c < cells → slice_index words' (cell_word i c) ≡ slice_index (token_after tok e).row c) → IsCellMade words words' e
 made_cell (Read cpu t cell value) i cells tok words words' at needs long before after =
@@ -250,7 +250,7 @@ module _ (plans : List Plan) (cpus : ℕ) (s s' : Bench) (r : Rule plans cpus s)
         low,
         subst O (sym (word_before step.at low)) of.operation,
         record {
-          found = of.over.found ∙ ap (told_by step.operation) (sym (word_before step.at low));
+          found = of.over.found ∙ ap (word_by step.operation) (sym (word_before step.at low));
           leaves = word_after step.at low ∙ of.over.leaves ∙ ap (left_by step.operation) (sym (word_before step.at low));
         },
       ))
@@ -297,22 +297,22 @@ module _ (plans : List Plan) (cpus : ℕ) (s s' : Bench) (r : Rule plans cpus s)
     no_other_cell = made_other;
   }
 
-pub made_as_told : MadeAsTold
-made_as_told plans cpus s id i n v w homes cpu between d told here kind own others is after =
-    let done = Views-was_done IsDone page_of (first_machine plans cpus) told.rule.model after.rule.model s.views told.chronicle id v w after.chronicle here cpus told.rule.seats cpu between d kind own others is done_decides in
-    is_made plans cpus s (moved s i n id w homes) told.rule after.rule d done
+pub made_as_noted : MadeAsNoted
+made_as_noted plans cpus s id i n v w homes cpu between d ledger here kind own others is after =
+    let done = Views-was_done IsDone page_of (first_machine plans cpus) ledger.rule.model after.rule.model s.views ledger.chronicle id v w after.chronicle here cpus ledger.rule.seats cpu between d kind own others is done_decides in
+    is_made plans cpus s (moved s i n id w homes) ledger.rule after.rule d done
 
-pub all_made_as_told : AllMadeAsTold
-all_made_as_told plans cpus s id i n v w homes cpu deeds told here kind still grows own after =
-    Views-were_done IsDone page_of done_decides (first_machine plans cpus) told.rule.model after.rule.model cpus s.views id v w cpu deeds told.rule.seats here kind still grows own told.chronicle after.chronicle
+pub all_made_as_noted : AllMadeAsNoted
+all_made_as_noted plans cpus s id i n v w homes cpu deeds ledger here kind still grows own after =
+    Views-were_done IsDone page_of done_decides (first_machine plans cpus) ledger.rule.model after.rule.model cpus s.views id v w cpu deeds ledger.rule.seats here kind still grows own ledger.chronicle after.chronicle
 
-pub nothing_untold : NothingUntold
-nothing_untold plans cpus s id i n v w homes told here is after tok low =
+pub nothing_unnoted : NothingUnnoted
+nothing_unnoted plans cpus s id i n v w homes ledger here is after tok low =
     let first = first_machine plans cpus in
     let pages : map page_of (set s.views id w) ≡ map page_of s.views = map-set page_of s.views id w ∙ ap (λ (p : Page). set (map page_of s.views) id p) is ∙ set_again (map page_of s.views) id (page_of v) (at_map page_of s.views id v here) in
     let F : List Page → Type 0 = λ ps. Chronicle IsDone first ps after.rule.model in
-    let same : told.rule.model ≡ after.rule.model = Chronicle-decides IsDone done_decides first told.rule.model after.rule.model (map page_of s.views) told.chronicle (subst F pages after.chronicle) in
-    let one = told.rule.pictures.each_token tok low in
+    let same : ledger.rule.model ≡ after.rule.model = Chronicle-decides IsDone done_decides first ledger.rule.model after.rule.model (map page_of s.views) ledger.chronicle (subst F pages after.chronicle) in
+    let one = ledger.rule.pictures.each_token tok low in
     let two = after.rule.pictures.each_token tok low in (
       two.count_word ∙ ap (λ (x : Machine). word_in x tok) (sym same) ∙ sym one.count_word,
       λ cell short. two.row cell short ∙ ap (λ (x : Machine). slice_index (token_at x tok).row cell) (sym same) ∙ sym (one.row cell short),

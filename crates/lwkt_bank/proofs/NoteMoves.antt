@@ -28,15 +28,15 @@ use Rattle.lwkt_bank.specs.declared.notes.Touch.TheVariants.{Untouched, Same, Ot
 use Rattle.lwkt_bank.specs.declared.notes.TokenNote.{TokenNote}
 use Rattle.lwkt_bank.specs.Views.{RecordOf, wrote_record, at, amount, generation_in, is_touched, touching, seen, taken, less, more, stored, raised, noted}
 use Rattle.lwkt_bank.specs.Rule.{plan_at}
-use Rattle.lwkt_bank.specs.Notes.{seat_number, no_note, note_at, touch_at, touch_of, held_in, begun, note_changed, note_wrote, first_record, IsToldApart, is_stored, is_other, IsTouched, IsRecordTouched, IsNoted, Keeps}
+use Rattle.lwkt_bank.specs.Notes.{seat_number, no_note, note_at, touch_at, touch_of, held_in, begun, note_changed, note_wrote, first_record, IsTouchOf, is_stored, is_other, IsTouched, IsRecordTouched, IsNoted, Keeps}
 use Rattle.lwkt_bank.proofs.ViewMoves.{at-here, at-else}
 use Rattle.lwkt_bank.proofs.TurnMoves.{seen-keeps, exclusive_held}
 
--- the number of a seat tells its processor
-pub seat_told : (kind : SeatKind) (cpu : CpuId) → seat_number kind ≡ cpu.0 + 1 → kind ≡ Of cpu
-seat_told (Of other) cpu e = let same : other.0 ≡ cpu.0 = omega arith in λ i. Of (record { 0 = same i })
-seat_told (Clerk made back) cpu e = absurd (omega arith)
-seat_told Spent cpu e = absurd (omega arith)
+-- the number of a seat gives its processor
+pub seat_by_number : (kind : SeatKind) (cpu : CpuId) → seat_number kind ≡ cpu.0 + 1 → kind ≡ Of cpu
+seat_by_number (Of other) cpu e = let same : other.0 ≡ cpu.0 = omega arith in λ i. Of (record { 0 = same i })
+seat_by_number (Clerk made back) cpu e = absurd (omega arith)
+seat_by_number Spent cpu e = absurd (omega arith)
 
 -- an entry that says the same of the holding, the rows and what was added is noted alike
 pub IsNoted-same : (plan : Plan) (cpu : ℕ) (e e' : TokenEntry) (note : TokenNote) → e'.held ≡ e.held → e'.first ≡ e.first → e'.row ≡ e.row → e'.added ≡ e.added → e'.touched ≡ e.touched → e'.first_blob ≡ e.first_blob → e'.blob ≡ e.blob → IsNoted plan cpu e note → IsNoted plan cpu e' note
@@ -143,23 +143,23 @@ IsNoted-more plan cpu e note held few noted' =
     let m = more_is e.held held in
     IsNoted-held plan cpu e (one_more e.held Shared) (note.references + 1) note held (λ is. m.0) (ap (λ (k : ℕ). k + 1) noted'.references ∙ m.1) (omega (arith, few)) noted'
 
--- what is noted of a holding tells it
-mode_told : (m mode : Mode) (f : ℕ) → is_exclusive (Holds m f) ≡ is_exclusive (Holds mode 0) → mode ≡ m
-mode_told Exclusive Exclusive f same = refl
-mode_told Exclusive Shared f same = absurd (false≢true (sym same))
-mode_told Shared Exclusive f same = absurd (false≢true same)
-mode_told Shared Shared f same = refl
+-- what is noted of a holding gives it
+mode_by_note : (m mode : Mode) (f : ℕ) → is_exclusive (Holds m f) ≡ is_exclusive (Holds mode 0) → mode ≡ m
+mode_by_note Exclusive Exclusive f same = refl
+mode_by_note Exclusive Shared f same = absurd (false≢true (sym same))
+mode_by_note Shared Exclusive f same = absurd (false≢true same)
+mode_by_note Shared Shared f same = refl
 
-told : (h : Held) (mode : Mode) (references : ℕ) → references ≡ references_in h → (is_held h ≡ true → is_exclusive h ≡ is_exclusive (Holds mode 0)) → cond (eqb references 0) Nothing (Holds mode (references - 1)) ≡ h
-told Nothing mode references count same = ap (λ (b : Bool). cond b Nothing (Holds mode (references - 1))) (eq-eqb references 0 count)
-told (Holds m f) mode references count same =
+by_number : (h : Held) (mode : Mode) (references : ℕ) → references ≡ references_in h → (is_held h ≡ true → is_exclusive h ≡ is_exclusive (Holds mode 0)) → cond (eqb references 0) Nothing (Holds mode (references - 1)) ≡ h
+by_number Nothing mode references count same = ap (λ (b : Bool). cond b Nothing (Holds mode (references - 1))) (eq-eqb references 0 count)
+by_number (Holds m f) mode references count same =
     let further : references - 1 ≡ f = omega arith in
     ap (λ (b : Bool). cond b Nothing (Holds mode (references - 1))) (ne_eqb references 0 (λ none. absurd (omega arith)))
-    ∙ ap (λ (x : Mode). Holds x (references - 1)) (mode_told m mode f (same refl))
+    ∙ ap (λ (x : Mode). Holds x (references - 1)) (mode_by_note m mode f (same refl))
     ∙ ap (Holds m) further
 
-pub held_told : (plan : Plan) (cpu : ℕ) (e : TokenEntry) (note : TokenNote) → IsNoted plan cpu e note → held_in note ≡ e.held
-held_told plan cpu e note noted' = told e.held note.mode note.references noted'.references noted'.mode
+pub held_by_note : (plan : Plan) (cpu : ℕ) (e : TokenEntry) (note : TokenNote) → IsNoted plan cpu e note → held_in note ≡ e.held
+held_by_note plan cpu e note noted' = by_number e.held note.mode note.references noted'.references noted'.mode
 
 -- a token that is held has a reference
 pub counted : (h : Held) → is_held h ≡ true → 0 < references_in h
@@ -431,7 +431,7 @@ kept_first kept Same old first value known value_is = known.first_kept refl
 kept_first kept Other old first value known value_is = known.first_kept refl
 
 -- a record that was written
-pub IsNoted-wrote : (plan : Plan) (cpu : ℕ) (e : TokenEntry) (note : TokenNote) (old new : List ℕ) (touch : Touch) → IsNoted plan cpu e note → is_exclusive e.held ≡ true → e.blob ≡ Some old → IsToldApart touch (first_record note old) new → IsNoted plan cpu (wrote_record e new) (note_wrote note (first_record note old) touch)
+pub IsNoted-wrote : (plan : Plan) (cpu : ℕ) (e : TokenEntry) (note : TokenNote) (old new : List ℕ) (touch : Touch) → IsNoted plan cpu e note → is_exclusive e.held ≡ true → e.blob ≡ Some old → IsTouchOf touch (first_record note old) new → IsNoted plan cpu (wrote_record e new) (note_wrote note (first_record note old) touch)
 IsNoted-wrote plan cpu e note old new touch noted' held blob_is apart =
     let first : e.first_blob ≡ Some (first_record note old) = kept_first note.first_blob note.record_ old e.first_blob e.blob (noted'.record_touched held) blob_is in
     record {

@@ -34,35 +34,35 @@ pub record Restoring (s l : CpuSeat) (tok : ℕ) (made : List (Option ℕ)) (cel
   pub done : (k : ℕ) → k < cell → slice_index (written_over 0 made (entry s tok).row) k ≡ slice_index (entry s tok).first k
   pub shown : (k : ℕ) → k < cell → get_or made k None ≡ cond (is_touched (entry s tok) k) (Some (slice_index (entry s tok).first k)) None
 
--- what is told of one cell
+-- what is said of one cell
 abbrev pub Restores : CpuSeat → CpuSeat → ℕ → ℕ → Option ℕ → Type 0
 Restores mid s' tok cell o = MatchOption o (IsUnchanged mid s' × (is_touched (entry mid tok) cell ≡ false) × (slice_index (entry mid tok).row cell ≡ slice_index (entry mid tok).first cell))
     (λ value. (is_touched (entry mid tok) cell ≡ true) × (value ≡ slice_index (entry mid tok).first cell) × Changes mid s' tok (stored (entry mid tok) cell value) (writes mid.cpu tok cell value ∷ []))
 
 -- one cell more
 pub restoring_more : (s mid s' : CpuSeat) (tok : ℕ) (made : List (Option ℕ)) (cell : ℕ) (o : Option ℕ) → Restoring s mid tok made cell → cell < 4 → cell < length (entry s tok).row → Restores mid s' tok cell o → Restoring s s' tok (set made cell o) (cell + 1)
-restoring_more s mid s' tok made cell None so_far low inside told =
+restoring_more s mid s' tok made cell None so_far low inside made_so =
     let e = entry s tok in
     let same : set made cell None ≡ made = ap (set made cell) (sym (so_far.later cell (omega arith))) ∙ set-get_or made cell None in
     let F : List (Option ℕ) → Type 0 = λ m. Restoring s s' tok m (cell + 1) in
-    let untouched : is_touched e cell ≡ false = sym (ap (λ (d : TokenEntry). is_touched d cell) so_far.changes.here) ∙ told.1 in
+    let untouched : is_touched e cell ≡ false = sym (ap (λ (d : TokenEntry). is_touched d cell) so_far.changes.here) ∙ made_so.1 in
     let G : List Deed → Type 0 = λ past. Grows s.cpu.0 (past_of s) (writes_all s.cpu tok 0 made) past in
     subst F (sym same) (record {
       four = so_far.four;
       later = λ k h. so_far.later k (omega arith);
       changes = record {
-        bank = told.0.bank ∙ so_far.changes.bank;
-        cpu = told.0.cpu ∙ so_far.changes.cpu;
-        here = told.0.entries tok ∙ so_far.changes.here;
-        else_ = λ other away. told.0.entries other ∙ so_far.changes.else_ other away;
-        grows = subst G (sym told.0.past) so_far.changes.grows;
+        bank = made_so.0.bank ∙ so_far.changes.bank;
+        cpu = made_so.0.cpu ∙ so_far.changes.cpu;
+        here = made_so.0.entries tok ∙ so_far.changes.here;
+        else_ = λ other away. made_so.0.entries other ∙ so_far.changes.else_ other away;
+        grows = subst G (sym made_so.0.past) so_far.changes.grows;
         own = so_far.changes.own;
       };
       done = λ k h. ⊎_elim
           (λ (now : k ≡ cell).
           let R = written_over 0 made e.row in
           let P : ℕ → Type 0 = λ j. slice_index R j ≡ slice_index e.first j in
-          subst P (sym now) (sym (ap (λ (d : TokenEntry). slice_index d.row cell) so_far.changes.here) ∙ told.2 ∙ ap (λ (d : TokenEntry). slice_index d.first cell) so_far.changes.here))
+          subst P (sym now) (sym (ap (λ (d : TokenEntry). slice_index d.row cell) so_far.changes.here) ∙ made_so.2 ∙ ap (λ (d : TokenEntry). slice_index d.first cell) so_far.changes.here))
           (λ before. so_far.done k (omega arith))
           (cases_eq k cell);
       shown = λ k h. ⊎_elim
@@ -72,17 +72,17 @@ restoring_more s mid s' tok made cell None so_far low inside told =
           (λ before. so_far.shown k (omega arith))
           (cases_eq k cell);
     })
-restoring_more s mid s' tok made cell (Some value) so_far low inside told =
+restoring_more s mid s' tok made cell (Some value) so_far low inside made_so =
     let e = entry s tok in
     let R = written_over 0 made e.row in
     let f = so_far.four in
     let grown : written_over 0 (set made cell (Some value)) e.row ≡ set R cell value = written_more made 0 cell value e.row (omega arith) so_far.later ∙ ap (λ (j : ℕ). set R j value) (omega arith) in
-    let first_is : value ≡ slice_index e.first cell = told.1 ∙ ap (λ (d : TokenEntry). slice_index d.first cell) so_far.changes.here in
-    let touched : is_touched e cell ≡ true = sym (ap (λ (d : TokenEntry). is_touched d cell) so_far.changes.here) ∙ told.0 in
+    let first_is : value ≡ slice_index e.first cell = made_so.1 ∙ ap (λ (d : TokenEntry). slice_index d.first cell) so_far.changes.here in
+    let touched : is_touched e cell ≡ true = sym (ap (λ (d : TokenEntry). is_touched d cell) so_far.changes.here) ∙ made_so.0 in
     let kept : touching e cell ≡ e.touched = ap (λ (b : Bool). cond b e.touched (cell ∷ e.touched)) touched in
     let room : cell < length R = (let l = length-written_over made 0 e.row in omega arith) in
     let K : CpuId → Type 0 = λ c. Changes mid s' tok (stored (entry mid tok) cell value) (writes c tok cell value ∷ []) in
-    let both = changed_twice s mid s' tok (record e { row = R }) (stored (entry mid tok) cell value) (writes_all s.cpu tok 0 made) (writes s.cpu tok cell value ∷ []) so_far.changes (subst K so_far.changes.cpu told.2) in
+    let both = changed_twice s mid s' tok (record e { row = R }) (stored (entry mid tok) cell value) (writes_all s.cpu tok 0 made) (writes s.cpu tok cell value ∷ []) so_far.changes (subst K so_far.changes.cpu made_so.2) in
     let deeds : writes_all s.cpu tok 0 made ++ writes s.cpu tok cell value ∷ [] ≡ writes_all s.cpu tok 0 (set made cell (Some value))
     = ap (λ (j : ℕ). writes_all s.cpu tok 0 made ++ writes s.cpu tok j value ∷ []) (omega arith) ∙ sym (writes_more made 0 cell value s.cpu tok (omega arith) so_far.later) in
     let G : TokenEntry → List Deed → Type 0 = λ d ds. Changes s s' tok d ds in

@@ -40,7 +40,7 @@ use Rattle.lwkt_bank.specs.Views.{RecordOf, wrote_record, at, amount, generation
 use Rattle.lwkt_bank.specs.Deeds.{deed_by, writes}
 use Rattle.lwkt_bank.specs.Rule.{IsOpeningRow, Bench, Homes, moved, lies_in, in_slot, without, with_back, Rule, Seen, seen_by, column, token_word, cell_word, plan_at, token_at}
 use Rattle.lwkt_bank.specs.Plays.{Looks, IsTakenRow, Exchanges, AddsOne, Marks, GivesOne, GivesClean, GivesWritten, ReadsCell, StoresCell, RaisesCell, ReadsBlob, WritesBlob}
-use Rattle.lwkt_bank.specs.Told.{stays, taken_home, given_home, FindsAt}
+use Rattle.lwkt_bank.specs.Ledger.{stays, taken_home, given_home, FindsAt}
 use Rattle.lwkt_bank.specs.Seats.{IsCleanIn, IsLawfulIn}
 use Rattle.lwkt_bank.specs.Hands.{IsInHand}
 use Rattle.std.specs.List.{list_any}
@@ -478,10 +478,10 @@ module _ (plans : List Plan) (cpus id : ℕ) (v : View) (tok : ℕ) (kind : v.ki
       let grows : slice_index tk.row 0 ≤ value = omega arith in
       let a = cell_step s r here (raised e cpu k) between 0 value (Write cpu t 0 value) (four 0 within) (at-tok v.tokens tok) refl refl (ap is_exclusive (sym m.held) ∙ is, omega arith, subst M (sym (m.law ∙ tally)) grows) refl
       (turns_raise r.model.cpus (plan_at plans tok) tk cpu e (found s r here) (cells s r here) m is tally t k (λ c. slice_index (slice_set s.words (cell_word tok 0) value) (cell_word tok c)) (row_stored s r here 0 value within)) in
-      (raised e cpu k, (a.0, (a.1, told)))
+      (raised e cpu k, (a.0, (a.1, raises)))
     where
-      told : RaisesCell between tok 0 v (slice_index e.row 0 + k) (noted between v (raised e cpu k) (writes cpu tok 0 (slice_index e.row 0 + k)))
-      told j same =
+      raises : RaisesCell between tok 0 v (slice_index e.row 0 + k) (noted between v (raised e cpu k) (writes cpu tok 0 (slice_index e.row 0 + k)))
+      raises j same =
           let amount_is : k ≡ j = omega arith in
           ap (λ (a : ℕ). noted between v (raised e cpu a) (writes cpu tok 0 (slice_index e.row 0 + k))) amount_is
 

@@ -13,7 +13,7 @@ use Rattle.lwkt_bank.specs.declared.views.Plan.{Plan}
 use Rattle.lwkt_bank.specs.declared.views.View.{View}
 use Rattle.lwkt_bank.specs.Views.{blank, amount, page_of, spent}
 use Rattle.lwkt_bank.specs.Rule.{Bench, token_word, cell_word, Seen, seen_by, column, held_by_kind, Knows, ShowsToken, Rule, plan_at, token_at}
-use Rattle.lwkt_bank.specs.Told.{IsDone, first_machine}
+use Rattle.lwkt_bank.specs.Ledger.{IsDone, first_machine}
 use Rattle.lwkt_bank.specs.Laws.{SpentIsNoDeed}
 use Rattle.lwkt_bank.proofs.GatherMoves.{Knows-blank}
 
@@ -72,10 +72,10 @@ Rule-more plans cpus s r = (rule_more plans cpus s r, refl)
 
 -- one spent view more is no deed
 pub spent_is_no_deed : SpentIsNoDeed
-spent_is_no_deed plans cpus s told =
+spent_is_no_deed plans cpus s ledger =
     let first = first_machine plans cpus in
-    let r = Rule-more plans cpus s told.rule in
-    let c = Views-more IsDone page_of first told.rule.model s.views spent refl told.chronicle in
-    let G : _ → Type 0 = λ m. (q : Chronicle IsDone first (map page_of (s.views ++ spent ∷ [])) m) × (q.history ≡ told.chronicle.history) in
+    let r = Rule-more plans cpus s ledger.rule in
+    let c = Views-more IsDone page_of first ledger.rule.model s.views spent refl ledger.chronicle in
+    let G : _ → Type 0 = λ m. (q : Chronicle IsDone first (map page_of (s.views ++ spent ∷ [])) m) × (q.history ≡ ledger.chronicle.history) in
     let d = subst G (sym r.1) c in
     (record { rule = r.0; chronicle = d.0 }, r.1, d.1)

@@ -6,7 +6,7 @@ use mathlib.Core.Option.{some}
 use lib.ListN.{get_elem?}
 use Rattle.lwkt_bank.specs.declared.views.Plan.{Plan}
 use Rattle.lwkt_bank.specs.Rule.{Bench, token_word, cell_word, plan_at}
-use Rattle.lwkt_bank.specs.Told.{Told}
+use Rattle.lwkt_bank.specs.Ledger.{Ledger}
 use Rattle.lwkt_base.specs.declared.laws.Law.TheVariants.{Tally}
 use Rattle.lwkt_bank.specs.declared.closed.Closed.{Closed}
 use Rattle.lwkt_bank.specs.declared.views.View.{View}
@@ -50,7 +50,7 @@ pub record Gathering (bank : BankId) (v : View) (all rest : List CpuSeat) (kept 
   pub ready : All (IsReady bank) rest
   pub written : (tok : ℕ) → tok < length bank.plans → (at v.tokens tok).written + written_by rest tok ≡ written_by all tok
   pub added : (tok cpu : ℕ) → tok < length bank.plans → amount cpu (at v.tokens tok).added + added_by rest tok cpu ≡ added_by all tok cpu
-  pub told : (tok cpu : ℕ) → tok < length bank.plans → kept_by kept tok cpu + added_by rest tok cpu ≡ added_by all tok cpu
+  pub adds_up : (tok cpu : ℕ) → tok < length bank.plans → kept_by kept tok cpu + added_by rest tok cpu ≡ added_by all tok cpu
   pub behind : List CpuSeat
   pub in_order : all ≡ rest ++ behind
   pub recalls : (tok : ℕ) → tok < length bank.plans → All (λ s. Recalls (at v.tokens tok) (entry s tok)) behind
@@ -58,7 +58,7 @@ pub record Gathering (bank : BankId) (v : View) (all rest : List CpuSeat) (kept 
 
 -- the words of a state of the rule in which a seat has this view, and what lies in the slots
 abbrev pub Left : List Plan → ℕ → ℕ → View → List ℕ → List (List ℕ) → Type 0
-Left plans cpus id v words slots = (s : Bench) × (Told plans cpus s × ((get_elem? s.views id ≡ some v) × ((s.words ≡ words) × ((tok : ℕ) (bytes : List ℕ) → get_elem? s.homes tok ≡ some (some bytes) → get_elem? slots tok ≡ some bytes))))
+Left plans cpus id v words slots = (s : Bench) × (Ledger plans cpus s × ((get_elem? s.views id ≡ some v) × ((s.words ≡ words) × ((tok : ℕ) (bytes : List ℕ) → get_elem? s.homes tok ≡ some (some bytes) → get_elem? slots tok ≡ some bytes))))
 
 -- the record of a token at the close: what lies in its slot, if a record was declared
 abbrev pub shown_blob : RecordOf → List ℕ → RecordOf

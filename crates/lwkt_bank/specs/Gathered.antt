@@ -18,11 +18,11 @@ use Rattle.lwkt_core.specs.SectionChain.{AreSectionChains}
 use Rattle.lwkt_core.specs.Trace.{Run, shown_tallies}
 use Rattle.lwkt_table.specs.History.{Passes, AreOthers, IsPastOf, events_in, events_by, steps_by}
 use Rattle.lwkt_bank.specs.Rule.{IsOpeningRow}
-use Rattle.lwkt_bank.specs.Told.{IsDone, first_machine}
+use Rattle.lwkt_bank.specs.Ledger.{IsDone, first_machine}
 use Rattle.lwkt_bank.specs.Views.{RecordOf, blank, amount}
 use Rattle.lwkt_bank.specs.Seats.{BankId, id_of, bank_of, cpus_of, tokens_of, plan_of, entry, past_of, events_of, steps_of}
 use Rattle.lwkt_bank.specs.Opened.{plans_of}
-use Rattle.lwkt_base.specs.declared.openings.TokSpec.{TokSpec}
+use Rattle.lwkt_base.specs.declared.opening_specs.TokSpec.{TokSpec}
 
 -- the bank's clerk has made so many seats, and knows what was declared
 pub record HasMade (desk : ClerkDesk) (made : ℕ) : Type 0 where
@@ -86,7 +86,7 @@ pub record Ends (m : Machine) (closed : Closed) : Type 0 where
 
 -- one history of all seats: its deeds are done one after another from the machine that was declared to one with the closing
 -- values, its events are a run of the model between the two, the events and steps of each seat are its processor's part, no other
--- processor has a deed, and the sections that the processors' events tell, put together, are for each token one chain from the row
+-- processor has a deed, and the sections that the processors' events name, put together, are for each token one chain from the row
 -- and generation declared to the closing ones
 pub record IsHistory (bank : BankId) (cpus : ℕ) (seats : List CpuSeat) (closed : Closed) (history : List Deed) : Type 0 where
   pub last : Machine

@@ -6,7 +6,7 @@ use Rattle.lwkt_base.specs.declared.names.CpuId.{CpuId}
 use Rattle.lwkt_base.specs.declared.names.Mode.TheVariants.{Exclusive, Shared}
 use Rattle.lwkt_base.specs.declared.laws.Law.TheVariants.{Tally}
 use Rattle.lwkt_base.specs.declared.holdings.Held.TheVariants.{Nothing, Holds}
-use Rattle.lwkt_base.specs.declared.openings.TokSpec.{TokSpec}
+use Rattle.lwkt_base.specs.declared.opening_specs.TokSpec.{TokSpec}
 use Rattle.lwkt_base.specs.declared.words.Decision.TheVariants.{Take as Takes}
 use Rattle.lwkt_base.specs.Holding.{is_held, is_exclusive}
 use Rattle.lwkt_bank.specs.Hands.{IsInHand}
@@ -27,14 +27,14 @@ use Rattle.lwkt_bank.specs.Views.{one_section, ended_section, at, who, page_of, 
 use Rattle.lwkt_bank.specs.Deeds.{deed_by, loads, adds_one, marks, gives_one, gives_clean, gives_written, reads, writes, reads_blob, writes_blob}
 use Rattle.lwkt_bank.specs.Rule.{Bench, Homes, moved, token_word, cell_word, plan_at, token_at, Knows, Pictures}
 use Rattle.lwkt_bank.specs.Opened.{plans_of, opening_words, opening_slots}
-use Rattle.lwkt_bank.specs.Told.{IsOperation, IsDone, first_machine, Told, stays, taken_home, given_home, FindsAt, Deeds}
+use Rattle.lwkt_bank.specs.Ledger.{IsOperation, IsDone, first_machine, Ledger, stays, taken_home, given_home, FindsAt, Deeds}
 use Rattle.lwkt_bank.specs.Plays.{Amid, Looks, Exchanges, AddsOne, Marks, GivesOne, GivesClean, GivesWritten, ReadsCell, StoresCell, RaisesCell, ReadsBlob, WritesBlob}
 use Rattle.lwkt_bank.specs.Seats.{Decides, IsCleanIn, IsLawfulIn, past_of, steps_of, events_of}
 
 -- whatever meets the rule shows a safe machine; each processor with a seat holds in it what its view says, and each view
 -- knows what is true of it
 abbrev pub RuleShowsSafety : Type 0
-RuleShowsSafety = (plans : List Plan) (cpus : ℕ) (s : Bench) → Told plans cpus s → (m : Machine) × (IsSafe m × (Pictures plans cpus s m
+RuleShowsSafety = (plans : List Plan) (cpus : ℕ) (s : Bench) → Ledger plans cpus s → (m : Machine) × (IsSafe m × (Pictures plans cpus s m
     × (((j tok : ℕ) (v : View) → get_elem? s.views j ≡ some v → tok < length plans → Knows (token_at m tok) (at v.tokens tok))
     × ((j tok : ℕ) (v : View) (cpu : CpuId) → get_elem? s.views j ≡ some v → v.kind ≡ Of cpu → tok < length plans → held_by (token_at m tok) cpu.0 ≡ (at v.tokens tok).held))))
 
@@ -47,34 +47,34 @@ AreParts s history = (j : ℕ) (v : View) (cpu : CpuId) → get_elem? s.views j 
 -- whatever meets the rule is reached from the machine that was declared by a run of the model, the events of one history, of
 -- which each seat has its processor's part
 abbrev pub StatesAreReached : Type 0
-StatesAreReached = (plans : List Plan) (cpus : ℕ) (s : Bench) → Told plans cpus s → (history : List Deed) × ((m : Machine) × (Passes IsDone (first_machine plans cpus) history m × Run (first_machine plans cpus) (events_in history) m × Pictures plans cpus s m × AreParts s history))
+StatesAreReached = (plans : List Plan) (cpus : ℕ) (s : Bench) → Ledger plans cpus s → (history : List Deed) × ((m : Machine) × (Passes IsDone (first_machine plans cpus) history m × Run (first_machine plans cpus) (events_in history) m × Pictures plans cpus s m × AreParts s history))
 
 -- words and views decide history and machine
 abbrev pub ViewsDecide : Type 0
-ViewsDecide = (plans : List Plan) (cpus : ℕ) (s : Bench) (one other : Told plans cpus s) → (one.chronicle.history ≡ other.chronicle.history) × (one.rule.model ≡ other.rule.model)
+ViewsDecide = (plans : List Plan) (cpus : ℕ) (s : Bench) (one other : Ledger plans cpus s) → (one.chronicle.history ≡ other.chronicle.history) × (one.rule.model ≡ other.rule.model)
 
 -- the opening table meets the rule, and shows the opening machine, which is the one that is declared, with no deed done
 abbrev pub OpeningIsDeclared : Type 0
 OpeningIsDeclared = (cpus : ℕ) (specs : List TokSpec) → AreWithin cpus specs [] → AllOpenLawfully specs
-    → Told (plans_of specs) cpus (table_opening (opening_words specs) (opening_slots specs) (first_view (plans_of specs)))
-    × ((told : Told (plans_of specs) cpus (table_opening (opening_words specs) (opening_slots specs) (first_view (plans_of specs)))) → (told.rule.model ≡ opening cpus specs []) × (told.rule.model ≡ first_machine (plans_of specs) cpus) × (told.chronicle.history ≡ []))
+    → Ledger (plans_of specs) cpus (table_opening (opening_words specs) (opening_slots specs) (first_view (plans_of specs)))
+    × ((ledger : Ledger (plans_of specs) cpus (table_opening (opening_words specs) (opening_slots specs) (first_view (plans_of specs)))) → (ledger.rule.model ≡ opening cpus specs []) × (ledger.rule.model ≡ first_machine (plans_of specs) cpus) × (ledger.chronicle.history ≡ []))
 
 -- the clerk makes a seat, or takes one back: no deed is done, and the machine stays
 abbrev pub SplitIsNoDeed : Type 0
-SplitIsNoDeed = (plans : List Plan) (cpus : ℕ) (s : Bench) (id : ℕ) (v : View) (made back : ℕ) (told : Told plans cpus s) → get_elem? s.views id ≡ some v → v.kind ≡ Clerk made back → made < cpus
-    → (after : Told plans cpus (record { words = s.words; homes = s.homes; views = slice_set s.views id (clerk_after v) ++ new_seat v ∷ [] })) × (after.rule.model ≡ told.rule.model) × (after.chronicle.history ≡ told.chronicle.history)
+SplitIsNoDeed = (plans : List Plan) (cpus : ℕ) (s : Bench) (id : ℕ) (v : View) (made back : ℕ) (ledger : Ledger plans cpus s) → get_elem? s.views id ≡ some v → v.kind ≡ Clerk made back → made < cpus
+    → (after : Ledger plans cpus (record { words = s.words; homes = s.homes; views = slice_set s.views id (clerk_after v) ++ new_seat v ∷ [] })) × (after.rule.model ≡ ledger.rule.model) × (after.chronicle.history ≡ ledger.chronicle.history)
 
 abbrev pub JoinIsNoDeed : Type 0
-JoinIsNoDeed = (plans : List Plan) (cpus : ℕ) (s : Bench) (id : ℕ) (v : View) (made back other : ℕ) (cpu : CpuId) (w : View) (told : Told plans cpus s) → get_elem? s.views id ≡ some v → v.kind ≡ Clerk made back
+JoinIsNoDeed = (plans : List Plan) (cpus : ℕ) (s : Bench) (id : ℕ) (v : View) (made back other : ℕ) (cpu : CpuId) (w : View) (ledger : Ledger plans cpus s) → get_elem? s.views id ≡ some v → v.kind ≡ Clerk made back
     → other ≢ id → get_elem? s.views other ≡ some w → w.kind ≡ Of cpu → ((tok : ℕ) → tok < length plans → (at w.tokens tok).held ≡ Nothing)
-    → (after : Told plans cpus (record { words = s.words; homes = s.homes; views = slice_set (slice_set s.views id (joined v w)) other spent })) × (after.rule.model ≡ told.rule.model) × (after.chronicle.history ≡ told.chronicle.history)
+    → (after : Ledger plans cpus (record { words = s.words; homes = s.homes; views = slice_set (slice_set s.views id (joined v w)) other spent })) × (after.rule.model ≡ ledger.rule.model) × (after.chronicle.history ≡ ledger.chronicle.history)
 
 -- one spent view more among the views, as a look from outside leaves one: no deed is done, and the machine stays
 abbrev pub SpentIsNoDeed : Type 0
-SpentIsNoDeed = (plans : List Plan) (cpus : ℕ) (s : Bench) (told : Told plans cpus s)
-    → (after : Told plans cpus (record { words = s.words; homes = s.homes; views = s.views ++ spent ∷ [] })) × (after.rule.model ≡ told.rule.model) × (after.chronicle.history ≡ told.chronicle.history)
+SpentIsNoDeed = (plans : List Plan) (cpus : ℕ) (s : Bench) (ledger : Ledger plans cpus s)
+    → (after : Ledger plans cpus (record { words = s.words; homes = s.homes; views = s.views ++ spent ∷ [] })) × (after.rule.model ≡ ledger.rule.model) × (after.chronicle.history ≡ ledger.chronicle.history)
 
--- what an event at a cell is to the words before and after it: a read tells the value that is there, a write leaves its value
+-- what an event at a cell is to the words before and after it: a read has the value that is there, a write leaves its value
 abbrev pub IsCellMade : List ℕ → List ℕ → Event → Type 0
 IsCellMade words words' (Read cpu tok cell value) = value ≡ slice_index words (cell_word tok.0 cell)
 IsCellMade words words' (Write cpu tok cell value) = slice_index words' (cell_word tok.0 cell) ≡ value
@@ -107,21 +107,21 @@ pub record IsMade (plans : List Plan) (words words' : List ℕ) (d : Deed) : Typ
 
 -- whatever a play of a seat notes is what it made: in any state of the rule, where one word becomes any number and the seat notes
 -- any deed, after which the rule holds
-abbrev pub MadeAsTold : Type 0
-MadeAsTold = (plans : List Plan) (cpus : ℕ) (s : Bench) (id i n : ℕ) (v w : View) (homes : Homes) (cpu : CpuId) (between : List Deed) (d : Deed) → Told plans cpus s → get_elem? s.views id ≡ some v → v.kind ≡ Of cpu
-    → d.cpu ≡ cpu → AreOthers cpu.0 between → page_of w ≡ noted_page (page_of v) between d → Told plans cpus (moved s i n id w homes) → IsMade plans s.words (slice_set s.words i n) d
+abbrev pub MadeAsNoted : Type 0
+MadeAsNoted = (plans : List Plan) (cpus : ℕ) (s : Bench) (id i n : ℕ) (v w : View) (homes : Homes) (cpu : CpuId) (between : List Deed) (d : Deed) → Ledger plans cpus s → get_elem? s.views id ≡ some v → v.kind ≡ Of cpu
+    → d.cpu ≡ cpu → AreOthers cpu.0 between → page_of w ≡ noted_page (page_of v) between d → Ledger plans cpus (moved s i n id w homes) → IsMade plans s.words (slice_set s.words i n) d
 
 -- and where it notes nothing, no word of a token and no cell has changed
-abbrev pub NothingUntold : Type 0
-NothingUntold = (plans : List Plan) (cpus : ℕ) (s : Bench) (id i n : ℕ) (v w : View) (homes : Homes) → Told plans cpus s → get_elem? s.views id ≡ some v → page_of w ≡ page_of v → Told plans cpus (moved s i n id w homes)
+abbrev pub NothingUnnoted : Type 0
+NothingUnnoted = (plans : List Plan) (cpus : ℕ) (s : Bench) (id i n : ℕ) (v w : View) (homes : Homes) → Ledger plans cpus s → get_elem? s.views id ≡ some v → page_of w ≡ page_of v → Ledger plans cpus (moved s i n id w homes)
     → (tok : ℕ) → tok < length plans → (slice_index (slice_set s.words i n) (token_word tok) ≡ slice_index s.words (token_word tok)) × ((cell : ℕ) → cell < (plan_at plans tok).cells → slice_index (slice_set s.words i n) (cell_word tok cell) ≡ slice_index s.words (cell_word tok cell))
 
 -- the same of any number of deeds that a play notes at once: they are done one after another, from the machine that the words and
 -- views show before it to the one that they show after it, and are what the history has more
-abbrev pub AllMadeAsTold : Type 0
-AllMadeAsTold = (plans : List Plan) (cpus : ℕ) (s : Bench) (id i n : ℕ) (v w : View) (homes : Homes) (cpu : CpuId) (deeds : List Deed) (told : Told plans cpus s) → get_elem? s.views id ≡ some v → v.kind ≡ Of cpu → w.kind ≡ Of cpu
-    → Grows cpu.0 v.past deeds w.past → AreOwn cpu.0 deeds → (after : Told plans cpus (moved s i n id w homes))
-    → Passes IsDone told.rule.model deeds after.rule.model × (after.chronicle.history ≡ told.chronicle.history ++ deeds)
+abbrev pub AllMadeAsNoted : Type 0
+AllMadeAsNoted = (plans : List Plan) (cpus : ℕ) (s : Bench) (id i n : ℕ) (v w : View) (homes : Homes) (cpu : CpuId) (deeds : List Deed) (ledger : Ledger plans cpus s) → get_elem? s.views id ≡ some v → v.kind ≡ Of cpu → w.kind ≡ Of cpu
+    → Grows cpu.0 v.past deeds w.past → AreOwn cpu.0 deeds → (after : Ledger plans cpus (moved s i n id w homes))
+    → Passes IsDone ledger.rule.model deeds after.rule.model × (after.chronicle.history ≡ ledger.chronicle.history ++ deeds)
 
 -- something that is so of each seat and token
 abbrev pub AtSeat : (List Plan → ℕ → ℕ → View → ℕ → Type 0) → Type 0
@@ -172,6 +172,6 @@ AccessIsReadBlob = AtSeat (λ plans cpus id v tok. (bytes : List ℕ) → is_exc
 abbrev pub AccessIsWriteBlob : Type 0
 AccessIsWriteBlob = AtSeat (λ plans cpus id v tok. (bytes : List ℕ) → IsInHand v tok → length bytes ≤ 64 → Deeds plans cpus id v (cell_word tok 0) (λ n. n) (λ _. writes_blob (who v) tok bytes) stays (λ _ _ w. Amid v (λ between. WritesBlob bytes between tok v w)))
 
--- what a call's deeds tell of its seat's steps on token words and of its events: they are appended, in order
-abbrev pub DeedsAreTold : Type 0
-DeedsAreTold = (s s' : CpuSeat) (deeds : List Deed) → s'.cpu ≡ s.cpu → Grows s.cpu.0 (past_of s) deeds (past_of s') → AreOwn s.cpu.0 deeds → (steps_of s' ≡ steps_of s ++ steps_in deeds) × (events_of s' ≡ events_of s ++ events_in deeds)
+-- what a call's deeds say of its seat's steps on token words and of its events: they are appended, in order
+abbrev pub DeedsAreAppended : Type 0
+DeedsAreAppended = (s s' : CpuSeat) (deeds : List Deed) → s'.cpu ≡ s.cpu → Grows s.cpu.0 (past_of s) deeds (past_of s') → AreOwn s.cpu.0 deeds → (steps_of s' ≡ steps_of s ++ steps_in deeds) × (events_of s' ≡ events_of s ++ events_in deeds)

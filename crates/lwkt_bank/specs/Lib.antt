@@ -2,7 +2,7 @@ pub mod Views
 pub mod Rule
 pub mod Deeds
 pub mod Hands
-pub mod Told
+pub mod Ledger
 pub mod Plays
 pub mod Notes
 pub mod Seats

@@ -74,14 +74,14 @@ abbrev pub first_record : TokenNote → List ℕ → List ℕ
 first_record note old = if is_stored note.record_ then note.first_blob else old
 
 -- how a record stands that was written: whether it is another than the section's first one
-pub record IsToldApart (touch : Touch) (first new : List ℕ) : Type 0 where
+pub record IsTouchOf (touch : Touch) (first new : List ℕ) : Type 0 where
   pub stored_to : is_stored touch ≡ true
   pub same : is_other touch ≡ false → new ≡ first
   pub other : is_other touch ≡ true → new ≢ first
 
 -- what becomes of a note as the record, which was the first of these, is written and is the second
 abbrev pub Overwrites : TokenNote → TokenNote → List ℕ → List ℕ → Type 0
-Overwrites note note' old new = (touch : Touch) × ((note' ≡ note_wrote note (first_record note old) touch) × IsToldApart touch (first_record note old) new)
+Overwrites note note' old new = (touch : Touch) × ((note' ≡ note_wrote note (first_record note old) touch) × IsTouchOf touch (first_record note old) new)
 
 -- how a cell stands: the first value that is kept of it, its value in the first row, and its value
 pub record IsTouched (touch : Touch) (kept first value : ℕ) : Type 0 where

@@ -15,15 +15,15 @@ use Rattle.lwkt_bank.specs.Views.{RecordOf, at, amount, generation_in, looked, t
 use Rattle.lwkt_bank.specs.Deeds.{loads, takes, loses, adds_one, marks, gives_one, gives_clean, gives_written, reads, writes, reads_blob, writes_blob}
 use Rattle.lwkt_bank.specs.Rule.{token_word, cell_word, IsOpeningRow, plan_at}
 
--- since the last deed of the seat with this view others have acted, and its step tells this after what they did
+-- since the last deed of the seat with this view others have acted, and its step shows this after what they did
 abbrev pub Amid : View → (List Deed → Type 0) → Type 0
 Amid v R = (between : List Deed) × (AreOthers (who v).0 between × R between)
 
--- what a step on the count word of a token tells: which token it is, is told by the word's place
+-- what a step on the count word of a token shows: the word's place says which token it is
 abbrev pub at_word : (List Deed → ℕ → View → ℕ → View → Type 0) → Step (List ℕ) → Me (List ℕ) View → ℕ → Me (List ℕ) View → Type 0
 at_word R st m n m' = (m'.1 ≡ m.1) × ((tok : ℕ) → st.word ≡ token_word tok → Amid m.0 (λ between. R between tok m.0 n m'.0))
 
--- what a step on a cell of a token tells
+-- what a step on a cell of a token says
 abbrev pub at_cell : (List Deed → ℕ → ℕ → View → ℕ → View → Type 0) → Step (List ℕ) → Me (List ℕ) View → ℕ → Me (List ℕ) View → Type 0
 at_cell R st m n m' = (m'.1 ≡ m.1) × ((tok cell : ℕ) → cell < 4 → st.word ≡ cell_word tok cell → Amid m.0 (λ between. R between tok cell m.0 n m'.0))
 
@@ -75,7 +75,7 @@ GivesClean between tok v n w = w ≡ noted between v (less (at v.tokens tok)) (g
 abbrev pub GivesWritten : List Deed → ℕ → View → ℕ → View → Type 0
 GivesWritten between tok v n w = (generation_in n ≡ (at v.tokens tok).generation) × (w ≡ noted between v (ended (at v.tokens tok)) (gives_written (ended_section tok (at v.tokens tok)) (who v) tok n))
 
--- what a step tells that ends a section: it puts the token's record back, if it has one
+-- what a step shows that ends a section: it puts the token's record back, if it has one
 abbrev pub puts_back : (List Deed → ℕ → View → ℕ → View → Type 0) → Step (List ℕ) → Me (List ℕ) View → ℕ → Me (List ℕ) View → Type 0
 puts_back R st m n m' = (tok : ℕ) → st.word ≡ token_word tok → Amid m.0 (λ between. R between tok m.0 n m'.0) × PutsBack (at m.0.tokens tok).blob tok m.1 m'.1
 

@@ -138,7 +138,7 @@ pub record Lost (s s' : CpuSeat) (tok : ℕ) (mode : Mode) (alone : Bool) : Type
   pub rises : ((entry s tok).generation ≤ generation_in word) × (generation_in word ≤ generation_in found)
   pub changes : Changes s s' tok (looked (looked (entry s tok) word) found) (loads s.cpu tok word ∷ loses s.cpu tok word next found ∷ [])
 
--- what a try tells, by its answer
+-- what a try says, by its answer
 abbrev pub Tried : CpuSeat → CpuSeat → ℕ → Mode → Bool → Try → Type 0
 Tried s s' tok mode alone (Got generation) = Took s s' tok mode alone generation
 Tried s s' tok mode alone (Busy word) = (Decides word mode alone Held ⊎ Decides word mode alone Marked) × Looked s s' tok word
@@ -181,13 +181,13 @@ abbrev pub last_loads : CpuId → ℕ → TokenEntry → ℕ → List Deed
 last_loads cpu tok e zero = []
 last_loads cpu tok e (suc cells) = last_loads cpu tok e cells ++ first_load cpu tok e cells
 
--- the end of a written section, which is told: each cell that wasn't stored to in it was loaded once before, and no other
+-- the end of a written section, which is named: each cell that wasn't stored to in it was loaded once before, and no other
 pub record SectionEnded (s s' : CpuSeat) (tok : ℕ) (section : Section) : Type 0 where
-  pub told : section ≡ ended_section tok (entry s tok)
+  pub section_is : section ≡ ended_section tok (entry s tok)
   pub found : ℕ
   pub changes : Changes s s' tok (ended (entry s tok)) (last_loads s.cpu tok (entry s tok) (plan_of (bank_of s) tok).cells ++ gives_written section s.cpu tok found ∷ [])
 
--- what giving a reference back tells, by its answer: Written exactly if row or record differ from the first ones, and then the section
+-- what giving a reference back says, by its answer: Written exactly if row or record differ from the first ones, and then the section
 abbrev pub Gave : CpuSeat → CpuSeat → ℕ → Given → Type 0
 Gave s s' tok One = IsNotLastExclusive (holding s tok) × Stepped s s' tok (less (entry s tok)) gives_one
 Gave s s' tok Clean = (holding s tok ≡ Holds Exclusive 0) × IsCleanIn (entry s tok) × Stepped s s' tok (less (entry s tok)) gives_clean

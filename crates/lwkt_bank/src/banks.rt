@@ -19,7 +19,7 @@ pub struct Bank {
     // The clerk rests from the opening to the close, so that threads may share the bank.
     pub(crate) clerk: Resting<Blob, View>,
     pub(crate) key: Key,
-    ghost told: { table.shared.key ≡ key } by { Coded-set key-code table.shared.key key },
+    ghost key_is: { table.shared.key ≡ key } by { Coded-set key-code table.shared.key key },
     ghost wide: { table.shared.table_id.words ≡ table_words (length key.plans.items) },
     ghost deep: { table.shared.table_id.slots ≡ length key.plans.items },
     ghost few: { length key.plans.items ≤ 64 },

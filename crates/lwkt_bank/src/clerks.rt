@@ -17,7 +17,7 @@ pub(crate) struct ClerkDesk {
     pub(crate) table: Table<Blob, View, Key, BankRule, Global>,
     pub(crate) clerk: Seat<Blob, View>,
     pub(crate) key: Key,
-    ghost told: { table.shared.key ≡ key } by { Coded-set key-code table.shared.key key },
+    ghost key_is: { table.shared.key ≡ key } by { Coded-set key-code table.shared.key key },
     ghost wide: { table.shared.table_id.words ≡ table_words (length key.plans.items) },
     ghost deep: { table.shared.table_id.slots ≡ length key.plans.items },
     ghost few: { length key.plans.items ≤ 64 },

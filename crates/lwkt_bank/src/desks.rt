@@ -9,8 +9,8 @@ ghost use Rattle.lwkt_bank.specs.Gathered.{HasMade, IsNew, AreHandedOut, IsOpene
 
 use crate::banks::Bank;
 use crate::clerks::ClerkDesk;
+use crate::first_tables;
 use crate::notes::TokenNote;
-use crate::openings;
 use crate::plays::HandOut;
 use crate::rules::{BankRule, Key};
 use crate::seats::CpuSeat;
@@ -139,16 +139,16 @@ impl Bank {
         ensures each_law { AreWithin cpus specs.now [] → (¬ AllOpenLawfully specs.now) → result ≡ Err Fault.LawBroken }
         ensures only { IfErr result (λ f. (f ≡ no_memory) ⊎ ((f ≡ Fault.Limits) ⊎ (f ≡ Fault.LawBroken))) }
     {
-        if !openings::are_within(cpus, specs) {
+        if !first_tables::are_within(cpus, specs) {
             return Err(Fault::Limits);
         }
         if !all_open_lawfully(specs) {
             return Err(Fault::LawBroken);
         }
         let seats = with_capacity(alloc, 8)?;
-        let plans = openings::plans_of(alloc, specs)?;
-        let words = openings::words_of(alloc, specs)?;
-        let slots = openings::slots_of(alloc, specs)?;
+        let plans = first_tables::plans_of(alloc, specs)?;
+        let words = first_tables::words_of(alloc, specs)?;
+        let slots = first_tables::slots_of(alloc, specs)?;
         let key = Key { plans, cpus };
         Ok(Bank::open_within(alloc, specs, words.as_slice(), slots, key, seats)?)
     }

@@ -170,7 +170,7 @@ impl CpuSeat {
 
     // Ends a written section, and tells it.
     #[inline(always)]
-    fn end_told(&mut self, bank: &Bank, tok: TokId) -> Section
+    fn end_written_section(&mut self, bank: &Bank, tok: TokId) -> Section
         requires of { bank_of self.old ≡ id_of bank.now }
         requires there { tok.0 < tokens_of (bank_of self.old) }
         requires last { holding self.old tok.0 ≡ Held.Holds Mode.Exclusive 0 }
@@ -194,14 +194,14 @@ impl CpuSeat {
         ensures { Gave self.old self.new tok.0 result }
     {
         if self.has_written(bank, tok) {
-            return Given::Written(self.end_told(bank, tok));
+            return Given::Written(self.end_written_section(bank, tok));
         }
         self.end_clean(bank, tok);
         Given::Clean
     }
 
     /// Gives a reference back. That the seat holds the token is the caller's condition, and if that ends a section, that the
-    /// row and record are its first ones or obey the law. A written section is told: its rows before and after it, and the generation at
+    /// row and record are its first ones or obey the law. A written section is returned: its rows before and after it, and the generation at
     /// which it began. Each cell that it didn't store to is loaded once for that, before the reference is given back.
     #[inline(always)]
     pub fn give(&mut self, bank: &Bank, tok: TokId) -> Given

@@ -1,7 +1,7 @@
 //! What the bank's rule is for, as theorems.
-ghost use Rattle.lwkt_bank.specs.Laws.{RuleShowsSafety, StatesAreReached, ViewsDecide, OpeningIsDeclared, SplitIsNoDeed, JoinIsNoDeed, SpentIsNoDeed, MadeAsTold, AllMadeAsTold, NothingUntold, LookIsLoad, ExchangeIsTake, ExchangeIsShare, AddIsAgain, OrIsMark, SubIsGiveOne, SubIsGiveClean, AddIsGiveWritten, CellLoadIsRead, CellStoreIsWrite, TallyStoreIsWrite, AccessIsReadBlob, AccessIsWriteBlob, DeedsAreTold};
+ghost use Rattle.lwkt_bank.specs.Laws.{RuleShowsSafety, StatesAreReached, ViewsDecide, OpeningIsDeclared, SplitIsNoDeed, JoinIsNoDeed, SpentIsNoDeed, MadeAsNoted, AllMadeAsNoted, NothingUnnoted, LookIsLoad, ExchangeIsTake, ExchangeIsShare, AddIsAgain, OrIsMark, SubIsGiveOne, SubIsGiveClean, AddIsGiveWritten, CellLoadIsRead, CellStoreIsWrite, TallyStoreIsWrite, AccessIsReadBlob, AccessIsWriteBlob, DeedsAreAppended};
 ghost use Rattle.lwkt_bank.specs.Rule.{Bench};
-ghost use Rattle.lwkt_bank.specs.Told.{Told};
+ghost use Rattle.lwkt_bank.specs.Ledger.{Ledger};
 ghost use Rattle.lwkt_bank.specs.Holdings.{TakingAdds, AgainAdds, GivingRemoves, OthersKeep, NothingCounts, AddedCounts};
 
 use crate::rules::{BankRule, Key};
@@ -29,15 +29,15 @@ pub fn opening_is_declared()
 
 /// Whatever a play of a seat notes is what it did to the words, and where it notes nothing, it has changed nothing. This is so
 /// of any play that keeps the rule, not only of those that there are.
-pub fn made_as_told()
-    ensures made { MadeAsTold }
-    ensures nothing { NothingUntold }
+pub fn made_as_noted()
+    ensures made { MadeAsNoted }
+    ensures nothing { NothingUnnoted }
 {}
 
 /// Any number of deeds that a play notes at once are done one after another between the machines shown before and after it.
-/// This too is so of any play that keeps the rule, and tells with what the history has grown: nothing else was done.
-pub fn all_made_as_told()
-    ensures { AllMadeAsTold }
+/// This too is so of any play that keeps the rule, and says with what the history has grown: nothing else was done.
+pub fn all_made_as_noted()
+    ensures { AllMadeAsNoted }
 {}
 
 /// Each kind of step leads from a state of the rule to one of the rule, in which the history has one deed more, that of the
@@ -65,9 +65,9 @@ pub fn looks_from_outside_are_no_deeds()
     ensures { SpentIsNoDeed }
 {}
 
-/// The deeds that a call's contract tells are its seat's new events and steps, in order.
-pub fn deeds_are_told()
-    ensures { DeedsAreTold }
+/// The deeds that a call's contract names are its seat's new events and steps, in order.
+pub fn deeds_are_appended()
+    ensures { DeedsAreAppended }
 {}
 
 /// What a seat holds after each call: one reference more, one less, or as before.
@@ -86,5 +86,5 @@ pub fn references_are_counted()
 
 /// The rule that the bank's table keeps, which the type of `Bank::shared` names, is that of the theorems here.
 pub fn bank_keeps_that_rule()
-    ensures { (key : Key) (s : Bench) → (⟦<BankRule as TableRule<Blob, View, Key>>⟧.holds key s → Told key.plans.items key.cpus s) × (Told key.plans.items key.cpus s → ⟦<BankRule as TableRule<Blob, View, Key>>⟧.holds key s) }
+    ensures { (key : Key) (s : Bench) → (⟦<BankRule as TableRule<Blob, View, Key>>⟧.holds key s → Ledger key.plans.items key.cpus s) × (Ledger key.plans.items key.cpus s → ⟦<BankRule as TableRule<Blob, View, Key>>⟧.holds key s) }
 {}

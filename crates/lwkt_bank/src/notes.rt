@@ -1,7 +1,7 @@
 ghost use Rattle.std.specs.Prelude.{◌≡◌, ◌≢◌, ◌↔◌, ◌+◌, ◌-◌, ◌^◌, ◌<◌, ◌≤◌, length, true, false, IsTrue, MatchOption};
 ghost use Rattle.lwkt_base.specs.Holding.{is_held};
 ghost use Rattle.lwkt_core.specs.Tokens.{IsNotLastExclusive};
-ghost use Rattle.lwkt_bank.specs.Notes.{no_note, held_in, touch_of, begun, note_changed, IsToldApart, Overwrites};
+ghost use Rattle.lwkt_bank.specs.Notes.{no_note, held_in, touch_of, begun, note_changed, IsTouchOf, Overwrites};
 
 use lwkt_base::{Blob, Held, Mode};
 
@@ -79,7 +79,7 @@ fn are_same(first: &Blob, blob: &Blob) -> bool
 // How a record stands whose first one in the section is this, and which is the other now.
 #[inline(always)]
 fn touch_of_record(first: &Blob, blob: &Blob) -> Touch
-    ensures { IsToldApart result first.now blob.now }
+    ensures { IsTouchOf result first.now blob.now }
 {
     if are_same(first, blob) {
         Touch::Same

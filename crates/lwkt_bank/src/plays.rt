@@ -1,4 +1,4 @@
-//! What each step on the table tells its seat.
+//! What each step on the table shows its seat.
 ghost use Rattle.lwkt_bank.specs.Plays.{at_word, at_cell, shares, takes_out, puts_back, brings_record, reads_record, writes_record, Looks, AddsOne, Marks, GivesOne, GivesClean, GivesWritten, ReadsCell, StoresCell, RaisesCell};
 ghost use Rattle.lwkt_bank.specs.Views.{clerk_after, new_seat, joined, spent};
 

@@ -2,7 +2,7 @@ use crate::views::{Plan, View};
 use atomic_table::TableRule;
 use lwkt_base::Blob;
 
-/// What the bank's table is told once, when it is made.
+/// What the bank's table is given once, when it is made.
 #[derive(Drop)]
 pub struct Key {
     /// The tokens, by their numbers.
@@ -15,10 +15,10 @@ pub struct Key {
 pub struct BankRule;
 
 impl TableRule<Blob, View, Key> for BankRule {
-    ghost use Rattle.lwkt_bank.specs.Told.{Told};
+    ghost use Rattle.lwkt_bank.specs.Ledger.{Ledger};
     ghost use Rattle.lwkt_bank.specs.Views.{first_view};
 
-    ghost holds = { λ key. Told key.plans.items key.cpus };
+    ghost holds = { λ key. Ledger key.plans.items key.cpus };
 
     ghost first = { λ key. first_view key.plans.items };
 }

@@ -57,7 +57,7 @@ impl CpuSeat {
         self.cpu
     }
 
-    /// What the seat holds of a token, told without a step.
+    /// What the seat holds of a token, without a step.
     #[inline]
     pub fn held(&self, bank: &Bank, tok: TokId) -> Held
         requires of { bank_of self.now ≡ id_of bank.now }

@@ -88,5 +88,5 @@ references-after holding (r ∷ refs) tok =
     let first = references-added holding r tok in
     let all = sum_by-cons (λ (q : Ref). cond (is_to tok q) 1 0) r refs in omega (arith, rest, first, all)
 
-pub holding_of-tells : ListsAreHeld
-holding_of-tells refs tok = (mode_of-after holds_nothing refs tok, (references-after holds_nothing refs tok ∙ omega arith))
+pub holding_of-known : ListsAreHeld
+holding_of-known refs tok = (mode_of-after holds_nothing refs tok, (references-after holds_nothing refs tok ∙ omega arith))

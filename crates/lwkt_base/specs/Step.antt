@@ -118,16 +118,16 @@ fits (kind ∷ kinds) (part ∷ parts) = is_of_kind kind part && fits kinds part
 fits _ _ = false
 
 -- the step of an ask stands for that ask
-abbrev pub StepsTellAsks : Type 0
-StepsTellAsks = (ask : Ask) → ask_of (step_of ask).0 (step_of ask).1 ≡ Some ask
+abbrev pub StepsDecideAsks : Type 0
+StepsDecideAsks = (ask : Ask) → ask_of (step_of ask).0 (step_of ask).1 ≡ Some ask
 
 -- the ask of a step has that step
-abbrev pub AsksTellSteps : Type 0
-AsksTellSteps = (verb : Verb) (parts : List Part) → IfSome (ask_of verb parts) (λ ask. step_of ask ≡ (verb, parts))
+abbrev pub AsksDecideSteps : Type 0
+AsksDecideSteps = (verb : Verb) (parts : List Part) → IfSome (ask_of verb parts) (λ ask. step_of ask ≡ (verb, parts))
 
 -- each kind of step has a word of its own
-abbrev pub WordsTellVerbs : Type 0
-WordsTellVerbs = (verb : Verb) → verb_named (word_of verb) ≡ Some verb
+abbrev pub WordsNameVerbs : Type 0
+WordsNameVerbs = (verb : Verb) → verb_named (word_of verb) ≡ Some verb
 
 -- parts make a step of a kind if they are of its kinds, and only then
 abbrev pub PartsFit : Type 0

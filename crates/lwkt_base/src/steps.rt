@@ -1,6 +1,6 @@
 //! The table of the steps of a thread: the word of each, and what stands behind it. Whatever reads a step or shows an ask goes by it.
 ghost use Rattle.std.specs.Prelude.{[], ◌∷◌, ◌≡◌, ◌≤◌, length};
-ghost use Rattle.lwkt_base.specs.Step.{verb_named, step_of, ask_of, StepsTellAsks, AsksTellSteps, WordsTellVerbs, PartsFit};
+ghost use Rattle.lwkt_base.specs.Step.{verb_named, step_of, ask_of, StepsDecideAsks, AsksDecideSteps, WordsNameVerbs, PartsFit};
 
 use crate::asks::Ask;
 use crate::blobs::Blob;
@@ -99,12 +99,12 @@ pub enum Part {
 
 /// The parts of a step in order, at most 4.
 #[derive(Drop)]
-pub struct Parts {
+pub struct StepParts {
     count: usize,
     items: [Part; 4],
 }
 
-impl Model for Parts {
+impl Model for StepParts {
     ghost use Rattle.std.specs.Prelude.{◌≡◌, ◌≤◌, List, take, length};
     ghost use Rattle.lwkt_base.specs.declared.steps.Part.{Part as PartOf};
 
@@ -115,7 +115,7 @@ impl Model for Parts {
     ghost invariant = { λ p. (p.count ≤ 4) × (length p.items ≡ 4) };
 }
 
-impl Parts {
+impl StepParts {
     ghost use Rattle.std.specs.Prelude.{[], ◌∷◌, ◌++◌, ◌<◌};
 
     /// These.
@@ -125,7 +125,7 @@ impl Parts {
     {
         let mut items = [Part::Value(0); 4];
         items[..parts.len()].copy_from_slice(parts);
-        Parts {
+        StepParts {
             count: parts.len(),
             items,
         }
@@ -310,54 +310,54 @@ fn ask_with_more(verb: Verb, parts: &[Part]) -> Option<Ask>
 }
 
 /// The step that stands for an ask.
-pub fn step_of(ask: &Ask) -> (Verb, Parts)
+pub fn step_of(ask: &Ask) -> (Verb, StepParts)
     ensures { result ≡ step_of ask.now }
 {
     match *ask {
-        Ask::Get(tok) => (Verb::Get, Parts::of(&[Part::Token(tok)])),
-        Ask::GetShared(tok) => (Verb::GetShared, Parts::of(&[Part::Token(tok)])),
-        Ask::TryGet(tok) => (Verb::TryGet, Parts::of(&[Part::Token(tok)])),
-        Ask::Rel(tok) => (Verb::Rel, Parts::of(&[Part::Token(tok)])),
-        Ask::Swap => (Verb::Swap, Parts::of(&[])),
-        Ask::Read(tok, cell) => (Verb::Read, Parts::of(&[Part::Cell(tok, cell)])),
+        Ask::Get(tok) => (Verb::Get, StepParts::of(&[Part::Token(tok)])),
+        Ask::GetShared(tok) => (Verb::GetShared, StepParts::of(&[Part::Token(tok)])),
+        Ask::TryGet(tok) => (Verb::TryGet, StepParts::of(&[Part::Token(tok)])),
+        Ask::Rel(tok) => (Verb::Rel, StepParts::of(&[Part::Token(tok)])),
+        Ask::Swap => (Verb::Swap, StepParts::of(&[])),
+        Ask::Read(tok, cell) => (Verb::Read, StepParts::of(&[Part::Cell(tok, cell)])),
         Ask::Write(tok, cell, value) => (
             Verb::Write,
             two(Part::Cell(tok, cell), Part::Value(value)),
         ),
         Ask::Add(tok, value) => (Verb::Add, two(Part::Token(tok), Part::Value(value))),
-        Ask::ReadBlob(tok) => (Verb::ReadBlob, Parts::of(&[Part::Token(tok)])),
+        Ask::ReadBlob(tok) => (Verb::ReadBlob, StepParts::of(&[Part::Token(tok)])),
         Ask::WriteBlob(tok, blob) => (Verb::WriteBlob, two(Part::Token(tok), Part::Record(blob))),
         Ask::Send(msg, to, call, flags) => (Verb::Send, send_parts(msg, to, call, flags)),
         Ask::Do(msg, to, call) => (
             Verb::Do,
-            Parts::of(&[Part::Message(msg), Part::Target(to), Part::Call(call)]),
+            StepParts::of(&[Part::Message(msg), Part::Target(to), Part::Call(call)]),
         ),
         Ask::Reply(msg, code, value) => (
             Verb::Reply,
-            Parts::of(&[Part::Message(msg), Part::Code(code), Part::Outcome(value)]),
+            StepParts::of(&[Part::Message(msg), Part::Code(code), Part::Outcome(value)]),
         ),
-        Ask::Abort(msg) => (Verb::Abort, Parts::of(&[Part::Message(msg)])),
-        Ask::IsAborted(msg) => (Verb::IsAborted, Parts::of(&[Part::Message(msg)])),
-        Ask::DropMsg(msg) => (Verb::DropMsg, Parts::of(&[Part::Message(msg)])),
-        Ask::GetPort => (Verb::GetPort, Parts::of(&[])),
-        Ask::WaitPort => (Verb::WaitPort, Parts::of(&[])),
-        Ask::Yield => (Verb::Yield, Parts::of(&[])),
-        Ask::Exit => (Verb::Exit, Parts::of(&[])),
+        Ask::Abort(msg) => (Verb::Abort, StepParts::of(&[Part::Message(msg)])),
+        Ask::IsAborted(msg) => (Verb::IsAborted, StepParts::of(&[Part::Message(msg)])),
+        Ask::DropMsg(msg) => (Verb::DropMsg, StepParts::of(&[Part::Message(msg)])),
+        Ask::GetPort => (Verb::GetPort, StepParts::of(&[])),
+        Ask::WaitPort => (Verb::WaitPort, StepParts::of(&[])),
+        Ask::Yield => (Verb::Yield, StepParts::of(&[])),
+        Ask::Exit => (Verb::Exit, StepParts::of(&[])),
     }
 }
 
 // Two parts.
-fn two(part: Part, other: Part) -> Parts
+fn two(part: Part, other: Part) -> StepParts
     ensures { result ≡ part ∷ other ∷ [] }
 {
-    Parts::of(&[part, other])
+    StepParts::of(&[part, other])
 }
 
 // The parts of a send.
-fn send_parts(msg: MsgId, to: ThreadId, call: Call, flags: Flags) -> Parts
+fn send_parts(msg: MsgId, to: ThreadId, call: Call, flags: Flags) -> StepParts
     ensures { result ≡ Part.Message msg ∷ Part.Target to ∷ Part.Call call ∷ Part.Flags flags ∷ [] }
 {
-    Parts::of(&[
+    StepParts::of(&[
         Part::Message(msg),
         Part::Target(to),
         Part::Call(call),
@@ -366,18 +366,18 @@ fn send_parts(msg: MsgId, to: ThreadId, call: Call, flags: Flags) -> Parts
 }
 
 /// The theorem that the step of an ask stands for that ask.
-pub fn steps_tell_asks()
-    ensures { StepsTellAsks }
+pub fn steps_decide_asks()
+    ensures { StepsDecideAsks }
 {}
 
 /// The theorem that the ask of a step has that step.
-pub fn asks_tell_steps()
-    ensures { AsksTellSteps }
+pub fn asks_decide_steps()
+    ensures { AsksDecideSteps }
 {}
 
 /// The theorem that each kind of step has a word of its own.
-pub fn words_tell_verbs()
-    ensures { WordsTellVerbs }
+pub fn words_name_verbs()
+    ensures { WordsNameVerbs }
 {}
 
 /// The theorem that parts of the kinds of a step make one, and no others.

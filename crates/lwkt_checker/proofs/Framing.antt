@@ -6,15 +6,15 @@ use Rattle.std.proofs.Math.Seq.{take-append-add}
 use Rattle.lwkt_base.specs.declared.faults.Fault.{Fault as Refusal}
 use Rattle.lwkt_core.specs.declared.events.Event.{Event}
 use Rattle.lwkt_trace.specs.Format.{trace_of}
-use Rattle.lwkt_trace.specs.Readback.{told_alone}
+use Rattle.lwkt_trace.specs.Readback.{stated_alone}
 use Rattle.lwkt_trace.specs.Recognised.{AreWritten, IsNextWritten, with_events}
 use Rattle.lwkt_trace.specs.declared.traces.Closing.{Closing}
-use Rattle.lwkt_trace.specs.declared.traces.Told.{Told}
+use Rattle.lwkt_trace.specs.declared.traces.Stated.{Stated}
 use Rattle.lwkt_trace.specs.declared.traces.Trace.{Trace}
 use Rattle.lwkt_trace.proofs.NextTexts.{none_written, written_more}
 use Rattle.lwkt_checker.specs.Judgement.{DeclinesTrace, RefusesTrace}
 use Rattle.lwkt_checker.specs.Knows.{Knows, KnowsWritten}
-use Rattle.lwkt_checker.specs.Stands.{with_told, opening_alone, closed_so}
+use Rattle.lwkt_checker.specs.Stages.{with_stated, opening_alone, closed_so}
 use Rattle.lwkt_checker.specs.declared.judges.Judge.{Judge}
 use Rattle.lwkt_checker.proofs.Knowing.{nothing_known, whole_known}
 use Rattle.lwkt_checker.proofs.Stops.{refuses_declined}
@@ -36,20 +36,20 @@ begins opening judge text nothing knows = record { events = []; written = none_w
 
 -- as many events were read as the judge knows
 counted_so : (opening : Trace) (judge : Judge) (text : List ℕ) (so : KnowsWritten opening text judge) → judge.count ≡ length so.events
-counted_so opening judge text so = so.knows.counted ∙ length-map so.events told_alone
+counted_so opening judge text so = so.knows.counted ∙ length-map so.events stated_alone
 
 -- one event more
-pub goes_on : (opening : Trace) (judge after : Judge) (text : List ℕ) (from size : ℕ) (e : Event) (x : Told) → x ≡ told_alone e → from ≤ length text → judge.count < 50000000 → KnowsWritten opening (take from text) judge → IsNextWritten (drop from text) judge.count e size
-    → ((trace : Trace) → Knows trace judge → Knows (with_told trace x) after) → KnowsWritten opening (take (from + size) text) after
-goes_on opening judge after text from size e x told within room so is more =
+pub goes_on : (opening : Trace) (judge after : Judge) (text : List ℕ) (from size : ℕ) (e : Event) (x : Stated) → x ≡ stated_alone e → from ≤ length text → judge.count < 50000000 → KnowsWritten opening (take from text) judge → IsNextWritten (drop from text) judge.count e size
+    → ((trace : Trace) → Knows trace judge → Knows (with_stated trace x) after) → KnowsWritten opening (take (from + size) text) after
+goes_on opening judge after text from size e x stated within room so is more =
     let count : judge.count ≡ length so.events = counted_so opening judge (take from text) so in
     record {
       events = so.events ++ e ∷ [];
       written = subst (λ (t : List ℕ). AreWritten t (so.events ++ e ∷ [])) (sym (front_more text from size within)) (written_more (take from text) (drop from text) so.events e size judge.count so.written count is);
       few = omega (arith, count, room, length-append so.events (e ∷ []));
       knows =
-          subst (λ (all : List Told). Knows (with_events opening all) after) (ap (λ (y : Told). map told_alone so.events ++ y ∷ []) told ∙ sym (map_more told_alone so.events e))
-          (more (with_events opening (map told_alone so.events)) so.knows);
+          subst (λ (all : List Stated). Knows (with_events opening all) after) (ap (λ (y : Stated). map stated_alone so.events ++ y ∷ []) stated ∙ sym (map_more stated_alone so.events e))
+          (more (with_events opening (map stated_alone so.events)) so.knows);
     }
 
 -- it stays within the text
@@ -60,8 +60,8 @@ stays_within text from size number e within is = let inside = is.within in omega
 pub ends_with : (trace opening : Trace) (last : Option Closing) (judge after : Judge) (text : List ℕ) → opening ≡ opening_alone trace → last ≡ trace.last → KnowsWritten opening text judge → ((t : Trace) → Knows t judge → Knows (closed_so t last) after)
     → KnowsWritten trace text after
 ends_with trace opening last judge after text is_opening is_last so closes =
-    let told : List Told = map told_alone so.events in
-    record { events = so.events; written = so.written; few = so.few; knows = whole_known (with_events trace told) opening told last judge after is_opening refl is_last so.knows closes }
+    let stated : List Stated = map stated_alone so.events in
+    record { events = so.events; written = so.written; few = so.few; knows = whole_known (with_events trace stated) opening stated last judge after is_opening refl is_last so.knows closes }
 
 -- an opening is refused
 pub refuses : (bytes : List ℕ) (judge : Judge) (fault : Refusal) → (t : Trace) × ((trace_of bytes ≡ Ok t) × Knows t judge) → ((t : Trace) → Knows t judge → DeclinesTrace t fault) → RefusesTrace bytes fault

@@ -8,21 +8,21 @@ use Rattle.lwkt_core.specs.declared.finals.Final.{Final}
 use Rattle.lwkt_core.specs.Machine.{Machine}
 use Rattle.lwkt_trace.specs.Recognised.{with_events}
 use Rattle.lwkt_trace.specs.declared.traces.Closing.{Closing}
-use Rattle.lwkt_trace.specs.declared.traces.Told.{Told}
+use Rattle.lwkt_trace.specs.declared.traces.Stated.{Stated}
 use Rattle.lwkt_trace.specs.declared.traces.Trace.{Trace}
 use Rattle.lwkt_checker.specs.Judgement.{AreValues, IsJudgedTrace, DeclinesTrace}
 use Rattle.lwkt_checker.specs.Knows.{Knows}
-use Rattle.lwkt_checker.specs.Stands.{StandsWith, opening_alone, with_told, with_last, closed_so}
+use Rattle.lwkt_checker.specs.Stages.{IsStageOf, opening_alone, with_stated, with_last, closed_so}
 use Rattle.lwkt_checker.specs.declared.judges.Finding.{Finding}
 use Rattle.lwkt_checker.specs.declared.judges.Finding.TheVariants.{Lawful}
 use Rattle.lwkt_checker.specs.declared.judges.Judge.{Judge}
-use Rattle.lwkt_checker.specs.declared.standings.Standing.{Standing}
-use Rattle.lwkt_checker.specs.declared.standings.Standing.TheVariants.{Plays}
+use Rattle.lwkt_checker.specs.declared.stages.Stage.{Stage}
+use Rattle.lwkt_checker.specs.declared.stages.Stage.TheVariants.{Plays}
 use Rattle.lwkt_checker.proofs.Stops.{lawful}
 
 -- all events could happen
-pub plays_found : (trace : Trace) (s : Standing) (mid : Machine) → s ≡ Plays mid → StandsWith trace s → IsJudgedTrace trace Lawful
-plays_found trace s mid is so = lawful trace mid (subst (λ (x : Standing). StandsWith trace x) is so)
+pub plays_found : (trace : Trace) (s : Stage) (mid : Machine) → s ≡ Plays mid → IsStageOf trace s → IsJudgedTrace trace Lawful
+plays_found trace s mid is so = lawful trace mid (subst (λ (x : Stage). IsStageOf trace x) is so)
 
 -- no closing values have come
 none_of : (o : Option Closing) → has_some o ≡ false → o ≡ None
@@ -36,25 +36,25 @@ pub open_so : (trace : Trace) (judge : Judge) → trace.last ≡ None → Knows 
 open_so trace judge none knows = knows.closed ∙ ap has_some none
 
 -- an opening
-pub opening_known : (opening : Trace) (s : Standing) → opening.events ≡ [] → opening.last ≡ None → StandsWith opening s → Knows opening (record { count = 0; closed = false; standing = s })
-opening_known opening s nothing none so = record { counted = sym (ap length nothing); closed = sym (ap has_some none); stands = so }
+pub opening_known : (opening : Trace) (s : Stage) → opening.events ≡ [] → opening.last ≡ None → IsStageOf opening s → Knows opening (record { count = 0; closed = false; stage = s })
+opening_known opening s nothing none so = record { counted = sym (ap length nothing); closed = sym (ap has_some none); stage_is = so }
 
 -- one event more
-pub event_known : (trace : Trace) (x : Told) (judge : Judge) (s : Standing) → judge.closed ≡ false → Knows trace judge → ((t : Trace) → t.last ≡ None → judge.count ≡ length t.events → StandsWith t judge.standing → StandsWith (with_told t x) s)
-    → Knows (with_told trace x) (record { count = judge.count + 1; closed = false; standing = s })
+pub event_known : (trace : Trace) (x : Stated) (judge : Judge) (s : Stage) → judge.closed ≡ false → Knows trace judge → ((t : Trace) → t.last ≡ None → judge.count ≡ length t.events → IsStageOf t judge.stage → IsStageOf (with_stated t x) s)
+    → Knows (with_stated trace x) (record { count = judge.count + 1; closed = false; stage = s })
 event_known trace x judge s open_still knows more =
     let counted = knows.counted in
     record {
       counted = omega (arith, counted, length-append trace.events (x ∷ []));
       closed = sym open_still ∙ knows.closed;
-      stands = more trace (none_yet trace judge open_still knows) knows.counted knows.stands;
+      stage_is = more trace (none_yet trace judge open_still knows) knows.counted knows.stage_is;
     }
 
 -- closing values
-pub closing_known : (trace : Trace) (closing : Closing) (last : Final) (judge : Judge) (s : Standing) → judge.closed ≡ false → AreValues closing last → Knows trace judge
-    → ((t : Trace) (c : Closing) → t.last ≡ None → judge.count ≡ length t.events → AreValues c last → StandsWith t judge.standing → StandsWith (with_last t c) s) → Knows (with_last trace closing) (record { count = judge.count; closed = true; standing = s })
+pub closing_known : (trace : Trace) (closing : Closing) (last : Final) (judge : Judge) (s : Stage) → judge.closed ≡ false → AreValues closing last → Knows trace judge
+    → ((t : Trace) (c : Closing) → t.last ≡ None → judge.count ≡ length t.events → AreValues c last → IsStageOf t judge.stage → IsStageOf (with_last t c) s) → Knows (with_last trace closing) (record { count = judge.count; closed = true; stage = s })
 closing_known trace closing last judge s open_still values knows more =
-    record { counted = knows.counted; closed = refl; stands = more trace closing (none_yet trace judge open_still knows) knows.counted values knows.stands }
+    record { counted = knows.counted; closed = refl; stage_is = more trace closing (none_yet trace judge open_still knows) knows.counted values knows.stage_is }
 
 -- none
 pub none_known : (trace : Trace) (last : Option Closing) (judge : Judge) → last ≡ None → judge.closed ≡ false → Knows trace judge → Knows (closed_so trace last) judge
@@ -64,13 +64,13 @@ pub some_known : (trace : Trace) (last : Option Closing) (closing : Closing) (ju
 some_known trace last closing judge is knows = subst (λ (l : Option Closing). Knows (closed_so trace l) judge) (sym is) knows
 
 -- what is found
-pub found_known : (r : Result Finding Refusal) (judge : Judge) → IfOk r (λ finding. (trace : Trace) → StandsWith trace judge.standing → IsJudgedTrace trace finding) → IfOk r (λ finding. (trace : Trace) → Knows trace judge → IsJudgedTrace trace finding)
-found_known (Ok finding) judge found = λ (trace : Trace) (knows : Knows trace judge). found trace knows.stands
+pub found_known : (r : Result Finding Refusal) (judge : Judge) → IfOk r (λ finding. (trace : Trace) → IsStageOf trace judge.stage → IsJudgedTrace trace finding) → IfOk r (λ finding. (trace : Trace) → Knows trace judge → IsJudgedTrace trace finding)
+found_known (Ok finding) judge found = λ (trace : Trace) (knows : Knows trace judge). found trace knows.stage_is
 found_known (Err fault) judge found = tt
 
-pub declined_known : (r : Result Finding Refusal) (judge : Judge) → IfErr r (λ fault. (trace : Trace) → StandsWith trace judge.standing → DeclinesTrace trace fault) → IfErr r (λ fault. (trace : Trace) → Knows trace judge → DeclinesTrace trace fault)
+pub declined_known : (r : Result Finding Refusal) (judge : Judge) → IfErr r (λ fault. (trace : Trace) → IsStageOf trace judge.stage → DeclinesTrace trace fault) → IfErr r (λ fault. (trace : Trace) → Knows trace judge → DeclinesTrace trace fault)
 declined_known (Ok finding) judge declined = tt
-declined_known (Err fault) judge declined = λ (trace : Trace) (knows : Knows trace judge). declined trace knows.stands
+declined_known (Err fault) judge declined = λ (trace : Trace) (knows : Knows trace judge). declined trace knows.stage_is
 
 pub found_at : (r : Result Finding Refusal) (trace : Trace) (judge : Judge) → Knows trace judge → IfOk r (λ finding. (t : Trace) → Knows t judge → IsJudgedTrace t finding) → IfOk r (λ finding. IsJudgedTrace trace finding)
 found_at (Ok finding) trace judge knows found = found trace knows
@@ -82,18 +82,18 @@ declined_at (Err fault) trace judge knows declined = declined trace knows
 
 -- an opening, as a trace without events
 pub nothing_known : (opening : Trace) (judge : Judge) → opening.events ≡ [] → Knows opening judge → Knows (with_events opening []) judge
-nothing_known opening judge nothing knows = subst (λ (es : List Told). Knows (with_events opening es) judge) nothing knows
+nothing_known opening judge nothing knows = subst (λ (es : List Stated). Knows (with_events opening es) judge) nothing knows
 
 -- a loop's step: the next of the events was fed too
-pub fed_more : (opening : Trace) (events : List Told) (i : ℕ) (x : Told) (judge after : Judge) → i < length events → x ≡ get_or events i x → Knows (with_events opening (take i events)) judge → ((t : Trace) → Knows t judge → Knows (with_told t x) after)
+pub fed_more : (opening : Trace) (events : List Stated) (i : ℕ) (x : Stated) (judge after : Judge) → i < length events → x ≡ get_or events i x → Knows (with_events opening (take i events)) judge → ((t : Trace) → Knows t judge → Knows (with_stated t x) after)
     → Knows (with_events opening (take (i + 1) events)) after
 fed_more opening events i x judge after inside is knows more =
-    subst (λ (es : List Told). Knows (with_events opening es) after) (ap (λ (y : Told). take i events ++ y ∷ []) is ∙ sym (take_more events i x inside)) (more (with_events opening (take i events)) knows)
+    subst (λ (es : List Stated). Knows (with_events opening es) after) (ap (λ (y : Stated). take i events ++ y ∷ []) is ∙ sym (take_more events i x inside)) (more (with_events opening (take i events)) knows)
 
 -- an opening with events, and the closing values, are the whole trace
-pub whole_known : (trace opening : Trace) (events : List Told) (last : Option Closing) (judge after : Judge) → opening ≡ opening_alone trace → events ≡ trace.events → last ≡ trace.last → Knows (with_events opening events) judge
+pub whole_known : (trace opening : Trace) (events : List Stated) (last : Option Closing) (judge after : Judge) → opening ≡ opening_alone trace → events ≡ trace.events → last ≡ trace.last → Knows (with_events opening events) judge
     → ((t : Trace) → Knows t judge → Knows (closed_so t last) after) → Knows trace after
 whole_known trace opening events last judge after is_opening are_events is_last knows closes =
     subst (λ (o : Trace). Knows (closed_so (with_events o trace.events) trace.last) after) is_opening
-    (subst (λ (es : List Told). Knows (closed_so (with_events opening es) trace.last) after) are_events
+    (subst (λ (es : List Stated). Knows (closed_so (with_events opening es) trace.last) after) are_events
     (subst (λ (l : Option Closing). Knows (closed_so (with_events opening events) l) after) is_last (closes (with_events opening events) knows)))

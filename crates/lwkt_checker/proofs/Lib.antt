@@ -1,11 +1,11 @@
-pub mod ToldRuns
-pub mod Tellings
+pub mod StatedRuns
+pub mod Reporting
 pub mod Sayings
 pub mod Closings
 pub mod Stops
 pub mod Knowing
 pub mod Framing
 pub mod LineLemmas
-pub mod ToldLines
+pub mod FedLines
 pub mod LineWriting
 pub mod LineJudging

@@ -9,7 +9,7 @@ use Rattle.lwkt_base.specs.declared.faults.Fault.TheVariants.{Script as ScriptFa
 use Rattle.lwkt_core.specs.declared.events.Event.{Event}
 use Rattle.lwkt_script.specs.Outcome.{◌>>=◌, ◌>>◌, part, demand, IsFaultOf as IsRefused}
 use Rattle.lwkt_trace.specs.declared.traces.Closing.{Closing}
-use Rattle.lwkt_trace.specs.declared.traces.Told.{Told}
+use Rattle.lwkt_trace.specs.declared.traces.Stated.{Stated}
 use Rattle.lwkt_trace.specs.declared.traces.Trace.{Trace}
 use Rattle.lwkt_trace.specs.Format.{closing_at, there}
 use Rattle.lwkt_trace.specs.Readback.{event_data}
@@ -19,33 +19,33 @@ use Rattle.lwkt_checker.specs.declared.judges.Finding.{Finding}
 use Rattle.lwkt_checker.specs.declared.judges.Judge.{Judge}
 use Rattle.lwkt_checker.specs.Knows.{Knows}
 use Rattle.lwkt_checker.specs.Line.{value_of}
-use Rattle.lwkt_checker.specs.Stands.{with_told, with_last}
+use Rattle.lwkt_checker.specs.Stages.{with_stated, with_last}
 use Rattle.lwkt_checker.specs.LineFormat.{event_place, with_event, with_closing, with_rest, with_line, next}
 use Rattle.lwkt_checker.specs.Judgement.{IsJudgedTrace, DeclinesTrace}
 use Rattle.lwkt_checker.specs.LineJudged.{KnowsSo}
 use Rattle.lwkt_checker.proofs.LineWriting.{written_value}
 
 -- an event is taken where there is room for it
-pub event_taken : (trace : Trace) (d : Data) (x : Told) → length trace.events < 1000000000000000 → event_of d ≡ Some x → with_event trace d ≡ Ok (with_told trace x)
-event_taken trace d x room is = rw (lt-ltb (length trace.events) 1000000000000000 room) (ap (λ (o : Option Told). part (event_place (length trace.events)) o >>= λ e. Ok (with_told trace e)) is)
+pub event_taken : (trace : Trace) (d : Data) (x : Stated) → length trace.events < 1000000000000000 → event_of d ≡ Some x → with_event trace d ≡ Ok (with_stated trace x)
+event_taken trace d x room is = rw (lt-ltb (length trace.events) 1000000000000000 room) (ap (λ (o : Option Stated). part (event_place (length trace.events)) o >>= λ e. Ok (with_stated trace e)) is)
 
-refused_or : (b : Bool) (place : ℕ) (trace : Trace) → (demand place b >> (part place None >>= λ e. Ok (with_told trace e))) ≡ Err place
+refused_or : (b : Bool) (place : ℕ) (trace : Trace) → (demand place b >> (part place None >>= λ e. Ok (with_stated trace e))) ≡ Err place
 refused_or true place trace = refl
 refused_or false place trace = refl
 
 -- what is no event is refused, whether there is room or not
 pub event_none : (trace : Trace) (d : Data) → event_of d ≡ None → with_event trace d ≡ Err (event_place (length trace.events))
 event_none trace d is =
-    ap (λ (o : Option Told). demand (event_place (length trace.events)) (nat_lt (length trace.events) 1000000000000000) >> (part (event_place (length trace.events)) o >>= λ e. Ok (with_told trace e))) is
+    ap (λ (o : Option Stated). demand (event_place (length trace.events)) (nat_lt (length trace.events) 1000000000000000) >> (part (event_place (length trace.events)) o >>= λ e. Ok (with_stated trace e))) is
     ∙ refused_or (nat_lt (length trace.events) 1000000000000000) (event_place (length trace.events)) trace
 
--- what is said of each value that tells so, is said of one
-pub given_lifts : (r : Result Judge Refusal) (judge : Judge) (x : Told) (d : Data) → event_of d ≡ Some x → IfOk r (λ after. (trace : Trace) (v : Data) → Knows trace judge → event_of v ≡ Some x → (u : Trace) × ((with_event trace v ≡ Ok u) × Knows u after))
+-- what is said of each value that states so, is said of one
+pub given_lifts : (r : Result Judge Refusal) (judge : Judge) (x : Stated) (d : Data) → event_of d ≡ Some x → IfOk r (λ after. (trace : Trace) (v : Data) → Knows trace judge → event_of v ≡ Some x → (u : Trace) × ((with_event trace v ≡ Ok u) × Knows u after))
     → IfOk r (λ after. (trace : Trace) → Knows trace judge → (u : Trace) × ((with_event trace d ≡ Ok u) × Knows u after))
-given_lifts (Ok after) judge x d is told = λ (trace : Trace) (knows : Knows trace judge). told trace d knows is
-given_lifts (Err fault) judge x d is told = tt
+given_lifts (Ok after) judge x d is stated = λ (trace : Trace) (knows : Knows trace judge). stated trace d knows is
+given_lifts (Err fault) judge x d is stated = tt
 
-pub given_refused_lifts : (r : Result Judge Refusal) (judge : Judge) (x : Told) (d : Data) → event_of d ≡ Some x → IfErr r (λ fault. (trace : Trace) (v : Data) → Knows trace judge → event_of v ≡ Some x → IsRefused fault (with_event trace v))
+pub given_refused_lifts : (r : Result Judge Refusal) (judge : Judge) (x : Stated) (d : Data) → event_of d ≡ Some x → IfErr r (λ fault. (trace : Trace) (v : Data) → Knows trace judge → event_of v ≡ Some x → IsRefused fault (with_event trace v))
     → IfErr r (λ fault. (trace : Trace) → Knows trace judge → IsRefused fault (with_event trace d))
 given_refused_lifts (Ok after) judge x d is refused = tt
 given_refused_lifts (Err fault) judge x d is refused = λ (trace : Trace) (knows : Knows trace judge). refused trace d knows is
@@ -105,16 +105,16 @@ abbrev pub RefusesNext : Option Judge → List ℕ → Refusal → Type 0
 RefusesNext judge line fault = (before : Option Trace) → KnowsSo judge before → IsRefused fault (next before line)
 
 takes_first : (after : Judge) (line : List ℕ) → (trace : Trace) × ((next None line ≡ Ok (Some trace)) × Knows trace after) → TakesNext None line after
-takes_first after line told None judged = told
-takes_first after line told (Some trace) judged = absurd judged
+takes_first after line stated None judged = stated
+takes_first after line stated (Some trace) judged = absurd judged
 
 refuses_first : (fault : Refusal) (line : List ℕ) → IsRefused fault (next None line) → RefusesNext None line fault
 refuses_first fault line refused None judged = refused
 refuses_first fault line refused (Some trace) judged = absurd judged
 
 takes_further : (judge after : Judge) (line : List ℕ) → ((trace : Trace) → Knows trace judge → (u : Trace) × ((with_line trace line ≡ Ok u) × Knows u after)) → TakesNext (Some judge) line after
-takes_further judge after line told None judged = absurd judged
-takes_further judge after line told (Some trace) judged = let took = told trace judged in (took.0, (next_taken trace took.0 line took.1.0, took.1.1))
+takes_further judge after line stated None judged = absurd judged
+takes_further judge after line stated (Some trace) judged = let took = stated trace judged in (took.0, (next_taken trace took.0 line took.1.0, took.1.1))
 
 refuses_further : (judge : Judge) (fault : Refusal) (line : List ℕ) → ((trace : Trace) → Knows trace judge → IsRefused fault (with_line trace line)) → RefusesNext (Some judge) line fault
 refuses_further judge fault line refused None judged = absurd judged
@@ -122,56 +122,56 @@ refuses_further judge fault line refused (Some trace) judged = next_refused trac
 
 -- what is said of the first line and of a further one
 pub first_lifts : (r : Result Judge Refusal) (judge : Option Judge) (line : List ℕ) → judge ≡ None → IfOk r (λ after. (trace : Trace) × ((next None line ≡ Ok (Some trace)) × Knows trace after)) → IfOk r (TakesNext judge line)
-first_lifts (Ok after) judge line is told = subst (λ (o : Option Judge). TakesNext o line after) (sym is) (takes_first after line told)
-first_lifts (Err fault) judge line is told = tt
+first_lifts (Ok after) judge line is stated = subst (λ (o : Option Judge). TakesNext o line after) (sym is) (takes_first after line stated)
+first_lifts (Err fault) judge line is stated = tt
 
 pub first_refused_lifts : (r : Result Judge Refusal) (judge : Option Judge) (line : List ℕ) → judge ≡ None → IfErr r (λ fault. IsRefused fault (next None line)) → IfErr r (RefusesNext judge line)
 first_refused_lifts (Ok after) judge line is refused = tt
 first_refused_lifts (Err fault) judge line is refused = subst (λ (o : Option Judge). RefusesNext o line fault) (sym is) (refuses_first fault line refused)
 
 pub further_lifts : (r : Result Judge Refusal) (judge : Option Judge) (inner : Judge) (line : List ℕ) → judge ≡ Some inner → IfOk r (λ after. (trace : Trace) → Knows trace inner → (u : Trace) × ((with_line trace line ≡ Ok u) × Knows u after)) → IfOk r (TakesNext judge line)
-further_lifts (Ok after) judge inner line is told = subst (λ (o : Option Judge). TakesNext o line after) (sym is) (takes_further inner after line told)
-further_lifts (Err fault) judge inner line is told = tt
+further_lifts (Ok after) judge inner line is stated = subst (λ (o : Option Judge). TakesNext o line after) (sym is) (takes_further inner after line stated)
+further_lifts (Err fault) judge inner line is stated = tt
 
 pub further_refused_lifts : (r : Result Judge Refusal) (judge : Option Judge) (inner : Judge) (line : List ℕ) → judge ≡ Some inner → IfErr r (λ fault. (trace : Trace) → Knows trace inner → IsRefused fault (with_line trace line)) → IfErr r (RefusesNext judge line)
 further_refused_lifts (Ok after) judge inner line is refused = tt
 further_refused_lifts (Err fault) judge inner line is refused = subst (λ (o : Option Judge). RefusesNext o line fault) (sym is) (refuses_further inner fault line refused)
 
--- what is found of the trace that was told
-abbrev pub FindsTold : Option Judge → Finding → Type 0
-FindsTold judge finding = (told : Option Trace) → KnowsSo judge told → MatchOption told ⊥ (λ trace. IsJudgedTrace trace finding)
+-- what is found of the trace that was fed
+abbrev pub FindsStated : Option Judge → Finding → Type 0
+FindsStated judge finding = (stated : Option Trace) → KnowsSo judge stated → MatchOption stated ⊥ (λ trace. IsJudgedTrace trace finding)
 
-abbrev pub DeclinesTold : Option Judge → Refusal → Type 0
-DeclinesTold judge fault = (told : Option Trace) → KnowsSo judge told → MatchOption told (fault ≡ ScriptFault 0) (λ trace. DeclinesTrace trace fault)
+abbrev pub DeclinesStated : Option Judge → Refusal → Type 0
+DeclinesStated judge fault = (stated : Option Trace) → KnowsSo judge stated → MatchOption stated (fault ≡ ScriptFault 0) (λ trace. DeclinesTrace trace fault)
 
-finds_some : (judge : Judge) (finding : Finding) → ((trace : Trace) → Knows trace judge → IsJudgedTrace trace finding) → FindsTold (Some judge) finding
+finds_some : (judge : Judge) (finding : Finding) → ((trace : Trace) → Knows trace judge → IsJudgedTrace trace finding) → FindsStated (Some judge) finding
 finds_some judge finding found None judged = absurd judged
 finds_some judge finding found (Some trace) judged = found trace judged
 
-declines_some : (judge : Judge) (fault : Refusal) → ((trace : Trace) → Knows trace judge → DeclinesTrace trace fault) → DeclinesTold (Some judge) fault
+declines_some : (judge : Judge) (fault : Refusal) → ((trace : Trace) → Knows trace judge → DeclinesTrace trace fault) → DeclinesStated (Some judge) fault
 declines_some judge fault declines None judged = absurd judged
 declines_some judge fault declines (Some trace) judged = declines trace judged
 
-declines_none : DeclinesTold None (ScriptFault 0)
+declines_none : DeclinesStated None (ScriptFault 0)
 declines_none None judged = refl
 declines_none (Some trace) judged = absurd judged
 
-pub none_declines : (judge : Option Judge) → judge ≡ None → DeclinesTold judge (ScriptFault 0)
-none_declines judge is = subst (λ (o : Option Judge). DeclinesTold o (ScriptFault 0)) (sym is) declines_none
+pub none_declines : (judge : Option Judge) → judge ≡ None → DeclinesStated judge (ScriptFault 0)
+none_declines judge is = subst (λ (o : Option Judge). DeclinesStated o (ScriptFault 0)) (sym is) declines_none
 
-pub found_lifts : (r : Result Finding Refusal) (judge : Option Judge) (inner : Judge) → judge ≡ Some inner → IfOk r (λ finding. (trace : Trace) → Knows trace inner → IsJudgedTrace trace finding) → IfOk r (FindsTold judge)
-found_lifts (Ok finding) judge inner is found = subst (λ (o : Option Judge). FindsTold o finding) (sym is) (finds_some inner finding found)
+pub found_lifts : (r : Result Finding Refusal) (judge : Option Judge) (inner : Judge) → judge ≡ Some inner → IfOk r (λ finding. (trace : Trace) → Knows trace inner → IsJudgedTrace trace finding) → IfOk r (FindsStated judge)
+found_lifts (Ok finding) judge inner is found = subst (λ (o : Option Judge). FindsStated o finding) (sym is) (finds_some inner finding found)
 found_lifts (Err fault) judge inner is found = tt
 
-pub declines_lifts : (r : Result Finding Refusal) (judge : Option Judge) (inner : Judge) → judge ≡ Some inner → IfErr r (λ fault. (trace : Trace) → Knows trace inner → DeclinesTrace trace fault) → IfErr r (DeclinesTold judge)
+pub declines_lifts : (r : Result Finding Refusal) (judge : Option Judge) (inner : Judge) → judge ≡ Some inner → IfErr r (λ fault. (trace : Trace) → Knows trace inner → DeclinesTrace trace fault) → IfErr r (DeclinesStated judge)
 declines_lifts (Ok finding) judge inner is declines = tt
-declines_lifts (Err fault) judge inner is declines = subst (λ (o : Option Judge). DeclinesTold o fault) (sym is) (declines_some inner fault declines)
+declines_lifts (Err fault) judge inner is declines = subst (λ (o : Option Judge). DeclinesStated o fault) (sym is) (declines_some inner fault declines)
 
 -- what a part of a judge's work says of a value, it says of the line that has the value
-pub told_lifts : (r : Result Judge Refusal) (judge : Judge) (read : Trace → Result Trace ℕ) (line : List ℕ) → ((trace : Trace) → Knows trace judge → with_line trace line ≡ read trace)
+pub stated_lifts : (r : Result Judge Refusal) (judge : Judge) (read : Trace → Result Trace ℕ) (line : List ℕ) → ((trace : Trace) → Knows trace judge → with_line trace line ≡ read trace)
     → IfOk r (λ after. (trace : Trace) → Knows trace judge → (u : Trace) × ((read trace ≡ Ok u) × Knows u after)) → IfOk r (λ after. (trace : Trace) → Knows trace judge → (u : Trace) × ((with_line trace line ≡ Ok u) × Knows u after))
-told_lifts (Ok after) judge read line same told = λ (trace : Trace) (knows : Knows trace judge). let took = told trace knows in (took.0, (same trace knows ∙ took.1.0, took.1.1))
-told_lifts (Err fault) judge read line same told = tt
+stated_lifts (Ok after) judge read line same stated = λ (trace : Trace) (knows : Knows trace judge). let took = stated trace knows in (took.0, (same trace knows ∙ took.1.0, took.1.1))
+stated_lifts (Err fault) judge read line same stated = tt
 
 pub refused_lifts : (r : Result Judge Refusal) (judge : Judge) (read : Trace → Result Trace ℕ) (line : List ℕ) → ((trace : Trace) → Knows trace judge → with_line trace line ≡ read trace)
     → IfErr r (λ fault. (trace : Trace) → Knows trace judge → IsRefused fault (read trace)) → IfErr r (λ fault. (trace : Trace) → Knows trace judge → IsRefused fault (with_line trace line))

@@ -10,7 +10,7 @@ use Rattle.lwkt_trace.specs.Printed.{HasWords}
 use Rattle.lwkt_trace.specs.Readback.{event_data}
 use Rattle.lwkt_trace.specs.Written.{event_text}
 use Rattle.lwkt_trace.proofs.Lexemes.{value_onto, text_is}
-use Rattle.lwkt_trace.proofs.PartTexts.{event_tells}
+use Rattle.lwkt_trace.proofs.PartTexts.{event_spells}
 use Rattle.lwkt_checker.specs.Line.{value_of}
 use Rattle.lwkt_trace.specs.Recognised.{IsWritten}
 
@@ -18,7 +18,7 @@ use Rattle.lwkt_trace.specs.Recognised.{IsWritten}
 text_read : (e : Event) → HasWords (event_data e) → read (event_text e) ≡ Some (event_data e)
 unfolding lex
 text_read e words =
-    let is = event_tells e words in
+    let is = event_spells e words in
     let shallow = is.shallow in
     let lexed : lex between (event_text e) ≡ value_onto is.value [] = ap (lex between) (sym (append-nil (event_text e))) ∙ is.reads [] refl in
     text_is (event_text e) is.value (event_data e) lexed (omega (arith, shallow)) is.is
@@ -27,5 +27,5 @@ pub written_value : (line : List ℕ) (e : Event) → IsWritten line e → value
 unfolding value_of
 written_value line e is =
     let short = is.short in
-    let ascii : IsAscii line = subst IsAscii (sym is.text) (event_tells e is.words).ascii in
+    let ascii : IsAscii line = subst IsAscii (sym is.text) (event_spells e is.words).ascii in
     rw (le-leb (length line) 1048576 (omega (arith, short)), is_utf8-from_IsUtf8 line (IsUtf8-from_ascii line ascii)) (ap read is.text ∙ text_read e is.words)

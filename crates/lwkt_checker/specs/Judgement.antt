@@ -11,8 +11,8 @@ use Rattle.lwkt_core.specs.Trace.{CanHappen, IsLawfulTrace, StopsAt, FailsAt}
 use Rattle.lwkt_trace.specs.declared.traces.Closing.{Closing}
 use Rattle.lwkt_trace.specs.declared.traces.Trace.{Trace}
 use Rattle.lwkt_trace.specs.Format.{trace_of}
-use Rattle.lwkt_trace.specs.declared.traces.Told.{Told}
-use Rattle.lwkt_checker.specs.Told.{events_told}
+use Rattle.lwkt_trace.specs.declared.traces.Stated.{Stated}
+use Rattle.lwkt_checker.specs.Stated.{events_stated}
 use Rattle.lwkt_checker.specs.Said.{SaysWhy}
 use Rattle.lwkt_checker.specs.declared.judges.Finding.{Finding}
 use Rattle.lwkt_checker.specs.declared.judges.Finding.TheVariants.{Lawful, Unlawful}
@@ -44,11 +44,11 @@ Finds m events (Some last) Lawful = IsLawfulTrace m events last
 Finds m events None (Unlawful index why) = (mid : Machine) × StopsAt m events index mid
 Finds m events (Some last) (Unlawful index why) = FailsAt m events last index
 
--- a finding is true of the events that are told from a machine on, and its line says why
-abbrev pub FindsWhy : Machine → List Told → Option Final → Finding → Type 0
-FindsWhy m told last finding = Finds m (events_told m told) last finding × SaysWhy m told last finding
+-- a finding is true of the events that are stated from a machine on, and its line says why
+abbrev pub FindsWhy : Machine → List Stated → Option Final → Finding → Type 0
+FindsWhy m stated last finding = Finds m (events_stated m stated) last finding × SaysWhy m stated last finding
 
--- the finding is true of the events that the trace tells, and its line says why
+-- the finding is true of the events that the trace states, and its line says why
 abbrev pub IsFound : Trace → Finding → Type 0
 IsFound trace finding = (last : Option Final) × (AreClosing trace.last last × FindsWhy (opening_of trace) trace.events last finding)
 

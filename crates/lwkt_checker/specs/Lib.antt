@@ -1,9 +1,9 @@
-pub mod Told
+pub mod Stated
 pub mod Judgement
 pub mod Output
 pub mod Said
 pub mod Shown
-pub mod Stands
+pub mod Stages
 pub mod Knows
 pub mod Line
 pub mod LineFormat

@@ -8,7 +8,7 @@ use Rattle.lwkt_trace.specs.declared.traces.Trace.{Trace}
 use Rattle.lwkt_trace.specs.Format.{message_behind, closing_at, there}
 use Rattle.lwkt_trace.specs.Guard.{guarded}
 use Rattle.lwkt_trace.specs.Words.{event_of}
-use Rattle.lwkt_checker.specs.Stands.{with_told, with_last}
+use Rattle.lwkt_checker.specs.Stages.{with_stated, with_last}
 use Rattle.lwkt_checker.specs.Line.{lines_of, value_of}
 
 -- an object with exactly the four members
@@ -36,7 +36,7 @@ abbrev pub with_event : Trace → Data → Result Trace ℕ
 with_event trace d = do
   demand (event_place (length trace.events)) (nat_lt (length trace.events) 1000000000000000)
   event ← part (event_place (length trace.events)) (event_of d)
-  Ok (with_told trace event)
+  Ok (with_stated trace event)
 
 -- the closing values of a trace
 abbrev pub with_closing : Trace → Data → Result Trace ℕ
@@ -61,10 +61,10 @@ next None line = (part 0 (value_of line) >>= opened) >>= there
 next (Some trace) line = with_line trace line >>= there
 
 -- the trace with some lines more, each with those before it
-abbrev pub told : Option Trace → List (List ℕ) → Result (Option Trace) ℕ
-told before [] = Ok before
-told before (line ∷ lines) = next before line >>= λ trace. told trace lines
+abbrev pub with_lines : Option Trace → List (List ℕ) → Result (Option Trace) ℕ
+with_lines before [] = Ok before
+with_lines before (line ∷ lines) = next before line >>= λ trace. with_lines trace lines
 
 -- the trace that the lines of the bytes are
 unfoldable pub lined_trace_of : List ℕ → Result Trace ℕ
-lined_trace_of bytes = told None (lines_of bytes) >>= part 0
+lined_trace_of bytes = with_lines None (lines_of bytes) >>= part 0

@@ -1,4 +1,4 @@
--- What a judge knows of the trace that was told to it line by line so far (own).
+-- What a judge knows of the trace that was fed to it line by line so far (own).
 use Rattle.std.specs.Prelude.{◌≡◌, ℕ, ◌+◌, ◌-◌, if◌then◌else◌, Option, None, Some}
 use Rattle.lwkt_trace.specs.declared.traces.Trace.{Trace}
 use Rattle.lwkt_checker.specs.Knows.{Knows}
@@ -13,7 +13,7 @@ KnowsSo (Some judge) None = ⊥
 KnowsSo (Some judge) (Some trace) = Knows trace judge
 
 abbrev pub Judges : LineJudge → Option Trace → Type 0
-Judges judge told = KnowsSo judge.judge told
+Judges judge stated = KnowsSo judge.judge stated
 
 -- how many lines may still come behind the opening: the events up to 10^15, and the closing values
 abbrev pub lines_behind : Judge → ℕ

@@ -9,7 +9,7 @@ use Rattle.lwkt_trace.specs.declared.traces.Trace.{Trace}
 use Rattle.lwkt_checker.specs.Judgement.{IsJudgedTrace, RefusesRead, finding_text, is_lawful}
 use Rattle.lwkt_checker.specs.declared.judges.Finding.{Finding}
 use Rattle.lwkt_checker.specs.Line.{lines_of}
-use Rattle.lwkt_checker.specs.LineFormat.{told, lined_trace_of}
+use Rattle.lwkt_checker.specs.LineFormat.{with_lines, lined_trace_of}
 use Rattle.lwkt_checker.specs.LineJudged.{Judges}
 use Rattle.lwkt_checker.specs.declared.line_judges.LineJudge.{LineJudge}
 
@@ -17,12 +17,12 @@ use Rattle.lwkt_checker.specs.declared.line_judges.LineJudge.{LineJudge}
 abbrev pub AreAll : Option (List ℕ) → List ℕ → Type 0
 AreAll left bytes = IfSome left (λ all. bytes ≡ all)
 
--- all that was left of a source was told to a judge
+-- all that was left of a source was fed to a judge
 pub record KnowsAll (left : Option (List ℕ)) (judge : LineJudge) : Type 0 where
   pub bytes : List ℕ
   pub all : AreAll left bytes
   pub trace : Option Trace
-  pub reads : told None (lines_of bytes) ≡ Ok trace
+  pub reads : with_lines None (lines_of bytes) ≡ Ok trace
   pub judged : Judges judge trace
 
 -- why bytes are refused: for their first bad part, wherever it stands; or for their opening, where they are a whole trace
@@ -56,7 +56,7 @@ pub record HasLinedFinding (left : Option (List ℕ)) (lawful : Bool) (text : Li
 
 -- what a check says by its answer, of all that was left to read and of what was written before and after it: what was found of
 -- the trace; or nothing written, and why; or, where a stream failed, a front of what was found
-abbrev pub TellsOfLines : Option (List ℕ) → Option (List ℕ) → Option (List ℕ) → Result Bool RunFault → Type 0
-TellsOfLines left old new (Ok lawful) = (text : List ℕ) × (HasLinedFinding left lawful text × Appends old new text)
-TellsOfLines left old new (Err (Fault fault)) = Keeps old new × Declares left fault
-TellsOfLines left old new (Err Stream) = Keeps old new ⊎ ((lawful : Bool) × ((text : List ℕ) × (HasLinedFinding left lawful text × AppendsFront old new text)))
+abbrev pub ReportsLines : Option (List ℕ) → Option (List ℕ) → Option (List ℕ) → Result Bool RunFault → Type 0
+ReportsLines left old new (Ok lawful) = (text : List ℕ) × (HasLinedFinding left lawful text × Appends old new text)
+ReportsLines left old new (Err (Fault fault)) = Keeps old new × Declares left fault
+ReportsLines left old new (Err Stream) = Keeps old new ⊎ ((lawful : Bool) × ((text : List ℕ) × (HasLinedFinding left lawful text × AppendsFront old new text)))

@@ -24,10 +24,10 @@ WritesFinding finding old new (Err Stream) = AppendsFront old new (finding_text 
 
 -- what a check says by its answer, of what was left to read and of what was written before and after it: what was found of
 -- the trace that was read; or nothing written, and why; or, where a stream failed, a front of it
-abbrev pub TellsFinding : Option (List ℕ) → Option (List ℕ) → Option (List ℕ) → Result Bool RunFault → Type 0
-TellsFinding left old new (Ok lawful) = (bytes : List ℕ) × (IsTraceRead left bytes × ((text : List ℕ) × (HasFinding bytes lawful text × Appends old new text)))
-TellsFinding left old new (Err (Fault fault)) = Keeps old new × ((bytes : List ℕ) × (IsTraceRead left bytes × RefusesTrace bytes fault))
-TellsFinding left old new (Err Stream) = Keeps old new ⊎ ((bytes : List ℕ) × (IsTraceRead left bytes × ((lawful : Bool) × ((text : List ℕ) × (HasFinding bytes lawful text × AppendsFront old new text)))))
+abbrev pub ReportsFinding : Option (List ℕ) → Option (List ℕ) → Option (List ℕ) → Result Bool RunFault → Type 0
+ReportsFinding left old new (Ok lawful) = (bytes : List ℕ) × (IsTraceRead left bytes × ((text : List ℕ) × (HasFinding bytes lawful text × Appends old new text)))
+ReportsFinding left old new (Err (Fault fault)) = Keeps old new × ((bytes : List ℕ) × (IsTraceRead left bytes × RefusesTrace bytes fault))
+ReportsFinding left old new (Err Stream) = Keeps old new ⊎ ((bytes : List ℕ) × (IsTraceRead left bytes × ((lawful : Bool) × ((text : List ℕ) × (HasFinding bytes lawful text × AppendsFront old new text)))))
 
 -- what a check leaves of what was left to read, beside its answer: all that it read, if it found something; and if it refuses
 -- the trace, bytes that are refused so. Where memory lacked or a stream failed, nothing is said of them
@@ -53,4 +53,4 @@ Complains failed old new (Err fault) = IsSaid failed old new (fault_line Check (
 -- what the program does where it has no arguments: it checks, complains if it can't, and answers the status; it blames a stream only
 -- where one has failed
 abbrev pub ChecksAs : Bool → Bool → Option (List ℕ) → Option (List ℕ) → Option (List ℕ) → Bool → Option (List ℕ) → Option (List ℕ) → ℕ → Type 0
-ChecksAs source_failed sink_failed left old new failed before after status = (outcome : Result Bool RunFault) × (TellsFinding left old new outcome × (Complains failed before after outcome × (BlamesFailed source_failed sink_failed outcome × (status ≡ status_of outcome))))
+ChecksAs source_failed sink_failed left old new failed before after status = (outcome : Result Bool RunFault) × (ReportsFinding left old new outcome × (Complains failed before after outcome × (BlamesFailed source_failed sink_failed outcome × (status ≡ status_of outcome))))

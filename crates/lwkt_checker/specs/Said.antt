@@ -31,9 +31,9 @@ use Rattle.lwkt_core.specs.declared.tokens.Token.{Token}
 use Rattle.lwkt_base.specs.Holding.{references_in}
 use Rattle.lwkt_trace.specs.Words.{numbers_text}
 use Rattle.lwkt_trace.specs.Written.{word_of_event, law_text}
-use Rattle.lwkt_trace.specs.declared.traces.Told.{Told}
-use Rattle.lwkt_trace.specs.declared.traces.Told.TheVariants.{Whole, Given}
-use Rattle.lwkt_checker.specs.Told.{event_told, events_told}
+use Rattle.lwkt_trace.specs.declared.traces.Stated.{Stated}
+use Rattle.lwkt_trace.specs.declared.traces.Stated.TheVariants.{Whole, Given}
+use Rattle.lwkt_checker.specs.Stated.{event_stated, events_stated}
 use Rattle.lwkt_checker.specs.declared.differences.Other.{Other}
 use Rattle.lwkt_checker.specs.declared.differences.Other.TheVariants.{Holders, Row, Generation, Tallies, Record}
 use Rattle.lwkt_checker.specs.declared.judges.Finding.{Finding}
@@ -59,15 +59,15 @@ record_said None = codes "no record"
 record_said (Some blob) = codes "record " ++ bytes_text (take 64 blob)
 
 -- the record that an event says: one that is too long by its length
-unfoldable pub told_record_said : List ℕ → List ℕ
-told_record_said blob = if nat_lt 64 (length blob) then codes ", a record of " ++ decimal (length blob) ++ codes " bytes" else codes ", " ++ record_said (Some blob)
+unfoldable pub stated_record_said : List ℕ → List ℕ
+stated_record_said blob = if nat_lt 64 (length blob) then codes ", a record of " ++ decimal (length blob) ++ codes " bytes" else codes ", " ++ record_said (Some blob)
 
 -- what else an event says
 abbrev pub rest_said : Event → List ℕ
 rest_said (Read cpu tok cell value) = codes ", cell " ++ decimal cell ++ codes ", value " ++ decimal value
 rest_said (Write cpu tok cell value) = codes ", cell " ++ decimal cell ++ codes ", value " ++ decimal value
-rest_said (ReadBlob cpu tok blob) = told_record_said blob
-rest_said (WriteBlob cpu tok blob) = told_record_said blob
+rest_said (ReadBlob cpu tok blob) = stated_record_said blob
+rest_said (WriteBlob cpu tok blob) = stated_record_said blob
 rest_said (Send cpu msg to round) = codes " to " ++ decimal to.0 ++ codes ", round " ++ decimal round
 rest_said (TakeMsg cpu msg round) = codes ", round " ++ decimal round
 rest_said e = []
@@ -85,14 +85,14 @@ abbrev pub given_said : Event → List ℕ
 given_said (GiveWritten cpu tok section) = codes ", " ++ section_said section.generation section.before section.after
 given_said e = []
 
--- the section that is told of a written give
-abbrev pub told_section_said : Told → List ℕ
-told_section_said (Whole e) = given_said e
-told_section_said (Given cpu tok) = []
+-- the section that is stated of a written give
+abbrev pub stated_section_said : Stated → List ℕ
+stated_section_said (Whole e) = given_said e
+stated_section_said (Given cpu tok) = []
 
--- an event as it is told
-unfoldable pub event_said : Event → Told → List ℕ
-event_said e told = word_said e ++ codes " by " ++ decimal (cpu_of e) ++ place_said (place_of e) ++ rest_said e ++ told_section_said told
+-- an event as it is stated
+unfoldable pub event_said : Event → Stated → List ℕ
+event_said e stated = word_said e ++ codes " by " ++ decimal (cpu_of e) ++ place_said (place_of e) ++ rest_said e ++ stated_section_said stated
 
 -- where a message is
 abbrev pub owner_said : Owner → List ℕ
@@ -225,16 +225,16 @@ abbrev pub some_lack_said : Machine → Event → Option Lack → List ℕ
 some_lack_said m e None = []
 some_lack_said m e (Some lack) = lack_said m e lack
 
--- the line of an index, an event that is told, and a need of it
-unfoldable pub reason_text : Machine → ℕ → Told → Option Lack → List ℕ
-reason_text m index told lack = codes "event " ++ decimal index ++ codes ": " ++ event_said (event_told m told) told ++ codes ": " ++ some_lack_said m (event_told m told) lack ++ codes "\n"
+-- the line of an index, an event that is stated, and a need of it
+unfoldable pub reason_text : Machine → ℕ → Stated → Option Lack → List ℕ
+reason_text m index stated lack = codes "event " ++ decimal index ++ codes ": " ++ event_said (event_stated m stated) stated ++ codes ": " ++ some_lack_said m (event_stated m stated) lack ++ codes "\n"
 
--- a text is the line of an index, the event that is told in a machine, and the first need of it that isn't met; none is named
+-- a text is the line of an index, the event that is stated in a machine, and the first need of it that isn't met; none is named
 -- only where all are met
-pub record IsReason (m : Machine) (index : ℕ) (told : Told) (text : List ℕ) : Type 0 where
+pub record IsReason (m : Machine) (index : ℕ) (stated : Stated) (text : List ℕ) : Type 0 where
   pub lack : Option Lack
-  pub tells : MatchOption lack (Needs m (event_told m told)) (λ l. Lacks m (event_told m told) l)
-  pub is : text ≡ reason_text m index told lack
+  pub is_need : MatchOption lack (Needs m (event_stated m stated)) (λ l. Lacks m (event_stated m stated) l)
+  pub is : text ≡ reason_text m index stated lack
 
 -- the numbers that are given, where there are some
 abbrev pub given_numbers_said : Option (List ℕ) → List ℕ
@@ -246,7 +246,7 @@ abbrev pub given_generation_said : Option ℕ → List ℕ
 given_generation_said None = []
 given_generation_said (Some generation) = decimal generation
 
--- the record that is given, or none, where that is told
+-- the record that is given, or none, where that is stated
 abbrev pub given_record_said : Option (Option (List ℕ)) → List ℕ
 given_record_said None = []
 given_record_said (Some blob) = record_said blob
@@ -301,7 +301,7 @@ abbrev pub SaysToken : Machine → Final → ℕ → Option (List ℕ) → Type 
 SaysToken m last place said =
     MatchOption (slice_get m.tokens place) (said ≡ None) (λ tok. (other : Option Other) × (IsOtherAt tok m.cpus last place other × (said ≡ option_map (λ o. token_other_said m.cpus last place tok o) other)))
 
--- where a message is and its round, and where it is told to be
+-- where a message is and its round, and where it is stated to be
 unfoldable pub message_other_said : ℕ → Message → MsgEnd → List ℕ
 message_other_said place msg end =
     codes "message " ++ decimal place ++ codes ": " ++ owner_said msg.owner ++ codes ", round " ++ decimal msg.round ++ codes ", and not " ++ owner_said end.state ++ codes ", round " ++ decimal end.round
@@ -358,7 +358,7 @@ IsDifferenceOf m (Some last) text = IsDifference m last text
 
 -- the line beside an index says why the event of that index can't happen in the machine that those before it lead to, or where only
 -- the close differs how the machine at the end does
-abbrev pub SaysWhy : Machine → List Told → Option Final → Finding → Type 0
-SaysWhy m told last Lawful = Unit {0}
-SaysWhy m told last (Unlawful index why) =
-    (mid : Machine) × (Run m (take index (events_told m told)) mid × MatchOption (slice_get told index) (IsDifferenceOf mid last (string_bytes why)) (λ t. IsReason mid index t (string_bytes why)))
+abbrev pub SaysWhy : Machine → List Stated → Option Final → Finding → Type 0
+SaysWhy m stated last Lawful = Unit {0}
+SaysWhy m stated last (Unlawful index why) =
+    (mid : Machine) × (Run m (take index (events_stated m stated)) mid × MatchOption (slice_get stated index) (IsDifferenceOf mid last (string_bytes why)) (λ t. IsReason mid index t (string_bytes why)))

@@ -262,7 +262,7 @@ fn is_end(end: &MsgEnd, message: &Message) -> bool
     end.round == message.round && end.state == message.owner
 }
 
-// Appends where a message is and its round, and where it is told to be.
+// Appends where a message is and its round, and where it is stated to be.
 #[tactic(auto, unfolding(crate::specs::Said::message_other_said))]
 fn show_message_other(
     out: &mut String,

@@ -10,7 +10,7 @@ use crate::judges::{Finding, Judge};
 use crate::trees::parted;
 use lwkt_base::limits::{TRACE_BYTES, TRACE_EVENTS};
 use lwkt_base::{Fault, OutOfMemory};
-use lwkt_trace::{Trace, frame_of, next_written, parts_of, told_alone};
+use lwkt_trace::{Trace, frame_of, next_written, parts_of, stated_alone};
 use std::alloc::Global;
 
 // A judge that was fed an opening and the events of a text, if the text has nothing but events as they are written.
@@ -28,7 +28,7 @@ fn fed(alloc: Global, opening: &Trace, text: &[u8]) -> Result<Option<Judge>, Out
         let Some((event, size)) = next_written(&text[from..], judge.count) else {
             return Ok(None);
         };
-        judge = judge.and_event(alloc, &told_alone(&event))?;
+        judge = judge.and_event(alloc, &stated_alone(&event))?;
         from += size;
     }
     Ok(Some(judge))

@@ -3,13 +3,13 @@
 ghost use Rattle.std.specs.Prelude.{◌≡◌, ◌+◌, ◌<◌, [], true, false, None, IfOk, IfErr, string_bytes};
 ghost use Rattle.lwkt_trace.specs.declared.traces.Trace.{Trace};
 ghost use Rattle.lwkt_checker.specs.Judgement.{IsJudgedTrace, DeclinesTrace, finding_text};
-ghost use Rattle.lwkt_checker.specs.Stands.{with_told, with_last, closed_so};
+ghost use Rattle.lwkt_checker.specs.Stages.{with_stated, with_last, closed_so};
 ghost use Rattle.lwkt_checker.specs.Knows.{Knows};
 
-use crate::standings::Standing;
+use crate::stages::Stage;
 use lwkt_base::memory::{push_str, put};
 use lwkt_base::{Fault, OutOfMemory};
-use lwkt_trace::{Closing, Told, Trace};
+use lwkt_trace::{Closing, Stated, Trace};
 use std::alloc::Global;
 
 /// What a trace was found to be.
@@ -30,7 +30,7 @@ pub struct Judge {
     /// Whether the closing values have come.
     pub closed: bool,
     /// Where it stands with what it was fed.
-    pub standing: Standing,
+    pub stage: Stage,
 }
 
 impl Judge {
@@ -44,26 +44,22 @@ impl Judge {
         Ok(Judge {
             count: 0,
             closed: false,
-            standing: Standing::opened(alloc, opening)?,
+            stage: Stage::opened(alloc, opening)?,
         })
     }
 
     /// The judge with one event more.
-    pub fn and_event(self, alloc: Global, told: &Told) -> Result<Judge, OutOfMemory>
+    pub fn and_event(self, alloc: Global, stated: &Stated) -> Result<Judge, OutOfMemory>
         requires open { self.closed ≡ false }
         requires room { self.count < 18446744073709551615 }
-        ensures knows { IfOk result (λ after. (trace : Trace) → Knows trace self → Knows (with_told trace told.now) after) }
+        ensures knows { IfOk result (λ after. (trace : Trace) → Knows trace self → Knows (with_stated trace stated.now) after) }
         ensures counts { IfOk result (λ after. (after.count ≡ self.count + 1) × (after.closed ≡ false)) }
     {
-        let Judge {
-            count,
-            standing,
-            ..
-        } = self;
+        let Judge { count, stage, .. } = self;
         Ok(Judge {
             count: count + 1,
             closed: false,
-            standing: standing.and_event(alloc, count, told)?,
+            stage: stage.and_event(alloc, count, stated)?,
         })
     }
 
@@ -73,16 +69,12 @@ impl Judge {
         ensures knows { IfOk result (λ after. (trace : Trace) → Knows trace self → Knows (with_last trace closing) after) }
         ensures counts { IfOk result (λ after. (after.count ≡ self.count) × (after.closed ≡ true)) }
     {
-        let Judge {
-            count,
-            standing,
-            ..
-        } = self;
+        let Judge { count, stage, .. } = self;
         let last = closing.into_final();
         Ok(Judge {
             count,
             closed: true,
-            standing: standing.and_closing(alloc, count, &last)?,
+            stage: stage.and_closing(alloc, count, &last)?,
         })
     }
 
@@ -104,8 +96,8 @@ impl Judge {
         ensures found { IfOk result (λ finding. (trace : Trace) → Knows trace self → IsJudgedTrace trace finding) }
         ensures refused { IfErr result (λ fault. (trace : Trace) → Knows trace self → DeclinesTrace trace fault) }
     {
-        let Judge { standing, .. } = self;
-        standing.finding()
+        let Judge { stage, .. } = self;
+        stage.finding()
     }
 }
 

@@ -1,15 +1,15 @@
 ghost use Rattle.std.specs.Prelude.{◌≡◌, ◌++◌, OnOk, IfOk, slice_get, string_bytes};
-ghost use Rattle.lwkt_checker.specs.Told.{event_told};
+ghost use Rattle.lwkt_checker.specs.Stated.{event_stated};
 ghost use Rattle.lwkt_checker.specs.Said.{rows_said, records_said, unwritten_record_said, value_said, cell_said, raised_said, length_said, broken_law_text, broken_said, own_said, token_lack_said, message_lack_said, place_lack_said, lack_said, some_lack_said, reason_text, IsReason};
 ghost use Rattle.lwkt_core.specs.Events.{place_of};
 
 use crate::holdings::show_holders;
-use crate::plays::event_told;
-use crate::words::{say, show_owner, show_record, show_section, show_told};
+use crate::plays::event_stated;
+use crate::words::{say, show_owner, show_record, show_section, show_stated};
 use lwkt_base::memory::{push_str, put};
 use lwkt_base::{Law, OutOfMemory};
 use lwkt_core::{Event, Lack, Message, State, Token};
-use lwkt_trace::Told;
+use lwkt_trace::Stated;
 use lwkt_trace::words::{Subject, law_name, show_numbers, subject_of};
 use std::alloc::Global;
 
@@ -229,37 +229,37 @@ fn show_some_lack(
     }
 }
 
-// The line of an index, the event that is told there, and a need of it.
+// The line of an index, the event that is stated there, and a need of it.
 #[tactic(auto, unfolding(crate::specs::Said::reason_text))]
 fn line_of(
     alloc: Global,
     state: &State,
     index: usize,
-    told: &Told,
+    stated: &Stated,
     lack: Option<Lack>,
 ) -> Result<String, OutOfMemory>
-    ensures { IfOk result (λ text. string_bytes text ≡ reason_text state.now index told.now lack) }
+    ensures { IfOk result (λ text. string_bytes text ≡ reason_text state.now index stated.now lack) }
 {
-    let event = event_told(state, told);
+    let event = event_stated(state, stated);
     let mut out = String::new(alloc);
     put(&mut out, ("event ", index, ": "))?;
-    show_told(&mut out, &event, told)?;
+    show_stated(&mut out, &event, stated)?;
     push_str(&mut out, ": ")?;
     show_some_lack(&mut out, state, &event, lack)?;
     push_str(&mut out, "\n")?;
     Ok(out)
 }
 
-/// The line that says which need of the event that is told at an index isn't met in a state.
+/// The line that says which need of the event that is stated at an index isn't met in a state.
 pub fn reason(
     alloc: Global,
     state: &State,
     index: usize,
-    told: &Told,
+    stated: &Stated,
 ) -> Result<String, OutOfMemory>
-    ensures { IfOk result (λ text. IsReason state.now index told.now (string_bytes text)) }
+    ensures { IfOk result (λ text. IsReason state.now index stated.now (string_bytes text)) }
 {
-    let event = event_told(state, told);
+    let event = event_stated(state, stated);
     let lack = state.lack(&event);
-    line_of(alloc, state, index, told, lack)
+    line_of(alloc, state, index, stated, lack)
 }

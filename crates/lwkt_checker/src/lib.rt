@@ -23,7 +23,7 @@ mod line_values;
 mod lines;
 mod plays;
 mod programs;
-mod standings;
+mod stages;
 mod trees;
 mod words;
 
@@ -34,7 +34,7 @@ pub use lacks::reason;
 pub use line_checks::{check_lines, judge_lines};
 pub use line_judges::LineJudge;
 pub use lines::Lines;
-pub use plays::{event_told, told_is_only};
+pub use plays::{event_stated, stated_is_only};
 pub use programs::{check_keeping, check_stream, run_checker, say_outcome, status_of};
-pub use standings::Standing;
+pub use stages::Stage;
 pub use trees::found_whole;

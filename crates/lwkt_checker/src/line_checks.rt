@@ -1,6 +1,6 @@
 ghost use Rattle.std.specs.Prelude.{◌≡◌, ◌⊎◌, Err, IsTrue, IfOk, IfErr, OnOk};
 ghost use Rattle.lwkt_checker.specs.LineReading.{left_of};
-ghost use Rattle.lwkt_checker.specs.LineOutput.{KnowsAll, FindsInLines, DeclaresIn, TellsOfLines};
+ghost use Rattle.lwkt_checker.specs.LineOutput.{KnowsAll, FindsInLines, DeclaresIn, ReportsLines};
 
 use crate::judges::Finding;
 use crate::line_judges::LineJudge;
@@ -9,13 +9,13 @@ use crate::programs::write_finding;
 use lwkt_report::{RunFault, Sink, Source};
 use std::alloc::Global;
 
-// Tells a judge each line of a source, up to its end or to the line with the first bad part.
-fn tell_lines<S: Source>(
+// Feeds a judge each line of a source, up to its end or to the line with the first bad part.
+fn feed_lines<S: Source>(
     alloc: Global,
     lines: &mut Lines,
     source: &mut S,
 ) -> Result<LineJudge, RunFault>
-    ensures told { IfOk result (λ judge. KnowsAll (left_of lines.old (S.left source.old)) judge) }
+    ensures stated { IfOk result (λ judge. KnowsAll (left_of lines.old (S.left source.old)) judge) }
     ensures refused { IfErr result (λ why. DeclaresIn (left_of lines.old (S.left source.old)) why) }
     ensures stream { result ≡ Err RunFault.Stream → IsTrue (S.has_failed source.new) }
     ensures ok { OnOk result (S.has_failed source.new ≡ S.has_failed source.old) }
@@ -29,7 +29,7 @@ fn tell_lines<S: Source>(
         if !is_ended && lines.line.is_empty() {
             return Ok(judge);
         }
-        judge = match judge.tell(alloc, lines.line.as_slice()) {
+        judge = match judge.feed(alloc, lines.line.as_slice()) {
             Ok(after) => after,
             Err(fault) => return Err(RunFault::Fault(fault)),
         };
@@ -54,7 +54,7 @@ pub fn judge_lines<S: Source>(
     ensures stream { result ≡ Err RunFault.Stream → IsTrue (S.has_failed source.new) }
     ensures ok { OnOk result (S.has_failed source.new ≡ S.has_failed source.old) }
 {
-    match tell_lines(alloc, lines, source)?.finding() {
+    match feed_lines(alloc, lines, source)?.finding() {
         Ok(finding) => Ok(finding),
         Err(fault) => Err(RunFault::Fault(fault)),
     }
@@ -72,7 +72,7 @@ pub fn check_lines<S: Source, K: Sink>(
     source: &mut S,
     sink: &mut K,
 ) -> Result<bool, RunFault>
-    ensures tells { TellsOfLines (left_of lines.old (S.left source.old)) (K.contents sink.old) (K.contents sink.new) result }
+    ensures reports { ReportsLines (left_of lines.old (S.left source.old)) (K.contents sink.old) (K.contents sink.new) result }
     ensures stream { result ≡ Err RunFault.Stream → IsTrue (S.has_failed source.new) ⊎ IsTrue (K.has_failed sink.new) }
     ensures flushed { OnOk result (K.is_flushed sink.new) }
     ensures unfailed { OnOk result ((S.has_failed source.new ≡ S.has_failed source.old) × (K.has_failed sink.new ≡ K.has_failed sink.old)) }

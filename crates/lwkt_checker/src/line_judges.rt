@@ -14,7 +14,7 @@ use crate::judges::{Finding, Judge};
 use crate::line_openings::opened;
 use crate::line_values::value_of;
 use lwkt_base::Fault;
-use lwkt_trace::{Told, closing_at, event_of, told_alone, written_event};
+use lwkt_trace::{Stated, closing_at, event_of, stated_alone, written_event};
 use serde_json::Value;
 use std::alloc::Global;
 
@@ -51,7 +51,7 @@ fn value_at(alloc: Global, place: u32, line: &[u8]) -> Result<Value, Fault>
 
 // The judge of the opening that a line is.
 fn opened_by(alloc: Global, line: &[u8]) -> Result<Judge, Fault>
-    ensures told { IfOk result (λ judge. (trace : Trace) × ((next None line.now ≡ Ok (Some trace)) × Knows trace judge)) }
+    ensures stated { IfOk result (λ judge. (trace : Trace) × ((next None line.now ≡ Ok (Some trace)) × Knows trace judge)) }
     ensures fewer { IfOk result (λ judge. lines_behind judge < 1000000000000002) }
     ensures refused { IfErr result (λ fault. IsRefused fault (next None line.now)) }
 {
@@ -63,19 +63,19 @@ fn opened_by(alloc: Global, line: &[u8]) -> Result<Judge, Fault>
     }
 }
 
-// The judge with an event that is told so.
-fn with_told(alloc: Global, judge: Judge, told: &Told) -> Result<Judge, Fault>
+// The judge with an event that is stated so.
+fn with_stated(alloc: Global, judge: Judge, stated: &Stated) -> Result<Judge, Fault>
     requires { judge.closed ≡ false }
-    ensures told { IfOk result (λ after. (trace : Trace) (d : Data) → Knows trace judge → event_of d ≡ Some told.now → (u : Trace) × ((with_event trace d ≡ Ok u) × Knows u after)) }
+    ensures stated { IfOk result (λ after. (trace : Trace) (d : Data) → Knows trace judge → event_of d ≡ Some stated.now → (u : Trace) × ((with_event trace d ≡ Ok u) × Knows u after)) }
     ensures fewer { IfOk result (λ after. lines_behind after < lines_behind judge) }
-    ensures refused { IfErr result (λ fault. (trace : Trace) (d : Data) → Knows trace judge → event_of d ≡ Some told.now → IsRefused fault (with_event trace d)) }
+    ensures refused { IfErr result (λ fault. (trace : Trace) (d : Data) → Knows trace judge → event_of d ≡ Some stated.now → IsRefused fault (with_event trace d)) }
 {
     if judge.count >= EVENT_LIMIT {
         return Err(Fault::Script {
             place: event_place(judge.count),
         });
     }
-    match judge.and_event(alloc, told) {
+    match judge.and_event(alloc, stated) {
         Ok(after) => Ok(after),
         Err(refused) => Err(Fault::Memory(refused)),
     }
@@ -84,12 +84,12 @@ fn with_told(alloc: Global, judge: Judge, told: &Told) -> Result<Judge, Fault>
 // The judge with the event that a value is.
 fn with_event(alloc: Global, judge: Judge, value: &Value) -> Result<Judge, Fault>
     requires { judge.closed ≡ false }
-    ensures told { IfOk result (λ after. (trace : Trace) → Knows trace judge → (u : Trace) × ((with_event trace (view value.now) ≡ Ok u) × Knows u after)) }
+    ensures stated { IfOk result (λ after. (trace : Trace) → Knows trace judge → (u : Trace) × ((with_event trace (view value.now) ≡ Ok u) × Knows u after)) }
     ensures fewer { IfOk result (λ after. lines_behind after < lines_behind judge) }
     ensures refused { IfErr result (λ fault. (trace : Trace) → Knows trace judge → IsRefused fault (with_event trace (view value.now))) }
 {
     match event_of(value) {
-        Some(told) => with_told(alloc, judge, &told),
+        Some(stated) => with_stated(alloc, judge, &stated),
         None => Err(Fault::Script {
             place: event_place(judge.count),
         }),
@@ -99,7 +99,7 @@ fn with_event(alloc: Global, judge: Judge, value: &Value) -> Result<Judge, Fault
 // The judge with the closing values that a value is.
 fn with_closing(alloc: Global, judge: Judge, value: &Value) -> Result<Judge, Fault>
     requires { judge.closed ≡ false }
-    ensures told { IfOk result (λ after. (trace : Trace) → Knows trace judge → (u : Trace) × ((with_closing trace (view value.now) ≡ Ok u) × Knows u after)) }
+    ensures stated { IfOk result (λ after. (trace : Trace) → Knows trace judge → (u : Trace) × ((with_closing trace (view value.now) ≡ Ok u) × Knows u after)) }
     ensures fewer { IfOk result (λ after. lines_behind after < lines_behind judge) }
     ensures refused { IfErr result (λ fault. (trace : Trace) → IsRefused fault (with_closing trace (view value.now))) }
 {
@@ -113,7 +113,7 @@ fn with_closing(alloc: Global, judge: Judge, value: &Value) -> Result<Judge, Fau
 // The judge with what a line is, before the closing values.
 fn with_value_of(alloc: Global, judge: Judge, line: &[u8]) -> Result<Judge, Fault>
     requires { judge.closed ≡ false }
-    ensures told { IfOk result (λ after. (trace : Trace) → Knows trace judge → (u : Trace) × ((with_line trace line.now ≡ Ok u) × Knows u after)) }
+    ensures stated { IfOk result (λ after. (trace : Trace) → Knows trace judge → (u : Trace) × ((with_line trace line.now ≡ Ok u) × Knows u after)) }
     ensures fewer { IfOk result (λ after. lines_behind after < lines_behind judge) }
     ensures refused { IfErr result (λ fault. (trace : Trace) → Knows trace judge → IsRefused fault (with_line trace line.now)) }
 {
@@ -130,7 +130,7 @@ fn with_value_of(alloc: Global, judge: Judge, line: &[u8]) -> Result<Judge, Faul
 
 // The judge with a line behind the opening, which is read by its bytes alone where it is an event just as it is written.
 fn with_line(alloc: Global, judge: Judge, line: &[u8]) -> Result<Judge, Fault>
-    ensures told { IfOk result (λ after. (trace : Trace) → Knows trace judge → (u : Trace) × ((with_line trace line.now ≡ Ok u) × Knows u after)) }
+    ensures stated { IfOk result (λ after. (trace : Trace) → Knows trace judge → (u : Trace) × ((with_line trace line.now ≡ Ok u) × Knows u after)) }
     ensures fewer { IfOk result (λ after. lines_behind after < lines_behind judge) }
     ensures refused { IfErr result (λ fault. (trace : Trace) → Knows trace judge → IsRefused fault (with_line trace line.now)) }
 {
@@ -138,14 +138,14 @@ fn with_line(alloc: Global, judge: Judge, line: &[u8]) -> Result<Judge, Fault>
         return Err(Fault::Script { place: 6 });
     }
     match written_event(line) {
-        Some(event) => with_told(alloc, judge, &told_alone(&event)),
+        Some(event) => with_stated(alloc, judge, &stated_alone(&event)),
         None => with_value_of(alloc, judge, line),
     }
 }
 
 // The judge with a line more.
 fn with_next(alloc: Global, judge: Option<Judge>, line: &[u8]) -> Result<Judge, Fault>
-    ensures told { IfOk result (λ after. (before : Option Trace) → KnowsSo judge before → (u : Trace) × ((next before line.now ≡ Ok (Some u)) × Knows u after)) }
+    ensures stated { IfOk result (λ after. (before : Option Trace) → KnowsSo judge before → (u : Trace) × ((next before line.now ≡ Ok (Some u)) × Knows u after)) }
     ensures fewer { IfOk result (λ after. lines_behind after < lines_still judge) }
     ensures refused { IfErr result (λ fault. (before : Option Trace) → KnowsSo judge before → IsRefused fault (next before line.now)) }
 {
@@ -156,7 +156,7 @@ fn with_next(alloc: Global, judge: Option<Judge>, line: &[u8]) -> Result<Judge, 
 }
 
 impl LineJudge {
-    /// A judge that was told nothing yet.
+    /// A judge that was fed nothing yet.
     pub fn new() -> LineJudge
         ensures { Judges result None }
     {
@@ -176,8 +176,8 @@ impl LineJudge {
     ///   one event more than 10^15.
     /// - 4, 3000 + n, 5, 4000 + n, 5000 + n, 6000 + n: the parts of the closing values, as `read_trace` says.
     /// - 6: a line behind the closing values.
-    pub fn tell(self, alloc: Global, line: &[u8]) -> Result<LineJudge, Fault>
-        ensures told { IfOk result (λ judge. (before : Option Trace) → Judges self before → (after : Option Trace) × ((next before line.now ≡ Ok after) × Judges judge after)) }
+    pub fn feed(self, alloc: Global, line: &[u8]) -> Result<LineJudge, Fault>
+        ensures stated { IfOk result (λ judge. (before : Option Trace) → Judges self before → (after : Option Trace) × ((next before line.now ≡ Ok after) × Judges judge after)) }
         ensures fewer { IfOk result (λ judge. lines_left judge < lines_left self) }
         ensures refused { IfErr result (λ fault. (before : Option Trace) → Judges self before → IsRefused fault (next before line.now)) }
     {
@@ -188,12 +188,12 @@ impl LineJudge {
         }
     }
 
-    /// What the trace that was told is: lawful, or the index at which it fails and why.
+    /// What the trace that was fed is: lawful, or the index at which it fails and why.
     ///
     /// Refused with `Script` and place 0 where no line has come, and with `Limits` or `LawBroken` for its opening.
     pub fn finding(self) -> Result<Finding, Fault>
-        ensures found { IfOk result (λ finding. (told : Option Trace) → Judges self told → MatchOption told ⊥ (λ trace. IsJudgedTrace trace finding)) }
-        ensures refused { IfErr result (λ fault. (told : Option Trace) → Judges self told → MatchOption told (fault ≡ Fault.Script 0) (λ trace. DeclinesTrace trace fault)) }
+        ensures found { IfOk result (λ finding. (stated : Option Trace) → Judges self stated → MatchOption stated ⊥ (λ trace. IsJudgedTrace trace finding)) }
+        ensures refused { IfErr result (λ fault. (stated : Option Trace) → Judges self stated → MatchOption stated (fault ≡ Fault.Script 0) (λ trace. DeclinesTrace trace fault)) }
     {
         let LineJudge { judge } = self;
         match judge {

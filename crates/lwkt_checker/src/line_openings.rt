@@ -5,7 +5,7 @@ ghost use Rattle.lwkt_checker.specs.LineFormat.{is_opening, opened};
 
 use lwkt_base::Fault;
 use lwkt_base::limits::MOST_CPUS;
-use lwkt_script::Parts;
+use lwkt_script::Series;
 use lwkt_script::fields::{has, has_members, list_at, number_at};
 use lwkt_trace::{Trace, guarded_of, messages_of};
 use serde_json::Value;
@@ -38,9 +38,9 @@ pub fn opened(alloc: Global, value: &Value) -> Result<Trace, Fault>
     let messages = messages_of(alloc, cpus, message_items.as_slice())?;
     Ok(Trace {
         cpus,
-        tokens: Parts::from_vec(tokens),
-        messages: Parts::from_vec(messages),
-        events: Parts::from_vec(Vec::new(alloc)),
+        tokens: Series::from_vec(tokens),
+        messages: Series::from_vec(messages),
+        events: Series::from_vec(Vec::new(alloc)),
         last: None,
     })
 }

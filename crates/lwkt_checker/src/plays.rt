@@ -1,10 +1,10 @@
 ghost use Rattle.std.specs.Prelude.{◌≡◌, ◌≤◌, length};
 ghost use Rattle.lwkt_core.specs.Tokens.{section_at};
-ghost use Rattle.lwkt_checker.specs.Told.{section_due, event_told, ToldIsOnly};
+ghost use Rattle.lwkt_checker.specs.Stated.{section_due, event_stated, StatedIsOnly};
 
 use lwkt_base::{Row, Section, TokId};
 use lwkt_core::{Event, State, Token};
-use lwkt_trace::Told;
+use lwkt_trace::Stated;
 
 // The section of a token of this number that would end now.
 fn section_at(tok: TokId, token: &Token) -> Section
@@ -24,7 +24,7 @@ fn section_at(tok: TokId, token: &Token) -> Section
 fn section_now(state: &State, tok: TokId) -> Section
     ensures { result ≡ section_due state.now tok }
 {
-    // A state is safe, as this call tells: the rows of its tokens have at most four cells.
+    // A state is safe, as this call says: the rows of its tokens have at most four cells.
     let _cpus = state.cpus();
     match state.token(tok) {
         Some(token) => section_at(tok, token),
@@ -37,13 +37,13 @@ fn section_now(state: &State, tok: TokId) -> Section
     }
 }
 
-/// The event that is told in a state: a written give whose section isn't told has the one that would end now.
-pub fn event_told(state: &State, told: &Told) -> Event
-    ensures { result ≡ event_told state.now told.now }
+/// The event that is stated in a state: a written give whose section isn't stated has the one that would end now.
+pub fn event_stated(state: &State, stated: &Stated) -> Event
+    ensures { result ≡ event_stated state.now stated.now }
 {
-    match *told {
-        Told::Whole(event) => event,
-        Told::Given { cpu, tok } => Event::GiveWritten {
+    match *stated {
+        Stated::Whole(event) => event,
+        Stated::Given { cpu, tok } => Event::GiveWritten {
             cpu,
             tok,
             section: section_now(state, tok),
@@ -51,8 +51,8 @@ pub fn event_told(state: &State, told: &Told) -> Event
     }
 }
 
-/// The theorem that of all events that are told, whatever the sections that aren't, only those with the tokens' own sections
+/// The theorem that of all events that are stated, whatever the sections that aren't, only those with the tokens' own sections
 /// can happen.
-pub fn told_is_only()
-    ensures { ToldIsOnly }
+pub fn stated_is_only()
+    ensures { StatedIsOnly }
 {}

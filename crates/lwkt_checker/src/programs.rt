@@ -3,7 +3,7 @@ ghost use Rattle.lwkt_trace.specs.declared.traces.Trace.{Trace};
 ghost use Rattle.lwkt_trace.specs.Format.{trace_of};
 ghost use Rattle.lwkt_checker.specs.Judgement.{IsJudgedTrace, RefusesTrace};
 ghost use Rattle.lwkt_report.specs.Complaint.{fault_line, IsSaid};
-ghost use Rattle.lwkt_checker.specs.Output.{WritesFinding, TellsFinding, LeavesRead, status_of, Complains, ChecksAs};
+ghost use Rattle.lwkt_checker.specs.Output.{WritesFinding, ReportsFinding, LeavesRead, status_of, Complains, ChecksAs};
 
 use crate::framed::found_written;
 use crate::judges::{Finding, finding_text};
@@ -61,7 +61,7 @@ pub fn check_keeping<S: Source, K: Sink>(
     sink: &mut K,
     read: &mut Vec<u8>,
 ) -> Result<bool, RunFault>
-    ensures tells { TellsFinding (S.left source.old) (K.contents sink.old) (K.contents sink.new) result }
+    ensures reports { ReportsFinding (S.left source.old) (K.contents sink.old) (K.contents sink.new) result }
     ensures leaves { LeavesRead (S.left source.old) read.new.items result }
     ensures stream { result ≡ Err RunFault.Stream → IsTrue (S.has_failed source.new) ⊎ IsTrue (K.has_failed sink.new) }
     ensures flushed { OnOk result (K.is_flushed sink.new) }
@@ -88,7 +88,7 @@ pub fn check_stream<S: Source, K: Sink>(
     source: &mut S,
     sink: &mut K,
 ) -> Result<bool, RunFault>
-    ensures tells { TellsFinding (S.left source.old) (K.contents sink.old) (K.contents sink.new) result }
+    ensures reports { ReportsFinding (S.left source.old) (K.contents sink.old) (K.contents sink.new) result }
     ensures stream { result ≡ Err RunFault.Stream → IsTrue (S.has_failed source.new) ⊎ IsTrue (K.has_failed sink.new) }
     ensures flushed { OnOk result (K.is_flushed sink.new) }
     ensures unfailed { OnOk result ((S.has_failed source.new ≡ S.has_failed source.old) × (K.has_failed sink.new ≡ K.has_failed sink.old)) }

@@ -2,17 +2,17 @@
 ghost use Rattle.std.specs.Prelude.{◌≡◌, [], None, IfOk, IfErr};
 ghost use Rattle.lwkt_trace.specs.Recognised.{with_events};
 ghost use Rattle.lwkt_checker.specs.Judgement.{IsJudgedTrace, DeclinesTrace};
-ghost use Rattle.lwkt_checker.specs.Stands.{opening_alone};
+ghost use Rattle.lwkt_checker.specs.Stages.{opening_alone};
 ghost use Rattle.lwkt_checker.specs.Knows.{Knows};
 
 use crate::judges::{Finding, Judge};
 use lwkt_base::{Fault, OutOfMemory};
-use lwkt_script::Parts;
-use lwkt_trace::{Closing, Told, Trace};
+use lwkt_script::Series;
+use lwkt_trace::{Closing, Stated, Trace};
 use std::alloc::Global;
 
 /// A trace in three parts: a trace in which nothing has happened yet, the events, and the closing values.
-pub fn parted(alloc: Global, trace: Trace) -> (Trace, Parts<Told>, Option<Closing>)
+pub fn parted(alloc: Global, trace: Trace) -> (Trace, Series<Stated>, Option<Closing>)
     ensures opening { result.0 ≡ opening_alone trace }
     ensures events { result.1 ≡ trace.events }
     ensures last { result.2 ≡ trace.last }
@@ -28,21 +28,21 @@ pub fn parted(alloc: Global, trace: Trace) -> (Trace, Parts<Told>, Option<Closin
         cpus,
         tokens,
         messages,
-        events: Parts::from_vec(Vec::new(alloc)),
+        events: Series::from_vec(Vec::new(alloc)),
         last: None,
     };
     (opening, events, last)
 }
 
 // A judge that was fed an opening and events.
-fn fed(alloc: Global, opening: &Trace, events: &[Told]) -> Result<Judge, OutOfMemory>
+fn fed(alloc: Global, opening: &Trace, events: &[Stated]) -> Result<Judge, OutOfMemory>
     requires events { opening.now.events ≡ [] }
     requires last { opening.now.last ≡ None }
     ensures { IfOk result (Knows (with_events opening.now events.now)) }
 {
     let mut judge = Judge::opened(alloc, opening)?;
-    for told in events {
-        judge = judge.and_event(alloc, told)?;
+    for stated in events {
+        judge = judge.and_event(alloc, stated)?;
     }
     Ok(judge)
 }

@@ -1,11 +1,11 @@
 ghost use Rattle.std.specs.Prelude.{◌≡◌, ◌++◌, OnOk, string_bytes};
 ghost use Rattle.lwkt_core.specs.Events.{place_of};
-ghost use Rattle.lwkt_checker.specs.Said.{said, word_said, place_said, record_said, told_record_said, rest_said, generation_said, section_said, told_section_said, event_said, owner_said};
+ghost use Rattle.lwkt_checker.specs.Said.{said, word_said, place_said, record_said, stated_record_said, rest_said, generation_said, section_said, stated_section_said, event_said, owner_said};
 
 use lwkt_base::memory::{push_str, put};
 use lwkt_base::{Blob, OutOfMemory, Owner};
 use lwkt_core::Event;
-use lwkt_trace::Told;
+use lwkt_trace::Stated;
 use lwkt_trace::words::{Subject, event_word, show_bytes, show_numbers, subject_of};
 
 /// Appends words.
@@ -50,9 +50,9 @@ pub fn show_record(out: &mut String, blob: &Option<Blob>) -> Result<(), OutOfMem
 }
 
 // The record that an event says: one that is too long by its length.
-#[tactic(auto, unfolding(crate::specs::Said::told_record_said))]
-fn show_told_record(out: &mut String, blob: Blob) -> Result<(), OutOfMemory>
-    ensures { OnOk result (string_bytes out.new ≡ string_bytes out.old ++ told_record_said blob) }
+#[tactic(auto, unfolding(crate::specs::Said::stated_record_said))]
+fn show_stated_record(out: &mut String, blob: Blob) -> Result<(), OutOfMemory>
+    ensures { OnOk result (string_bytes out.new ≡ string_bytes out.old ++ stated_record_said blob) }
 {
     if blob.len() > 64 {
         return put(out, (", a record of ", blob.len(), " bytes"));
@@ -70,7 +70,7 @@ fn show_rest(out: &mut String, event: &Event) -> Result<(), OutOfMemory>
             put(out, (", cell ", cell, ", value ", value))
         }
         Event::ReadBlob { blob, .. } | Event::WriteBlob { blob, .. } => {
-            show_told_record(out, blob)
+            show_stated_record(out, blob)
         }
         Event::Send { to, round, .. } => put(out, (" to ", to.0, ", round ", round)),
         Event::TakeMsg { round, .. } => put(out, (", round ", round)),
@@ -102,12 +102,12 @@ pub fn show_section(
     show_numbers(out, after)
 }
 
-// Appends the section that is told of a written give.
-fn show_told_section(out: &mut String, told: &Told) -> Result<(), OutOfMemory>
-    ensures { OnOk result (string_bytes out.new ≡ string_bytes out.old ++ told_section_said told.now) }
+// Appends the section that is stated of a written give.
+fn show_stated_section(out: &mut String, stated: &Stated) -> Result<(), OutOfMemory>
+    ensures { OnOk result (string_bytes out.new ≡ string_bytes out.old ++ stated_section_said stated.now) }
 {
-    match told {
-        Told::Whole(Event::GiveWritten { section, .. }) => {
+    match stated {
+        Stated::Whole(Event::GiveWritten { section, .. }) => {
             push_str(out, ", ")?;
             show_section(
                 out,
@@ -120,15 +120,15 @@ fn show_told_section(out: &mut String, told: &Told) -> Result<(), OutOfMemory>
     }
 }
 
-/// Appends an event in words: `take by 1 of token 0`; a written give's section only where it is told.
+/// Appends an event in words: `take by 1 of token 0`; a written give's section only where it is stated.
 #[tactic(auto, unfolding(crate::specs::Said::event_said))]
-pub fn show_told(out: &mut String, event: &Event, told: &Told) -> Result<(), OutOfMemory>
-    ensures { OnOk result (string_bytes out.new ≡ string_bytes out.old ++ event_said event.now told.now) }
+pub fn show_stated(out: &mut String, event: &Event, stated: &Stated) -> Result<(), OutOfMemory>
+    ensures { OnOk result (string_bytes out.new ≡ string_bytes out.old ++ event_said event.now stated.now) }
 {
     put(out, (word_of(event), " by ", event.cpu().0))?;
     show_place(out, event)?;
     show_rest(out, event)?;
-    show_told_section(out, told)
+    show_stated_section(out, stated)
 }
 
 /// Appends where a message is: `out from 0 to 1`.

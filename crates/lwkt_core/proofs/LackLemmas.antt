@@ -90,7 +90,7 @@ place_refutes m e (AtMessage i) lack h needs = message_part m.cpus (slice_get m.
 pub refutes : LackRefutes
 refutes m e lack h needs = elim h [ inl x ↦ x.1 needs.processor | inr y ↦ elim y.1 [ inl x ↦ x.1 needs.room | inr x ↦ place_refutes m e (place_of e) lack x.1 needs.place ] ]
 
--- nothing is told exactly where the needs are met
-pub told_exactly : (m : Machine) (e : Event) (told : Option Lack) → MatchOption told (Needs m e) (λ lack. Lacks m e lack) → (told ≡ None) ↔ Needs m e
-told_exactly m e None h = (λ _. h, λ _. refl)
-told_exactly m e (Some lack) h = (λ none. absurd (cc), λ needs. absurd (refutes m e lack h needs))
+-- nothing is found exactly where the needs are met
+pub found_exactly : (m : Machine) (e : Event) (finding : Option Lack) → MatchOption finding (Needs m e) (λ lack. Lacks m e lack) → (finding ≡ None) ↔ Needs m e
+found_exactly m e None h = (λ _. h, λ _. refl)
+found_exactly m e (Some lack) h = (λ none. absurd (cc), λ needs. absurd (refutes m e lack h needs))

@@ -8,7 +8,7 @@ pub mod PictureLemmas
 pub mod RunChainLemmas
 pub mod RunLemmas
 pub mod SafetyLemmas
-pub mod TellLemmas
+pub mod NamingLemmas
 pub mod TokenMoves
 pub mod TraceLemmas
 pub mod WordEvents

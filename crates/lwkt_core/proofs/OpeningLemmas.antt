@@ -7,8 +7,8 @@ use Rattle.lwkt_base.specs.declared.laws.Law.{Law}
 use Rattle.lwkt_base.specs.declared.laws.Law.TheVariants.{Any, Sum, Order, Cap, Tally, Len}
 use Rattle.lwkt_base.specs.declared.holdings.Held.{Held}
 use Rattle.lwkt_base.specs.declared.holdings.Held.TheVariants.{Nothing}
-use Rattle.lwkt_base.specs.declared.openings.TokSpec.{TokSpec}
-use Rattle.lwkt_base.specs.declared.openings.MsgSpec.{MsgSpec}
+use Rattle.lwkt_base.specs.declared.opening_specs.TokSpec.{TokSpec}
+use Rattle.lwkt_base.specs.declared.opening_specs.MsgSpec.{MsgSpec}
 use Rattle.lwkt_base.specs.Holding.{references_in, is_exclusive}
 use Rattle.lwkt_base.specs.Law.{Obeys, OpensLawfully, IsTallied}
 use Rattle.lwkt_core.specs.declared.tokens.Token.{Token}

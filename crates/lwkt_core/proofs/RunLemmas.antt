@@ -479,30 +479,30 @@ at_written t (GiveWritten cpu tok section) is = ap (λ (j : ℕ). AtToken j) (eq
 at_written t e is = absurd (false≢true is)
 
 -- what a token's generation, first row, first record and law are after an event that doesn't end a written section of it
-pub record Stands (tok tok' : Token) : Type 0 where
+pub record KeepsSection (tok tok' : Token) : Type 0 where
   pub generation : tok'.generation ≡ tok.generation
   pub first : tok'.first ≡ tok.first
   pub first_blob : tok'.first_blob ≡ tok.first_blob
   pub law : tok'.law ≡ tok.law
   pub param : tok'.param ≡ tok.param
 
-abbrev stands_here : (tok : Token) → Stands tok tok
-stands_here tok = record { generation = refl; first = refl; first_blob = refl; law = refl; param = refl }
+abbrev keeps_here : (tok : Token) → KeepsSection tok tok
+keeps_here tok = record { generation = refl; first = refl; first_blob = refl; law = refl; param = refl }
 
-stands_after : (t : ℕ) (tok : Token) (e : Event) → place_of e ≡ AtToken t → TokenNeeds tok e → ends_written t e ≡ false → Stands tok (token_after tok e)
-stands_after t tok (GiveWritten cpu k section) at needs none = absurd (false≢true (sym none ∙ eq-eqb k.0 t (ap (λ (p : Place). number_of p) at)))
-stands_after t tok (Load cpu k) at needs none = record { generation = refl; first = refl; first_blob = refl; law = refl; param = refl }
-stands_after t tok (Take cpu k) at needs none = record { generation = refl; first = refl; first_blob = refl; law = refl; param = refl }
-stands_after t tok (Share cpu k) at needs none = record { generation = refl; first = refl; first_blob = refl; law = refl; param = refl }
-stands_after t tok (Again cpu k) at needs none = record { generation = refl; first = refl; first_blob = refl; law = refl; param = refl }
-stands_after t tok (Mark cpu k) at needs none = record { generation = refl; first = refl; first_blob = refl; law = refl; param = refl }
-stands_after t tok (GiveOne cpu k) at needs none = record { generation = refl; first = refl; first_blob = refl; law = refl; param = refl }
-stands_after t tok (GiveClean cpu k) at needs none = record { generation = refl; first = refl; first_blob = refl; law = refl; param = refl }
-stands_after t tok (Read cpu k cell value) at needs none = record { generation = refl; first = refl; first_blob = refl; law = refl; param = refl }
-stands_after t tok (Write cpu k cell value) at needs none = record { generation = refl; first = refl; first_blob = refl; law = refl; param = refl }
-stands_after t tok (ReadBlob cpu k blob) at needs none = record { generation = refl; first = refl; first_blob = refl; law = refl; param = refl }
-stands_after t tok (WriteBlob cpu k blob) at needs none = record { generation = refl; first = refl; first_blob = refl; law = refl; param = refl }
-stands_after t tok e at needs none = absurd needs
+keeps_after : (t : ℕ) (tok : Token) (e : Event) → place_of e ≡ AtToken t → TokenNeeds tok e → ends_written t e ≡ false → KeepsSection tok (token_after tok e)
+keeps_after t tok (GiveWritten cpu k section) at needs none = absurd (false≢true (sym none ∙ eq-eqb k.0 t (ap (λ (p : Place). number_of p) at)))
+keeps_after t tok (Load cpu k) at needs none = record { generation = refl; first = refl; first_blob = refl; law = refl; param = refl }
+keeps_after t tok (Take cpu k) at needs none = record { generation = refl; first = refl; first_blob = refl; law = refl; param = refl }
+keeps_after t tok (Share cpu k) at needs none = record { generation = refl; first = refl; first_blob = refl; law = refl; param = refl }
+keeps_after t tok (Again cpu k) at needs none = record { generation = refl; first = refl; first_blob = refl; law = refl; param = refl }
+keeps_after t tok (Mark cpu k) at needs none = record { generation = refl; first = refl; first_blob = refl; law = refl; param = refl }
+keeps_after t tok (GiveOne cpu k) at needs none = record { generation = refl; first = refl; first_blob = refl; law = refl; param = refl }
+keeps_after t tok (GiveClean cpu k) at needs none = record { generation = refl; first = refl; first_blob = refl; law = refl; param = refl }
+keeps_after t tok (Read cpu k cell value) at needs none = record { generation = refl; first = refl; first_blob = refl; law = refl; param = refl }
+keeps_after t tok (Write cpu k cell value) at needs none = record { generation = refl; first = refl; first_blob = refl; law = refl; param = refl }
+keeps_after t tok (ReadBlob cpu k blob) at needs none = record { generation = refl; first = refl; first_blob = refl; law = refl; param = refl }
+keeps_after t tok (WriteBlob cpu k blob) at needs none = record { generation = refl; first = refl; first_blob = refl; law = refl; param = refl }
+keeps_after t tok e at needs none = absurd needs
 
 -- what a token is after an event that ends a written section of it
 pub record Moves (tok tok' : Token) : Type 0 where
@@ -543,8 +543,8 @@ lawful_as a b law param sections all = All-weaker (IsLawfulSection b) (IsLawfulS
         let G : Law → Type 0 = λ l. Obeys l a.param s.left (length_of s.kept) in
         (is.0, subst G law (subst F param is.1))
 
-chain_stands : (tok tok' last : Token) (sections : List Section) → Stands tok tok' → Chained tok' sections last → Chained tok sections last
-chain_stands tok tok' last sections stand rest =
+chain_kept : (tok tok' last : Token) (sections : List Section) → KeepsSection tok tok' → Chained tok' sections last → Chained tok sections last
+chain_kept tok tok' last sections stand rest =
     let F : ℕ → Type 0 = λ g. IsChain g tok'.first sections last.generation last.first in
     let G : List ℕ → Type 0 = λ row. IsChain tok.generation row sections last.generation last.first in
     let K : Option (List ℕ) → Type 0 = λ blob. IsRecordChain blob sections last.first_blob in
@@ -569,16 +569,16 @@ chain_step t m mid e events tok tok' last here is turns rest =
     (λ (written : ends_written t e ≡ true).
     subst G (sym (one_section t m e events tok here written)) (chain_moves tok tok' last (sections_of t (after m e) events) (moved written turns) there))
     (λ (other : ends_written t e ≡ false).
-    subst G (sym (no_section t m e events other)) (chain_stands tok tok' last (sections_of t (after m e) events) (stood other turns) there))
+    subst G (sym (no_section t m e events other)) (chain_kept tok tok' last (sections_of t (after m e) events) (stood other turns) there))
     (cases_Bool (ends_written t e))
   where
     moved : ends_written t e ≡ true → TokenTurns e t tok tok' → Moves tok tok'
     moved written (inl turned) = subst (λ (x : Token). Moves tok x) (sym turned.1.1) (moves_after t tok e turned.1.0 written)
     moved written (inr stays') = absurd (stays'.0 (at_written t e written))
 
-    stood : ends_written t e ≡ false → TokenTurns e t tok tok' → Stands tok tok'
-    stood other (inl turned) = subst (λ (x : Token). Stands tok x) (sym turned.1.1) (stands_after t tok e turned.0 turned.1.0 other)
-    stood other (inr stays') = subst (λ (x : Token). Stands tok x) (sym stays'.1) (stands_here tok)
+    stood : ends_written t e ≡ false → TokenTurns e t tok tok' → KeepsSection tok tok'
+    stood other (inl turned) = subst (λ (x : Token). KeepsSection tok x) (sym turned.1.1) (keeps_after t tok e turned.0 turned.1.0 other)
+    stood other (inr stays') = subst (λ (x : Token). KeepsSection tok x) (sym stays'.1) (keeps_here tok)
 
 chained : (m : Machine) (events : List Event) (n : Machine) (t : ℕ) (tok last : Token) → Run m events n → slice_get m.tokens t ≡ Some tok → slice_get n.tokens t ≡ Some last → Chained tok (sections_of t m events) last
 chained m [] n t tok last run here there =

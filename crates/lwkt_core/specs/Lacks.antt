@@ -76,12 +76,12 @@ PlaceLacks m e (AtMessage i) lack = MatchOption (slice_get m.messages i) (lack �
 abbrev pub Lacks : Machine → Event → Lack → Type 0
 Lacks m e lack = FirstFails lack NoProcessor (cpu_of e < m.cpus) (FirstFails lack TooManyReferences (adds_reference e ≡ true → references_of m.tokens (cpu_of e) < 32) (PlaceLacks m e (place_of e) lack))
 
--- what is told of an event's needs of its token, or of its message: nothing where they are met, or the first that isn't
-abbrev pub TellsOfToken : Token → Event → Option Lack → Type 0
-TellsOfToken tok e told = MatchOption told (TokenNeeds tok e) (λ lack. TokenLacks tok e lack)
+-- what is found of an event's needs of its token, or of its message: nothing where they are met, or the first that isn't
+abbrev pub FindsTokenLack : Token → Event → Option Lack → Type 0
+FindsTokenLack tok e finding = MatchOption finding (TokenNeeds tok e) (λ lack. TokenLacks tok e lack)
 
-abbrev pub TellsOfMessage : ℕ → Message → Event → Option Lack → Type 0
-TellsOfMessage cpus msg e told = MatchOption told (MessageNeeds cpus msg e) (λ lack. MessageLacks cpus msg e lack)
+abbrev pub FindsMessageLack : ℕ → Message → Event → Option Lack → Type 0
+FindsMessageLack cpus msg e finding = MatchOption finding (MessageNeeds cpus msg e) (λ lack. MessageLacks cpus msg e lack)
 
 -- a law: an event that lacks something can't happen
 abbrev pub LackRefutes : Type 0

@@ -3,8 +3,8 @@ use Rattle.std.specs.Option.{is_some}
 use Rattle.lwkt_base.specs.declared.laws.Law.TheVariants.{Tally, Len}
 use Rattle.lwkt_base.specs.declared.holdings.Held.TheVariants.{Nothing}
 use Rattle.lwkt_base.specs.declared.owners.Owner.TheVariants.{Rest}
-use Rattle.lwkt_base.specs.declared.openings.TokSpec.{TokSpec}
-use Rattle.lwkt_base.specs.declared.openings.MsgSpec.{MsgSpec}
+use Rattle.lwkt_base.specs.declared.opening_specs.TokSpec.{TokSpec}
+use Rattle.lwkt_base.specs.declared.opening_specs.MsgSpec.{MsgSpec}
 use Rattle.lwkt_base.specs.Law.{OpensLawfully}
 use Rattle.lwkt_core.specs.declared.tokens.Token.{Token}
 use Rattle.lwkt_base.specs.declared.limits.TheConstants.{CPU_LIMIT, LAST_GENERATION, LAST_ROUND}

@@ -19,13 +19,13 @@ of_token t s = record { before = s.before; after = s.left; generation = s.genera
 abbrev pub sections_in : Machine → List Event → List Section
 sections_in m events = flat_map (λ t. map (of_token t) (sections_of t m events)) (range_with_len 0 (length m.tokens))
 
--- the section that an event tells, if it ends a written one, and those that some events tell, in order
+-- the section that an event names, if it ends a written one, and those that some events name, in order
 abbrev pub section_in : Event → List Section
 section_in (GiveWritten cpu tok section) = section ∷ []
 section_in e = []
 
-abbrev pub sections_told : List Event → List Section
-sections_told events = flat_map section_in events
+abbrev pub sections_named : List Event → List Section
+sections_named events = flat_map section_in events
 
 -- the row and generation of a token, and of each token of a machine
 abbrev pub values_of : Token → List ℕ × ℕ
@@ -46,6 +46,6 @@ abbrev pub TracesWriteChains : Type 0
 TracesWriteChains = (m : Machine) (events : List Event) (last : Final) → IsSafe m → All IsOpen m.tokens → IsLawfulTrace m events last
     → AreInOrder (sections_in m events) × AreSectionChains (rows_of m) (zip last.rows.items last.gens.items) (sections_in m events)
 
--- a law: what the events of a run tell of a token are its written sections, in order (own)
-abbrev pub RunsTellSections : Type 0
-RunsTellSections = (m : Machine) (events : List Event) (n : Machine) → Run m events n → (t : ℕ) → sections_at t (sections_told events) ≡ map (of_token t) (sections_of t m events)
+-- a law: what the events of a run name of a token are its written sections, in order (own)
+abbrev pub RunsNameSections : Type 0
+RunsNameSections = (m : Machine) (events : List Event) (n : Machine) → Run m events n → (t : ℕ) → sections_at t (sections_named events) ≡ map (of_token t) (sections_of t m events)

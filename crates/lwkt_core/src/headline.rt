@@ -1,5 +1,5 @@
 ghost use Rattle.lwkt_core.specs.FreeTokens.{FreeTokensCanBeTaken, WordsLetFreeTokens, MarksAloneRefuse, WornMarksStay, FreeWordsAreNotHeld};
-ghost use Rattle.lwkt_core.specs.RunSections.{RunsWriteChains, TracesWriteChains, RunsTellSections};
+ghost use Rattle.lwkt_core.specs.RunSections.{RunsWriteChains, TracesWriteChains, RunsNameSections};
 ghost use Rattle.lwkt_core.specs.Headline.{RunsAreCompatible, RunsKeepLaws, TalliesAreRaises, CountsAreEvents, MessagesGoRound, EachSendIsAnsweredOnce, AnswersAreOfTheirSend, SectionsAreChain, RowsStandBetweenSections, RecordsAreChain, RecordsStandBetweenSections, RecordsAreLastWritten};
 
 /// The theorem that in every machine of a run from a safe one each token has one exclusive holder or only shared ones.
@@ -82,9 +82,9 @@ pub fn traces_write_chains()
     ensures { TracesWriteChains }
 {}
 
-/// The theorem that the sections which the written gives of a run tell are, token by token, its written sections.
-pub fn runs_tell_sections()
-    ensures { RunsTellSections }
+/// The theorem that the sections which the written gives of a run name are, token by token, its written sections.
+pub fn runs_name_sections()
+    ensures { RunsNameSections }
 {}
 
 /// The theorem that where nobody holds any token, each list of references to tokens that exist, of at most 32, the exclusive ones

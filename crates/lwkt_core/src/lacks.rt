@@ -1,7 +1,7 @@
 ghost use Rattle.std.specs.Prelude.{◌≡◌, slice_get, MatchOption, IsSomeAnd};
 ghost use Rattle.lwkt_core.specs.Tokens.{TokenNeeds};
 ghost use Rattle.lwkt_core.specs.Messages.{MessageNeeds};
-ghost use Rattle.lwkt_core.specs.Lacks.{Fails, TokenLacks, MessageLacks, TellsOfToken, TellsOfMessage, LackRefutes};
+ghost use Rattle.lwkt_core.specs.Lacks.{Fails, TokenLacks, MessageLacks, FindsTokenLack, FindsMessageLack, LackRefutes};
 
 use crate::events::Event;
 use crate::messages::Message;
@@ -79,7 +79,7 @@ pub enum Lack {
 impl Token {
     // The first need of a Take that isn't met.
     fn take_lack(&self, cpu: CpuId) -> Option<Lack>
-        ensures { TellsOfToken self.now (Event.Take cpu (record { 0 = 0 })) result }
+        ensures { FindsTokenLack self.now (Event.Take cpu (record { 0 = 0 })) result }
     {
         let _ = cpu;
         if !self.is_free() {
@@ -93,7 +93,7 @@ impl Token {
 
     // The first need of a Share that isn't met.
     fn share_lack(&self, cpu: CpuId) -> Option<Lack>
-        ensures { TellsOfToken self.now (Event.Share cpu (record { 0 = 0 })) result }
+        ensures { FindsTokenLack self.now (Event.Share cpu (record { 0 = 0 })) result }
     {
         if !self.is_open() {
             return Some(Lack::HeldExclusively);
@@ -106,7 +106,7 @@ impl Token {
 
     // The first need of an Again that isn't met.
     fn again_lack(&self, cpu: CpuId) -> Option<Lack>
-        ensures { TellsOfToken self.now (Event.Again cpu (record { 0 = 0 })) result }
+        ensures { FindsTokenLack self.now (Event.Again cpu (record { 0 = 0 })) result }
     {
         if !self.held_by(cpu).is_held() {
             return Some(Lack::NotHeld);
@@ -116,7 +116,7 @@ impl Token {
 
     // The first need of a GiveOne that isn't met.
     fn give_one_lack(&self, cpu: CpuId) -> Option<Lack>
-        ensures { TellsOfToken self.now (Event.GiveOne cpu (record { 0 = 0 })) result }
+        ensures { FindsTokenLack self.now (Event.GiveOne cpu (record { 0 = 0 })) result }
     {
         if !self.held_by(cpu).is_held() {
             return Some(Lack::NotHeld);
@@ -129,7 +129,7 @@ impl Token {
 
     // The first need of a GiveClean that isn't met.
     fn give_clean_lack(&self, cpu: CpuId) -> Option<Lack>
-        ensures { TellsOfToken self.now (Event.GiveClean cpu (record { 0 = 0 })) result }
+        ensures { FindsTokenLack self.now (Event.GiveClean cpu (record { 0 = 0 })) result }
     {
         if !self.held_by(cpu).is_exclusive() {
             return Some(Lack::NotHeldExclusively);
@@ -148,7 +148,7 @@ impl Token {
 
     // The first need of a GiveWritten that isn't met.
     fn give_written_lack(&self, cpu: CpuId, tok: TokId, section: &Section) -> Option<Lack>
-        ensures { TellsOfToken self.now (Event.GiveWritten cpu tok section.now) result }
+        ensures { FindsTokenLack self.now (Event.GiveWritten cpu tok section.now) result }
     {
         if !self.held_by(cpu).is_exclusive() {
             return Some(Lack::NotHeldExclusively);
@@ -170,7 +170,7 @@ impl Token {
 
     // The first need of a Read that isn't met.
     fn read_lack(&self, cpu: CpuId, cell: u8, value: u64) -> Option<Lack>
-        ensures { TellsOfToken self.now (Event.Read cpu (record { 0 = 0 }) cell value) result }
+        ensures { FindsTokenLack self.now (Event.Read cpu (record { 0 = 0 }) cell value) result }
     {
         if !self.held_by(cpu).is_held() {
             return Some(Lack::NotHeld);
@@ -186,7 +186,7 @@ impl Token {
 
     // The first need of a Write that isn't met.
     fn write_lack(&self, cpu: CpuId, cell: u8, value: u64) -> Option<Lack>
-        ensures { TellsOfToken self.now (Event.Write cpu (record { 0 = 0 }) cell value) result }
+        ensures { FindsTokenLack self.now (Event.Write cpu (record { 0 = 0 }) cell value) result }
     {
         if !self.held_by(cpu).is_exclusive() {
             return Some(Lack::NotHeldExclusively);
@@ -202,7 +202,7 @@ impl Token {
 
     // The first need of a ReadBlob that isn't met.
     fn read_blob_lack(&self, cpu: CpuId, blob: &Blob) -> Option<Lack>
-        ensures { TellsOfToken self.now (Event.ReadBlob cpu (record { 0 = 0 }) blob.now) result }
+        ensures { FindsTokenLack self.now (Event.ReadBlob cpu (record { 0 = 0 }) blob.now) result }
     {
         if !self.held_by(cpu).is_exclusive() {
             return Some(Lack::NotHeldExclusively);
@@ -218,7 +218,7 @@ impl Token {
 
     // The first need of a WriteBlob that isn't met.
     fn write_blob_lack(&self, cpu: CpuId, blob: &Blob) -> Option<Lack>
-        ensures { TellsOfToken self.now (Event.WriteBlob cpu (record { 0 = 0 }) blob.now) result }
+        ensures { FindsTokenLack self.now (Event.WriteBlob cpu (record { 0 = 0 }) blob.now) result }
     {
         if !self.held_by(cpu).is_exclusive() {
             return Some(Lack::NotHeldExclusively);
@@ -234,7 +234,7 @@ impl Token {
 
     // The first need of an event that the token doesn't meet.
     fn lack(&self, event: &Event) -> Option<Lack>
-        ensures { TellsOfToken self.now event.now result }
+        ensures { FindsTokenLack self.now event.now result }
     {
         match *event {
             Event::Load { .. } | Event::Mark { .. } => None,
@@ -268,7 +268,7 @@ impl Token {
 impl Message {
     // The first need of a Send that isn't met, in a machine of so many processors.
     fn send_lack(&self, cpus: usize, cpu: CpuId, to: CpuId, round: u64) -> Option<Lack>
-        ensures { TellsOfMessage cpus self.now (Event.Send cpu (record { 0 = 0 }) to round) result }
+        ensures { FindsMessageLack cpus self.now (Event.Send cpu (record { 0 = 0 }) to round) result }
     {
         if self.owner != (Owner::Rest { origin: cpu }) {
             return Some(Lack::NotAtRest);
@@ -287,7 +287,7 @@ impl Message {
 
     // The first need of a TakeMsg that isn't met.
     fn take_lack(&self, cpus: usize, cpu: CpuId, round: u64) -> Option<Lack>
-        ensures { TellsOfMessage cpus self.now (Event.TakeMsg cpu (record { 0 = 0 }) round) result }
+        ensures { FindsMessageLack cpus self.now (Event.TakeMsg cpu (record { 0 = 0 }) round) result }
     {
         let _ = cpus;
         if !self.is_out_to(cpu) {
@@ -312,7 +312,7 @@ impl Message {
 
     // The first need of an event that the message doesn't meet.
     fn lack(&self, cpus: usize, event: &Event) -> Option<Lack>
-        ensures { TellsOfMessage cpus self.now event.now result }
+        ensures { FindsMessageLack cpus self.now event.now result }
     {
         match *event {
             Event::Send { cpu, to, round, .. } => self.send_lack(cpus, cpu, to, round),

@@ -5,7 +5,7 @@ use crate::finals::Final;
 use crate::lacks::Lack;
 use crate::messages::Message;
 use crate::tokens::Token;
-use crate::{finals, lacks, openings, rules};
+use crate::{finals, first_states, lacks, rules};
 use lwkt_base::{CpuId, Fault, MsgId, MsgSpec, TokId, TokSpec};
 use std::alloc::Global;
 use std::marker::Model;
@@ -59,14 +59,14 @@ impl State {
         ensures each_law { AreWithin cpus tokens.now messages.now → (¬ AllOpenLawfully tokens.now) → result ≡ Err Fault.LawBroken }
         ensures only { IfErr result (λ f. (f ≡ no_memory) ⊎ ((f ≡ Fault.Limits) ⊎ (f ≡ Fault.LawBroken))) }
     {
-        if !openings::are_within(cpus, tokens, messages) {
+        if !first_states::are_within(cpus, tokens, messages) {
             return Err(Fault::Limits);
         }
-        if !openings::all_open_lawfully(tokens) {
+        if !first_states::all_open_lawfully(tokens) {
             return Err(Fault::LawBroken);
         }
-        let opened_tokens = openings::opened_tokens(alloc, tokens)?;
-        let opened_messages = openings::opened_messages(alloc, messages)?;
+        let opened_tokens = first_states::opened_tokens(alloc, tokens)?;
+        let opened_messages = first_states::opened_messages(alloc, messages)?;
         Ok(State {
             cpus,
             tokens: opened_tokens,
@@ -157,16 +157,16 @@ impl State {
     }
 
     /// The first need of the event that isn't met, or none exactly if the event can happen.
-    #[tactic(auto, using(crate::proofs::LackLemmas::told_exactly))]
+    #[tactic(auto, using(crate::proofs::LackLemmas::found_exactly))]
     pub fn lack(&self, event: &Event) -> Option<Lack>
         ensures can_happen { (result ≡ None) ↔ Needs self.now event.now }
         ensures lack { IfSome result (λ lack. Lacks self.now event.now lack) }
     {
-        self.told(event)
+        self.finding(event)
     }
 
-    // What is told of the event's needs.
-    fn told(&self, event: &Event) -> Option<Lack>
+    // The need of the event that isn't met, if one isn't.
+    fn finding(&self, event: &Event) -> Option<Lack>
         ensures { MatchOption result (Needs self.now event.now) (λ lack. Lacks self.now event.now lack) }
     {
         let cpu = event.cpu();

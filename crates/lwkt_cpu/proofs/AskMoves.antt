@@ -14,16 +14,23 @@ use Rattle.lwkt_base.specs.Refs.{AreExchanged}
 use Rattle.lwkt_hold.specs.declared.holds.Hold.{Hold}
 use Rattle.lwkt_hold.specs.Givings.{ReleasesLast}
 use Rattle.lwkt_base.specs.declared.faults.Fault.{Fault}
-use Rattle.lwkt_base.specs.Holding.{Holding}
+use Rattle.lwkt_base.specs.Holding.{holding_of}
 use Rattle.lwkt_core.specs.declared.events.Event.{Event}
 use Rattle.lwkt_bank.specs.declared.seats.CpuSeat.{CpuSeat}
+use Rattle.lwkt_bank.specs.Seats.{BankId, bank_of, tokens_of, holding}
+use Rattle.lwkt_hold.specs.declared.answers.Acquired.{Acquired}
+use Rattle.lwkt_hold.specs.declared.answers.Acquired.TheVariants.{Got, MustSwitch}
+use Rattle.lwkt_hold.specs.declared.answers.Missed.{Missed}
 use Rattle.lwkt_hold.specs.Fronts.{IsFront, IsBetween}
 use Rattle.lwkt_hold.specs.Runs.{Ran}
+use Rattle.lwkt_hold.specs.Refusals.{get_refusal, RefusedBy}
+use Rattle.lwkt_hold.specs.Outcomes.{Takes, Switches, Acquires, ChangesNothing}
 use Rattle.lwkt_base.specs.declared.asks.Answer.TheVariants.{Done}
 use Rattle.lwkt_cpu.specs.declared.nexts.Next.{Next}
 use Rattle.lwkt_cpu.specs.declared.nexts.Next.TheVariants.{Readies}
 use Rattle.lwkt_cpu.specs.Leaving.{GivesUp}
 use Rattle.lwkt_hold.proofs.RunMoves.{ran_then, ran_weaker}
+use Rattle.lwkt_hold.proofs.OutcomeMoves.{get_there}
 
 -- a run within the fronts of one list, as one within those of two, of at most 320 events
 pub ran_left : (refs others : List Ref) (m : ℕ) (a b : CpuSeat) (t u : Vec Event Global) → m ≤ 320 → Ran (IsFront refs) m a b t u → Ran (IsBetween refs others) 320 a b t u
@@ -33,10 +40,10 @@ pub ran_right : (refs others : List Ref) (m : ℕ) (a b : CpuSeat) (t u : Vec Ev
 ran_right refs others m a b t u few ran = ran_weaker (IsFront others) (IsBetween refs others) m 320 a b t u (λ h front. inr front) few ran
 
 -- a missed reference, and what was held given up
-pub ran_switched : (refs others : List Ref) (a b c : CpuSeat) (t u v : Vec Event Global) (front : List Ref) → front ≡ refs → Ran (IsFront refs) 2 a b t u → Ran (IsFront front) 192 b c u v → Ran (IsBetween refs others) 320 a c t v
+pub ran_switched : (refs others : List Ref) (a b c : CpuSeat) (t u v : Vec Event Global) (front : List Ref) → front ≡ refs → Ran (IsFront refs) 1 a b t u → Ran (IsFront front) 192 b c u v → Ran (IsBetween refs others) 320 a c t v
 ran_switched refs others a b c t u v front same first second =
     let F : List Ref → Type 0 = λ xs. Ran (IsFront xs) 192 b c u v in
-    ran_left refs others 194 a c t v (omega arith) (ran_then (IsFront refs) 2 192 a b c t u v first (subst F same second))
+    ran_left refs others 193 a c t v (omega arith) (ran_then (IsFront refs) 1 192 a b c t u v first (subst F same second))
 
 -- the references before the last one
 pub front_is : (refs now : List Ref) (new : Ref) (held : ℕ) → now ≡ refs ++ new ∷ [] → held ≡ length refs → take held now ≡ refs
@@ -58,19 +65,33 @@ there_pushed n refs now new is below all =
 pub there_same : (n : ℕ) (refs now : List Ref) → now ≡ refs → There n refs → There n now
 there_same n refs now is all = let F : List Ref → Type 0 = λ xs. There n xs in subst F (sym is) all
 
--- of what a refusal says, the part on list and trace
-pub err_ends : {A : Type 0} (refs now : List Ref) (h k : Holding) (t u : Vec Event Global) (r : Result A Fault) → OnErr r ((now ≡ refs) × (h ≡ k) × (u ≡ t)) → OnErr r ((now ≡ refs) × (u ≡ t))
-err_ends refs now h k t u (Ok x) p = tt
-err_ends refs now h k t u (Err e) p = (p.0, p.2)
-
 -- so many references given up, by another count of them
 pub given_up_at : (a b : CpuSeat) (refs : List Ref) (m n : ℕ) (t u : Vec Event Global) (next : Next Answer) → m ≡ n → GivesUp a b refs m t u (Readies Done) next → GivesUp a b refs n t u (Readies Done) next
 given_up_at a b refs m n t u next same g = let F : ℕ → Type 0 = λ k. GivesUp a b refs k t u (Readies Done) next in subst F same g
 
--- after a try: the list has the reference, whose token exists, or is as before
-pub there_tried : (n : ℕ) (refs now : List Ref) (new : Ref) (h k l : Holding) (t u : Vec Event Global) (e : Event) (r : Result (Unit {0}) Fault) → OnOk r ((now ≡ refs ++ new ∷ []) × (h ≡ k) × (u.items ≡ t.items ++ e ∷ [])) → OnOk r (new.tok.0 < n) → OnErr r ((now ≡ refs) × (h ≡ l) × (u ≡ t)) → There n refs → There n now
-there_tried n refs now new h k l t u e (Ok x) got there err all = there_pushed n refs now new got.0 there all
-there_tried n refs now new h k l t u e (Err f) got there err all = there_same n refs now err.0 all
+-- what asking for a reference came to, by its answer
+pub got_it : (refs now : List Ref) (new : Ref) (a b : CpuSeat) (t u : Vec Event Global) (x : Acquired) → x ≡ Got → Acquires refs now new a b t u x → Takes refs now new a b t u
+got_it refs now new a b t u x is m = let F : Acquired → Type 0 = λ y. Acquires refs now new a b t u y in subst F is m
+
+pub switched : (refs now : List Ref) (new : Ref) (a b : CpuSeat) (t u : Vec Event Global) (x : Acquired) (why : Missed) → x ≡ MustSwitch why → Acquires refs now new a b t u x → Switches refs now new why a b t u
+switched refs now new a b t u x why is m = let F : Acquired → Type 0 = λ y. Acquires refs now new a b t u y in subst F is m
+
+-- the token of a reference that wasn't refused exists
+pub there_for : {A : Type 0} (bank : BankId) (s : CpuSeat) (refs : List Ref) (new : Ref) (Late : Fault → Type 0) (x : A) → bank_of s ≡ bank → RefusedBy {A = A} (get_refusal bank refs new) Late (Ok x) → new.tok.0 < tokens_of (bank_of s)
+there_for {A} bank s refs new Late x of_bank traced = let same = ap (λ (b : BankId). tokens_of b) of_bank in omega (arith, same, get_there {A = A} bank refs new Late x traced)
+
+-- after a refusal the list is held as before, and after a try it is held
+pub unmoved : (refs now : List Ref) (a b : CpuSeat) (t u : Vec Event Global) → holding a ≡ holding_of refs → now ≡ refs → ChangesNothing a b t u → holding b ≡ holding_of now
+unmoved refs now a b t u held same n = n.held ∙ held ∙ ap holding_of (sym same)
+
+pub tried_holds : (refs now : List Ref) (new : Ref) (a b : CpuSeat) (t u : Vec Event Global) (r : Result (Unit {0}) Fault) → holding a ≡ holding_of refs → OnOk r (Takes refs now new a b t u) → OnErr r ((now ≡ refs) × ChangesNothing a b t u) → holding b ≡ holding_of now
+tried_holds refs now new a b t u (Ok x) held ok err = ok.held
+tried_holds refs now new a b t u (Err fault) held ok err = unmoved refs now a b t u held err.0 err.1
+
+-- after a try the tokens of the list exist
+pub there_tried : (bank : BankId) (refs now : List Ref) (new : Ref) (a b : CpuSeat) (t u : Vec Event Global) (Late : Fault → Type 0) (r : Result (Unit {0}) Fault) → bank_of a ≡ bank → RefusedBy (get_refusal bank refs new) Late r → OnOk r (Takes refs now new a b t u) → OnErr r ((now ≡ refs) × ChangesNothing a b t u) → There (tokens_of (bank_of a)) refs → There (tokens_of (bank_of a)) now
+there_tried bank refs now new a b t u Late (Ok x) of_bank traced ok err all = there_pushed (tokens_of (bank_of a)) refs now new ok.pushed (there_for {A = Unit {0}} bank a refs new Late x of_bank traced) all
+there_tried bank refs now new a b t u Late (Err f) of_bank traced ok err all = there_same (tokens_of (bank_of a)) refs now err.0 all
 
 -- after a release: the list is without its last reference, or as before
 there_popped : (n : ℕ) (refs now : List Ref) (last : Ref) → refs ≡ now ++ last ∷ [] → There n refs → There n now

@@ -12,8 +12,8 @@ use Rattle.lwkt_cpu.specs.Laws.{TurnsArePartsOfRuns, MailsArePartsOfRuns}
 
 -- what a turn did is a part of the one history
 pub turn_parts : {B : Type 0} (polled : B → Answer → Ask → B → Type 0) → StatesAreReached → TurnsArePartsOfRuns polled
-turn_parts polled reached bank old new t u turned turn plans cpus s j told at kind =
-    let x = reached plans cpus s told in
+turn_parts polled reached bank old new t u turned turn plans cpus s j ledger at kind =
+    let x = reached plans cpus s ledger in
     let history = x.0 in
     let ran = turn.ran in
     let cpu = old.seat.cpu in
@@ -31,11 +31,11 @@ turn_parts polled reached bank old new t u turned turn plans cpus s j told at ki
       steps = subst G ran.cpu parts.2 ∙ steps_by-grows cpu.0 (past_of old.seat) ran.deeds (past_of new.seat) ran.grows ran.mine;
       done = ran.done;
       trace = ran.trace;
-      tells = ran.tells;
+      in_trace = ran.in_trace;
     }
 
 -- so is what the ports' seat has done
 pub mail_parts : (B : Type 0) → RuleShowsSafety → MailsAreReached → MailsArePartsOfRuns B
-mail_parts B safe reached p key s j told at kind =
-    let x = reached key s told in
-    ((safe key s told).1, x.1, events_by-past told.chronicle.history p.seat.cpu.0 p.post.seat.view.past (x.2 j p.post.seat.view p.seat.cpu at kind))
+mail_parts B safe reached p key s j ledger at kind =
+    let x = reached key s ledger in
+    ((safe key s ledger).1, x.1, events_by-past ledger.chronicle.history p.seat.cpu.0 p.post.seat.view.past (x.2 j p.post.seat.view p.seat.cpu at kind))

@@ -9,8 +9,8 @@ pub mod SearchMoves
 pub mod ShutMoves
 pub mod SightMoves
 pub mod StopMoves
-pub mod TellMoves
-pub mod ToldMoves
+pub mod MailTraceMoves
+pub mod TurnTraceMoves
 pub mod TurnMoves
 pub mod WakeMoves
 pub mod WiringMoves

@@ -129,11 +129,11 @@ ran_mail P cpu n s t u mine p g = record {
   deeds = [];
   grows = refl;
   mine = own-nil s.cpu.0;
-  tells = mail_tokens cpu g.made g.own;
+  in_trace = mail_tokens cpu g.made g.own;
   done = g.made;
   trace = g.trace_is;
   own = λ k d below. mail_own cpu _ (g.own k d below) ∙ ap (λ (x : CpuId). x.0) mine;
-  told = let F : List Event → Type 0 = λ xs. AllZip ShowsEvent [] xs in subst F (sym (mail_words cpu g.made g.own)) tt;
+  traced = let F : List Event → Type 0 = λ xs. AllZip ShowsEvent [] xs in subst F (sym (mail_words cpu g.made g.own)) tt;
   moves = mail_moves P cpu (holding s) g.made p g.own;
   few = g.few;
   grown = g.grown;

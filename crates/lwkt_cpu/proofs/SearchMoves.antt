@@ -42,14 +42,14 @@ front_of_one threads k t h at front = (k, (let F : Option Thread → Type 0 = λ
 pub looked_now : (a b : CpuSeat) (refs : List Ref) (place word : ℕ) (still answer : Bool) → Stays a b refs place word still → still ≡ answer → Stays a b refs place word answer
 looked_now a b refs place word still answer s is = let F : Bool → Type 0 = λ x. Stays a b refs place word x in subst F is s
 
--- what resuming a list tells, as a try of it
+-- what resuming a list says, as a try of it
 pub tries_by : (a b : CpuSeat) (t u : Vec Event Global) (refs : List Ref) (r : Resumed) → Ran (IsFront refs) 64 a b t u → Resumes a b refs r → (r ≡ Whole → u.items ≡ t.items ++ takes_all a.cpu [] refs) → ((place : ℕ) (why : Missed) → r ≡ Passed place why → u.items ≡ t.items ++ (takes_all a.cpu [] (take place refs) ++ gives_all a.cpu [] (take place refs))) → IsAllClean b → (answer : Resumed) → r ≡ answer → TriesToHold a b t u refs answer
 tries_by a b t u refs Whole ran resumes all passed clean answer is =
     let F : Resumed → Type 0 = λ x. TriesToHold a b t u refs x in
-    subst F is (record { ran = ran; resumes = resumes; told = all refl; clean = clean })
+    subst F is (record { ran = ran; resumes = resumes; traced = all refl; clean = clean })
 tries_by a b t u refs (Passed place why) ran resumes all passed clean answer is =
     let F : Resumed → Type 0 = λ x. TriesToHold a b t u refs x in
-    subst F is (record { ran = ran; resumes = resumes; told = passed place why refl; clean = clean })
+    subst F is (record { ran = ran; resumes = resumes; traced = passed place why refl; clean = clean })
 
 -- a thread has its list and does what it did, or it has ended at a last generation; what is kept of a refusal refuses its list if
 -- it did

@@ -8,7 +8,7 @@ use Rattle.lwkt_core.specs.declared.events.Event.{Event}
 use Rattle.lwkt_bank.specs.Seats.{BankId}
 use Rattle.lwkt_hold.proofs.RunMoves.{ran_with_room}
 use Rattle.lwkt_port.specs.Posts.{IsSamePost}
-use Rattle.lwkt_cpu.specs.Telling.{TellsMail}
+use Rattle.lwkt_cpu.specs.Traced.{TracesMail}
 use Rattle.lwkt_cpu.specs.declared.answers.Turned.{Turned}
 use Rattle.lwkt_cpu.specs.Processors.{Processor}
 use Rattle.lwkt_cpu.specs.Turning.{IsOfThread, MakesTurn}
@@ -18,7 +18,7 @@ use Rattle.lwkt_cpu.proofs.WakeMoves.{post_none, post_then}
 -- a turn of a trace that has more room is one of the trace that it was
 pub turn_from_room : {B : Type 0} (polled : B → Answer → Ask → B → Type 0) (bank : BankId) (old new : Processor B) (t r u : Vec Event Global) (turned : Turned) → r.items ≡ t.items → vec_len r ≡ vec_len t → vec_capacity t ≤ vec_capacity r → MakesTurn polled bank old new r u turned → MakesTurn polled bank old new t u turned
 turn_from_room {B} polled bank old new t r u turned items long wider made =
-    let F : List Event → Type 0 = λ xs. TellsMail old.post.seat new.post.seat xs u.items in
+    let F : List Event → Type 0 = λ xs. TracesMail old.post.seat new.post.seat xs u.items in
     record {
       room = made.room;
       same = made.same ∙ items;
@@ -27,7 +27,7 @@ turn_from_room {B} polled bank old new t r u turned items long wider made =
       mail = made.mail;
       turns = made.turns;
       ran = ran_with_room (IsOfThread old.threads new.threads) 4096 old.seat new.seat t r u items long wider made.ran;
-      told = subst F items made.told;
+      traced = subst F items made.traced;
       ports = made.ports;
       rest = made.rest;
     }

@@ -7,7 +7,7 @@ use Rattle.lwkt_lane.specs.declared.outs.LaneOut.{LaneOut}
 use Rattle.lwkt_lane.specs.Crossed.{AreLanes, IsLeft}
 use Rattle.lwkt_lane.proofs.PlaceMoves.{some_same, get_pushed}
 use Rattle.lwkt_port.specs.declared.lines.Lane.{Lane}
-use Rattle.lwkt_port.specs.Openings.{new_line}
+use Rattle.lwkt_port.specs.OpenedPorts.{new_line}
 use Rattle.lwkt_cpu.specs.Processors.{Processor}
 use Rattle.lwkt_cpu.specs.Wiring.{HasLines, HaveLines, AreWired}
 

@@ -15,13 +15,13 @@ use Rattle.lwkt_table.specs.History.{AreOwn, events_in, events_by, steps_in, ste
 use Rattle.lwkt_bank.specs.declared.views.Plan.{Plan}
 use Rattle.lwkt_bank.specs.declared.seats.CpuSeat.{CpuSeat}
 use Rattle.lwkt_bank.specs.Rule.{Bench, Pictures}
-use Rattle.lwkt_bank.specs.Told.{Told, first_machine}
+use Rattle.lwkt_bank.specs.Ledger.{Ledger, first_machine}
 use Rattle.lwkt_bank.specs.Seats.{BankId, events_of, steps_of}
-use Rattle.lwkt_hold.specs.Steps.{is_of_token, Tells}
+use Rattle.lwkt_hold.specs.Steps.{is_of_token, AreTraced}
 use Rattle.lwkt_msg.specs.declared.views.Key.{Key}
 use Rattle.lwkt_msg.specs.declared.views.View.{View}
 use Rattle.lwkt_msg.specs.Steps.{machine_of}
-use Rattle.lwkt_msg.specs.Told.{Told as IsTold, first_mails}
+use Rattle.lwkt_msg.specs.Ledger.{Ledger as BookLedger, first_mails}
 use Rattle.lwkt_cpu.specs.declared.answers.Turned.{Turned}
 use Rattle.lwkt_cpu.specs.Processors.{Processor}
 use Rattle.lwkt_cpu.specs.Turning.{MakesTurn}
@@ -40,20 +40,20 @@ pub record IsPartOfRun (plans : List Plan) (cpus : ℕ) (s : Bench) (old new : C
   pub steps : steps_by old.cpu.0 history ≡ steps_of old ++ steps_in deeds
   pub done : List Event
   pub trace : u.items ≡ t.items ++ done
-  pub tells : Tells (events_in deeds) (filter is_of_token done)
+  pub in_trace : AreTraced (events_in deeds) (filter is_of_token done)
 
 -- a theorem: whatever the other seats do before, during and after a turn, what it did at the bank is a part of one run; this is so
 -- of each state of the bank's table that meets its rule and in which the seat stands as the turn left it
 abbrev pub TurnsArePartsOfRuns : {B : Type 0} → (B → Answer → Ask → B → Type 0) → Type 0
 TurnsArePartsOfRuns {B} polled = (bank : BankId) (old new : Processor B) (t u : Vec Event Global) (turned : Turned) → MakesTurn polled bank old new t u turned
-    → (plans : List Plan) (cpus : ℕ) (s : Bench) (j : ℕ) → Told plans cpus s → get_elem? s.views j ≡ some new.seat.seat.me.0 → new.seat.seat.me.0.kind ≡ Of new.seat.cpu
+    → (plans : List Plan) (cpus : ℕ) (s : Bench) (j : ℕ) → Ledger plans cpus s → get_elem? s.views j ≡ some new.seat.seat.me.0 → new.seat.seat.me.0.kind ≡ Of new.seat.cpu
     → IsPartOfRun plans cpus s old.seat new.seat t u
 
 -- a theorem: whatever the other seats do, each state of the book's table that meets its rule and in which the ports' seat of a
 -- processor stands shows a safe machine, which one history of the deeds of all seats leads to, its events a run of the model; what
 -- the processor has in it is what its seat has seen of itself
 abbrev pub MailsArePartsOfRuns : Type 0 → Type 0
-MailsArePartsOfRuns B = (p : Processor B) (key : Key) (s : State Rec View) (j : ℕ) (told : IsTold key s) → get_elem? s.views j ≡ some p.post.seat.view → p.post.seat.view.kind ≡ Of p.seat.cpu
-    → IsSafe (machine_of key.cpus told.rule.mails)
-    × Run (machine_of key.cpus (first_mails key.specs.items)) (events_in told.chronicle.history) (machine_of key.cpus told.rule.mails)
-    × (events_by p.seat.cpu.0 told.chronicle.history ≡ events_by p.seat.cpu.0 p.post.seat.view.past)
+MailsArePartsOfRuns B = (p : Processor B) (key : Key) (s : State Rec View) (j : ℕ) (ledger : BookLedger key s) → get_elem? s.views j ≡ some p.post.seat.view → p.post.seat.view.kind ≡ Of p.seat.cpu
+    → IsSafe (machine_of key.cpus ledger.rule.mails)
+    × Run (machine_of key.cpus (first_mails key.specs.items)) (events_in ledger.chronicle.history) (machine_of key.cpus ledger.rule.mails)
+    × (events_by p.seat.cpu.0 ledger.chronicle.history ≡ events_by p.seat.cpu.0 p.post.seat.view.past)

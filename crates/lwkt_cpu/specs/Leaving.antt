@@ -10,12 +10,12 @@ use Rattle.lwkt_hold.specs.Givings.{ReleasesAll}
 use Rattle.lwkt_cpu.specs.declared.nexts.Next.{Next}
 use Rattle.lwkt_cpu.specs.Nexts.{unless_broken}
 
--- what giving up the first few references of a list tells: `Hold::block`; and what comes next for the thread
+-- what giving up the first few references of a list says: `Hold::block`; and what comes next for the thread
 pub record GivesUp (a b : CpuSeat) (refs : List Ref) (held : ℕ) (t u : Vec Event Global) (meant next : Next Answer) : Type 0 where
   pub blocked : Blocked
   pub blocks : Blocks a refs blocked
   pub rows : GivenUp a b
   pub done : List Event
-  pub told : u.items ≡ t.items ++ done
+  pub traced : u.items ≡ t.items ++ done
   pub releases : ReleasesAll a [] (take held refs) done
   pub next_is : next ≡ unless_broken meant blocked

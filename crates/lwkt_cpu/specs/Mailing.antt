@@ -29,23 +29,23 @@ sending thread msg to call flags sync = record { thread = thread; msg = msg; to 
 abbrev pub plain_flags : Flags
 plain_flags = record { dropable = false; abortable = false; priority = false }
 
--- what a send tells, from one state of the ports and trace to the next: `Ports::send` and `Ports::send_sync`
+-- what a send says, from one state of the ports and trace to the next: `Ports::send` and `Ports::send_sync`
 abbrev pub SendsMail : Sending → Post → Post → Vec Event Global → Vec Event Global → Result (Unit {0}) Fault → Type 0
 SendsMail s p q t u result = OnOk result (PostSends s p q t u) × IfErr result (λ fault. PostRefuses s p q t u fault)
 
--- what a reply tells: `Ports::reply`
+-- what a reply says: `Ports::reply`
 abbrev pub RepliesMail : ℕ → MsgId → ℕ → ℕ → Post → Post → Vec Event Global → Vec Event Global → Result (Unit {0}) Fault → Type 0
 RepliesMail thread msg error outcome p q t u result = OnOk result (PostReplies thread msg error outcome p q t u) × IfErr result (λ fault. PostRefusesReply thread msg error outcome p q t u fault)
 
--- what a request to abort tells: `Ports::abort`
+-- what a request to abort says: `Ports::abort`
 abbrev pub AbortsMail : ℕ → MsgId → Post → Post → Vec Event Global → Vec Event Global → Result (Unit {0}) Fault → Type 0
 AbortsMail thread msg p q t u result = OnOk result (PostAborts thread msg p q t u) × IfErr result (λ fault. PostRefusesAbort thread msg p q t u fault)
 
--- what the question whether a message is to be aborted tells: `Ports::is_aborted`
+-- what the question whether a message is to be aborted says: `Ports::is_aborted`
 abbrev pub HearsMail : ℕ → MsgId → Post → Post → Result Bool Fault → Type 0
 HearsMail thread msg p q result = IfOk result (λ aborted. PostHears thread msg p q aborted) × IfErr result (λ fault. PostRefusesHearing thread msg p q fault)
 
--- what a drop tells: `Ports::drop_msg`
+-- what a drop says: `Ports::drop_msg`
 abbrev pub DropsMail : ℕ → MsgId → Post → Post → Vec Event Global → Vec Event Global → Result Rec Fault → Type 0
 DropsMail thread msg p q t u result = IfOk result (λ rec. PostDrops thread msg p q t u rec) × IfErr result (λ fault. PostRefusesDrop thread msg p q t u fault)
 

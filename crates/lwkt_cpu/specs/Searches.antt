@@ -43,7 +43,7 @@ missed_by place Worn t = ended_by (Faulted WornOut) t
 abbrev pub IsPassedOver : CpuSeat → CpuSeat → Thread → Type 0
 IsPassedOver a b t = (r : BusyAt) × ((t.busy ≡ Some r) × Stays a b t.list r.at r.word true × Misses a b t.list r.at (Busy r.word))
 
--- a thread's list is tried only if no refusal of it is kept, or one load has told that the word that is kept isn't the token's any
+-- a thread's list is tried only if no refusal of it is kept, or one load has shown that the word that is kept isn't the token's any
 -- more (own)
 abbrev pub MayBeTried : CpuSeat → CpuSeat → Thread → Type 0
 MayBeTried a b t = ((t.busy ≡ None) × (b ≡ a)) ⊎ ((r : BusyAt) × ((t.busy ≡ Some r) × Stays a b t.list r.at r.word false))
@@ -59,7 +59,7 @@ tries cpu refs (Passed place why) = takes_all cpu [] (take place refs) ++ gives_
 pub record TriesToHold (a b : CpuSeat) (t u : Vec Event Global) (refs : List Ref) (answer : Resumed) : Type 0 where
   pub ran : Ran (IsFront refs) 64 a b t u
   pub resumes : Resumes a b refs answer
-  pub told : u.items ≡ t.items ++ tries a.cpu refs answer
+  pub traced : u.items ≡ t.items ++ tries a.cpu refs answer
   pub clean : IsAllClean b
 
 -- the list of a thread is tried, which it may be

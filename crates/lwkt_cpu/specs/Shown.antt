@@ -15,7 +15,7 @@ pub record IsNewCpu {B : Type 0} (seat : CpuSeat) (post : Post) (bodies : List B
   pub none_runs : p.running ≡ None
   pub cursor_is : p.cursor ≡ 0
 
--- what is told of a thread, if there is one: what it is doing, and its list, which is a lawful one
+-- what is shown of a thread, if there is one: what it is doing, and its list, which is a lawful one
 abbrev pub ShowsThread : {B : Type 0} → Processor B → ℕ → Option Status → Type 0
 ShowsThread p i None = length p.threads ≤ i
 ShowsThread p i (Some status) = IsSomeAnd (slice_get p.threads i) (λ t. (status.state ≡ thread_state (is_running p.running i) t.phase) × (status.list.now ≡ t.list) × IsLawfulList t.list)

@@ -1,5 +1,6 @@
-use Rattle.std.specs.Prelude.{◌≡◌, List, length, Result, Ok, Err, Option, ℕ, Bool, false, true, Vec}
+use Rattle.std.specs.Prelude.{◌≡◌, ◌<◌, List, All, length, Result, Ok, Err, Option, ℕ, Bool, false, true, Vec}
 use Rattle.std.specs.declared.alloc.Global.{Global}
+use Rattle.atomic_table.specs.Seated.{TableId}
 use Rattle.lwkt_base.specs.declared.asks.Answer.{Answer}
 use Rattle.lwkt_base.specs.declared.names.TokId.{TokId}
 use Rattle.lwkt_base.specs.declared.names.Mode.TheVariants.{Shared}
@@ -10,19 +11,23 @@ use Rattle.lwkt_base.specs.declared.asks.Ask.TheVariants.{Get, GetShared, TryGet
 use Rattle.lwkt_base.specs.declared.asks.Answer.TheVariants.{Done, Refused}
 use Rattle.lwkt_core.specs.declared.events.Event.{Event}
 use Rattle.lwkt_bank.specs.declared.seats.CpuSeat.{CpuSeat}
-use Rattle.lwkt_bank.specs.Seats.{BankId}
+use Rattle.lwkt_bank.specs.Seats.{BankId, holding}
+use Rattle.lwkt_base.specs.declared.names.MsgId.{MsgId}
+use Rattle.lwkt_hold.specs.Ready.{IsReady}
+use Rattle.lwkt_msg.specs.Desks.{desk_cpu, messages_of}
 use Rattle.lwkt_hold.specs.declared.answers.Acquired.{Acquired}
 use Rattle.lwkt_hold.specs.declared.answers.Acquired.TheVariants.{Got, MustSwitch}
 use Rattle.lwkt_hold.specs.Misses.{exclusive}
 use Rattle.lwkt_cpu.specs.declared.nexts.Next.{Next}
-use Rattle.lwkt_cpu.specs.declared.nexts.Next.TheVariants.{Runs, Readies, Exits}
-use Rattle.lwkt_cpu.specs.Nexts.{done_or, value_or, bytes_or, bit_or}
+use Rattle.lwkt_cpu.specs.declared.nexts.AnswerKept.{AnswerKept}
+use Rattle.lwkt_cpu.specs.declared.nexts.Next.TheVariants.{Runs, Readies, AwaitsReply, Exits}
+use Rattle.lwkt_cpu.specs.Nexts.{done_or, value_or, bytes_or, bit_or, HoldsAfter, next_with, KeepsAnswer}
 use Rattle.lwkt_cpu.specs.Calls.{Acquires, Tries, Rels, Swaps, Reads, Stores, Adds, ReadsRecord, StoresRecord}
 use Rattle.lwkt_cpu.specs.Leaving.{GivesUp}
 use Rattle.lwkt_cpu.specs.Mailing.{sending, plain_flags, SendsMail, RepliesMail, AbortsMail, HearsMail, DropsMail, dropped_or, item_or, DoesMessage, WaitsPort}
 use Rattle.lwkt_base.specs.declared.asks.Item.{Item}
 use Rattle.lwkt_base.specs.declared.records.Rec.{Rec}
-use Rattle.lwkt_port.specs.Posts.{Post}
+use Rattle.lwkt_port.specs.Posts.{Post, IsSamePost}
 use Rattle.lwkt_port.specs.Servings.{PostGets}
 
 -- a shared reference to the token
@@ -67,3 +72,21 @@ Performs bank thread a b p q refs now t u GetPort next = (b ≡ a) × (now ≡ r
 Performs bank thread a b p q refs now t u WaitPort next = (now ≡ refs) × WaitsPort thread p q a b refs t u next
 Performs bank thread a b p q refs now t u Yield next = (q ≡ p) × (now ≡ refs) × GivesUp a b refs (length refs) t u (Readies Done) next
 Performs bank thread a b p q refs now t u Exit next = (q ≡ p) × (now ≡ refs) × GivesUp a b refs (length refs) t u Exits next
+
+-- the caller's conditions of an ask: the processor's seat at the bank is ready for so many events of the thread's list, and its ports are
+-- of this book and this processor, and have the thread (own)
+pub record MayPerform (bank : BankId) (book : TableId) (thread : ℕ) (s : CpuSeat) (post : Post) (refs : List Ref) (trace : Vec Event Global) (events : ℕ) : Type 0 where
+  pub ready : IsReady bank s refs trace events
+  pub of_book : post.seat.table ≡ book
+  pub exists : thread < post.threads
+  pub mine : desk_cpu post.seat ≡ s.cpu
+
+-- how an ask leaves what it was performed on: a thread that goes on holds exactly its list, and else nothing is held; the tokens of the
+-- list exist as before; the ports are the same ones; a reply that is awaited is to a message that there is; and an answer that was kept
+-- before stays, where none comes now (own)
+pub record EndsInOrder (b : CpuSeat) (tokens : ℕ) (refs now : List Ref) (p q : Post) (last last' : Answer) (result : Next AnswerKept) : Type 0 where
+  pub held : HoldsAfter (next_with result last') (holding b) now
+  pub there : All (λ r. r.tok.0 < tokens) refs → All (λ r. r.tok.0 < tokens) now
+  pub same : IsSamePost p q
+  pub named : (m : MsgId) → next_with result last' ≡ AwaitsReply m → m.0 < messages_of q.seat
+  pub kept : KeepsAnswer result last last'

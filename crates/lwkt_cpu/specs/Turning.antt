@@ -4,10 +4,11 @@ use Rattle.lwkt_base.specs.declared.asks.Ask.{Ask}
 use Rattle.lwkt_base.specs.declared.asks.Answer.{Answer}
 use Rattle.lwkt_base.specs.Holding.{Holding, holding_of, holds_nothing}
 use Rattle.lwkt_core.specs.declared.events.Event.{Event}
-use Rattle.lwkt_bank.specs.Seats.{BankId, holding}
+use Rattle.atomic_table.specs.Seated.{TableId}
+use Rattle.lwkt_bank.specs.Seats.{BankId, bank_of, holding}
 use Rattle.lwkt_hold.specs.Runs.{Ran as Runs}
 use Rattle.lwkt_port.specs.Posts.{IsSamePost}
-use Rattle.lwkt_cpu.specs.Telling.{TellsMail}
+use Rattle.lwkt_cpu.specs.Traced.{TracesMail}
 use Rattle.lwkt_cpu.specs.declared.phases.Phase.TheVariants.{Live}
 use Rattle.lwkt_cpu.specs.declared.answers.Turned.{Turned}
 use Rattle.lwkt_cpu.specs.declared.answers.Turned.TheVariants.{Ran, Idle, AllExited}
@@ -17,6 +18,11 @@ use Rattle.lwkt_cpu.specs.Searches.{point, FindsThread, IsOfOne}
 use Rattle.lwkt_cpu.specs.Ending.{is_worn, ClosesPorts}
 use Rattle.lwkt_cpu.specs.Polling.{Polls}
 use Rattle.lwkt_cpu.specs.Waking.{TakesMail}
+
+-- the caller's condition of a turn: the processor's seats are of this bank and this book (own)
+pub record IsSeatedAt {B : Type 0} (bank : BankId) (book : TableId) (p : Processor B) : Type 0 where
+  pub of_bank : bank_of p.seat ≡ bank
+  pub of_book : p.post.seat.table ≡ book
 
 -- where the next search begins: past the thread that was found
 abbrev pub cursor_after : ℕ → Option ℕ → ℕ
@@ -80,6 +86,6 @@ pub record MakesTurn {B : Type 0} (polled : B → Answer → Ask → B → Type 
   pub mail : TakesMail old mid room v
   pub turns : Turns polled bank mid new v u turned
   pub ran : Runs (IsOfThread old.threads new.threads) 4096 old.seat new.seat t u
-  pub told : TellsMail old.post.seat new.post.seat t.items u.items
+  pub traced : TracesMail old.post.seat new.post.seat t.items u.items
   pub ports : IsSamePost old.post new.post
   pub rest : IsAtRest new

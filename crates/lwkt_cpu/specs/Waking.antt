@@ -13,7 +13,7 @@ use Rattle.lwkt_port.specs.Mails.{kept_mail_at}
 use Rattle.lwkt_port.specs.Posts.{Post, IsSamePost}
 use Rattle.lwkt_port.specs.Servings.{PostGets}
 use Rattle.lwkt_port.specs.Intakes.{PostTakesIn}
-use Rattle.lwkt_port.specs.Tellings.{TellsDeeds}
+use Rattle.lwkt_port.specs.Traced.{TracesDeeds}
 use Rattle.lwkt_port.specs.Works.{Grew}
 use Rattle.lwkt_cpu.specs.declared.phases.Phase.{Phase}
 use Rattle.lwkt_cpu.specs.declared.phases.Phase.TheVariants.{Live, AwaitsItem, AwaitsReply, Exited, Faulted}
@@ -38,7 +38,7 @@ given msg p = record p { mails = slice_set p.mails msg.0 (record (kept_mail_at p
 -- a thread is woken, by what it waits for; one that doesn't wait stays as it is (own)
 abbrev pub Wakes : Phase → ℕ → Post → Post → Vec Event Global → Vec Event Global → Thread → Thread → Type 0
 Wakes Live number p q t u old new = (q ≡ p) × (u ≡ t) × (new ≡ old)
-Wakes AwaitsItem number p q t u old new = (told : Result (Option Item) Fault) × (PostGets number p q t u told × (new ≡ woken_by told old))
+Wakes AwaitsItem number p q t u old new = (came : Result (Option Item) Fault) × (PostGets number p q t u came × (new ≡ woken_by came old))
 Wakes (AwaitsReply msg) number p q t u old new = (q ≡ given msg p) × (u ≡ t) × (new ≡ replied_by msg (kept_mail_at p.mails msg.0).done old)
 Wakes Exited number p q t u old new = (q ≡ p) × (u ≡ t) × (new ≡ old)
 Wakes (Faulted fault) number p q t u old new = (q ≡ p) × (u ≡ t) × (new ≡ old)
@@ -86,4 +86,4 @@ pub record LooksAfter (number : ℕ) (p q : Post) (t u : Vec Event Global) (old 
   pub live : old.phase ≡ Live → new ≡ old
   pub same : IsSamePost p q
   pub grew : Grew (desk_cpu p.seat) 128 t u
-  pub told : TellsDeeds p.seat q.seat t.items u.items
+  pub traced : TracesDeeds p.seat q.seat t.items u.items

@@ -5,7 +5,7 @@ use Rattle.lwkt_lane.specs.declared.ins.LaneIn.{LaneIn}
 use Rattle.lwkt_lane.specs.declared.outs.LaneOut.{LaneOut}
 use Rattle.lwkt_lane.specs.Crossed.{IsNewLane}
 use Rattle.lwkt_port.specs.declared.lines.Lane.{Lane}
-use Rattle.lwkt_port.specs.Openings.{ArePaired}
+use Rattle.lwkt_port.specs.OpenedPorts.{ArePaired}
 use Rattle.lwkt_cpu.specs.Processors.{Processor}
 
 -- a processor has the lines of the ends at this number

@@ -1,9 +1,10 @@
 //! The asks about tokens, each as the call on the hold that it makes.
-ghost use Rattle.std.specs.Prelude.{◌≡◌, ℕ, ◌+◌, ◌<◌, ◌≤◌, List, All, Result, vec_len, vec_capacity};
+ghost use Rattle.std.specs.Prelude.{◌≡◌, ℕ, ◌<◌, List, All, Result};
 ghost use Rattle.lwkt_base.specs.Holding.{holding_of};
 ghost use Rattle.lwkt_base.specs.declared.faults.Fault.{Fault};
 ghost use Rattle.lwkt_bank.specs.Seats.{id_of, bank_of, tokens_of, holding};
 ghost use Rattle.lwkt_hold.specs.Holds.{seat_of};
+ghost use Rattle.lwkt_hold.specs.Ready.{IsReady};
 ghost use Rattle.lwkt_hold.specs.Fronts.{IsFront, IsBetween};
 ghost use Rattle.lwkt_hold.specs.Runs.{Ran};
 ghost use Rattle.lwkt_cpu.specs.Nexts.{kept_list, HoldsAfter, next_with, KeepsAnswer, done_or, value_or, bytes_or};
@@ -19,10 +20,10 @@ use lwkt_hold::{Acquired, Hold};
 
 // Keeps the answer for a call that answers nothing.
 #[inline(always)]
-pub(crate) fn done(told: Result<(), Fault>, last: &mut Answer) -> AnswerKept
-    ensures { last.new ≡ done_or told }
+pub(crate) fn done(came: Result<(), Fault>, last: &mut Answer) -> AnswerKept
+    ensures { last.new ≡ done_or came }
 {
-    match told {
+    match came {
         Ok(()) => *last = Answer::Done,
         Err(fault) => *last = Answer::Refused(fault),
     }
@@ -31,10 +32,10 @@ pub(crate) fn done(told: Result<(), Fault>, last: &mut Answer) -> AnswerKept
 
 // Keeps the answer for a call that answers a value.
 #[inline(always)]
-fn value(told: Result<u64, Fault>, last: &mut Answer) -> AnswerKept
-    ensures { last.new ≡ value_or told }
+fn value(came: Result<u64, Fault>, last: &mut Answer) -> AnswerKept
+    ensures { last.new ≡ value_or came }
 {
-    match told {
+    match came {
         Ok(value) => *last = Answer::Value(value),
         Err(fault) => *last = Answer::Refused(fault),
     }
@@ -43,10 +44,10 @@ fn value(told: Result<u64, Fault>, last: &mut Answer) -> AnswerKept
 
 // Keeps the answer for a call that answers a record.
 #[inline(always)]
-fn bytes(told: Result<Blob, Fault>, last: &mut Answer) -> AnswerKept
-    ensures { last.new ≡ bytes_or told }
+fn bytes(came: Result<Blob, Fault>, last: &mut Answer) -> AnswerKept
+    ensures { last.new ≡ bytes_or came }
 {
-    match told {
+    match came {
         Ok(blob) => *last = Answer::Bytes(blob),
         Err(fault) => *last = Answer::Refused(fault),
     }
@@ -63,9 +64,7 @@ pub(crate) fn get(
     last: &mut Answer,
     trace: &mut Vec<Event>,
 ) -> Next<AnswerKept>
-    requires of { bank_of (seat_of hold.old) ≡ id_of bank.now }
-    requires held { holding (seat_of hold.old) ≡ holding_of list.old }
-    requires room { vec_len trace.old + 512 ≤ vec_capacity trace.old }
+    requires { IsReady (id_of bank.now) (seat_of hold.old) list.old trace.old 512 }
     ensures ran { Ran (IsBetween list.old (kept_list (next_with result last.new) list.new)) 320 (seat_of hold.old) (seat_of hold.new) trace.old trace.new }
     ensures held { HoldsAfter (next_with result last.new) (holding (seat_of hold.new)) list.new }
     ensures there { All (λ r. r.tok.0 < tokens_of (bank_of (seat_of hold.old))) list.old → All (λ r. r.tok.0 < tokens_of (bank_of (seat_of hold.old))) list.new }
@@ -92,16 +91,14 @@ pub(crate) fn try_get(
     last: &mut Answer,
     trace: &mut Vec<Event>,
 ) -> AnswerKept
-    requires of { bank_of (seat_of hold.old) ≡ id_of bank.now }
-    requires held { holding (seat_of hold.old) ≡ holding_of list.old }
-    requires room { vec_len trace.old + 512 ≤ vec_capacity trace.old }
+    requires { IsReady (id_of bank.now) (seat_of hold.old) list.old trace.old 512 }
     ensures ran { Ran (IsBetween list.old list.new) 320 (seat_of hold.old) (seat_of hold.new) trace.old trace.new }
     ensures held { holding (seat_of hold.new) ≡ holding_of list.new }
     ensures there { All (λ r. r.tok.0 < tokens_of (bank_of (seat_of hold.old))) list.old → All (λ r. r.tok.0 < tokens_of (bank_of (seat_of hold.old))) list.new }
-    ensures tries { (told : Result (Unit {0}) Fault) × (Tries (id_of bank.now) (seat_of hold.old) (seat_of hold.new) list.old list.new tok trace.old trace.new told × (last.new ≡ done_or told)) }
+    ensures tries { (came : Result (Unit {0}) Fault) × (Tries (id_of bank.now) (seat_of hold.old) (seat_of hold.new) list.old list.new tok trace.old trace.new came × (last.new ≡ done_or came)) }
 {
-    let told = hold.try_get(bank, list, tok, trace);
-    done(told, last)
+    let came = hold.try_get(bank, list, tok, trace);
+    done(came, last)
 }
 
 /// Gives the last reference back.
@@ -114,16 +111,14 @@ pub(crate) fn rel(
     last: &mut Answer,
     trace: &mut Vec<Event>,
 ) -> AnswerKept
-    requires of { bank_of (seat_of hold.old) ≡ id_of bank.now }
-    requires held { holding (seat_of hold.old) ≡ holding_of list.old }
-    requires room { vec_len trace.old + 512 ≤ vec_capacity trace.old }
+    requires { IsReady (id_of bank.now) (seat_of hold.old) list.old trace.old 512 }
     ensures ran { Ran (IsBetween list.old list.new) 320 (seat_of hold.old) (seat_of hold.new) trace.old trace.new }
     ensures held { holding (seat_of hold.new) ≡ holding_of list.new }
     ensures there { All (λ r. r.tok.0 < tokens_of (bank_of (seat_of hold.old))) list.old → All (λ r. r.tok.0 < tokens_of (bank_of (seat_of hold.old))) list.new }
-    ensures rels { (told : Result (Unit {0}) Fault) × (Rels (seat_of hold.old) (seat_of hold.new) list.old list.new tok trace.old trace.new told × (last.new ≡ done_or told)) }
+    ensures rels { (came : Result (Unit {0}) Fault) × (Rels (seat_of hold.old) (seat_of hold.new) list.old list.new tok trace.old trace.new came × (last.new ≡ done_or came)) }
 {
-    let told = hold.rel(bank, list, tok, trace);
-    done(told, last)
+    let came = hold.rel(bank, list, tok, trace);
+    done(came, last)
 }
 
 /// Exchanges the two last references.
@@ -131,10 +126,10 @@ pub(crate) fn rel(
 pub(crate) fn swap(list: &mut TokList, last: &mut Answer) -> AnswerKept
     ensures held { holding_of list.new ≡ holding_of list.old }
     ensures there { (n : ℕ) → All (λ r. r.tok.0 < n) list.old → All (λ r. r.tok.0 < n) list.new }
-    ensures swaps { (told : Result (Unit {0}) Fault) × (Swaps list.old list.new told × (last.new ≡ done_or told)) }
+    ensures swaps { (came : Result (Unit {0}) Fault) × (Swaps list.old list.new came × (last.new ≡ done_or came)) }
 {
-    let told = list.swap();
-    done(told, last)
+    let came = list.swap();
+    done(came, last)
 }
 
 /// Reads a cell.
@@ -148,15 +143,13 @@ pub(crate) fn read(
     last: &mut Answer,
     trace: &mut Vec<Event>,
 ) -> AnswerKept
-    requires of { bank_of (seat_of hold.old) ≡ id_of bank.now }
-    requires held { holding (seat_of hold.old) ≡ holding_of list.now }
-    requires room { vec_len trace.old + 512 ≤ vec_capacity trace.old }
+    requires { IsReady (id_of bank.now) (seat_of hold.old) list.now trace.old 512 }
     ensures ran { Ran (IsFront list.now) 1 (seat_of hold.old) (seat_of hold.new) trace.old trace.new }
     ensures held { holding (seat_of hold.new) ≡ holding_of list.now }
-    ensures reads { (told : Result ℕ Fault) × (Reads (id_of bank.now) (seat_of hold.old) (seat_of hold.new) list.now tok cell trace.old trace.new told × (last.new ≡ value_or told)) }
+    ensures reads { (came : Result ℕ Fault) × (Reads (id_of bank.now) (seat_of hold.old) (seat_of hold.new) list.now tok cell trace.old trace.new came × (last.new ≡ value_or came)) }
 {
-    let told = hold.read(bank, list, tok, cell, trace);
-    value(told, last)
+    let came = hold.read(bank, list, tok, cell, trace);
+    value(came, last)
 }
 
 /// Stores a value in a cell.
@@ -171,15 +164,13 @@ pub(crate) fn write(
     last: &mut Answer,
     trace: &mut Vec<Event>,
 ) -> AnswerKept
-    requires of { bank_of (seat_of hold.old) ≡ id_of bank.now }
-    requires held { holding (seat_of hold.old) ≡ holding_of list.now }
-    requires room { vec_len trace.old + 512 ≤ vec_capacity trace.old }
+    requires { IsReady (id_of bank.now) (seat_of hold.old) list.now trace.old 512 }
     ensures ran { Ran (IsFront list.now) 1 (seat_of hold.old) (seat_of hold.new) trace.old trace.new }
     ensures held { holding (seat_of hold.new) ≡ holding_of list.now }
-    ensures stores { (told : Result (Unit {0}) Fault) × (Stores (id_of bank.now) (seat_of hold.old) (seat_of hold.new) list.now tok cell value trace.old trace.new told × (last.new ≡ done_or told)) }
+    ensures stores { (came : Result (Unit {0}) Fault) × (Stores (id_of bank.now) (seat_of hold.old) (seat_of hold.new) list.now tok cell value trace.old trace.new came × (last.new ≡ done_or came)) }
 {
-    let told = hold.write(bank, list, tok, cell, value, trace);
-    done(told, last)
+    let came = hold.write(bank, list, tok, cell, value, trace);
+    done(came, last)
 }
 
 /// Adds to the cell of a Tally token.
@@ -193,15 +184,13 @@ pub(crate) fn add(
     last: &mut Answer,
     trace: &mut Vec<Event>,
 ) -> AnswerKept
-    requires of { bank_of (seat_of hold.old) ≡ id_of bank.now }
-    requires held { holding (seat_of hold.old) ≡ holding_of list.now }
-    requires room { vec_len trace.old + 512 ≤ vec_capacity trace.old }
+    requires { IsReady (id_of bank.now) (seat_of hold.old) list.now trace.old 512 }
     ensures ran { Ran (IsFront list.now) 1 (seat_of hold.old) (seat_of hold.new) trace.old trace.new }
     ensures held { holding (seat_of hold.new) ≡ holding_of list.now }
-    ensures adds { (told : Result (Unit {0}) Fault) × (Adds (id_of bank.now) (seat_of hold.old) (seat_of hold.new) list.now tok k trace.old trace.new told × (last.new ≡ done_or told)) }
+    ensures adds { (came : Result (Unit {0}) Fault) × (Adds (id_of bank.now) (seat_of hold.old) (seat_of hold.new) list.now tok k trace.old trace.new came × (last.new ≡ done_or came)) }
 {
-    let told = hold.add(bank, list, tok, k, trace);
-    done(told, last)
+    let came = hold.add(bank, list, tok, k, trace);
+    done(came, last)
 }
 
 /// Reads a record.
@@ -213,15 +202,13 @@ pub(crate) fn read_blob(
     last: &mut Answer,
     trace: &mut Vec<Event>,
 ) -> AnswerKept
-    requires of { bank_of (seat_of hold.old) ≡ id_of bank.now }
-    requires held { holding (seat_of hold.old) ≡ holding_of list.now }
-    requires room { vec_len trace.old + 512 ≤ vec_capacity trace.old }
+    requires { IsReady (id_of bank.now) (seat_of hold.old) list.now trace.old 512 }
     ensures ran { Ran (IsFront list.now) 1 (seat_of hold.old) (seat_of hold.new) trace.old trace.new }
     ensures held { holding (seat_of hold.new) ≡ holding_of list.now }
-    ensures reads { (told : Result (List ℕ) Fault) × (ReadsRecord (id_of bank.now) (seat_of hold.old) (seat_of hold.new) list.now tok trace.old trace.new told × (last.new ≡ bytes_or told)) }
+    ensures reads { (came : Result (List ℕ) Fault) × (ReadsRecord (id_of bank.now) (seat_of hold.old) (seat_of hold.new) list.now tok trace.old trace.new came × (last.new ≡ bytes_or came)) }
 {
-    let told = hold.read_blob(bank, list, tok, trace);
-    bytes(told, last)
+    let came = hold.read_blob(bank, list, tok, trace);
+    bytes(came, last)
 }
 
 /// Stores a record.
@@ -234,13 +221,11 @@ pub(crate) fn write_blob(
     last: &mut Answer,
     trace: &mut Vec<Event>,
 ) -> AnswerKept
-    requires of { bank_of (seat_of hold.old) ≡ id_of bank.now }
-    requires held { holding (seat_of hold.old) ≡ holding_of list.now }
-    requires room { vec_len trace.old + 512 ≤ vec_capacity trace.old }
+    requires { IsReady (id_of bank.now) (seat_of hold.old) list.now trace.old 512 }
     ensures ran { Ran (IsFront list.now) 1 (seat_of hold.old) (seat_of hold.new) trace.old trace.new }
     ensures held { holding (seat_of hold.new) ≡ holding_of list.now }
-    ensures stores { (told : Result (Unit {0}) Fault) × (StoresRecord (id_of bank.now) (seat_of hold.old) (seat_of hold.new) list.now tok blob.now trace.old trace.new told × (last.new ≡ done_or told)) }
+    ensures stores { (came : Result (Unit {0}) Fault) × (StoresRecord (id_of bank.now) (seat_of hold.old) (seat_of hold.new) list.now tok blob.now trace.old trace.new came × (last.new ≡ done_or came)) }
 {
-    let told = hold.write_blob(bank, list, tok, blob, trace);
-    done(told, last)
+    let came = hold.write_blob(bank, list, tok, blob, trace);
+    done(came, last)
 }

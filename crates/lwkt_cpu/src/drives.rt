@@ -1,7 +1,7 @@
 //! Many turns of a processor.
 ghost use Rattle.std.specs.Prelude.{◌≡◌, ◌≢◌, true, false, ◌+◌, ◌<◌, ◌^◌, IfOk, OnErr, Err};
 ghost use Rattle.lwkt_bank.specs.Seats.{id_of, bank_of};
-ghost use Rattle.lwkt_cpu.specs.Telling.{TellsMail};
+ghost use Rattle.lwkt_cpu.specs.Traced.{TracesMail};
 ghost use Rattle.lwkt_cpu.specs.Driving.{with_turn, Drives, DrivesShort};
 
 use crate::Body;
@@ -71,7 +71,7 @@ impl<B: Body> Cpu<B> {
         ensures only { OnErr result (result ≡ Err no_memory) }
         ensures of { bank_of self.new.seat ≡ bank_of self.old.seat }
         ensures table { self.new.post.seat.table ≡ self.old.post.seat.table }
-        ensures told { TellsMail self.old.post.seat self.new.post.seat trace.old.items trace.new.items }
+        ensures traced { TracesMail self.old.post.seat self.new.post.seat trace.old.items trace.new.items }
     {
         let mut drove = Drove {
             ran: 0,

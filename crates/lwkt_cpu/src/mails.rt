@@ -15,7 +15,7 @@ ghost use Rattle.lwkt_port.specs.Posts.{IsSamePost};
 ghost use Rattle.lwkt_port.specs.Works.{Grew};
 ghost use Rattle.lwkt_port.specs.Servings.{PostGets};
 ghost use Rattle.lwkt_cpu.specs.Nexts.{HoldsAfter, next_with, KeepsAnswer, done_or, bit_or};
-ghost use Rattle.lwkt_cpu.specs.Telling.{TellsMail};
+ghost use Rattle.lwkt_cpu.specs.Traced.{TracesMail};
 ghost use Rattle.lwkt_cpu.specs.Mailing.{sending, plain_flags, SendsMail, RepliesMail, AbortsMail, HearsMail, DropsMail, dropped_or, item_or, DoesMessage, WaitsPort};
 
 use crate::calls::done;
@@ -30,10 +30,10 @@ use lwkt_port::Ports;
 
 // Keeps the answer for a look at a port.
 #[inline(always)]
-fn shown(told: Result<Option<Item>, Fault>, last: &mut Answer) -> AnswerKept
-    ensures { last.new ≡ item_or told }
+fn shown(came: Result<Option<Item>, Fault>, last: &mut Answer) -> AnswerKept
+    ensures { last.new ≡ item_or came }
 {
-    match told {
+    match came {
         Ok(Some(item)) => *last = Answer::Got(item),
         Ok(None) => *last = Answer::NoMsg,
         Err(fault) => *last = Answer::Refused(fault),
@@ -43,10 +43,10 @@ fn shown(told: Result<Option<Item>, Fault>, last: &mut Answer) -> AnswerKept
 
 // Keeps the answer to a question: 1 for yes, 0 for no.
 #[inline(always)]
-fn said(told: Result<bool, Fault>, last: &mut Answer) -> AnswerKept
-    ensures { last.new ≡ bit_or told }
+fn said(came: Result<bool, Fault>, last: &mut Answer) -> AnswerKept
+    ensures { last.new ≡ bit_or came }
 {
-    match told {
+    match came {
         Ok(true) => *last = Answer::Value(1),
         Ok(false) => *last = Answer::Value(0),
         Err(fault) => *last = Answer::Refused(fault),
@@ -56,10 +56,10 @@ fn said(told: Result<bool, Fault>, last: &mut Answer) -> AnswerKept
 
 // Keeps the answer for a drop of a message: the message and the record that it was sent with.
 #[inline(always)]
-fn given_back(msg: MsgId, told: Result<Rec, Fault>, last: &mut Answer) -> AnswerKept
-    ensures { last.new ≡ dropped_or msg told }
+fn given_back(msg: MsgId, came: Result<Rec, Fault>, last: &mut Answer) -> AnswerKept
+    ensures { last.new ≡ dropped_or msg came }
 {
-    match told {
+    match came {
         Ok(rec) => *last = Answer::Dropped(msg, rec),
         Err(fault) => *last = Answer::Refused(fault),
     }
@@ -81,13 +81,13 @@ pub(crate) fn send(
 ) -> AnswerKept
     requires table { ports.old.seat.table ≡ book.now.table }
     requires room { vec_len trace.old + 512 ≤ vec_capacity trace.old }
-    ensures sends { (told : Result (Unit {0}) Fault) × (SendsMail (sending thread msg to call flags false) ports.old ports.new trace.old trace.new told × (last.new ≡ done_or told)) }
+    ensures sends { (came : Result (Unit {0}) Fault) × (SendsMail (sending thread msg to call flags false) ports.old ports.new trace.old trace.new came × (last.new ≡ done_or came)) }
     ensures same { IsSamePost ports.old ports.new }
     ensures grew { Grew (desk_cpu ports.old.seat) 1 trace.old trace.new }
-    ensures told { TellsMail ports.old.seat ports.new.seat trace.old.items trace.new.items }
+    ensures traced { TracesMail ports.old.seat ports.new.seat trace.old.items trace.new.items }
 {
-    let told = ports.send(book, thread, msg, to, call, flags, trace);
-    done(told, last)
+    let came = ports.send(book, thread, msg, to, call, flags, trace);
+    done(came, last)
 }
 
 /// Sends a message of the thread, which then gives up everything and waits for the reply.
@@ -116,7 +116,7 @@ pub(crate) fn send_and_wait(
     ensures held { HoldsAfter (next_with result last.new) (holding (seat_of hold.new)) list.now }
     ensures same { IsSamePost ports.old ports.new }
     ensures named { (m : MsgId) → next_with result last.new ≡ Next.AwaitsReply m → m.0 < messages_of ports.new.seat }
-    ensures told { TellsMail ports.old.seat ports.new.seat trace.old.items trace.new.items }
+    ensures traced { TracesMail ports.old.seat ports.new.seat trace.old.items trace.new.items }
 {
     let _ = ports.threads();
     match ports.send_sync(book, thread, msg, to, call, trace) {
@@ -139,13 +139,13 @@ pub(crate) fn reply(
 ) -> AnswerKept
     requires table { ports.old.seat.table ≡ book.now.table }
     requires room { vec_len trace.old + 512 ≤ vec_capacity trace.old }
-    ensures replies { (told : Result (Unit {0}) Fault) × (RepliesMail thread msg error outcome ports.old ports.new trace.old trace.new told × (last.new ≡ done_or told)) }
+    ensures replies { (came : Result (Unit {0}) Fault) × (RepliesMail thread msg error outcome ports.old ports.new trace.old trace.new came × (last.new ≡ done_or came)) }
     ensures same { IsSamePost ports.old ports.new }
     ensures grew { Grew (desk_cpu ports.old.seat) 1 trace.old trace.new }
-    ensures told { TellsMail ports.old.seat ports.new.seat trace.old.items trace.new.items }
+    ensures traced { TracesMail ports.old.seat ports.new.seat trace.old.items trace.new.items }
 {
-    let told = ports.reply(book, thread, msg, error, outcome, trace);
-    done(told, last)
+    let came = ports.reply(book, thread, msg, error, outcome, trace);
+    done(came, last)
 }
 
 /// Asks for a message of the thread to be aborted.
@@ -160,13 +160,13 @@ pub(crate) fn abort(
 ) -> AnswerKept
     requires table { ports.old.seat.table ≡ book.now.table }
     requires room { vec_len trace.old + 512 ≤ vec_capacity trace.old }
-    ensures aborts { (told : Result (Unit {0}) Fault) × (AbortsMail thread msg ports.old ports.new trace.old trace.new told × (last.new ≡ done_or told)) }
+    ensures aborts { (came : Result (Unit {0}) Fault) × (AbortsMail thread msg ports.old ports.new trace.old trace.new came × (last.new ≡ done_or came)) }
     ensures same { IsSamePost ports.old ports.new }
     ensures grew { Grew (desk_cpu ports.old.seat) 1 trace.old trace.new }
-    ensures told { TellsMail ports.old.seat ports.new.seat trace.old.items trace.new.items }
+    ensures traced { TracesMail ports.old.seat ports.new.seat trace.old.items trace.new.items }
 {
-    let told = ports.abort(book, thread, msg, trace);
-    done(told, last)
+    let came = ports.abort(book, thread, msg, trace);
+    done(came, last)
 }
 
 /// Says whether a message that the thread was shown is to be aborted.
@@ -179,12 +179,12 @@ pub(crate) fn is_aborted(
     last: &mut Answer,
 ) -> AnswerKept
     requires table { ports.old.seat.table ≡ book.now.table }
-    ensures hears { (told : Result Bool Fault) × (HearsMail thread msg ports.old ports.new told × (last.new ≡ bit_or told)) }
+    ensures hears { (came : Result Bool Fault) × (HearsMail thread msg ports.old ports.new came × (last.new ≡ bit_or came)) }
     ensures same { IsSamePost ports.old ports.new }
-    ensures told { (events : List Event) → TellsMail ports.old.seat ports.new.seat events events }
+    ensures traced { (events : List Event) → TracesMail ports.old.seat ports.new.seat events events }
 {
-    let told = ports.is_aborted(book, thread, msg);
-    said(told, last)
+    let came = ports.is_aborted(book, thread, msg);
+    said(came, last)
 }
 
 /// Drops a message of the thread that nobody has taken yet.
@@ -199,13 +199,13 @@ pub(crate) fn drop_msg(
 ) -> AnswerKept
     requires table { ports.old.seat.table ≡ book.now.table }
     requires room { vec_len trace.old + 512 ≤ vec_capacity trace.old }
-    ensures drops { (told : Result Rec Fault) × (DropsMail thread msg ports.old ports.new trace.old trace.new told × (last.new ≡ dropped_or msg told)) }
+    ensures drops { (came : Result Rec Fault) × (DropsMail thread msg ports.old ports.new trace.old trace.new came × (last.new ≡ dropped_or msg came)) }
     ensures same { IsSamePost ports.old ports.new }
     ensures grew { Grew (desk_cpu ports.old.seat) 1 trace.old trace.new }
-    ensures told { TellsMail ports.old.seat ports.new.seat trace.old.items trace.new.items }
+    ensures traced { TracesMail ports.old.seat ports.new.seat trace.old.items trace.new.items }
 {
-    let told = ports.drop_msg(book, thread, msg, trace);
-    given_back(msg, told, last)
+    let came = ports.drop_msg(book, thread, msg, trace);
+    given_back(msg, came, last)
 }
 
 /// Gives the next item of the thread's port.
@@ -220,13 +220,13 @@ pub(crate) fn get_port(
     requires table { ports.old.seat.table ≡ book.now.table }
     requires exists { thread < ports.old.threads }
     requires room { vec_len trace.old + 512 ≤ vec_capacity trace.old }
-    ensures gets { (told : Result (Option Item) Fault) × (PostGets thread ports.old ports.new trace.old trace.new told × (last.new ≡ item_or told)) }
+    ensures gets { (came : Result (Option Item) Fault) × (PostGets thread ports.old ports.new trace.old trace.new came × (last.new ≡ item_or came)) }
     ensures same { IsSamePost ports.old ports.new }
     ensures grew { Grew (desk_cpu ports.old.seat) 128 trace.old trace.new }
-    ensures told { TellsMail ports.old.seat ports.new.seat trace.old.items trace.new.items }
+    ensures traced { TracesMail ports.old.seat ports.new.seat trace.old.items trace.new.items }
 {
-    let told = ports.get(book, thread, trace);
-    shown(told, last)
+    let came = ports.get(book, thread, trace);
+    shown(came, last)
 }
 
 /// Gives the next item of the thread's port at once; without one the thread gives up everything and waits.
@@ -253,7 +253,7 @@ pub(crate) fn wait_port(
     ensures held { HoldsAfter (next_with result last.new) (holding (seat_of hold.new)) list.now }
     ensures same { IsSamePost ports.old ports.new }
     ensures named { (m : MsgId) → next_with result last.new ≡ Next.AwaitsReply m → m.0 < messages_of ports.new.seat }
-    ensures told { TellsMail ports.old.seat ports.new.seat trace.old.items trace.new.items }
+    ensures traced { TracesMail ports.old.seat ports.new.seat trace.old.items trace.new.items }
 {
     match ports.get(book, thread, trace) {
         Ok(Some(item)) => Next::Runs(shown(Ok(Some(item)), last)),

@@ -1,16 +1,12 @@
 //! A body's ask, performed: one call for each.
-ghost use Rattle.std.specs.Prelude.{◌≡◌, ◌+◌, ◌<◌, ◌≤◌, All, vec_len, vec_capacity};
-ghost use Rattle.lwkt_base.specs.Holding.{holding_of};
-ghost use Rattle.lwkt_bank.specs.Seats.{id_of, bank_of, tokens_of, holding};
+ghost use Rattle.std.specs.Prelude.{◌≡◌};
+ghost use Rattle.lwkt_bank.specs.Seats.{id_of, bank_of, tokens_of};
 ghost use Rattle.lwkt_hold.specs.Holds.{seat_of};
 ghost use Rattle.lwkt_hold.specs.Fronts.{IsBetween};
 ghost use Rattle.lwkt_hold.specs.Runs.{Ran};
-ghost use Rattle.lwkt_base.specs.declared.names.MsgId.{MsgId};
-ghost use Rattle.lwkt_msg.specs.Desks.{desk_cpu, messages_of};
-ghost use Rattle.lwkt_port.specs.Posts.{IsSamePost};
-ghost use Rattle.lwkt_cpu.specs.Nexts.{kept_list, HoldsAfter, next_with, KeepsAnswer};
-ghost use Rattle.lwkt_cpu.specs.Table.{Performs};
-ghost use Rattle.lwkt_cpu.specs.Telling.{TellsMail};
+ghost use Rattle.lwkt_cpu.specs.Nexts.{kept_list, next_with};
+ghost use Rattle.lwkt_cpu.specs.Table.{Performs, MayPerform, EndsInOrder};
+ghost use Rattle.lwkt_cpu.specs.Traced.{TracesMail};
 
 use crate::calls::{add, get, read, read_blob, rel, swap, try_get, write, write_blob};
 use crate::leaves::{leave, leave_ready};
@@ -61,20 +57,11 @@ pub fn perform(
     last: &mut Answer,
     trace: &mut Vec<Event>,
 ) -> Next<AnswerKept>
-    requires of { bank_of (seat_of hold.old) ≡ id_of bank.now }
-    requires table { ports.old.seat.table ≡ book.now.table }
-    requires exists { thread < ports.old.threads }
-    requires mine { desk_cpu ports.old.seat ≡ (seat_of hold.old).cpu }
-    requires held { holding (seat_of hold.old) ≡ holding_of list.old }
-    requires room { vec_len trace.old + 512 ≤ vec_capacity trace.old }
-    ensures ran { Ran (IsBetween list.old (kept_list (next_with result last.new) list.new)) 320 (seat_of hold.old) (seat_of hold.new) trace.old trace.new }
-    ensures kept { KeepsAnswer result last.old last.new }
-    ensures held { HoldsAfter (next_with result last.new) (holding (seat_of hold.new)) list.new }
-    ensures there { All (λ r. r.tok.0 < tokens_of (bank_of (seat_of hold.old))) list.old → All (λ r. r.tok.0 < tokens_of (bank_of (seat_of hold.old))) list.new }
+    requires { MayPerform (id_of bank.now) book.now.table thread (seat_of hold.old) ports.old list.old trace.old 512 }
     ensures performs { Performs (id_of bank.now) thread (seat_of hold.old) (seat_of hold.new) ports.old ports.new list.old list.new trace.old trace.new ask.now (next_with result last.new) }
-    ensures same { IsSamePost ports.old ports.new }
-    ensures named { (m : MsgId) → next_with result last.new ≡ Next.AwaitsReply m → m.0 < messages_of ports.new.seat }
-    ensures told { TellsMail ports.old.seat ports.new.seat trace.old.items trace.new.items }
+    ensures ran { Ran (IsBetween list.old (kept_list (next_with result last.new) list.new)) 320 (seat_of hold.old) (seat_of hold.new) trace.old trace.new }
+    ensures traced { TracesMail ports.old.seat ports.new.seat trace.old.items trace.new.items }
+    ensures order { EndsInOrder (seat_of hold.new) (tokens_of (bank_of (seat_of hold.old))) list.old list.new ports.old ports.new last.old last.new result }
 {
     match *ask {
         Ask::Get(tok) => get(hold, bank, list, exclusive(tok), last, trace),

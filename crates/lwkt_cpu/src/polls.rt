@@ -10,7 +10,7 @@ ghost use Rattle.lwkt_cpu.specs.Processors.{IsSettled, Awaits, is_over};
 ghost use Rattle.lwkt_cpu.specs.Ending.{ClosesIf};
 ghost use Rattle.lwkt_msg.specs.Desks.{desk_cpu, messages_of};
 ghost use Rattle.lwkt_port.specs.Posts.{IsSamePost};
-ghost use Rattle.lwkt_cpu.specs.Telling.{TellsMail};
+ghost use Rattle.lwkt_cpu.specs.Traced.{TracesMail};
 ghost use Rattle.lwkt_cpu.specs.Polling.{Polls};
 
 use crate::ends::{close_if, go_on};
@@ -85,7 +85,7 @@ pub(crate) fn poll_one<B: Body>(
     ensures settled { IsSettled (seat_of hold.new) thread.new }
     ensures awaits { Awaits (messages_of ports.new.seat) thread.new }
     ensures same { IsSamePost ports.old ports.new }
-    ensures told { TellsMail ports.old.seat ports.new.seat trace.old.items trace.new.items }
+    ensures traced { TracesMail ports.old.seat ports.new.seat trace.old.items trace.new.items }
 {
     forget_refusal(thread);
     let ask = body.poll(thread.last);

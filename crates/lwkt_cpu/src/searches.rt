@@ -10,7 +10,7 @@ ghost use Rattle.lwkt_hold.specs.declared.answers.Missed.{Missed};
 ghost use Rattle.lwkt_hold.specs.Stays.{RunsUnseen};
 ghost use Rattle.lwkt_cpu.specs.Searches.{missed_by, IsPassedOver, MayBeTried, TriesToHold, TriesList, Skips, point, IsIn, SkipsTo, FindsIn, FindsThread, IsOfOne};
 ghost use Rattle.lwkt_cpu.specs.Processors.{KeepsBusyWord, AreThere, AllKeepBusyWords};
-ghost use Rattle.lwkt_cpu.specs.Telling.{TellsTokensOnly};
+ghost use Rattle.lwkt_cpu.specs.Traced.{TracesTokensOnly};
 
 use crate::ends::end;
 use crate::phases::Phase;
@@ -55,7 +55,7 @@ fn try_list(hold: &mut Hold, bank: &Bank, thread: &mut Thread, trace: &mut Vec<E
     requires empty { holding (seat_of hold.old) ≡ holds_nothing }
     requires room { vec_len trace.old + 64 ≤ vec_capacity trace.old }
     ensures ran { Ran (IsFront thread.old.list) 64 (seat_of hold.old) (seat_of hold.new) trace.old trace.new }
-    ensures quiet { TellsTokensOnly trace.old.items trace.new.items }
+    ensures quiet { TracesTokensOnly trace.old.items trace.new.items }
     ensures yes { result ≡ true → (thread.new ≡ thread.old) × TriesToHold (seat_of hold.old) (seat_of hold.new) trace.old trace.new thread.old.list Resumed.All }
     ensures no { result ≡ false → (place : ℕ) × ((why : Missed) × (TriesToHold (seat_of hold.old) (seat_of hold.new) trace.old trace.new thread.old.list (Resumed.Passed place why) × (thread.new ≡ missed_by place why thread.old))) }
 {
@@ -81,7 +81,7 @@ pub(crate) fn try_one(
     requires busy { KeepsBusyWord thread.old }
     requires room { vec_len trace.old + 64 ≤ vec_capacity trace.old }
     ensures ran { Ran (IsFront thread.old.list) 64 (seat_of hold.old) (seat_of hold.new) trace.old trace.new }
-    ensures quiet { TellsTokensOnly trace.old.items trace.new.items }
+    ensures quiet { TracesTokensOnly trace.old.items trace.new.items }
     ensures yes { result ≡ true → (thread.new ≡ thread.old) × (thread.old.phase ≡ Phase.Live) × TriesList (seat_of hold.old) (seat_of hold.new) trace.old trace.new thread.old Resumed.All }
     ensures no { result ≡ false → (holding (seat_of hold.new) ≡ holds_nothing) × Skips (seat_of hold.old) (seat_of hold.new) trace.old trace.new thread.old thread.new }
 {
@@ -111,7 +111,7 @@ pub(crate) fn scan(
     requires empty { holding (seat_of hold.old) ≡ holds_nothing }
     requires room { vec_len trace.old + 64 * (to - from) ≤ vec_capacity trace.old }
     ensures ran { Ran (IsOfOne threads.old) (64 * (to - from)) (seat_of hold.old) (seat_of hold.new) trace.old trace.new }
-    ensures quiet { TellsTokensOnly trace.old.items trace.new.items }
+    ensures quiet { TracesTokensOnly trace.old.items trace.new.items }
     ensures some { (place : ℕ) → result ≡ Some place → IsIn from to place × FindsIn from place (point (seat_of hold.old) threads.old trace.old) (point (seat_of hold.new) threads.new trace.new) }
     ensures none { result ≡ None → (holding (seat_of hold.new) ≡ holds_nothing) × SkipsTo from to (point (seat_of hold.old) threads.old trace.old) (point (seat_of hold.new) threads.new trace.new) }
 {
@@ -139,7 +139,7 @@ pub(crate) fn find(
     requires empty { holding (seat_of hold.old) ≡ holds_nothing }
     requires room { vec_len trace.old + 1024 ≤ vec_capacity trace.old }
     ensures ran { Ran (IsOfOne threads.old) 1024 (seat_of hold.old) (seat_of hold.new) trace.old trace.new }
-    ensures quiet { TellsTokensOnly trace.old.items trace.new.items }
+    ensures quiet { TracesTokensOnly trace.old.items trace.new.items }
     ensures finds { FindsThread cursor (point (seat_of hold.old) threads.old trace.old) (point (seat_of hold.new) threads.new trace.new) result }
 {
     let count = threads.len();

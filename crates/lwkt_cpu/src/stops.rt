@@ -10,9 +10,9 @@ ghost use Rattle.lwkt_cpu.specs.Turning.{IsMailed, HasSameEvents};
 ghost use Rattle.lwkt_msg.specs.Desks.{desk_cpu};
 ghost use Rattle.lwkt_port.specs.Closings.{PostPays};
 ghost use Rattle.lwkt_port.specs.Posts.{IsSamePost};
-ghost use Rattle.lwkt_port.specs.Tellings.{TellsDeeds};
+ghost use Rattle.lwkt_port.specs.Traced.{TracesDeeds};
 ghost use Rattle.lwkt_port.specs.Works.{Grew};
-ghost use Rattle.lwkt_cpu.specs.Telling.{TellsMail, TellsTokensOnly};
+ghost use Rattle.lwkt_cpu.specs.Traced.{TracesMail, TracesTokensOnly};
 ghost use Rattle.lwkt_cpu.specs.Ending.{ClosesPorts, has_not_ended};
 ghost use Rattle.lwkt_cpu.specs.Stopping.{stopped, AreThreadsStopped, Halts, HaltsRunning, Stops};
 
@@ -59,7 +59,7 @@ impl<B> Cpu<B> {
         requires room { vec_len trace.old + 512 ≤ vec_capacity trace.old }
         ensures halts { Halts self.old self.new trace.old trace.new place }
         ensures ran { Ran (IsOfOne self.old.threads) 194 self.old.seat self.new.seat trace.old trace.new }
-        ensures quiet { TellsTokensOnly trace.old.items trace.new.items }
+        ensures quiet { TracesTokensOnly trace.old.items trace.new.items }
         ensures same { IsSamePost self.old.post self.new.post }
     {
         let thread = &mut self.threads[place];
@@ -75,7 +75,7 @@ impl<B> Cpu<B> {
         requires room { vec_len trace.old + 512 ≤ vec_capacity trace.old }
         ensures halts { HaltsRunning self.old self.new trace.old trace.new self.old.running }
         ensures ran { Ran (IsOfOne self.old.threads) 194 self.old.seat self.new.seat trace.old trace.new }
-        ensures quiet { TellsTokensOnly trace.old.items trace.new.items }
+        ensures quiet { TracesTokensOnly trace.old.items trace.new.items }
         ensures none { self.new.running ≡ None }
         ensures bodies { self.new.bodies ≡ self.old.bodies }
         ensures post { self.new.post.seat ≡ self.old.post.seat }
@@ -115,7 +115,7 @@ impl<B> Cpu<B> {
         ensures running { self.new.running ≡ self.old.running }
         ensures grew { Grew (desk_cpu self.old.post.seat) 64 trace.old trace.new }
         ensures mine { desk_cpu self.old.post.seat ≡ self.old.seat.cpu }
-        ensures told { TellsDeeds self.old.post.seat self.new.post.seat trace.old.items trace.new.items }
+        ensures traced { TracesDeeds self.old.post.seat self.new.post.seat trace.old.items trace.new.items }
         ensures same { IsSamePost self.old.post self.new.post }
     {
         self.ports.send_owed(book, trace);
@@ -134,7 +134,7 @@ impl<B> Cpu<B> {
         ensures err { OnErr result ((self.new ≡ self.old) × HasSameEvents trace.old trace.new) }
         ensures only { OnErr result (result ≡ Err no_memory) }
         ensures ran { Ran (IsMailed self.old.threads) 258 self.old.seat self.new.seat trace.old trace.new }
-        ensures told { TellsMail self.old.post.seat self.new.post.seat trace.old.items trace.new.items }
+        ensures traced { TracesMail self.old.post.seat self.new.post.seat trace.old.items trace.new.items }
         ensures same { IsSamePost self.old.post self.new.post }
     {
         reserve(trace, TURN_EVENTS)?;
@@ -149,7 +149,7 @@ impl<B> Cpu<B> {
         requires room { vec_len trace.old + 512 ≤ vec_capacity trace.old }
         ensures stops { Stops self.old self.new trace.old trace.new }
         ensures ran { Ran (IsMailed self.old.threads) 258 self.old.seat self.new.seat trace.old trace.new }
-        ensures told { TellsMail self.old.post.seat self.new.post.seat trace.old.items trace.new.items }
+        ensures traced { TracesMail self.old.post.seat self.new.post.seat trace.old.items trace.new.items }
         ensures same { IsSamePost self.old.post self.new.post }
     {
         self.halt_running(bank, trace);

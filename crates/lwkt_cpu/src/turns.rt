@@ -5,9 +5,9 @@ ghost use Rattle.lwkt_hold.specs.Runs.{Ran};
 ghost use Rattle.lwkt_port.specs.Posts.{IsSamePost};
 ghost use Rattle.lwkt_cpu.specs.Processors.{AllOver, IsAtRest};
 ghost use Rattle.lwkt_cpu.specs.Searches.{IsOfOne};
-ghost use Rattle.lwkt_cpu.specs.Turning.{cursor_after, Chooses, RunsOne, IsMailed, IsOfThread, HasSameEvents, LacksRoom, MakesTurn};
+ghost use Rattle.lwkt_cpu.specs.Turning.{cursor_after, Chooses, RunsOne, IsMailed, IsOfThread, HasSameEvents, LacksRoom, MakesTurn, IsSeatedAt};
 ghost use Rattle.lwkt_cpu.specs.Waking.{TakesMail, AreWoken};
-ghost use Rattle.lwkt_cpu.specs.Telling.{TellsMail, TellsTokensOnly};
+ghost use Rattle.lwkt_cpu.specs.Traced.{TracesMail, TracesTokensOnly};
 
 use crate::Body;
 use crate::answers::Turned;
@@ -56,7 +56,7 @@ impl<B> Cpu<B> {
         requires room { vec_len trace.old + 2304 ≤ vec_capacity trace.old }
         ensures mail { TakesMail self.old self.new trace.old trace.new }
         ensures ran { Ran (IsMailed self.old.threads) 2304 self.old.seat self.new.seat trace.old trace.new }
-        ensures told { TellsMail self.old.post.seat self.new.post.seat trace.old.items trace.new.items }
+        ensures traced { TracesMail self.old.post.seat self.new.post.seat trace.old.items trace.new.items }
         ensures woken { AreWoken self.old.threads self.new.threads }
         ensures table { self.new.post.seat.table ≡ self.old.post.seat.table }
         ensures same { IsSamePost self.old.post self.new.post }
@@ -75,7 +75,7 @@ impl<B> Cpu<B> {
         ensures runs { self.new.running ≡ result }
         ensures mail { self.new.post.seat ≡ self.old.post.seat }
         ensures ran { Ran (IsOfOne self.old.threads) 1024 self.old.seat self.new.seat trace.old trace.new }
-        ensures quiet { TellsTokensOnly trace.old.items trace.new.items }
+        ensures quiet { TracesTokensOnly trace.old.items trace.new.items }
         ensures same { IsSamePost self.old.post self.new.post }
     {
         match self.running {
@@ -103,7 +103,7 @@ impl<B: Body> Cpu<B> {
         requires room { vec_len trace.old + 512 ≤ vec_capacity trace.old }
         ensures runs_one { RunsOne B.polled (id_of bank.now) self.old self.new trace.old trace.new place }
         ensures ran { Ran (IsOfThread self.old.threads self.new.threads) 320 self.old.seat self.new.seat trace.old trace.new }
-        ensures told { TellsMail self.old.post.seat self.new.post.seat trace.old.items trace.new.items }
+        ensures traced { TracesMail self.old.post.seat self.new.post.seat trace.old.items trace.new.items }
         ensures table { self.new.post.seat.table ≡ self.old.post.seat.table }
         ensures same { IsSamePost self.old.post self.new.post }
         ensures rest { IsAtRest self.new }
@@ -137,16 +137,11 @@ impl<B: Body> Cpu<B> {
         book: &MsgBook,
         trace: &mut Vec<Event>,
     ) -> Result<Turned, Fault>
-        requires of { bank_of self.old.seat ≡ id_of bank.now }
-        requires table { self.old.post.seat.table ≡ book.now.table }
+        requires { IsSeatedAt (id_of bank.now) book.now.table self.old }
         ensures ok { IfOk result (λ turned. MakesTurn B.polled (id_of bank.now) self.old self.new trace.old trace.new turned) }
+        ensures refused { OnErr result ((result ≡ Err no_memory) × LacksRoom trace.new) }
         ensures err { OnErr result ((self.new ≡ self.old) × HasSameEvents trace.old trace.new) }
-        ensures full { OnErr result (LacksRoom trace.new) }
-        ensures only { OnErr result (result ≡ Err no_memory) }
-        ensures of { bank_of self.new.seat ≡ bank_of self.old.seat }
-        ensures table { self.new.post.seat.table ≡ self.old.post.seat.table }
-        ensures same { IsSamePost self.old.post self.new.post }
-        ensures told { TellsMail self.old.post.seat self.new.post.seat trace.old.items trace.new.items }
+        ensures seated { IsSeatedAt (id_of bank.now) book.now.table self.new }
     {
         reserve(trace, TURN_EVENTS)?;
         Ok(self.turn_in_room(bank, book, trace))

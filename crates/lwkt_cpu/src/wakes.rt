@@ -2,7 +2,7 @@
 ghost use Rattle.std.specs.Prelude.{◌≡◌, ◌⊎◌, ℕ, ◌+◌, ◌*◌, ◌<◌, ◌≤◌, length, Some, vec_len, vec_capacity};
 ghost use Rattle.lwkt_msg.specs.Desks.{desk_cpu, messages_of};
 ghost use Rattle.lwkt_port.specs.Posts.{IsSamePost};
-ghost use Rattle.lwkt_port.specs.Tellings.{TellsDeeds};
+ghost use Rattle.lwkt_port.specs.Traced.{TracesDeeds};
 ghost use Rattle.lwkt_port.specs.Works.{Grew};
 ghost use Rattle.lwkt_cpu.specs.Processors.{Awaits, AllAwait};
 ghost use Rattle.lwkt_cpu.specs.Waking.{woken_by, replied_by, LooksAfter, WakesAll, ward, AreWoken};
@@ -15,20 +15,20 @@ use lwkt_msg::MsgBook;
 use lwkt_port::Ports;
 
 // A look at a thread's port makes it ready, if there was an item.
-fn wake_by_item(thread: &mut Thread, told: Result<Option<Item>, Fault>)
-    ensures { thread.new ≡ woken_by told thread.old }
+fn wake_by_item(thread: &mut Thread, came: Result<Option<Item>, Fault>)
+    ensures { thread.new ≡ woken_by came thread.old }
 {
-    if let Ok(Some(item)) = told {
+    if let Ok(Some(item)) = came {
         thread.last = Answer::Got(item);
         thread.phase = Phase::Live;
     }
 }
 
 // The reply that a thread waits for makes it ready.
-fn wake_by_reply(thread: &mut Thread, msg: MsgId, told: Option<Rec>)
-    ensures { thread.new ≡ replied_by msg told thread.old }
+fn wake_by_reply(thread: &mut Thread, msg: MsgId, came: Option<Rec>)
+    ensures { thread.new ≡ replied_by msg came thread.old }
 {
-    if let Some(rec) = told {
+    if let Some(rec) = came {
         thread.last = Answer::Got(Item::Answered(msg, rec.error, rec.result));
         thread.phase = Phase::Live;
     }
@@ -51,12 +51,12 @@ fn wake_waiting(
 {
     match thread.phase {
         Phase::AwaitsItem => {
-            let told = ports.get(book, number, trace);
-            wake_by_item(thread, told);
+            let came = ports.get(book, number, trace);
+            wake_by_item(thread, came);
         }
         Phase::AwaitsReply(msg) => {
-            let told = ports.done(msg);
-            wake_by_reply(thread, msg, told);
+            let came = ports.done(msg);
+            wake_by_reply(thread, msg, came);
         }
         Phase::Live | Phase::Exited | Phase::Faulted(_) => {}
     }
@@ -100,7 +100,7 @@ pub(crate) fn wake_all(
     ensures woken { AreWoken threads.old threads.new }
     ensures same { IsSamePost ports.old ports.new }
     ensures grew { Grew (desk_cpu ports.old.seat) (128 * length threads.old) trace.old trace.new }
-    ensures told { TellsDeeds ports.old.seat ports.new.seat trace.old.items trace.new.items }
+    ensures traced { TracesDeeds ports.old.seat ports.new.seat trace.old.items trace.new.items }
 {
     for at in 0..threads.len() {
         wake_one(ports, book, at as u8, &mut threads[at], trace);

@@ -6,7 +6,7 @@ use Rattle.std.proofs.lemmas.Grind.{flat_map-append}
 use Rattle.std.proofs.Math.Seq.{drop-append-add, take-append-add}
 use Rattle.lwkt_base.specs.declared.sections.Section.{Section}
 use Rattle.lwkt_core.specs.declared.events.Event.{Event}
-use Rattle.lwkt_core.specs.RunSections.{section_in, sections_told}
+use Rattle.lwkt_core.specs.RunSections.{section_in, sections_named}
 use Rattle.lwkt_drive.specs.declared.stretches.Stretch.{Stretch}
 use Rattle.lwkt_drive.specs.Stretches.{StandFor}
 
@@ -56,9 +56,9 @@ copied_across p w first count start here start_is here_is =
     ∙ ap (λ n. take count (drop n p ++ drop (first - n) w)) start_is
     ∙ ap (take count) (drop_across p w first)
 
--- stretches to which the sections were added that these events tell, and those that others tell
-pub told_behind : (old mid new : List Stretch) (packed whole : List Event) → ((sections : List Section) → StandFor old sections → StandFor mid (sections ++ sections_told packed)) → ((sections : List Section) → StandFor mid sections → StandFor new (sections ++ sections_told whole)) → (sections : List Section) → StandFor old sections → StandFor new (sections ++ sections_told (packed ++ whole))
-told_behind old mid new packed whole one two sections stand =
-    let both : (sections ++ sections_told packed) ++ sections_told whole ≡ sections ++ sections_told (packed ++ whole) =
-    append_assoc sections (sections_told packed) (sections_told whole) ∙ ap (λ (l : List Section). sections ++ l) (sym (flat_map-append section_in packed whole)) in
-    subst (StandFor new) both (two (sections ++ sections_told packed) (one sections stand))
+-- stretches to which the sections were added that these events name, and those that others name
+pub named_behind : (old mid new : List Stretch) (packed whole : List Event) → ((sections : List Section) → StandFor old sections → StandFor mid (sections ++ sections_named packed)) → ((sections : List Section) → StandFor mid sections → StandFor new (sections ++ sections_named whole)) → (sections : List Section) → StandFor old sections → StandFor new (sections ++ sections_named (packed ++ whole))
+named_behind old mid new packed whole one two sections stand =
+    let both : (sections ++ sections_named packed) ++ sections_named whole ≡ sections ++ sections_named (packed ++ whole) =
+    append_assoc sections (sections_named packed) (sections_named whole) ∙ ap (λ (l : List Section). sections ++ l) (sym (flat_map-append section_in packed whole)) in
+    subst (StandFor new) both (two (sections ++ sections_named packed) (one sections stand))

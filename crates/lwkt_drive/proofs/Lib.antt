@@ -3,4 +3,4 @@ pub mod CourseMoves
 pub mod EventMoves
 pub mod StretchChains
 pub mod StretchMoves
-pub mod TellingMoves
+pub mod TracedMoves

@@ -6,7 +6,7 @@ use Rattle.std.proofs.lemmas.List.Elements.{All-append, All-nil, All-set}
 use Rattle.std.proofs.lemmas.List.Sorted.{IsPermutation-refl, IsPermutation-trans, IsPermutation-append_left, IsPermutation-append_right, IsPermutation-append_comm}
 use Rattle.lwkt_base.specs.declared.sections.Section.{Section}
 use Rattle.lwkt_core.specs.declared.events.Event.{Event}
-use Rattle.lwkt_core.specs.RunSections.{section_in, sections_told}
+use Rattle.lwkt_core.specs.RunSections.{section_in, sections_named}
 use Rattle.lwkt_drive.specs.declared.short_events.CellSection.{CellSection}
 use Rattle.lwkt_drive.specs.declared.short_events.ShortEvent.{ShortEvent}
 use Rattle.lwkt_drive.specs.declared.stretches.Stretch.{Stretch}
@@ -90,25 +90,25 @@ made_longer stretches sections i d s low goes stand =
 pub no_more : (stretches : List Stretch) (sections : List Section) → StandFor stretches sections → StandFor stretches (sections ++ [])
 no_more stretches sections stand = subst (StandFor stretches) (sym (append-nil sections)) stand
 
--- what one event more tells
-pub told_next : (events : List Event) (i : ℕ) (e : Event) (done : List Section) → i < length events → get_or events i e ≡ e → (done ++ sections_told (take i events)) ++ section_in e ≡ done ++ sections_told (take (i + 1) events)
-told_next events i e done low is =
-    let one : sections_told (take (i + 1) events) ≡ sections_told (take i events) ++ section_in e =
-    ap (λ (l : List Event). sections_told l) (take_more events i e low)
+-- what one event more names
+pub named_next : (events : List Event) (i : ℕ) (e : Event) (done : List Section) → i < length events → get_or events i e ≡ e → (done ++ sections_named (take i events)) ++ section_in e ≡ done ++ sections_named (take (i + 1) events)
+named_next events i e done low is =
+    let one : sections_named (take (i + 1) events) ≡ sections_named (take i events) ++ section_in e =
+    ap (λ (l : List Event). sections_named l) (take_more events i e low)
     ∙ flat_map-append section_in (take i events) (get_or events i e ∷ [])
-    ∙ ap (λ (x : Event). sections_told (take i events) ++ (section_in x ++ [])) is
-    ∙ ap (λ (l : List Section). sections_told (take i events) ++ l) (append-nil (section_in e)) in
-    append_assoc done (sections_told (take i events)) (section_in e) ∙ ap (λ (l : List Section). done ++ l) (sym one)
+    ∙ ap (λ (x : Event). sections_named (take i events) ++ (section_in x ++ [])) is
+    ∙ ap (λ (l : List Section). sections_named (take i events) ++ l) (append-nil (section_in e)) in
+    append_assoc done (sections_named (take i events)) (section_in e) ∙ ap (λ (l : List Section). done ++ l) (sym one)
 
--- what one event more tells, of events that are kept short
-pub told_row : (cells : List CellSection) (wides : List WideEvent) (longs : List Event) (rows : List ShortEvent) (i : ℕ) (d : ShortEvent) (done : List Section) → i < length rows → (done ++ sections_told (events_in cells wides longs (take i rows))) ++ section_in (long_event cells wides longs (get_or rows i d)) ≡ done ++ sections_told (events_in cells wides longs (take (i + 1) rows))
-told_row cells wides longs rows i d done low =
+-- what one event more names, of events that are kept short
+pub named_row : (cells : List CellSection) (wides : List WideEvent) (longs : List Event) (rows : List ShortEvent) (i : ℕ) (d : ShortEvent) (done : List Section) → i < length rows → (done ++ sections_named (events_in cells wides longs (take i rows))) ++ section_in (long_event cells wides longs (get_or rows i d)) ≡ done ++ sections_named (events_in cells wides longs (take (i + 1) rows))
+named_row cells wides longs rows i d done low =
     let f : ShortEvent → Event = long_event cells wides longs in
-    let before : List Section = sections_told (map f (take i rows)) in
+    let before : List Section = sections_named (map f (take i rows)) in
     let e : Event = f (get_or rows i d) in
-    let one : sections_told (map f (take (i + 1) rows)) ≡ before ++ section_in e =
-    ap (λ (l : List ShortEvent). sections_told (map f l)) (take_more rows i d low)
-    ∙ ap (λ (l : List Event). sections_told l) (map-append f (take i rows) (get_or rows i d ∷ []))
+    let one : sections_named (map f (take (i + 1) rows)) ≡ before ++ section_in e =
+    ap (λ (l : List ShortEvent). sections_named (map f l)) (take_more rows i d low)
+    ∙ ap (λ (l : List Event). sections_named l) (map-append f (take i rows) (get_or rows i d ∷ []))
     ∙ flat_map-append section_in (map f (take i rows)) (e ∷ [])
     ∙ ap (λ (l : List Section). before ++ l) (append-nil (section_in e)) in
     append_assoc done before (section_in e) ∙ ap (λ (l : List Section). done ++ l) (sym one)

@@ -1,11 +1,11 @@
--- What a processor does is told into an empty room, and its events go behind its trace (own).
+-- What a processor does is traced into an empty room, and its events go behind its trace (own).
 use Rattle.std.specs.Prelude.{◌≡◌, ◌⊎◌, ◌+◌, ◌<◌, ◌≤◌, List, [], ◌∷◌, ◌++◌, length, Vec, vec_len, vec_capacity}
 use Rattle.std.specs.declared.alloc.Global.{Global}
 use Rattle.lwkt_base.specs.declared.asks.Ask.{Ask}
 use Rattle.lwkt_base.specs.declared.asks.Answer.{Answer}
 use Rattle.lwkt_core.specs.declared.events.Event.{Event}
 use Rattle.lwkt_drive.specs.ShortEvents.{KeptTrace}
-use Rattle.lwkt_cpu.specs.Telling.{TellsMail}
+use Rattle.lwkt_cpu.specs.Traced.{TracesMail}
 use Rattle.lwkt_bank.specs.Seats.{BankId}
 use Rattle.lwkt_hold.specs.Runs.{Ran}
 use Rattle.lwkt_port.specs.Posts.{IsSamePost}
@@ -15,7 +15,7 @@ use Rattle.lwkt_cpu.specs.Stopping.{Stops}
 use Rattle.lwkt_cpu.specs.Turning.{IsMailed, LacksRoom, MakesTurn}
 use Rattle.lwkt_drive.specs.declared.driven.Driven.{Driven}
 
--- something was done and told into an empty room, and the events that it left there went behind those before
+-- something was done and traced into an empty room, and the events that it left there went behind those before
 pub record IsAppended (Does : Vec Event Global → Vec Event Global → Type 0) (old new : List Event) : Type 0 where
   pub room : Vec Event Global
   pub part : Vec Event Global
@@ -33,15 +33,15 @@ AppendsTurns polled bank old new t u [] = (new ≡ old) × (u ≡ t)
 AppendsTurns {B} polled bank old new t u (turned ∷ turns) = (mid : Processor B) × ((v : List Event) × (AppendsTurn polled bank old mid t v turned × AppendsTurns polled bank mid new v u turns))
 
 -- a processor stops, and the events by which a trace grows are what its seats at bank and book did; its lanes are the same ones
-pub record TellsStop {B : Type 0} (old new : Processor B) (t u : Vec Event Global) : Type 0 where
+pub record TracesStop {B : Type 0} (old new : Processor B) (t u : Vec Event Global) : Type 0 where
   pub stops : Stops old new t u
   pub ran : Ran (IsMailed old.threads) 258 old.seat new.seat t u
-  pub told : TellsMail old.post.seat new.post.seat t.items u.items
+  pub traced : TracesMail old.post.seat new.post.seat t.items u.items
   pub same : IsSamePost old.post new.post
 
 -- a processor stops, and its events are kept
 abbrev pub AppendsStop : {B : Type 0} → Processor B → Processor B → List Event → List Event → Type 0
-AppendsStop old new t u = IsAppended (TellsStop old new) t u
+AppendsStop old new t u = IsAppended (TracesStop old new) t u
 
 -- a room has no place for the events of a turn, or a trace has none for as many
 abbrev pub LacksMemory : Vec Event Global → KeptTrace → Type 0

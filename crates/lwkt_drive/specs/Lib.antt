@@ -3,4 +3,4 @@ pub mod Course
 pub mod Gives
 pub mod ShortEvents
 pub mod Stretches
-pub mod Telling
+pub mod Traced

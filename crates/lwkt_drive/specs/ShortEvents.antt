@@ -144,3 +144,22 @@ capacity_in rows cells wides longs = vec_len rows + min (spare rows) (room_besid
 pub record AreKept (rows : Vec ShortEvent Global) (cells : Vec CellSection Global) (wides : Vec WideEvent Global) (longs : Vec Event Global) (beside : ℕ) : Type 0 where
   pub inside : All (IsEventIn (length cells.items) (length wides.items) (length longs.items)) rows.items
   pub room : beside ≤ room_beside cells wides longs
+
+-- the caller's conditions of keeping one more event: each list beside the rows has a place for it, and room for so many more (own)
+pub record HavePlaces (cells : Vec CellSection Global) (wides : Vec WideEvent Global) (longs : Vec Event Global) (beside : ℕ) : Type 0 where
+  pub cell : HasPlace cells
+  pub wide : HasPlace wides
+  pub long : HasPlace longs
+  pub room : beside ≤ room_beside cells wides longs
+
+-- a list beside the rows has one element more, behind the others, if the event is of its kind, and no less room (own)
+pub record GrowsIf {A : Type 0} (kind : Bool) (old new : Vec A Global) : Type 0 where
+  pub count_is : length new.items ≡ one_more_if kind (length old.items)
+  pub behind : GrowsBehind old.items new.items
+  pub takes : TakesAtMostOne old new
+
+-- what an event takes beside the rows: of each list what is of its kind (own)
+pub record TakesBeside (event : Event) (cells cells' : Vec CellSection Global) (wides wides' : Vec WideEvent Global) (longs longs' : Vec Event Global) : Type 0 where
+  pub cell : GrowsIf (has_cell event) cells cells'
+  pub wide : GrowsIf (is_wide_event event) wides wides'
+  pub long : GrowsIf (is_long_event event) longs longs'

@@ -1,4 +1,4 @@
-//! What a processor does is told into a room, and from there its events go behind its trace.
+//! What a processor does is traced into a room, and from there its events go behind its trace.
 ghost use Rattle.std.specs.Prelude.{◌≡◌, ◌+◌, ◌<◌, ◌≤◌, ◌++◌, length, IfOk, OnErr, OnOk};
 ghost use Rattle.lwkt_bank.specs.Seats.{id_of};
 ghost use Rattle.lwkt_drive.specs.Course.{IsAtTables};
@@ -12,7 +12,7 @@ use lwkt_cpu::{Body, TURN_EVENTS, Turned};
 use lwkt_msg::MsgBook;
 
 impl<B> Driven<B> {
-    /// Gives the trace room for the events of a turn or a stop, and as much to the room into which they are told, which is empty then.
+    /// Gives the trace room for the events of a turn or a stop, and as much to the room into which turns are traced, which is empty then.
     ///
     /// Refused if memory is; the processor and its events are as before then.
     pub fn make_room(&mut self) -> Result<(), OutOfMemory>
@@ -27,7 +27,7 @@ impl<B> Driven<B> {
         reserve(&mut self.room, TURN_EVENTS)
     }
 
-    // What was told into the room goes behind the trace, which has room for it.
+    // What was traced into the room goes behind the trace, which has room for it.
     fn keep(&mut self)
         requires { length self.old.trace.items + length self.old.room.items ≤ self.old.trace.capacity }
         ensures items { self.new.trace.items ≡ self.old.trace.items ++ self.old.room.items }
@@ -57,7 +57,7 @@ impl<B: Body> Driven<B> {
     /// Makes a turn, as `turn_in_room` does, in room that is made before. That the processor is of this bank and book is the caller's
     /// condition.
     ///
-    /// Refused if memory for 4096 events is, to the room into which turns are told or to the trace; the processor and
+    /// Refused if memory for 4096 events is, to the room into which turns are traced or to the trace; the processor and
     /// its events are as before then.
     pub fn turn(&mut self, bank: &Bank, book: &MsgBook) -> Result<Turned, OutOfMemory>
         requires at { IsAtTables (id_of bank.now) book.now.table self.old }

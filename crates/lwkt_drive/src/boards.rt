@@ -1,4 +1,4 @@
-//! What processors that are driven together tell each other of themselves, so that none goes on for nothing. All of it lies outside
+//! What processors that are driven together report to each other of themselves, so that none goes on for nothing. All of it lies outside
 //! the model, and nothing is claimed of it: by it processors end earlier than by their limits.
 //!
 //! A turn is quiet where it polled no thread, appended no event, moved no note and ended no thread. A processor has come to rest at
@@ -8,9 +8,9 @@
 //! Where every processor rests at one count, or has stopped for good with its changes counted, and the count still stands, no turn of
 //! any of them can change anything. For think of the first change after the earliest of these readings. It is made in some turn. That
 //! isn't counted yet, since the count stands; so its processor hasn't stopped, and the turn comes after the quiet turn by which that
-//! processor came to rest, since a rest is told only after all earlier changes were counted. But the quiet turn found nothing to do,
+//! processor came to rest, since a rest is reported only after all earlier changes were counted. But the quiet turn found nothing to do,
 //! and between it and the later turn nothing has changed, here or elsewhere: the later one does what the quiet one did, which is
-//! nothing. A word that is exchanged by somebody else just then needs no telling: an exchange is lost to another one's change.
+//! nothing. A word that is exchanged by somebody else just then needs no report: an exchange is lost to another one's change.
 //!
 //! Where threads can't be made for all processors, they are driven in slices: one that finds nothing to do leaves its slice where
 //! another that hasn't ended isn't under way, so that this one may begin on the same thread. A slice is over once each has ended or
@@ -48,7 +48,7 @@ pub(crate) struct Board {
     moved: AtomicU64,
 }
 
-// A processor that has told nothing.
+// A processor that has reported nothing.
 fn awake() -> AtomicU64 {
     AtomicU64::new(AWAKE)
 }
@@ -109,7 +109,7 @@ impl Board {
     }
 
     /// A processor reports at which count of changes it rests.
-    pub(crate) fn tell(&self, number: usize, rest: u64) {
+    pub(crate) fn report(&self, number: usize, rest: u64) {
         if let Some(place) = self.rests.get(number) {
             place.store(rest, Ordering::SeqCst);
         }
@@ -126,7 +126,7 @@ impl Board {
     }
 
     /// What a processor reported last, 0 before that.
-    pub(crate) fn told(&self, number: usize) -> u64 {
+    pub(crate) fn reported(&self, number: usize) -> u64 {
         match self.rests.get(number) {
             Some(place) => place.load(Ordering::SeqCst),
             None => AWAKE,

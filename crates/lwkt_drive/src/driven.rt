@@ -22,7 +22,7 @@ pub enum Ending {
     IdleOut,
     /// A turn has said that every thread of this processor has ended, and so has one of each other processor.
     AllExited,
-    /// Memory for the 4096 events of its next turn was refused, to the room into which turns are told or to the trace.
+    /// Memory for the 4096 events of its next turn was refused, to the room into which turns are traced or to the trace.
     NoMemory(OutOfMemory),
     /// Another processor was refused memory for its next turn: what it was refused with.
     CalledOff(OutOfMemory),

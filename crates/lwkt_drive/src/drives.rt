@@ -26,7 +26,7 @@ impl<B> Driven<B> {
 
 impl<B: Body> Driven<B> {
     // Makes one turn more, or says why none. After a turn that ran no thread there is a pause, or the processor leaves its slice: that
-    // is told as `NotDriven`, since it hasn't ended.
+    // is reported as `NotDriven`, since it hasn't ended.
     fn step<G: Gate>(
         &mut self,
         door: &Door<'_, G>,

@@ -1,7 +1,7 @@
 //! A trace: packed events, and behind them whole ones where packed ones have no more places.
 ghost use Rattle.std.specs.Prelude.{◌≡◌, ◌+◌, ◌<◌, ◌≤◌, length, List, take, drop, slice_get, option_map, Some, vec_capacity, OnOk, OnErr, IfOk, [], ◌++◌};
 ghost use Rattle.lwkt_base.specs.declared.sections.Section.{Section};
-ghost use Rattle.lwkt_core.specs.RunSections.{sections_told};
+ghost use Rattle.lwkt_core.specs.RunSections.{sections_named};
 ghost use Rattle.lwkt_drive.specs.Gives.{give_of};
 ghost use Rattle.lwkt_drive.specs.Stretches.{StandFor};
 
@@ -151,14 +151,14 @@ impl EventList {
         }
     }
 
-    /// Adds the written sections that the events tell to stretches, in the order of the list.
+    /// Adds the written sections that the events name to stretches, in the order of the list.
     ///
     /// `OutOfMemory` if memory is refused.
-    pub fn tell_stretches(&self, stretches: &mut Stretches) -> Result<(), OutOfMemory>
-        ensures { OnOk result ((sections : List Section) → StandFor stretches.old sections → StandFor stretches.new (sections ++ sections_told self.now.items)) }
+    pub fn add_to_stretches(&self, stretches: &mut Stretches) -> Result<(), OutOfMemory>
+        ensures { OnOk result ((sections : List Section) → StandFor stretches.old sections → StandFor stretches.new (sections ++ sections_named self.now.items)) }
     {
-        self.packed.tell_stretches(stretches)?;
-        stretches.add_told(&self.whole)
+        self.packed.add_to_stretches(stretches)?;
+        stretches.add_named(&self.whole)
     }
 
     /// All events, as whole ones.

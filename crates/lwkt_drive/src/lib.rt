@@ -3,10 +3,10 @@
 //!
 //! Words: a *gate* is asked before each turn whether it may be made; a processor *ends* because the gate said no, a limit
 //! was reached, its threads have ended, memory was refused, or nothing can change any more; the *board* has what the
-//! processors tell one another of this; a *slice* is a part of a drive, where several processors share a thread. A turn is
+//! processors report to one another of this; a *slice* is a part of a drive, where several processors share a thread. A turn is
 //! *silent* if it polled no thread and appended no event. It is *quiet* if it moved no note and ended no thread either:
 //! it changed nothing. A drive ends as quiet if no turn of any processor could change anything. A *room* is what a turn is
-//! told into, before its events go behind the trace.
+//! traced into, before its events go behind the trace.
 #![tactic(auto)]
 
 mod appends;

@@ -1,7 +1,7 @@
 //! Events, packed: a short event for each, and lists of what is too long for it.
 ghost use Rattle.std.specs.Prelude.{◌≡◌, ◌+◌, ◌^◌, ◌<◌, ◌≤◌, length, List, take, drop, slice_get, option_map, Some, vec_capacity, true, false, OnOk, OnErr, IfOk, [], ◌∷◌, ◌++◌};
 ghost use Rattle.lwkt_base.specs.declared.sections.Section.{Section};
-ghost use Rattle.lwkt_core.specs.RunSections.{sections_told};
+ghost use Rattle.lwkt_core.specs.RunSections.{sections_named};
 ghost use Rattle.lwkt_drive.specs.Gives.{give_of};
 ghost use Rattle.lwkt_drive.specs.Stretches.{StandFor};
 
@@ -168,14 +168,14 @@ impl PackedList {
         self.rows[place].give(&self.cells, &self.longs)
     }
 
-    /// Adds the written sections that the events tell to stretches, in the order of the list.
+    /// Adds the written sections that the events name to stretches, in the order of the list.
     ///
     /// `OutOfMemory` if memory is refused.
-    pub fn tell_stretches(&self, stretches: &mut Stretches) -> Result<(), OutOfMemory>
-        ensures { OnOk result ((sections : List Section) → StandFor stretches.old sections → StandFor stretches.new (sections ++ sections_told self.now.items)) }
+    pub fn add_to_stretches(&self, stretches: &mut Stretches) -> Result<(), OutOfMemory>
+        ensures { OnOk result ((sections : List Section) → StandFor stretches.old sections → StandFor stretches.new (sections ++ sections_named self.now.items)) }
     {
         for row in &self.rows {
-            row.tell(&self.cells, &self.longs, stretches)?;
+            row.add_to(&self.cells, &self.longs, stretches)?;
         }
         Ok(())
     }

@@ -11,7 +11,7 @@ ghost use Rattle.lwkt_base.specs.declared.sections.Section.{Section};
 ghost use Rattle.lwkt_core.specs.RunSections.{section_in};
 ghost use Rattle.lwkt_drive.specs.Gives.{give_of};
 ghost use Rattle.lwkt_drive.specs.Stretches.{StandFor};
-ghost use Rattle.lwkt_drive.specs.ShortEvents.{section_of_cell, gave_cell, long_event, has_cell, is_wide_event, is_long_event, one_more_if, IsEventIn, GrowsBehind, HasPlace, TakesAtMostOne, room_beside};
+ghost use Rattle.lwkt_drive.specs.ShortEvents.{section_of_cell, gave_cell, long_event, has_cell, is_wide_event, is_long_event, IsEventIn, HavePlaces, TakesBeside, room_beside};
 ghost use Rattle.lwkt_drive.specs.declared.wide_events.WideEvent.{WideEvent};
 
 use crate::gives::{Give, give_of};
@@ -251,7 +251,7 @@ impl ShortEvent {
     /// `OutOfMemory` if memory is refused.
     #[inline(always)]
     #[tactic(auto, using(crate::proofs::StretchMoves::no_more))]
-    pub fn tell(
+    pub fn add_to(
         &self,
         cells: &[CellSection],
         longs: &[Event],
@@ -283,18 +283,10 @@ pub fn keep_event(
     beside: &mut usize,
     event: &Event,
 ) -> ShortEvent
-    requires cell { HasPlace cells.old }
-    requires wide { HasPlace wides.old }
-    requires long { HasPlace longs.old }
-    requires room { beside.old ≤ room_beside cells.old wides.old longs.old }
+    requires { HavePlaces cells.old wides.old longs.old beside.old }
     ensures same { long_event cells.new.items wides.new.items longs.new.items result ≡ event.now }
     ensures inside { IsEventIn (length cells.new.items) (length wides.new.items) (length longs.new.items) result }
-    ensures cell { length cells.new.items ≡ one_more_if (has_cell event.now) (length cells.old.items) }
-    ensures wide { length wides.new.items ≡ one_more_if (is_wide_event event.now) (length wides.old.items) }
-    ensures long { length longs.new.items ≡ one_more_if (is_long_event event.now) (length longs.old.items) }
-    ensures sections { GrowsBehind cells.old.items cells.new.items × TakesAtMostOne cells.old cells.new }
-    ensures numbers { GrowsBehind wides.old.items wides.new.items × TakesAtMostOne wides.old wides.new }
-    ensures grows { GrowsBehind longs.old.items longs.new.items × TakesAtMostOne longs.old longs.new }
+    ensures takes { TakesBeside event.now cells.old cells.new wides.old wides.new longs.old longs.new }
     ensures room { beside.new ≡ min beside.old (room_beside cells.new wides.new longs.new) }
 {
     if let Some(short) = ShortEvent::of(event) {

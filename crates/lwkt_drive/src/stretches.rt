@@ -1,7 +1,7 @@
 //! Stretches: written sections of one token that go on from each other, of which only the beginning and the end are kept.
 ghost use Rattle.std.specs.Prelude.{◌≡◌, ◌↔◌, List, [], ◌∷◌, ◌++◌, IsTrue, OnOk};
 ghost use Rattle.lwkt_base.specs.declared.sections.Section.{Section};
-ghost use Rattle.lwkt_core.specs.RunSections.{section_in, sections_told};
+ghost use Rattle.lwkt_core.specs.RunSections.{section_in, sections_named};
 ghost use Rattle.lwkt_drive.specs.Stretches.{GoesOnFrom, longer, stretch_of, StandFor};
 
 use lwkt_base::memory::push;
@@ -60,7 +60,7 @@ impl Stretch {
     }
 }
 
-/// The stretches of sections that are told one after another. A section that goes on from its token's last stretch makes that longer.
+/// The stretches of sections that are named one after another. A section that goes on from its token's last stretch makes that longer.
 #[derive(Drop)]
 pub struct Stretches {
     items: Vec<Stretch>,
@@ -88,7 +88,7 @@ impl Stretches {
         }
     }
 
-    /// Adds a section that is told next.
+    /// Adds a section that is named next.
     ///
     /// `OutOfMemory` if memory is refused.
     #[inline(always)]
@@ -106,11 +106,11 @@ impl Stretches {
         push(&mut self.items, Stretch::of(section))
     }
 
-    /// Adds the written sections that events tell, in their order.
+    /// Adds the written sections that events name, in their order.
     ///
     /// `OutOfMemory` if memory is refused.
-    pub fn add_told(&mut self, events: &[Event]) -> Result<(), OutOfMemory>
-        ensures { OnOk result ((sections : List Section) → StandFor self.old sections → StandFor self.new (sections ++ sections_told events.now)) }
+    pub fn add_named(&mut self, events: &[Event]) -> Result<(), OutOfMemory>
+        ensures { OnOk result ((sections : List Section) → StandFor self.old sections → StandFor self.new (sections ++ sections_named events.now)) }
     {
         for event in events {
             self.add_event(event)?;
@@ -118,7 +118,7 @@ impl Stretches {
         Ok(())
     }
 
-    /// Adds the section that an event tells, if it ends a written one.
+    /// Adds the section that an event names, if it ends a written one.
     ///
     /// `OutOfMemory` if memory is refused.
     #[inline(always)]

@@ -59,7 +59,7 @@ impl<B> Driven<B> {
         }
     }
 
-    // Counts a turn that was made. The first one that says that every thread has ended is told to all.
+    // Counts a turn that was made. The first one that says that every thread has ended is reported to all.
     fn note(&mut self, watch: &Watch<'_>, turned: Turned)
         requires { self.old.drove.ran + self.old.drove.idle + 1 < 2 ^ 64 }
         ensures { self.new ≡ record self.old { drove = with_turn self.old.drove turned } }

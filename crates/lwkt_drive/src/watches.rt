@@ -1,4 +1,4 @@
-//! How long a processor that finds nothing to do waits, and what it tells the others of it.
+//! How long a processor that finds nothing to do waits, and what it reports to the others of it.
 
 use crate::boards::{AWAKE, Board, STOPPED};
 use lwkt_cpu::Progress;
@@ -31,7 +31,7 @@ pub(crate) struct Watch<'a> {
     last: Option<Sight>,
     // The count of changes that was read before the turn to come, where all changes of this processor are in it.
     count: Option<u64>,
-    // What was told last.
+    // What was reported last.
     rest: u64,
 }
 
@@ -39,7 +39,7 @@ impl<'a> Watch<'a> {
     /// A processor comes under way in a slice.
     pub(crate) fn new(board: &'a Board, number: usize, waits: u32) -> Watch<'a> {
         board.enter();
-        let rest = board.told(number);
+        let rest = board.reported(number);
         Watch {
             board,
             number,
@@ -56,11 +56,11 @@ impl<'a> Watch<'a> {
         self.board
     }
 
-    // Tells the others, if this is something else than was told last.
-    fn tell(&mut self, rest: u64) {
+    // Reports to the others, if this is something else than was reported last.
+    fn report(&mut self, rest: u64) {
         if self.rest != rest {
             self.rest = rest;
-            self.board.tell(self.number, rest);
+            self.board.report(self.number, rest);
         }
     }
 
@@ -68,7 +68,7 @@ impl<'a> Watch<'a> {
     fn wake(&mut self, last: Option<Sight>) {
         self.last = last;
         self.count = None;
-        self.tell(AWAKE);
+        self.report(AWAKE);
     }
 
     /// A turn has polled a thread.
@@ -82,7 +82,7 @@ impl<'a> Watch<'a> {
     // A turn was quiet. The first one of several makes the earlier changes known.
     fn was_quiet(&mut self) {
         match self.count {
-            Some(count) => self.tell(count),
+            Some(count) => self.report(count),
             None => self.board.count_changes(),
         }
         self.count = Some(self.board.changes());
@@ -148,13 +148,13 @@ impl<'a> Watch<'a> {
         if self.count.is_none() {
             self.board.count_changes();
         }
-        self.tell(STOPPED);
+        self.report(STOPPED);
         self.board.say_moved();
     }
 
     /// The processor leaves the slice, in which it has changed nothing or something.
     pub(crate) fn leave(&mut self, has_moved: bool) {
-        self.tell(AWAKE);
+        self.report(AWAKE);
         if has_moved {
             self.board.say_moved();
         }

@@ -45,8 +45,8 @@ impl Worker {
         Ask::Write(BUFFER, 1, self.taken)
     }
 
-    // The section is over: the producer tells of it, and the consumer answers.
-    fn tell(&self) -> Ask {
+    // The section is over: the producer says so, and the consumer answers.
+    fn notify(&self) -> Ask {
         if self.produces {
             Ask::Do(SIGNAL, makers::thread(1, 0), Call { arg: 0, op: 1 })
         } else {
@@ -69,7 +69,7 @@ impl Steps for Worker {
             (Ask::Read(_, _), Answer::Value(taken)) => self.count(taken),
             (Ask::Write(_, 1, _), _) => Ask::Write(BUFFER, 0, 4_u64.wrapping_sub(self.taken)),
             (Ask::Write(_, _, _), _) => Ask::Rel(BUFFER),
-            (Ask::Rel(_), _) => self.tell(),
+            (Ask::Rel(_), _) => self.notify(),
             _ => self.again(),
         }
     }

@@ -7,7 +7,7 @@ use Rattle.lwkt_explore.specs.declared.outcomes.Kind.{Kind}
 use Rattle.lwkt_explore.specs.declared.outcomes.Kind.TheVariants.{Ended, Stuck, Cut}
 use Rattle.lwkt_explore.specs.declared.outcomes.Outcome.{Outcome}
 use Rattle.lwkt_explore.specs.Laws.{members}
-use Rattle.lwkt_explore.specs.Texts.{Form, Told, is_kind, told_with, told}
+use Rattle.lwkt_explore.specs.Texts.{Form, Group, is_kind, grouped_with, groups}
 
 -- a filter of a filter
 filter_twice_by : {X : Type 0} (p q r : X → Bool) (x : X) (xs : List X) (b a : Bool) → (p x && q x) ≡ r x → q x ≡ b → p x ≡ a → filter p (filter q xs) ≡ filter r xs → filter p (filter q (x ∷ xs)) ≡ filter r (x ∷ xs)
@@ -60,11 +60,11 @@ both_so true false is = absurd cc
 both_so false true is = absurd cc
 both_so false false is = absurd cc
 
--- an outcome is told with itself, and two that are told together are told with the same ones
-pub itself : (x : Outcome) → told_with x x ≡ true
+-- an outcome is grouped with itself, and two that are grouped are grouped with the same ones
+pub itself : (x : Outcome) → grouped_with x x ≡ true
 itself x = rw (kind_itself x.kind, (bytes_eq-Decides (string_bytes x.settled) (string_bytes x.settled)).1 refl) refl
 
-pub alike : (x o m : Outcome) → told_with x o ≡ true → told_with x m ≡ told_with o m
+pub alike : (x o m : Outcome) → grouped_with x o ≡ true → grouped_with x m ≡ grouped_with o m
 alike x o m is =
     let both = both_so (is_kind x.kind o.kind) (bytes_eq (string_bytes x.settled) (string_bytes o.settled)) is in
     let kind : x.kind ≡ o.kind = kind_is x.kind o.kind both.0 in
@@ -72,7 +72,7 @@ alike x o m is =
     rw (kind, text) refl
 
 -- in either order
-turned_by : (x o : Outcome) (a b : Bool) → told_with x o ≡ a → told_with o x ≡ b → a ≡ b
+turned_by : (x o : Outcome) (a b : Bool) → grouped_with x o ≡ a → grouped_with o x ≡ b → a ≡ b
 turned_by x o true true is so = refl
 turned_by x o false false is so = refl
 turned_by x o true false is so =
@@ -82,11 +82,11 @@ turned_by x o false true is so =
     let e : true ≡ false = sym (itself o) ∙ alike o x o so ∙ is in
     absurd cc
 
-pub turned : (x o : Outcome) → told_with x o ≡ told_with o x
-turned x o = turned_by x o (told_with x o) (told_with o x) refl refl
+pub turned : (x o : Outcome) → grouped_with x o ≡ grouped_with o x
+turned x o = turned_by x o (grouped_with x o) (grouped_with o x) refl refl
 
--- one that is told with neither isn't told with both
-apart_by : (x o m : Outcome) (a b : Bool) → told_with x o ≡ false → told_with x m ≡ a → told_with o m ≡ b → (a && not b) ≡ a
+-- one that is grouped with neither isn't grouped with both
+apart_by : (x o m : Outcome) (a b : Bool) → grouped_with x o ≡ false → grouped_with x m ≡ a → grouped_with o m ≡ b → (a && not b) ≡ a
 apart_by x o m false true other is so = refl
 apart_by x o m false false other is so = refl
 apart_by x o m true false other is so = refl
@@ -94,8 +94,8 @@ apart_by x o m true true other is so =
     let e : true ≡ false = sym (itself o) ∙ alike o m o so ∙ sym (alike x m o is) ∙ other in
     absurd cc
 
-apart : (x o m : Outcome) → told_with x o ≡ false → (told_with x m && not (told_with o m)) ≡ told_with x m
-apart x o m other = apart_by x o m (told_with x m) (told_with o m) other refl refl
+apart : (x o m : Outcome) → grouped_with x o ≡ false → (grouped_with x m && not (grouped_with o m)) ≡ grouped_with x m
+apart x o m other = apart_by x o m (grouped_with x m) (grouped_with o m) other refl refl
 
 never_both : (a b : Bool) → a ≡ b → (a && not b) ≡ false
 never_both true true is = refl
@@ -103,26 +103,26 @@ never_both false false is = refl
 never_both true false is = absurd cc
 never_both false true is = absurd cc
 
--- those that are told with one are told as one
-class_by : (x : Outcome) (one : Form) (others : List Form) (b : Bool) → told_with x one.0 ≡ b → filter (λ form. told_with x form.0) others ≡ flat_map members (filter (λ t. told_with x t.0.0) (told others))
-    → filter (λ form. told_with x form.0) (one ∷ others) ≡ flat_map members (filter (λ t. told_with x t.0.0) (told (one ∷ others)))
+-- those that are grouped with one are grouped as one
+class_by : (x : Outcome) (one : Form) (others : List Form) (b : Bool) → grouped_with x one.0 ≡ b → filter (λ form. grouped_with x form.0) others ≡ flat_map members (filter (λ t. grouped_with x t.0.0) (groups others))
+    → filter (λ form. grouped_with x form.0) (one ∷ others) ≡ flat_map members (filter (λ t. grouped_with x t.0.0) (groups (one ∷ others)))
 class_by x one others true is rest =
-    let p : Told → Bool = λ t. told_with x t.0.0 in
-    let q : Told → Bool = λ t. not (told_with one.0 t.0.0) in
-    let neither : Told → Bool = λ t. false in
-    let none : filter p (filter q (told others)) ≡ [] = filter_twice p q neither (λ t. never_both (told_with x t.0.0) (told_with one.0 t.0.0) (alike x one.0 t.0.0 is)) (told others) ∙ filter_none neither (λ t. refl) (told others) in
-    rw (is, none) (ap (λ rest'. one ∷ rest') (filter_same (λ (form : Form). told_with x form.0) (λ (form : Form). told_with one.0 form.0) (λ form. alike x one.0 form.0 is) others ∙ sym (append-nil (filter (λ (form : Form). told_with one.0 form.0) others))))
+    let p : Group → Bool = λ t. grouped_with x t.0.0 in
+    let q : Group → Bool = λ t. not (grouped_with one.0 t.0.0) in
+    let neither : Group → Bool = λ t. false in
+    let none : filter p (filter q (groups others)) ≡ [] = filter_twice p q neither (λ t. never_both (grouped_with x t.0.0) (grouped_with one.0 t.0.0) (alike x one.0 t.0.0 is)) (groups others) ∙ filter_none neither (λ t. refl) (groups others) in
+    rw (is, none) (ap (λ rest'. one ∷ rest') (filter_same (λ (form : Form). grouped_with x form.0) (λ (form : Form). grouped_with one.0 form.0) (λ form. alike x one.0 form.0 is) others ∙ sym (append-nil (filter (λ (form : Form). grouped_with one.0 form.0) others))))
 class_by x one others false is rest =
-    let p : Told → Bool = λ t. told_with x t.0.0 in
-    let q : Told → Bool = λ t. not (told_with one.0 t.0.0) in
-    rw (is, filter_twice p q p (λ t. apart x one.0 t.0.0 is) (told others)) rest
+    let p : Group → Bool = λ t. grouped_with x t.0.0 in
+    let q : Group → Bool = λ t. not (grouped_with one.0 t.0.0) in
+    rw (is, filter_twice p q p (λ t. apart x one.0 t.0.0 is) (groups others)) rest
 
-class_of : (x : Outcome) (others : List Form) → filter (λ form. told_with x form.0) others ≡ flat_map members (filter (λ t. told_with x t.0.0) (told others))
+class_of : (x : Outcome) (others : List Form) → filter (λ form. grouped_with x form.0) others ≡ flat_map members (filter (λ t. grouped_with x t.0.0) (groups others))
 class_of x [] = refl
-class_of x (one ∷ others) = class_by x one others (told_with x one.0) refl (class_of x others)
+class_of x (one ∷ others) = class_by x one others (grouped_with x one.0) refl (class_of x others)
 
--- what is told of some that pass a test, and of those that don't
-split_by : (p : Told → Bool) (t : Told) (ts : List Told) (b : Bool) → p t ≡ b → IsPermutation (flat_map members ts) (flat_map members (filter p ts) ++ flat_map members (filter (λ u. not (p u)) ts))
+-- the groups of some that pass a test, and of those that don't
+split_by : (p : Group → Bool) (t : Group) (ts : List Group) (b : Bool) → p t ≡ b → IsPermutation (flat_map members ts) (flat_map members (filter p ts) ++ flat_map members (filter (λ u. not (p u)) ts))
     → IsPermutation (flat_map members (t ∷ ts)) (flat_map members (filter p (t ∷ ts)) ++ flat_map members (filter (λ u. not (p u)) (t ∷ ts)))
 split_by p t ts true is rest =
     let yes = flat_map members (filter p ts) in
@@ -140,18 +140,18 @@ split_by p t ts false is rest =
     let last : IsPermutation (members t ++ (yes ++ others)) (yes ++ (members t ++ others)) = subst F (append_assoc yes (members t) others) (subst G (append_assoc (members t) yes others) moved) in
     rw is (IsPermutation-trans (members t ++ flat_map members ts) (members t ++ (yes ++ others)) (yes ++ (members t ++ others)) first last)
 
-split : (p : Told → Bool) (ts : List Told) → IsPermutation (flat_map members ts) (flat_map members (filter p ts) ++ flat_map members (filter (λ u. not (p u)) ts))
+split : (p : Group → Bool) (ts : List Group) → IsPermutation (flat_map members ts) (flat_map members (filter p ts) ++ flat_map members (filter (λ u. not (p u)) ts))
 split p [] = IsPermutation-refl []
 split p (t ∷ ts) = split_by p t ts (p t) refl (split p ts)
 
--- those that are told are all, each once
-pub told_all : (forms : List Form) → IsPermutation forms (flat_map members (told forms))
-told_all [] = IsPermutation-refl []
-told_all (one ∷ others) =
-    let p : Told → Bool = λ t. told_with one.0 t.0.0 in
-    let rest = flat_map members (filter (λ t. not (p t)) (told others)) in
+-- those that are grouped are all, each once
+pub grouped_all : (forms : List Form) → IsPermutation forms (flat_map members (groups forms))
+grouped_all [] = IsPermutation-refl []
+grouped_all (one ∷ others) =
+    let p : Group → Bool = λ t. grouped_with one.0 t.0.0 in
+    let rest = flat_map members (filter (λ t. not (p t)) (groups others)) in
     let F : List Form → Type 0 = λ forms. IsPermutation others (forms ++ rest) in
-    let there : IsPermutation others (filter (λ (form : Form). told_with one.0 form.0) others ++ rest) =
-    subst F (sym (class_of one.0 others)) (IsPermutation-trans others (flat_map members (told others)) (flat_map members (filter p (told others)) ++ rest) (told_all others) (split p (told others)))
+    let there : IsPermutation others (filter (λ (form : Form). grouped_with one.0 form.0) others ++ rest) =
+    subst F (sym (class_of one.0 others)) (IsPermutation-trans others (flat_map members (groups others)) (flat_map members (filter p (groups others)) ++ rest) (grouped_all others) (split p (groups others)))
     in
-    IsPermutation-cons one others (filter (λ (form : Form). told_with one.0 form.0) others ++ rest) there
+    IsPermutation-cons one others (filter (λ (form : Form). grouped_with one.0 form.0) others ++ rest) there

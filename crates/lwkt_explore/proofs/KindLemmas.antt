@@ -13,8 +13,8 @@ use Rattle.lwkt_explore.specs.declared.outcomes.Kind.TheVariants.{Ended, Stuck, 
 use Rattle.lwkt_explore.specs.declared.outcomes.Outcome.{Outcome}
 use Rattle.lwkt_explore.specs.declared.outcomes.Outcomes.{Outcomes}
 use Rattle.lwkt_explore.specs.Laws.{members}
-use Rattle.lwkt_explore.specs.Texts.{Form, Told, counted, is_kind, told_with, told, told_at, later_forms, places_text, of_kind, by_kind}
-use Rattle.lwkt_explore.proofs.FormLemmas.{filter_twice, turned, told_all}
+use Rattle.lwkt_explore.specs.Texts.{Form, Group, counted, is_kind, grouped_with, groups, group_at, later_forms, places_text, of_kind, by_kind}
+use Rattle.lwkt_explore.proofs.FormLemmas.{filter_twice, turned, grouped_all}
 
 -- the outcome at a place, with its count, and then the others
 pub counted_at : (outcomes : List Outcome) (counts : List ℕ) (place : ℕ) (outcome : Outcome) → place < length outcomes → outcome ≡ get_or outcomes place outcome
@@ -27,10 +27,10 @@ counted_at (first ∷ outcomes) [] (suc place) outcome below is =
     rw (drop-nil {A = ℕ} place) at rest
 counted_at (first ∷ outcomes) (count ∷ counts) (suc place) outcome below is = counted_at outcomes counts place outcome (omega arith) is
 
--- those that are told from a place on, of a kind and told with none before it
-abbrev pub kind_from : Kind → ℕ → List Outcome → List ℕ → List Told
+-- those that are grouped from a place on, of a kind and grouped with none before it
+abbrev pub kind_from : Kind → ℕ → List Outcome → List ℕ → List Group
 kind_from kind place outcomes counts =
-    filter (λ t. not (list_any (told_with t.0.0) (take place outcomes)) && is_kind kind t.0.0.kind) (told (counted (drop place outcomes) (drop place counts)))
+    filter (λ t. not (list_any (grouped_with t.0.0) (take place outcomes)) && is_kind kind t.0.0.kind) (groups (counted (drop place outcomes) (drop place counts)))
 
 and_both : (a b k : Bool) → ((not a && k) && not b) ≡ (not (a || (b || false)) && k)
 and_both true true true = refl
@@ -55,36 +55,36 @@ take_next [] place outcome below is = absurd (omega arith)
 take_next (first ∷ outcomes) zero outcome below is = rw is refl
 take_next (first ∷ outcomes) (suc place) outcome below is = ap (λ xs. first ∷ xs) (take_next outcomes place outcome (omega arith) is)
 
--- what is told behind a place, once the outcome there is told
-told_behind : (kind : Kind) (place : ℕ) (outcomes : List Outcome) (counts : List ℕ) (outcome : Outcome) → place < length outcomes → outcome ≡ get_or outcomes place outcome
-    → filter (λ t. not (list_any (told_with t.0.0) (take place outcomes)) && is_kind kind t.0.0.kind) (filter (λ t. not (told_with outcome t.0.0)) (told (counted (drop (suc place) outcomes) (drop (suc place) counts))))
+-- what is grouped behind a place, once the outcome there is
+grouped_behind : (kind : Kind) (place : ℕ) (outcomes : List Outcome) (counts : List ℕ) (outcome : Outcome) → place < length outcomes → outcome ≡ get_or outcomes place outcome
+    → filter (λ t. not (list_any (grouped_with t.0.0) (take place outcomes)) && is_kind kind t.0.0.kind) (filter (λ t. not (grouped_with outcome t.0.0)) (groups (counted (drop (suc place) outcomes) (drop (suc place) counts))))
     ≡ kind_from kind (place + 1) outcomes counts
-told_behind kind place outcomes counts outcome below is =
+grouped_behind kind place outcomes counts outcome below is =
     rw add-one
-    (filter_twice (λ (t : Told). not (list_any (told_with t.0.0) (take place outcomes)) && is_kind kind t.0.0.kind) (λ (t : Told). not (told_with outcome t.0.0)) (λ (t : Told). not (list_any (told_with t.0.0) (take (suc place) outcomes)) && is_kind kind t.0.0.kind)
-    (λ (t : Told). rw (take_next outcomes place outcome below is, any_append (told_with t.0.0) (take place outcomes) (outcome ∷ []))
-    (rw (turned outcome t.0.0) (and_both (list_any (told_with t.0.0) (take place outcomes)) (told_with t.0.0 outcome) (is_kind kind t.0.0.kind))))
-    (told (counted (drop (suc place) outcomes) (drop (suc place) counts))))
+    (filter_twice (λ (t : Group). not (list_any (grouped_with t.0.0) (take place outcomes)) && is_kind kind t.0.0.kind) (λ (t : Group). not (grouped_with outcome t.0.0)) (λ (t : Group). not (list_any (grouped_with t.0.0) (take (suc place) outcomes)) && is_kind kind t.0.0.kind)
+    (λ (t : Group). rw (take_next outcomes place outcome below is, any_append (grouped_with t.0.0) (take place outcomes) (outcome ∷ []))
+    (rw (turned outcome t.0.0) (and_both (list_any (grouped_with t.0.0) (take place outcomes)) (grouped_with t.0.0 outcome) (is_kind kind t.0.0.kind))))
+    (groups (counted (drop (suc place) outcomes) (drop (suc place) counts))))
 
--- one that is told, and one that isn't
+-- one that is grouped, and one that isn't
 pub kind_here : (kind : Kind) (place : ℕ) (outcomes : Outcomes) (outcome : Outcome) → place < length outcomes.all.items → outcome ≡ get_or outcomes.all.items place outcome
-    → (not (list_any (told_with outcome) (take place outcomes.all.items)) && is_kind kind outcome.kind) ≡ true
-    → kind_from kind place outcomes.all.items outcomes.counts.items ≡ told_at outcome place outcomes ∷ kind_from kind (place + 1) outcomes.all.items outcomes.counts.items
+    → (not (list_any (grouped_with outcome) (take place outcomes.all.items)) && is_kind kind outcome.kind) ≡ true
+    → kind_from kind place outcomes.all.items outcomes.counts.items ≡ group_at outcome place outcomes ∷ kind_from kind (place + 1) outcomes.all.items outcomes.counts.items
 kind_here kind place outcomes outcome below is test =
-    rw (sym (told_behind kind place outcomes.all.items outcomes.counts.items outcome below is), counted_at outcomes.all.items outcomes.counts.items place outcome below is, test, add-one) refl
+    rw (sym (grouped_behind kind place outcomes.all.items outcomes.counts.items outcome below is), counted_at outcomes.all.items outcomes.counts.items place outcome below is, test, add-one) refl
 
 pub kind_passed : (kind : Kind) (place : ℕ) (outcomes : Outcomes) (outcome : Outcome) → place < length outcomes.all.items → outcome ≡ get_or outcomes.all.items place outcome
-    → (not (list_any (told_with outcome) (take place outcomes.all.items)) && is_kind kind outcome.kind) ≡ false
+    → (not (list_any (grouped_with outcome) (take place outcomes.all.items)) && is_kind kind outcome.kind) ≡ false
     → kind_from kind place outcomes.all.items outcomes.counts.items ≡ kind_from kind (place + 1) outcomes.all.items outcomes.counts.items
 kind_passed kind place outcomes outcome below is test =
-    rw (sym (told_behind kind place outcomes.all.items outcomes.counts.items outcome below is), counted_at outcomes.all.items outcomes.counts.items place outcome below is, test) refl
+    rw (sym (grouped_behind kind place outcomes.all.items outcomes.counts.items outcome below is), counted_at outcomes.all.items outcomes.counts.items place outcome below is, test) refl
 
--- those behind a place that are told with an outcome: one there, one that isn't, and none behind the last
-pub later_here : (one : Outcome) (at : ℕ) (outcomes : Outcomes) (other : Outcome) → at < length outcomes.all.items → other ≡ get_or outcomes.all.items at other → told_with one other ≡ true
+-- those behind a place that are grouped with an outcome: one there, one that isn't, and none behind the last
+pub later_here : (one : Outcome) (at : ℕ) (outcomes : Outcomes) (other : Outcome) → at < length outcomes.all.items → other ≡ get_or outcomes.all.items at other → grouped_with one other ≡ true
     → later_forms one at outcomes ≡ (other, get_or outcomes.counts.items at 0) ∷ later_forms one (at + 1) outcomes
 later_here one at outcomes other below is test = rw (add-one, counted_at outcomes.all.items outcomes.counts.items at other below is, test) refl
 
-pub later_passed : (one : Outcome) (at : ℕ) (outcomes : Outcomes) (other : Outcome) → at < length outcomes.all.items → other ≡ get_or outcomes.all.items at other → told_with one other ≡ false
+pub later_passed : (one : Outcome) (at : ℕ) (outcomes : Outcomes) (other : Outcome) → at < length outcomes.all.items → other ≡ get_or outcomes.all.items at other → grouped_with one other ≡ false
     → later_forms one at outcomes ≡ later_forms one (at + 1) outcomes
 later_passed one at outcomes other below is test = rw (add-one, counted_at outcomes.all.items outcomes.counts.items at other below is, test) refl
 
@@ -110,7 +110,7 @@ places_end is_first n [] ends none = refl
 places_end is_first n (own ∷ owns) ends none = rw none refl
 
 -- one more is written, under the next number
-pub written_on : (line : ℕ → Told → List ℕ) (old new whole : List ℕ) (n next : ℕ) (one : Told) (all rest : List Told)
+pub written_on : (line : ℕ → Group → List ℕ) (old new whole : List ℕ) (n next : ℕ) (one : Group) (all rest : List Group)
     → next ≡ n + 1 → all ≡ one ∷ rest → new ≡ old ++ line next one → old ++ numbered_lines line (n + 1) all ≡ whole → new ++ numbered_lines line (next + 1) rest ≡ whole
 written_on line old new whole n next one all rest after is more so =
     rw (more, after) (append_assoc old (line (n + 1) one) (numbered_lines line (n + 1 + 1) rest) ∙ (rw is at so))
@@ -120,7 +120,7 @@ pub kind_end : (kind : Kind) (place : ℕ) (outcomes : List Outcome) (counts : L
 kind_end kind place outcomes counts over = rw (drop_all place outcomes over) refl
 
 -- lines numbered on
-numbered_append : (line : ℕ → Told → List ℕ) (n : ℕ) (xs ys : List Told) → numbered_lines line n (xs ++ ys) ≡ numbered_lines line n xs ++ numbered_lines line (n + length xs) ys
+numbered_append : (line : ℕ → Group → List ℕ) (n : ℕ) (xs ys : List Group) → numbered_lines line n (xs ++ ys) ≡ numbered_lines line n xs ++ numbered_lines line (n + length xs) ys
 numbered_append line n [] ys =
     let F : ℕ → Type 0 = λ m. numbered_lines line n ys ≡ numbered_lines line m ys in
     let same : n ≡ n + 0 = omega arith in
@@ -130,8 +130,8 @@ numbered_append line n (x ∷ xs) ys =
     let next : n + 1 + length xs ≡ n + length (x ∷ xs) = omega arith in
     subst F next (ap (λ rest. line n x ++ rest) (numbered_append line (n + 1) xs ys) ∙ sym (append_assoc (line n x) (numbered_lines line (n + 1) xs) (numbered_lines line (n + 1 + length xs) ys)))
 
--- one that is told behind others
-moved : (one : Told) (all : List Form) (before behind : List Told) → IsPermutation all (flat_map members (before ++ behind)) → IsPermutation (members one ++ all) (flat_map members (before ++ one ∷ behind))
+-- one that is grouped behind others
+moved : (one : Group) (all : List Form) (before behind : List Group) → IsPermutation all (flat_map members (before ++ behind)) → IsPermutation (members one ++ all) (flat_map members (before ++ one ∷ behind))
 moved one all before behind so =
     let b = flat_map members before in
     let c = flat_map members behind in
@@ -144,17 +144,17 @@ moved one all before behind so =
     let last : IsPermutation (m ++ (b ++ c)) (b ++ (m ++ c)) = subst H (append_assoc b m c) (subst G (append_assoc m b c) turned) in
     rw (flat_map-append members before (one ∷ behind)) (IsPermutation-trans (m ++ all) (m ++ (b ++ c)) (b ++ (m ++ c)) so' last)
 
--- each of those that are told is of one kind
-kinds_more : (kind : Kind) (one : Told) (all : List Form) (e s c : List Told) → IsPermutation all (flat_map members (e ++ s ++ c))
+-- each of those that are grouped is of one kind
+kinds_more : (kind : Kind) (one : Group) (all : List Form) (e s c : List Group) → IsPermutation all (flat_map members (e ++ s ++ c))
     → IsPermutation (members one ++ all) (flat_map members (cond (is_kind Ended kind) (one ∷ e) e ++ cond (is_kind Stuck kind) (one ∷ s) s ++ cond (is_kind Cut kind) (one ∷ c) c))
 kinds_more Ended one all e s c so = IsPermutation-append_right (members one) all (flat_map members (e ++ s ++ c)) so
 kinds_more Stuck one all e s c so =
-    let F : List Told → Type 0 = λ ts. IsPermutation all (flat_map members ts) in
-    let G : List Told → Type 0 = λ ts. IsPermutation (members one ++ all) (flat_map members ts) in
+    let F : List Group → Type 0 = λ ts. IsPermutation all (flat_map members ts) in
+    let G : List Group → Type 0 = λ ts. IsPermutation (members one ++ all) (flat_map members ts) in
     subst G (sym (append_assoc e (one ∷ s) c)) (moved one all e (s ++ c) (subst F (append_assoc e s c) so))
 kinds_more Cut one all e s c so = moved one all (e ++ s) c so
 
-kinds_of : (ts : List Told) → IsPermutation (flat_map members ts) (flat_map members (filter (λ t. is_kind Ended t.0.0.kind) ts ++ filter (λ t. is_kind Stuck t.0.0.kind) ts ++ filter (λ t. is_kind Cut t.0.0.kind) ts))
+kinds_of : (ts : List Group) → IsPermutation (flat_map members ts) (flat_map members (filter (λ t. is_kind Ended t.0.0.kind) ts ++ filter (λ t. is_kind Stuck t.0.0.kind) ts ++ filter (λ t. is_kind Cut t.0.0.kind) ts))
 kinds_of [] = IsPermutation-refl []
 kinds_of (one ∷ ts) =
     kinds_more one.0.0.kind one (flat_map members ts) (filter (λ t. is_kind Ended t.0.0.kind) ts) (filter (λ t. is_kind Stuck t.0.0.kind) ts) (filter (λ t. is_kind Cut t.0.0.kind) ts) (kinds_of ts)
@@ -170,10 +170,10 @@ pub written_once : (outcomes : Outcomes) → IsPermutation outcomes.all.items (m
 written_once outcomes =
     let all = counted outcomes.all.items outcomes.counts.items in
     let F : List Outcome → Type 0 = λ list. IsPermutation list (map (λ (one : Form). one.0) (flat_map members (by_kind outcomes))) in
-    let there : IsPermutation all (flat_map members (by_kind outcomes)) = IsPermutation-trans all (flat_map members (told all)) (flat_map members (by_kind outcomes)) (told_all all) (kinds_of (told all)) in
+    let there : IsPermutation all (flat_map members (by_kind outcomes)) = IsPermutation-trans all (flat_map members (groups all)) (flat_map members (by_kind outcomes)) (grouped_all all) (kinds_of (groups all)) in
     subst F (counted_outcomes outcomes.all.items outcomes.counts.items) (IsPermutation-map (λ (one : Form). one.0) all (flat_map members (by_kind outcomes)) there)
 
-members_many : (ts : List Told) → length ts ≤ length (flat_map members ts)
+members_many : (ts : List Group) → length ts ≤ length (flat_map members ts)
 members_many [] = omega arith
 members_many (t ∷ ts) =
     let rest = members_many ts in
@@ -191,7 +191,7 @@ kinds outcomes =
     omega arith
 
 -- what is written of all kinds
-pub numbered_kinds : (line : ℕ → Told → List ℕ) (e s c : List Told)
+pub numbered_kinds : (line : ℕ → Group → List ℕ) (e s c : List Group)
     → numbered_lines line 1 e ++ numbered_lines line (length e + 1) s ++ numbered_lines line (length e + length s + 1) c ≡ numbered_lines line 1 (e ++ s ++ c)
 numbered_kinds line e s c =
     let after : 1 + length e ≡ length e + 1 = omega arith in

@@ -2,10 +2,10 @@ use Rattle.std.proofs.Common.{◌≡◌, ◌+◌, ℕ, zero, suc, List, [], ◌�
 use Rattle.std.specs.Option.{option_map_or}
 use Rattle.lwkt_report.specs.Report.{numbered_lines}
 use Rattle.lwkt_explore.specs.Laws.{StandIn, OutcomesAreNumbered}
-use Rattle.lwkt_explore.specs.Texts.{Told, by_kind, outcome_lines, lost_line, sum_line, text_of_found}
+use Rattle.lwkt_explore.specs.Texts.{Group, by_kind, outcome_lines, lost_line, sum_line, text_of_found}
 
 -- the lines of an item stand in those of all
-numbered_at : (line : ℕ → Told → List ℕ) (n : ℕ) (all : List Told) (place : ℕ) (one : Told) → slice_get all place ≡ Some one → StandIn (numbered_lines line n all) (line (n + place) one)
+numbered_at : (line : ℕ → Group → List ℕ) (n : ℕ) (all : List Group) (place : ℕ) (one : Group) → slice_get all place ≡ Some one → StandIn (numbered_lines line n all) (line (n + place) one)
 numbered_at line n [] place one is = absurd cc
 numbered_at line n (first ∷ all) zero one is =
     let same : first ≡ one = cc in

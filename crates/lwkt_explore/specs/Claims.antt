@@ -20,20 +20,20 @@ use Rattle.lwkt_text.specs.declared.claims.Claim.{Claim}
 use Rattle.lwkt_text.specs.declared.claims.Claim.TheVariants as claims
 use Rattle.lwkt_text.specs.declared.claims.Relation.{Relation}
 use Rattle.lwkt_text.specs.declared.claims.Relation.TheVariants as relations
-use Rattle.lwkt_text.specs.declared.claims.Standing.{Standing}
-use Rattle.lwkt_text.specs.declared.claims.Standing.TheVariants as standings
+use Rattle.lwkt_text.specs.declared.claims.ClaimedState.{ClaimedState}
+use Rattle.lwkt_text.specs.declared.claims.ClaimedState.TheVariants as claimed
 use Rattle.lwkt_explore.specs.Readings.{sum_of}
 use Rattle.lwkt_explore.specs.declared.claims.Truth.{Truth}
 use Rattle.lwkt_explore.specs.declared.claims.Truth.TheVariants.{Yes, No, Open}
 
 -- whether a thread stands so
-abbrev pub is_standing : Standing → ThreadState → Bool
-is_standing standings.Ready states.Ready = true
-is_standing standings.Waiting states.Waiting = true
-is_standing standings.Running states.Running = true
-is_standing standings.Exited states.Exited = true
-is_standing standings.Faulted (states.Faulted fault) = true
-is_standing _ _ = false
+abbrev pub is_in_state : ClaimedState → ThreadState → Bool
+is_in_state claimed.Ready states.Ready = true
+is_in_state claimed.Waiting states.Waiting = true
+is_in_state claimed.Running states.Running = true
+is_in_state claimed.Exited states.Exited = true
+is_in_state claimed.Faulted (states.Faulted fault) = true
+is_in_state _ _ = false
 
 -- whether a message is there
 abbrev pub is_place : MsgState → Owner → Bool
@@ -87,8 +87,8 @@ abbrev pub is_full : ThreadId → ThreadLine → Bool
 is_full id line = same_thread line.id id && nat_le 32 (length line.log)
 
 -- whether this is the line of a thread that stands so
-abbrev pub has_stood : ThreadId → Standing → ThreadLine → Bool
-has_stood id standing line = same_thread line.id id && is_standing standing line.state
+abbrev pub has_state : ThreadId → ClaimedState → ThreadLine → Bool
+has_state id wanted line = same_thread line.id id && is_in_state wanted line.state
 
 -- whether a thread was ended by this fault, has this entry, has a full log, stands so
 abbrev pub any_faulted : ℕ → List ThreadLine → Bool
@@ -103,9 +103,9 @@ abbrev pub any_full : ThreadId → List ThreadLine → Bool
 any_full id [] = false
 any_full id (line ∷ lines) = is_full id line || any_full id lines
 
-abbrev pub any_stood : ThreadId → Standing → List ThreadLine → Bool
-any_stood id standing [] = false
-any_stood id standing (line ∷ lines) = has_stood id standing line || any_stood id standing lines
+abbrev pub any_in_state : ThreadId → ClaimedState → List ThreadLine → Bool
+any_in_state id wanted [] = false
+any_in_state id wanted (line ∷ lines) = has_state id wanted line || any_in_state id wanted lines
 
 -- how two numbers compare
 abbrev pub related : Relation → ℕ → ℕ → Bool
@@ -145,6 +145,6 @@ truth_of o claims.Ended = known (all_ended o)
 truth_of o claims.Stuck = known (not (all_ended o))
 truth_of o (claims.Faulted n) = known (any_faulted n o.threads.items)
 truth_of o (claims.Logged id entry) = logged_truth id entry o.threads.items
-truth_of o (claims.Stands id standing) = known (any_stood id standing o.threads.items)
+truth_of o (claims.InState id wanted) = known (any_in_state id wanted o.threads.items)
 truth_of o (claims.Lies msg place) = known (lies o msg place)
 truth_of o (claims.Compares c) = known (compared c.relation (sum_of o c.left) (sum_of o c.right))

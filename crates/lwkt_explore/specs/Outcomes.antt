@@ -9,7 +9,7 @@ use Rattle.lwkt_report.specs.Report.{front_text, numbered_lines, token_line, thr
 use Rattle.lwkt_run.specs.declared.runs.End.{End}
 use Rattle.lwkt_run.specs.declared.runs.End.TheVariants.{Ended as EndedRun, TurnsOut}
 use Rattle.lwkt_run.specs.declared.runs.TurnsRun.{TurnsRun}
-use Rattle.lwkt_run.specs.Run.{DeclinesRun, IsOrderRun, end_told}
+use Rattle.lwkt_run.specs.Run.{DeclinesRun, IsOrderRun, end_of_closing}
 use Rattle.lwkt_script.specs.declared.scripts.Script.{Script}
 use Rattle.lwkt_explore.specs.declared.outcomes.Kind.{Kind}
 use Rattle.lwkt_explore.specs.declared.outcomes.Kind.TheVariants.{Ended, Stuck, Cut}
@@ -34,7 +34,7 @@ pub record IsOutcome (script : Script) (outcome : Outcome) : Type 0 where
   pub lawful : run.closing.verdict ≡ Lawful
   pub shows : string_bytes outcome.text ≡ front_text run.closing
   pub settled : string_bytes outcome.settled ≡ settled_text run.closing
-  pub kind : IsKind outcome.kind (end_told run.closing)
+  pub kind : IsKind outcome.kind (end_of_closing run.closing)
 
 -- each of these is one
 abbrev pub AreOutcomes : Script → Outcomes → Type 0

@@ -57,30 +57,30 @@ is_kind Stuck Stuck = true
 is_kind Cut Cut = true
 is_kind _ _ = false
 
--- whether two outcomes are told together: they are of one kind, and have the same token and thread lines
-abbrev pub told_with : Outcome → Outcome → Bool
-told_with one other = is_kind one.kind other.kind && bytes_eq (string_bytes one.settled) (string_bytes other.settled)
+-- whether two outcomes are grouped: they are of one kind, and have the same token and thread lines
+abbrev pub grouped_with : Outcome → Outcome → Bool
+grouped_with one other = is_kind one.kind other.kind && bytes_eq (string_bytes one.settled) (string_bytes other.settled)
 
--- outcomes that are told together: the first of them, and its other forms
-abbrev pub Told : Type 0
-Told = Form × List Form
+-- outcomes that are grouped: the first of them, and its other forms
+abbrev pub Group : Type 0
+Group = Form × List Form
 
--- outcomes by those that are told together
-abbrev pub told : List Form → List Told
-told [] = []
-told (one ∷ others) = (one, filter (λ other. told_with one.0 other.0) others) ∷ filter (λ t. not (told_with one.0 t.0.0)) (told others)
+-- outcomes by those that are grouped
+abbrev pub groups : List Form → List Group
+groups [] = []
+groups (one ∷ others) = (one, filter (λ other. grouped_with one.0 other.0) others) ∷ filter (λ t. not (grouped_with one.0 t.0.0)) (groups others)
 
--- the outcomes from a place on that are told with one
+-- the outcomes from a place on that are grouped with one
 abbrev pub later_forms : Outcome → ℕ → Outcomes → List Form
-later_forms one place outcomes = filter (λ other. told_with one other.0) (counted (drop place outcomes.all.items) (drop place outcomes.counts.items))
+later_forms one place outcomes = filter (λ other. grouped_with one other.0) (counted (drop place outcomes.all.items) (drop place outcomes.counts.items))
 
--- an outcome of a place, with those behind it that are told with it
-abbrev pub told_at : Outcome → ℕ → Outcomes → Told
-told_at one place outcomes = ((one, get_or outcomes.counts.items place 0), later_forms one (place + 1) outcomes)
+-- an outcome of a place, with those behind it that are grouped with it
+abbrev pub group_at : Outcome → ℕ → Outcomes → Group
+group_at one place outcomes = ((one, get_or outcomes.counts.items place 0), later_forms one (place + 1) outcomes)
 
 -- how many of the orders led to one of them, as far as 64 bits go
-abbrev pub told_count : Told → ℕ
-told_count (one, forms) = min 18446744073709551615 (one.1 + sum (map (λ (form : Form). form.1) forms))
+abbrev pub group_count : Group → ℕ
+group_count (one, forms) = min 18446744073709551615 (one.1 + sum (map (λ (form : Form). form.1) forms))
 
 -- whether two messages have the same line
 abbrev pub looks_same : MsgEnd → MsgEnd → Bool
@@ -108,17 +108,17 @@ or_line first form =
     codes "or" ++ places_text true 0 first.closing.messages.items form.closing.messages.items ++ codes ", order" ++ order_bytes form.order.items ++ line_feed
 
 -- `outcome N KIND, order O`, then the lines of its report, a line for each other form, and its why
-abbrev pub outcome_lines : Tried → ℕ → Told → List ℕ
+abbrev pub outcome_lines : Tried → ℕ → Group → List ℕ
 outcome_lines tried number t =
-    codes "outcome " ++ decimal number ++ codes " " ++ kind_text t.0.0.kind ++ count_text tried (told_count t) ++ codes ", order" ++ order_bytes t.0.0.order.items ++ line_feed ++ string_bytes t.0.0.text
+    codes "outcome " ++ decimal number ++ codes " " ++ kind_text t.0.0.kind ++ count_text tried (group_count t) ++ codes ", order" ++ order_bytes t.0.0.order.items ++ line_feed ++ string_bytes t.0.0.text
     ++ flat_map (λ form. or_line t.0.0 form.0) t.1 ++ why_line t.0.0.why
 
--- the outcomes of a kind, those that are told together under the first of them
-abbrev pub of_kind : Kind → Outcomes → List Told
-of_kind kind outcomes = filter (λ t. is_kind kind t.0.0.kind) (told (counted outcomes.all.items outcomes.counts.items))
+-- the outcomes of a kind, those that are grouped under the first of them
+abbrev pub of_kind : Kind → Outcomes → List Group
+of_kind kind outcomes = filter (λ t. is_kind kind t.0.0.kind) (groups (counted outcomes.all.items outcomes.counts.items))
 
 -- the ended ones, then the stuck ones, then those that were cut
-abbrev pub by_kind : Outcomes → List Told
+abbrev pub by_kind : Outcomes → List Group
 by_kind outcomes = of_kind Ended outcomes ++ of_kind Stuck outcomes ++ of_kind Cut outcomes
 
 -- how many states are lost, and the order to the first of them
@@ -140,7 +140,7 @@ extent_text (Part Memory) = codes "a part (memory)"
 extent_text (Part Stopped) = codes "a part (stopped)"
 extent_text Sampled = codes "a part"
 
--- how many outcomes there are, those that are told together as one, what was tried, and whether that is all
+-- how many outcomes there are, those that are grouped as one, what was tried, and whether that is all
 abbrev pub sum_line : Found → List ℕ
 sum_line found =
     amount_text (length (by_kind found.outcomes)) (codes "outcome") (codes "outcomes") ++ codes "; " ++ tried_text found.tried ++ codes ", " ++ amount_text found.turns (codes "turn") (codes "turns") ++ codes "; " ++ extent_text found.extent ++ line_feed

@@ -2,8 +2,8 @@
 use Rattle.std.specs.Prelude.{◌≡◌, ℕ, ◌<◌, ◌≤◌, Bool, true, false, Option, None, Some, max, length, Contains}
 use Rattle.lwkt_script.specs.declared.scripts.Script.{Script}
 use Rattle.lwkt_explore.specs.declared.outcomes.Outcomes.{Outcomes}
-use Rattle.lwkt_explore.specs.declared.outcomes.Stand.{Stand}
-use Rattle.lwkt_explore.specs.declared.outcomes.Stand.TheVariants.{Quiet, AllEnded, Cut}
+use Rattle.lwkt_explore.specs.declared.outcomes.LastState.{LastState}
+use Rattle.lwkt_explore.specs.declared.outcomes.LastState.TheVariants.{Quiet, AllEnded, Cut}
 use Rattle.lwkt_explore.specs.declared.walks.Leads.{Leads}
 use Rattle.lwkt_explore.specs.declared.walks.Leads.TheVariants.{Nowhere, On, Off}
 use Rattle.lwkt_explore.specs.declared.walks.Walk.{Walk}
@@ -12,12 +12,12 @@ use Rattle.lwkt_explore.specs.Outcomes.{AreOutcomes, AreShort, AreWhole, HasEnde
 
 -- how a state stands at which there is an outcome, by whether all threads have ended there, where its turns lead, and whether the order
 -- to it is as long as it may be
-abbrev pub stand_of : Bool → Leads → Bool → Option Stand
-stand_of true leads is_far = Some AllEnded
-stand_of false Nowhere is_far = Some Quiet
-stand_of false On is_far = None
-stand_of false Off true = Some Cut
-stand_of false Off false = None
+abbrev pub last_state_of : Bool → Leads → Bool → Option LastState
+last_state_of true leads is_far = Some AllEnded
+last_state_of false Nowhere is_far = Some Quiet
+last_state_of false On is_far = None
+last_state_of false Off true = Some Cut
+last_state_of false Off false = None
 
 -- a walk over a script: the turns that lead to the states are of its processors, and states and turns are within the bounds
 pub record IsWalk (script : Script) (walk : Walk) : Type 0 where

@@ -1,4 +1,4 @@
-//! All that is told of a run of a text: its report, a line for each expectation, and what it came to.
+//! All that is said of a run of a text: its report, a line for each expectation, and what it came to.
 ghost use Rattle.std.specs.Prelude.{◌≡◌, IfOk, string_bytes};
 ghost use Rattle.lwkt_report.specs.Report.{report_text};
 ghost use Rattle.lwkt_explore.specs.Judgements.{judgement_of};
@@ -10,7 +10,7 @@ use lwkt_report::{Closing, report};
 use lwkt_text::claims::Expectation;
 use std::alloc::Global;
 
-/// What is told of a run of a text.
+/// What is said of a run of a text.
 #[derive(Drop)]
 pub struct Account {
     /// The report of the run.
@@ -21,7 +21,7 @@ pub struct Account {
     pub judgement: Judgement,
 }
 
-/// What is told of a run with this outcome. In the lines of expectations the text is called by the path, where there is one.
+/// What is said of a run with this outcome. In the lines of expectations the text is called by the path, where there is one.
 ///
 /// Refused if memory is.
 pub fn account_of(

@@ -1,14 +1,14 @@
 //! Whether what a text says of an outcome is so, where the report tells.
 ghost use Rattle.std.specs.Prelude.{◌≡◌};
 ghost use Rattle.lwkt_base.specs.Threads.{has_ended};
-ghost use Rattle.lwkt_explore.specs.Claims.{is_standing, is_place, has_faulted, same_call, same_entry, same_thread, has_entry, has_logged, is_full, has_stood, any_faulted, any_logged, any_full, any_stood, related, compared, lies, all_ended, known, logged_truth, truth_of};
+ghost use Rattle.lwkt_explore.specs.Claims.{is_in_state, is_place, has_faulted, same_call, same_entry, same_thread, has_entry, has_logged, is_full, has_state, any_faulted, any_logged, any_full, any_in_state, related, compared, lies, all_ended, known, logged_truth, truth_of};
 
 use crate::readings::sum_of;
 use lwkt_base::blobs::same_bytes;
 use lwkt_base::limits::LOG_LIMIT;
 use lwkt_base::{Call, Entry, MsgId, MsgState, Owner, ThreadId, ThreadLine, ThreadState};
 use lwkt_report::Closing;
-use lwkt_text::claims::{Claim, Relation, Standing};
+use lwkt_text::claims::{Claim, ClaimedState, Relation};
 
 /// Whether something is so, as far as a report tells.
 #[derive(Clone, Copy, PartialEq, Eq)]
@@ -22,15 +22,15 @@ pub enum Truth {
 }
 
 // Whether a thread stands so.
-fn is_standing(standing: Standing, state: ThreadState) -> bool
-    ensures { result ≡ is_standing standing state }
+fn is_in_state(wanted: ClaimedState, state: ThreadState) -> bool
+    ensures { result ≡ is_in_state wanted state }
 {
-    match standing {
-        Standing::Ready => matches!(state, ThreadState::Ready),
-        Standing::Waiting => matches!(state, ThreadState::Waiting),
-        Standing::Running => matches!(state, ThreadState::Running),
-        Standing::Exited => matches!(state, ThreadState::Exited),
-        Standing::Faulted => matches!(state, ThreadState::Faulted(_)),
+    match wanted {
+        ClaimedState::Ready => matches!(state, ThreadState::Ready),
+        ClaimedState::Waiting => matches!(state, ThreadState::Waiting),
+        ClaimedState::Running => matches!(state, ThreadState::Running),
+        ClaimedState::Exited => matches!(state, ThreadState::Exited),
+        ClaimedState::Faulted => matches!(state, ThreadState::Faulted(_)),
     }
 }
 
@@ -112,10 +112,10 @@ fn is_full(id: ThreadId, line: &ThreadLine) -> bool
 }
 
 // Whether this is the line of a thread that stands so.
-fn has_stood(id: ThreadId, standing: Standing, line: &ThreadLine) -> bool
-    ensures { result ≡ has_stood id standing line.now }
+fn has_state(id: ThreadId, wanted: ClaimedState, line: &ThreadLine) -> bool
+    ensures { result ≡ has_state id wanted line.now }
 {
-    same_thread(line.id, id) && is_standing(standing, line.state)
+    same_thread(line.id, id) && is_in_state(wanted, line.state)
 }
 
 // Whether a thread was ended by the fault of this number.
@@ -155,11 +155,11 @@ fn any_full(id: ThreadId, lines: &[ThreadLine]) -> bool
 }
 
 // Whether a thread stands so.
-fn any_stood(id: ThreadId, standing: Standing, lines: &[ThreadLine]) -> bool
-    ensures { result ≡ any_stood id standing lines.now }
+fn any_in_state(id: ThreadId, wanted: ClaimedState, lines: &[ThreadLine]) -> bool
+    ensures { result ≡ any_in_state id wanted lines.now }
 {
     for line in lines {
-        if has_stood(id, standing, line) {
+        if has_state(id, wanted, line) {
             return true;
         }
     }
@@ -238,7 +238,7 @@ pub fn truth_of(outcome: &Closing, claim: &Claim) -> Truth
         Claim::Stuck => known(!all_ended(outcome)),
         Claim::Faulted(n) => known(any_faulted(*n, threads)),
         Claim::Logged(id, entry) => logged_truth(*id, entry, threads),
-        Claim::Stands(id, standing) => known(any_stood(*id, *standing, threads)),
+        Claim::InState(id, wanted) => known(any_in_state(*id, *wanted, threads)),
         Claim::Lies(msg, place) => known(lies(outcome, *msg, *place)),
         Claim::Compares(said) => {
             let left = sum_of(outcome, said.left.as_slice());

@@ -3,7 +3,7 @@ ghost use Rattle.std.specs.Prelude.{◌≡◌, ◌≤◌, IfErr};
 ghost use Rattle.lwkt_explore.specs.Outcomes.{AreOutcomes, AreShort, RefusesSearch};
 ghost use Rattle.lwkt_explore.specs.Walks.{IsWalk};
 
-use crate::outcomes::{Outcomes, Stand};
+use crate::outcomes::{LastState, Outcomes};
 use crate::samples::{Course, Dice};
 use crate::searches::{Bounds, Method};
 use crate::walks::Walk;
@@ -37,12 +37,12 @@ fn add_one(
     ensures short { AreShort walk.old.bounds.turns outcomes.new }
     ensures refused { IfErr result (λ fault. RefusesSearch script.now fault) }
 {
-    let (order, stand) = walk.stray(alloc, script, course, most)?;
+    let (order, last_state) = walk.stray(alloc, script, course, most)?;
     let turns = order.len();
-    if stand == Stand::Cut {
+    if last_state == LastState::Cut {
         return Ok(turns);
     }
-    match outcomes.add(alloc, script, order, stand) {
+    match outcomes.add(alloc, script, order, last_state) {
         Ok(_) => Ok(turns),
         Err(fault) => Err(fault),
     }

@@ -1,33 +1,33 @@
-//! Outcomes that are told together: they differ in where their messages are, and in nothing else that a report shows.
+//! Outcomes that are grouped: they differ in where their messages are, and in nothing else that a report shows.
 ghost use Rattle.std.specs.Prelude.{◌≡◌, ◌&&◌, ◌+◌, ◌<◌, ◌++◌, true, not, OnOk, string_bytes, get_or, length};
 ghost use Rattle.std.specs.List.{list_any, flat_map};
 ghost use Rattle.lwkt_report.specs.Report.{owner_text};
-ghost use Rattle.lwkt_explore.specs.Texts.{is_kind, told_with, later_forms, told_count, place_text, looks_same, between_text, places_text, or_line};
+ghost use Rattle.lwkt_explore.specs.Texts.{is_kind, grouped_with, later_forms, group_count, place_text, looks_same, between_text, places_text, or_line};
 
 use crate::lines::add_order;
 use crate::outcomes::{Kind, Outcome, Outcomes};
 use lwkt_base::memory::{push_str, put};
 use lwkt_base::{MsgEnd, OutOfMemory, Owner};
 
-// Whether two outcomes are told together.
-fn told_with(one: &Outcome, other: &Outcome) -> bool
-    ensures { result ≡ told_with one.now other.now }
+// Whether two outcomes are grouped.
+fn grouped_with(one: &Outcome, other: &Outcome) -> bool
+    ensures { result ≡ grouped_with one.now other.now }
 {
     one.kind == other.kind && one.settled.as_str() == other.settled.as_str()
 }
 
-// Whether an outcome of these is told with another one.
-fn is_told(before: &[Outcome], outcome: &Outcome) -> bool
-    ensures { result ≡ list_any (told_with outcome.now) before.now }
+// Whether an outcome of these is grouped with another one.
+fn is_grouped(before: &[Outcome], outcome: &Outcome) -> bool
+    ensures { result ≡ list_any (grouped_with outcome.now) before.now }
 {
-    before.iter().any(|one| told_with(outcome, one))
+    before.iter().any(|one| grouped_with(outcome, one))
 }
 
-/// Whether an outcome is of a kind, and none of those before it is told with it.
+/// Whether an outcome is of a kind, and none of those before it is grouped with it.
 pub(crate) fn is_first(before: &[Outcome], outcome: &Outcome, kind: Kind) -> bool
-    ensures { result ≡ (not (list_any (told_with outcome.now) before.now) && is_kind kind outcome.now.kind) }
+    ensures { result ≡ (not (list_any (grouped_with outcome.now) before.now) && is_kind kind outcome.now.kind) }
 {
-    !is_told(before, outcome) && outcome.kind == kind
+    !is_grouped(before, outcome) && outcome.kind == kind
 }
 
 // How many of the orders led to the outcome of a place.
@@ -38,15 +38,15 @@ fn count_at(outcomes: &Outcomes, place: usize) -> u64
 }
 
 /// How many of the orders led to the outcome of a place, in any of its forms.
-pub(crate) fn told_count(outcomes: &Outcomes, place: usize, outcome: &Outcome) -> u64
+pub(crate) fn group_count(outcomes: &Outcomes, place: usize, outcome: &Outcome) -> u64
     requires { place < length outcomes.now.all.items }
-    ensures { result ≡ told_count ((outcome.now, get_or outcomes.now.counts.items place 0), later_forms outcome.now (place + 1) outcomes.now) }
+    ensures { result ≡ group_count ((outcome.now, get_or outcomes.now.counts.items place 0), later_forms outcome.now (place + 1) outcomes.now) }
 {
     let all = outcomes.all.as_slice();
     let mut total = count_at(outcomes, place);
     for at in place + 1..all.len() {
         let other = &all[at];
-        if told_with(outcome, other) {
+        if grouped_with(outcome, other) {
             total = total.saturating_add(count_at(outcomes, at));
         }
     }
@@ -91,7 +91,7 @@ fn add_between(out: &mut String, is_first: bool) -> Result<(), OutOfMemory>
     }
 }
 
-// The messages of a form whose lines aren't those of the outcome that it is told with.
+// The messages of a form whose lines aren't those of the outcome that it is grouped with.
 fn add_places(out: &mut String, first: &[MsgEnd], form: &[MsgEnd]) -> Result<(), OutOfMemory>
     ensures { OnOk result (string_bytes out.new ≡ string_bytes out.old ++ places_text true 0 first.now form.now) }
 {
@@ -136,7 +136,7 @@ pub(crate) fn add_forms(
     let all = outcomes.all.as_slice();
     for at in place + 1..all.len() {
         let form = &all[at];
-        if told_with(outcome, form) {
+        if grouped_with(outcome, form) {
             add_form(out, outcome, form)?;
         }
     }

@@ -7,7 +7,7 @@
 //!
 //! Of a text: a *claim* holds of an outcome or doesn't; a *reading* is a number that a claim takes from it; an *expectation* says
 //! that a claim holds of each outcome, of one at least, or of none; either may be *open*, if a report doesn't tell. A *judgement* is what one run came to by its expectations, an
-//! *account* what is told of it. Over all orders an outcome is *final* if it wasn't cut, and only such ones are
+//! *account* what is said of it. Over all orders an outcome is *final* if it wasn't cut, and only such ones are
 //! judged; one *decides* an expectation if it breaks what is said of each or of none, or shows what is said of one.
 #![tactic(auto)]
 
@@ -30,7 +30,7 @@ mod mails;
 mod memos;
 mod outcomes;
 mod packs;
-mod parts;
+mod part_stores;
 mod places;
 mod readings;
 mod samples;

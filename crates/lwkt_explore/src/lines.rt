@@ -1,10 +1,10 @@
 //! What is written of a search.
 ghost use Rattle.std.specs.Prelude.{◌≡◌, ◌+◌, ◌<◌, ◌≤◌, ◌++◌, OnOk, IfOk, length, string_bytes};
 ghost use Rattle.lwkt_report.specs.Report.{numbered_lines};
-ghost use Rattle.lwkt_explore.specs.Texts.{order_bytes, kind_text, count_text, why_line, told_at, outcome_lines, of_kind, by_kind, lost_line, tried_text, extent_text, sum_line, text_of_found};
+ghost use Rattle.lwkt_explore.specs.Texts.{order_bytes, kind_text, count_text, why_line, group_at, outcome_lines, of_kind, by_kind, lost_line, tried_text, extent_text, sum_line, text_of_found};
 
 use crate::extents::{Bound, Extent};
-use crate::forms::{add_forms, is_first, told_count};
+use crate::forms::{add_forms, group_count, is_first};
 use crate::losses::Lost;
 use crate::outcomes::{Kind, Outcome};
 use crate::searches::{Found, Tried};
@@ -66,10 +66,10 @@ fn add_outcome(
     outcome: &Outcome,
 ) -> Result<(), OutOfMemory>
     requires { place < length found.now.outcomes.all.items }
-    ensures { OnOk result (string_bytes out.new ≡ string_bytes out.old ++ outcome_lines found.now.tried number (told_at outcome.now place found.now.outcomes)) }
+    ensures { OnOk result (string_bytes out.new ≡ string_bytes out.old ++ outcome_lines found.now.tried number (group_at outcome.now place found.now.outcomes)) }
 {
     let word = kind_word(outcome.kind);
-    let count = told_count(&found.outcomes, place, outcome);
+    let count = group_count(&found.outcomes, place, outcome);
     put(out, ("outcome ", number, " ", word))?;
     add_count(out, found.tried, count)?;
     push_str(out, ", order")?;
@@ -90,7 +90,7 @@ fn add_why(out: &mut String, why: &Option<String>) -> Result<(), OutOfMemory>
     }
 }
 
-// The outcomes of a kind, those that are told together under the first of them, behind so many others; says how many there are then.
+// The outcomes of a kind, those that are grouped under the first of them, behind so many others; says how many there are then.
 fn add_kind(
     out: &mut String,
     found: &Found,
@@ -171,7 +171,7 @@ fn add_sum(out: &mut String, found: &Found, count: usize) -> Result<(), OutOfMem
 
 /// The text of what was found: the outcomes, numbered from 1, the ended ones first, then the stuck ones, then those that were cut; then
 /// the lost states, if there are any, and what was searched (docs/EXPLORE.md). Outcomes of one kind that differ in message lines alone
-/// are told together under one number: the first of them, and of each other one the message lines that differ.
+/// are grouped under one number: the first of them, and of each other one the message lines that differ.
 ///
 /// Refused if memory is.
 pub fn text_of(alloc: Global, found: &Found) -> Result<String, OutOfMemory>

@@ -2,7 +2,7 @@
 ghost use Rattle.std.specs.Prelude.{◌≡◌, ◌≢◌, ℕ, ◌+◌, ◌<◌, ◌≤◌, [], ◌∷◌, ◌++◌, length, sum, string_bytes, Err, IfOk, IfErr, OnOk, OnErr, IfSome, OnSome};
 ghost use Rattle.std.specs.List.{Any};
 ghost use Rattle.std.specs.Option.{option_to_list};
-ghost use Rattle.lwkt_run.specs.Run.{AreThere, end_told};
+ghost use Rattle.lwkt_run.specs.Run.{AreThere, end_of_closing};
 ghost use Rattle.lwkt_script.specs.declared.scripts.Script.{Script};
 ghost use Rattle.lwkt_explore.specs.Outcomes.{settled_text, IsKind, IsOutcome, AreOutcomes, AreShort, AreWhole, HasEnded, HasRoom, RefusesSearch};
 ghost use Rattle.lwkt_explore.specs.Verdicts.{IsOfVerdict};
@@ -11,7 +11,7 @@ use crate::walks::number_in_order;
 use lwkt_base::memory::{from_slice, push, reserve};
 use lwkt_base::{Fault, OutOfMemory};
 use lwkt_report::{Closing, Verdict, report_front};
-use lwkt_run::{End, TurnsRun, end_told, order_run_of};
+use lwkt_run::{End, TurnsRun, end_of_closing, order_run_of};
 use lwkt_script::Script;
 use lwkt_show::{Reel, whys_of};
 use std::alloc::Global;
@@ -29,7 +29,7 @@ pub enum Kind {
 
 /// How the state stands that an order leads to.
 #[derive(Clone, Copy, PartialEq, Eq)]
-pub(crate) enum Stand {
+pub(crate) enum LastState {
     /// No turn changes anything.
     Quiet,
     /// All threads have ended.
@@ -50,7 +50,7 @@ pub struct Outcome {
     pub closing: Closing,
     /// The lines of the report but the last, which has the verdict.
     pub text: String,
-    /// Those of them that are of tokens and threads. Outcomes of one kind that differ in the others alone are told together.
+    /// Those of them that are of tokens and threads. Outcomes of one kind that differ in the others alone are grouped.
     pub settled: String,
     /// Of a stuck outcome what each thread that hasn't ended waits for, in one line; of every other nothing.
     pub why: Option<String>,
@@ -66,11 +66,11 @@ pub struct Outcomes {
 }
 
 // Which kind of outcome a run is that led to a state that stands so. 35: its verdict isn't `lawful`.
-fn kind_of(run: &TurnsRun, stand: Stand) -> Result<Kind, Fault>
+fn kind_of(run: &TurnsRun, last_state: LastState) -> Result<Kind, Fault>
     requires { run.now.closing.verdict ≢ Verdict.Closed }
     ensures lawful { OnOk result (run.now.closing.verdict ≡ Verdict.Lawful) }
     ensures unlawful { IfErr result (λ fault. IsOfVerdict run.now.closing.verdict fault) }
-    ensures kind { IfOk result (λ kind. IsKind kind (end_told run.now.closing)) }
+    ensures kind { IfOk result (λ kind. IsKind kind (end_of_closing run.now.closing)) }
 {
     match run.closing.verdict {
         Verdict::Lawful => {}
@@ -78,13 +78,13 @@ fn kind_of(run: &TurnsRun, stand: Stand) -> Result<Kind, Fault>
         Verdict::Closed => return Err(Fault::Unlawful { index: 0 }),
         Verdict::Unlawful { index } => return Err(Fault::Unlawful { index }),
     }
-    match (stand, end_told(&run.closing)) {
+    match (last_state, end_of_closing(&run.closing)) {
         // (its verdict is lawful, so this can't be)
         (_, End::Unlawful) => Err(Fault::Unlawful { index: 0 }),
-        (Stand::Quiet | Stand::AllEnded, End::Ended) => Ok(Kind::Ended),
-        (Stand::Quiet, End::TurnsOut) => Ok(Kind::Stuck),
+        (LastState::Quiet | LastState::AllEnded, End::Ended) => Ok(Kind::Ended),
+        (LastState::Quiet, End::TurnsOut) => Ok(Kind::Stuck),
         // (where all threads have ended, the turns aren't used up)
-        (Stand::AllEnded, End::TurnsOut) | (Stand::Cut, _) => Ok(Kind::Cut),
+        (LastState::AllEnded, End::TurnsOut) | (LastState::Cut, _) => Ok(Kind::Cut),
     }
 }
 
@@ -143,7 +143,7 @@ fn outcome_of(
     alloc: Global,
     script: &Script,
     order: Vec<u8>,
-    stand: Stand,
+    last_state: LastState,
 ) -> Result<Outcome, Fault>
     requires { AreThere script.now order.items }
     ensures ok { IfOk result (λ outcome. IsOutcome script.now outcome) }
@@ -151,7 +151,7 @@ fn outcome_of(
     ensures refused { IfErr result (λ fault. RefusesSearch script.now fault) }
 {
     let run = order_run_of(alloc, script, order.as_slice())?;
-    let kind = kind_of(&run, stand)?;
+    let kind = kind_of(&run, last_state)?;
     let text = report_front(alloc, &run.closing)?;
     let why = why_of(alloc, script, kind, &run)?;
     let (closing, settled) = settled_of(alloc, run.closing)?;
@@ -180,7 +180,7 @@ pub(crate) fn judge(
     if let Some(cpu) = cpu {
         push(&mut whole, number_in_order(cpu))?;
     }
-    outcome_of(alloc, script, whole, Stand::Cut)?;
+    outcome_of(alloc, script, whole, LastState::Cut)?;
     Ok(())
 }
 
@@ -270,7 +270,7 @@ impl Outcomes {
         alloc: Global,
         script: &Script,
         order: Vec<u8>,
-        stand: Stand,
+        last_state: LastState,
     ) -> Result<Kind, Fault>
         requires order { AreThere script.now order.items }
         requires outcomes { AreOutcomes script.now self.old }
@@ -284,7 +284,7 @@ impl Outcomes {
         ensures refused { IfErr result (λ fault. RefusesSearch script.now fault) }
     {
         self.make_room()?;
-        let outcome = outcome_of(alloc, script, order, stand)?;
+        let outcome = outcome_of(alloc, script, order, last_state)?;
         let kind = outcome.kind;
         match self.place_of(&outcome) {
             Some(place) => self.count(place),

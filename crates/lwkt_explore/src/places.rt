@@ -4,7 +4,7 @@ ghost use Rattle.lwkt_core.specs.Opening.{AreWithin};
 ghost use Rattle.lwkt_run.specs.Run.{DeclinesRun};
 
 use crate::doings::Doings;
-use crate::parts::Written;
+use crate::part_stores::Written;
 use crate::states::{add_state, away};
 use lwkt_base::memory::{push, with_capacity};
 use lwkt_base::{Fault, MsgId, OutOfMemory, Owner};
@@ -41,7 +41,7 @@ fn target_of(owner: Owner) -> usize {
     usize::from(cpu.0)
 }
 
-// What a machine is told of a message whose record it shows.
+// What a machine is given of a message whose record it shows.
 fn sent_of(message: &Message) -> Sent {
     Sent {
         origin: usize::from(message.origin.cpu.0),

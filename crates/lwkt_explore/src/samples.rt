@@ -95,8 +95,8 @@ fn add_one(
     ensures refused { IfErr result (λ fault. RefusesSearch script.now fault) }
 {
     let most = walk.bounds.turns;
-    let (order, stand) = walk.stray(alloc, script, course, most)?;
-    match outcomes.add(alloc, script, order, stand) {
+    let (order, last_state) = walk.stray(alloc, script, course, most)?;
+    match outcomes.add(alloc, script, order, last_state) {
         Ok(_) => Ok(()),
         Err(fault) => Err(fault),
     }

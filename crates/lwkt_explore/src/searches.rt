@@ -8,7 +8,7 @@ ghost use Rattle.lwkt_explore.specs.Walks.{IsSearching};
 use crate::dives::dive;
 use crate::extents::{Bound, Extent, extent_of};
 use crate::losses::Lost;
-use crate::outcomes::{Kind, Outcomes, Stand};
+use crate::outcomes::{Kind, LastState, Outcomes};
 use crate::walks::Walk;
 use crate::watches::Watch;
 use lwkt_base::Fault;
@@ -74,7 +74,7 @@ fn add_at(
     walk: &mut Walk,
     outcomes: &mut Outcomes,
     at: usize,
-    stand: Stand,
+    last_state: LastState,
 ) -> Result<Kind, Fault>
     requires { IsSearching script.now walk.old outcomes.old }
     ensures search { IsSearching script.now walk.new outcomes.new }
@@ -84,7 +84,7 @@ fn add_at(
     ensures refused { IfErr result (λ fault. RefusesSearch script.now fault) }
 {
     let order = walk.graph.order(alloc, at)?;
-    let kind = outcomes.add(alloc, script, order, stand)?;
+    let kind = outcomes.add(alloc, script, order, last_state)?;
     if kind == Kind::Cut {
         walk.meet(Bound::Turns);
     }
@@ -106,10 +106,10 @@ fn expand(
     ensures refused { IfErr result (λ fault. RefusesSearch script.now fault) }
 {
     let leads = walk.go_on(alloc, script, at)?;
-    let Some(stand) = walk.stand(at, leads) else {
+    let Some(last_state) = walk.last_state(at, leads) else {
         return Ok(walk.note_end(false)?);
     };
-    let kind = add_at(alloc, script, walk, outcomes, at, stand)?;
+    let kind = add_at(alloc, script, walk, outcomes, at, last_state)?;
     Ok(walk.note_end(kind == Kind::Ended)?)
 }
 
@@ -146,7 +146,7 @@ fn search<W: Watch>(
     Ok(())
 }
 
-// The lost states of a walk that met no bound. Where memory for them is refused, that is the bound that it met, and none are told.
+// The lost states of a walk that met no bound. Where memory for them is refused, that is the bound that it met, and none are shown.
 fn lost_in(alloc: Global, walk: &mut Walk) -> Option<Lost>
     ensures met { walk.new.met ≡ None → walk.old.met ≡ None }
     ensures part { walk.new.met ≢ None → result ≡ None }
@@ -233,7 +233,7 @@ pub fn explore<W: Watch>(
     // If every order was tried, none was cut off.
     ensures whole { IfOk result (λ found. is_complete found ≡ true → AreWhole found.outcomes) }
 
-    // Lost states are told only if every order was tried.
+    // Lost states are shown only if every order was tried.
     ensures lost { IfOk result (λ found. is_complete found ≡ false → found.lost ≡ None) }
     ensures tried { IfOk result (λ found. HasTriedStates bounds.states found.tried) }
     ensures refused { IfErr result (λ fault. RefusesSearch script.now fault) }

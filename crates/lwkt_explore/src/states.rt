@@ -62,7 +62,7 @@ fn owner_number(owner: Owner) -> u64 {
     state + 4 * u64::from(origin.0) + 1024 * u64::from(target.0)
 }
 
-// A message. How often it was sent its round tells; how often it was taken, dropped, replied to and reaped no later turn asks.
+// A message. How often it was sent its round says; how often it was taken, dropped, replied to and reaped no later turn asks.
 fn add_message(words: &mut Vec<u64>, message: &Message) -> Result<(), OutOfMemory> {
     push(words, message.round)?;
     push(words, owner_number(message.owner))?;

@@ -2,7 +2,7 @@
 ghost use Rattle.std.specs.Prelude.{◌≡◌, ◌≢◌, ◌⊎◌, ℕ, ◌+◌, ◌<◌, ◌≤◌, true, List, [], length, All, Ok, Err, Some, None, Contains, IsFalse, IfOk, IfErr, OnOk, OnErr, IfSome};
 ghost use Rattle.lwkt_explore.specs.Graphs.{depth_at, IsOrder};
 ghost use Rattle.lwkt_explore.specs.Outcomes.{RefusesSearch};
-ghost use Rattle.lwkt_explore.specs.Walks.{stand_of, IsWalk, WalkStays, StaysThere, WalkGoesOn};
+ghost use Rattle.lwkt_explore.specs.Walks.{last_state_of, IsWalk, WalkStays, StaysThere, WalkGoesOn};
 
 use crate::choices::Choice;
 use crate::doings::Doings;
@@ -11,8 +11,8 @@ use crate::graphs::{Graph, NONE, Row, UNTRIED};
 use crate::losses::{Lost, lost_of};
 use crate::mails::Mails;
 use crate::memos::{Memos, picked, put_back};
-use crate::outcomes::{Stand, judge};
-use crate::parts::{Layout, Parts, Written};
+use crate::outcomes::{LastState, judge};
+use crate::part_stores::{Layout, PartStore, Written};
 use crate::places::Place;
 use crate::samples::Course;
 use crate::searches::{Bounds, Method};
@@ -33,7 +33,7 @@ pub(crate) struct Walk {
     pub bounds: Bounds,
     method: Method,
     layout: Layout,
-    parts: Parts,
+    parts: PartStore,
     memos: Memos,
     /// The states that were found, and the turns between them.
     pub graph: Graph,
@@ -89,25 +89,25 @@ fn leads_of(row: &Row, at: usize, cpus: usize) -> Leads {
 
 // How a state stands at which there is an outcome: where all threads have ended, whatever its turns lead to; else where no turn changes
 // anything, or a turn leads off and the order is as long as it may be.
-fn stand_of(all_ended: bool, leads: Leads, is_far: bool) -> Option<Stand>
-    ensures { result ≡ stand_of all_ended leads is_far }
+fn last_state_of(all_ended: bool, leads: Leads, is_far: bool) -> Option<LastState>
+    ensures { result ≡ last_state_of all_ended leads is_far }
 {
     if all_ended {
-        return Some(Stand::AllEnded);
+        return Some(LastState::AllEnded);
     }
     match leads {
-        Leads::Nowhere => Some(Stand::Quiet),
-        Leads::Off if is_far => Some(Stand::Cut),
+        Leads::Nowhere => Some(LastState::Quiet),
+        Leads::Off if is_far => Some(LastState::Cut),
         Leads::On | Leads::Off => None,
     }
 }
 
 // How a place stands whose order isn't made longer.
-fn stand_at_last(place: &Place) -> Stand {
+fn last_state_of_place(place: &Place) -> LastState {
     if place.all_ended() {
-        Stand::AllEnded
+        LastState::AllEnded
     } else {
-        Stand::Cut
+        LastState::Cut
     }
 }
 
@@ -134,7 +134,7 @@ impl Walk {
             bounds,
             method,
             layout,
-            parts: Parts::new(alloc, layout)?,
+            parts: PartStore::new(alloc, layout)?,
             memos: Memos::new(alloc)?,
             graph: Graph::new(alloc, usize::from(script.cpus))?,
             ends: Vec::new(alloc),
@@ -255,7 +255,7 @@ impl Walk {
         }
     }
 
-    /// Notes that a bound was met; the first one is told.
+    /// Notes that a bound was met; the first one is said.
     pub(crate) fn meet(&mut self, bound: Bound)
         ensures met { self.new.met ≢ None }
         ensures bounds { self.new.bounds ≡ self.old.bounds }
@@ -269,9 +269,9 @@ impl Walk {
 
     /// How a state stands that was gone on from, if there is an outcome at it: where all threads have ended, where nothing changes any
     /// more, and where the order to it has as many turns as it may have.
-    pub(crate) fn stand(&self, at: usize, leads: Leads) -> Option<Stand> {
+    pub(crate) fn last_state(&self, at: usize, leads: Leads) -> Option<LastState> {
         let all_ended = self.parts.all_ended(self.graph.parts(at));
-        stand_of(all_ended, leads, self.is_far(at))
+        last_state_of(all_ended, leads, self.is_far(at))
     }
 
     /// Whether the order to a state has as many turns as it may have.
@@ -451,7 +451,7 @@ impl Walk {
         script: &Script,
         course: &mut Course,
         most: usize,
-    ) -> Result<(Vec<u8>, Stand), Fault>
+    ) -> Result<(Vec<u8>, LastState), Fault>
         requires { IsWalk script.now self.old }
         ensures stays { StaysThere self.old self.new }
         ensures order { IfOk result (λ made. IsOrder script.now.cpus most made.0.items) }
@@ -463,11 +463,11 @@ impl Walk {
         let mut idle = 0usize;
         for turn in 0..most {
             if place.all_ended() && course.stops(turn, cpus) {
-                return Ok((order, Stand::AllEnded));
+                return Ok((order, LastState::AllEnded));
             }
             if idle >= 4 * cpus {
                 if self.is_quiet(alloc, script, order.as_slice())? {
-                    return Ok((order, Stand::Quiet));
+                    return Ok((order, LastState::Quiet));
                 }
                 idle = 0;
             }
@@ -480,7 +480,7 @@ impl Walk {
             };
             push(&mut order, number_in_order(cpu))?;
         }
-        Ok((order, stand_at_last(&place)))
+        Ok((order, last_state_of_place(&place)))
     }
 
     /// Notes of the next state that was gone on from whether it is an end.

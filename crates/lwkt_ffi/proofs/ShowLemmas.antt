@@ -4,13 +4,13 @@ use Rattle.lwkt_base.specs.Fault.{no_memory}
 use Rattle.lwkt_show.specs.declared.options.Counted.{Counted}
 use Rattle.lwkt_show.specs.declared.options.Counted.TheVariants.{Turns, Rounds}
 use Rattle.lwkt_show.specs.declared.options.Options.{Options}
-use Rattle.lwkt_show.specs.declared.options.View.{View}
-use Rattle.lwkt_show.specs.declared.options.View.TheVariants.{Lines, Trace, Picture, Chains}
+use Rattle.lwkt_show.specs.declared.options.Rendering.{Rendering}
+use Rattle.lwkt_show.specs.declared.options.Rendering.TheVariants.{Lines, Trace, Picture, Chains}
 use Rattle.lwkt_text.specs.declared.inputs.Unread.TheVariants.{Memory}
 use Rattle.lwkt_ffi.specs.declared.shows.Showing.{Showing}
 use Rattle.lwkt_ffi.specs.Alongs.{AreAlong}
 use Rattle.lwkt_ffi.specs.Answers.{Displays}
-use Rattle.lwkt_ffi.specs.Arguments.{AreOptions, IsView, Say, range_word}
+use Rattle.lwkt_ffi.specs.Arguments.{AreOptions, IsRendering, Say, range_word}
 
 -- a call that is refused for want of memory shows nothing
 pub unread_displays : (options : Options) (order : Option (List ℕ)) (script whole : List ℕ) (result : Result Showing Fault) → result ≡ Err no_memory → Displays options order script result whole
@@ -26,15 +26,15 @@ no_range : (counted : Counted) → codes "--order" ≡ range_word counted → �
 no_range Turns is = other_word (codes "--turns") 116 is refl (λ same. absurd (omega arith))
 no_range Rounds is = other_word (codes "--rounds") 114 is refl (λ same. absurd (omega arith))
 
-no_view : (view : View) → IsView (codes "--order") view → ⊥
-no_view Lines is = is
-no_view Trace is = other_word (codes "--trace") 116 is refl (λ same. absurd (omega arith))
-no_view Picture is = other_word (codes "--svg") 115 is refl (λ same. absurd (omega arith))
-no_view Chains is = other_word (codes "--chains") 99 is refl (λ same. absurd (omega arith))
+no_rendering : (rendering : Rendering) → IsRendering (codes "--order") rendering → ⊥
+no_rendering Lines is = is
+no_rendering Trace is = other_word (codes "--trace") 116 is refl (λ same. absurd (omega arith))
+no_rendering Picture is = other_word (codes "--svg") 115 is refl (λ same. absurd (omega arith))
+no_rendering Chains is = other_word (codes "--chains") 99 is refl (λ same. absurd (omega arith))
 
 no_say : (text : List ℕ) (rest : List (List ℕ)) (options : Options) → Say (codes "--order" ∷ text ∷ rest) options → ⊥
 no_say text [] options is = no_range options.counted is.0.0
-no_say text (word ∷ []) options is = ⊎_elim (λ view. no_view options.view view.0) (λ range. no_range options.counted range.0.0) is
+no_say text (word ∷ []) options is = ⊎_elim (λ rendering. no_rendering options.rendering rendering.0) (λ range. no_range options.counted range.0.0) is
 no_say text (word ∷ next ∷ rest) options is = is
 
 -- no arguments ask for a run in rounds and for one along an order

@@ -31,5 +31,5 @@ pub record AreAlong (words : List (List ℕ)) (options : Options) (order : List 
   pub is_order : order ≡ turns_of text
   pub say : Say behind options
   pub rises : options.first ≤ options.last
-  pub whole : has_range options.view ≡ false → (options.first ≡ 0) × (options.last ≡ no_end)
+  pub whole : has_range options.rendering ≡ false → (options.first ≡ 0) × (options.last ≡ no_end)
   pub turns : options.counted ≡ Turns

@@ -28,7 +28,7 @@ use Rattle.lwkt_ffi.specs.declared.shows.Showing.TheVariants.{Shown, Past, Misus
 abbrev pub buffer_with_text : List ℕ → List ℕ → List ℕ
 buffer_with_text buffer whole = take (length buffer) whole ++ drop (length whole) buffer
 
--- the place that a fault tells
+-- the place that a fault names
 abbrev pub place_of_fault : Fault → ℕ
 place_of_fault (Script place) = place
 place_of_fault _ = 0
@@ -69,9 +69,9 @@ abbrev pub read_front : List ℕ → List ℕ
 read_front given = take READ_LIMIT given
 
 -- what came of a script: a run of it may end so, with this report; or it is refused for this fault
-abbrev pub TellsRun : List ℕ → Result End Fault → List ℕ → Type 0
-TellsRun script (Ok end) whole = HasRun (read_front script) end whole
-TellsRun script (Err fault) whole = Refuses (read_front script) fault
+abbrev pub ReportsRun : List ℕ → Result End Fault → List ℕ → Type 0
+ReportsRun script (Ok end) whole = HasRun (read_front script) end whole
+ReportsRun script (Err fault) whole = Refuses (read_front script) fault
 
 abbrev pub status_of_run : Result End Fault → ℕ
 status_of_run (Ok end) = status_of_end end
@@ -82,7 +82,7 @@ status_of_run (Err fault) = status_of_fault fault
 pub record AnswersRun (script old new : List ℕ) (answer : LwktAnswer) (status : ℕ) : Type 0 where
   pub outcome : Result End Fault
   pub whole : List ℕ
-  pub tells : TellsRun script outcome whole
+  pub reports : ReportsRun script outcome whole
   pub fills : Fills old new answer whole (result_err outcome)
   pub is_status : status ≡ status_of_run outcome
 
@@ -91,9 +91,9 @@ abbrev pub trace_in : List ℕ → List ℕ
 trace_in given = take 268435457 given
 
 -- what came of a trace: whether it is lawful, with the text of what was found; or it is refused for this fault
-abbrev pub TellsCheck : List ℕ → Result Bool Fault → List ℕ → Type 0
-TellsCheck trace (Ok lawful) whole = HasFinding (trace_in trace) lawful whole
-TellsCheck trace (Err fault) whole = IsNoTrace (trace_in trace) fault
+abbrev pub ReportsCheck : List ℕ → Result Bool Fault → List ℕ → Type 0
+ReportsCheck trace (Ok lawful) whole = HasFinding (trace_in trace) lawful whole
+ReportsCheck trace (Err fault) whole = IsNoTrace (trace_in trace) fault
 
 abbrev pub status_of_check : Result Bool Fault → ℕ
 status_of_check (Ok true) = 0
@@ -105,7 +105,7 @@ status_of_check (Err fault) = status_of_fault fault
 pub record AnswersCheck (trace old new : List ℕ) (answer : LwktAnswer) (status : ℕ) : Type 0 where
   pub outcome : Result Bool Fault
   pub whole : List ℕ
-  pub tells : TellsCheck trace outcome whole
+  pub reports : ReportsCheck trace outcome whole
   pub fills : Fills old new answer whole (result_err outcome)
   pub is_status : status ≡ status_of_check outcome
 

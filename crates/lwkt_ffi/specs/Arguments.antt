@@ -4,8 +4,8 @@ use Rattle.std.specs.List.{before_first, after_first}
 use Rattle.std.specs.Str.Parse.{digits_value, without_leading_plus, IsNumeral}
 use Rattle.lwkt_show.specs.declared.options.Counted.{Counted}
 use Rattle.lwkt_show.specs.declared.options.Counted.TheVariants.{Turns, Rounds}
-use Rattle.lwkt_show.specs.declared.options.View.{View}
-use Rattle.lwkt_show.specs.declared.options.View.TheVariants.{Lines, Trace, Picture, Chains}
+use Rattle.lwkt_show.specs.declared.options.Rendering.{Rendering}
+use Rattle.lwkt_show.specs.declared.options.Rendering.TheVariants.{Lines, Trace, Picture, Chains}
 use Rattle.lwkt_show.specs.declared.options.Options.{Options}
 
 -- an end of a range that is left out
@@ -31,14 +31,14 @@ pub record IsRange (text : List ℕ) (first last : ℕ) : Type 0 where
   pub is_last : IsBound no_end to last
 
 -- a word asks for a view; no word asks for lines
-abbrev pub IsView : List ℕ → View → Type 0
-IsView word Lines = ⊥
-IsView word Trace = word ≡ codes "--trace"
-IsView word Picture = word ≡ codes "--svg"
-IsView word Chains = word ≡ codes "--chains"
+abbrev pub IsRendering : List ℕ → Rendering → Type 0
+IsRendering word Lines = ⊥
+IsRendering word Trace = word ≡ codes "--trace"
+IsRendering word Picture = word ≡ codes "--svg"
+IsRendering word Chains = word ≡ codes "--chains"
 
 -- whether a view is of turns that are chosen, and not of the whole run
-abbrev pub has_range : View → Bool
+abbrev pub has_range : Rendering → Bool
 has_range Lines = true
 has_range Trace = false
 has_range Picture = true
@@ -59,10 +59,10 @@ HasAll options = (options.counted ≡ Turns) × ((options.first ≡ 0) × (optio
 
 -- what the words behind `turns` say: nothing, a view, a range, or both in either order
 abbrev pub Say : List (List ℕ) → Options → Type 0
-Say [] options = HasAll options × (options.view ≡ Lines)
-Say (view ∷ []) options = HasAll options × IsView view options.view
-Say (word ∷ text ∷ []) options = Choose word text options × (options.view ≡ Lines)
-Say (a ∷ b ∷ c ∷ []) options = (IsView a options.view × Choose b c options) ⊎ (Choose a b options × IsView c options.view)
+Say [] options = HasAll options × (options.rendering ≡ Lines)
+Say (rendering ∷ []) options = HasAll options × IsRendering rendering options.rendering
+Say (word ∷ text ∷ []) options = Choose word text options × (options.rendering ≡ Lines)
+Say (a ∷ b ∷ c ∷ []) options = (IsRendering a options.rendering × Choose b c options) ⊎ (Choose a b options × IsRendering c options.rendering)
 Say (a ∷ b ∷ c ∷ d ∷ words) options = ⊥
 
 -- the options that the arguments are: `turns`, and what is said behind it; a range rises, and a view that isn't of chosen turns is
@@ -72,4 +72,4 @@ pub record AreOptions (words : List (List ℕ)) (options : Options) : Type 0 whe
   pub are : words ≡ codes "turns" ∷ behind
   pub say : Say behind options
   pub rises : options.first ≤ options.last
-  pub whole : has_range options.view ≡ false → (options.first ≡ 0) × (options.last ≡ no_end)
+  pub whole : has_range options.rendering ≡ false → (options.first ≡ 0) × (options.last ≡ no_end)

@@ -28,8 +28,8 @@ use Rattle.lwkt_ffi.specs.declared.orders.Search.{Search}
 use Rattle.lwkt_ffi.specs.Answers.{Fills, RefusesInput, status_of_fault}
 
 -- what `lwkt_is_text` answers: whether the bytes are taken for a text, or want of memory
-abbrev pub TellsForm : List ℕ → ℕ → Type 0
-TellsForm script status = (status ≡ (if is_text script then 1 else 0)) ⊎ (status ≡ 3)
+abbrev pub ReportsForm : List ℕ → ℕ → Type 0
+ReportsForm script status = (status ≡ (if is_text script then 1 else 0)) ⊎ (status ≡ 3)
 
 -- why a text isn't read: for want of memory; or something is wrong with it, and it is refused as bytes that are no JSON
 abbrev pub RefusesReading : List ℕ → Fault → Type 0
@@ -44,9 +44,9 @@ abbrev pub RefusesJson : List ℕ → Fault → Type 0
 RefusesJson text fault = RefusesReading text fault ⊎ ((fault ≡ Limits) × ((reading : Reading) × (reading_of text ≡ Ok reading)))
 
 -- what came of a text whose JSON was asked for
-abbrev pub TellsJson : List ℕ → Result (Unit {0}) Fault → List ℕ → Type 0
-TellsJson text (Ok made) whole = IsJsonOf text whole
-TellsJson text (Err fault) whole = RefusesJson text fault
+abbrev pub ReportsJson : List ℕ → Result (Unit {0}) Fault → List ℕ → Type 0
+ReportsJson text (Ok made) whole = IsJsonOf text whole
+ReportsJson text (Err fault) whole = RefusesJson text fault
 
 abbrev pub status_of_made : Result (Unit {0}) Fault → ℕ
 status_of_made (Ok made) = 0
@@ -57,7 +57,7 @@ status_of_made (Err fault) = status_of_fault fault
 pub record AnswersJson (text old new : List ℕ) (answer : LwktAnswer) (status : ℕ) : Type 0 where
   pub outcome : Result (Unit {0}) Fault
   pub whole : List ℕ
-  pub tells : TellsJson text outcome whole
+  pub reports : ReportsJson text outcome whole
   pub fills : Fills old new answer whole (result_err outcome)
   pub is_status : status ≡ status_of_made outcome
 
@@ -75,9 +75,9 @@ abbrev pub RefusesTextRun : List ℕ → Fault → Type 0
 RefusesTextRun text fault = RefusesReading text fault ⊎ ((reading : Reading) × ((reading_of text ≡ Ok reading) × DeclinesRun reading.script fault))
 
 -- what came of a text that was run: its report, with more behind it; or why there is none
-abbrev pub TellsTextRun : List ℕ → Result Judgement Fault → List ℕ → Type 0
-TellsTextRun text (Ok judgement) whole = (report : List ℕ) × ((verdicts : List ℕ) × (HasTextReport text judgement report × (whole ≡ report ++ verdicts)))
-TellsTextRun text (Err fault) whole = RefusesTextRun text fault
+abbrev pub ReportsTextRun : List ℕ → Result Judgement Fault → List ℕ → Type 0
+ReportsTextRun text (Ok judgement) whole = (report : List ℕ) × ((verdicts : List ℕ) × (HasTextReport text judgement report × (whole ≡ report ++ verdicts)))
+ReportsTextRun text (Err fault) whole = RefusesTextRun text fault
 
 abbrev pub status_of_text_run : Result Judgement Fault → ℕ
 status_of_text_run (Ok judgement) = status_of_judgement judgement
@@ -87,7 +87,7 @@ status_of_text_run (Err fault) = status_of_fault fault
 pub record AnswersText (text old new : List ℕ) (answer : LwktAnswer) (status : ℕ) : Type 0 where
   pub outcome : Result Judgement Fault
   pub whole : List ℕ
-  pub tells : TellsTextRun text outcome whole
+  pub reports : ReportsTextRun text outcome whole
   pub fills : Fills old new answer whole (result_err outcome)
   pub is_status : status ≡ status_of_text_run outcome
 
@@ -113,9 +113,9 @@ RefusesOrders script fault = RefusesInput script fault ⊎ ((input : Input) × (
 
 -- what came of a script whose orders were tried within these bounds: what was found, written out, with what is said of a text's
 -- expectations behind it; or it is refused for this fault
-abbrev pub TellsSearch : List ℕ → ℕ → ℕ → Result Search Fault → List ℕ → Type 0
-TellsSearch script states turns (Ok search) whole = IsSearch script states turns search × (whole ≡ text_of_found search.found ++ string_bytes search.verdicts)
-TellsSearch script states turns (Err fault) whole = RefusesOrders script fault
+abbrev pub ReportsSearch : List ℕ → ℕ → ℕ → Result Search Fault → List ℕ → Type 0
+ReportsSearch script states turns (Ok search) whole = IsSearch script states turns search × (whole ≡ text_of_found search.found ++ string_bytes search.verdicts)
+ReportsSearch script states turns (Err fault) whole = RefusesOrders script fault
 
 abbrev pub status_of_untried : Fault → ℕ
 status_of_untried (Unlawful index) = 4
@@ -130,6 +130,6 @@ status_of_orders (Err fault) = status_of_untried fault
 pub record AnswersOrders (script : List ℕ) (states turns : ℕ) (old new : List ℕ) (answer : LwktAnswer) (status : ℕ) : Type 0 where
   pub outcome : Result Search Fault
   pub whole : List ℕ
-  pub tells : TellsSearch script states turns outcome whole
+  pub reports : ReportsSearch script states turns outcome whole
   pub fills : Fills old new answer whole (result_err outcome)
   pub is_status : status ≡ status_of_orders outcome

@@ -79,8 +79,8 @@ fn text_of(words: &[String]) -> Option<(&str, &[String])>
 
 // What the words behind an order say of its turns.
 fn options_behind(words: &[String]) -> Option<Options>
-    ensures some { IfSome result (λ options. Say (map string_bytes words.now) options × (options.first ≤ options.last) × (has_range options.view ≡ false → (options.first ≡ 0) × (options.last ≡ no_end)) × (options.counted ≡ Turns)) }
-    ensures only { (options : Options) → Say (map string_bytes words.now) options → options.first ≤ options.last → (has_range options.view ≡ false → (options.first ≡ 0) × (options.last ≡ no_end)) → options.counted ≡ Turns → result ≡ Some options }
+    ensures some { IfSome result (λ options. Say (map string_bytes words.now) options × (options.first ≤ options.last) × (has_range options.rendering ≡ false → (options.first ≡ 0) × (options.last ≡ no_end)) × (options.counted ≡ Turns)) }
+    ensures only { (options : Options) → Say (map string_bytes words.now) options → options.first ≤ options.last → (has_range options.rendering ≡ false → (options.first ≡ 0) × (options.last ≡ no_end)) → options.counted ≡ Turns → result ≡ Some options }
 {
     let options = read_options(words)?;
     match options.counted {

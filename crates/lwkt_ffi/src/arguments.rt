@@ -1,9 +1,9 @@
 //! Arguments that ask for a run in rounds, shown.
 ghost use Rattle.std.specs.Prelude.{◌≡◌, ◌≢◌, ◌≤◌, ◌∷◌, [], false, ℕ, List, None, Some, IfSome, map, string_bytes};
 ghost use Rattle.std.specs.List.{before_first, after_first};
-ghost use Rattle.lwkt_ffi.specs.Arguments.{is_stop, IsBound, IsRange, no_end, IsView, range_word, has_range, Choose, Say, AreOptions};
+ghost use Rattle.lwkt_ffi.specs.Arguments.{is_stop, IsBound, IsRange, no_end, IsRendering, range_word, has_range, Choose, Say, AreOptions};
 
-use lwkt_show::{Counted, Options, View};
+use lwkt_show::{Counted, Options, Rendering};
 
 // All turns, or rounds, from one to another.
 #[derive(Clone, Copy)]
@@ -66,29 +66,29 @@ fn range_of(counted: Counted, text: &str) -> Option<Range>
 }
 
 // The view that a word asks for.
-fn view_by(word: &str) -> Option<View>
-    ensures some { IfSome result (λ view. IsView word.now view) }
-    ensures only { (view : View) → IsView word.now view → result ≡ Some view }
+fn rendering_by(word: &str) -> Option<Rendering>
+    ensures some { IfSome result (λ rendering. IsRendering word.now rendering) }
+    ensures only { (rendering : Rendering) → IsRendering word.now rendering → result ≡ Some rendering }
 {
     match word {
-        "--trace" => Some(View::Trace),
-        "--svg" => Some(View::Picture),
-        "--chains" => Some(View::Chains),
+        "--trace" => Some(Rendering::Trace),
+        "--svg" => Some(Rendering::Picture),
+        "--chains" => Some(Rendering::Chains),
         _ => None,
     }
 }
 
 // Whether a view is of turns that are chosen, and not of the whole run.
-fn has_range(view: View) -> bool
-    ensures { result ≡ has_range view }
+fn has_range(rendering: Rendering) -> bool
+    ensures { result ≡ has_range rendering }
 {
-    matches!(view, View::Lines | View::Picture)
+    matches!(rendering, Rendering::Lines | Rendering::Picture)
 }
 
 // The options of a range and a view, if the range rises, and is that of the whole run where the view is.
-fn options_for(range: Range, view: View) -> Option<Options>
-    ensures some { IfSome result (λ options. (options ≡ record { view = view; counted = range.counted; first = range.first; last = range.last }) × (options.first ≤ options.last) × (has_range view ≡ false → (range.first ≡ 0) × (range.last ≡ no_end))) }
-    ensures only { range.first ≤ range.last → (has_range view ≡ false → (range.first ≡ 0) × (range.last ≡ no_end)) → result ≡ Some (record { view = view; counted = range.counted; first = range.first; last = range.last }) }
+fn options_for(range: Range, rendering: Rendering) -> Option<Options>
+    ensures some { IfSome result (λ options. (options ≡ record { rendering = rendering; counted = range.counted; first = range.first; last = range.last }) × (options.first ≤ options.last) × (has_range rendering ≡ false → (range.first ≡ 0) × (range.last ≡ no_end))) }
+    ensures only { range.first ≤ range.last → (has_range rendering ≡ false → (range.first ≡ 0) × (range.last ≡ no_end)) → result ≡ Some (record { rendering = rendering; counted = range.counted; first = range.first; last = range.last }) }
 {
     let Range {
         counted,
@@ -98,11 +98,11 @@ fn options_for(range: Range, view: View) -> Option<Options>
     if first > last {
         return None;
     }
-    if !has_range(view) && !(first == 0 && last == usize::MAX) {
+    if !has_range(rendering) && !(first == 0 && last == usize::MAX) {
         return None;
     }
     Some(Options {
-        view,
+        rendering,
         counted,
         first,
         last,
@@ -110,36 +110,36 @@ fn options_for(range: Range, view: View) -> Option<Options>
 }
 
 // The options of a range and a view.
-fn ranged(word: &str, text: &str, view: View) -> Option<Options>
-    ensures some { IfSome result (λ options. Choose word.now text.now options × (options.view ≡ view) × (options.first ≤ options.last) × (has_range view ≡ false → (options.first ≡ 0) × (options.last ≡ no_end))) }
-    ensures only { (options : Options) → Choose word.now text.now options → options.view ≡ view → options.first ≤ options.last → (has_range view ≡ false → (options.first ≡ 0) × (options.last ≡ no_end)) → result ≡ Some options }
+fn ranged(word: &str, text: &str, rendering: Rendering) -> Option<Options>
+    ensures some { IfSome result (λ options. Choose word.now text.now options × (options.rendering ≡ rendering) × (options.first ≤ options.last) × (has_range rendering ≡ false → (options.first ≡ 0) × (options.last ≡ no_end))) }
+    ensures only { (options : Options) → Choose word.now text.now options → options.rendering ≡ rendering → options.first ≤ options.last → (has_range rendering ≡ false → (options.first ≡ 0) × (options.last ≡ no_end)) → result ≡ Some options }
 {
     let counted = counted_by(word)?;
     let range = range_of(counted, text)?;
-    options_for(range, view)
+    options_for(range, rendering)
 }
 
 // The options of a range and a view, in either order.
 fn both(first: &str, second: &str, third: &str) -> Option<Options>
-    ensures some { IfSome result (λ options. Say (first.now ∷ second.now ∷ third.now ∷ []) options × (options.first ≤ options.last) × (has_range options.view ≡ false → (options.first ≡ 0) × (options.last ≡ no_end))) }
-    ensures only { (options : Options) → Say (first.now ∷ second.now ∷ third.now ∷ []) options → options.first ≤ options.last → (has_range options.view ≡ false → (options.first ≡ 0) × (options.last ≡ no_end)) → result ≡ Some options }
+    ensures some { IfSome result (λ options. Say (first.now ∷ second.now ∷ third.now ∷ []) options × (options.first ≤ options.last) × (has_range options.rendering ≡ false → (options.first ≡ 0) × (options.last ≡ no_end))) }
+    ensures only { (options : Options) → Say (first.now ∷ second.now ∷ third.now ∷ []) options → options.first ≤ options.last → (has_range options.rendering ≡ false → (options.first ≡ 0) × (options.last ≡ no_end)) → result ≡ Some options }
 {
-    if let Some(view) = view_by(first) {
-        return ranged(second, third, view);
+    if let Some(rendering) = rendering_by(first) {
+        return ranged(second, third, rendering);
     }
-    let view = view_by(third)?;
-    ranged(first, second, view)
+    let rendering = rendering_by(third)?;
+    ranged(first, second, rendering)
 }
 
 // The options of the words behind `turns`.
 pub(crate) fn read_options(words: &[String]) -> Option<Options>
-    ensures some { IfSome result (λ options. Say (map string_bytes words.now) options × (options.first ≤ options.last) × (has_range options.view ≡ false → (options.first ≡ 0) × (options.last ≡ no_end))) }
-    ensures only { (options : Options) → Say (map string_bytes words.now) options → options.first ≤ options.last → (has_range options.view ≡ false → (options.first ≡ 0) × (options.last ≡ no_end)) → result ≡ Some options }
+    ensures some { IfSome result (λ options. Say (map string_bytes words.now) options × (options.first ≤ options.last) × (has_range options.rendering ≡ false → (options.first ≡ 0) × (options.last ≡ no_end))) }
+    ensures only { (options : Options) → Say (map string_bytes words.now) options → options.first ≤ options.last → (has_range options.rendering ≡ false → (options.first ≡ 0) × (options.last ≡ no_end)) → result ≡ Some options }
 {
     match words {
-        [] => options_for(ALL, View::Lines),
-        [view] => options_for(ALL, view_by(view.as_str())?),
-        [word, text] => ranged(word.as_str(), text.as_str(), View::Lines),
+        [] => options_for(ALL, Rendering::Lines),
+        [rendering] => options_for(ALL, rendering_by(rendering.as_str())?),
+        [word, text] => ranged(word.as_str(), text.as_str(), Rendering::Lines),
         [first, second, third] => both(first.as_str(), second.as_str(), third.as_str()),
         _ => None,
     }

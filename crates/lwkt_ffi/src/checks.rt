@@ -1,5 +1,5 @@
 ghost use Rattle.std.specs.Prelude.{◌≡◌, []};
-ghost use Rattle.lwkt_ffi.specs.Answers.{TellsCheck, AnswersCheck, status_of_check};
+ghost use Rattle.lwkt_ffi.specs.Answers.{ReportsCheck, AnswersCheck, status_of_check};
 
 use crate::answers::{LwktAnswer, status_of_fault};
 use crate::fronts::{blank, fill, page_refusal};
@@ -12,7 +12,7 @@ use std::alloc::Global;
 // Judges a trace, with what was found of it on an empty page, which takes it where memory is there.
 fn finding_onto(alloc: Global, trace: &[u8], page: &mut Page) -> Result<bool, Fault>
     requires { page.old.text.items ≡ [] }
-    ensures { TellsCheck trace.now result page.new.text.items }
+    ensures { ReportsCheck trace.now result page.new.text.items }
 {
     let mut source = trace;
     match check_stream(alloc, &mut source, page) {
@@ -25,7 +25,7 @@ fn finding_onto(alloc: Global, trace: &[u8], page: &mut Page) -> Result<bool, Fa
 // Judges a trace, with what was found of it on an empty page, or why nothing was.
 fn check_onto(alloc: Global, trace: &[u8], page: &mut Page) -> Result<bool, Fault>
     requires { page.old.text.items ≡ [] }
-    ensures { TellsCheck trace.now result page.new.text.items }
+    ensures { ReportsCheck trace.now result page.new.text.items }
 {
     match finding_onto(alloc, trace, page) {
         Ok(lawful) => Ok(lawful),

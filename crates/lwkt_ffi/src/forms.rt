@@ -1,6 +1,6 @@
 //! The two forms of scripts: whether bytes are a text, and the JSON of one.
 ghost use Rattle.std.specs.Prelude.{◌≡◌, [], IfOk, IfErr, string_bytes};
-ghost use Rattle.lwkt_ffi.specs.Texts.{IsJsonOf, RefusesJson, TellsForm, TellsJson, AnswersJson, status_of_made};
+ghost use Rattle.lwkt_ffi.specs.Texts.{IsJsonOf, RefusesJson, ReportsForm, ReportsJson, AnswersJson, status_of_made};
 
 use crate::answers::{LwktAnswer, status_of_fault};
 use crate::fronts::{blank, fill};
@@ -19,7 +19,7 @@ const LONG: &str = "as JSON the script has more than 1048576 bytes, and isn't wr
 /// left to those who read JSON, 3 for want of memory.
 #[unsafe(no_mangle)]
 pub extern "C" fn lwkt_is_text(alloc: Global, script: &[u8]) -> u32
-    ensures { TellsForm script.now result }
+    ensures { ReportsForm script.now result }
 {
     match is_text(alloc, script) {
         Ok(true) => 1,
@@ -53,7 +53,7 @@ fn json_of_text(alloc: Global, text: &[u8], page: &mut Page) -> Result<String, F
 // Puts the script of a text, in JSON, on an empty page, or why there is none.
 fn json_onto(alloc: Global, text: &[u8], page: &mut Page) -> Result<(), Fault>
     requires { page.old.text.items ≡ [] }
-    ensures { TellsJson text.now result page.new.text.items }
+    ensures { ReportsJson text.now result page.new.text.items }
 {
     let mut errors = blank(alloc);
     match json_of_text(alloc, text, &mut errors) {

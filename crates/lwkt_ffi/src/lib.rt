@@ -16,7 +16,7 @@ mod readings;
 mod refusals;
 mod runs;
 mod shows;
-mod tellings;
+mod text_runs;
 mod words;
 
 pub use answers::LwktAnswer;
@@ -25,4 +25,4 @@ pub use forms::{lwkt_is_text, lwkt_text_json};
 pub use orders::{Search, lwkt_explore_orders};
 pub use runs::lwkt_run_turns;
 pub use shows::{Showing, lwkt_show_turns};
-pub use tellings::lwkt_run_text;
+pub use text_runs::lwkt_run_text;

@@ -2,7 +2,7 @@
 ghost use Rattle.std.specs.Prelude.{◌≡◌, [], IfOk, IfErr};
 ghost use Rattle.std.specs.Result.{result_err};
 ghost use Rattle.lwkt_explore.specs.Outcomes.{RefusesSearch};
-ghost use Rattle.lwkt_ffi.specs.Texts.{AreFoundWithin, IsSearch, RefusesOrders, TellsSearch, AnswersOrders, status_of_orders};
+ghost use Rattle.lwkt_ffi.specs.Texts.{AreFoundWithin, IsSearch, RefusesOrders, ReportsSearch, AnswersOrders, status_of_orders};
 
 use crate::answers::{LwktAnswer, status_of_fault};
 use crate::fronts::{blank, fill, put_both};
@@ -88,7 +88,7 @@ fn search_onto(
     page: &mut Page,
 ) -> Result<Search, Fault>
     requires { page.old.text.items ≡ [] }
-    ensures { TellsSearch script.now bounds.states bounds.turns result page.new.text.items }
+    ensures { ReportsSearch script.now bounds.states bounds.turns result page.new.text.items }
 {
     let mut errors = blank(alloc);
     let search = match search_of(alloc, script, bounds, &mut errors) {

@@ -1,5 +1,5 @@
 ghost use Rattle.std.specs.Prelude.{◌≡◌, []};
-ghost use Rattle.lwkt_ffi.specs.Answers.{TellsRun, AnswersRun, status_of_run};
+ghost use Rattle.lwkt_ffi.specs.Answers.{ReportsRun, AnswersRun, status_of_run};
 
 use crate::answers::{LwktAnswer, status_of_end, status_of_fault};
 use crate::fronts::{blank, fill, page_refusal};
@@ -12,7 +12,7 @@ use std::alloc::Global;
 // Runs a script, with its report on an empty page, which takes it where memory is there.
 fn report_onto(alloc: Global, script: &[u8], page: &mut Page) -> Result<End, Fault>
     requires { page.old.text.items ≡ [] }
-    ensures { TellsRun script.now result page.new.text.items }
+    ensures { ReportsRun script.now result page.new.text.items }
 {
     let mut source = script;
     match run_turns(alloc, &mut source, page) {
@@ -25,7 +25,7 @@ fn report_onto(alloc: Global, script: &[u8], page: &mut Page) -> Result<End, Fau
 // Runs a script, with its report on an empty page, or why there is none.
 fn run_onto(alloc: Global, script: &[u8], page: &mut Page) -> Result<End, Fault>
     requires { page.old.text.items ≡ [] }
-    ensures { TellsRun script.now result page.new.text.items }
+    ensures { ReportsRun script.now result page.new.text.items }
 {
     match report_onto(alloc, script, page) {
         Ok(end) => Ok(end),

@@ -39,23 +39,23 @@ choice_false true x y is = cc
 choice_false false x y is = refl
 
 -- a further reference, and a first one, are taken by their event
-pub again_told : (refs : List Ref) (at : ℕ) (d : Ref) (cpu mine : CpuId) (t u : Vec Event Global) → at < length refs → names (take at refs) (get_or refs at d).tok.0 ≡ true → mine ≡ cpu → u.items ≡ t.items ++ Again mine (get_or refs at d).tok ∷ [] → IsSomeAnd (slice_get refs at) (λ r. u.items ≡ t.items ++ taking_event cpu (take at refs) r ∷ [])
-again_told refs at d cpu mine t u within named same pushed =
+pub again_traced : (refs : List Ref) (at : ℕ) (d : Ref) (cpu mine : CpuId) (t u : Vec Event Global) → at < length refs → names (take at refs) (get_or refs at d).tok.0 ≡ true → mine ≡ cpu → u.items ≡ t.items ++ Again mine (get_or refs at d).tok ∷ [] → IsSomeAnd (slice_get refs at) (λ r. u.items ≡ t.items ++ taking_event cpu (take at refs) r ∷ [])
+again_traced refs at d cpu mine t u within named same pushed =
     let r = get_or refs at d in
     let F : Option Ref → Type 0 = λ o. IsSomeAnd o (λ x. u.items ≡ t.items ++ taking_event cpu (take at refs) x ∷ []) in
     subst F (sym (slice_get-get_or refs at d within)) (pushed ∙ ap (λ c. t.items ++ Again c r.tok ∷ []) same ∙ ap (λ e. t.items ++ e ∷ []) (choice_true (names (take at refs) r.tok.0) (Again cpu r.tok) (taking cpu r.tok r.mode) named))
 
-pub first_told : (refs : List Ref) (at : ℕ) (d : Ref) (cpu mine : CpuId) (event : Event) (t u : Vec Event Global) → at < length refs → names (take at refs) (get_or refs at d).tok.0 ≡ false → mine ≡ cpu → event ≡ taking mine (get_or refs at d).tok (get_or refs at d).mode → u.items ≡ t.items ++ event ∷ [] → IsSomeAnd (slice_get refs at) (λ r. u.items ≡ t.items ++ taking_event cpu (take at refs) r ∷ [])
-first_told refs at d cpu mine event t u within free same is pushed =
+pub first_traced : (refs : List Ref) (at : ℕ) (d : Ref) (cpu mine : CpuId) (event : Event) (t u : Vec Event Global) → at < length refs → names (take at refs) (get_or refs at d).tok.0 ≡ false → mine ≡ cpu → event ≡ taking mine (get_or refs at d).tok (get_or refs at d).mode → u.items ≡ t.items ++ event ∷ [] → IsSomeAnd (slice_get refs at) (λ r. u.items ≡ t.items ++ taking_event cpu (take at refs) r ∷ [])
+first_traced refs at d cpu mine event t u within free same is pushed =
     let r = get_or refs at d in
     let F : Option Ref → Type 0 = λ o. IsSomeAnd o (λ x. u.items ≡ t.items ++ taking_event cpu (take at refs) x ∷ []) in
     subst F (sym (slice_get-get_or refs at d within)) (pushed ∙ ap (λ e. t.items ++ e ∷ []) (is ∙ ap (λ c. taking c r.tok r.mode) same ∙ choice_false (names (take at refs) r.tok.0) (Again cpu r.tok) (taking cpu r.tok r.mode) free))
 
 -- what the event of a place says, at that place's reference
-pub told_at : (refs : List Ref) (at : ℕ) (d : Ref) (cpu : CpuId) (xs ys : List Event) → at < length refs → IsSomeAnd (slice_get refs at) (λ r. ys ≡ xs ++ taking_event cpu (take at refs) r ∷ []) → ys ≡ xs ++ taking_event cpu (take at refs) (get_or refs at d) ∷ []
-told_at refs at d cpu xs ys within told =
+pub traced_at : (refs : List Ref) (at : ℕ) (d : Ref) (cpu : CpuId) (xs ys : List Event) → at < length refs → IsSomeAnd (slice_get refs at) (λ r. ys ≡ xs ++ taking_event cpu (take at refs) r ∷ []) → ys ≡ xs ++ taking_event cpu (take at refs) (get_or refs at d) ∷ []
+traced_at refs at d cpu xs ys within traced =
     let F : Option Ref → Type 0 = λ o. IsSomeAnd o (λ x. ys ≡ xs ++ taking_event cpu (take at refs) x ∷ []) in
-    subst F (slice_get-get_or refs at d within) told
+    subst F (slice_get-get_or refs at d within) traced
 
 -- one reference more is taken last
 takes_snoc : (cpu : CpuId) (front refs : List Ref) (r : Ref) → takes_all cpu front (refs ++ r ∷ []) ≡ takes_all cpu front refs ++ taking_event cpu (front ++ refs) r ∷ []
@@ -65,9 +65,9 @@ takes_snoc cpu front (x ∷ refs) r =
 
 -- the events so far, and that of one reference more
 pub takes_more : (refs : List Ref) (at : ℕ) (d : Ref) (cpu same : CpuId) (t u v : List Event) → at < length refs → same ≡ cpu → u ≡ t ++ takes_all cpu [] (take at refs) → IsSomeAnd (slice_get refs at) (λ r. v ≡ u ++ taking_event same (take at refs) r ∷ []) → v ≡ t ++ takes_all cpu [] (take (at + 1) refs)
-takes_more refs at d cpu same t u v within mine before told =
+takes_more refs at d cpu same t u v within mine before traced =
     let r = get_or refs at d in
-    told_at refs at d same u v within told
+    traced_at refs at d same u v within traced
     ∙ ap (λ c. u ++ taking_event c (take at refs) r ∷ []) mine
     ∙ ap (λ xs. xs ++ taking_event cpu (take at refs) r ∷ []) before
     ∙ append_assoc t (takes_all cpu [] (take at refs)) (taking_event cpu (take at refs) r ∷ [])
@@ -76,7 +76,7 @@ takes_more refs at d cpu same t u v within mine before told =
 
 -- all references were taken
 pub taken_all : (refs list : List Ref) (at : ℕ) (cpu : CpuId) (t u : List Event) → refs ≡ list → length refs ≤ at → u ≡ t ++ takes_all cpu [] (take at refs) → ◌≡◌ {A = Resumed} All All → u ≡ t ++ takes_all cpu [] list
-taken_all refs list at cpu t u same done told is = told ∙ ap (λ xs. t ++ takes_all cpu [] xs) (take_all at refs done ∙ same)
+taken_all refs list at cpu t u same done traced is = traced ∙ ap (λ xs. t ++ takes_all cpu [] xs) (take_all at refs done ∙ same)
 
 -- so many were taken, and given back
 same_place : (p q : ℕ) (why other : Missed) → ◌≡◌ {A = Resumed} (Passed p why) (Passed q other) → p ≡ q
@@ -243,15 +243,15 @@ releases_snoc s front (x ∷ refs) r own rest first more =
     let inner = releases_snoc s (front ++ x ∷ []) refs r own more.0 (subst F (sym (append_assoc front (x ∷ []) refs)) first) more.1.1.0 in
     (own ++ more.0, (more.1.0, (inner, more.1.1.1, ap (λ es. own ++ es) more.1.1.2 ∙ sym (append_assoc own more.0 more.1.0))))
 
--- what is told so far of giving a list back, whatever comes
-abbrev pub Tells : CpuSeat → List Ref → ℕ → ℕ → List Event → List Event → Type 0
-Tells a refs count left t u = (done : List Event) × ((u ≡ t ++ done) × ((rest : List Event) → ReleasesAll a [] (take left refs) rest → ReleasesAll a [] (take count refs) (done ++ rest)))
+-- what is traced so far of giving a list back, whatever comes
+abbrev pub GivesSoFar : CpuSeat → List Ref → ℕ → ℕ → List Event → List Event → Type 0
+GivesSoFar a refs count left t u = (done : List Event) × ((u ≡ t ++ done) × ((rest : List Event) → ReleasesAll a [] (take left refs) rest → ReleasesAll a [] (take count refs) (done ++ rest)))
 
-pub tells_none : (a : CpuSeat) (refs : List Ref) (count : ℕ) (t : List Event) → Tells a refs count count t t
-tells_none a refs count t = ([], (sym (append-nil t), λ rest all. all))
+pub traced_none : (a : CpuSeat) (refs : List Ref) (count : ℕ) (t : List Event) → GivesSoFar a refs count count t t
+traced_none a refs count t = ([], (sym (append-nil t), λ rest all. all))
 
-pub tells_more : (a : CpuSeat) (refs : List Ref) (count left : ℕ) (d : Ref) (t u v own : List Event) → left < length refs → Tells a refs count (left + 1) t u → v ≡ u ++ own → Releases a (holding_of (take (left + 1) refs) (get_or refs left d).tok.0) (get_or refs left d).tok own → Tells a refs count left t v
-tells_more a refs count left d t u v own within before pushed first =
+pub traced_more : (a : CpuSeat) (refs : List Ref) (count left : ℕ) (d : Ref) (t u v own : List Event) → left < length refs → GivesSoFar a refs count (left + 1) t u → v ≡ u ++ own → Releases a (holding_of (take (left + 1) refs) (get_or refs left d).tok.0) (get_or refs left d).tok own → GivesSoFar a refs count left t v
+traced_more a refs count left d t u v own within before pushed first =
     let r = get_or refs left d in
     let list = take_one_more refs left d within in
     let F : List Ref → Type 0 = λ xs. Releases a (holding_of xs r.tok.0) r.tok own in
@@ -266,7 +266,7 @@ tells_more a refs count left d t u v own within before pushed first =
       ),
     )
 
-pub tells_done : (a : CpuSeat) (refs : List Ref) (count : ℕ) (t u : List Event) → Tells a refs count 0 t u → (done : List Event) × ((u ≡ t ++ done) × ReleasesAll a [] (take count refs) done)
-tells_done a refs count t u told =
+pub traced_done : (a : CpuSeat) (refs : List Ref) (count : ℕ) (t u : List Event) → GivesSoFar a refs count 0 t u → (done : List Event) × ((u ≡ t ++ done) × ReleasesAll a [] (take count refs) done)
+traced_done a refs count t u traced =
     let F : List Event → Type 0 = λ es. ReleasesAll a [] (take count refs) es in
-    (told.0, (told.1.0, subst F (append-nil told.0) (told.1.1 [] refl)))
+    (traced.0, (traced.1.0, subst F (append-nil traced.0) (traced.1.1 [] refl)))

@@ -28,11 +28,11 @@ use Rattle.lwkt_table.proofs.HistoryLemmas.{events_in-append, steps_in-append}
 use Rattle.lwkt_bank.specs.Views.{RecordOf, is_touched}
 use Rattle.lwkt_bank.specs.Deeds.{reads, reads_all, writes_all, writes_blob_if}
 use Rattle.lwkt_bank.specs.Seats.{BankId, bank_of, plan_of, entry, holding, Changes, Knowing, PutsFirst, Restored, first_load, last_loads, lawful_loads, asked_record, written_over}
-use Rattle.lwkt_hold.specs.Steps.{is_counted, is_of_token, is_on_word, ShowsEvent, Tells}
+use Rattle.lwkt_hold.specs.Steps.{is_counted, is_of_token, is_on_word, ShowsEvent, AreTraced}
 use Rattle.lwkt_hold.specs.Runs.{Moves, Ran}
 use Rattle.lwkt_hold.specs.Rows.{row, first_row, blob, first_blob, is_stored_to, IsUnwritten, MeetsItsLaw, IsBroken, SameRow, SameSection, section_now, write_events, record_write_events, GivesBack, Mends}
 use Rattle.lwkt_hold.specs.Givings.{StoresFirst, RestoresBy}
-use Rattle.lwkt_hold.proofs.RunMoves.{Moves-append, Tells-append, ran_quiet, ran_weaker, holding_kept}
+use Rattle.lwkt_hold.proofs.RunMoves.{Moves-append, AreTraced-append, ran_quiet, ran_weaker, holding_kept}
 
 -- stores are no steps on a token word, are by their processor, and keep every holding
 writes_off : (cpu : CpuId) (tok : TokId) (cell : ℕ) (values : List (Option ℕ)) → filter is_on_word (write_events cpu tok cell values) ≡ []
@@ -50,11 +50,11 @@ writes_move P h cpu tok cell [] at_front = refl
 writes_move P h cpu tok cell (None ∷ values) at_front = writes_move P h cpu tok (suc cell) values at_front
 writes_move P h cpu tok cell (Some value ∷ values) at_front = (at_front, writes_move P h cpu tok (suc cell) values at_front)
 
--- the stores of a restore are told, and are no steps on a token word
-tells_writes : (cpu : CpuId) (tok : TokId) (cell : ℕ) (values : List (Option ℕ)) → Tells (events_in (writes_all cpu tok.0 cell values)) (write_events cpu tok cell values)
-tells_writes cpu tok cell [] = refl
-tells_writes cpu tok cell (None ∷ values) = tells_writes cpu tok (suc cell) values
-tells_writes cpu tok cell (Some value ∷ values) = inr (refl, (write_events cpu tok (suc cell) values, (refl, tells_writes cpu tok (suc cell) values)))
+-- the stores of a restore are traced, and are no steps on a token word
+traced_writes : (cpu : CpuId) (tok : TokId) (cell : ℕ) (values : List (Option ℕ)) → AreTraced (events_in (writes_all cpu tok.0 cell values)) (write_events cpu tok cell values)
+traced_writes cpu tok cell [] = refl
+traced_writes cpu tok cell (None ∷ values) = traced_writes cpu tok (suc cell) values
+traced_writes cpu tok cell (Some value ∷ values) = inr (refl, (write_events cpu tok (suc cell) values, (refl, traced_writes cpu tok (suc cell) values)))
 
 writes_of_token : (cpu : CpuId) (tok : TokId) (cell : ℕ) (values : List (Option ℕ)) → filter is_of_token (write_events cpu tok cell values) ≡ write_events cpu tok cell values
 writes_of_token cpu tok cell [] = refl
@@ -79,9 +79,9 @@ record_moves : (P : Holding → Type 0) (h : Holding) (cpu : CpuId) (tok : TokId
 record_moves P h cpu tok None at_front = refl
 record_moves P h cpu tok (Some bytes) at_front = (at_front, refl)
 
-tells_record : (cpu : CpuId) (tok : TokId) (bytes : RecordOf) → Tells (events_in (writes_blob_if cpu tok.0 bytes)) (record_write_events cpu tok bytes)
-tells_record cpu tok None = refl
-tells_record cpu tok (Some bytes) = inr (refl, ([], (refl, refl)))
+traced_record : (cpu : CpuId) (tok : TokId) (bytes : RecordOf) → AreTraced (events_in (writes_blob_if cpu tok.0 bytes)) (record_write_events cpu tok bytes)
+traced_record cpu tok None = refl
+traced_record cpu tok (Some bytes) = inr (refl, ([], (refl, refl)))
 
 record_of_token : (cpu : CpuId) (tok : TokId) (bytes : RecordOf) → filter is_of_token (record_write_events cpu tok bytes) ≡ record_write_events cpu tok bytes
 record_of_token cpu tok None = refl
@@ -107,11 +107,11 @@ stores_of_token cpu tok values bytes =
     ∙ ap (λ (es : List Event). es ++ filter is_of_token (record_write_events cpu tok bytes)) (writes_of_token cpu tok 0 values)
     ∙ ap (λ (es : List Event). write_events cpu tok 0 values ++ es) (record_of_token cpu tok bytes)
 
-tells_stores : (cpu : CpuId) (tok : TokId) (values : List (Option ℕ)) (bytes : RecordOf) → Tells (events_in (store_deeds cpu tok.0 values bytes)) (stores cpu tok values bytes)
-tells_stores cpu tok values bytes =
-    let F : List Event → Type 0 = λ es. Tells es (stores cpu tok values bytes) in
+traced_stores : (cpu : CpuId) (tok : TokId) (values : List (Option ℕ)) (bytes : RecordOf) → AreTraced (events_in (store_deeds cpu tok.0 values bytes)) (stores cpu tok values bytes)
+traced_stores cpu tok values bytes =
+    let F : List Event → Type 0 = λ es. AreTraced es (stores cpu tok values bytes) in
     subst F (sym (events_in-append (writes_all cpu tok.0 0 values) (writes_blob_if cpu tok.0 bytes)))
-    (Tells-append (events_in (writes_all cpu tok.0 0 values)) (events_in (writes_blob_if cpu tok.0 bytes)) (write_events cpu tok 0 values) (record_write_events cpu tok bytes) (tells_writes cpu tok 0 values) (tells_record cpu tok bytes))
+    (AreTraced-append (events_in (writes_all cpu tok.0 0 values)) (events_in (writes_blob_if cpu tok.0 bytes)) (write_events cpu tok 0 values) (record_write_events cpu tok bytes) (traced_writes cpu tok 0 values) (traced_record cpu tok bytes))
 
 no_store_steps : (cpu : CpuId) (tok : ℕ) (values : List (Option ℕ)) (bytes : RecordOf) → steps_in (store_deeds cpu tok values bytes) ≡ []
 no_store_steps cpu tok values bytes =
@@ -130,16 +130,16 @@ stored_ran P s s' tok cpu values bytes t u r at_front mine pushed longer few roo
   deeds = store_deeds s.cpu tok.0 values bytes;
   grows = r.changes.grows;
   mine = r.changes.own;
-  tells =
-      let F : CpuId → Type 0 = λ c. Tells (events_in (store_deeds s.cpu tok.0 values bytes)) (stores c tok values bytes) in
-      let G : List Event → Type 0 = λ es. Tells (events_in (store_deeds s.cpu tok.0 values bytes)) es in
-      subst G (sym (stores_of_token cpu tok values bytes)) (subst F (sym mine) (tells_stores s.cpu tok values bytes));
+  in_trace =
+      let F : CpuId → Type 0 = λ c. AreTraced (events_in (store_deeds s.cpu tok.0 values bytes)) (stores c tok values bytes) in
+      let G : List Event → Type 0 = λ es. AreTraced (events_in (store_deeds s.cpu tok.0 values bytes)) es in
+      subst G (sym (stores_of_token cpu tok values bytes)) (subst F (sym mine) (traced_stores s.cpu tok values bytes));
   done = stores cpu tok values bytes;
   trace = pushed;
   own =
       let F : ℕ → Type 0 = λ k. All (λ (e : Event). cpu_of e ≡ k) (stores cpu tok values bytes) in
       subst F (ap (λ (x : CpuId). x.0) mine) (All-append (λ (e : Event). cpu_of e ≡ cpu.0) (write_events cpu tok 0 values) (record_write_events cpu tok bytes) (writes_own cpu tok 0 values) (record_own cpu tok bytes));
-  told =
+  traced =
       let F : List Event → Type 0 = λ ys. AllZip ShowsEvent [] ys in
       let G : List WordStep → Type 0 = λ xs. AllZip ShowsEvent (filter is_counted xs) (filter is_on_word (stores cpu tok values bytes)) in
       subst G (sym (no_store_steps s.cpu tok.0 values bytes)) (subst F (sym (stores_off cpu tok values bytes)) tt);
@@ -152,74 +152,74 @@ stored_ran P s s' tok cpu values bytes t u r at_front mine pushed longer few roo
   room = room;
 }
 
--- deeds that a trace tells nothing of, and that are no steps on a token word
-abbrev pub IsUntold : List Deed → Type 0
-IsUntold deeds = Tells (events_in deeds) [] × (steps_in deeds ≡ [])
+-- deeds that a trace has nothing of, and that are no steps on a token word
+abbrev pub AreUntraced : List Deed → Type 0
+AreUntraced deeds = AreTraced (events_in deeds) [] × (steps_in deeds ≡ [])
 
-reads_untold : (cpu : CpuId) (tok cell : ℕ) (row : List ℕ) → IsUntold (reads_all cpu tok cell row)
-reads_untold cpu tok cell [] = (refl, refl)
-reads_untold cpu tok cell (x ∷ row) = let rest = reads_untold cpu tok (suc cell) row in (inl (refl, rest.0), rest.1)
+reads_untraced : (cpu : CpuId) (tok cell : ℕ) (row : List ℕ) → AreUntraced (reads_all cpu tok cell row)
+reads_untraced cpu tok cell [] = (refl, refl)
+reads_untraced cpu tok cell (x ∷ row) = let rest = reads_untraced cpu tok (suc cell) row in (inl (refl, rest.0), rest.1)
 
 -- the load of a cell before the first store to it
-first_untold : (s : CpuSeat) (tok cell : ℕ) → IsUntold (first_load s.cpu tok (entry s tok) cell)
-first_untold s tok cell = go (is_touched (entry s tok) cell)
+first_untraced : (s : CpuSeat) (tok cell : ℕ) → AreUntraced (first_load s.cpu tok (entry s tok) cell)
+first_untraced s tok cell = go (is_touched (entry s tok) cell)
   where
-    go : (b : Bool) → IsUntold (cond b [] (reads s.cpu tok cell (slice_index (entry s tok).first cell) ∷ []))
+    go : (b : Bool) → AreUntraced (cond b [] (reads s.cpu tok cell (slice_index (entry s tok).first cell) ∷ []))
     go true = (refl, refl)
     go false = (inl (refl, refl), refl)
 
--- deeds that aren't told, before others
-pub tells_behind : (deeds more : List Deed) (told : List Event) → IsUntold deeds → Tells (events_in more) told → Tells (events_in (deeds ++ more)) told
-tells_behind deeds more told untold tells =
-    let F : List Event → Type 0 = λ es. Tells es told in
-    subst F (sym (events_in-append deeds more)) (Tells-append (events_in deeds) (events_in more) [] told untold.0 tells)
+-- deeds that aren't traced, before others
+pub traced_behind : (deeds more : List Deed) (traced : List Event) → AreUntraced deeds → AreTraced (events_in more) traced → AreTraced (events_in (deeds ++ more)) traced
+traced_behind deeds more traced untraced in_trace =
+    let F : List Event → Type 0 = λ es. AreTraced es traced in
+    subst F (sym (events_in-append deeds more)) (AreTraced-append (events_in deeds) (events_in more) [] traced untraced.0 in_trace)
 
-pub steps_behind : (deeds more : List Deed) → IsUntold deeds → steps_in (deeds ++ more) ≡ steps_in more
-steps_behind deeds more untold = steps_in-append deeds more ∙ ap (λ (xs : List WordStep). xs ++ steps_in more) untold.1
+pub steps_behind : (deeds more : List Deed) → AreUntraced deeds → steps_in (deeds ++ more) ≡ steps_in more
+steps_behind deeds more untraced = steps_in-append deeds more ∙ ap (λ (xs : List WordStep). xs ++ steps_in more) untraced.1
 
 -- the loads at the end of a written section
-pub last_untold : (s : CpuSeat) (tok cells : ℕ) → IsUntold (last_loads s.cpu tok (entry s tok) cells)
-last_untold s tok zero = (refl, refl)
-last_untold s tok (suc cells) =
+pub last_untraced : (s : CpuSeat) (tok cells : ℕ) → AreUntraced (last_loads s.cpu tok (entry s tok) cells)
+last_untraced s tok zero = (refl, refl)
+last_untraced s tok (suc cells) =
     let before = last_loads s.cpu tok (entry s tok) cells in
     let one = first_load s.cpu tok (entry s tok) cells in
-    let untold = last_untold s tok cells in
-    (tells_behind before one [] untold (first_untold s tok cells).0, steps_behind before one untold ∙ (first_untold s tok cells).1)
+    let untraced = last_untraced s tok cells in
+    (traced_behind before one [] untraced (first_untraced s tok cells).0, steps_behind before one untraced ∙ (first_untraced s tok cells).1)
 
 -- the access to the record in a question for the law
-asked_untold : (law : Law) (cpu : CpuId) (tok : ℕ) (bytes : RecordOf) → IsUntold (asked_record law cpu tok bytes)
-asked_untold Any cpu tok bytes = (refl, refl)
-asked_untold Sum cpu tok bytes = (refl, refl)
-asked_untold Order cpu tok bytes = (refl, refl)
-asked_untold Cap cpu tok bytes = (refl, refl)
-asked_untold Len cpu tok None = (refl, refl)
-asked_untold Len cpu tok (Some bytes) = (inl (refl, refl), refl)
-asked_untold Tally cpu tok bytes = (refl, refl)
+asked_untraced : (law : Law) (cpu : CpuId) (tok : ℕ) (bytes : RecordOf) → AreUntraced (asked_record law cpu tok bytes)
+asked_untraced Any cpu tok bytes = (refl, refl)
+asked_untraced Sum cpu tok bytes = (refl, refl)
+asked_untraced Order cpu tok bytes = (refl, refl)
+asked_untraced Cap cpu tok bytes = (refl, refl)
+asked_untraced Len cpu tok None = (refl, refl)
+asked_untraced Len cpu tok (Some bytes) = (inl (refl, refl), refl)
+asked_untraced Tally cpu tok bytes = (refl, refl)
 
-all_untold : (law : Law) (cpu : CpuId) (tok : ℕ) (row : List ℕ) (bytes : RecordOf) → IsUntold (reads_all cpu tok 0 row ++ asked_record law cpu tok bytes)
-all_untold law cpu tok row bytes =
+all_untraced : (law : Law) (cpu : CpuId) (tok : ℕ) (row : List ℕ) (bytes : RecordOf) → AreUntraced (reads_all cpu tok 0 row ++ asked_record law cpu tok bytes)
+all_untraced law cpu tok row bytes =
     let loads = reads_all cpu tok 0 row in
     let asked = asked_record law cpu tok bytes in
-    let untold = reads_untold cpu tok 0 row in
-    let last = asked_untold law cpu tok bytes in
-    (tells_behind loads asked [] untold last.0, steps_behind loads asked untold ∙ last.1)
+    let untraced = reads_untraced cpu tok 0 row in
+    let last = asked_untraced law cpu tok bytes in
+    (traced_behind loads asked [] untraced last.0, steps_behind loads asked untraced ∙ last.1)
 
 -- the loads of a question for the law
-pub lawful_untold : (law : Law) (cpu : CpuId) (tok : ℕ) (row : List ℕ) (bytes : RecordOf) → IsUntold (lawful_loads law (reads_all cpu tok 0 row ++ asked_record law cpu tok bytes))
-lawful_untold Any cpu tok row bytes = (refl, refl)
-lawful_untold Sum cpu tok row bytes = all_untold Sum cpu tok row bytes
-lawful_untold Order cpu tok row bytes = all_untold Order cpu tok row bytes
-lawful_untold Cap cpu tok row bytes = all_untold Cap cpu tok row bytes
-lawful_untold Len cpu tok row bytes = all_untold Len cpu tok row bytes
-lawful_untold Tally cpu tok row bytes = (refl, refl)
+pub lawful_untraced : (law : Law) (cpu : CpuId) (tok : ℕ) (row : List ℕ) (bytes : RecordOf) → AreUntraced (lawful_loads law (reads_all cpu tok 0 row ++ asked_record law cpu tok bytes))
+lawful_untraced Any cpu tok row bytes = (refl, refl)
+lawful_untraced Sum cpu tok row bytes = all_untraced Sum cpu tok row bytes
+lawful_untraced Order cpu tok row bytes = all_untraced Order cpu tok row bytes
+lawful_untraced Cap cpu tok row bytes = all_untraced Cap cpu tok row bytes
+lawful_untraced Len cpu tok row bytes = all_untraced Len cpu tok row bytes
+lawful_untraced Tally cpu tok row bytes = (refl, refl)
 
 -- a call without a word step that learns of cells
-pub knowing_ran : (P : Holding → Type 0) (most : ℕ) (s s' : CpuSeat) (tok : ℕ) (deeds : List Deed) (t : Vec Event Global) → IsUntold deeds → Knowing s s' tok (entry s tok) deeds → Ran P most s s' t t
-knowing_ran P most s s' tok deeds t untold k =
-    ran_weaker P P 0 most s s' t t (λ x p. p) (omega arith) (ran_quiet P s s' tok (record (entry s tok) { known = k.known }) deeds t k.changes refl untold.0 (ap (λ (xs : List WordStep). filter is_counted xs) untold.1))
+pub knowing_ran : (P : Holding → Type 0) (most : ℕ) (s s' : CpuSeat) (tok : ℕ) (deeds : List Deed) (t : Vec Event Global) → AreUntraced deeds → Knowing s s' tok (entry s tok) deeds → Ran P most s s' t t
+knowing_ran P most s s' tok deeds t untraced k =
+    ran_weaker P P 0 most s s' t t (λ x p. p) (omega arith) (ran_quiet P s s' tok (record (entry s tok) { known = k.known }) deeds t k.changes refl untraced.0 (ap (λ (xs : List WordStep). filter is_counted xs) untraced.1))
 
 pub first_load_ran : (P : Holding → Type 0) (most : ℕ) (s s' : CpuSeat) (tok cell : ℕ) (t : Vec Event Global) → Knowing s s' tok (entry s tok) (first_load s.cpu tok (entry s tok) cell) → Ran P most s s' t t
-first_load_ran P most s s' tok cell t k = knowing_ran P most s s' tok (first_load s.cpu tok (entry s tok) cell) t (first_untold s tok cell) k
+first_load_ran P most s s' tok cell t k = knowing_ran P most s s' tok (first_load s.cpu tok (entry s tok) cell) t (first_untraced s tok cell) k
 
 pub knowing_kept : (s s' : CpuSeat) (tok : ℕ) (deeds : List Deed) → Knowing s s' tok (entry s tok) deeds → holding s' ≡ holding s
 knowing_kept s s' tok deeds k = holding_kept s s' tok (record (entry s tok) { known = k.known }) deeds k.changes refl

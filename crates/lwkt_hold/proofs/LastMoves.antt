@@ -1,29 +1,31 @@
 use Rattle.std.proofs.Common.{◌≡◌, ◌≢◌, ◌⊎◌, ℕ, ◌+◌, ◌<◌, true, List, [], ◌∷◌, ◌++◌, length, take, refl, ap, sym, ◌∙◌, subst, arith, inl, inr, Option, Some, None, Result, Ok, Err, length-append, add-zero}
-use Rattle.std.specs.Prelude.{◌↔◌, All, IfOk, OnOk, OnErr, IsSomeAnd, slice_get, Vec, vec_len, filter}
+use Rattle.std.specs.Prelude.{◌↔◌, All, IfOk, IfErr, OnOk, OnErr, IsSomeAnd, slice_get, Vec, vec_len, filter}
 use Rattle.std.specs.List.{AllZip}
 use Rattle.std.specs.declared.alloc.Global.{Global}
 use Rattle.std.proofs.lemmas.List.{take_at, take_all, same_from_push}
 use Rattle.lwkt_base.specs.declared.faults.Fault.{Fault}
 use Rattle.lwkt_base.specs.declared.faults.Fault.TheVariants.{NotHeld, NotLast}
+use Rattle.lwkt_base.specs.declared.names.TokId.{TokId}
 use Rattle.lwkt_base.specs.declared.names.Mode.{Mode}
+use Rattle.lwkt_base.specs.declared.names.Mode.TheVariants.{Exclusive, Shared}
 use Rattle.lwkt_base.specs.declared.names.Ref.{Ref}
 use Rattle.lwkt_base.specs.declared.holdings.Held.{Held}
 use Rattle.lwkt_base.specs.declared.holdings.Held.TheVariants.{Nothing, Holds}
 use Rattle.lwkt_base.specs.Refs.{first_mode, IsLastTo}
 use Rattle.lwkt_base.specs.Holding.{Holding, is_held, one_more, added, removed, holding_of}
 use Rattle.lwkt_core.specs.declared.events.Event.{Event}
+use Rattle.lwkt_core.specs.declared.events.Event.TheVariants.{Mark}
 use Rattle.lwkt_core.specs.Events.{cpu_of}
 use Rattle.lwkt_bank.specs.declared.seats.CpuSeat.{CpuSeat}
 use Rattle.lwkt_bank.specs.Seats.{holding}
 use Rattle.lwkt_hold.specs.declared.answers.Missed.{Missed}
-use Rattle.lwkt_hold.specs.declared.answers.Acquired.{Acquired}
-use Rattle.lwkt_hold.specs.declared.answers.Acquired.TheVariants.{MustSwitch}
 use Rattle.lwkt_base.specs.declared.names.CpuId.{CpuId}
 use Rattle.lwkt_hold.specs.Fronts.{IsFront}
 use Rattle.lwkt_hold.specs.Takings.{taking_event}
 use Rattle.lwkt_table.specs.History.{events_in, steps_in}
-use Rattle.lwkt_hold.specs.Steps.{is_counted, is_of_token, is_on_word, ShowsEvent, Tells}
+use Rattle.lwkt_hold.specs.Steps.{is_counted, is_of_token, is_on_word, ShowsEvent, AreTraced}
 use Rattle.lwkt_hold.specs.Runs.{Moves, Ran}
+use Rattle.lwkt_hold.specs.Outcomes.{Marks}
 use Rattle.lwkt_hold.proofs.HoldingMoves.{holding_of_push, removed_added}
 use Rattle.lwkt_hold.proofs.GiveMoves.{more_here, held_more}
 use Rattle.lwkt_hold.proofs.ReadMoves.{mode_of, modes, whole_front}
@@ -58,20 +60,20 @@ last_there refs front last at n is here below =
     subst F (sym e) below
 
 -- the event of the last reference of a list
-pub pushed_told : (refs front : List Ref) (last : Ref) (at : ℕ) (cpu : CpuId) (xs ys : List Event) → refs ≡ front ++ last ∷ [] → at ≡ length front → IsSomeAnd (slice_get refs at) (λ r. ys ≡ xs ++ taking_event cpu (take at refs) r ∷ []) → ys ≡ xs ++ taking_event cpu front last ∷ []
-pushed_told refs front last at cpu xs ys is here told =
+pub pushed_traced : (refs front : List Ref) (last : Ref) (at : ℕ) (cpu : CpuId) (xs ys : List Event) → refs ≡ front ++ last ∷ [] → at ≡ length front → IsSomeAnd (slice_get refs at) (λ r. ys ≡ xs ++ taking_event cpu (take at refs) r ∷ []) → ys ≡ xs ++ taking_event cpu front last ∷ []
+pushed_traced refs front last at cpu xs ys is here traced =
     let e : slice_get refs at ≡ Some last = ap (λ k. slice_get k at) is ∙ ap (λ k. slice_get (front ++ last ∷ []) k) here ∙ got_last front last in
     let f : take at refs ≡ front = ap (λ k. take at k) is ∙ ap (λ k. take k (front ++ last ∷ [])) here ∙ take_at front (last ∷ []) (length front) refl in
     let F : Option Ref → Type 0 = λ o. IsSomeAnd o (λ r. ys ≡ xs ++ taking_event cpu (take at refs) r ∷ []) in
-    subst F e told ∙ ap (λ k. xs ++ taking_event cpu k last ∷ []) f
+    subst F e traced ∙ ap (λ k. xs ++ taking_event cpu k last ∷ []) f
 
 -- a reference that was put on the list and taken
 pub got_as : (result : Result (Unit {0}) Missed) (refs list front : List Ref) (last : Ref) (at : ℕ) (cpu : CpuId) (h : Holding) (xs ys : List Event) → refs ≡ list → list ≡ front ++ last ∷ [] → at ≡ length front → OnOk result (h ≡ holding_of (take (at + 1) refs)) → OnOk result (IsSomeAnd (slice_get refs at) (λ r. ys ≡ xs ++ taking_event cpu (take at refs) r ∷ [])) → ◌≡◌ {A = Result (Result (Unit {0}) Missed) Fault} (Ok result) (Ok (Ok tt)) → (h ≡ holding_of list) × (ys ≡ xs ++ taking_event cpu front last ∷ [])
-got_as (Ok u) refs list front last at cpu h xs ys same is here taken told answer =
+got_as (Ok u) refs list front last at cpu h xs ys same is here taken traced answer =
     let long : length list ≡ at + 1 = ap length is ∙ length-append front (last ∷ []) ∙ ap (λ n. n + 1) (sym here) in
     let whole : take (at + 1) refs ≡ list = ap (λ k. take (at + 1) k) same ∙ take_all (at + 1) list (omega (arith, long)) in
-    (taken ∙ ap holding_of whole, pushed_told refs front last at cpu xs ys (same ∙ is) here told)
-got_as (Err e) refs list front last at cpu h xs ys same is here taken told answer = cc
+    (taken ∙ ap holding_of whole, pushed_traced refs front last at cpu xs ys (same ∙ is) here traced)
+got_as (Err e) refs list front last at cpu h xs ys same is here taken traced answer = cc
 
 -- the front without the last reference is a front
 pub front_of_push : (refs front : List Ref) (last : Ref) (h : Holding) → refs ≡ front ++ last ∷ [] → h ≡ holding_of front → IsFront refs h
@@ -97,11 +99,11 @@ ran_silent P Q m n a b t u silent ran =
       deeds = ran.deeds;
       grows = ran.grows;
       mine = ran.mine;
-      tells = let F : List Event → Type 0 = λ xs. Tells (events_in ran.deeds) (filter is_of_token xs) in subst F none ran.tells;
+      in_trace = let F : List Event → Type 0 = λ xs. AreTraced (events_in ran.deeds) (filter is_of_token xs) in subst F none ran.in_trace;
       done = [];
       trace = ran.trace ∙ ap (λ xs. t.items ++ xs) none;
       own = let F : List Event → Type 0 = λ xs. All (λ e. cpu_of e ≡ a.cpu.0) xs in subst F none ran.own;
-      told = let F : List Event → Type 0 = λ xs. AllZip ShowsEvent (filter is_counted (steps_in ran.deeds)) (filter is_on_word xs) in subst F none ran.told;
+      traced = let F : List Event → Type 0 = λ xs. AllZip ShowsEvent (filter is_counted (steps_in ran.deeds)) (filter is_on_word xs) in subst F none ran.traced;
       moves = let F : List Event → Type 0 = λ xs. Moves P (holding a) xs (holding b) in subst F none ran.moves;
       few = omega arith;
       grown = same ∙ sym (add-zero (vec_len t));
@@ -112,9 +114,19 @@ ran_silent P Q m n a b t u silent ran =
 pub lost_as : (r : Result (Unit {0}) Missed) (why : Missed) → r ≡ Err why → ◌≡◌ {A = Result (Result (Unit {0}) Missed) Fault} (Ok r) (Ok (Err why))
 lost_as r why is = ap Ok is
 
--- two answers to switch that are equal have one reason
-pub same_switch : (a b : Missed) → ◌≡◌ {A = Result Acquired Fault} (Ok (MustSwitch a)) (Ok (MustSwitch b)) → a ≡ b
-same_switch a b is = cc
+-- what a miss says, at its reason
+pub missed_as : (r : Result (Unit {0}) Missed) (why : Missed) (P : Missed → Type 0) → ◌≡◌ {A = Result (Result (Unit {0}) Missed) Fault} (Ok r) (Ok (Err why)) → IfErr r P → P why
+missed_as (Ok u) why P is traced = absurd (let e = is in cc)
+missed_as (Err e) why P is traced = let same : e ≡ why = cc in subst P same traced
+
+pub lost_so : (r : Result (Unit {0}) Missed) (why : Missed) (P : Type 0) → ◌≡◌ {A = Result (Result (Unit {0}) Missed) Fault} (Ok r) (Ok (Err why)) → OnErr r P → P
+lost_so (Ok u) why P is traced = absurd (let e = is in cc)
+lost_so (Err e) why P is traced = traced
+
+-- the mark of a miss, by the mode of its reference
+pub marks_by : (mode : Mode) (cpu : CpuId) (tok : TokId) (t u : Vec Event Global) → (mode ≡ Exclusive → u.items ≡ t.items ++ Mark cpu tok ∷ []) → (mode ≡ Shared → u ≡ t) → Marks mode cpu tok t u
+marks_by Exclusive cpu tok t u marked unmarked = marked refl
+marks_by Shared cpu tok t u marked unmarked = unmarked refl
 
 -- the last reference of a list that is held, as the token that is given back
 module _ (s : CpuSeat) (refs front : List Ref) (last : Ref) (tok : ℕ) (held : holding s ≡ holding_of refs) (is : refs ≡ front ++ last ∷ []) (same : last.tok.0 ≡ tok) where

@@ -8,3 +8,4 @@ pub mod LastMoves
 pub mod BlockMoves
 pub mod EventMoves
 pub mod StillMoves
+pub mod OutcomeMoves

@@ -25,27 +25,27 @@ use Rattle.lwkt_hold.proofs.RunMoves.{ran_steps}
 use Rattle.lwkt_hold.proofs.TakeMoves.{unused, looked-held}
 
 -- a token's row and record, and the first ones, are those that the seat had of it
-pub record Stands (s : CpuSeat) (tok : ℕ) (e : TokenEntry) : Type 0 where
+pub record KeepsRow (s : CpuSeat) (tok : ℕ) (e : TokenEntry) : Type 0 where
   pub row_is : e.row ≡ row s tok
   pub first_is : e.first ≡ first_row s tok
   pub blob_is : e.blob ≡ blob s tok
   pub first_blob_is : e.first_blob ≡ first_blob s tok
 
-pub stands_from : (s s' : CpuSeat) (tok : ℕ) (e : TokenEntry) → entry s' tok ≡ e → Stands s tok e → SameRow s s' tok
-stands_from s s' tok e is stands = row_from s s' tok e is stands.row_is stands.first_is stands.blob_is stands.first_blob_is
+pub keeps_from : (s s' : CpuSeat) (tok : ℕ) (e : TokenEntry) → entry s' tok ≡ e → KeepsRow s tok e → SameRow s s' tok
+keeps_from s s' tok e is stands = row_from s s' tok e is stands.row_is stands.first_is stands.blob_is stands.first_blob_is
 
 pub same_from : (s s' : CpuSeat) (other : ℕ) → entry s' other ≡ entry s other → SameRow s s' other
 same_from s s' other is = row_from s s' other (entry s other) is refl refl refl refl
 
 -- a change of one token by which references are taken: if it was held, its row and record and the first ones stay; if it is held
 -- from now on, row and record are the first ones
-pub takes_changed : (s s' : CpuSeat) (tok : ℕ) (e : TokenEntry) (made : List Deed) → Changes s s' tok e made → (is_held (holding s tok) ≡ true → Stands s tok e) → (is_held (holding s tok) ≡ false → is_held e.held ≡ true → (e.row ≡ e.first) × (e.blob ≡ e.first_blob)) → TakesRows s s'
+pub takes_changed : (s s' : CpuSeat) (tok : ℕ) (e : TokenEntry) (made : List Deed) → Changes s s' tok e made → (is_held (holding s tok) ≡ true → KeepsRow s tok e) → (is_held (holding s tok) ≡ false → is_held e.held ≡ true → (e.row ≡ e.first) × (e.blob ≡ e.first_blob)) → TakesRows s s'
 takes_changed s s' tok e made c stays begins = record {
   kept = λ other held. elim (cases_Bool (eqb other tok)) [
     | inl is ↦
         let same = eqb-true other tok is in
         let F : ℕ → Type 0 = λ t. SameRow s s' t in
-        subst F (sym same) (stands_from s s' tok e c.here (stays (ap (λ t. is_held (holding s t)) (sym same) ∙ held)))
+        subst F (sym same) (keeps_from s s' tok e c.here (stays (ap (λ t. is_held (holding s t)) (sym same) ∙ held)))
     | inr is ↦ same_from s s' other (c.else_ other (eqb-false other tok is))
   ];
   begun = λ other free held. (begins_at other free held).0;
@@ -95,16 +95,16 @@ clean_taken s s' taken clean = record {
   ];
 }
 
-looked_if : (b : Bool) (s : CpuSeat) (tok : ℕ) (e : TokenEntry) (g : ℕ) → Stands s tok e → Stands s tok (cond b e (record e { generation = g; known = []; known_blob = [] }))
+looked_if : (b : Bool) (s : CpuSeat) (tok : ℕ) (e : TokenEntry) (g : ℕ) → KeepsRow s tok e → KeepsRow s tok (cond b e (record e { generation = g; known = []; known_blob = [] }))
 looked_if true s tok e g stands = stands
 looked_if false s tok e g stands = record { row_is = stands.row_is; first_is = stands.first_is; blob_is = stands.blob_is; first_blob_is = stands.first_blob_is }
 
 -- what a look leaves of an entry
-pub looked-stands : (s : CpuSeat) (tok : ℕ) (e : TokenEntry) (word : ℕ) → Stands s tok e → Stands s tok (looked e word)
+pub looked-stands : (s : CpuSeat) (tok : ℕ) (e : TokenEntry) (word : ℕ) → KeepsRow s tok e → KeepsRow s tok (looked e word)
 looked-stands s tok e word stands = looked_if (eqb e.generation (generation_in word)) s tok e (generation_in word) stands
 
-pub stands_now : (s : CpuSeat) (tok : ℕ) → Stands s tok (entry s tok)
-stands_now s tok = record { row_is = refl; first_is = refl; blob_is = refl; first_blob_is = refl }
+pub keeps_now : (s : CpuSeat) (tok : ℕ) → KeepsRow s tok (entry s tok)
+keeps_now s tok = record { row_is = refl; first_is = refl; blob_is = refl; first_blob_is = refl }
 
 -- a seat that holds nothing is clean
 pub clean_empty : (s : CpuSeat) → holding s ≡ holds_nothing → IsAllClean s
@@ -169,7 +169,7 @@ pub looked_rows : (s s' : CpuSeat) (tok word : ℕ) → holding s tok ≡ Nothin
 looked_rows s s' tok word free l =
     let e = entry s tok in
     takes_changed s s' tok (looked e word) (loads s.cpu tok word ∷ []) l.changes
-    (λ held. looked-stands s tok e word (stands_now s tok))
+    (λ held. looked-stands s tok e word (keeps_now s tok))
     (λ none held. absurd (false≢true (sym (ap is_held (looked-held e word ∙ free)) ∙ held)))
 
 pub lost_rows : (s s' : CpuSeat) (tok : ℕ) (mode : Mode) (alone : Bool) → holding s tok ≡ Nothing → Lost s s' tok mode alone → TakesRows s s'
@@ -177,5 +177,5 @@ lost_rows s s' tok mode alone free l =
     let e = entry s tok in
     let m = looked e l.word in
     takes_changed s s' tok (looked m l.found) (loads s.cpu tok l.word ∷ loses s.cpu tok l.word l.next l.found ∷ []) l.changes
-    (λ held. looked-stands s tok m l.found (looked-stands s tok e l.word (stands_now s tok)))
+    (λ held. looked-stands s tok m l.found (looked-stands s tok e l.word (keeps_now s tok)))
     (λ none held. absurd (false≢true (sym (ap is_held (looked-held m l.found ∙ looked-held e l.word ∙ free)) ∙ held)))

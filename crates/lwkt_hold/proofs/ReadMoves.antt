@@ -30,9 +30,9 @@ use Rattle.lwkt_bank.specs.Views.{is_touched}
 use Rattle.lwkt_bank.specs.Deeds.{reads, writes, reads_blob, writes_blob}
 use Rattle.lwkt_bank.specs.Seats.{entry, holding, Changes, Knowing, IsUnchanged, first_load}
 use Rattle.lwkt_hold.specs.Fronts.{IsFront}
-use Rattle.lwkt_hold.specs.Steps.{is_counted, ShowsEvent, Tells}
+use Rattle.lwkt_hold.specs.Steps.{is_counted, ShowsEvent, AreTraced}
 use Rattle.lwkt_hold.specs.Runs.{Ran}
-use Rattle.lwkt_hold.proofs.RunMoves.{tells_one, ran_none, ran_weaker, ran_step, holding_kept}
+use Rattle.lwkt_hold.proofs.RunMoves.{traced_one, ran_none, ran_weaker, ran_step, holding_kept}
 
 -- nothing was done
 pub ran_still : (P : Holding → Type 0) (most : ℕ) (s : CpuSeat) (t : Vec Event Global) → Ran P most s s t t
@@ -116,38 +116,38 @@ pub read_ran : (refs : List Ref) (s s' : CpuSeat) (tok : TokId) (e : TokenEntry)
 read_ran refs s s' tok e cpu cell value t u c held front mine pushed longer room =
     let deeds = reads s.cpu tok.0 cell value ∷ [] in
     let kept = holding_kept s s' tok.0 e deeds c held in
-    ran_step (IsFront refs) s s' tok.0 e deeds (Read cpu tok cell value) t u c pushed longer room (ap (λ (x : CpuId). x.0) mine) (tells_one (Read s.cpu tok cell value) (Read cpu tok cell value) refl (ap (λ (x : CpuId). Read x tok cell value) mine)) tt kept (whole_front refs (holding s') (kept ∙ front))
+    ran_step (IsFront refs) s s' tok.0 e deeds (Read cpu tok cell value) t u c pushed longer room (ap (λ (x : CpuId). x.0) mine) (traced_one (Read s.cpu tok cell value) (Read cpu tok cell value) refl (ap (λ (x : CpuId). Read x tok cell value) mine)) tt kept (whole_front refs (holding s') (kept ∙ front))
 
--- loads of cells that weren't asked for are told by no trace
-pub tells_write : (s : CpuSeat) (tok : TokId) (cpu : CpuId) (cell value : ℕ) → cpu ≡ s.cpu → Tells (Write s.cpu tok cell value ∷ []) (Write cpu tok cell value ∷ [])
-tells_write s tok cpu cell value mine = tells_one (Write s.cpu tok cell value) (Write cpu tok cell value) refl (ap (λ (x : CpuId). Write x tok cell value) mine)
+-- loads of cells that weren't asked for are in no trace
+pub traced_write : (s : CpuSeat) (tok : TokId) (cpu : CpuId) (cell value : ℕ) → cpu ≡ s.cpu → AreTraced (Write s.cpu tok cell value ∷ []) (Write cpu tok cell value ∷ [])
+traced_write s tok cpu cell value mine = traced_one (Write s.cpu tok cell value) (Write cpu tok cell value) refl (ap (λ (x : CpuId). Write x tok cell value) mine)
 
-pub tells_store : (s : CpuSeat) (tok : TokId) (cpu : CpuId) (cell value : ℕ) → cpu ≡ s.cpu
-    → Tells (events_in (first_load s.cpu tok.0 (entry s tok.0) cell ++ writes s.cpu tok.0 cell value ∷ [])) (Write cpu tok cell value ∷ []) × (steps_in (first_load s.cpu tok.0 (entry s tok.0) cell ++ writes s.cpu tok.0 cell value ∷ []) ≡ [])
-tells_store s tok cpu cell value mine = go (is_touched (entry s tok.0) cell)
+pub traced_store : (s : CpuSeat) (tok : TokId) (cpu : CpuId) (cell value : ℕ) → cpu ≡ s.cpu
+    → AreTraced (events_in (first_load s.cpu tok.0 (entry s tok.0) cell ++ writes s.cpu tok.0 cell value ∷ [])) (Write cpu tok cell value ∷ []) × (steps_in (first_load s.cpu tok.0 (entry s tok.0) cell ++ writes s.cpu tok.0 cell value ∷ []) ≡ [])
+traced_store s tok cpu cell value mine = go (is_touched (entry s tok.0) cell)
   where
-    go : (b : Bool) → Tells (events_in (cond b [] (reads s.cpu tok.0 cell (slice_index (entry s tok.0).first cell) ∷ []) ++ writes s.cpu tok.0 cell value ∷ [])) (Write cpu tok cell value ∷ []) × (steps_in (cond b [] (reads s.cpu tok.0 cell (slice_index (entry s tok.0).first cell) ∷ []) ++ writes s.cpu tok.0 cell value ∷ []) ≡ [])
-    go true = (tells_write s tok cpu cell value mine, refl)
-    go false = (inl (refl, tells_write s tok cpu cell value mine), refl)
+    go : (b : Bool) → AreTraced (events_in (cond b [] (reads s.cpu tok.0 cell (slice_index (entry s tok.0).first cell) ∷ []) ++ writes s.cpu tok.0 cell value ∷ [])) (Write cpu tok cell value ∷ []) × (steps_in (cond b [] (reads s.cpu tok.0 cell (slice_index (entry s tok.0).first cell) ∷ []) ++ writes s.cpu tok.0 cell value ∷ []) ≡ [])
+    go true = (traced_write s tok cpu cell value mine, refl)
+    go false = (inl (refl, traced_write s tok cpu cell value mine), refl)
 
-pub write_ran : (refs : List Ref) (s s' : CpuSeat) (tok : TokId) (e : TokenEntry) (deeds : List Deed) (cpu : CpuId) (cell value : ℕ) (t u : Vec Event Global) → Knowing s s' tok.0 e deeds → Tells (events_in deeds) (Write cpu tok cell value ∷ []) → steps_in deeds ≡ [] → e.held ≡ holding s tok.0 → holding s ≡ holding_of refs → cpu ≡ s.cpu → u.items ≡ t.items ++ Write cpu tok cell value ∷ [] → vec_len u ≡ vec_len t + 1 → vec_capacity t ≤ vec_capacity u → Ran (IsFront refs) 1 s s' t u
-write_ran refs s s' tok e deeds cpu cell value t u k tells off held front mine pushed longer room =
+pub write_ran : (refs : List Ref) (s s' : CpuSeat) (tok : TokId) (e : TokenEntry) (deeds : List Deed) (cpu : CpuId) (cell value : ℕ) (t u : Vec Event Global) → Knowing s s' tok.0 e deeds → AreTraced (events_in deeds) (Write cpu tok cell value ∷ []) → steps_in deeds ≡ [] → e.held ≡ holding s tok.0 → holding s ≡ holding_of refs → cpu ≡ s.cpu → u.items ≡ t.items ++ Write cpu tok cell value ∷ [] → vec_len u ≡ vec_len t + 1 → vec_capacity t ≤ vec_capacity u → Ran (IsFront refs) 1 s s' t u
+write_ran refs s s' tok e deeds cpu cell value t u k in_trace off held front mine pushed longer room =
     let kept = holding_kept s s' tok.0 (record e { known = k.known }) deeds k.changes held in
     let F : List WordStep → Type 0 = λ xs. AllZip ShowsEvent (filter is_counted xs) [] in
-    ran_step (IsFront refs) s s' tok.0 (record e { known = k.known }) deeds (Write cpu tok cell value) t u k.changes pushed longer room (ap (λ (x : CpuId). x.0) mine) tells (subst F (sym off) tt) kept (whole_front refs (holding s') (kept ∙ front))
+    ran_step (IsFront refs) s s' tok.0 (record e { known = k.known }) deeds (Write cpu tok cell value) t u k.changes pushed longer room (ap (λ (x : CpuId). x.0) mine) in_trace (subst F (sym off) tt) kept (whole_front refs (holding s') (kept ∙ front))
 
 -- the record was read, and the record was written
 pub read_record_ran : (refs : List Ref) (s s' : CpuSeat) (tok : TokId) (e : TokenEntry) (cpu : CpuId) (bytes : List ℕ) (t u : Vec Event Global) → Changes s s' tok.0 e (reads_blob s.cpu tok.0 bytes ∷ []) → e.held ≡ holding s tok.0 → holding s ≡ holding_of refs → cpu ≡ s.cpu → u.items ≡ t.items ++ ReadBlob cpu tok bytes ∷ [] → vec_len u ≡ vec_len t + 1 → vec_capacity t ≤ vec_capacity u → Ran (IsFront refs) 1 s s' t u
 read_record_ran refs s s' tok e cpu bytes t u c held front mine pushed longer room =
     let deeds = reads_blob s.cpu tok.0 bytes ∷ [] in
     let kept = holding_kept s s' tok.0 e deeds c held in
-    ran_step (IsFront refs) s s' tok.0 e deeds (ReadBlob cpu tok bytes) t u c pushed longer room (ap (λ (x : CpuId). x.0) mine) (tells_one (ReadBlob s.cpu tok bytes) (ReadBlob cpu tok bytes) refl (ap (λ (x : CpuId). ReadBlob x tok bytes) mine)) tt kept (whole_front refs (holding s') (kept ∙ front))
+    ran_step (IsFront refs) s s' tok.0 e deeds (ReadBlob cpu tok bytes) t u c pushed longer room (ap (λ (x : CpuId). x.0) mine) (traced_one (ReadBlob s.cpu tok bytes) (ReadBlob cpu tok bytes) refl (ap (λ (x : CpuId). ReadBlob x tok bytes) mine)) tt kept (whole_front refs (holding s') (kept ∙ front))
 
 pub write_record_ran : (refs : List Ref) (s s' : CpuSeat) (tok : TokId) (e : TokenEntry) (cpu : CpuId) (bytes : List ℕ) (t u : Vec Event Global) → Changes s s' tok.0 e (writes_blob s.cpu tok.0 bytes ∷ []) → e.held ≡ holding s tok.0 → holding s ≡ holding_of refs → cpu ≡ s.cpu → u.items ≡ t.items ++ WriteBlob cpu tok bytes ∷ [] → vec_len u ≡ vec_len t + 1 → vec_capacity t ≤ vec_capacity u → Ran (IsFront refs) 1 s s' t u
 write_record_ran refs s s' tok e cpu bytes t u c held front mine pushed longer room =
     let deeds = writes_blob s.cpu tok.0 bytes ∷ [] in
     let kept = holding_kept s s' tok.0 e deeds c held in
-    ran_step (IsFront refs) s s' tok.0 e deeds (WriteBlob cpu tok bytes) t u c pushed longer room (ap (λ (x : CpuId). x.0) mine) (tells_one (WriteBlob s.cpu tok bytes) (WriteBlob cpu tok bytes) refl (ap (λ (x : CpuId). WriteBlob x tok bytes) mine)) tt kept (whole_front refs (holding s') (kept ∙ front))
+    ran_step (IsFront refs) s s' tok.0 e deeds (WriteBlob cpu tok bytes) t u c pushed longer room (ap (λ (x : CpuId). x.0) mine) (traced_one (WriteBlob s.cpu tok bytes) (WriteBlob cpu tok bytes) refl (ap (λ (x : CpuId). WriteBlob x tok bytes) mine)) tt kept (whole_front refs (holding s') (kept ∙ front))
 
 -- a call that leaves the seat as it was
 pub unchanged_kept : (s s' : CpuSeat) → IsUnchanged s s' → holding s' ≡ holding s
@@ -160,11 +160,11 @@ unchanged_ran P most s s' t same = record {
   deeds = [];
   grows = same.past;
   mine = own-nil s.cpu.0;
-  tells = refl;
+  in_trace = refl;
   done = [];
   trace = sym (append-nil t.items);
   own = All-from_recursion (λ (e : Event). cpu_of e ≡ s.cpu.0) [] tt;
-  told = tt;
+  traced = tt;
   moves = unchanged_kept s s' same;
   few = omega arith;
   grown = omega arith;

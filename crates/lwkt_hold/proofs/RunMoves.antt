@@ -18,7 +18,7 @@ use Rattle.lwkt_core.specs.Events.{cpu_of}
 use Rattle.lwkt_bank.specs.declared.views.TokenEntry.{TokenEntry}
 use Rattle.lwkt_bank.specs.declared.seats.CpuSeat.{CpuSeat}
 use Rattle.lwkt_bank.specs.Seats.{holding, past_of, steps_of, Changes}
-use Rattle.lwkt_hold.specs.Steps.{held_after, is_counted, is_of_token, is_on_word, is_look, ShowsEvent, Tells}
+use Rattle.lwkt_hold.specs.Steps.{held_after, is_counted, is_of_token, is_on_word, is_look, ShowsEvent, AreTraced}
 use Rattle.lwkt_hold.specs.Runs.{Moves, Ran}
 
 -- moves one after the other
@@ -38,17 +38,17 @@ AllZip-append R [] (y ∷ ys) us vs first second = absurd first
 AllZip-append R (x ∷ xs) [] us vs first second = absurd first
 AllZip-append R (x ∷ xs) (y ∷ ys) us vs first second = (first.0, AllZip-append R xs ys us vs first.1 second)
 
--- what is told of two lists of events
-pub Tells-append : (xs ys us vs : List Event) → Tells xs us → Tells ys vs → Tells (xs ++ ys) (us ++ vs)
-Tells-append [] ys us vs first second = let F : List Event → Type 0 = λ es. Tells ys (es ++ vs) in subst F (sym first) second
-Tells-append (e ∷ xs) ys us vs first second = elim first [
-  | inl untold ↦ inl (untold.0, Tells-append xs ys us vs untold.1 second)
-  | inr told ↦ inr (told.0, (told.1.0 ++ vs, (ap (λ es. es ++ vs) told.1.1.0, Tells-append xs ys told.1.0 vs told.1.1.1 second)))
+-- how two lists of events are traced
+pub AreTraced-append : (xs ys us vs : List Event) → AreTraced xs us → AreTraced ys vs → AreTraced (xs ++ ys) (us ++ vs)
+AreTraced-append [] ys us vs first second = let F : List Event → Type 0 = λ es. AreTraced ys (es ++ vs) in subst F (sym first) second
+AreTraced-append (e ∷ xs) ys us vs first second = elim first [
+  | inl untraced ↦ inl (untraced.0, AreTraced-append xs ys us vs untraced.1 second)
+  | inr traced ↦ inr (traced.0, (traced.1.0 ++ vs, (ap (λ es. es ++ vs) traced.1.1.0, AreTraced-append xs ys traced.1.0 vs traced.1.1.1 second)))
 ]
 
--- one event is told, by the processor that did it
-pub tells_one : (e ev : Event) → is_look e ≡ false → ev ≡ e → Tells (e ∷ []) (ev ∷ [])
-tells_one e ev plain is = inr (plain, ([], (ap (λ (x : Event). x ∷ []) is, refl)))
+-- one event is traced, by the processor that did it
+pub traced_one : (e ev : Event) → is_look e ≡ false → ev ≡ e → AreTraced (e ∷ []) (ev ∷ [])
+traced_one e ev plain is = inr (plain, ([], (ap (λ (x : Event). x ∷ []) is, refl)))
 
 -- the steps of a seat that has done these deeds
 pub steps_grown : (s s' : CpuSeat) (deeds : List Deed) → s'.cpu ≡ s.cpu → Grows s.cpu.0 (past_of s) deeds (past_of s') → AreOwn s.cpu.0 deeds → steps_of s' ≡ steps_of s ++ steps_in deeds
@@ -70,9 +70,9 @@ ran_none P s t = record {
   mine = own-nil s.cpu.0;
   done = [];
   trace = sym (append-nil t.items);
-  tells = refl;
+  in_trace = refl;
   own = All-from_recursion (λ (e : Event). cpu_of e ≡ s.cpu.0) [] tt;
-  told = tt;
+  traced = tt;
   moves = refl;
   few = omega arith;
   grown = omega arith;
@@ -91,26 +91,26 @@ ran_then P m n a b c t u v first second = record {
   mine =
       let F : CpuId → Type 0 = λ k. AreOwn k.0 second.deeds in
       own-append a.cpu.0 first.deeds second.deeds first.mine (subst F first.cpu second.mine);
-  tells =
-      let F : List Event → Type 0 = λ es. Tells es (filter is_of_token (first.done ++ second.done)) in
-      let G : List Event → Type 0 = λ es. Tells (events_in first.deeds ++ events_in second.deeds) es in
+  in_trace =
+      let F : List Event → Type 0 = λ es. AreTraced es (filter is_of_token (first.done ++ second.done)) in
+      let G : List Event → Type 0 = λ es. AreTraced (events_in first.deeds ++ events_in second.deeds) es in
       subst F (sym (events_in-append first.deeds second.deeds))
       (subst G (sym (filter-append is_of_token first.done second.done))
-      (Tells-append (events_in first.deeds) (events_in second.deeds) (filter is_of_token first.done) (filter is_of_token second.done) first.tells second.tells));
+      (AreTraced-append (events_in first.deeds) (events_in second.deeds) (filter is_of_token first.done) (filter is_of_token second.done) first.in_trace second.in_trace));
   done = first.done ++ second.done;
   trace = second.trace ∙ ap (λ xs. xs ++ second.done) first.trace ∙ append_assoc t.items first.done second.done;
   own =
       let same : b.cpu.0 ≡ a.cpu.0 = ap (λ x. x.0) first.cpu in
       let F : ℕ → Type 0 = λ k. All (λ (e : Event). cpu_of e ≡ k) second.done in
       All-append (λ (e : Event). cpu_of e ≡ a.cpu.0) first.done second.done first.own (subst F same second.own);
-  told =
+  traced =
       let F : List WordStep → Type 0 = λ xs. AllZip ShowsEvent xs (filter is_on_word (first.done ++ second.done)) in
       let G : List Event → Type 0 = λ ys. AllZip ShowsEvent (filter is_counted (steps_in first.deeds) ++ filter is_counted (steps_in second.deeds)) ys in
       let H : List WordStep → Type 0 = λ xs. AllZip ShowsEvent (filter is_counted xs) (filter is_on_word (first.done ++ second.done)) in
       subst H (sym (steps_in-append first.deeds second.deeds))
       (subst F (sym (filter-append is_counted (steps_in first.deeds) (steps_in second.deeds)))
       (subst G (sym (filter-append is_on_word first.done second.done))
-      (AllZip-append ShowsEvent (filter is_counted (steps_in first.deeds)) (filter is_on_word first.done) (filter is_counted (steps_in second.deeds)) (filter is_on_word second.done) first.told second.told)));
+      (AllZip-append ShowsEvent (filter is_counted (steps_in first.deeds)) (filter is_on_word first.done) (filter is_counted (steps_in second.deeds)) (filter is_on_word second.done) first.traced second.traced)));
   moves = Moves-append P first.done second.done (holding a) (holding b) (holding c) first.moves second.moves;
   few = let l = length-append first.done second.done in let x = first.few in let y = second.few in omega arith;
   grown = let l = length-append first.done second.done in let x = first.grown in let y = second.grown in omega arith;
@@ -125,11 +125,11 @@ ran_weaker P Q m n a b t u weaker wider ran = record {
   deeds = ran.deeds;
   grows = ran.grows;
   mine = ran.mine;
-  tells = ran.tells;
+  in_trace = ran.in_trace;
   done = ran.done;
   trace = ran.trace;
   own = ran.own;
-  told = ran.told;
+  traced = ran.traced;
   moves = Moves-weaker P Q ran.done (holding a) (holding b) weaker ran.moves;
   few = let x = ran.few in omega arith;
   grown = ran.grown;
@@ -144,11 +144,11 @@ ran_with_room P most a b t u v same long wider ran = record {
   deeds = ran.deeds;
   grows = ran.grows;
   mine = ran.mine;
-  tells = ran.tells;
+  in_trace = ran.in_trace;
   done = ran.done;
   trace = ran.trace ∙ ap (λ xs. xs ++ ran.done) same;
   own = ran.own;
-  told = ran.told;
+  traced = ran.traced;
   moves = ran.moves;
   few = ran.few;
   grown = ran.grown ∙ ap (λ n. n + length ran.done) long;
@@ -174,8 +174,8 @@ pub holding_kept : (s s' : CpuSeat) (tok : ℕ) (e : TokenEntry) (made : List De
 holding_kept s s' tok e made c is = holding_changed s s' tok e made (λ x. x) c is ∙ fun_ext (λ other. same_if (eqb other tok) (holding s other))
 
 -- a call without an event
-pub ran_quiet : (P : Holding → Type 0) (s s' : CpuSeat) (tok : ℕ) (e : TokenEntry) (deeds : List Deed) (t : Vec Event Global) → Changes s s' tok e deeds → e.held ≡ holding s tok → Tells (events_in deeds) [] → filter is_counted (steps_in deeds) ≡ [] → Ran P 0 s s' t t
-ran_quiet P s s' tok e deeds t c held untold none = record {
+pub ran_quiet : (P : Holding → Type 0) (s s' : CpuSeat) (tok : ℕ) (e : TokenEntry) (deeds : List Deed) (t : Vec Event Global) → Changes s s' tok e deeds → e.held ≡ holding s tok → AreTraced (events_in deeds) [] → filter is_counted (steps_in deeds) ≡ [] → Ran P 0 s s' t t
+ran_quiet P s s' tok e deeds t c held untraced none = record {
   bank = c.bank;
   cpu = c.cpu;
   deeds = deeds;
@@ -183,9 +183,9 @@ ran_quiet P s s' tok e deeds t c held untold none = record {
   mine = c.own;
   done = [];
   trace = sym (append-nil t.items);
-  tells = untold;
+  in_trace = untraced;
   own = All-from_recursion (λ (e : Event). cpu_of e ≡ s.cpu.0) [] tt;
-  told = let F : List WordStep → Type 0 = λ xs. AllZip ShowsEvent xs [] in subst F (sym none) tt;
+  traced = let F : List WordStep → Type 0 = λ xs. AllZip ShowsEvent xs [] in subst F (sym none) tt;
   moves = holding_kept s s' tok e deeds c held;
   few = omega arith;
   grown = omega arith;
@@ -193,8 +193,8 @@ ran_quiet P s s' tok e deeds t c held untold none = record {
 }
 
 -- a call with one event
-pub ran_step : (P : Holding → Type 0) (s s' : CpuSeat) (tok : ℕ) (e : TokenEntry) (deeds : List Deed) (ev : Event) (t u : Vec Event Global) → Changes s s' tok e deeds → u.items ≡ t.items ++ ev ∷ [] → vec_len u ≡ vec_len t + 1 → vec_capacity t ≤ vec_capacity u → cpu_of ev ≡ s.cpu.0 → Tells (events_in deeds) (filter is_of_token (ev ∷ [])) → AllZip ShowsEvent (filter is_counted (steps_in deeds)) (filter is_on_word (ev ∷ [])) → holding s' ≡ held_after ev (holding s) → P (holding s') → Ran P 1 s s' t u
-ran_step P s s' tok e deeds ev t u c pushed longer room own tells told moved at_front = record {
+pub ran_step : (P : Holding → Type 0) (s s' : CpuSeat) (tok : ℕ) (e : TokenEntry) (deeds : List Deed) (ev : Event) (t u : Vec Event Global) → Changes s s' tok e deeds → u.items ≡ t.items ++ ev ∷ [] → vec_len u ≡ vec_len t + 1 → vec_capacity t ≤ vec_capacity u → cpu_of ev ≡ s.cpu.0 → AreTraced (events_in deeds) (filter is_of_token (ev ∷ [])) → AllZip ShowsEvent (filter is_counted (steps_in deeds)) (filter is_on_word (ev ∷ [])) → holding s' ≡ held_after ev (holding s) → P (holding s') → Ran P 1 s s' t u
+ran_step P s s' tok e deeds ev t u c pushed longer room own in_trace traced moved at_front = record {
   bank = c.bank;
   cpu = c.cpu;
   deeds = deeds;
@@ -202,9 +202,9 @@ ran_step P s s' tok e deeds ev t u c pushed longer room own tells told moved at_
   mine = c.own;
   done = ev ∷ [];
   trace = pushed;
-  tells = tells;
+  in_trace = in_trace;
   own = All-from_recursion (λ (e : Event). cpu_of e ≡ s.cpu.0) (ev ∷ []) (own, tt);
-  told = told;
+  traced = traced;
   moves = (let F : Holding → Type 0 = λ x. P x in subst F moved at_front, moved);
   few = omega arith;
   grown = longer;

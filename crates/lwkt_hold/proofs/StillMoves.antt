@@ -5,10 +5,11 @@ use Rattle.std.proofs.lemmas.Bool.{eqb-true, eqb-false, cases_Bool}
 use Rattle.std.proofs.lemmas.Option.{slice_get-get_or, slice_get_within}
 use Rattle.std.proofs.lemmas.List.{append-nil}
 use Rattle.lwkt_base.specs.declared.names.Ref.{Ref}
+use Rattle.lwkt_base.specs.declared.names.Mode.{Mode}
 use Rattle.lwkt_base.specs.declared.words.Decision.TheVariants.{Held, Marked}
 use Rattle.lwkt_table.specs.declared.seats.WordStep.{WordStep}
 use Rattle.lwkt_bank.specs.declared.seats.CpuSeat.{CpuSeat}
-use Rattle.lwkt_bank.specs.Seats.{entry, steps_of, Decides, Looked}
+use Rattle.lwkt_bank.specs.Seats.{entry, steps_of, Decides, Looked, Lost}
 use Rattle.lwkt_bank.specs.Views.{load, looked}
 use Rattle.lwkt_bank.specs.Deeds.{loads}
 use Rattle.lwkt_hold.specs.declared.answers.Missed.TheVariants.{Busy}
@@ -18,7 +19,7 @@ use Rattle.lwkt_hold.specs.Rows.{SameRow}
 use Rattle.lwkt_hold.specs.Stays.{Stays, RunsUnseen}
 use Rattle.lwkt_hold.proofs.RunMoves.{changed_steps, ran_quiet}
 use Rattle.lwkt_hold.proofs.TakeMoves.{looked-held}
-use Rattle.lwkt_hold.proofs.ListMoves.{stands_from, same_from, stands_now, looked-stands}
+use Rattle.lwkt_hold.proofs.ListMoves.{keeps_from, same_from, keeps_now, looked-stands}
 
 -- a look at the reference of a place
 pub looked_stays : (s s' : CpuSeat) (refs list : List Ref) (at : ℕ) (d : Ref) (found word : ℕ) (still : Bool) → refs ≡ list → at < length refs → Looked s s' (get_or refs at d).tok.0 found → (still ≡ true → found ≡ word) → (still ≡ false → found ≢ word) → Stays s s' list at word still
@@ -46,7 +47,19 @@ looked_same s s' tok found l other = elim (cases_Bool (eqb other tok)) [
       let same = eqb-true other tok is in
       let e = entry s tok in
       let F : ℕ → Type 0 = λ t. SameRow s s' t in
-      subst F (sym same) (stands_from s s' tok (looked e found) l.changes.here (looked-stands s tok e found (stands_now s tok)))
+      subst F (sym same) (keeps_from s s' tok (looked e found) l.changes.here (looked-stands s tok e found (keeps_now s tok)))
+  | inr is ↦ same_from s s' other (l.changes.else_ other (eqb-false other tok is))
+]
+
+-- nor does an exchange that lost
+pub lost_same : (s s' : CpuSeat) (tok : ℕ) (mode : Mode) (alone : Bool) → Lost s s' tok mode alone → (other : ℕ) → SameRow s s' other
+lost_same s s' tok mode alone l other = elim (cases_Bool (eqb other tok)) [
+  | inl is ↦
+      let same = eqb-true other tok is in
+      let e = entry s tok in
+      let m = looked e l.word in
+      let F : ℕ → Type 0 = λ t. SameRow s s' t in
+      subst F (sym same) (keeps_from s s' tok (looked m l.found) l.changes.here (looked-stands s tok m l.found (looked-stands s tok e l.word (keeps_now s tok))))
   | inr is ↦ same_from s s' other (l.changes.else_ other (eqb-false other tok is))
 ]
 

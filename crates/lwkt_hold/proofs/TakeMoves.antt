@@ -25,11 +25,11 @@ use Rattle.lwkt_bank.specs.Deeds.{take_event, loads, takes, loses, adds_one}
 use Rattle.lwkt_bank.specs.Seats.{bank_of, tokens_of, entry, holding, references, steps_of, Looked, Took, Lost, Stepped}
 use Rattle.lwkt_hold.specs.declared.answers.Missed.{Missed}
 use Rattle.lwkt_hold.specs.Fronts.{IsFront, is_alone, names}
-use Rattle.lwkt_hold.specs.Steps.{held_after, is_counted, is_of_token, is_on_word, is_look, ShowsEvent, Tells, taking}
+use Rattle.lwkt_hold.specs.Steps.{held_after, is_counted, is_of_token, is_on_word, is_look, ShowsEvent, AreTraced, taking}
 use Rattle.lwkt_hold.specs.Runs.{Ran}
 use Rattle.lwkt_hold.specs.Misses.{IsMiss, Misses}
 use Rattle.lwkt_hold.proofs.HoldingMoves.{holding_of_more, more_in_any_mode, count_of_list, held_named}
-use Rattle.lwkt_hold.proofs.RunMoves.{tells_one, ran_step, ran_quiet, ran_weaker, holding_changed, holding_kept}
+use Rattle.lwkt_hold.proofs.RunMoves.{traced_one, ran_step, ran_quiet, ran_weaker, holding_changed, holding_kept}
 
 -- a further reference in any mode
 added_if : (b : Bool) (held : Held) (mode : Mode) → (b ≡ true → is_held held ≡ true) → cond b (one_more held Shared) held ≡ cond b (one_more held mode) held
@@ -43,9 +43,9 @@ not_held : (held : Held) → is_held held ≡ false → held ≡ Nothing
 not_held Nothing is = refl
 not_held (Holds mode further) is = cc
 
--- what a front holds of a token, as the seat tells it
+-- what a front holds of a token, as the seat has it
 pub front_names : (s : CpuSeat) (refs : List Ref) (at tok : ℕ) (held : Held) (b r : Bool) → holding s ≡ holding_of (take at refs) → held ≡ holding s tok → b ≡ is_held held → b ≡ r → names (take at refs) tok ≡ r
-front_names s refs at tok held b r front told is so = sym (held_named (take at refs) tok) ∙ sym (ap (λ h. is_held (h tok)) front) ∙ ap is_held (sym told) ∙ sym is ∙ so
+front_names s refs at tok held b r front traced is so = sym (held_named (take at refs) tok) ∙ sym (ap (λ h. is_held (h tok)) front) ∙ ap is_held (sym traced) ∙ sym is ∙ so
 
 -- the holding of a front names what it names
 pub held_in_front : (s : CpuSeat) (refs : List Ref) (at tok : ℕ) → holding s ≡ holding_of (take at refs) → names (take at refs) tok ≡ true → is_held (holding s tok) ≡ true
@@ -106,7 +106,7 @@ pub again_ran : (s s' : CpuSeat) (refs : List Ref) (at : ℕ) (d : Ref) (cpu : C
 again_ran s s' refs at d cpu t u within front named stepped mine pushed longer room =
     let r = get_or refs at d in
     let e = again_holds s s' refs at d within front named stepped in
-    ran_step (IsFront refs) s s' r.tok.0 (more (entry s r.tok.0)) (adds_one s.cpu r.tok.0 stepped.found ∷ []) (Again cpu r.tok) t u stepped.changes pushed longer room (ap (λ (x : CpuId). x.0) mine) (tells_one (Again s.cpu r.tok) (Again cpu r.tok) refl (ap (λ (x : CpuId). Again x r.tok) mine)) ((refl, refl), tt) e.0 (at + 1, e.1)
+    ran_step (IsFront refs) s s' r.tok.0 (more (entry s r.tok.0)) (adds_one s.cpu r.tok.0 stepped.found ∷ []) (Again cpu r.tok) t u stepped.changes pushed longer room (ap (λ (x : CpuId). x.0) mine) (traced_one (Again s.cpu r.tok) (Again cpu r.tok) refl (ap (λ (x : CpuId). Again x r.tok) mine)) ((refl, refl), tt) e.0 (at + 1, e.1)
 
 -- a first reference is taken
 pub took_holds : (s s' : CpuSeat) (refs : List Ref) (at : ℕ) (d : Ref) (alone : Bool) (g : ℕ) → at < length refs → holding s ≡ holding_of (take at refs) → names (take at refs) (get_or refs at d).tok.0 ≡ false → Took s s' (get_or refs at d).tok.0 (get_or refs at d).mode alone g → (holding s' ≡ added (holding s) (get_or refs at d).tok.0 (get_or refs at d).mode) × (holding s' ≡ holding_of (take (at + 1) refs))
@@ -129,9 +129,9 @@ took_ran s s' refs at d alone g cpu ev t u within front named took mine is pushe
     (cpu_of_taking cpu r.tok r.mode ∙ ap (λ (x : CpuId). x.0) mine)
     (inl (
       refl,
-      (let G : List Event → Type 0 = λ es. Tells (take_event s.cpu r.tok r.mode ∷ []) es in
+      (let G : List Event → Type 0 = λ es. AreTraced (take_event s.cpu r.tok r.mode ∷ []) es in
           subst G (sym (taking_of_token cpu r.tok r.mode))
-          (tells_one (take_event s.cpu r.tok r.mode) (taking cpu r.tok r.mode) (take_is_no_look s.cpu r.tok r.mode) (ap (λ (x : CpuId). taking x r.tok r.mode) mine ∙ same_taking s.cpu r.tok r.mode))),
+          (traced_one (take_event s.cpu r.tok r.mode) (taking cpu r.tok r.mode) (take_is_no_look s.cpu r.tok r.mode) (ap (λ (x : CpuId). taking x r.tok r.mode) mine ∙ same_taking s.cpu r.tok r.mode))),
     ))
     (subst F (sym (won r.tok.0 took.word took.next)) (shows_taking cpu r.tok r.mode took.word took.next))
     (e.0 ∙ sym (after_taking cpu r.tok r.mode (holding s))) (at + 1, e.1)

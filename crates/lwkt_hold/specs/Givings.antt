@@ -25,7 +25,7 @@ gives_all cpu front [] = []
 gives_all cpu front (r ∷ refs) = gives_all cpu (front ++ r ∷ []) refs ++ gives cpu r.tok (holding_of (front ++ r ∷ []) r.tok.0) ∷ []
 
 -- the event of giving a reference to a token back: one reference less, or the end of a section, which is written exactly if row
--- or record differ from the first ones, and then tells the section (own)
+-- or record differ from the first ones, and then names the section (own)
 abbrev pub GivesBy : CpuSeat → TokId → Event → Type 0
 GivesBy s tok event =
     ((holding s tok.0 ≢ Holds Exclusive 0) × (event ≡ GiveOne s.cpu tok))
@@ -54,14 +54,14 @@ Releases s held tok events =
     ⊎ ((held ≡ Holds Exclusive 0) × MeetsItsLaw s tok.0 × (¬ IsUnwritten s tok.0) × (events ≡ GiveWritten s.cpu tok (section_now s tok) ∷ []))
     ⊎ ((held ≡ Holds Exclusive 0) × ¬ MeetsItsLaw s tok.0 × RestoresBy s tok (GiveClean s.cpu tok ∷ []) events)
 
--- what the release of the last reference of a list tells, which is to this token: the list is the rest, the events are those of
+-- what the release of the last reference of a list says, which is to this token: the list is the rest, the events are those of
 -- giving the reference back, and its section's first row and record were stored again or not
 pub record ReleasesLast (old new : CpuSeat) (refs rest : List Ref) (tok : TokId) (restored : Bool) (before now : List Event) : Type 0 where
   pub last : Ref
   pub popped : refs ≡ rest ++ last ∷ []
   pub to_it : last.tok.0 ≡ tok.0
   pub done : List Event
-  pub told : now ≡ before ++ done
+  pub traced : now ≡ before ++ done
   pub releases : Releases old (holding old tok.0) tok done
   pub rows : GivesBack old new tok.0 restored
 

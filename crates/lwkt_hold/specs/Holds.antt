@@ -12,7 +12,7 @@ use Rattle.lwkt_hold.specs.Misses.{Misses}
 abbrev pub seat_of : Hold → CpuSeat
 seat_of hold = hold.seat
 
--- what taking a whole list tells: all of it is held, or nothing is and the reference of a place was missed (token(9))
+-- what taking a whole list says: all of it is held, or nothing is and the reference of a place was missed (token(9))
 abbrev pub Resumes : CpuSeat → CpuSeat → List Ref → Resumed → Type 0
 Resumes old new refs All = holding new ≡ holding_of refs
 Resumes old new refs (Passed at why) = (holding new ≡ holds_nothing) × Misses old new refs at why

@@ -6,5 +6,8 @@ pub mod Stays
 pub mod Rows
 pub mod Takings
 pub mod Givings
+pub mod Ready
+pub mod Refusals
+pub mod Outcomes
 pub mod Holds
 pub mod Laws

@@ -150,7 +150,7 @@ first_of (Some first) restored tok = Some first
 first_of None true tok = Some tok
 first_of None false tok = None
 
--- what giving up everything tells: which token was restored first, or that none had broken its law
+-- what giving up everything says: which token was restored first, or that none had broken its law
 abbrev pub Blocks : CpuSeat → List Ref → Blocked → Type 0
 Blocks old refs Clean = (tok : ℕ) → ¬ IsBroken old tok
 Blocks old refs (Restored tok) = IsFirstBroken old refs tok.0

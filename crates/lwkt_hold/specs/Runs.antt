@@ -8,7 +8,7 @@ use Rattle.lwkt_table.specs.History.{AreOwn, Grows, events_in, steps_in}
 use Rattle.lwkt_core.specs.Events.{cpu_of}
 use Rattle.lwkt_bank.specs.declared.seats.CpuSeat.{CpuSeat}
 use Rattle.lwkt_bank.specs.Seats.{bank_of, holding, past_of}
-use Rattle.lwkt_hold.specs.Steps.{held_after, is_counted, is_of_token, is_on_word, ShowsEvent, Tells}
+use Rattle.lwkt_hold.specs.Steps.{held_after, is_counted, is_of_token, is_on_word, ShowsEvent, AreTraced}
 
 -- the holding goes from one to the other by these events, and after each of them it is such a one
 abbrev pub Moves : (Holding → Type 0) → Holding → List Event → Holding → Type 0
@@ -28,8 +28,8 @@ pub record Ran (P : Holding → Type 0) (most : ℕ) (old new : CpuSeat) (before
   pub done : List Event
   pub trace : now.items ≡ before.items ++ done
   pub own : All (λ e. cpu_of e ≡ old.cpu.0) done
-  pub tells : Tells (events_in deeds) (filter is_of_token done)
-  pub told : AllZip ShowsEvent (filter is_counted (steps_in deeds)) (filter is_on_word done)
+  pub in_trace : AreTraced (events_in deeds) (filter is_of_token done)
+  pub traced : AllZip ShowsEvent (filter is_counted (steps_in deeds)) (filter is_on_word done)
   pub moves : Moves P (holding old) done (holding new)
   pub few : length done ≤ most
   pub grown : vec_len now ≡ vec_len before + length done

@@ -8,7 +8,7 @@ use Rattle.lwkt_bank.specs.Views.{load}
 use Rattle.lwkt_hold.specs.Fronts.{IsFront}
 use Rattle.lwkt_hold.specs.Runs.{Ran}
 
--- what a look at the token of the reference of a place tells: the seat's steps grow by one load of its word, of the seat nothing
+-- what a look at the token of the reference of a place says: the seat's steps grow by one load of its word, of the seat nothing
 -- else changes but the generation that it knows, and the answer is whether the load found this word (own)
 pub record Stays (old new : CpuSeat) (refs : List Ref) (place word : ℕ) (still : Bool) : Type 0 where
   pub at : Ref

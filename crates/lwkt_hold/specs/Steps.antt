@@ -44,8 +44,8 @@ has_event (Or bits) found = true
 abbrev pub is_counted : WordStep → Bool
 is_counted s = has_event s.operation s.found
 
--- whether an event is a look at the word of a token, which no trace tells; and whether it is one or the load of a cell or of a
--- record, which a trace tells only where it was asked for (own)
+-- whether an event is a look at the word of a token, which no trace has; and whether it is one or the load of a cell or of a
+-- record, which a trace has only where it was asked for (own)
 abbrev pub is_look : Event → Bool
 is_look (Load cpu tok) = true
 is_look (Take cpu tok) = false
@@ -66,30 +66,30 @@ is_look (Reply cpu msg) = false
 is_look (Reap cpu msg) = false
 is_look (Abort cpu msg) = false
 
-abbrev pub may_be_untold : Event → Bool
-may_be_untold (Read cpu tok cell value) = true
-may_be_untold (Load cpu tok) = true
-may_be_untold (Take cpu tok) = false
-may_be_untold (Share cpu tok) = false
-may_be_untold (Again cpu tok) = false
-may_be_untold (Mark cpu tok) = false
-may_be_untold (GiveOne cpu tok) = false
-may_be_untold (GiveClean cpu tok) = false
-may_be_untold (GiveWritten cpu tok section) = false
-may_be_untold (Write cpu tok cell value) = false
-may_be_untold (ReadBlob cpu tok blob) = true
-may_be_untold (WriteBlob cpu tok blob) = false
-may_be_untold (Send cpu msg to round) = false
-may_be_untold (TakeMsg cpu msg round) = false
-may_be_untold (DropMsg cpu msg) = false
-may_be_untold (Reply cpu msg) = false
-may_be_untold (Reap cpu msg) = false
-may_be_untold (Abort cpu msg) = false
+abbrev pub may_be_untraced : Event → Bool
+may_be_untraced (Read cpu tok cell value) = true
+may_be_untraced (Load cpu tok) = true
+may_be_untraced (Take cpu tok) = false
+may_be_untraced (Share cpu tok) = false
+may_be_untraced (Again cpu tok) = false
+may_be_untraced (Mark cpu tok) = false
+may_be_untraced (GiveOne cpu tok) = false
+may_be_untraced (GiveClean cpu tok) = false
+may_be_untraced (GiveWritten cpu tok section) = false
+may_be_untraced (Write cpu tok cell value) = false
+may_be_untraced (ReadBlob cpu tok blob) = true
+may_be_untraced (WriteBlob cpu tok blob) = false
+may_be_untraced (Send cpu msg to round) = false
+may_be_untraced (TakeMsg cpu msg round) = false
+may_be_untraced (DropMsg cpu msg) = false
+may_be_untraced (Reply cpu msg) = false
+may_be_untraced (Reap cpu msg) = false
+may_be_untraced (Abort cpu msg) = false
 
--- a trace tells these events in order, without the looks at words and without loads of cells and records that weren't asked for
-abbrev pub Tells : List Event → List Event → Type 0
-Tells [] told = told ≡ []
-Tells (e ∷ events) told = ((may_be_untold e ≡ true) × Tells events told) ⊎ ((is_look e ≡ false) × ((rest : List Event) × ((told ≡ e ∷ rest) × Tells events rest)))
+-- a trace has these events in order, without the looks at words and without loads of cells and records that weren't asked for
+abbrev pub AreTraced : List Event → List Event → Type 0
+AreTraced [] traced = traced ≡ []
+AreTraced (e ∷ events) traced = ((may_be_untraced e ≡ true) × AreTraced events traced) ⊎ ((is_look e ≡ false) × ((rest : List Event) × ((traced ≡ e ∷ rest) × AreTraced events rest)))
 
 -- whether an event is one of a token
 abbrev pub is_of_token : Event → Bool

@@ -1,17 +1,16 @@
 //! A reference asked for.
-ghost use Rattle.std.specs.Prelude.{◌≡◌, ◌≢◌, ◌⊎◌, ℕ, ◌+◌, ◌<◌, ◌≤◌, ◌↔◌, [], ◌∷◌, ◌++◌, length, Some, None, Ok, Err, OnOk, OnErr, vec_len, vec_capacity};
-ghost use Rattle.lwkt_base.specs.Holding.{holding_of};
-ghost use Rattle.lwkt_base.specs.Refs.{first_mode};
+ghost use Rattle.std.specs.Prelude.{◌≡◌, ℕ, ◌+◌, ◌<◌, List, [], ◌∷◌, ◌++◌, length, Ok, Err, OnOk, OnErr, IfOk, vec_len, vec_capacity};
+ghost use Rattle.std.specs.Result.{result_err};
+ghost use Rattle.lwkt_base.specs.declared.names.Ref.{Ref};
 ghost use Rattle.lwkt_bank.specs.Seats.{id_of, bank_of, tokens_of, holding};
+ghost use Rattle.lwkt_hold.specs.declared.answers.Missed.{Missed};
+ghost use Rattle.lwkt_hold.specs.Misses.{Misses, fault_of, exclusive};
 ghost use Rattle.lwkt_hold.specs.Fronts.{IsFront};
 ghost use Rattle.lwkt_hold.specs.Runs.{Ran};
-ghost use Rattle.lwkt_hold.specs.Misses.{Misses};
 ghost use Rattle.lwkt_hold.specs.Rows.{SameRow};
-ghost use Rattle.lwkt_hold.specs.Takings.{taking_event, TakesRows};
-ghost use Rattle.lwkt_hold.specs.declared.answers.Missed.{Missed};
-ghost use Rattle.lwkt_hold.specs.Misses.{fault_of, exclusive};
-ghost use Rattle.lwkt_base.specs.declared.names.Ref.{Ref};
-ghost use Rattle.std.specs.Prelude.{List};
+ghost use Rattle.lwkt_hold.specs.Ready.{IsReady};
+ghost use Rattle.lwkt_hold.specs.Refusals.{get_refusal, RefusedBy};
+ghost use Rattle.lwkt_hold.specs.Outcomes.{Acquires, Takes, ChangesNothing, IsMissed, IsWorn};
 
 use crate::answers::{Acquired, Missed};
 use crate::holds::Hold;
@@ -48,19 +47,13 @@ fn push_and_take(
     new: Ref,
     trace: &mut Vec<Event>,
 ) -> Result<Result<(), Missed>, Fault>
-    requires of { bank_of seat.old ≡ id_of bank.now }
-    requires held { holding seat.old ≡ holding_of list.old }
-    requires room { vec_len trace.old < vec_capacity trace.old }
+    requires { IsReady (id_of bank.now) seat.old list.old trace.old 1 }
     ensures ran { Ran (IsFront list.new) 1 seat.old seat.new trace.old trace.new }
-    ensures pushed { OnOk result ((list.new ≡ list.old ++ new ∷ []) × (new.tok.0 < tokens_of (bank_of seat.old))) }
-    ensures got { result ≡ Ok (Ok tt) → (holding seat.new ≡ holding_of list.new) × (trace.new.items ≡ trace.old.items ++ taking_event seat.old.cpu list.old new ∷ []) }
-    ensures rows { TakesRows seat.old seat.new }
-    ensures missed { (why : Missed) → result ≡ Ok (Err why) → (holding seat.new ≡ holding_of list.old) × (trace.new ≡ trace.old) × Misses seat.old seat.new list.new (length list.old) why }
+    ensures refused { result_err result ≡ get_refusal (id_of bank.now) list.old new }
+    ensures pushed { OnOk result (list.new ≡ list.old ++ new ∷ []) }
+    ensures got { result ≡ Ok (Ok tt) → Takes list.old list.new new seat.old seat.new trace.old trace.new }
+    ensures missed { (why : Missed) → result ≡ Ok (Err why) → Misses seat.old seat.new list.new (length list.old) why × ChangesNothing seat.old seat.new trace.old trace.new }
     ensures err { OnErr result ((list.new ≡ list.old) × (seat.new ≡ seat.old) × (trace.new ≡ trace.old)) }
-    ensures no_token { (result ≡ Err Fault.NoToken) ↔ (tokens_of (id_of bank.now) ≤ new.tok.0) }
-    ensures full { (result ≡ Err Fault.ListFull) ↔ ((new.tok.0 < tokens_of (id_of bank.now)) × (length list.old ≡ 32)) }
-    ensures upgrade { (result ≡ Err Fault.Upgrade) ↔ ((new.tok.0 < tokens_of (id_of bank.now)) × (length list.old < 32) × (new.mode ≡ Mode.Exclusive) × (first_mode list.old new.tok.0 ≡ Some Mode.Shared)) }
-    ensures only { OnErr result ((result ≡ Err Fault.NoToken) ⊎ (result ≡ Err Fault.ListFull) ⊎ (result ≡ Err Fault.Upgrade)) }
 {
     if new.tok.0 as usize >= bank.tokens() {
         return Err(Fault::NoToken);
@@ -106,26 +99,11 @@ impl Hold {
         new: Ref,
         trace: &mut Vec<Event>,
     ) -> Result<Acquired, Fault>
-        requires of { bank_of (seat_of self.old) ≡ id_of bank.now }
-        requires held { holding (seat_of self.old) ≡ holding_of list.old }
-        requires room { vec_len trace.old + 256 ≤ vec_capacity trace.old }
-        ensures ran { Ran (IsFront list.new) 2 (seat_of self.old) (seat_of self.new) trace.old trace.new }
-        ensures there { OnOk result (new.tok.0 < tokens_of (bank_of (seat_of self.old))) }
-        ensures got { result ≡ Ok Acquired.Got → (list.new ≡ list.old ++ new ∷ []) × (holding (seat_of self.new) ≡ holding_of list.new)
-            × (trace.new.items ≡ trace.old.items ++ taking_event (seat_of self.old).cpu list.old new ∷ []) }
-        ensures rows { TakesRows (seat_of self.old) (seat_of self.new) }
-        ensures must_switch { (why : Missed) → result ≡ Ok (Acquired.MustSwitch why)
-            → (list.new ≡ list.old ++ new ∷ []) × (holding (seat_of self.new) ≡ holding_of list.old) × Misses (seat_of self.old) (seat_of self.new) list.new (length list.old) why }
-        ensures switched { (why : Missed) → result ≡ Ok (Acquired.MustSwitch why) → Ran (IsFront list.old) 2 (seat_of self.old) (seat_of self.new) trace.old trace.new }
-        ensures not_worn { (why : Missed) → result ≡ Ok (Acquired.MustSwitch why) → why ≢ Missed.Worn }
-        ensures marked { (why : Missed) → result ≡ Ok (Acquired.MustSwitch why) → new.mode ≡ Mode.Exclusive → trace.new.items ≡ trace.old.items ++ Event.Mark (seat_of self.old).cpu new.tok ∷ [] }
-        ensures unmarked { (why : Missed) → result ≡ Ok (Acquired.MustSwitch why) → new.mode ≡ Mode.Shared → trace.new ≡ trace.old }
-        ensures err { OnErr result ((list.new ≡ list.old) × (holding (seat_of self.new) ≡ holding_of list.old) × (trace.new ≡ trace.old)) }
-        ensures no_token { (result ≡ Err Fault.NoToken) ↔ (tokens_of (id_of bank.now) ≤ new.tok.0) }
-        ensures full { (result ≡ Err Fault.ListFull) ↔ ((new.tok.0 < tokens_of (id_of bank.now)) × (length list.old ≡ 32)) }
-        ensures upgrade { (result ≡ Err Fault.Upgrade) ↔ ((new.tok.0 < tokens_of (id_of bank.now)) × (length list.old < 32) × (new.mode ≡ Mode.Exclusive) × (first_mode list.old new.tok.0 ≡ Some Mode.Shared)) }
-        ensures worn { result ≡ Err Fault.Worn → Misses (seat_of self.old) (seat_of self.new) (list.old ++ new ∷ []) (length list.old) Missed.Worn }
-        ensures only { OnErr result ((result ≡ Err Fault.NoToken) ⊎ (result ≡ Err Fault.ListFull) ⊎ (result ≡ Err Fault.Upgrade) ⊎ (result ≡ Err Fault.Worn)) }
+        requires { IsReady (id_of bank.now) (seat_of self.old) list.old trace.old 256 }
+        ensures ran { Ran (IsFront list.new) 1 (seat_of self.old) (seat_of self.new) trace.old trace.new }
+        ensures refused { RefusedBy (get_refusal (id_of bank.now) list.old new) (IsWorn list.old new (seat_of self.old) (seat_of self.new)) result }
+        ensures ok { IfOk result (λ acquired. Acquires list.old list.new new (seat_of self.old) (seat_of self.new) trace.old trace.new acquired) }
+        ensures err { OnErr result ((list.new ≡ list.old) × ChangesNothing (seat_of self.old) (seat_of self.new) trace.old trace.new) }
     {
         match push_and_take(&mut self.seat, bank, list, new, trace)? {
             Ok(()) => Ok(Acquired::Got),
@@ -153,20 +131,11 @@ impl Hold {
         tok: TokId,
         trace: &mut Vec<Event>,
     ) -> Result<(), Fault>
-        requires of { bank_of (seat_of self.old) ≡ id_of bank.now }
-        requires held { holding (seat_of self.old) ≡ holding_of list.old }
-        requires room { vec_len trace.old + 256 ≤ vec_capacity trace.old }
+        requires { IsReady (id_of bank.now) (seat_of self.old) list.old trace.old 256 }
         ensures ran { Ran (IsFront list.new) 1 (seat_of self.old) (seat_of self.new) trace.old trace.new }
-        ensures there { OnOk result (tok.0 < tokens_of (bank_of (seat_of self.old))) }
-        ensures got { OnOk result ((list.new ≡ list.old ++ exclusive tok ∷ []) × (holding (seat_of self.new) ≡ holding_of list.new)
-            × (trace.new.items ≡ trace.old.items ++ taking_event (seat_of self.old).cpu list.old (exclusive tok) ∷ [])) }
-        ensures rows { TakesRows (seat_of self.old) (seat_of self.new) }
-        ensures err { OnErr result ((list.new ≡ list.old) × (holding (seat_of self.new) ≡ holding_of list.old) × (trace.new ≡ trace.old)) }
-        ensures no_token { (result ≡ Err Fault.NoToken) ↔ (tokens_of (id_of bank.now) ≤ tok.0) }
-        ensures full { (result ≡ Err Fault.ListFull) ↔ ((tok.0 < tokens_of (id_of bank.now)) × (length list.old ≡ 32)) }
-        ensures upgrade { (result ≡ Err Fault.Upgrade) ↔ ((tok.0 < tokens_of (id_of bank.now)) × (length list.old < 32) × (first_mode list.old tok.0 ≡ Some Mode.Shared)) }
-        ensures missed { OnErr result ((result ≡ Err Fault.NoToken) ⊎ (result ≡ Err Fault.ListFull) ⊎ (result ≡ Err Fault.Upgrade)
-            ⊎ ((why : Missed) × ((result ≡ Err (fault_of why)) × Misses (seat_of self.old) (seat_of self.new) (list.old ++ exclusive tok ∷ []) (length list.old) why))) }
+        ensures refused { RefusedBy (get_refusal (id_of bank.now) list.old (exclusive tok)) (IsMissed list.old (exclusive tok) (seat_of self.old) (seat_of self.new)) result }
+        ensures ok { OnOk result (Takes list.old list.new (exclusive tok) (seat_of self.old) (seat_of self.new) trace.old trace.new) }
+        ensures err { OnErr result ((list.new ≡ list.old) × ChangesNothing (seat_of self.old) (seat_of self.new) trace.old trace.new) }
     {
         let new = Ref {
             tok,

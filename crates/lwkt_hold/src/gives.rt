@@ -72,7 +72,7 @@ fn mend(seat: &mut CpuSeat, bank: &Bank, tok: TokId, trace: &mut Vec<Event>) -> 
 
 /// Gives a reference to a token back, and says so in the trace.
 #[inline(always)]
-fn give_told(seat: &mut CpuSeat, bank: &Bank, cpu: CpuId, tok: TokId, trace: &mut Vec<Event>)
+fn give_traced(seat: &mut CpuSeat, bank: &Bank, cpu: CpuId, tok: TokId, trace: &mut Vec<Event>)
     requires of { bank_of seat.old ≡ id_of bank.now }
     requires mine { cpu ≡ seat.old.cpu }
     requires there { tok.0 < tokens_of (bank_of seat.old) }
@@ -85,7 +85,7 @@ fn give_told(seat: &mut CpuSeat, bank: &Bank, cpu: CpuId, tok: TokId, trace: &mu
     ensures row { row seat.new tok.0 ≡ row seat.old tok.0 }
     ensures blob { blob seat.new tok.0 ≡ blob seat.old tok.0 }
     ensures still { is_held (holding seat.new tok.0) ≡ true → SameSection seat.old seat.new tok.0 }
-    ensures told { (event : Event) × ((trace.new.items ≡ trace.old.items ++ event ∷ []) × GivesBy seat.old tok event) }
+    ensures traced { (event : Event) × ((trace.new.items ≡ trace.old.items ++ event ∷ []) × GivesBy seat.old tok event) }
 {
     match seat.give(bank, tok) {
         Given::One => note_one(trace, cpu, tok),
@@ -94,7 +94,7 @@ fn give_told(seat: &mut CpuSeat, bank: &Bank, cpu: CpuId, tok: TokId, trace: &mu
     }
 }
 
-/// The same for a token with any number of cells, whose section is told by a loop.
+/// The same for a token with any number of cells, whose section is traced by a loop.
 #[inline(never)]
 fn give_whole(seat: &mut CpuSeat, bank: &Bank, cpu: CpuId, tok: TokId, trace: &mut Vec<Event>)
     requires of { bank_of seat.old ≡ id_of bank.now }
@@ -109,12 +109,12 @@ fn give_whole(seat: &mut CpuSeat, bank: &Bank, cpu: CpuId, tok: TokId, trace: &m
     ensures row { row seat.new tok.0 ≡ row seat.old tok.0 }
     ensures blob { blob seat.new tok.0 ≡ blob seat.old tok.0 }
     ensures still { is_held (holding seat.new tok.0) ≡ true → SameSection seat.old seat.new tok.0 }
-    ensures told { (event : Event) × ((trace.new.items ≡ trace.old.items ++ event ∷ []) × GivesBy seat.old tok event) }
+    ensures traced { (event : Event) × ((trace.new.items ≡ trace.old.items ++ event ∷ []) × GivesBy seat.old tok event) }
 {
-    give_told(seat, bank, cpu, tok, trace);
+    give_traced(seat, bank, cpu, tok, trace);
 }
 
-/// The same for any token. One with one cell has its section told without a loop, straight into the trace.
+/// The same for any token. One with one cell has its section traced without a loop, straight into the trace.
 #[inline]
 fn give(seat: &mut CpuSeat, bank: &Bank, tok: TokId, trace: &mut Vec<Event>)
     requires of { bank_of seat.old ≡ id_of bank.now }
@@ -127,11 +127,11 @@ fn give(seat: &mut CpuSeat, bank: &Bank, tok: TokId, trace: &mut Vec<Event>)
     ensures row { row seat.new tok.0 ≡ row seat.old tok.0 }
     ensures blob { blob seat.new tok.0 ≡ blob seat.old tok.0 }
     ensures still { is_held (holding seat.new tok.0) ≡ true → SameSection seat.old seat.new tok.0 }
-    ensures told { (event : Event) × ((trace.new.items ≡ trace.old.items ++ event ∷ []) × GivesBy seat.old tok event) }
+    ensures traced { (event : Event) × ((trace.new.items ≡ trace.old.items ++ event ∷ []) × GivesBy seat.old tok event) }
 {
     let cpu = seat.cpu();
     if bank.cells(tok) == 1 {
-        give_told(seat, bank, cpu, tok, trace);
+        give_traced(seat, bank, cpu, tok, trace);
     } else {
         give_whole(seat, bank, cpu, tok, trace);
     }
@@ -168,7 +168,7 @@ pub(crate) fn give_clean(
     requires room { vec_len trace.old + count ≤ vec_capacity trace.old }
     ensures ran { Ran (IsFront refs.now) count seat.old seat.new trace.old trace.new }
     ensures empty { holding seat.new ≡ holds_nothing }
-    ensures told { trace.new.items ≡ trace.old.items ++ gives_all seat.old.cpu [] (take count refs.now) }
+    ensures traced { trace.new.items ≡ trace.old.items ++ gives_all seat.old.cpu [] (take count refs.now) }
 {
     for given in 0..count {
         let tok = refs[count - 1 - given].tok;

@@ -1,11 +1,12 @@
 //! The cells of a token on the list: read, written, added to.
-ghost use Rattle.std.specs.Prelude.{◌≡◌, ◌≢◌, ◌⊎◌, ℕ, ◌+◌, ◌<◌, ◌≤◌, ◌↔◌, ◌^◌, [], ◌∷◌, ◌++◌, Some, None, Ok, Err, OnOk, OnErr, IfOk, vec_len, vec_capacity, slice_index, slice_set};
+ghost use Rattle.std.specs.Prelude.{◌≡◌, ◌+◌, ◌<◌, Some, None, OnOk, OnErr, IfOk, slice_index};
+ghost use Rattle.std.specs.Result.{result_err};
 ghost use Rattle.lwkt_base.specs.Holding.{holding_of};
 ghost use Rattle.lwkt_base.specs.Refs.{first_mode};
-ghost use Rattle.lwkt_base.specs.declared.laws.Law.TheVariants.{Tally};
-ghost use Rattle.lwkt_bank.specs.Seats.{id_of, bank_of, tokens_of, plan_of, holding};
-ghost use Rattle.lwkt_hold.specs.Fronts.{IsFront};
-ghost use Rattle.lwkt_hold.specs.Runs.{Ran};
+ghost use Rattle.lwkt_bank.specs.Seats.{id_of, bank_of, tokens_of, holding};
+ghost use Rattle.lwkt_hold.specs.Ready.{IsReady};
+ghost use Rattle.lwkt_hold.specs.Refusals.{unless_exclusive, read_refusal, write_refusal, add_refusal};
+ghost use Rattle.lwkt_hold.specs.Outcomes.{Keeps, Reads, Writes, ChangesNothing};
 
 use crate::holds::Hold;
 use crate::traces::{note_read, note_write};
@@ -15,7 +16,7 @@ use lwkt_core::Event;
 
 impl Hold {
     ghost use Rattle.lwkt_hold.specs.Holds.{seat_of};
-    ghost use Rattle.lwkt_hold.specs.Rows.{row, OnlyRow};
+    ghost use Rattle.lwkt_hold.specs.Rows.{row};
 
     // The mode of the first reference to the token on the list that is held, if there is one: the seat knows it at once.
     #[inline(always)]
@@ -39,9 +40,7 @@ impl Hold {
         requires there { tok.0 < tokens_of (bank_of (seat_of self.now)) }
         requires held { holding (seat_of self.now) ≡ holding_of list.now }
         ensures ok { OnOk result (first_mode list.now tok.0 ≡ Some Mode.Exclusive) }
-        ensures not_held { (result ≡ Err Fault.NotHeld) ↔ (first_mode list.now tok.0 ≡ None) }
-        ensures shared { (result ≡ Err Fault.SharedWrite) ↔ (first_mode list.now tok.0 ≡ Some Mode.Shared) }
-        ensures only { OnErr result ((result ≡ Err Fault.NotHeld) ⊎ (result ≡ Err Fault.SharedWrite)) }
+        ensures refused { result_err result ≡ unless_exclusive (first_mode list.now tok.0) Fault.SharedWrite None }
     {
         match self.mode(bank, list, tok) {
             None => Err(Fault::NotHeld),
@@ -64,19 +63,11 @@ impl Hold {
         cell: u8,
         trace: &mut Vec<Event>,
     ) -> Result<u64, Fault>
-        requires of { bank_of (seat_of self.old) ≡ id_of bank.now }
-        requires held { holding (seat_of self.old) ≡ holding_of list.now }
-        requires room { vec_len trace.old + 256 ≤ vec_capacity trace.old }
-        ensures ran { Ran (IsFront list.now) 1 (seat_of self.old) (seat_of self.new) trace.old trace.new }
-        ensures kept { holding (seat_of self.new) ≡ holding_of list.now }
-        ensures value { IfOk result (λ value. (value ≡ slice_index (row (seat_of self.old) tok.0) cell)
-            × (trace.new.items ≡ trace.old.items ++ Event.Read (seat_of self.old).cpu tok cell value ∷ [])) }
-        ensures rows { OnlyRow (seat_of self.old) (seat_of self.new) tok.0 (row (seat_of self.old) tok.0) }
-        ensures err { OnErr result (trace.new ≡ trace.old) }
-        ensures no_token { (result ≡ Err Fault.NoToken) ↔ (tokens_of (id_of bank.now) ≤ tok.0) }
-        ensures no_cell { (result ≡ Err Fault.NoCell) ↔ ((tok.0 < tokens_of (id_of bank.now)) × ((plan_of (id_of bank.now) tok.0).cells ≤ cell)) }
-        ensures not_held { (result ≡ Err Fault.NotHeld) ↔ ((tok.0 < tokens_of (id_of bank.now)) × (cell < (plan_of (id_of bank.now) tok.0).cells) × (first_mode list.now tok.0 ≡ None)) }
-        ensures only { OnErr result ((result ≡ Err Fault.NoToken) ⊎ (result ≡ Err Fault.NoCell) ⊎ (result ≡ Err Fault.NotHeld)) }
+        requires { IsReady (id_of bank.now) (seat_of self.old) list.now trace.old 256 }
+        ensures keeps { Keeps list.now (seat_of self.old) (seat_of self.new) trace.old trace.new }
+        ensures refused { result_err result ≡ read_refusal (id_of bank.now) list.now tok.0 cell }
+        ensures ok { IfOk result (λ value. Reads (seat_of self.old) (seat_of self.new) tok cell value trace.old trace.new) }
+        ensures err { OnErr result ((trace.new ≡ trace.old) × (self.new ≡ self.old)) }
     {
         if tok.0 as usize >= bank.tokens() {
             return Err(Fault::NoToken);
@@ -109,20 +100,11 @@ impl Hold {
         value: u64,
         trace: &mut Vec<Event>,
     ) -> Result<(), Fault>
-        requires of { bank_of (seat_of self.old) ≡ id_of bank.now }
-        requires held { holding (seat_of self.old) ≡ holding_of list.now }
-        requires room { vec_len trace.old + 256 ≤ vec_capacity trace.old }
-        ensures ran { Ran (IsFront list.now) 1 (seat_of self.old) (seat_of self.new) trace.old trace.new }
-        ensures kept { holding (seat_of self.new) ≡ holding_of list.now }
-        ensures written { OnOk result (trace.new.items ≡ trace.old.items ++ Event.Write (seat_of self.old).cpu tok cell value ∷ []) }
-        ensures rows { OnOk result (OnlyRow (seat_of self.old) (seat_of self.new) tok.0 (slice_set (row (seat_of self.old) tok.0) cell value)) }
-        ensures err { OnErr result ((trace.new ≡ trace.old) × OnlyRow (seat_of self.old) (seat_of self.new) tok.0 (row (seat_of self.old) tok.0)) }
-        ensures no_token { (result ≡ Err Fault.NoToken) ↔ (tokens_of (id_of bank.now) ≤ tok.0) }
-        ensures no_cell { (result ≡ Err Fault.NoCell) ↔ ((tok.0 < tokens_of (id_of bank.now)) × ((plan_of (id_of bank.now) tok.0).cells ≤ cell)) }
-        ensures not_held { (result ≡ Err Fault.NotHeld) ↔ ((tok.0 < tokens_of (id_of bank.now)) × (cell < (plan_of (id_of bank.now) tok.0).cells) × (first_mode list.now tok.0 ≡ None)) }
-        ensures shared { (result ≡ Err Fault.SharedWrite) ↔ ((tok.0 < tokens_of (id_of bank.now)) × (cell < (plan_of (id_of bank.now) tok.0).cells) × (first_mode list.now tok.0 ≡ Some Mode.Shared)) }
-        ensures tally { (result ≡ Err Fault.TallyOnly) ↔ ((tok.0 < tokens_of (id_of bank.now)) × (cell < (plan_of (id_of bank.now) tok.0).cells) × (first_mode list.now tok.0 ≡ Some Mode.Exclusive) × ((plan_of (id_of bank.now) tok.0).law ≡ Tally)) }
-        ensures only { OnErr result ((result ≡ Err Fault.NoToken) ⊎ (result ≡ Err Fault.NoCell) ⊎ (result ≡ Err Fault.NotHeld) ⊎ (result ≡ Err Fault.SharedWrite) ⊎ (result ≡ Err Fault.TallyOnly)) }
+        requires { IsReady (id_of bank.now) (seat_of self.old) list.now trace.old 256 }
+        ensures keeps { Keeps list.now (seat_of self.old) (seat_of self.new) trace.old trace.new }
+        ensures refused { result_err result ≡ write_refusal (id_of bank.now) list.now tok.0 cell }
+        ensures ok { OnOk result (Writes (seat_of self.old) (seat_of self.new) tok cell value trace.old trace.new) }
+        ensures err { OnErr result (ChangesNothing (seat_of self.old) (seat_of self.new) trace.old trace.new) }
     {
         if tok.0 as usize >= bank.tokens() {
             return Err(Fault::NoToken);
@@ -152,20 +134,11 @@ impl Hold {
         k: u64,
         trace: &mut Vec<Event>,
     ) -> Result<(), Fault>
-        requires of { bank_of (seat_of self.old) ≡ id_of bank.now }
-        requires held { holding (seat_of self.old) ≡ holding_of list.now }
-        requires room { vec_len trace.old + 256 ≤ vec_capacity trace.old }
-        ensures ran { Ran (IsFront list.now) 1 (seat_of self.old) (seat_of self.new) trace.old trace.new }
-        ensures kept { holding (seat_of self.new) ≡ holding_of list.now }
-        ensures written { OnOk result (trace.new.items ≡ trace.old.items ++ Event.Write (seat_of self.old).cpu tok 0 (slice_index (row (seat_of self.old) tok.0) 0 + k) ∷ []) }
-        ensures rows { OnOk result (OnlyRow (seat_of self.old) (seat_of self.new) tok.0 (slice_set (row (seat_of self.old) tok.0) 0 (slice_index (row (seat_of self.old) tok.0) 0 + k))) }
-        ensures err { OnErr result ((trace.new ≡ trace.old) × OnlyRow (seat_of self.old) (seat_of self.new) tok.0 (row (seat_of self.old) tok.0)) }
-        ensures no_token { (result ≡ Err Fault.NoToken) ↔ (tokens_of (id_of bank.now) ≤ tok.0) }
-        ensures not_held { (result ≡ Err Fault.NotHeld) ↔ ((tok.0 < tokens_of (id_of bank.now)) × (first_mode list.now tok.0 ≡ None)) }
-        ensures shared { (result ≡ Err Fault.SharedWrite) ↔ ((tok.0 < tokens_of (id_of bank.now)) × (first_mode list.now tok.0 ≡ Some Mode.Shared)) }
-        ensures tally { (result ≡ Err Fault.TallyOnly) ↔ ((tok.0 < tokens_of (id_of bank.now)) × (first_mode list.now tok.0 ≡ Some Mode.Exclusive) × ((plan_of (id_of bank.now) tok.0).law ≢ Tally)) }
-        ensures overflow { (result ≡ Err Fault.Overflow) ↔ ((tok.0 < tokens_of (id_of bank.now)) × (first_mode list.now tok.0 ≡ Some Mode.Exclusive) × ((plan_of (id_of bank.now) tok.0).law ≡ Tally) × (2 ^ 64 ≤ slice_index (row (seat_of self.old) tok.0) 0 + k)) }
-        ensures only { OnErr result ((result ≡ Err Fault.NoToken) ⊎ (result ≡ Err Fault.NotHeld) ⊎ (result ≡ Err Fault.SharedWrite) ⊎ (result ≡ Err Fault.TallyOnly) ⊎ (result ≡ Err Fault.Overflow)) }
+        requires { IsReady (id_of bank.now) (seat_of self.old) list.now trace.old 256 }
+        ensures keeps { Keeps list.now (seat_of self.old) (seat_of self.new) trace.old trace.new }
+        ensures refused { result_err result ≡ add_refusal (id_of bank.now) list.now tok.0 (slice_index (row (seat_of self.old) tok.0) 0 + k) }
+        ensures ok { OnOk result (Writes (seat_of self.old) (seat_of self.new) tok 0 (slice_index (row (seat_of self.old) tok.0) 0 + k) trace.old trace.new) }
+        ensures err { OnErr result (ChangesNothing (seat_of self.old) (seat_of self.new) trace.old trace.new) }
     {
         if tok.0 as usize >= bank.tokens() {
             return Err(Fault::NoToken);

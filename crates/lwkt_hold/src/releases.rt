@@ -5,6 +5,7 @@ ghost use Rattle.lwkt_base.specs.Refs.{first_mode, IsLastTo};
 ghost use Rattle.lwkt_bank.specs.Seats.{id_of, bank_of, holding};
 ghost use Rattle.lwkt_hold.specs.Fronts.{IsFront};
 ghost use Rattle.lwkt_hold.specs.Runs.{Ran};
+ghost use Rattle.lwkt_hold.specs.Ready.{IsReady};
 ghost use Rattle.lwkt_hold.specs.Rows.{first_of};
 ghost use Rattle.lwkt_base.specs.declared.names.Ref.{Ref};
 
@@ -35,9 +36,7 @@ impl Hold {
         tok: TokId,
         trace: &mut Vec<Event>,
     ) -> Result<(), Fault>
-        requires of { bank_of (seat_of self.old) ≡ id_of bank.now }
-        requires held { holding (seat_of self.old) ≡ holding_of list.old }
-        requires room { vec_len trace.old + 256 ≤ vec_capacity trace.old }
+        requires { IsReady (id_of bank.now) (seat_of self.old) list.old trace.old 256 }
         ensures ran { Ran (IsFront list.old) 6 (seat_of self.old) (seat_of self.new) trace.old trace.new }
         ensures held { holding (seat_of self.new) ≡ holding_of list.new }
         ensures ok { OnOk result (ReleasesLast (seat_of self.old) (seat_of self.new) list.old list.new tok false trace.old.items trace.new.items) }

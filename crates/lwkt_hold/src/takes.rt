@@ -6,6 +6,7 @@ ghost use Rattle.lwkt_hold.specs.Fronts.{IsFront, is_alone};
 ghost use Rattle.lwkt_hold.specs.Runs.{Ran};
 ghost use Rattle.lwkt_hold.specs.Takings.{taking_event, TakesRows};
 ghost use Rattle.lwkt_hold.specs.Misses.{Misses};
+ghost use Rattle.lwkt_hold.specs.Rows.{SameRow};
 
 use crate::answers::Missed;
 use crate::traces::{note_again, note_taken};
@@ -40,8 +41,9 @@ pub(crate) fn take_one(
     ensures taken { OnOk result (holding seat.new ≡ holding_of (take (at + 1) refs.now)) }
     ensures kept { OnErr result (holding seat.new ≡ holding seat.old) }
     ensures silent { OnErr result (trace.new ≡ trace.old) }
-    ensures told { OnOk result (IsSomeAnd (slice_get refs.now at) (λ r. trace.new.items ≡ trace.old.items ++ taking_event seat.old.cpu (take at refs.now) r ∷ [])) }
+    ensures traced { OnOk result (IsSomeAnd (slice_get refs.now at) (λ r. trace.new.items ≡ trace.old.items ++ taking_event seat.old.cpu (take at refs.now) r ∷ [])) }
     ensures rows { TakesRows seat.old seat.new }
+    ensures same { OnErr result ((tok : ℕ) → SameRow seat.old seat.new tok) }
     ensures missed { IfErr result (λ why. Misses seat.old seat.new refs.now at why) }
 {
     let new = refs[at];

@@ -2,7 +2,7 @@
 //! many processors.
 //!
 //! Words: the *ends* of a lane are where notes are pushed and where they are popped; a note is *in hand* if the queue had no
-//! room for it; a lane is *settled* if both ends are given up and the notes that weren't popped are told; lanes are *crossed*
+//! room for it; a lane is *settled* if both ends are given up and the notes that weren't popped are returned; lanes are *crossed*
 //! if one leads from each processor to each, and each of its two ends lies at its place in the list of its processor.
 #![tactic(auto)]
 

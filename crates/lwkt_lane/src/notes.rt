@@ -1,6 +1,6 @@
 use lwkt_base::MsgId;
 
-/// What a note tells the port that it goes to.
+/// What a note says to the port that it goes to.
 #[derive(Clone, Copy, Default, PartialEq, Eq)]
 pub enum NoteKind {
     /// The message was sent to the port, and waits to be taken.

@@ -5,7 +5,7 @@ use Rattle.std.proofs.Math.Path.{fun_ext}
 use Rattle.std.proofs.lemmas.List.Elements.{All-nil, All-cons}
 use Rattle.std.proofs.lemmas.Result.{IfOk-weaker}
 use Rattle.lwkt_base.specs.declared.faults.Fault.{Fault}
-use Rattle.lwkt_base.specs.declared.openings.TokSpec.{TokSpec}
+use Rattle.lwkt_base.specs.declared.opening_specs.TokSpec.{TokSpec}
 use Rattle.lwkt_base.specs.Holding.{holds_nothing}
 use Rattle.lwkt_bank.specs.declared.views.TokenEntry.{TokenEntry}
 use Rattle.lwkt_bank.specs.declared.banks.Bank.{Bank}
@@ -28,11 +28,11 @@ each_seat P (s ∷ seats) each = All-cons P s seats (each 0 s (omega arith)) (ea
 
 all_ready : (cpus : ℕ) (specs : List TokSpec) (bank : Bank) (seats : List CpuSeat) → IsOpened cpus specs bank seats → All (IsReady (id_of bank)) seats
 all_ready cpus specs bank seats opened =
-    each_seat (IsReady (id_of bank)) seats (λ k s low. let told = opened.seats_out.each k s low in new_ready (id_of bank) (slice_index_or seats k s) told.0 told.1)
+    each_seat (IsReady (id_of bank)) seats (λ k s low. let made = opened.seats_out.each k s low in new_ready (id_of bank) (slice_index_or seats k s) made.0 made.1)
 
 all_empty : (cpus : ℕ) (specs : List TokSpec) (bank : Bank) (seats : List CpuSeat) → IsOpened cpus specs bank seats → All (λ (s : CpuSeat). holding s ≡ holds_nothing) seats
 all_empty cpus specs bank seats opened =
-    each_seat (λ (s : CpuSeat). holding s ≡ holds_nothing) seats (λ k s low. let told = opened.seats_out.each k s low in new_empty (slice_index_or seats k s) told.1)
+    each_seat (λ (s : CpuSeat). holding s ≡ holds_nothing) seats (λ k s low. let made = opened.seats_out.each k s low in new_empty (slice_index_or seats k s) made.1)
 
 pub opened_ready : (cpus : ℕ) (specs : List TokSpec) (r : Result (Bank × Vec CpuSeat Global) Fault) → IfOk r (λ o. IsOpened cpus specs o.0 o.1.items) → IfOk r (λ o. All (IsReady (id_of o.0)) o.1.items)
 opened_ready cpus specs r opened =

@@ -3,7 +3,7 @@ ghost use Rattle.std.specs.Prelude.{◌≡◌, All, IfOk};
 ghost use Rattle.lwkt_bank.specs.Seats.{id_of, bank_of};
 ghost use Rattle.lwkt_machine.specs.Machines.{IsOfMachine};
 
-use crate::parts::parts_of;
+use crate::script_machines::parts_of;
 use lwkt_bank::{Bank, CpuSeat};
 use lwkt_base::{Entry, Fault, ThreadState, TokId};
 use lwkt_core::Event;
@@ -241,13 +241,13 @@ impl Board {
         stop_of(&self.bank, &self.book, &mut self.cpus, at, &mut self.trace)
     }
 
-    // Whether a turn goes as it is told.
+    // Whether a turn goes as it is written.
     fn makes(&mut self, line: &Line) -> Result<bool, Fault> {
         let turned = self.turn(line.0)?;
         Ok(turned == line.1 && self.has_words(line.2, line.3))
     }
 
-    /// Makes turns, up to the first that goes otherwise than it is told. Whether there is none.
+    /// Makes turns, up to the first that goes otherwise than it is written. Whether there is none.
     pub fn makes_all(&mut self, lines: &[Line]) -> Result<bool, Fault> {
         for line in lines {
             if !self.makes(line)? {
@@ -288,7 +288,7 @@ impl Board {
             && log
                 .iter()
                 .zip(wanted)
-                .all(|(entry, told)| entry_in(entry) == *told)
+                .all(|(entry, wanted_entry)| entry_in(entry) == *wanted_entry)
     }
 
     // Whether the first threads of the processors have these logs.
@@ -302,13 +302,13 @@ impl Board {
     }
 }
 
-// Whether the turns of a row go as they are told, with these logs.
+// Whether the turns of a row go as they are written, with these logs.
 fn play(alloc: Global, row: &Row) -> Result<bool, Fault> {
     let mut board = Board::open(alloc, row.script)?;
     Ok(board.makes_all(row.lines)? && board.has_logs(row.logs))
 }
 
-/// Whether a row goes as it is told. Where a call for memory was refused it is played once more.
+/// Whether a row goes as it is written. Where a call for memory was refused it is played once more.
 pub fn goes(alloc: Global, row: &Row) -> bool {
     match play(alloc, row) {
         Err(Fault::Memory(_)) => play(alloc, row) == Ok(true),

@@ -27,7 +27,7 @@ enum Ask {
 
 // What a call answered.
 #[derive(Clone, Copy, PartialEq, Eq)]
-enum Told {
+enum Answered {
     Sent(u64),
     Taken(Taken),
     Replied,
@@ -37,42 +37,42 @@ enum Told {
     Unfit,
 }
 
-fn send(book: &MsgBook, seat: &mut MsgSeat, msg: MsgId, to: CpuId, call: Call) -> Told
+fn send(book: &MsgBook, seat: &mut MsgSeat, msg: MsgId, to: CpuId, call: Call) -> Answered
     requires { seat.old.table ≡ book.now.table }
     ensures { seat.new.table ≡ seat.old.table }
 {
     if to.0 as usize >= seat.cpus() {
-        return Told::Unfit;
+        return Answered::Unfit;
     }
     match seat.send(book, msg, to, call, NO_FLAGS, false) {
-        Ok(round) => Told::Sent(round),
-        Err(fault) => Told::Refused(fault),
+        Ok(round) => Answered::Sent(round),
+        Err(fault) => Answered::Refused(fault),
     }
 }
 
-fn reply(book: &MsgBook, seat: &mut MsgSeat, error: u32, outcome: u64) -> Told
+fn reply(book: &MsgBook, seat: &mut MsgSeat, error: u32, outcome: u64) -> Answered
     requires { seat.old.table ≡ book.now.table }
     ensures { seat.new.table ≡ seat.old.table }
 {
     match seat.reply(book, MESSAGE, error, outcome) {
-        Ok(()) => Told::Replied,
-        Err(fault) => Told::Refused(fault),
+        Ok(()) => Answered::Replied,
+        Err(fault) => Answered::Refused(fault),
     }
 }
 
 // The answer of a call. Where a condition of the call isn't met, no call is made.
-fn call(book: &MsgBook, seat: &mut MsgSeat, ask: Ask) -> Told
+fn call(book: &MsgBook, seat: &mut MsgSeat, ask: Ask) -> Answered
     requires { seat.old.table ≡ book.now.table }
     ensures { seat.new.table ≡ seat.old.table }
 {
     if seat.messages() == 0 {
-        return Told::Unfit;
+        return Answered::Unfit;
     }
     match ask {
         Ask::Send(msg, to, call) => send(book, seat, msg, to, call),
-        Ask::Take(round) => Told::Taken(seat.take(book, MESSAGE, round)),
+        Ask::Take(round) => Answered::Taken(seat.take(book, MESSAGE, round)),
         Ask::Reply(error, outcome) => reply(book, seat, error, outcome),
-        Ask::Reap(round) => Told::Reaped(seat.reap(book, MESSAGE, round)),
+        Ask::Reap(round) => Answered::Reaped(seat.reap(book, MESSAGE, round)),
     }
 }
 
@@ -124,9 +124,9 @@ fn ends_at(
 
 // A call by the seat of this processor, and the answer that is wanted.
 #[derive(Clone, Copy)]
-struct Line(usize, Ask, Told);
+struct Line(usize, Ask, Answered);
 
-fn tell(book: &MsgBook, first: &mut MsgSeat, second: &mut MsgSeat, line: Line) -> Told
+fn answer_to(book: &MsgBook, first: &mut MsgSeat, second: &mut MsgSeat, line: Line) -> Answered
     requires first { first.old.table ≡ book.now.table }
     requires second { second.old.table ≡ book.now.table }
     ensures first { first.new.table ≡ first.old.table }
@@ -147,14 +147,14 @@ fn play_lines(book: &MsgBook, first: &mut MsgSeat, second: &mut MsgSeat, lines: 
     ensures second { second.new.table ≡ second.old.table }
 {
     for (at, line) in lines.iter().enumerate() {
-        if tell(book, first, second, *line) != line.2 {
+        if answer_to(book, first, second, *line) != line.2 {
             return false;
         }
     }
     true
 }
 
-// Whether calls on a message in this round go as is told, and it is at rest then, in this later one.
+// Whether calls on a message in this round go as is written, and it is at rest then, in this later one.
 fn play(alloc: Global, round: u64, lines: &[Line], last: u64) -> Result<bool, Fault> {
     let (book, seats) = opened(alloc, MsgSpec { round, ..OWN })?;
     let Some((mut first, mut second)) = both(seats, &book) else {
@@ -166,11 +166,11 @@ fn play(alloc: Global, round: u64, lines: &[Line], last: u64) -> Result<bool, Fa
 
 const ASKED: Call = Call { arg: 9, op: 5 };
 
-const STALE: Told = Told::Taken(Taken::Stale);
+const STALE: Answered = Answered::Taken(Taken::Stale);
 
-const NOT_OWNER: Told = Told::Refused(Fault::NotOwner);
+const NOT_OWNER: Answered = Answered::Refused(Fault::NotOwner);
 
-const TAKEN: Told = Told::Taken(Taken::Took {
+const TAKEN: Answered = Answered::Taken(Taken::Took {
     rec: Rec {
         arg: 9,
         result: 0,
@@ -181,7 +181,7 @@ const TAKEN: Told = Told::Taken(Taken::Took {
     priority: false,
 });
 
-const REAPED: Told = Told::Reaped(Reaped::Done {
+const REAPED: Answered = Answered::Reaped(Reaped::Done {
     rec: Rec {
         arg: 9,
         result: 42,
@@ -191,14 +191,14 @@ const REAPED: Told = Told::Reaped(Reaped::Done {
 });
 
 const BASICS_1_TO_4: &[Line] = &[
-    Line(0, Ask::Send(MESSAGE, CpuId(1), ASKED), Told::Sent(1)),
+    Line(0, Ask::Send(MESSAGE, CpuId(1), ASKED), Answered::Sent(1)),
     Line(1, Ask::Take(2), STALE),
     Line(0, Ask::Take(1), STALE),
     Line(1, Ask::Take(1), TAKEN),
-    Line(0, Ask::Reply(1, 1), Told::Refused(Fault::NotTaken)),
-    Line(1, Ask::Reply(7, 42), Told::Replied),
+    Line(0, Ask::Reply(1, 1), Answered::Refused(Fault::NotTaken)),
+    Line(1, Ask::Reply(7, 42), Answered::Replied),
     Line(0, Ask::Reap(1), REAPED),
-    Line(0, Ask::Reap(1), Told::Reaped(Reaped::Stale)),
+    Line(0, Ask::Reap(1), Answered::Reaped(Reaped::Stale)),
     Line(1, Ask::Send(MESSAGE, CpuId(0), ASKED), NOT_OWNER),
     Line(0, Ask::Send(MsgId(5), CpuId(1), ASKED), NOT_OWNER),
 ];
@@ -216,7 +216,7 @@ fn book_basics_1_to_4(rt: HostRuntime) {
 const BASICS_6: &[Line] = &[Line(
     0,
     Ask::Send(MESSAGE, CpuId(1), ASKED),
-    Told::Refused(Fault::RoundsOut),
+    Answered::Refused(Fault::RoundsOut),
 )];
 
 // A message of a processor that isn't there.

@@ -217,8 +217,8 @@ fn stops_with_a_request(alloc: Global) -> Result<bool, Fault> {
     let mut board = Board::open(alloc, CALLS)?;
     let taken = board.makes_all(TAKES)?;
     board.stop(0)?;
-    let told = board.turn(1)? == RAN;
-    Ok(taken && told && board.has_log(1, &[Logged::Reply(0, 41, 0)]))
+    let made = board.turn(1)? == RAN;
+    Ok(taken && made && board.has_log(1, &[Logged::Reply(0, 41, 0)]))
 }
 
 #[test]

@@ -52,7 +52,7 @@ pub fn open_bank(
     Bank::open(alloc, specs, cpus)
 }
 
-/// Whether all goes as it is told, or, where a call for memory was refused, does when it is made once more.
+/// Whether all goes as it is written, or, where a call for memory was refused, does when it is made once more.
 pub fn is_right(first: Result<bool, Fault>, again: Result<bool, Fault>) -> bool {
     match first {
         Err(Fault::Memory(_)) => again == Ok(true),

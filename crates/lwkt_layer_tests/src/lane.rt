@@ -77,7 +77,7 @@ fn play_lines(out: &mut LaneOut, into: &mut LaneIn, lines: &[Line]) -> bool
     true
 }
 
-// Whether calls on a lane of four go as is told, and these two notes are left.
+// Whether calls on a lane of four go as is written, and these two notes are left.
 fn play(alloc: Global, lines: &[Line], left: [u64; 2]) -> Result<bool, Fault> {
     let (mut out, mut into) = lane(alloc, 4)?;
     let good = play_lines(&mut out, &mut into, lines);

@@ -2,7 +2,7 @@
 //! at token words or go on where memory was refused, a lane between two threads, and that each call which takes memory succeeds with
 //! ample memory. What a clause of a layer says isn't tried again.
 //!
-//! Where a call for memory is refused a row is played once more, so each has to go as it is told with any one call refused, too:
+//! Where a call for memory is refused a row is played once more, so each has to go as it is written with any one call refused, too:
 //! `bench/refused` tries this.
 #![tactic(auto)]
 
@@ -23,8 +23,8 @@ mod hold;
 #[cfg(test)]
 mod lane;
 #[cfg(test)]
-mod parts;
-#[cfg(test)]
 mod port;
+#[cfg(test)]
+mod script_machines;
 #[cfg(test)]
 mod words;

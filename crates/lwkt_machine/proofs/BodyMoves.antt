@@ -13,7 +13,7 @@ use Rattle.lwkt_base.specs.declared.asks.Answer.{Answer}
 use Rattle.lwkt_base.specs.declared.asks.Answer.TheVariants.{Begin, Done}
 use Rattle.lwkt_base.specs.declared.entries.Entry.{Entry}
 use Rattle.lwkt_script.specs.Logs.{nth_ask}
-use Rattle.lwkt_machine.specs.Bodies.{Scripted, unpolled, entry_for, entry_told, logged, after_poll}
+use Rattle.lwkt_machine.specs.Bodies.{Scripted, unpolled, entry_for, entry_heard, logged, after_poll}
 use Rattle.lwkt_lane.proofs.PlaceMoves.{refilled_front}
 use Rattle.lwkt_machine.specs.Laws.{ArePolls, entries_made, AsksAreTheScripts, LogsAreFirstEntries}
 
@@ -95,11 +95,11 @@ take_all {A = A} (x ∷ xs) zero few = absurd (omega (arith, few))
 take_all {A = A} (x ∷ xs) (suc n) few = ap (λ ys. x ∷ ys) (take_all xs n (omega (arith, few)))
 
 -- nothing is put in the log where nothing was asked before, and where an ask was only done
-pub nothing_begun : (asked : Option Ask) → entry_told asked (Some Begin) ≡ None
+pub nothing_begun : (asked : Option Ask) → entry_heard asked (Some Begin) ≡ None
 nothing_begun None = refl
 nothing_begun (Some ask) = refl
 
-pub nothing_done : (asked : Option Ask) → entry_told asked (Some Done) ≡ None
+pub nothing_done : (asked : Option Ask) → entry_heard asked (Some Done) ≡ None
 nothing_done None = refl
 nothing_done (Some ask) = refl
 

@@ -11,7 +11,7 @@ use Rattle.lwkt_cpu.specs.Processors.{Processor}
 use Rattle.lwkt_drive.specs.declared.driven.Driven.{Driven}
 use Rattle.lwkt_drive.specs.declared.driven.Limits.{Limits}
 use Rattle.lwkt_drive.specs.Course.{IsAtTables}
-use Rattle.lwkt_drive.proofs.TellingMoves.{kept_ports}
+use Rattle.lwkt_drive.proofs.TracedMoves.{kept_ports}
 use Rattle.lwkt_machine.specs.Ended.{AreSameCpus, IsSameCpu}
 use Rattle.lwkt_machine.specs.Machines.{AreOneMachine, Has, Lasts, processors}
 use Rattle.lwkt_machine.proofs.DrivenMoves.{at_tables, driven_at, each_driven, each_processor, long_processors, processor_at}

@@ -13,7 +13,7 @@ pub mod SameMoves
 pub mod ScriptMoves
 pub mod SeatMoves
 pub mod SightMoves
-pub mod StandMoves
+pub mod StatusMoves
 pub mod StopMoves
 pub mod TableMoves
 pub mod TurnMoves

@@ -47,5 +47,5 @@ lawful_at plan closed k is =
 pub lawful_closed : (bank : BankId) (cpus : ℕ) (seats : List CpuSeat) (closed : Closed) → IsClosed bank cpus seats closed → AreLawful 0 bank.plans closed
 lawful_closed bank cpus seats closed is =
     lawful_from 0 bank.plans closed (λ k low.
-    let told = is.each k low in
-    lawful_at (plan_at bank.plans k) closed k (told.lawful, tallied (plan_at bank.plans k).law (plan_at bank.plans k).param (slice_index_or closed.rows.items k []) (slice_index_or closed.tallies.items k []) told.all_added))
+    let fits = is.each k low in
+    lawful_at (plan_at bank.plans k) closed k (fits.lawful, tallied (plan_at bank.plans k).law (plan_at bank.plans k).param (slice_index_or closed.rows.items k []) (slice_index_or closed.tallies.items k []) fits.all_added))

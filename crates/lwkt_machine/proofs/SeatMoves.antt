@@ -6,7 +6,7 @@ use Rattle.std.specs.List.{remove}
 use Rattle.std.proofs.lemmas.List.{length-map}
 use Rattle.std.proofs.lemmas.Option.{slice_get_read}
 use Rattle.lwkt_base.specs.declared.names.ThreadId.{ThreadId}
-use Rattle.lwkt_base.specs.declared.openings.MsgSpec.{MsgSpec}
+use Rattle.lwkt_base.specs.declared.opening_specs.MsgSpec.{MsgSpec}
 use Rattle.lwkt_bank.specs.declared.seats.CpuSeat.{CpuSeat}
 use Rattle.lwkt_bank.specs.Seats.{BankId}
 use Rattle.lwkt_lane.specs.declared.ins.LaneIn.{LaneIn}
@@ -14,7 +14,7 @@ use Rattle.lwkt_lane.specs.declared.outs.LaneOut.{LaneOut}
 use Rattle.lwkt_lane.proofs.CrossedMoves.{first_long, rest_long, none_gone, first_gone, more_gone}
 use Rattle.lwkt_lane.proofs.PlaceMoves.{get_removed, length_removed}
 use Rattle.lwkt_msg.specs.Desks.{Desk, Shelf, IsOpened}
-use Rattle.lwkt_port.specs.Openings.{KeepLimits}
+use Rattle.lwkt_port.specs.OpenedPorts.{KeepLimits}
 use Rattle.lwkt_machine.specs.Opened.{IsSeat}
 use Rattle.lwkt_machine.specs.Seating.{SeatsFrom, DesksFrom, IsRest, AreLeft}
 use Rattle.lwkt_machine.specs.declared.seatings.Rest.{Rest}

@@ -45,7 +45,7 @@ stopped_none olds = record {
 pub stop_same : {B E : Type 0} (r : Result (Unit {0}) E) (old new : Driven B) → OnOk r (AppendsStop old.cpu new.cpu old.trace.items new.trace.items) → OnErr r ((new.cpu ≡ old.cpu) × (new.trace.items ≡ old.trace.items)) → IsSameCpu old.cpu new.cpu
 stop_same (Ok done) old new stops stays =
     let d = stops.does in
-    record { bank = d.ran.bank; table = d.told.same.table; number = d.ran.cpu; ports = d.same }
+    record { bank = d.ran.bank; table = d.traced.same.table; number = d.ran.cpu; ports = d.same }
 stop_same {B} (Err e) old new stops stays =
     let F : Processor B → Type 0 = λ q. IsSameCpu old.cpu q in
     subst F (sym stays.0) (same_self old.cpu)
@@ -78,7 +78,7 @@ pub ended_more : {B : Type 0} (olds mids : List (Driven B)) (stops : List (Vec E
 ended_more {B} olds mids stops at p q stop within there here ends so_far = record {
   as_many = length-set mids at q ∙ so_far.as_many;
   stops_are = length-set stops at stop ∙ so_far.stops_are;
-  below = λ k x y v less was is told. elim (cases_eq k at) [
+  below = λ k x y v less was is traced. elim (cases_eq k at) [
     | inl same ↦
         let F : ℕ → Type 0 = λ i. slice_get (set mids at q) i ≡ Some y in
         let G : ℕ → Type 0 = λ i. slice_get olds i ≡ Some x in
@@ -88,9 +88,9 @@ ended_more {B} olds mids stops at p q stop within there here ends so_far = recor
         let M : Vec Event Global → Type 0 = λ z. EndsWith p q z in
         let q_y : q ≡ y = some_same q y (Some q) refl (sym (get_set_same mids at q within) ∙ subst F same is) in
         let p_x : p ≡ x = some_same p x (slice_get mids at) here (so_far.above at (omega arith) ∙ subst G same was) in
-        let stop_v : stop ≡ v = some_same stop v (Some stop) refl (sym (get_set_same stops at stop there) ∙ subst H same told) in
+        let stop_v : stop ≡ v = some_same stop v (Some stop) refl (sym (get_set_same stops at stop there) ∙ subst H same traced) in
         subst K p_x (subst L q_y (subst M stop_v ends))
-    | inr apart ↦ so_far.below k x y v (omega (arith, less, apart)) was (sym (get_set_other mids at k q apart) ∙ is) (sym (get_set_other stops at k stop apart) ∙ told)
+    | inr apart ↦ so_far.below k x y v (omega (arith, less, apart)) was (sym (get_set_other mids at k q apart) ∙ is) (sym (get_set_other stops at k stop apart) ∙ traced)
   ];
   above = λ k more. get_set_other mids at k q (λ e. omega (arith, e, more)) ∙ so_far.above k (omega (arith, more));
 }
@@ -106,7 +106,7 @@ pub ended_none : {B : Type 0} (olds : List (Driven B)) (stops : List (Vec Event 
 ended_none olds stops many = record {
   as_many = refl;
   stops_are = many;
-  below = λ k p q stop less was is told. absurd (omega (arith, less));
+  below = λ k p q stop less was is traced. absurd (omega (arith, less));
   above = λ k more. refl;
 }
 
@@ -116,9 +116,9 @@ ended_over {B} olds news stops ended k p is =
     let d = driven_at news k p is in
     let within = slice_get_within news k d.0 d.1.0 in
     let less : k < length olds = omega (arith, within, ended.as_many) in
-    let told : k < length stops = omega (arith, less, ended.stops_are) in
+    let traced : k < length stops = omega (arith, less, ended.stops_are) in
     let was = get_there olds k less in
-    let stop = get_there stops k told in
+    let stop = get_there stops k traced in
     let F : Processor B → Type 0 = λ q. AllOver q.threads in
     subst F d.1.1 (ended.below k was.0 d.0 stop.0 less was.1 d.1.0 stop.1).stops.does.stops.over
 

@@ -1,8 +1,8 @@
 -- What the openings of a bank, a book and lanes give is what processors are made of.
 use Rattle.std.proofs.Common.{◌≡◌, ℕ, ◌+◌, List, get_or, sym, ◌∙◌, subst, arith}
 use Rattle.std.proofs.lemmas.Option.{slice_get_within, get_or_from_slice_get}
-use Rattle.lwkt_base.specs.declared.openings.MsgSpec.{MsgSpec}
-use Rattle.lwkt_base.specs.declared.openings.TokSpec.{TokSpec}
+use Rattle.lwkt_base.specs.declared.opening_specs.MsgSpec.{MsgSpec}
+use Rattle.lwkt_base.specs.declared.opening_specs.TokSpec.{TokSpec}
 use Rattle.lwkt_bank.specs.declared.banks.Bank.{Bank}
 use Rattle.lwkt_bank.specs.declared.seats.CpuSeat.{CpuSeat}
 use Rattle.lwkt_bank.specs.Seats.{id_of}
@@ -15,12 +15,12 @@ use Rattle.lwkt_machine.specs.declared.seatings.Rest.{Rest}
 
 seats_from : (cpus : ℕ) (specs : List TokSpec) (bank : Bank) (seats : List CpuSeat) → IsOpenedBank cpus specs bank seats → SeatsFrom (id_of bank) 0 seats
 seats_from cpus specs bank seats opened j s at =
-    let told = opened.seats_out.each j s (slice_get_within seats j s at) in
+    let fits = opened.seats_out.each j s (slice_get_within seats j s at) in
     let e : get_or seats j s ≡ s = get_or_from_slice_get seats j s s at in
     let n : j ≡ 0 + j = omega arith in
     let F : CpuSeat → Type 0 = λ x. IsSeat (id_of bank) j x in
     let G : ℕ → Type 0 = λ k. IsSeat (id_of bank) k s in
-    subst G n (subst F e (record { bank_is = told.0; new = told.1; number = told.2 }))
+    subst G n (subst F e (record { bank_is = fits.0; new = fits.1; number = fits.2 }))
 
 desks_from : (cpus : ℕ) (specs : List MsgSpec) (book : Shelf) (desks : List Desk) → AreOpened cpus specs book desks → DesksFrom book 0 desks
 desks_from cpus specs book desks opened j d at =

@@ -13,7 +13,7 @@ pub record Scripted : Type 0 where
   pub repeat : ℕ
   pub polls : ℕ
   pub asked : Option Ask
-  pub told : Option Answer
+  pub heard : Option Answer
   pub log : List Entry
 
 -- the steps of a body, and Exit after them
@@ -22,7 +22,7 @@ asks_of steps = steps ++ Exit ∷ []
 
 -- a body that was never polled
 abbrev pub unpolled : List Ask → ℕ → Scripted
-unpolled steps repeat = record { steps = steps; repeat = repeat; polls = 0; asked = None; told = None; log = [] }
+unpolled steps repeat = record { steps = steps; repeat = repeat; polls = 0; asked = None; heard = None; log = [] }
 
 -- what a body asks next: the script's ask of that number, and Exit after the last
 abbrev pub next_ask : Scripted → Ask
@@ -40,9 +40,9 @@ total_asks repeat count = min (repeat * count) 18446744073709551615
 abbrev pub entry_for : Option Ask → Answer → Option Entry
 entry_for asked answer = option_and_then (λ ask. entry_of ask answer) asked
 
--- the same of an answer that was told; nothing, if none was
-abbrev pub entry_told : Option Ask → Option Answer → Option Entry
-entry_told asked told = option_and_then (λ answer. entry_for asked answer) told
+-- the same of an answer that was heard; nothing, if none was
+abbrev pub entry_heard : Option Ask → Option Answer → Option Entry
+entry_heard asked heard = option_and_then (λ answer. entry_for asked answer) heard
 
 -- a log keeps its first 32 entries
 abbrev pub logged : List Entry → Option Entry → List Entry
@@ -51,7 +51,7 @@ logged log (Some e) = if nat_lt (length log) 32 then log ++ e ∷ [] else log
 
 -- a body after one more poll, with this answer
 abbrev pub after_poll : Answer → Scripted → Scripted
-after_poll last b = record b { polls = min (b.polls + 1) 18446744073709551615; asked = Some (next_ask b); told = Some last; log = logged b.log (entry_for b.asked last) }
+after_poll last b = record b { polls = min (b.polls + 1) 18446744073709551615; asked = Some (next_ask b); heard = Some last; log = logged b.log (entry_for b.asked last) }
 
 -- a poll of a body: it logs the answer, and asks next what the script says
 abbrev pub IsPolled : Scripted → Answer → Ask → Scripted → Type 0

@@ -29,7 +29,7 @@ pub record AreSameCpus {B : Type 0} (olds news : List (Processor B)) : Type 0 wh
   pub as_many : length news ≡ length olds
   pub each : (k : ℕ) (q : Processor B) → slice_get news k ≡ Some q → (p : Processor B) × ((slice_get olds k ≡ Some p) × IsSameCpu p q)
 
--- a processor stops, and the events by which its trace grows are what its seats at bank and book did; what was told of its driving
+-- a processor stops, and the events by which its trace grows are what its seats at bank and book did; what was kept of its driving
 -- stays
 pub record IsStopped {B : Type 0} (old new : Driven B) : Type 0 where
   pub stops : AppendsStop old.cpu new.cpu old.trace.items new.trace.items
@@ -56,7 +56,7 @@ pub record AreStoppedShort {B : Type 0} (olds news : List (Driven B)) : Type 0 w
 abbrev pub IsStopRoom : Vec Event Global → Type 0
 IsStopRoom stop = (stop.items ≡ []) × (vec_len stop + 512 ≤ vec_capacity stop)
 
--- a processor stops, and these events are what its seats at bank and book did; its trace and what was told of its driving stay
+-- a processor stops, and these events are what its seats at bank and book did; its trace and what was kept of its driving stay
 pub record EndsWith {B : Type 0} (old new : Driven B) (stop : Vec Event Global) : Type 0 where
   pub stops : AppendsStop old.cpu new.cpu [] stop.items
   pub rest : new ≡ record old { cpu = new.cpu }

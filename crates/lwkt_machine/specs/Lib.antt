@@ -5,10 +5,10 @@ pub mod Ended
 pub mod Laws
 pub mod Machines
 pub mod Opened
-pub mod Parts
+pub mod ProcessorParts
 pub mod Scripts
 pub mod Seating
 pub mod Sights
-pub mod Standings
+pub mod Statuses
 pub mod Steps
 pub mod Turns

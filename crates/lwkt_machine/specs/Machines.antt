@@ -70,12 +70,12 @@ pub record IsWhole {B : Type 0} (kept : B → Type 0) (m : Rig B) : Type 0 where
   pub parts : AreOneMachine kept (length m.cpus) m.bank m.book m.cpus
   pub cpus : m.cpus ≡ processors m.driven
 
--- what is told of a thread's body, if processor and thread are there: that it is the one at this place
+-- what is shown of a thread's body, if processor and thread are there: that it is the one at this place
 abbrev pub ShowsBody : {B : Type 0} → Rig B → ℕ → ℕ → Option B → Type 0
 ShowsBody m cpu n None = (length m.cpus ≤ cpu) ⊎ IsSomeAnd (slice_get m.cpus cpu) (λ p. length p.threads ≤ n)
 ShowsBody m cpu n (Some body) = IsSomeAnd (slice_get m.cpus cpu) (λ p. slice_get p.bodies n ≡ Some body)
 
--- what is told of a thread, if processor and thread are there: what its processor tells
+-- what is shown of a thread, if processor and thread are there: what its processor shows
 abbrev pub ShowsThreadAt : {B : Type 0} → Rig B → ℕ → ℕ → Option Status → Type 0
 ShowsThreadAt m cpu n None = (length m.cpus ≤ cpu) ⊎ IsSomeAnd (slice_get m.cpus cpu) (λ p. length p.threads ≤ n)
 ShowsThreadAt m cpu n (Some status) = IsSomeAnd (slice_get m.cpus cpu) (λ p. ShowsThread p n (Some status))

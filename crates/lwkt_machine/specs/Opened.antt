@@ -3,15 +3,15 @@ use Rattle.std.specs.Prelude.{◌≡◌, ℕ, ◌≤◌, List, [], length, map, 
 use Rattle.std.specs.declared.alloc.Global.{Global}
 use Rattle.lwkt_base.specs.declared.faults.Fault.{Fault}
 use Rattle.lwkt_base.specs.declared.faults.Fault.TheVariants.{Memory, Limits, LawBroken}
-use Rattle.lwkt_base.specs.declared.openings.MsgSpec.{MsgSpec}
-use Rattle.lwkt_base.specs.declared.openings.TokSpec.{TokSpec}
+use Rattle.lwkt_base.specs.declared.opening_specs.MsgSpec.{MsgSpec}
+use Rattle.lwkt_base.specs.declared.opening_specs.TokSpec.{TokSpec}
 use Rattle.lwkt_core.specs.Opening.{AreWithin, AllOpenLawfully}
 use Rattle.lwkt_bank.specs.declared.seats.CpuSeat.{CpuSeat}
 use Rattle.lwkt_bank.specs.Gathered.{IsNew}
 use Rattle.lwkt_bank.specs.Opened.{plans_of}
 use Rattle.lwkt_bank.specs.Seats.{BankId, bank_of}
 use Rattle.lwkt_msg.specs.Desks.{Shelf, desk_cpu, IsOpened}
-use Rattle.lwkt_port.specs.Openings.{new_mail, AreNewPorts}
+use Rattle.lwkt_port.specs.OpenedPorts.{new_mail, AreNewPorts}
 use Rattle.lwkt_cpu.specs.Driving.{none_driven}
 use Rattle.lwkt_cpu.specs.Fresh.{fresh}
 use Rattle.lwkt_cpu.specs.Processors.{Processor}

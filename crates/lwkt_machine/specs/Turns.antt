@@ -31,7 +31,7 @@ pub record TurnsAt {B : Type 0} (polled : B → Answer → Ask → B → Type 0)
   pub bank : new.bank ≡ old.bank
   pub book : new.book ≡ old.book
 
--- a processor made a turn, and these events went behind its trace; what was told of its driving stays
+-- a processor made a turn, and these events went behind its trace; what was kept of its driving stays
 pub record KeepsPart {B : Type 0} (part : List Event) (old new : Driven B) : Type 0 where
   pub trace : new.trace.items ≡ old.trace.items ++ part
   pub rest : new ≡ record old { cpu = new.cpu; trace = new.trace; room = new.room }
@@ -42,7 +42,7 @@ pub record KeepsPartAt {B : Type 0} (cpu : ℕ) (part : List Event) (olds news :
   pub here : (d e : Driven B) → slice_get olds cpu ≡ Some d → slice_get news cpu ≡ Some e → KeepsPart part d e
   pub others : (k : ℕ) (d e : Driven B) → k ≢ cpu → slice_get olds k ≡ Some d → slice_get news k ≡ Some e → KeepsLog d e
 
--- the processor of this number makes a turn, whose events are told into an empty room and go behind its trace from there
+-- the processor of this number makes a turn, whose events are traced into an empty room and go behind its trace from there
 pub record TurnsKept {B : Type 0} (polled : B → Answer → Ask → B → Type 0) (cpu : ℕ) (old new : Rig B) (turned : Turned) : Type 0 where
   pub room : Vec Event Global
   pub part : Vec Event Global

@@ -1,7 +1,7 @@
 //! The bodies of a script's threads.
 ghost use Rattle.std.specs.Prelude.{◌≡◌, ℕ, ◌+◌, ◌%◌, ◌<◌, ◌≤◌, length, min, false, IfOk, Option, Some, None, IsSome, slice_get};
 ghost use Rattle.std.specs.Option.{option_copied};
-ghost use Rattle.lwkt_machine.specs.Bodies.{unpolled, next_ask, after_ask, entry_for, entry_told, logged, asks_of};
+ghost use Rattle.lwkt_machine.specs.Bodies.{unpolled, next_ask, after_ask, entry_for, entry_heard, logged, asks_of};
 
 use crate::lasting::Lasting;
 use lwkt_base::limits::LOG_LIMIT;
@@ -28,7 +28,7 @@ pub struct ScriptBody {
     step: usize,
     // Where the last ask stands.
     asked: Option<usize>,
-    told: Option<Answer>,
+    heard: Option<Answer>,
     log: Vec<Entry>,
 }
 
@@ -38,7 +38,7 @@ impl Model for ScriptBody {
 
     ghost Value = { Scripted };
 
-    ghost view = { λ b. record { steps = take b.count b.asks.items; repeat = b.repeat; polls = b.polls; asked = option_and_then (slice_get b.asks.items) b.asked; told = b.told; log = b.log.items } };
+    ghost view = { λ b. record { steps = take b.count b.asks.items; repeat = b.repeat; polls = b.polls; asked = option_and_then (slice_get b.asks.items) b.asked; heard = b.heard; log = b.log.items } };
 
     ghost invariant = { λ b. (length b.log.items ≤ 32) × (32 ≤ vec_capacity b.log) × (b.asks.items ≡ asks_of (take b.count b.asks.items)) × (length b.asks.items ≡ b.count + 1) × (b.total ≡ total_asks b.repeat b.count) × (0 < b.count → b.step ≡ b.polls % b.count) };
 }
@@ -53,23 +53,23 @@ fn entry_for(asked: Option<Ask>, answer: Answer) -> Option<Entry>
     }
 }
 
-// What an answer that was told puts in the log.
-fn entry_told(asked: Option<Ask>, told: &Option<Answer>) -> Option<Entry>
-    ensures { result ≡ entry_told asked told.now }
+// What an answer that was heard puts in the log.
+fn entry_heard(asked: Option<Ask>, heard: &Option<Answer>) -> Option<Entry>
+    ensures { result ≡ entry_heard asked heard.now }
 {
-    match told {
+    match heard {
         None => None,
         Some(answer) => entry_for(asked, *answer),
     }
 }
 
-// Whether an answer that was told may put something in the log.
+// Whether an answer that was heard may put something in the log.
 #[inline(always)]
 #[tactic(auto, using(crate::proofs::BodyMoves::nothing_begun, crate::proofs::BodyMoves::nothing_done))]
-fn may_log(told: &Option<Answer>) -> bool
-    ensures { result ≡ false → (asked : Option Ask) → entry_told asked told.now ≡ None }
+fn may_log(heard: &Option<Answer>) -> bool
+    ensures { result ≡ false → (asked : Option Ask) → entry_heard asked heard.now ≡ None }
 {
-    !matches!(told, None | Some(Answer::Begin | Answer::Done))
+    !matches!(heard, None | Some(Answer::Begin | Answer::Done))
 }
 
 // Which of so many steps ask k is, as long as it is one.
@@ -113,7 +113,7 @@ impl ScriptBody {
             total: u64::from(repeat).saturating_mul(count as u64),
             step: 0,
             asked: None,
-            told: None,
+            heard: None,
             log,
         })
     }
@@ -137,10 +137,10 @@ impl ScriptBody {
 
     /// The answer that the body was given at its last poll: that to the ask before, and `Begin` at its first poll. `None` before
     /// that.
-    pub fn told(&self) -> Option<&Answer>
-        ensures { option_copied result ≡ self.now.told }
+    pub fn heard(&self) -> Option<&Answer>
+        ensures { option_copied result ≡ self.now.heard }
     {
-        self.told.as_ref()
+        self.heard.as_ref()
     }
 
     /// The log, at most 32 entries, the first one first.
@@ -206,23 +206,23 @@ impl ScriptBody {
         &self.asks[at]
     }
 
-    // Keeps what the answer that was told puts in the log, which has room for it.
+    // Keeps what an answer that was heard puts in the log, which has room for it.
     #[inline(never)]
     fn add_entry(&mut self)
         requires { length self.old.log < 32 }
-        ensures { self.new ≡ record self.old { log = logged self.old.log (entry_told self.old.asked self.old.told) } }
+        ensures { self.new ≡ record self.old { log = logged self.old.log (entry_heard self.old.asked self.old.heard) } }
     {
-        if let Some(entry) = entry_told(self.asked().copied(), &self.told) {
+        if let Some(entry) = entry_heard(self.asked().copied(), &self.heard) {
             self.log.push(entry).unwrap();
         }
     }
 
-    // Keeps what the answer that was told puts in the log, if the log has room.
+    // Keeps what an answer that was heard puts in the log, if the log has room.
     #[inline(always)]
     fn keep(&mut self)
-        ensures { self.new ≡ record self.old { log = logged self.old.log (entry_told self.old.asked self.old.told) } }
+        ensures { self.new ≡ record self.old { log = logged self.old.log (entry_heard self.old.asked self.old.heard) } }
     {
-        if may_log(&self.told) && self.log.len() < LOG_LIMIT {
+        if may_log(&self.heard) && self.log.len() < LOG_LIMIT {
             self.add_entry();
         }
     }
@@ -230,14 +230,14 @@ impl ScriptBody {
     // Keeps an answer, and what it puts in the log. `Done`, the most common one, puts nothing there and is made anew, since an
     // answer that is copied takes its room for a record along.
     #[inline(always)]
-    fn tell(&mut self, last: Answer)
-        ensures { self.new ≡ record self.old { told = Some last; log = logged self.old.log (entry_for self.old.asked last) } }
+    fn hear(&mut self, last: Answer)
+        ensures { self.new ≡ record self.old { heard = Some last; log = logged self.old.log (entry_for self.old.asked last) } }
     {
         if let Answer::Done = last {
-            self.told = Some(Answer::Done);
+            self.heard = Some(Answer::Done);
             return;
         }
-        self.told = Some(last);
+        self.heard = Some(last);
         self.keep();
     }
 }
@@ -249,7 +249,7 @@ impl Body for ScriptBody {
 
     #[inline(always)]
     fn poll(&mut self, last: Answer) -> Ask {
-        self.tell(last);
+        self.hear(last);
         let next = self.ask_next();
         *self.ask_at(next)
     }

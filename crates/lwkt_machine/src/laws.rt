@@ -1,6 +1,6 @@
 //! Laws of the bodies of a script's threads, and of what the processors of a machine did.
 ghost use Rattle.lwkt_machine.specs.Laws.{AsksAreTheScripts, LogsAreFirstEntries};
-ghost use Rattle.lwkt_machine.specs.Parts.{DrivesTellTheRuns, ThreadsTellTheRuns};
+ghost use Rattle.lwkt_machine.specs.ProcessorParts.{DrivesArePartsOfRuns, ThreadsArePartsOfRuns};
 
 use crate::lasting::Lasting;
 use lwkt_drive::Gate;
@@ -15,11 +15,11 @@ pub fn bodies_follow_scripts()
 /// The theorem that what the processors of a machine did from its opening on, each in its turns on a thread of its own and then in
 /// its stop, are the parts of one run of the model on tokens and of one on messages, which lead from what was declared to the
 /// closing values.
-pub fn drives_tell_the_runs<B: Lasting, G: Gate>()
-    ensures { DrivesTellTheRuns B.polled G.answers }
+pub fn drives_are_parts_of_runs<B: Lasting, G: Gate>()
+    ensures { DrivesArePartsOfRuns B.polled G.answers }
 {}
 
 /// The same theorem of the machine of a script.
-pub fn threads_tell_the_runs<G: Gate>()
-    ensures { ThreadsTellTheRuns G.answers }
+pub fn threads_are_parts_of_runs<G: Gate>()
+    ensures { ThreadsArePartsOfRuns G.answers }
 {}

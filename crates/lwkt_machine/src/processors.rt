@@ -1,6 +1,6 @@
 //! Processors of these bodies, put at their seats.
 ghost use Rattle.std.specs.Prelude.{◌≡◌, ◌+◌, ◌<◌, ◌≤◌, All, IfOk, length, map};
-ghost use Rattle.lwkt_base.specs.declared.openings.MsgSpec.{MsgSpec};
+ghost use Rattle.lwkt_base.specs.declared.opening_specs.MsgSpec.{MsgSpec};
 ghost use Rattle.lwkt_bank.specs.Seats.{id_of};
 ghost use Rattle.lwkt_cpu.specs.Wiring.{HasLines, HaveLines};
 ghost use Rattle.lwkt_machine.specs.Seating.{AreLeft, IsRest};

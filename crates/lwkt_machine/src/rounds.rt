@@ -1,6 +1,6 @@
 //! Rounds of turns.
 ghost use Rattle.std.specs.Prelude.{◌≡◌, ◌≢◌, ◌⊎◌, true, false, IfOk, OnErr, OnOk, List, length};
-ghost use Rattle.lwkt_cpu.specs.declared.answers.Turned.{Turned as Told};
+ghost use Rattle.lwkt_cpu.specs.declared.answers.Turned.{Turned as TurnMade};
 ghost use Rattle.lwkt_machine.specs.Turns.{IsOver, MakesRound, MakesRoundShort, Runs, RunsShort};
 
 use crate::lasting::Lasting;
@@ -19,7 +19,7 @@ fn is_still_over(over: bool, turned: Turned) -> bool
 impl<B: Lasting> Machine<B> {
     // A turn of each processor, by rising number. Says whether every thread has ended.
     fn turn_all(&mut self) -> Result<bool, OutOfMemory>
-        ensures ok { IfOk result (λ over. (turns : List Told) × (MakesRound B.polled self.old self.new turns × (over ≡ true → IsOver turns) × (over ≡ false → ¬ IsOver turns))) }
+        ensures ok { IfOk result (λ over. (turns : List TurnMade) × (MakesRound B.polled self.old self.new turns × (over ≡ true → IsOver turns) × (over ≡ false → ¬ IsOver turns))) }
         ensures err { OnErr result (MakesRoundShort B.polled self.old self.new) }
         ensures bank { self.new.bank ≡ self.old.bank }
         ensures book { self.new.book ≡ self.old.book }

@@ -1,9 +1,9 @@
 //! Processors put at their seats.
 ghost use Rattle.std.specs.Prelude.{◌≡◌, ◌+◌, ◌<◌, ◌≤◌, IfOk, length, map};
-ghost use Rattle.lwkt_base.specs.declared.openings.MsgSpec.{MsgSpec};
+ghost use Rattle.lwkt_base.specs.declared.opening_specs.MsgSpec.{MsgSpec};
 ghost use Rattle.lwkt_bank.specs.Seats.{id_of};
 ghost use Rattle.lwkt_msg.specs.Desks.{desk_cpu, IsOpened};
-ghost use Rattle.lwkt_port.specs.Openings.{new_mail, AreNewPorts, ArePaired, KeepLimits};
+ghost use Rattle.lwkt_port.specs.OpenedPorts.{new_mail, AreNewPorts, ArePaired, KeepLimits};
 ghost use Rattle.lwkt_cpu.specs.Wiring.{HasLines};
 ghost use Rattle.lwkt_machine.specs.Opened.{IsSeat, IsOpenedCpu};
 

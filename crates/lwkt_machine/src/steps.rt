@@ -1,14 +1,14 @@
 //! Bodies that go from ask to answer.
 ghost use Rattle.std.specs.Prelude.{◌≡◌, None, Some, ⊤};
-ghost use Rattle.lwkt_machine.specs.Steps.{told_of};
+ghost use Rattle.lwkt_machine.specs.Steps.{heard_of};
 
 use crate::lasting::Lasting;
 use lwkt_base::{Answer, Ask, Fault};
 use lwkt_cpu::Body;
 
-/// What a thread was told before it asks.
+/// What a thread heard before it asks.
 #[derive(Clone, Copy, PartialEq, Eq)]
-pub enum Told {
+pub enum Heard {
     /// Nothing: it was never polled.
     Nothing,
     /// An answer, beside the ask that it answers. It is no refusal.
@@ -21,28 +21,28 @@ pub enum Told {
 /// comes apart from the answers, so that none is taken for another one.
 pub trait Steps {
     ghost use Rattle.lwkt_base.specs.declared.asks.Ask.{Ask};
-    ghost use Rattle.lwkt_machine.specs.declared.steps.Told.{Told};
+    ghost use Rattle.lwkt_machine.specs.declared.steps.Heard.{Heard};
 
     /// What holds before the first step and after each. One that keeps nothing in particular says `λ b. Unit {0}`.
     ghost kept: { Self → Type 0 };
 
-    /// How a step leads from what the thread was told to what it asks next. One that says nothing of it leaves this out.
-    ghost says: { Self → Told → Ask → Self → Type 0 } = { λ b told ask d. ⊤ };
+    /// How a step leads from what the thread heard to what it asks next. One that says nothing of it leaves this out.
+    ghost says: { Self → Heard → Ask → Self → Type 0 } = { λ b heard ask d. ⊤ };
 
     /// What it asks first, at its first poll.
     fn begin(&mut self) -> Ask
         ensures kept { kept self.old → kept self.new }
-        ensures says { says self.old Told.Nothing result self.new };
+        ensures says { says self.old Heard.Nothing result self.new };
 
     /// What it asks after this answer to that ask. The answer is no `Refused`.
     fn answered(&mut self, asked: Ask, answer: Answer) -> Ask
         ensures kept { kept self.old → kept self.new }
-        ensures says { says self.old (Told.Answer asked answer) result self.new };
+        ensures says { says self.old (Heard.Answer asked answer) result self.new };
 
     /// What it asks after that ask was refused with this fault.
     fn refused(&mut self, asked: Ask, fault: Fault) -> Ask
         ensures kept { kept self.old → kept self.new }
-        ensures says { says self.old (Told.Refusal asked fault) result self.new };
+        ensures says { says self.old (Heard.Refusal asked fault) result self.new };
 }
 
 /// A body that makes these steps.
@@ -53,16 +53,16 @@ pub struct Stepper<S> {
     asked: Option<Ask>,
 }
 
-// What a thread was told, by what it asked last and the answer to it.
-fn told_of(asked: Option<Ask>, last: Answer) -> Told
-    ensures { result ≡ told_of asked last }
+// What a thread heard, by what it asked last and the answer to it.
+fn heard_of(asked: Option<Ask>, last: Answer) -> Heard
+    ensures { result ≡ heard_of asked last }
 {
     let Some(asked) = asked else {
-        return Told::Nothing;
+        return Heard::Nothing;
     };
     match last {
-        Answer::Refused(fault) => Told::Refusal(asked, fault),
-        answer => Told::Answer(asked, answer),
+        Answer::Refused(fault) => Heard::Refusal(asked, fault),
+        answer => Heard::Answer(asked, answer),
     }
 }
 
@@ -80,12 +80,12 @@ impl<S: Steps> Stepper<S> {
     // What it asks after this answer.
     fn step(&mut self, last: Answer) -> Ask
         ensures kept { S.kept self.old.steps → S.kept self.new.steps }
-        ensures says { S.says self.old.steps (told_of self.old.asked last) result self.new.steps }
+        ensures says { S.says self.old.steps (heard_of self.old.asked last) result self.new.steps }
     {
-        match told_of(self.asked, last) {
-            Told::Nothing => self.steps.begin(),
-            Told::Answer(asked, answer) => self.steps.answered(asked, answer),
-            Told::Refusal(asked, fault) => self.steps.refused(asked, fault),
+        match heard_of(self.asked, last) {
+            Heard::Nothing => self.steps.begin(),
+            Heard::Answer(asked, answer) => self.steps.answered(asked, answer),
+            Heard::Refusal(asked, fault) => self.steps.refused(asked, fault),
         }
     }
 

@@ -24,7 +24,7 @@ pub struct Tables {
 }
 
 /// Opens a bank of these tokens and a book of these messages, for so many processors. The book comes first, so that a law that is
-/// broken is told only within all limits.
+/// broken is said only within all limits.
 ///
 /// Refused with `Limits` only if a limit is passed (`AreWithin`); with `LawBroken` only if it is within the limits and an opening
 /// row, with the length of its record, breaks its law; and else with `Memory`, if memory is refused.

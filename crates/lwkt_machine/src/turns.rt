@@ -22,7 +22,7 @@ use lwkt_msg::MsgBook;
 
 // A turn of the processor of this number, which first sees what was sent to it. Its events are appended to a vector that has room for
 // them, and so to what that was before it was given room.
-fn turn_told<B: Lasting>(
+fn turn_traced<B: Lasting>(
     bank: &Bank,
     book: &MsgBook,
     cpus: &mut [Driven<B>],
@@ -78,7 +78,7 @@ impl<B: Lasting> Machine<B> {
         ensures as_many { length self.new.cpus ≡ length self.old.cpus }
     {
         reserve(trace, TURN_EVENTS)?;
-        Ok(turn_told(&self.bank, &self.book, &mut self.cpus, cpu, trace))
+        Ok(turn_traced(&self.bank, &self.book, &mut self.cpus, cpu, trace))
     }
 
     /// Makes a turn of a processor, as `turn_into` does, with its events kept for the close. That the processor is there is the caller's

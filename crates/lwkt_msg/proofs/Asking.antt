@@ -7,7 +7,7 @@ use Rattle.lwkt_base.specs.declared.names.CpuId.{CpuId}
 use Rattle.lwkt_base.specs.declared.names.MsgId.{MsgId}
 use Rattle.lwkt_base.specs.declared.owners.Owner.{Owner}
 use Rattle.lwkt_base.specs.declared.owners.Owner.TheVariants.{Rest, Out, With, Back}
-use Rattle.lwkt_base.specs.declared.openings.MsgSpec.{MsgSpec}
+use Rattle.lwkt_base.specs.declared.opening_specs.MsgSpec.{MsgSpec}
 use Rattle.lwkt_core.specs.declared.messages.Message.{Message}
 use Rattle.lwkt_core.specs.declared.events.Event.{Event}
 use Rattle.lwkt_core.specs.declared.events.Event.TheVariants.{Load, Take, Share, Again, Mark, GiveOne, GiveClean, GiveWritten, Read, Write, ReadBlob, WriteBlob, Send, TakeMsg, DropMsg, Reply, Reap, Abort}
@@ -18,8 +18,8 @@ use Rattle.lwkt_core.specs.Messages.{MessageNeeds, message_after, origin_of, is_
 use Rattle.lwkt_table.specs.History.{Passes}
 use Rattle.lwkt_msg.specs.Views.{named}
 use Rattle.lwkt_msg.specs.Book.{Mail, mail_at, no_mail, opened_mail}
-use Rattle.lwkt_msg.specs.Told.{IsHandedOut, IsLook, IsEvent, IsDone, first_mails}
-use Rattle.lwkt_msg.specs.Records.{IsSendOf, IsRequestOf, WasAskedFor, IsAskedSo, HistoryTellsRequests}
+use Rattle.lwkt_msg.specs.Ledger.{IsHandedOut, IsLook, IsEvent, IsDone, first_mails}
+use Rattle.lwkt_msg.specs.Records.{IsSendOf, IsRequestOf, WasAskedFor, IsAskedSo, HistoryDecidesRequests}
 use Rattle.lwkt_msg.proofs.Moves.{never}
 use Rattle.lwkt_msg.proofs.Recording.{some_event, same_event, message_in, needs_at, as_many}
 
@@ -235,8 +235,8 @@ first_asked [] m n h = absurd (omega arith)
 first_asked (x ∷ xs) m zero h = rest_keeps [] m (opened_mail x).msg.owner (opened_mail x).msg.asked refl refl
 first_asked (x ∷ xs) m (suc n) h = first_asked xs m n (omega arith)
 
-pub requests_told : HistoryTellsRequests
-requests_told cpus specs history mails passes m there =
+pub requests_decided : HistoryDecidesRequests
+requests_decided cpus specs history mails passes m there =
     let first : List Mail = first_mails specs in
     let in_first : m < length first = let l = as_many cpus history first mails passes in omega arith in
     let in_specs : m < length specs = let l = length-map specs opened_mail in omega arith in

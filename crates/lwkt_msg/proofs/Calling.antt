@@ -16,7 +16,7 @@ use Rattle.lwkt_table.specs.declared.seats.Deed.{Deed}
 use Rattle.lwkt_table.specs.declared.seats.SeatKind.{SeatKind}
 use Rattle.lwkt_msg.specs.declared.views.MessageEntry.{MessageEntry}
 use Rattle.lwkt_msg.specs.declared.views.View.{View}
-use Rattle.lwkt_msg.specs.Views.{spec_at, call_of, at, who, noted, looked, sent, took, answered, reaped, shows_away, shows_back, shows_with, SeesOwn, Stands}
+use Rattle.lwkt_msg.specs.Views.{spec_at, call_of, at, who, noted, looked, sent, took, answered, reaped, shows_away, shows_back, shows_with, SeesOwn, StandsFor}
 use Rattle.lwkt_msg.specs.Deeds.{loads, loses, sends, takes, replies, reaps}
 use Rattle.lwkt_msg.specs.Records.{WasSent, WasAnswered, WasAskedFor, Last}
 use Rattle.lwkt_msg.specs.Hands.{IsOwn, IsInHand}
@@ -102,11 +102,11 @@ module _ (place place1 : Seat Rec View) (cpu : CpuId) (m : ℕ) (w : MsgWord) (s
   pub origin_is : IsOwn v cpu.0 m → w.origin ≡ cpu
   origin_is own = l.sees.origin_is ∙ (λ i. record { 0 = own i })
 
-  stands : Stands v.kind cpu.0
-  stands = let F : SeatKind → Type 0 = λ k. Stands k cpu.0 in subst F (sym sat.kind) refl
+  stands : StandsFor v.kind cpu.0
+  stands = let F : SeatKind → Type 0 = λ k. StandsFor k cpu.0 in subst F (sym sat.kind) refl
 
   pub sees_own : IsOwn v cpu.0 m → SeesOwn e w
-  sees_own own = let F : ℕ → Type 0 = λ n. Stands v.kind n in l.sees.as_origin (subst F (ap (λ (c : CpuId). c.0) (sym (origin_is own))) stands)
+  sees_own own = let F : ℕ → Type 0 = λ n. StandsFor v.kind n in l.sees.as_origin (subst F (ap (λ (c : CpuId). c.0) (sym (origin_is own))) stands)
 
   pub taken_is : e.taken ≡ shows_with cpu.0 w.state w.target
   taken_is = l.sees.as_target cpu.0 stands

@@ -1,6 +1,6 @@
 use Rattle.std.proofs.Common.{◌≡◌, ℕ, ◌+◌, ◌<◌, Bool, List, length, count_by, refl, ap, arith}
 use lib.ListN.{length-map}
-use Rattle.lwkt_base.specs.declared.openings.MsgSpec.{MsgSpec}
+use Rattle.lwkt_base.specs.declared.opening_specs.MsgSpec.{MsgSpec}
 use Rattle.lwkt_core.specs.declared.events.Event.{Event}
 use Rattle.lwkt_core.specs.declared.messages.Message.{Message}
 use Rattle.lwkt_table.specs.declared.seats.Deed.{Deed}
@@ -12,7 +12,7 @@ use Rattle.lwkt_core.proofs.RunLemmas.{are_events}
 use Rattle.lwkt_msg.specs.Views.{spec_at}
 use Rattle.lwkt_msg.specs.Book.{Mail, mail_at, opened_mail}
 use Rattle.lwkt_msg.specs.Steps.{machine_of}
-use Rattle.lwkt_msg.specs.Told.{IsDone, first_mails, AreCounted}
+use Rattle.lwkt_msg.specs.Ledger.{IsDone, first_mails, AreCounted}
 use Rattle.lwkt_msg.proofs.Running.{done_runs}
 use Rattle.lwkt_msg.proofs.Leading.{shown_at}
 use Rattle.lwkt_msg.proofs.Splitting.{opened_at}

@@ -12,8 +12,8 @@ use Rattle.lwkt_table.specs.declared.seats.Deed.{Deed}
 use Rattle.lwkt_core.specs.Messages.{message_after}
 use Rattle.lwkt_table.specs.History.{IsStepOver}
 use Rattle.lwkt_msg.specs.Book.{Mail, parts_of, mail_at}
-use Rattle.lwkt_msg.specs.Told.{IsRecordOf, IsSentAs, IsHandedOut, IsLook, IsEvent, IsDone}
-use Rattle.lwkt_msg.proofs.WordFacts.{flags_told}
+use Rattle.lwkt_msg.specs.Ledger.{IsRecordOf, IsSentAs, IsHandedOut, IsLook, IsEvent, IsDone}
+use Rattle.lwkt_msg.proofs.WordFacts.{flags_in_word}
 use Rattle.lwkt_msg.proofs.Recording.{same_record}
 
 -- lists of one element, and of none
@@ -63,7 +63,7 @@ same_rec (Write cpu tok cell value) old a b records x y = absurd x
 same_rec (ReadBlob cpu tok blob) old a b records x y = absurd x
 same_rec (WriteBlob cpu tok blob) old a b records x y = absurd x
 
--- how a message was sent, which its word tells while it is away
+-- how a message was sent, which its word says while it is away
 SentAlike : Mail → Mail → Type 0
 SentAlike a b = (a.sync ≡ b.sync) × (a.flags ≡ b.flags)
 
@@ -74,7 +74,7 @@ out_alike : (msg : Message) (o t : CpuId) (a b : Mail) → word_with (record msg
 unfolding SentAlike word_with
 out_alike msg o t a b e =
     let w : MsgWord = parts_of (record a { msg = record msg { owner = Out o t } }) in
-    let h = flags_told w a.sync a.flags.dropable a.flags.abortable a.flags.priority b.sync b.flags.dropable b.flags.abortable b.flags.priority e in
+    let h = flags_in_word w a.sync a.flags.dropable a.flags.abortable a.flags.priority b.sync b.flags.dropable b.flags.abortable b.flags.priority e in
     (h.0, λ i. record { dropable = h.1 i; abortable = h.2 i; priority = h.3 i })
 
 kept_alike : (mail a b : Mail) → (a.sync ≡ mail.sync) × (a.flags ≡ mail.flags) → (b.sync ≡ mail.sync) × (b.flags ≡ mail.flags) → SentAlike a b

@@ -6,7 +6,7 @@ use lib.ListN.{get_elem?}
 use Rattle.atomic_table.specs.Table.{State}
 use Rattle.lwkt_base.specs.declared.names.CpuId.{CpuId}
 use Rattle.lwkt_base.specs.declared.records.Rec.{Rec}
-use Rattle.lwkt_base.specs.declared.openings.MsgSpec.{MsgSpec}
+use Rattle.lwkt_base.specs.declared.opening_specs.MsgSpec.{MsgSpec}
 use Rattle.lwkt_base.specs.MessageWord.{message_word}
 use Rattle.lwkt_table.specs.declared.seats.Deed.{Deed}
 use Rattle.lwkt_table.specs.declared.seats.SeatKind.{SeatKind}
@@ -17,7 +17,7 @@ use Rattle.lwkt_table.proofs.SeatingLemmas.{at_set, at_map, map-set, AreSeated-k
 use Rattle.lwkt_msg.specs.declared.views.MessageEntry.{MessageEntry}
 use Rattle.lwkt_msg.specs.declared.views.Key.{Key}
 use Rattle.lwkt_msg.specs.declared.views.View.{View}
-use Rattle.lwkt_msg.specs.Views.{word_at, slot_at, spec_at, at, noted, Stands}
+use Rattle.lwkt_msg.specs.Views.{word_at, slot_at, spec_at, at, noted, StandsFor}
 use Rattle.lwkt_msg.specs.Book.{Mail, parts_of, in_slot, Knows, IsKept, no_mail, mail_at, IsBook}
 use Rattle.lwkt_msg.proofs.Knowing.{Changes, at-here}
 
@@ -44,12 +44,12 @@ kept_else cpus spec mail word home k m views id v w e changes apart kept = recor
 -- a step on this message, by the seat of a processor, keeps it
 pub kept_here : (cpus : ℕ) (spec : MsgSpec) (mail mail' : Mail) (word word' : ℕ) (home home' : Option (Option Rec)) (m : ℕ) (views : List View) (id : ℕ) (v w : View) (cpu : CpuId)
     → IsKept cpus spec mail word home m views → get_elem? views id ≡ some v → v.kind ≡ Of cpu → w.kind ≡ v.kind
-    → ((j : ℕ) (x : View) → j ≢ id → get_elem? views j ≡ some x → Stands x.kind cpu.0 → ⊥)
+    → ((j : ℕ) (x : View) → j ≢ id → get_elem? views j ≡ some x → StandsFor x.kind cpu.0 → ⊥)
     → IsSafeMessage cpus mail'.msg → mail'.msg.origin ≡ mail.msg.origin → mail'.msg.opening ≡ mail.msg.opening
     → word' ≡ message_word (parts_of mail') → home' ≡ some (in_slot mail'.msg.owner mail'.had mail'.rec)
     → (in_out mail'.msg.owner ≡ 1 → (mail'.rec.error ≡ 0) × (mail'.rec.result ≡ 0))
     → (Knows mail (Of cpu) (at v m) → Knows mail' (Of cpu) (at w m))
-    → ((kind : SeatKind) (e : MessageEntry) → (Stands kind cpu.0 → ⊥) → Knows mail kind e → Knows mail' kind e)
+    → ((kind : SeatKind) (e : MessageEntry) → (StandsFor kind cpu.0 → ⊥) → Knows mail kind e → Knows mail' kind e)
     → IsKept cpus spec mail' word' home' m (set views id w)
 kept_here cpus spec mail mail' word word' home home' m views id v w cpu kept e is_seat same_kind alone safe origin opening is_word slot unanswered mine others = record {
   safe = safe;
@@ -71,12 +71,12 @@ kept_here cpus spec mail mail' word word' home home' m views id v w cpu kept e i
 -- the same, where the view is that after a step
 pub kept_step : (cpus : ℕ) (spec : MsgSpec) (mail mail' : Mail) (word word' : ℕ) (home home' : Option (Option Rec)) (m : ℕ) (views : List View) (id : ℕ) (v : View) (cpu : CpuId) (e' : MessageEntry) (between : List Deed) (did : Deed)
     → IsKept cpus spec mail word home m views → get_elem? views id ≡ some v → v.kind ≡ Of cpu
-    → ((j : ℕ) (x : View) → j ≢ id → get_elem? views j ≡ some x → Stands x.kind cpu.0 → ⊥)
+    → ((j : ℕ) (x : View) → j ≢ id → get_elem? views j ≡ some x → StandsFor x.kind cpu.0 → ⊥)
     → IsSafeMessage cpus mail'.msg → mail'.msg.origin ≡ mail.msg.origin → mail'.msg.opening ≡ mail.msg.opening
     → word' ≡ message_word (parts_of mail') → home' ≡ some (in_slot mail'.msg.owner mail'.had mail'.rec)
     → (in_out mail'.msg.owner ≡ 1 → (mail'.rec.error ≡ 0) × (mail'.rec.result ≡ 0))
     → (Knows mail (Of cpu) (at v m) → Knows mail' (Of cpu) e')
-    → ((kind : SeatKind) (e : MessageEntry) → (Stands kind cpu.0 → ⊥) → Knows mail kind e → Knows mail' kind e)
+    → ((kind : SeatKind) (e : MessageEntry) → (StandsFor kind cpu.0 → ⊥) → Knows mail kind e → Knows mail' kind e)
     → IsKept cpus spec mail' word' home' m (set views id (noted between v m e' did))
 kept_step cpus spec mail mail' word word' home home' m views id v cpu e' between did kept e is_seat alone safe origin opening is_word slot unanswered mine others =
     let here : e' ≡ at (noted between v m e' did) m = sym (at-here v m e' between did) in
@@ -85,7 +85,7 @@ kept_step cpus spec mail mail' word word' home home' m views id v cpu e' between
 
 -- no other view stands for the processor of a seat
 pub stands_alone : (cpus : ℕ) (views : List View) (id : ℕ) (v : View) (cpu : CpuId) → AreSeated cpus (map (λ (x : View). x.kind) views) → get_elem? views id ≡ some v → v.kind ≡ Of cpu
-    → (j : ℕ) (x : View) → j ≢ id → get_elem? views j ≡ some x → Stands x.kind cpu.0 → ⊥
+    → (j : ℕ) (x : View) → j ≢ id → get_elem? views j ≡ some x → StandsFor x.kind cpu.0 → ⊥
 stands_alone cpus views id v cpu seated e is_seat j x apart d stands = go x.kind refl stands
   where
     kinds : List SeatKind
@@ -94,7 +94,7 @@ stands_alone cpus views id v cpu seated e is_seat j x apart d stands = go x.kind
     here : get_elem? kinds id ≡ some (Of cpu)
     here = at_map (λ (y : View). y.kind) views id v e ∙ ap (λ (k : SeatKind). some k) is_seat
 
-    go : (kind : SeatKind) → x.kind ≡ kind → Stands kind cpu.0 → ⊥
+    go : (kind : SeatKind) → x.kind ≡ kind → StandsFor kind cpu.0 → ⊥
     go (Clerk made back) is s =
         let there : get_elem? kinds j ≡ some (Clerk made back) = at_map (λ (y : View). y.kind) views j x d ∙ ap (λ (k : SeatKind). some k) is in
         let below = AreSeated-below cpus kinds j made back id cpu seated there here in omega arith

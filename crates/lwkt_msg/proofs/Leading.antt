@@ -12,7 +12,7 @@ use Rattle.lwkt_base.specs.declared.owners.Owner.{Owner}
 use Rattle.lwkt_base.specs.declared.owners.Owner.TheVariants.{Rest, Out, With, Back}
 use Rattle.lwkt_base.specs.declared.records.Rec.{Rec}
 use Rattle.lwkt_base.specs.declared.records.Flags.{Flags}
-use Rattle.lwkt_base.specs.declared.openings.MsgSpec.{MsgSpec}
+use Rattle.lwkt_base.specs.declared.opening_specs.MsgSpec.{MsgSpec}
 use Rattle.lwkt_base.specs.declared.message_words.MsgWord.{MsgWord}
 use Rattle.lwkt_base.specs.declared.message_words.MsgState.TheVariants as state
 use Rattle.lwkt_base.specs.MessageWord.{message_word, MessageFits}
@@ -33,7 +33,7 @@ use Rattle.lwkt_table.proofs.SeatingLemmas.{set_here, set_else, at_map, map-set,
 use Rattle.lwkt_msg.specs.declared.views.MessageEntry.{MessageEntry}
 use Rattle.lwkt_msg.specs.declared.views.Key.{Key}
 use Rattle.lwkt_msg.specs.declared.views.View.{View}
-use Rattle.lwkt_msg.specs.Views.{word_at, slot_at, spec_at, call_of, at, noted, handed, sent, took, replied, reaped, dropped, requested, Stands}
+use Rattle.lwkt_msg.specs.Views.{word_at, slot_at, spec_at, call_of, at, noted, handed, sent, took, replied, reaped, dropped, requested, StandsFor}
 use Rattle.lwkt_msg.specs.Book.{Mail, parts_of, state_of, shown_target, in_slot, is_taken, is_back, KnowsOwn, KnowsTaken, Knows, IsKept, mail_at, IsBook}
 use Rattle.lwkt_msg.specs.Hands.{IsOwn}
 use Rattle.lwkt_msg.specs.Steps.{sent_word, rest_word, machine_of}
@@ -44,7 +44,7 @@ use Rattle.lwkt_msg.proofs.Moves.{owned, mail_after, mail_sent, never, send_othe
 
 -- who doesn't stand for this processor still knows what is so
 abbrev pub KeptByOthers : ℕ → Mail → Mail → Type 0
-KeptByOthers cpu mail after = (kind : SeatKind) (e : MessageEntry) → (Stands kind cpu → ⊥) → Knows mail kind e → Knows after kind e
+KeptByOthers cpu mail after = (kind : SeatKind) (e : MessageEntry) → (StandsFor kind cpu → ⊥) → Knows mail kind e → Knows after kind e
 
 -- a step on a message after which the table is a book again, in which this word shows it, and the event that the step is
 pub record LeadsTo (key : Key) (mails : List Mail) (m cpu : ℕ) (after : Mail) (event : Event) (word : ℕ) (s : State Rec View) : Type 0 where
@@ -158,7 +158,7 @@ module _ (key : Key) (mails : List Mail) (s : State Rec View) (id : ℕ) (v : Vi
   pub knows_taken : KnowsTaken cpu.0 mail (at v m)
   knows_taken = knows.as_target cpu.0 refl
 
-  alone : (j : ℕ) (x : View) → (j ≡ id → ⊥) → get_elem? s.views j ≡ some x → Stands x.kind cpu.0 → ⊥
+  alone : (j : ℕ) (x : View) → (j ≡ id → ⊥) → get_elem? s.views j ≡ some x → StandsFor x.kind cpu.0 → ⊥
   alone = stands_alone key.cpus s.views id v cpu book.seated e is_seat
 
   -- a step on the message, and the event that it is
@@ -199,7 +199,7 @@ module _ (key : Key) (mails : List Mail) (s : State Rec View) (id : ℕ) (v : Vi
       let is_word : n ≡ message_word (parts_of mail') = ap (λ (b : Bool). message_word (record w { aborted = b })) (sym quiet) in
       let mine : Knows mail (Of cpu) (at v m) → Knows mail' (Of cpu) (sent w (call_of rec) (at v m))
       = λ known. send_mine mail cpu to cpu m w rec (at v m) quiet refl (subst (λ (x : Owner). Knows (owned mail x) (Of cpu) (at v m)) owner_is known) in
-      let others : (kind : SeatKind) (x : MessageEntry) → (Stands kind cpu.0 → ⊥) → Knows mail kind x → Knows mail' kind x
+      let others : (kind : SeatKind) (x : MessageEntry) → (StandsFor kind cpu.0 → ⊥) → Knows mail kind x → Knows mail' kind x
       = λ kind x not_its known. send_others mail cpu to cpu m w rec (own_origin own) kind x not_its (subst (λ (y : Owner). Knows (owned mail y) kind x) owner_is known) in
       let now = kept_step key.cpus (spec_at key.specs.items m) mail mail' (get_or s.words (word_at m) 0) n (get_elem? s.homes (slot_at m)) (get_elem? (set s.homes (slot_at m) (some rec)) (slot_at m)) m s.views id v cpu
       (sent w (call_of rec) (at v m)) between did kept e is_seat alone safe refl refl is_word (set_here s.homes (slot_at m) (some rec) in_homes) (λ _. (no_error, no_result)) mine others in

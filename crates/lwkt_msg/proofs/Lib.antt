@@ -6,7 +6,7 @@ pub mod Moves
 pub mod Leading
 pub mod Carrying
 pub mod Recalling
-pub mod Telling
+pub mod StepDeeds
 pub mod Recording
 pub mod Asking
 pub mod Running

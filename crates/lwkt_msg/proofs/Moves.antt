@@ -11,7 +11,7 @@ use Rattle.lwkt_table.specs.declared.seats.SeatKind.{SeatKind}
 use Rattle.lwkt_table.specs.declared.seats.SeatKind.TheVariants.{Of}
 use Rattle.lwkt_core.specs.Messages.{message_after}
 use Rattle.lwkt_msg.specs.declared.views.MessageEntry.{MessageEntry}
-use Rattle.lwkt_msg.specs.Views.{call_of, flags_of, looked, handed, sent, took, replied, reaped, dropped, requested, shows_back, Stands}
+use Rattle.lwkt_msg.specs.Views.{call_of, flags_of, looked, handed, sent, took, replied, reaped, dropped, requested, shows_back, StandsFor}
 use Rattle.lwkt_msg.specs.Book.{Mail, parts_of, state_of, is_back, KnowsOwn, KnowsTaken, Knows}
 
 -- a message with another owner
@@ -30,14 +30,14 @@ pub never : {A : Type 0} → false ≡ true → A
 never e = absurd (let h : false ≡ true = e in cc)
 
 -- what is known of a message by views that do not stand for the processor whose step it is
-pub others_keep : (mail mail' : Mail) (cpu : ℕ) (kind : SeatKind) (e : MessageEntry) → (Stands kind cpu → ⊥) → mail'.msg.origin ≡ mail.msg.origin
+pub others_keep : (mail mail' : Mail) (cpu : ℕ) (kind : SeatKind) (e : MessageEntry) → (StandsFor kind cpu → ⊥) → mail'.msg.origin ≡ mail.msg.origin
     → (mail.msg.origin.cpu.0 ≢ cpu → KnowsOwn mail e → KnowsOwn mail' e)
     → ((q : ℕ) → cpu ≢ q → KnowsTaken q mail e → KnowsTaken q mail' e) → Knows mail kind e → Knows mail' kind e
 others_keep mail mail' cpu kind e not_its same own taken knows = record {
   as_origin = λ stands.
-      let stands' : Stands kind mail.msg.origin.cpu.0 = subst (λ (t : _). Stands kind t.cpu.0) same stands in
-      own (λ h. not_its (subst (Stands kind) h stands')) (knows.as_origin stands');
-  as_target = λ q stands. taken q (λ h. not_its (subst (Stands kind) (sym h) stands)) (knows.as_target q stands);
+      let stands' : StandsFor kind mail.msg.origin.cpu.0 = subst (λ (t : _). StandsFor kind t.cpu.0) same stands in
+      own (λ h. not_its (subst (StandsFor kind) h stands')) (knows.as_origin stands');
+  as_target = λ q stands. taken q (λ h. not_its (subst (StandsFor kind) (sym h) stands)) (knows.as_target q stands);
 }
 
 -- what the seat of the processor knows whose step it is
@@ -68,7 +68,7 @@ module _ (mail : Mail) (o t cpu : CpuId) (m : ℕ) where
   msg = record { 0 = m }
 
   -- a send by the origin
-  pub send_others : (w : MsgWord) (rec : Rec) → mail.msg.origin.cpu.0 ≡ cpu.0 → (kind : SeatKind) (e : MessageEntry) → (Stands kind cpu.0 → ⊥) → Knows rest kind e → Knows (mail_sent rest (Send cpu msg t w.round) w rec) kind e
+  pub send_others : (w : MsgWord) (rec : Rec) → mail.msg.origin.cpu.0 ≡ cpu.0 → (kind : SeatKind) (e : MessageEntry) → (StandsFor kind cpu.0 → ⊥) → Knows rest kind e → Knows (mail_sent rest (Send cpu msg t w.round) w rec) kind e
   send_others w rec own kind e not_its = others_keep rest (mail_sent rest (Send cpu msg t w.round) w rec) cpu.0 kind e not_its refl (λ other. absurd (other own))
       (λ q apart k. record { taken_is = k.taken_is; got_is = λ h. never h; answer_is = λ h. never h })
 
@@ -92,7 +92,7 @@ module _ (mail : Mail) (o t cpu : CpuId) (m : ℕ) where
     back_is = λ seen. never (k.back_is (sym i ∙ seen));
   }
 
-  pub take_others : (round : ℕ) (kind : SeatKind) (e : MessageEntry) → (Stands kind t.0 → ⊥) → Knows out kind e → Knows (mail_after out (TakeMsg t msg round) mail.rec) kind e
+  pub take_others : (round : ℕ) (kind : SeatKind) (e : MessageEntry) → (StandsFor kind t.0 → ⊥) → Knows out kind e → Knows (mail_after out (TakeMsg t msg round) mail.rec) kind e
   take_others round kind e not_its = others_keep out (mail_after out (TakeMsg t msg round) mail.rec) t.0 kind e not_its refl
       (λ other k. take_own e e round refl refl refl refl refl refl refl refl refl k)
       (λ q apart k. record { taken_is = k.taken_is ∙ sym (ne_eqb t.0 q apart); got_is = λ h. never (sym (ne_eqb t.0 q apart) ∙ h); answer_is = λ h. never h })
@@ -117,7 +117,7 @@ module _ (mail : Mail) (o t cpu : CpuId) (m : ℕ) where
     back_is = λ seen. refl;
   }
 
-  pub reply_others : (rec : Rec) → call_of rec ≡ call_of mail.rec → (kind : SeatKind) (e : MessageEntry) → (Stands kind t.0 → ⊥) → Knows with_ kind e → Knows (mail_after with_ (Reply t msg) rec) kind e
+  pub reply_others : (rec : Rec) → call_of rec ≡ call_of mail.rec → (kind : SeatKind) (e : MessageEntry) → (StandsFor kind t.0 → ⊥) → Knows with_ kind e → Knows (mail_after with_ (Reply t msg) rec) kind e
   reply_others rec same kind e not_its = others_keep with_ (mail_after with_ (Reply t msg) rec) t.0 kind e not_its refl
       (λ other k. reply_own e e rec same refl refl refl refl refl refl refl refl k)
       (λ q apart k. record { taken_is = k.taken_is ∙ ne_eqb t.0 q apart; got_is = λ h. never h; answer_is = λ h. never (sym (ne_eqb t.0 q apart) ∙ h) })
@@ -128,7 +128,7 @@ module _ (mail : Mail) (o t cpu : CpuId) (m : ℕ) where
       (λ k. record { taken_is = refl; got_is = λ h. never h; answer_is = λ h. refl })
 
   -- a reap by the origin
-  pub reap_others : mail.msg.origin.cpu.0 ≡ cpu.0 → (kind : SeatKind) (e : MessageEntry) → (Stands kind cpu.0 → ⊥) → Knows back kind e → Knows (mail_after back (Reap cpu msg) mail.rec) kind e
+  pub reap_others : mail.msg.origin.cpu.0 ≡ cpu.0 → (kind : SeatKind) (e : MessageEntry) → (StandsFor kind cpu.0 → ⊥) → Knows back kind e → Knows (mail_after back (Reap cpu msg) mail.rec) kind e
   reap_others own kind e not_its = others_keep back (mail_after back (Reap cpu msg) mail.rec) cpu.0 kind e not_its refl (λ other. absurd (other own))
       (λ q apart k. record { taken_is = k.taken_is; got_is = λ h. never h; answer_is = λ h. never h })
 
@@ -138,7 +138,7 @@ module _ (mail : Mail) (o t cpu : CpuId) (m : ℕ) where
       (λ k. record { taken_is = k.taken_is; got_is = λ h. never h; answer_is = λ h. never h })
 
   -- a drop by the origin
-  pub drop_others : mail.msg.origin.cpu.0 ≡ cpu.0 → (kind : SeatKind) (e : MessageEntry) → (Stands kind cpu.0 → ⊥) → Knows out kind e → Knows (mail_after out (DropMsg cpu msg) mail.rec) kind e
+  pub drop_others : mail.msg.origin.cpu.0 ≡ cpu.0 → (kind : SeatKind) (e : MessageEntry) → (StandsFor kind cpu.0 → ⊥) → Knows out kind e → Knows (mail_after out (DropMsg cpu msg) mail.rec) kind e
   drop_others own kind e not_its = others_keep out (mail_after out (DropMsg cpu msg) mail.rec) cpu.0 kind e not_its refl (λ other. absurd (other own))
       (λ q apart k. record { taken_is = k.taken_is; got_is = λ h. never h; answer_is = λ h. never h })
 
@@ -148,7 +148,7 @@ module _ (mail : Mail) (o t cpu : CpuId) (m : ℕ) where
       (λ k. record { taken_is = k.taken_is; got_is = λ h. never h; answer_is = λ h. never h })
 
   -- a request of the origin to abort
-  pub abort_others : mail.msg.origin.cpu.0 ≡ cpu.0 → (kind : SeatKind) (e : MessageEntry) → (Stands kind cpu.0 → ⊥) → Knows mail kind e → Knows (mail_after mail (Abort cpu msg) mail.rec) kind e
+  pub abort_others : mail.msg.origin.cpu.0 ≡ cpu.0 → (kind : SeatKind) (e : MessageEntry) → (StandsFor kind cpu.0 → ⊥) → Knows mail kind e → Knows (mail_after mail (Abort cpu msg) mail.rec) kind e
   abort_others own kind e not_its = others_keep mail (mail_after mail (Abort cpu msg) mail.rec) cpu.0 kind e not_its refl (λ other. absurd (other own))
       (λ q apart k. record { taken_is = k.taken_is; got_is = k.got_is; answer_is = k.answer_is })
 
@@ -158,7 +158,7 @@ module _ (mail : Mail) (o t cpu : CpuId) (m : ℕ) where
       (λ k. record { taken_is = k.taken_is; got_is = k.got_is; answer_is = k.answer_is })
 
   -- the record handed out to the origin
-  pub hand_others : mail.msg.origin.cpu.0 ≡ cpu.0 → (kind : SeatKind) (e : MessageEntry) → (Stands kind cpu.0 → ⊥) → Knows mail kind e → Knows (record mail { had = true }) kind e
+  pub hand_others : mail.msg.origin.cpu.0 ≡ cpu.0 → (kind : SeatKind) (e : MessageEntry) → (StandsFor kind cpu.0 → ⊥) → Knows mail kind e → Knows (record mail { had = true }) kind e
   hand_others own kind e not_its = others_keep mail (record mail { had = true }) cpu.0 kind e not_its refl (λ other. absurd (other own))
       (λ q apart k. record { taken_is = k.taken_is; got_is = k.got_is; answer_is = k.answer_is })
 

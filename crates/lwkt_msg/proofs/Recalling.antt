@@ -17,7 +17,7 @@ use Rattle.lwkt_msg.specs.declared.views.Recalled.{Recalled}
 use Rattle.lwkt_msg.specs.declared.views.View.{View}
 use Rattle.lwkt_msg.specs.Views.{at, seat_cpu, page_of, recalled_of, recalled_at, clerk_after, new_seat, joined, spent_view}
 use Rattle.lwkt_msg.specs.Book.{Mail, Knows, mail_at, no_mail}
-use Rattle.lwkt_msg.specs.Told.{Recalls, Told}
+use Rattle.lwkt_msg.specs.Ledger.{Recalls, Ledger}
 use Rattle.lwkt_msg.proofs.Leading.{KeptByOthers}
 
 -- what is kept of a seat says what its view said
@@ -40,8 +40,8 @@ recalls_none v mails count none = record {
     only (suc j) x d = absurd (some-ne-none x (sym d))
 
 -- after a step of a seat what seats knew that were taken back is still so
-module _ (key : Key) (s : State Rec View) (id : ℕ) (v w : View) (cpu : CpuId) (told : Told key s) (e : get_elem? s.views id ≡ some v) (is_seat : v.kind ≡ Of cpu)
-    (kind : w.kind ≡ v.kind) (chapters : w.chapters ≡ v.chapters) (recalled : w.recalled ≡ v.recalled) (m : ℕ) (mail' : Mail) (there : m < length told.rule.mails) (others : KeptByOthers cpu.0 (mail_at told.rule.mails m) mail') where
+module _ (key : Key) (s : State Rec View) (id : ℕ) (v w : View) (cpu : CpuId) (ledger : Ledger key s) (e : get_elem? s.views id ≡ some v) (is_seat : v.kind ≡ Of cpu)
+    (kind : w.kind ≡ v.kind) (chapters : w.chapters ≡ v.chapters) (recalled : w.recalled ≡ v.recalled) (m : ℕ) (mail' : Mail) (there : m < length ledger.rule.mails) (others : KeptByOthers cpu.0 (mail_at ledger.rule.mails m) mail') where
   -- the view before
   before : (j : ℕ) (x : View) → get_elem? (set s.views id w) j ≡ some x → (y : View) × (get_elem? s.views j ≡ some y) × (y.kind ≡ x.kind) × (y.chapters ≡ x.chapters) × (y.recalled ≡ x.recalled)
   before j x d = ⊎_elim
@@ -53,32 +53,32 @@ module _ (key : Key) (s : State Rec View) (id : ℕ) (v w : View) (cpu : CpuId) 
   -- a seat that was taken back isn't the one that steps
   away_from : (r : Recalled) (j i : ℕ) (y : View) → get_elem? s.views j ≡ some y → get_elem? y.recalled i ≡ some r → r.cpu ≢ cpu
   away_from r j i y d at_i same =
-      let has = told.recalls.chapters j i y r d at_i in
+      let has = ledger.recalls.chapters j i y r d at_i in
       let chapter : Chapter = record { cpu = r.cpu; past = has.2.0 } in
-      told.chronicle.apart chapter v.past
+      ledger.chronicle.apart chapter v.past
       (record { made = has.0; back = has.1; clerk = record { at = j; page = page_of y; here = at_map page_of s.views j y d; kind = has.2.1.0 }; index = i; chapter = has.2.1.1 })
       (record { at = id; page = page_of v; here = at_map page_of s.views id v e; kind = is_seat ∙ ap (λ (c : CpuId). Of c) (sym same); seen = refl })
 
-  still : (r : Recalled) (k : ℕ) → r.cpu ≢ cpu → Knows (mail_at told.rule.mails k) (Of r.cpu) (recalled_at r k) → Knows (mail_at (set told.rule.mails m mail') k) (Of r.cpu) (recalled_at r k)
+  still : (r : Recalled) (k : ℕ) → r.cpu ≢ cpu → Knows (mail_at ledger.rule.mails k) (Of r.cpu) (recalled_at r k) → Knows (mail_at (set ledger.rule.mails m mail') k) (Of r.cpu) (recalled_at r k)
   still r k apart known =
       let F : Mail → Type 0 = λ x. Knows x (Of r.cpu) (recalled_at r k) in dite (ℕ_discrete k m)
       (λ (same : k ≡ m).
-      let G : ℕ → Type 0 = λ n. Knows (mail_at told.rule.mails n) (Of r.cpu) (recalled_at r k) in
+      let G : ℕ → Type 0 = λ n. Knows (mail_at ledger.rule.mails n) (Of r.cpu) (recalled_at r k) in
       let now : Knows mail' (Of r.cpu) (recalled_at r k) = others (Of r.cpu) (recalled_at r k) (λ h. apart (λ i. record { 0 = h i })) (subst G same known) in
-      let H : ℕ → Type 0 = λ n. F (mail_at (set told.rule.mails m mail') n) in
-      subst H (sym same) (subst F (sym (get_or-set_same told.rule.mails m mail' no_mail there)) now))
-      (λ (differ : k ≢ m). subst F (sym (get_or-set_other told.rule.mails m k mail' no_mail differ)) known)
+      let H : ℕ → Type 0 = λ n. F (mail_at (set ledger.rule.mails m mail') n) in
+      subst H (sym same) (subst F (sym (get_or-set_same ledger.rule.mails m mail' no_mail there)) now))
+      (λ (differ : k ≢ m). subst F (sym (get_or-set_other ledger.rule.mails m k mail' no_mail differ)) known)
 
-  pub recalls_after : Recalls (set s.views id w) (set told.rule.mails m mail') (length key.specs.items)
+  pub recalls_after : Recalls (set s.views id w) (set ledger.rule.mails m mail') (length key.specs.items)
   recalls_after = record {
     chapters = λ j i x r d at_i.
         let old = before j x d in
-        let has = told.recalls.chapters j i old.0 r old.1 (ap (λ (l : List Recalled). get_elem? l i) old.4 ∙ at_i) in
+        let has = ledger.recalls.chapters j i old.0 r old.1 (ap (λ (l : List Recalled). get_elem? l i) old.4 ∙ at_i) in
         (has.0, has.1, (has.2.0, (sym old.2 ∙ has.2.1.0, ap (λ (l : List Chapter). get_elem? l i) (sym old.3) ∙ has.2.1.1)));
     knows = λ j i x r k d at_i within.
         let old = before j x d in
         let at_old = ap (λ (l : List Recalled). get_elem? l i) old.4 ∙ at_i in
-        still r k (away_from r j i old.0 old.1 at_old) (told.recalls.knows j i old.0 r k old.1 at_old within);
+        still r k (away_from r j i old.0 old.1 at_old) (ledger.recalls.knows j i old.0 r k old.1 at_old within);
   }
 
 -- where each view that has kept something was there before, or the clerk's with one seat more

@@ -8,7 +8,7 @@ use Rattle.lwkt_base.specs.declared.names.CpuId.{CpuId}
 use Rattle.lwkt_base.specs.declared.names.MsgId.{MsgId}
 use Rattle.lwkt_base.specs.declared.owners.Owner.{Owner}
 use Rattle.lwkt_base.specs.declared.owners.Owner.TheVariants.{Rest, Out, With, Back}
-use Rattle.lwkt_base.specs.declared.openings.MsgSpec.{MsgSpec}
+use Rattle.lwkt_base.specs.declared.opening_specs.MsgSpec.{MsgSpec}
 use Rattle.lwkt_base.specs.declared.records.Rec.{Rec}
 use Rattle.lwkt_core.specs.declared.messages.Message.{Message}
 use Rattle.lwkt_core.specs.declared.events.Event.{Event}
@@ -25,8 +25,8 @@ use Rattle.lwkt_table.proofs.HistoryLemmas.{Passes-split}
 use Rattle.lwkt_msg.specs.Views.{named, call_of}
 use Rattle.lwkt_msg.specs.Book.{Mail, mail_at, no_mail, opened_mail}
 use Rattle.lwkt_msg.specs.Steps.{machine_of}
-use Rattle.lwkt_msg.specs.Told.{IsRecordOf, IsHandedOut, IsLook, IsEvent, IsDone, first_mails}
-use Rattle.lwkt_msg.specs.Records.{IsSendOf, IsReplyOf, WasSent, WasAnswered, IsPosted, HistoryTellsRecords, FoundIsWhatWasPut}
+use Rattle.lwkt_msg.specs.Ledger.{IsRecordOf, IsHandedOut, IsLook, IsEvent, IsDone, first_mails}
+use Rattle.lwkt_msg.specs.Records.{IsSendOf, IsReplyOf, WasSent, WasAnswered, IsPosted, HistoryDecidesRecords, FoundIsWhatWasPut}
 use Rattle.lwkt_msg.proofs.Leading.{shown_at}
 
 -- a list is not empty, and its first element is one
@@ -220,8 +220,8 @@ pub as_many : (cpus : ℕ) (deeds : List Deed) (mails last : List Mail) → Pass
 as_many cpus [] mails last passes = ap (λ (xs : List Mail). length xs) passes
 as_many cpus (d ∷ deeds) mails last passes = as_many cpus deeds passes.0 last passes.1.1 ∙ (ap (λ (xs : List Mail). length xs) passes.1.0.leaves ∙ length-set mails passes.1.0.step.at passes.1.0.after)
 
-pub records_told : HistoryTellsRecords
-records_told cpus specs history mails passes m there =
+pub records_decided : HistoryDecidesRecords
+records_decided cpus specs history mails passes m there =
     let first : List Mail = first_mails specs in
     let in_first : m < length first = let l = as_many cpus history first mails passes in omega arith in
     let in_specs : m < length specs = let l = length-map specs opened_mail in omega arith in
@@ -282,4 +282,4 @@ found_is_put cpus specs front back d mails m passes = (
     done = cut.1.1.1.0
 
     posted : m < length mid → IsPosted front m (mail_at mid m).msg.owner (mail_at mid m).rec
-    posted there = records_told cpus specs front mid cut.1.0 m there
+    posted there = records_decided cpus specs front mid cut.1.0 m there

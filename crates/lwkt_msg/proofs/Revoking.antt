@@ -21,44 +21,44 @@ use Rattle.lwkt_msg.specs.Book.{parts_of, mail_at}
 use Rattle.lwkt_msg.specs.Hands.{IsOwn}
 use Rattle.lwkt_msg.specs.Steps.{rest_word}
 use Rattle.lwkt_msg.specs.Deeds as deed
-use Rattle.lwkt_msg.specs.Told.{Told}
+use Rattle.lwkt_msg.specs.Ledger.{Ledger}
 use Rattle.lwkt_msg.specs.Plays.{Recalled, drops_it, HasAsked, requests}
 use Rattle.lwkt_msg.proofs.WordFacts.{message_word-injective}
-use Rattle.lwkt_msg.proofs.Allowing.{at_word, there, kept, sees, parts_fit, told_by_who, was_sent}
+use Rattle.lwkt_msg.proofs.Allowing.{at_word, there, kept, sees, parts_fit, deed_by_who, was_sent}
 use Rattle.lwkt_msg.proofs.Leading as lead
-use Rattle.lwkt_msg.proofs.Telling as tell
+use Rattle.lwkt_msg.proofs.StepDeeds as stepping
 
 -- what the origin does with a message that is away: it takes it back, or asks for it to be aborted
 module _ (key : Key) (id : ℕ) (me : Me Rec View) (cpu : CpuId) (m : ℕ) (is_seat : me.0.kind ≡ Of cpu) (within : m < length me.0.specs) where
   -- the exchange of a drop
   pub drop_allowed : (slots old new : ℕ) (w : MsgWord) → old ≡ message_word w → new ≡ message_word (rest_word cpu (at me.0 m).round) → MessageFits w → w.state ≡ state.Out → IsOwn me.0 cpu.0 m → (at me.0 m).had ≡ true
-      → Allows (Told key) slots id me (word_at m) (λ n. either (eqb n old) new n) (drops_it (step slots (word_at m) old new none) me)
-  drop_allowed slots old new w old_is new_is fits out own had s told deep at_id small =
+      → Allows (Ledger key) slots id me (word_at m) (λ n. either (eqb n old) new n) (drops_it (step slots (word_at m) old new none) me)
+  drop_allowed slots old new w old_is new_is fits out own had s ledger deep at_id small =
       exchanged n old new
-      (λ x. (v' : View) × (a : Act Rec) × Valid s.homes me.1 a × Told key (stepped s (word_at m) x id me.1 v' a) × drops_it (step slots (word_at m) old new none) me n (v', carried_after me.1 a))
+      (λ x. (v' : View) × (a : Act Rec) × Valid s.homes me.1 a × Ledger key (stepped s (word_at m) x id me.1 v' a) × drops_it (step slots (word_at m) old new none) me n (v', carried_after me.1 a))
       hit miss
     where
       n : ℕ
       n = get_or s.words (word_at m) 0
 
       here : m < length key.specs.items
-      here = there key s id me.0 cpu m told.rule at_id is_seat within
+      here = there key s id me.0 cpu m ledger.rule at_id is_seat within
 
       rec : Rec
-      rec = (mail_at told.rule.mails m).rec
+      rec = (mail_at ledger.rule.mails m).rec
 
       word : ℕ
       word = message_word (rest_word cpu (at me.0 m).round)
 
-      hit : n ≡ old → (v' : View) × (a : Act Rec) × Valid s.homes me.1 a × Told key (stepped s (word_at m) new id me.1 v' a) × drops_it (step slots (word_at m) old new none) me n (v', carried_after me.1 a)
+      hit : n ≡ old → (v' : View) × (a : Act Rec) × Valid s.homes me.1 a × Ledger key (stepped s (word_at m) new id me.1 v' a) × drops_it (step slots (word_at m) old new none) me n (v', carried_after me.1 a)
       hit found =
-          let t = tell.drop_told key s id me.0 cpu m told at_id is_seat here w me.1 own had (found ∙ old_is) fits out in
+          let t = stepping.drop_is_deed key s id me.0 cpu m ledger at_id is_seat here w me.1 own had (found ∙ old_is) fits out in
           let e' : MessageEntry = dropped (at me.0 m) in
           let v' : View = noted t.between me.0 m e' (deed.drops cpu m (message_word w) word rec) in
-          let F : ℕ → Type 0 = λ x. Told key record { words = set s.words (word_at m) x; homes = set s.homes (slot_at m) none; views = set s.views id v' } in
-          let same = told_by_who key s told id me.0 cpu is_seat me.1 m e' (λ c. deed.drops c m (message_word w) word rec) word (takes (slot_at m) rec) t in
-          let owner_is = lead.goes_out key told.rule.mails s id me.0 cpu m told.rule.book at_id is_seat here w (found ∙ old_is) fits out in
-          let tells : (k : ℕ) → word_at m ≡ word_at k → (x : MsgWord) → MessageFits x → old ≡ message_word x → Recalled k x old new me n (v', (slot_at m, rec) ∷ me.1)
+          let F : ℕ → Type 0 = λ x. Ledger key record { words = set s.words (word_at m) x; homes = set s.homes (slot_at m) none; views = set s.views id v' } in
+          let same = deed_by_who key s ledger id me.0 cpu is_seat me.1 m e' (λ c. deed.drops c m (message_word w) word rec) word (takes (slot_at m) rec) t in
+          let owner_is = lead.goes_out key ledger.rule.mails s id me.0 cpu m ledger.rule.book at_id is_seat here w (found ∙ old_is) fits out in
+          let shows_it : (k : ℕ) → word_at m ≡ word_at k → (x : MsgWord) → MessageFits x → old ≡ message_word x → Recalled k x old new me n (v', (slot_at m, rec) ∷ me.1)
           = at_word m (λ k. (x : MsgWord) → MessageFits x → old ≡ message_word x → Recalled k x old new me n (v', (slot_at m, rec) ∷ me.1))
           (λ x x_fits is.
           let w_is : w ≡ x = message_word-injective w x fits x_fits (sym old_is ∙ is) in
@@ -69,21 +69,21 @@ module _ (key : Key) (id : ℕ) (me : Me Rec View) (cpu : CpuId) (m : ℕ) (is_s
                 between = t.between;
                 others = t.others;
                 view_is = same ∙ (λ i. noted t.between me.0 m e' (deed.drops (who me.0) m (message_word (w_is i)) (sym new_is i) rec));
-                call_is = sym (lead.knows_own key told.rule.mails s id me.0 cpu m told.rule.book at_id is_seat here own).call_is;
-                sent = was_sent key s m told here (origin_of (mail_at told.rule.mails m).msg.owner) (target_of (mail_at told.rule.mails m).msg.owner) (me.0.past ++ t.between) owner_is t.front;
+                call_is = sym (lead.knows_own key ledger.rule.mails s id me.0 cpu m ledger.rule.book at_id is_seat here own).call_is;
+                sent = was_sent key s m ledger here (origin_of (mail_at ledger.rule.mails m).msg.owner) (target_of (mail_at ledger.rule.mails m).msg.owner) (me.0.past ++ t.between) owner_is t.front;
               },
               refl,
             );
             lost = λ other. absurd (other found);
           }) in
-          (v', takes (slot_at m) rec, t.valid, subst F (sym new_is) t.after, tells)
+          (v', takes (slot_at m) rec, t.valid, subst F (sym new_is) t.after, shows_it)
 
-      miss : n ≢ old → (v' : View) × (a : Act Rec) × Valid s.homes me.1 a × Told key (stepped s (word_at m) n id me.1 v' a) × drops_it (step slots (word_at m) old new none) me n (v', carried_after me.1 a)
+      miss : n ≢ old → (v' : View) × (a : Act Rec) × Valid s.homes me.1 a × Ledger key (stepped s (word_at m) n id me.1 v' a) × drops_it (step slots (word_at m) old new none) me n (v', carried_after me.1 a)
       miss other =
-          let t = tell.look_told key s id me.0 cpu m told at_id is_seat here (at me.0 m) (operation.Exchange old new) me.1 keeps tt refl (λ known. known) (inr (old, new, (refl, other))) in
+          let t = stepping.look_is_deed key s id me.0 cpu m ledger at_id is_seat here (at me.0 m) (operation.Exchange old new) me.1 keeps tt refl (λ known. known) (inr (old, new, (refl, other))) in
           let v' : View = noted t.between me.0 m (at me.0 m) (deed.loses cpu m old new n) in
-          let same = told_by_who key s told id me.0 cpu is_seat me.1 m (at me.0 m) (λ c. deed.loses c m old new n) n keeps t in
-          let is_word : n ≡ message_word (parts_of (mail_at told.rule.mails m)) = (kept key s id me.0 cpu m told.rule at_id is_seat within).is_word in (
+          let same = deed_by_who key s ledger id me.0 cpu is_seat me.1 m (at me.0 m) (λ c. deed.loses c m old new n) n keeps t in
+          let is_word : n ≡ message_word (parts_of (mail_at ledger.rule.mails m)) = (kept key s id me.0 cpu m ledger.rule at_id is_seat within).is_word in (
             v',
             keeps,
             tt,
@@ -93,9 +93,9 @@ module _ (key : Key) (id : ℕ) (me : Me Rec View) (cpu : CpuId) (m : ℕ) (is_s
                   won = λ found. absurd (other found);
                   lost = λ _. (
                     record {
-                      other = parts_of (mail_at told.rule.mails m);
-                      fits = parts_fit key s id me.0 cpu m told.rule at_id is_seat within;
-                      sees = sees key s id me.0 cpu m told.rule at_id is_seat within;
+                      other = parts_of (mail_at ledger.rule.mails m);
+                      fits = parts_fit key s id me.0 cpu m ledger.rule at_id is_seat within;
+                      sees = sees key s id me.0 cpu m ledger.rule at_id is_seat within;
                       differs = λ h. other (is_word ∙ h);
                       view_is = (t.between, (t.others, same ∙ (λ i. noted t.between me.0 m (at me.0 m) (deed.loses (who me.0) m old new (is_word i)))));
                     },
@@ -105,23 +105,23 @@ module _ (key : Key) (id : ℕ) (me : Me Rec View) (cpu : CpuId) (m : ℕ) (is_s
           )
 
   -- the bit of a request to abort
-  pub request_allowed : (slots : ℕ) → IsOwn me.0 cpu.0 m → (at me.0 m).away ≡ true → Allows (Told key) slots id me (word_at m) (λ n. bit_or n 4) (requests (step slots (word_at m) 4 0 none) me)
-  request_allowed slots own away s told deep at_id small =
+  pub request_allowed : (slots : ℕ) → IsOwn me.0 cpu.0 m → (at me.0 m).away ≡ true → Allows (Ledger key) slots id me (word_at m) (λ n. bit_or n 4) (requests (step slots (word_at m) 4 0 none) me)
+  request_allowed slots own away s ledger deep at_id small =
       let n : ℕ = get_or s.words (word_at m) 0 in
       let e' : MessageEntry = requested (at me.0 m) in
-      let t = tell.abort_told key s id me.0 cpu m told at_id is_seat (there key s id me.0 cpu m told.rule at_id is_seat within) me.1 own away in
+      let t = stepping.abort_is_deed key s id me.0 cpu m ledger at_id is_seat (there key s id me.0 cpu m ledger.rule at_id is_seat within) me.1 own away in
       let v' : View = noted t.between me.0 m e' (deed.requests cpu m n) in
-      let same = told_by_who key s told id me.0 cpu is_seat me.1 m e' (λ c. deed.requests c m n) (bit_or n 4) keeps t in
-      let is_word : n ≡ message_word (parts_of (mail_at told.rule.mails m)) = (kept key s id me.0 cpu m told.rule at_id is_seat within).is_word in (
+      let same = deed_by_who key s ledger id me.0 cpu is_seat me.1 m e' (λ c. deed.requests c m n) (bit_or n 4) keeps t in
+      let is_word : n ≡ message_word (parts_of (mail_at ledger.rule.mails m)) = (kept key s id me.0 cpu m ledger.rule at_id is_seat within).is_word in (
         v',
         keeps,
         tt,
         t.after,
         at_word m (λ k. HasAsked k me.0 v' × (me.1 ≡ me.1)) (
           record {
-            met = parts_of (mail_at told.rule.mails m);
-            fits = parts_fit key s id me.0 cpu m told.rule at_id is_seat within;
-            sees = sees key s id me.0 cpu m told.rule at_id is_seat within;
+            met = parts_of (mail_at ledger.rule.mails m);
+            fits = parts_fit key s id me.0 cpu m ledger.rule at_id is_seat within;
+            sees = sees key s id me.0 cpu m ledger.rule at_id is_seat within;
             view_is = (t.between, (t.others, same ∙ (λ i. noted t.between me.0 m e' (deed.requests (who me.0) m (is_word i)))));
           },
           refl,

@@ -7,7 +7,7 @@ use Rattle.lwkt_core.specs.Trace.{Run}
 use Rattle.lwkt_table.proofs.SeatingLemmas.{map-set}
 use Rattle.lwkt_msg.specs.Book.{Mail, mail_at}
 use Rattle.lwkt_msg.specs.Steps.{machine_of}
-use Rattle.lwkt_msg.specs.Told.{IsHandedOut, IsLook, IsEvent, IsDone}
+use Rattle.lwkt_msg.specs.Ledger.{IsHandedOut, IsLook, IsEvent, IsDone}
 
 -- the same machine is shown where a message of the model stays as it is
 pub same_machine : (cpus : ℕ) (mails : List Mail) (m : ℕ) (mail' : Mail) → mail'.msg ≡ (mail_at mails m).msg → machine_of cpus (set mails m mail') ≡ machine_of cpus mails

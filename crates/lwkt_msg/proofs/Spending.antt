@@ -14,8 +14,8 @@ use Rattle.lwkt_msg.specs.declared.views.Recalled.{Recalled}
 use Rattle.lwkt_msg.specs.declared.views.View.{View}
 use Rattle.lwkt_msg.specs.Views.{at, page_of, spent_view}
 use Rattle.lwkt_msg.specs.Book.{Mail, Knows, mail_at, IsBook}
-use Rattle.lwkt_msg.specs.Told.{IsDone, first_mails, Recalls}
-use Rattle.lwkt_msg.specs.Laws.{SpentIsNoDeed, AllMadeAsTold}
+use Rattle.lwkt_msg.specs.Ledger.{IsDone, first_mails, Recalls}
+use Rattle.lwkt_msg.specs.Laws.{SpentIsNoDeed, AllMadeAsNoted}
 use Rattle.lwkt_msg.proofs.Deciding.{done_decides}
 
 -- the table with one spent view more
@@ -60,11 +60,11 @@ recalls_more views mails count recalls = record {
 
 -- one spent view more is no deed
 pub spent_is_no_deed : SpentIsNoDeed
-spent_is_no_deed key s told =
-    let q = Views-more (IsDone key.cpus) page_of (first_mails key.specs.items) told.rule.mails s.views spent_view refl told.chronicle in
-    (record { rule = record { mails = told.rule.mails; book = book_more key told.rule.mails s told.rule.book }; chronicle = q.0; recalls = recalls_more s.views told.rule.mails (length key.specs.items) told.recalls }, refl, q.1)
+spent_is_no_deed key s ledger =
+    let q = Views-more (IsDone key.cpus) page_of (first_mails key.specs.items) ledger.rule.mails s.views spent_view refl ledger.chronicle in
+    (record { rule = record { mails = ledger.rule.mails; book = book_more key ledger.rule.mails s ledger.rule.book }; chronicle = q.0; recalls = recalls_more s.views ledger.rule.mails (length key.specs.items) ledger.recalls }, refl, q.1)
 
 -- deeds that are noted at once are done one after another
-pub all_made_as_told : AllMadeAsTold
-all_made_as_told key s told id v w cpu deeds i n hands act after here kind still grows own =
-    Views-were_done (IsDone key.cpus) page_of (done_decides key.cpus) (first_mails key.specs.items) told.rule.mails after.rule.mails key.cpus s.views id v w cpu deeds told.rule.book.seated here kind still grows own told.chronicle after.chronicle
+pub all_made_as_noted : AllMadeAsNoted
+all_made_as_noted key s ledger id v w cpu deeds i n hands act after here kind still grows own =
+    Views-were_done (IsDone key.cpus) page_of (done_decides key.cpus) (first_mails key.specs.items) ledger.rule.mails after.rule.mails key.cpus s.views id v w cpu deeds ledger.rule.book.seated here kind still grows own ledger.chronicle after.chronicle

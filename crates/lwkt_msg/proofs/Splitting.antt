@@ -4,7 +4,7 @@ use lib.ListN.{get_elem?, length-map, length-replicate}
 use Rattle.atomic_table.specs.Table.{State, Splits, Joins, opening}
 use Rattle.lwkt_base.specs.declared.names.CpuId.{CpuId}
 use Rattle.lwkt_base.specs.declared.records.Rec.{Rec}
-use Rattle.lwkt_base.specs.declared.openings.MsgSpec.{MsgSpec}
+use Rattle.lwkt_base.specs.declared.opening_specs.MsgSpec.{MsgSpec}
 use Rattle.lwkt_base.specs.MessageWord.{message_word}
 use Rattle.lwkt_table.specs.declared.seats.SeatKind.{SeatKind}
 use Rattle.lwkt_table.specs.declared.seats.SeatKind.TheVariants.{Clerk, Of, Spent}
@@ -20,7 +20,7 @@ use Rattle.lwkt_msg.specs.declared.views.Noted.{Noted}
 use Rattle.lwkt_msg.specs.declared.views.View.{View}
 use Rattle.lwkt_msg.specs.Views.{word_at, slot_at, spec_at, at, entry_in, first_entry, no_spec, seat_cpu, page_of, clerk_after, new_seat, spent_view, spent_left, whole_right, joined}
 use Rattle.lwkt_msg.specs.Book.{Mail, Knows, IsKept, mail_at, IsBook, first_view, no_rec, opened_mail}
-use Rattle.lwkt_msg.specs.Told.{IsDone, first_mails, Told, IsSame, Opens}
+use Rattle.lwkt_msg.specs.Ledger.{IsDone, first_mails, Ledger, IsSame, Opens}
 use Rattle.lwkt_msg.specs.Steps.{rest_word}
 use Rattle.std.proofs.lemmas.List.Elements.{All-get_or}
 use Rattle.lwkt_msg.proofs.Recalling.{recalls_none, recalls_split, recalls_moved, recalls_joined}
@@ -136,14 +136,14 @@ seat_book key mails s id v made back book e is_clerk room = record {
         (at_snoc (set s.views id left) right x j d)
 
 -- which is no deed
-pub seat_told : (key : Key) (s : State Rec View) (told : Told key s) (id : ℕ) (v : View) (made back : ℕ) → get_elem? s.views id ≡ some v → v.kind ≡ Clerk made back → made < v.cpus
-    → IsSame key s record { words = s.words; homes = s.homes; views = set s.views id (clerk_after v) ++ new_seat v ∷ [] } told
-seat_told key s told id v made back e is_clerk room =
-    let q = Views-split (IsDone key.cpus) page_of (first_mails key.specs.items) told.rule.mails s.views told.chronicle id v e key.cpus told.rule.book.seated made back (clerk_after v) (new_seat v) is_clerk refl refl in
-    (record { rule = record { mails = told.rule.mails; book = seat_book key told.rule.mails s id v made back told.rule.book e is_clerk room }; chronicle = q.0; recalls = recalls_split s.views told.rule.mails (length key.specs.items) id v e told.recalls }, refl, q.1)
+pub seat_is_same : (key : Key) (s : State Rec View) (ledger : Ledger key s) (id : ℕ) (v : View) (made back : ℕ) → get_elem? s.views id ≡ some v → v.kind ≡ Clerk made back → made < v.cpus
+    → IsSame key s record { words = s.words; homes = s.homes; views = set s.views id (clerk_after v) ++ new_seat v ∷ [] } ledger
+seat_is_same key s ledger id v made back e is_clerk room =
+    let q = Views-split (IsDone key.cpus) page_of (first_mails key.specs.items) ledger.rule.mails s.views ledger.chronicle id v e key.cpus ledger.rule.book.seated made back (clerk_after v) (new_seat v) is_clerk refl refl in
+    (record { rule = record { mails = ledger.rule.mails; book = seat_book key ledger.rule.mails s id v made back ledger.rule.book e is_clerk room }; chronicle = q.0; recalls = recalls_split s.views ledger.rule.mails (length key.specs.items) id v e ledger.recalls }, refl, q.1)
 
-pub seat_splits : (key : Key) (id : ℕ) (v : View) (made back : ℕ) → v.kind ≡ Clerk made back → made < v.cpus → Splits (Told key) id v (clerk_after v) (new_seat v)
-seat_splits key id v made back is_clerk room s told e = (seat_told key s told id v made back e is_clerk room).0
+pub seat_splits : (key : Key) (id : ℕ) (v : View) (made back : ℕ) → v.kind ≡ Clerk made back → made < v.cpus → Splits (Ledger key) id v (clerk_after v) (new_seat v)
+seat_splits key id v made back is_clerk room s ledger e = (seat_is_same key s ledger id v made back e is_clerk room).0
 
 -- a seat's view is cut off whole, and leaves a spent one
 AreSeated-moved : (cpus : ℕ) (ks : List SeatKind) (i : ℕ) (cpu : CpuId) → AreSeated cpus ks → get_elem? ks i ≡ some (Of cpu) → AreSeated cpus (set ks i Spent ++ Of cpu ∷ [])
@@ -237,13 +237,13 @@ whole_book key mails s id v cpu book e is_seat = record {
         (λ (new : (j ≡ length (set s.views id spent_view)) × (v ≡ x)). subst F new.1 ((book.each m within).each_view id v e))
         (at_snoc (set s.views id spent_view) v x j d)
 
-pub whole_told : (key : Key) (s : State Rec View) (told : Told key s) (id : ℕ) (v : View) (cpu : CpuId) → get_elem? s.views id ≡ some v → v.kind ≡ Of cpu → IsSame key s record { words = s.words; homes = s.homes; views = set s.views id (spent_left v) ++ whole_right v ∷ [] } told
-whole_told key s told id v cpu e is_seat =
-    let q = Views-moved (IsDone key.cpus) page_of (first_mails key.specs.items) told.rule.mails s.views told.chronicle id v e (spent_left v) refl in
-    (record { rule = record { mails = told.rule.mails; book = whole_book key told.rule.mails s id v cpu told.rule.book e is_seat }; chronicle = q.0; recalls = recalls_moved s.views told.rule.mails (length key.specs.items) id v e told.recalls }, refl, q.1)
+pub whole_is_same : (key : Key) (s : State Rec View) (ledger : Ledger key s) (id : ℕ) (v : View) (cpu : CpuId) → get_elem? s.views id ≡ some v → v.kind ≡ Of cpu → IsSame key s record { words = s.words; homes = s.homes; views = set s.views id (spent_left v) ++ whole_right v ∷ [] } ledger
+whole_is_same key s ledger id v cpu e is_seat =
+    let q = Views-moved (IsDone key.cpus) page_of (first_mails key.specs.items) ledger.rule.mails s.views ledger.chronicle id v e (spent_left v) refl in
+    (record { rule = record { mails = ledger.rule.mails; book = whole_book key ledger.rule.mails s id v cpu ledger.rule.book e is_seat }; chronicle = q.0; recalls = recalls_moved s.views ledger.rule.mails (length key.specs.items) id v e ledger.recalls }, refl, q.1)
 
-pub whole_splits : (key : Key) (id : ℕ) (v : View) (cpu : CpuId) → v.kind ≡ Of cpu → Splits (Told key) id v (spent_left v) (whole_right v)
-whole_splits key id v cpu is_seat s told e = (whole_told key s told id v cpu e is_seat).0
+pub whole_splits : (key : Key) (id : ℕ) (v : View) (cpu : CpuId) → v.kind ≡ Of cpu → Splits (Ledger key) id v (spent_left v) (whole_right v)
+whole_splits key id v cpu is_seat s ledger e = (whole_is_same key s ledger id v cpu e is_seat).0
 
 -- the clerk takes a seat back
 pub joined_book : (key : Key) (mails : List Mail) (s : State Rec View) (id : ℕ) (v : View) (other : ℕ) (w : View) (made back : ℕ) (cpu : CpuId) → IsBook key mails s → get_elem? s.views id ≡ some v → v.kind ≡ Clerk made back → w.kind ≡ Of cpu → other ≢ id → get_elem? (set s.views id (joined v w)) other ≡ some w
@@ -303,17 +303,17 @@ joined_book key mails s id v other w made back cpu book e is_clerk is_seat apart
         (at_set s.views id j both x old.1))
         (at_set (set s.views id both) other j spent_view x f)
 
-pub joined_told : (key : Key) (s : State Rec View) (told : Told key s) (id : ℕ) (v : View) (other : ℕ) (w : View) (made back : ℕ) (cpu : CpuId) → get_elem? s.views id ≡ some v → v.kind ≡ Clerk made back → w.kind ≡ Of cpu → other ≢ id
-    → get_elem? (set s.views id (joined v w)) other ≡ some w → IsSame key s record { words = s.words; homes = s.homes; views = set (set s.views id (joined v w)) other spent_view } told
-joined_told key s told id v other w made back cpu e is_clerk is_seat apart d =
+pub joined_is_same : (key : Key) (s : State Rec View) (ledger : Ledger key s) (id : ℕ) (v : View) (other : ℕ) (w : View) (made back : ℕ) (cpu : CpuId) → get_elem? s.views id ≡ some v → v.kind ≡ Clerk made back → w.kind ≡ Of cpu → other ≢ id
+    → get_elem? (set s.views id (joined v w)) other ≡ some w → IsSame key s record { words = s.words; homes = s.homes; views = set (set s.views id (joined v w)) other spent_view } ledger
+joined_is_same key s ledger id v other w made back cpu e is_clerk is_seat apart d =
     let there : get_elem? s.views other ≡ some w = sym (set_else s.views id other (joined v w) apart) ∙ d in
-    let known : (m : ℕ) → m < length key.specs.items → Knows (mail_at told.rule.mails m) (Of cpu) (at w m) = λ m within. let F : SeatKind → Type 0 = λ k. Knows (mail_at told.rule.mails m) k (at w m) in subst F is_seat ((told.rule.book.each m within).each_view other w there) in
+    let known : (m : ℕ) → m < length key.specs.items → Knows (mail_at ledger.rule.mails m) (Of cpu) (at w m) = λ m within. let F : SeatKind → Type 0 = λ k. Knows (mail_at ledger.rule.mails m) k (at w m) in subst F is_seat ((ledger.rule.book.each m within).each_view other w there) in
     let page_is : page_of (joined v w) ≡ back_page (page_of v) cpu w.past = ap (λ (c : CpuId). back_page (page_of v) c w.past) (ap seat_cpu is_seat) in
-    let q = Views-joined (IsDone key.cpus) page_of (first_mails key.specs.items) told.rule.mails s.views told.chronicle id v e key.cpus told.rule.book.seated made back other w cpu (joined v w) spent_view is_clerk apart there is_seat page_is refl in
-    (record { rule = record { mails = told.rule.mails; book = joined_book key told.rule.mails s id v other w made back cpu told.rule.book e is_clerk is_seat apart d }; chronicle = q.0; recalls = recalls_joined s.views told.rule.mails (length key.specs.items) id other made back v w cpu e is_clerk is_seat known told.recalls }, refl, q.1)
+    let q = Views-joined (IsDone key.cpus) page_of (first_mails key.specs.items) ledger.rule.mails s.views ledger.chronicle id v e key.cpus ledger.rule.book.seated made back other w cpu (joined v w) spent_view is_clerk apart there is_seat page_is refl in
+    (record { rule = record { mails = ledger.rule.mails; book = joined_book key ledger.rule.mails s id v other w made back cpu ledger.rule.book e is_clerk is_seat apart d }; chronicle = q.0; recalls = recalls_joined s.views ledger.rule.mails (length key.specs.items) id other made back v w cpu e is_clerk is_seat known ledger.recalls }, refl, q.1)
 
-pub seat_joins : (key : Key) (id : ℕ) (v : View) (other : ℕ) (w : View) (made back : ℕ) (cpu : CpuId) → v.kind ≡ Clerk made back → w.kind ≡ Of cpu → Joins (Told key) id v other w (joined v w) spent_view
-seat_joins key id v other w made back cpu is_clerk is_seat s told e apart d = (joined_told key s told id v other w made back cpu e is_clerk is_seat apart d).0
+pub seat_joins : (key : Key) (id : ℕ) (v : View) (other : ℕ) (w : View) (made back : ℕ) (cpu : CpuId) → v.kind ≡ Clerk made back → w.kind ≡ Of cpu → Joins (Ledger key) id v other w (joined v w) spent_view
+seat_joins key id v other w made back cpu is_clerk is_seat s ledger e apart d = (joined_is_same key s ledger id v other w made back cpu e is_clerk is_seat apart d).0
 
 -- the opened messages, by their numbers
 pub opened_at : (specs : List MsgSpec) (m : ℕ) → m < length specs → mail_at (map opened_mail specs) m ≡ opened_mail (spec_at specs m)

@@ -15,13 +15,13 @@ use Rattle.lwkt_table.specs.declared.seats.Deed.{Deed}
 use Rattle.lwkt_table.specs.declared.seats.SeatKind.{SeatKind}
 use Rattle.lwkt_msg.specs.declared.views.MessageEntry.{MessageEntry}
 use Rattle.lwkt_msg.specs.declared.views.View.{View}
-use Rattle.lwkt_msg.specs.Views.{spec_at, call_of, at, who, noted, looked, dropped, requested, flags_of, shows_away, Sees, SeesOwn, Stands}
+use Rattle.lwkt_msg.specs.Views.{spec_at, call_of, at, who, noted, looked, dropped, requested, flags_of, shows_away, Sees, SeesOwn, StandsFor}
 use Rattle.lwkt_msg.specs.Deeds.{loads, loses, drops, requests}
 use Rattle.lwkt_msg.specs.Records.{WasSent, WasAskedFor}
 use Rattle.lwkt_msg.specs.Hands.{IsOwn}
 use Rattle.lwkt_msg.specs.Steps.{rest_word}
 use Rattle.lwkt_msg.specs.Plays.{IsAfter, IsLooked, HasRecalled, HasMissed, HasAsked, IsSat}
-use Rattle.lwkt_msg.specs.Calls.{sent_rec, IsForDropping, ForbidsDrop, HasDropped, IsUndropped, HasLostDrop, IsForAborting, ForbidsAbort, HasRequested, IsUnrequested, IsToldRequest}
+use Rattle.lwkt_msg.specs.Calls.{sent_rec, IsForDropping, ForbidsDrop, HasDropped, IsUndropped, HasLostDrop, IsForAborting, ForbidsAbort, HasRequested, IsUnrequested, ReadsRequest}
 use Rattle.lwkt_msg.proofs.Moves.{never}
 use Rattle.lwkt_msg.proofs.Calling as calling
 use Rattle.lwkt_msg.proofs.Calling.{Does-two, Last-of}
@@ -49,8 +49,8 @@ module _ (place place1 : Seat Rec View) (cpu : CpuId) (m : ℕ) (w : MsgWord) (s
   entry_is : at v1 m ≡ looked w e
   entry_is = calling.entry_is place place1 cpu m w sat l
 
-  stands1 : Stands v1.kind cpu.0
-  stands1 = let F : SeatKind → Type 0 = λ k. Stands k cpu.0 in subst F (sym (ap (λ (x : View). x.kind) l.view_is.1.1 ∙ sat.kind)) refl
+  stands1 : StandsFor v1.kind cpu.0
+  stands1 = let F : SeatKind → Type 0 = λ k. StandsFor k cpu.0 in subst F (sym (ap (λ (x : View). x.kind) l.view_is.1.1 ∙ sat.kind)) refl
 
   -- a later word of the message differs in its state alone: only the origin changes the rest, while the message is away
   record IsLater (x : MsgWord) : Type 0 where
@@ -61,7 +61,7 @@ module _ (place place1 : Seat Rec View) (cpu : CpuId) (m : ℕ) (w : MsgWord) (s
   later x home gone s =
       let own : IsOwn v cpu.0 m = calling.own_is place place1 cpu m w sat l home in
       let origin_is : x.origin ≡ w.origin = s.origin_is ∙ (ap (λ (y : View). (spec_at y.specs m).origin.cpu) l.view_is.1.1 ∙ sym l.sees.origin_is) in
-      let F : ℕ → Type 0 = λ n. Stands v1.kind n in
+      let F : ℕ → Type 0 = λ n. StandsFor v1.kind n in
       let now : SeesOwn (at v1 m) x = s.as_origin (subst F (ap (λ (c : CpuId). c.0) (sym (origin_is ∙ home))) stands1) in
       let was : SeesOwn e w = calling.sees_own place place1 cpu m w sat l own in
       let shown : shows_away x.state ≡ true = sym now.away_is ∙ (ap (λ (y : MessageEntry). y.away) entry_is ∙ (was.away_is ∙ gone)) in
@@ -178,8 +178,8 @@ module _ (place place1 : Seat Rec View) (cpu : CpuId) (m : ℕ) (w : MsgWord) (s
       away_still Back at k = inr (inr (k.same ∙ (λ i. record w { state = at i })))
 
   -- whether the origin has asked
-  pub told_request : (w.state ≡ With) × (w.target ≡ cpu) → IsToldRequest v v1 m w.aborted
-  told_request is = record {
+  pub request_read : (w.state ≡ With) × (w.target ≡ cpu) → ReadsRequest v v1 m w.aborted
+  request_read is = record {
     taken_by_it = calling.reply_taken place place1 cpu m w sat l is;
     found = w;
     looked_at = calling.only place place1 cpu m w sat l;

@@ -41,7 +41,7 @@ bit_same true false e = absurd (omega arith)
 bit_same false true e = absurd (omega arith)
 bit_same false false e = refl
 
--- nine digits, each within its place, are told by their sum
+-- nine digits, each within its place, are known by their sum
 record Digits (s a y d b p o t r s' a' y' d' b' p' o' t' r' : ℕ) : Type 0 where
   s_is : s ≡ s'
   a_is : a ≡ a'
@@ -132,9 +132,9 @@ requested_word w =
     let whole : bit_or high 0 * 2 ^ 3 + bit_or low 4 ≡ message_word (record w { aborted = true }) = rw (none_high, low_is) (omega arith) in
     ap (λ (n : ℕ). bit_or n 4) cut ∙ (blocks ∙ whole)
 
--- a word tells how its message was sent
-pub flags_told : (w : MsgWord) (a b c d a' b' c' d' : Bool) → message_word (record w { sync = a; dropable = b; abortable = c; priority = d }) ≡ message_word (record w { sync = a'; dropable = b'; abortable = c'; priority = d' }) → (a ≡ a') × (b ≡ b') × (c ≡ c') × (d ≡ d')
-flags_told w a b c d a' b' c' d' e =
+-- a word says how its message was sent
+pub flags_in_word : (w : MsgWord) (a b c d a' b' c' d' : Bool) → message_word (record w { sync = a; dropable = b; abortable = c; priority = d }) ≡ message_word (record w { sync = a'; dropable = b'; abortable = c'; priority = d' }) → (a ≡ a') × (b ≡ b') × (c ≡ c') × (d ≡ d')
+flags_in_word w a b c d a' b' c' d' e =
     let h1 = bit_below a in
     let h2 = bit_below b in
     let h3 = bit_below c in

@@ -7,7 +7,7 @@ use Rattle.lwkt_base.specs.declared.owners.Owner.{Owner}
 use Rattle.lwkt_base.specs.declared.owners.Owner.TheVariants.{Rest, Out, With, Back}
 use Rattle.lwkt_base.specs.declared.records.Rec.{Rec}
 use Rattle.lwkt_base.specs.declared.records.Flags.{Flags}
-use Rattle.lwkt_base.specs.declared.openings.MsgSpec.{MsgSpec}
+use Rattle.lwkt_base.specs.declared.opening_specs.MsgSpec.{MsgSpec}
 use Rattle.lwkt_base.specs.declared.message_words.MsgWord.{MsgWord}
 use Rattle.lwkt_base.specs.declared.message_words.MsgState.{MsgState}
 use Rattle.lwkt_base.specs.declared.message_words.MsgState.TheVariants as state
@@ -21,7 +21,7 @@ use Rattle.lwkt_table.specs.Seating.{AreSeated}
 use Rattle.lwkt_msg.specs.declared.views.MessageEntry.{MessageEntry}
 use Rattle.lwkt_msg.specs.declared.views.Key.{Key}
 use Rattle.lwkt_msg.specs.declared.views.View.{View}
-use Rattle.lwkt_msg.specs.Views.{word_at, slot_at, no_flags, spec_at, call_of, answer_of, at, Stands}
+use Rattle.lwkt_msg.specs.Views.{word_at, slot_at, no_flags, spec_at, call_of, answer_of, at, StandsFor}
 
 -- the state that a word shows of an owner
 abbrev pub state_of : Owner → MsgState
@@ -97,8 +97,8 @@ pub record KnowsTaken (cpu : ℕ) (mail : Mail) (e : MessageEntry) : Type 0 wher
 
 -- what a view knows of a message is so
 pub record Knows (mail : Mail) (kind : SeatKind) (e : MessageEntry) : Type 0 where
-  pub as_origin : Stands kind mail.msg.origin.cpu.0 → KnowsOwn mail e
-  pub as_target : (cpu : ℕ) → Stands kind cpu → KnowsTaken cpu mail e
+  pub as_origin : StandsFor kind mail.msg.origin.cpu.0 → KnowsOwn mail e
+  pub as_target : (cpu : ℕ) → StandsFor kind cpu → KnowsTaken cpu mail e
 
 -- one message of the book: it is safe, its word shows it, its record lies where its owner is, and what each view knows of it is so
 -- (msgport(9); rounds, the drop by the origin and the abort request are own)

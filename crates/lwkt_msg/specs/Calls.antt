@@ -75,7 +75,7 @@ abbrev pub IsForReaping : CpuId → ℕ → MsgWord → Type 0
 IsForReaping cpu round w = (w.state ≡ Back) × (w.origin ≡ cpu) × (w.round ≡ round)
 
 -- the message was taken, as its word allowed: the record is the one that the last send of the message put there, whether it has
--- priority is told by the word, and the request to abort is that of the word, which has one exactly if the origin has asked in this
+-- priority is said by the word, and the request to abort is that of the word, which has one exactly if the origin has asked in this
 -- round, by the history up to the take
 pub record HasTaken (cpu : CpuId) (v w : View) (m round : ℕ) (rec : Rec) (aborted priority : Bool) : Type 0 where
   pub found : MsgWord
@@ -121,7 +121,7 @@ pub record HasReplied (v w : View) (m error outcome : ℕ) : Type 0 where
   pub other : ℕ
   pub does : Does v w m (answered error outcome (looked found (at v m))) (loads (who v) m (message_word found) ∷ replies (who v) m other (answered_rec (at v m).got error outcome) ∷ [])
 
--- the message was not replied to, or nothing is told of it: the seat hasn't taken it
+-- the message was not replied to, or nothing is said of it: the seat hasn't taken it
 pub record IsUnreplied (v w : View) (m : ℕ) (fault : Fault) : Type 0 where
   pub found : MsgWord
   pub looked_at : OnlyLooked v w m found
@@ -223,7 +223,7 @@ pub record IsUnrequested (cpu : CpuId) (v w : View) (m : ℕ) (fault : Fault) : 
   pub why : ForbidsAbort cpu found fault
 
 -- whether the origin has asked for the message to be aborted, which the seat has taken: in this round, by the history up to the load
-pub record IsToldRequest (v w : View) (m : ℕ) (aborted : Bool) : Type 0 where
+pub record ReadsRequest (v w : View) (m : ℕ) (aborted : Bool) : Type 0 where
   pub taken_by_it : (at v m).taken ≡ true
   pub found : MsgWord
   pub looked_at : OnlyLooked v w m found

@@ -5,7 +5,7 @@ use lib.ListN.{get_elem?}
 use Rattle.atomic_table.specs.Seated.{TableId}
 use Rattle.atomic_table.specs.declared.shared.Seat.{Seat}
 use Rattle.lwkt_base.specs.declared.names.CpuId.{CpuId}
-use Rattle.lwkt_base.specs.declared.openings.MsgSpec.{MsgSpec}
+use Rattle.lwkt_base.specs.declared.opening_specs.MsgSpec.{MsgSpec}
 use Rattle.lwkt_base.specs.declared.owners.MsgEnd.{MsgEnd}
 use Rattle.lwkt_base.specs.declared.records.Rec.{Rec}
 use Rattle.lwkt_core.specs.declared.messages.Message.{Message}
@@ -34,7 +34,7 @@ use Rattle.lwkt_msg.specs.Book.{Mail, Knows, mail_at}
 use Rattle.lwkt_table.specs.declared.seats.Operation.TheVariants.{Load}
 use Rattle.lwkt_msg.specs.Deeds.{word_step}
 use Rattle.lwkt_msg.specs.Steps.{rest_word, machine_of}
-use Rattle.lwkt_msg.specs.Told.{IsDone, first_mails, AreCounted}
+use Rattle.lwkt_msg.specs.Ledger.{IsDone, first_mails, AreCounted}
 use Rattle.lwkt_msg.specs.Plays.{IsSat}
 
 -- what callers see of a seat: the table that it sits at, and what it knows

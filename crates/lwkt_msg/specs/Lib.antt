@@ -3,7 +3,7 @@ pub mod Book
 pub mod Hands
 pub mod Steps
 pub mod Deeds
-pub mod Told
+pub mod Ledger
 pub mod Records
 pub mod Plays
 pub mod Calls

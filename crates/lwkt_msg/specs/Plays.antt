@@ -17,7 +17,7 @@ use Rattle.lwkt_msg.specs.Records.{WasSent, WasAnswered, WasAskedFor}
 use Rattle.lwkt_msg.specs.Steps.{rest_word}
 use Rattle.lwkt_msg.specs.Hands.{Has, AreSame, IsOwn, AreHands}
 
--- since the last deed of the seat with this view others have acted, and its step tells this after what they did
+-- since the last deed of the seat with this view others have acted, and its step shows this after what they did
 abbrev pub Amid : View → (List Deed → Type 0) → Type 0
 Amid v R = (between : List Deed) × (AreOthers (who v).0 between × R between)
 
@@ -30,7 +30,7 @@ IsAfter v m e d w = Amid v (λ between. w ≡ noted between v m e d)
 abbrev pub IsAskedBy : List Deed → ℕ → MsgWord → Type 0
 IsAskedBy deeds m w = shows_away w.state ≡ true → (w.aborted ≡ true) ↔ WasAskedFor w.origin deeds m
 
--- what a load of a message's word tells: the parts of the word, which are what the view knows; if the seat has the record in
+-- what a load of a message's word says: the parts of the word, which are what the view knows; if the seat has the record in
 -- hand, it lies in front now
 pub record Looked (m : ℕ) (me : Me Rec View) (found : ℕ) (then : Me Rec View) : Type 0 where
   pub parts : MsgWord
@@ -54,9 +54,9 @@ pub record IsLooked (m : ℕ) (me : Me Rec View) (w : MsgWord) (then : Me Rec Vi
 abbrev pub looks : Step Rec → Me Rec View → ℕ → Me Rec View → Type 0
 looks st me found then = (m : ℕ) → st.word ≡ word_at m → Looked m me found then
 
--- what the store of a send tells: the record in front is given away, and its call is known
-abbrev pub send_is_told : Step Rec → Me Rec View → ℕ → Me Rec View → Type 0
-send_is_told st me found then = (m : ℕ) → st.word ≡ word_at m → (w : MsgWord) → MessageFits w → found ≡ message_word w → (rec : Rec) (others : List (ℕ × Rec)) → me.1 ≡ (slot_at m, rec) ∷ others
+-- what the store of a send says: the record in front is given away, and its call is known
+abbrev pub sends_it : Step Rec → Me Rec View → ℕ → Me Rec View → Type 0
+sends_it st me found then = (m : ℕ) → st.word ≡ word_at m → (w : MsgWord) → MessageFits w → found ≡ message_word w → (rec : Rec) (others : List (ℕ × Rec)) → me.1 ≡ (slot_at m, rec) ∷ others
     → IsAfter me.0 m (sent w (call_of rec) (at me.0 m)) (deed.sends (who me.0) m w.target w.round found rec) then.0 × (then.1 ≡ others)
 
 -- a take by an exchange of the word of these parts, which found this record: it is the one that the last send of the message put
@@ -68,7 +68,7 @@ pub record HasWon (m : ℕ) (found : MsgWord) (v : View) (rec : Rec) (w : View) 
   pub sent : WasSent (v.past ++ between) m rec
   pub asked : IsAskedBy (v.past ++ between) m found
 
--- what the exchange of a take tells: the record is in hand, as it was sent, or another word was found
+-- what the exchange of a take says: the record is in hand, as it was sent, or another word was found
 pub record Took (m : ℕ) (w : MsgWord) (old new : ℕ) (me : Me Rec View) (found : ℕ) (then : Me Rec View) : Type 0 where
   pub won : found ≡ old → (rec : Rec) × HasWon m w me.0 rec then.0 × (then.1 ≡ (slot_at m, rec) ∷ me.1)
   pub lost : found ≢ old → IsAfter me.0 m (at me.0 m) (deed.loses (who me.0) m old new found) then.0 × (then.1 ≡ me.1)
@@ -76,9 +76,9 @@ pub record Took (m : ℕ) (w : MsgWord) (old new : ℕ) (me : Me Rec View) (foun
 abbrev pub takes_it : Step Rec → Me Rec View → ℕ → Me Rec View → Type 0
 takes_it st me found then = (m : ℕ) → st.word ≡ word_at m → (w : MsgWord) → MessageFits w → st.first ≡ message_word w → Took m w st.first st.second me found then
 
--- what the addition of a reply tells: the record in front is given away
-abbrev pub reply_is_told : Step Rec → Me Rec View → ℕ → Me Rec View → Type 0
-reply_is_told st me found then = (m : ℕ) → st.word ≡ word_at m → (rec : Rec) (others : List (ℕ × Rec)) → me.1 ≡ (slot_at m, rec) ∷ others
+-- what the addition of a reply says: the record in front is given away
+abbrev pub replies_to_it : Step Rec → Me Rec View → ℕ → Me Rec View → Type 0
+replies_to_it st me found then = (m : ℕ) → st.word ≡ word_at m → (rec : Rec) (others : List (ℕ × Rec)) → me.1 ≡ (slot_at m, rec) ∷ others
     → IsAfter me.0 m (replied rec (at me.0 m)) (deed.replies (who me.0) m found rec) then.0 × (then.1 ≡ others)
 
 -- a reap, by the store of this word, which found this record: it has the call that was sent, and the error and result that the one
@@ -90,9 +90,9 @@ pub record HasFetched (m word : ℕ) (v : View) (rec : Rec) (w : View) : Type 0 
   pub call_is : call_of rec ≡ (at v m).call
   pub answered_ : WasAnswered (v.past ++ between) m rec
 
--- what the store of a reap tells: the record is in hand
-abbrev pub reap_is_told : Step Rec → Me Rec View → ℕ → Me Rec View → Type 0
-reap_is_told st me found then = (m : ℕ) → st.word ≡ word_at m → (rec : Rec) × HasFetched m found me.0 rec then.0 × (then.1 ≡ (slot_at m, rec) ∷ me.1)
+-- what the store of a reap says: the record is in hand
+abbrev pub reaps_it : Step Rec → Me Rec View → ℕ → Me Rec View → Type 0
+reaps_it st me found then = (m : ℕ) → st.word ≡ word_at m → (rec : Rec) × HasFetched m found me.0 rec then.0 × (then.1 ≡ (slot_at m, rec) ∷ me.1)
 
 -- a drop by an exchange of the word of these parts for this one, which found this record: it is the one that the last send of the
 -- message put there, with its call
@@ -111,7 +111,7 @@ pub record HasMissed (m old new : ℕ) (v w : View) : Type 0 where
   pub differs : message_word other ≢ old
   pub view_is : IsAfter v m (at v m) (deed.loses (who v) m old new (message_word other)) w
 
--- what the exchange of a drop tells: the record is in hand, as it was sent, or another word was found
+-- what the exchange of a drop says: the record is in hand, as it was sent, or another word was found
 pub record Recalled (m : ℕ) (w : MsgWord) (old new : ℕ) (me : Me Rec View) (found : ℕ) (then : Me Rec View) : Type 0 where
   pub won : found ≡ old → (rec : Rec) × HasRecalled m w new me.0 rec then.0 × (then.1 ≡ (slot_at m, rec) ∷ me.1)
   pub lost : found ≢ old → HasMissed m old new me.0 then.0 × (then.1 ≡ me.1)
@@ -126,11 +126,11 @@ pub record HasAsked (m : ℕ) (v w : View) : Type 0 where
   pub sees : Sees v m met
   pub view_is : IsAfter v m (requested (at v m)) (deed.requests (who v) m (message_word met)) w
 
--- what setting the bit tells
+-- what setting the bit says
 abbrev pub requests : Step Rec → Me Rec View → ℕ → Me Rec View → Type 0
 requests st me found then = (m : ℕ) → st.word ≡ word_at m → HasAsked m me.0 then.0 × (then.1 ≡ me.1)
 
--- what the load at the opening tells that hands a record out: the message is at rest
+-- what the load at the opening shows that hands a record out: the message is at rest
 abbrev pub hands_out : Step Rec → Me Rec View → ℕ → Me Rec View → Type 0
 hands_out st me found then = (m : ℕ) → st.word ≡ word_at m → (rec : Rec) × IsAfter me.0 m (handed (at me.0 m)) (deed.hands_out (who me.0) m found rec) then.0 × (then.1 ≡ (slot_at m, rec) ∷ me.1) × (found ≡ message_word (rest_word (who me.0) (at me.0 m).round))
 

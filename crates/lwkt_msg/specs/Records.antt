@@ -1,6 +1,6 @@
 use Rattle.std.specs.Prelude.{◌≡◌, ◌↔◌, ◌<◌, ℕ, Bool, true, false, List, [], ◌∷◌, ◌++◌, length, All}
 use Rattle.lwkt_base.specs.declared.names.CpuId.{CpuId}
-use Rattle.lwkt_base.specs.declared.openings.MsgSpec.{MsgSpec}
+use Rattle.lwkt_base.specs.declared.opening_specs.MsgSpec.{MsgSpec}
 use Rattle.lwkt_base.specs.declared.owners.Owner.{Owner}
 use Rattle.lwkt_base.specs.declared.owners.Owner.TheVariants.{Rest, Out, With, Back}
 use Rattle.lwkt_base.specs.declared.records.Rec.{Rec}
@@ -10,7 +10,7 @@ use Rattle.lwkt_table.specs.History.{Passes}
 use Rattle.lwkt_core.specs.Messages.{origin_of, is_away}
 use Rattle.lwkt_msg.specs.Views.{named, call_of}
 use Rattle.lwkt_msg.specs.Book.{Mail, mail_at}
-use Rattle.lwkt_msg.specs.Told.{IsDone, first_mails}
+use Rattle.lwkt_msg.specs.Ledger.{IsDone, first_mails}
 
 -- a deed sends this message, or replies to it
 abbrev pub IsSendOf : ℕ → Deed → Type 0
@@ -57,8 +57,8 @@ IsPosted deeds m (With origin target) rec = WasSent deeds m rec
 IsPosted deeds m (Back origin target) rec = WasAnswered deeds m rec
 
 -- so it is after any history that begins with the messages declared
-abbrev pub HistoryTellsRecords : Type 0
-HistoryTellsRecords = (cpus : ℕ) (specs : List MsgSpec) (history : List Deed) (mails : List Mail) → Passes (IsDone cpus) (first_mails specs) history mails → (m : ℕ) → m < length mails → IsPosted history m (mail_at mails m).msg.owner (mail_at mails m).rec
+abbrev pub HistoryDecidesRecords : Type 0
+HistoryDecidesRecords = (cpus : ℕ) (specs : List MsgSpec) (history : List Deed) (mails : List Mail) → Passes (IsDone cpus) (first_mails specs) history mails → (m : ℕ) → m < length mails → IsPosted history m (mail_at mails m).msg.owner (mail_at mails m).rec
 
 -- a deed is this processor's request to abort this message
 abbrev pub IsRequestOf : CpuId → ℕ → Deed → Type 0
@@ -80,8 +80,8 @@ pub record IsAskedSo (deeds : List Deed) (m : ℕ) (owner : Owner) (asked : Bool
   pub away : is_away owner ≡ true → (asked ≡ true) ↔ WasAskedFor (origin_of owner) deeds m
 
 -- so it is after any history that begins with the messages declared
-abbrev pub HistoryTellsRequests : Type 0
-HistoryTellsRequests = (cpus : ℕ) (specs : List MsgSpec) (history : List Deed) (mails : List Mail) → Passes (IsDone cpus) (first_mails specs) history mails → (m : ℕ) → m < length mails → IsAskedSo history m (mail_at mails m).msg.owner (mail_at mails m).msg.asked
+abbrev pub HistoryDecidesRequests : Type 0
+HistoryDecidesRequests = (cpus : ℕ) (specs : List MsgSpec) (history : List Deed) (mails : List Mail) → Passes (IsDone cpus) (first_mails specs) history mails → (m : ℕ) → m < length mails → IsAskedSo history m (mail_at mails m).msg.owner (mail_at mails m).msg.asked
 
 -- a deed takes this message, drops it, or reaps it
 abbrev pub IsTakeOf : ℕ → Deed → Type 0

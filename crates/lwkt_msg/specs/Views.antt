@@ -4,7 +4,7 @@ use Rattle.lwkt_base.specs.declared.names.MsgId.{MsgId}
 use Rattle.lwkt_base.specs.declared.records.Call.{Call}
 use Rattle.lwkt_base.specs.declared.records.Rec.{Rec}
 use Rattle.lwkt_base.specs.declared.records.Flags.{Flags}
-use Rattle.lwkt_base.specs.declared.openings.MsgSpec.{MsgSpec}
+use Rattle.lwkt_base.specs.declared.opening_specs.MsgSpec.{MsgSpec}
 use Rattle.lwkt_base.specs.declared.message_words.MsgWord.{MsgWord}
 use Rattle.lwkt_base.specs.declared.message_words.MsgState.{MsgState}
 use Rattle.lwkt_base.specs.declared.message_words.MsgState.TheVariants.{Rest, Out, With, Back}
@@ -137,10 +137,10 @@ abbrev pub requested : MessageEntry → MessageEntry
 requested e = record e { asked = true }
 
 -- the processors that a view stands for: a seat for its own, the clerk for those whose seat is not made yet
-abbrev pub Stands : SeatKind → ℕ → Type 0
-Stands (Clerk made back) cpu = made ≤ cpu
-Stands (Of c) cpu = c.0 ≡ cpu
-Stands Spent cpu = ⊥
+abbrev pub StandsFor : SeatKind → ℕ → Type 0
+StandsFor (Clerk made back) cpu = made ≤ cpu
+StandsFor (Of c) cpu = c.0 ≡ cpu
+StandsFor Spent cpu = ⊥
 
 -- what a word shows of a message is what its origin's view knows of it
 pub record SeesOwn (e : MessageEntry) (w : MsgWord) : Type 0 where
@@ -155,8 +155,8 @@ pub record SeesOwn (e : MessageEntry) (w : MsgWord) : Type 0 where
 -- target whether it was taken
 pub record Sees (v : View) (m : ℕ) (w : MsgWord) : Type 0 where
   pub origin_is : w.origin ≡ (spec_at v.specs m).origin.cpu
-  pub as_origin : Stands v.kind w.origin.0 → SeesOwn (at v m) w
-  pub as_target : (cpu : ℕ) → Stands v.kind cpu → (at v m).taken ≡ shows_with cpu w.state w.target
+  pub as_origin : StandsFor v.kind w.origin.0 → SeesOwn (at v m) w
+  pub as_target : (cpu : ℕ) → StandsFor v.kind cpu → (at v m).taken ≡ shows_with cpu w.state w.target
 
 -- the clerk's view after a seat was made, and the view of that seat
 abbrev pub clerk_after : View → View

@@ -1,7 +1,7 @@
 ghost use Rattle.std.specs.Prelude.{◌≡◌, ◌⊎◌, ℕ, ◌+◌, ◌*◌, ◌<◌, [], length, All, MatchResult, IfOk};
 
 use crate::closings::{read_and_free, take_all};
-use crate::openings::{blank_records, known_specs, opening_words, seat_all};
+use crate::first_tables::{blank_records, known_specs, opening_words, seat_all};
 use crate::rules::{BookRule, BookTable, Place, Top};
 use crate::seats::MsgSeat;
 use crate::views::{Key, View};

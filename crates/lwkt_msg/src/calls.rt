@@ -4,7 +4,7 @@ ghost use Rattle.lwkt_base.specs.declared.message_words.MsgState.TheVariants as 
 ghost use Rattle.lwkt_base.specs.MessageWord.{message_word};
 ghost use Rattle.lwkt_base.specs.declared.names.CpuId.{CpuId};
 ghost use Rattle.lwkt_msg.specs.Steps.{sent_word, rest_word};
-ghost use Rattle.lwkt_msg.specs.Calls.{IsForTaking, IsForReaping, IsForDropping, ForbidsDrop, IsForAborting, ForbidsAbort, sent_rec, HasSent, IsUnsent, TakeMeans, HasReplied, IsUnreplied, ReapMeans, HasDropped, IsUndropped, HasLostDrop, HasRequested, IsUnrequested, IsToldRequest};
+ghost use Rattle.lwkt_msg.specs.Calls.{IsForTaking, IsForReaping, IsForDropping, ForbidsDrop, IsForAborting, ForbidsAbort, sent_rec, HasSent, IsUnsent, TakeMeans, HasReplied, IsUnreplied, ReapMeans, HasDropped, IsUndropped, HasLostDrop, HasRequested, IsUnrequested, ReadsRequest};
 ghost use Rattle.lwkt_msg.specs.Plays.{IsLooked, IsSat, IsSameSeat};
 
 use crate::answers::{Reaped, Taken};
@@ -287,7 +287,7 @@ pub(crate) fn is_aborted(top: &Top, place: &mut Place, cpu: CpuId, m: usize) -> 
     requires exists { m < length place.old.me.0.specs }
     ensures seat { IsSameSeat place.old place.new }
     ensures sat { IsSat cpu place.new }
-    ensures answer { MatchResult result (λ aborted. IsToldRequest place.old.me.0 place.new.me.0 m aborted) (λ fault. IsUnreplied place.old.me.0 place.new.me.0 m fault) }
+    ensures answer { MatchResult result (λ aborted. ReadsRequest place.old.me.0 place.new.me.0 m aborted) (λ fault. IsUnreplied place.old.me.0 place.new.me.0 m fault) }
 {
     let (_, word) = parts(top, place, m);
     if !is_taken(&word, cpu) {

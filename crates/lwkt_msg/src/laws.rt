@@ -3,9 +3,9 @@ ghost use Rattle.atomic_table.specs.Table.{State};
 ghost use Rattle.lwkt_base.specs.declared.records.Rec.{Rec};
 ghost use Rattle.lwkt_msg.specs.declared.views.Key.{Key};
 ghost use Rattle.lwkt_msg.specs.declared.views.View.{View};
-ghost use Rattle.lwkt_msg.specs.Told.{Told};
-ghost use Rattle.lwkt_msg.specs.Records.{FoundIsWhatWasPut, HistoryTellsRecords, HistoryTellsRequests};
-ghost use Rattle.lwkt_msg.specs.Laws.{RuleShowsSafety, EachSendAtMostOnce, StatesAreReached, HistoryTellsCounts, ViewsDecide, OpeningIsDeclared, LoadIsLook, LostExchangeIsLook, HandingOutIsLook, StoreIsSend, ExchangeIsTake, AddIsReply, StoreIsReap, ExchangeIsDrop, OrIsAbort, SeatingIsNoDeed, SpentIsNoDeed, MadeAsTold, AllMadeAsTold, NothingUntold, DeedsAreTold};
+ghost use Rattle.lwkt_msg.specs.Ledger.{Ledger};
+ghost use Rattle.lwkt_msg.specs.Records.{FoundIsWhatWasPut, HistoryDecidesRecords, HistoryDecidesRequests};
+ghost use Rattle.lwkt_msg.specs.Laws.{RuleShowsSafety, EachSendAtMostOnce, StatesAreReached, HistoryDecidesCounts, ViewsDecide, OpeningIsDeclared, LoadIsLook, LostExchangeIsLook, HandingOutIsLook, StoreIsSend, ExchangeIsTake, AddIsReply, StoreIsReap, ExchangeIsDrop, OrIsAbort, SeatingIsNoDeed, SpentIsNoDeed, MadeAsNoted, AllMadeAsNoted, NothingUnnoted, DeedsAreAppended};
 
 use crate::rules::BookRule;
 use crate::views::{Key, View};
@@ -25,7 +25,7 @@ pub fn rule_shows_safety()
 /// was done with a message is how many of its events did it.
 pub fn states_are_reached()
     ensures reached { StatesAreReached }
-    ensures counted { HistoryTellsCounts }
+    ensures counted { HistoryDecidesCounts }
     ensures decided { ViewsDecide }
 {}
 
@@ -36,15 +36,15 @@ pub fn opening_is_declared()
 
 /// Whatever a play of a seat notes is what it did to the words and records, and where it notes nothing, it has changed nothing.
 /// This is so of any play that keeps the rule, not only of those that there are.
-pub fn made_as_told()
-    ensures made { MadeAsTold }
-    ensures nothing { NothingUntold }
+pub fn made_as_noted()
+    ensures made { MadeAsNoted }
+    ensures nothing { NothingUnnoted }
 {}
 
 /// Any number of deeds that a play notes at once are done one after another between the messages before and after it. This too
-/// is so of any play that keeps the rule, and tells with what the history has grown: nothing else was done.
-pub fn all_made_as_told()
-    ensures { AllMadeAsTold }
+/// is so of any play that keeps the rule, and says with what the history has grown: nothing else was done.
+pub fn all_made_as_noted()
+    ensures { AllMadeAsNoted }
 {}
 
 /// Each kind of step leads from a state of the rule to one of the rule, in which the history has one deed more, that of the
@@ -70,18 +70,18 @@ pub fn looks_from_outside_are_no_deeds()
 /// What a take or a drop found is what the last send put there, and what a reap found is that with what the one reply since put
 /// there. A message that is away has a request to abort exactly if its origin has made one since the last send, and one at rest
 /// has none.
-pub fn history_tells_records()
+pub fn history_decides_records()
     ensures found { FoundIsWhatWasPut }
-    ensures away { HistoryTellsRecords }
-    ensures asked { HistoryTellsRequests }
+    ensures away { HistoryDecidesRecords }
+    ensures asked { HistoryDecidesRequests }
 {}
 
-/// The deeds that a call's contract tells are its seat's new events and steps, in order.
-pub fn deeds_are_told()
-    ensures { DeedsAreTold }
+/// The deeds that a call's contract names are its seat's new events and steps, in order.
+pub fn deeds_are_appended()
+    ensures { DeedsAreAppended }
 {}
 
 /// The rule that the book's table keeps, which the type of `MsgBook::shared` names, is that of the theorems here.
 pub fn book_keeps_that_rule()
-    ensures { (key : Key) (s : State Rec View) → (⟦<BookRule as TableRule<Rec, View, Key>>⟧.holds key s → Told key s) × (Told key s → ⟦<BookRule as TableRule<Rec, View, Key>>⟧.holds key s) }
+    ensures { (key : Key) (s : State Rec View) → (⟦<BookRule as TableRule<Rec, View, Key>>⟧.holds key s → Ledger key s) × (Ledger key s → ⟦<BookRule as TableRule<Rec, View, Key>>⟧.holds key s) }
 {}

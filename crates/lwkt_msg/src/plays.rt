@@ -1,5 +1,5 @@
-//! What each step on the book's table tells, and how views are cut and put together.
-ghost use Rattle.lwkt_msg.specs.Plays.{looks, send_is_told, takes_it, reply_is_told, reap_is_told, drops_it, requests, hands_out};
+//! What each step on the book's table shows, and how views are cut and put together.
+ghost use Rattle.lwkt_msg.specs.Plays.{looks, sends_it, takes_it, replies_to_it, reaps_it, drops_it, requests, hands_out};
 ghost use Rattle.lwkt_msg.specs.Views.{clerk_after, new_seat, spent_left, whole_right, joined, spent_view};
 
 use crate::views::View;
@@ -23,7 +23,7 @@ impl Play<Rec, View> for HandOut {
 pub(crate) struct Send;
 
 impl Play<Rec, View> for Send {
-    ghost then = { send_is_told };
+    ghost then = { sends_it };
 }
 
 pub(crate) struct Take;
@@ -35,13 +35,13 @@ impl Play<Rec, View> for Take {
 pub(crate) struct Reply;
 
 impl Play<Rec, View> for Reply {
-    ghost then = { reply_is_told };
+    ghost then = { replies_to_it };
 }
 
 pub(crate) struct Reap;
 
 impl Play<Rec, View> for Reap {
-    ghost then = { reap_is_told };
+    ghost then = { reaps_it };
 }
 
 pub(crate) struct DropMsg;

@@ -9,9 +9,9 @@ pub struct BookRule;
 
 impl TableRule<Rec, View, Key> for BookRule {
     ghost use Rattle.lwkt_msg.specs.Book.{first_view};
-    ghost use Rattle.lwkt_msg.specs.Told.{Told};
+    ghost use Rattle.lwkt_msg.specs.Ledger.{Ledger};
 
-    ghost holds = { Told };
+    ghost holds = { Ledger };
 
     ghost first = { first_view };
 }

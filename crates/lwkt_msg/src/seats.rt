@@ -34,7 +34,7 @@ impl MsgSeat {
     ghost use Rattle.lwkt_base.specs.declared.names.CpuId.{CpuId};
     ghost use Rattle.lwkt_msg.specs.Desks.{desk, desk_cpu, cpus_of, messages_of, IsMsgSeat, IsSeatOf, IsSameDesk};
     ghost use Rattle.lwkt_msg.specs.Plays.{IsSat};
-    ghost use Rattle.lwkt_msg.specs.Calls.{HasSent, IsUnsent, TakeMeans, HasReplied, IsUnreplied, ReapMeans, HasDropped, IsUndropped, HasLostDrop, HasRequested, IsUnrequested, IsToldRequest};
+    ghost use Rattle.lwkt_msg.specs.Calls.{HasSent, IsUnsent, TakeMeans, HasReplied, IsUnreplied, ReapMeans, HasDropped, IsUndropped, HasLostDrop, HasRequested, IsUnrequested, ReadsRequest};
 
     // The seat of a processor, from its place at the table.
     pub(crate) fn new(place: Place, cpu: CpuId, cpus: usize, messages: usize) -> MsgSeat
@@ -213,7 +213,7 @@ impl MsgSeat {
         requires table { self.old.table ≡ book.now.table }
         ensures seat { IsSameDesk self.old self.new }
         ensures answer { MatchResult result
-            (λ aborted. (msg.0 < messages_of self.old) × IsToldRequest self.old.view self.new.view msg.0 aborted)
+            (λ aborted. (msg.0 < messages_of self.old) × ReadsRequest self.old.view self.new.view msg.0 aborted)
             (λ fault. ((messages_of self.old ≤ msg.0) × (fault ≡ NotTaken) × (self.new ≡ self.old)) ⊎ ((msg.0 < messages_of self.old) × IsUnreplied self.old.view self.new.view msg.0 fault)) }
     {
         let m = usize::from(msg.0);

@@ -2,7 +2,7 @@
 use lwkt_base::{Call, CpuId, Flags, MsgSpec};
 use lwkt_table::{Chapter, Deed, SeatKind};
 
-/// What the table is told when it is made.
+/// What the table is given when it is made.
 #[derive(Drop)]
 pub struct Key {
     /// What is declared of the messages, by number.

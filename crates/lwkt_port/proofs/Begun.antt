@@ -10,13 +10,13 @@ use Rattle.lwkt_base.specs.declared.names.ThreadId.{ThreadId}
 use Rattle.lwkt_lane.specs.declared.ins.LaneIn.{LaneIn}
 use Rattle.lwkt_lane.specs.declared.outs.LaneOut.{LaneOut}
 use Rattle.lwkt_msg.specs.Desks.{Desk, desk_cpu, cpus_of, messages_of, entry, IsSeatOf}
-use Rattle.lwkt_base.specs.declared.openings.MsgSpec.{MsgSpec}
+use Rattle.lwkt_base.specs.declared.opening_specs.MsgSpec.{MsgSpec}
 use Rattle.lwkt_msg.specs.Views.{seat_cpu, no_spec, spec_at, first_entry, handed}
 use Rattle.lwkt_port.specs.declared.lines.Lane.{Lane}
 use Rattle.lwkt_port.specs.declared.mails.Mail.{Mail}
 use Rattle.lwkt_port.specs.declared.queues.Port.{Port}
 use Rattle.lwkt_port.specs.Mails.{no_kept_mail, kept_mail_at, IsMail}
-use Rattle.lwkt_port.specs.Openings.{new_mail, IsNewPort, AreNew, AreNewPorts, new_line, ArePaired, KeepLimits, IsFresh, AreOrigins}
+use Rattle.lwkt_port.specs.OpenedPorts.{new_mail, IsNewPort, AreNew, AreNewPorts, new_line, ArePaired, KeepLimits, IsFresh, AreOrigins}
 use Rattle.lwkt_port.specs.Posts.{Post, IsPost, KeepsNamed}
 use Rattle.lwkt_port.proofs.Classing.{named_empty}
 

@@ -9,9 +9,9 @@ use Rattle.lwkt_port.specs.declared.mailrooms.Mailroom.{Mailroom}
 use Rattle.lwkt_port.specs.declared.queues.Port.{Port}
 use Rattle.lwkt_port.specs.Intakes.{Clears, ClearsAll, ClearsQueue, ClearsClosed, ClearsPort}
 use Rattle.lwkt_port.specs.Queues.{queue_of, HasNamed, LeavesInOrder, HasLeft}
-use Rattle.lwkt_port.specs.Works.{Work, work, MailroomStands}
+use Rattle.lwkt_port.specs.Works.{Work, work, MailroomGrew}
 use Rattle.lwkt_port.proofs.Classing.{leaves_none, leaving_chains}
-use Rattle.lwkt_port.proofs.Growing.{stands_none, stands_then}
+use Rattle.lwkt_port.proofs.Growing.{grew_so_none, grew_so_then}
 use Rattle.lwkt_port.proofs.Serving.{named_tail}
 
 -- one more note was taken off
@@ -25,7 +25,7 @@ pub record IsClearing (turn : ℕ) (r : Mailroom) (trace : Vec Event Global) (po
   pub as_many : length notes ≡ turn
   pub queue_is : queue_of port ≡ notes ++ queue_of port'
   pub clears : ClearsAll notes (work r trace) (work r' trace')
-  pub stands : MailroomStands turn r trace r' trace'
+  pub grew_so : MailroomGrew turn r trace r' trace'
   pub named : HasNamed (vec_len r'.mails) port'
   pub closed : port'.closed ≡ port.closed
   pub order : LeavesInOrder port port'
@@ -36,21 +36,21 @@ clearing_none r t p named = record {
   as_many = refl;
   queue_is = refl;
   clears = refl;
-  stands = stands_none r t;
+  grew_so = grew_so_none r t;
   named = named;
   closed = refl;
   order = leaves_none p;
 }
 
 pub clearing_more : (turn : ℕ) (r : Mailroom) (t : Vec Event Global) (p : Port) (r1 : Mailroom) (t1 : Vec Event Global) (p1 : Port) (r2 : Mailroom) (t2 : Vec Event Global) (p2 : Port) (note : Note) (rest : List Note)
-    → IsClearing turn r t p r1 t1 p1 → queue_of p1 ≡ note ∷ rest → HasLeft rest p1 p2 → Clears note (work r1 t1) (work r2 t2) false → MailroomStands 1 r1 t1 r2 t2 → IsClearing (turn + 1) r t p r2 t2 p2
-clearing_more turn r t p r1 t1 p1 r2 t2 p2 note rest s is left clears stands = record {
+    → IsClearing turn r t p r1 t1 p1 → queue_of p1 ≡ note ∷ rest → HasLeft rest p1 p2 → Clears note (work r1 t1) (work r2 t2) false → MailroomGrew 1 r1 t1 r2 t2 → IsClearing (turn + 1) r t p r2 t2 p2
+clearing_more turn r t p r1 t1 p1 r2 t2 p2 note rest s is left clears grew_so = record {
   notes = s.notes ++ note ∷ [];
   as_many = omega (arith, length-append s.notes (note ∷ []), s.as_many);
   queue_is = s.queue_is ∙ ap (λ q. s.notes ++ q) (is ∙ ap (λ q. note ∷ q) (sym left.0)) ∙ sym (append_assoc s.notes (note ∷ []) (queue_of p2));
   clears = clears_more s.notes note (work r t) (work r1 t1) (work r2 t2) s.clears clears;
-  stands = stands_then turn 1 r r1 r2 t t1 t2 s.stands stands;
-  named = named_tail (vec_len r1.mails) (vec_len r2.mails) p1 p2 left.2 stands.len s.named;
+  grew_so = grew_so_then turn 1 r r1 r2 t t1 t2 s.grew_so grew_so;
+  named = named_tail (vec_len r1.mails) (vec_len r2.mails) p1 p2 left.2 grew_so.len s.named;
   closed = left.1 ∙ s.closed;
   order = leaving_chains p p1 p2 s.order left.2;
 }

@@ -15,16 +15,16 @@ use Rattle.lwkt_port.specs.Intakes.{Desks, desks, Handles, HandlesAll, Pops, Emp
 use Rattle.lwkt_port.specs.Lines.{IsDrained, HasPopped}
 use Rattle.lwkt_port.specs.Posts.{KeepsNamed}
 use Rattle.lwkt_port.specs.Queues.{NamesBoth}
-use Rattle.lwkt_port.specs.Works.{Work, Grew, Standing, KeepsStanding}
+use Rattle.lwkt_port.specs.Works.{Work, Grew, WorkState, KeepsWorkState}
 use Rattle.lwkt_port.proofs.Growing.{grew_none, grew_then, same_none, same_then}
 
-abbrev pub desks_at : Standing → Desks
+abbrev pub desks_at : WorkState → Desks
 desks_at s = desks s.counters s.trace
 
-pub keeps_none : (s : Standing) → KeepsStanding s s
+pub keeps_none : (s : WorkState) → KeepsWorkState s s
 keeps_none s = record { same = same_none s.counters.room.seat; len = refl; grown = (0, grew_none (desk_cpu s.counters.room.seat) s.trace); room = omega arith; away = refl }
 
-pub keeps_then : (s s' s'' : Standing) → KeepsStanding s s' → KeepsStanding s' s'' → KeepsStanding s s''
+pub keeps_then : (s s' s'' : WorkState) → KeepsWorkState s s' → KeepsWorkState s' s'' → KeepsWorkState s s''
 keeps_then s s' s'' k l =
     let cpu : CpuId = desk_cpu s.counters.room.seat in
     let F : CpuId → Type 0 = λ c. Grew c l.grown.0 s'.trace s''.trace in
@@ -57,7 +57,7 @@ first_same : (before popped now now' : List Note) → IsPrefix before (popped ++
 first_same before popped now now' p same = let F : List Note → Type 0 = λ l. IsPrefix before (popped ++ l) in subst F (sym same) p
 
 -- so many notes were popped from a lane and handled
-pub record IsPopping (turn : ℕ) (line : Lane) (s : Standing) (line' : Lane) (s' : Standing) : Type 0 where
+pub record IsPopping (turn : ℕ) (line : Lane) (s : WorkState) (line' : Lane) (s' : WorkState) : Type 0 where
   pub popped : List Note
   pub as_many : length popped ≡ turn
   pub received_is : received line'.into ≡ received line.into ++ popped
@@ -66,12 +66,12 @@ pub record IsPopping (turn : ℕ) (line : Lane) (s : Standing) (line' : Lane) (s
   pub none : line'.kept ≡ None
   pub out_same : line'.out ≡ line.out
   pub lane_same : in_lane line'.into ≡ in_lane line.into
-  pub keeps : KeepsStanding s s'
+  pub keeps : KeepsWorkState s s'
 
-pub popping_none : (line : Lane) (s : Standing) → line.kept ≡ None → KeepsStanding s s → IsPopping 0 line s line s
+pub popping_none : (line : Lane) (s : WorkState) → line.kept ≡ None → KeepsWorkState s s → IsPopping 0 line s line s
 popping_none line s none keeps = record { popped = []; as_many = refl; received_is = sym (append-nil (received line.into)); first = front_itself (seen_notes line.into); handles = refl; none = none; out_same = refl; lane_same = refl; keeps = keeps }
 
-pub popping_more : (turn : ℕ) (line : Lane) (s : Standing) (line1 : Lane) (s1 : Standing) (line2 : Lane) (s2 : Standing) (note : Note) (how : Fate) → IsPopping turn line s line1 s1 → HasPopped note line1 line2 → Handles note (desks_at s1) (desks_at s2) (Some how) → KeepsStanding s1 s2 → IsPopping (turn + 1) line s line2 s2
+pub popping_more : (turn : ℕ) (line : Lane) (s : WorkState) (line1 : Lane) (s1 : WorkState) (line2 : Lane) (s2 : WorkState) (note : Note) (how : Fate) → IsPopping turn line s line1 s1 → HasPopped note line1 line2 → Handles note (desks_at s1) (desks_at s2) (Some how) → KeepsWorkState s1 s2 → IsPopping (turn + 1) line s line2 s2
 popping_more turn line s line1 s1 line2 s2 note how i pop handles keeps = record {
   popped = i.popped ++ note ∷ [];
   as_many = omega (arith, length-append i.popped (note ∷ []), i.as_many);
@@ -96,7 +96,7 @@ popped_so None line into same none gone lane = record { received_same = same; se
 popped_so (Some note) line into more none gone lane = record { received_is = more; first = gone; lane_same = lane; out_same = refl; kept_same = refl }
 
 -- the last note found its port's queue full
-pub popped_full : (most turn : ℕ) (line : Lane) (s : Standing) (line1 : Lane) (s1 : Standing) (line2 line3 : Lane) (s2 : Standing) (note : Note) → turn < most → IsPopping turn line s line1 s1 → HasPopped note line1 line2 → Handles note (desks_at s1) (desks_at s2) None → line3 ≡ record line2 { kept = Some note } → Pops most (turn + 1) line line3 (desks_at s) (desks_at s2)
+pub popped_full : (most turn : ℕ) (line : Lane) (s : WorkState) (line1 : Lane) (s1 : WorkState) (line2 line3 : Lane) (s2 : WorkState) (note : Note) → turn < most → IsPopping turn line s line1 s1 → HasPopped note line1 line2 → Handles note (desks_at s1) (desks_at s2) None → line3 ≡ record line2 { kept = Some note } → Pops most (turn + 1) line line3 (desks_at s) (desks_at s2)
 popped_full most turn line s line1 s1 line2 line3 s2 note within i pop handles is =
     let F : Lane → Type 0 = λ l. Pops most (turn + 1) line l (desks_at s) (desks_at s2) in
     subst F (sym is) record {

@@ -9,7 +9,7 @@ use Rattle.lwkt_core.specs.declared.events.Event.{Event}
 use Rattle.lwkt_msg.specs.Views.{seat_cpu}
 use Rattle.lwkt_msg.specs.Desks.{Desk, desk_cpu, IsSameDesk}
 use Rattle.lwkt_port.specs.declared.mailrooms.Mailroom.{Mailroom}
-use Rattle.lwkt_port.specs.Works.{IsOfMessages, Grew, MailroomStands}
+use Rattle.lwkt_port.specs.Works.{IsOfMessages, Grew, MailroomGrew}
 
 pub grew_none : (cpu : CpuId) (t : Vec Event Global) → Grew cpu 0 t t
 grew_none cpu t = record { made = []; trace_is = sym (append-nil t.items); own = All-nil (IsOfMessages cpu); few = omega arith; grown = omega arith; room = omega arith }
@@ -35,11 +35,11 @@ same_then a b c g h = record { table = h.table ∙ g.table; kind = h.kind ∙ g.
 pub same_none : (a : Desk) → IsSameDesk a a
 same_none a = record { table = refl; kind = refl; cpus = refl; specs = refl }
 
-pub stands_none : (r : Mailroom) (t : Vec Event Global) → MailroomStands 0 r t r t
-stands_none r t = record { same = same_none r.seat; len = refl; grew = grew_none (desk_cpu r.seat) t }
+pub grew_so_none : (r : Mailroom) (t : Vec Event Global) → MailroomGrew 0 r t r t
+grew_so_none r t = record { same = same_none r.seat; len = refl; grew = grew_none (desk_cpu r.seat) t }
 
-pub stands_then : (a b : ℕ) (r r' r'' : Mailroom) (t t' t'' : Vec Event Global) → MailroomStands a r t r' t' → MailroomStands b r' t' r'' t'' → MailroomStands (a + b) r t r'' t''
-stands_then a b r r' r'' t t' t'' s s' =
+pub grew_so_then : (a b : ℕ) (r r' r'' : Mailroom) (t t' t'' : Vec Event Global) → MailroomGrew a r t r' t' → MailroomGrew b r' t' r'' t'' → MailroomGrew (a + b) r t r'' t''
+grew_so_then a b r r' r'' t t' t'' s s' =
     let F : CpuId → Type 0 = λ c. Grew c b t' t'' in
     let g : Grew (desk_cpu r.seat) b t' t'' = subst F (ap seat_cpu s.same.kind) s'.grew in record {
       same = same_then r.seat r'.seat r''.seat s.same s'.same;
@@ -47,5 +47,5 @@ stands_then a b r r' r'' t t' t'' s s' =
       grew = grew_then (desk_cpu r.seat) a b t t' t'' s.grew g;
     }
 
-pub stands_is : (a b : ℕ) (r r' : Mailroom) (t t' : Vec Event Global) → a ≤ b → MailroomStands a r t r' t' → MailroomStands b r t r' t'
-stands_is a b r r' t t' fewer s = record { same = s.same; len = s.len; grew = grew_few (desk_cpu r.seat) a b t t' s.grew (omega (arith, s.grew.grown, s.grew.few)) }
+pub grew_so_within : (a b : ℕ) (r r' : Mailroom) (t t' : Vec Event Global) → a ≤ b → MailroomGrew a r t r' t' → MailroomGrew b r t r' t'
+grew_so_within a b r r' t t' fewer s = record { same = s.same; len = s.len; grew = grew_few (desk_cpu r.seat) a b t t' s.grew (omega (arith, s.grew.grown, s.grew.few)) }

@@ -31,7 +31,7 @@ use Rattle.lwkt_port.specs.Deeds.{Takes, Reaps, reaped_mail}
 use Rattle.lwkt_port.specs.Hints.{IsUnowed, OwesNone, IsClear, AreClear}
 use Rattle.lwkt_port.specs.Intakes.{Payer, PaysOwed, Pays, Desks, Handles, HandlesAll, Pops, EmptiesKept, Intake, EmptiesFrom, ClearsClosed, Clearing, ClearsAt}
 use Rattle.lwkt_port.specs.Mails.{no_kept_mail, kept_mail_at}
-use Rattle.lwkt_port.specs.Openings.{new_mail, AreNew}
+use Rattle.lwkt_port.specs.OpenedPorts.{new_mail, AreNew}
 use Rattle.lwkt_port.specs.Queues.{queue_of}
 use Rattle.lwkt_port.proofs.Classing.{leaves_none}
 use Rattle.lwkt_port.specs.Servings.{served_request, ServesAs, Serves, GetMeans}

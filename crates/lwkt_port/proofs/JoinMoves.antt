@@ -9,7 +9,7 @@ use Rattle.lwkt_lane.specs.Lane.{LaneId, out_lane, in_lane}
 use Rattle.lwkt_msg.specs.Desks.{desk_cpu}
 use Rattle.lwkt_msg.specs.Views.{seat_cpu}
 use Rattle.lwkt_port.specs.declared.lines.Lane.{Lane}
-use Rattle.lwkt_port.specs.Openings.{new_line}
+use Rattle.lwkt_port.specs.OpenedPorts.{new_line}
 use Rattle.lwkt_port.specs.Posts.{AreSameLanes}
 use Rattle.lwkt_port.specs.Sights.{AreEnds, StayJoined, AreEndsOfLane, OpenedAreJoined}
 

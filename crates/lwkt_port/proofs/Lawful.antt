@@ -20,7 +20,7 @@ use Rattle.lwkt_msg.specs.declared.answers.Taken.TheVariants as taken
 use Rattle.lwkt_msg.specs.declared.answers.Reaped.{Reaped}
 use Rattle.lwkt_msg.specs.declared.answers.Reaped.TheVariants as reaped_
 use Rattle.lwkt_msg.specs.Desks.{entry}
-use Rattle.lwkt_msg.specs.Views.{Stands, shows_with, call_of}
+use Rattle.lwkt_msg.specs.Views.{StandsFor, shows_with, call_of}
 use Rattle.lwkt_port.specs.declared.deeds.Claim.TheVariants as claim
 use Rattle.lwkt_port.specs.declared.gets.Served.{Served}
 use Rattle.lwkt_port.specs.declared.gets.Served.TheVariants as served
@@ -148,7 +148,7 @@ shown_request cpu thread note w w' msg call (taken.Took rec false priority) kind
     let same : msg ≡ note.msg = let is : served.Shown (item.Request msg call) ≡ served.Shown (item.Request note.msg (call_of rec)) = e in cc in
     let m : ℕ = note.msg.0 in
     let means = takes.means in
-    let F : SeatKind → Type 0 = λ k. Stands k cpu.0 in
+    let F : SeatKind → Type 0 = λ k. StandsFor k cpu.0 in
     let free : (entry w.seat m).taken ≡ false = means.loaded.sees.as_target cpu.0 (subst F (sym of) refl) ∙ free_to_take cpu.0 means.found.state means.found.target means.allowed.0 in
     let mail : Mail = kept_mail_at w.mails m in record {
       is_request = kind;

@@ -10,7 +10,7 @@ pub mod Intaking
 pub mod Keeping
 pub mod Lawful
 pub mod Serving
-pub mod Telling
+pub mod Tracing
 pub mod Withdrawing
 pub mod Departing
 pub mod Hinting

@@ -73,7 +73,7 @@ untouched_for d d' msg fault own why = elim why [
   | inr lost ↦ inl lost.is
 ]
 
--- of what the book tells of a refusal, the part on a message that is there
+-- of what the book says of a refusal, the part on a message that is there
 pub there_of : {B : Type 0} (fault : Fault) (d d' : Desk) (mails : List Mail) (m : ℕ) → AreMails d mails → m < length mails → ((messages_of d ≤ m) × (fault ≡ NotOwner) × (d' ≡ d)) ⊎ ((m < messages_of d) × B) → B
 there_of {B} fault d d' mails m are there why = elim why [
   | inl none ↦ absurd (let e : length mails ≡ messages_of d = are.as_many in let n : messages_of d ≤ m = none.0 in omega (arith, there))

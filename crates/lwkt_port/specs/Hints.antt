@@ -30,7 +30,7 @@ IsClear port = port.closed ≡ true → queue_of port ≡ []
 abbrev pub AreClear : List Port → Type 0
 AreClear ports = All IsClear ports
 
--- a code of notes, by what they tell of their kind
+-- a code of notes, by what they say of their kind
 abbrev is_answer : NoteKind → Bool
 is_answer Request = false
 is_answer Answer = true
@@ -39,12 +39,12 @@ abbrev kind_of : Bool → NoteKind
 kind_of false = Request
 kind_of true = Answer
 
-kind_told : (kind : NoteKind) → kind_of (is_answer kind) ≡ kind
-kind_told Request = refl
-kind_told Answer = refl
+kind_back : (kind : NoteKind) → kind_of (is_answer kind) ≡ kind
+kind_back Request = refl
+kind_back Answer = refl
 
 abbrev coded_kind : Coded NoteKind
-coded_kind = code_by Bool coded_bool is_answer kind_of kind_told
+coded_kind = code_by Bool coded_bool is_answer kind_of kind_back
 
 abbrev coded_note : Coded Note
 coded_note = code_by (ℕ × (ℕ × (ℕ × (NoteKind × Bool)))) (coded× coded_ℕ (coded× coded_ℕ (coded× coded_ℕ (coded× coded_kind coded_bool)))) (λ note. (note.round, (note.msg.0, (note.port, (note.kind, note.urgent))))) (λ t. record { round = t.0; msg = record { 0 = t.1.0 }; port = t.1.1.0; kind = t.1.1.1.0; urgent = t.1.1.1.1 }) (λ _. refl)

@@ -28,7 +28,7 @@ use Rattle.lwkt_port.specs.Mails.{kept_mail_at}
 use Rattle.lwkt_port.specs.Posts.{Post, ChangesOne, work_of}
 use Rattle.lwkt_port.specs.Queues.{NamesBoth, queue_of, IsQueued, LeavesInOrder}
 use Rattle.lwkt_port.specs.Sendings.{Answers}
-use Rattle.lwkt_port.specs.Works.{Work, work, MailroomStands}
+use Rattle.lwkt_port.specs.Works.{Work, work, MailroomGrew}
 
 -- what paying an owed reply changes
 pub record Payer : Type 0 where
@@ -50,7 +50,7 @@ Pays m x y = PaysOwed (kept_mail_at x.work.mails m).owed m x y
 -- events; no port changed
 pub record PaysFirst (count most : ℕ) (o : Office) (trace : Vec Event Global) (o' : Office) (trace' : Vec Event Global) : Type 0 where
   pub pays : Chain Payer Pays count (payer o trace) (payer o' trace')
-  pub stands : MailroomStands most o.counters.room trace o'.counters.room trace'
+  pub grew_so : MailroomGrew most o.counters.room trace o'.counters.room trace'
   pub ports_same : o'.counters.ports ≡ o.counters.ports
 
 -- what handling a note changes

@@ -33,7 +33,7 @@ use Rattle.lwkt_port.specs.Mails.{kept_mail_at, AreMails}
 use Rattle.lwkt_port.specs.Posts.{Post}
 use Rattle.lwkt_port.specs.Queues.{urgent_of, ordinary_of, queue_of, IsQueued, LeavesInOrder}
 use Rattle.lwkt_port.specs.Servings.{served_request, Serves, GetMeans, ServesPort}
-use Rattle.lwkt_port.specs.Tellings.{TellsDeeds}
+use Rattle.lwkt_port.specs.Traced.{TracesDeeds}
 use Rattle.lwkt_port.specs.Works.{Work}
 
 -- what a lane kept and what was popped from it, in this order, is what was reaped, queued, found stale or foreign, in order, and then
@@ -102,12 +102,12 @@ pub record IsShownOnce (thread : ℕ) (note : Note) (w w' : Work) (msg : MsgId) 
 abbrev pub RequestsAreShownOnce : Type 0
 RequestsAreShownOnce = (cpu : CpuId) (thread : ℕ) (note : Note) (w w' : Work) (msg : MsgId) (call : Call) → w.seat.view.kind ≡ Of cpu → AreMails w.seat w.mails → note.msg.0 < length w.mails → Serves thread note w w' (served.Shown (item.Request msg call)) → IsShownOnce thread note w w' msg
 
--- where nothing is done nothing is told, and what one call tells and then another is what both tell
-abbrev pub NothingIsTold : Type 0
-NothingIsTold = (d : Desk) (t : List Event) → TellsDeeds d d t t
+-- where nothing is done nothing is traced, and what one call traces and then another is what both trace
+abbrev pub NothingIsTraced : Type 0
+NothingIsTraced = (d : Desk) (t : List Event) → TracesDeeds d d t t
 
-abbrev pub TellsChain : Type 0
-TellsChain = (a b c : Desk) (t u v : List Event) → TellsDeeds a b t u → TellsDeeds b c u v → TellsDeeds a c t v
+abbrev pub TracesChain : Type 0
+TracesChain = (a b c : Desk) (t u v : List Event) → TracesDeeds a b t u → TracesDeeds b c u v → TracesDeeds a c t v
 
 -- a reply that was owed is made: the trace has it, nothing is owed then, and the seat has the message no more
 pub record IsPaid (m : ℕ) (x y : Payer) : Type 0 where

@@ -6,11 +6,11 @@ pub mod Deeds
 pub mod Posts
 pub mod Sendings
 pub mod Servings
-pub mod Openings
+pub mod OpenedPorts
 pub mod Chains
 pub mod Intakes
 pub mod Laws
-pub mod Tellings
+pub mod Traced
 pub mod Withdrawals
 pub mod Closings
 pub mod Hints

@@ -19,7 +19,7 @@ use Rattle.lwkt_port.specs.Mails.{kept_mail_at}
 use Rattle.lwkt_port.specs.Posts.{Post, ChangesOne, work_of}
 use Rattle.lwkt_port.specs.Works.{Work}
 
--- the note that tells of a request, which is urgent if the message is sent with priority, and of an answer, which is urgent if the
+-- the note of a request, which is urgent if the message is sent with priority, and of an answer, which is urgent if the
 -- message had priority when it was taken
 abbrev pub request_note : Sending → ℕ → Note
 request_note s round = record { round = round; msg = s.msg; port = s.to.thread; kind = Request; urgent = s.flags.priority }
@@ -64,7 +64,7 @@ WhyUnsent s lanes lanes' w w' LaneFull = MaySend s w.mails × ChangesOne (λ a b
 WhyUnsent s lanes lanes' w w' RoundsOut = MaySend s w.mails × ChangesOne (λ a b. RefusesOver s a b w w' RoundsOut) s.to.cpu.0 lanes lanes'
 WhyUnsent s lanes lanes' w w' _ = ⊥
 
--- what isn't told of the ports otherwise stays
+-- what isn't said of the ports otherwise stays
 pub record IsElseSame (p p' : Post) : Type 0 where
   pub ports_same : p'.ports ≡ p.ports
   pub threads_same : p'.threads ≡ p.threads

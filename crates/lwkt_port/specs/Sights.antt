@@ -10,7 +10,7 @@ use Rattle.lwkt_lane.specs.Lane.{queued, received, seen_notes, in_lane, IsLane, 
 use Rattle.lwkt_msg.specs.Desks.{desk_cpu}
 use Rattle.lwkt_port.specs.declared.lines.Lane.{Lane}
 use Rattle.lwkt_port.specs.Intakes.{PostTakesIn}
-use Rattle.lwkt_port.specs.Openings.{ArePaired}
+use Rattle.lwkt_port.specs.OpenedPorts.{ArePaired}
 use Rattle.lwkt_port.specs.Posts.{Post, ChangesOne, IsSamePost}
 
 -- lines of a sender and of a receiver, at these places, have the two ends of one lane

@@ -8,7 +8,7 @@ use Rattle.lwkt_base.specs.declared.names.MsgId.{MsgId}
 use Rattle.lwkt_base.specs.declared.records.Rec.{Rec}
 use Rattle.lwkt_core.specs.declared.events.Event.{Event}
 use Rattle.lwkt_core.specs.declared.events.Event.TheVariants.{Abort, DropMsg}
-use Rattle.lwkt_msg.specs.Calls.{HasRequested, IsUnrequested, HasDropped, IsUndropped, HasLostDrop, IsToldRequest}
+use Rattle.lwkt_msg.specs.Calls.{HasRequested, IsUnrequested, HasDropped, IsUndropped, HasLostDrop, ReadsRequest}
 use Rattle.lwkt_msg.specs.Desks.{Desk, desk_cpu, IsSameDesk}
 use Rattle.lwkt_port.specs.declared.mails.Mail.{Mail}
 use Rattle.lwkt_port.specs.Mails.{kept_mail_at}
@@ -63,7 +63,7 @@ pub record IsUntouched (msg : MsgId) (w w' : Work) (fault : Fault) : Type 0 wher
 -- whether the message, which the seat has taken, is to be aborted
 pub record IsHeard (msg : MsgId) (w w' : Work) (aborted : Bool) : Type 0 where
   pub same : IsSameDesk w.seat w'.seat
-  pub means : IsToldRequest w.seat.view w'.seat.view msg.0 aborted
+  pub means : ReadsRequest w.seat.view w'.seat.view msg.0 aborted
   pub mails_same : w'.mails ≡ w.mails
   pub trace_same : w'.trace ≡ w.trace
 

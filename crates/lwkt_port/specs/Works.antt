@@ -51,13 +51,13 @@ pub record Grew (cpu : CpuId) (most : ℕ) (before now : Vec Event Global) : Typ
   pub room : vec_capacity before ≤ vec_capacity now
 
 -- an event was put at the end of a trace that had room
-pub record HasTold (event : Event) (before now : Vec Event Global) : Type 0 where
+pub record HasTraced (event : Event) (before now : Vec Event Global) : Type 0 where
   pub items : now.items ≡ before.items ++ event ∷ []
   pub longer : vec_len now ≡ vec_len before + 1
   pub room : vec_capacity before ≤ vec_capacity now
 
 -- these events, at most one, were put at the end of a trace that had room
-pub record HasToldThese (cpu : CpuId) (events : List Event) (before now : Vec Event Global) : Type 0 where
+pub record HasTracedThese (cpu : CpuId) (events : List Event) (before now : Vec Event Global) : Type 0 where
   pub items : now.items ≡ before.items ++ events
   pub longer : vec_len now ≡ vec_len before + length events
   pub grew : Grew cpu 1 before now
@@ -85,31 +85,31 @@ pub record HasOwn (msg : MsgId) (r : Mailroom) : Type 0 where
   pub own : IsOwn r.seat.view (desk_cpu r.seat).0 msg.0
 
 -- the seat is the same one, of as many messages something is kept, and the trace grew by at most so many events of its processor
-pub record StandsSo (most : ℕ) (seat : Desk) (mails : Vec Mail Global) (trace : Vec Event Global) (seat' : Desk) (mails' : Vec Mail Global) (trace' : Vec Event Global) : Type 0 where
+pub record GrewSo (most : ℕ) (seat : Desk) (mails : Vec Mail Global) (trace : Vec Event Global) (seat' : Desk) (mails' : Vec Mail Global) (trace' : Vec Event Global) : Type 0 where
   pub same : IsSameDesk seat seat'
   pub len : vec_len mails' ≡ vec_len mails
   pub grew : Grew (desk_cpu seat) most trace trace'
 
 -- the same of a mailroom
-abbrev pub MailroomStands : ℕ → Mailroom → Vec Event Global → Mailroom → Vec Event Global → Type 0
-MailroomStands most r trace r' trace' = StandsSo most r.seat r.mails trace r'.seat r'.mails trace'
+abbrev pub MailroomGrew : ℕ → Mailroom → Vec Event Global → Mailroom → Vec Event Global → Type 0
+MailroomGrew most r trace r' trace' = GrewSo most r.seat r.mails trace r'.seat r'.mails trace'
 
 -- beside ports that are the same a mailroom stands
-pub record StandsBeside (most : ℕ) (ports : Vec Port Global) (seat : Desk) (mails : Vec Mail Global) (trace : Vec Event Global) (ports' : Vec Port Global) (seat' : Desk) (mails' : Vec Mail Global) (trace' : Vec Event Global) : Type 0 where
+pub record GrewBeside (most : ℕ) (ports : Vec Port Global) (seat : Desk) (mails : Vec Mail Global) (trace : Vec Event Global) (ports' : Vec Port Global) (seat' : Desk) (mails' : Vec Mail Global) (trace' : Vec Event Global) : Type 0 where
   pub ports_same : ports' ≡ ports
-  pub stands : StandsSo most seat mails trace seat' mails' trace'
+  pub grew_so : GrewSo most seat mails trace seat' mails' trace'
 
 -- the same of counters
 abbrev pub KeepsPorts : ℕ → Counters → Vec Event Global → Counters → Vec Event Global → Type 0
-KeepsPorts most c trace c' trace' = StandsBeside most c.ports c.room.seat c.room.mails trace c'.ports c'.room.seat c'.room.mails trace'
+KeepsPorts most c trace c' trace' = GrewBeside most c.ports c.room.seat c.room.mails trace c'.ports c'.room.seat c'.room.mails trace'
 
 -- where the work on notes stands
-pub record Standing : Type 0 where
+pub record WorkState : Type 0 where
   pub counters : Counters
   pub trace : Vec Event Global
 
-abbrev pub standing : Counters → Vec Event Global → Standing
-standing counters trace = record { counters = counters; trace = trace }
+abbrev pub work_state : Counters → Vec Event Global → WorkState
+work_state counters trace = record { counters = counters; trace = trace }
 
 -- handling notes keeps things in order: each message that is reaped has its event in the trace, and there are no other events
 pub record KeepsSo (seat : Desk) (mails : Vec Mail Global) (trace : Vec Event Global) (seat' : Desk) (mails' : Vec Mail Global) (trace' : Vec Event Global) : Type 0 where
@@ -119,5 +119,5 @@ pub record KeepsSo (seat : Desk) (mails : Vec Mail Global) (trace : Vec Event Gl
   pub room : vec_capacity trace ≤ vec_capacity trace'
   pub away : away_count mails'.items + vec_len trace' ≡ away_count mails.items + vec_len trace
 
-abbrev pub KeepsStanding : Standing → Standing → Type 0
-KeepsStanding s s' = KeepsSo s.counters.room.seat s.counters.room.mails s.trace s'.counters.room.seat s'.counters.room.mails s'.trace
+abbrev pub KeepsWorkState : WorkState → WorkState → Type 0
+KeepsWorkState s s' = KeepsSo s.counters.room.seat s.counters.room.mails s.trace s'.counters.room.seat s'.counters.room.mails s'.trace

@@ -2,7 +2,7 @@
 ghost use Rattle.std.specs.Prelude.{◌≡◌, ◌↔◌, ℕ, ◌+◌, ◌-◌, ◌<◌, ◌≤◌, true, false, IsTrue, vec_len};
 ghost use Rattle.lwkt_port.specs.Chains.{Chain};
 ghost use Rattle.lwkt_port.specs.Queues.{HasNamed};
-ghost use Rattle.lwkt_port.specs.Works.{work, CanStep, MailroomStands};
+ghost use Rattle.lwkt_port.specs.Works.{work, CanStep, MailroomGrew};
 ghost use Rattle.lwkt_port.specs.Hints.{IsClear, AreClear};
 ghost use Rattle.lwkt_port.specs.Intakes.{Clears, ClearsPort, Clearing, clearing, ClearsAt};
 
@@ -23,7 +23,7 @@ impl Mailroom {
         requires ready { CanStep 1 self.old book.now trace.old }
         requires exists { note.msg.0 < vec_len self.old.mails }
         ensures clears { Clears note (work self.old trace.old) (work self.new trace.new) result }
-        ensures stands { MailroomStands 1 self.old trace.old self.new trace.new }
+        ensures grew_so { MailroomGrew 1 self.old trace.old self.new trace.new }
     {
         match note.kind {
             NoteKind::Request => match self.take(book, Claim::Closed, note, trace) {
@@ -51,7 +51,7 @@ impl Mailroom {
         requires named { HasNamed (vec_len self.old.mails) port.old }
         ensures clears { ClearsPort most result port.old port.new (work self.old trace.old) (work self.new trace.new) }
         ensures within { result ≤ most }
-        ensures stands { MailroomStands (result + 1) self.old trace.old self.new trace.new }
+        ensures grew_so { MailroomGrew (result + 1) self.old trace.old self.new trace.new }
     {
         if !port.closed {
             return 0;
@@ -77,7 +77,7 @@ impl Counters {
         requires ready { CanStep 64 self.old.room book.now trace.old }
         requires uncleared { self.old.uncleared ≡ true }
         ensures clears { Chain Clearing ClearsAt 16 (clearing self.old trace.old 16) (clearing self.new trace.new result) }
-        ensures stands { MailroomStands 32 self.old.room trace.old self.new.room trace.new }
+        ensures grew_so { MailroomGrew 32 self.old.room trace.old self.new.room trace.new }
     {
         let mut left = CLEARED_AT_ONCE;
         for at in 0..16 {
@@ -107,7 +107,7 @@ impl Counters {
     pub(crate) fn clear_all(&mut self, book: &MsgBook, trace: &mut Vec<Event>)
         requires ready { CanStep 64 self.old.room book.now trace.old }
         ensures clears { (left : ℕ) × Chain Clearing ClearsAt 16 (clearing self.old trace.old 16) (clearing self.new trace.new left) }
-        ensures stands { MailroomStands 32 self.old.room trace.old self.new.room trace.new }
+        ensures grew_so { MailroomGrew 32 self.old.room trace.old self.new.room trace.new }
         ensures none { self.old.uncleared ≡ false → self.new.room.mails.items ≡ self.old.room.mails.items }
     {
         if self.uncleared {

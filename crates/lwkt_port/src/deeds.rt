@@ -1,7 +1,7 @@
 //! The steps on one message: each with what is kept of the message then, and its event.
 ghost use Rattle.std.specs.Prelude.{◌≡◌, ◌+◌, ◌<◌, ◌≤◌, true, vec_len, vec_capacity, ◌++◌, MatchOption};
 ghost use Rattle.lwkt_msg.specs.Desks.{cpus_of};
-ghost use Rattle.lwkt_port.specs.Works.{work, away_count, HasTold, HasToldThese, CanStep, MailroomStands, IsTaken};
+ghost use Rattle.lwkt_port.specs.Works.{work, away_count, HasTraced, HasTracedThese, CanStep, MailroomGrew, IsTaken};
 ghost use Rattle.lwkt_port.specs.Sendings.{MaySend};
 ghost use Rattle.lwkt_port.specs.Deeds.{taken_mail, mails_taken, take_events, Takes, reaped_mail, Reaps, replied_mail, Replies, sent_mail, Sends, IsRefused};
 
@@ -61,9 +61,9 @@ fn keep_taken(mails: &mut Vec<Mail>, who: Claim, note: Note, answer: Taken)
 
 // The event of a take, at the end of the trace.
 #[inline(always)]
-fn tell_taken(trace: &mut Vec<Event>, cpu: CpuId, note: Note, answer: Taken)
+fn trace_taken(trace: &mut Vec<Event>, cpu: CpuId, note: Note, answer: Taken)
     requires { vec_len trace.old < vec_capacity trace.old }
-    ensures { HasToldThese cpu (take_events cpu note answer) trace.old trace.new }
+    ensures { HasTracedThese cpu (take_events cpu note answer) trace.old trace.new }
 {
     match answer {
         Taken::Took { .. } => {
@@ -88,12 +88,12 @@ impl Mailroom {
         requires ready { CanStep 1 self.old book.now trace.old }
         requires exists { note.msg.0 < vec_len self.old.mails }
         ensures takes { Takes who note (work self.old trace.old) (work self.new trace.new) result }
-        ensures stands { MailroomStands 1 self.old trace.old self.new trace.new }
+        ensures grew_so { MailroomGrew 1 self.old trace.old self.new trace.new }
     {
         let cpu = self.seat.cpu();
         let answer = self.seat.take(book, note.msg, note.round);
         keep_taken(&mut self.mails, who, note, answer);
-        tell_taken(trace, cpu, note, answer);
+        trace_taken(trace, cpu, note, answer);
         answer
     }
 }
@@ -111,9 +111,9 @@ fn come_home(mail: &mut Mail, keep: bool, rec: Rec)
 
 // The event of a reap, at the end of the trace.
 #[inline(always)]
-fn tell_reap(trace: &mut Vec<Event>, cpu: CpuId, msg: MsgId)
+fn trace_reap(trace: &mut Vec<Event>, cpu: CpuId, msg: MsgId)
     requires { vec_len trace.old < vec_capacity trace.old }
-    ensures { HasTold (Event.Reap cpu msg) trace.old trace.new }
+    ensures { HasTraced (Event.Reap cpu msg) trace.old trace.new }
 {
     note_event(trace, Event::Reap { cpu, msg });
 }
@@ -133,7 +133,7 @@ impl Mailroom {
         requires ready { CanStep 1 self.old book.now trace.old }
         requires exists { note.msg.0 < vec_len self.old.mails }
         ensures reaps { Reaps keep note (work self.old trace.old) (work self.new trace.new) result }
-        ensures stands { MailroomStands 1 self.old trace.old self.new trace.new }
+        ensures grew_so { MailroomGrew 1 self.old trace.old self.new trace.new }
         ensures away { away_count self.new.mails.items + vec_len trace.new ≡ away_count self.old.mails.items + vec_len trace.old }
     {
         let cpu = self.seat.cpu();
@@ -141,7 +141,7 @@ impl Mailroom {
         match self.seat.reap(book, note.msg, note.round) {
             Reaped::Done { rec } => {
                 come_home(&mut self.mails[m], keep, rec);
-                tell_reap(trace, cpu, note.msg);
+                trace_reap(trace, cpu, note.msg);
                 Reaped::Done { rec }
             }
             Reaped::Stale => Reaped::Stale,
@@ -161,9 +161,9 @@ fn settle(mail: &mut Mail)
 // The event of a reply, at the end of the trace. It is made by a function of its own, since a function clears the room of all its values
 // where it begins: so this room is cleared where it is written to.
 #[inline(always)]
-fn tell_reply(trace: &mut Vec<Event>, cpu: CpuId, msg: MsgId)
+fn trace_reply(trace: &mut Vec<Event>, cpu: CpuId, msg: MsgId)
     requires { vec_len trace.old < vec_capacity trace.old }
-    ensures { HasTold (Event.Reply cpu msg) trace.old trace.new }
+    ensures { HasTraced (Event.Reply cpu msg) trace.old trace.new }
 {
     note_event(trace, Event::Reply { cpu, msg });
 }
@@ -183,14 +183,14 @@ impl Mailroom {
         requires ready { CanStep 1 self.old book.now trace.old }
         requires taken { IsTaken msg self.old }
         ensures replies { Replies msg error outcome (work self.old trace.old) (work self.new trace.new) }
-        ensures stands { MailroomStands 1 self.old trace.old self.new trace.new }
+        ensures grew_so { MailroomGrew 1 self.old trace.old self.new trace.new }
     {
         let cpu = self.seat.cpu();
         let m = usize::from(msg.0);
         match self.seat.reply(book, msg, error, outcome) {
             Ok(()) => {
                 settle(&mut self.mails[m]);
-                tell_reply(trace, cpu, msg);
+                trace_reply(trace, cpu, msg);
             }
             // The seat has taken the message, so this can't be.
             Err(_fault) => {}
@@ -210,9 +210,9 @@ fn go_out(mail: &mut Mail, sync: bool)
 
 // The event of a send, at the end of the trace.
 #[inline(always)]
-fn tell_send(trace: &mut Vec<Event>, cpu: CpuId, msg: MsgId, to: CpuId, round: u64)
+fn trace_send(trace: &mut Vec<Event>, cpu: CpuId, msg: MsgId, to: CpuId, round: u64)
     requires { vec_len trace.old < vec_capacity trace.old }
-    ensures { HasTold (Event.Send cpu msg to round) trace.old trace.new }
+    ensures { HasTraced (Event.Send cpu msg to round) trace.old trace.new }
 {
     note_event(
         trace,
@@ -256,7 +256,7 @@ impl Mailroom {
         requires may { MaySend sending.now self.old.mails.items }
         requires target { sending.now.to.cpu.0 < cpus_of self.old.seat }
         ensures sends { MatchOption result (IsRefused sending.now.msg (work self.old trace.old) (work self.new trace.new)) (λ round. Sends sending.now.msg sending.now.to.cpu sending.now.call sending.now.flags sending.now.sync (work self.old trace.old) (work self.new trace.new) round) }
-        ensures stands { MailroomStands 1 self.old trace.old self.new trace.new }
+        ensures grew_so { MailroomGrew 1 self.old trace.old self.new trace.new }
     {
         let cpu = self.seat.cpu();
         let Sending {
@@ -271,7 +271,7 @@ impl Mailroom {
         match self.seat.send(book, msg, to.cpu, call, flags, sync) {
             Ok(round) => {
                 go_out(&mut self.mails[m], sync);
-                tell_send(trace, cpu, msg, to.cpu, round);
+                trace_send(trace, cpu, msg, to.cpu, round);
                 Some(round)
             }
             Err(_fault) => None,

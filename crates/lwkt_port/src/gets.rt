@@ -4,9 +4,9 @@ ghost use Rattle.lwkt_lane.specs.declared.notes.Note.{Note};
 ghost use Rattle.lwkt_msg.specs.Desks.{desk_cpu};
 ghost use Rattle.lwkt_port.specs.Posts.{IsSamePost};
 ghost use Rattle.lwkt_port.specs.Queues.{HasNamed};
-ghost use Rattle.lwkt_port.specs.Works.{work, Grew, CanStep, MailroomStands};
+ghost use Rattle.lwkt_port.specs.Works.{work, Grew, CanStep, MailroomGrew};
 ghost use Rattle.lwkt_port.specs.Servings.{served_request, served_answer, Serves, ServesPort, PostGets};
-ghost use Rattle.lwkt_port.specs.Tellings.{TellsDeeds};
+ghost use Rattle.lwkt_port.specs.Traced.{TracesDeeds};
 ghost use Rattle.lwkt_port.specs.Hints.{OwesNone};
 
 use crate::deeds::Claim;
@@ -71,7 +71,7 @@ impl Mailroom {
         requires ready { CanStep 1 self.old book.now trace.old }
         requires exists { note.msg.0 < vec_len self.old.mails }
         ensures serves { Serves thread note (work self.old trace.old) (work self.new trace.new) result }
-        ensures stands { MailroomStands 1 self.old trace.old self.new trace.new }
+        ensures grew_so { MailroomGrew 1 self.old trace.old self.new trace.new }
     {
         match note.kind {
             NoteKind::Request => {
@@ -98,7 +98,7 @@ impl Mailroom {
         requires named { HasNamed (vec_len self.old.mails) port.old }
         requires hint { owing.old ≡ false → OwesNone self.old.mails.items }
         ensures serves { ServesPort thread port.old port.new (work self.old trace.old) (work self.new trace.new) result }
-        ensures stands { MailroomStands 128 self.old trace.old self.new trace.new }
+        ensures grew_so { MailroomGrew 128 self.old trace.old self.new trace.new }
         ensures hint { owing.new ≡ false → OwesNone self.new.mails.items }
     {
         let notes = count(port);
@@ -145,7 +145,7 @@ impl Ports {
         ensures gets { PostGets thread self.old self.new trace.old trace.new result }
         ensures same { IsSamePost self.old self.new }
         ensures grew { Grew (desk_cpu self.old.seat) 128 trace.old trace.new }
-        ensures told { TellsDeeds self.old.seat self.new.seat trace.old.items trace.new.items }
+        ensures traced { TracesDeeds self.old.seat self.new.seat trace.old.items trace.new.items }
     {
         let office = &mut self.office;
         let counters = &mut office.counters;

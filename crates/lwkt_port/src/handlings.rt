@@ -1,6 +1,6 @@
 //! One note that came over a lane, and one lane.
 ghost use Rattle.std.specs.Prelude.{◌≡◌, ◌↔◌, ◌+◌, ◌<◌, ◌≤◌, true, None, Some, IsTrue, vec_len};
-ghost use Rattle.lwkt_port.specs.Works.{away_count, CanStep, standing, KeepsStanding};
+ghost use Rattle.lwkt_port.specs.Works.{away_count, CanStep, work_state, KeepsWorkState};
 ghost use Rattle.lwkt_port.specs.Posts.{KeepsNamed};
 ghost use Rattle.lwkt_port.specs.Queues.{NamesBoth};
 ghost use Rattle.lwkt_port.specs.Intakes.{desks, IsSyncAnswer, Handles, Pops, Empties};
@@ -49,7 +49,7 @@ impl Counters {
     fn handle(&mut self, book: &MsgBook, note: Note, trace: &mut Vec<Event>) -> Option<Fate>
         requires ready { CanStep (away_count self.old.room.mails.items + 1) self.old.room book.now trace.old }
         ensures handles { Handles note (desks self.old trace.old) (desks self.new trace.new) result }
-        ensures keeps { KeepsStanding (standing self.old trace.old) (standing self.new trace.new) }
+        ensures keeps { KeepsWorkState (work_state self.old trace.old) (work_state self.new trace.new) }
     {
         if !names_both(&self.room.mails, note) {
             return Some(Fate::Foreign);
@@ -82,7 +82,7 @@ impl Counters {
         requires ready { CanStep (away_count self.old.room.mails.items + 1) self.old.room book.now trace.old }
         requires none { line.old.kept ≡ None }
         ensures pops { Pops most result line.old line.new (desks self.old trace.old) (desks self.new trace.new) }
-        ensures keeps { KeepsStanding (standing self.old trace.old) (standing self.new trace.new) }
+        ensures keeps { KeepsWorkState (work_state self.old trace.old) (work_state self.new trace.new) }
     {
         for popped in 0..most {
             let Some(note) = pop(line) else {
@@ -112,7 +112,7 @@ impl Counters {
         requires line { KeepsNamed (vec_len self.old.room.mails) line.old }
         ensures empties { Empties most result line.old line.new (desks self.old trace.old) (desks self.new trace.new) }
         ensures within { result ≤ most }
-        ensures keeps { KeepsStanding (standing self.old trace.old) (standing self.new trace.new) }
+        ensures keeps { KeepsWorkState (work_state self.old trace.old) (work_state self.new trace.new) }
     {
         let Some(note) = line.kept else {
             return self.pop_all(book, line, most, trace);

@@ -7,10 +7,10 @@ ghost use Rattle.lwkt_port.specs.Chains.{Chain};
 ghost use Rattle.lwkt_port.specs.Hints.{OwesNone};
 ghost use Rattle.lwkt_port.specs.Lines.{IsRoomed, HasNoneInHand};
 ghost use Rattle.lwkt_port.specs.Posts.{ChangesOne, AreStillLines, IsSamePost};
-ghost use Rattle.lwkt_port.specs.Works.{Work, work, Grew, away_count, CanStep, MailroomStands, standing, KeepsStanding};
+ghost use Rattle.lwkt_port.specs.Works.{Work, work, Grew, away_count, CanStep, MailroomGrew, work_state, KeepsWorkState};
 ghost use Rattle.lwkt_port.specs.Intakes.{PaysFirst, Intake, intake, EmptiesFrom, untaken, IsFronted, hall, TakesIn, PostTakesIn};
 ghost use Rattle.lwkt_port.specs.Closings.{PostPays};
-ghost use Rattle.lwkt_port.specs.Tellings.{TellsDeeds};
+ghost use Rattle.lwkt_port.specs.Traced.{TracesDeeds};
 
 use crate::lines::{Lane, has_none_in_hand, has_note, has_room};
 use crate::mails::{Mail, mail_of};
@@ -81,7 +81,7 @@ impl Office {
         requires first { first ≤ vec_len self.old.lanes }
         requires taken { taken ≤ limit }
         ensures notes { (z : Intake) → Chain Intake (EmptiesFrom limit) first z (intake self.old trace.old taken) → Chain Intake (EmptiesFrom limit) (vec_len self.old.lanes) z (intake self.new trace.new result) }
-        ensures keeps { KeepsStanding (standing self.old.counters trace.old) (standing self.new.counters trace.new) }
+        ensures keeps { KeepsWorkState (work_state self.old.counters trace.old) (work_state self.new.counters trace.new) }
     {
         let mut count = taken;
         let senders = self.lanes.len();
@@ -125,7 +125,7 @@ impl Office {
         requires owing { OwesNone self.old.counters.room.mails.items }
         requires front { (before : List Lane) × IsFronted limit first (work self.old.counters.room trace.old) self.old.counters.ports.items before self.old.lanes.items }
         ensures takes { (before : List Lane) → IsFronted limit first (work self.old.counters.room trace.old) self.old.counters.ports.items before self.old.lanes.items → All HasNoneInHand before → TakesIn limit (record { work = work self.old.counters.room trace.old; lanes = before; ports = self.old.counters.ports.items }) (hall self.new trace.new) result }
-        ensures stands { MailroomStands 256 self.old.counters.room trace.old self.new.counters.room trace.new }
+        ensures grew_so { MailroomGrew 256 self.old.counters.room trace.old self.new.counters.room trace.new }
     {
         let taken = self
             .counters
@@ -145,7 +145,7 @@ impl Office {
     fn take_all(&mut self, book: &MsgBook, limit: usize, trace: &mut Vec<Event>) -> usize
         requires ready { CanStep 256 self.old.counters.room book.now trace.old }
         ensures takes { TakesIn limit (hall self.old trace.old) (hall self.new trace.new) result }
-        ensures stands { MailroomStands 256 self.old.counters.room trace.old self.new.counters.room trace.new }
+        ensures grew_so { MailroomGrew 256 self.old.counters.room trace.old self.new.counters.room trace.new }
     {
         make_room(&mut self.lanes);
         self.pay_owed(book, trace);
@@ -164,7 +164,7 @@ impl Office {
     fn take_in(&mut self, book: &MsgBook, limit: usize, trace: &mut Vec<Event>) -> usize
         requires ready { CanStep 256 self.old.counters.room book.now trace.old }
         ensures takes { TakesIn limit (hall self.old trace.old) (hall self.new trace.new) result }
-        ensures stands { MailroomStands 256 self.old.counters.room trace.old self.new.counters.room trace.new }
+        ensures grew_so { MailroomGrew 256 self.old.counters.room trace.old self.new.counters.room trace.new }
     {
         if self.owing || self.counters.uncleared || self.holding {
             return self.take_all(book, limit, trace);
@@ -193,7 +193,7 @@ impl Ports {
         ensures within { result ≤ limit }
         ensures same { IsSamePost self.old self.new }
         ensures grew { Grew (desk_cpu self.old.seat) 256 trace.old trace.new }
-        ensures told { TellsDeeds self.old.seat self.new.seat trace.old.items trace.new.items }
+        ensures traced { TracesDeeds self.old.seat self.new.seat trace.old.items trace.new.items }
     {
         self.office.take_in(book, limit, trace)
     }
@@ -208,7 +208,7 @@ impl Ports {
         ensures pays { PostPays self.old self.new trace.old trace.new }
         ensures same { IsSamePost self.old self.new }
         ensures grew { Grew (desk_cpu self.old.seat) 64 trace.old trace.new }
-        ensures told { TellsDeeds self.old.seat self.new.seat trace.old.items trace.new.items }
+        ensures traced { TracesDeeds self.old.seat self.new.seat trace.old.items trace.new.items }
     {
         make_room(&mut self.office.lanes);
         self.office.pay_owed(book, trace);

@@ -1,6 +1,6 @@
 //! What the ports are for. The functions do nothing: their contracts are the theorems.
 ghost use Rattle.lwkt_port.specs.Sights.{SentAreDelivered, OwnAreDelivered, StayJoined, OpenedAreJoined};
-ghost use Rattle.lwkt_port.specs.Laws.{LanesLoseNone, NotesLeaveServed, UrgentLeaveFirst, LeavingChains, NotesComeLast, RequestsAreShownOnce, OwedIsMadeOnce, UnowedIsNotMade, EintrIfAborted, NothingIsTold, TellsChain, HandsWaitForRoom, PaidHandsWaitForRoom, SeenAreTakenIn};
+ghost use Rattle.lwkt_port.specs.Laws.{LanesLoseNone, NotesLeaveServed, UrgentLeaveFirst, LeavingChains, NotesComeLast, RequestsAreShownOnce, OwedIsMadeOnce, UnowedIsNotMade, EintrIfAborted, NothingIsTraced, TracesChain, HandsWaitForRoom, PaidHandsWaitForRoom, SeenAreTakenIn};
 
 /// What left a lane is what was reaped, queued, found stale or foreign, in order, and at last what is kept for it.
 pub fn lanes_lose_none()
@@ -25,11 +25,11 @@ pub fn requests_are_shown_once()
     ensures { RequestsAreShownOnce }
 {}
 
-/// What calls tell goes together: nothing where nothing is done, and one call after another. A layer above puts its own
+/// What calls trace goes together: nothing where nothing is done, and one call after another. A layer above puts its own
 /// calls' traces together by it.
-pub fn tells_go_together()
-    ensures nothing { NothingIsTold }
-    ensures chain { TellsChain }
+pub fn traces_go_together()
+    ensures nothing { NothingIsTraced }
+    ensures chain { TracesChain }
 {}
 
 /// A reply that the ports owe is made once, as its lane has room, and none is made that isn't owed.

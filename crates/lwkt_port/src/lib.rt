@@ -22,7 +22,7 @@ mod mailrooms;
 pub mod mails;
 pub mod note_queues;
 mod offices;
-pub mod openings;
+pub mod opened_ports;
 pub mod posts;
 pub mod queues;
 mod replies;

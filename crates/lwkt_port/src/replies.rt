@@ -2,10 +2,10 @@
 ghost use Rattle.std.specs.Prelude.{◌≡◌, ◌↔◌, ◌+◌, ◌<◌, ◌≤◌, true, slice_set, vec_len, vec_capacity, None, IsTrue, OnOk, IfErr};
 ghost use Rattle.lwkt_msg.specs.Desks.{desk_cpu, messages_of};
 ghost use Rattle.lwkt_port.specs.Mails.{kept_mail_at};
-ghost use Rattle.lwkt_port.specs.Works.{work, Grew, CanStep, MailroomStands, KeepsPorts, IsTaken};
+ghost use Rattle.lwkt_port.specs.Works.{work, Grew, CanStep, MailroomGrew, KeepsPorts, IsTaken};
 ghost use Rattle.lwkt_port.specs.Posts.{IsSamePost};
 ghost use Rattle.lwkt_port.specs.Sendings.{answer_note, ReplyMeans, Answers, IsShownTo, PostReplies, PostRefusesReply};
-ghost use Rattle.lwkt_port.specs.Tellings.{TellsDeeds};
+ghost use Rattle.lwkt_port.specs.Traced.{TracesDeeds};
 
 use crate::lines::{Lane, has_room, may_hold, post};
 use crate::mailrooms::Mailroom;
@@ -17,7 +17,7 @@ use lwkt_core::Event;
 use lwkt_lane::{Note, NoteKind};
 use lwkt_msg::MsgBook;
 
-// The note that tells of an answer.
+// The note of an answer.
 #[inline(always)]
 fn answer_of(msg: MsgId, mail: &Mail) -> Note
     ensures { result ≡ answer_note msg mail.now }
@@ -47,7 +47,7 @@ impl Mailroom {
         requires ready { CanStep 1 self.old book.now trace.old }
         requires taken { IsTaken msg self.old }
         ensures means { ReplyMeans msg error outcome line.old line.new (work self.old trace.old) (work self.new trace.new) result }
-        ensures stands { MailroomStands 1 self.old trace.old self.new trace.new }
+        ensures grew_so { MailroomGrew 1 self.old trace.old self.new trace.new }
     {
         if !has_room(line) {
             return false;
@@ -123,7 +123,7 @@ impl Ports {
         ensures refused { IfErr result (λ fault. PostRefusesReply thread msg error outcome self.old self.new trace.old trace.new fault) }
         ensures same { IsSamePost self.old self.new }
         ensures grew { Grew (desk_cpu self.old.seat) 1 trace.old trace.new }
-        ensures told { TellsDeeds self.old.seat self.new.seat trace.old.items trace.new.items }
+        ensures traced { TracesDeeds self.old.seat self.new.seat trace.old.items trace.new.items }
     {
         if !is_shown_to(&self.office.counters.room.mails, thread, msg) {
             return Err(Fault::NotTaken);

@@ -2,10 +2,10 @@
 ghost use Rattle.std.specs.Prelude.{◌≡◌, ◌↔◌, ◌+◌, ◌<◌, ◌≤◌, true, false, vec_len, vec_capacity, IsTrue, OnOk, IfErr, MatchResult};
 ghost use Rattle.lwkt_msg.specs.Desks.{desk_cpu, cpus_of};
 ghost use Rattle.lwkt_msg.specs.Views.{no_flags};
-ghost use Rattle.lwkt_port.specs.Works.{work, Grew, CanStep, MailroomStands, KeepsPorts};
+ghost use Rattle.lwkt_port.specs.Works.{work, Grew, CanStep, MailroomGrew, KeepsPorts};
 ghost use Rattle.lwkt_port.specs.Sendings.{IsPortName, MaySend, SendsOver, RefusesOver, HasSentNote, WhyUnsent, PostSends, PostRefuses};
 ghost use Rattle.lwkt_port.specs.Posts.{IsSamePost};
-ghost use Rattle.lwkt_port.specs.Tellings.{TellsDeeds};
+ghost use Rattle.lwkt_port.specs.Traced.{TracesDeeds};
 
 use crate::deeds::Sending;
 use crate::lines::{Lane, has_room, may_hold, post};
@@ -54,7 +54,7 @@ impl Mailroom {
         requires may { MaySend sending.now self.old.mails.items }
         requires target { sending.now.to.cpu.0 < cpus_of self.old.seat }
         ensures means { MatchResult result (λ _. SendsOver sending.now line.old line.new (work self.old trace.old) (work self.new trace.new)) (λ fault. RefusesOver sending.now line.old line.new (work self.old trace.old) (work self.new trace.new) fault) }
-        ensures stands { MailroomStands 1 self.old trace.old self.new trace.new }
+        ensures grew_so { MailroomGrew 1 self.old trace.old self.new trace.new }
         ensures line { line.new.kept ≡ line.old.kept }
     {
         if !has_room(line) {
@@ -130,7 +130,7 @@ impl Ports {
         ensures refused { IfErr result (λ fault. PostRefuses (record { thread = thread; msg = msg; to = to; call = call; flags = flags; sync = false }) self.old self.new trace.old trace.new fault) }
         ensures same { IsSamePost self.old self.new }
         ensures grew { Grew (desk_cpu self.old.seat) 1 trace.old trace.new }
-        ensures told { TellsDeeds self.old.seat self.new.seat trace.old.items trace.new.items }
+        ensures traced { TracesDeeds self.old.seat self.new.seat trace.old.items trace.new.items }
     {
         if !is_port_name(&self.office.counters.room.seat, to) {
             return Err(Fault::NoPort);
@@ -168,7 +168,7 @@ impl Ports {
         ensures refused { IfErr result (λ fault. PostRefuses (record { thread = thread; msg = msg; to = to; call = call; flags = no_flags; sync = true }) self.old self.new trace.old trace.new fault) }
         ensures same { IsSamePost self.old self.new }
         ensures grew { Grew (desk_cpu self.old.seat) 1 trace.old trace.new }
-        ensures told { TellsDeeds self.old.seat self.new.seat trace.old.items trace.new.items }
+        ensures traced { TracesDeeds self.old.seat self.new.seat trace.old.items trace.new.items }
     {
         if !is_port_name(&self.office.counters.room.seat, to) {
             return Err(Fault::NoPort);

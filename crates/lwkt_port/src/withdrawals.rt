@@ -3,8 +3,8 @@ ghost use Rattle.std.specs.Prelude.{◌≡◌, ◌↔◌, ◌+◌, ◌<◌, ◌�
 ghost use Rattle.lwkt_core.specs.declared.events.Event.{Event};
 ghost use Rattle.lwkt_msg.specs.Desks.{desk_cpu, IsSameDesk};
 ghost use Rattle.lwkt_port.specs.Posts.{IsSamePost};
-ghost use Rattle.lwkt_port.specs.Tellings.{TellsDeeds};
-ghost use Rattle.lwkt_port.specs.Works.{work, Grew, CanStep, MailroomStands, IsTaken, HasOwn};
+ghost use Rattle.lwkt_port.specs.Traced.{TracesDeeds};
+ghost use Rattle.lwkt_port.specs.Works.{work, Grew, CanStep, MailroomGrew, IsTaken, HasOwn};
 ghost use Rattle.lwkt_port.specs.Withdrawals.{IsOwnOf, Requests, IsUnasked, Drops, IsUntouched, MayRefuseAbort, MayRefuseDrop, IsHeard, PostAborts, PostRefusesAbort, PostDrops, PostRefusesDrop, PostHears, PostRefusesHearing};
 
 use crate::mailrooms::Mailroom;
@@ -40,7 +40,7 @@ impl Mailroom {
         requires own { HasOwn msg self.old }
         ensures requests { OnOk result (Requests msg (work self.old trace.old) (work self.new trace.new)) }
         ensures refused { IfErr result (λ fault. MayRefuseAbort fault × IsUnasked msg (work self.old trace.old) (work self.new trace.new) fault) }
-        ensures stands { MailroomStands 1 self.old trace.old self.new trace.new }
+        ensures grew_so { MailroomGrew 1 self.old trace.old self.new trace.new }
     {
         let cpu = self.seat.cpu();
         match self.seat.abort(book, msg) {
@@ -60,7 +60,7 @@ impl Mailroom {
         requires own { HasOwn msg self.old }
         ensures drops { IfOk result (λ rec. Drops msg (work self.old trace.old) (work self.new trace.new) rec) }
         ensures refused { IfErr result (λ fault. MayRefuseDrop fault × IsUntouched msg (work self.old trace.old) (work self.new trace.new) fault) }
-        ensures stands { MailroomStands 1 self.old trace.old self.new trace.new }
+        ensures grew_so { MailroomGrew 1 self.old trace.old self.new trace.new }
     {
         let cpu = self.seat.cpu();
         let m = usize::from(msg.0);
@@ -111,7 +111,7 @@ impl Ports {
         ensures refused { IfErr result (λ fault. PostRefusesAbort thread msg self.old self.new trace.old trace.new fault) }
         ensures same { IsSamePost self.old self.new }
         ensures grew { Grew (desk_cpu self.old.seat) 1 trace.old trace.new }
-        ensures told { TellsDeeds self.old.seat self.new.seat trace.old.items trace.new.items }
+        ensures traced { TracesDeeds self.old.seat self.new.seat trace.old.items trace.new.items }
     {
         if !self.office.counters.room.is_own(thread, msg) {
             return Err(Fault::NotOwner);
@@ -128,7 +128,7 @@ impl Ports {
         ensures heard { IfOk result (λ aborted. PostHears thread msg self.old self.new aborted) }
         ensures refused { IfErr result (λ fault. PostRefusesHearing thread msg self.old self.new fault) }
         ensures same { IsSamePost self.old self.new }
-        ensures told { (events : List Event) → TellsDeeds self.old.seat self.new.seat events events }
+        ensures traced { (events : List Event) → TracesDeeds self.old.seat self.new.seat events events }
     {
         if !is_shown_to(&self.office.counters.room.mails, thread, msg) {
             return Err(Fault::NotTaken);
@@ -157,7 +157,7 @@ impl Ports {
         ensures refused { IfErr result (λ fault. PostRefusesDrop thread msg self.old self.new trace.old trace.new fault) }
         ensures same { IsSamePost self.old self.new }
         ensures grew { Grew (desk_cpu self.old.seat) 1 trace.old trace.new }
-        ensures told { TellsDeeds self.old.seat self.new.seat trace.old.items trace.new.items }
+        ensures traced { TracesDeeds self.old.seat self.new.seat trace.old.items trace.new.items }
     {
         if !self.office.counters.room.is_own(thread, msg) {
             return Err(Fault::NotOwner);

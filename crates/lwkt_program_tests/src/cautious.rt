@@ -13,11 +13,11 @@ pub struct Cautious {
 impl Steps for Cautious {
     ghost use Rattle.lwkt_base.specs.declared.asks.Ask.{Ask};
     ghost use Rattle.lwkt_base.specs.declared.faults.Fault.{Fault};
-    ghost use Rattle.lwkt_machine.specs.declared.steps.Told.{Told};
+    ghost use Rattle.lwkt_machine.specs.declared.steps.Heard.{Heard};
 
     ghost kept = { λ c. Unit {0} };
 
-    ghost says = { λ c told ask d. (asked : Ask) (fault : Fault) → told ≡ Told.Refusal asked fault → ask ≡ Ask.Exit };
+    ghost says = { λ c heard ask d. (asked : Ask) (fault : Fault) → heard ≡ Heard.Refusal asked fault → ask ≡ Ask.Exit };
 
     fn begin(&mut self) -> Ask {
         Ask::Rel(TokId(0))

@@ -157,7 +157,7 @@ fn book_basics_9(rt: HostRuntime) {
 }
 
 #[test]
-fn a_refusal_is_told_as_one(rt: HostRuntime) {
+fn a_refusal_is_heard_as_one(rt: HostRuntime) {
     let mut alone = Stepper::new(Cautious { refusals: 0 });
     assert!(rt; ends_at_a_refusal(&mut alone, Fault::NotHeld) == Ask::Exit);
 }

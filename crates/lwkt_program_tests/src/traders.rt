@@ -49,7 +49,7 @@ impl Trader {
     }
 
     // What it asks once it has given the token back.
-    fn tell(&self) -> Ask {
+    fn notify(&self) -> Ask {
         if self.serves {
             return Ask::Reply(MESSAGE, 0, self.round.saturating_add(1));
         }
@@ -109,7 +109,7 @@ impl Steps for Trader {
         match asked {
             Ask::Get(_) => Ask::ReadBlob(TOKEN),
             Ask::WriteBlob(..) => Ask::Rel(TOKEN),
-            Ask::Rel(_) => self.tell(),
+            Ask::Rel(_) => self.notify(),
             _ => self.hear(answer),
         }
     }

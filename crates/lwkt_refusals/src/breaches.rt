@@ -1,6 +1,6 @@
 //! How a token breaks its law, and why the opening of a text is refused.
+use crate::json_parts::Part;
 use crate::pages::Page;
-use crate::parts::Part;
 use crate::sentences::{place_in_sentence, sentence_at};
 use crate::words::Words;
 use lwkt_base::blobs::length_of;

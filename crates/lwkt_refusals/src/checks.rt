@@ -1,5 +1,5 @@
 //! Checks of a part of a document, and what is said of one that doesn't pass.
-use crate::parts::Part;
+use crate::json_parts::Part;
 use crate::words::Words;
 
 /// The largest whole number.

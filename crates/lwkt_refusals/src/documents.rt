@@ -1,6 +1,6 @@
 //! What is bad at a place of a script or a trace.
 use crate::checks::{Check, show_checks, show_list, show_number, show_numbers};
-use crate::parts::Part;
+use crate::json_parts::Part;
 use crate::rows::{Kind, show_row};
 use crate::tokens::{Guarding, show_message, show_no_record, show_token};
 use crate::words::Words;
@@ -341,12 +341,12 @@ fn show_in_line(out: &mut Words, line: Part<'_>, number: usize, place: usize) ->
 /// Appends what is bad at a place.
 pub(crate) fn show_place(out: &mut Words, document: Document, whole: Part<'_>, place: u32) {
     let place = place as usize;
-    let is_told = match document {
+    let is_stated = match document {
         Document::Script => show_in_script(out, whole, place),
         Document::Trace => show_in_trace(out, whole, place),
         Document::Line(number) => show_in_line(out, whole, number, place),
     };
-    if !is_told {
+    if !is_stated {
         out.page.say("this part is refused");
     }
 }

@@ -50,7 +50,7 @@ pub(crate) fn add_end(page: &mut Page, bytes: &[u8], place: Place, near: &str) {
     }
 }
 
-/// Appends what is bad of a part at a place, as a message, with its fault where that is told.
+/// Appends what is bad of a part at a place, as a message, with its fault where that is said.
 pub(crate) fn add_words_at(
     page: &mut Page,
     source: Source<'_>,
@@ -66,7 +66,7 @@ pub(crate) fn add_words_at(
     add_end(page, source.bytes, place, words.near());
 }
 
-/// Appends what is bad of a part, as a message, with its fault where that is told.
+/// Appends what is bad of a part, as a message, with its fault where that is said.
 pub(crate) fn add_words(page: &mut Page, source: Source<'_>, words: &Words, fault: Option<Fault>) {
     let place = place_from(source.bytes, Place::FIRST, words.place);
     add_words_at(page, source, place, words, fault);

@@ -1,7 +1,7 @@
 //! Why a script in JSON or a trace is refused, in words.
 use crate::breaches::breach_in;
 use crate::documents::{Document, show_place};
-use crate::parts::Part;
+use crate::json_parts::Part;
 use crate::places::offset_of;
 use crate::spans::{byte_at, past_space};
 use crate::words::Words;

@@ -1,4 +1,4 @@
-//! Releases that are refused if another token was taken later, as a text tells them.
+//! Releases that are refused if another token was taken later, as a text has them.
 use crate::messages::{Source, add_end, add_start};
 use crate::pages::Page;
 use crate::places::{Place, place_from};
@@ -16,7 +16,7 @@ const REMARK_LIMIT: usize = 100;
 #[derive(Drop)]
 struct Held<'t> {
     words: Vec<&'t str>,
-    // Whether the thread's steps so far tell which tokens these are.
+    // Whether the thread's steps so far say which tokens these are.
     is_known: bool,
 }
 

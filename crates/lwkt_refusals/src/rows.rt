@@ -1,6 +1,6 @@
 //! What is bad of a list that begins with a word and goes on with numbers and rows.
 use crate::checks::{WHOLE, show_numbers};
-use crate::parts::Part;
+use crate::json_parts::Part;
 use crate::tokens::{is_record, show_no_record};
 use crate::words::Words;
 use lwkt_base::limits::CELL_LIMIT;

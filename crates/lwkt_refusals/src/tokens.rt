@@ -2,7 +2,7 @@
 use crate::checks::{
     Check, WHOLE, show_checks, show_list, show_members, show_number, show_numbers,
 };
-use crate::parts::Part;
+use crate::json_parts::Part;
 use crate::words::Words;
 
 /// Whose token it is: that of a script of version 1, which has no record, of a trace, which may name one, or of a script of

@@ -1,8 +1,8 @@
 //! Why input isn't read that is a script in JSON or a text.
 use crate::documents::Document;
+use crate::json_parts::Part;
 use crate::messages::{Source, add_try, add_words};
 use crate::pages::Page;
-use crate::parts::Part;
 use crate::proposals::{KEYWORD_COUNT, is_keyword, keyword};
 use crate::refusals::part_words;
 use crate::untraced::{is_in_lines, is_whole_trace};

@@ -1,8 +1,8 @@
 //! Why a trace is refused, and what input looks like that isn't the trace that it had to be.
 use crate::documents::Document;
+use crate::json_parts::Part;
 use crate::messages::{Source, add_try, add_words, add_words_at};
 use crate::pages::Page;
-use crate::parts::Part;
 use crate::places::{Place, line_length, part_of};
 use crate::refusals::part_words;
 use crate::words::Words;

@@ -1,6 +1,6 @@
 //! What is said of a bad part of JSON.
+use crate::json_parts::Part;
 use crate::pages::Page;
-use crate::parts::Part;
 use crate::proposals::{NO_NAME, Near, nearer};
 use std::alloc::Global;
 

@@ -1,7 +1,7 @@
 ghost use Rattle.std.specs.Prelude.{◌≡◌, ◌++◌, OnOk, string_bytes};
 ghost use Rattle.lwkt_report.specs.Report.{spaced, spaced_or_dash};
 
-use crate::parts::Shown;
+use crate::shown::Shown;
 use lwkt_base::OutOfMemory;
 use lwkt_base::memory::push_str;
 

@@ -4,7 +4,7 @@ ghost use Rattle.lwkt_report.specs.Report.{token_line, tally_line, record_line, 
 
 use crate::closings::{Closing, TokenLine, Verdict};
 use crate::listings::{show_listed, show_spaced};
-use crate::parts::Shown;
+use crate::shown::Shown;
 use lwkt_base::memory::{push_str, put};
 use lwkt_base::{Blob, Cells, MsgEnd, OutOfMemory, ThreadLine};
 use std::alloc::Global;

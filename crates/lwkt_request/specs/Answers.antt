@@ -4,7 +4,7 @@ use Rattle.clap.specs.Words.{App, IsAmong, Kinds, Row, Text, fault_of, subcomman
 use Rattle.clap.specs.declared.error.kind.ErrorKind.{ErrorKind}
 use Rattle.clap.specs.declared.error.kind.ErrorKind.TheVariants.{DisplayHelp, DisplayVersion, OutOfMemory}
 use Rattle.lwkt_request.specs.declared.requests.Asked.{Asked}
-use Rattle.lwkt_request.specs.declared.requests.Asked.TheVariants.{Do, Tell, Misuse, OldUsage}
+use Rattle.lwkt_request.specs.declared.requests.Asked.TheVariants.{Do, Print, Misuse, OldUsage}
 use Rattle.lwkt_request.specs.CommandLine.{command_line}
 use Rattle.lwkt_request.specs.OldNames.{Call, call_of, direct, misused, parsed}
 use Rattle.lwkt_request.specs.Wishes.{Wish, run_wish, wish_by, wish_in}
@@ -27,15 +27,15 @@ abbrev pub asked_in : List Text → Option Wish
 asked_in words = called_in (call_of words)
 
 -- whether an error of a parse is a text that was asked for
-abbrev pub is_told : ErrorKind → Bool
-is_told DisplayHelp = true
-is_told DisplayVersion = true
-is_told _ = false
+abbrev pub is_asked_text : ErrorKind → Bool
+is_asked_text DisplayHelp = true
+is_asked_text DisplayVersion = true
+is_asked_text _ = false
 
 -- the answer where a parse failed by this kind of error
 abbrev pub IsFailed : ErrorKind → Asked → Type 0
-IsFailed kind (Tell text) = (is_told kind ≡ true) × (kind ≢ OutOfMemory)
-IsFailed kind (Misuse text) = (is_told kind ≡ false) × (kind ≢ OutOfMemory)
+IsFailed kind (Print text) = (is_asked_text kind ≡ true) × (kind ≢ OutOfMemory)
+IsFailed kind (Misuse text) = (is_asked_text kind ≡ false) × (kind ≢ OutOfMemory)
 IsFailed kind _ = ⊥
 
 -- the answer where a parse found this subcommand with its arguments

@@ -6,8 +6,8 @@ use Rattle.std.specs.Str.{bytes_eq}
 use Rattle.clap.specs.Words.{Row, Text, first_of, found_of, rows_of}
 use Rattle.clap.specs.declared.parser.matches.ArgMatches.{ArgMatches}
 use Rattle.lwkt_request.specs.declared.ranges.Range.{Range}
-use Rattle.lwkt_show.specs.declared.options.View.{View}
-use Rattle.lwkt_show.specs.declared.options.View.TheVariants.{Lines, Trace, Picture, Chains}
+use Rattle.lwkt_show.specs.declared.options.Rendering.{Rendering}
+use Rattle.lwkt_show.specs.declared.options.Rendering.TheVariants.{Lines, Trace, Picture, Chains}
 use Rattle.lwkt_show.specs.declared.options.Options.{Options}
 use Rattle.lwkt_explore.specs.declared.searches.Method.TheVariants.{Plain, Reduced}
 use Rattle.lwkt_request.specs.declared.requests.Form.{Form}
@@ -30,15 +30,15 @@ is_on name rows = is_true (first_of name rows)
 -- ---- show
 
 -- the view that `--trace`, `--svg` and `--chains` ask for; none if two are named
-abbrev pub view_of : Bool → Bool → Bool → Option View
-view_of false false false = Some Lines
-view_of true false false = Some Trace
-view_of false true false = Some Picture
-view_of false false true = Some Chains
-view_of _ _ _ = None
+abbrev pub rendering_of : Bool → Bool → Bool → Option Rendering
+rendering_of false false false = Some Lines
+rendering_of true false false = Some Trace
+rendering_of false true false = Some Picture
+rendering_of false false true = Some Chains
+rendering_of _ _ _ = None
 
 -- whether a view is of turns that are chosen, and not of the whole run
-abbrev pub has_range : View → Bool
+abbrev pub has_range : Rendering → Bool
 has_range Lines = true
 has_range Trace = false
 has_range Picture = true
@@ -48,29 +48,29 @@ abbrev pub is_whole : Range → Bool
 is_whole range = range.first == 0 && range.last == no_end
 
 -- a range and a view; none if the view is of the whole run, and the range isn't
-abbrev pub options_of : View → Range → Option Options
-options_of view range = if has_range view || is_whole range then Some (record { view = view; counted = range.counted; first = range.first; last = range.last }) else None
+abbrev pub options_of : Rendering → Range → Option Options
+options_of rendering range = if has_range rendering || is_whole range then Some (record { rendering = rendering; counted = range.counted; first = range.first; last = range.last }) else None
 
-abbrev pub is_chains : View → Bool
+abbrev pub is_chains : Rendering → Bool
 is_chains Chains = true
 is_chains _ = false
 
 -- of a run on threads the chains are shown, and nothing else
-abbrev pub fits_threads : View → Option Text → Option Text → Option Text → Bool
-fits_threads view order turns rounds = is_chains view && (not (is_some order) && (not (is_some turns) && not (is_some rounds)))
+abbrev pub fits_threads : Rendering → Option Text → Option Text → Option Text → Bool
+fits_threads rendering order turns rounds = is_chains rendering && (not (is_some order) && (not (is_some turns) && not (is_some rounds)))
 
 -- an order has digits, blanks, commas and dashes, and no rounds
 abbrev pub fits_order : Option Text → Option Text → Bool
 fits_order order rounds = option_map_or (λ text. list_all is_part text && not (is_some rounds)) order true
 
-abbrev pub fits : Bool → View → Option Text → Option Text → Option Text → Bool
-fits on_threads view order turns rounds = if on_threads then fits_threads view order turns rounds else fits_order order rounds
+abbrev pub fits : Bool → Rendering → Option Text → Option Text → Option Text → Bool
+fits on_threads rendering order turns rounds = if on_threads then fits_threads rendering order turns rounds else fits_order order rounds
 
 abbrev pub shown : Bool → Option Text → Option Text → Option Text → Bool → Bool → Bool → Option Task
 shown on_threads order turns rounds svg trace chains =
-    option_and_then (λ view. option_and_then (λ range. option_and_then (λ options.
-    if fits on_threads view order turns rounds then Some (Show on_threads options) else None)
-    (options_of view range)) (range_named turns rounds)) (view_of trace svg chains)
+    option_and_then (λ rendering. option_and_then (λ range. option_and_then (λ options.
+    if fits on_threads rendering order turns rounds then Some (Show on_threads options) else None)
+    (options_of rendering range)) (range_named turns rounds)) (rendering_of trace svg chains)
 
 abbrev pub show_in : List Row → Option Task
 show_in rows =

@@ -71,7 +71,7 @@ fn failed_by(alloc: Global, error: &Error, words: &[&str]) -> Result<Asked, OutO
 {
     let said = said_by(alloc, error)?;
     match error.kind() {
-        ErrorKind::DisplayHelp | ErrorKind::DisplayVersion => Ok(Asked::Tell(said)),
+        ErrorKind::DisplayHelp | ErrorKind::DisplayVersion => Ok(Asked::Print(said)),
         ErrorKind::DisplayHelpOnMissingArgumentOrSubcommand => Ok(Asked::Misuse(said)),
         _ => Ok(Asked::Misuse(failure_of(alloc, said.as_str(), words)?)),
     }
@@ -82,8 +82,8 @@ fn parsed<'a>(alloc: Global, words: &'a [&'a str]) -> Result<Asked, OutOfMemory>
     ensures { IfOk result (IsParsed (texts words.entry.now)) }
 {
     let command = command_line(alloc)?;
-    let told = matches_of(command, words)?;
-    match told {
+    let parse = matches_of(command, words)?;
+    match parse {
         Ok(matches) => found_in(alloc, &matches),
         Err(error) => failed_by(alloc, &error, words),
     }

@@ -12,6 +12,9 @@ use lwkt_base::OutOfMemory;
 use lwkt_base::memory::{with_argument, with_bin_name, with_subcommand};
 use std::alloc::Global;
 
+// A command, if memory was there for it. Those that add to one pass this on, so that no other command lives where it is asked.
+type Built<'a> = Result<Command<'a>, OutOfMemory>;
+
 // An argument of this name, behind `--` too.
 fn named<'a>(alloc: Global, name: &'a str, help: &'a str) -> Arg<'a>
     ensures rule { rule_of result ≡ named name.entry.now }
@@ -45,21 +48,17 @@ fn file<'a>(alloc: Global, help: &'a str) -> Arg<'a>
 }
 
 // The command with one more argument.
-fn with<'a>(command: Command<'a>, arg: Arg<'a>) -> Result<Command<'a>, OutOfMemory>
+fn with<'a>(command: Built<'a>, arg: Arg<'a>) -> Built<'a>
     requires { arg.global ≡ false }
-    ensures { IfOk result (λ more. (app : App) (rule : Rule) → IsBuilt app command.entry → rule_of arg.entry ≡ rule → IsBuilt (with_rule app rule) more) }
+    ensures { (app : App) (rule : Rule) → IfOk command.entry (IsBuilt app) → rule_of arg.entry ≡ rule → IfOk result (IsBuilt (with_rule app rule)) }
 {
+    let command = command?;
     with_argument(command, arg)
 }
 
 // The command with `--NAME`.
-fn with_flag<'a>(
-    alloc: Global,
-    command: Command<'a>,
-    name: &'a str,
-    help: &'a str,
-) -> Result<Command<'a>, OutOfMemory>
-    ensures { IfOk result (λ more. (app : App) → IsBuilt app command.entry → IsBuilt (with_rule app (flag name.entry.now)) more) }
+fn with_flag<'a>(alloc: Global, command: Built<'a>, name: &'a str, help: &'a str) -> Built<'a>
+    ensures { (app : App) → IfOk command.entry (IsBuilt app) → IfOk result (IsBuilt (with_rule app (flag name.entry.now))) }
 {
     with(command, flag(alloc, name, help))
 }
@@ -67,23 +66,19 @@ fn with_flag<'a>(
 // The command with `--NAME VALUE`.
 fn with_value<'a>(
     alloc: Global,
-    command: Command<'a>,
+    command: Built<'a>,
     name: &'a str,
     value: &'a str,
     help: &'a str,
-) -> Result<Command<'a>, OutOfMemory>
-    ensures { IfOk result (λ more. (app : App) → IsBuilt app command.entry → IsBuilt (with_rule app (valued name.entry.now)) more) }
+) -> Built<'a>
+    ensures { (app : App) → IfOk command.entry (IsBuilt app) → IfOk result (IsBuilt (with_rule app (valued name.entry.now))) }
 {
     with(command, valued(alloc, name, value, help))
 }
 
 // The command with `FILE`.
-fn with_file<'a>(
-    alloc: Global,
-    command: Command<'a>,
-    help: &'a str,
-) -> Result<Command<'a>, OutOfMemory>
-    ensures { IfOk result (λ more. (app : App) → IsBuilt app command.entry → IsBuilt (with_rule app file) more) }
+fn with_file<'a>(alloc: Global, command: Built<'a>, help: &'a str) -> Built<'a>
+    ensures { (app : App) → IfOk command.entry (IsBuilt app) → IfOk result (IsBuilt (with_rule app file)) }
 {
     with(command, file(alloc, help))
 }
@@ -126,153 +121,155 @@ fn described<'a>(command: Command<'a>, page: Page) -> Command<'a>
     with_long_end(command, page.long_after)
 }
 
-fn run_command<'a>(alloc: Global) -> Result<Command<'a>, OutOfMemory>
+fn run_command<'a>(alloc: Global) -> Built<'a>
     ensures { IfOk result (IsBuilt run) }
 {
-    let command = described(Command::new(alloc, "run"), RUN);
+    let command = Ok(described(Command::new(alloc, "run"), RUN));
     let command = with_flag(
         alloc,
         command,
         "threads",
         "Run each processor on an OS thread of its own",
-    )?;
+    );
     with_file(alloc, command, SCRIPT_FILE)
 }
 
-fn show_command<'a>(alloc: Global) -> Result<Command<'a>, OutOfMemory>
+fn show_command<'a>(alloc: Global) -> Built<'a>
     ensures { IfOk result (IsBuilt show) }
 {
-    let command = described(Command::new(alloc, "show"), SHOW);
+    let command = Ok(described(Command::new(alloc, "show"), SHOW));
     let command = with_flag(
         alloc,
         command,
         "threads",
         "Run each processor on an OS thread; wants --chains",
-    )?;
+    );
     let command = with_value(
         alloc,
         command,
         "order",
         "ORDER",
         "Run in this order of turns, such as 0,1,0",
-    )?;
+    );
     let command = with_value(
         alloc,
         command,
         "turns",
         "A..B",
         "Show only turns A to B, counted from 0",
-    )?;
+    );
     let command = with_value(
         alloc,
         command,
         "rounds",
         "A..B",
         "Show only rounds A to B, counted from 0",
-    )?;
-    let command = with_flag(alloc, command, "svg", "Draw the turns as a picture, in SVG")?;
+    );
+    let command = with_flag(alloc, command, "svg", "Draw the turns as a picture, in SVG");
     let command = with_flag(
         alloc,
         command,
         "trace",
         "Write the run as a trace, for lwkt check",
-    )?;
+    );
     let command = with_flag(
         alloc,
         command,
         "chains",
         "List the written sections of each token",
-    )?;
+    );
     with_file(alloc, command, SCRIPT_FILE)
 }
 
-fn check_command<'a>(alloc: Global) -> Result<Command<'a>, OutOfMemory>
+fn check_command<'a>(alloc: Global) -> Built<'a>
     ensures { IfOk result (IsBuilt check) }
 {
-    let command = described(Command::new(alloc, "check"), CHECK);
+    let command = Ok(described(Command::new(alloc, "check"), CHECK));
     let command = with_flag(
         alloc,
         command,
         "lines",
         "Read a trace with an event a line, of any length",
-    )?;
+    );
     with_file(alloc, command, TRACE_FILE)
 }
 
-fn text_command<'a>(alloc: Global) -> Result<Command<'a>, OutOfMemory>
+fn text_command<'a>(alloc: Global) -> Built<'a>
     ensures { IfOk result (IsBuilt text) }
 {
-    let command = described(Command::new(alloc, "text"), TEXT);
-    let command = with_flag(alloc, command, "json", "Write the script as JSON")?;
-    let command = with_flag(alloc, command, "text", "Write the script as a text")?;
+    let command = Ok(described(Command::new(alloc, "text"), TEXT));
+    let command = with_flag(alloc, command, "json", "Write the script as JSON");
+    let command = with_flag(alloc, command, "text", "Write the script as a text");
     let command = with_flag(
         alloc,
         command,
         "run",
         "Run the script in rounds, and judge its expectations",
-    )?;
+    );
     with_file(alloc, command, SCRIPT_FILE)
 }
 
-fn explore_command<'a>(alloc: Global) -> Result<Command<'a>, OutOfMemory>
+fn explore_command<'a>(alloc: Global) -> Built<'a>
     ensures { IfOk result (IsBuilt explore) }
 {
-    let command = described(Command::new(alloc, "explore"), EXPLORE);
+    let command = Ok(described(Command::new(alloc, "explore"), EXPLORE));
     let command = with_flag(
         alloc,
         command,
         "plain",
         "Try the turns of every processor from each state",
-    )?;
+    );
     let command = with_value(
         alloc,
         command,
         "states",
         "N",
         "Store at most N states, by default 1000000",
-    )?;
+    );
     let command = with_value(
         alloc,
         command,
         "turns",
         "N",
         "Try orders of at most N turns, by default 100000",
-    )?;
+    );
     let command = with_value(
         alloc,
         command,
         "random",
         "N",
         "Try N random orders in place of all",
-    )?;
+    );
     let command = with_value(
         alloc,
         command,
         "seed",
         "S",
         "Choose the random orders by S, by default 0",
-    )?;
+    );
     let command = with_value(
         alloc,
         command,
         "seconds",
         "N",
         "Stop after N seconds, and print what was found",
-    )?;
+    );
     let command = with_flag(
         alloc,
         command,
         "progress",
         "Report each second how far the search is",
-    )?;
-    let command = with_flag(alloc, command, "all", "Try each script of the folder FILE")?;
+    );
+    let command = with_flag(alloc, command, "all", "Try each script of the folder FILE");
     with_file(alloc, command, EXPLORE_FILE)
 }
 
 // The command with one more subcommand.
-fn above<'a>(command: Command<'a>, sub: Command<'a>) -> Result<Command<'a>, OutOfMemory>
-    ensures { IfOk result (λ more. (app sub_app : App) → IsBuilt app command.entry → IsBuilt sub_app sub.entry → IsBuilt (with_subcommand app sub_app.top) more) }
+fn above<'a>(command: Built<'a>, sub: Built<'a>) -> Built<'a>
+    ensures { (app sub_app : App) → IfOk command.entry (IsBuilt app) → IfOk sub.entry (IsBuilt sub_app) → IfOk result (IsBuilt (with_subcommand app sub_app.top)) }
 {
+    let command = command?;
+    let sub = sub?;
     with_subcommand(command, sub)
 }
 
@@ -289,7 +286,7 @@ fn settled<'a>(command: Command<'a>) -> Command<'a>
 }
 
 // The program without its subcommands.
-fn top<'a>(alloc: Global) -> Result<Command<'a>, OutOfMemory>
+fn top<'a>(alloc: Global) -> Built<'a>
     ensures { IfOk result (IsBuilt top) }
 {
     let command = settled(described(Command::new(alloc, "lwkt"), LWKT));
@@ -297,12 +294,12 @@ fn top<'a>(alloc: Global) -> Result<Command<'a>, OutOfMemory>
 }
 
 /// The command line of the program.
-pub(crate) fn command_line<'a>(alloc: Global) -> Result<Command<'a>, OutOfMemory>
+pub(crate) fn command_line<'a>(alloc: Global) -> Built<'a>
     ensures { IfOk result (IsBuilt command_line) }
 {
-    let command = above(top(alloc)?, run_command(alloc)?)?;
-    let command = above(command, show_command(alloc)?)?;
-    let command = above(command, check_command(alloc)?)?;
-    let command = above(command, text_command(alloc)?)?;
-    above(command, explore_command(alloc)?)
+    let command = above(top(alloc), run_command(alloc));
+    let command = above(command, show_command(alloc));
+    let command = above(command, check_command(alloc));
+    let command = above(command, text_command(alloc));
+    above(command, explore_command(alloc))
 }

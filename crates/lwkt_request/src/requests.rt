@@ -3,7 +3,7 @@ use lwkt_explore::{Bounds, Method};
 use lwkt_show::Options;
 
 /// Which orders of a script's turns are tried, and how.
-#[derive(Clone, Copy, PartialEq, Eq)]
+#[derive(Clone, Copy)]
 pub struct Search {
     /// `--states` and `--turns`: 1000000 and 100000 if they aren't named.
     pub bounds: Bounds,
@@ -22,7 +22,7 @@ pub struct Search {
 }
 
 /// What `lwkt text` makes of a script.
-#[derive(Clone, Copy, PartialEq, Eq)]
+#[derive(Clone, Copy)]
 pub enum Form {
     /// The script as JSON.
     Json,
@@ -33,7 +33,7 @@ pub enum Form {
 }
 
 /// What is to be done with what is read.
-#[derive(Clone, Copy, PartialEq, Eq)]
+#[derive(Clone, Copy)]
 pub enum Task {
     /// A script is run and reported.
     Run {
@@ -78,7 +78,7 @@ pub enum Asked {
     /// This request.
     Do(Request),
     /// A help page or the version: this text, on standard output, with status 0.
-    Tell(String),
+    Print(String),
     /// Nothing that `lwkt` does: this text, on standard error, with status 1.
     Misuse(String),
     /// Nothing that `lwkt_run` does: its usage line `lwkt_run: turns or threads`, on standard output, with status 1.

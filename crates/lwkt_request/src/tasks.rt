@@ -2,7 +2,7 @@
 ghost use Rattle.std.specs.Prelude.{◌≡◌, is_ok};
 ghost use Rattle.std.specs.Option.{option_copied};
 ghost use Rattle.std.specs.Result.{result_ok};
-ghost use Rattle.lwkt_request.specs.Tasks.{explore_in, explored, fits, fits_order, fits_threads, form_of, has_range, is_chains, is_whole, options_of, rows_in, show_in, shown, task_in, text_in, view_of};
+ghost use Rattle.lwkt_request.specs.Tasks.{explore_in, explored, fits, fits_order, fits_threads, form_of, has_range, is_chains, is_whole, options_of, rows_in, show_in, shown, task_in, text_in, rendering_of};
 
 use crate::matched::{is_on, value_in};
 use crate::ranges::{Range, are_parts, number_named, number_or, path_of, range_named, size_or};
@@ -10,7 +10,7 @@ use crate::requests::{Form, Search, Task};
 use crate::wrongs::Wrong;
 use clap::ArgMatches;
 use lwkt_explore::{Bounds, Method};
-use lwkt_show::{Counted, Options, View};
+use lwkt_show::{Counted, Options, Rendering};
 
 // What the words of `lwkt show` name.
 #[derive(Clone, Copy)]
@@ -25,14 +25,14 @@ struct ShowWords<'a> {
 }
 
 // The view that three flags ask for.
-fn view_of<'a>(trace: bool, svg: bool, chains: bool) -> Result<View, Wrong<'a>>
-    ensures { result_ok result ≡ view_of trace svg chains }
+fn rendering_of<'a>(trace: bool, svg: bool, chains: bool) -> Result<Rendering, Wrong<'a>>
+    ensures { result_ok result ≡ rendering_of trace svg chains }
 {
     match (trace, svg, chains) {
-        (false, false, false) => Ok(View::Lines),
-        (true, false, false) => Ok(View::Trace),
-        (false, true, false) => Ok(View::Picture),
-        (false, false, true) => Ok(View::Chains),
+        (false, false, false) => Ok(Rendering::Lines),
+        (true, false, false) => Ok(Rendering::Trace),
+        (false, true, false) => Ok(Rendering::Picture),
+        (false, false, true) => Ok(Rendering::Chains),
         (true, true, _) => Err(Wrong::Apart("--svg", "--trace")),
         (true, false, true) => Err(Wrong::Apart("--trace", "--chains")),
         (false, true, true) => Err(Wrong::Apart("--svg", "--chains")),
@@ -40,16 +40,16 @@ fn view_of<'a>(trace: bool, svg: bool, chains: bool) -> Result<View, Wrong<'a>>
 }
 
 // Whether a view is of turns that are chosen, and not of the whole run.
-fn has_range(view: View) -> bool
-    ensures { result ≡ has_range view }
+fn has_range(rendering: Rendering) -> bool
+    ensures { result ≡ has_range rendering }
 {
-    matches!(view, View::Lines | View::Picture)
+    matches!(rendering, Rendering::Lines | Rendering::Picture)
 }
 
-fn is_chains(view: View) -> bool
-    ensures { result ≡ is_chains view }
+fn is_chains(rendering: Rendering) -> bool
+    ensures { result ≡ is_chains rendering }
 {
-    matches!(view, View::Chains)
+    matches!(rendering, Rendering::Chains)
 }
 
 fn is_whole(range: Range) -> bool
@@ -67,18 +67,18 @@ fn range_word(counted: Counted) -> &'static str {
 }
 
 // The options of a view and a range.
-fn options_of<'a>(view: View, range: Range) -> Result<Options, Wrong<'a>>
-    ensures { result_ok result ≡ options_of view range }
+fn options_of<'a>(rendering: Rendering, range: Range) -> Result<Options, Wrong<'a>>
+    ensures { result_ok result ≡ options_of rendering range }
 {
-    if has_range(view) || is_whole(range) {
+    if has_range(rendering) || is_whole(range) {
         return Ok(Options {
-            view,
+            rendering,
             counted: range.counted,
             first: range.first,
             last: range.last,
         });
     }
-    let whole = if is_chains(view) {
+    let whole = if is_chains(rendering) {
         "--chains"
     } else {
         "--trace"
@@ -88,14 +88,14 @@ fn options_of<'a>(view: View, range: Range) -> Result<Options, Wrong<'a>>
 
 // That nothing stands beside `--threads` but `--chains`.
 fn fits_threads<'a>(
-    view: View,
+    rendering: Rendering,
     order: Option<&'a str>,
     turns: Option<&'a str>,
     rounds: Option<&'a str>,
 ) -> Result<(), Wrong<'a>>
-    ensures { is_ok result ≡ fits_threads view (option_copied order.entry) (option_copied turns.entry) (option_copied rounds.entry) }
+    ensures { is_ok result ≡ fits_threads rendering (option_copied order.entry) (option_copied turns.entry) (option_copied rounds.entry) }
 {
-    if !is_chains(view) {
+    if !is_chains(rendering) {
         return Err(Wrong::Beside("--threads", "--chains"));
     }
     if order.is_some() {
@@ -127,11 +127,11 @@ fn fits_order<'a>(order: Option<&'a str>, rounds: Option<&'a str>) -> Result<(),
 }
 
 // That the words for a view go together.
-fn fits<'a>(words: ShowWords<'a>, view: View) -> Result<(), Wrong<'a>>
-    ensures { is_ok result ≡ fits words.entry.on_threads view (option_copied words.entry.order) (option_copied words.entry.turns) (option_copied words.entry.rounds) }
+fn fits<'a>(words: ShowWords<'a>, rendering: Rendering) -> Result<(), Wrong<'a>>
+    ensures { is_ok result ≡ fits words.entry.on_threads rendering (option_copied words.entry.order) (option_copied words.entry.turns) (option_copied words.entry.rounds) }
 {
     if words.on_threads {
-        fits_threads(view, words.order, words.turns, words.rounds)
+        fits_threads(rendering, words.order, words.turns, words.rounds)
     } else {
         fits_order(words.order, words.rounds)
     }
@@ -140,10 +140,10 @@ fn fits<'a>(words: ShowWords<'a>, view: View) -> Result<(), Wrong<'a>>
 fn shown<'a>(words: ShowWords<'a>) -> Result<Task, Wrong<'a>>
     ensures { result_ok result ≡ shown words.entry.on_threads (option_copied words.entry.order) (option_copied words.entry.turns) (option_copied words.entry.rounds) words.entry.svg words.entry.trace words.entry.chains }
 {
-    let view = view_of(words.trace, words.svg, words.chains)?;
+    let rendering = rendering_of(words.trace, words.svg, words.chains)?;
     let range = range_named(words.turns, words.rounds)?;
-    let options = options_of(view, range)?;
-    fits(words, view)?;
+    let options = options_of(rendering, range)?;
+    fits(words, rendering)?;
     Ok(Task::Show {
         on_threads: words.on_threads,
         options,

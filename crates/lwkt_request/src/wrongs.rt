@@ -24,59 +24,62 @@ pub(crate) enum Wrong<'a> {
     NoCommand,
 }
 
+// Four texts in turn.
+fn joined(
+    alloc: Global,
+    one: &str,
+    two: &str,
+    three: &str,
+    four: &str,
+) -> Result<String, OutOfMemory> {
+    let mut text = String::new(alloc);
+    put(&mut text, (one, two, three, four))?;
+    Ok(text)
+}
+
+// That an option has a value which it can't have, and how it is given.
+fn unfit(
+    alloc: Global,
+    name: &str,
+    value: &str,
+    wanted: &str,
+    example: &str,
+) -> Result<String, OutOfMemory> {
+    let mut text = joined(alloc, name, " ", value, ": give ")?;
+    put(&mut text, (wanted, ", such as ", name, example))?;
+    Ok(text)
+}
+
 // The sentence, without a full stop.
 fn sentence_of(alloc: Global, wrong: Wrong<'_>) -> Result<String, OutOfMemory> {
-    let mut text = String::new(alloc);
     match wrong {
         Wrong::Number(name, value) => {
-            put(
-                &mut text,
-                (
-                    name,
-                    " ",
-                    value,
-                    ": give a whole number below 2^64, such as ",
-                    (name, " 10"),
-                ),
-            )?
+            unfit(alloc, name, value, "a whole number below 2^64", " 10")
         }
-        Wrong::Range(name, value) => {
-            put(
-                &mut text,
-                (
-                    name,
-                    " ",
-                    value,
-                    ": give a range, such as ",
-                    (name, " 1..5"),
-                ),
-            )?
-        }
+        Wrong::Range(name, value) => unfit(alloc, name, value, "a range", " 1..5"),
         Wrong::Falls(name, value) => {
-            put(
-                &mut text,
-                (
-                    name,
-                    " ",
-                    value,
-                    ": the first number is greater than the last",
-                ),
-            )?
-        }
-        Wrong::Order(value) => put(
-            &mut text,
-            (
-                "--order ",
+            joined(
+                alloc,
+                name,
+                " ",
                 value,
-                ": give a digit for the processor of each turn, such as --order 0,1,0",
-            ),
-        )?,
-        Wrong::Apart(one, other) => put(&mut text, (one, " and ", other, " don't go together"))?,
-        Wrong::Beside(one, other) => put(&mut text, (one, " wants ", other, " beside it"))?,
-        Wrong::NoCommand => put(&mut text, "a command is wanted")?,
-        Wrong::NoForm => put(&mut text, "one of --json, --text and --run is wanted")?,
+                ": the first number is greater than the last",
+            )
+        }
+        Wrong::Order(value) => {
+            unfit(
+                alloc,
+                "--order",
+                value,
+                "a digit for the processor of each turn",
+                " 0,1,0",
+            )
+        }
+        Wrong::Apart(one, other) => joined(alloc, one, " and ", other, " don't go together"),
+        Wrong::Beside(one, other) => joined(alloc, one, " wants ", other, " beside it"),
+        Wrong::NoCommand => from_str(alloc, "a command is wanted"),
+        Wrong::NoForm => from_str(alloc, "one of --json, --text and --run is wanted"),
     }
-    Ok(text)
 }
 
 // A message: the cause, a near word, and what to try.

@@ -26,13 +26,13 @@ use Rattle.lwkt_verdict.specs.declared.turns.Poll.{Poll}
 use Rattle.lwkt_verdict.specs.declared.turns.Turn.{Turn}
 use Rattle.lwkt_verdict.specs.declared.turns.Pace.TheVariants.{Rounds as InRounds, Named}
 use Rattle.lwkt_verdict.specs.Follow.{Begins}
-use Rattle.lwkt_verdict.specs.Parts.{after_all}
+use Rattle.lwkt_verdict.specs.TurnParts.{after_all}
 use Rattle.lwkt_verdict.specs.Run.{GoesRound, AreRounds, KeepsPace, IsScriptRun, whose}
 use Rattle.lwkt_run.specs.Checked.{EndsSo, DeclinesSo, IsMadeOf, LeavesChecked}
 use Rattle.lwkt_run.specs.Courses.{ClosesBy, IsRunBy}
-use Rattle.lwkt_run.specs.Driving.{Pair, pair, DeclinesTurn, FollowsStep, Walk, walk, Stand, IsOf, IsAt, IsDriven, IsWithin, IsShort, HasTurns, IsCourseOf, pace_of}
+use Rattle.lwkt_run.specs.Driving.{Pair, pair, DeclinesTurn, FollowsStep, Walk, walk, DriverState, IsOf, IsAt, IsDriven, IsWithin, IsShort, HasTurns, IsCourseOf, pace_of}
 use Rattle.lwkt_run.specs.Judging.{ids_of, CountsBefore, FitBefore, IsVerdict}
-use Rattle.lwkt_run.specs.Keeping.{Kept, Story, turn_of, none_kept, none_told, story_as}
+use Rattle.lwkt_run.specs.Keeping.{Kept, Story, turn_of, none_kept, no_story, story_as}
 use Rattle.lwkt_run.specs.Leaving.{Leaves}
 use Rattle.lwkt_run.specs.Run.{opening_of_script, AreMadeOf, IsJudgedBy, MayClose, RunsAlong, RunsBy, RunsInRounds}
 use Rattle.lwkt_run.specs.Running.{HasThreads, Scene, scene, ShowThreads, MakesTurnAt, MakesSome, MakesTurns, HasMadeRounds}
@@ -49,8 +49,8 @@ use Rattle.lwkt_run.proofs.IdMoves.{opened_has}
 use Rattle.lwkt_run.proofs.JudgeMoves.{judged}
 use Rattle.lwkt_run.proofs.OrderMoves.{GoTurns, chain_maps, chain_then, rounds_turned, Rounded, rounded, Fronted, fronted}
 use Rattle.lwkt_run.proofs.RoundMoves.{has_turns, turns_bank, turns_book}
-use Rattle.lwkt_run.proofs.StandMoves.{Stands, RoundsAre, rounds_are, rounds_stand, order_stands, some_made, some_stand, front_stands, walk_stands, none_begins, begun_before, before_is}
-use Rattle.lwkt_run.proofs.TurnMoves.{rounds_tell, turns_tell}
+use Rattle.lwkt_run.proofs.FollowedMoves.{IsFollowedSoFar, RoundsAre, rounds_are, rounds_stand, order_stands, some_made, some_stand, front_stands, walk_stands, none_begins, begun_before, before_is}
+use Rattle.lwkt_run.proofs.TurnMoves.{rounds_are_parts, turns_are_parts}
 
 -- an order is a front of a course: in rounds it goes round the processors, and has no more turns than these rounds
 abbrev IsFrontOf : Course → ℕ → List ℕ → Type 0
@@ -63,16 +63,16 @@ PacedBy (Rounds limit) cpus x y = RoundsAre cpus limit x y
 PacedBy (Along order) cpus x y = Unit {0}
 
 -- why a driver stopped: the check said no to the last turn, after others that it followed; or it followed all
-abbrev Why : Bool → Course → ℕ → List ThreadSpec → Machine → Scene → Stand → Scene → Type 0
-Why false course cpus plans opening x t y = CountsBefore t.events y.kept.turns × ((cpu : ℕ) × ((p : Pair) × (Stands plans opening p × DeclinesTurn cpu p y)))
-Why true course cpus plans opening x t y = IsAt t y × (Stands plans opening (pair y t.follow) × PacedBy course cpus x y)
+abbrev Why : Bool → Course → ℕ → List ThreadSpec → Machine → Scene → DriverState → Scene → Type 0
+Why false course cpus plans opening x t y = CountsBefore t.events y.kept.turns × ((cpu : ℕ) × ((p : Pair) × (IsFollowedSoFar plans opening p × DeclinesTurn cpu p y)))
+Why true course cpus plans opening x t y = IsAt t y × (IsFollowedSoFar plans opening (pair y t.follow) × PacedBy course cpus x y)
 
 -- what a driver did of a run that had no turn before: turns of an order that is kept, which is a front of its course
-pub record DroveTo (course : Course) (cpus : ℕ) (fits : Bool) (s : Stand) (x : Scene) (t : Stand) (y : Scene) : Type 0 where
+pub record DroveTo (course : Course) (cpus : ℕ) (fits : Bool) (s : DriverState) (x : Scene) (t : DriverState) (y : Scene) : Type 0 where
   pub of : IsOf t y
   pub along : MakesTurns y.kept.order x y
   pub front : IsFrontOf course cpus y.kept.order
-  pub why : (plans : List ThreadSpec) (opening : Machine) → Stands plans opening (pair x s.follow) → Why fits course cpus plans opening x t y
+  pub why : (plans : List ThreadSpec) (opening : Machine) → IsFollowedSoFar plans opening (pair x s.follow) → Why fits course cpus plans opening x t y
 
 -- some turns of a round behind so many rounds
 stopped_turns : (cpus count n : ℕ) (x mid y : Scene) → n + 1 ≤ cpus → GoTurns cpus (count * cpus) x mid → Chain Scene MakesTurnAt (n + 1) mid y → GoTurns cpus (count * cpus + (n + 1)) x y
@@ -84,10 +84,10 @@ stopped_turns cpus count n x mid y few rounds turns =
     let all : n + 1 ≤ n + 1 = omega arith in
     chain_then Scene (λ k. MakesTurnAt (k % cpus)) (count * cpus) (n + 1) x mid y rounds (chain_maps Scene Scene (λ z. z) MakesTurnAt T (n + 1) does (n + 1) mid y all turns)
 
-same_cpus : (s : Stand) (x : Scene) (cpus : ℕ) → IsOf s x → length s.machine.cpus ≡ cpus → length x.machine.cpus ≡ cpus
+same_cpus : (s : DriverState) (x : Scene) (cpus : ℕ) → IsOf s x → length s.machine.cpus ≡ cpus → length x.machine.cpus ≡ cpus
 same_cpus s x cpus of many = ap (λ (m : Rig Scripted). length m.cpus) of.machine ∙ many
 
-by_rounds : (limit cpus n : ℕ) (fits : Bool) (s : Stand) (x : Scene) (t : Stand) (y : Scene) → x.kept.order ≡ [] → n ≤ limit * cpus → GoTurns cpus n x y → IsOf t y → ((plans : List ThreadSpec) (opening : Machine) → Stands plans opening (pair x s.follow) → Why fits (Rounds limit) cpus plans opening x t y) → DroveTo (Rounds limit) cpus fits s x t y
+by_rounds : (limit cpus n : ℕ) (fits : Bool) (s : DriverState) (x : Scene) (t : DriverState) (y : Scene) → x.kept.order ≡ [] → n ≤ limit * cpus → GoTurns cpus n x y → IsOf t y → ((plans : List ThreadSpec) (opening : Machine) → IsFollowedSoFar plans opening (pair x s.follow) → Why fits (Rounds limit) cpus plans opening x t y) → DroveTo (Rounds limit) cpus fits s x t y
 by_rounds limit cpus n fits s x t y none few turns of why =
     let r : Rounded cpus n x y = rounded cpus n x y none turns in
     record { of = of; along = r.along; front = (r.goes, omega (arith, r.long, few)); why = why }
@@ -100,7 +100,7 @@ part_made n mid w y turns last =
     let made : Chain Scene MakesTurnAt n mid.at w.at.at = chain_maps Walk Scene f FollowsStep MakesTurnAt n (λ k a b below step. (step.0, step.1.0.turn)) n (walk mid true) w all turns in
     chain_more Scene MakesTurnAt n mid.at w.at.at y made (last.turned, last.turn)
 
-pub drove : (course : Course) (cpus : ℕ) (fits : Bool) (s t : Stand) (x : Scene) → length s.machine.cpus ≡ cpus → x.kept.order ≡ [] → IsAt s x → IsDriven course fits s t → (y : Scene) × DroveTo course cpus fits s x t y
+pub drove : (course : Course) (cpus : ℕ) (fits : Bool) (s t : DriverState) (x : Scene) → length s.machine.cpus ≡ cpus → x.kept.order ≡ [] → IsAt s x → IsDriven course fits s t → (y : Scene) × DroveTo course cpus fits s x t y
 drove (Rounds limit) cpus false s t x many none at driven =
     let d = driven x at in
     let y = d.0 in
@@ -156,15 +156,15 @@ keeps_story None y is = tt
 keeps_story (Some story) y is = ap (λ es. story_as es story.kept) (sym is.0) ∙ ap (λ k. story_as y.trace k) (sym is.1)
 
 -- before the first turn
-keeps_none : (kept : Option Story) → IfSome kept (λ story. story ≡ none_told) → IfSome kept (λ story. ([] ≡ story.trace) × (none_kept ≡ story.kept))
+keeps_none : (kept : Option Story) → IfSome kept (λ story. story ≡ no_story) → IfSome kept (λ story. ([] ≡ story.trace) × (none_kept ≡ story.kept))
 keeps_none None is = tt
 keeps_none (Some story) is = (ap (λ (s : Story). s.trace) (sym is), ap (λ (s : Story). s.kept) (sym is))
 
-pub at_first : (s : Stand) → IfSome s.kept (λ story. story ≡ none_told) → s.events ≡ 0 → IsAt s (scene s.machine [] none_kept)
+pub at_first : (s : DriverState) → IfSome s.kept (λ story. story ≡ no_story) → s.events ≡ 0 → IsAt s (scene s.machine [] none_kept)
 at_first s none zero_events = record { of = record { machine = refl; kept = keeps_none s.kept none }; counted = zero_events }
 
 -- all that is known where a machine was driven, stopped and closed
-pub record Closes (script : Script) (s t : Stand) (left : Left) (stops : List Event) : Type 0 where
+pub record Closes (script : Script) (s t : DriverState) (left : Left) (stops : List Event) : Type 0 where
   pub opens : IsOpenedScript script s.machine
   pub within : AreWithin script.cpus script.tokens script.messages
   pub lawful : AllOpenLawfully script.tokens
@@ -173,52 +173,52 @@ pub record Closes (script : Script) (s t : Stand) (left : Left) (stops : List Ev
   pub shown : ShowThreads left.threads.items t.machine
   pub leaves : Leaves t.machine stops left.last
   pub begins : Begins script.threads (opening_of_script script) s.follow
-  pub fresh : IfSome s.kept (λ story. story ≡ none_told)
+  pub fresh : IfSome s.kept (λ story. story ≡ no_story)
   pub uncounted : s.events ≡ 0
 
 -- the run that a driver begins
-abbrev first_of : Stand → Scene
+abbrev first_of : DriverState → Scene
 first_of s = scene s.machine [] none_kept
 
 -- a scene of a driver's machine
-abbrev scene_of : Stand → Scene → Scene
+abbrev scene_of : DriverState → Scene → Scene
 scene_of t y = scene t.machine y.trace y.kept
 
-same_scene : (t : Stand) (y : Scene) → IsOf t y → y ≡ scene_of t y
+same_scene : (t : DriverState) (y : Scene) → IsOf t y → y ≡ scene_of t y
 same_scene t y of = ap (λ m. scene m y.trace y.kept) of.machine
 
 -- the turns that were made are a run along their order
-runs_along : (script : Script) (s t : Stand) (left : Left) (stops : List Event) (y : Scene) → Closes script s t left stops → IsOf t y → MakesTurns y.kept.order (first_of s) y → RunsAlong script y.kept.order left.threads.items y.kept (y.trace ++ stops) left.last
+runs_along : (script : Script) (s t : DriverState) (left : Left) (stops : List Event) (y : Scene) → Closes script s t left stops → IsOf t y → MakesTurns y.kept.order (first_of s) y → RunsAlong script y.kept.order left.threads.items y.kept (y.trace ++ stops) left.last
 runs_along script s t left stops y c of along =
     let turns : MakesTurns y.kept.order (first_of s) (scene_of t y) = subst (λ z. MakesTurns y.kept.order (first_of s) z) (same_scene t y of) along in
     record {
       opened = s.machine;
       made = t.machine;
-      told = y.trace;
+      traced = y.trace;
       stops = stops;
       opens = c.opens;
       along = turns;
       shown = c.shown;
       leaves = c.leaves;
       trace_is = refl;
-      tells = turns_tell script y.kept.order s.machine t.machine y.trace stops y.kept left.last c.leaves c.opens c.within c.lawful turns;
+      modelled = turns_are_parts script y.kept.order s.machine t.machine y.trace stops y.kept left.last c.leaves c.opens c.within c.lawful turns;
     }
 
 -- rounds that were made are a run in rounds
-runs_in_rounds : (script : Script) (s t : Stand) (left : Left) (stops : List Event) (y : Scene) → Closes script s t left stops → IsOf t y → HasMadeRounds script.turns (first_of s) y → RunsInRounds script left.threads.items y.kept (y.trace ++ stops) left.last
+runs_in_rounds : (script : Script) (s t : DriverState) (left : Left) (stops : List Event) (y : Scene) → Closes script s t left stops → IsOf t y → HasMadeRounds script.turns (first_of s) y → RunsInRounds script left.threads.items y.kept (y.trace ++ stops) left.last
 runs_in_rounds script s t left stops y c of made =
     let rounds : HasMadeRounds script.turns (first_of s) (scene_of t y) = subst (λ z. HasMadeRounds script.turns (first_of s) z) (same_scene t y of) made in
     record {
       opened = s.machine;
       made = t.machine;
-      told = y.trace;
+      traced = y.trace;
       stops = stops;
       opens = c.opens;
       rounds = rounds;
       shown = c.shown;
       leaves = c.leaves;
       trace_is = refl;
-      tells = rounds_tell script s.machine t.machine y.trace stops y.kept left.last c.leaves c.opens c.within c.lawful rounds;
+      modelled = rounds_are_parts script s.machine t.machine y.trace stops y.kept left.last c.leaves c.opens c.within c.lawful rounds;
     }
 
 -- where the check said no
@@ -231,10 +231,10 @@ unlawful_runs index script (Rounds limit) lines kept trace last of front runs = 
 unlawful_runs index script (Along order) lines kept trace last of front runs = runs
 
 -- the verdict on what was made
-abbrev SaysNo : Script → Course → Left → List Event → Stand → Scene → Type 0
+abbrev SaysNo : Script → Course → Left → List Event → DriverState → Scene → Type 0
 SaysNo script course left stops t y = IsVerdict (Unlawful t.events) (opening_of_script script) (pace_of course) y.kept.order script.threads left.threads.items left.last (y.trace ++ stops) y.kept.polls y.kept.turns
 
-leaves_unlawful : (script : Script) (course : Course) (fits : Bool) (s t : Stand) (left : Left) (stops : List Event) (y : Scene) → IsCourseOf script course → Closes script s t left stops → DroveTo course script.cpus fits s (first_of s) t y → SaysNo script course left stops t y → LeavesChecked course script t.kept left stops (Unlawful t.events)
+leaves_unlawful : (script : Script) (course : Course) (fits : Bool) (s t : DriverState) (left : Left) (stops : List Event) (y : Scene) → IsCourseOf script course → Closes script s t left stops → DroveTo course script.cpus fits s (first_of s) t y → SaysNo script course left stops t y → LeavesChecked course script t.kept left stops (Unlawful t.events)
 leaves_unlawful script course fits s t left stops y of c d says = record {
   within = c.within;
   lawful_opening = c.lawful;
@@ -248,14 +248,14 @@ leaves_unlawful script course fits s t left stops y of c d says = record {
 }
 
 -- where the check followed the run to its end
-leaves_lawful : (script : Script) (course : Course) (s t : Stand) (left : Left) (stops : List Event) → IsCourseOf script course → Closes script s t left stops → IsDriven course true s t → HasTurns course → EndsSo t.follow left stops → LeavesChecked course script t.kept left stops Lawful
+leaves_lawful : (script : Script) (course : Course) (s t : DriverState) (left : Left) (stops : List Event) → IsCourseOf script course → Closes script s t left stops → IsDriven course true s t → HasTurns course → EndsSo t.follow left stops → LeavesChecked course script t.kept left stops Lawful
 leaves_lawful script (Rounds limit) s t left stops of c driven some ends =
     let x = first_of s in
     let d = driven x (at_first s c.fresh c.uncounted) in
     let y = d.0 in
     let opening = opening_of_script script in
     let r : RoundsAre script.cpus limit x y = rounds_are script.cpus limit (pair x s.follow) (pair y t.follow) c.opens.as_many d.1.1 in
-    let stands : Stands script.threads opening (pair y t.follow) = rounds_stand script.threads opening limit (pair x s.follow) (pair y t.follow) d.1.1 (stands_none script.threads opening s.machine s.follow c.begins) in
+    let stands : IsFollowedSoFar script.threads opening (pair y t.follow) = rounds_stand script.threads opening limit (pair x s.follow) (pair y t.follow) d.1.1 (stands_none script.threads opening s.machine s.follow c.begins) in
     let ended : AreOver y.machine.cpus → All (λ line. has_ended line.state ≡ true) left.threads.items = λ over. lines_ended left.threads.items y.machine (subst (ShowThreads left.threads.items) (sym d.1.0.of.machine) c.shown) over in
     let w : Whole script.threads (InRounds limit) opening (pair y t.follow) left.threads.items stops = rounds_whole script.threads limit opening x (pair y t.follow) left.threads.items stops c.within.some_processor some refl r stands ended ends.ends in
     record {
@@ -278,7 +278,7 @@ leaves_lawful script (Along order) s t left stops of c driven some ends =
     let few : n ≤ length order.now = omega arith in
     let f : Fronted order.now n x y = fronted order.now n x y few refl (turns_made order.now n (pair x s.follow) (pair y t.follow) d.1.1) in
     let is : y.kept.order ≡ order.now = f.front ∙ take-length order.now in
-    let stands : Stands script.threads opening (pair y t.follow) = order_stands script.threads opening order.now (pair x s.follow) (pair y t.follow) d.1.1 (stands_none script.threads opening s.machine s.follow c.begins) in
+    let stands : IsFollowedSoFar script.threads opening (pair y t.follow) = order_stands script.threads opening order.now (pair x s.follow) (pair y t.follow) d.1.1 (stands_none script.threads opening s.machine s.follow c.begins) in
     let within : All (λ cpu. cpu < script.cpus) y.kept.order = subst (All (λ cpu. cpu < script.cpus)) (sym is) of in
     let w : Whole script.threads Named opening (pair y t.follow) left.threads.items stops = followed_whole script.threads Named opening (pair y t.follow) left.threads.items stops stands within tt ends.ends in
     record {
@@ -303,7 +303,7 @@ no_rounds polls cpus limit order turns lines none rounds =
     ]
 
 -- the turns that were followed keep the pace of their course, or that asks for none
-kept_pace : (script : Script) (course : Course) (s t : Stand) (left : Left) (stops : List Event) (y : Scene) → Closes script s t left stops → IsOf t y → Stands script.threads (opening_of_script script) (pair y t.follow) → PacedBy course script.cpus (first_of s) y → (pace_of course ≡ InRounds 0) ⊎ KeepsPace (pace_of course) y.kept.polls (opening_of_script script).cpus y.kept.order y.kept.turns left.threads.items
+kept_pace : (script : Script) (course : Course) (s t : DriverState) (left : Left) (stops : List Event) (y : Scene) → Closes script s t left stops → IsOf t y → IsFollowedSoFar script.threads (opening_of_script script) (pair y t.follow) → PacedBy course script.cpus (first_of s) y → (pace_of course ≡ InRounds 0) ⊎ KeepsPace (pace_of course) y.kept.polls (opening_of_script script).cpus y.kept.order y.kept.turns left.threads.items
 kept_pace script (Rounds limit) s t left stops y c of stands made = elim (cases_lt 0 limit) [
   | inl some ↦ (let ended : AreOver y.machine.cpus → All (λ line. has_ended line.state ≡ true) left.threads.items = λ over. lines_ended left.threads.items y.machine (subst (ShowThreads left.threads.items) (sym of.machine) c.shown) over in
       inr (paced script.cpus limit (first_of s) y left.threads.items c.within.some_processor some refl stands.long made ended))
@@ -325,7 +325,7 @@ short_order (Rounds limit) cpus made few short front = omega (arith, front.1, mu
 short_order (Along order) cpus made few short front = omega (arith, ap (λ (o : List ℕ). length o) front.1, length-append made front.0, short)
 
 -- why the check said no
-says_no : (script : Script) (course : Course) (fits follows : Bool) (s t : Stand) (left : Left) (stops : List Event) (y : Scene) → IsShort course → Closes script s t left stops → DroveTo course script.cpus fits s (first_of s) t y → (IsTrue fits × HasTurns course → IsTrue follows) → (follows ≡ false) ⊎ DeclinesSo t.follow left stops → SaysNo script course left stops t y
+says_no : (script : Script) (course : Course) (fits follows : Bool) (s t : DriverState) (left : Left) (stops : List Event) (y : Scene) → IsShort course → Closes script s t left stops → DroveTo course script.cpus fits s (first_of s) t y → (IsTrue fits × HasTurns course → IsTrue follows) → (follows ≡ false) ⊎ DeclinesSo t.follow left stops → SaysNo script course left stops t y
 says_no script course false follows s t left stops y short c d all why =
     let opening = opening_of_script script in
     let w = d.why script.threads opening (stands_none script.threads opening s.machine s.follow c.begins) in
@@ -358,7 +358,7 @@ abbrev pub Says : Verdict → Bool → ℕ → (List Event → Type 0) → (List
 Says verdict follows events E D stops = ((verdict ≡ Lawful) × (IsTrue follows × E stops)) ⊎ ((verdict ≡ Unlawful events) × ((follows ≡ false) ⊎ D stops))
 
 -- either way
-pub leaves_checked : (script : Script) (course : Course) (fits follows : Bool) (s t : Stand) (left : Left) (stops : List Event) (verdict : Verdict) → IsShort course → IsCourseOf script course → Closes script s t left stops → IsDriven course fits s t → (IsTrue follows ↔ (IsTrue fits × HasTurns course)) → Says verdict follows t.events (EndsSo t.follow left) (DeclinesSo t.follow left) stops → LeavesChecked course script t.kept left stops verdict
+pub leaves_checked : (script : Script) (course : Course) (fits follows : Bool) (s t : DriverState) (left : Left) (stops : List Event) (verdict : Verdict) → IsShort course → IsCourseOf script course → Closes script s t left stops → IsDriven course fits s t → (IsTrue follows ↔ (IsTrue fits × HasTurns course)) → Says verdict follows t.events (EndsSo t.follow left) (DeclinesSo t.follow left) stops → LeavesChecked course script t.kept left stops verdict
 leaves_checked script course fits follows s t left stops verdict short of c driven all (inl lawful) =
     let is = all.0 lawful.1.0 in
     let so : IsDriven course true s t = subst (λ b. IsDriven course b s t) is.0 driven in
@@ -431,12 +431,12 @@ runs_by (Along order') script story left stops verdict run of l shown trace orde
     }
 
 -- a machine after its turns has the same tables and threads
-pub record KeepsAll (script : Script) (s t : Stand) : Type 0 where
+pub record KeepsAll (script : Script) (s t : DriverState) : Type 0 where
   pub bank : t.machine.bank ≡ s.machine.bank
   pub book : t.machine.book ≡ s.machine.book
   pub has : HasThreads script.cpus script.threads t.machine.cpus
 
-pub keeps_all : (script : Script) (course : Course) (fits : Bool) (s t : Stand) → IsOpenedScript script s.machine → IfSome s.kept (λ story. story ≡ none_told) → s.events ≡ 0 → IsDriven course fits s t → KeepsAll script s t
+pub keeps_all : (script : Script) (course : Course) (fits : Bool) (s t : DriverState) → IsOpenedScript script s.machine → IfSome s.kept (λ story. story ≡ no_story) → s.events ≡ 0 → IsDriven course fits s t → KeepsAll script s t
 keeps_all script course fits s t opens fresh uncounted driven =
     let x = first_of s in
     let d = drove course script.cpus fits s t x opens.as_many refl (at_first s fresh uncounted) driven in

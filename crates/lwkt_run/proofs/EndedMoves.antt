@@ -13,15 +13,15 @@ use Rattle.lwkt_cpu.specs.Processors.{Processor, AllOver, is_over, is_running, t
 use Rattle.lwkt_machine.specs.Bodies.{Scripted}
 use Rattle.lwkt_machine.specs.Ended.{AreOver}
 use Rattle.lwkt_machine.specs.Machines.{Rig}
-use Rattle.lwkt_machine.specs.Standings.{standing_of, standings_on, standings_of}
-use Rattle.lwkt_machine.specs.declared.standings.Standing.{Standing}
+use Rattle.lwkt_machine.specs.Statuses.{status_of, statuses_on, statuses_of}
+use Rattle.lwkt_machine.specs.declared.statuses.ThreadStatus.{ThreadStatus}
 use Rattle.lwkt_base.specs.declared.threads.ThreadLine.{ThreadLine}
 use Rattle.lwkt_run.specs.Running.{ShowThreads}
 
 abbrev Ended : ThreadState → Type 0
 Ended state = has_ended state ≡ true
 
-abbrev HasEnded : Standing → Type 0
+abbrev HasEnded : ThreadStatus → Type 0
 HasEnded s = Ended s.state
 
 abbrev SaysEnded : ThreadLine → Type 0
@@ -36,18 +36,18 @@ state_ended runs Exited over = refl
 state_ended runs (Faulted fault) over = refl
 
 -- the threads of a processor from a number on
-ended_from : (cpu : ℕ) (runs : Option ℕ) (threads : List Thread) (n : ℕ) → AllOver threads → All HasEnded (map (λ (e : ℕ × Thread). standing_of cpu e.0 (is_running runs e.0) e.1) (enumerate_from n threads))
+ended_from : (cpu : ℕ) (runs : Option ℕ) (threads : List Thread) (n : ℕ) → AllOver threads → All HasEnded (map (λ (e : ℕ × Thread). status_of cpu e.0 (is_running runs e.0) e.1) (enumerate_from n threads))
 ended_from cpu runs [] n over = All-nil HasEnded
 ended_from cpu runs (t ∷ threads) n over =
-    let rest : List Standing = map (λ (e : ℕ × Thread). standing_of cpu e.0 (is_running runs e.0) e.1) (enumerate_from (n + 1) threads) in
-    All-cons HasEnded (standing_of cpu n (is_running runs n) t) rest (state_ended (is_running runs n) t.phase (over 0 t refl)) (ended_from cpu runs threads (n + 1) (λ k u at. over (suc k) u at))
+    let rest : List ThreadStatus = map (λ (e : ℕ × Thread). status_of cpu e.0 (is_running runs e.0) e.1) (enumerate_from (n + 1) threads) in
+    All-cons HasEnded (status_of cpu n (is_running runs n) t) rest (state_ended (is_running runs n) t.phase (over 0 t refl)) (ended_from cpu runs threads (n + 1) (λ k u at. over (suc k) u at))
 
 -- the threads of processors from a number on
-all_ended_from : (cpus : List (Processor Scripted)) (n : ℕ) → AreOver cpus → All HasEnded (flat_map (λ (e : ℕ × Processor Scripted). standings_on e.0 e.1) (enumerate_from n cpus))
+all_ended_from : (cpus : List (Processor Scripted)) (n : ℕ) → AreOver cpus → All HasEnded (flat_map (λ (e : ℕ × Processor Scripted). statuses_on e.0 e.1) (enumerate_from n cpus))
 all_ended_from [] n over = All-nil HasEnded
 all_ended_from (p ∷ cpus) n over =
-    let f : ℕ × Processor Scripted → List Standing = λ e. standings_on e.0 e.1 in
-    All-append HasEnded (standings_on n p) (flat_map f (enumerate_from (n + 1) cpus)) (ended_from n p.running p.threads 0 (over 0 p refl)) (all_ended_from cpus (n + 1) (λ k q at. over (suc k) q at))
+    let f : ℕ × Processor Scripted → List ThreadStatus = λ e. statuses_on e.0 e.1 in
+    All-append HasEnded (statuses_on n p) (flat_map f (enumerate_from (n + 1) cpus)) (ended_from n p.running p.threads 0 (over 0 p refl)) (all_ended_from cpus (n + 1) (λ k q at. over (suc k) q at))
 
 -- lines whose states are those of threads that have ended
 lines_say : (lines : List ThreadLine) → All Ended (map (λ (line : ThreadLine). line.state) lines) → All SaysEnded lines
@@ -60,4 +60,4 @@ lines_say (line ∷ lines) all =
 pub lines_ended : (lines : List ThreadLine) (m : Rig Scripted) → ShowThreads lines m → AreOver m.cpus → All (λ line. has_ended line.state ≡ true) lines
 lines_ended lines m shown over =
     let F : List ThreadState → Type 0 = λ states. All Ended states in
-    lines_say lines (subst F (sym shown.states) (All-map Ended (λ (s : Standing). s.state) (standings_of m.cpus) (all_ended_from m.cpus 0 over)))
+    lines_say lines (subst F (sym shown.states) (All-map Ended (λ (s : ThreadStatus). s.state) (statuses_of m.cpus) (all_ended_from m.cpus 0 over)))

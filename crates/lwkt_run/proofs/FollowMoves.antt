@@ -21,7 +21,7 @@ use Rattle.lwkt_verdict.specs.declared.turns.Poll.{Poll}
 use Rattle.lwkt_verdict.specs.declared.turns.Turn.{Turn}
 use Rattle.lwkt_verdict.specs.declared.turns.Pace.{Pace}
 use Rattle.lwkt_verdict.specs.declared.turns.Pace.TheVariants.{Rounds}
-use Rattle.lwkt_verdict.specs.Parts.{after_all}
+use Rattle.lwkt_verdict.specs.TurnParts.{after_all}
 use Rattle.lwkt_verdict.specs.Run.{poll_of, EndsRun, AreListed, IsPaired, GoesRound, AreRounds, KeepsPace, IsScriptRun, RunsThrough}
 use Rattle.lwkt_verdict.specs.Follow.{Follow, Begins, EndsHere, none_answered}
 use Rattle.lwkt_run.specs.Keeping.{none_kept}
@@ -31,7 +31,7 @@ use Rattle.lwkt_verdict.proofs.TraceMoves.{traces_happen}
 use Rattle.lwkt_run.proofs.FillMoves.{filled}
 use Rattle.lwkt_run.proofs.OrderMoves.{Rounded, rounded}
 use Rattle.lwkt_run.proofs.TrackMoves.{IsFront, tracks_none, through_run, run_through, knows_none}
-use Rattle.lwkt_run.proofs.StandMoves.{Stands, Unpolled, RoundsAre, after_join}
+use Rattle.lwkt_run.proofs.FollowedMoves.{IsFollowedSoFar, Unpolled, RoundsAre, after_join}
 
 -- events leave the processors
 at_cpus : (m : Machine) (e : Event) (place : Place) → (after_at m e place).cpus ≡ m.cpus
@@ -57,7 +57,7 @@ no_poll : (polls : List Poll) (t : Turn) → Unpolled t → is_some (poll_of pol
 no_poll polls t is = ap (λ o. is_some (option_and_then (slice_get polls) o)) is
 
 -- before the first turn
-pub stands_none : (plans : List ThreadSpec) (opening : Machine) (opened : Rig Scripted) (f : Follow) → Begins plans opening f → Stands plans opening (pair (scene opened [] none_kept) f)
+pub stands_none : (plans : List ThreadSpec) (opening : Machine) (opened : Rig Scripted) (f : Follow) → Begins plans opening f → IsFollowedSoFar plans opening (pair (scene opened [] none_kept) f)
 stands_none plans opening opened f begins = record {
   tracks = tracks_none plans opening f begins;
   knows = knows_none plans opening f begins;
@@ -99,14 +99,14 @@ run_after m n (e ∷ events) run =
     run_after run.0 n events run.1.1 ∙ ap (λ k. after_all k events) run.1.0.1
 
 -- the events of a run lead to the machine that they leave
-run_happens : (plans : List ThreadSpec) (pace : Pace) (order : List ℕ) (opening last : Machine) (polls : List Poll) (turns : List Turn) (told stop : List Event) (lines : List ThreadLine) → last ≡ after_all opening told → IsScriptRun plans pace order opening polls turns (told ++ stop) lines → Run opening (told ++ stop) (after_all last stop)
-run_happens plans pace order opening last polls turns told stop lines led run =
-    let made = traces_happen plans pace order opening polls turns (told ++ stop) lines run in
-    let e : made.0 ≡ after_all last stop = run_after opening made.0 (told ++ stop) made.1 ∙ after_join opening told stop ∙ ap (λ m. after_all m stop) (sym led) in
-    subst (λ m. Run opening (told ++ stop) m) e made.1
+run_happens : (plans : List ThreadSpec) (pace : Pace) (order : List ℕ) (opening last : Machine) (polls : List Poll) (turns : List Turn) (traced stop : List Event) (lines : List ThreadLine) → last ≡ after_all opening traced → IsScriptRun plans pace order opening polls turns (traced ++ stop) lines → Run opening (traced ++ stop) (after_all last stop)
+run_happens plans pace order opening last polls turns traced stop lines led run =
+    let made = traces_happen plans pace order opening polls turns (traced ++ stop) lines run in
+    let e : made.0 ≡ after_all last stop = run_after opening made.0 (traced ++ stop) made.1 ∙ after_join opening traced stop ∙ ap (λ m. after_all m stop) (sym led) in
+    subst (λ m. Run opening (traced ++ stop) m) e made.1
 
 -- what was kept so far runs through, where the check says that the run ends here
-runs_whole : (plans : List ThreadSpec) (opening : Machine) (p : Pair) (lines : List ThreadLine) (stop : List Event) → Stands plans opening p → EndsHere p.follow lines stop → RunsThrough plans lines p.at.kept.polls p.at.kept.order opening [] p.at.kept.turns (p.at.trace ++ stop)
+runs_whole : (plans : List ThreadSpec) (opening : Machine) (p : Pair) (lines : List ThreadLine) (stop : List Event) → IsFollowedSoFar plans opening p → EndsHere p.follow lines stop → RunsThrough plans lines p.at.kept.polls p.at.kept.order opening [] p.at.kept.turns (p.at.trace ++ stop)
 runs_whole plans opening p lines stop stands ends =
     let kept = p.at.kept in
     let polls : IsFront (filled none_answered kept.polls) kept.polls = ([], sym (append-nil _ ∙ stands.waits)) in
@@ -120,7 +120,7 @@ pub record Whole (plans : List ThreadSpec) (pace : Pace) (opening : Machine) (p 
   pub happens : Run opening (p.at.trace ++ stop) (after_all p.follow.machine stop)
   pub run : IsScriptRun plans pace p.at.kept.order opening p.at.kept.polls p.at.kept.turns (p.at.trace ++ stop) lines
 
-pub followed_whole : (plans : List ThreadSpec) (pace : Pace) (opening : Machine) (p : Pair) (lines : List ThreadLine) (stop : List Event) → Stands plans opening p → All (λ cpu. cpu < opening.cpus) p.at.kept.order → KeepsPace pace p.at.kept.polls opening.cpus p.at.kept.order p.at.kept.turns lines → EndsHere p.follow lines stop → Whole plans pace opening p lines stop
+pub followed_whole : (plans : List ThreadSpec) (pace : Pace) (opening : Machine) (p : Pair) (lines : List ThreadLine) (stop : List Event) → IsFollowedSoFar plans opening p → All (λ cpu. cpu < opening.cpus) p.at.kept.order → KeepsPace pace p.at.kept.polls opening.cpus p.at.kept.order p.at.kept.turns lines → EndsHere p.follow lines stop → Whole plans pace opening p lines stop
 followed_whole plans pace opening p lines stop stands within paced ends =
     let cpus : p.follow.machine.cpus ≡ opening.cpus = ap (λ (m : Machine). m.cpus) stands.led ∙ after_cpus opening p.at.trace in
     let run : IsScriptRun plans pace p.at.kept.order opening p.at.kept.polls p.at.kept.turns (p.at.trace ++ stop) lines = record {
@@ -134,13 +134,13 @@ followed_whole plans pace opening p lines stop stands within paced ends =
     record { happens = run_happens plans pace p.at.kept.order opening p.follow.machine p.at.kept.polls p.at.kept.turns p.at.trace stop lines stands.led run; run = run }
 
 -- the same of rounds that were made
-pub rounds_whole : (plans : List ThreadSpec) (limit : ℕ) (opening : Machine) (x : Scene) (p : Pair) (lines : List ThreadLine) (stop : List Event) → 0 < opening.cpus → 0 < limit → x.kept.order ≡ [] → RoundsAre opening.cpus limit x p.at → Stands plans opening p → (AreOver p.at.machine.cpus → All (λ line. has_ended line.state ≡ true) lines) → EndsHere p.follow lines stop → Whole plans (Rounds limit) opening p lines stop
+pub rounds_whole : (plans : List ThreadSpec) (limit : ℕ) (opening : Machine) (x : Scene) (p : Pair) (lines : List ThreadLine) (stop : List Event) → 0 < opening.cpus → 0 < limit → x.kept.order ≡ [] → RoundsAre opening.cpus limit x p.at → IsFollowedSoFar plans opening p → (AreOver p.at.machine.cpus → All (λ line. has_ended line.state ≡ true) lines) → EndsHere p.follow lines stop → Whole plans (Rounds limit) opening p lines stop
 rounds_whole plans limit opening x p lines stop some_cpu some_turn none made stands ended ends =
     let is = paced opening.cpus limit x p.at lines some_cpu some_turn none stands.long made ended in
     followed_whole plans (Rounds limit) opening p lines stop stands (goes_within opening.cpus 0 p.at.kept.order some_cpu is.round) is ends
 
 -- where the check says that the run doesn't end so, it isn't a run of the script that closes so
-pub no_run : (plans : List ThreadSpec) (pace : Pace) (opening : Machine) (p : Pair) (left : Left) (stop : List Event) → Stands plans opening p → DeclinesSo p.follow left stop → IsLawfulTrace opening (p.at.trace ++ stop) left.last → IsScriptRun plans pace p.at.kept.order opening p.at.kept.polls p.at.kept.turns (p.at.trace ++ stop) left.threads.items → ⊥
+pub no_run : (plans : List ThreadSpec) (pace : Pace) (opening : Machine) (p : Pair) (left : Left) (stop : List Event) → IsFollowedSoFar plans opening p → DeclinesSo p.follow left stop → IsLawfulTrace opening (p.at.trace ++ stop) left.last → IsScriptRun plans pace p.at.kept.order opening p.at.kept.polls p.at.kept.turns (p.at.trace ++ stop) left.threads.items → ⊥
 no_run plans pace opening p left stop stands declines lawful run =
     let kept = p.at.kept in
     let lines = left.threads.items in

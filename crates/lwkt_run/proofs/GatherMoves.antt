@@ -1,16 +1,16 @@
--- The written sections that the traces of a run tell, and rows with their generations.
+-- The written sections that the traces of a run name, and rows with their generations.
 use Rattle.std.proofs.Common.{◌≡◌, ℕ, zero, suc, ◌+◌, ◌<◌, List, [], ◌∷◌, ◌++◌, length, take, get_or, refl, ap, sym, ◌∙◌, arith, append_assoc, append-nil, Some}
 use Rattle.std.specs.Prelude.{zip, slice_get, Option, None, option_map}
 use Rattle.std.proofs.lemmas.Option.{none-some, same_Some}
 use Rattle.std.proofs.lemmas.List.{length-map}
-use Rattle.lwkt_base.specs.declared.openings.TokSpec.{TokSpec}
+use Rattle.lwkt_base.specs.declared.opening_specs.TokSpec.{TokSpec}
 use Rattle.lwkt_base.specs.declared.sections.Section.{Section}
 use Rattle.lwkt_core.specs.declared.events.Event.{Event}
 use Rattle.lwkt_core.specs.declared.events.Event.TheVariants.{GiveWritten}
 use Rattle.lwkt_drive.specs.declared.gives.Give.{Give}
 use Rattle.lwkt_drive.specs.Gives.{give_of}
-use Rattle.lwkt_core.specs.RunSections.{section_in, sections_told}
-use Rattle.lwkt_run.specs.Telling.{opening_rows}
+use Rattle.lwkt_core.specs.RunSections.{section_in, sections_named}
+use Rattle.lwkt_run.specs.NamedSections.{opening_rows}
 
 -- one more of two lists side by side
 pub zip_more : {A B : Type 0} (xs : List A) (ys : List B) (i : ℕ) (x : A) (y : B) → i < length xs → i < length ys → zip (take (i + 1) xs) (take (i + 1) ys) ≡ zip (take i xs) (take i ys) ++ (get_or xs i x, get_or ys i y) ∷ []
@@ -45,16 +45,16 @@ event_given (GiveWritten cpu tok section) = refl
 event_given e = refl
 
 -- one event more of those that are read
-told_more : (events : List Event) (place : ℕ) (give : Option Give) → option_map give_of (slice_get events place) ≡ Some give → sections_told (take (place + 1) events) ≡ sections_told (take place events) ++ given give
-told_more [] place give is = absurd (none-some give is)
-told_more (e ∷ events) zero give is =
+named_more : (events : List Event) (place : ℕ) (give : Option Give) → option_map give_of (slice_get events place) ≡ Some give → sections_named (take (place + 1) events) ≡ sections_named (take place events) ++ given give
+named_more [] place give is = absurd (none-some give is)
+named_more (e ∷ events) zero give is =
     append-nil (section_in e) ∙ event_given e ∙ ap given (same_Some (give_of e) give is)
-told_more (e ∷ events) (suc place) give is =
+named_more (e ∷ events) (suc place) give is =
     let s : suc place + 1 ≡ suc (place + 1) = omega arith in
-    ap (λ (n : ℕ). sections_told (take n (e ∷ events))) s ∙ ap (λ (l : List Section). section_in e ++ l) (told_more events place give is) ∙ sym (append_assoc (section_in e) (sections_told (take place events)) (given give))
+    ap (λ (n : ℕ). sections_named (take n (e ∷ events))) s ∙ ap (λ (l : List Section). section_in e ++ l) (named_more events place give is) ∙ sym (append_assoc (section_in e) (sections_named (take place events)) (given give))
 
-pub none_more : (events : List Event) (place : ℕ) → option_map give_of (slice_get events place) ≡ Some None → sections_told (take (place + 1) events) ≡ sections_told (take place events)
-none_more events place is = told_more events place None is ∙ append-nil (sections_told (take place events))
+pub none_more : (events : List Event) (place : ℕ) → option_map give_of (slice_get events place) ≡ Some None → sections_named (take (place + 1) events) ≡ sections_named (take place events)
+none_more events place is = named_more events place None is ∙ append-nil (sections_named (take place events))
 
-pub one_more : (events : List Event) (place : ℕ) (give : Give) → option_map give_of (slice_get events place) ≡ Some (Some give) → sections_told (take (place + 1) events) ≡ sections_told (take place events) ++ give.section ∷ []
-one_more events place give is = told_more events place (Some give) is
+pub one_more : (events : List Event) (place : ℕ) (give : Give) → option_map give_of (slice_get events place) ≡ Some (Some give) → sections_named (take (place + 1) events) ≡ sections_named (take place events) ++ give.section ∷ []
+one_more events place give is = named_more events place (Some give) is

@@ -8,22 +8,22 @@ use Rattle.lwkt_base.specs.declared.names.ThreadId.{ThreadId}
 use Rattle.lwkt_cpu.specs.declared.threads.Thread.{Thread}
 use Rattle.lwkt_cpu.specs.Fresh.{fresh}
 use Rattle.lwkt_cpu.specs.Processors.{Processor, is_running}
-use Rattle.lwkt_machine.specs.declared.standings.Standing.{Standing}
+use Rattle.lwkt_machine.specs.declared.statuses.ThreadStatus.{ThreadStatus}
 use Rattle.lwkt_machine.specs.Bodies.{Scripted}
 use Rattle.lwkt_machine.specs.Machines.{Rig}
 use Rattle.lwkt_machine.specs.Scripts.{body_of, bodies_on, IsOpenedScript}
-use Rattle.lwkt_machine.specs.Standings.{standing_of, standings_on, standings_of}
+use Rattle.lwkt_machine.specs.Statuses.{status_of, statuses_on, statuses_of}
 use Rattle.lwkt_script.specs.declared.scripts.Script.{Script}
 use Rattle.lwkt_script.specs.declared.scripts.ThreadSpec.{ThreadSpec}
 use Rattle.lwkt_script.specs.Format.{threads_on}
 use Rattle.lwkt_run.specs.Judging.{ids_on, ids_of}
 use Rattle.lwkt_run.specs.Running.{HasThreads}
 
-abbrev id_of : Standing → ThreadId
+abbrev id_of : ThreadStatus → ThreadId
 id_of s = s.id
 
 -- the threads of a processor from a number on
-on_from : (cpu : ℕ) (runs : Option ℕ) (threads : List Thread) (n : ℕ) → ids_on cpu n ++ map id_of (map (λ (e : ℕ × Thread). standing_of cpu e.0 (is_running runs e.0) e.1) (enumerate_from n threads)) ≡ ids_on cpu (n + length threads)
+on_from : (cpu : ℕ) (runs : Option ℕ) (threads : List Thread) (n : ℕ) → ids_on cpu n ++ map id_of (map (λ (e : ℕ × Thread). status_of cpu e.0 (is_running runs e.0) e.1) (enumerate_from n threads)) ≡ ids_on cpu (n + length threads)
 on_from cpu runs [] n =
     let z : n ≡ n + 0 = omega arith in
     append-nil (ids_on cpu n) ∙ ap (ids_on cpu) z
@@ -31,37 +31,37 @@ on_from cpu runs (t ∷ threads) n =
     let z : n + 1 + length threads ≡ n + suc (length threads) = omega arith in
     let s : suc n ≡ n + 1 = omega arith in
     let one : ThreadId = record { cpu = record { 0 = cpu }; thread = n } in
-    let rest : List ThreadId = map id_of (map (λ (e : ℕ × Thread). standing_of cpu e.0 (is_running runs e.0) e.1) (enumerate_from (n + 1) threads)) in
+    let rest : List ThreadId = map id_of (map (λ (e : ℕ × Thread). status_of cpu e.0 (is_running runs e.0) e.1) (enumerate_from (n + 1) threads)) in
     sym (append_assoc (ids_on cpu n) (one ∷ []) rest) ∙ ap (λ (m : ℕ). ids_on cpu m ++ rest) s ∙ on_from cpu runs threads (n + 1) ∙ ap (ids_on cpu) z
 
-on_all : (cpu : ℕ) (p : Processor Scripted) → map id_of (standings_on cpu p) ≡ ids_on cpu (length p.threads)
+on_all : (cpu : ℕ) (p : Processor Scripted) → map id_of (statuses_on cpu p) ≡ ids_on cpu (length p.threads)
 on_all cpu p =
     let z : 0 + length p.threads ≡ length p.threads = omega arith in
     on_from cpu p.running p.threads 0 ∙ ap (ids_on cpu) z
 
 -- the threads of processors from a number on
-ids_from : (threads : List ThreadSpec) (cpus : List (Processor Scripted)) (n : ℕ) → ((k : ℕ) (p : Processor Scripted) → slice_get cpus k ≡ Some p → length p.threads ≡ threads_on (n + k) threads) → ids_of n threads ++ map id_of (flat_map (λ (e : ℕ × Processor Scripted). standings_on e.0 e.1) (enumerate_from n cpus)) ≡ ids_of (n + length cpus) threads
+ids_from : (threads : List ThreadSpec) (cpus : List (Processor Scripted)) (n : ℕ) → ((k : ℕ) (p : Processor Scripted) → slice_get cpus k ≡ Some p → length p.threads ≡ threads_on (n + k) threads) → ids_of n threads ++ map id_of (flat_map (λ (e : ℕ × Processor Scripted). statuses_on e.0 e.1) (enumerate_from n cpus)) ≡ ids_of (n + length cpus) threads
 ids_from threads [] n each =
     let z : n ≡ n + 0 = omega arith in
     append-nil (ids_of n threads) ∙ ap (λ (m : ℕ). ids_of m threads) z
 ids_from threads (p ∷ cpus) n each =
-    let f : ℕ × Processor Scripted → List Standing = λ e. standings_on e.0 e.1 in
-    let rest : List Standing = flat_map f (enumerate_from (n + 1) cpus) in
+    let f : ℕ × Processor Scripted → List ThreadStatus = λ e. statuses_on e.0 e.1 in
+    let rest : List ThreadStatus = flat_map f (enumerate_from (n + 1) cpus) in
     let z : n + 1 + length cpus ≡ n + suc (length cpus) = omega arith in
     let s : suc n ≡ n + 1 = omega arith in
     let n0 : n + 0 ≡ n = omega arith in
     let count : length p.threads ≡ threads_on n threads = each 0 p refl ∙ ap (λ (m : ℕ). threads_on m threads) n0 in
-    let here : map id_of (standings_on n p) ≡ ids_on n (threads_on n threads) = on_all n p ∙ ap (ids_on n) count in
+    let here : map id_of (statuses_on n p) ≡ ids_on n (threads_on n threads) = on_all n p ∙ ap (ids_on n) count in
     let later : (k : ℕ) (q : Processor Scripted) → slice_get cpus k ≡ Some q → length q.threads ≡ threads_on (n + 1 + k) threads = λ k q at.
     let e : n + suc k ≡ n + 1 + k = omega arith in
     each (suc k) q at ∙ ap (λ (m : ℕ). threads_on m threads) e in
-    ap (λ xs. ids_of n threads ++ xs) (map-append id_of (standings_on n p) rest ∙ ap (λ xs. xs ++ map id_of rest) here)
+    ap (λ xs. ids_of n threads ++ xs) (map-append id_of (statuses_on n p) rest ∙ ap (λ xs. xs ++ map id_of rest) here)
     ∙ sym (append_assoc (ids_of n threads) (ids_on n (threads_on n threads)) (map id_of rest))
     ∙ ap (λ (m : ℕ). ids_of m threads ++ map id_of rest) s
     ∙ ids_from threads cpus (n + 1) later
     ∙ ap (λ (m : ℕ). ids_of m threads) z
 
-pub ids_are : (cpus : ℕ) (threads : List ThreadSpec) (processors : List (Processor Scripted)) → HasThreads cpus threads processors → map (λ (s : Standing). s.id) (standings_of processors) ≡ ids_of cpus threads
+pub ids_are : (cpus : ℕ) (threads : List ThreadSpec) (processors : List (Processor Scripted)) → HasThreads cpus threads processors → map (λ (s : ThreadStatus). s.id) (statuses_of processors) ≡ ids_of cpus threads
 ids_are cpus threads processors has =
     let later : (k : ℕ) (p : Processor Scripted) → slice_get processors k ≡ Some p → length p.threads ≡ threads_on (0 + k) threads = λ k p at.
     let e : k ≡ 0 + k = omega arith in

@@ -4,8 +4,8 @@ use Rattle.std.specs.Prelude.{slice_get, slice_index_or, Vec}
 use Rattle.std.specs.declared.alloc.Global.{Global}
 use Rattle.std.proofs.lemmas.List.{length-map, length-set}
 use Rattle.std.proofs.lemmas.List.Elements.{filter-append}
-use Rattle.lwkt_base.specs.declared.openings.MsgSpec.{MsgSpec}
-use Rattle.lwkt_base.specs.declared.openings.TokSpec.{TokSpec}
+use Rattle.lwkt_base.specs.declared.opening_specs.MsgSpec.{MsgSpec}
+use Rattle.lwkt_base.specs.declared.opening_specs.TokSpec.{TokSpec}
 use Rattle.lwkt_base.specs.declared.owners.MsgEnd.{MsgEnd}
 use Rattle.lwkt_core.specs.declared.events.Event.{Event}
 use Rattle.lwkt_core.specs.declared.events.Event.TheVariants.{Load, Take, Share, Again, Mark, GiveOne, GiveClean, GiveWritten, Read, Write, ReadBlob, WriteBlob, Send, TakeMsg, DropMsg, Reply, Reap, Abort}
@@ -23,17 +23,17 @@ use Rattle.lwkt_core.specs.Opening.{opening, opened_token, opened_message}
 use Rattle.lwkt_core.specs.Tokens.{token_after}
 use Rattle.lwkt_core.specs.Trace.{Run, end_of, shown_tallies}
 use Rattle.lwkt_core.proofs.MachineMoves.{after_token, after_message}
-use Rattle.lwkt_cpu.specs.Telling.{is_of_message}
-use Rattle.lwkt_bank.specs.Told.{IsDone, first_machine}
-use Rattle.lwkt_hold.specs.Steps.{is_of_token, Tells}
+use Rattle.lwkt_cpu.specs.Traced.{is_of_message}
+use Rattle.lwkt_bank.specs.Ledger.{IsDone, first_machine}
+use Rattle.lwkt_hold.specs.Steps.{is_of_token, AreTraced}
 use Rattle.lwkt_msg.specs.Book.{Mail, no_mail, opened_mail}
 use Rattle.lwkt_msg.specs.Steps.{machine_of}
-use Rattle.lwkt_msg.specs.Told.{IsDone as IsMailDone, first_mails}
+use Rattle.lwkt_msg.specs.Ledger.{IsDone as IsMailDone, first_mails}
 use Rattle.lwkt_machine.specs.Bodies.{Scripted}
 use Rattle.lwkt_machine.specs.declared.closings.Closed.{Closed}
 use Rattle.lwkt_machine.specs.Machines.{Rig}
-use Rattle.lwkt_machine.specs.Parts.{TellTheRuns}
-use Rattle.lwkt_run.specs.Parts.{of_cpu}
+use Rattle.lwkt_machine.specs.ProcessorParts.{ArePartsOfRuns}
+use Rattle.lwkt_run.specs.TraceParts.{of_cpu}
 use Rattle.lwkt_run.specs.Joining.{AreOneRun, RunsJoin}
 
 -- an event is at a token, or at a message
@@ -249,13 +249,13 @@ apart tokens messages are others = record {
 part_kept : (p : Event → Bool) (cpu : ℕ) (events own : List Event) → filter p events ≡ own → filter p (of_cpu cpu events) ≡ of_cpu cpu own
 part_kept p cpu events own is = filter_both p (λ (e : Event). cpu_of e == cpu) events ∙ ap (of_cpu cpu) is
 
--- two runs of a machine's halves, and what the processors' parts tell of them, are one run of it
+-- two runs of a machine's halves, and what the processors' parts have of them, are one run of it
 pub one_run : (cpus : ℕ) (tokens : List TokSpec) (messages : List MsgSpec) (opened : Rig Scripted) (closed : Closed Scripted) (last : Final) (parts : List (List Event))
-    → TellTheRuns opened closed parts → first_machine opened.bank.plans (length opened.cpus) ≡ opening cpus tokens [] → machine_of opened.book.cpus (first_mails opened.book.specs) ≡ opening cpus [] messages
+    → ArePartsOfRuns opened closed parts → first_machine opened.bank.plans (length opened.cpus) ≡ opening cpus tokens [] → machine_of opened.book.cpus (first_mails opened.book.specs) ≡ opening cpus [] messages
     → last.rows ≡ closed.tokens.rows → last.gens ≡ closed.tokens.gens → last.tallies ≡ closed.tokens.tallies → last.blobs ≡ closed.tokens.blobs → last.messages ≡ closed.messages → AreOneRun cpus tokens messages last parts
-one_run cpus tokens messages opened closed last parts tells tokens_from messages_from rows gens tallies blobs mails =
-    let t = tells.tokens in
-    let m = tells.messages in
+one_run cpus tokens messages opened closed last parts modelled tokens_from messages_from rows gens tallies blobs mails =
+    let t = modelled.tokens in
+    let m = modelled.messages in
     let first : List Token = map opened_token tokens in
     let others : List Message = map opened_message messages in
     let es : List Event = events_in t.history in
@@ -291,8 +291,8 @@ one_run cpus tokens messages opened closed last parts tells tokens_from messages
       );
       on_tokens = λ cpu part at.
           let own : of_cpu cpu es ≡ events_by cpu t.history = events_own IsDone token_own cpu t.history (first_machine opened.bank.plans (length opened.cpus)) t.last t.passes in
-          subst (λ l. Tells l (filter is_of_token part)) (sym (part_kept is_of_token cpu (es ++ fs) es halves.on_tokens ∙ own)) (t.told cpu part at).0;
+          subst (λ l. AreTraced l (filter is_of_token part)) (sym (part_kept is_of_token cpu (es ++ fs) es halves.on_tokens ∙ own)) (t.traced cpu part at).0;
       on_messages = λ cpu part at.
           let own : of_cpu cpu fs ≡ events_by cpu m.history = events_own (IsMailDone opened.book.cpus) (mail_own opened.book.cpus) cpu m.history (first_mails opened.book.specs) m.last m.passes in
-          m.told cpu part at ∙ sym (part_kept is_of_message cpu (es ++ fs) fs halves.on_messages ∙ own);
+          m.traced cpu part at ∙ sym (part_kept is_of_message cpu (es ++ fs) fs halves.on_messages ∙ own);
     }

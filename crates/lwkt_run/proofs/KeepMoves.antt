@@ -47,19 +47,19 @@ place_set slot (x ∷ polls) (suc k) q r at same =
     ap F (place_set slot polls k q r at same)
 
 -- of a thread without a poll none gets an answer
-pub none_answered : (slot : ℕ) (told : Answer) (polls : List Poll) → last_place slot polls ≡ None → polls_answered slot told polls ≡ polls
-none_answered slot told polls is = ap (λ o. option_map_or (λ k. changed (with_answer told) polls k) o polls) is
+pub none_answered : (slot : ℕ) (heard : Answer) (polls : List Poll) → last_place slot polls ≡ None → polls_answered slot heard polls ≡ polls
+none_answered slot heard polls is = ap (λ o. option_map_or (λ k. changed (with_answer heard) polls k) o polls) is
 
-changed_long : (told : Answer) (polls : List Poll) (k : ℕ) (o : Option Poll) → slice_get polls k ≡ o → length (changed (with_answer told) polls k) ≡ length polls
-changed_long told polls k None at = ap (λ o. length (option_map_or (λ x. slice_set polls k (with_answer told x)) o polls)) at
-changed_long told polls k (Some q) at = ap length (changed_at (with_answer told) polls k q at) ∙ length-set polls k (with_answer told q)
+changed_long : (heard : Answer) (polls : List Poll) (k : ℕ) (o : Option Poll) → slice_get polls k ≡ o → length (changed (with_answer heard) polls k) ≡ length polls
+changed_long heard polls k None at = ap (λ o. length (option_map_or (λ x. slice_set polls k (with_answer heard x)) o polls)) at
+changed_long heard polls k (Some q) at = ap length (changed_at (with_answer heard) polls k q at) ∙ length-set polls k (with_answer heard q)
 
-pub answered_long : (slot : ℕ) (told : Answer) (polls : List Poll) → length (polls_answered slot told polls) ≡ length polls
-answered_long slot told polls = go (last_place slot polls)
+pub answered_long : (slot : ℕ) (heard : Answer) (polls : List Poll) → length (polls_answered slot heard polls) ≡ length polls
+answered_long slot heard polls = go (last_place slot polls)
   where
-    go : (o : Option ℕ) → length (option_map_or (λ place. changed (with_answer told) polls place) o polls) ≡ length polls
+    go : (o : Option ℕ) → length (option_map_or (λ place. changed (with_answer heard) polls place) o polls) ≡ length polls
     go None = refl
-    go (Some k) = changed_long told polls k (slice_get polls k) refl
+    go (Some k) = changed_long heard polls k (slice_get polls k) refl
 
 -- one poll more at the end: its thread's last one is there, any other's where it was
 pub pushed_here : (slot : ℕ) (polls : List Poll) (q : Poll) → slot_of q.thread ≡ slot → last_place slot (polls ++ q ∷ []) ≡ Some (length polls)
@@ -80,23 +80,23 @@ pushed_other slot (x ∷ polls) q apart =
     ap F (pushed_other slot polls q apart)
 
 -- the place of a thread's last poll, where a poll is answered
-pub place_changed : (slot : ℕ) (told : Answer) (polls : List Poll) (place : ℕ) → last_place slot (changed (with_answer told) polls place) ≡ last_place slot polls
-place_changed slot told polls place = go (slice_get polls place) refl
+pub place_changed : (slot : ℕ) (heard : Answer) (polls : List Poll) (place : ℕ) → last_place slot (changed (with_answer heard) polls place) ≡ last_place slot polls
+place_changed slot heard polls place = go (slice_get polls place) refl
   where
-    go : (o : Option Poll) → slice_get polls place ≡ o → last_place slot (changed (with_answer told) polls place) ≡ last_place slot polls
-    go None at = ap (λ o. last_place slot (option_map_or (λ x. slice_set polls place (with_answer told x)) o polls)) at
-    go (Some q) at = ap (last_place slot) (changed_at (with_answer told) polls place q at) ∙ place_set slot polls place q (with_answer told q) at refl
+    go : (o : Option Poll) → slice_get polls place ≡ o → last_place slot (changed (with_answer heard) polls place) ≡ last_place slot polls
+    go None at = ap (λ o. last_place slot (option_map_or (λ x. slice_set polls place (with_answer heard x)) o polls)) at
+    go (Some q) at = ap (last_place slot) (changed_at (with_answer heard) polls place q at) ∙ place_set slot polls place q (with_answer heard q) at refl
 
 -- the places of last polls
 abbrev pub ArePlaces : List (Option ℕ) → List Poll → Type 0
 ArePlaces last polls = (k : ℕ) → k < 128 → slice_get last k ≡ Some (last_place k polls)
 
 -- what the table says of a thread
-pub place_told : (last : List (Option ℕ)) (polls : List Poll) (slot : ℕ) (o : Option ℕ) → ArePlaces last polls → slot < 128 → get_or last slot None ≡ o → last_place slot polls ≡ o
-place_told last polls slot o are few is = sym (get_or_from_slice_get last slot (last_place slot polls) None (are slot few)) ∙ is
+pub place_kept : (last : List (Option ℕ)) (polls : List Poll) (slot : ℕ) (o : Option ℕ) → ArePlaces last polls → slot < 128 → get_or last slot None ≡ o → last_place slot polls ≡ o
+place_kept last polls slot o are few is = sym (get_or_from_slice_get last slot (last_place slot polls) None (are slot few)) ∙ is
 
-pub places_changed : (last : List (Option ℕ)) (polls : List Poll) (place : ℕ) (told : Answer) → ArePlaces last polls → ArePlaces last (changed (with_answer told) polls place)
-places_changed last polls place told are = λ k less. are k less ∙ ap (λ (o : Option ℕ). Some o) (sym (place_changed k told polls place))
+pub places_changed : (last : List (Option ℕ)) (polls : List Poll) (place : ℕ) (heard : Answer) → ArePlaces last polls → ArePlaces last (changed (with_answer heard) polls place)
+places_changed last polls place heard are = λ k less. are k less ∙ ap (λ (o : Option ℕ). Some o) (sym (place_changed k heard polls place))
 
 pub places_pushed : (last : List (Option ℕ)) (polls : List Poll) (slot len : ℕ) (q : Poll) → ArePlaces last polls → slot_of q.thread ≡ slot → slot < 128 → len ≡ length polls → ArePlaces (set last slot (Some len)) (polls ++ q ∷ [])
 places_pushed last polls slot len q are is few long = λ k less.

@@ -19,13 +19,13 @@ pub mod RoomMoves
 pub mod RoundMoves
 pub mod RunLemmas
 pub mod SectionMoves
-pub mod StandMoves
+pub mod FollowedMoves
 pub mod PartMoves
 pub mod StopMoves
 pub mod StretchLemmas
 pub mod ThreadedLemmas
 pub mod ThreadedMoves
-pub mod ToldMoves
+pub mod NamedMoves
 pub mod TrackMoves
 pub mod TurnMoves
 pub mod TableLines

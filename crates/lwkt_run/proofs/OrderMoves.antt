@@ -208,7 +208,7 @@ pub rounds_along : RoundsAreAnOrder
 rounds_along script lines kept trace last run =
     let has = opened_has script run.opened run.opens in
     let x = scene run.opened [] none_kept in
-    let y = scene run.made run.told kept in
+    let y = scene run.made run.traced kept in
     let t = made_turned script.cpus script.turns x y has.as_many run.rounds in (
       round_list script.cpus t.0,
       (
@@ -216,14 +216,14 @@ rounds_along script lines kept trace last run =
         record {
           opened = run.opened;
           made = run.made;
-          told = run.told;
+          traced = run.traced;
           stops = run.stops;
           opens = run.opens;
           along = along script.cpus t.0 x y t.1;
           shown = run.shown;
           leaves = run.leaves;
           trace_is = run.trace_is;
-          tells = run.tells;
+          modelled = run.modelled;
         },
       ),
     )

@@ -8,7 +8,7 @@ use Rattle.lwkt_core.specs.Events.{cpu_of}
 use Rattle.lwkt_drive.specs.ShortEvents.{KeptTrace}
 use Rattle.lwkt_lane.proofs.PlaceMoves.{some_same}
 use Rattle.lwkt_run.specs.Leaving.{events_of_stops}
-use Rattle.lwkt_run.specs.Parts.{of_cpu, parts_from}
+use Rattle.lwkt_run.specs.TraceParts.{of_cpu, parts_from}
 
 -- the events of a processor among its own, and among another's
 pub of_cpu_own : (cpu : ℕ) (es : List Event) → All (λ (e : Event). cpu_of e ≡ cpu) es → of_cpu cpu es ≡ es

@@ -35,12 +35,12 @@ turn_polled cpu old new t u (Ran place) made =
       (
         subst T (sym here) within,
         (
-          record { thread = record { cpu = record { 0 = cpu }; thread = place }; told = runs.before.last; asked = runs.polls.ask },
+          record { thread = record { cpu = record { 0 = cpu }; thread = place }; heard = runs.before.last; asked = runs.polls.ask },
           record {
             id = refl;
             body = runs.next_body;
             shown = subst B (sym here) body;
-            told = ap (λ (b : Scripted). b.told) once.1;
+            heard = ap (λ (b : Scripted). b.heard) once.1;
             asked = ap (λ (b : Scripted). b.asked) once.1 ∙ ap (λ (a : Ask). Some a) (sym once.0);
           },
         ),
@@ -49,7 +49,7 @@ turn_polled cpu old new t u (Ran place) made =
 turn_polled cpu old new t u Idle d = record {}
 turn_polled cpu old new t u AllExited d = record {}
 
--- a body that is there is told
+-- a body that is there is shown
 nothing_there : (m : Rig Scripted) (cpu thread : ℕ) → (o : Option (Processor Scripted)) → slice_get m.cpus cpu ≡ o → IsSomeAnd o (λ q. thread < length q.threads) → ShowsBody m cpu thread None → ⊥
 nothing_there m cpu thread None at some none = some
 nothing_there m cpu thread (Some q) at some (inl far) = absurd (omega (arith, far, slice_get_within m.cpus cpu q at))
@@ -57,6 +57,6 @@ nothing_there m cpu thread (Some q) at some (inr few) =
     let F : Option (Processor Scripted) → Type 0 = λ o. IsSomeAnd o (λ p. length p.threads ≤ thread) in
     absurd (omega (arith, some, subst F at few))
 
-pub body_told : {A : Type 0} (f : A → Scripted) (m : Rig Scripted) (cpu thread : ℕ) (o : Option A) → WasPolled m cpu thread → ShowsBody m cpu thread (option_map f o) → IsSome o
-body_told f m cpu thread None was shown = absurd (nothing_there m cpu thread (slice_get m.cpus cpu) refl was.0 shown)
-body_told f m cpu thread (Some x) was shown = search rules
+pub body_shown : {A : Type 0} (f : A → Scripted) (m : Rig Scripted) (cpu thread : ℕ) (o : Option A) → WasPolled m cpu thread → ShowsBody m cpu thread (option_map f o) → IsSome o
+body_shown f m cpu thread None was shown = absurd (nothing_there m cpu thread (slice_get m.cpus cpu) refl was.0 shown)
+body_shown f m cpu thread (Some x) was shown = search rules

@@ -15,7 +15,7 @@ use Rattle.lwkt_run.specs.declared.modes.Mode.{Mode}
 use Rattle.lwkt_run.specs.declared.modes.Mode.TheVariants.{Turns, Threads}
 use Rattle.lwkt_run.specs.declared.runs.End.{End}
 use Rattle.lwkt_run.specs.Modes.{MayCloseBy, HasRunBy, RunsJsonAs}
-use Rattle.lwkt_run.specs.Run.{SaysAfterRun, TellsBy, end_told, exit_status}
+use Rattle.lwkt_run.specs.Run.{SaysAfterRun, ReportsBy, end_of_closing, exit_status}
 
 -- too many bytes are no script
 many_are_none : (bytes : List ℕ) → 1048576 < length bytes → script_of bytes ≡ Err 0
@@ -38,12 +38,12 @@ front_gives bytes found gives =
     subst F (sym (front_means bytes)) gives
 
 -- a run that is driven so
-pub has_run_by : (mode : Mode) (bytes : List ℕ) (script : Script) (closing : Closing) → script_of bytes ≡ Ok script → MayCloseBy mode script closing → HasRunBy mode bytes (end_told closing) (report_text closing)
+pub has_run_by : (mode : Mode) (bytes : List ℕ) (script : Script) (closing : Closing) → script_of bytes ≡ Ok script → MayCloseBy mode script closing → HasRunBy mode bytes (end_of_closing closing) (report_text closing)
 has_run_by Turns bytes script closing is closes = record { script = script; read = is; closing = closing; closes = closes; is_text = refl; is_end = refl }
 has_run_by Threads bytes script closing is closes = record { script = script; read = is; closing = closing; closes = closes; is_text = refl; is_end = refl }
 
 -- what the program does
-pub runs_json : (mode : Mode) (source sink : Bool) (left old mid new : Option (List ℕ)) (outcome : Result End RunFault) (status : ℕ) → TellsBy (HasRunBy mode) left old mid outcome → SaysAfterRun sink mid new outcome → BlamesFailed source sink outcome → status ≡ exit_status outcome
+pub runs_json : (mode : Mode) (source sink : Bool) (left old mid new : Option (List ℕ)) (outcome : Result End RunFault) (status : ℕ) → ReportsBy (HasRunBy mode) left old mid outcome → SaysAfterRun sink mid new outcome → BlamesFailed source sink outcome → status ≡ exit_status outcome
     → RunsJsonAs mode source sink left old new status
-runs_json Turns source sink left old mid new outcome status tells says blames is = (outcome, (mid, (tells, (says, (blames, is)))))
-runs_json Threads source sink left old mid new outcome status tells says blames is = (outcome, (mid, (tells, (says, (blames, is)))))
+runs_json Turns source sink left old mid new outcome status modelled says blames is = (outcome, (mid, (modelled, (says, (blames, is)))))
+runs_json Threads source sink left old mid new outcome status modelled says blames is = (outcome, (mid, (modelled, (says, (blames, is)))))

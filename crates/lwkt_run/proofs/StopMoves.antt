@@ -16,7 +16,7 @@ use Rattle.lwkt_machine.specs.Drives.{IsDrivenMachine}
 use Rattle.lwkt_machine.specs.Machines.{Rig}
 use Rattle.lwkt_machine.specs.Scripts.{IsOpenedScript}
 use Rattle.lwkt_machine.proofs.DrivenMoves.{long_processors}
-use Rattle.lwkt_machine.proofs.PartMoves.{driven_many, script_opened, stop_own, told_by_traces}
+use Rattle.lwkt_machine.proofs.PartMoves.{driven_many, script_opened, stop_own, by_own_traces}
 use Rattle.lwkt_base.specs.declared.threads.ThreadLine.{ThreadLine}
 use Rattle.lwkt_script.specs.declared.scripts.Script.{Script}
 use Rattle.lwkt_run.specs.Leaving.{Leaves}
@@ -27,7 +27,7 @@ use Rattle.lwkt_run.proofs.PartMoves.{all_of_stops}
 pub driven_own : (answers : CpuId → ℕ → Bool → Type 0) (limits : Limits) (script : Script) (opened driven : Rig Scripted) (stops : List Event) (last : Final) → IsOpenedScript script opened → IsDrivenMachine IsPolled answers limits opened driven → (leaves : Leaves driven stops last)
     → (k : ℕ) (stop : Vec Event Global) → slice_get leaves.closed.stops.items k ≡ Some stop → All (λ e. cpu_of e ≡ k) stop.items
 driven_own answers limits script opened driven stops last opens drives leaves =
-    stop_own driven leaves.closed leaves.closes (λ k p at. (told_by_traces IsPolled answers limits opened driven (script_opened script opened opens) drives k p at).seat)
+    stop_own driven leaves.closed leaves.closes (λ k p at. (by_own_traces IsPolled answers limits opened driven (script_opened script opened opens) drives k p at).seat)
 
 -- as many processors as stops, and as traces
 pub stops_many : (driven : Rig Scripted) (stops : List Event) (last : Final) (leaves : Leaves driven stops last) → length leaves.closed.stops.items ≡ length driven.cpus

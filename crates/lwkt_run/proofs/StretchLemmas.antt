@@ -5,7 +5,7 @@ use Rattle.std.proofs.lemmas.List.Concat.{flat_map-append}
 use Rattle.std.proofs.lemmas.List.Elements.{All-append}
 use Rattle.std.proofs.lemmas.List.Sorted.{IsPermutation-refl, IsPermutation-trans, IsPermutation-append}
 use Rattle.lwkt_base.specs.declared.sections.Section.{Section}
-use Rattle.lwkt_core.specs.RunSections.{sections_told}
+use Rattle.lwkt_core.specs.RunSections.{sections_named}
 use Rattle.lwkt_drive.specs.ShortEvents.{KeptTrace}
 use Rattle.lwkt_drive.specs.declared.stretches.Stretch.{Stretch}
 use Rattle.lwkt_drive.specs.Stretches.{StandFor}
@@ -20,7 +20,7 @@ stand_both xs ys ss ts a b = record {
 }
 
 -- the sections of one trace more
-pub traces_more : (traces : List KeptTrace) (at : ℕ) (t : KeptTrace) → at < length traces → flat_map (λ trace. sections_told trace.items) (take (at + 1) traces) ≡ flat_map (λ trace. sections_told trace.items) (take at traces) ++ sections_told (get_or traces at t).items
+pub traces_more : (traces : List KeptTrace) (at : ℕ) (t : KeptTrace) → at < length traces → flat_map (λ trace. sections_named trace.items) (take (at + 1) traces) ≡ flat_map (λ trace. sections_named trace.items) (take at traces) ++ sections_named (get_or traces at t).items
 traces_more traces at t low =
-    let F : KeptTrace → List Section = λ trace. sections_told trace.items in
+    let F : KeptTrace → List Section = λ trace. sections_named trace.items in
     ap (λ (l : List KeptTrace). flat_map F l) (take_more traces at t low) ∙ flat_map-append F (take at traces) (get_or traces at t ∷ []) ∙ ap (λ (l : List Section). flat_map F (take at traces) ++ l) (append-nil (F (get_or traces at t)))

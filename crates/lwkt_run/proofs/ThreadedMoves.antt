@@ -4,7 +4,7 @@ use Rattle.std.specs.Prelude.{Bool, slice_get}
 use Rattle.std.proofs.lemmas.Option.{slice_get_within}
 use Rattle.lwkt_drive.specs.declared.driven.Limits.{Limits}
 use Rattle.lwkt_base.specs.declared.names.CpuId.{CpuId}
-use Rattle.lwkt_base.specs.declared.openings.MsgSpec.{MsgSpec}
+use Rattle.lwkt_base.specs.declared.opening_specs.MsgSpec.{MsgSpec}
 use Rattle.lwkt_core.specs.declared.events.Event.{Event}
 use Rattle.lwkt_drive.specs.ShortEvents.{KeptTrace}
 use Rattle.lwkt_core.specs.declared.finals.Final.{Final}
@@ -13,23 +13,23 @@ use Rattle.lwkt_core.specs.Machine.{Machine}
 use Rattle.lwkt_core.specs.Opening.{opening, opened_message, AreWithin}
 use Rattle.lwkt_bank.specs.declared.views.Plan.{Plan}
 use Rattle.lwkt_bank.specs.Opened.{plans_of}
-use Rattle.lwkt_bank.specs.Told.{first_machine}
-use Rattle.lwkt_bank.proofs.ToldMoves.{first_opening}
+use Rattle.lwkt_bank.specs.Ledger.{first_machine}
+use Rattle.lwkt_bank.proofs.LedgerMoves.{first_opening}
 use Rattle.lwkt_msg.specs.Steps.{machine_of}
 use Rattle.lwkt_msg.specs.Book.{Mail}
-use Rattle.lwkt_msg.specs.Told.{first_mails}
+use Rattle.lwkt_msg.specs.Ledger.{first_mails}
 use Rattle.lwkt_machine.specs.Bodies.{Scripted, IsPolled}
 use Rattle.lwkt_machine.specs.Machines.{Rig}
 use Rattle.lwkt_machine.specs.Scripts.{IsOpenedScript}
 use Rattle.lwkt_base.specs.declared.threads.ThreadLine.{ThreadLine}
 use Rattle.lwkt_script.specs.declared.scripts.Script.{Script}
 use Rattle.lwkt_machine.specs.Drives.{IsDrivenMachine}
-use Rattle.lwkt_run.specs.Parts.{of_cpu, parts_from}
-use Rattle.lwkt_machine.specs.Parts.{TellTheRuns}
-use Rattle.lwkt_machine.proofs.PartMoves.{close_tells, driven_many, fronts_of, script_opened, told_by_traces, trace_at}
+use Rattle.lwkt_run.specs.TraceParts.{of_cpu, parts_from}
+use Rattle.lwkt_machine.specs.ProcessorParts.{ArePartsOfRuns}
+use Rattle.lwkt_machine.proofs.PartMoves.{closed_are_parts, driven_many, fronts_of, script_opened, by_own_traces, trace_at}
 use Rattle.lwkt_run.specs.Leaving.{Leaves}
 use Rattle.lwkt_run.specs.Running.{HasThreads, ShowThreads}
-use Rattle.lwkt_run.specs.Threaded.{TellARun}
+use Rattle.lwkt_run.specs.Threaded.{AreTracesOfRun}
 use Rattle.lwkt_run.proofs.PartMoves.{of_cpu_stops, parts_at}
 use Rattle.lwkt_run.proofs.StopMoves.{driven_own, kept_many}
 use Rattle.lwkt_run.proofs.JoinMoves.{one_run}
@@ -56,13 +56,13 @@ driven_has answers script opened driven opens drives =
     has_driven answers (record { turns = script.turns; idle = script.idle }) script.cpus script.threads opened driven drives (opened_has script opened opens)
 
 -- what the processors of a script's machine did are the parts of one run
-driven_tells : (answers : CpuId → ℕ → Bool → Type 0) (limits : Limits) (script : Script) (opened driven : Rig Scripted) (traces : List KeptTrace) (stops : List Event) (last : Final) → IsOpenedScript script opened → IsDrivenMachine IsPolled answers limits opened driven → (leaves : Leaves driven stops last) → traces ≡ leaves.closed.traces.items → TellTheRuns opened leaves.closed (parts_from 0 traces stops)
-driven_tells answers limits script opened driven traces stops last opens drives leaves are =
+driven_are_parts : (answers : CpuId → ℕ → Bool → Type 0) (limits : Limits) (script : Script) (opened driven : Rig Scripted) (traces : List KeptTrace) (stops : List Event) (last : Final) → IsOpenedScript script opened → IsDrivenMachine IsPolled answers limits opened driven → (leaves : Leaves driven stops last) → traces ≡ leaves.closed.traces.items → ArePartsOfRuns opened leaves.closed (parts_from 0 traces stops)
+driven_are_parts answers limits script opened driven traces stops last opens drives leaves are =
     let many = driven_many IsPolled answers limits opened driven drives in
     let closed = leaves.closed in
     let kept = kept_many driven stops last leaves in
     let own = driven_own answers limits script opened driven stops last opens drives leaves in
-    close_tells opened driven (fronts_of driven.driven) closed (parts_from 0 traces stops) drives.bank drives.book many (told_by_traces IsPolled answers limits opened driven (script_opened script opened opens) drives) leaves.closes (λ k part at.
+    closed_are_parts opened driven (fronts_of driven.driven) closed (parts_from 0 traces stops) drives.bank drives.book many (by_own_traces IsPolled answers limits opened driven (script_opened script opened opens) drives) leaves.closes (λ k part at.
     let x = parts_at 0 traces stops k part at in
     let z : 0 + k ≡ k = omega arith in
     let here : slice_get closed.traces.items k ≡ Some x.0 = ap (λ (ts : List KeptTrace). slice_get ts k) (sym are) ∙ x.1.0 in
@@ -73,11 +73,11 @@ driven_tells answers limits script opened driven traces stops last opens drives 
           x.1.1 ∙ ap (λ (es : List Event). x.0.items ++ es) mine ∙ ap (λ (es : List Event). es ++ stop.items) (sym (trace_at driven closed leaves.closes k x.0 here less)),
     ))
 
--- what a run on threads left and told
+-- what a run on threads left and traced
 pub ended : (answers : CpuId → ℕ → Bool → Type 0) (script : Script) (lines : List ThreadLine) (last : Final) (opened driven : Rig Scripted) (traces : List KeptTrace) (stops : List Event) → IsOpenedScript script opened → AreWithin script.cpus script.tokens script.messages → IsDrivenMachine IsPolled answers (record { turns = script.turns; idle = script.idle }) opened driven → ShowThreads lines driven → (leaves : Leaves driven stops last) → traces ≡ leaves.closed.traces.items
-    → TellARun answers script lines last traces stops
+    → AreTracesOfRun answers script lines last traces stops
 ended answers script lines last opened driven traces stops opens within drives shown leaves are =
-    let tells = driven_tells answers (record { turns = script.turns; idle = script.idle }) script opened driven traces stops last opens drives leaves are in
+    let modelled = driven_are_parts answers (record { turns = script.turns; idle = script.idle }) script opened driven traces stops last opens drives leaves are in
     let tokens = tokens_from script opened opens within in
     let messages = messages_from script opened opens in
     record {
@@ -91,10 +91,10 @@ ended answers script lines last opened driven traces stops opens within drives s
         shown = shown;
         leaves = leaves;
         traces_are = are;
-        tells = tells;
+        modelled = modelled;
         tokens_from = tokens;
         messages_from = messages;
-        one = one_run script.cpus script.tokens script.messages opened leaves.closed last (parts_from 0 traces stops) tells tokens messages leaves.rows leaves.gens leaves.tallies leaves.blobs leaves.messages;
+        one = one_run script.cpus script.tokens script.messages opened leaves.closed last (parts_from 0 traces stops) modelled tokens messages leaves.rows leaves.gens leaves.tallies leaves.blobs leaves.messages;
       };
       traces_are = refl;
       stops_are = refl;

@@ -11,7 +11,7 @@ use Rattle.lwkt_base.specs.declared.threads.ThreadLine.{ThreadLine}
 use Rattle.lwkt_verdict.specs.declared.turns.Poll.{Poll}
 use Rattle.lwkt_verdict.specs.declared.turns.Turn.{Turn}
 use Rattle.lwkt_verdict.specs.declared.progress.Piece.{Piece}
-use Rattle.lwkt_verdict.specs.Parts.{after_all}
+use Rattle.lwkt_verdict.specs.TurnParts.{after_all}
 use Rattle.lwkt_verdict.specs.Run.{whose, poll_of, piece, TurnFits, EndsRun, RunsThrough, BeginRun}
 use Rattle.lwkt_verdict.specs.Threads.{slot_of}
 use Rattle.lwkt_verdict.specs.Follow.{Follow, AllBear, AllAllow, AreShown, GoesOn, Declines, answered_at, none_answered, poll_so, Begins}
@@ -180,13 +180,13 @@ whose_named order whole cpu is = ap (λ o. unwrap_or o 0) (front_get ℕ order w
 
 -- the poll of a turn that is kept now
 poll_kept : (answers : ℕ → Option Answer) (p : Polled) (events : ℕ) (kept polls : List Poll) → IsFront (filled answers (polls_after (Some p) kept)) polls
-    → (IsFront (filled (answered_at (slot_of p.thread) (Some p.told) answers) kept) polls × (poll_of polls (turn_of (Some p) events (length kept)) ≡ Some (record { answer = answers (slot_of p.thread); ask = p.asked; thread = p.thread })))
+    → (IsFront (filled (answered_at (slot_of p.thread) (Some p.heard) answers) kept) polls × (poll_of polls (turn_of (Some p) events (length kept)) ≡ Some (record { answer = answers (slot_of p.thread); ask = p.asked; thread = p.thread })))
 poll_kept answers p events kept polls front =
     let new : Poll = record { answer = None; ask = p.asked; thread = p.thread } in
-    let older : List Poll = filled (answered_at (slot_of p.thread) (Some p.told) answers) kept in
-    let e = filled_after (slot_of p.thread) p.told answers new kept refl in
+    let older : List Poll = filled (answered_at (slot_of p.thread) (Some p.heard) answers) kept in
+    let e = filled_after (slot_of p.thread) p.heard answers new kept refl in
     let is : IsFront (older ++ answered (answers (slot_of p.thread)) new ∷ []) polls = subst (λ qs. IsFront qs polls) e front in
-    let place : length kept ≡ length older = sym (filled_long (answered_at (slot_of p.thread) (Some p.told) answers) kept) in
+    let place : length kept ≡ length older = sym (filled_long (answered_at (slot_of p.thread) (Some p.heard) answers) kept) in
     (less_front Poll older polls _ is, ap (λ k. slice_get polls k) place ∙ front_get Poll older polls _ is)
 
 -- a turn more that is kept
@@ -199,7 +199,7 @@ tracks_on plans opening kept trace f g cpu (Some p) part threads long goes track
     let here : whose order (length kept.turns) ≡ cpu = ap (whose order) (sym long) ∙ whose_named kept.order order cpu named in
     let q = poll_kept answers p (length part) kept.polls polls fronts in
     track_on plans opening kept.turns trace f g cpu part _ _ answers lines polls order (turn_of (Some p) (length part) (length kept.polls)) threads goes bear here refl q.1
-    (tracks (answered_at (slot_of p.thread) (Some p.told) answers) lines polls order (goes.bear answers lines bear) q.0 (less_front ℕ kept.order order cpu named))
+    (tracks (answered_at (slot_of p.thread) (Some p.heard) answers) lines polls order (goes.bear answers lines bear) q.0 (less_front ℕ kept.order order cpu named))
 
 pub knows_on : (plans : List ThreadSpec) (opening : Machine) (kept : Kept) (trace : List Event) (f g : Follow) (cpu : ℕ) (asks : Option Polled) (part : List Event) → f.plans ≡ plans → length kept.order ≡ length kept.turns → GoesOnBy cpu asks part f g → Knows plans opening kept trace f → Knows plans opening (kept_after cpu (length part) asks kept) (trace ++ part) g
 knows_on plans opening kept trace f g cpu None part threads long goes knows ends answers lines polls order fronts named later events runs =
@@ -212,7 +212,7 @@ knows_on plans opening kept trace f g cpu (Some p) part threads long goes knows 
     let here : whose order (length kept.turns) ≡ cpu = ap (whose order) (sym long) ∙ whose_named kept.order order cpu named in
     let q = poll_kept answers p (length part) kept.polls polls fronts in
     know_on ends plans kept.turns f g cpu part _ _ answers lines polls order t later events threads goes here refl q.1
-    (knows ends (answered_at (slot_of p.thread) (Some p.told) answers) lines polls order q.0 (less_front ℕ kept.order order cpu named) (t ∷ later) (part ++ events) (one_more ends plans opening lines polls order kept.turns later t trace part events runs))
+    (knows ends (answered_at (slot_of p.thread) (Some p.heard) answers) lines polls order q.0 (less_front ℕ kept.order order cpu named) (t ∷ later) (part ++ events) (one_more ends plans opening lines polls order kept.turns later t trace part events runs))
 
 -- a turn more that the check doesn't go on by: no run begins so
 declined : (plans : List ThreadSpec) (turns : List Turn) (f : Follow) (cpu : ℕ) (part : List Event) (poll : (ℕ → Option Answer) → Option Poll) (former : (ℕ → Option Answer) → ℕ → Option Answer) (lines : List ThreadLine) (polls : List Poll) (order : List ℕ) (t : Turn) (events : List Event) → f.plans ≡ plans → Declines cpu part poll former f → whose order (length turns) ≡ cpu → t.events ≡ length part → poll_of polls t ≡ poll none_answered → length turns < 18446744073709551615
@@ -245,5 +245,5 @@ declined_on plans opening kept trace f cpu (Some p) part threads long few waits 
     let here : whose order (length kept.turns) ≡ cpu = ap (whose order) (sym long) ∙ whose_named kept.order order cpu named in
     let B : List Turn → Type 0 = λ ts. BeginRun plans lines polls order opening [] ts ((trace ++ part) ++ events) in
     let through = through_begun plans lines polls order opening [] ((kept.turns ++ t ∷ []) ++ []) ((trace ++ part) ++ events) (subst B (sym (append-nil (kept.turns ++ t ∷ []))) runs) in
-    declined plans kept.turns f cpu part (poll_so p.thread p.asked) (answered_at (slot_of p.thread) (Some p.told)) lines polls order t events threads declines here refl q.1 few
-    (knows false (answered_at (slot_of p.thread) (Some p.told) none_answered) lines polls order q.0 (less_front ℕ kept.order order cpu named) (t ∷ []) (part ++ events) (one_more false plans opening lines polls order kept.turns [] t trace part events through))
+    declined plans kept.turns f cpu part (poll_so p.thread p.asked) (answered_at (slot_of p.thread) (Some p.heard)) lines polls order t events threads declines here refl q.1 few
+    (knows false (answered_at (slot_of p.thread) (Some p.heard) none_answered) lines polls order q.0 (less_front ℕ kept.order order cpu named) (t ∷ []) (part ++ events) (one_more false plans opening lines polls order kept.turns [] t trace part events through))

@@ -7,7 +7,7 @@ use Rattle.lwkt_report.specs.declared.closings.Verdict.{Verdict}
 use Rattle.lwkt_script.specs.declared.scripts.Script.{Script}
 use Rattle.lwkt_verdict.specs.declared.progress.Piece.{Piece}
 use Rattle.lwkt_verdict.specs.Follow.{Follow, AllAllow, AreShown, none_answered, EndsHere}
-use Rattle.lwkt_verdict.specs.Parts.{after_all}
+use Rattle.lwkt_verdict.specs.TurnParts.{after_all}
 use Rattle.lwkt_verdict.specs.Run.{AreListed, EndsRun}
 use Rattle.lwkt_run.specs.Driving.{pace_of}
 use Rattle.lwkt_run.specs.Judging.{ids_of, IsVerdict}

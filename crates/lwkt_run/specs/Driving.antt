@@ -31,12 +31,12 @@ pair at follow = record { at = at; follow = follow }
 -- the check goes on by a turn that asked this, or nothing
 abbrev pub GoesOnBy : ℕ → Option Polled → List Event → Follow → Follow → Type 0
 GoesOnBy cpu None part old new = GoesOnUnasked cpu part old new
-GoesOnBy cpu (Some p) part old new = GoesOnByPoll cpu p.thread p.told p.asked part old new
+GoesOnBy cpu (Some p) part old new = GoesOnByPoll cpu p.thread p.heard p.asked part old new
 
 -- the check doesn't go on by a turn that asked this, or nothing
 abbrev pub DeclinesBy : ℕ → Option Polled → List Event → Follow → Type 0
 DeclinesBy cpu None part f = DeclinesUnasked cpu part f
-DeclinesBy cpu (Some p) part f = DeclinesPoll cpu p.thread p.told p.asked part f
+DeclinesBy cpu (Some p) part f = DeclinesPoll cpu p.thread p.heard p.asked part f
 
 -- the processor of this number makes a turn, which says this and is kept; and the check goes on by what it asked and by its events
 pub record FollowsTurn (cpu : ℕ) (turned : Turned) (x y : Pair) : Type 0 where
@@ -73,7 +73,7 @@ FollowsStep cpu x y = (turned : Turned) × (FollowsTurn cpu turned x.at y.at × 
 abbrev pub FollowsRound : Bool → ℕ → Pair → Pair → Type 0
 FollowsRound over number x y = Chain Walk FollowsStep (length x.at.machine.cpus) (walk x true) (walk y over)
 
--- a round was followed, and told whether it was over; if it was, every thread of each processor has ended
+-- a round was followed, and said whether it was over; if it was, every thread of each processor has ended
 pub record RoundFollowed (x y : Pair) (over : Bool) : Type 0 where
   pub round : FollowsRound over 0 x y
   pub over_is : over ≡ true → AreOver y.at.machine.cpus
@@ -103,53 +103,53 @@ abbrev pub StopsAlong : List ℕ → Pair → Scene → Type 0
 StopsAlong order x y = (n : ℕ) × ((n < length order) × ((mid : Pair) × (Chain Pair (λ k. FollowsTurnAt (whose order k)) n x mid × DeclinesTurn (whose order n) mid y)))
 
 -- where a driver stands: its machine, what is kept of the run, if anything is, how many events it has counted, and the check
-pub record Stand : Type 0 where
+pub record DriverState : Type 0 where
   pub machine : Rig Scripted
   pub kept : Option Story
   pub events : ℕ
   pub follow : Follow
 
-abbrev pub stand : Rig Scripted → Option Story → ℕ → Follow → Stand
-stand machine kept events follow = record { machine = machine; kept = kept; events = events; follow = follow }
+abbrev pub driver_state : Rig Scripted → Option Story → ℕ → Follow → DriverState
+driver_state machine kept events follow = record { machine = machine; kept = kept; events = events; follow = follow }
 
 -- a scene has the machine of a driver, and what that keeps, if it keeps anything
-pub record IsOf (s : Stand) (x : Scene) : Type 0 where
+pub record IsOf (s : DriverState) (x : Scene) : Type 0 where
   pub machine : x.machine ≡ s.machine
   pub kept : IfSome s.kept (λ story. (x.trace ≡ story.trace) × (x.kept ≡ story.kept))
 
 -- the same, where the events of all turns are counted
-pub record IsAt (s : Stand) (x : Scene) : Type 0 where
+pub record IsAt (s : DriverState) (x : Scene) : Type 0 where
   pub of : IsOf s x
   pub counted : s.events ≡ events_of x.kept.turns
 
 -- the same, where the check said no to the last turn, whose events aren't counted
-pub record IsStopped (s : Stand) (x : Scene) : Type 0 where
+pub record IsStopped (s : DriverState) (x : Scene) : Type 0 where
   pub of : IsOf s x
   pub stood : CountsBefore s.events x.kept.turns
 
 -- a driver made a turn, which the check said no to; or which it followed, and whether the turn says that every thread of its processor has
 -- ended
-abbrev pub TurnDriven : ℕ → Option Bool → Stand → Stand → Type 0
+abbrev pub TurnDriven : ℕ → Option Bool → DriverState → DriverState → Type 0
 TurnDriven cpu None s t = (x : Scene) → IsAt s x → (y : Scene) × (IsStopped t y × DeclinesTurn cpu (pair x s.follow) y)
 TurnDriven cpu (Some over) s t = (x : Scene) → IsAt s x → (y : Scene) × (IsAt t y × ((turned : Turned) × (FollowsTurn cpu turned (pair x s.follow) (pair y t.follow) × (over ≡ says_over turned))))
 
 -- a driver made a round, up to a turn that the check said no to; or a whole one, and whether it was over
-abbrev pub RoundDriven : Option Bool → Stand → Stand → Type 0
+abbrev pub RoundDriven : Option Bool → DriverState → DriverState → Type 0
 RoundDriven None s t = (x : Scene) → IsAt s x → (y : Scene) × (IsStopped t y × StopsInRound (pair x s.follow) y)
 RoundDriven (Some over) s t = (x : Scene) → IsAt s x → (y : Scene) × (IsAt t y × RoundFollowed (pair x s.follow) (pair y t.follow) over)
 
 -- a driver made rounds, up to a turn that the check said no to; or all
-abbrev pub RoundsDriven : ℕ → Bool → Stand → Stand → Type 0
+abbrev pub RoundsDriven : ℕ → Bool → DriverState → DriverState → Type 0
 RoundsDriven limit false s t = (x : Scene) → IsAt s x → (y : Scene) × (IsStopped t y × StopsInRounds limit (pair x s.follow) y)
 RoundsDriven limit true s t = (x : Scene) → IsAt s x → (y : Scene) × (IsAt t y × HasFollowed limit (pair x s.follow) (pair y t.follow))
 
 -- a driver made the turns of an order, up to one that the check said no to; or all
-abbrev pub TurnsDriven : List ℕ → Bool → Stand → Stand → Type 0
+abbrev pub TurnsDriven : List ℕ → Bool → DriverState → DriverState → Type 0
 TurnsDriven order false s t = (x : Scene) → IsAt s x → (y : Scene) × (IsStopped t y × StopsAlong order (pair x s.follow) y)
 TurnsDriven order true s t = (x : Scene) → IsAt s x → (y : Scene) × (IsAt t y × FollowsTurns order (pair x s.follow) (pair y t.follow))
 
 -- the same by the course of a run
-abbrev pub IsDriven : Course → Bool → Stand → Stand → Type 0
+abbrev pub IsDriven : Course → Bool → DriverState → DriverState → Type 0
 IsDriven (Rounds limit) fits s t = RoundsDriven limit fits s t
 IsDriven (Along order) fits s t = TurnsDriven order.now fits s t
 

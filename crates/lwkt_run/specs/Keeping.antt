@@ -12,7 +12,7 @@ use Rattle.lwkt_run.specs.declared.polled.PolledRef.{PolledRef}
 
 -- what a turn asked, by where it stands
 abbrev pub polled_of : PolledRef → Polled
-polled_of h = record { thread = h.thread; told = h.told.now; asked = h.asked.now }
+polled_of h = record { thread = h.thread; heard = h.heard.now; asked = h.asked.now }
 
 -- what is kept of a run: the processor of each turn, the turns in order, and their polls
 pub record Kept : Type 0 where
@@ -33,17 +33,17 @@ last_place slot (q ∷ polls) = option_map_or (λ place. Some (place + 1)) (last
 
 -- a poll with its answer
 abbrev pub with_answer : Answer → Poll → Poll
-with_answer told q = record q { answer = Some told }
+with_answer heard q = record q { answer = Some heard }
 
 -- polls, of which the last one of a thread, if it has one, gets its answer
 abbrev pub polls_answered : ℕ → Answer → List Poll → List Poll
-polls_answered slot told polls = option_map_or (λ place. changed (with_answer told) polls place) (last_place slot polls) polls
+polls_answered slot heard polls = option_map_or (λ place. changed (with_answer heard) polls place) (last_place slot polls) polls
 
 -- the polls after a turn, by what it asked: where it polled a thread, that thread's last poll before has the answer that it was given
 -- now, and behind all stands the new one, without an answer
 abbrev pub polls_after : Option Polled → List Poll → List Poll
 polls_after None polls = polls
-polls_after (Some p) polls = polls_answered (slot_of p.thread) p.told polls ++ record { answer = None; ask = p.asked; thread = p.thread } ∷ []
+polls_after (Some p) polls = polls_answered (slot_of p.thread) p.heard polls ++ record { answer = None; ask = p.asked; thread = p.thread } ∷ []
 
 -- a turn of so many events, by what it asked, where there were so many polls before: the place of its poll
 abbrev pub turn_of : Option Polled → ℕ → ℕ → Turn
@@ -67,8 +67,8 @@ pub record Story : Type 0 where
 abbrev pub story_as : List Event → Kept → Story
 story_as trace kept = record { trace = trace; kept = kept }
 
-abbrev pub none_told : Story
-none_told = story_as [] none_kept
+abbrev pub no_story : Story
+no_story = story_as [] none_kept
 
 -- the same after a turn more of a processor, by what it asked and by its events
 abbrev pub story_after : ℕ → Option Polled → List Event → Story → Story

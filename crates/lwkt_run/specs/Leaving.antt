@@ -7,7 +7,7 @@ use Rattle.lwkt_machine.specs.declared.closings.Closed.{Closed}
 use Rattle.lwkt_machine.specs.Bodies.{Scripted}
 use Rattle.lwkt_machine.specs.Ended.{IsClosedMachine}
 use Rattle.lwkt_machine.specs.Machines.{Rig}
-use Rattle.lwkt_run.specs.declared.endings.Told.{Told}
+use Rattle.lwkt_run.specs.declared.endings.Remains.{Remains}
 
 -- the events of the stops of processors, one processor's after another's
 abbrev pub events_of_stops : List (Vec Event Global) → List Event
@@ -24,16 +24,16 @@ pub record Leaves (m : Rig Scripted) (stops : List Event) (last : Final) : Type 
   pub blobs : last.blobs ≡ closed.tokens.blobs
   pub messages : last.messages ≡ closed.messages
 
--- what is told of a machine that closed so: its closing values, the traces that it has kept, and the events of its stop
-pub record IsLeftBy (closed : Closed Scripted) (told : Told) : Type 0 where
-  pub stops : told.stops.items ≡ events_of_stops closed.stops.items
-  pub traces : told.traces.items ≡ closed.traces.items
-  pub rows : told.left.last.rows ≡ closed.tokens.rows
-  pub gens : told.left.last.gens ≡ closed.tokens.gens
-  pub tallies : told.left.last.tallies ≡ closed.tokens.tallies
-  pub blobs : told.left.last.blobs ≡ closed.tokens.blobs
-  pub messages : told.left.last.messages ≡ closed.messages
+-- what remains of a machine that closed so: its closing values, the traces that it has kept, and the events of its stop
+pub record IsLeftBy (closed : Closed Scripted) (remains : Remains) : Type 0 where
+  pub stops : remains.stops.items ≡ events_of_stops closed.stops.items
+  pub traces : remains.traces.items ≡ closed.traces.items
+  pub rows : remains.left.last.rows ≡ closed.tokens.rows
+  pub gens : remains.left.last.gens ≡ closed.tokens.gens
+  pub tallies : remains.left.last.tallies ≡ closed.tokens.tallies
+  pub blobs : remains.left.last.blobs ≡ closed.tokens.blobs
+  pub messages : remains.left.last.messages ≡ closed.messages
 
--- what is told of a run is what its machine left
-abbrev pub LeavesTold : Rig Scripted → Told → Type 0
-LeavesTold m told = (leaves : Leaves m told.stops.items told.left.last) × (told.traces.items ≡ leaves.closed.traces.items)
+-- what remains of a run is what its machine left
+abbrev pub LeavesRemains : Rig Scripted → Remains → Type 0
+LeavesRemains m remains = (leaves : Leaves m remains.stops.items remains.left.last) × (remains.traces.items ≡ leaves.closed.traces.items)

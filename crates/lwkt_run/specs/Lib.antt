@@ -12,6 +12,6 @@ pub mod Run
 pub mod Running
 pub mod Values
 pub mod Threaded
-pub mod Telling
+pub mod NamedSections
 pub mod Modes
-pub mod Parts
+pub mod TraceParts

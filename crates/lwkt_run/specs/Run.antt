@@ -31,8 +31,8 @@ use Rattle.lwkt_machine.specs.Bodies.{Scripted}
 use Rattle.lwkt_machine.specs.declared.closings.Closed.{Closed as ClosedMachine}
 use Rattle.lwkt_machine.specs.Machines.{Rig}
 use Rattle.lwkt_machine.specs.Scripts.{IsOpenedScript, DeclinesScript as IsDeclined}
-use Rattle.lwkt_machine.specs.Parts.{TellTheRuns}
-use Rattle.lwkt_run.specs.Parts.{of_cpu}
+use Rattle.lwkt_machine.specs.ProcessorParts.{ArePartsOfRuns}
+use Rattle.lwkt_run.specs.TraceParts.{of_cpu}
 use Rattle.lwkt_run.specs.Chains.{WritesChains}
 use Rattle.lwkt_run.specs.Joining.{AreOneRun}
 use Rattle.lwkt_run.specs.Keeping.{Kept, kept_as, none_kept}
@@ -65,8 +65,8 @@ parts_in cpus trace = map (λ cpu. of_cpu cpu trace) (range_with_len 0 cpus)
 -- the parts of one run of the model on tokens and of one on messages, to the values at the close; and so of one run of the whole
 -- machine, from the script's opening to these closing values; and the written sections of that run are chains, of each token one from
 -- its opening row to its closing one (own)
-pub record TellsOneRun (script : Script) (opened : Rig Scripted) (closed : ClosedMachine Scripted) (last : Final) (trace : List Event) : Type 0 where
-  pub tells : TellTheRuns opened closed (parts_in script.cpus trace)
+pub record IsTraceOfOneRun (script : Script) (opened : Rig Scripted) (closed : ClosedMachine Scripted) (last : Final) (trace : List Event) : Type 0 where
+  pub modelled : ArePartsOfRuns opened closed (parts_in script.cpus trace)
   pub one : AreOneRun script.cpus script.tokens script.messages last (parts_in script.cpus trace)
   pub chains : WritesChains (opening_of_script script) one.events last
 
@@ -77,14 +77,14 @@ pub record TellsOneRun (script : Script) (opened : Rig Scripted) (closed : Close
 pub record RunsInRounds (script : Script) (lines : List ThreadLine) (kept : Kept) (trace : List Event) (last : Final) : Type 0 where
   pub opened : Rig Scripted
   pub made : Rig Scripted
-  pub told : List Event
+  pub traced : List Event
   pub stops : List Event
   pub opens : IsOpenedScript script opened
-  pub rounds : HasMadeRounds script.turns (scene opened [] none_kept) (scene made told kept)
+  pub rounds : HasMadeRounds script.turns (scene opened [] none_kept) (scene made traced kept)
   pub shown : ShowThreads lines made
   pub leaves : Leaves made stops last
-  pub trace_is : trace ≡ told ++ stops
-  pub tells : TellsOneRun script opened leaves.closed last trace
+  pub trace_is : trace ≡ traced ++ stops
+  pub modelled : IsTraceOfOneRun script opened leaves.closed last trace
 
 -- the same of a run along an order of processors: the script's machine was opened, and made the turn of each processor that the
 -- order names, one after another, and each of these turns was kept, and nothing else; the lines show how its threads stood then; it
@@ -92,14 +92,14 @@ pub record RunsInRounds (script : Script) (lines : List ThreadLine) (kept : Kept
 pub record RunsAlong (script : Script) (order : List ℕ) (lines : List ThreadLine) (kept : Kept) (trace : List Event) (last : Final) : Type 0 where
   pub opened : Rig Scripted
   pub made : Rig Scripted
-  pub told : List Event
+  pub traced : List Event
   pub stops : List Event
   pub opens : IsOpenedScript script opened
-  pub along : MakesTurns order (scene opened [] none_kept) (scene made told kept)
+  pub along : MakesTurns order (scene opened [] none_kept) (scene made traced kept)
   pub shown : ShowThreads lines made
   pub leaves : Leaves made stops last
-  pub trace_is : trace ≡ told ++ stops
-  pub tells : TellsOneRun script opened leaves.closed last trace
+  pub trace_is : trace ≡ traced ++ stops
+  pub modelled : IsTraceOfOneRun script opened leaves.closed last trace
 
 -- the same of a run at a pace: in the rounds of the script, or along an order
 abbrev pub RunsAt : Pace → Script → List ℕ → List ThreadLine → Kept → List Event → Final → Type 0
@@ -159,8 +159,8 @@ end_by Closed false = TurnsOut
 end_by Lawful true = Ended
 end_by Lawful false = TurnsOut
 
-abbrev pub end_told : Closing → End
-end_told closing = end_by closing.verdict (list_all (λ line. has_ended line.state) closing.threads.items)
+abbrev pub end_of_closing : Closing → End
+end_of_closing closing = end_by closing.verdict (list_all (λ line. has_ended line.state) closing.threads.items)
 
 -- these bytes are a script, and a run of it may end so, with this report
 pub record HasRun (bytes : List ℕ) (end : End) (text : List ℕ) : Type 0 where
@@ -169,7 +169,7 @@ pub record HasRun (bytes : List ℕ) (end : End) (text : List ℕ) : Type 0 wher
   pub closing : Closing
   pub closes : MayClose (Rounds script.turns) script closing
   pub is_text : text ≡ report_text closing
-  pub is_end : end ≡ end_told closing
+  pub is_end : end ≡ end_of_closing closing
 
 -- a run of the script in rounds, with a trace, turns and polls that the verdict of what is shown is on (own)
 pub record IsTurnsRun (script : Script) (run : TurnsRun) : Type 0 where
@@ -224,14 +224,14 @@ AreBytesRead left bytes = IfSome left (λ all. bytes ≡ take READ_LIMIT all)
 -- what a run says by its answer, of what was left to read and of what was written before and after it, where this tells how a run
 -- of a script may end and with which report: the report of a run of the script that was read; or nothing written, and why; or,
 -- where a stream failed, a front of such a report
-abbrev pub TellsBy : (List ℕ → End → List ℕ → Type 0) → Option (List ℕ) → Option (List ℕ) → Option (List ℕ) → Result End RunFault → Type 0
-TellsBy Run left old new (Ok end) = (bytes : List ℕ) × (AreBytesRead left bytes × ((text : List ℕ) × (Run bytes end text × Appends old new text)))
-TellsBy Run left old new (Err (Fault fault)) = Keeps old new × ((bytes : List ℕ) × (AreBytesRead left bytes × Refuses bytes fault))
-TellsBy Run left old new (Err Stream) = Keeps old new ⊎ ((bytes : List ℕ) × (AreBytesRead left bytes × ((end : End) × ((text : List ℕ) × (Run bytes end text × AppendsFront old new text)))))
+abbrev pub ReportsBy : (List ℕ → End → List ℕ → Type 0) → Option (List ℕ) → Option (List ℕ) → Option (List ℕ) → Result End RunFault → Type 0
+ReportsBy Run left old new (Ok end) = (bytes : List ℕ) × (AreBytesRead left bytes × ((text : List ℕ) × (Run bytes end text × Appends old new text)))
+ReportsBy Run left old new (Err (Fault fault)) = Keeps old new × ((bytes : List ℕ) × (AreBytesRead left bytes × Refuses bytes fault))
+ReportsBy Run left old new (Err Stream) = Keeps old new ⊎ ((bytes : List ℕ) × (AreBytesRead left bytes × ((end : End) × ((text : List ℕ) × (Run bytes end text × AppendsFront old new text)))))
 
 -- the same of a run in rounds
-abbrev pub TellsRounds : Option (List ℕ) → Option (List ℕ) → Option (List ℕ) → Result End RunFault → Type 0
-TellsRounds left old new answer = TellsBy HasRun left old new answer
+abbrev pub ReportsRounds : Option (List ℕ) → Option (List ℕ) → Option (List ℕ) → Result End RunFault → Type 0
+ReportsRounds left old new answer = ReportsBy HasRun left old new answer
 
 -- what a run's end says by its answer, of what was written before and after it: its report was written whole, or a front of it where
 -- the stream failed; of a refused run nothing
@@ -258,7 +258,7 @@ SaysAfterRun failed old new (Err fault) = IsSaid failed old new (fault_line RunP
 -- what the program does where its one argument is right: it runs, answers the status and writes the line; it blames a stream only
 -- where one has failed
 abbrev pub RunsAs : Bool → Bool → Option (List ℕ) → Option (List ℕ) → Option (List ℕ) → ℕ → Type 0
-RunsAs source_failed sink_failed left old new status = (outcome : Result End RunFault) × ((mid : Option (List ℕ)) × (TellsRounds left old mid outcome × (SaysAfterRun sink_failed mid new outcome × (BlamesFailed source_failed sink_failed outcome × (status ≡ exit_status outcome)))))
+RunsAs source_failed sink_failed left old new status = (outcome : Result End RunFault) × ((mid : Option (List ℕ)) × (ReportsRounds left old mid outcome × (SaysAfterRun sink_failed mid new outcome × (BlamesFailed source_failed sink_failed outcome × (status ≡ exit_status outcome)))))
 
 -- the arguments are the one word `turns`
 abbrev pub AsksTurns : List (String Global) → Type 0

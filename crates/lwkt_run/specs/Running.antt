@@ -10,7 +10,7 @@ use Rattle.lwkt_cpu.specs.Processors.{Processor}
 use Rattle.lwkt_machine.specs.Bodies.{Scripted, IsPolled}
 use Rattle.lwkt_machine.specs.Ended.{AreOver}
 use Rattle.lwkt_machine.specs.Machines.{Rig, ShowsBody}
-use Rattle.lwkt_machine.specs.Standings.{standings_of}
+use Rattle.lwkt_machine.specs.Statuses.{statuses_of}
 use Rattle.lwkt_machine.specs.Turns.{TurnsAt}
 use Rattle.lwkt_base.specs.declared.threads.ThreadLine.{ThreadLine}
 use Rattle.lwkt_script.specs.declared.scripts.ThreadSpec.{ThreadSpec}
@@ -37,9 +37,9 @@ IsLogOf m line = (body : Option Scripted) × (ShowsBody m line.id.cpu.0 line.id.
 -- the lines of threads show how a machine's threads stand, each in its place: what it is doing and its references; and what its body
 -- has logged
 pub record ShowThreads (lines : List ThreadLine) (m : Rig Scripted) : Type 0 where
-  pub ids : map (λ line. line.id) lines ≡ map (λ s. s.id) (standings_of m.cpus)
-  pub states : map (λ line. line.state) lines ≡ map (λ s. s.state) (standings_of m.cpus)
-  pub lists : map (λ line. line.list) lines ≡ map (λ s. s.list) (standings_of m.cpus)
+  pub ids : map (λ line. line.id) lines ≡ map (λ s. s.id) (statuses_of m.cpus)
+  pub states : map (λ line. line.state) lines ≡ map (λ s. s.state) (statuses_of m.cpus)
+  pub lists : map (λ line. line.list) lines ≡ map (λ s. s.list) (statuses_of m.cpus)
   pub logs : All (IsLogOf m) lines
 
 -- what the last poll of a thread was: its body was given this answer to what it asked before, and asked this
@@ -47,11 +47,11 @@ pub record IsPolledAt (m : Rig Scripted) (cpu thread : ℕ) (p : Polled) : Type 
   pub id : p.thread ≡ record { cpu = record { 0 = cpu }; thread = thread }
   pub body : Scripted
   pub shown : ShowsBody m cpu thread (Some body)
-  pub told : body.told ≡ Some p.told
+  pub heard : body.heard ≡ Some p.heard
   pub asked : body.asked ≡ Some p.asked
 
 -- what a turn of a processor asked, by its answer and the machine that it left: nothing where it ran no thread, else what the thread
--- was told and asked that ran
+-- heard and asked that ran
 abbrev pub HasBeenAsked : ℕ → Rig Scripted → Turned → Option Polled → Type 0
 HasBeenAsked cpu m (Ran thread) None = ⊥
 HasBeenAsked cpu m (Ran thread) (Some p) = IsPolledAt m cpu thread p
@@ -80,7 +80,7 @@ scene machine trace kept = record { machine = machine; trace = trace; kept = kep
 abbrev pub story_in_record : Record → Story
 story_in_record r = story_as r.trace.items (kept_as r.order.items r.turns.items r.polls.items)
 
--- the processor of this number makes a turn, which says this; its events are told into an empty room, and are the part by which the
+-- the processor of this number makes a turn, which says this; its events are traced into an empty room, and are the part by which the
 -- trace grows; and it is kept as it was: with its processor, the number of its events, and what it asked
 pub record MakesKeptTurn (cpu : ℕ) (turned : Turned) (x y : Scene) : Type 0 where
   pub room : Vec Event Global

@@ -6,10 +6,10 @@ ghost use Rattle.lwkt_machine.specs.Scripts.{AreFew};
 ghost use Rattle.lwkt_verdict.specs.Follow.{Begins};
 ghost use Rattle.lwkt_run.specs.Checked.{EndsSo, DeclinesSo, LeavesChecked};
 ghost use Rattle.lwkt_run.specs.Driving.{IsCourseOf, HasTurns};
-ghost use Rattle.lwkt_run.specs.Keeping.{none_told};
+ghost use Rattle.lwkt_run.specs.Keeping.{no_story};
 ghost use Rattle.lwkt_run.specs.Run.{opening_of_script, DeclinesRun};
 
-use crate::endings::{Left, Told, left_by};
+use crate::endings::{Left, Remains, left_by};
 use crate::keepers::Keeper;
 use crate::rounds::{Course, drive};
 use lwkt_base::{Ask, Fault, OutOfMemory};
@@ -108,7 +108,7 @@ pub fn checked_run<K: Keeper + Drop>(
     keeper: K,
 ) -> Result<Checked<K>, Fault>
     requires course { IsCourseOf script.now course }
-    requires fresh { IfSome (K.kept keeper) (λ story. story ≡ none_told) }
+    requires fresh { IfSome (K.kept keeper) (λ story. story ≡ no_story) }
     ensures leaves { IfOk result (λ run. LeavesChecked course.entry script.now (K.kept run.keeper) run.left run.stops.items run.verdict) }
     ensures refused { IfErr result (λ fault. DeclinesRun script.now fault) }
 {
@@ -128,7 +128,7 @@ pub fn checked_run<K: Keeper + Drop>(
         &mut keeper,
         &mut events,
     )?;
-    let Told { left, stops, .. } = left_by(alloc, script, machine, close_room)?;
+    let Remains { left, stops, .. } = left_by(alloc, script, machine, close_room)?;
     let follows = is_followed(fits, course);
     let verdict = verdict_of(follows, events, follower, &left, stops.as_slice());
     Ok(Checked {

@@ -5,7 +5,7 @@ ghost use Rattle.lwkt_run.specs.Judging.{ids_of};
 ghost use Rattle.lwkt_machine.specs.Bodies.{Scripted};
 ghost use Rattle.lwkt_machine.specs.Ended.{IsRoomFor};
 ghost use Rattle.lwkt_machine.specs.Machines.{ShowsBody};
-ghost use Rattle.lwkt_run.specs.Leaving.{events_of_stops, IsLeftBy, LeavesTold};
+ghost use Rattle.lwkt_run.specs.Leaving.{events_of_stops, IsLeftBy, LeavesRemains};
 ghost use Rattle.lwkt_run.specs.Running.{HasThreads, ShowThreads, IsLogOf, log_in};
 ghost use Rattle.lwkt_run.specs.Threaded.{ShowsLeft};
 ghost use Rattle.lwkt_run.specs.Values.{AreValuesOf};
@@ -15,7 +15,7 @@ use lwkt_base::memory::{extend_from_slice, from_slice, push, with_capacity_for};
 use lwkt_base::{Log, OutOfMemory, ThreadId, ThreadLine};
 use lwkt_core::{Event, Final};
 use lwkt_drive::EventList;
-use lwkt_machine::{CloseRoom, Closed, Machine, ScriptBody, Standing};
+use lwkt_machine::{CloseRoom, Closed, Machine, ScriptBody, ThreadStatus};
 use lwkt_report::{Closing, Verdict};
 use lwkt_script::Script;
 use std::alloc::Global;
@@ -29,9 +29,9 @@ pub struct Left {
     pub threads: Vec<ThreadLine>,
 }
 
-/// What a run left, and what its processors told: in the traces that their machine has kept, and of its stop.
+/// What a run left, and what its processors traced: in the traces that their machine has kept, and of its stop.
 #[derive(Drop)]
-pub struct Told {
+pub struct Remains {
     /// The closing values, and the lines of the threads.
     pub left: Left,
     /// The events of the turns that were kept, by processor.
@@ -55,14 +55,14 @@ fn log_of(alloc: Global, machine: &Machine<ScriptBody>, id: ThreadId) -> Result<
 fn thread_line(
     alloc: Global,
     machine: &Machine<ScriptBody>,
-    standing: Standing,
+    status: ThreadStatus,
 ) -> Result<ThreadLine, OutOfMemory>
-    ensures id { IfOk result (λ line. line.id ≡ standing.id) }
-    ensures state { IfOk result (λ line. line.state ≡ standing.state) }
-    ensures list { IfOk result (λ line. line.list ≡ standing.list) }
+    ensures id { IfOk result (λ line. line.id ≡ status.id) }
+    ensures state { IfOk result (λ line. line.state ≡ status.state) }
+    ensures list { IfOk result (λ line. line.list ≡ status.list) }
     ensures log { IfOk result (λ line. IsLogOf machine.now line) }
 {
-    let Standing { id, state, list } = standing;
+    let ThreadStatus { id, state, list } = status;
     let log = log_of(alloc, machine, id)?;
     Ok(ThreadLine {
         id,
@@ -79,10 +79,10 @@ fn thread_lines(
 ) -> Result<Vec<ThreadLine>, OutOfMemory>
     ensures { IfOk result (λ lines. ShowThreads lines.items machine.now) }
 {
-    let standings = machine.standings(alloc)?;
-    let mut lines = with_capacity_for(alloc, &standings)?;
-    for standing in standings {
-        push(&mut lines, thread_line(alloc, machine, standing)?)?;
+    let statuses = machine.statuses(alloc)?;
+    let mut lines = with_capacity_for(alloc, &statuses)?;
+    for status in statuses {
+        push(&mut lines, thread_line(alloc, machine, status)?)?;
     }
     Ok(lines)
 }
@@ -98,14 +98,14 @@ fn joined(alloc: Global, stops: &[Vec<Event>]) -> Result<Vec<Event>, OutOfMemory
     Ok(all)
 }
 
-// What is told of a run that left these lines of threads, and whose machine closed so.
-fn told_at_close(
+// What remains of a run that left these lines of threads, and whose machine closed so.
+fn remains_at_close(
     alloc: Global,
     threads: Vec<ThreadLine>,
     closed: Closed<ScriptBody>,
-) -> Result<Told, OutOfMemory>
-    ensures left { IfOk result (λ told. IsLeftBy closed told) }
-    ensures threads { IfOk result (λ told. told.left.threads.items ≡ threads.items) }
+) -> Result<Remains, OutOfMemory>
+    ensures left { IfOk result (λ remains. IsLeftBy closed remains) }
+    ensures threads { IfOk result (λ remains. remains.left.threads.items ≡ threads.items) }
 {
     let Closed {
         tokens,
@@ -127,7 +127,7 @@ fn told_at_close(
         blobs,
         messages,
     };
-    Ok(Told {
+    Ok(Remains {
         left: Left { last, threads },
         traces,
         stops: joined(alloc, &stops)?,
@@ -143,18 +143,18 @@ pub fn left_by(
     script: &Script,
     machine: Machine<ScriptBody>,
     close_room: CloseRoom<ScriptBody>,
-) -> Result<Told, OutOfMemory>
+) -> Result<Remains, OutOfMemory>
     requires bank { machine.bank.plans ≡ plans_of script.now.tokens }
     requires room { IsRoomFor machine.bank machine.book (length machine.cpus) close_room }
     requires threads { HasThreads script.now.cpus script.now.threads machine.cpus }
-    ensures values { IfOk result (λ told. AreValuesOf script.now.tokens told.left.last) }
-    ensures leaves { IfOk result (λ told. LeavesTold machine told) }
-    ensures shown { IfOk result (λ told. ShowThreads told.left.threads.items machine) }
-    ensures threads { IfOk result (λ told. map (λ line. line.id) told.left.threads.items ≡ ids_of script.now.cpus script.now.threads) }
+    ensures values { IfOk result (λ remains. AreValuesOf script.now.tokens remains.left.last) }
+    ensures leaves { IfOk result (λ remains. LeavesRemains machine remains) }
+    ensures shown { IfOk result (λ remains. ShowThreads remains.left.threads.items machine) }
+    ensures threads { IfOk result (λ remains. map (λ line. line.id) remains.left.threads.items ≡ ids_of script.now.cpus script.now.threads) }
 {
     let _ = script;
     let threads = thread_lines(alloc, &machine)?;
-    told_at_close(alloc, threads, machine.close_in(close_room))
+    remains_at_close(alloc, threads, machine.close_in(close_room))
 }
 
 /// What a report shows of what a run left, with this verdict. That the values are of the script's tokens is the caller's condition.

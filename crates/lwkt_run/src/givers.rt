@@ -36,7 +36,7 @@ fn add_kept(given: &mut Vec<Given>, trace: &EventList) -> Result<(), OutOfMemory
 }
 
 // Adds those among events.
-fn add_told(given: &mut Vec<Given>, events: &[Event]) -> Result<(), OutOfMemory> {
+fn add_named(given: &mut Vec<Given>, events: &[Event]) -> Result<(), OutOfMemory> {
     for event in events {
         if let Some(give) = give_of(event) {
             add(given, &give)?;
@@ -55,7 +55,7 @@ fn given_in_order(
     for trace in traces {
         add_kept(&mut given, trace)?;
     }
-    add_told(&mut given, stops)?;
+    add_named(&mut given, stops)?;
     given.sort_unstable_by_key(|one| (one.tok, one.generation));
     Ok(given)
 }

@@ -19,8 +19,8 @@ mod reports;
 mod rounds;
 mod runs;
 mod stretches;
-mod tellings;
 mod threaded;
+mod written_sections;
 
 pub use lwkt_machine::{Gate, OpenGate};
 pub use lwkt_report::{RunFault, Verdict};
@@ -30,6 +30,6 @@ pub use programs::{
     asks_threads, asks_turns, close_by, exit_status, finish, run_program, run_read,
 };
 pub use runs::{
-    End, TurnsRun, close_along, close_turns, end_told, order_run_of, run_turns, turns_run_of,
+    End, TurnsRun, close_along, close_turns, end_of_closing, order_run_of, run_turns, turns_run_of,
 };
 pub use threaded::{ThreadRecord, close_threads, record_threads, run_threads, run_threads_gated};

@@ -8,7 +8,7 @@ pub struct Polled {
     /// The thread that was polled.
     pub thread: ThreadId,
     /// What the thread's body was given: the answer to what it had asked before.
-    pub told: Answer,
+    pub heard: Answer,
     /// What it asked then.
     pub asked: Ask,
 }
@@ -19,7 +19,7 @@ pub struct PolledRef<'a> {
     /// The thread that was polled: its processor, 0 to 7, and its number there, 0 to 15.
     pub thread: ThreadId,
     /// The answer that its body was given: that to what it had asked before, and `Begin` at its first poll.
-    pub told: &'a Answer,
+    pub heard: &'a Answer,
     /// What it asked then.
     pub asked: &'a Ask,
 }

@@ -30,24 +30,24 @@ pub struct Record {
 }
 
 // The poll at a place, if there is one, gets this answer.
-fn answer_poll(polls: &mut Vec<Poll>, place: usize, told: &Answer)
-    ensures { polls.new.items ≡ changed (with_answer told.now) polls.old.items place }
+fn answer_poll(polls: &mut Vec<Poll>, place: usize, heard: &Answer)
+    ensures { polls.new.items ≡ changed (with_answer heard.now) polls.old.items place }
 {
     if place < polls.len() {
         let poll = &mut polls[place];
-        poll.answer = Some(*told);
+        poll.answer = Some(*heard);
     }
 }
 
 impl Record {
     ghost use Rattle.std.specs.Prelude.{IfSome, OnOk, option_map};
     ghost use Rattle.lwkt_verdict.specs.Threads.{slot_of};
-    ghost use Rattle.lwkt_run.specs.Keeping.{polled_of, none_told, polls_answered, polls_after};
+    ghost use Rattle.lwkt_run.specs.Keeping.{polled_of, no_story, polls_answered, polls_after};
     ghost use Rattle.lwkt_run.specs.Running.{story_in_record};
 
     /// Nothing kept yet. Takes no memory.
     pub fn new(alloc: Global) -> Self
-        ensures { story_in_record result ≡ none_told }
+        ensures { story_in_record result ≡ no_story }
     {
         Record {
             trace: EventList::new(alloc),
@@ -59,15 +59,15 @@ impl Record {
     }
 
     // The last poll of a thread, if it was polled before, gets its answer.
-    fn answer(&mut self, slot: usize, told: &Answer)
+    fn answer(&mut self, slot: usize, heard: &Answer)
         requires { slot < 128 }
-        ensures polls { self.new.polls.items ≡ polls_answered slot told.now self.old.polls.items }
+        ensures polls { self.new.polls.items ≡ polls_answered slot heard.now self.old.polls.items }
         ensures turns { self.new.turns ≡ self.old.turns }
         ensures order { self.new.order ≡ self.old.order }
         ensures trace { self.new.trace ≡ self.old.trace }
     {
         if let Some(place) = self.last[slot] {
-            answer_poll(&mut self.polls, place, told);
+            answer_poll(&mut self.polls, place, heard);
         }
     }
 
@@ -81,12 +81,12 @@ impl Record {
     {
         let PolledRef {
             thread,
-            told,
+            heard,
             asked,
         } = polled;
         let slot = 16 * usize::from(thread.cpu.0) + usize::from(thread.thread);
         let place = self.polls.len();
-        self.answer(slot, told);
+        self.answer(slot, heard);
         push(
             &mut self.polls,
             Poll {

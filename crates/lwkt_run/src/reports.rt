@@ -1,9 +1,9 @@
 //! The report of a run written, whichever way its processors were driven.
 ghost use Rattle.std.specs.Prelude.{◌≡◌, Err, IfOk, IsTrue, OnOk, string_bytes};
 ghost use Rattle.lwkt_report.specs.Report.{report_text};
-ghost use Rattle.lwkt_run.specs.Run.{Concludes, end_told};
+ghost use Rattle.lwkt_run.specs.Run.{Concludes, end_of_closing};
 
-use crate::runs::{End, end_told};
+use crate::runs::{End, end_of_closing};
 use lwkt_base::{Fault, OutOfMemory};
 use lwkt_report::{Closing, RunFault, Sink, report, write_whole};
 use std::alloc::Global;
@@ -20,9 +20,9 @@ pub struct Done {
 /// The report of what a run closed with, and how it ended.
 pub fn done_of(alloc: Global, closing: &Closing) -> Result<Done, OutOfMemory>
     ensures text { IfOk result (λ done. string_bytes done.text ≡ report_text closing.now) }
-    ensures end { IfOk result (λ done. done.end ≡ end_told closing.now) }
+    ensures end { IfOk result (λ done. done.end ≡ end_of_closing closing.now) }
 {
-    let end = end_told(closing);
+    let end = end_of_closing(closing);
     let text = report(alloc, closing)?;
     Ok(Done { text, end })
 }

@@ -1,7 +1,7 @@
 //! The turns of a run: made one by one, kept by a keeper, and followed by a check, until it says no.
 ghost use Rattle.std.specs.Prelude.{◌≡◌, ◌↔◌, ◌<◌, ◌≤◌, IsTrue, false, All, length, IfOk, IfSome, option_map};
 ghost use Rattle.lwkt_verdict.specs.Threads.{slot_of};
-ghost use Rattle.lwkt_run.specs.Driving.{GoesOnBy, DeclinesBy, TurnDriven, RoundDriven, RoundsDriven, TurnsDriven, IsDriven, IsWithin, IsShort, HasTurns, stand};
+ghost use Rattle.lwkt_run.specs.Driving.{GoesOnBy, DeclinesBy, TurnDriven, RoundDriven, RoundsDriven, TurnsDriven, IsDriven, IsWithin, IsShort, HasTurns, driver_state};
 ghost use Rattle.lwkt_run.specs.Keeping.{polled_of};
 ghost use Rattle.lwkt_run.specs.Running.{WasPolled, HasPolled, IsPolledAt, HasBeenAsked, says_over, both as both_so};
 
@@ -48,7 +48,7 @@ fn polled_at(machine: &Machine<ScriptBody>, cpu: usize, thread: usize) -> Polled
             cpu: CpuId(cpu as u8),
             thread: thread as u8,
         },
-        told: body.told().unwrap(),
+        heard: body.heard().unwrap(),
         asked: body.asked().unwrap(),
     }
 }
@@ -93,12 +93,12 @@ fn fits(
 {
     match asks {
         None => Ok(follower.rest(cpu, part)),
-        Some(polled) => follower.poll(cpu, polled.thread, polled.told, polled.asked, part),
+        Some(polled) => follower.poll(cpu, polled.thread, polled.heard, polled.asked, part),
     }
 }
 
 // Makes a turn of a processor, which is kept, and says whether all its threads have ended; `None` where the check says that the turn
-// doesn't fit. The turn's events are told into the room, in place of what that had, and are counted if the turn fits.
+// doesn't fit. The turn's events are traced into the room, in place of what that had, and are counted if the turn fits.
 fn drive_turn<K: Keeper>(
     machine: &mut Machine<ScriptBody>,
     cpu: usize,
@@ -109,7 +109,7 @@ fn drive_turn<K: Keeper>(
 ) -> Result<Option<bool>, OutOfMemory>
     requires there { cpu < length machine.old.cpus }
     requires few { length machine.old.cpus ≤ 8 }
-    ensures ok { IfOk result (λ told. TurnDriven cpu told (stand machine.old (K.kept keeper.old) events.old follower.old) (stand machine.new (K.kept keeper.new) events.new follower.new)) }
+    ensures ok { IfOk result (λ heard. TurnDriven cpu heard (driver_state machine.old (K.kept keeper.old) events.old follower.old) (driver_state machine.new (K.kept keeper.new) events.new follower.new)) }
     ensures as_many { length machine.new.cpus ≡ length machine.old.cpus }
 {
     room.clear();
@@ -133,7 +133,7 @@ fn drive_round<K: Keeper>(
     keeper: &mut K,
     events: &mut usize,
 ) -> Result<Option<bool>, OutOfMemory>
-    ensures ok { IfOk result (λ told. RoundDriven told (stand machine.old (K.kept keeper.old) events.old follower.old) (stand machine.new (K.kept keeper.new) events.new follower.new)) }
+    ensures ok { IfOk result (λ heard. RoundDriven heard (driver_state machine.old (K.kept keeper.old) events.old follower.old) (driver_state machine.new (K.kept keeper.new) events.new follower.new)) }
 {
     let mut over = true;
     for cpu in 0..machine.cpus() {
@@ -155,7 +155,7 @@ fn drive_rounds<K: Keeper>(
     keeper: &mut K,
     events: &mut usize,
 ) -> Result<bool, OutOfMemory>
-    ensures ok { IfOk result (λ fits. RoundsDriven limit fits (stand machine.old (K.kept keeper.old) events.old follower.old) (stand machine.new (K.kept keeper.new) events.new follower.new)) }
+    ensures ok { IfOk result (λ fits. RoundsDriven limit fits (driver_state machine.old (K.kept keeper.old) events.old follower.old) (driver_state machine.new (K.kept keeper.new) events.new follower.new)) }
 {
     for _round in 0..limit {
         match drive_round(machine, room, follower, keeper, events)? {
@@ -179,7 +179,7 @@ fn drive_turns<K: Keeper>(
 ) -> Result<bool, OutOfMemory>
     requires processors { All (λ x. x < length machine.old.cpus) order.now }
     requires few { length machine.old.cpus ≤ 8 }
-    ensures ok { IfOk result (λ fits. TurnsDriven order.now fits (stand machine.old (K.kept keeper.old) events.old follower.old) (stand machine.new (K.kept keeper.new) events.new follower.new)) }
+    ensures ok { IfOk result (λ fits. TurnsDriven order.now fits (driver_state machine.old (K.kept keeper.old) events.old follower.old) (driver_state machine.new (K.kept keeper.new) events.new follower.new)) }
 {
     for at in 0..order.len() {
         let cpu = usize::from(order[at]);
@@ -193,7 +193,7 @@ fn drive_turns<K: Keeper>(
 
 /// Makes the turns of a course, each of which the keeper takes and the check follows. Says whether the check followed all; if it doesn't,
 /// the last turn is the first that it says no to, and the machine is left where it stands then. The events of the turns that fit are
-/// counted, as far as the number goes. A turn's events are told into the room, in place of what that had.
+/// counted, as far as the number goes. A turn's events are traced into the room, in place of what that had.
 ///
 /// Refused with `Memory` if memory for a turn's events, for keeping it or for the check is. The turns before are made then.
 pub fn drive<K: Keeper>(
@@ -207,7 +207,7 @@ pub fn drive<K: Keeper>(
     requires processors { IsWithin (length machine.old.cpus) course }
     requires few { length machine.old.cpus ≤ 8 }
     ensures short { IsShort course.entry }
-    ensures ok { IfOk result (λ fits. IsDriven course.entry fits (stand machine.old (K.kept keeper.old) events.old follower.old) (stand machine.new (K.kept keeper.new) events.new follower.new)) }
+    ensures ok { IfOk result (λ fits. IsDriven course.entry fits (driver_state machine.old (K.kept keeper.old) events.old follower.old) (driver_state machine.new (K.kept keeper.new) events.new follower.new)) }
 {
     match course {
         Course::Rounds(limit) => drive_rounds(machine, limit, room, follower, keeper, events),

@@ -3,7 +3,7 @@ ghost use Rattle.std.specs.List.{list_all};
 ghost use Rattle.lwkt_base.specs.Threads.{has_ended};
 ghost use Rattle.lwkt_run.specs.Driving.{IsCourseOf};
 ghost use Rattle.lwkt_run.specs.Courses.{ClosesBy, IsRunBy};
-ghost use Rattle.lwkt_run.specs.Run.{AreThere, MayClose, IsTurnsRun, IsOrderRun, ClosesAlong, DeclinesAlong, end_told, HasRun, DeclinesRun, Refuses, TellsRounds};
+ghost use Rattle.lwkt_run.specs.Run.{AreThere, MayClose, IsTurnsRun, IsOrderRun, ClosesAlong, DeclinesAlong, end_of_closing, HasRun, DeclinesRun, Refuses, ReportsRounds};
 
 use crate::checked::{Checked, checked_run};
 use crate::endings::closing_of;
@@ -145,8 +145,8 @@ pub fn close_along(alloc: Global, script: &Script, order: &[u8]) -> Result<Closi
 }
 
 /// How a run ended, by the contents of its report: `Unlawful` by its verdict, else by whether every thread had ended.
-pub fn end_told(closing: &Closing) -> End
-    ensures { result ≡ end_told closing.now }
+pub fn end_of_closing(closing: &Closing) -> End
+    ensures { result ≡ end_of_closing closing.now }
 {
     let all = all_ended(&closing.threads);
     match closing.verdict {
@@ -183,7 +183,7 @@ pub fn run_turns<S: Source, K: Sink>(
     source: &mut S,
     sink: &mut K,
 ) -> Result<End, RunFault>
-    ensures tells { TellsRounds (S.left source.old) (K.contents sink.old) (K.contents sink.new) result }
+    ensures reports { ReportsRounds (S.left source.old) (K.contents sink.old) (K.contents sink.new) result }
     ensures stream { result ≡ Err RunFault.Stream → IsTrue (S.has_failed source.new) ⊎ IsTrue (K.has_failed sink.new) }
     ensures flushed { OnOk result (K.is_flushed sink.new) }
     ensures unfailed { OnOk result ((S.has_failed source.new ≡ S.has_failed source.old) × (K.has_failed sink.new ≡ K.has_failed sink.old)) }

@@ -4,13 +4,13 @@ ghost use Rattle.lwkt_core.specs.Opening.{AreWithin, AllOpenLawfully};
 ghost use Rattle.lwkt_run.specs.Judging.{ids_of};
 ghost use Rattle.lwkt_run.specs.Values.{AreValuesOf};
 ghost use Rattle.lwkt_run.specs.Run.{DeclinesRun, Refuses};
-ghost use Rattle.lwkt_run.specs.Threaded.{TellARun, MayCloseOnThreads, IsThreadRecord, HasThreadedRun, TellsOnThreads, lets_all};
+ghost use Rattle.lwkt_run.specs.Threaded.{AreTracesOfRun, MayCloseOnThreads, IsThreadRecord, HasThreadedRun, ReportsOnThreads, lets_all};
 
-use crate::endings::{Told, closing_of, left_by};
+use crate::endings::{Remains, closing_of, left_by};
 use crate::givers::givers_of;
 use crate::reports::{Done, conclude, done_of};
 use crate::runs::End;
-use crate::tellings::{judged, judged_told, sections_in_order};
+use crate::written_sections::{judged, judged_by_stretches, sections_in_order};
 use lwkt_base::{CpuId, Fault, OutOfMemory, Section};
 use lwkt_machine::{Gate, Limits, Machine, OpenGate};
 use lwkt_report::{Closing, RunFault, Sink, Source, read_capped};
@@ -31,15 +31,15 @@ pub struct ThreadRecord {
 }
 
 // Drives the processors of a script on threads, and closes their machine.
-fn told_of<R: Threads + Sync, G: Gate + Sync>(
+fn remains_of<R: Threads + Sync, G: Gate + Sync>(
     rt: &R,
     alloc: Global,
     gate: &G,
     script: &Script,
-) -> Result<Told, Fault>
-    ensures values { IfOk result (λ told. AreValuesOf script.now.tokens told.left.last) }
-    ensures tells { IfOk result (λ told. TellARun (G.answers gate.now) script.now told.left.threads.items told.left.last told.traces.items told.stops.items) }
-    ensures threads { IfOk result (λ told. map (λ line. line.id) told.left.threads.items ≡ ids_of script.now.cpus script.now.threads) }
+) -> Result<Remains, Fault>
+    ensures values { IfOk result (λ remains. AreValuesOf script.now.tokens remains.left.last) }
+    ensures traces_of_run { IfOk result (λ remains. AreTracesOfRun (G.answers gate.now) script.now remains.left.threads.items remains.left.last remains.traces.items remains.stops.items) }
+    ensures threads { IfOk result (λ remains. map (λ line. line.id) remains.left.threads.items ≡ ids_of script.now.cpus script.now.threads) }
     ensures within { OnOk result (AreWithin script.now.cpus script.now.tokens script.now.messages) }
     ensures lawful { OnOk result (AllOpenLawfully script.now.tokens) }
     ensures refused { IfErr result (λ fault. DeclinesRun script.now fault) }
@@ -55,27 +55,27 @@ fn told_of<R: Threads + Sync, G: Gate + Sync>(
     Ok(left_by(alloc, script, machine, close_room)?)
 }
 
-// What the report of a run on threads shows, with the verdict on the sections that were told.
+// What the report of a run on threads shows, with the verdict on the sections that were named.
 fn judged_closing<R: Threads + Sync, G: Gate>(
     rt: &R,
     alloc: Global,
     gate: &G,
     script: &Script,
-    told: Told,
+    remains: Remains,
 ) -> Result<Closing, OutOfMemory>
     requires within { AreWithin script.now.cpus script.now.tokens script.now.messages }
     requires lawful { AllOpenLawfully script.now.tokens }
-    requires values { AreValuesOf script.now.tokens told.left.last }
-    requires threads { map (λ line. line.id) told.left.threads.items ≡ ids_of script.now.cpus script.now.threads }
-    requires tells { TellARun (G.answers gate.now) script.now told.left.threads.items told.left.last told.traces.items told.stops.items }
+    requires values { AreValuesOf script.now.tokens remains.left.last }
+    requires threads { map (λ line. line.id) remains.left.threads.items ≡ ids_of script.now.cpus script.now.threads }
+    requires traces_of_run { AreTracesOfRun (G.answers gate.now) script.now remains.left.threads.items remains.left.last remains.traces.items remains.stops.items }
     ensures { IfOk result (λ closing. MayCloseOnThreads (G.answers gate.now) script.now closing) }
 {
-    let Told {
+    let Remains {
         left,
         traces,
         stops,
-    } = told;
-    let verdict = judged_told(
+    } = remains;
+    let verdict = judged_by_stretches(
         rt,
         alloc,
         script.tokens.as_slice(),
@@ -86,25 +86,25 @@ fn judged_closing<R: Threads + Sync, G: Gate>(
     closing_of(alloc, script, left, verdict)
 }
 
-// What is kept of a run on threads: what its report shows, and the sections that were told, with the verdict on these.
+// What is kept of a run on threads: what its report shows, and the sections that were named, with the verdict on these.
 fn record_of<G: Gate>(
     alloc: Global,
     gate: &G,
     script: &Script,
-    told: Told,
+    remains: Remains,
 ) -> Result<ThreadRecord, OutOfMemory>
     requires within { AreWithin script.now.cpus script.now.tokens script.now.messages }
     requires lawful { AllOpenLawfully script.now.tokens }
-    requires values { AreValuesOf script.now.tokens told.left.last }
-    requires threads { map (λ line. line.id) told.left.threads.items ≡ ids_of script.now.cpus script.now.threads }
-    requires tells { TellARun (G.answers gate.now) script.now told.left.threads.items told.left.last told.traces.items told.stops.items }
+    requires values { AreValuesOf script.now.tokens remains.left.last }
+    requires threads { map (λ line. line.id) remains.left.threads.items ≡ ids_of script.now.cpus script.now.threads }
+    requires traces_of_run { AreTracesOfRun (G.answers gate.now) script.now remains.left.threads.items remains.left.last remains.traces.items remains.stops.items }
     ensures { IfOk result (λ kept. IsThreadRecord (G.answers gate.now) script.now kept) }
 {
-    let Told {
+    let Remains {
         left,
         traces,
         stops,
-    } = told;
+    } = remains;
     let givers = givers_of(alloc, traces.as_slice(), &stops)?;
     let sections = sections_in_order(alloc, traces, &stops)?;
     let verdict = judged(alloc, script.tokens.as_slice(), &left.last, &sections)?;
@@ -125,8 +125,8 @@ fn closing_of_script<R: Threads + Sync, G: Gate + Sync>(
     ensures ok { IfOk result (λ closing. MayCloseOnThreads (G.answers gate.now) script.now closing) }
     ensures refused { IfErr result (λ fault. DeclinesRun script.now fault) }
 {
-    let told = told_of(rt, alloc, gate, script)?;
-    Ok(judged_closing(rt, alloc, gate, script, told)?)
+    let remains = remains_of(rt, alloc, gate, script)?;
+    Ok(judged_closing(rt, alloc, gate, script, remains)?)
 }
 
 // Runs the script that the bytes are on threads, to the text of its report.
@@ -160,7 +160,7 @@ pub fn run_threads_gated<R: Threads + Sync, G: Gate + Sync, S: Source, K: Sink>(
     sink: &mut K,
     gate: &G,
 ) -> Result<End, RunFault>
-    ensures tells { TellsOnThreads (G.answers gate.now) (S.left source.old) (K.contents sink.old) (K.contents sink.new) result }
+    ensures reports { ReportsOnThreads (G.answers gate.now) (S.left source.old) (K.contents sink.old) (K.contents sink.new) result }
     ensures stream { result ≡ Err RunFault.Stream → IsTrue (S.has_failed source.new) ⊎ IsTrue (K.has_failed sink.new) }
     ensures flushed { OnOk result (K.is_flushed sink.new) }
     ensures unfailed { OnOk result ((S.has_failed source.new ≡ S.has_failed source.old) × (K.has_failed sink.new ≡ K.has_failed sink.old)) }
@@ -181,7 +181,7 @@ pub fn run_threads<R: Threads + Sync, S: Source, K: Sink>(
     source: &mut S,
     sink: &mut K,
 ) -> Result<End, RunFault>
-    ensures tells { TellsOnThreads lets_all (S.left source.old) (K.contents sink.old) (K.contents sink.new) result }
+    ensures reports { ReportsOnThreads lets_all (S.left source.old) (K.contents sink.old) (K.contents sink.new) result }
     ensures stream { result ≡ Err RunFault.Stream → IsTrue (S.has_failed source.new) ⊎ IsTrue (K.has_failed sink.new) }
     ensures flushed { OnOk result (K.is_flushed sink.new) }
     ensures unfailed { OnOk result ((S.has_failed source.new ≡ S.has_failed source.old) × (K.has_failed sink.new ≡ K.has_failed sink.old)) }
@@ -215,6 +215,6 @@ pub fn record_threads<R: Threads + Sync>(
     ensures ok { IfOk result (λ kept. IsThreadRecord lets_all script.now kept) }
     ensures refused { IfErr result (λ fault. DeclinesRun script.now fault) }
 {
-    let told = told_of(rt, alloc, &OpenGate, script)?;
-    Ok(record_of(alloc, &OpenGate, script, told)?)
+    let remains = remains_of(rt, alloc, &OpenGate, script)?;
+    Ok(record_of(alloc, &OpenGate, script, remains)?)
 }

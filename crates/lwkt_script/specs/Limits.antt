@@ -1,9 +1,9 @@
 -- The limits that a script keeps (own).
 use Rattle.std.specs.Prelude.{◌≡◌, ◌≢◌, ℕ, ◌<◌, ◌≤◌, length, All, IfSome, None}
 use Rattle.lwkt_base.specs.declared.names.ThreadId.{ThreadId}
-use Rattle.lwkt_base.specs.declared.openings.MsgSpec.{MsgSpec}
+use Rattle.lwkt_base.specs.declared.opening_specs.MsgSpec.{MsgSpec}
 use Rattle.lwkt_base.specs.declared.laws.Law.TheVariants.{Tally, Len}
-use Rattle.lwkt_base.specs.declared.openings.TokSpec.{TokSpec}
+use Rattle.lwkt_base.specs.declared.opening_specs.TokSpec.{TokSpec}
 use Rattle.lwkt_script.specs.declared.scripts.Script.{Script}
 use Rattle.lwkt_script.specs.declared.scripts.ThreadSpec.{ThreadSpec}
 use Rattle.lwkt_script.specs.Format.{threads_on}

@@ -7,17 +7,17 @@
 pub mod fields;
 mod logs;
 pub mod messages;
-mod parts;
 mod readers;
 pub mod records;
 mod scripts;
+mod series;
 pub mod steps;
 mod threads;
 pub mod tokens;
 pub mod versions;
 
 pub use logs::entry_of;
-pub use parts::Parts;
 pub use readers::read_script;
 pub use scripts::{Script, ThreadSpec};
+pub use series::Series;
 pub use versions::Version;

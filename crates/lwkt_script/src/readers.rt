@@ -7,8 +7,8 @@ ghost use Rattle.lwkt_base.specs.Fault.{no_memory};
 
 use crate::fields::{has, has_members, list_at, number_at};
 use crate::messages::messages_of;
-use crate::parts::Parts;
 use crate::scripts::Script;
+use crate::series::Series;
 use crate::threads::threads_of;
 use crate::tokens::tokens_of;
 use crate::versions::version_of;
@@ -51,9 +51,9 @@ fn script(alloc: Global, value: &Value) -> Result<Script, Fault>
         turns,
         idle,
         cpus,
-        tokens: Parts::from_vec(tokens),
-        messages: Parts::from_vec(messages),
-        threads: Parts::from_vec(threads),
+        tokens: Series::from_vec(tokens),
+        messages: Series::from_vec(messages),
+        threads: Series::from_vec(threads),
     })
 }
 

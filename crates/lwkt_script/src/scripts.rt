@@ -1,4 +1,4 @@
-use crate::parts::Parts;
+use crate::series::Series;
 use lwkt_base::{Ask, CpuId, MsgSpec, TokSpec};
 
 /// A script, read.
@@ -11,11 +11,11 @@ pub struct Script {
     /// How many processors there are, 1 to 8.
     pub cpus: u8,
     /// At most 64 tokens, by their numbers.
-    pub tokens: Parts<TokSpec>,
+    pub tokens: Series<TokSpec>,
     /// At most 64 messages, by their numbers.
-    pub messages: Parts<MsgSpec>,
+    pub messages: Series<MsgSpec>,
     /// At most 16 threads of each processor. A thread's number is its place among those of its processor.
-    pub threads: Parts<ThreadSpec>,
+    pub threads: Series<ThreadSpec>,
 }
 
 /// One thread of a script.
@@ -26,5 +26,5 @@ pub struct ThreadSpec {
     /// How many times the thread makes its steps, 1 to 1000000.
     pub repeat: u32,
     /// What the thread asks for, in order: at most 256 asks.
-    pub steps: Parts<Ask>,
+    pub steps: Series<Ask>,
 }

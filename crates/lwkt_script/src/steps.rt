@@ -10,7 +10,7 @@ use crate::versions::Version;
 use lwkt_base::memory::push;
 use lwkt_base::steps::{ask_of, verb_named};
 use lwkt_base::{
-    Ask, Call, CpuId, Fault, Flags, MsgId, Part, PartKind, Parts, ThreadId, TokId, Verb,
+    Ask, Call, CpuId, Fault, Flags, MsgId, Part, PartKind, StepParts, ThreadId, TokId, Verb,
 };
 use serde_json::Value;
 use std::alloc::Global;
@@ -106,11 +106,16 @@ fn step_part(version: Version, kind: PartKind, value: &Value, i: usize) -> Optio
 }
 
 // The parts of these kinds behind the word of a step that has so many items, and nothing more.
-fn step_parts(version: Version, kinds: &[PartKind], count: usize, value: &Value) -> Option<Parts>
+fn step_parts(
+    version: Version,
+    kinds: &[PartKind],
+    count: usize,
+    value: &Value,
+) -> Option<StepParts>
     requires { length kinds.now ≤ 4 }
     ensures { result ≡ step_parts version kinds.now 1 count (view value.now) }
 {
-    let mut parts = Parts::of(&[]);
+    let mut parts = StepParts::of(&[]);
     let mut at = 1;
     for kind in kinds {
         parts.push(step_part(version, *kind, value, at)?);

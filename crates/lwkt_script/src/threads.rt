@@ -5,8 +5,8 @@ ghost use Rattle.lwkt_script.specs.Format.{threads_on, has_room, thread};
 ghost use Rattle.lwkt_script.specs.Limits.{IsThread};
 
 use crate::fields::{has_members, list_at, number_at};
-use crate::parts::Parts;
 use crate::scripts::ThreadSpec;
+use crate::series::Series;
 use crate::steps::steps_of;
 use crate::versions::Version;
 use lwkt_base::limits::{MOST_REPEATS, STEP_LIMIT, THREAD_LIMIT};
@@ -57,7 +57,7 @@ fn thread(
     Ok(ThreadSpec {
         cpu: CpuId(cpu),
         repeat,
-        steps: Parts::from_vec(steps),
+        steps: Series::from_vec(steps),
     })
 }
 

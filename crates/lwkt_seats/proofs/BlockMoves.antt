@@ -166,7 +166,7 @@ ends_section s s' tok false ends given held = elim ends [
 ]
 ends_section s s' tok true ends given held = absurd (last_gone s s' tok ends.0 given held)
 
--- what is told of a section that ends
+-- what is said of a section that ends
 pub ends_broken : (s s' : CpuSeat) (tok : ℕ) (restored : Bool) → EndsOne tok s s' restored → restored ≡ true → BreaksLaw s tok
 ends_broken s s' tok true ends is = (ap is_exclusive ends.0, ends.1)
 ends_broken s s' tok false ends is = absurd (false≢true is)

@@ -47,7 +47,7 @@ use Rattle.lwkt_seats.specs.Asks.{AsksFor, MarksToken, GivesToken, GivesReferenc
 use Rattle.lwkt_seats.specs.Cells.{Loads, StoresInCell, AddsToCell, JudgesToken, RestoresRow, Restores}
 use Rattle.lwkt_seats.specs.Records.{ReadsBytes, WritesBytes}
 use Rattle.lwkt_seats.specs.Lists.{DoneInTurn, TakesOne, MissesOne, GivesUnwritten, ResumesSeat, EndsRestored, EndsOne, EndsPair, BlocksSeat, refs_of}
-use Rattle.lwkt_seats.specs.Calls.{TellsRecord}
+use Rattle.lwkt_seats.specs.Calls.{PutsRecord}
 use Rattle.lwkt_seats.specs.Numbers.{record_read_number}
 use Rattle.lwkt_seats.specs.Seated.{IsBrief, AreBrief, IsSeated, KeepsBankAndCpu}
 
@@ -224,14 +224,14 @@ pub blocks : (s s' : CpuSeat) (first : Option TokId) → BlocksSeat s s' first �
 blocks s s' first does = chain EndsPair (λ x a b ends. ends_one x.0.0 a b x.1 ends) does.2.0 s s' does.2.1
 
 -- a record that is read has at most 64 bytes
-pub read_short : (tok : ℕ) (s s' : CpuSeat) (answer : RecordRead) (before now : List ℕ) (before_length now_length number : ℕ) → AreBrief s → ReadsBytes tok s s' answer → TellsRecord answer before now before_length now_length → number ≡ record_read_number answer → number ≡ 0 → now_length ≤ 64
-read_short tok s s' (read.Bytes bytes) before now before_length now_length number brief does tells is none =
+pub read_short : (tok : ℕ) (s s' : CpuSeat) (answer : RecordRead) (before now : List ℕ) (before_length now_length number : ℕ) → AreBrief s → ReadsBytes tok s s' answer → PutsRecord answer before now before_length now_length → number ≡ record_read_number answer → number ≡ 0 → now_length ≤ 64
+read_short tok s s' (read.Bytes bytes) before now before_length now_length number brief does puts_it is none =
     let short : length bytes ≤ 64 = subst IsShort does.2 (brief tok).0 in
-    subst (λ (n : ℕ). n ≤ 64) (sym tells.1) short
-read_short tok s s' read.NoToken before now before_length now_length number brief does tells is none = absurd (omega (arith, is, none))
-read_short tok s s' read.NoRecord before now before_length now_length number brief does tells is none = absurd (omega (arith, is, none))
-read_short tok s s' read.NotHeld before now before_length now_length number brief does tells is none = absurd (omega (arith, is, none))
-read_short tok s s' read.SharedRecord before now before_length now_length number brief does tells is none = absurd (omega (arith, is, none))
+    subst (λ (n : ℕ). n ≤ 64) (sym puts_it.1) short
+read_short tok s s' read.NoToken before now before_length now_length number brief does puts_it is none = absurd (omega (arith, is, none))
+read_short tok s s' read.NoRecord before now before_length now_length number brief does puts_it is none = absurd (omega (arith, is, none))
+read_short tok s s' read.NotHeld before now before_length now_length number brief does puts_it is none = absurd (omega (arith, is, none))
+read_short tok s s' read.SharedRecord before now before_length now_length number brief does puts_it is none = absurd (omega (arith, is, none))
 
 -- a seat that is taken from its place, and stays the same with short records, may be put back there
 pub seated-at : (spot : Spot) (sitter held : Sitter) (new : CpuSeat) → held ≡ sitter → IsSeated spot sitter → KeepsBankAndCpu held.seat new → Keeps held.seat new → IsSeated spot (record { seat = new; bank = held.bank })

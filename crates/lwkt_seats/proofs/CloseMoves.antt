@@ -138,7 +138,7 @@ module _ (desk : Desk) (xs : List (Box Sitter)) (free : AreFree desk xs) where
   pub as_many : (seats : List CpuSeat) → seats ≡ map seat_in xs → length xs ≡ length desk.places.items → length seats ≡ cpus_of (arc_value desk.drawer)
   as_many seats are all = ap length are ∙ seats_in xs ∙ all ∙ sym (cpus_is desk)
 
--- the closing values fit what C is told of them
+-- the closing values fit what C gets of them
 pub sized : (bank : Bank) (seats : List CpuSeat) (closed : Closed) → cpus_of bank ≤ 8 → IsClosed (id_of bank) (cpus_of bank) seats closed → IsSized closed
 sized bank seats closed few is tok = elim (cases_lt tok (tokens_of (id_of bank))) [
   | inl below ↦
@@ -187,7 +187,7 @@ module _ (desk : Desk) (xs : List (Box Sitter)) (free : AreFree desk xs) (seats 
   ended (Ok closed) are all fits is = ends closed are all fits is
   ended (Err answer) are all fits is = tt
 
--- no refusal is told by 0
+-- no refusal is answered by 0
 pub refuses : (answer : ℕ) → (answer ≡ 39) ⊎ ((answer ≡ 50) ⊎ ((answer ≡ 51) ⊎ ((answer ≡ 52) ⊎ (answer ≡ 53)))) → answer ≡ 0 → ⊥
 refuses answer (inl wide) is = omega (arith, wide, is)
 refuses answer (inr (inl used)) is = omega (arith, used, is)

@@ -30,7 +30,7 @@ use Rattle.lwkt_seats.specs.declared.list_answers.Unlisted.TheVariants as unlist
 use Rattle.lwkt_seats.specs.declared.list_answers.Resumed.{Resumed}
 use Rattle.lwkt_seats.specs.declared.list_answers.Resumed.TheVariants as resumed
 use Rattle.lwkt_seats.specs.ListNumbers.{unlisted_number, missed_number, resumed_number, NamesNoPlace}
-use Rattle.lwkt_seats.specs.Calls.{TellsPlace}
+use Rattle.lwkt_seats.specs.Calls.{PutsPlace}
 use Rattle.lwkt_seats.specs.Lists.{DoneInTurn, has_only, TakesOne, MissesOne, HoldsClean, GivesUnwritten, TakesAll, TakesUpTo}
 
 -- one thing more is done, and several more
@@ -230,8 +230,8 @@ missed_far missed.Again names = far 34 (omega arith) (omega arith) (omega arith)
 missed_far missed.Worn names = far 20 (omega arith) (omega arith) (omega arith) names
 
 -- with an answer that names no place the caller's stays as it was
-pub no_place : (came : Resumed) (before now answer : ℕ) → answer ≡ resumed_number came → TellsPlace came before now → NamesNoPlace answer → now ≡ before
-no_place resumed.All before now answer is told names = told
-no_place resumed.Holds before now answer is told names = told
-no_place (resumed.Unlisted at why) before now answer is told names = absurd (unlisted_far why (subst NamesNoPlace is names))
-no_place (resumed.Missed at why) before now answer is told names = absurd (missed_far why (subst NamesNoPlace is names))
+pub no_place : (came : Resumed) (before now answer : ℕ) → answer ≡ resumed_number came → PutsPlace came before now → NamesNoPlace answer → now ≡ before
+no_place resumed.All before now answer is agrees names = agrees
+no_place resumed.Holds before now answer is agrees names = agrees
+no_place (resumed.Unlisted at why) before now answer is agrees names = absurd (unlisted_far why (subst NamesNoPlace is names))
+no_place (resumed.Missed at why) before now answer is agrees names = absurd (missed_far why (subst NamesNoPlace is names))

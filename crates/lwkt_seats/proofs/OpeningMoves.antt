@@ -6,7 +6,7 @@ use Rattle.lwkt_base.specs.Law.{OpensLawfully}
 use Rattle.lwkt_core.specs.Tokens.{length_of}
 use Rattle.lwkt_core.specs.Opening.{AreWithin, AllOpenLawfully, IsTokenWithin}
 use Rattle.lwkt_seats.specs.declared.tokens.LwktToken.{LwktToken}
-use Rattle.lwkt_seats.specs.Openings.{spec_of, specs_of}
+use Rattle.lwkt_seats.specs.BankOpens.{spec_of, specs_of}
 
 of_map : {X Y : Type 0} (P : X → Type 0) (f : Y → X) (ys : List Y) → All P (map f ys) → All (λ y. P (f y)) ys
 of_map P f ys all = λ k d below. subst P (get_or-map f ys k d (f d) below) (all k (f d) (subst (λ n. k < n) (sym (length-map ys f)) below))

@@ -28,39 +28,39 @@ use Rattle.lwkt_seats.specs.Lists.{ResumesSeat, BlocksSeat}
 use Rattle.lwkt_seats.specs.ListNumbers.{resumed_number, blocked_number}
 
 -- the value that is stored for the caller: with no value it stays as it was
-abbrev pub TellsLoaded : Loaded → ℕ → ℕ → Type 0
-TellsLoaded (loaded.Value value) before now = now ≡ value
-TellsLoaded loaded.NoToken before now = now ≡ before
-TellsLoaded loaded.NoCell before now = now ≡ before
-TellsLoaded loaded.NotHeld before now = now ≡ before
+abbrev pub PutsLoaded : Loaded → ℕ → ℕ → Type 0
+PutsLoaded (loaded.Value value) before now = now ≡ value
+PutsLoaded loaded.NoToken before now = now ≡ before
+PutsLoaded loaded.NoCell before now = now ≡ before
+PutsLoaded loaded.NotHeld before now = now ≡ before
 
-abbrev pub TellsAdded : Added → ℕ → ℕ → Type 0
-TellsAdded (added.Sum sum) before now = now ≡ sum
-TellsAdded added.NoToken before now = now ≡ before
-TellsAdded added.NotHeld before now = now ≡ before
-TellsAdded added.SharedWrite before now = now ≡ before
-TellsAdded added.TallyOnly before now = now ≡ before
-TellsAdded added.Overflow before now = now ≡ before
+abbrev pub PutsAdded : Added → ℕ → ℕ → Type 0
+PutsAdded (added.Sum sum) before now = now ≡ sum
+PutsAdded added.NoToken before now = now ≡ before
+PutsAdded added.NotHeld before now = now ≡ before
+PutsAdded added.SharedWrite before now = now ≡ before
+PutsAdded added.TallyOnly before now = now ≡ before
+PutsAdded added.Overflow before now = now ≡ before
 
 -- what is stored for the caller of a record: its bytes, of which there are at most 64, as far as there is room, and their number; with
 -- no record all stays as it was
-abbrev pub TellsRecord : RecordRead → List ℕ → List ℕ → ℕ → ℕ → Type 0
-TellsRecord (read.Bytes bytes) before now before_length now_length = (now ≡ buffer_with_bytes before (take 64 bytes)) × (now_length ≡ length bytes)
-TellsRecord read.NoToken before now before_length now_length = (now ≡ before) × (now_length ≡ before_length)
-TellsRecord read.NoRecord before now before_length now_length = (now ≡ before) × (now_length ≡ before_length)
-TellsRecord read.NotHeld before now before_length now_length = (now ≡ before) × (now_length ≡ before_length)
-TellsRecord read.SharedRecord before now before_length now_length = (now ≡ before) × (now_length ≡ before_length)
+abbrev pub PutsRecord : RecordRead → List ℕ → List ℕ → ℕ → ℕ → Type 0
+PutsRecord (read.Bytes bytes) before now before_length now_length = (now ≡ buffer_with_bytes before (take 64 bytes)) × (now_length ≡ length bytes)
+PutsRecord read.NoToken before now before_length now_length = (now ≡ before) × (now_length ≡ before_length)
+PutsRecord read.NoRecord before now before_length now_length = (now ≡ before) × (now_length ≡ before_length)
+PutsRecord read.NotHeld before now before_length now_length = (now ≡ before) × (now_length ≡ before_length)
+PutsRecord read.SharedRecord before now before_length now_length = (now ≡ before) × (now_length ≡ before_length)
 
 -- the place that is stored for the caller of a list, and the token: with none it stays as it was
-abbrev pub TellsPlace : Resumed → ℕ → ℕ → Type 0
-TellsPlace resumed.All before now = now ≡ before
-TellsPlace resumed.Holds before now = now ≡ before
-TellsPlace (resumed.Unlisted at why) before now = now ≡ at
-TellsPlace (resumed.Missed at why) before now = now ≡ at
+abbrev pub PutsPlace : Resumed → ℕ → ℕ → Type 0
+PutsPlace resumed.All before now = now ≡ before
+PutsPlace resumed.Holds before now = now ≡ before
+PutsPlace (resumed.Unlisted at why) before now = now ≡ at
+PutsPlace (resumed.Missed at why) before now = now ≡ at
 
-abbrev pub TellsFirst : Option TokId → ℕ → ℕ → Type 0
-TellsFirst None before now = now ≡ before
-TellsFirst (Some tok) before now = now ≡ tok.0
+abbrev pub PutsFirst : Option TokId → ℕ → ℕ → Type 0
+PutsFirst None before now = now ≡ before
+PutsFirst (Some tok) before now = now ≡ tok.0
 
 abbrev pub TakesAt : Mode → ℕ → CpuSeat → CpuSeat → ℕ → Type 0
 TakesAt mode tok old new answer = (asked : Asked) × ((answer ≡ asked_number asked) × AsksFor mode tok old new asked)
@@ -75,13 +75,13 @@ abbrev pub GivesOneBack : ℕ → CpuSeat → CpuSeat → ℕ → Type 0
 GivesOneBack tok old new answer = (gave : GaveBack) × ((answer ≡ gave_number gave) × GivesToken tok old new gave)
 
 abbrev pub LoadsCell : ℕ → ℕ → ℕ → ℕ → CpuSeat → CpuSeat → ℕ → Type 0
-LoadsCell tok cell before now old new answer = (loaded : Loaded) × ((answer ≡ loaded_number loaded) × Loads tok cell old new loaded × TellsLoaded loaded before now)
+LoadsCell tok cell before now old new answer = (loaded : Loaded) × ((answer ≡ loaded_number loaded) × Loads tok cell old new loaded × PutsLoaded loaded before now)
 
 abbrev pub StoresValue : ℕ → ℕ → ℕ → CpuSeat → CpuSeat → ℕ → Type 0
 StoresValue tok cell value old new answer = (stored : Stored) × ((answer ≡ stored_number stored) × StoresInCell tok cell value old new stored)
 
 abbrev pub AddsTo : ℕ → ℕ → ℕ → ℕ → CpuSeat → CpuSeat → ℕ → Type 0
-AddsTo tok amount before now old new answer = (added : Added) × ((answer ≡ added_number added) × AddsToCell tok amount old new added × TellsAdded added before now)
+AddsTo tok amount before now old new answer = (added : Added) × ((answer ≡ added_number added) × AddsToCell tok amount old new added × PutsAdded added before now)
 
 abbrev pub JudgesRow : ℕ → CpuSeat → CpuSeat → ℕ → Type 0
 JudgesRow tok old new answer = (judged : Judged) × ((answer ≡ judged_number judged) × JudgesToken tok old new judged)
@@ -90,13 +90,13 @@ abbrev pub RestoresFirst : ℕ → CpuSeat → CpuSeat → ℕ → Type 0
 RestoresFirst tok old new answer = (restored : RowRestored) × ((answer ≡ restored_number restored) × Restores tok old new restored)
 
 abbrev pub ReadsTheRecord : ℕ → List ℕ → List ℕ → ℕ → ℕ → CpuSeat → CpuSeat → ℕ → Type 0
-ReadsTheRecord tok before now before_length now_length old new answer = (read : RecordRead) × ((answer ≡ record_read_number read) × ReadsBytes tok old new read × TellsRecord read before now before_length now_length)
+ReadsTheRecord tok before now before_length now_length old new answer = (read : RecordRead) × ((answer ≡ record_read_number read) × ReadsBytes tok old new read × PutsRecord read before now before_length now_length)
 
 abbrev pub WritesRecord : ℕ → List ℕ → CpuSeat → CpuSeat → ℕ → Type 0
 WritesRecord tok bytes old new answer = (written : RecordWritten) × ((answer ≡ record_written_number written) × WritesBytes tok bytes old new written)
 
 abbrev pub ResumesList : List LwktReference → ℕ → ℕ → CpuSeat → CpuSeat → ℕ → Type 0
-ResumesList refs before now old new answer = (came : Resumed) × ((answer ≡ resumed_number came) × ResumesSeat refs old new came × TellsPlace came before now)
+ResumesList refs before now old new answer = (came : Resumed) × ((answer ≡ resumed_number came) × ResumesSeat refs old new came × PutsPlace came before now)
 
 abbrev pub GivesUpAll : ℕ → ℕ → CpuSeat → CpuSeat → ℕ → Type 0
-GivesUpAll before now old new answer = (first : Option TokId) × ((answer ≡ blocked_number first) × BlocksSeat old new first × TellsFirst first before now)
+GivesUpAll before now old new answer = (first : Option TokId) × ((answer ≡ blocked_number first) × BlocksSeat old new first × PutsFirst first before now)

@@ -46,7 +46,7 @@ SomeHolds desk = (number : ℕ) × ((s : CpuSeat) × (IsSeatAt desk number s × 
 abbrev pub IsWide : Desk → ℕ → Type 0
 IsWide desk room = (bank : Bank) × (IsBankOf desk bank × (room < tokens_of (id_of bank)))
 
--- the closing values of a token fit what C is told of it
+-- the closing values of a token fit what C gets of it
 abbrev pub IsSized : Closed → Type 0
 IsSized closed = (tok : ℕ) → (length (slice_index_or closed.rows.items tok []) ≤ 4) × (length (slice_index_or closed.tallies.items tok []) ≤ 8) × IsShort (slice_index_or closed.blobs.items tok None)
 

@@ -1,4 +1,4 @@
--- The closing values of tokens, as C is told of them (own).
+-- The closing values of tokens, as C gets them (own).
 use Rattle.std.specs.Prelude.{◌≡◌, ℕ, ◌-◌, ◌<◌, ◌≤◌, List, [], ◌++◌, length, replicate, None, Some, slice_get, slice_index, slice_index_or}
 use Rattle.lwkt_bank.specs.declared.closed.Closed.{Closed}
 use Rattle.lwkt_bank.specs.Views.{RecordOf}
@@ -17,7 +17,7 @@ abbrev pub count_in : RecordOf → ℕ
 count_in None = 0
 count_in (Some bytes) = 1
 
--- what a token came to at a close: cells, tallies and record are told with their numbers
+-- what a token came to at a close: cells, tallies and record are put with their numbers
 abbrev pub closing_of : Closed → ℕ → LwktClosing
 closing_of closed tok = record {
   row = zero_padded 4 (slice_index_or closed.rows.items tok []);
@@ -31,7 +31,7 @@ closing_of closed tok = record {
 }
 
 -- each token's place gets what it came to, and every other place stays as it was
-pub record TellsClosing (closed : Closed) (before after : List LwktClosing) : Type 0 where
+pub record PutsClosings (closed : Closed) (before after : List LwktClosing) : Type 0 where
   pub as_many : length after ≡ length before
-  pub told : (tok : ℕ) → tok < length closed.gens.items → slice_get after tok ≡ Some (closing_of closed tok)
+  pub put : (tok : ℕ) → tok < length closed.gens.items → slice_get after tok ≡ Some (closing_of closed tok)
   pub kept : (place : ℕ) → length closed.gens.items ≤ place → slice_get after place ≡ slice_get before place

@@ -20,7 +20,7 @@ IsAbsent desk number answer =
     ((answer ≡ 30) × (length desk.places.items ≤ number))
     ⊎ (((answer ≡ 50) ⊎ ((answer ≡ 52) ⊎ (answer ≡ 54))) × (number < length desk.places.items))
 
--- a bank of zeros, 52; else the seat wasn't there; or it was so when the call came, and is so when it is over, and the answer tells
+-- a bank of zeros, 52; else the seat wasn't there; or it was so when the call came, and is so when it is over, and the answer says
 -- what came of it
 abbrev pub IsDeskAnswer : Option Desk → ℕ → (CpuSeat → CpuSeat → ℕ → Type 0) → ℕ → Type 0
 IsDeskAnswer bank number Does answer = MatchOption bank (answer ≡ 52) (λ desk.

@@ -7,11 +7,11 @@ pub mod ListNumbers
 pub mod Seated
 pub mod Spots
 pub mod Endings
-pub mod Standings
+pub mod SeatStates
 pub mod Calls
 pub mod Desks
 pub mod Closes
 pub mod Closings
-pub mod Openings
+pub mod BankOpens
 pub mod Handles
 pub mod Words

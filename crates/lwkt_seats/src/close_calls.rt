@@ -2,20 +2,20 @@
 ghost use Rattle.std.specs.Prelude.{◌≡◌, ◌≢◌, ◌⊎◌, None, IsSomeAnd, length};
 ghost use Rattle.lwkt_bank.specs.declared.closed.Closed.{Closed};
 ghost use Rattle.lwkt_seats.specs.Closes.{SomeHolds, IsWide, ClosesDesk};
-ghost use Rattle.lwkt_seats.specs.Closings.{TellsClosing};
+ghost use Rattle.lwkt_seats.specs.Closings.{PutsClosings};
 
-use crate::closings::{LwktClosing, tell};
+use crate::closings::{LwktClosing, put_closings};
 use crate::desks::CLOSED;
 use crate::handles::LwktBank;
 
-/// Closes a bank whose seats hold nothing, and tells what each token came to. Every later call on the bank answers 52. It takes no memory.
+/// Closes a bank whose seats hold nothing, and puts what each token came to in its place. Every later call on the bank answers 52. It takes no memory.
 ///
 /// 0, and the closing values of the tokens, from the first place on; or, at the first seat for which it is so, 52 where the bank is closed,
 /// 50 while another call has the seat, 53 where it was given up as lost, so that the bank is still in use, and 51 where it holds a token;
-/// else 39 where there are more tokens than places for them. All is then as it was. A bank of zeros is told as one that is closed.
+/// else 39 where there are more tokens than places for them. All is then as it was. A bank of zeros counts as one that is closed.
 #[unsafe(no_mangle)]
 pub extern "C" fn lwkt_bank_close(bank: LwktBank, closings: &mut [LwktClosing]) -> u32
-    ensures closed { result ≡ 0 → (closed : Closed) × (IsSomeAnd bank.desk (λ desk. ClosesDesk desk (length closings.old) closed) × TellsClosing closed closings.old closings.new) }
+    ensures closed { result ≡ 0 → (closed : Closed) × (IsSomeAnd bank.desk (λ desk. ClosesDesk desk (length closings.old) closed) × PutsClosings closed closings.old closings.new) }
     ensures holds { result ≡ 51 → IsSomeAnd bank.desk (λ desk. SomeHolds desk) }
     ensures wide { result ≡ 39 → IsSomeAnd bank.desk (λ desk. IsWide desk (length closings.old)) }
     ensures zeros { bank.desk ≡ None → result ≡ 52 }
@@ -27,7 +27,7 @@ pub extern "C" fn lwkt_bank_close(bank: LwktBank, closings: &mut [LwktClosing]) 
     };
     match desk.close(closings.len()) {
         Ok(closed) => {
-            tell(&closed, closings);
+            put_closings(&closed, closings);
             0
         }
         Err(answer) => answer,

@@ -1,13 +1,13 @@
-//! The closing values of tokens, as C is told of them.
+//! The closing values of tokens, as C gets them.
 ghost use Rattle.std.specs.Prelude.{◌≡◌, ◌≤◌, [], None, length, slice_index, slice_index_or};
 ghost use Rattle.lwkt_core.specs.Tokens.{IsShort};
 ghost use Rattle.lwkt_seats.specs.Closes.{IsSized};
-ghost use Rattle.lwkt_seats.specs.Closings.{zero_padded, bytes_in, count_in, closing_of, TellsClosing};
+ghost use Rattle.lwkt_seats.specs.Closings.{zero_padded, bytes_in, count_in, closing_of, PutsClosings};
 
 use lwkt_bank::Closed;
 use lwkt_base::Blob;
 
-/// What a token came to, as C is told of it.
+/// What a token came to, as C gets it.
 #[repr(C)]
 #[derive(Clone, Copy)]
 pub struct LwktClosing {
@@ -144,11 +144,11 @@ fn closing_of(closed: &Closed, tok: usize) -> LwktClosing
     }
 }
 
-/// Tells what each token came to.
-pub(crate) fn tell(closed: &Closed, closings: &mut [LwktClosing])
+/// Puts what each token came to where the caller wants it.
+pub(crate) fn put_closings(closed: &Closed, closings: &mut [LwktClosing])
     requires sized { IsSized closed.now }
     requires room { length closed.now.gens.items ≤ length closings.old }
-    ensures { TellsClosing closed.now closings.old closings.new }
+    ensures { PutsClosings closed.now closings.old closings.new }
 {
     for tok in 0..closed.gens.len() {
         closings[tok] = closing_of(closed, tok);

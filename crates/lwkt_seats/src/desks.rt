@@ -4,7 +4,7 @@ ghost use Rattle.std.specs.Arc.{arc_value};
 ghost use Rattle.lwkt_seats.specs.Endings.{IsEndingOf};
 ghost use Rattle.lwkt_seats.specs.Seated.{IsSeated};
 ghost use Rattle.lwkt_seats.specs.Spots.{AreSpots, AreAllOf};
-ghost use Rattle.lwkt_seats.specs.Standings.{standing_of, away_number, abandon_number, MayFree};
+ghost use Rattle.lwkt_seats.specs.SeatStates.{seat_state, away_number, abandon_number, MayFree};
 
 use crate::endings::{Chest, Ending};
 use crate::spots::{Sitter, Spot, Stall};
@@ -28,7 +28,7 @@ pub type Drawer = Counted<Option<Chest>>;
 
 /// Where a seat is, by the word of its place.
 #[derive(Clone, Copy)]
-pub enum Standing {
+pub enum SeatState {
     /// It rests in its place.
     Rests,
     /// A call has it, or had it and never came back.
@@ -121,13 +121,13 @@ pub(crate) fn shut_drawer(drawer: &Drawer) {
     let _ = claim.put(None, MARKED);
 }
 
-fn standing_of(word: u64) -> Standing
-    ensures { result ≡ standing_of word }
+fn seat_state(word: u64) -> SeatState
+    ensures { result ≡ seat_state word }
 {
     match word {
-        FREE => Standing::Rests,
-        MARKED => Standing::Shut,
-        _ => Standing::Away,
+        FREE => SeatState::Rests,
+        MARKED => SeatState::Shut,
+        _ => SeatState::Away,
     }
 }
 
@@ -139,14 +139,14 @@ fn away_number(lost: bool) -> u32
 }
 
 // What is answered where a seat is to be given up.
-fn abandon_number(standing: Standing, before: bool) -> u32
-    ensures { result ≡ abandon_number standing before }
+fn abandon_number(state: SeatState, before: bool) -> u32
+    ensures { result ≡ abandon_number state before }
 {
-    match standing {
-        Standing::Rests => 55,
-        Standing::Shut => CLOSED,
-        Standing::Away if before => 54,
-        Standing::Away => 0,
+    match state {
+        SeatState::Rests => 55,
+        SeatState::Shut => CLOSED,
+        SeatState::Away if before => 54,
+        SeatState::Away => 0,
     }
 }
 
@@ -216,7 +216,7 @@ impl Desk {
     // Notes that the seat is given up. Whether it was before.
     fn lose(&self, number: u32, word: u64) -> bool
         requires place { number < 64 }
-        requires away { standing_of word ≡ Standing.Away }
+        requires away { seat_state word ≡ SeatState.Away }
     {
         self.lost.fetch_or(1 << number, Ordering::SeqCst) >> number & 1 == 1
     }
@@ -229,9 +229,9 @@ impl Desk {
             return NO_SEAT;
         };
         let word = place.load();
-        match standing_of(word) {
-            Standing::Away => abandon_number(Standing::Away, self.lose(number, word)),
-            standing => abandon_number(standing, false),
+        match seat_state(word) {
+            SeatState::Away => abandon_number(SeatState::Away, self.lose(number, word)),
+            state => abandon_number(state, false),
         }
     }
 

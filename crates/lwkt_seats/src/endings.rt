@@ -3,7 +3,7 @@ ghost use Rattle.std.specs.Prelude.{◌≡◌};
 ghost use Rattle.std.specs.Arc.{arc_value};
 ghost use Rattle.lwkt_seats.specs.Endings.{IsEndingOf};
 
-use crate::parts::Parts;
+use crate::raw_boxes::RawBox;
 use crate::spots::Sitter;
 use counted_slot::Fits;
 use lwkt_bank::{Bank, CloseRoom, CpuSeat};
@@ -25,7 +25,7 @@ pub struct Ending {
 
 /// The box of an ending.
 pub struct Chest {
-    parts: Parts<Ending, Global>,
+    parts: RawBox<Ending, Global>,
 }
 
 impl Fits for Chest {
@@ -40,7 +40,7 @@ impl Chest {
         ensures { result.parts.value ≡ ending.value }
     {
         Chest {
-            parts: Parts::of(ending),
+            parts: RawBox::of(ending),
         }
     }
 

@@ -2,7 +2,7 @@
 ghost use Rattle.std.specs.Prelude.{◌≡◌, ◌≢◌, ℕ};
 ghost use Rattle.lwkt_base.specs.declared.names.Mode.TheVariants.{Exclusive, Shared};
 ghost use Rattle.lwkt_seats.specs.Desks.{IsDeskAnswer};
-ghost use Rattle.lwkt_seats.specs.Calls.{TakesAt, GainsOne, SetsMark, GivesOneBack, LoadsCell, StoresValue, AddsTo, JudgesRow, RestoresFirst, TellsLoaded, TellsAdded};
+ghost use Rattle.lwkt_seats.specs.Calls.{TakesAt, GainsOne, SetsMark, GivesOneBack, LoadsCell, StoresValue, AddsTo, JudgesRow, RestoresFirst, PutsLoaded, PutsAdded};
 ghost use Rattle.lwkt_seats.specs.Numbers.{loaded_number, added_number};
 
 use crate::answers::{Added, Loaded};
@@ -12,9 +12,9 @@ use crate::{asks, cells};
 use lwkt_base::Mode;
 
 // Puts the value of a cell in its place, and answers.
-fn tell_loaded(loaded: Loaded, value: &mut u64) -> u32
+fn put_loaded(loaded: Loaded, value: &mut u64) -> u32
     ensures is { result ≡ loaded_number loaded }
-    ensures told { TellsLoaded loaded value.old value.new }
+    ensures put { PutsLoaded loaded value.old value.new }
     ensures kept { result ≢ 0 → value.new ≡ value.old }
 {
     if let Loaded::Value(found) = loaded {
@@ -24,9 +24,9 @@ fn tell_loaded(loaded: Loaded, value: &mut u64) -> u32
 }
 
 // Puts the new value of a cell in its place, and answers.
-fn tell_added(added: Added, value: &mut u64) -> u32
+fn put_added(added: Added, value: &mut u64) -> u32
     ensures is { result ≡ added_number added }
-    ensures told { TellsAdded added value.old value.new }
+    ensures put { PutsAdded added value.old value.new }
     ensures kept { result ≢ 0 → value.new ≡ value.old }
 {
     if let Added::Sum(sum) = added {
@@ -197,7 +197,7 @@ pub extern "C" fn lwkt_load(
     let held = &mut *sitter;
     let answer = cells::load(&mut held.seat, &held.bank, token, cell);
     put_back(place, sitter);
-    tell_loaded(answer, value)
+    put_loaded(answer, value)
 }
 
 /// Adds to the cell of a Tally token.
@@ -222,5 +222,5 @@ pub extern "C" fn lwkt_add(
     let held = &mut *sitter;
     let answer = cells::add(&mut held.seat, &held.bank, token, amount);
     put_back(place, sitter);
-    tell_added(answer, value)
+    put_added(answer, value)
 }

@@ -4,7 +4,7 @@ ghost use Rattle.lwkt_seats.specs.Desks.{IsAbandonAnswer};
 
 use crate::desks::CLOSED;
 use crate::handles::{LwktBank, LwktHeld, hold, let_go, no_bank};
-use crate::parts::Parts;
+use crate::raw_boxes::RawBox;
 use std::alloc::Global;
 use std::mem;
 
@@ -38,7 +38,7 @@ pub extern "C" fn lwkt_bank_free(alloc: Global, bank: &mut LwktHeld) -> u32
     if desk.is_over() {
         return 0;
     }
-    keep(alloc, bank, hold(Parts::of(desk)));
+    keep(alloc, bank, hold(RawBox::of(desk)));
     OPEN
 }
 

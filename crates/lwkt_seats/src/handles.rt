@@ -5,7 +5,7 @@ ghost use Rattle.lwkt_seats.specs.Handles.{desk_coded, is_lent, is_held, IsPlace
 ghost use Rattle.lwkt_seats.specs.Seated.{IsSeated};
 
 use crate::desks::{CLOSED, Desk, Place};
-use crate::parts::Parts;
+use crate::raw_boxes::RawBox;
 use crate::spots::Sitter;
 use std::alloc::Global;
 use std::marker::Model;
@@ -34,7 +34,7 @@ impl LwktBank {
         unsafe { Some(&*(place as *const Desk)) }
     }
 
-    /// The seat of this number, taken from its place; a bank of zeros is told as one that is closed.
+    /// The seat of this number, taken from its place; a bank of zeros counts as one that is closed.
     pub(crate) fn seat(self, number: u32) -> Result<(&'static Place, Box<Sitter>), u32>
         ensures ok { IfOk result (λ found. IsPlacedIn self.desk number found.0.now) }
         ensures seated { IfOk result (λ found. IsSeated found.0.now found.1.value) }
@@ -68,34 +68,34 @@ pub fn no_bank() -> LwktHeld
 }
 
 /// A desk, closed: a pointer to it can be kept.
-pub fn hold(parts: Parts<Desk, Global>) -> LwktHeld
+pub fn hold(parts: RawBox<Desk, Global>) -> LwktHeld
     ensures { result.desk ≡ Some parts.value }
 {
-    let Parts { ptr, alloc: _ } = parts;
+    let RawBox { ptr, alloc: _ } = parts;
     LwktHeld {
         place: ptr as *mut u8,
     }
 }
 
 /// The desk again; none where this is a bank of zeros.
-pub fn let_go(alloc: Global, held: LwktHeld) -> Option<Parts<Desk, Global>>
+pub fn let_go(alloc: Global, held: LwktHeld) -> Option<RawBox<Desk, Global>>
     ensures { MatchOption result (held.desk ≡ None) (λ parts. held.desk ≡ Some parts.value) }
 {
     let LwktHeld { place } = held;
     if place.is_null() {
         return None;
     }
-    Some(Parts {
+    Some(RawBox {
         ptr: place as *mut Desk,
         alloc,
     })
 }
 
 /// Puts a desk into C's hands: where it is.
-pub fn hand_out(parts: Parts<Desk, Global>) -> *mut u8
+pub fn hand_out(parts: RawBox<Desk, Global>) -> *mut u8
     ensures { result ≡ parts.ptr }
 {
-    let Parts { ptr, alloc: _ } = parts;
+    let RawBox { ptr, alloc: _ } = parts;
     ptr as *mut u8
 }
 

@@ -4,6 +4,7 @@
 
 mod answers;
 mod asks;
+mod bank_opens;
 mod blocks;
 mod cells;
 mod close_calls;
@@ -16,8 +17,7 @@ mod free_calls;
 mod handles;
 mod list_answers;
 mod list_calls;
-mod openings;
-mod parts;
+mod raw_boxes;
 mod record_calls;
 mod records;
 mod references;
@@ -26,6 +26,7 @@ mod spots;
 mod tokens;
 mod word_calls;
 
+pub use bank_opens::lwkt_bank_open;
 pub use close_calls::lwkt_bank_close;
 pub use closings::LwktClosing;
 pub use exports::{
@@ -35,7 +36,6 @@ pub use exports::{
 pub use free_calls::{lwkt_abandon, lwkt_bank_free};
 pub use handles::{LwktBank, LwktHeld};
 pub use list_calls::{lwkt_block, lwkt_resume};
-pub use openings::lwkt_bank_open;
 pub use record_calls::{lwkt_read_record, lwkt_write_record};
 pub use references::LwktReference;
 pub use tokens::LwktToken;

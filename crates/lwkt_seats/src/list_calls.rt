@@ -1,7 +1,7 @@
 //! The calls on lists of references, for C; include/lwkt.h declares them.
 ghost use Rattle.std.specs.Prelude.{◌≡◌, ◌≢◌};
 ghost use Rattle.lwkt_seats.specs.Desks.{IsDeskAnswer};
-ghost use Rattle.lwkt_seats.specs.Calls.{ResumesList, GivesUpAll, TellsPlace, TellsFirst};
+ghost use Rattle.lwkt_seats.specs.Calls.{ResumesList, GivesUpAll, PutsPlace, PutsFirst};
 ghost use Rattle.lwkt_seats.specs.ListNumbers.{resumed_number, blocked_number, NamesNoPlace};
 
 use crate::desks::put_back;
@@ -12,9 +12,9 @@ use crate::{blocks, resumes};
 use lwkt_base::TokId;
 
 // Puts the place of a reference that was refused where the caller wants it, and answers.
-fn tell_place(came: Resumed, missed: &mut usize) -> u32
+fn put_place(came: Resumed, missed: &mut usize) -> u32
     ensures is { result ≡ resumed_number came }
-    ensures told { TellsPlace came missed.old missed.new }
+    ensures put { PutsPlace came missed.old missed.new }
     ensures kept { NamesNoPlace result → missed.new ≡ missed.old }
 {
     match came {
@@ -26,9 +26,9 @@ fn tell_place(came: Resumed, missed: &mut usize) -> u32
 }
 
 // Puts the first token that was restored where the caller wants it, and answers.
-fn tell_first(first: Option<TokId>, restored: &mut u32) -> u32
+fn put_first(first: Option<TokId>, restored: &mut u32) -> u32
     ensures is { result ≡ blocked_number first }
-    ensures told { TellsFirst first restored.old restored.new }
+    ensures put { PutsFirst first restored.old restored.new }
     ensures kept { result ≢ 19 → restored.new ≡ restored.old }
 {
     let Some(tok) = first else {
@@ -62,7 +62,7 @@ pub extern "C" fn lwkt_resume(
     let held = &mut *sitter;
     let came = resumes::resume(&mut held.seat, &held.bank, list);
     put_back(place, sitter);
-    tell_place(came, missed)
+    put_place(came, missed)
 }
 
 /// Gives up all that the seat holds, token by token. A section that has broken its law gets its first row and record again before it
@@ -82,5 +82,5 @@ pub extern "C" fn lwkt_block(bank: LwktBank, seat: u32, restored: &mut u32) -> u
     let held = &mut *sitter;
     let first = blocks::block(&mut held.seat, &held.bank);
     put_back(place, sitter);
-    tell_first(first, restored)
+    put_first(first, restored)
 }

@@ -1,7 +1,7 @@
 //! The calls on a token's record, for C; include/lwkt.h declares them.
 ghost use Rattle.std.specs.Prelude.{◌≡◌, ◌≢◌, ◌≤◌};
 ghost use Rattle.lwkt_seats.specs.Desks.{IsDeskAnswer};
-ghost use Rattle.lwkt_seats.specs.Calls.{ReadsTheRecord, WritesRecord, TellsRecord};
+ghost use Rattle.lwkt_seats.specs.Calls.{ReadsTheRecord, WritesRecord, PutsRecord};
 ghost use Rattle.lwkt_seats.specs.Numbers.{record_read_number};
 ghost use Rattle.lwkt_seats.specs.Records.{buffer_with_bytes};
 
@@ -19,9 +19,9 @@ fn fill(buffer: &mut [u8], whole: &[u8])
 }
 
 // Puts a record in its place, and answers.
-fn tell_record(read: RecordRead, buffer: &mut [u8], length: &mut usize) -> u32
+fn put_record(read: RecordRead, buffer: &mut [u8], length: &mut usize) -> u32
     ensures is { result ≡ record_read_number read }
-    ensures told { TellsRecord read buffer.old buffer.new length.old length.new }
+    ensures put { PutsRecord read buffer.old buffer.new length.old length.new }
     ensures kept { result ≢ 0 → (buffer.new ≡ buffer.old) × (length.new ≡ length.old) }
 {
     if let RecordRead::Bytes(found) = read {
@@ -56,7 +56,7 @@ pub extern "C" fn lwkt_read_record(
     let held = &mut *sitter;
     let answer = records::read(&mut held.seat, &held.bank, token);
     put_back(place, sitter);
-    tell_record(answer, buffer, length)
+    put_record(answer, buffer, length)
 }
 
 /// Writes the record of a token.

@@ -2,7 +2,7 @@
 ghost use Rattle.std.specs.Prelude.{◌≡◌};
 ghost use Rattle.lwkt_seats.specs.Seated.{IsSeated};
 
-use crate::parts::Parts;
+use crate::raw_boxes::RawBox;
 use counted_slot::Fits;
 use lwkt_bank::{Bank, CpuSeat};
 use lwkt_base::CpuId;
@@ -29,7 +29,7 @@ pub struct Sitter {
 
 /// The box of a seat.
 pub struct Stall {
-    parts: Parts<Sitter, Global>,
+    parts: RawBox<Sitter, Global>,
 }
 
 impl Fits for Stall {
@@ -44,7 +44,7 @@ impl Stall {
         ensures { result.parts.value ≡ sitter.value }
     {
         Stall {
-            parts: Parts::of(sitter),
+            parts: RawBox::of(sitter),
         }
     }
 

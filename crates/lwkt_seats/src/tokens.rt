@@ -38,7 +38,7 @@ pub struct LwktToken {
 }
 
 impl LwktToken {
-    ghost use Rattle.lwkt_seats.specs.Openings.{IsOpenable, law_of_number, record_of, spec_of};
+    ghost use Rattle.lwkt_seats.specs.BankOpens.{IsOpenable, law_of_number, record_of, spec_of};
 
     /// Whether it has at most four cells, one of the six laws, at most 64 bytes and at most one record.
     pub fn is_token(&self) -> bool

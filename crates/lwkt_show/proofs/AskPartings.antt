@@ -14,10 +14,10 @@ use Rattle.lwkt_base.specs.declared.steps.PartKind.{PartKind}
 use Rattle.lwkt_base.specs.declared.steps.PartKind.TheVariants as kinds
 use Rattle.lwkt_base.specs.declared.steps.Verb.{Verb}
 use Rattle.lwkt_base.specs.declared.steps.Verb.TheVariants as verbs
-use Rattle.lwkt_base.specs.Step.{step_of, part_kinds, verb_named, ask_of, is_of_kind, WordsTellVerbs}
+use Rattle.lwkt_base.specs.Step.{step_of, part_kinds, verb_named, ask_of, is_of_kind, WordsNameVerbs}
 use Rattle.lwkt_script.specs.Step.{width_of}
 use Rattle.lwkt_trace.specs.Written.{comma}
-use Rattle.lwkt_show.specs.Apart.{part_numbers, numbers_of, AreAllWords, ask_writes_record, TextsTellAsks}
+use Rattle.lwkt_show.specs.Apart.{part_numbers, numbers_of, AreAllWords, ask_writes_record, TextsDecideAsks}
 use Rattle.lwkt_show.specs.Words.{ask_text, ask_word, ask_parts, flags_number, part_text, parts_text}
 use Rattle.lwkt_show.proofs.AskTexts.{Unquoted, word_unquoted}
 use Rattle.lwkt_show.proofs.Splits.{IsDigit, same_split, same_number}
@@ -125,14 +125,14 @@ same_some : {A : Type 0} (a b : A) → Some a ≡ Some b → a ≡ b
 same_some a b e = cc
 
 -- each kind of step has a word of its own
-words_tell : WordsTellVerbs
-words_tell verbs.Get = refl
-words_tell _ = refl
+words_name : WordsNameVerbs
+words_name verbs.Get = refl
+words_name _ = refl
 
 -- asks of one word are of one kind
 same_verb : (one other : Ask) → ask_word one ≡ ask_word other → (step_of one).0 ≡ (step_of other).0
 same_verb one other same =
-    same_some (step_of one).0 (step_of other).0 (sym (words_tell (step_of one).0) ∙ ap verb_named same ∙ words_tell (step_of other).0)
+    same_some (step_of one).0 (step_of other).0 (sym (words_name (step_of one).0) ∙ ap verb_named same ∙ words_name (step_of other).0)
 
 -- an ask whose word is that of one that writes no record writes none
 no_record : (one other : Ask) → ask_writes_record one ≡ false → (step_of one).0 ≡ (step_of other).0 → ask_writes_record other ≡ false
@@ -173,7 +173,7 @@ same_numbers (m ∷ ms) (n ∷ ns) a b e =
     (ap (λ (more : List ℕ). decimal m ++ more) (sym here.is) ∙ whole ∙ ap (λ (more : List ℕ). decimal n ++ more) there.is) in
     ap₂ (λ (x : ℕ) (xs : List ℕ). x ∷ xs) cut.0 (same_numbers ms ns a.1 b.1 (here.is ∙ cut.1 ∙ sym there.is))
 
-pub texts_apart : TextsTellAsks
+pub texts_apart : TextsDecideAsks
 texts_apart one other never small small' e =
     let whole = append_cancel_left (codes "[\"") _ _ (sym (text_is one) ∙ e ∙ text_is other) in
     let stop : Unquoted 34 → ⊥ = λ unquoted. unquoted refl in

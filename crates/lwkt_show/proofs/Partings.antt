@@ -7,7 +7,7 @@ use Rattle.lwkt_base.specs.declared.names.ThreadId.{ThreadId}
 use Rattle.lwkt_verdict.specs.declared.turns.Poll.{Poll}
 use Rattle.lwkt_show.specs.declared.stories.Came.{Came}
 use Rattle.lwkt_show.specs.declared.stories.Step.{Step}
-use Rattle.lwkt_show.specs.Apart.{AskAlike, PollAlike, LinesTellTurns}
+use Rattle.lwkt_show.specs.Apart.{AskAlike, PollAlike, LinesDecideTurns}
 use Rattle.lwkt_show.specs.Lines.{IsIdle, IsDoing, came_text, step_text, poll_text, turn_text}
 use Rattle.lwkt_show.specs.Words.{ask_word, ask_parts}
 use Rattle.lwkt_show.proofs.AskTexts.{Unquoted, Inside, Before, ask_front, word_unquoted, front_inside, step_before}
@@ -81,7 +81,7 @@ idle_opens words (inr why) = record { first = 58; behind = codes " no thread run
 
 opens : (poll : Option Poll) (words : List ℕ) → IsDoing poll words → Opens words
 opens None words idle = idle_opens words idle
-opens (Some poll) words tells = record { first = 44; behind = drop 1 (poll_text poll tells.0 tells.1); never = no_digit 44 (omega arith); is = tells.2 }
+opens (Some poll) words doing_is = record { first = 44; behind = drop 1 (poll_text poll doing_is.0 doing_is.1); never = no_digit 44 (omega arith); is = doing_is.2 }
 
 -- and with this one where there is no poll, and with that one where there is one
 idle_first : (words rest : List ℕ) → IsIdle words → get_or (words ++ rest) 0 0 ≡ 58
@@ -89,7 +89,7 @@ idle_first words rest (inl is) = ap (λ (ws : List ℕ). get_or (ws ++ rest) 0 0
 idle_first words rest (inr why) = ap (λ (ws : List ℕ). get_or (ws ++ rest) 0 0) why.1
 
 poll_first : (poll : Poll) (words rest : List ℕ) → IsDoing (Some poll) words → get_or (words ++ rest) 0 0 ≡ 44
-poll_first poll words rest tells = ap (λ (ws : List ℕ). get_or (ws ++ rest) 0 0) tells.2
+poll_first poll words rest doing_is = ap (λ (ws : List ℕ). get_or (ws ++ rest) 0 0) doing_is.2
 
 first_same : (xs ys : List ℕ) → xs ≡ ys → get_or xs 0 0 ≡ get_or ys 0 0
 first_same xs ys e = ap (λ (l : List ℕ). get_or l 0 0) e
@@ -120,7 +120,7 @@ same_cpu m n words words' rest rest' small small' a b e =
     let cut = same_number m n a.first b.first (a.behind ++ rest) (b.behind ++ rest') small small' a.never b.never (ap (λ (ws : List ℕ). decimal m ++ ws) (sym one) ∙ e ∙ ap (λ (ws : List ℕ). decimal n ++ ws) other) in
     (cut.0, one ∙ cut.1 ∙ sym other)
 
-pub lines_apart : LinesTellTurns
+pub lines_apart : LinesDecideTurns
 lines_apart one other line small small' a b =
     let rest : List ℕ = a.events ++ codes "\n" in
     let rest' : List ℕ = b.events ++ codes "\n" in
@@ -128,10 +128,10 @@ lines_apart one other line small small' a b =
     let comma : IsDigit 44 → ⊥ = no_digit 44 (omega arith) in
     let number = same_number one.number other.number 44 44 _ _ small.number small'.number comma comma whole in
     let round = same_number one.round other.round 44 44 _ _ small.round small'.round comma comma (append_cancel_left (codes ", round ") _ _ number.1) in
-    let cpu = same_cpu one.cpu other.cpu a.doing b.doing rest rest' small.cpu small'.cpu (opens one.poll a.doing a.tells) (opens other.poll b.doing b.tells) (append_cancel_left (codes ", processor ") _ _ round.1) in
+    let cpu = same_cpu one.cpu other.cpu a.doing b.doing rest rest' small.cpu small'.cpu (opens one.poll a.doing a.doing_is) (opens other.poll b.doing b.doing_is) (append_cancel_left (codes ", processor ") _ _ round.1) in
     record {
       number = number.0;
       round = round.0;
       cpu = cpu.0;
-      poll = doing_alike one.poll other.poll a.doing b.doing rest rest' small.poll small'.poll a.tells b.tells cpu.1;
+      poll = doing_alike one.poll other.poll a.doing b.doing rest rest' small.poll small'.poll a.doing_is b.doing_is cpu.1;
     }

@@ -57,20 +57,20 @@ begins Holds old mid new behind text empty a more here is = record {
 }
 
 -- a text that begins with lines, with the report behind it
-pub told_whole : (options : Options) (order : Option (List ℕ)) (cpus : ℕ) (polls : List Poll) (turns : List Turn) (closing : Closing) (front report text : List ℕ)
+pub shown_whole : (options : Options) (order : Option (List ℕ)) (cpus : ℕ) (polls : List Poll) (turns : List Turn) (closing : Closing) (front report text : List ℕ)
     → Begins (AreTurnLines options order cpus polls turns) front → report ≡ report_text closing → text ≡ front ++ report → AreLinesOf options order cpus polls turns closing text
-told_whole options order cpus polls turns closing front report text b is_report is = record {
+shown_whole options order cpus polls turns closing front report text b is_report is = record {
   front = b.front;
   behind = b.rest;
   shown = b.holds;
   parts = is ∙ ap (λ (xs : List ℕ). xs ++ report) b.is ∙ ap (λ (xs : List ℕ). b.front ++ b.rest ++ xs) is_report;
 }
 
--- what stands for a turn, where it is told by other names
-pub told_as : (shown shown' : Bool) (number number' round round' cpu cpu' : ℕ) (poll poll' : Option Poll) (old new : Page)
+-- what stands for a turn, where it is said by other names
+pub shown_as : (shown shown' : Bool) (number number' round round' cpu cpu' : ℕ) (poll poll' : Option Poll) (old new : Page)
     → shown ≡ shown' → number ≡ number' → round ≡ round' → cpu ≡ cpu' → poll ≡ poll'
     → AddsWords (IsLineIfShown shown number round cpu poll) old new → AddsWords (IsLineIfShown shown' number' round' cpu' poll') old new
-told_as shown shown' number number' round round' cpu cpu' poll poll' old new is_shown' is_number is_round is_cpu is_poll a =
+shown_as shown shown' number number' round round' cpu cpu' poll poll' old new is_shown' is_number is_round is_cpu is_poll a =
     let Shown : Bool → Type 0 = λ s. AddsWords (IsLineIfShown s number round cpu poll) old new in
     let Number : ℕ → Type 0 = λ n. AddsWords (IsLineIfShown shown' n round cpu poll) old new in
     let Round : ℕ → Type 0 = λ r. AddsWords (IsLineIfShown shown' number' r cpu poll) old new in

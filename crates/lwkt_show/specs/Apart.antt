@@ -10,22 +10,22 @@ use Rattle.lwkt_verdict.specs.declared.turns.Poll.{Poll}
 use Rattle.lwkt_show.specs.Words.{ask_text, ask_word, flags_number}
 use Rattle.lwkt_show.specs.Lines.{IsLine}
 
--- a turn as its line tells it: its number, its round, its processor, and its poll if it has one
-pub record TurnTold : Type 0 where
+-- a turn as its line shows it: its number, its round, its processor, and its poll if it has one
+pub record TurnOfLine : Type 0 where
   pub number : ℕ
   pub round : ℕ
   pub cpu : ℕ
   pub poll : Option Poll
 
 -- the numbers of a turn are some of a word each
-pub record AreWords (turn : TurnTold) : Type 0 where
+pub record AreWords (turn : TurnOfLine) : Type 0 where
   pub number : turn.number < 2 ^ 64
   pub round : turn.round < 2 ^ 64
   pub cpu : turn.cpu < 2 ^ 64
   pub poll : IfSome turn.poll (λ poll. (poll.thread.cpu.0 < 2 ^ 64) × (poll.thread.thread < 2 ^ 64))
 
 -- a line is that of a turn
-abbrev pub IsLineOf : TurnTold → List ℕ → Type 0
+abbrev pub IsLineOf : TurnOfLine → List ℕ → Type 0
 IsLineOf turn line = IsLine turn.number turn.round turn.cpu turn.poll line
 
 -- two polls are of one thread, and their asks have one word, and are the same step of a script
@@ -41,16 +41,16 @@ PollAlike None (Some other) = ⊥
 PollAlike (Some one) None = ⊥
 PollAlike (Some one) (Some other) = AskAlike one other
 
--- two turns are alike in all that a line tells of them for certain
-pub record AreAlike (one other : TurnTold) : Type 0 where
+-- two turns are alike in all that a line says of them for certain
+pub record AreAlike (one other : TurnOfLine) : Type 0 where
   pub number : one.number ≡ other.number
   pub round : one.round ≡ other.round
   pub cpu : one.cpu ≡ other.cpu
   pub poll : PollAlike one.poll other.poll
 
 -- turns that have the same line are alike
-abbrev pub LinesTellTurns : Type 0
-LinesTellTurns = (one other : TurnTold) (line : List ℕ) → AreWords one → AreWords other → IsLineOf one line → IsLineOf other line → AreAlike one other
+abbrev pub LinesDecideTurns : Type 0
+LinesDecideTurns = (one other : TurnOfLine) (line : List ℕ) → AreWords one → AreWords other → IsLineOf one line → IsLineOf other line → AreAlike one other
 
 -- the numbers of a part of a step
 abbrev pub part_numbers : Part → List ℕ
@@ -74,11 +74,11 @@ abbrev pub AreAllWords : List ℕ → Type 0
 AreAllWords [] = Unit {0}
 AreAllWords (n ∷ ns) = (n < 2 ^ 64) × AreAllWords ns
 
--- whether an ask writes a record, of which its text may not tell all
+-- whether an ask writes a record, of which its text may not say all
 abbrev pub ask_writes_record : Ask → Bool
 ask_writes_record (WriteBlob tok blob) = true
 ask_writes_record _ = false
 
 -- asks with the same text are the same, but for writes of records
-abbrev pub TextsTellAsks : Type 0
-TextsTellAsks = (one other : Ask) → ask_writes_record one ≡ false → AreAllWords (numbers_of one) → AreAllWords (numbers_of other) → ask_text one ≡ ask_text other → one ≡ other
+abbrev pub TextsDecideAsks : Type 0
+TextsDecideAsks = (one other : Ask) → ask_writes_record one ≡ false → AreAllWords (numbers_of one) → AreAllWords (numbers_of other) → ask_text one ≡ ask_text other → one ≡ other

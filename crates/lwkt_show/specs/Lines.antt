@@ -68,7 +68,7 @@ turn_text number round cpu = (codes "turn " ++ decimal number) ++ (codes ", roun
 abbrev pub IsIdle : List ℕ → Type 0
 IsIdle words = (words ≡ codes ": no thread is left") ⊎ ((why : List ℕ) × (words ≡ codes ": no thread runs: " ++ why))
 
--- some words tell a turn's poll, or that it has none; which of its steps the thread made, and what it did then, is not said
+-- some words say a turn's poll, or that it has none; which of its steps the thread made, and what it did then, is not said
 abbrev pub IsDoing : Option Poll → List ℕ → Type 0
 IsDoing None words = IsIdle words
 IsDoing (Some poll) words = (step : Step) × (came : Came) × (words ≡ poll_text poll step came)
@@ -77,7 +77,7 @@ IsDoing (Some poll) words = (step : Step) × (came : Came) × (words ≡ poll_te
 pub record IsLine (number round cpu : ℕ) (poll : Option Poll) (line : List ℕ) : Type 0 where
   pub doing : List ℕ
   pub events : List ℕ
-  pub tells : IsDoing poll doing
+  pub doing_is : IsDoing poll doing
   pub parts : line ≡ turn_text number round cpu ++ doing ++ events ++ codes "\n"
 
 -- how many turns a round has; one where there is no processor

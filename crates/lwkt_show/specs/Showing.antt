@@ -1,7 +1,7 @@
 -- What is shown of a run (own).
 use Rattle.std.specs.Prelude.{◌≡◌, ◌<◌, ◌≤◌, ℕ, length, List, Option, None, Some}
 use Rattle.lwkt_base.specs.declared.faults.Fault.{Fault}
-use Rattle.lwkt_run.specs.Run.{DeclinesAlong, DeclinesRun, IsOrderRun, IsTurnsRun, end_told}
+use Rattle.lwkt_run.specs.Run.{DeclinesAlong, DeclinesRun, IsOrderRun, IsTurnsRun, end_of_closing}
 use Rattle.lwkt_run.specs.Threaded.{IsThreadRecord, lets_all}
 use Rattle.lwkt_run.specs.declared.runs.End.{End}
 use Rattle.lwkt_run.specs.declared.runs.TurnsRun.{TurnsRun}
@@ -11,8 +11,8 @@ use Rattle.lwkt_show.specs.Lines.{AreLinesOf}
 use Rattle.lwkt_show.specs.Shown.{first_turn}
 use Rattle.lwkt_trace.specs.Written.{trace_text}
 use Rattle.lwkt_show.specs.declared.options.Options.{Options}
-use Rattle.lwkt_show.specs.declared.options.View.{View}
-use Rattle.lwkt_show.specs.declared.options.View.TheVariants.{Lines, Trace, Picture, Chains}
+use Rattle.lwkt_show.specs.declared.options.Rendering.{Rendering}
+use Rattle.lwkt_show.specs.declared.options.Rendering.TheVariants.{Lines, Trace, Picture, Chains}
 
 -- the lines of a run in rounds, or along an order: of each turn that the options choose its line, one behind another, then some words,
 -- and then the run's report
@@ -21,7 +21,7 @@ ShowsLines options order script run text = AreLinesOf options order script.cpus 
 
 -- what is said of a text that shows what was kept: it has the lines of the chosen turns, and ends with the report; a trace is the text of
 -- the script's opening, of all events and of what the report closes with; of the other views nothing is said
-abbrev pub ShowsBy : View → Options → Option (List ℕ) → Script → TurnsRun → List ℕ → Type 0
+abbrev pub ShowsBy : Rendering → Options → Option (List ℕ) → Script → TurnsRun → List ℕ → Type 0
 ShowsBy Lines options order script run text = ShowsLines options order script run text
 ShowsBy Trace options order script run text = text ≡ trace_text script run.trace.items run.closing
 ShowsBy Picture options order script run text = Unit {0}
@@ -29,7 +29,7 @@ ShowsBy Chains options order script run text = Unit {0}
 
 -- the same of the view that the options name
 abbrev pub ShowsAs : Options → Option (List ℕ) → Script → TurnsRun → List ℕ → Type 0
-ShowsAs options order script run text = ShowsBy options.view options order script run text
+ShowsAs options order script run text = ShowsBy options.rendering options order script run text
 
 -- all that was kept of a run of the script, in rounds or along this order
 abbrev pub IsRunOf : Script → Option (List ℕ) → TurnsRun → Type 0
@@ -56,7 +56,7 @@ pub record IsShown (options : Options) (order : Option (List ℕ)) (script : Scr
   pub run : TurnsRun
   pub is_run : IsRunOf script order run
   pub not_before : ¬ EndsBefore options order script run
-  pub is_end : end ≡ end_told run.closing
+  pub is_end : end ≡ end_of_closing run.closing
   pub shows : ShowsAs options order script run text
 
 -- there is a run of the script, in rounds or along this order, that ended before the first turn that was chosen
@@ -65,9 +65,9 @@ pub record EndsBeforeChosen (options : Options) (order : Option (List ℕ)) (scr
   pub is_run : IsRunOf script order run
   pub before : EndsBefore options order script run
 
--- there is a run of the script on threads, with the written sections that were told of it in order, that ends so; that the text shows
+-- there is a run of the script on threads, with the written sections that were named of it in order, that ends so; that the text shows
 -- these sections is not said
 pub record IsShownOnThreads (script : Script) (end : End) (text : List ℕ) : Type 0 where
   pub kept : ThreadRecord
   pub is_run : IsThreadRecord lets_all script kept
-  pub is_end : end ≡ end_told kept.closing
+  pub is_end : end ≡ end_of_closing kept.closing

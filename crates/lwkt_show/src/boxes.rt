@@ -7,7 +7,7 @@ use crate::stories::{Doing, Story};
 use lwkt_core::State;
 use lwkt_refusals::Page;
 
-/// What a box tells. Of what threads wait for it tells what stands first here.
+/// What a box shows. Of what threads wait for it shows what stands first here.
 #[derive(Clone, Copy, PartialEq, Eq)]
 pub(crate) enum Kind {
     /// This thread ran.
@@ -27,7 +27,7 @@ pub(crate) enum Kind {
 /// What stands in a box.
 #[derive(Clone, Copy)]
 pub(crate) struct Content {
-    /// What it tells.
+    /// What it shows.
     pub kind: Kind,
     /// Which thread, token or message it names; 0 where it names none.
     pub number: usize,
@@ -35,7 +35,7 @@ pub(crate) struct Content {
     pub more: bool,
 }
 
-// What stands in a box that tells of one thread alone.
+// What stands in a box that shows one thread alone.
 fn alone(kind: Kind, number: u8) -> Content {
     Content {
         kind,
@@ -70,7 +70,7 @@ fn rank(kind: Kind) -> u8 {
     }
 }
 
-// What stands in a box that told this, once a thread waits for that too.
+// What stands in a box that showed this, once a thread waits for that too.
 fn with(content: Content, want: Content) -> Content {
     if want.kind == Kind::Empty {
         return content;

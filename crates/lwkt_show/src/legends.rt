@@ -20,7 +20,7 @@ const GAP: usize = 14;
 // How wide the sign of a line or a bar is.
 const SIGN: usize = 24;
 
-// The most letters of a fault's text, and the most faults that are told.
+// The most letters of a fault's text, and the most faults that are shown.
 const FAULT_LETTERS: usize = 40;
 
 const FAULT_LIMIT: usize = 12;
@@ -127,14 +127,14 @@ impl Legend {
     }
 }
 
-// The first box that tells this; without a kind the first that tells of further threads.
+// The first box that shows this; without a kind the first that shows further threads.
 fn first_box(boxes: &[TurnBox], kind: Option<Kind>) -> Option<Content> {
     for turn in boxes {
-        let tells = match kind {
+        let is_it = match kind {
             Some(kind) => turn.content.kind == kind,
             None => turn.content.more,
         };
-        if tells {
+        if is_it {
             return Some(turn.content);
         }
     }
@@ -242,7 +242,7 @@ fn add_ways(legend: &mut Legend, ways: &[Way]) {
     }
 }
 
-// The fault that a label tells, of a thread's end or of a refusal.
+// The fault that a label shows, of a thread's end or of a refusal.
 fn fault_of(label: &Label, ends: bool) -> Option<Fault> {
     match label.tag {
         Tag::Fault(fault, is_end) if is_end == ends => Some(fault),

@@ -32,8 +32,8 @@ mod turns;
 mod whys;
 mod words;
 
-pub use laws::{lines_tell_turns, texts_tell_asks};
-pub use options::{Counted, Options, View};
+pub use laws::{lines_decide_turns, texts_decide_asks};
+pub use options::{Counted, Options, Rendering};
 pub use reels::Reel;
 pub use shows::{Shown, show_script, show_threads};
 pub use whys::whys_of;

@@ -2,7 +2,7 @@ use crate::reels::round_length;
 
 /// In which form a run is shown.
 #[derive(Clone, Copy, PartialEq, Eq)]
-pub enum View {
+pub enum Rendering {
     /// A line for each turn that is chosen, why threads haven't ended, and the report.
     Lines,
     /// Its trace, as `lwkt_check` reads it.
@@ -26,7 +26,7 @@ pub enum Counted {
 #[derive(Clone, Copy, PartialEq, Eq)]
 pub struct Options {
     /// How the run is shown.
-    pub view: View,
+    pub rendering: Rendering,
     /// Whether turns or rounds are counted.
     pub counted: Counted,
     /// The first turn or round that is shown, counted from 0.
@@ -49,7 +49,7 @@ impl Options {
         match self.counted {
             Counted::Turns => *self,
             Counted::Rounds => Options {
-                view: self.view,
+                rendering: self.rendering,
                 counted: Counted::Turns,
                 first: self.first.saturating_mul(cpus),
                 last: self

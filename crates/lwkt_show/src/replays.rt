@@ -62,7 +62,7 @@ fn show_first_record(out: &mut Page, blob: &Option<Blob>, first: &Option<Blob>) 
     }
 }
 
-// What is told of a thread before the first turn.
+// What is said of a thread before the first turn.
 fn story_of(alloc: Global, script: &Script, line: &ThreadLine) -> Story {
     let (steps, repeat) = match spec_of(script, line.id) {
         Some(spec) => (spec.steps.as_slice().len() as u64, u64::from(spec.repeat)),
@@ -227,7 +227,7 @@ impl Replay {
         held_after(held, event)
     }
 
-    // If an event stores again a cell or the record of a section that broke its law, notes that and tells it.
+    // If an event stores again a cell or the record of a section that broke its law, notes that and says it.
     fn note_broken(
         &self,
         why: &mut Page,
@@ -247,7 +247,7 @@ impl Replay {
         Some(tok)
     }
 
-    /// Makes events happen, those of a turn or of the stop, and appends each by what it changed. What is told of a section
+    /// Makes events happen, those of a turn or of the stop, and appends each by what it changed. What is said of a section
     /// that broke its law goes into `why` too.
     pub(crate) fn play(
         &mut self,
@@ -264,9 +264,9 @@ impl Replay {
             None => true,
         };
         for (place, event) in part.iter().enumerate() {
-            let told = self.note_broken(why, event, stores, broken);
-            if told != broken {
-                broken = told;
+            let noted = self.note_broken(why, event, stores, broken);
+            if noted != broken {
+                broken = noted;
                 out.add("; ");
                 out.add_page(why);
             }
@@ -280,7 +280,7 @@ impl Replay {
         broken.is_some()
     }
 
-    /// Makes the events of a turn happen, which isn't shown. What is told of a section that broke its law goes into `why`.
+    /// Makes the events of a turn happen, which isn't shown. What is said of a section that broke its law goes into `why`.
     pub(crate) fn pass(&mut self, why: &mut Page, scene: &Scene) -> bool {
         let mut broken = None;
         let stores = stores(Some(scene));

@@ -7,11 +7,13 @@ ghost use Rattle.lwkt_show.specs.Showing.{DeclinesShow, EndsBefore, EndsBeforeCh
 
 use crate::chains::{chains_of, chains_of_sections};
 use crate::lines::lines_of;
-use crate::options::{Options, View};
+use crate::options::{Options, Rendering};
 use crate::pictures::picture_of;
 use crate::reels::Reel;
 use lwkt_base::Fault;
-use lwkt_run::{End, ThreadRecord, TurnsRun, end_told, order_run_of, record_threads, turns_run_of};
+use lwkt_run::{
+    End, ThreadRecord, TurnsRun, end_of_closing, order_run_of, record_threads, turns_run_of,
+};
 use lwkt_script::Script;
 use lwkt_trace::trace_text;
 use std::alloc::Global;
@@ -68,11 +70,11 @@ fn text_of(
         order,
         closing: &run.closing,
     };
-    match options.view {
-        View::Lines => lines_of(alloc, &reel, options),
-        View::Trace => Ok(trace_text(alloc, script, &events, &run.closing)?),
-        View::Picture => picture_of(alloc, &reel, options),
-        View::Chains => Ok(chains_of(alloc, &reel)?),
+    match options.rendering {
+        Rendering::Lines => lines_of(alloc, &reel, options),
+        Rendering::Trace => Ok(trace_text(alloc, script, &events, &run.closing)?),
+        Rendering::Picture => picture_of(alloc, &reel, options),
+        Rendering::Chains => Ok(chains_of(alloc, &reel)?),
     }
 }
 
@@ -95,7 +97,7 @@ pub fn show_script(
     if ends_before(script, options, order, &run) {
         return Ok(None);
     }
-    let end = end_told(&run.closing);
+    let end = end_of_closing(&run.closing);
     match text_of(alloc, script, options, order, &run) {
         Ok(text) => Ok(Some(Shown { text, end })),
         Err(fault) => Err(fault),
@@ -118,7 +120,7 @@ pub fn show_threads<R: Threads + Sync>(
         sections,
         givers,
     } = record_threads(rt, alloc, script)?;
-    let end = end_told(&closing);
+    let end = end_of_closing(&closing);
     let text = chains_of_sections(alloc, script, &sections, &givers, &closing)?;
     Ok(Shown { text, end })
 }

@@ -1,4 +1,4 @@
--- Written sections in order are one list, and in order what the processors of a run tell is what the run has written (own).
+-- Written sections in order are one list, and in order what the processors of a run name is what the run has written (own).
 use Rattle.std.proofs.Common.{◌≡◌, ◌⊎◌, inl, inr, ℕ, ◌<◌, ◌≤◌, ◌==◌, Bool, true, false, cond, List, [], ◌∷◌, ◌++◌, length, All, filter, flat_map, map, refl, ap, sym, ◌∙◌, subst, arith, IsPermutation, Ordering, Less, Equal, Greater, is_lt}
 use Rattle.std.specs.List.{range_with_len}
 use Rattle.std.specs.List.Sorted.{IsSortedBy}
@@ -14,11 +14,11 @@ use Rattle.lwkt_core.specs.Trace.{Run}
 use Rattle.lwkt_core.specs.Headline.{sections_of}
 use Rattle.lwkt_table.specs.History.{events_in, AreOthers}
 use Rattle.lwkt_core.specs.SectionChain.{sections_at, AreSectionChains, Precedes, AreInOrder}
-use Rattle.lwkt_core.specs.RunSections.{of_token, rows_of, section_in, sections_in, sections_told}
+use Rattle.lwkt_core.specs.RunSections.{of_token, rows_of, section_in, sections_in, sections_named}
 use Rattle.lwkt_table.specs.Sections.{sections_by}
 use Rattle.lwkt_table.proofs.PartLemmas.{permutation_same, permutation-filter, flat_map-parted}
 use Rattle.lwkt_core.proofs.RunChainLemmas.{IsSettled, settled_chains, length-rows}
-use Rattle.lwkt_core.proofs.TellLemmas.{tell, told_chains}
+use Rattle.lwkt_core.proofs.NamingLemmas.{naming, named_chains}
 use Rattle.lwkt_table.proofs.SectionParts.{chains_in_any_order, deeds_below, parts_are_all, parts_chains, is_before, sorted_in_order}
 
 -- a section that is before another one is so by the test, and none is before itself
@@ -98,7 +98,7 @@ order_is_one (x ∷ xs) (y ∷ ys) one two same =
     let rest : IsPermutation xs ys = subst (λ (l : List Section). IsPermutation l ys) (behind_first x xs one.0) (subst (λ (l : List Section). IsPermutation (filter (is_before x) (x ∷ xs)) l) after_y kept) in
     ap (λ (s : Section). s ∷ ys) head ∙ ap (λ (l : List Section). x ∷ l) (order_is_one xs ys one.1 two.1 rest)
 
--- the sections that a run's events tell are its written ones
+-- the sections that a run's events name are its written ones
 filter_each : (t : ℕ) (sections : List Section) → sections_at t sections ≡ flat_map (λ s. cond (s.tok.0 == t) (s ∷ []) []) sections
 filter_each t [] = refl
 filter_each t (s ∷ sections) =
@@ -109,14 +109,14 @@ one_by_one : (sections : List Section) → flat_map (λ s. s ∷ []) sections �
 one_by_one [] = refl
 one_by_one (s ∷ sections) = ap (λ l. s ∷ l) (one_by_one sections)
 
-pub told_are_written : (m : Machine) (events : List Event) (n : Machine) → Run m events n → All IsSettled m.tokens → All IsSettled n.tokens → IsPermutation (sections_told events) (sections_in m events)
-told_are_written m events n run opened closed =
-    let told = sections_told events in
+pub named_are_written : (m : Machine) (events : List Event) (n : Machine) → Run m events n → All IsSettled m.tokens → All IsSettled n.tokens → IsPermutation (sections_named events) (sections_in m events)
+named_are_written m events n run opened closed =
+    let named = sections_named events in
     let long = length-rows m.tokens in
-    let there : All (λ (s : Section). s.tok.0 < length m.tokens) told = subst (λ (count : ℕ). All (λ (s : Section). s.tok.0 < count) told) long (told_chains m events n run opened closed).known in
-    let parted = flat_map-parted (λ (s : Section). s.tok.0) (λ (s : Section). s ∷ []) (length m.tokens) told there in
-    let each : (t : ℕ) → flat_map (λ s. cond (s.tok.0 == t) (s ∷ []) []) told ≡ map (of_token t) (sections_of t m events) = λ t. sym (filter_each t told) ∙ tell m events n run t in
-    IsPermutation-trans _ _ _ (permutation_same _ _ (sym (one_by_one told)))
+    let there : All (λ (s : Section). s.tok.0 < length m.tokens) named = subst (λ (count : ℕ). All (λ (s : Section). s.tok.0 < count) named) long (named_chains m events n run opened closed).known in
+    let parted = flat_map-parted (λ (s : Section). s.tok.0) (λ (s : Section). s ∷ []) (length m.tokens) named there in
+    let each : (t : ℕ) → flat_map (λ s. cond (s.tok.0 == t) (s ∷ []) []) named ≡ map (of_token t) (sections_of t m events) = λ t. sym (filter_each t named) ∙ naming m events n run t in
+    IsPermutation-trans _ _ _ (permutation_same _ _ (sym (one_by_one named)))
     (IsPermutation-trans _ _ _ parted (permutation_same _ _ (λ i. flat_map (λ t. each t i) (range_with_len 0 (length m.tokens)))))
 
 -- so in order they are the written sections of the run
@@ -124,7 +124,7 @@ pub in_order_as_written : (m : Machine) (history : List Deed) (n : Machine) (cpu
     → IsPermutation (sections_by cpus history) sections → IsSortedBy is_before sections → sections ≡ sections_in m (events_in history)
 in_order_as_written m history n cpus sections run opened closed others same sorted =
     let events = events_in history in
-    let all : IsPermutation (sections_told events) (sections_by cpus history) = parts_are_all section_in cpus history (deeds_below cpus history others) in
+    let all : IsPermutation (sections_named events) (sections_by cpus history) = parts_are_all section_in cpus history (deeds_below cpus history others) in
     let chains : AreSectionChains (rows_of m) (rows_of n) sections = chains_in_any_order (rows_of m) (rows_of n) (sections_by cpus history) sections same (parts_chains m history n cpus run opened closed others) in
-    let whole : IsPermutation (sections_in m events) sections = IsPermutation-trans _ _ _ (IsPermutation-sym _ _ (told_are_written m events n run opened closed)) (IsPermutation-trans _ _ _ all same) in
+    let whole : IsPermutation (sections_in m events) sections = IsPermutation-trans _ _ _ (IsPermutation-sym _ _ (named_are_written m events n run opened closed)) (IsPermutation-trans _ _ _ all same) in
     order_is_one (sections_in m events) sections (settled_chains m events n run opened closed).0 (sorted_in_order (rows_of m) (rows_of n) sections sorted chains) whole

@@ -16,12 +16,12 @@ use Rattle.lwkt_table.specs.History.{part_by, events_by, events_in, AreOthers}
 use Rattle.lwkt_core.specs.SectionChain.{RowsAt, row_at, generation_at, IsSectionChain, sections_at, AreSectionChains, Precedes, AreInOrder}
 use Rattle.lwkt_core.proofs.ChainLemmas.{is_of, count-yes, count-no, count-none, sections_at-own, sections_at-other, sections_at-none}
 use Rattle.lwkt_core.specs.RunSections.{rows_of, section_in}
-use Rattle.lwkt_table.specs.Sections.{sections_by, PartsTellChains}
+use Rattle.lwkt_table.specs.Sections.{sections_by, PartsNameChains}
 use Rattle.lwkt_core.specs.Machine.{Machine}
 use Rattle.lwkt_core.specs.Trace.{Run}
 use Rattle.lwkt_core.proofs.RunChainLemmas.{IsSettled, open_settled}
 use Rattle.lwkt_core.proofs.SafetyLemmas.{stays}
-use Rattle.lwkt_core.proofs.TellLemmas.{told_chains}
+use Rattle.lwkt_core.proofs.NamingLemmas.{named_chains}
 use Rattle.lwkt_table.proofs.PartLemmas.{permutation_same, permutation-filter, flat_map-parted}
 
 -- a token's chain, with its sections in another order
@@ -100,7 +100,7 @@ parts_are_all {A} f cpus history low =
     (IsPermutation-trans _ _ _ (flat_map-parted (λ (d : Deed). d.cpu.0) (λ d. flat_map f d.events) cpus history low)
     (permutation_same _ _ (sym (λ i. flat_map (λ cpu. of_part cpu f history i) (range_with_len 0 cpus)))))
 
--- so where the sections that a history's events tell are chains, those of one processor after another are
+-- so where the sections that a history's events name are chains, those of one processor after another are
 pub parts_are_chains : (first last : RowsAt) (f : Event → List Section) (cpus : ℕ) (history : List Deed) → All (λ d. d.cpu.0 < cpus) history → AreSectionChains first last (flat_map f (events_in history))
     → AreSectionChains first last (flat_map (λ cpu. flat_map f (events_by cpu history)) (range_with_len 0 cpus))
 parts_are_chains first last f cpus history low chains = chains_in_any_order first last (flat_map f (events_in history)) (flat_map (λ cpu. flat_map f (events_by cpu history)) (range_with_len 0 cpus)) (parts_are_all f cpus history low) chains
@@ -240,9 +240,9 @@ chains_once first last sections chains t g = elim (cases_order t (length first))
 pub sorted_in_order : (first last : RowsAt) (sections : List Section) → IsSortedBy is_before sections → AreSectionChains first last sections → AreInOrder sections
 sorted_in_order first last sections sorted chains = rises_in_order sections (sorted_rises sections sorted) (chains_once first last sections chains)
 
--- of a run, the sections that its processors tell, one processor's after another's, are chains
+-- of a run, the sections that its processors name, one processor's after another's, are chains
 pub parts_chains : (m : Machine) (history : List Deed) (n : Machine) (cpus : ℕ) → Run m (events_in history) n → All IsSettled m.tokens → All IsSettled n.tokens → ((cpu : ℕ) → cpus ≤ cpu → AreOthers cpu history) → AreSectionChains (rows_of m) (rows_of n) (sections_by cpus history)
-parts_chains m history n cpus run opened closed others = parts_are_chains (rows_of m) (rows_of n) section_in cpus history (deeds_below cpus history others) (told_chains m (events_in history) n run opened closed)
+parts_chains m history n cpus run opened closed others = parts_are_chains (rows_of m) (rows_of n) section_in cpus history (deeds_below cpus history others) (named_chains m (events_in history) n run opened closed)
 
-pub parts_tell : PartsTellChains
-parts_tell m history n cpus safe run opened closed others = parts_chains m history n cpus run (open_settled m safe opened) (open_settled n (stays m (events_in history) n safe run) closed) others
+pub parts_name : PartsNameChains
+parts_name m history n cpus safe run opened closed others = parts_chains m history n cpus run (open_settled m safe opened) (open_settled n (stays m (events_in history) n safe run) closed) others

@@ -71,8 +71,8 @@ module _ {S : Type 0} (Done : S → Deed → S → Type 0) (first m : S) (pages 
       }))
       seen
 
-  told_more : Chronicle Done first more m
-  told_more = record {
+  chronicle_more : Chronicle Done first more m
+  chronicle_more = record {
     history = r.history;
     passes = r.passes;
     parts = λ cpu past seen. r.parts cpu past (seen_before cpu past seen);
@@ -84,8 +84,8 @@ module _ {S : Type 0} (Done : S → Deed → S → Type 0) (first m : S) (pages 
   }
 
   Chronicle-more : (q : Chronicle Done first more m) × (q.history ≡ r.history)
-  unfolding told_more
-  Chronicle-more = (told_more, refl)
+  unfolding chronicle_more
+  Chronicle-more = (chronicle_more, refl)
 
 -- the same for the views of a table that show the pages
 pub Views-more : {S V : Type 0} (Done : S → Deed → S → Type 0) (page_of : V → Page) (first m : S) (views : List V) (v : V) → page_of v ≡ spent_page → (r : Chronicle Done first (map page_of views) m)

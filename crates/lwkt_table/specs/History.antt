@@ -21,18 +21,18 @@ left_by (Add k) n = (n + k) % 2 ^ 64
 left_by (Sub k) n = (n + (2 ^ 64 - k)) % 2 ^ 64
 left_by (Or bits) n = bit_or n bits
 
--- the word that an operation tells where it met this one: a store tells the word stored
-abbrev pub told_by : Operation → ℕ → ℕ
-told_by Load n = n
-told_by (Store new) n = new
-told_by (Exchange old new) n = n
-told_by (Add k) n = n
-told_by (Sub k) n = n
-told_by (Or bits) n = n
+-- the word that an operation finds where it met this one: a store finds the word stored
+abbrev pub word_by : Operation → ℕ → ℕ
+word_by Load n = n
+word_by (Store new) n = new
+word_by (Exchange old new) n = n
+word_by (Add k) n = n
+word_by (Sub k) n = n
+word_by (Or bits) n = n
 
 -- a step on the word of a token or message met one word, and left another (own)
 pub record IsStepOver (met left : ℕ) (step : WordStep) : Type 0 where
-  pub found : step.found ≡ told_by step.operation met
+  pub found : step.found ≡ word_by step.operation met
   pub leaves : left ≡ left_by step.operation met
 
 -- what a processor has among these deeds, in order: its steps on words, and its events

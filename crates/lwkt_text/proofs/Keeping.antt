@@ -1,17 +1,17 @@
--- What is told keeps the limits of the format.
+-- What is said keeps the limits of the format.
 use Rattle.std.proofs.Common.{◌≡◌, ℕ, ◌+◌, ◌<◌, ◌≤◌, List, [], ◌∷◌, ◌++◌, length, nat_lt, ◌==◌, cond, Bool, true, false, refl, arith, Option, Some, None, is_some}
 use Rattle.std.proofs.lemmas.List.{length-append}
 use Rattle.std.proofs.lemmas.List.Elements.{All-push}
 use Rattle.std.proofs.lemmas.List.Sums.{sum_by_push}
 use Rattle.std.proofs.lemmas.Bool.Decides.{nat_tests}
 use Rattle.lwkt_base.specs.declared.asks.Ask.{Ask}
-use Rattle.lwkt_base.specs.declared.openings.MsgSpec.{MsgSpec}
-use Rattle.lwkt_base.specs.declared.openings.TokSpec.{TokSpec}
+use Rattle.lwkt_base.specs.declared.opening_specs.MsgSpec.{MsgSpec}
+use Rattle.lwkt_base.specs.declared.opening_specs.TokSpec.{TokSpec}
 use Rattle.lwkt_script.specs.declared.scripts.ThreadSpec.{ThreadSpec}
 use Rattle.lwkt_script.specs.Format.{threads_on}
 use Rattle.lwkt_script.specs.Limits.{IsToken, IsMessage, IsThread}
 use Rattle.lwkt_text.specs.declared.drafts.Draft.{Draft}
-use Rattle.lwkt_text.specs.declared.parts.Head.{Head}
+use Rattle.lwkt_text.specs.declared.declarations.Head.{Head}
 use Rattle.lwkt_text.specs.declared.sayings.Said.{Said}
 use Rattle.lwkt_text.specs.declared.sayings.Said.TheVariants as saids
 use Rattle.lwkt_text.specs.declared.words.Word.{Word}
@@ -21,7 +21,7 @@ use Rattle.lwkt_text.specs.Drafting.{no_draft, blamed, crowded, closed_by, close
 use Rattle.lwkt_text.specs.Looking.{wrong_at}
 use Rattle.lwkt_text.specs.Within.{IsHead, MayBeSaid, HasRoomBehind, IsDraft}
 
--- nothing was told
+-- nothing was said
 pub none_within : (cpus : ℕ) (faults : List Wrong) → IsDraft cpus (no_draft faults)
 none_within cpus faults = record {
   some_turns = omega arith;
@@ -217,7 +217,7 @@ stepped_cases : (cpus : ℕ) (ws : List Word) (a : Ask) (d : Draft) → IsDraft 
 stepped_cases cpus ws a d i true = step_put cpus ws a d i (nat_lt (length d.steps) 256) refl
 stepped_cases cpus ws a d i false = lost_put cpus (wrong_at ws 0 whats.NoThread) d i (length d.faults == 0)
 
--- what is told keeps the limits where it keeps its own
+-- what is said keeps the limits where it keeps its own
 pub put_within : (cpus : ℕ) (ws : List Word) (s : Said) (d : Draft) → MayBeSaid cpus s → IsDraft cpus d → IsDraft cpus (put ws s d)
 put_within cpus ws (saids.Turns n) d is i = turned cpus n d is.0 is.1 i
 put_within cpus ws (saids.Idle n) d is i = idled cpus n d is.0 is.1 i

@@ -77,7 +77,7 @@ absent_part s claims.Ended = None
 absent_part s claims.Stuck = None
 absent_part s (claims.Faulted n) = None
 absent_part s (claims.Logged id entry) = either (absent s (mentions.Thread id)) (absent_entry s entry)
-absent_part s (claims.Stands id standing) = absent s (mentions.Thread id)
+absent_part s (claims.InState id claimed) = absent s (mentions.Thread id)
 absent_part s (claims.Lies msg place) = absent s (mentions.Message msg)
 absent_part s (claims.Compares sums) = either (absent_term s sums.left) (absent_term s sums.right)
 

@@ -11,8 +11,8 @@ use Rattle.lwkt_text.specs.declared.claims.Quantity.{Quantity}
 use Rattle.lwkt_text.specs.declared.claims.Quantity.TheVariants as quantities
 use Rattle.lwkt_text.specs.declared.claims.Relation.{Relation}
 use Rattle.lwkt_text.specs.declared.claims.Relation.TheVariants as relations
-use Rattle.lwkt_text.specs.declared.claims.Standing.{Standing}
-use Rattle.lwkt_text.specs.declared.claims.Standing.TheVariants as standings
+use Rattle.lwkt_text.specs.declared.claims.ClaimedState.{ClaimedState}
+use Rattle.lwkt_text.specs.declared.claims.ClaimedState.TheVariants as claimed_states
 use Rattle.lwkt_text.specs.declared.expecting.Sum.{Sum}
 use Rattle.lwkt_text.specs.declared.expecting.Term.{Term}
 use Rattle.lwkt_text.specs.declared.tables.Names.{Names}
@@ -98,13 +98,13 @@ compared_claim names ws = do
   Ok (claims.Compares (record { left = left.terms; relation = relation; right = right.terms }))
 
 -- the state of a word
-abbrev pub named_standing : List ℕ → Option Standing
-named_standing text =
-    if bytes_eq text (codes "ready") then Some standings.Ready else (
-    if bytes_eq text (codes "waiting") then Some standings.Waiting else (
-    if bytes_eq text (codes "running") then Some standings.Running else (
-    if bytes_eq text (codes "exited") then Some standings.Exited else (
-    if bytes_eq text (codes "faulted") then Some standings.Faulted else None))))
+abbrev pub state_named : List ℕ → Option ClaimedState
+state_named text =
+    if bytes_eq text (codes "ready") then Some claimed_states.Ready else (
+    if bytes_eq text (codes "waiting") then Some claimed_states.Waiting else (
+    if bytes_eq text (codes "running") then Some claimed_states.Running else (
+    if bytes_eq text (codes "exited") then Some claimed_states.Exited else (
+    if bytes_eq text (codes "faulted") then Some claimed_states.Faulted else None))))
 
 -- the place of a word
 abbrev pub named_place : List ℕ → Option MsgState
@@ -115,8 +115,8 @@ named_place text =
     if bytes_eq text (codes "back") then Some places.Back else None)))
 
 -- word 3, the state of a thread
-abbrev pub standing_at : List Word → Result Standing Wrong
-standing_at ws = part_at ws 3 whats.State (named_standing (text_at ws 3))
+abbrev pub claimed_state_at : List Word → Result ClaimedState Wrong
+claimed_state_at ws = part_at ws 3 whats.State (state_named (text_at ws 3))
 
 -- word 3, the place of a message
 abbrev pub state_at : List Word → Result MsgState Wrong
@@ -163,8 +163,8 @@ abbrev pub logged_claim : Names → List Word → Result Entry Wrong → Result 
 logged_claim names ws entry = subject names ws >>= λ id. entry >>= λ e. Ok (claims.Logged id e)
 
 -- `THREAD is STATE`
-abbrev pub stands_claim : Names → List Word → Result Claim Wrong
-stands_claim names ws = subject names ws >>= λ id. standing_at ws >>= λ s. ends_at ws 4 >> Ok (claims.Stands id s)
+abbrev pub state_claim : Names → List Word → Result Claim Wrong
+state_claim names ws = subject names ws >>= λ id. claimed_state_at ws >>= λ s. ends_at ws 4 >> Ok (claims.InState id s)
 
 -- `MESSAGE at PLACE`
 abbrev pub lies_claim : Names → List Word → Result Claim Wrong
@@ -174,7 +174,7 @@ lies_claim names ws = message_id_at names ws 1 >>= λ m. state_at ws >>= λ s. e
 abbrev pub other_claim : Names → List Word → Result Claim Wrong
 other_claim names ws =
     if is_at ws 2 (codes "found") then logged_claim names ws (found_entry ws) else (
-    if is_at ws 2 (codes "is") then stands_claim names ws else (
+    if is_at ws 2 (codes "is") then state_claim names ws else (
     if is_at ws 2 (codes "at") then lies_claim names ws else compared_claim names ws))
 
 -- what is said of a thread's log, or else

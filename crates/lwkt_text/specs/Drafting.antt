@@ -1,11 +1,11 @@
--- What the sentences of a text tell, one after the other (own).
+-- What the sentences of a text say, one after the other (own).
 use Rattle.std.specs.Prelude.{ℕ, ◌==◌, nat_lt, nat_le, List, [], ◌∷◌, ◌++◌, length, codes, if◌then◌else◌, Option, Some, None, is_some, Result, Ok, Err}
 use Rattle.lwkt_base.specs.declared.asks.Ask.{Ask}
 use Rattle.lwkt_script.specs.Format.{threads_on}
 use Rattle.lwkt_text.specs.declared.claims.When.{When}
 use Rattle.lwkt_text.specs.declared.claims.When.TheVariants as whens
 use Rattle.lwkt_text.specs.declared.drafts.Draft.{Draft}
-use Rattle.lwkt_text.specs.declared.parts.Head.{Head}
+use Rattle.lwkt_text.specs.declared.declarations.Head.{Head}
 use Rattle.lwkt_text.specs.declared.sayings.Said.{Said}
 use Rattle.lwkt_text.specs.declared.sayings.Said.TheVariants as saids
 use Rattle.lwkt_text.specs.declared.tables.Names.{Names}
@@ -41,7 +41,7 @@ part_said names ws =
     if is_at ws 0 (codes "message") then (message_of names ws >>= λ m. Ok (saids.Message m)) else (
     if is_at ws 0 (codes "thread") then (head_of names ws >>= λ h. Ok (saids.Thread h)) else claim_said names ws))
 
--- what a sentence tells
+-- what a sentence says
 unfoldable pub said_by_sentence : Names → List Word → Result Said Wrong
 said_by_sentence names ws = demand_at ws 1000 whats.Long (nat_le (length ws) 1000) >> (
     if is_at ws 0 (codes "turns") then (setting ws 1000000 >>= λ n. Ok (saids.Turns n)) else (
@@ -56,11 +56,11 @@ no_draft faults = record { turns = 10000; idle = 100000000; tokens = []; message
 abbrev pub blamed : Wrong → Draft → Draft
 blamed wrong d = record d { faults = d.faults ++ wrong ∷ [] }
 
--- word 0 tells something that there is no room for
+-- word 0 says something that there is no room for
 abbrev pub crowded : List Word → Draft → Draft
 crowded ws d = blamed (wrong_at ws 0 whats.Crowd) d
 
--- the thread whose steps were told, with them
+-- the thread whose steps were said, with them
 abbrev pub closed_by : Option Head → Draft → Draft
 closed_by None d = d
 closed_by (Some h) d = record d { threads = d.threads ++ (record { cpu = h.cpu; repeat = h.repeat; steps = d.steps }) ∷ []; steps = []; head = None }
@@ -72,13 +72,13 @@ closed d = closed_by d.head d
 abbrev pub thread_begun : Head → List Word → Draft → Draft
 thread_begun h ws d = if nat_lt (threads_on h.cpu.0 d.threads) 16 then record d { head = Some h } else crowded ws d
 
--- a step of the thread, if there is one; only the first step without a thread is told
+-- a step of the thread, if there is one; only the first step without a thread is said
 abbrev pub stepped : Ask → List Word → Draft → Draft
 stepped a ws d =
     if is_some d.head then (if nat_lt (length d.steps) 256 then record d { steps = d.steps ++ a ∷ [] } else crowded ws d)
     else (if length d.faults == 0 then blamed (wrong_at ws 0 whats.NoThread) d else d)
 
--- what was told, put behind what was told before: at most 64 tokens and as many messages
+-- what was said, put behind what was said before: at most 64 tokens and as many messages
 abbrev pub put : List Word → Said → Draft → Draft
 put ws (saids.Turns n) d = record d { turns = n }
 put ws (saids.Idle n) d = record d { idle = n }
@@ -93,10 +93,10 @@ abbrev pub put_or_blamed : Result Said Wrong → List Word → Draft → Draft
 put_or_blamed (Ok s) ws d = put ws s d
 put_or_blamed (Err wrong) ws d = blamed wrong d
 
--- a sentence, told
-abbrev pub sentence_told : Names → List Word → Draft → Draft
-sentence_told names ws d = put_or_blamed (said_by_sentence names ws) ws d
+-- a sentence, said
+abbrev pub sentence_added : Names → List Word → Draft → Draft
+sentence_added names ws d = put_or_blamed (said_by_sentence names ws) ws d
 
-abbrev pub all_told : Names → List Sentence → Draft → Draft
-all_told names [] d = d
-all_told names (s ∷ ss) d = all_told names ss (sentence_told names s.words d)
+abbrev pub all_added : Names → List Sentence → Draft → Draft
+all_added names [] d = d
+all_added names (s ∷ ss) d = all_added names ss (sentence_added names s.words d)

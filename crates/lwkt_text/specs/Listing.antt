@@ -2,7 +2,7 @@
 use Rattle.std.specs.Prelude.{ℕ, ◌+◌, ◌<◌, ◌≤◌, ◌==◌, not, nat_le, List, [], ◌∷◌, ◌++◌, codes, true, false, if◌then◌else◌, count_by, is_some, ⊤, Result, Ok, Err}
 use Rattle.lwkt_base.specs.declared.names.ThreadId.{ThreadId}
 use Rattle.lwkt_text.specs.declared.listings.Listing.{Listing}
-use Rattle.lwkt_text.specs.declared.parts.CellList.{CellList}
+use Rattle.lwkt_text.specs.declared.declarations.CellList.{CellList}
 use Rattle.lwkt_text.specs.declared.tables.Names.{Names}
 use Rattle.lwkt_text.specs.declared.words.Sentence.{Sentence}
 use Rattle.lwkt_text.specs.declared.words.Word.{Word}
@@ -79,7 +79,7 @@ abbrev pub thread_listed : Result ⊤ Wrong → List Word → Listing → Listin
 thread_listed (Ok ok) ws l = thread_used ws (cpu_named ws) l
 thread_listed (Err wrong) ws l = wrong_noted wrong l
 
--- `cpus N`; what is wrong with it is told where settings are read
+-- `cpus N`; what is wrong with it is said where settings are read
 abbrev pub cpus_listed : Result ℕ Wrong → Listing → Listing
 cpus_listed (Ok cpus) l = record l { names = record l.names { cpus = cpus }; is_said = true }
 cpus_listed (Err wrong) l = l

@@ -2,12 +2,12 @@
 use Rattle.std.specs.Prelude.{ℕ, ◌+◌, ◌-◌, ◌==◌, ◌&&◌, not, nat_lt, nat_le, List, [], ◌∷◌, ◌++◌, length, drop, codes, Bool, true, false, bytes_eq, if◌then◌else◌, Option, Some, None, is_some, unwrap_or, Result, Ok, Err}
 use Rattle.lwkt_base.specs.declared.laws.Law.{Law}
 use Rattle.lwkt_base.specs.declared.laws.Law.TheVariants.{Any, Sum, Order, Cap, Tally, Len}
-use Rattle.lwkt_base.specs.declared.openings.MsgSpec.{MsgSpec}
-use Rattle.lwkt_base.specs.declared.openings.TokSpec.{TokSpec}
+use Rattle.lwkt_base.specs.declared.opening_specs.MsgSpec.{MsgSpec}
+use Rattle.lwkt_base.specs.declared.opening_specs.TokSpec.{TokSpec}
 use Rattle.lwkt_script.specs.Member.{law_of, allows}
 use Rattle.lwkt_script.specs.Record.{may_guard}
-use Rattle.lwkt_text.specs.declared.parts.CellList.{CellList}
-use Rattle.lwkt_text.specs.declared.parts.Head.{Head}
+use Rattle.lwkt_text.specs.declared.declarations.CellList.{CellList}
+use Rattle.lwkt_text.specs.declared.declarations.Head.{Head}
 use Rattle.lwkt_text.specs.declared.tables.Names.{Names}
 use Rattle.lwkt_text.specs.declared.words.Word.{Word}
 use Rattle.lwkt_text.specs.declared.wrongs.Wanted.TheVariants as wanted
@@ -26,30 +26,30 @@ abbrev pub cell_added : ℕ → CellList → CellList
 cell_added n s = record { names = s.names ++ s.pending ∷ []; values = s.values ++ n ∷ []; pending = [] }
 
 -- the name of the next cell, which none before has
-abbrev pub name_told : Word → CellList → Result CellList Wrong
-name_told w s = if is_some (position s.names w.text) then Err (record { at = w.at; what = whats.Twice }) else Ok (record s { pending = w.text })
+abbrev pub name_added : Word → CellList → Result CellList Wrong
+name_added w s = if is_some (position s.names w.text) then Err (record { at = w.at; what = whats.Twice }) else Ok (record s { pending = w.text })
 
 -- a word that is no number: the name of the next cell, or `=` behind it
 abbrev pub cell_named : Word → CellList → Result CellList Wrong
 cell_named w s =
     if bytes_eq w.text (codes "=") && not (length s.pending == 0) then Ok s else (
-    if is_name w.text && length s.pending == 0 then name_told w s else Err (record { at = w.at; what = whats.CellList }))
+    if is_name w.text && length s.pending == 0 then name_added w s else Err (record { at = w.at; what = whats.CellList }))
 
 abbrev pub cell_by : Option ℕ → Word → CellList → Result CellList Wrong
 cell_by (Some n) w s = Ok (cell_added n s)
 cell_by None w s = cell_named w s
 
 -- one more word of a list of cells
-abbrev pub cell_told : Word → CellList → Result CellList Wrong
-cell_told w s = cell_by (decimal_number w.text) w s
+abbrev pub word_added : Word → CellList → Result CellList Wrong
+word_added w s = cell_by (decimal_number w.text) w s
 
-abbrev pub cells_told : CellList → List Word → Result CellList Wrong
-cells_told s [] = Ok s
-cells_told s (w ∷ ws) = cell_told w s >>= λ t. cells_told t ws
+abbrev pub cells_added : CellList → List Word → Result CellList Wrong
+cells_added s [] = Ok s
+cells_added s (w ∷ ws) = word_added w s >>= λ t. cells_added t ws
 
 -- the cells from word i on: numbers, each with a name and `=` before it or without
 abbrev pub cells_at : List Word → ℕ → Result CellList Wrong
-cells_at ws i = cells_told no_cells (drop i ws) >>= λ s. demand_at ws (length ws) (whats.Number 0 18446744073709551615) (length s.pending == 0) >> Ok s
+cells_at ws i = cells_added no_cells (drop i ws) >>= λ s. demand_at ws (length ws) (whats.Number 0 18446744073709551615) (length s.pending == 0) >> Ok s
 
 -- the law that word 2 may be
 abbrev pub law_said : List Word → Option Law
@@ -84,7 +84,7 @@ param_of ws = if has_param ws then number_at ws 3 0 18446744073709551615 else (d
 abbrev pub guard_place : List Word → ℕ
 guard_place ws = past_key ws (param_end ws) (codes "gen")
 
--- the record that a token's sentence tells, if it tells one
+-- the record that a token's sentence says, if it says one
 abbrev pub guard_of : List Word → Result (Option (List ℕ)) Wrong
 guard_of ws = if is_at ws (guard_place ws) (codes "record") then (bytes_at ws (guard_place ws + 1) 64 >>= λ blob. Ok (Some blob)) else Ok None
 
@@ -92,7 +92,7 @@ guard_of ws = if is_at ws (guard_place ws) (codes "record") then (bytes_at ws (g
 abbrev pub cells_place : List Word → ℕ
 cells_place ws = past_key ws (guard_place ws) (codes "record")
 
--- the cells that a token's sentence tells
+-- the cells that a token's sentence says
 abbrev pub cells_in : List Word → Result CellList Wrong
 cells_in ws = if is_at ws (cells_place ws) (codes "cells") then cells_at ws (cells_place ws + 1) else (ends_at ws (cells_place ws) >> Ok no_cells)
 

@@ -9,11 +9,11 @@ use Rattle.lwkt_text.specs.declared.tables.Names.{Names}
 use Rattle.lwkt_text.specs.declared.words.Sentence.{Sentence}
 use Rattle.lwkt_text.specs.declared.wrongs.Wrong.{Wrong}
 use Rattle.lwkt_text.specs.Absence.{absence}
-use Rattle.lwkt_text.specs.Drafting.{no_draft, closed, all_told}
+use Rattle.lwkt_text.specs.Drafting.{no_draft, closed, all_added}
 use Rattle.lwkt_text.specs.Listing.{no_listing, all_listed}
 use Rattle.lwkt_text.specs.Scanning.{sentences_of}
 
--- all that was told
+-- all that was said
 abbrev pub drafted : Names → Draft → Reading
 drafted names d = record { script = record { turns = d.turns; idle = d.idle; cpus = names.cpus; tokens = d.tokens; messages = d.messages; threads = d.threads }; names = names; expectations = d.expectations }
 
@@ -21,16 +21,16 @@ drafted names d = record { script = record { turns = d.turns; idle = d.idle; cpu
 abbrev pub claims_checked : Reading → Result Reading (List Wrong)
 claims_checked r = let wrongs = filter_map (absence r.script) r.expectations in if length wrongs == 0 then Ok r else Err wrongs
 
--- what was told, if nothing of it is wrong; only where nothing else is wrong, it is known what there is
+-- what was said, if nothing of it is wrong; only where nothing else is wrong, it is known what there is
 abbrev pub sealed : Names → Draft → Result Reading (List Wrong)
 sealed names d = if length d.faults == 0 then claims_checked (drafted names d) else Err d.faults
 
--- names first, so that they stand for parts that are told later, and then what the sentences tell
-abbrev pub told_with : List Sentence → Listing → Result Reading (List Wrong)
-told_with sentences l = sealed l.names (closed (all_told l.names sentences (no_draft l.faults)))
+-- names first, so that they stand for parts that are said later, and then what the sentences say
+abbrev pub reading_with : List Sentence → Listing → Result Reading (List Wrong)
+reading_with sentences l = sealed l.names (closed (all_added l.names sentences (no_draft l.faults)))
 
 abbrev pub reading_of_sentences : List Sentence → Result Reading (List Wrong)
-reading_of_sentences sentences = told_with sentences (all_listed sentences no_listing)
+reading_of_sentences sentences = reading_with sentences (all_listed sentences no_listing)
 
 -- what the bytes are
 unfoldable pub reading_of : List ℕ → Result Reading (List Wrong)

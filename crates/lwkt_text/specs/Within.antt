@@ -1,10 +1,10 @@
--- What a text tells keeps the limits of the format (own).
+-- What a text says keeps the limits of the format (own).
 use Rattle.std.specs.Prelude.{ℕ, ◌<◌, ◌≤◌, List, length, All, Option, Some, None}
 use Rattle.lwkt_script.specs.declared.scripts.ThreadSpec.{ThreadSpec}
 use Rattle.lwkt_script.specs.Format.{threads_on}
 use Rattle.lwkt_script.specs.Limits.{IsToken, IsMessage, IsThread}
 use Rattle.lwkt_text.specs.declared.drafts.Draft.{Draft}
-use Rattle.lwkt_text.specs.declared.parts.Head.{Head}
+use Rattle.lwkt_text.specs.declared.declarations.Head.{Head}
 use Rattle.lwkt_text.specs.declared.sayings.Said.{Said}
 use Rattle.lwkt_text.specs.declared.sayings.Said.TheVariants as saids
 
@@ -25,12 +25,12 @@ MayBeSaid cpus (saids.Thread h) = IsHead cpus h
 MayBeSaid cpus (saids.Step a) = Unit {0}
 MayBeSaid cpus (saids.Expect e) = Unit {0}
 
--- the thread whose steps are told has room behind the others
+-- the thread whose steps are said has room behind the others
 abbrev pub HasRoomBehind : ℕ → List ThreadSpec → Option Head → Type 0
 HasRoomBehind cpus threads None = Unit {0}
 HasRoomBehind cpus threads (Some h) = IsHead cpus h × (threads_on h.cpu.0 threads < 16)
 
--- what was told keeps the limits
+-- what was said keeps the limits
 pub record IsDraft (cpus : ℕ) (d : Draft) : Type 0 where
   pub some_turns : 1 ≤ d.turns
   pub few_turns : d.turns ≤ 1000000

@@ -108,7 +108,7 @@ fn absent_part(script: &Script, claim: &Claim) -> Option<Mention>
             Some(mention) => Some(mention),
             None => absent_entry(script, entry),
         },
-        Claim::Stands(id, _) => absent(script, Mention::Thread(*id)),
+        Claim::InState(id, _) => absent(script, Mention::Thread(*id)),
         Claim::Lies(msg, _) => absent(script, Mention::Message(*msg)),
         Claim::Compares(sums) => match absent_term(script, sums.left.as_slice()) {
             Some(mention) => Some(mention),

@@ -29,7 +29,7 @@ pub enum Relation {
 
 /// How a thread stands.
 #[derive(Clone, Copy, PartialEq, Eq)]
-pub enum Standing {
+pub enum ClaimedState {
     Ready,
     Waiting,
     Running,
@@ -60,7 +60,7 @@ pub enum Claim {
     /// The thread's log has this entry.
     Logged(ThreadId, Entry),
     /// The thread stands so.
-    Stands(ThreadId, Standing),
+    InState(ThreadId, ClaimedState),
     /// The message is there.
     Lies(MsgId, MsgState),
     /// The sums compare so.

@@ -1,35 +1,35 @@
 ghost use Rattle.std.specs.Prelude.{◌≡◌, ◌<◌, OnOk, IfOk};
 ghost use Rattle.lwkt_script.specs.Format.{threads_on};
 ghost use Rattle.lwkt_text.specs.Within.{IsDraft};
-ghost use Rattle.lwkt_text.specs.Drafting.{no_draft, crowded, closed, thread_begun, stepped, put, sentence_told, all_told};
+ghost use Rattle.lwkt_text.specs.Drafting.{no_draft, crowded, closed, thread_begun, stepped, put, sentence_added, all_added};
 
 use crate::claims::Expectation;
+use crate::declarations::Head;
 use crate::looks::wrong_at;
 use crate::many::Many;
-use crate::parts::Head;
-use crate::sayings::{Said, told_by};
+use crate::sayings::{Said, said_in};
 use crate::tables::Names;
 use crate::words::{Sentence, Word};
 use crate::wrongs::{Slip, What, Wrong};
 use lwkt_base::limits::{MESSAGE_LIMIT, STEP_LIMIT, THREAD_LIMIT, TOKEN_LIMIT};
 use lwkt_base::{Ask, MsgSpec, OutOfMemory, TokSpec};
-use lwkt_script::{Parts, ThreadSpec};
+use lwkt_script::{Series, ThreadSpec};
 use std::alloc::Global;
 
-/// What a text told so far.
+/// What a text said so far.
 #[derive(Drop)]
 pub struct Draft {
     /// The most turns of each processor.
     pub turns: u32,
     /// The most turns in a row without a thread that can run.
     pub idle: u32,
-    /// The tokens that were told.
+    /// The tokens that were said.
     pub tokens: Many<TokSpec>,
-    /// The messages that were told.
+    /// The messages that were said.
     pub messages: Many<MsgSpec>,
-    /// The threads whose steps were told.
+    /// The threads whose steps were said.
     pub threads: Many<ThreadSpec>,
-    /// The head of the thread whose steps are being told.
+    /// The head of the thread whose steps are being read.
     pub head: Option<Head>,
     /// The steps of that thread so far.
     pub steps: Many<Ask>,
@@ -63,14 +63,14 @@ impl Draft {
         }
     }
 
-    // Word 0 tells something that there is no room for.
+    // Word 0 says something that there is no room for.
     fn crowd(&mut self, words: &[Word]) -> Result<(), OutOfMemory>
         ensures { OnOk result (self.new ≡ crowded words.now self.old) }
     {
         self.faults.push(wrong_at(words, 0, What::Crowd))
     }
 
-    // Ends the thread whose steps were told, if there is one.
+    // Ends the thread whose steps were said, if there is one.
     fn close(&mut self, alloc: Global) -> Result<(), OutOfMemory>
         ensures { OnOk result (self.new ≡ closed self.old) }
     {
@@ -82,7 +82,7 @@ impl Draft {
         self.threads.push(ThreadSpec {
             cpu: head.cpu,
             repeat: head.repeat,
-            steps: Parts::from_vec(steps),
+            steps: Series::from_vec(steps),
         })
     }
 
@@ -129,11 +129,11 @@ impl Draft {
         self.messages.push(message)
     }
 
-    // Puts what was told behind what was told before.
-    fn put(&mut self, alloc: Global, words: &[Word], told: Said) -> Result<(), OutOfMemory>
-        ensures { OnOk result (self.new ≡ put words.now told self.old) }
+    // Puts what was said behind what was said before.
+    fn put(&mut self, alloc: Global, words: &[Word], said: Said) -> Result<(), OutOfMemory>
+        ensures { OnOk result (self.new ≡ put words.now said self.old) }
     {
-        match told {
+        match said {
             Said::Turns(turns) => self.turns = turns,
             Said::Idle(idle) => self.idle = idle,
             Said::Cpus => {}
@@ -149,22 +149,27 @@ impl Draft {
         Ok(())
     }
 
-    // A sentence, told.
+    // A sentence, said.
     #[tactic(auto, using(crate::proofs::Keeping::put_within, crate::proofs::Keeping::blamed_within))]
-    fn tell(&mut self, alloc: Global, names: &Names, words: &[Word]) -> Result<(), OutOfMemory>
+    fn add_sentence(
+        &mut self,
+        alloc: Global,
+        names: &Names,
+        words: &[Word],
+    ) -> Result<(), OutOfMemory>
         requires { 0 < names.now.cpus }
-        ensures ok { OnOk result (self.new ≡ sentence_told names.now words.now self.old) }
+        ensures ok { OnOk result (self.new ≡ sentence_added names.now words.now self.old) }
         ensures keeps { OnOk result (IsDraft names.now.cpus self.old → IsDraft names.now.cpus self.new) }
     {
-        match told_by(alloc, names, words) {
-            Ok(told) => self.put(alloc, words, told),
+        match said_in(alloc, names, words) {
+            Ok(said) => self.put(alloc, words, said),
             Err(Slip::Wrong(wrong)) => self.faults.push(wrong),
             Err(Slip::Memory(refused)) => Err(refused),
         }
     }
 }
 
-/// What sentences tell, behind what is wrong with the names that they give.
+/// What sentences say, behind what is wrong with the names that they give.
 #[tactic(auto, using(crate::proofs::Keeping::closed_within, crate::proofs::Keeping::none_within))]
 pub fn draft_of(
     alloc: Global,
@@ -173,12 +178,12 @@ pub fn draft_of(
     faults: Many<Wrong>,
 ) -> Result<Draft, OutOfMemory>
     requires { 0 < names.now.cpus }
-    ensures ok { IfOk result (λ draft. draft ≡ closed (all_told names.now sentences.now (no_draft faults))) }
+    ensures ok { IfOk result (λ draft. draft ≡ closed (all_added names.now sentences.now (no_draft faults))) }
     ensures limits { IfOk result (IsDraft names.now.cpus) }
 {
     let mut draft = Draft::new(alloc, faults);
     for sentence in sentences {
-        draft.tell(alloc, names, sentence.words.as_slice())?;
+        draft.add_sentence(alloc, names, sentence.words.as_slice())?;
     }
     draft.close(alloc)?;
     Ok(draft)

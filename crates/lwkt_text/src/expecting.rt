@@ -1,8 +1,8 @@
 ghost use Rattle.std.specs.Prelude.{◌≡◌, ◌≤◌, ◌+◌, length, IfOk, Ok};
 ghost use Rattle.lwkt_text.specs.Outcome.{IsAsRead};
-ghost use Rattle.lwkt_text.specs.Claiming.{tally_term_at, generation_term_at, round_term_at, plain_at, cell_term_at, named_term, term_at, sum_at, named_relation, relation_at, compared_claim, named_standing, named_place, standing_at, state_at, subject, saw_entry, found_entry, refused_entry, aborted_entry, empty_entry, took_entry, lost_entry, answered_entry, logged_claim, stands_claim, lies_claim, other_claim, about, faulted_claim, alone_claim, claim_of};
+ghost use Rattle.lwkt_text.specs.Claiming.{tally_term_at, generation_term_at, round_term_at, plain_at, cell_term_at, named_term, term_at, sum_at, named_relation, relation_at, compared_claim, state_named, named_place, claimed_state_at, state_at, subject, saw_entry, found_entry, refused_entry, aborted_entry, empty_entry, took_entry, lost_entry, answered_entry, logged_claim, state_claim, lies_claim, other_claim, about, faulted_claim, alone_claim, claim_of};
 
-use crate::claims::{Claim, Comparison, Quantity, Relation, Standing};
+use crate::claims::{Claim, ClaimedState, Comparison, Quantity, Relation};
 use crate::looks::{
     bytes_at, decimal_number, demand_at, ends_at, is_at, number_at, text_at, wrong_at,
 };
@@ -198,15 +198,15 @@ fn compared_claim(alloc: Global, names: &Names, words: &[Word]) -> Result<Claim,
 }
 
 // The state of a word.
-fn named_standing(text: &str) -> Option<Standing>
-    ensures { result ≡ named_standing text.now }
+fn state_named(text: &str) -> Option<ClaimedState>
+    ensures { result ≡ state_named text.now }
 {
     match text {
-        "ready" => Some(Standing::Ready),
-        "waiting" => Some(Standing::Waiting),
-        "running" => Some(Standing::Running),
-        "exited" => Some(Standing::Exited),
-        "faulted" => Some(Standing::Faulted),
+        "ready" => Some(ClaimedState::Ready),
+        "waiting" => Some(ClaimedState::Waiting),
+        "running" => Some(ClaimedState::Running),
+        "exited" => Some(ClaimedState::Exited),
+        "faulted" => Some(ClaimedState::Faulted),
         _ => None,
     }
 }
@@ -225,11 +225,11 @@ fn named_place(text: &str) -> Option<MsgState>
 }
 
 // Word 3, the state of a thread.
-fn standing_at(words: &[Word]) -> Result<Standing, Wrong>
-    ensures { result ≡ standing_at words.now }
+fn claimed_state_at(words: &[Word]) -> Result<ClaimedState, Wrong>
+    ensures { result ≡ claimed_state_at words.now }
 {
-    match named_standing(text_at(words, 3)) {
-        Some(standing) => Ok(standing),
+    match state_named(text_at(words, 3)) {
+        Some(claimed) => Ok(claimed),
         None => Err(wrong_at(words, 3, What::State)),
     }
 }
@@ -338,13 +338,13 @@ fn logged_claim(names: &Names, words: &[Word], entry: Result<Entry, Wrong>) -> R
 }
 
 // `THREAD is STATE`
-fn stands_claim(names: &Names, words: &[Word]) -> Result<Claim, Wrong>
-    ensures { result ≡ stands_claim names.now words.now }
+fn state_claim(names: &Names, words: &[Word]) -> Result<Claim, Wrong>
+    ensures { result ≡ state_claim names.now words.now }
 {
     let id = subject(names, words)?;
-    let standing = standing_at(words)?;
+    let claimed = claimed_state_at(words)?;
     ends_at(words, 4)?;
-    Ok(Claim::Stands(id, standing))
+    Ok(Claim::InState(id, claimed))
 }
 
 // `MESSAGE at PLACE`
@@ -364,7 +364,7 @@ fn other_claim(alloc: Global, names: &Names, words: &[Word]) -> Result<Claim, Sl
 {
     match text_at(words, 2) {
         "found" => checked(logged_claim(names, words, found_entry(words))),
-        "is" => checked(stands_claim(names, words)),
+        "is" => checked(state_claim(names, words)),
         "at" => checked(lies_claim(names, words)),
         _ => compared_claim(alloc, names, words),
     }

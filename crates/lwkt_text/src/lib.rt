@@ -6,6 +6,7 @@
 
 mod absences;
 pub mod claims;
+mod declarations;
 mod drafts;
 mod expecting;
 mod inputs;
@@ -15,7 +16,6 @@ mod looks;
 mod many;
 mod names;
 mod pages;
-mod parts;
 mod readers;
 mod sames;
 mod sayings;

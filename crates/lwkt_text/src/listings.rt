@@ -3,10 +3,10 @@ ghost use Rattle.lwkt_text.specs.Listing.{no_names, no_listing, new_name, names_
 ghost use Rattle.lwkt_text.specs.Looking.{number_at};
 ghost use Rattle.lwkt_text.specs.Parting.{cells_in};
 
+use crate::declarations::cells_in;
 use crate::looks::{demand_at, name_at, number_at, text_at};
 use crate::many::Many;
 use crate::names::Name;
-use crate::parts::cells_in;
 use crate::scans::sentences_of;
 use crate::tables::{Names, position};
 use crate::words::{Sentence, Word};

@@ -15,7 +15,7 @@ use crate::tables::Names;
 use crate::words::Sentence;
 use crate::wrongs::Wrong;
 use lwkt_base::OutOfMemory;
-use lwkt_script::{Parts, Script};
+use lwkt_script::{Script, Series};
 use std::alloc::Global;
 
 /// A text, read.
@@ -49,7 +49,7 @@ impl From<OutOfMemory> for Refusal {
     }
 }
 
-// All that was told.
+// All that was said.
 fn drafted(names: Names, draft: Draft) -> Reading
     ensures exact { result ≡ drafted names draft }
     ensures limits { IsDraft names.cpus draft → 1 ≤ names.cpus → names.cpus ≤ 8 → IsWithinLimits result.script }
@@ -58,9 +58,9 @@ fn drafted(names: Names, draft: Draft) -> Reading
         turns: draft.turns,
         idle: draft.idle,
         cpus: names.cpus,
-        tokens: Parts::from_vec(draft.tokens.into_vec()),
-        messages: Parts::from_vec(draft.messages.into_vec()),
-        threads: Parts::from_vec(draft.threads.into_vec()),
+        tokens: Series::from_vec(draft.tokens.into_vec()),
+        messages: Series::from_vec(draft.messages.into_vec()),
+        threads: Series::from_vec(draft.threads.into_vec()),
     };
     Reading {
         script,
@@ -84,7 +84,7 @@ fn claims_checked(alloc: Global, reading: Reading) -> Result<Reading, Refusal>
     }
 }
 
-// What was told, if nothing of it is wrong.
+// What was said, if nothing of it is wrong.
 fn sealed(alloc: Global, names: Names, draft: Draft) -> Result<Reading, Refusal>
     ensures ok { IfOk result (λ reading. sealed names draft ≡ Ok reading) }
     ensures err { IfErr result (λ refusal. IsRefusalOf refusal (sealed names draft)) }

@@ -4,9 +4,9 @@ ghost use Rattle.lwkt_text.specs.Outcome.{IsAsRead};
 ghost use Rattle.lwkt_text.specs.Within.{MayBeSaid};
 
 use crate::claims::{Expectation, When};
+use crate::declarations::{Head, head_of, message_of, token_of};
 use crate::expecting::claim_of;
 use crate::looks::{demand_at, ends_at, number_at, place_of_word, text_at};
-use crate::parts::{Head, head_of, message_of, token_of};
 use crate::slips::checked;
 use crate::steps::step_ask;
 use crate::tables::Names;
@@ -16,7 +16,7 @@ use lwkt_base::limits::{MOST_IDLE, MOST_TURNS};
 use lwkt_base::{Ask, MsgSpec, TokSpec};
 use std::alloc::Global;
 
-/// What a sentence tells.
+/// What a sentence says.
 #[derive(Drop)]
 pub enum Said {
     /// How many rounds a run makes at most, 1 to 1000000.
@@ -86,9 +86,9 @@ fn part_said(alloc: Global, names: &Names, words: &[Word]) -> Result<Said, Slip>
     }
 }
 
-/// What a sentence tells.
+/// What a sentence says.
 #[tactic(auto, unfolding(crate::specs::Drafting::said_by_sentence))]
-pub fn told_by(alloc: Global, names: &Names, words: &[Word]) -> Result<Said, Slip>
+pub fn said_in(alloc: Global, names: &Names, words: &[Word]) -> Result<Said, Slip>
     requires { 0 < names.now.cpus }
     ensures exact { IsAsRead result (said_by_sentence names.now words.now) }
     ensures limits { IfOk result (MayBeSaid names.now.cpus) }

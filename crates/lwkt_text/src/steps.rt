@@ -9,7 +9,7 @@ use crate::words::Word;
 use crate::wrongs::{Wanted, What, Wrong};
 use lwkt_base::limits::MOST_CODE;
 use lwkt_base::steps::{ask_of, verb_named};
-use lwkt_base::{Ask, Call, Flags, Part, PartKind, Parts, ThreadId};
+use lwkt_base::{Ask, Call, Flags, Part, PartKind, StepParts, ThreadId};
 
 /// `op N arg N` from word i on, each of them 0 where it is left out.
 #[tactic(auto, unfolding(crate::specs::Stepping::call_at))]
@@ -137,11 +137,11 @@ fn part_end(kind: PartKind, words: &[Word], i: usize) -> usize
 }
 
 // The parts of these kinds behind the word of a step, and nothing more.
-fn parts_at(names: &Names, kinds: &[PartKind], words: &[Word]) -> Result<Parts, Wrong>
+fn parts_at(names: &Names, kinds: &[PartKind], words: &[Word]) -> Result<StepParts, Wrong>
     requires { length kinds.now ≤ 4 }
     ensures { result ≡ parts_at names.now kinds.now words.now 1 }
 {
-    let mut parts = Parts::of(&[]);
+    let mut parts = StepParts::of(&[]);
     let mut at = 1;
     for kind in kinds {
         parts.push(part_by_words(names, *kind, words, at)?);

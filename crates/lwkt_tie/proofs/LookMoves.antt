@@ -9,27 +9,27 @@ use Rattle.lwkt_bank.specs.declared.views.Plan.{Plan}
 use Rattle.lwkt_bank.specs.declared.views.View.{View}
 use Rattle.lwkt_bank.specs.Views.{first_view, spent}
 use Rattle.lwkt_bank.specs.Rule.{Bench}
-use Rattle.lwkt_bank.specs.Told.{Told}
+use Rattle.lwkt_bank.specs.Ledger.{Ledger}
 use Rattle.lwkt_bank.specs.Laws.{SpentIsNoDeed}
 use Rattle.lwkt_tie.specs.Looks.{finds, finds_beside}
 
 -- a new seat may look, and is spent at once
-pub enters : SpentIsNoDeed → (plans : List Plan) (cpus known slots word : ℕ) → cpus ≡ known → Enters (Told plans cpus) slots word (λ n w. finds known (step slots word 0 0 none) (first_view plans, []) n (w, []))
-enters law plans cpus known slots word same = λ s told deep small.
-    let F : ℕ → Type 0 = λ k. Told plans k s in
-    (spent, (law plans cpus s told).0, record { state = s; told = subst F same told; is = refl })
+pub enters : SpentIsNoDeed → (plans : List Plan) (cpus known slots word : ℕ) → cpus ≡ known → Enters (Ledger plans cpus) slots word (λ n w. finds known (step slots word 0 0 none) (first_view plans, []) n (w, []))
+enters law plans cpus known slots word same = λ s ledger deep small.
+    let F : ℕ → Type 0 = λ k. Ledger plans k s in
+    (spent, (law plans cpus s ledger).0, record { state = s; ledger = subst F same ledger; is = refl })
 
 -- a seat may look that stays as it is
 same_state : (s : Bench) (id i : ℕ) (c : List (ℕ × List ℕ)) (v : View) → get_elem? s.views id ≡ some v → stepped s i (slice_index s.words i) id c v keeps ≡ s
 same_state s id i c v here = λ k. record { words = set-get_or s.words i 0 k; homes = s.homes; views = set_again s.views id v here k }
 
-pub allows : (plans : List Plan) (cpus known slots id word : ℕ) (v : View) (c : List (ℕ × List ℕ)) → cpus ≡ known → v.plans ≡ plans → Allows (Told plans cpus) slots id (v, c) word (λ n. n) (finds_beside known (step slots word 0 0 none) (v, c))
-allows plans cpus known slots id word v c same own = λ s told deep here small.
-    let F : ℕ → Type 0 = λ k. Told plans k s in
-    let G : List Plan → Type 0 = λ ps. Told ps known s in (
+pub allows : (plans : List Plan) (cpus known slots id word : ℕ) (v : View) (c : List (ℕ × List ℕ)) → cpus ≡ known → v.plans ≡ plans → Allows (Ledger plans cpus) slots id (v, c) word (λ n. n) (finds_beside known (step slots word 0 0 none) (v, c))
+allows plans cpus known slots id word v c same own = λ s ledger deep here small.
+    let F : ℕ → Type 0 = λ k. Ledger plans k s in
+    let G : List Plan → Type 0 = λ ps. Ledger ps known s in (
       v,
       keeps,
       tt,
-      subst (Told plans cpus) (sym (same_state s id word c v here)) told,
-      (refl, record { state = s; told = subst G (sym own) (subst F same told); is = refl; at = id; here = here }),
+      subst (Ledger plans cpus) (sym (same_state s id word c v here)) ledger,
+      (refl, record { state = s; ledger = subst G (sym own) (subst F same ledger); is = refl; at = id; here = here }),
     )

@@ -18,7 +18,7 @@ use Rattle.lwkt_bank.specs.declared.seats.CpuSeat.{CpuSeat}
 use Rattle.atomic_table.specs.declared.shared.Seat.{Seat}
 use Rattle.lwkt_bank.specs.Views.{page_of}
 use Rattle.lwkt_bank.specs.Rule.{Bench, Knows, seen_by, held_by_kind, token_word, token_at}
-use Rattle.lwkt_bank.specs.Told.{IsDone, Told, first_machine}
+use Rattle.lwkt_bank.specs.Ledger.{IsDone, Ledger, first_machine}
 use Rattle.lwkt_bank.specs.Seats.{BankId, entry, holding, past_of}
 use Rattle.lwkt_bank.specs.Lent.{IsSeatOf}
 use Rattle.lwkt_tie.specs.Looks.{IsWordNow, IsWordBeside}
@@ -33,35 +33,35 @@ goes_through : (m : Machine) → GoesThrough m [] m
 goes_through m = ([], [], (refl, refl))
 
 -- the headline holds in each state of the rule
-pub sound : RunsAreCompatible → RunsKeepLaws → (plans : List Plan) (cpus : ℕ) (s : Bench) (told : Told plans cpus s) → IsSound plans cpus s told
-sound compatible laws plans cpus s told =
-    let m = told.rule.model in
+pub sound : RunsAreCompatible → RunsKeepLaws → (plans : List Plan) (cpus : ℕ) (s : Bench) (ledger : Ledger plans cpus s) → IsSound plans cpus s ledger
+sound compatible laws plans cpus s ledger =
+    let m = ledger.rule.model in
     record {
-      run = Passes-run IsDone (λ (x : Machine). x) deed_runs (first_machine plans cpus) told.chronicle.history m told.chronicle.passes;
-      shown = told.rule.pictures;
-      safe = told.rule.safe;
-      compatible = compatible m [] m told.rule.safe (goes_through m);
-      lawful = laws m [] m told.rule.safe (goes_through m);
+      run = Passes-run IsDone (λ (x : Machine). x) deed_runs (first_machine plans cpus) ledger.chronicle.history m ledger.chronicle.passes;
+      shown = ledger.rule.pictures;
+      safe = ledger.rule.safe;
+      compatible = compatible m [] m ledger.rule.safe (goes_through m);
+      lawful = laws m [] m ledger.rule.safe (goes_through m);
     }
 
 -- what is said of a table's key and of a place is said of the bank's and of the token's
-pub told_as : (plans plans' : List Plan) (cpus cpus' : ℕ) (s : Bench) → plans ≡ plans' → cpus ≡ cpus' → Told plans cpus s → Told plans' cpus' s
-told_as plans plans' cpus cpus' s one two told =
-    let F : List Plan → Type 0 = λ ps. Told ps cpus s in
-    let G : ℕ → Type 0 = λ k. Told plans' k s in
-    subst G two (subst F one told)
+pub ledger_as : (plans plans' : List Plan) (cpus cpus' : ℕ) (s : Bench) → plans ≡ plans' → cpus ≡ cpus' → Ledger plans cpus s → Ledger plans' cpus' s
+ledger_as plans plans' cpus cpus' s one two ledger =
+    let F : List Plan → Type 0 = λ ps. Ledger ps cpus s in
+    let G : ℕ → Type 0 = λ k. Ledger plans' k s in
+    subst G two (subst F one ledger)
 
 pub now_as : (plans plans' : List Plan) (cpus cpus' word word' n : ℕ) → plans ≡ plans' → cpus ≡ cpus' → word ≡ word' → IsWordNow plans cpus word n → IsWordNow plans' cpus' word' n
 now_as plans plans' cpus cpus' word word' n one two place now = record {
   state = now.state;
-  told = told_as plans plans' cpus cpus' now.state one two now.told;
+  ledger = ledger_as plans plans' cpus cpus' now.state one two now.ledger;
   is = now.is ∙ ap (slice_index now.state.words) place;
 }
 
 pub beside_as : (plans plans' : List Plan) (cpus cpus' : ℕ) (v : View) (word word' n : ℕ) → plans ≡ plans' → cpus ≡ cpus' → word ≡ word' → IsWordBeside plans cpus v word n → IsWordBeside plans' cpus' v word' n
 beside_as plans plans' cpus cpus' v word word' n one two place now = record {
   state = now.state;
-  told = told_as plans plans' cpus cpus' now.state one two now.told;
+  ledger = ledger_as plans plans' cpus cpus' now.state one two now.ledger;
   is = now.is ∙ ap (slice_index now.state.words) place;
   at = now.at;
   here = now.here;
@@ -71,10 +71,10 @@ beside_as plans plans' cpus cpus' v word word' n one two place now = record {
 pub found : RunsAreCompatible → RunsKeepLaws → (bank : BankId) (cpus tok n : ℕ) → tok < length bank.plans → IsWordNow bank.plans cpus (token_word tok) n → IsFoundWord bank cpus tok n
 found compatible laws bank cpus tok n there now = record {
   state = now.state;
-  told = now.told;
-  sound = sound compatible laws bank.plans cpus now.state now.told;
+  ledger = now.ledger;
+  sound = sound compatible laws bank.plans cpus now.state now.ledger;
   word = now.is;
-  picture = now.is ∙ (now.told.rule.pictures.each_token tok there).count_word;
+  picture = now.is ∙ (now.ledger.rule.pictures.each_token tok there).count_word;
 }
 
 -- and one that was found beside a seat
@@ -85,24 +85,24 @@ module _ (bank : BankId) (cpus : ℕ) (s : CpuSeat) (seat : Seat (List ℕ) View
   seen_there : (other : ℕ) → get_elem? (map (seen_by other) now.state.views) now.at ≡ some (seen_by other v)
   seen_there other = at_map (seen_by other) now.state.views now.at v now.here
 
-  held_there : (other : ℕ) → other < length bank.plans → held_by (token_at now.told.rule.model other) s.cpu.0 ≡ holding s other
+  held_there : (other : ℕ) → other < length bank.plans → held_by (token_at now.ledger.rule.model other) s.cpu.0 ≡ holding s other
   held_there other there =
-      sym ((now.told.rule.pictures.each_token other there).held now.at (seen_by other v) (seen_there other) ∙ ap (held_by_kind (token_at now.told.rule.model other)) is.kind)
+      sym ((now.ledger.rule.pictures.each_token other there).held now.at (seen_by other v) (seen_there other) ∙ ap (held_by_kind (token_at now.ledger.rule.model other)) is.kind)
       ∙ ap (λ (e : TokenEntry). e.held) (is.entries other)
 
-  known_there : (other : ℕ) → other < length bank.plans → Knows (token_at now.told.rule.model other) (entry s other)
-  known_there other there = subst (λ (e : TokenEntry). Knows (token_at now.told.rule.model other) e) (is.entries other) ((now.told.rule.pictures.each_token other there).known now.at (seen_by other v) (seen_there other))
+  known_there : (other : ℕ) → other < length bank.plans → Knows (token_at now.ledger.rule.model other) (entry s other)
+  known_there other there = subst (λ (e : TokenEntry). Knows (token_at now.ledger.rule.model other) e) (is.entries other) ((now.ledger.rule.pictures.each_token other there).known now.at (seen_by other v) (seen_there other))
 
-  past_there : IsPastOf now.told.chronicle.history s.cpu.0 (past_of s)
-  past_there = now.told.chronicle.parts s.cpu (past_of s) (inl (record { at = now.at; page = page_of v; here = at_map page_of now.state.views now.at v now.here; kind = is.kind; seen = is.past }))
+  past_there : IsPastOf now.ledger.chronicle.history s.cpu.0 (past_of s)
+  past_there = now.ledger.chronicle.parts s.cpu (past_of s) (inl (record { at = now.at; page = page_of v; here = at_map page_of now.state.views now.at v now.here; kind = is.kind; seen = is.past }))
 
   pub found_beside : RunsAreCompatible → RunsKeepLaws → tok < length bank.plans → IsFoundBeside bank cpus s tok n
   unfolding found
   found_beside compatible laws there = record {
-    seen = found compatible laws bank cpus tok n there (record { state = now.state; told = now.told; is = now.is });
+    seen = found compatible laws bank cpus tok n there (record { state = now.state; ledger = now.ledger; is = now.is });
     held = held_there;
     knows = known_there;
     past = past_there;
-    events = events_by-past now.told.chronicle.history s.cpu.0 (past_of s) past_there;
-    steps = steps_by-past now.told.chronicle.history s.cpu.0 (past_of s) past_there;
+    events = events_by-past now.ledger.chronicle.history s.cpu.0 (past_of s) past_there;
+    steps = steps_by-past now.ledger.chronicle.history s.cpu.0 (past_of s) past_there;
   }

@@ -1,10 +1,10 @@
 //! What is so of every state of an open bank's table, and of an open book's.
 ghost use Rattle.std.specs.Prelude.{◌≡◌};
 ghost use Rattle.lwkt_bank.specs.Rule.{Bench};
-ghost use Rattle.lwkt_bank.specs.Told.{Told};
+ghost use Rattle.lwkt_bank.specs.Ledger.{Ledger};
 ghost use Rattle.lwkt_bank.specs.Seats.{id_of, cpus_of};
 ghost use Rattle.atomic_table.specs.Table.{State};
-ghost use Rattle.lwkt_msg.specs.Told.{Told as IsTold};
+ghost use Rattle.lwkt_msg.specs.Ledger.{Ledger as BookLedger};
 ghost use Rattle.lwkt_tie.specs.Sound.{IsSound};
 ghost use Rattle.lwkt_tie.specs.Mails.{IsSoundBook};
 
@@ -22,7 +22,7 @@ use lwkt_msg::{MsgBook, laws as book_laws};
 /// of its table, which the type names, allows no other.
 pub fn states_are_sound(bank: &Bank)
     ensures { (key : Key) (s : Bench) → key.plans.items ≡ (id_of bank.now).plans → key.cpus ≡ cpus_of bank.now → ⟦<BankRule as TableRule<Blob, View, Key>>⟧.holds key s
-        → (told : Told (id_of bank.now).plans (cpus_of bank.now) s) × IsSound (id_of bank.now).plans (cpus_of bank.now) s told }
+        → (ledger : Ledger (id_of bank.now).plans (cpus_of bank.now) s) × IsSound (id_of bank.now).plans (cpus_of bank.now) s ledger }
 {
     headline::runs_are_compatible();
     headline::runs_keep_laws();
@@ -34,7 +34,7 @@ pub fn states_are_sound(bank: &Bank)
 /// The same of an open book's table.
 pub fn book_states_are_sound(book: &MsgBook)
     ensures { (key : MailKey) (s : State Rec MailView) → key.specs.items ≡ book.now.specs → key.cpus ≡ book.now.cpus → ⟦<BookRule as TableRule<Rec, MailView, MailKey>>⟧.holds key s
-        → (told : IsTold key s) × IsSoundBook key s told }
+        → (ledger : BookLedger key s) × IsSoundBook key s ledger }
 {
     book_laws::rule_shows_safety();
     book_laws::states_are_reached();

@@ -1,6 +1,6 @@
 //! What a look at a table tells.
 ghost use Rattle.std.specs.Prelude.{ℕ, List, []};
-ghost use Rattle.lwkt_base.specs.declared.openings.MsgSpec.{MsgSpec};
+ghost use Rattle.lwkt_base.specs.declared.opening_specs.MsgSpec.{MsgSpec};
 ghost use Rattle.lwkt_tie.specs.Looks.{finds, finds_beside};
 ghost use Rattle.lwkt_tie.specs.Mails.{finds_mail, finds_mail_beside};
 

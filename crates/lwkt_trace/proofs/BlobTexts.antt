@@ -7,7 +7,7 @@ use Rattle.lwkt_base.specs.Blob.{kept_of}
 use Rattle.lwkt_base.specs.Hex.{digit_text, hex_text}
 use Rattle.lwkt_script.specs.Record.{digit_of, byte_of, bytes_behind, blob_of}
 use Rattle.lwkt_trace.specs.Written.{past_text}
-use Rattle.lwkt_trace.specs.Readback.{AreBytes, IsToldBlob}
+use Rattle.lwkt_trace.specs.Readback.{AreBytes, IsStatedBlob}
 
 -- a digit, and its value
 record IsDigit (n : ℕ) : Type 0 where
@@ -81,8 +81,8 @@ kept_short blob few =
     ap (λ (n : ℕ). take 64 blob ++ replicate n 0) none ∙ append-nil (take 64 blob) ∙ take_all 64 blob few
 
 -- a record of at most 64 bytes is one that an event may have
-pub told_short : (blob : List ℕ) → length blob ≤ 64 → AreBytes blob → IsToldBlob blob
-told_short blob few bytes = record { short = omega (arith, few); bytes = bytes; kept = kept_short blob few }
+pub stated_short : (blob : List ℕ) → length blob ≤ 64 → AreBytes blob → IsStatedBlob blob
+stated_short blob few bytes = record { short = omega (arith, few); bytes = bytes; kept = kept_short blob few }
 
 -- a record of at most 64 bytes is read from its digits, where so many may stand
 pub guard_digits : (most : ℕ) (blob : List ℕ) → length blob ≤ most → length blob ≤ 64 → AreBytes blob → blob_of most (hex_text (take 64 blob) ++ past_text blob) ≡ Some blob
@@ -92,7 +92,7 @@ guard_digits most blob within few bytes =
     let read : bytes_behind [] (hex_text blob) ≡ Some blob = ap (λ (l : List ℕ). bytes_behind [] l) (sym (append-nil (hex_text blob))) ∙ bytes_read [] blob [] bytes in
     rw (le-ltb 64 (length blob) few, take_all 64 blob few, append-nil (hex_text blob), le-leb (length (hex_text blob)) (2 * most) room, read) (ap (λ (l : List ℕ). Some l) (kept_short blob few))
 
-blob_long : (blob : List ℕ) → 64 < length blob → IsToldBlob blob → blob_of 65 (hex_text (take 64 blob) ++ past_text blob) ≡ Some blob
+blob_long : (blob : List ℕ) → 64 < length blob → IsStatedBlob blob → blob_of 65 (hex_text (take 64 blob) ++ past_text blob) ≡ Some blob
 blob_long blob many is =
     let front : AreBytes (take 64 blob) = front_bytes 64 blob is.bytes in
     let count = digits_count (take 64 blob) front in
@@ -105,5 +105,5 @@ blob_long blob many is =
     rw (lt-ltb 64 (length blob) many, le-leb (length (hex_text (take 64 blob) ++ 48 ∷ 48 ∷ [])) 130 room, read) (ap (λ (l : List ℕ). Some (kept_of l)) same ∙ ap (λ (l : List ℕ). Some l) is.kept)
 
 -- a record is read from its digits
-pub blob_read : (blob : List ℕ) → IsToldBlob blob → blob_of 65 (hex_text (take 64 blob) ++ past_text blob) ≡ Some blob
+pub blob_read : (blob : List ℕ) → IsStatedBlob blob → blob_of 65 (hex_text (take 64 blob) ++ past_text blob) ≡ Some blob
 blob_read blob is = elim (cases_lt 64 (length blob)) [ inl many ↦ blob_long blob many is | inr few ↦ guard_digits 65 blob is.short few is.bytes ]

@@ -2,18 +2,18 @@
 use Rattle.std.proofs.Common.{◌≡◌, ℕ, ◌≤◌, List, codes, None, refl, arith, le-leb}
 use Rattle.serde_json.specs.Data.{string, array, item}
 use Rattle.lwkt_core.specs.declared.events.Event.TheVariants.{Load, Take, Share, Again, Mark, GiveOne, GiveClean, GiveWritten, Read, Write, ReadBlob, WriteBlob, Send, TakeMsg, DropMsg, Reply, Reap, Abort}
-use Rattle.lwkt_trace.specs.Words.{event_of, told_at, whole_event, or_else, with_round, with_value, with_record}
-use Rattle.lwkt_trace.specs.Readback.{number_data, blob_data, one_item, two_items, three_items, IsToldBlob, EventsAreReadBack}
+use Rattle.lwkt_trace.specs.Words.{event_of, stated_at, whole_event, or_else, with_round, with_value, with_record}
+use Rattle.lwkt_trace.specs.Readback.{number_data, blob_data, one_item, two_items, three_items, IsStatedBlob, EventsAreReadBack}
 use Rattle.lwkt_trace.proofs.BlobTexts.{blob_read}
 
-three : (word : List ℕ) (cpu place : ℕ) → cpu ≤ 255 → place ≤ 255 → event_of (array (item (string word) (item (number_data cpu) (one_item (number_data place))))) ≡ told_at word cpu place
+three : (word : List ℕ) (cpu place : ℕ) → cpu ≤ 255 → place ≤ 255 → event_of (array (item (string word) (item (number_data cpu) (one_item (number_data place))))) ≡ stated_at word cpu place
 three word cpu place c p = rw (le-leb 0 cpu (omega arith), le-leb cpu 255 c, le-leb 0 place (omega arith), le-leb place 255 p) refl
 
 four : (word : List ℕ) (cpu msg round : ℕ) → cpu ≤ 255 → msg ≤ 255
     → event_of (array (item (string word) (item (number_data cpu) (two_items (number_data msg) (number_data round))))) ≡ whole_event (or_else (with_round word cpu msg round) None)
 four word cpu msg round c p = rw (le-leb 0 cpu (omega arith), le-leb cpu 255 c, le-leb 0 msg (omega arith), le-leb msg 255 p) refl
 
-recorded : (word : List ℕ) (cpu tok : ℕ) (blob : List ℕ) → cpu ≤ 255 → tok ≤ 255 → IsToldBlob blob
+recorded : (word : List ℕ) (cpu tok : ℕ) (blob : List ℕ) → cpu ≤ 255 → tok ≤ 255 → IsStatedBlob blob
     → event_of (array (item (string word) (item (number_data cpu) (two_items (number_data tok) (blob_data blob))))) ≡ whole_event (with_record word cpu tok blob)
 recorded word cpu tok blob c p is = rw (le-leb 0 cpu (omega arith), le-leb cpu 255 c, le-leb 0 tok (omega arith), le-leb tok 255 p, blob_read blob is) refl
 

@@ -3,8 +3,8 @@ use Rattle.std.proofs.Common.{◌≡◌, ℕ, ◌+◌, ◌≤◌, List, [], ◌+
 use Rattle.std.specs.Prelude.{codes}
 use Rattle.std.proofs.lemmas.List.{length-append}
 use Rattle.serde_json.specs.Data.{Data, object, no_members, member}
-use Rattle.lwkt_base.specs.declared.openings.MsgSpec.{MsgSpec}
-use Rattle.lwkt_base.specs.declared.openings.TokSpec.{TokSpec}
+use Rattle.lwkt_base.specs.declared.opening_specs.MsgSpec.{MsgSpec}
+use Rattle.lwkt_base.specs.declared.opening_specs.TokSpec.{TokSpec}
 use Rattle.lwkt_core.specs.declared.events.Event.{Event}
 use Rattle.lwkt_script.specs.declared.scripts.Script.{Script}
 use Rattle.lwkt_script.specs.Field.{number_in}
@@ -12,12 +12,12 @@ use Rattle.lwkt_script.specs.Outcome.{◌>>=◌, part, each}
 use Rattle.lwkt_trace.specs.Format.{event, message_behind, closing, trace, trace_of}
 use Rattle.lwkt_trace.specs.Guard.{guarded}
 use Rattle.lwkt_trace.specs.Printed.{HasWords, ItemsHaveWords}
-use Rattle.lwkt_trace.specs.Readback.{number_data, items_as, events_data, messages_data, told_alone, AreTellable}
+use Rattle.lwkt_trace.specs.Readback.{number_data, items_as, events_data, messages_data, stated_alone, AreWritable}
 use Rattle.lwkt_trace.specs.Recognised.{AreWritten, IsBack, with_events, Frames}
 use Rattle.lwkt_trace.specs.Values.{token_data, last_data}
 use Rattle.lwkt_trace.specs.Written.{front_text}
 use Rattle.lwkt_trace.specs.declared.traces.Closing.{Closing}
-use Rattle.lwkt_trace.specs.declared.traces.Told.{Told}
+use Rattle.lwkt_trace.specs.declared.traces.Stated.{Stated}
 use Rattle.lwkt_trace.specs.declared.traces.Trace.{Trace}
 use Rattle.lwkt_trace.proofs.EventLists.{lists_read_back}
 use Rattle.lwkt_trace.proofs.WrittenTexts.{data_with, framed, framed_read}
@@ -25,35 +25,35 @@ use Rattle.lwkt_trace.proofs.WrittenTexts.{data_with, framed, framed_read}
 -- ---- the value of a trace, with events put in
 
 -- a trace of what its parts are read as
-abbrev assembled : Result ℕ ℕ → Result (List TokSpec) ℕ → (ℕ → Result (List MsgSpec) ℕ) → Result (List Told) ℕ → Result (Option Closing) ℕ → Result Trace ℕ
+abbrev assembled : Result ℕ ℕ → Result (List TokSpec) ℕ → (ℕ → Result (List MsgSpec) ℕ) → Result (List Stated) ℕ → Result (Option Closing) ℕ → Result Trace ℕ
 assembled a b f e l = a >>= λ cpus. b >>= λ tokens. f cpus >>= λ messages. e >>= λ events. l >>= λ last. Ok (record { cpus = cpus; tokens = tokens; messages = messages; events = events; last = last })
 
 -- a trace with these events, where it is one
-abbrev put_in : List Told → Result Trace ℕ → Result Trace ℕ
-put_in told r = r >>= λ t. Ok (with_events t told)
+abbrev put_in : List Stated → Result Trace ℕ → Result Trace ℕ
+put_in stated r = r >>= λ t. Ok (with_events t stated)
 
-put_last : (cpus : ℕ) (tokens : List TokSpec) (messages : List MsgSpec) (l : Result (Option Closing) ℕ) (told : List Told)
-    → assembled (Ok cpus) (Ok tokens) (λ n. Ok messages) (Ok told) l ≡ put_in told (assembled (Ok cpus) (Ok tokens) (λ n. Ok messages) (Ok []) l)
-put_last cpus tokens messages (Ok last) told = refl
-put_last cpus tokens messages (Err place) told = refl
+put_last : (cpus : ℕ) (tokens : List TokSpec) (messages : List MsgSpec) (l : Result (Option Closing) ℕ) (stated : List Stated)
+    → assembled (Ok cpus) (Ok tokens) (λ n. Ok messages) (Ok stated) l ≡ put_in stated (assembled (Ok cpus) (Ok tokens) (λ n. Ok messages) (Ok []) l)
+put_last cpus tokens messages (Ok last) stated = refl
+put_last cpus tokens messages (Err place) stated = refl
 
-put_messages : (cpus : ℕ) (tokens : List TokSpec) (m : Result (List MsgSpec) ℕ) (l : Result (Option Closing) ℕ) (told : List Told)
-    → assembled (Ok cpus) (Ok tokens) (λ n. m) (Ok told) l ≡ put_in told (assembled (Ok cpus) (Ok tokens) (λ n. m) (Ok []) l)
-put_messages cpus tokens (Ok messages) l told = put_last cpus tokens messages l told
-put_messages cpus tokens (Err place) l told = refl
+put_messages : (cpus : ℕ) (tokens : List TokSpec) (m : Result (List MsgSpec) ℕ) (l : Result (Option Closing) ℕ) (stated : List Stated)
+    → assembled (Ok cpus) (Ok tokens) (λ n. m) (Ok stated) l ≡ put_in stated (assembled (Ok cpus) (Ok tokens) (λ n. m) (Ok []) l)
+put_messages cpus tokens (Ok messages) l stated = put_last cpus tokens messages l stated
+put_messages cpus tokens (Err place) l stated = refl
 
-put_tokens : (cpus : ℕ) (b : Result (List TokSpec) ℕ) (m : Result (List MsgSpec) ℕ) (l : Result (Option Closing) ℕ) (told : List Told)
-    → assembled (Ok cpus) b (λ n. m) (Ok told) l ≡ put_in told (assembled (Ok cpus) b (λ n. m) (Ok []) l)
-put_tokens cpus (Ok tokens) m l told = put_messages cpus tokens m l told
-put_tokens cpus (Err place) m l told = refl
+put_tokens : (cpus : ℕ) (b : Result (List TokSpec) ℕ) (m : Result (List MsgSpec) ℕ) (l : Result (Option Closing) ℕ) (stated : List Stated)
+    → assembled (Ok cpus) b (λ n. m) (Ok stated) l ≡ put_in stated (assembled (Ok cpus) b (λ n. m) (Ok []) l)
+put_tokens cpus (Ok tokens) m l stated = put_messages cpus tokens m l stated
+put_tokens cpus (Err place) m l stated = refl
 
-put_events : (a : Result ℕ ℕ) (b : Result (List TokSpec) ℕ) (f : ℕ → Result (List MsgSpec) ℕ) (l : Result (Option Closing) ℕ) (told : List Told)
-    → assembled a b f (Ok told) l ≡ put_in told (assembled a b f (Ok []) l)
-put_events (Ok cpus) b f l told = put_tokens cpus b (f cpus) l told
-put_events (Err place) b f l told = refl
+put_events : (a : Result ℕ ℕ) (b : Result (List TokSpec) ℕ) (f : ℕ → Result (List MsgSpec) ℕ) (l : Result (Option Closing) ℕ) (stated : List Stated)
+    → assembled a b f (Ok stated) l ≡ put_in stated (assembled a b f (Ok []) l)
+put_events (Ok cpus) b f l stated = put_tokens cpus b (f cpus) l stated
+put_events (Err place) b f l stated = refl
 
 -- the parts of the value of a trace
-abbrev of_parts : Script → Data → Result (List Told) ℕ → Result Trace ℕ
+abbrev of_parts : Script → Data → Result (List Stated) ℕ → Result Trace ℕ
 of_parts script last events =
     assembled (part 3 (number_in (codes "cpus") 1 8 (object (member (codes "cpus") (number_data script.cpus) no_members)))) (each guarded [] (items_as token_data script.tokens)) (λ cpus. each (message_behind cpus) [] (messages_data script.messages)) events (closing last)
 
@@ -62,13 +62,13 @@ unfolding trace
 value_parts script events last = refl
 
 -- a value without events is a trace: with events it is this trace with these events
-value_with : (script : Script) (events : List Event) (last : Data) (t : Trace) → AreTellable events → length events ≤ 50000000 → trace (data_with script [] last) ≡ Ok t
-    → trace (data_with script events last) ≡ Ok (with_events t (map told_alone events))
+value_with : (script : Script) (events : List Event) (last : Data) (t : Trace) → AreWritable events → length events ≤ 50000000 → trace (data_with script [] last) ≡ Ok t
+    → trace (data_with script events last) ≡ Ok (with_events t (map stated_alone events))
 value_with script events last t are few is =
-    let told : List Told = map told_alone events in
+    let stated : List Stated = map stated_alone events in
     value_parts script events last ∙ ap (of_parts script last) (lists_read_back events are few)
-    ∙ put_events (part 3 (number_in (codes "cpus") 1 8 (object (member (codes "cpus") (number_data script.cpus) no_members)))) (each guarded [] (items_as token_data script.tokens)) (λ cpus. each (message_behind cpus) [] (messages_data script.messages)) (closing last) told
-    ∙ ap (put_in told) (sym (value_parts script [] last) ∙ is)
+    ∙ put_events (part 3 (number_in (codes "cpus") 1 8 (object (member (codes "cpus") (number_data script.cpus) no_members)))) (each guarded [] (items_as token_data script.tokens)) (λ cpus. each (message_behind cpus) [] (messages_data script.messages)) (closing last) stated
+    ∙ ap (put_in stated) (sym (value_parts script [] last) ∙ is)
 
 -- ---- the text of a trace, in three parts
 
@@ -95,4 +95,4 @@ frames front back t is front_is behind cpus tokens messages = λ text events are
     let bare_short : length (framed script [] last) ≤ 268435456 = subst (λ (l : List ℕ). length l ≤ 268435456) bare (shorter front text back 268435456 short) in
     let whole_short : length (framed script events last) ≤ 268435456 = subst (λ (l : List ℕ). length l ≤ 268435456) whole short in
     let bare_read : trace (data_with script [] (last_data last)) ≡ Ok t = sym (framed_read script [] last (cpus, (tt, (behind.words, (messages, (tokens, (one, tt)))))) bare_short) ∙ ap trace_of (sym bare) ∙ is in
-    ap trace_of whole ∙ framed_read script events last (cpus, (are.words, (behind.words, (messages, (tokens, (one, tt)))))) whole_short ∙ value_with script events (last_data last) t are.tellable few bare_read
+    ap trace_of whole ∙ framed_read script events last (cpus, (are.words, (behind.words, (messages, (tokens, (one, tt)))))) whole_short ∙ value_with script events (last_data last) t are.writable few bare_read

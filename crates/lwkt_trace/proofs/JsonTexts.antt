@@ -75,19 +75,19 @@ plain_both a b p q = record { same = escape_both a b ∙ ap₂ (λ (x y : List �
 -- ---- values
 
 -- a text of a value, which nothing that goes on with a word follows
-pub record Tells (text : List ℕ) (d : Data) (deep : ℕ) : Type 0 where
+pub record Spells (text : List ℕ) (d : Data) (deep : ℕ) : Type 0 where
   pub value : json.Json
   pub is : of_json value ≡ Some d
   pub shallow : depth value ≤ deep
   pub reads : (rest : List ℕ) → ends_word rest ≡ true → lex between (text ++ rest) ≡ value_onto value (lex between rest)
   pub ascii : IsAscii text
 
-pub deeper : {text : List ℕ} {d : Data} {deep : ℕ} (more : ℕ) → deep ≤ more → Tells text d deep → Tells text d more
+pub deeper : {text : List ℕ} {d : Data} {deep : ℕ} (more : ℕ) → deep ≤ more → Spells text d deep → Spells text d more
 deeper {text} {d} {deep} more within is =
     let shallow = is.shallow in record { value = is.value; is = is.is; shallow = omega (arith, shallow, within); reads = is.reads; ascii = is.ascii }
 
-pub number_tells : (n deep : ℕ) → n < 2 ^ 64 → Tells (decimal n) (number_data n) deep
-number_tells n deep h = record {
+pub number_spells : (n deep : ℕ) → n < 2 ^ 64 → Spells (decimal n) (number_data n) deep
+number_spells n deep h = record {
   value = json.number (decimal n);
   is = ap (λ (o : Option Num). option_map number o) (number_of-decimal n h);
   shallow = omega arith;
@@ -95,9 +95,9 @@ number_tells n deep h = record {
   ascii = IsAscii-decimal n h;
 }
 
-pub null_tells : (deep : ℕ) → Tells (codes "null") null deep
+pub null_spells : (deep : ℕ) → Spells (codes "null") null deep
 unfolding lex word
-null_tells deep = record {
+null_spells deep = record {
   value = json.null;
   is = refl;
   shallow = omega arith;
@@ -118,8 +118,8 @@ quotes_read s rest same =
 quotes_ascii : (s : List ℕ) → IsAscii s → IsAscii (in_quotes s)
 quotes_ascii s h = IsAscii-append (codes "\"") (s ++ codes "\"") (ascii_from (codes "\"") refl) (IsAscii-append s (codes "\"") h (ascii_from (codes "\"") refl))
 
-pub string_tells : (s : List ℕ) (deep : ℕ) → IsPlain s → Tells (in_quotes s) (string s) deep
-string_tells s deep plain = record {
+pub string_spells : (s : List ℕ) (deep : ℕ) → IsPlain s → Spells (in_quotes s) (string s) deep
+string_spells s deep plain = record {
   value = json.string s;
   is = refl;
   shallow = omega arith;
@@ -155,7 +155,7 @@ unfolding lex
 break_is = record { reads = λ rest. refl; ascii = ascii_from (codes "\n") refl }
 
 -- a text of items with the closing bracket
-pub record ItemsTell (later : Bool) (text : List ℕ) (ds : Items) (deep : ℕ) : Type 0 where
+pub record ItemsSpell (later : Bool) (text : List ℕ) (ds : Items) (deep : ℕ) : Type 0 where
   pub items : json.Items
   pub is : of_items items ≡ Some ds
   pub shallow : items_depth items ≤ deep
@@ -163,7 +163,7 @@ pub record ItemsTell (later : Bool) (text : List ℕ) (ds : Items) (deep : ℕ) 
   pub ends : later ≡ true → (rest : List ℕ) → ends_word (text ++ rest) ≡ true
   pub ascii : IsAscii text
 
-pub no_more_items : (later : Bool) (deep : ℕ) → ItemsTell later (codes "]") no_items deep
+pub no_more_items : (later : Bool) (deep : ℕ) → ItemsSpell later (codes "]") no_items deep
 unfolding lex
 no_more_items later deep = record {
   items = json.no_items;
@@ -184,14 +184,14 @@ left_parts a b c rest = append_assoc (a ++ b) c rest ∙ append_assoc a b (c ++ 
 item_of : (j : json.Json) (js : json.Items) (d : Data) (ds : Items) → of_json j ≡ Some d → of_items js ≡ Some ds → of_items (json.item j js) ≡ Some (item d ds)
 item_of j js d ds first behind = rw (first, behind) refl
 
-module _ {text rest_text : List ℕ} {d : Data} {ds : Items} {deep : ℕ} (first : Tells text d deep) (behind : ItemsTell true rest_text ds deep) where
+module _ {text rest_text : List ℕ} {d : Data} {ds : Items} {deep : ℕ} (first : Spells text d deep) (behind : ItemsSpell true rest_text ds deep) where
   both_read : (rest : List ℕ) → lex between (text ++ (rest_text ++ rest)) ≡ value_onto first.value (items_onto true behind.items (lex between rest))
   both_read rest = first.reads (rest_text ++ rest) (behind.ends refl rest) ∙ ap (λ (ls : List Lexeme). value_onto first.value ls) (behind.reads rest)
 
   deepest : items_depth (json.item first.value behind.items) ≤ deep
   deepest = let a = first.shallow in let b = behind.shallow in omega (arith, a, b)
 
-  pub item_first : (gap : List ℕ) → IsBlank gap → ItemsTell false (gap ++ (text ++ rest_text)) (item d ds) deep
+  pub item_first : (gap : List ℕ) → IsBlank gap → ItemsSpell false (gap ++ (text ++ rest_text)) (item d ds) deep
   item_first gap blank = record {
     items = json.item first.value behind.items;
     is = item_of first.value behind.items d ds first.is behind.is;
@@ -201,7 +201,7 @@ module _ {text rest_text : List ℕ} {d : Data} {ds : Items} {deep : ℕ} (first
     ascii = IsAscii-append gap (text ++ rest_text) blank.ascii (IsAscii-append text rest_text first.ascii behind.ascii);
   }
 
-  pub item_more : (gap : List ℕ) → IsComma gap → ItemsTell true (gap ++ (text ++ rest_text)) (item d ds) deep
+  pub item_more : (gap : List ℕ) → IsComma gap → ItemsSpell true (gap ++ (text ++ rest_text)) (item d ds) deep
   item_more gap mark = record {
     items = json.item first.value behind.items;
     is = item_of first.value behind.items d ds first.is behind.is;
@@ -211,9 +211,9 @@ module _ {text rest_text : List ℕ} {d : Data} {ds : Items} {deep : ℕ} (first
     ascii = IsAscii-append gap (text ++ rest_text) mark.ascii (IsAscii-append text rest_text first.ascii behind.ascii);
   }
 
-pub array_tells : {text : List ℕ} {ds : Items} (deep : ℕ) → ItemsTell false text ds deep → Tells (codes "[" ++ text) (array ds) (deep + 1)
+pub array_spells : {text : List ℕ} {ds : Items} (deep : ℕ) → ItemsSpell false text ds deep → Spells (codes "[" ++ text) (array ds) (deep + 1)
 unfolding lex
-array_tells {text} {ds} deep inside = record {
+array_spells {text} {ds} deep inside = record {
   value = json.array inside.items;
   is = ap (λ (o : Option Items). option_map array o) inside.is;
   shallow = (let a = inside.shallow in omega (arith, a));
@@ -224,7 +224,7 @@ array_tells {text} {ds} deep inside = record {
 -- ---- members
 
 -- a text of members with the closing brace: they go into others as `puts` says
-pub record MembersTell (later : Bool) (text : List ℕ) (puts : Members → Members) (deep : ℕ) : Type 0 where
+pub record MembersSpell (later : Bool) (text : List ℕ) (puts : Members → Members) (deep : ℕ) : Type 0 where
   pub members : json.Members
   pub is : (found : Members) → of_members members found ≡ Some (puts found)
   pub shallow : members_depth members ≤ deep
@@ -232,7 +232,7 @@ pub record MembersTell (later : Bool) (text : List ℕ) (puts : Members → Memb
   pub ends : later ≡ true → (rest : List ℕ) → ends_word (text ++ rest) ≡ true
   pub ascii : IsAscii text
 
-pub no_more_members : (later : Bool) (deep : ℕ) → MembersTell later (codes "}") (λ found. found) deep
+pub no_more_members : (later : Bool) (deep : ℕ) → MembersSpell later (codes "}") (λ found. found) deep
 unfolding lex
 no_more_members later deep = record {
   members = json.no_members;
@@ -257,7 +257,7 @@ member_of : (k : List ℕ) (j : json.Json) (ms : json.Members) (d : Data) (puts 
     → (found : Members) → of_members (json.member k j ms) found ≡ Some (puts (put k d found))
 member_of k j ms d puts first behind found = rw first (behind (put k d found))
 
-module _ {text rest_text : List ℕ} {d : Data} {puts : Members → Members} {deep : ℕ} (name : List ℕ) (plain : IsPlain name) (first : Tells text d deep) (behind : MembersTell true rest_text puts deep) where
+module _ {text rest_text : List ℕ} {d : Data} {puts : Members → Members} {deep : ℕ} (name : List ℕ) (plain : IsPlain name) (first : Spells text d deep) (behind : MembersSpell true rest_text puts deep) where
   member_read : (rest : List ℕ) → lex between (member_name name ++ (text ++ (rest_text ++ rest))) ≡ token (Token.string name) ∷ colon ∷ value_onto first.value (members_onto true behind.members (lex between rest))
   member_read rest =
       named_read name (text ++ (rest_text ++ rest)) plain.same
@@ -269,7 +269,7 @@ module _ {text rest_text : List ℕ} {d : Data} {puts : Members → Members} {de
   member_ascii : IsAscii (member_name name ++ (text ++ rest_text))
   member_ascii = IsAscii-append (member_name name) (text ++ rest_text) (named_ascii name plain.ascii) (IsAscii-append text rest_text first.ascii behind.ascii)
 
-  pub member_first : MembersTell false (member_name name ++ (text ++ rest_text)) (λ found. puts (put name d found)) deep
+  pub member_first : MembersSpell false (member_name name ++ (text ++ rest_text)) (λ found. puts (put name d found)) deep
   member_first = record {
     members = json.member name first.value behind.members;
     is = member_of name first.value behind.members d puts first.is behind.is;
@@ -279,7 +279,7 @@ module _ {text rest_text : List ℕ} {d : Data} {puts : Members → Members} {de
     ascii = member_ascii;
   }
 
-  pub member_more : (gap : List ℕ) → IsComma gap → MembersTell true (gap ++ (member_name name ++ (text ++ rest_text))) (λ found. puts (put name d found)) deep
+  pub member_more : (gap : List ℕ) → IsComma gap → MembersSpell true (gap ++ (member_name name ++ (text ++ rest_text))) (λ found. puts (put name d found)) deep
   member_more gap mark = record {
     members = json.member name first.value behind.members;
     is = member_of name first.value behind.members d puts first.is behind.is;
@@ -291,9 +291,9 @@ module _ {text rest_text : List ℕ} {d : Data} {puts : Members → Members} {de
     ascii = IsAscii-append gap (member_name name ++ (text ++ rest_text)) mark.ascii member_ascii;
   }
 
-pub object_tells : {text : List ℕ} {puts : Members → Members} (deep : ℕ) → MembersTell false text puts deep → Tells (codes "{" ++ text) (object (puts no_members)) (deep + 1)
+pub object_spells : {text : List ℕ} {puts : Members → Members} (deep : ℕ) → MembersSpell false text puts deep → Spells (codes "{" ++ text) (object (puts no_members)) (deep + 1)
 unfolding lex
-object_tells {text} {puts} deep inside = record {
+object_spells {text} {puts} deep inside = record {
   value = json.object inside.members;
   is = ap (λ (o : Option Members). option_map object o) (inside.is no_members);
   shallow = (let a = inside.shallow in omega (arith, a));
@@ -314,15 +314,15 @@ comma_breaks = record { first = nothing_is; next = λ n e. rw e comma_is }
 pub line_breaks : IsBreak line_at
 line_breaks = record { first = break_is; next = λ n e. rw e line_is }
 
-module _ {A : Type 0} (before : ℕ → List ℕ) (breaks : IsBreak before) (text : A → List ℕ) (value : A → Data) (deep : ℕ) (tells : (x : A) → HasWords (value x) → Tells (text x) (value x) deep) where
-  pub more_tell : (n : ℕ) (xs : List A) → (n == 0) ≡ false → ItemsHaveWords (items_as value xs) → ItemsTell true (parted before text n xs ++ codes "]") (items_as value xs) deep
-  more_tell n [] e words = no_more_items true deep
-  more_tell n (x ∷ xs) e words =
-      subst (λ (t : List ℕ). ItemsTell true t (items_as value (x ∷ xs)) deep) (sym (left_parts (before n) (text x) (parted before text (n + 1) xs) (codes "]")))
-      (item_more (tells x words.0) (more_tell (n + 1) xs (ne_eqb (n + 1) 0 (λ z. omega arith)) words.1) (before n) (breaks.next n e))
+module _ {A : Type 0} (before : ℕ → List ℕ) (breaks : IsBreak before) (text : A → List ℕ) (value : A → Data) (deep : ℕ) (spells : (x : A) → HasWords (value x) → Spells (text x) (value x) deep) where
+  pub more_spell : (n : ℕ) (xs : List A) → (n == 0) ≡ false → ItemsHaveWords (items_as value xs) → ItemsSpell true (parted before text n xs ++ codes "]") (items_as value xs) deep
+  more_spell n [] e words = no_more_items true deep
+  more_spell n (x ∷ xs) e words =
+      subst (λ (t : List ℕ). ItemsSpell true t (items_as value (x ∷ xs)) deep) (sym (left_parts (before n) (text x) (parted before text (n + 1) xs) (codes "]")))
+      (item_more (spells x words.0) (more_spell (n + 1) xs (ne_eqb (n + 1) 0 (λ z. omega arith)) words.1) (before n) (breaks.next n e))
 
-  pub parts_tell : (xs : List A) → ItemsHaveWords (items_as value xs) → ItemsTell false (parted before text 0 xs ++ codes "]") (items_as value xs) deep
-  parts_tell [] words = no_more_items false deep
-  parts_tell (x ∷ xs) words =
-      subst (λ (t : List ℕ). ItemsTell false t (items_as value (x ∷ xs)) deep) (sym (left_parts (before 0) (text x) (parted before text 1 xs) (codes "]")))
-      (item_first (tells x words.0) (more_tell 1 xs refl words.1) (before 0) breaks.first)
+  pub parts_spell : (xs : List A) → ItemsHaveWords (items_as value xs) → ItemsSpell false (parted before text 0 xs ++ codes "]") (items_as value xs) deep
+  parts_spell [] words = no_more_items false deep
+  parts_spell (x ∷ xs) words =
+      subst (λ (t : List ℕ). ItemsSpell false t (items_as value (x ∷ xs)) deep) (sym (left_parts (before 0) (text x) (parted before text 1 xs) (codes "]")))
+      (item_first (spells x words.0) (more_spell 1 xs refl words.1) (before 0) breaks.first)

@@ -9,17 +9,17 @@ use Rattle.lwkt_trace.specs.Readback.{number_data, items_as}
 
 -- each item is read where there is room for it
 abbrev pub ReadsEach : {A B : Type 0} → (List B → Data → Result B ℕ) → (A → Data) → (A → B) → (A → Type 0) → ℕ → Type 0
-ReadsEach {A} {B} f value told P most = (before : List B) (x : A) → P x → length before < most → f before (value x) ≡ Ok (told x)
+ReadsEach {A} {B} f value stated P most = (before : List B) (x : A) → P x → length before < most → f before (value x) ≡ Ok (stated x)
 
-pub list_read : {A B : Type 0} (f : List B → Data → Result B ℕ) (value : A → Data) (told : A → B) (P : A → Type 0) (most : ℕ) → ReadsEach f value told P most
-    → (before : List B) (xs : List A) → All P xs → length before + length xs ≤ most → each f before (items_as value xs) ≡ Ok (before ++ map told xs)
-list_read {A} {B} f value told P most next before [] all room = ap (λ (l : List B). Ok l) (sym (append-nil before))
-list_read {A} {B} f value told P most next before (x ∷ xs) all room =
-    let more : length (before ++ told x ∷ []) ≡ length before + 1 = length-append before (told x ∷ []) in
+pub list_read : {A B : Type 0} (f : List B → Data → Result B ℕ) (value : A → Data) (stated : A → B) (P : A → Type 0) (most : ℕ) → ReadsEach f value stated P most
+    → (before : List B) (xs : List A) → All P xs → length before + length xs ≤ most → each f before (items_as value xs) ≡ Ok (before ++ map stated xs)
+list_read {A} {B} f value stated P most next before [] all room = ap (λ (l : List B). Ok l) (sym (append-nil before))
+list_read {A} {B} f value stated P most next before (x ∷ xs) all room =
+    let more : length (before ++ stated x ∷ []) ≡ length before + 1 = length-append before (stated x ∷ []) in
     let first : P x = all 0 x (omega arith) in
     let others : All P xs = λ k d l. all (suc k) d (omega (arith, l)) in
     ap (λ (r : Result B ℕ). r >>= λ y. each f (before ++ y ∷ []) (items_as value xs)) (next before x first (omega (arith, room)))
-    ∙ list_read f value told P most next (before ++ told x ∷ []) xs others (omega (arith, more, room)) ∙ ap (λ (l : List B). Ok l) (append_assoc before (told x ∷ []) (map told xs))
+    ∙ list_read f value stated P most next (before ++ stated x ∷ []) xs others (omega (arith, more, room)) ∙ ap (λ (l : List B). Ok l) (append_assoc before (stated x ∷ []) (map stated xs))
 
 -- numbers are read wherever they stand
 pub numbers_read : {A : Type 0} (place : ℕ) (number : A → ℕ) (before : List ℕ) (xs : List A) → each (cell place) before (items_as (λ x. number_data (number x)) xs) ≡ Ok (before ++ map number xs)

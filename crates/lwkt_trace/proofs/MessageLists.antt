@@ -1,7 +1,7 @@
 -- Messages and where they are at the close are read as they are written.
 use Rattle.std.proofs.Common.{◌≡◌, ℕ, ◌+◌, ◌-◌, ◌≤◌, ◌<◌, List, [], ◌∷◌, ◌++◌, length, Result, Ok, Some, refl, sym, ap, ◌∙◌, arith, le-leb, lt-ltb, append_assoc, append-nil}
 use Rattle.std.proofs.lemmas.List.{length-append}
-use Rattle.lwkt_base.specs.declared.openings.MsgSpec.{MsgSpec}
+use Rattle.lwkt_base.specs.declared.opening_specs.MsgSpec.{MsgSpec}
 use Rattle.lwkt_base.specs.declared.owners.Owner.{Owner}
 use Rattle.lwkt_base.specs.declared.owners.Owner.TheVariants.{Rest, Out, With, Back}
 use Rattle.lwkt_base.specs.declared.owners.MsgEnd.{MsgEnd}
@@ -11,18 +11,18 @@ use Rattle.lwkt_script.specs.Member.{thread_of}
 use Rattle.lwkt_script.specs.Outcome.{◌>>=◌, each}
 use Rattle.lwkt_trace.specs.Format.{end, message_behind}
 use Rattle.lwkt_trace.specs.Words.{message_end_of}
-use Rattle.lwkt_trace.specs.Readback.{end_data, IsTellablePlace, ends_data, AreTellableEnds, EndsAreReadBack, message_data, messages_data, AreMessages, MessagesAreReadBack}
+use Rattle.lwkt_trace.specs.Readback.{end_data, IsWritablePlace, ends_data, AreWritableEnds, EndsAreReadBack, message_data, messages_data, AreMessages, MessagesAreReadBack}
 
-end_is : (o : Owner) (round : ℕ) → IsTellablePlace o → message_end_of (end_data o round) ≡ Some (record { round = round; state = o })
+end_is : (o : Owner) (round : ℕ) → IsWritablePlace o → message_end_of (end_data o round) ≡ Some (record { round = round; state = o })
 end_is (Rest origin) round h = rw (le-leb 0 origin.0 (omega arith), le-leb origin.0 255 h) refl
 end_is (Out origin target) round h = rw (le-leb 0 origin.0 (omega arith), le-leb origin.0 255 h.0, le-leb 0 target.0 (omega arith), le-leb target.0 255 h.1) refl
 end_is (With origin target) round h = rw (le-leb 0 origin.0 (omega arith), le-leb origin.0 255 h.0, le-leb 0 target.0 (omega arith), le-leb target.0 255 h.1) refl
 end_is (Back origin target) round h = rw (le-leb 0 origin.0 (omega arith), le-leb origin.0 255 h.0, le-leb 0 target.0 (omega arith), le-leb target.0 255 h.1) refl
 
-next_end : (before : List MsgEnd) (e : MsgEnd) → IsTellablePlace e.state → length before < 64 → end before (end_data e.state e.round) ≡ Ok e
+next_end : (before : List MsgEnd) (e : MsgEnd) → IsWritablePlace e.state → length before < 64 → end before (end_data e.state e.round) ≡ Ok e
 next_end before e is room = rw (lt-ltb (length before) 64 room, end_is e.state e.round is) refl
 
-all_ends : (before es : List MsgEnd) → AreTellableEnds es → length before + length es ≤ 64 → each end before (ends_data es) ≡ Ok (before ++ es)
+all_ends : (before es : List MsgEnd) → AreWritableEnds es → length before + length es ≤ 64 → each end before (ends_data es) ≡ Ok (before ++ es)
 all_ends before [] are room = ap (λ (l : List MsgEnd). Ok l) (sym (append-nil before))
 all_ends before (e ∷ es) are room =
     let more : length (before ++ e ∷ []) ≡ length before + 1 = length-append before (e ∷ []) in

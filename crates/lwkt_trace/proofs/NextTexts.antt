@@ -6,7 +6,7 @@ use Rattle.std.proofs.lemmas.List.{length-append, take-append-drop}
 use Rattle.std.proofs.Math.Seq.{take-append_seam}
 use Rattle.lwkt_core.specs.declared.events.Event.{Event}
 use Rattle.lwkt_trace.specs.Printed.{HasWords, ItemsHaveWords}
-use Rattle.lwkt_trace.specs.Readback.{event_data, events_data, IsTellable, AreTellable}
+use Rattle.lwkt_trace.specs.Readback.{event_data, events_data, IsWritable, AreWritable}
 use Rattle.lwkt_trace.specs.Recognised.{IsWritten, IsNextWritten, AreWritten}
 use Rattle.lwkt_trace.specs.Written.{parted, line_at, event_text}
 
@@ -36,7 +36,7 @@ next_is text before first behind line more number e whole rest same gap is =
       some = omega (arith, some);
       within = subst (λ (l : List ℕ). length before + length line ≤ length l) (sym parts) (within before line more);
       text_is = ap (λ (l : List ℕ). take (length before + length line) l) parts ∙ front_of before line more ∙ ap₂ (λ (a b : List ℕ). a ++ b) gap is.text;
-      tellable = is.tellable;
+      writable = is.writable;
       words = is.words;
     }
 
@@ -53,16 +53,16 @@ parted_more n (x ∷ es) e =
     ap (λ (l : List ℕ). (line_at n ++ event_text x) ++ l) more
     ∙ sym (append_assoc (line_at n ++ event_text x) (parted line_at event_text (n + 1) es) (line_at (n + suc (length es)) ++ event_text e))
 
-tellable_more : (es : List Event) (e : Event) → AreTellable es → IsTellable e → AreTellable (es ++ e ∷ [])
-tellable_more [] e are is = (is, tt)
-tellable_more (x ∷ es) e are is = (are.0, tellable_more es e are.1 is)
+writable_more : (es : List Event) (e : Event) → AreWritable es → IsWritable e → AreWritable (es ++ e ∷ [])
+writable_more [] e are is = (is, tt)
+writable_more (x ∷ es) e are is = (are.0, writable_more es e are.1 is)
 
 words_more : (es : List Event) (e : Event) → ItemsHaveWords (events_data es) → HasWords (event_data e) → ItemsHaveWords (events_data (es ++ e ∷ []))
 words_more [] e are is = (is, tt)
 words_more (x ∷ es) e are is = (are.0, words_more es e are.1 is)
 
 pub none_written : AreWritten [] []
-none_written = record { text_is = refl; tellable = tt; words = tt }
+none_written = record { text_is = refl; writable = tt; words = tt }
 
 zero_more : (n : ℕ) → n ≡ 0 + n
 zero_more n = omega arith
@@ -73,6 +73,6 @@ written_more text behind es e size number are counted is =
     let line : take size behind ≡ line_at (0 + length es) ++ event_text e = is.text_is ∙ ap (λ (n : ℕ). line_at n ++ event_text e) (counted ∙ zero_more (length es)) in
     record {
       text_is = ap₂ (λ (a b : List ℕ). a ++ b) are.text_is line ∙ sym (parted_more 0 es e);
-      tellable = tellable_more es e are.tellable is.tellable;
+      writable = writable_more es e are.writable is.writable;
       words = words_more es e are.words is.words;
     }

@@ -5,8 +5,8 @@ use Rattle.serde_json.specs.Data.{Data, string, array, object, Items, item, Memb
 use Rattle.lwkt_base.specs.Hex.{digit_text, byte_text, hex_text}
 use Rattle.lwkt_base.specs.declared.laws.Law.{Law}
 use Rattle.lwkt_base.specs.declared.laws.Law.TheVariants.{Any, Sum, Order, Cap, Tally, Len}
-use Rattle.lwkt_base.specs.declared.openings.MsgSpec.{MsgSpec}
-use Rattle.lwkt_base.specs.declared.openings.TokSpec.{TokSpec}
+use Rattle.lwkt_base.specs.declared.opening_specs.MsgSpec.{MsgSpec}
+use Rattle.lwkt_base.specs.declared.opening_specs.TokSpec.{TokSpec}
 use Rattle.lwkt_base.specs.declared.owners.Owner.{Owner}
 use Rattle.lwkt_base.specs.declared.owners.Owner.TheVariants.{Rest, Out, With, Back}
 use Rattle.lwkt_base.specs.declared.owners.MsgEnd.{MsgEnd}
@@ -17,7 +17,7 @@ use Rattle.lwkt_trace.specs.Written.{member_name, comma, comma_at, list_text, pa
 use Rattle.lwkt_trace.specs.Readback.{number_data, blob_data, one_item, two_items, three_items, rest_data, event_data, end_data, message_data}
 use Rattle.lwkt_trace.specs.Values.{numbers_data, guard_data, token_data, tallies_data, last_blob_data}
 use Rattle.lwkt_trace.specs.Printed.{HasWords, ItemsHaveWords}
-use Rattle.lwkt_trace.proofs.JsonTexts.{IsPlain, plain_from, plain_both, in_quotes, Tells, number_tells, null_tells, string_tells, comma_is, nothing_is, ItemsTell, no_more_items, item_first, item_more, array_tells, MembersTell, no_more_members, member_first, member_more, object_tells, comma_breaks, parts_tell, left_parts}
+use Rattle.lwkt_trace.proofs.JsonTexts.{IsPlain, plain_from, plain_both, in_quotes, Spells, number_spells, null_spells, string_spells, comma_is, nothing_is, ItemsSpell, no_more_items, item_first, item_more, array_spells, MembersSpell, no_more_members, member_first, member_more, object_spells, comma_breaks, parts_spell, left_parts}
 
 -- ---- words and digits
 
@@ -73,15 +73,15 @@ past_plain blob = either_plain (nat_lt 64 (length blob)) (codes "00") [] (plain_
 
 -- ---- records and lists of numbers
 
-pub blob_tells : (blob : List ℕ) (deep : ℕ) → Tells (blob_text blob) (blob_data blob) deep
+pub blob_spells : (blob : List ℕ) (deep : ℕ) → Spells (blob_text blob) (blob_data blob) deep
 unfolding blob_text
-blob_tells blob deep =
+blob_spells blob deep =
     let digits : List ℕ = hex_text (take 64 blob) in
-    string_tells (digits ++ past_text blob) deep (plain_both digits (past_text blob) (hex_plain (take 64 blob)) (past_plain blob))
+    string_spells (digits ++ past_text blob) deep (plain_both digits (past_text blob) (hex_plain (take 64 blob)) (past_plain blob))
 
-pub numbers_tell : (numbers : List ℕ) (deep : ℕ) → HasWords (numbers_data numbers) → Tells (list_text numbers) (numbers_data numbers) (deep + 1)
+pub numbers_spell : (numbers : List ℕ) (deep : ℕ) → HasWords (numbers_data numbers) → Spells (list_text numbers) (numbers_data numbers) (deep + 1)
 unfolding list_text
-numbers_tell numbers deep words = array_tells deep (parts_tell comma_at comma_breaks decimal number_data deep (λ n h. number_tells n deep h) numbers words)
+numbers_spell numbers deep words = array_spells deep (parts_spell comma_at comma_breaks decimal number_data deep (λ n h. number_spells n deep h) numbers words)
 
 -- ---- tokens
 
@@ -89,11 +89,11 @@ abbrev guard_puts : Option (List ℕ) → Members → Members
 guard_puts None found = found
 guard_puts (Some blob) found = put (codes "record") (blob_data blob) found
 
-guard_tells : (blob : Option (List ℕ)) → MembersTell true (guard_text blob ++ codes "}") (λ found. guard_puts blob found) 1
-guard_tells None = no_more_members true 1
-guard_tells (Some blob) =
-    subst (λ (t : List ℕ). MembersTell true t (λ found. put (codes "record") (blob_data blob) found) 1) (sym (left_parts (codes ",") (member_name (codes "record")) (blob_text blob) (codes "}")))
-    (member_more (codes "record") (plain_from (codes "record") refl) (blob_tells blob 1) (no_more_members true 1) (codes ",") comma_is)
+guard_spells : (blob : Option (List ℕ)) → MembersSpell true (guard_text blob ++ codes "}") (λ found. guard_puts blob found) 1
+guard_spells None = no_more_members true 1
+guard_spells (Some blob) =
+    subst (λ (t : List ℕ). MembersSpell true t (λ found. put (codes "record") (blob_data blob) found) 1) (sym (left_parts (codes ",") (member_name (codes "record")) (blob_text blob) (codes "}")))
+    (member_more (codes "record") (plain_from (codes "record") refl) (blob_spells blob 1) (no_more_members true 1) (codes ",") comma_is)
 
 -- the members of a token by name
 token_put : (blob : Option (List ℕ)) (cells law param generation : Data)
@@ -113,15 +113,15 @@ token_grouped : (t : TokSpec) → token_text t ≡ codes "{" ++ token_members t
 unfolding cells_text law_member_text param_text gen_text
 token_grouped t = simp append_assoc
 
-pub token_tells : (t : TokSpec) → HasWords (token_data t) → Tells (token_text t) (token_data t) 2
-token_tells t words =
-    let generation = member_more (codes "gen") (plain_from (codes "gen") refl) (number_tells t.generation 1 words.1.0) (guard_tells t.blob) (codes ",") comma_is in
-    let param = member_more (codes "param") (plain_from (codes "param") refl) (number_tells t.param 1 words.1.1.1.0) generation (codes ",") comma_is in
-    let law = member_more (codes "law") (plain_from (codes "law") refl) (string_tells (law_text t.law) 1 (law_plain t.law)) param (codes ",") comma_is in
-    let cells = member_first (codes "cells") (plain_from (codes "cells") refl) (numbers_tell t.cells 0 words.0) law in
-    let whole = object_tells 1 cells in
-    subst (λ (x : List ℕ). Tells x (token_data t) 2) (sym (token_grouped t))
-    (subst (λ (ms : Members). Tells (codes "{" ++ token_members t) (object ms) 2) (token_put t.blob (numbers_data t.cells) (string (law_text t.law)) (number_data t.param) (number_data t.generation)) whole)
+pub token_spells : (t : TokSpec) → HasWords (token_data t) → Spells (token_text t) (token_data t) 2
+token_spells t words =
+    let generation = member_more (codes "gen") (plain_from (codes "gen") refl) (number_spells t.generation 1 words.1.0) (guard_spells t.blob) (codes ",") comma_is in
+    let param = member_more (codes "param") (plain_from (codes "param") refl) (number_spells t.param 1 words.1.1.1.0) generation (codes ",") comma_is in
+    let law = member_more (codes "law") (plain_from (codes "law") refl) (string_spells (law_text t.law) 1 (law_plain t.law)) param (codes ",") comma_is in
+    let cells = member_first (codes "cells") (plain_from (codes "cells") refl) (numbers_spell t.cells 0 words.0) law in
+    let whole = object_spells 1 cells in
+    subst (λ (x : List ℕ). Spells x (token_data t) 2) (sym (token_grouped t))
+    (subst (λ (ms : Members). Spells (codes "{" ++ token_members t) (object ms) 2) (token_put t.blob (numbers_data t.cells) (string (law_text t.law)) (number_data t.param) (number_data t.generation)) whole)
 
 -- ---- messages and their ends
 
@@ -133,83 +133,83 @@ message_grouped : (m : MsgSpec) → message_text m ≡ codes "{" ++ message_memb
 unfolding member_name
 message_grouped m = simp append_assoc
 
-pub message_tells : (m : MsgSpec) → HasWords (message_data m) → Tells (message_text m) (message_data m) 2
-message_tells m words =
-    let thread = item_more (number_tells m.origin.thread 0 words.0.1.0) (no_more_items true 0) (codes ",") comma_is in
-    let origin = array_tells 0 (item_first (number_tells m.origin.cpu.0 0 words.0.0) thread [] nothing_is) in
-    let round = member_more (codes "round") (plain_from (codes "round") refl) (number_tells m.round 1 words.1.0) (no_more_members true 1) (codes ",") comma_is in
-    subst (λ (x : List ℕ). Tells x (message_data m) 2) (sym (message_grouped m)) (object_tells 1 (member_first (codes "of") (plain_from (codes "of") refl) origin round))
+pub message_spells : (m : MsgSpec) → HasWords (message_data m) → Spells (message_text m) (message_data m) 2
+message_spells m words =
+    let thread = item_more (number_spells m.origin.thread 0 words.0.1.0) (no_more_items true 0) (codes ",") comma_is in
+    let origin = array_spells 0 (item_first (number_spells m.origin.cpu.0 0 words.0.0) thread [] nothing_is) in
+    let round = member_more (codes "round") (plain_from (codes "round") refl) (number_spells m.round 1 words.1.0) (no_more_members true 1) (codes ",") comma_is in
+    subst (λ (x : List ℕ). Spells x (message_data m) 2) (sym (message_grouped m)) (object_spells 1 (member_first (codes "of") (plain_from (codes "of") refl) origin round))
 
 -- numbers behind others, up to the closing bracket
-one_tells : (a : ℕ) → a < 2 ^ 64 → ItemsTell true (comma a ++ codes "]") (one_item (number_data a)) 1
-one_tells a h = item_more (number_tells a 1 h) (no_more_items true 1) (codes ",") comma_is
+one_spells : (a : ℕ) → a < 2 ^ 64 → ItemsSpell true (comma a ++ codes "]") (one_item (number_data a)) 1
+one_spells a h = item_more (number_spells a 1 h) (no_more_items true 1) (codes ",") comma_is
 
-two_tell : (a b : ℕ) → a < 2 ^ 64 → b < 2 ^ 64 → ItemsTell true (comma a ++ comma b ++ codes "]") (two_items (number_data a) (number_data b)) 1
-two_tell a b h i =
-    subst (λ (t : List ℕ). ItemsTell true t (two_items (number_data a) (number_data b)) 1) (sym (append_assoc (comma a) (comma b) (codes "]")))
-    (item_more (number_tells a 1 h) (one_tells b i) (codes ",") comma_is)
+two_spell : (a b : ℕ) → a < 2 ^ 64 → b < 2 ^ 64 → ItemsSpell true (comma a ++ comma b ++ codes "]") (two_items (number_data a) (number_data b)) 1
+two_spell a b h i =
+    subst (λ (t : List ℕ). ItemsSpell true t (two_items (number_data a) (number_data b)) 1) (sym (append_assoc (comma a) (comma b) (codes "]")))
+    (item_more (number_spells a 1 h) (one_spells b i) (codes ",") comma_is)
 
-three_tell : (a b c : ℕ) → a < 2 ^ 64 → b < 2 ^ 64 → c < 2 ^ 64 → ItemsTell true (comma a ++ comma b ++ comma c ++ codes "]") (three_items (number_data a) (number_data b) (number_data c)) 1
-three_tell a b c h i j =
-    subst (λ (t : List ℕ). ItemsTell true t (three_items (number_data a) (number_data b) (number_data c)) 1) (sym (left_parts (comma a) (comma b) (comma c) (codes "]")))
-    (item_more (number_tells a 1 h) (item_more (number_tells b 1 i) (one_tells c j) (codes ",") comma_is) (codes ",") comma_is)
+three_spell : (a b c : ℕ) → a < 2 ^ 64 → b < 2 ^ 64 → c < 2 ^ 64 → ItemsSpell true (comma a ++ comma b ++ comma c ++ codes "]") (three_items (number_data a) (number_data b) (number_data c)) 1
+three_spell a b c h i j =
+    subst (λ (t : List ℕ). ItemsSpell true t (three_items (number_data a) (number_data b) (number_data c)) 1) (sym (left_parts (comma a) (comma b) (comma c) (codes "]")))
+    (item_more (number_spells a 1 h) (item_more (number_spells b 1 i) (one_spells c j) (codes ",") comma_is) (codes ",") comma_is)
 
-record_tells : (tok : ℕ) (blob : List ℕ) → tok < 2 ^ 64 → ItemsTell true (comma tok ++ codes "," ++ blob_text blob ++ codes "]") (two_items (number_data tok) (blob_data blob)) 1
-record_tells tok blob h =
-    subst (λ (t : List ℕ). ItemsTell true t (two_items (number_data tok) (blob_data blob)) 1) (sym (left_parts (comma tok) (codes ",") (blob_text blob) (codes "]")))
-    (item_more (number_tells tok 1 h) (item_more (blob_tells blob 1) (no_more_items true 1) (codes ",") comma_is) (codes ",") comma_is)
+record_spells : (tok : ℕ) (blob : List ℕ) → tok < 2 ^ 64 → ItemsSpell true (comma tok ++ codes "," ++ blob_text blob ++ codes "]") (two_items (number_data tok) (blob_data blob)) 1
+record_spells tok blob h =
+    subst (λ (t : List ℕ). ItemsSpell true t (two_items (number_data tok) (blob_data blob)) 1) (sym (left_parts (comma tok) (codes ",") (blob_text blob) (codes "]")))
+    (item_more (number_spells tok 1 h) (item_more (blob_spells blob 1) (no_more_items true 1) (codes ",") comma_is) (codes ",") comma_is)
 
 abbrev end_items : List ℕ → List ℕ → List ℕ
 end_items word numbers = codes "[" ++ (in_quotes word ++ (numbers ++ codes "]"))
 
-worded : {ds : Items} (numbers word : List ℕ) → IsPlain word → ItemsTell true (numbers ++ codes "]") ds 1 → Tells (end_items word numbers) (array (item (string word) ds)) 2
-worded numbers word plain rest = array_tells 1 (item_first (string_tells word 1 plain) rest [] nothing_is)
+worded : {ds : Items} (numbers word : List ℕ) → IsPlain word → ItemsSpell true (numbers ++ codes "]") ds 1 → Spells (end_items word numbers) (array (item (string word) ds)) 2
+worded numbers word plain rest = array_spells 1 (item_first (string_spells word 1 plain) rest [] nothing_is)
 
-pub end_tells : (e : MsgEnd) → HasWords (end_data e.state e.round) → Tells (end_text e) (end_data e.state e.round) 2
-end_tells e words = place_tells e.state e.round words
+pub end_spells : (e : MsgEnd) → HasWords (end_data e.state e.round) → Spells (end_text e) (end_data e.state e.round) 2
+end_spells e words = place_spells e.state e.round words
   where
-    place_tells : (o : Owner) (round : ℕ) → HasWords (end_data o round) → Tells (owner_json o ++ comma round ++ codes "]") (end_data o round) 2
-    place_tells (Rest origin) round w = worded (comma origin.0 ++ comma round) (codes "rest") (plain_from (codes "rest") refl) (two_tell origin.0 round w.1.0 w.1.1.0)
-    place_tells (Out origin target) round w = worded (comma origin.0 ++ comma target.0 ++ comma round) (codes "out") (plain_from (codes "out") refl) (three_tell origin.0 target.0 round w.1.0 w.1.1.0 w.1.1.1.0)
-    place_tells (With origin target) round w = worded (comma origin.0 ++ comma target.0 ++ comma round) (codes "with") (plain_from (codes "with") refl) (three_tell origin.0 target.0 round w.1.0 w.1.1.0 w.1.1.1.0)
-    place_tells (Back origin target) round w = worded (comma origin.0 ++ comma target.0 ++ comma round) (codes "back") (plain_from (codes "back") refl) (three_tell origin.0 target.0 round w.1.0 w.1.1.0 w.1.1.1.0)
+    place_spells : (o : Owner) (round : ℕ) → HasWords (end_data o round) → Spells (owner_json o ++ comma round ++ codes "]") (end_data o round) 2
+    place_spells (Rest origin) round w = worded (comma origin.0 ++ comma round) (codes "rest") (plain_from (codes "rest") refl) (two_spell origin.0 round w.1.0 w.1.1.0)
+    place_spells (Out origin target) round w = worded (comma origin.0 ++ comma target.0 ++ comma round) (codes "out") (plain_from (codes "out") refl) (three_spell origin.0 target.0 round w.1.0 w.1.1.0 w.1.1.1.0)
+    place_spells (With origin target) round w = worded (comma origin.0 ++ comma target.0 ++ comma round) (codes "with") (plain_from (codes "with") refl) (three_spell origin.0 target.0 round w.1.0 w.1.1.0 w.1.1.1.0)
+    place_spells (Back origin target) round w = worded (comma origin.0 ++ comma target.0 ++ comma round) (codes "back") (plain_from (codes "back") refl) (three_spell origin.0 target.0 round w.1.0 w.1.1.0 w.1.1.1.0)
 
 -- ---- events
 
-rest_tells : (e : Event) → ItemsHaveWords (rest_data e) → ItemsTell true (rest_text e ++ codes "]") (rest_data e) 1
-rest_tells (Load cpu tok) w = one_tells tok.0 w.0
-rest_tells (Take cpu tok) w = one_tells tok.0 w.0
-rest_tells (Share cpu tok) w = one_tells tok.0 w.0
-rest_tells (Again cpu tok) w = one_tells tok.0 w.0
-rest_tells (Mark cpu tok) w = one_tells tok.0 w.0
-rest_tells (GiveOne cpu tok) w = one_tells tok.0 w.0
-rest_tells (GiveClean cpu tok) w = one_tells tok.0 w.0
-rest_tells (GiveWritten cpu tok section) w = one_tells tok.0 w.0
-rest_tells (Read cpu tok cell value) w = three_tell tok.0 cell value w.0 w.1.0 w.1.1.0
-rest_tells (Write cpu tok cell value) w = three_tell tok.0 cell value w.0 w.1.0 w.1.1.0
-rest_tells (ReadBlob cpu tok blob) w = record_tells tok.0 blob w.0
-rest_tells (WriteBlob cpu tok blob) w = record_tells tok.0 blob w.0
-rest_tells (Send cpu msg to round) w = three_tell msg.0 to.0 round w.0 w.1.0 w.1.1.0
-rest_tells (TakeMsg cpu msg round) w = two_tell msg.0 round w.0 w.1.0
-rest_tells (DropMsg cpu msg) w = one_tells msg.0 w.0
-rest_tells (Reply cpu msg) w = one_tells msg.0 w.0
-rest_tells (Reap cpu msg) w = one_tells msg.0 w.0
-rest_tells (Abort cpu msg) w = one_tells msg.0 w.0
+rest_spells : (e : Event) → ItemsHaveWords (rest_data e) → ItemsSpell true (rest_text e ++ codes "]") (rest_data e) 1
+rest_spells (Load cpu tok) w = one_spells tok.0 w.0
+rest_spells (Take cpu tok) w = one_spells tok.0 w.0
+rest_spells (Share cpu tok) w = one_spells tok.0 w.0
+rest_spells (Again cpu tok) w = one_spells tok.0 w.0
+rest_spells (Mark cpu tok) w = one_spells tok.0 w.0
+rest_spells (GiveOne cpu tok) w = one_spells tok.0 w.0
+rest_spells (GiveClean cpu tok) w = one_spells tok.0 w.0
+rest_spells (GiveWritten cpu tok section) w = one_spells tok.0 w.0
+rest_spells (Read cpu tok cell value) w = three_spell tok.0 cell value w.0 w.1.0 w.1.1.0
+rest_spells (Write cpu tok cell value) w = three_spell tok.0 cell value w.0 w.1.0 w.1.1.0
+rest_spells (ReadBlob cpu tok blob) w = record_spells tok.0 blob w.0
+rest_spells (WriteBlob cpu tok blob) w = record_spells tok.0 blob w.0
+rest_spells (Send cpu msg to round) w = three_spell msg.0 to.0 round w.0 w.1.0 w.1.1.0
+rest_spells (TakeMsg cpu msg round) w = two_spell msg.0 round w.0 w.1.0
+rest_spells (DropMsg cpu msg) w = one_spells msg.0 w.0
+rest_spells (Reply cpu msg) w = one_spells msg.0 w.0
+rest_spells (Reap cpu msg) w = one_spells msg.0 w.0
+rest_spells (Abort cpu msg) w = one_spells msg.0 w.0
 
 event_grouped : (word cpu rest : List ℕ) → codes "[" ++ (in_quotes word ++ (codes "," ++ (cpu ++ (rest ++ codes "]")))) ≡ codes "[\"" ++ word ++ codes "\"," ++ cpu ++ rest ++ codes "]"
 event_grouped word cpu rest = simp append_assoc
 
-pub event_tells : (e : Event) → HasWords (event_data e) → Tells (event_text e) (event_data e) 2
-event_tells e words =
-    subst (λ (t : List ℕ). Tells t (event_data e) 2) (event_grouped (word_of_event e) (decimal (cpu_of e)) (rest_text e))
-    (array_tells 1 (item_first (string_tells (word_of_event e) 1 (word_plain e)) (item_more (number_tells (cpu_of e) 1 words.1.0) (rest_tells e words.1.1) (codes ",") comma_is) [] nothing_is))
+pub event_spells : (e : Event) → HasWords (event_data e) → Spells (event_text e) (event_data e) 2
+event_spells e words =
+    subst (λ (t : List ℕ). Spells t (event_data e) 2) (event_grouped (word_of_event e) (decimal (cpu_of e)) (rest_text e))
+    (array_spells 1 (item_first (string_spells (word_of_event e) 1 (word_plain e)) (item_more (number_spells (cpu_of e) 1 words.1.0) (rest_spells e words.1.1) (codes ",") comma_is) [] nothing_is))
 
 -- ---- closing values of a token
 
-pub tallies_tell : (tallies : Option (List ℕ)) → HasWords (tallies_data tallies) → Tells (tallies_text tallies) (tallies_data tallies) 2
-tallies_tell None words = array_tells 1 (no_more_items false 1)
-tallies_tell (Some tallies) words = numbers_tell tallies 1 words
+pub tallies_spell : (tallies : Option (List ℕ)) → HasWords (tallies_data tallies) → Spells (tallies_text tallies) (tallies_data tallies) 2
+tallies_spell None words = array_spells 1 (no_more_items false 1)
+tallies_spell (Some tallies) words = numbers_spell tallies 1 words
 
-pub last_blob_tells : (blob : Option (List ℕ)) → Tells (last_blob_text blob) (last_blob_data blob) 2
-last_blob_tells None = null_tells 2
-last_blob_tells (Some blob) = blob_tells blob 2
+pub last_blob_spells : (blob : Option (List ℕ)) → Spells (last_blob_text blob) (last_blob_data blob) 2
+last_blob_spells None = null_spells 2
+last_blob_spells (Some blob) = blob_spells blob 2

@@ -1,6 +1,6 @@
 -- A whole trace is read as it is written.
 use Rattle.std.proofs.Common.{ℕ, suc, List, [], ◌∷◌, All, refl, arith, le-leb}
-use Rattle.lwkt_base.specs.declared.openings.MsgSpec.{MsgSpec}
+use Rattle.lwkt_base.specs.declared.opening_specs.MsgSpec.{MsgSpec}
 use Rattle.lwkt_script.specs.Limits.{IsMessage}
 use Rattle.lwkt_trace.specs.Format.{trace}
 use Rattle.lwkt_trace.specs.Readback.{AreMessages}
@@ -22,6 +22,6 @@ trace_read_back script events c is =
       le-leb script.cpus 8 is.limits.few_cpus,
       tokens_read_back script.tokens is.limits.tokens is.typed is.limits.few_tokens,
       messages_read_back script.cpus script.messages (messages_are script.cpus script.messages is.limits.messages) is.limits.few_messages,
-      lists_read_back events is.tellable is.few_events,
+      lists_read_back events is.writable is.few_events,
       closing_read_back c is.closed,
     ) refl

@@ -18,9 +18,9 @@ use Rattle.lwkt_trace.specs.Readback.{number_data, items_as, event_data, events_
 use Rattle.lwkt_trace.specs.Values.{token_data, row_data, generation_data, tally_data, record_data, closing_data, last_data, trace_data}
 use Rattle.lwkt_trace.specs.Printed.{HasWords, ItemsHaveWords, TextIsOfValue, WrittenIsReadBack}
 use Rattle.lwkt_trace.proofs.ClosingValues.{closing_by}
-use Rattle.lwkt_trace.proofs.JsonTexts.{deeper, plain_from, ascii_from, Tells, number_tells, null_tells, comma_is, line_is, array_tells, MembersTell, no_more_members, member_first, member_more, object_tells, comma_breaks, line_breaks, parts_tell}
+use Rattle.lwkt_trace.proofs.JsonTexts.{deeper, plain_from, ascii_from, Spells, number_spells, null_spells, comma_is, line_is, array_spells, MembersSpell, no_more_members, member_first, member_more, object_spells, comma_breaks, line_breaks, parts_spell}
 use Rattle.lwkt_trace.proofs.Lexemes.{text_is}
-use Rattle.lwkt_trace.proofs.PartTexts.{numbers_tell, token_tells, message_tells, end_tells, event_tells, tallies_tell, last_blob_tells}
+use Rattle.lwkt_trace.proofs.PartTexts.{numbers_spell, token_spells, message_spells, end_spells, event_spells, tallies_spell, last_blob_spells}
 use Rattle.lwkt_trace.proofs.TraceTexts.{text_read}
 use Rattle.lwkt_trace.proofs.WholeTraces.{trace_read_back}
 
@@ -30,20 +30,20 @@ listed before text xs = codes "[" ++ (parted before text 0 xs ++ codes "]")
 
 -- ---- the closing values
 
-rows_tell : (lines : List TokenLine) → ItemsHaveWords (items_as row_data lines) → Tells (listed comma_at row_text lines) (array (items_as row_data lines)) 3
-rows_tell lines words = array_tells 2 (parts_tell comma_at comma_breaks row_text row_data 2 (λ line w. numbers_tell line.cells 1 w) lines words)
+rows_spell : (lines : List TokenLine) → ItemsHaveWords (items_as row_data lines) → Spells (listed comma_at row_text lines) (array (items_as row_data lines)) 3
+rows_spell lines words = array_spells 2 (parts_spell comma_at comma_breaks row_text row_data 2 (λ line w. numbers_spell line.cells 1 w) lines words)
 
-generations_tell : (lines : List TokenLine) → ItemsHaveWords (items_as generation_data lines) → Tells (listed comma_at generation_text lines) (array (items_as generation_data lines)) 3
-generations_tell lines words = array_tells 2 (parts_tell comma_at comma_breaks generation_text generation_data 2 (λ line w. number_tells line.generation 2 w) lines words)
+generations_spell : (lines : List TokenLine) → ItemsHaveWords (items_as generation_data lines) → Spells (listed comma_at generation_text lines) (array (items_as generation_data lines)) 3
+generations_spell lines words = array_spells 2 (parts_spell comma_at comma_breaks generation_text generation_data 2 (λ line w. number_spells line.generation 2 w) lines words)
 
-tallies_of_all_tell : (lines : List TokenLine) → ItemsHaveWords (items_as tally_data lines) → Tells (listed comma_at tally_text lines) (array (items_as tally_data lines)) 3
-tallies_of_all_tell lines words = array_tells 2 (parts_tell comma_at comma_breaks tally_text tally_data 2 (λ line w. tallies_tell line.tallies w) lines words)
+tallies_of_all_spell : (lines : List TokenLine) → ItemsHaveWords (items_as tally_data lines) → Spells (listed comma_at tally_text lines) (array (items_as tally_data lines)) 3
+tallies_of_all_spell lines words = array_spells 2 (parts_spell comma_at comma_breaks tally_text tally_data 2 (λ line w. tallies_spell line.tallies w) lines words)
 
-records_tell : (lines : List TokenLine) → ItemsHaveWords (items_as record_data lines) → Tells (listed comma_at last_record_text lines) (array (items_as record_data lines)) 3
-records_tell lines words = array_tells 2 (parts_tell comma_at comma_breaks last_record_text record_data 2 (λ line w. last_blob_tells line.blob) lines words)
+records_spell : (lines : List TokenLine) → ItemsHaveWords (items_as record_data lines) → Spells (listed comma_at last_record_text lines) (array (items_as record_data lines)) 3
+records_spell lines words = array_spells 2 (parts_spell comma_at comma_breaks last_record_text record_data 2 (λ line w. last_blob_spells line.blob) lines words)
 
-ends_tell : (ends : List MsgEnd) → ItemsHaveWords (ends_data ends) → Tells (listed line_at end_text ends) (array (ends_data ends)) 3
-ends_tell ends words = array_tells 2 (parts_tell line_at line_breaks end_text (λ e. end_data e.state e.round) 2 end_tells ends words)
+ends_spell : (ends : List MsgEnd) → ItemsHaveWords (ends_data ends) → Spells (listed line_at end_text ends) (array (ends_data ends)) 3
+ends_spell ends words = array_spells 2 (parts_spell line_at line_breaks end_text (λ e. end_data e.state e.round) 2 end_spells ends words)
 
 -- the records and the ends of messages, up to the closing brace
 abbrev behind_text : Bool → List TokenLine → List MsgEnd → List ℕ
@@ -56,13 +56,13 @@ abbrev behind_puts : Bool → List TokenLine → List MsgEnd → Members → Mem
 behind_puts true lines ends found = put (codes "messages") (array (ends_data ends)) (put (codes "records") (array (items_as record_data lines)) found)
 behind_puts false lines ends found = put (codes "messages") (array (ends_data ends)) found
 
-last_member : (ends : List MsgEnd) → ItemsHaveWords (ends_data ends) → MembersTell true (behind_text false [] ends) (λ found. put (codes "messages") (array (ends_data ends)) found) 3
-last_member ends words = member_more (codes "messages") (plain_from (codes "messages") refl) (ends_tell ends words) (no_more_members true 3) (codes ",\n") line_is
+last_member : (ends : List MsgEnd) → ItemsHaveWords (ends_data ends) → MembersSpell true (behind_text false [] ends) (λ found. put (codes "messages") (array (ends_data ends)) found) 3
+last_member ends words = member_more (codes "messages") (plain_from (codes "messages") refl) (ends_spell ends words) (no_more_members true 3) (codes ",\n") line_is
 
-behind_tells : (recorded : Bool) (lines : List TokenLine) (ends : List MsgEnd) → HasWords (closing_by recorded lines ends) → MembersTell true (behind_text recorded lines ends) (λ found. behind_puts recorded lines ends found) 3
-behind_tells true lines ends words =
-    member_more (codes "records") (plain_from (codes "records") refl) (records_tell lines words.1.1.0) (last_member ends words.1.0) (codes ",\n") line_is
-behind_tells false lines ends words = last_member ends words.1.0
+behind_spells : (recorded : Bool) (lines : List TokenLine) (ends : List MsgEnd) → HasWords (closing_by recorded lines ends) → MembersSpell true (behind_text recorded lines ends) (λ found. behind_puts recorded lines ends found) 3
+behind_spells true lines ends words =
+    member_more (codes "records") (plain_from (codes "records") refl) (records_spell lines words.1.1.0) (last_member ends words.1.0) (codes ",\n") line_is
+behind_spells false lines ends words = last_member ends words.1.0
 
 -- the words of the rows and the tallies
 rows_words : (recorded : Bool) (lines : List TokenLine) (ends : List MsgEnd) → HasWords (closing_by recorded lines ends) → ItemsHaveWords (items_as row_data lines) × ItemsHaveWords (items_as tally_data lines)
@@ -81,13 +81,13 @@ closing_put : (recorded : Bool) (lines : List TokenLine) (ends : List MsgEnd)
 closing_put true lines ends = refl
 closing_put false lines ends = refl
 
-closing_tells_by : (recorded : Bool) (lines : List TokenLine) (ends : List MsgEnd) → HasWords (closing_by recorded lines ends) → Tells (codes "{" ++ closing_members recorded lines ends) (closing_by recorded lines ends) 4
-closing_tells_by recorded lines ends words =
+closing_spells_by : (recorded : Bool) (lines : List TokenLine) (ends : List MsgEnd) → HasWords (closing_by recorded lines ends) → Spells (codes "{" ++ closing_members recorded lines ends) (closing_by recorded lines ends) 4
+closing_spells_by recorded lines ends words =
     let others = rows_words recorded lines ends words in
-    let tallies = member_more (codes "tallies") (plain_from (codes "tallies") refl) (tallies_of_all_tell lines others.1) (behind_tells recorded lines ends words) (codes ",\n") line_is in
-    let gens = member_more (codes "gens") (plain_from (codes "gens") refl) (generations_tell lines words.0) tallies (codes ",\n") line_is in
-    let rows = member_first (codes "rows") (plain_from (codes "rows") refl) (rows_tell lines others.0) gens in
-    subst (λ (d : Data). Tells (codes "{" ++ closing_members recorded lines ends) d 4) (closing_put recorded lines ends) (object_tells 3 rows)
+    let tallies = member_more (codes "tallies") (plain_from (codes "tallies") refl) (tallies_of_all_spell lines others.1) (behind_spells recorded lines ends words) (codes ",\n") line_is in
+    let gens = member_more (codes "gens") (plain_from (codes "gens") refl) (generations_spell lines words.0) tallies (codes ",\n") line_is in
+    let rows = member_first (codes "rows") (plain_from (codes "rows") refl) (rows_spell lines others.0) gens in
+    subst (λ (d : Data). Spells (codes "{" ++ closing_members recorded lines ends) d 4) (closing_put recorded lines ends) (object_spells 3 rows)
 
 -- the same text as it is written
 abbrev closing_inside : Bool → List TokenLine → List MsgEnd → List ℕ
@@ -99,19 +99,19 @@ unfolding rows_text generations_text all_tallies_text listed_text ends_text
 closing_grouped true lines ends = simp append_assoc
 closing_grouped false lines ends = simp append_assoc
 
-closing_tells : (c : report.Closing) → HasWords (closing_data c) → Tells (closing_inside (list_any has_record c.tokens.items) c.tokens.items c.messages.items) (closing_data c) 4
-closing_tells c words =
+closing_spells : (c : report.Closing) → HasWords (closing_data c) → Spells (closing_inside (list_any has_record c.tokens.items) c.tokens.items c.messages.items) (closing_data c) 4
+closing_spells c words =
     let recorded : Bool = list_any has_record c.tokens.items in
-    subst (λ (t : List ℕ). Tells t (closing_data c) 4) (sym (closing_grouped recorded c.tokens.items c.messages.items)) (closing_tells_by recorded c.tokens.items c.messages.items words)
+    subst (λ (t : List ℕ). Spells t (closing_data c) 4) (sym (closing_grouped recorded c.tokens.items c.messages.items)) (closing_spells_by recorded c.tokens.items c.messages.items words)
 
 -- the closing values as they are written, or null
 abbrev pub last_inside : Option report.Closing → List ℕ
 last_inside None = codes "null"
 last_inside (Some c) = closing_inside (list_any has_record c.tokens.items) c.tokens.items c.messages.items
 
-last_tells : (last : Option report.Closing) → HasWords (last_data last) → Tells (last_inside last) (last_data last) 4
-last_tells None words = null_tells 4
-last_tells (Some c) words = closing_tells c words
+last_spells : (last : Option report.Closing) → HasWords (last_data last) → Spells (last_inside last) (last_data last) 4
+last_spells None words = null_spells 4
+last_spells (Some c) words = closing_spells c words
 
 -- ---- the whole trace
 
@@ -134,19 +134,19 @@ trace_members script events last =
     member_name (codes "events") ++ (listed line_at event_text events ++ (codes ",\n" ++ (
     member_name (codes "last") ++ (last ++ codes "}"))))))))))))))))
 
-trace_tells : (script : Script) (events : List Event) (text : List ℕ) (last : Data) → Tells text last 4 → HasWords (data_with script events last) → Tells (codes "{" ++ trace_members script events text) (data_with script events last) 5
-trace_tells script events text last tells words =
+trace_spells : (script : Script) (events : List Event) (text : List ℕ) (last : Data) → Spells text last 4 → HasWords (data_with script events last) → Spells (codes "{" ++ trace_members script events text) (data_with script events last) 5
+trace_spells script events text last spells words =
     let four : 3 ≤ 4 = omega arith in
     let one : 1 < 2 ^ 64 = omega arith in
-    let event_list = deeper 4 four (array_tells 2 (parts_tell line_at line_breaks event_text event_data 2 event_tells events words.1.0)) in
-    let message_list = deeper 4 four (array_tells 2 (parts_tell line_at line_breaks message_text message_data 2 message_tells script.messages words.1.1.1.0)) in
-    let token_list = deeper 4 four (array_tells 2 (parts_tell line_at line_breaks token_text token_data 2 token_tells script.tokens words.1.1.1.1.0)) in
-    let last_member = member_more (codes "last") (plain_from (codes "last") refl) tells (no_more_members true 4) (codes ",\n") line_is in
+    let event_list = deeper 4 four (array_spells 2 (parts_spell line_at line_breaks event_text event_data 2 event_spells events words.1.0)) in
+    let message_list = deeper 4 four (array_spells 2 (parts_spell line_at line_breaks message_text message_data 2 message_spells script.messages words.1.1.1.0)) in
+    let token_list = deeper 4 four (array_spells 2 (parts_spell line_at line_breaks token_text token_data 2 token_spells script.tokens words.1.1.1.1.0)) in
+    let last_member = member_more (codes "last") (plain_from (codes "last") refl) spells (no_more_members true 4) (codes ",\n") line_is in
     let event_member = member_more (codes "events") (plain_from (codes "events") refl) event_list last_member (codes ",\n") line_is in
     let message_member = member_more (codes "messages") (plain_from (codes "messages") refl) message_list event_member (codes ",\n") line_is in
     let token_member = member_more (codes "tokens") (plain_from (codes "tokens") refl) token_list message_member (codes ",\n") line_is in
-    let cpus = member_more (codes "cpus") (plain_from (codes "cpus") refl) (number_tells script.cpus 4 words.0) token_member (codes ",") comma_is in
-    object_tells 4 (member_first (codes "version") (plain_from (codes "version") refl) (number_tells 1 4 one) cpus)
+    let cpus = member_more (codes "cpus") (plain_from (codes "cpus") refl) (number_spells script.cpus 4 words.0) token_member (codes ",") comma_is in
+    object_spells 4 (member_first (codes "version") (plain_from (codes "version") refl) (number_spells 1 4 one) cpus)
 
 one_digit : decimal 1 ≡ codes "1"
 one_digit = decimal_digit 1 (omega arith)
@@ -169,7 +169,7 @@ unfolding trace_text front_text back_text events_text
 whole_text script events c =
     grouped (codes "{" ++ cpus_text script.cpus ++ tokens_text script.tokens ++ messages_text script.messages) (member_name (codes "events")) (codes "[") (parted line_at event_text 0 events) (codes "],\n") (closing_text c) (codes "}\n")
 
-text_ends : (text : List ℕ) (d : Data) → Tells text d 5 → read (text ++ codes "\n") ≡ Some d
+text_ends : (text : List ℕ) (d : Data) → Spells text d 5 → read (text ++ codes "\n") ≡ Some d
 unfolding lex
 text_ends text d is =
     let shallow = is.shallow in text_is (text ++ codes "\n") is.value d (is.reads (codes "\n") refl) (omega (arith, shallow)) is.is
@@ -177,13 +177,13 @@ text_ends text d is =
 pub text_is_of_value : TextIsOfValue
 text_is_of_value script events c words =
     ap read (whole_text script events c ∙ framed_grouped script events (Some c))
-    ∙ text_ends (codes "{" ++ trace_members script events (last_inside (Some c))) (trace_data script events c) (trace_tells script events (last_inside (Some c)) (closing_data c) (last_tells (Some c) words.1.1.0) words)
+    ∙ text_ends (codes "{" ++ trace_members script events (last_inside (Some c))) (trace_data script events c) (trace_spells script events (last_inside (Some c)) (closing_data c) (last_spells (Some c) words.1.1.0) words)
 
 -- at most 268435456 bytes that a trace is written as are read as their value is
 pub framed_read : (script : Script) (events : List Event) (last : Option report.Closing) → HasWords (data_with script events (last_data last)) → length (framed script events last) ≤ 268435456
     → trace_of (framed script events last) ≡ trace (data_with script events (last_data last))
 framed_read script events last words short =
-    let inside = trace_tells script events (last_inside last) (last_data last) (last_tells last words.1.1.0) words in
+    let inside = trace_spells script events (last_inside last) (last_data last) (last_spells last words.1.1.0) words in
     let text : List ℕ = codes "{" ++ trace_members script events (last_inside last) in
     let same = framed_grouped script events last in
     let ascii : IsAscii (text ++ codes "\n") = IsAscii-append text (codes "\n") inside.ascii (ascii_from (codes "\n") refl) in

@@ -4,13 +4,13 @@ use Rattle.std.specs.Str.{is_utf8}
 use Rattle.serde_json.specs.Data.{Data}
 use Rattle.serde_json.specs.Find.{get, as_null, as_array}
 use Rattle.serde_json.specs.Read.{read}
-use Rattle.lwkt_base.specs.declared.openings.MsgSpec.{MsgSpec}
+use Rattle.lwkt_base.specs.declared.opening_specs.MsgSpec.{MsgSpec}
 use Rattle.lwkt_base.specs.declared.owners.MsgEnd.{MsgEnd}
 use Rattle.lwkt_script.specs.Field.{has_members, number_in, list_in}
 use Rattle.lwkt_script.specs.Format.{cell, message_at}
 use Rattle.lwkt_script.specs.Outcome.{◌>>=◌, ◌>>◌, part, demand, each}
 use Rattle.lwkt_trace.specs.declared.traces.Closing.{Closing}
-use Rattle.lwkt_trace.specs.declared.traces.Told.{Told}
+use Rattle.lwkt_trace.specs.declared.traces.Stated.{Stated}
 use Rattle.lwkt_trace.specs.declared.traces.Trace.{Trace}
 use Rattle.lwkt_script.specs.Record.{guard_in}
 use Rattle.lwkt_trace.specs.Guard.{guarded}
@@ -23,7 +23,7 @@ message_behind cpus before d = do
   message_at cpus (2000 + length before) d
 
 -- the event after those, of which there are at most 50000000
-abbrev pub event : List Told → Data → Result Told ℕ
+abbrev pub event : List Stated → Data → Result Stated ℕ
 event before d = do
   demand 51000000 (nat_lt (length before) 50000000)
   part (1000000 + length before) (event_of d)

@@ -2,7 +2,7 @@
 use Rattle.std.specs.Prelude.{ℕ, List, codes, is_some, if◌then◌else◌, Result}
 use Rattle.serde_json.specs.Data.{Data}
 use Rattle.serde_json.specs.Find.{get}
-use Rattle.lwkt_base.specs.declared.openings.TokSpec.{TokSpec}
+use Rattle.lwkt_base.specs.declared.opening_specs.TokSpec.{TokSpec}
 use Rattle.lwkt_script.specs.declared.versions.Version.{Version}
 use Rattle.lwkt_script.specs.declared.versions.Version.TheVariants.{First, Second}
 use Rattle.lwkt_script.specs.Format.{token}

@@ -6,7 +6,7 @@ use Rattle.lwkt_core.specs.declared.events.Event.{Event}
 use Rattle.lwkt_report.specs.declared.closings.Closing as report
 use Rattle.lwkt_script.specs.declared.scripts.Script.{Script}
 use Rattle.lwkt_trace.specs.Format.{trace_of}
-use Rattle.lwkt_trace.specs.Values.{trace_data, told_trace, IsTellableTrace}
+use Rattle.lwkt_trace.specs.Values.{trace_data, stated_trace, IsWritableTrace}
 use Rattle.lwkt_trace.specs.Written.{trace_text}
 
 -- a whole number of 64 bits
@@ -41,5 +41,5 @@ TextIsOfValue =
 -- a law: at most 268435456 bytes that a trace is written as are read as this trace
 abbrev pub WrittenIsReadBack : Type 0
 WrittenIsReadBack =
-    (script : Script) (events : List Event) (c : report.Closing) → IsTellableTrace script events c → HasWords (trace_data script events c)
-    → length (trace_text script events c) ≤ 268435456 → trace_of (trace_text script events c) ≡ Ok (told_trace script events c)
+    (script : Script) (events : List Event) (c : report.Closing) → IsWritableTrace script events c → HasWords (trace_data script events c)
+    → length (trace_text script events c) ≤ 268435456 → trace_of (trace_text script events c) ≡ Ok (stated_trace script events c)

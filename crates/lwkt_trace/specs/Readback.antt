@@ -3,7 +3,7 @@ use Rattle.std.specs.Prelude.{◌≡◌, ℕ, ◌<◌, ◌≤◌, List, [], ◌�
 use Rattle.serde_json.specs.Data.{Data, number, unsigned, string, array, object, Items, no_items, item, no_members, member}
 use Rattle.lwkt_base.specs.Blob.{kept_of}
 use Rattle.lwkt_base.specs.Hex.{hex_text}
-use Rattle.lwkt_base.specs.declared.openings.MsgSpec.{MsgSpec}
+use Rattle.lwkt_base.specs.declared.opening_specs.MsgSpec.{MsgSpec}
 use Rattle.lwkt_base.specs.declared.owners.Owner.{Owner}
 use Rattle.lwkt_base.specs.declared.owners.Owner.TheVariants.{Rest, Out, With, Back}
 use Rattle.lwkt_base.specs.declared.owners.MsgEnd.{MsgEnd}
@@ -15,8 +15,8 @@ use Rattle.lwkt_script.specs.Outcome.{each}
 use Rattle.lwkt_trace.specs.Format.{event, end, message_behind}
 use Rattle.lwkt_trace.specs.Words.{event_of}
 use Rattle.lwkt_trace.specs.Written.{word_of_event, past_text}
-use Rattle.lwkt_trace.specs.declared.traces.Told.{Told}
-use Rattle.lwkt_trace.specs.declared.traces.Told.TheVariants.{Whole, Given}
+use Rattle.lwkt_trace.specs.declared.traces.Stated.{Stated}
+use Rattle.lwkt_trace.specs.declared.traces.Stated.TheVariants.{Whole, Given}
 
 -- a whole number, and a record by its digits
 abbrev pub number_data : ℕ → Data
@@ -65,10 +65,10 @@ rest_data (Abort cpu msg) = one_item (number_data msg.0)
 abbrev pub event_data : Event → Data
 event_data e = array (item (string (word_of_event e)) (item (number_data (cpu_of e)) (rest_data e)))
 
--- an event as it is told where no section is
-abbrev pub told_alone : Event → Told
-told_alone (GiveWritten cpu tok section) = Given cpu tok
-told_alone e = Whole e
+-- an event as it is stated where no section is
+abbrev pub stated_alone : Event → Stated
+stated_alone (GiveWritten cpu tok section) = Given cpu tok
+stated_alone e = Whole e
 
 -- numbers of 8 bits
 abbrev pub AreBytes : List ℕ → Type 0
@@ -76,7 +76,7 @@ AreBytes [] = Unit {0}
 AreBytes (b ∷ bs) = (b < 256) × AreBytes bs
 
 -- a record of at most 64 bytes, or one of 65, which is too long for every token and keeps 64
-pub record IsToldBlob (blob : List ℕ) : Type 0 where
+pub record IsStatedBlob (blob : List ℕ) : Type 0 where
   pub short : length blob ≤ 65
   pub bytes : AreBytes blob
   pub kept : kept_of blob ≡ blob
@@ -86,41 +86,41 @@ abbrev pub AreSmall : ℕ → ℕ → Type 0
 AreSmall cpu place = (cpu ≤ 255) × (place ≤ 255)
 
 -- an event whose parts are of their types
-abbrev pub IsTellable : Event → Type 0
-IsTellable (Load cpu tok) = AreSmall cpu.0 tok.0
-IsTellable (Take cpu tok) = AreSmall cpu.0 tok.0
-IsTellable (Share cpu tok) = AreSmall cpu.0 tok.0
-IsTellable (Again cpu tok) = AreSmall cpu.0 tok.0
-IsTellable (Mark cpu tok) = AreSmall cpu.0 tok.0
-IsTellable (GiveOne cpu tok) = AreSmall cpu.0 tok.0
-IsTellable (GiveClean cpu tok) = AreSmall cpu.0 tok.0
-IsTellable (GiveWritten cpu tok section) = AreSmall cpu.0 tok.0
-IsTellable (Read cpu tok cell value) = AreSmall cpu.0 tok.0 × (cell ≤ 255)
-IsTellable (Write cpu tok cell value) = AreSmall cpu.0 tok.0 × (cell ≤ 255)
-IsTellable (ReadBlob cpu tok blob) = AreSmall cpu.0 tok.0 × IsToldBlob blob
-IsTellable (WriteBlob cpu tok blob) = AreSmall cpu.0 tok.0 × IsToldBlob blob
-IsTellable (Send cpu msg to round) = AreSmall cpu.0 msg.0 × (to.0 ≤ 255)
-IsTellable (TakeMsg cpu msg round) = AreSmall cpu.0 msg.0
-IsTellable (DropMsg cpu msg) = AreSmall cpu.0 msg.0
-IsTellable (Reply cpu msg) = AreSmall cpu.0 msg.0
-IsTellable (Reap cpu msg) = AreSmall cpu.0 msg.0
-IsTellable (Abort cpu msg) = AreSmall cpu.0 msg.0
+abbrev pub IsWritable : Event → Type 0
+IsWritable (Load cpu tok) = AreSmall cpu.0 tok.0
+IsWritable (Take cpu tok) = AreSmall cpu.0 tok.0
+IsWritable (Share cpu tok) = AreSmall cpu.0 tok.0
+IsWritable (Again cpu tok) = AreSmall cpu.0 tok.0
+IsWritable (Mark cpu tok) = AreSmall cpu.0 tok.0
+IsWritable (GiveOne cpu tok) = AreSmall cpu.0 tok.0
+IsWritable (GiveClean cpu tok) = AreSmall cpu.0 tok.0
+IsWritable (GiveWritten cpu tok section) = AreSmall cpu.0 tok.0
+IsWritable (Read cpu tok cell value) = AreSmall cpu.0 tok.0 × (cell ≤ 255)
+IsWritable (Write cpu tok cell value) = AreSmall cpu.0 tok.0 × (cell ≤ 255)
+IsWritable (ReadBlob cpu tok blob) = AreSmall cpu.0 tok.0 × IsStatedBlob blob
+IsWritable (WriteBlob cpu tok blob) = AreSmall cpu.0 tok.0 × IsStatedBlob blob
+IsWritable (Send cpu msg to round) = AreSmall cpu.0 msg.0 × (to.0 ≤ 255)
+IsWritable (TakeMsg cpu msg round) = AreSmall cpu.0 msg.0
+IsWritable (DropMsg cpu msg) = AreSmall cpu.0 msg.0
+IsWritable (Reply cpu msg) = AreSmall cpu.0 msg.0
+IsWritable (Reap cpu msg) = AreSmall cpu.0 msg.0
+IsWritable (Abort cpu msg) = AreSmall cpu.0 msg.0
 
 -- events as a list
 abbrev pub events_data : List Event → Items
 events_data es = items_as event_data es
 
-abbrev pub AreTellable : List Event → Type 0
-AreTellable [] = Unit {0}
-AreTellable (e ∷ es) = IsTellable e × AreTellable es
+abbrev pub AreWritable : List Event → Type 0
+AreWritable [] = Unit {0}
+AreWritable (e ∷ es) = IsWritable e × AreWritable es
 
 -- a law: the list that an event is written as is read as this event
 abbrev pub EventsAreReadBack : Type 0
-EventsAreReadBack = (e : Event) → IsTellable e → event_of (event_data e) ≡ Some (told_alone e)
+EventsAreReadBack = (e : Event) → IsWritable e → event_of (event_data e) ≡ Some (stated_alone e)
 
 -- a law: the list of the lists that events are written as is read as these events, where a trace may have so many
 abbrev pub EventListsAreReadBack : Type 0
-EventListsAreReadBack = (es : List Event) → AreTellable es → length es ≤ 50000000 → each event [] (events_data es) ≡ Ok (map told_alone es)
+EventListsAreReadBack = (es : List Event) → AreWritable es → length es ≤ 50000000 → each event [] (events_data es) ≡ Ok (map stated_alone es)
 
 -- where a message is, as a list: a word, its processors and its round
 abbrev pub end_data : Owner → ℕ → Data
@@ -130,23 +130,23 @@ end_data (With origin target) round = array (item (string (codes "with")) (three
 end_data (Back origin target) round = array (item (string (codes "back")) (three_items (number_data origin.0) (number_data target.0) (number_data round)))
 
 -- the processors have numbers of 8 bits
-abbrev pub IsTellablePlace : Owner → Type 0
-IsTellablePlace (Rest origin) = origin.0 ≤ 255
-IsTellablePlace (Out origin target) = AreSmall origin.0 target.0
-IsTellablePlace (With origin target) = AreSmall origin.0 target.0
-IsTellablePlace (Back origin target) = AreSmall origin.0 target.0
+abbrev pub IsWritablePlace : Owner → Type 0
+IsWritablePlace (Rest origin) = origin.0 ≤ 255
+IsWritablePlace (Out origin target) = AreSmall origin.0 target.0
+IsWritablePlace (With origin target) = AreSmall origin.0 target.0
+IsWritablePlace (Back origin target) = AreSmall origin.0 target.0
 
 -- ends of messages as a list
 abbrev pub ends_data : List MsgEnd → Items
 ends_data es = items_as (λ e. end_data e.state e.round) es
 
-abbrev pub AreTellableEnds : List MsgEnd → Type 0
-AreTellableEnds [] = Unit {0}
-AreTellableEnds (e ∷ es) = IsTellablePlace e.state × AreTellableEnds es
+abbrev pub AreWritableEnds : List MsgEnd → Type 0
+AreWritableEnds [] = Unit {0}
+AreWritableEnds (e ∷ es) = IsWritablePlace e.state × AreWritableEnds es
 
 -- a law: the list of the ends of at most 64 messages is read as these ends
 abbrev pub EndsAreReadBack : Type 0
-EndsAreReadBack = (es : List MsgEnd) → AreTellableEnds es → length es ≤ 64 → each end [] (ends_data es) ≡ Ok es
+EndsAreReadBack = (es : List MsgEnd) → AreWritableEnds es → length es ≤ 64 → each end [] (ends_data es) ≡ Ok es
 
 -- a message of the opening: its origin and its round
 abbrev pub message_data : MsgSpec → Data

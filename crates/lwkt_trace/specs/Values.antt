@@ -2,7 +2,7 @@
 use Rattle.std.specs.Prelude.{◌≡◌, ℕ, ◌≤◌, List, [], length, map, codes, All, IfSome, unwrap_or, if◌then◌else◌, Option, Some, None, Ok}
 use Rattle.std.specs.List.{list_any}
 use Rattle.serde_json.specs.Data.{Data, null, string, array, object, Members, no_members, member}
-use Rattle.lwkt_base.specs.declared.openings.TokSpec.{TokSpec}
+use Rattle.lwkt_base.specs.declared.opening_specs.TokSpec.{TokSpec}
 use Rattle.lwkt_core.specs.declared.events.Event.{Event}
 use Rattle.lwkt_report.specs.declared.closings.Closing as report
 use Rattle.lwkt_report.specs.declared.closings.TokenLine.{TokenLine}
@@ -12,7 +12,7 @@ use Rattle.lwkt_script.specs.Outcome.{each}
 use Rattle.lwkt_trace.specs.Format.{closing, trace}
 use Rattle.lwkt_trace.specs.Guard.{guarded}
 use Rattle.lwkt_trace.specs.Written.{law_text, has_record}
-use Rattle.lwkt_trace.specs.Readback.{number_data, blob_data, items_as, events_data, ends_data, messages_data, told_alone, AreBytes, AreTellable, AreTellableEnds}
+use Rattle.lwkt_trace.specs.Readback.{number_data, blob_data, items_as, events_data, ends_data, messages_data, stated_alone, AreBytes, AreWritable, AreWritableEnds}
 use Rattle.lwkt_trace.specs.declared.traces.Closing.{Closing}
 use Rattle.lwkt_trace.specs.declared.traces.Trace.{Trace}
 
@@ -88,8 +88,8 @@ last_data None = null
 last_data (Some c) = closing_data c
 
 -- the closing values of a report as a trace has them: tallies of each token, none where its law isn't Tally
-abbrev pub told_closing : report.Closing → Closing
-told_closing c = record {
+abbrev pub stated_closing : report.Closing → Closing
+stated_closing c = record {
   rows = map (λ line. line.cells) c.tokens.items;
   gens = map (λ line. line.generation) c.tokens.items;
   tallies = map (λ line. unwrap_or line.tallies []) c.tokens.items;
@@ -106,15 +106,15 @@ abbrev pub HasGuard : TokenLine → Type 0
 HasGuard line = IfSome line.blob IsGuard
 
 -- closing values of at most 64 tokens and at most 64 messages, whose parts are of their types
-pub record IsTellableClosing (c : report.Closing) : Type 0 where
+pub record IsWritableClosing (c : report.Closing) : Type 0 where
   pub few_tokens : length c.tokens.items ≤ 64
   pub records : All HasGuard c.tokens.items
   pub few_messages : length c.messages.items ≤ 64
-  pub messages : AreTellableEnds c.messages.items
+  pub messages : AreWritableEnds c.messages.items
 
 -- a law: the object that closing values are written as is read as these values
 abbrev pub ClosingIsReadBack : Type 0
-ClosingIsReadBack = (c : report.Closing) → IsTellableClosing c → closing (closing_data c) ≡ Ok (Some (told_closing c))
+ClosingIsReadBack = (c : report.Closing) → IsWritableClosing c → closing (closing_data c) ≡ Ok (Some (stated_closing c))
 
 -- a trace: the opening of a script, events, and closing values
 abbrev pub trace_data : Script → List Event → report.Closing → Data
@@ -126,25 +126,25 @@ trace_data script events c =
     member (codes "tokens") (array (items_as token_data script.tokens)) (
     member (codes "version") (number_data 1) no_members))))))
 
--- what is read of it: the opening, the events as they are told where no section is, and the closing values
-abbrev pub told_trace : Script → List Event → report.Closing → Trace
-told_trace script events c = record {
+-- what is read of it: the opening, the events as they are stated where no section is, and the closing values
+abbrev pub stated_trace : Script → List Event → report.Closing → Trace
+stated_trace script events c = record {
   cpus = script.cpus;
   tokens = script.tokens;
   messages = script.messages;
-  events = map told_alone events;
-  last = Some (told_closing c);
+  events = map stated_alone events;
+  last = Some (stated_closing c);
 }
 
 -- the opening of a script within its limits, at most 50000000 events, and closing values, all of whose parts are of their types
-pub record IsTellableTrace (script : Script) (events : List Event) (c : report.Closing) : Type 0 where
+pub record IsWritableTrace (script : Script) (events : List Event) (c : report.Closing) : Type 0 where
   pub limits : IsWithinLimits script
   pub typed : All IsTyped script.tokens
-  pub tellable : AreTellable events
+  pub writable : AreWritable events
   pub few_events : length events ≤ 50000000
-  pub closed : IsTellableClosing c
+  pub closed : IsWritableClosing c
 
 -- a law: the object that a trace is written as is read as this trace
 abbrev pub TraceIsReadBack : Type 0
 TraceIsReadBack =
-    (script : Script) (events : List Event) (c : report.Closing) → IsTellableTrace script events c → trace (trace_data script events c) ≡ Ok (told_trace script events c)
+    (script : Script) (events : List Event) (c : report.Closing) → IsWritableTrace script events c → trace (trace_data script events c) ≡ Ok (stated_trace script events c)

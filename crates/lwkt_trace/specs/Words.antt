@@ -18,8 +18,8 @@ use Rattle.lwkt_core.specs.declared.events.Place.TheVariants.{AtToken, AtMessage
 use Rattle.lwkt_script.specs.Field.{item_count, whole}
 use Rattle.lwkt_script.specs.Step.{◌>>=◌, small_at, whole_at}
 use Rattle.lwkt_script.specs.Record.{blob_in}
-use Rattle.lwkt_trace.specs.declared.traces.Told.{Told}
-use Rattle.lwkt_trace.specs.declared.traces.Told.TheVariants.{Whole, Given}
+use Rattle.lwkt_trace.specs.declared.traces.Stated.{Stated}
+use Rattle.lwkt_trace.specs.declared.traces.Stated.TheVariants.{Whole, Given}
 use Rattle.lwkt_trace.specs.declared.words.Subject.{Subject}
 use Rattle.lwkt_trace.specs.declared.words.Subject.TheVariants.{Token, Message}
 
@@ -100,31 +100,31 @@ abbrev pub with_section : List ℕ → ℕ → Section → Option Event
 with_section word cpu section = if bytes_eq word (codes "give_written") then Some (GiveWritten (cpu_id cpu) section.tok section) else None
 
 -- the event of a word with a processor, a message and a round, or with a processor, a token and a record of at most 65 bytes
-abbrev pub round_told : List ℕ → Data → Option Event
-round_told word d = small_at 1 d >>= λ cpu. small_at 2 d >>= λ msg. whole_at 3 d >>= λ round. with_round word cpu msg round
+abbrev pub event_with_round : List ℕ → Data → Option Event
+event_with_round word d = small_at 1 d >>= λ cpu. small_at 2 d >>= λ msg. whole_at 3 d >>= λ round. with_round word cpu msg round
 
-abbrev pub record_told : List ℕ → Data → Option Event
-record_told word d = small_at 1 d >>= λ cpu. small_at 2 d >>= λ tok. (at 3 d >>= blob_in 65) >>= with_record word cpu tok
+abbrev pub event_with_record : List ℕ → Data → Option Event
+event_with_record word d = small_at 1 d >>= λ cpu. small_at 2 d >>= λ tok. (at 3 d >>= blob_in 65) >>= with_record word cpu tok
 
--- an event that is told whole
-abbrev pub whole_event : Option Event → Option Told
+-- an event that is stated whole
+abbrev pub whole_event : Option Event → Option Stated
 whole_event event = option_map Whole event
 
--- what a word tells with a processor and the number of what it is at: a written give's section isn't told
-abbrev pub told_at : List ℕ → ℕ → ℕ → Option Told
-told_at word cpu place =
+-- what a word states with a processor and the number of what it is at: a written give's section isn't stated
+abbrev pub stated_at : List ℕ → ℕ → ℕ → Option Stated
+stated_at word cpu place =
     if bytes_eq word (codes "give_written") then Some (Given (cpu_id cpu) (tok_id place)) else whole_event (with_place word cpu place)
 
--- what a word tells with so many items in all
-abbrev pub happened : List ℕ → ℕ → Data → Option Told
+-- what a word states with so many items in all
+abbrev pub happened : List ℕ → ℕ → Data → Option Stated
 happened word count d =
-    if count == 3 then (small_at 1 d >>= λ cpu. small_at 2 d >>= λ place. told_at word cpu place) else (
-    if count == 4 then whole_event (or_else (round_told word d) (record_told word d)) else (
+    if count == 3 then (small_at 1 d >>= λ cpu. small_at 2 d >>= λ place. stated_at word cpu place) else (
+    if count == 4 then whole_event (or_else (event_with_round word d) (event_with_record word d)) else (
     if count == 5 then whole_event (small_at 1 d >>= λ cpu. small_at 2 d >>= λ place. small_at 3 d >>= λ part. whole_at 4 d >>= λ value. with_value word cpu place part value) else (
     if count == 6 then whole_event (small_at 1 d >>= λ cpu. (small_at 2 d >>= λ tok. section_items tok d) >>= with_section word cpu) else None)))
 
--- an event as it is told: a word, and what goes with it
-abbrev pub event_of : Data → Option Told
+-- an event as it is stated: a word, and what goes with it
+abbrev pub event_of : Data → Option Stated
 event_of d = item_count d >>= λ count. (at 0 d >>= as_str) >>= λ word. happened word count d
 
 -- a message's end by a word, its origin and its round
@@ -149,7 +149,7 @@ abbrev pub message_end_of : Data → Option MsgEnd
 message_end_of d = item_count d >>= λ count. (at 0 d >>= as_str) >>= λ word. end_by_word word count d
 
 -- a word is that of an event: with the numbers of the event it is read as this event; of a written give with its section, or
--- without it as one whose section isn't told
+-- without it as one whose section isn't stated
 abbrev pub IsWordOf : List ℕ → Event → Type 0
 IsWordOf word (Load cpu tok) = with_place word cpu.0 tok.0 ≡ Some (Load cpu tok)
 IsWordOf word (Take cpu tok) = with_place word cpu.0 tok.0 ≡ Some (Take cpu tok)
@@ -158,7 +158,7 @@ IsWordOf word (Again cpu tok) = with_place word cpu.0 tok.0 ≡ Some (Again cpu 
 IsWordOf word (Mark cpu tok) = with_place word cpu.0 tok.0 ≡ Some (Mark cpu tok)
 IsWordOf word (GiveOne cpu tok) = with_place word cpu.0 tok.0 ≡ Some (GiveOne cpu tok)
 IsWordOf word (GiveClean cpu tok) = with_place word cpu.0 tok.0 ≡ Some (GiveClean cpu tok)
-IsWordOf word (GiveWritten cpu tok section) = (with_section word cpu.0 (record section { tok = tok }) ≡ Some (GiveWritten cpu tok (record section { tok = tok }))) × (told_at word cpu.0 tok.0 ≡ Some (Given cpu tok))
+IsWordOf word (GiveWritten cpu tok section) = (with_section word cpu.0 (record section { tok = tok }) ≡ Some (GiveWritten cpu tok (record section { tok = tok }))) × (stated_at word cpu.0 tok.0 ≡ Some (Given cpu tok))
 IsWordOf word (Read cpu tok cell value) = with_value word cpu.0 tok.0 cell value ≡ Some (Read cpu tok cell value)
 IsWordOf word (Write cpu tok cell value) = with_value word cpu.0 tok.0 cell value ≡ Some (Write cpu tok cell value)
 IsWordOf word (ReadBlob cpu tok blob) = with_record word cpu.0 tok.0 blob ≡ Some (ReadBlob cpu tok blob)

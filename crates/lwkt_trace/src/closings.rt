@@ -8,7 +8,7 @@ ghost use Rattle.lwkt_trace.specs.Format.{numbers, row_behind, tally, end, recor
 use crate::traces::Closing;
 use lwkt_base::memory::push;
 use lwkt_base::{Blob, Cells, CpuId, Fault, MsgEnd, Owner};
-use lwkt_script::Parts;
+use lwkt_script::Series;
 use lwkt_script::fields::{has, has_members, item_count, list_at};
 use lwkt_script::records::guard_in;
 use lwkt_script::steps::{small_at, whole_at};
@@ -196,7 +196,7 @@ fn no_blobs(alloc: Global, count: usize) -> Result<Vec<Option<Blob>>, Fault>
     Ok(blobs)
 }
 
-// The records of so many tokens, where they are told.
+// The records of so many tokens, where they are stated.
 fn blobs_in(alloc: Global, count: usize, value: &Value) -> Result<Vec<Option<Blob>>, Fault>
     ensures { Gives (λ v. v.items) result (blobs count (get (codes "records") (view value.now))) }
 {
@@ -237,11 +237,11 @@ pub fn closing_at(alloc: Global, value: &Value) -> Result<Closing, Fault>
     let ends = ends_of(alloc, end_items.as_slice())?;
     let blobs = blobs_in(alloc, rows.len(), value)?;
     Ok(Closing {
-        rows: Parts::from_vec(rows),
+        rows: Series::from_vec(rows),
         gens: Cells::from_vec(gens),
-        tallies: Parts::from_vec(tallies),
-        messages: Parts::from_vec(ends),
-        blobs: Parts::from_vec(blobs),
+        tallies: Series::from_vec(tallies),
+        messages: Series::from_vec(ends),
+        blobs: Series::from_vec(blobs),
     })
 }
 

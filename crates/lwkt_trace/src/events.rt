@@ -1,11 +1,11 @@
 ghost use Rattle.std.specs.Prelude.{◌≡◌, []};
 ghost use Rattle.serde_json.specs.View.{view, items_view};
 ghost use Rattle.lwkt_script.specs.Outcome.{Gives, each};
-ghost use Rattle.lwkt_trace.specs.Words.{with_token, with_message, with_place, or_else, with_round, with_record, round_told, record_told, with_value, with_section, told_at, happened, event_of};
+ghost use Rattle.lwkt_trace.specs.Words.{with_token, with_message, with_place, or_else, with_round, with_record, event_with_round, event_with_record, with_value, with_section, stated_at, happened, event_of};
 ghost use Rattle.lwkt_trace.specs.Format.{event};
 
 use crate::sections::section_in;
-use crate::traces::Told;
+use crate::traces::Stated;
 use lwkt_base::limits::TRACE_EVENTS;
 use lwkt_base::memory::push;
 use lwkt_base::{Blob, CpuId, Fault, MsgId, Section, TokId};
@@ -87,8 +87,8 @@ fn with_record(word: &str, cpu: u8, tok: u8, blob: Blob) -> Option<Event>
 }
 
 // The event of a word, items 1 and 2, and a round.
-fn round_told(word: &str, value: &Value) -> Option<Event>
-    ensures { result ≡ round_told word.now (view value.now) }
+fn event_with_round(word: &str, value: &Value) -> Option<Event>
+    ensures { result ≡ event_with_round word.now (view value.now) }
 {
     let cpu = small_at(value, 1)?;
     let msg = small_at(value, 2)?;
@@ -96,8 +96,8 @@ fn round_told(word: &str, value: &Value) -> Option<Event>
 }
 
 // The event of a word, items 1 and 2, and a record of at most 65 bytes: one of 65 is too long, which is for the model to say.
-fn record_told(word: &str, value: &Value) -> Option<Event>
-    ensures { result ≡ record_told word.now (view value.now) }
+fn event_with_record(word: &str, value: &Value) -> Option<Event>
+    ensures { result ≡ event_with_record word.now (view value.now) }
 {
     let cpu = small_at(value, 1)?;
     let tok = small_at(value, 2)?;
@@ -105,12 +105,12 @@ fn record_told(word: &str, value: &Value) -> Option<Event>
 }
 
 // The event of a word with four items in all.
-fn told_of_four(word: &str, value: &Value) -> Option<Event>
-    ensures { result ≡ or_else (round_told word.now (view value.now)) (record_told word.now (view value.now)) }
+fn event_of_four(word: &str, value: &Value) -> Option<Event>
+    ensures { result ≡ or_else (event_with_round word.now (view value.now)) (event_with_record word.now (view value.now)) }
 {
-    match round_told(word, value) {
+    match event_with_round(word, value) {
         Some(event) => Some(event),
-        None => record_told(word, value),
+        None => event_with_record(word, value),
     }
 }
 
@@ -156,34 +156,34 @@ fn with_section(word: &str, cpu: u8, section: Section) -> Option<Event>
     }
 }
 
-// What a word tells with a processor and the number of what it is at: a written give's section isn't told.
-fn told_at(word: &str, cpu: u8, place: u8) -> Option<Told>
-    ensures { result ≡ told_at word.now cpu place }
+// What a word states with a processor and the number of what it is at: a written give's section isn't stated.
+fn stated_at(word: &str, cpu: u8, place: u8) -> Option<Stated>
+    ensures { result ≡ stated_at word.now cpu place }
 {
     match word {
-        "give_written" => Some(Told::Given {
+        "give_written" => Some(Stated::Given {
             cpu: CpuId(cpu),
             tok: TokId(place),
         }),
-        _ => Some(Told::Whole(with_place(word, cpu, place)?)),
+        _ => Some(Stated::Whole(with_place(word, cpu, place)?)),
     }
 }
 
-// What a word tells with so many items in all.
-fn happened(word: &str, count: usize, value: &Value) -> Option<Told>
+// What a word states with so many items in all.
+fn happened(word: &str, count: usize, value: &Value) -> Option<Stated>
     ensures { result ≡ happened word.now count (view value.now) }
 {
     match count {
-        3 => told_at(word, small_at(value, 1)?, small_at(value, 2)?),
-        4 => Some(Told::Whole(told_of_four(word, value)?)),
-        5 => Some(Told::Whole(with_value(
+        3 => stated_at(word, small_at(value, 1)?, small_at(value, 2)?),
+        4 => Some(Stated::Whole(event_of_four(word, value)?)),
+        5 => Some(Stated::Whole(with_value(
             word,
             small_at(value, 1)?,
             small_at(value, 2)?,
             small_at(value, 3)?,
             whole_at(value, 4)?,
         )?)),
-        6 => Some(Told::Whole(with_section(
+        6 => Some(Stated::Whole(with_section(
             word,
             small_at(value, 1)?,
             section_in(small_at(value, 2)?, value)?,
@@ -192,8 +192,8 @@ fn happened(word: &str, count: usize, value: &Value) -> Option<Told>
     }
 }
 
-/// The event that a list tells: a word, and what goes with it. None where the value is no event.
-pub fn event_of(value: &Value) -> Option<Told>
+/// The event that a list states: a word, and what goes with it. None where the value is no event.
+pub fn event_of(value: &Value) -> Option<Stated>
     ensures { result ≡ event_of (view value.now) }
 {
     let count = item_count(value)?;
@@ -201,7 +201,7 @@ pub fn event_of(value: &Value) -> Option<Told>
 }
 
 // The event after those.
-fn event(before: &[Told], value: &Value) -> Result<Told, Fault>
+fn event(before: &[Stated], value: &Value) -> Result<Stated, Fault>
     ensures { Gives (λ e. e) result (event before.now (view value.now)) }
 {
     if before.len() >= TRACE_EVENTS {
@@ -216,7 +216,7 @@ fn event(before: &[Told], value: &Value) -> Result<Told, Fault>
 }
 
 /// The events of a trace.
-pub fn events_of(alloc: Global, items: &[Value]) -> Result<Vec<Told>, Fault>
+pub fn events_of(alloc: Global, items: &[Value]) -> Result<Vec<Stated>, Fault>
     ensures { Gives (λ v. v.items) result (each event [] (items_view items.now)) }
 {
     let mut events = Vec::new(alloc);

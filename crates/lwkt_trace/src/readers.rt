@@ -7,12 +7,12 @@ ghost use Rattle.lwkt_base.specs.Fault.{no_memory};
 use crate::closings::closing;
 use crate::events::events_of;
 use crate::guards::guarded_of;
-use crate::openings::messages_of;
+use crate::messages::messages_of;
 use crate::traces::Trace;
 use lwkt_base::Fault;
 use lwkt_base::limits::{MOST_CPUS, TRACE_BYTES};
 use lwkt_base::memory::read_json;
-use lwkt_script::Parts;
+use lwkt_script::Series;
 use lwkt_script::fields::{has, has_members, list_at, number_at};
 use serde_json::Value;
 use std::alloc::Global;
@@ -45,9 +45,9 @@ fn trace(alloc: Global, value: &Value) -> Result<Trace, Fault>
     let last = closing(alloc, last_part)?;
     Ok(Trace {
         cpus,
-        tokens: Parts::from_vec(tokens),
-        messages: Parts::from_vec(messages),
-        events: Parts::from_vec(events),
+        tokens: Series::from_vec(tokens),
+        messages: Series::from_vec(messages),
+        events: Series::from_vec(events),
         last,
     })
 }

@@ -29,7 +29,7 @@ fn row_at(value: &Value, i: usize) -> Option<Row>
     row_of(value.get(i)?.as_array()?.as_slice())
 }
 
-/// The section of a token that items 3 to 5 tell: its generation, and the rows at its beginning and at its end.
+/// The section of a token that items 3 to 5 state: its generation, and the rows at its beginning and at its end.
 pub fn section_in(tok: u8, value: &Value) -> Option<Section>
     ensures { result ≡ section_items tok (view value.now) }
 {

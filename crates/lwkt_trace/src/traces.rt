@@ -2,11 +2,11 @@ ghost use Rattle.std.specs.Prelude.{◌≡◌};
 
 use lwkt_base::{Blob, Cells, CpuId, MsgEnd, MsgSpec, TokId, TokSpec};
 use lwkt_core::{Event, Final};
-use lwkt_script::Parts;
+use lwkt_script::Series;
 
-/// An event as a trace tells it.
+/// An event as a trace states it.
 #[derive(Clone, Copy)]
-pub enum Told {
+pub enum Stated {
     /// The whole event.
     Whole(Event),
     /// A written give, without its section.
@@ -17,15 +17,15 @@ pub enum Told {
 #[derive(Drop)]
 pub struct Closing {
     /// Each token's cells.
-    pub rows: Parts<Cells>,
+    pub rows: Series<Cells>,
     /// Each token's generation.
     pub gens: Cells,
     /// Each token's tallies.
-    pub tallies: Parts<Cells>,
+    pub tallies: Series<Cells>,
     /// Each message's owner state and round.
-    pub messages: Parts<MsgEnd>,
+    pub messages: Series<MsgEnd>,
     /// Each token's record, if it has one; none of any where they are left out.
-    pub blobs: Parts<Option<Blob>>,
+    pub blobs: Series<Option<Blob>>,
 }
 
 impl Closing {
@@ -53,11 +53,11 @@ pub struct Trace {
     /// How many processors there are, 1 to 8.
     pub cpus: u8,
     /// At most 64 tokens, by their numbers.
-    pub tokens: Parts<TokSpec>,
+    pub tokens: Series<TokSpec>,
     /// At most 64 messages, by their numbers.
-    pub messages: Parts<MsgSpec>,
-    /// The events, in order, as they are told.
-    pub events: Parts<Told>,
+    pub messages: Series<MsgSpec>,
+    /// The events, in order, as they are stated.
+    pub events: Series<Stated>,
     /// The closing values, or none where they were left out.
     pub last: Option<Closing>,
 }

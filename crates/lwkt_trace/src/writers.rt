@@ -460,7 +460,7 @@ fn show_closing(out: &mut String, closing: &Closing) -> Result<(), OutOfMemory>
     push_str(out, "}")
 }
 
-/// The text of a trace: the opening of a script, events, and the closing values of a report. No section is told.
+/// The text of a trace: the opening of a script, events, and the closing values of a report. No section is stated.
 #[tactic(auto, unfolding(crate::specs::Written::trace_text))]
 pub fn trace_text(
     alloc: Global,

@@ -2,13 +2,13 @@
 //! like is written again, and only the same bytes count.
 ghost use Rattle.std.specs.Prelude.{◌≡◌, ◌++◌, IfSome, IsTrue, codes};
 ghost use Rattle.lwkt_base.specs.Hex.{byte_text, hex_text};
-ghost use Rattle.lwkt_trace.specs.Readback.{event_data, told_alone, IsTellable, IsToldBlob};
+ghost use Rattle.lwkt_trace.specs.Readback.{event_data, stated_alone, IsWritable, IsStatedBlob};
 ghost use Rattle.lwkt_trace.specs.Printed.{HasWords};
 ghost use Rattle.lwkt_trace.specs.Written.{comma, line_at, past_text, blob_text, rest_text, event_text};
 ghost use Rattle.lwkt_trace.specs.Recognised.{IsWritten, IsNextWritten};
 
 use crate::ranges::words_of_bytes;
-use crate::traces::Told;
+use crate::traces::Stated;
 use crate::words::event_word;
 use arrayvec::ArrayVec;
 use itoa::Buffer;
@@ -179,7 +179,7 @@ fn numbers_of(bytes: &[u8]) -> ([u64; NUMBERS], usize) {
 
 // The event of a word with a processor and the number of what it is at.
 fn at_place(word: &[u8], cpu: CpuId, place: u8) -> Option<Event>
-    ensures { IfSome result (λ event. IsTellable event × HasWords (event_data event)) }
+    ensures { IfSome result (λ event. IsWritable event × HasWords (event_data event)) }
 {
     let (tok, msg) = (TokId(place), MsgId(place));
     let row = Row::of(&[]);
@@ -208,7 +208,7 @@ fn at_place(word: &[u8], cpu: CpuId, place: u8) -> Option<Event>
 
 // The event of a word with a processor, what it is at, and two numbers more.
 fn at_part(word: &[u8], cpu: CpuId, place: u8, part: u8, value: u64) -> Option<Event>
-    ensures { IfSome result (λ event. IsTellable event × HasWords (event_data event)) }
+    ensures { IfSome result (λ event. IsWritable event × HasWords (event_data event)) }
 {
     let tok = TokId(place);
     match word {
@@ -236,7 +236,7 @@ fn at_part(word: &[u8], cpu: CpuId, place: u8, part: u8, value: u64) -> Option<E
 
 // The event of a word with a processor, a message and a round.
 fn at_round(word: &[u8], cpu: CpuId, msg: u8, round: u64) -> Option<Event>
-    ensures { IfSome result (λ event. IsTellable event × HasWords (event_data event)) }
+    ensures { IfSome result (λ event. IsWritable event × HasWords (event_data event)) }
 {
     let msg = MsgId(msg);
     match word {
@@ -247,7 +247,7 @@ fn at_round(word: &[u8], cpu: CpuId, msg: u8, round: u64) -> Option<Event>
 
 // The record of at most 64 bytes that digits are.
 fn record_of(digits: &[u8]) -> Option<Blob>
-    ensures { IfSome result IsToldBlob }
+    ensures { IfSome result IsStatedBlob }
 {
     let blob = blob_of(RECORD_LIMIT, digits)?;
     words_of_bytes(blob.as_slice());
@@ -256,7 +256,7 @@ fn record_of(digits: &[u8]) -> Option<Blob>
 
 // The event of a word with a processor, a token, and a record in quotation marks.
 fn at_record(word: &[u8], cpu: CpuId, tok: u8, rest: &[u8]) -> Option<Event>
-    ensures { IfSome result (λ event. IsTellable event × HasWords (event_data event)) }
+    ensures { IfSome result (λ event. IsWritable event × HasWords (event_data event)) }
 {
     let tok = TokId(tok);
     let blob = record_of(quoted(rest)?)?;
@@ -269,7 +269,7 @@ fn at_record(word: &[u8], cpu: CpuId, tok: u8, rest: &[u8]) -> Option<Event>
 
 // The event of a word with a processor, what it is at, and a round or a record.
 fn at_third(word: &[u8], cpu: CpuId, place: u8, round: u64, rest: &[u8]) -> Option<Event>
-    ensures { IfSome result (λ event. IsTellable event × HasWords (event_data event)) }
+    ensures { IfSome result (λ event. IsWritable event × HasWords (event_data event)) }
 {
     match at_round(word, cpu, place, round) {
         Some(event) => Some(event),
@@ -284,7 +284,7 @@ fn small(number: u64) -> Option<u8> {
 
 // The event that a line looks like.
 fn likely_event(line: &[u8]) -> Option<Event>
-    ensures { IfSome result (λ event. IsTellable event × HasWords (event_data event)) }
+    ensures { IfSome result (λ event. IsWritable event × HasWords (event_data event)) }
 {
     let (word, rest) = parted(line)?;
     let ([cpu, place, third, fourth], count) = numbers_of(rest);
@@ -347,13 +347,13 @@ pub fn written_event(line: &[u8]) -> Option<Event>
     }
 }
 
-/// An event as a trace tells it where no section is told.
-pub fn told_alone(event: &Event) -> Told
-    ensures { result ≡ told_alone event.now }
+/// An event as a trace states it where no section is stated.
+pub fn stated_alone(event: &Event) -> Stated
+    ensures { result ≡ stated_alone event.now }
 {
     match *event {
-        Event::GiveWritten { cpu, tok, .. } => Told::Given { cpu, tok },
-        other => Told::Whole(other),
+        Event::GiveWritten { cpu, tok, .. } => Stated::Given { cpu, tok },
+        other => Stated::Whole(other),
     }
 }
 

@@ -15,7 +15,7 @@ use Rattle.lwkt_verdict.specs.declared.expected.Expected.TheVariants.{Any, NoRef
 use Rattle.lwkt_verdict.specs.Asks.{is_refused, makes_event}
 use Rattle.lwkt_core.specs.Values.{cell_at}
 use Rattle.lwkt_verdict.specs.Owns.{IsQuiet, agrees, agrees_with_record, is_own, is_read, is_record_read, is_raise}
-use Rattle.lwkt_verdict.specs.Parts.{GoesQuietly, must_make, may_make, GoesFrom}
+use Rattle.lwkt_verdict.specs.TurnParts.{GoesQuietly, must_make, may_make, GoesFrom}
 use Rattle.lwkt_verdict.specs.Follow.{is_expected}
 use Rattle.lwkt_verdict.specs.Followed.{expected_by, expected_without}
 

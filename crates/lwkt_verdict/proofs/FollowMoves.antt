@@ -17,8 +17,8 @@ use Rattle.lwkt_verdict.specs.declared.progress.Progress.{Progress}
 use Rattle.lwkt_verdict.specs.declared.progress.Piece.{Piece}
 use Rattle.lwkt_verdict.specs.Owns.{has_blocked}
 use Rattle.lwkt_verdict.specs.Asks.{may_answer}
-use Rattle.lwkt_verdict.specs.Parts.{after_all, GoesQuietly, IsPartOf}
-use Rattle.lwkt_verdict.specs.Threads.{slot_of, asked_in, asked_by, plan_of_thread, line_of, progress_after, ask_at, MayAsk, IsLogged, Rests, EndsAsTold}
+use Rattle.lwkt_verdict.specs.TurnParts.{after_all, GoesQuietly, IsPartOf}
+use Rattle.lwkt_verdict.specs.Threads.{slot_of, asked_in, asked_by, plan_of_thread, line_of, progress_after, ask_at, MayAsk, IsLogged, Rests, EndsAsShown}
 use Rattle.lwkt_verdict.specs.Run.{piece, came, asked_of_poll, PollFits, TurnFits, Idles, AreListed}
 use Rattle.lwkt_verdict.specs.Follow.{Awaited, Known, Follow, is_expected, asked_so, come, Bears, AllBear, Allows, AllAllow, AreShown, AreThreads, answered_at, none_answered, poll_so, GoesOnByPoll, DeclinesPoll, GoesOnUnasked, DeclinesUnasked, EndsHere, DeclinesEnd}
 use Rattle.lwkt_verdict.proofs.KnownMoves.{unpolled_allows}
@@ -49,11 +49,11 @@ mapped P Q None f p = p
 mapped P Q (Some x) f p = f x p
 
 -- the answers, with one in the place of a thread: of this and of another
-told_here : (slot : ℕ) (told : Option Answer) (answers : ℕ → Option Answer) → answered_at slot told answers slot ≡ told
-told_here slot told answers = ap (λ b. if b then told else answers slot) (eq-eqb slot slot refl)
+heard_here : (slot : ℕ) (heard : Option Answer) (answers : ℕ → Option Answer) → answered_at slot heard answers slot ≡ heard
+heard_here slot heard answers = ap (λ b. if b then heard else answers slot) (eq-eqb slot slot refl)
 
-told_there : (slot k : ℕ) (told : Option Answer) (answers : ℕ → Option Answer) → (slot ≡ k → ⊥) → answered_at slot told answers k ≡ answers k
-told_there slot k told answers apart = ap (λ b. if b then told else answers k) (ne_eqb k slot (λ is. apart (sym is)))
+heard_there : (slot k : ℕ) (heard : Option Answer) (answers : ℕ → Option Answer) → (slot ≡ k → ⊥) → answered_at slot heard answers k ≡ answers k
+heard_there slot k heard answers apart = ap (λ b. if b then heard else answers k) (ne_eqb k slot (λ is. apart (sym is)))
 
 -- what a thread's line bears, if it has one; else the thread isn't there
 abbrev BearsAt : Option ThreadLine → Option Answer → Known → Type 0
@@ -64,93 +64,93 @@ lined : (o : Option ThreadLine) (answer : Option Answer) (u : Known) → (u.plan
 lined None answer u some bears = absurd (some bears)
 lined (Some line) answer u some bears = (line, (refl, bears))
 
--- what was told is an answer
-told_last : (told : Answer) (o : Option Awaited) → MatchOption (option_map (λ w. asked_so w (Some told)) o) (Unit {0}) (λ a. is_some a.answer ≡ true)
-told_last told None = tt
-told_last told (Some w) = refl
+-- what was heard is an answer
+heard_last : (heard : Answer) (o : Option Awaited) → MatchOption (option_map (λ w. asked_so w (Some heard)) o) (Unit {0}) (λ a. is_some a.answer ≡ true)
+heard_last heard None = tt
+heard_last heard (Some w) = refl
 
 -- what a line bears of a thread after its poll, it bore before
-bears_told : (m : Machine) (told : Answer) (asked : Ask) (part : List Event) (t u : Known) (o : Option ThreadLine) (answer : Option Answer) → u.plan ≡ t.plan → IsPolled m told asked part t u → BearsAt o answer u → BearsAt o (Some told) t
-bears_told m told asked part t u None answer same polled bears = sym same ∙ bears
-bears_told m told asked part t u (Some line) answer same polled bears = polled.bears answer line bears
+bears_heard : (m : Machine) (heard : Answer) (asked : Ask) (part : List Event) (t u : Known) (o : Option ThreadLine) (answer : Option Answer) → u.plan ≡ t.plan → IsPolled m heard asked part t u → BearsAt o answer u → BearsAt o (Some heard) t
+bears_heard m heard asked part t u None answer same polled bears = sym same ∙ bears
+bears_heard m heard asked part t u (Some line) answer same polled bears = polled.bears answer line bears
 
-bear_by : (m : Machine) (told : Answer) (asked : Ask) (part : List Event) (table : List Known) (slot : ℕ) (t u : Known) → slot < 128 → slot < length table → slice_get table slot ≡ Some t → u.plan ≡ t.plan → IsPolled m told asked part t u → (answers : ℕ → Option Answer) (lines : List ThreadLine) → AllBear (slice_set table slot u) answers lines → AllBear table (answered_at slot (Some told) answers) lines
-bear_by m told asked part table slot t u small inside at same polled answers lines bear k below =
-    let G : ℕ → Type 0 = λ j. MatchOption (slice_get table j) ⊥ (BearsAt (line_of j lines) (answered_at slot (Some told) answers j)) in
+bear_by : (m : Machine) (heard : Answer) (asked : Ask) (part : List Event) (table : List Known) (slot : ℕ) (t u : Known) → slot < 128 → slot < length table → slice_get table slot ≡ Some t → u.plan ≡ t.plan → IsPolled m heard asked part t u → (answers : ℕ → Option Answer) (lines : List ThreadLine) → AllBear (slice_set table slot u) answers lines → AllBear table (answered_at slot (Some heard) answers) lines
+bear_by m heard asked part table slot t u small inside at same polled answers lines bear k below =
+    let G : ℕ → Type 0 = λ j. MatchOption (slice_get table j) ⊥ (BearsAt (line_of j lines) (answered_at slot (Some heard) answers j)) in
     elim (cases_eq slot k) [
       | inl is ↦ (let new : BearsAt (line_of slot lines) (answers slot) u = there (BearsAt (line_of slot lines) (answers slot)) (slice_get (slice_set table slot u) slot) u (get_set table slot u inside) (bear slot small) in
           let A : Option Answer → Type 0 = λ a. BearsAt (line_of slot lines) a t in
-          let old : A (answered_at slot (Some told) answers slot) = subst A (sym (told_here slot (Some told) answers)) (bears_told m told asked part t u (line_of slot lines) (answers slot) same polled new) in
-          subst G is (here (BearsAt (line_of slot lines) (answered_at slot (Some told) answers slot)) (slice_get table slot) t at old))
+          let old : A (answered_at slot (Some heard) answers slot) = subst A (sym (heard_here slot (Some heard) answers)) (bears_heard m heard asked part t u (line_of slot lines) (answers slot) same polled new) in
+          subst G is (here (BearsAt (line_of slot lines) (answered_at slot (Some heard) answers slot)) (slice_get table slot) t at old))
       | inr apart ↦ (let A : Option Answer → Type 0 = λ a. MatchOption (slice_get table k) ⊥ (BearsAt (line_of k lines) a) in
           let O : Option Known → Type 0 = λ o. MatchOption o ⊥ (BearsAt (line_of k lines) (answers k)) in
-          subst A (sym (told_there slot k (Some told) answers apart)) (subst O (get_set_other table slot k u apart) (bear k below)))
+          subst A (sym (heard_there slot k (Some heard) answers apart)) (subst O (get_set_other table slot k u apart) (bear k below)))
     ]
 
 -- how far a thread has come that was polled, by what is shown
-came_told : (told : Answer) (table : List Known) (slot : ℕ) (t : Known) (before : List Piece) (answers : ℕ → Option Answer) → slot < 128 → slice_get table slot ≡ Some t → AreShown before table (answered_at slot (Some told) answers) → came before slot ≡ come t (Some told)
-came_told told table slot t before answers small at shown =
-    there (λ x. came before slot ≡ come x (answered_at slot (Some told) answers slot)) (slice_get table slot) t at (shown slot small) ∙ ap (λ (a : Option Answer). come t a) (told_here slot (Some told) answers)
+came_heard : (heard : Answer) (table : List Known) (slot : ℕ) (t : Known) (before : List Piece) (answers : ℕ → Option Answer) → slot < 128 → slice_get table slot ≡ Some t → AreShown before table (answered_at slot (Some heard) answers) → came before slot ≡ come t (Some heard)
+came_heard heard table slot t before answers small at shown =
+    there (λ x. came before slot ≡ come x (answered_at slot (Some heard) answers slot)) (slice_get table slot) t at (shown slot small) ∙ ap (λ (a : Option Answer). come t a) (heard_here slot (Some heard) answers)
 
-shown_by : (m : Machine) (told : Answer) (part : List Event) (table : List Known) (slot : ℕ) (t u : Known) (q : Poll) → slot_of q.thread ≡ slot → slot < 128 → slot < length table → slice_get table slot ≡ Some t → IsPolled m told q.ask part t u → (answers : ℕ → Option Answer) → q.answer ≡ answers slot → (before : List Piece) → AreShown before table (answered_at slot (Some told) answers) → AreShown (before ++ piece (Some q) part ∷ []) (slice_set table slot u) answers
-shown_by m told part table slot t u q whose small inside at polled answers answered before shown k below =
+shown_by : (m : Machine) (heard : Answer) (part : List Event) (table : List Known) (slot : ℕ) (t u : Known) (q : Poll) → slot_of q.thread ≡ slot → slot < 128 → slot < length table → slice_get table slot ≡ Some t → IsPolled m heard q.ask part t u → (answers : ℕ → Option Answer) → q.answer ≡ answers slot → (before : List Piece) → AreShown before table (answered_at slot (Some heard) answers) → AreShown (before ++ piece (Some q) part ∷ []) (slice_set table slot u) answers
+shown_by m heard part table slot t u q whose small inside at polled answers answered before shown k below =
     let p : Piece = piece (Some q) part in
     let a : Asked = asked_of_poll q (has_blocked q.ask part) in
     let G : ℕ → Type 0 = λ j. MatchOption (slice_get (slice_set table slot u) j) ⊥ (λ x. came (before ++ p ∷ []) j ≡ come x (answers j)) in
     elim (cases_eq slot k) [
       | inl is ↦ (let next : came (before ++ p ∷ []) slot ≡ progress_after (came before slot) a = came_next slot before p a (asked_here slot q (has_blocked q.ask part) whose) in
-          let from : progress_after (came before slot) a ≡ progress_after (come t (Some told)) a = ap (λ (x : Progress). progress_after x a) (came_told told table slot t before answers small at shown) in
-          let to : come u q.answer ≡ progress_after (come t (Some told)) a = polled.came q.answer in
+          let from : progress_after (came before slot) a ≡ progress_after (come t (Some heard)) a = ap (λ (x : Progress). progress_after x a) (came_heard heard table slot t before answers small at shown) in
+          let to : come u q.answer ≡ progress_after (come t (Some heard)) a = polled.came q.answer in
           let now : came (before ++ p ∷ []) slot ≡ come u (answers slot) = next ∙ from ∙ sym to ∙ ap (λ (x : Option Answer). come u x) answered in
           subst G is (here (λ x. came (before ++ p ∷ []) slot ≡ come x (answers slot)) (slice_get (slice_set table slot u) slot) u (get_set table slot u inside) now))
       | inr apart ↦ (let stays : came (before ++ p ∷ []) k ≡ came before k = came_other k before p (asked_there k q (has_blocked q.ask part) (λ is. apart (sym whose ∙ is))) in
           let O : Option Known → Type 0 = λ o. MatchOption o ⊥ (λ x. came (before ++ p ∷ []) k ≡ come x (answers k)) in
-          let then_so : (x : Known) → came before k ≡ come x (answered_at slot (Some told) answers k) → came (before ++ p ∷ []) k ≡ come x (answers k) = λ x e. stays ∙ e ∙ ap (λ (b : Option Answer). come x b) (told_there slot k (Some told) answers apart) in
-          subst O (sym (get_set_other table slot k u apart)) (mapped (λ x. came before k ≡ come x (answered_at slot (Some told) answers k)) (λ x. came (before ++ p ∷ []) k ≡ come x (answers k)) (slice_get table k) then_so (shown k below)))
+          let then_so : (x : Known) → came before k ≡ come x (answered_at slot (Some heard) answers k) → came (before ++ p ∷ []) k ≡ come x (answers k) = λ x e. stays ∙ e ∙ ap (λ (b : Option Answer). come x b) (heard_there slot k (Some heard) answers apart) in
+          subst O (sym (get_set_other table slot k u apart)) (mapped (λ x. came before k ≡ come x (answered_at slot (Some heard) answers k)) (λ x. came (before ++ p ∷ []) k ≡ come x (answers k)) (slice_get table k) then_so (shown k below)))
     ]
 
 -- the poll of a thread fits how far the thread has come
-poll_fits : (m : Machine) (told : Answer) (asked : Ask) (part : List Event) (plans : List ThreadSpec) (lines : List ThreadLine) (cpu : ℕ) (thread : ThreadId) (t u : Known) (line : ThreadLine) (answer : Option Answer) → thread.cpu.0 ≡ cpu → thread.thread < 16 → t.plan ≡ plan_of_thread cpu thread.thread plans → line_of (slot_of thread) lines ≡ Some line → IsPolled m told asked part t u → Bears u answer line → PollFits plans lines cpu (come t (Some told)) (record { answer = answer; ask = asked; thread = thread })
-poll_fits m told asked part plans lines cpu thread t u line answer own few planned at polled bears =
-    let May : ThreadSpec → Type 0 = λ plan. MayAsk plan (come t (Some told)) asked in
+poll_fits : (m : Machine) (heard : Answer) (asked : Ask) (part : List Event) (plans : List ThreadSpec) (lines : List ThreadLine) (cpu : ℕ) (thread : ThreadId) (t u : Known) (line : ThreadLine) (answer : Option Answer) → thread.cpu.0 ≡ cpu → thread.thread < 16 → t.plan ≡ plan_of_thread cpu thread.thread plans → line_of (slot_of thread) lines ≡ Some line → IsPolled m heard asked part t u → Bears u answer line → PollFits plans lines cpu (come t (Some heard)) (record { answer = answer; ask = asked; thread = thread })
+poll_fits m heard asked part plans lines cpu thread t u line answer own few planned at polled bears =
+    let May : ThreadSpec → Type 0 = λ plan. MayAsk plan (come t (Some heard)) asked in
     let M : Option ThreadSpec → Type 0 = λ o. MatchOption o ⊥ May in
-    let L : ℕ → Type 0 = λ c. MatchOption (line_of (16 * c + thread.thread) lines) ⊥ (λ l. IsLogged l (come t (Some told)) (record { ask = asked; answer = answer; blocked = false })) in
+    let L : ℕ → Type 0 = λ c. MatchOption (line_of (16 * c + thread.thread) lines) ⊥ (λ l. IsLogged l (come t (Some heard)) (record { ask = asked; answer = answer; blocked = false })) in
     record {
       here = own;
       numbered = few;
-      asks = subst M planned (mapped (λ plan. ask_at plan t.polls ≡ Some asked) May t.plan (λ plan is. (is, told_last told t.last)) polled.asks);
+      asks = subst M planned (mapped (λ plan. ask_at plan t.polls ≡ Some asked) May t.plan (λ plan is. (is, heard_last heard t.last)) polled.asks);
       answers = polled.answers answer line bears;
-      logs = subst L own (here (λ l. IsLogged l (come t (Some told)) (record { ask = asked; answer = answer; blocked = false })) (line_of (slot_of thread) lines) line at (polled.logs answer line bears));
+      logs = subst L own (here (λ l. IsLogged l (come t (Some heard)) (record { ask = asked; answer = answer; blocked = false })) (line_of (slot_of thread) lines) line at (polled.logs answer line bears));
     }
 
 -- what is possible of a thread that was polled, it is after the poll, where that fits
-allows_told : (m : Machine) (told : Answer) (asked : Ask) (part : List Event) (t u : Known) (o : Option ThreadLine) (answer : Option Answer) → IsPolled m told asked part t u → Allows t (Some told) o → MatchOption answer (Unit {0}) (λ a. may_answer asked a ≡ true) → MatchOption o ⊥ (λ line. IsLogged line (come t (Some told)) (record { ask = asked; answer = answer; blocked = false })) → IsPartOf m asked answer part → Allows u answer o
-allows_told m told asked part t u None answer polled allows answers logs makes = absurd logs
-allows_told m told asked part t u (Some line) answer polled allows answers logs makes = record { bears = polled.allows answer line allows.bears answers logs makes; unblocked = polled.unblocked }
+allows_heard : (m : Machine) (heard : Answer) (asked : Ask) (part : List Event) (t u : Known) (o : Option ThreadLine) (answer : Option Answer) → IsPolled m heard asked part t u → Allows t (Some heard) o → MatchOption answer (Unit {0}) (λ a. may_answer asked a ≡ true) → MatchOption o ⊥ (λ line. IsLogged line (come t (Some heard)) (record { ask = asked; answer = answer; blocked = false })) → IsPartOf m asked answer part → Allows u answer o
+allows_heard m heard asked part t u None answer polled allows answers logs makes = absurd logs
+allows_heard m heard asked part t u (Some line) answer polled allows answers logs makes = record { bears = polled.allows answer line allows.bears answers logs makes; unblocked = polled.unblocked }
 
-allows_by : (m : Machine) (told : Answer) (thread : ThreadId) (asked : Ask) (part : List Event) (plans : List ThreadSpec) (cpu : ℕ) (table : List Known) (t u : Known) → slot_of thread < 128 → slot_of thread < length table → slice_get table (slot_of thread) ≡ Some t → IsPolled m told asked part t u → (answers : ℕ → Option Answer) (lines : List ThreadLine) → AllAllow table (answered_at (slot_of thread) (Some told) answers) lines → (before : List Piece) → AreShown before table (answered_at (slot_of thread) (Some told) answers) → TurnFits plans lines cpu m before (poll_so thread asked answers) part → AllAllow (slice_set table (slot_of thread) u) answers lines
-allows_by m told thread asked part plans cpu table t u small inside at polled answers lines allow before shown fits k below =
+allows_by : (m : Machine) (heard : Answer) (thread : ThreadId) (asked : Ask) (part : List Event) (plans : List ThreadSpec) (cpu : ℕ) (table : List Known) (t u : Known) → slot_of thread < 128 → slot_of thread < length table → slice_get table (slot_of thread) ≡ Some t → IsPolled m heard asked part t u → (answers : ℕ → Option Answer) (lines : List ThreadLine) → AllAllow table (answered_at (slot_of thread) (Some heard) answers) lines → (before : List Piece) → AreShown before table (answered_at (slot_of thread) (Some heard) answers) → TurnFits plans lines cpu m before (poll_so thread asked answers) part → AllAllow (slice_set table (slot_of thread) u) answers lines
+allows_by m heard thread asked part plans cpu table t u small inside at polled answers lines allow before shown fits k below =
     let slot = slot_of thread in
     let a : Asked = record { ask = asked; answer = answers slot; blocked = false } in
     let A : Option Answer → Known → Type 0 = λ answer x. Allows x answer (line_of slot lines) in
     let G : ℕ → Type 0 = λ j. MatchOption (slice_get (slice_set table slot u) j) ⊥ (λ x. Allows x (answers j) (line_of j lines)) in
     elim (cases_eq slot k) [
-      | inl is ↦ (let old : A (answered_at slot (Some told) answers slot) t = there (A (answered_at slot (Some told) answers slot)) (slice_get table slot) t at (allow slot small) in
-          let told_so : A (Some told) t = subst (λ (x : Option Answer). A x t) (told_here slot (Some told) answers) old in
+      | inl is ↦ (let old : A (answered_at slot (Some heard) answers slot) t = there (A (answered_at slot (Some heard) answers slot)) (slice_get table slot) t at (allow slot small) in
+          let heard_so : A (Some heard) t = subst (λ (x : Option Answer). A x t) (heard_here slot (Some heard) answers) old in
           let L : ℕ → Type 0 = λ c. MatchOption (line_of (16 * c + thread.thread) lines) ⊥ (λ line. IsLogged line (came before slot) a) in
           let logs : MatchOption (line_of slot lines) ⊥ (λ line. IsLogged line (came before slot) a) = subst L (sym fits.polls.here) fits.polls.logs in
           let P : Progress → Type 0 = λ p. MatchOption (line_of slot lines) ⊥ (λ line. IsLogged line p a) in
-          let logs_so : P (come t (Some told)) = subst P (came_told told table slot t before answers small at shown) logs in
-          let new : A (answers slot) u = allows_told m told asked part t u (line_of slot lines) (answers slot) polled told_so fits.polls.answers logs_so fits.makes in
+          let logs_so : P (come t (Some heard)) = subst P (came_heard heard table slot t before answers small at shown) logs in
+          let new : A (answers slot) u = allows_heard m heard asked part t u (line_of slot lines) (answers slot) polled heard_so fits.polls.answers logs_so fits.makes in
           subst G is (here (A (answers slot)) (slice_get (slice_set table slot u) slot) u (get_set table slot u inside) new))
       | inr apart ↦ (let O : Option Known → Type 0 = λ o. MatchOption o ⊥ (λ x. Allows x (answers k) (line_of k lines)) in
           let B : Option Answer → Type 0 = λ answer. MatchOption (slice_get table k) ⊥ (λ x. Allows x answer (line_of k lines)) in
-          subst O (sym (get_set_other table slot k u apart)) (subst B (told_there slot k (Some told) answers apart) (allow k below)))
+          subst O (sym (get_set_other table slot k u apart)) (subst B (heard_there slot k (Some heard) answers apart) (allow k below)))
     ]
 
 -- a check goes on by a turn that polled a thread
-pub goes_by_poll : (cpu : ℕ) (thread : ThreadId) (told : Answer) (asked : Ask) (part : List Event) (old new : Follow) (t u : Known) → cpu < 8 → thread.cpu.0 ≡ cpu → thread.thread < 16 → All (λ e. cpu_of e ≡ cpu) part → AreThreads old.plans old.table → slice_get old.table (slot_of thread) ≡ Some t → new ≡ record { plans = old.plans; table = slice_set old.table (slot_of thread) u; machine = after_all old.machine part } → u.plan ≡ t.plan → IsPolled old.machine told asked part t u → GoesOnByPoll cpu thread told asked part old new
-goes_by_poll cpu thread told asked part old new t u processor own few events threads at is same polled =
+pub goes_by_poll : (cpu : ℕ) (thread : ThreadId) (heard : Answer) (asked : Ask) (part : List Event) (old new : Follow) (t u : Known) → cpu < 8 → thread.cpu.0 ≡ cpu → thread.thread < 16 → All (λ e. cpu_of e ≡ cpu) part → AreThreads old.plans old.table → slice_get old.table (slot_of thread) ≡ Some t → new ≡ record { plans = old.plans; table = slice_set old.table (slot_of thread) u; machine = after_all old.machine part } → u.plan ≡ t.plan → IsPolled old.machine heard asked part t u → GoesOnByPoll cpu thread heard asked part old new
+goes_by_poll cpu thread heard asked part old new t u processor own few events threads at is same polled =
     let slot = slot_of thread in
     let small : slot < 128 = omega (arith, own) in
     let inside : slot < length old.table = omega (arith, small, threads.0) in
@@ -158,11 +158,11 @@ goes_by_poll cpu thread told asked part old new t u processor own few events thr
     let planned : t.plan ≡ plan_of_thread cpu thread.thread old.plans = there (λ x. x.plan ≡ plan_of_thread cpu thread.thread old.plans) (slice_get old.table slot) t at (subst P (sym own) (threads.1 cpu thread.thread processor few)) in
     let present : u.plan ≡ None → ⊥ = λ none. not_none (λ plan. ask_at plan t.polls ≡ Some asked) t.plan polled.asks (sym same ∙ none) in
     let N : Follow = record { plans = old.plans; table = slice_set old.table slot u; machine = after_all old.machine part } in
-    let F : Follow → Type 0 = λ f. GoesOnByPoll cpu thread told asked part old f in
+    let F : Follow → Type 0 = λ f. GoesOnByPoll cpu thread heard asked part old f in
     subst F (sym is) (record {
       plans = refl;
       machine = refl;
-      bear = bear_by old.machine told asked part old.table slot t u small inside at same polled;
+      bear = bear_by old.machine heard asked part old.table slot t u small inside at same polled;
       fits = λ answers lines bear before shown. (
           let now : BearsAt (line_of slot lines) (answers slot) u = there (BearsAt (line_of slot lines) (answers slot)) (slice_get N.table slot) u (get_set old.table slot u inside) (bear slot small) in
           let line = lined (line_of slot lines) (answers slot) u present now in
@@ -171,10 +171,10 @@ goes_by_poll cpu thread told asked part old new t u processor own few events thr
           record {
             own = events;
             makes = polled.makes (answers slot) line.0 line.1.1;
-            polls = subst Fits (sym (came_told told old.table slot t before answers small at shown)) (poll_fits old.machine told asked part old.plans lines cpu thread t u line.0 (answers slot) own few planned line.1.0 polled line.1.1);
+            polls = subst Fits (sym (came_heard heard old.table slot t before answers small at shown)) (poll_fits old.machine heard asked part old.plans lines cpu thread t u line.0 (answers slot) own few planned line.1.0 polled line.1.1);
           });
-      shown = λ answers before shown. shown_by old.machine told part old.table slot t u (record { answer = answers slot; ask = asked; thread = thread }) refl small inside at polled answers refl before shown;
-      allows = λ answers lines allow before shown fits. allows_by old.machine told thread asked part old.plans cpu old.table t u small inside at polled answers lines allow before shown fits;
+      shown = λ answers before shown. shown_by old.machine heard part old.table slot t u (record { answer = answers slot; ask = asked; thread = thread }) refl small inside at polled answers refl before shown;
+      allows = λ answers lines allow before shown fits. allows_by old.machine heard thread asked part old.plans cpu old.table t u small inside at polled answers lines allow before shown fits;
     })
 
 -- what a turn asked of a thread is one ask at most
@@ -195,19 +195,19 @@ polled_few slot [] = omega arith
 polled_few slot (p ∷ before) = omega (arith, asked_few slot p, polled_few slot before, length-append (asked_in slot p) (asked_by slot before))
 
 -- what its last ask was answered, where that is possible
-hears_by : (told : Answer) (o : Option Awaited) → MatchOption o (Unit {0}) (λ w. is_expected w.expected (Some told) ≡ true) → MatchOption o (Unit {0}) (λ w. may_answer w.ask told ≡ true) → MatchOption o (Unit {0}) (λ w. (is_expected w.expected (Some told) ≡ true) × (may_answer w.ask told ≡ true))
-hears_by told None expected answers = tt
-hears_by told (Some w) expected answers = (expected, answers)
+hears_by : (heard : Answer) (o : Option Awaited) → MatchOption o (Unit {0}) (λ w. is_expected w.expected (Some heard) ≡ true) → MatchOption o (Unit {0}) (λ w. may_answer w.ask heard ≡ true) → MatchOption o (Unit {0}) (λ w. (is_expected w.expected (Some heard) ≡ true) × (may_answer w.ask heard ≡ true))
+hears_by heard None expected answers = tt
+hears_by heard (Some w) expected answers = (expected, answers)
 
-may_hear : (told : Answer) (t : Known) (o : Option ThreadLine) → Allows t (Some told) o → MayHear told t
-may_hear told t None allows =
-    let F : Option Awaited → Type 0 = λ o. MatchOption o (Unit {0}) (λ w. (is_expected w.expected (Some told) ≡ true) × (may_answer w.ask told ≡ true)) in
+may_hear : (heard : Answer) (t : Known) (o : Option ThreadLine) → Allows t (Some heard) o → MayHear heard t
+may_hear heard t None allows =
+    let F : Option Awaited → Type 0 = λ o. MatchOption o (Unit {0}) (λ w. (is_expected w.expected (Some heard) ≡ true) × (may_answer w.ask heard ≡ true)) in
     subst F (sym allows.bears) tt
-may_hear told t (Some line) allows = hears_by told t.last allows.bears.expected allows.bears.answers
+may_hear heard t (Some line) allows = hears_by heard t.last allows.bears.expected allows.bears.answers
 
 -- a check doesn't go on by a poll that its thread can't have had
-pub declines_at : (cpu : ℕ) (thread : ThreadId) (told : Answer) (asked : Ask) (part : List Event) (plans : List ThreadSpec) (table : List Known) (m : Machine) (place : ℕ) (t : Known) → cpu < 8 → thread.cpu.0 ≡ cpu → thread.thread < 16 → place ≡ 16 * cpu + thread.thread → AreThreads plans table → t ≡ get_or table place t → ¬ MayBePolled m told asked part t → DeclinesPoll cpu thread told asked part (follow plans table m)
-declines_at cpu thread told asked part plans table m place t processor own few is_place threads is unfit lines before turns allow shown fits =
+pub declines_at : (cpu : ℕ) (thread : ThreadId) (heard : Answer) (asked : Ask) (part : List Event) (plans : List ThreadSpec) (table : List Known) (m : Machine) (place : ℕ) (t : Known) → cpu < 8 → thread.cpu.0 ≡ cpu → thread.thread < 16 → place ≡ 16 * cpu + thread.thread → AreThreads plans table → t ≡ get_or table place t → ¬ MayBePolled m heard asked part t → DeclinesPoll cpu thread heard asked part (follow plans table m)
+declines_at cpu thread heard asked part plans table m place t processor own few is_place threads is unfit lines before turns allow shown fits =
     let slot = slot_of thread in
     let same : place ≡ slot = is_place ∙ ap (λ k. 16 * k + thread.thread) (sym own) in
     let small : slot < 128 = omega (arith, own) in
@@ -215,20 +215,20 @@ declines_at cpu thread told asked part plans table m place t processor own few i
     let at_place : slice_get table place ≡ Some t = slice_get-get_or table place t inside ∙ ap (λ (x : Known). Some x) (sym is) in
     let at : slice_get table slot ≡ Some t = ap (λ k. slice_get table k) (sym same) ∙ at_place in
     let A : Option Answer → Type 0 = λ answer. Allows t answer (line_of slot lines) in
-    let old : A (answered_at slot (Some told) none_answered slot) = there (λ x. Allows x (answered_at slot (Some told) none_answered slot) (line_of slot lines)) (slice_get table slot) t at (allow slot small) in
-    let allowed : A (Some told) = subst A (told_here slot (Some told) none_answered) old in
-    let came_so : came before slot ≡ come t (Some told) = came_told told table slot t before none_answered small at shown in
+    let old : A (answered_at slot (Some heard) none_answered slot) = there (λ x. Allows x (answered_at slot (Some heard) none_answered slot) (line_of slot lines)) (slice_get table slot) t at (allow slot small) in
+    let allowed : A (Some heard) = subst A (heard_here slot (Some heard) none_answered) old in
+    let came_so : came before slot ≡ come t (Some heard) = came_heard heard table slot t before none_answered small at shown in
     let polls : length (asked_by slot before) ≡ t.polls = ap (λ (p : Progress). p.polls) came_so in
     let P : ℕ → Type 0 = λ c. MatchOption (slice_get table (16 * c + thread.thread)) ⊥ (λ x. x.plan ≡ plan_of_thread cpu thread.thread plans) in
     let planned : t.plan ≡ plan_of_thread cpu thread.thread plans = there (λ x. x.plan ≡ plan_of_thread cpu thread.thread plans) (slice_get table slot) t at (subst P (sym own) (threads.1 cpu thread.thread processor few)) in
     let May : Progress → ThreadSpec → Type 0 = λ p plan. MayAsk plan p asked in
     let M : Progress → Type 0 = λ p. MatchOption (plan_of_thread cpu thread.thread plans) ⊥ (May p) in
-    let next : M (come t (Some told)) = subst M came_so fits.polls.asks in
+    let next : M (come t (Some heard)) = subst M came_so fits.polls.asks in
     let N : Option ThreadSpec → Type 0 = λ o. MatchOption o ⊥ (λ plan. ask_at plan t.polls ≡ Some asked) in
     unfit (record {
       few = omega (arith, polls, polled_few slot before, turns);
-      hears = may_hear told t (line_of slot lines) allowed;
-      asks = subst N (sym planned) (mapped (May (come t (Some told))) (λ plan. ask_at plan t.polls ≡ Some asked) (plan_of_thread cpu thread.thread plans) (λ plan may. may.0) next);
+      hears = may_hear heard t (line_of slot lines) allowed;
+      asks = subst N (sym planned) (mapped (May (come t (Some heard))) (λ plan. ask_at plan t.polls ≡ Some asked) (plan_of_thread cpu thread.thread plans) (λ plan may. may.0) next);
       makes = fits.makes;
     })
 
@@ -243,8 +243,8 @@ ok_one (Ok x) P R f p = f x p
 ok_one (Err e) P R f p = tt
 
 -- the same, by the place in the table that was written
-pub goes_at : (cpu : ℕ) (thread : ThreadId) (told : Answer) (asked : Ask) (part : List Event) (plans : List ThreadSpec) (table : List Known) (m n : Machine) (place : ℕ) (t u : Known) → cpu < 8 → thread.cpu.0 ≡ cpu → thread.thread < 16 → place ≡ 16 * cpu + thread.thread → All (λ e. cpu_of e ≡ cpu) part → AreThreads plans table → t ≡ get_or table place t → u.plan ≡ t.plan → IsPolled m told asked part t u → n ≡ after_all m part → GoesOnByPoll cpu thread told asked part (record { plans = plans; table = table; machine = m }) (record { plans = plans; table = slice_set table place u; machine = n })
-goes_at cpu thread told asked part plans table m n place t u processor own few is_place events threads is same polled moved =
+pub goes_at : (cpu : ℕ) (thread : ThreadId) (heard : Answer) (asked : Ask) (part : List Event) (plans : List ThreadSpec) (table : List Known) (m n : Machine) (place : ℕ) (t u : Known) → cpu < 8 → thread.cpu.0 ≡ cpu → thread.thread < 16 → place ≡ 16 * cpu + thread.thread → All (λ e. cpu_of e ≡ cpu) part → AreThreads plans table → t ≡ get_or table place t → u.plan ≡ t.plan → IsPolled m heard asked part t u → n ≡ after_all m part → GoesOnByPoll cpu thread heard asked part (record { plans = plans; table = table; machine = m }) (record { plans = plans; table = slice_set table place u; machine = n })
+goes_at cpu thread heard asked part plans table m n place t u processor own few is_place events threads is same polled moved =
     let old : Follow = record { plans = plans; table = table; machine = m } in
     let slot : place ≡ slot_of thread = is_place ∙ ap (λ k. 16 * k + thread.thread) (sym own) in
     let inside : place < length table = omega (arith, is_place, threads.0) in
@@ -252,7 +252,7 @@ goes_at cpu thread told asked part plans table m n place t u processor own few i
     let made : Follow = record { plans = plans; table = slice_set table place u; machine = n } in
     let is : made ≡ record { plans = plans; table = slice_set table (slot_of thread) u; machine = after_all m part } =
     ap (λ k. follow plans (slice_set table k u) n) slot ∙ ap (λ (k : Machine). follow plans (slice_set table (slot_of thread) u) k) moved in
-    goes_by_poll cpu thread told asked part old made t u processor own few events threads (ap (λ k. slice_get table k) (sym slot) ∙ at) is same polled
+    goes_by_poll cpu thread heard asked part old made t u processor own few events threads (ap (λ k. slice_get table k) (sym slot) ∙ at) is same polled
 
 -- what is known of two threads that are there
 pair_at : {A : Type 0} (P : A → A → Type 0) (one other : Option A) (t : A) → one ≡ Some t → MatchOption one ⊥ (λ x. MatchOption other ⊥ (P x)) → (u : A) × ((other ≡ Some u) × P t u)
@@ -358,7 +358,7 @@ threads_kept plans table after threads keeps = (
 )
 
 -- a thread that ends as its line says is there exactly if the line is
-paired_by : (plan : Option ThreadSpec) (line : Option ThreadLine) (p : Progress) → EndsAsTold plan line p → is_some plan ≡ is_some line
+paired_by : (plan : Option ThreadSpec) (line : Option ThreadLine) (p : Progress) → EndsAsShown plan line p → is_some plan ≡ is_some line
 paired_by None None p ends = refl
 paired_by None (Some line) p ends = absurd ends
 paired_by (Some plan) None p ends = absurd ends
@@ -367,14 +367,14 @@ paired_by (Some plan) (Some line) p ends = refl
 -- the run ends where each thread ends as its line says
 pub ends_here : (plans : List ThreadSpec) (table : List Known) (m : Machine) (lines : List ThreadLine) (stop : List Event) → AreThreads plans table → AreListed m.cpus 0 lines → AllThreads (λ k t. IsEnded t (line_of k lines)) table → GoesQuietly m stop → EndsHere (follow plans table m) lines stop
 ends_here plans table m lines stop threads listed ended quiet =
-    let ends : (before : List Piece) → AreShown before table none_answered → (cpu n : ℕ) → cpu < 8 → n < 16 → EndsAsTold (plan_of_thread cpu n plans) (line_of (16 * cpu + n) lines) (came before (16 * cpu + n)) = λ before shown cpu n processor few. (
+    let ends : (before : List Piece) → AreShown before table none_answered → (cpu n : ℕ) → cpu < 8 → n < 16 → EndsAsShown (plan_of_thread cpu n plans) (line_of (16 * cpu + n) lines) (came before (16 * cpu + n)) = λ before shown cpu n processor few. (
     let k = 16 * cpu + n in
     let below : k < 128 = omega arith in
     let one = some_at (λ t. t.plan ≡ plan_of_thread cpu n plans) (slice_get table k) (threads.1 cpu n processor few) in
     let is = there (λ t. IsEnded t (line_of k lines)) (slice_get table k) one.0 one.1.0 (ended k below) in
     let came_so = there (λ t. came before k ≡ come t None) (slice_get table k) one.0 one.1.0 (shown k below) in
-    let P : Option ThreadSpec → Type 0 = λ o. EndsAsTold o (line_of k lines) (come one.0 None) in
-    let Q : Progress → Type 0 = λ p. EndsAsTold (plan_of_thread cpu n plans) (line_of k lines) p in
+    let P : Option ThreadSpec → Type 0 = λ o. EndsAsShown o (line_of k lines) (come one.0 None) in
+    let Q : Progress → Type 0 = λ p. EndsAsShown (plan_of_thread cpu n plans) (line_of k lines) p in
     subst Q (sym came_so) (subst P one.1.1 is.ends)) in
     record {
       listed = listed;
@@ -400,10 +400,10 @@ declines_end plans table m lines stop threads unfit before allow shown listed en
     let t = one.0 in
     let allows : Allows t None (line_of k lines) = there (λ x. Allows x None (line_of k lines)) (slice_get table k) t one.1.0 (allow k below) in
     let came_so : came before k ≡ come t None = there (λ x. came before k ≡ come x None) (slice_get table k) t one.1.0 (shown k below) in
-    let E : ℕ → Type 0 = λ j. EndsAsTold (plan_of_thread cpu n plans) (line_of j lines) (came before j) in
-    let told : E k = subst E place (ends.ends cpu n processor few) in
-    let F : Option ThreadSpec → Type 0 = λ o. EndsAsTold o (line_of k lines) (come t None) in
-    let so : F t.plan = subst F (sym one.1.1) (subst (λ (p : Progress). EndsAsTold (plan_of_thread cpu n plans) (line_of k lines) p) came_so told) in
+    let E : ℕ → Type 0 = λ j. EndsAsShown (plan_of_thread cpu n plans) (line_of j lines) (came before j) in
+    let heard : E k = subst E place (ends.ends cpu n processor few) in
+    let F : Option ThreadSpec → Type 0 = λ o. EndsAsShown o (line_of k lines) (come t None) in
+    let so : F t.plan = subst F (sym one.1.1) (subst (λ (p : Progress). EndsAsShown (plan_of_thread cpu n plans) (line_of k lines) p) came_so heard) in
     here (λ x. MayEnd x (line_of k lines)) (slice_get table k) t one.1.0 (record { ends = so; logs = begun t (line_of k lines) allows }))
   where
     begun : (t : Known) (o : Option ThreadLine) → Allows t None o → MatchOption o (Unit {0}) (λ l. take (length t.log) l.log ≡ t.log)

@@ -13,8 +13,8 @@ use Rattle.lwkt_verdict.specs.declared.turns.Poll.{Poll}
 use Rattle.lwkt_verdict.specs.declared.turns.Turn.{Turn}
 use Rattle.lwkt_verdict.specs.declared.progress.Asked.{Asked}
 use Rattle.lwkt_verdict.specs.declared.progress.Piece.{Piece}
-use Rattle.lwkt_verdict.specs.Parts.{after_all}
-use Rattle.lwkt_verdict.specs.Threads.{IsLogged, slot_of, plan_of_thread, line_of, ask_at, asked_by, last_of, logged_by, entries_of, progress_of, EndsAs, EndsAsTold}
+use Rattle.lwkt_verdict.specs.TurnParts.{after_all}
+use Rattle.lwkt_verdict.specs.Threads.{IsLogged, slot_of, plan_of_thread, line_of, ask_at, asked_by, last_of, logged_by, entries_of, progress_of, EndsAs, EndsAsShown}
 use Rattle.lwkt_verdict.specs.Run.{poll_of, piece, whose, came, asked_of_poll, PollFits, TurnFits, EndsRun, RunsThrough}
 use Rattle.lwkt_verdict.specs.Laws.{pieces_of, asks_of, AsksAreThoseOfTheScript, AllButTheLastAreAnswered, LogsAreTheFirstEntries}
 use Rattle.lwkt_verdict.proofs.ShowMoves.{asked_push, asked_here, asked_there}
@@ -158,12 +158,12 @@ log_step log es (Some e) so_far fits =
     ]
 
 -- a thread's line says that its last ask has no answer, where it asked something at all
-ends_open : (t : Option ThreadSpec) (l : Option ThreadLine) (p : List Asked) (X : ThreadSpec → Type 0) → MatchOption t ⊥ X → EndsAsTold t l (progress_of p) → MatchOption (last_of p) (Unit {0}) (λ a. is_some a.answer ≡ false)
+ends_open : (t : Option ThreadSpec) (l : Option ThreadLine) (p : List Asked) (X : ThreadSpec → Type 0) → MatchOption t ⊥ X → EndsAsShown t l (progress_of p) → MatchOption (last_of p) (Unit {0}) (λ a. is_some a.answer ≡ false)
 ends_open None l p X there ends = absurd there
 ends_open (Some plan) None p X there ends = absurd ends
 ends_open (Some plan) (Some line) p X there ends = ends.0
 
-ends_line : (t : Option ThreadSpec) (line : ThreadLine) (p : List Asked) → EndsAsTold t (Some line) (progress_of p) → EndsAs line (progress_of p)
+ends_line : (t : Option ThreadSpec) (line : ThreadLine) (p : List Asked) → EndsAsShown t (Some line) (progress_of p) → EndsAs line (progress_of p)
 ends_line None line p ends = absurd ends
 ends_line (Some plan) line p ends = ends
 
@@ -220,7 +220,7 @@ logs_are_first plans pace order opening polls turns trace lines run cpu n here f
     let xs : List Asked = asks_of polls turns trace cpu n in
     with_value (line_of slot lines) (λ line. line.log ≡ take 32 (entries_of xs)) (λ line is_line. (let log : List Entry = line.log in
     let done = through plans lines polls order (HasLogged log slot) (λ m before poll part q fits. logged_step plans lines line slot (whose order (length before)) is_line m before poll part q fits) opening [] turns trace refl run.runs in
-    let E : Option ThreadLine → Type 0 = λ o. EndsAsTold (plan_of_thread cpu n plans) o (progress_of xs) in
+    let E : Option ThreadLine → Type 0 = λ o. EndsAsShown (plan_of_thread cpu n plans) o (progress_of xs) in
     let ends = ends_line (plan_of_thread cpu n plans) line xs (subst E is_line (done.closes.ends cpu n here few)) in
     let long : length log ≡ min 32 (length (entries_of xs)) = ends.1 in
     sym (take_all (min 32 (length (entries_of xs))) log (omega arith)) ∙ done.holds))

@@ -95,28 +95,28 @@ front_of log (Some e) whole is =
 abbrev gone : ℕ → Option Asked → Option Entry → ℕ → Progress
 gone polls last entry n = record { polls = polls; last = last; logged = option_map_or (λ (e : Entry). min 32 (n + 1)) entry n }
 
--- what a thread told and asked this leaves of what is known of it
-abbrev told_on : Answer → Known → Awaited → Known
-told_on told t w = record { plan = t.plan; polls = t.polls + 1; last = Some w; log = log_with t.log (entry_so t (Some told)) }
+-- what a thread that heard and asked this leaves of what is known of it
+abbrev heard_on : Answer → Known → Awaited → Known
+heard_on heard t w = record { plan = t.plan; polls = t.polls + 1; last = Some w; log = log_with t.log (entry_so t (Some heard)) }
 
 -- a thread that heard an answer and asked its next ask
-pub is_polled : (m : Machine) (told : Answer) (asked : Ask) (part : List Event) (old mid new : Known) → length old.log ≤ 32 → Hears told old mid → MatchOption mid.plan ⊥ (λ plan. ask_at plan mid.polls ≡ Some asked) → Asks m asked part mid new → IsPolled m told asked part old new
-is_polled m told asked part old mid new few hears next asks =
+pub is_polled : (m : Machine) (heard : Answer) (asked : Ask) (part : List Event) (old mid new : Known) → length old.log ≤ 32 → Hears heard old mid → MatchOption mid.plan ⊥ (λ plan. ask_at plan mid.polls ≡ Some asked) → Asks m asked part mid new → IsPolled m heard asked part old new
+is_polled m heard asked part old mid new few hears next asks =
     let w : Awaited = record { ask = asked; blocked = has_blocked asked part; expected = asks.expected } in
-    let long = long_with old.log (entry_so old (Some told)) few in
-    let is : new ≡ told_on told old w = asks.noted ∙ ap (λ (t : Known). after_asking t w) hears.logged in
-    let P : Known → Type 0 = λ t. IsPolled m told asked part old t in
+    let long = long_with old.log (entry_so old (Some heard)) few in
+    let is : new ≡ heard_on heard old w = asks.noted ∙ ap (λ (t : Known). after_asking t w) hears.logged in
+    let P : Known → Type 0 = λ t. IsPolled m heard asked part old t in
     let Next : Known → Type 0 = λ t. MatchOption t.plan ⊥ (λ plan. ask_at plan t.polls ≡ Some asked) in
     subst P (sym is) (record {
       asks = subst Next hears.logged next;
       came = λ answer. ap (λ n. gone (old.polls + 1) (Some (asked_so w answer)) (logged_by (asked_so w answer)) n) long;
-      bears = λ answer line b. (let front = front_of old.log (entry_so old (Some told)) line.log b.entries in
+      bears = λ answer line b. (let front = front_of old.log (entry_so old (Some heard)) line.log b.entries in
           record { expected = hears.expected; answers = hears.answers; entries = front.0; entry = front.1 });
       answers = λ answer line b. b.answers;
       logs = λ answer line b. (let F : ℕ → Type 0 = λ n. MatchOption (logged_by (asked_so w answer)) (Unit {0}) (λ e. n < 32 → slice_get line.log n ≡ Some e) in subst F long b.entry);
       makes = λ answer line b. asks.makes answer b.expected;
       allows = λ answer line b answers logs makes. (let F : ℕ → Type 0 = λ n. MatchOption (logged_by (asked_so w answer)) (Unit {0}) (λ e. n < 32 → slice_get line.log n ≡ Some e) in
-          record { expected = asks.expects answer makes; answers = answers; entries = back_of old.log (entry_so old (Some told)) line.log b.entries b.entry; entry = subst F (sym long) logs });
+          record { expected = asks.expects answer makes; answers = answers; entries = back_of old.log (entry_so old (Some heard)) line.log b.entries b.entry; entry = subst F (sym long) logs });
       unblocked = asks.unblocked;
     })
 

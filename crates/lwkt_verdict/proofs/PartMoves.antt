@@ -9,7 +9,7 @@ use Rattle.lwkt_core.specs.declared.events.Event.TheVariants.{Load, Take, Share,
 use Rattle.lwkt_core.specs.Machine.{Machine, Needs, after}
 use Rattle.lwkt_verdict.specs.Asks.{makes_event}
 use Rattle.lwkt_verdict.specs.Owns.{IsQuiet, is_send, first_send, own_place, has_blocked}
-use Rattle.lwkt_verdict.specs.Parts.{after_all, GoesQuietly}
+use Rattle.lwkt_verdict.specs.TurnParts.{after_all, GoesQuietly}
 
 -- after a quiet event the rest decides
 pub quiet_on : (m n : Machine) (P : Type 0) (events : List Event) (i : ℕ) (d : Event) → i < length events → Needs m (get_or events i d) × IsQuiet m (get_or events i d) → n ≡ after m (get_or events i d) → P ↔ GoesQuietly m (drop i events) → P ↔ GoesQuietly n (drop (i + 1) events)

@@ -11,7 +11,7 @@ use Rattle.lwkt_verdict.specs.declared.turns.Poll.{Poll}
 use Rattle.lwkt_verdict.specs.declared.turns.Turn.{Turn}
 use Rattle.lwkt_verdict.specs.declared.progress.Piece.{Piece}
 use Rattle.lwkt_verdict.specs.Owns.{own_place}
-use Rattle.lwkt_verdict.specs.Parts.{after_all, GoesQuietly, GoesFrom}
+use Rattle.lwkt_verdict.specs.TurnParts.{after_all, GoesQuietly, GoesFrom}
 use Rattle.lwkt_verdict.specs.Run.{poll_of, piece, MakesPart, RunsThrough}
 use Rattle.lwkt_verdict.specs.Laws.{TracesOfRunsHappen}
 use Rattle.lwkt_verdict.proofs.PartMoves.{after_cut}

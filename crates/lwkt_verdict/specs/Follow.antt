@@ -20,7 +20,7 @@ use Rattle.lwkt_verdict.specs.declared.progress.Piece.{Piece}
 use Rattle.lwkt_verdict.specs.declared.turns.Poll.{Poll}
 use Rattle.lwkt_verdict.specs.Asks.{may_answer, is_refused}
 use Rattle.lwkt_verdict.specs.Owns.{agrees, agrees_with_record}
-use Rattle.lwkt_verdict.specs.Parts.{after_all}
+use Rattle.lwkt_verdict.specs.TurnParts.{after_all}
 use Rattle.lwkt_verdict.specs.Threads.{slot_of, plan_of_thread, line_of, logged_by}
 use Rattle.lwkt_verdict.specs.Run.{came, piece, TurnFits, EndsRun, IsPaired, AreListed}
 
@@ -122,12 +122,12 @@ Declines cpu part poll former f = (lines : List ThreadLine) (before : List Piece
 abbrev pub poll_so : ThreadId → Ask → (ℕ → Option Answer) → Option Poll
 poll_so thread asked answers = Some (record { answer = answers (slot_of thread); ask = asked; thread = thread })
 
--- a turn that polled this thread, which was told this, the answer to its ask before, and asked this
+-- a turn that polled this thread, which heard this, the answer to its ask before, and asked this
 abbrev pub GoesOnByPoll : ℕ → ThreadId → Answer → Ask → List Event → Follow → Follow → Type 0
-GoesOnByPoll cpu thread told asked part old new = GoesOn cpu part (poll_so thread asked) (answered_at (slot_of thread) (Some told)) old new
+GoesOnByPoll cpu thread heard asked part old new = GoesOn cpu part (poll_so thread asked) (answered_at (slot_of thread) (Some heard)) old new
 
 abbrev pub DeclinesPoll : ℕ → ThreadId → Answer → Ask → List Event → Follow → Type 0
-DeclinesPoll cpu thread told asked part f = Declines cpu part (poll_so thread asked) (answered_at (slot_of thread) (Some told)) f
+DeclinesPoll cpu thread heard asked part f = Declines cpu part (poll_so thread asked) (answered_at (slot_of thread) (Some heard)) f
 
 -- a turn that polled no thread
 abbrev pub GoesOnUnasked : ℕ → List Event → Follow → Follow → Type 0

@@ -12,8 +12,8 @@ use Rattle.lwkt_verdict.specs.declared.expected.Expected.{Expected}
 use Rattle.lwkt_verdict.specs.declared.expected.Expected.TheVariants.{Any, NoRefusal, Refusal, Value, Bytes}
 use Rattle.lwkt_verdict.specs.Asks.{may_answer, makes_event}
 use Rattle.lwkt_verdict.specs.Owns.{has_blocked}
-use Rattle.lwkt_verdict.specs.Parts.{IsPartOf}
-use Rattle.lwkt_verdict.specs.Threads.{ask_at, progress_after, IsLogged, Rests, EndsAsTold}
+use Rattle.lwkt_verdict.specs.TurnParts.{IsPartOf}
+use Rattle.lwkt_verdict.specs.Threads.{ask_at, progress_after, IsLogged, Rests, EndsAsShown}
 use Rattle.lwkt_verdict.specs.Follow.{is_expected, Awaited, Known, entry_so, come, Bears, Allows}
 
 -- which answers an ask can have that stands at this event of its own: any at one that may have happened unasked as well
@@ -44,11 +44,11 @@ log_with log (Some e) = if nat_lt (length log) 32 then (log ++ e ∷ []) else lo
 abbrev pub awaited : Option Ask → Bool → Expected → Option Awaited
 awaited last blocked expected = option_map (λ ask. record { ask = ask; blocked = blocked; expected = expected }) last
 
--- the thread was told this, which the ask before can have been answered
-pub record Hears (told : Answer) (old new : Known) : Type 0 where
-  pub expected : MatchOption old.last (Unit {0}) (λ w. is_expected w.expected (Some told) ≡ true)
-  pub answers : MatchOption old.last (Unit {0}) (λ w. may_answer w.ask told ≡ true)
-  pub logged : new ≡ record { plan = old.plan; polls = old.polls; last = old.last; log = log_with old.log (entry_so old (Some told)) }
+-- the thread heard this, which the ask before can have been answered
+pub record Hears (heard : Answer) (old new : Known) : Type 0 where
+  pub expected : MatchOption old.last (Unit {0}) (λ w. is_expected w.expected (Some heard) ≡ true)
+  pub answers : MatchOption old.last (Unit {0}) (λ w. may_answer w.ask heard ≡ true)
+  pub logged : new ≡ record { plan = old.plan; polls = old.polls; last = old.last; log = log_with old.log (entry_so old (Some heard)) }
 
 -- what is known of a thread once it has asked this
 abbrev pub after_asking : Known → Awaited → Known
@@ -64,28 +64,28 @@ pub record Asks (m : Machine) (asked : Ask) (part : List Event) (old new : Known
 
 -- what the thread last asked, if anything, can have been answered so
 abbrev pub MayHear : Answer → Known → Type 0
-MayHear told t = MatchOption t.last (Unit {0}) (λ w. (is_expected w.expected (Some told) ≡ true) × (may_answer w.ask told ≡ true))
+MayHear heard t = MatchOption t.last (Unit {0}) (λ w. (is_expected w.expected (Some heard) ≡ true) × (may_answer w.ask heard ≡ true))
 
 -- the thread has this ask next
 abbrev pub MayAskNext : Ask → Known → Type 0
 MayAskNext asked t = MatchOption t.plan ⊥ (λ plan. ask_at plan t.polls ≡ Some asked)
 
 -- the thread can be polled: told this, asking this, by this part of the trace
-pub record MayBePolled (m : Machine) (told : Answer) (asked : Ask) (part : List Event) (t : Known) : Type 0 where
+pub record MayBePolled (m : Machine) (heard : Answer) (asked : Ask) (part : List Event) (t : Known) : Type 0 where
   pub few : t.polls < 18446744073709551615
-  pub hears : MayHear told t
+  pub hears : MayHear heard t
   pub asks : MayAskNext asked t
   pub makes : IsPartOf m asked None part
 
--- the thread was polled, was told this, the answer to the ask before, and asked this: whatever that is answered, if its line bears it
-pub record IsPolled (m : Machine) (told : Answer) (asked : Ask) (part : List Event) (old new : Known) : Type 0 where
+-- the thread was polled, heard this, the answer to the ask before, and asked this: whatever that is answered, if its line bears it
+pub record IsPolled (m : Machine) (heard : Answer) (asked : Ask) (part : List Event) (old new : Known) : Type 0 where
   pub asks : MatchOption old.plan ⊥ (λ plan. ask_at plan old.polls ≡ Some asked)
-  pub came : (answer : Option Answer) → come new answer ≡ progress_after (come old (Some told)) (record { ask = asked; answer = answer; blocked = has_blocked asked part })
-  pub bears : (answer : Option Answer) (line : ThreadLine) → Bears new answer line → Bears old (Some told) line
+  pub came : (answer : Option Answer) → come new answer ≡ progress_after (come old (Some heard)) (record { ask = asked; answer = answer; blocked = has_blocked asked part })
+  pub bears : (answer : Option Answer) (line : ThreadLine) → Bears new answer line → Bears old (Some heard) line
   pub answers : (answer : Option Answer) (line : ThreadLine) → Bears new answer line → MatchOption answer (Unit {0}) (λ a. may_answer asked a ≡ true)
-  pub logs : (answer : Option Answer) (line : ThreadLine) → Bears new answer line → IsLogged line (come old (Some told)) (record { ask = asked; answer = answer; blocked = false })
+  pub logs : (answer : Option Answer) (line : ThreadLine) → Bears new answer line → IsLogged line (come old (Some heard)) (record { ask = asked; answer = answer; blocked = false })
   pub makes : (answer : Option Answer) (line : ThreadLine) → Bears new answer line → IsPartOf m asked answer part
-  pub allows : (answer : Option Answer) (line : ThreadLine) → Bears old (Some told) line → MatchOption answer (Unit {0}) (λ a. may_answer asked a ≡ true) → IsLogged line (come old (Some told)) (record { ask = asked; answer = answer; blocked = false }) → IsPartOf m asked answer part → Bears new answer line
+  pub allows : (answer : Option Answer) (line : ThreadLine) → Bears old (Some heard) line → MatchOption answer (Unit {0}) (λ a. may_answer asked a ≡ true) → IsLogged line (come old (Some heard)) (record { ask = asked; answer = answer; blocked = false }) → IsPartOf m asked answer part → Bears new answer line
   pub unblocked : MatchOption new.last (Unit {0}) (λ w. w.expected ≡ Refusal → w.blocked ≡ false)
 
 -- the thread has come as far as before, with no more answers that its last ask can have
@@ -108,13 +108,13 @@ MayNotRest t = (line : Option ThreadLine) → Allows t None line → ¬ MatchOpt
 
 -- the thread ends as its line says, if it is there, and so far its log begins the line's
 pub record MayEnd (t : Known) (line : Option ThreadLine) : Type 0 where
-  pub ends : EndsAsTold t.plan line (come t None)
+  pub ends : EndsAsShown t.plan line (come t None)
   pub logs : MatchOption line (Unit {0}) (λ l. take (length t.log) l.log ≡ t.log)
 
 -- the thread ends as its line says, if it is there
 pub record IsEnded (t : Known) (line : Option ThreadLine) : Type 0 where
   pub bears : MatchOption line (t.plan ≡ None) (Bears t None)
-  pub ends : EndsAsTold t.plan line (come t None)
+  pub ends : EndsAsShown t.plan line (come t None)
 
 -- what holds of each thread of a table, by its number
 abbrev pub AllThreads : (ℕ → Known → Type 0) → List Known → Type 0

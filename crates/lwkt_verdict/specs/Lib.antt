@@ -1,6 +1,6 @@
 pub mod Asks
 pub mod Owns
-pub mod Parts
+pub mod TurnParts
 pub mod Threads
 pub mod Spots
 pub mod Run

@@ -16,8 +16,8 @@ use Rattle.lwkt_verdict.specs.declared.progress.Progress.{Progress}
 use Rattle.lwkt_verdict.specs.declared.progress.Piece.{Piece}
 use Rattle.lwkt_verdict.specs.Asks.{may_answer}
 use Rattle.lwkt_verdict.specs.Owns.{has_blocked}
-use Rattle.lwkt_verdict.specs.Parts.{after_all, GoesQuietly, IsPartOf}
-use Rattle.lwkt_verdict.specs.Threads.{slot_of, plan_of_thread, line_of, asked_by, progress_of, MayAsk, IsLogged, Rests, EndsAsTold}
+use Rattle.lwkt_verdict.specs.TurnParts.{after_all, GoesQuietly, IsPartOf}
+use Rattle.lwkt_verdict.specs.Threads.{slot_of, plan_of_thread, line_of, asked_by, progress_of, MayAsk, IsLogged, Rests, EndsAsShown}
 
 -- the poll of a turn, by its place among the polls
 abbrev pub poll_of : List Poll → Turn → Option Poll
@@ -63,7 +63,7 @@ pub record TurnFits (plans : List ThreadSpec) (lines : List ThreadLine) (cpu : �
 -- the end of a run: the events of the stop may happen unasked, and each thread of the script has its line and ends as it says
 pub record EndsRun (plans : List ThreadSpec) (lines : List ThreadLine) (m : Machine) (before : List Piece) (stop : List Event) : Type 0 where
   pub quiet : GoesQuietly m stop
-  pub ends : (cpu n : ℕ) → cpu < 8 → n < 16 → EndsAsTold (plan_of_thread cpu n plans) (line_of (16 * cpu + n) lines) (came before (16 * cpu + n))
+  pub ends : (cpu n : ℕ) → cpu < 8 → n < 16 → EndsAsShown (plan_of_thread cpu n plans) (line_of (16 * cpu + n) lines) (came before (16 * cpu + n))
 
 -- the processor of the turn of this number, by an order of processors
 abbrev pub whose : List ℕ → ℕ → ℕ

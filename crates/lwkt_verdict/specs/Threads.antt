@@ -111,8 +111,8 @@ abbrev pub EndsAs : ThreadLine → Progress → Type 0
 EndsAs line p = MatchOption p.last (Unit {0}) (λ a. is_some a.answer ≡ false) × (length line.log ≡ p.logged) × (may_end line.state p.last ≡ true)
 
 -- the same of a thread that the script may have or not: a line is there exactly if the thread is
-abbrev pub EndsAsTold : Option ThreadSpec → Option ThreadLine → Progress → Type 0
-EndsAsTold None None p = Unit {0}
-EndsAsTold None (Some line) p = ⊥
-EndsAsTold (Some plan) None p = ⊥
-EndsAsTold (Some plan) (Some line) p = EndsAs line p
+abbrev pub EndsAsShown : Option ThreadSpec → Option ThreadLine → Progress → Type 0
+EndsAsShown None None p = Unit {0}
+EndsAsShown None (Some line) p = ⊥
+EndsAsShown (Some plan) None p = ⊥
+EndsAsShown (Some plan) (Some line) p = EndsAs line p

@@ -2,16 +2,16 @@
 ghost use Rattle.std.specs.Prelude.{◌≡◌, ℕ, ◌<◌, ◌+◌, ◌*◌, ◌/◌, ◌%◌, ◌^◌, ◌-◌, ◌≤◌, ◌↔◌, IsTrue, IfOk, IfSome, MatchOption, length, slice_get, false, Some, is_some, option_map};
 ghost use Rattle.std.specs.Option.{option_copied};
 ghost use Rattle.lwkt_base.specs.declared.asks.Ask.TheVariants.{Exit};
-ghost use Rattle.lwkt_verdict.specs.Parts.{after_all, GoesQuietly};
+ghost use Rattle.lwkt_verdict.specs.TurnParts.{after_all, GoesQuietly};
 ghost use Rattle.lwkt_verdict.specs.Threads.{plan_of_thread, line_of};
 ghost use Rattle.lwkt_verdict.specs.Follow.{Follow, Begins, GoesOnByPoll, DeclinesPoll, GoesOnUnasked, DeclinesUnasked, EndsHere, DeclinesEnd, AreThreads};
 ghost use Rattle.lwkt_verdict.specs.Followed.{unpolled, IsPolled, MayBePolled, IsKept, MayRest, IsEnded, MayEnd, AllThreads, KeepsPlans, AreKept, MayAllRest, AllowAllRest, OneMayNotRest};
 
 use crate::asks::is_same;
 use crate::followed::Followed;
-use crate::parts::{are_of, goes_quietly};
 use crate::plans::{find_line, find_thread};
 use crate::rounds::are_listed;
+use crate::turn_parts::{are_of, goes_quietly};
 use lwkt_base::limits::MACHINE_THREADS;
 use lwkt_base::memory::{push, with_capacity};
 use lwkt_base::{Answer, Ask, OutOfMemory, ThreadId, ThreadLine};
@@ -86,23 +86,23 @@ fn unpolled_threads<'p>(
     Ok(table)
 }
 
-// Whether a thread that was told this may be polled with this ask and this part of the trace; it and the machine then go on.
+// Whether a thread that heard this may be polled with this ask and this part of the trace; it and the machine then go on.
 #[inline(always)]
 fn asks<'p>(
     followed: &mut Followed<'p>,
     state: &mut State,
     end: &'p Ask,
-    told: &Answer,
+    heard: &Answer,
     asked: &Ask,
     part: &[Event],
 ) -> Result<bool, OutOfMemory>
     requires end { end.now ≡ Exit }
     ensures plan { followed.new.plan ≡ followed.old.plan }
-    ensures polled { IfOk result (λ yes. IsTrue yes → IsPolled state.old told.now asked.now part.now followed.old followed.new) }
-    ensures declines { IfOk result (λ yes. yes ≡ false → ¬ MayBePolled state.old told.now asked.now part.now followed.old) }
+    ensures polled { IfOk result (λ yes. IsTrue yes → IsPolled state.old heard.now asked.now part.now followed.old followed.new) }
+    ensures declines { IfOk result (λ yes. yes ≡ false → ¬ MayBePolled state.old heard.now asked.now part.now followed.old) }
     ensures moved { IfOk result (λ yes. IsTrue yes → state.new ≡ after_all state.old part.now) }
 {
-    if !followed.hear(told)? {
+    if !followed.hear(heard)? {
         return Ok(false);
     }
     let Some(ask) = followed.next_ask(end) else {
@@ -164,7 +164,7 @@ impl<'p> Follower<'p> {
     }
 
     /// Whether a turn of this processor, 0 to 7, that polled this thread fits the turns before it, with this part of the trace. The
-    /// thread was told the answer to what it had asked before, and asked this. What it was told at its first poll isn't looked at. If the
+    /// thread heard the answer to what it had asked before, and asked this. What it heard at its first poll isn't looked at. If the
     /// turn fits, the check goes on by it; else nothing follows from the check any more.
     ///
     /// Nothing follows from the check where memory for the thread's log is refused.
@@ -173,13 +173,13 @@ impl<'p> Follower<'p> {
         &mut self,
         cpu: usize,
         thread: ThreadId,
-        told: &Answer,
+        heard: &Answer,
         asked: &Ask,
         part: &[Event],
     ) -> Result<bool, OutOfMemory>
         requires processor { cpu < 8 }
-        ensures goes { IfOk result (λ yes. IsTrue yes → GoesOnByPoll cpu thread told.now asked.now part.now self.old self.new) }
-        ensures declines { IfOk result (λ yes. yes ≡ false → DeclinesPoll cpu thread told.now asked.now part.now self.old) }
+        ensures goes { IfOk result (λ yes. IsTrue yes → GoesOnByPoll cpu thread heard.now asked.now part.now self.old self.new) }
+        ensures declines { IfOk result (λ yes. yes ≡ false → DeclinesPoll cpu thread heard.now asked.now part.now self.old) }
     {
         if usize::from(thread.cpu.0) != cpu || thread.thread >= 16 || !are_of(cpu, part) {
             return Ok(false);
@@ -189,7 +189,7 @@ impl<'p> Follower<'p> {
             &mut self.table[slot],
             &mut self.state,
             self.end,
-            told,
+            heard,
             asked,
             part,
         )

@@ -7,15 +7,15 @@ ghost use Rattle.lwkt_verdict.specs.Threads.{ask_at, may_end};
 ghost use Rattle.lwkt_verdict.specs.Follow.{Awaited, Known, is_expected, come};
 ghost use Rattle.lwkt_base.specs.declared.asks.Ask.{Ask};
 ghost use Rattle.lwkt_verdict.specs.Followed.{count_of, unpolled, log_with, Hears, Asks, MayHear, MayAskNext, IsKept, MayRest, AllowsRest, MayNotRest, IsEnded, MayEnd};
-ghost use Rattle.lwkt_verdict.specs.Parts.{after_all, IsPartOf};
+ghost use Rattle.lwkt_verdict.specs.TurnParts.{after_all, IsPartOf};
 
 use crate::asks::may_answer;
 use crate::expected::Expected;
 use crate::owns::has_blocked;
-use crate::parts::goes_by_ask;
 use crate::plans::ask_at;
 use crate::progress::{is_same, may_end_after};
 use crate::spots::Spot;
+use crate::turn_parts::goes_by_ask;
 use lwkt_base::limits::LOG_LIMIT;
 use lwkt_base::memory::push;
 use lwkt_base::{Answer, Ask, Entry, OutOfMemory, ThreadLine, ThreadState};
@@ -79,27 +79,27 @@ fn push_entry(log: &mut Vec<Entry>, entry: Option<Entry>) -> Result<(), OutOfMem
 
 // The entry of an answer, whatever the answer, goes behind a log, if it has one and there is room for it.
 #[inline(never)]
-fn note_any(log: &mut Vec<Entry>, ask: &Ask, told: &Answer) -> Result<(), OutOfMemory>
+fn note_any(log: &mut Vec<Entry>, ask: &Ask, heard: &Answer) -> Result<(), OutOfMemory>
     requires few { length log.old.items ≤ 32 }
-    ensures items { OnOk result (log.new.items ≡ log_with log.old.items (entry_of ask.now told.now)) }
+    ensures items { OnOk result (log.new.items ≡ log_with log.old.items (entry_of ask.now heard.now)) }
     ensures few { length log.new.items ≤ 32 }
 {
     if log.len() >= LOG_LIMIT {
         return Ok(());
     }
-    push_entry(log, entry_of(*ask, *told))
+    push_entry(log, entry_of(*ask, *heard))
 }
 
 // The entry of an answer goes behind a log, if it has one and there is room for it. Most answers have none.
 #[inline(always)]
-fn note(log: &mut Vec<Entry>, ask: &Ask, told: &Answer) -> Result<(), OutOfMemory>
+fn note(log: &mut Vec<Entry>, ask: &Ask, heard: &Answer) -> Result<(), OutOfMemory>
     requires few { length log.old.items ≤ 32 }
-    ensures items { OnOk result (log.new.items ≡ log_with log.old.items (entry_of ask.now told.now)) }
+    ensures items { OnOk result (log.new.items ≡ log_with log.old.items (entry_of ask.now heard.now)) }
     ensures few { length log.new.items ≤ 32 }
 {
-    match told {
+    match heard {
         Answer::Begin | Answer::Done => Ok(()),
-        _ => note_any(log, ask, told),
+        _ => note_any(log, ask, heard),
     }
 }
 
@@ -152,19 +152,19 @@ impl<'p> Followed<'p> {
 
     /// Whether what the thread last asked, if anything, can have this answer. If so, the entry of the answer is logged.
     #[inline]
-    pub fn hear(&mut self, told: &Answer) -> Result<bool, OutOfMemory>
+    pub fn hear(&mut self, heard: &Answer) -> Result<bool, OutOfMemory>
         ensures plan { self.new.plan ≡ self.old.plan }
         ensures few { length self.old.log ≤ 32 }
-        ensures heard { IfOk result (λ yes. IsTrue yes → Hears told.now self.old self.new) }
-        ensures declines { IfOk result (λ yes. yes ≡ false → ¬ MayHear told.now self.old) }
+        ensures hears_it { IfOk result (λ yes. IsTrue yes → Hears heard.now self.old self.new) }
+        ensures declines { IfOk result (λ yes. yes ≡ false → ¬ MayHear heard.now self.old) }
     {
         let Some(ask) = self.last else {
             return Ok(true);
         };
-        if !self.expected.allows(told) || !may_answer(ask, told) {
+        if !self.expected.allows(heard) || !may_answer(ask, heard) {
             return Ok(false);
         }
-        note(&mut self.log, ask, told)?;
+        note(&mut self.log, ask, heard)?;
         Ok(true)
     }
 

@@ -1,7 +1,7 @@
 //! Checks that the turns of a run are those that its script asks for: which thread was polled when, what it asked and was
 //! answered, which events of the trace came of it, what was logged, and how the threads ended.
 //!
-//! Words: an *event* is something that a processor did, as its trace tells it; a *poll* is one call of a thread's body: what it
+//! Words: an *event* is something that a processor did, as its trace has it; a *poll* is one call of a thread's body: what it
 //! asked, and the answer that it was given later; a *piece* is a turn's poll and its *part* of the trace; a turn *fits* if its
 //! piece is what the threads may do then; the *progress* of a thread is how far it is in its steps and its log, the
 //! *spot* of an ask how many rounds of all steps were made before it, and which step it is; a *pace* says how
@@ -15,11 +15,11 @@ mod follow;
 mod followed;
 pub mod laws;
 mod owns;
-mod parts;
 mod plans;
 mod progress;
 mod rounds;
 mod spots;
+mod turn_parts;
 pub mod turns;
 
 pub use follow::Follower;

@@ -7,12 +7,12 @@ use super::{OutOfMemory, push, refused};
 use std::rt::Env;
 use std::{env, io};
 
-/// The arguments of the program without its own name, or why the system doesn't tell them.
+/// The arguments of the program without its own name, or why the system doesn't give them.
 pub fn arguments_of<R: Env + AllocGlobal>(
     rt: &R,
 ) -> Result<Result<Vec<String>, io::Error>, OutOfMemory>
     // Such an error isn't want of memory.
-    ensures { IfOk result (λ told. IfErr told (λ error. error_kind error ≢ MemoryKind)) }
+    ensures { IfOk result (λ outcome. IfErr outcome (λ error. error_kind error ≢ MemoryKind)) }
 {
     match env::args(rt) {
         Ok(arguments) => {

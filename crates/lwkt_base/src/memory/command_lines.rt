@@ -50,11 +50,11 @@ pub fn matches_of<'a>(
     words: &'a [&'a str],
 ) -> Result<Result<ArgMatches<'a>, Error>, OutOfMemory>
     requires { is_broken command ≡ false }
-    ensures found { IfOk result (λ told. IfOk told (HasMatchesOf (app_of command.entry) (texts words.entry.now))) }
+    ensures found { IfOk result (λ outcome. IfOk outcome (HasMatchesOf (app_of command.entry) (texts words.entry.now))) }
     ensures fails { is_simple_and_free (app_of command.entry) ≡ true → IfOk result (FailsBy (fault_of (app_of command.entry) (texts words.entry.now))) }
 
     // Such an error isn't want of memory.
-    ensures other { IfOk result (λ told. IfErr told (λ error. kind_of error ≢ MemoryKind)) }
+    ensures other { IfOk result (λ outcome. IfErr outcome (λ error. kind_of error ≢ MemoryKind)) }
 {
     match command.try_get_matches_from(words) {
         Ok(found) => Ok(Ok(found)),

@@ -6,7 +6,7 @@ use Rattle.lwkt_text.specs.Inputs.{input_of}
 use Rattle.lwkt.specs.Failing.{IsFailureOf}
 use Rattle.lwkt.specs.Making.{IsMadeOf}
 use Rattle.lwkt.specs.Performing.{Writes}
-use Rattle.lwkt.proofs.Tellings.{keeps_itself, some_read, fails_so, writes_so}
+use Rattle.lwkt.proofs.Reporting.{keeps_itself, some_read, fails_so, writes_so}
 use Rattle.lwkt.proofs.performing.answered.Goals as goal
 
 pub returns-in-Err-Fault-clause-answers : goal.returns-in-Err-Fault-clause-answers

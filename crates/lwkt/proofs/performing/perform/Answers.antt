@@ -2,7 +2,7 @@ use Rattle.std.proofs.Common.{ℕ, List, subst}
 use Rattle.std.specs.Prelude.{IsTrue, Option}
 use Rattle.std.specs.Option.{option_copied}
 use Rattle.lwkt.proofs.Servings.{serves_script}
-use Rattle.lwkt.proofs.Tellings.{takes_script}
+use Rattle.lwkt.proofs.Reporting.{takes_script}
 use Rattle.lwkt.specs.Answering.{Streams}
 use Rattle.lwkt.specs.Performing.{Performs, order_of}
 use Rattle.lwkt.proofs.performing.perform.Goals as goal

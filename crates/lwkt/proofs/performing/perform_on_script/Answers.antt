@@ -1,6 +1,6 @@
 use Rattle.std.proofs.Common.{◌≡◌, ◌∙◌, ap, IsTrue, Err, false}
 use Rattle.std.specs.Option.{option_copied}
-use Rattle.lwkt.proofs.Tellings.{performed, told_as_stream}
+use Rattle.lwkt.proofs.Reporting.{performed, ends_as_stream}
 use Rattle.lwkt.proofs.performing.perform_on_script.Goals as goal
 
 pub returns-clause-performs : goal.returns-clause-performs
@@ -10,8 +10,8 @@ returns-clause-performs g c =
 
 pub returns-clause-failed_source : goal.returns-clause-failed_source
 returns-clause-failed_source g c = λ was failed.
-    c.ending_of.ensures ∙ told_as_stream c.args.source.now.failed c.answered_by_name-answer.new.source.failed c.answered_by_name-answer.result (λ unblamed. (c.answered_by_name-answer.ensures.unfailed unblamed).0) was failed
+    c.ending_of.ensures ∙ ends_as_stream c.args.source.now.failed c.answered_by_name-answer.new.source.failed c.answered_by_name-answer.result (λ unblamed. (c.answered_by_name-answer.ensures.unfailed unblamed).0) was failed
 
 pub returns-clause-failed_sink : goal.returns-clause-failed_sink
 returns-clause-failed_sink g c = λ quiet was failed.
-    c.ending_of.ensures ∙ told_as_stream c.args.sink.now.failed c.complain_of.new.sink.failed c.answered_by_name-answer.result (λ unblamed. c.complain_of.ensures.quiet quiet ∙ (c.answered_by_name-answer.ensures.unfailed unblamed).1) was failed
+    c.ending_of.ensures ∙ ends_as_stream c.args.sink.now.failed c.complain_of.new.sink.failed c.answered_by_name-answer.result (λ unblamed. c.complain_of.ensures.quiet quiet ∙ (c.answered_by_name-answer.ensures.unfailed unblamed).1) was failed

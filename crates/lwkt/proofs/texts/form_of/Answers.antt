@@ -3,7 +3,7 @@ use Rattle.std.specs.Prelude.{IfOk}
 use Rattle.lwkt_request.specs.declared.requests.Form.{Form}
 use Rattle.lwkt.specs.declared.written.Made.{Made}
 use Rattle.lwkt.specs.Making.{IsForm}
-use Rattle.lwkt.proofs.Tellings.{json_made, text_made}
+use Rattle.lwkt.proofs.Reporting.{json_made, text_made}
 use Rattle.lwkt.proofs.texts.form_of.Goals as goal
 
 pub returns-in-Json-clause-made : goal.returns-in-Json-clause-made

@@ -1,5 +1,5 @@
 use Rattle.std.proofs.Common.{◌∙◌, sym}
-use Rattle.lwkt_bank.proofs.ToldMoves.{Told-join}
+use Rattle.lwkt_bank.proofs.LedgerMoves.{Ledger-join}
 use Rattle.lwkt_table.proofs.SeatingLemmas.{set_else}
 use Rattle.lwkt_bank.specs.Views.{joined}
 use Rattle.lwkt_bank.proofs.gathers.join.Goals as goal
@@ -14,6 +14,6 @@ join_seat-requires c =
       c.requires.same.1,
       c.requires.slots,
       c.requires.words,
-      λ s told here apart there.
-          (Told-join key.plans.items key.cpus s c.args.clerk.now.id v desk.0 desk.1 c.args.other.id c.args.cpu w told here desk.2 apart (sym (set_else s.views c.args.clerk.now.id c.args.other.id (joined v w) apart) ∙ there) c.requires.named c.requires.quiet).0,
+      λ s ledger here apart there.
+          (Ledger-join key.plans.items key.cpus s c.args.clerk.now.id v desk.0 desk.1 c.args.other.id c.args.cpu w ledger here desk.2 apart (sym (set_else s.views c.args.clerk.now.id c.args.other.id (joined v w) apart) ∙ there) c.requires.named c.requires.quiet).0,
     )

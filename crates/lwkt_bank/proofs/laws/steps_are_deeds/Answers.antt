@@ -1,5 +1,5 @@
 use Rattle.lwkt_bank.proofs.DeedMoves.{look_deeds, take_deeds, share_deeds, again_deeds, mark_deeds, give_one_deeds, give_clean_deeds, give_written_deeds, read_deeds, store_deeds, raise_deeds, read_blob_deeds, write_blob_deeds}
-use Rattle.lwkt_bank.proofs.ToldMoves.{Told-split, Told-join}
+use Rattle.lwkt_bank.proofs.LedgerMoves.{Ledger-split, Ledger-join}
 use Rattle.lwkt_bank.proofs.laws.steps_are_deeds.Goals as goal
 
 pub returns-clause-look : goal.returns-clause-look
@@ -36,10 +36,10 @@ pub returns-clause-raise : goal.returns-clause-raise
 returns-clause-raise c = λ plans cpus id v tok kind there held tally k. raise_deeds plans cpus id v kind tok there held tally k
 
 pub returns-clause-split : goal.returns-clause-split
-returns-clause-split c = Told-split
+returns-clause-split c = Ledger-split
 
 pub returns-clause-join : goal.returns-clause-join
-returns-clause-join c = Told-join
+returns-clause-join c = Ledger-join
 
 pub returns-clause-read_blob : goal.returns-clause-read_blob
 returns-clause-read_blob c = λ plans cpus id v tok kind there bytes held is. read_blob_deeds plans cpus id v kind tok there bytes held is

@@ -11,6 +11,6 @@ loop-from-preserved c =
     record {
       within = stays_within c.args.text.now c.loop-from.from c.in-Some.size c.loop-from.judge.count c.in-Some.event c.loop-from.invariant.within is;
       knows =
-          goes_on c.args.opening.now c.loop-from.judge c.in_ok-judge-2.judge c.args.text.now c.loop-from.from c.in-Some.size c.in-Some.event c.told_alone.result c.told_alone.ensures
+          goes_on c.args.opening.now c.loop-from.judge c.in_ok-judge-2.judge c.args.text.now c.loop-from.from c.in-Some.size c.in-Some.event c.stated_alone.result c.stated_alone.ensures
           c.loop-from.invariant.within c.if-judge-ge-TRACE_EVENTS.false c.loop-from.invariant.knows is c.in_ok-judge-2.ensures.knows;
     }

@@ -1,4 +1,4 @@
-use Rattle.lwkt_checker.proofs.Tellings.{complains}
+use Rattle.lwkt_checker.proofs.Reporting.{complains}
 use Rattle.lwkt_checker.proofs.programs.say_outcome.Goals as goal
 
 pub returns-in-Err : goal.returns-in-Err

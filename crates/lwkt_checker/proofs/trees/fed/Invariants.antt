@@ -4,5 +4,5 @@ use Rattle.lwkt_checker.specs.Knows.{Knows}
 use Rattle.lwkt_checker.proofs.trees.fed.Given as goal
 
 -- the judge was fed the events so far
-abbrev pub invariant-loop-told : goal.invariant-loop-told
-invariant-loop-told l = Knows (with_events l.opening (take l.told-index l.events)) l.judge
+abbrev pub invariant-loop-stated : goal.invariant-loop-stated
+invariant-loop-stated l = Knows (with_events l.opening (take l.stated-index l.events)) l.judge

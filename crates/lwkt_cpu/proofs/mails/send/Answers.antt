@@ -1,8 +1,8 @@
 use Rattle.lwkt_msg.specs.Desks.{desk_cpu}
-use Rattle.lwkt_cpu.proofs.TellMoves.{mail_told}
+use Rattle.lwkt_cpu.proofs.MailTraceMoves.{mail_traced}
 use Rattle.lwkt_cpu.proofs.mails.send.Goals as goal
 
-pub returns-clause-told : goal.returns-clause-told
-returns-clause-told c =
-    let m = c.send-told in
-    mail_told (desk_cpu c.args.ports.now.seat) 1 c.args.ports.now.seat m.new.self.seat c.args.trace.now m.new.trace m.ensures.told m.ensures.grew
+pub returns-clause-traced : goal.returns-clause-traced
+returns-clause-traced c =
+    let m = c.send-came in
+    mail_traced (desk_cpu c.args.ports.now.seat) 1 c.args.ports.now.seat m.new.self.seat c.args.trace.now m.new.trace m.ensures.traced m.ensures.grew

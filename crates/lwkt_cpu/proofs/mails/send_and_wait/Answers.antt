@@ -7,7 +7,7 @@ use Rattle.lwkt_cpu.specs.Nexts.{next_with}
 use Rattle.lwkt_cpu.specs.declared.nexts.Next.TheVariants.{Runs}
 use Rattle.lwkt_cpu.specs.Mailing.{WaitsReply}
 use Rattle.lwkt_cpu.proofs.MailMoves.{ran_mail_held, ran_mail_left}
-use Rattle.lwkt_cpu.proofs.TellMoves.{mail_told, mail_quiet, given_quiet}
+use Rattle.lwkt_cpu.proofs.MailTraceMoves.{mail_traced, mail_quiet, given_quiet}
 use Rattle.lwkt_cpu.proofs.mails.send_and_wait.Goals as goal
 
 pub returns-in-Ok-clause-does : goal.returns-in-Ok-clause-does
@@ -39,17 +39,17 @@ returns-in-Err-clause-does c =
 pub returns-in-Err-clause-ran : goal.returns-in-Err-clause-ran
 returns-in-Err-clause-ran c = ran_mail_held c.args.list.now (desk_cpu c.args.ports.now.seat) 1 320 c.args.hold.now.seat c.args.trace.now c.send_sync.new.trace (omega arith) c.requires.mine c.requires.held c.send_sync.ensures.grew
 
-pub returns-in-Ok-clause-told : goal.returns-in-Ok-clause-told
-returns-in-Ok-clause-told c =
+pub returns-in-Ok-clause-traced : goal.returns-in-Ok-clause-traced
+returns-in-Ok-clause-traced c =
     let p = c.args.ports.now.seat in
     let m = c.send_sync in
     let l = c.leave in
     mail_quiet p m.new.self.seat m.new.self.seat c.args.trace.now.items m.new.trace.items l.new.trace.items
-    (mail_told (desk_cpu p) 1 p m.new.self.seat c.args.trace.now m.new.trace m.ensures.told m.ensures.grew)
+    (mail_traced (desk_cpu p) 1 p m.new.self.seat c.args.trace.now m.new.trace m.ensures.traced m.ensures.grew)
     (given_quiet _ _ _ _ m.new.trace l.new.trace _ _ (l.ensures.gives_up c.args.last.now)) refl
 
-pub returns-in-Err-clause-told : goal.returns-in-Err-clause-told
-returns-in-Err-clause-told c =
+pub returns-in-Err-clause-traced : goal.returns-in-Err-clause-traced
+returns-in-Err-clause-traced c =
     let p = c.args.ports.now.seat in
     let m = c.send_sync in
-    mail_told (desk_cpu p) 1 p m.new.self.seat c.args.trace.now m.new.trace m.ensures.told m.ensures.grew
+    mail_traced (desk_cpu p) 1 p m.new.self.seat c.args.trace.now m.new.trace m.ensures.traced m.ensures.grew

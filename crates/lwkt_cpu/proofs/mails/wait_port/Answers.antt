@@ -8,7 +8,7 @@ use Rattle.lwkt_cpu.specs.Nexts.{next_with}
 use Rattle.lwkt_cpu.specs.declared.nexts.Next.TheVariants.{Runs}
 use Rattle.lwkt_cpu.specs.Mailing.{WaitsItem}
 use Rattle.lwkt_cpu.proofs.MailMoves.{ran_mail_held, ran_mail_left}
-use Rattle.lwkt_cpu.proofs.TellMoves.{mail_told, mail_quiet, given_quiet}
+use Rattle.lwkt_cpu.proofs.MailTraceMoves.{mail_traced, mail_quiet, given_quiet}
 use Rattle.lwkt_cpu.proofs.mails.wait_port.Goals as goal
 
 pub returns-in-Ok-Some-clause-waits : goal.returns-in-Ok-Some-clause-waits
@@ -54,26 +54,26 @@ returns-in-Err-clause-ran c =
     let l = c.leave-in-Err in
     ran_mail_left c.args.list.now (desk_cpu c.args.ports.now.seat) 128 c.args.hold.now.seat l.new.hold.seat c.args.trace.now c.get.new.trace l.new.trace (omega arith) c.requires.mine c.requires.held c.get.ensures.grew l.ensures.ran
 
-pub returns-in-Ok-Some-clause-told : goal.returns-in-Ok-Some-clause-told
-returns-in-Ok-Some-clause-told c =
+pub returns-in-Ok-Some-clause-traced : goal.returns-in-Ok-Some-clause-traced
+returns-in-Ok-Some-clause-traced c =
     let p = c.args.ports.now.seat in
     let m = c.get in
-    mail_told (desk_cpu p) 128 p m.new.self.seat c.args.trace.now m.new.trace m.ensures.told m.ensures.grew
+    mail_traced (desk_cpu p) 128 p m.new.self.seat c.args.trace.now m.new.trace m.ensures.traced m.ensures.grew
 
-pub returns-in-Ok-None-clause-told : goal.returns-in-Ok-None-clause-told
-returns-in-Ok-None-clause-told c =
+pub returns-in-Ok-None-clause-traced : goal.returns-in-Ok-None-clause-traced
+returns-in-Ok-None-clause-traced c =
     let p = c.args.ports.now.seat in
     let m = c.get in
     let l = c.leave in
     mail_quiet p m.new.self.seat m.new.self.seat c.args.trace.now.items m.new.trace.items l.new.trace.items
-    (mail_told (desk_cpu p) 128 p m.new.self.seat c.args.trace.now m.new.trace m.ensures.told m.ensures.grew)
+    (mail_traced (desk_cpu p) 128 p m.new.self.seat c.args.trace.now m.new.trace m.ensures.traced m.ensures.grew)
     (given_quiet _ _ _ _ m.new.trace l.new.trace _ _ (l.ensures.gives_up c.args.last.now)) refl
 
-pub returns-in-Err-clause-told : goal.returns-in-Err-clause-told
-returns-in-Err-clause-told c =
+pub returns-in-Err-clause-traced : goal.returns-in-Err-clause-traced
+returns-in-Err-clause-traced c =
     let p = c.args.ports.now.seat in
     let m = c.get in
     let l = c.leave-in-Err in
     mail_quiet p m.new.self.seat m.new.self.seat c.args.trace.now.items m.new.trace.items l.new.trace.items
-    (mail_told (desk_cpu p) 128 p m.new.self.seat c.args.trace.now m.new.trace m.ensures.told m.ensures.grew)
+    (mail_traced (desk_cpu p) 128 p m.new.self.seat c.args.trace.now m.new.trace m.ensures.traced m.ensures.grew)
     (given_quiet _ _ _ _ m.new.trace l.new.trace _ _ (l.ensures.gives_up c.args.last.now)) refl

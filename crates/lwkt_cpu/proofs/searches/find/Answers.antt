@@ -1,7 +1,7 @@
 use Rattle.std.proofs.Common.{◌+◌, ◌-◌, ◌*◌, ◌≤◌, length, arith}
 use Rattle.lwkt_base.specs.Holding.{Holding}
 use Rattle.lwkt_hold.proofs.RunMoves.{ran_then, ran_weaker}
-use Rattle.lwkt_cpu.proofs.TellMoves.{quiet_then}
+use Rattle.lwkt_cpu.proofs.MailTraceMoves.{quiet_then}
 use Rattle.lwkt_cpu.specs.Searches.{point, IsOfOne}
 use Rattle.lwkt_cpu.proofs.SearchMoves.{there_skipped, busy_skipped, one_skipped, found_first, found_round}
 use Rattle.lwkt_cpu.proofs.searches.find.Goals as goal

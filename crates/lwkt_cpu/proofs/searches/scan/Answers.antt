@@ -2,7 +2,7 @@ use Rattle.std.proofs.Common.{◌≡◌, ℕ, ◌+◌, ◌-◌, ◌*◌, ◌≤�
 use Rattle.std.specs.Prelude.{slice_get}
 use Rattle.std.proofs.lemmas.Option.{slice_get-get_or}
 use Rattle.lwkt_hold.proofs.ReadMoves.{ran_still}
-use Rattle.lwkt_cpu.proofs.TellMoves.{quiet_none, quiet_then}
+use Rattle.lwkt_cpu.proofs.MailTraceMoves.{quiet_none, quiet_then}
 use Rattle.lwkt_cpu.specs.Searches.{point, SkipsTo, IsOfOne}
 use Rattle.lwkt_cpu.proofs.SearchMoves.{skips_none, skips_more, skip_at, tried_ran, untried, there_at, found_at}
 use Rattle.lwkt_cpu.proofs.searches.scan.Goals as goal

@@ -1,6 +1,6 @@
 use Rattle.std.proofs.Common.{refl}
 use Rattle.lwkt_hold.specs.declared.answers.Resumed.TheVariants.{All, Passed}
-use Rattle.lwkt_cpu.proofs.ToldMoves.{resumed_quiet}
+use Rattle.lwkt_cpu.proofs.TurnTraceMoves.{resumed_quiet}
 use Rattle.lwkt_cpu.proofs.SearchMoves.{tries_by}
 use Rattle.lwkt_cpu.proofs.searches.try_list.Goals as goal
 

@@ -5,7 +5,7 @@ use Rattle.lwkt_bank.specs.Seats.{BankId, tokens_of}
 use Rattle.lwkt_hold.specs.Fronts.{IsFront}
 use Rattle.lwkt_hold.proofs.RunMoves.{ran_then, ran_weaker}
 use Rattle.lwkt_hold.proofs.ReadMoves.{ran_still}
-use Rattle.lwkt_cpu.proofs.TellMoves.{quiet_none}
+use Rattle.lwkt_cpu.proofs.MailTraceMoves.{quiet_none}
 use Rattle.lwkt_cpu.specs.declared.phases.Phase.TheVariants.{Live}
 use Rattle.lwkt_cpu.proofs.searches.try_one.Goals as goal
 

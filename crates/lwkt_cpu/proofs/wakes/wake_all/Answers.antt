@@ -4,7 +4,7 @@ use Rattle.std.proofs.lemmas.Option.{slice_get-get_or}
 use Rattle.lwkt_msg.specs.Desks.{desk_cpu, messages_of}
 use Rattle.lwkt_port.proofs.Chaining.{chain_none, chain_more}
 use Rattle.lwkt_port.proofs.Growing.{grew_none}
-use Rattle.lwkt_port.proofs.Telling.{tells_none, tells_then}
+use Rattle.lwkt_port.proofs.Tracing.{deeds_none, deeds_then}
 use Rattle.lwkt_cpu.specs.Waking.{Ward, WakesAt, ward}
 use Rattle.lwkt_cpu.proofs.WakeMoves.{post_none, post_then, grew_wider, grew_more, woken_none, woken_more, woken_awaits}
 use Rattle.lwkt_cpu.proofs.wakes.wake_all.Goals as goal
@@ -15,7 +15,7 @@ loop-at-init c = record {
   woken = woken_none c.args.threads.now;
   same = post_none c.args.ports.now;
   grew = grew_wider (desk_cpu c.args.ports.now.seat) 0 (128 * 0) c.args.trace.now c.args.trace.now (omega arith) (grew_none (desk_cpu c.args.ports.now.seat) c.args.trace.now);
-  told = tells_none c.args.ports.now.seat c.args.trace.now.items;
+  traced = deeds_none c.args.ports.now.seat c.args.trace.now.items;
 }
 
 pub wake_one-requires-clause-awaits : goal.wake_one-requires-clause-awaits
@@ -39,5 +39,5 @@ loop-at-preserved c =
       woken = woken_more c.args.threads.now l.threads l.at mid w.new.thread within is l.invariant.woken w.ensures.woken w.ensures.live;
       same = post_then c.args.ports.now l.ports w.new.ports l.invariant.same w.ensures.same;
       grew = grew_more c.args.ports.now l.ports (128 * l.at) 128 (128 * (l.at + 1)) c.args.trace.now l.trace w.new.trace (omega arith) l.invariant.same l.invariant.grew w.ensures.grew;
-      told = tells_then c.args.ports.now.seat l.ports.seat w.new.ports.seat c.args.trace.now.items l.trace.items w.new.trace.items l.invariant.told w.ensures.told;
+      traced = deeds_then c.args.ports.now.seat l.ports.seat w.new.ports.seat c.args.trace.now.items l.trace.items w.new.trace.items l.invariant.traced w.ensures.traced;
     }

@@ -2,7 +2,7 @@ use Rattle.std.proofs.Common.{◌*◌}
 use Rattle.lwkt_msg.specs.Desks.{desk_cpu}
 use Rattle.lwkt_port.specs.Chains.{Chain}
 use Rattle.lwkt_port.specs.Posts.{IsSamePost}
-use Rattle.lwkt_port.specs.Tellings.{TellsDeeds}
+use Rattle.lwkt_port.specs.Traced.{TracesDeeds}
 use Rattle.lwkt_port.specs.Works.{Grew}
 use Rattle.lwkt_cpu.specs.Waking.{Ward, WakesAt, ward, AreWoken}
 use Rattle.lwkt_cpu.proofs.wakes.wake_all.Given as goal
@@ -13,5 +13,5 @@ invariant-loop-at l = record {
   woken : AreWoken l.initial.threads l.threads;
   same : IsSamePost l.initial.ports l.ports;
   grew : Grew (desk_cpu l.initial.ports.seat) (128 * l.at) l.initial.trace l.trace;
-  told : TellsDeeds l.initial.ports.seat l.ports.seat l.initial.trace.items l.trace.items;
+  traced : TracesDeeds l.initial.ports.seat l.ports.seat l.initial.trace.items l.trace.items;
 }

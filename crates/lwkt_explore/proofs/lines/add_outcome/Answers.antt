@@ -3,7 +3,7 @@ use Rattle.std.proofs.lemmas.Result.{on_ok_weaker}
 use Rattle.std.specs.Fmt.{decimal}
 use Rattle.std.specs.List.{flat_map}
 use Rattle.lwkt_report.specs.Report.{line_feed}
-use Rattle.lwkt_explore.specs.Texts.{Form, kind_text, count_text, told_at, told_count, order_bytes, or_line, later_forms, why_line}
+use Rattle.lwkt_explore.specs.Texts.{Form, kind_text, count_text, group_at, group_count, order_bytes, or_line, later_forms, why_line}
 use Rattle.lwkt_explore.proofs.TextLemmas.{outlined}
 use Rattle.lwkt_explore.proofs.lines.add_outcome.Goals as goal
 
@@ -11,11 +11,11 @@ pub returns : goal.returns
 returns c =
     let outcome = c.args.outcome.now in
     let tried = c.args.found.now.tried in
-    let t = told_at outcome c.args.place c.args.found.now.outcomes in
-    let count : c.told_count-count.result ≡ told_count t = c.told_count-count.ensures in
+    let t = group_at outcome c.args.place c.args.found.now.outcomes in
+    let count : c.group_count-count.result ≡ group_count t = c.group_count-count.ensures in
     let word : c.kind_word-word.result.now ≡ kind_text outcome.kind = c.kind_word-word.ensures in
     let one : string_bytes c.put.new.out ≡ string_bytes c.args.out.now ++ (codes "outcome " ++ decimal c.args.number ++ codes " " ++ c.kind_word-word.result.now) = c.in_ok-put.ensures in
-    let two : string_bytes c.add_count.new.out ≡ string_bytes c.put.new.out ++ count_text tried c.told_count-count.result = c.in_ok-add_count.ensures in
+    let two : string_bytes c.add_count.new.out ≡ string_bytes c.put.new.out ++ count_text tried c.group_count-count.result = c.in_ok-add_count.ensures in
     let three : string_bytes c.push_str.new.out ≡ string_bytes c.add_count.new.out ++ codes ", order" = c.in_ok-push_str.ensures in
     let four : string_bytes c.add_order.new.out ≡ string_bytes c.push_str.new.out ++ order_bytes outcome.order.items = (let so = c.in_ok-add_order.ensures in rw c.as_slice.ensures.value at so) in
     let five : string_bytes c.push_str-2.new.out ≡ string_bytes c.add_order.new.out ++ line_feed = c.in_ok-push_str-2.ensures in
@@ -24,6 +24,6 @@ returns c =
     let last : OnOk c.add_why.result (string_bytes c.add_why.new.out ≡ string_bytes c.add_forms.new.out ++ why_line outcome.why) = c.add_why.ensures in
     on_ok_weaker c.add_why.result
     (λ is. outlined (string_bytes c.args.out.now) (string_bytes c.put.new.out) (string_bytes c.add_count.new.out) (string_bytes c.push_str.new.out) (string_bytes c.add_order.new.out) (string_bytes c.push_str-2.new.out) (string_bytes c.push_str-3.new.out) (string_bytes c.add_forms.new.out) (string_bytes c.add_why.new.out)
-    (codes "outcome ") (decimal c.args.number) (codes " ") (kind_text outcome.kind) (count_text tried (told_count t)) (codes ", order") (order_bytes outcome.order.items) line_feed (string_bytes outcome.text) (flat_map (λ (form : Form). or_line outcome form.0) (later_forms outcome (c.args.place + 1) c.args.found.now.outcomes)) (why_line outcome.why)
+    (codes "outcome ") (decimal c.args.number) (codes " ") (kind_text outcome.kind) (count_text tried (group_count t)) (codes ", order") (order_bytes outcome.order.items) line_feed (string_bytes outcome.text) (flat_map (λ (form : Form). or_line outcome form.0) (later_forms outcome (c.args.place + 1) c.args.found.now.outcomes)) (why_line outcome.why)
     (rw word at one) (rw count at two) three four five six seven is)
     last

@@ -29,13 +29,13 @@ returns-in_err-run-clause-refused c =
     let P : Fault → Type 0 = λ fault. DeclinesAlong script order fault in
     let Q : Fault → Type 0 = λ fault. RefusesSearch script fault in
     let there : AreThere script order = subst (AreThere script) (sym c.as_slice.ensures.value) c.requires in
-    let told : IfErr c.from_residual.result P = search rules in
-    IfErr-weaker c.from_residual.result P Q (λ fault why. refused_along script order fault there why) told
+    let grouped : IfErr c.from_residual.result P = search rules in
+    IfErr-weaker c.from_residual.result P Q (λ fault why. refused_along script order fault there why) grouped
 
 pub returns-in_err-kind-clause-refused : goal.returns-in_err-kind-clause-refused
 returns-in_err-kind-clause-refused c =
     let run = c.in_ok-run.run' in
     let P : Fault → Type 0 = λ fault. IsOfVerdict run.closing.verdict fault in
     let Q : Fault → Type 0 = λ fault. RefusesSearch c.args.script.now fault in
-    let told : IfErr c.from_residual-in_err-kind.result P = search rules in
-    IfErr-weaker c.from_residual-in_err-kind.result P Q (λ fault why. refused_verdict c.args.script.now c.as_slice.result.now run fault c.in_ok-run.ensures.ok why) told
+    let grouped : IfErr c.from_residual-in_err-kind.result P = search rules in
+    IfErr-weaker c.from_residual-in_err-kind.result P Q (λ fault why. refused_verdict c.args.script.now c.as_slice.result.now run fault c.in_ok-run.ensures.ok why) grouped

@@ -17,7 +17,7 @@ loop-given-init c =
       ran = ran_none (IsFront c.args.refs.now) c.args.seat.now c.args.trace.now;
       front = c.requires.front ∙ ap (λ n. holding_of (take n c.args.refs.now)) e;
       clean = c.requires.clean;
-      told = ap (λ n. c.args.trace.now.items ++ gives_all c.args.seat.now.cpu [] (take n c.args.refs.now)) (sym e);
+      traced = ap (λ n. c.args.trace.now.items ++ gives_all c.args.seat.now.cpu [] (take n c.args.refs.now)) (sym e);
     }
 
 pub give-requires-clause-held : goal.give-requires-clause-held
@@ -43,14 +43,14 @@ loop-given-preserved c =
           (ran_weaker R P 1 1 l.seat c.give.new.seat l.trace c.give.new.trace (λ h r. (c.args.count - (l.given + 1), r ∙ next)) (omega arith) c.give.ensures.ran);
       front = c.give.ensures.given ∙ next;
       clean = clean_given l.seat c.give.new.seat tok held c.give.ensures.given c.give.ensures.others c.give.ensures.still l.invariant.clean;
-      told =
-          let g = c.give.ensures.told in
+      traced =
+          let g = c.give.ensures.traced in
           let d : TokId = (get_or c.args.refs.now (c.args.count - 1 - l.given) unused).tok in
           gives_more c.args.refs.now c.args.count l.given unused c.args.seat.now.cpu l.seat.cpu (holding l.seat) g.0 c.args.trace.now.items l.trace.items c.give.new.trace.items c.loop-given-test.true c.requires.within l.invariant.ran.cpu l.invariant.front
-          (gives_clean l.seat d g.0 (l.invariant.clean.each tok held, l.invariant.clean.records tok held) g.1.1) l.invariant.told g.1.0;
+          (gives_clean l.seat d g.0 (l.invariant.clean.each tok held, l.invariant.clean.records tok held) g.1.1) l.invariant.traced g.1.0;
     }
 
-pub returns-clause-told : goal.returns-clause-told
-returns-clause-told c =
+pub returns-clause-traced : goal.returns-clause-traced
+returns-clause-traced c =
     let l = c.loop-given in
-    gives_done c.args.refs.now c.args.count l.given c.args.seat.now.cpu c.args.trace.now.items l.trace.items c.loop-given-test.false l.invariant.told
+    gives_done c.args.refs.now c.args.count l.given c.args.seat.now.cpu c.args.trace.now.items l.trace.items c.loop-given-test.false l.invariant.traced

@@ -12,5 +12,5 @@ invariant-loop-given l = record {
   ran : Ran (IsFront l.refs) l.given l.initial.seat l.seat l.initial.trace l.trace;
   front : holding l.seat ≡ holding_of (take (l.count - l.given) l.refs);
   clean : IsAllClean l.seat;
-  told : l.trace.items ++ gives_all l.initial.seat.cpu [] (take (l.count - l.given) l.refs) ≡ l.initial.trace.items ++ gives_all l.initial.seat.cpu [] (take l.count l.refs);
+  traced : l.trace.items ++ gives_all l.initial.seat.cpu [] (take (l.count - l.given) l.refs) ≡ l.initial.trace.items ++ gives_all l.initial.seat.cpu [] (take l.count l.refs);
 }

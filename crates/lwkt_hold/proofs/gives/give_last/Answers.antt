@@ -35,6 +35,6 @@ returns-clause-rows c = let m = c.mend-restored in gives_back c.args.seat.now m.
 pub returns-clause-events : goal.returns-clause-events
 returns-clause-events c =
     let m = c.mend-restored in
-    let g = c.give.ensures.told in
+    let g = c.give.ensures.traced in
     released c.args.seat.now m.new.seat c.args.tok m.result c.args.trace.now.items m.new.trace.items c.give.new.trace.items g.0 m.ensures.kept m.ensures.ran.bank m.ensures.ran.cpu m.ensures.mends g.1.0 g.1.1
     (λ is. ap (λ (t : Vec Event Global). t.items) (m.ensures.silent is)) m.ensures.stored

@@ -3,7 +3,7 @@ use Rattle.std.proofs.lemmas.Bool.{false≢true}
 use Rattle.lwkt_base.specs.Holding.{Holding}
 use Rattle.lwkt_bank.specs.Seats.{BankId, bank_of, plan_of, tokens_of, holding}
 use Rattle.lwkt_hold.proofs.RunMoves.{ran_none, ran_then, ran_weaker}
-use Rattle.lwkt_hold.proofs.GiveMoves.{lawful_untold, knowing_ran, knowing_kept, exclusive_held, mends_none, mends_lawful, still_broken, mends_broken, same_rows, restores_same}
+use Rattle.lwkt_hold.proofs.GiveMoves.{lawful_untraced, knowing_ran, knowing_kept, exclusive_held, mends_none, mends_lawful, still_broken, mends_broken, same_rows, restores_same}
 use Rattle.lwkt_hold.specs.Rows.{row, blob}
 use Rattle.lwkt_hold.proofs.gives.mend.Goals as goal
 
@@ -13,7 +13,7 @@ returns-then-not-ends_section-clause-ran c =
     ran_weaker P P 0 5 c.args.seat.now c.args.seat.now c.args.trace.now c.args.trace.now (λ h p. p) (omega arith) (ran_none P c.args.seat.now c.args.trace.now)
 
 pub returns-then-lawful-clause-ran : goal.returns-then-lawful-clause-ran
-returns-then-lawful-clause-ran c = knowing_ran (λ h. h ≡ holding c.args.seat.now) 5 c.args.seat.now c.lawful.new.self c.args.tok.0 _ c.args.trace.now (lawful_untold (plan_of (bank_of c.args.seat.now) c.args.tok.0).law c.args.seat.now.cpu c.args.tok.0 (row c.args.seat.now c.args.tok.0) (blob c.args.seat.now c.args.tok.0)) c.lawful.ensures.knowing
+returns-then-lawful-clause-ran c = knowing_ran (λ h. h ≡ holding c.args.seat.now) 5 c.args.seat.now c.lawful.new.self c.args.tok.0 _ c.args.trace.now (lawful_untraced (plan_of (bank_of c.args.seat.now) c.args.tok.0).law c.args.seat.now.cpu c.args.tok.0 (row c.args.seat.now c.args.tok.0) (blob c.args.seat.now c.args.tok.0)) c.lawful.ensures.knowing
 
 pub returns-clause-ran : goal.returns-clause-ran
 returns-clause-ran c =
@@ -21,7 +21,7 @@ returns-clause-ran c =
     let Q : Holding → Type 0 = λ h. h ≡ holding c.lawful.new.self in
     let kept = knowing_kept c.args.seat.now c.lawful.new.self c.args.tok.0 _ c.lawful.ensures.knowing in
     ran_then P 0 5 c.args.seat.now c.lawful.new.self c.restore.new.seat c.args.trace.now c.args.trace.now c.restore.new.trace
-    (knowing_ran P 0 c.args.seat.now c.lawful.new.self c.args.tok.0 _ c.args.trace.now (lawful_untold (plan_of (bank_of c.args.seat.now) c.args.tok.0).law c.args.seat.now.cpu c.args.tok.0 (row c.args.seat.now c.args.tok.0) (blob c.args.seat.now c.args.tok.0)) c.lawful.ensures.knowing)
+    (knowing_ran P 0 c.args.seat.now c.lawful.new.self c.args.tok.0 _ c.args.trace.now (lawful_untraced (plan_of (bank_of c.args.seat.now) c.args.tok.0).law c.args.seat.now.cpu c.args.tok.0 (row c.args.seat.now c.args.tok.0) (blob c.args.seat.now c.args.tok.0)) c.lawful.ensures.knowing)
     (ran_weaker Q P 5 5 c.lawful.new.self c.restore.new.seat c.args.trace.now c.restore.new.trace (λ h q. q ∙ kept) (omega arith) c.restore.ensures.ran)
 
 pub returns-clause-kept : goal.returns-clause-kept

@@ -6,7 +6,8 @@ use Rattle.lwkt_bank.specs.Seats.{entry}
 use Rattle.std.proofs.lemmas.Bool.{false≢true}
 use Rattle.lwkt_base.specs.Holding.{is_held}
 use Rattle.lwkt_hold.proofs.ListMoves.{takes_changed, looked_rows, lost_rows}
-use Rattle.lwkt_hold.proofs.EventMoves.{again_told, first_told}
+use Rattle.lwkt_hold.proofs.StillMoves.{looked_same, lost_same}
+use Rattle.lwkt_hold.proofs.EventMoves.{again_traced, first_traced}
 use Rattle.lwkt_hold.specs.Fronts.{IsFront}
 use Rattle.lwkt_hold.specs.Steps.{taking}
 use Rattle.lwkt_hold.specs.declared.answers.Missed.TheVariants.{Busy, Again, Worn}
@@ -100,8 +101,17 @@ returns-in-Worn-clause-rows c =
     let free = free_in_front c.args.seat.now c.args.refs.now c.args.at tok c.requires.front (front_names c.args.seat.now c.args.refs.now c.args.at (get_or c.args.refs.now c.args.at unused).tok.0 c.held.result c.is_held.result false c.requires.front c.held.ensures c.is_held.ensures c.if-is_held.false) in
     looked_rows c.args.seat.now c.try_take.new.self tok c.in-Worn.ensures.0 free c.in-Worn.ensures.1.1
 
-pub returns-then-is_held-clause-told : goal.returns-then-is_held-clause-told
-returns-then-is_held-clause-told c = again_told c.args.refs.now c.args.at unused c.args.seat.now.cpu c.cpu-cpu.result c.args.trace.now c.note_again.new.trace c.requires.within (front_names c.args.seat.now c.args.refs.now c.args.at (get_or c.args.refs.now c.args.at unused).tok.0 c.held.result c.is_held.result true c.requires.front c.held.ensures c.is_held.ensures c.if-is_held.true) c.cpu-cpu.ensures.is c.note_again.ensures.items
+pub returns-then-is_held-clause-traced : goal.returns-then-is_held-clause-traced
+returns-then-is_held-clause-traced c = again_traced c.args.refs.now c.args.at unused c.args.seat.now.cpu c.cpu-cpu.result c.args.trace.now c.note_again.new.trace c.requires.within (front_names c.args.seat.now c.args.refs.now c.args.at (get_or c.args.refs.now c.args.at unused).tok.0 c.held.result c.is_held.result true c.requires.front c.held.ensures c.is_held.ensures c.if-is_held.true) c.cpu-cpu.ensures.is c.note_again.ensures.items
 
-pub returns-in-Got-clause-told : goal.returns-in-Got-clause-told
-returns-in-Got-clause-told c = first_told c.args.refs.now c.args.at unused c.args.seat.now.cpu c.cpu-cpu.result (taking c.cpu-cpu.result (get_or c.args.refs.now c.args.at unused).tok (get_or c.args.refs.now c.args.at unused).mode) c.args.trace.now c.note_taken.new.trace c.requires.within (front_names c.args.seat.now c.args.refs.now c.args.at (get_or c.args.refs.now c.args.at unused).tok.0 c.held.result c.is_held.result false c.requires.front c.held.ensures c.is_held.ensures c.if-is_held.false) c.cpu-cpu.ensures.is refl c.note_taken.ensures.items
+pub returns-in-Got-clause-traced : goal.returns-in-Got-clause-traced
+returns-in-Got-clause-traced c = first_traced c.args.refs.now c.args.at unused c.args.seat.now.cpu c.cpu-cpu.result (taking c.cpu-cpu.result (get_or c.args.refs.now c.args.at unused).tok (get_or c.args.refs.now c.args.at unused).mode) c.args.trace.now c.note_taken.new.trace c.requires.within (front_names c.args.seat.now c.args.refs.now c.args.at (get_or c.args.refs.now c.args.at unused).tok.0 c.held.result c.is_held.result false c.requires.front c.held.ensures c.is_held.ensures c.if-is_held.false) c.cpu-cpu.ensures.is refl c.note_taken.ensures.items
+
+pub returns-in-Busy-clause-same : goal.returns-in-Busy-clause-same
+returns-in-Busy-clause-same c = looked_same c.args.seat.now c.try_take.new.self (get_or c.args.refs.now c.args.at unused).tok.0 c.in-Busy.word c.in-Busy.ensures.1
+
+pub returns-in-Again-clause-same : goal.returns-in-Again-clause-same
+returns-in-Again-clause-same c = lost_same c.args.seat.now c.try_take.new.self (get_or c.args.refs.now c.args.at unused).tok.0 (get_or c.args.refs.now c.args.at unused).mode c.has_only-alone.result c.in-Again.ensures
+
+pub returns-in-Worn-clause-same : goal.returns-in-Worn-clause-same
+returns-in-Worn-clause-same c = looked_same c.args.seat.now c.try_take.new.self (get_or c.args.refs.now c.args.at unused).tok.0 c.in-Worn.ensures.0 c.in-Worn.ensures.1.1

@@ -9,7 +9,7 @@ returns-clause-ends g c =
         room = c.args.stop.now;
         part = c.stop_in_room.new.trace;
         none = c.requires.room.0;
-        does = record { stops = s.stops; ran = s.ran; told = s.told; same = s.same };
+        does = record { stops = s.stops; ran = s.ran; traced = s.traced; same = s.same };
         grown = refl;
       };
       rest = refl;

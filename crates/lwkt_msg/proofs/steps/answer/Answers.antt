@@ -5,10 +5,10 @@ use Rattle.lwkt_base.specs.declared.records.Call.{Call}
 use Rattle.lwkt_base.specs.declared.records.Rec.{Rec}
 use Rattle.lwkt_msg.specs.declared.views.View.{View}
 use Rattle.lwkt_msg.specs.Views.{word_at, slot_at, call_of, at, who, answered}
-use Rattle.lwkt_msg.specs.Told.{Told}
+use Rattle.lwkt_msg.specs.Ledger.{Ledger}
 use Rattle.lwkt_msg.specs.Calls.{answered_rec}
 use Rattle.lwkt_msg.specs.Deeds as deed
-use Rattle.lwkt_msg.specs.Plays.{IsAfter, reply_is_told}
+use Rattle.lwkt_msg.specs.Plays.{IsAfter, replies_to_it}
 use Rattle.lwkt_msg.proofs.Allowing.{reply_allowed, first_same}
 use Rattle.lwkt_msg.proofs.Sitting.{sat_given, wrote, word_inside}
 use Rattle.lwkt_msg.proofs.steps.answer.Goals as goal
@@ -33,9 +33,9 @@ fetch_add-requires c =
     let front : Me Rec View = (me.0, (slot_at m, rec) ∷ value.0) in
     let me_is : c.exchange.new.seat.me ≡ front = wrote c.front-rec.new.place.me c.exchange.new.seat.me (slot_at m) c.slot_of_message.result c.front-rec.result rec value.0 c.slot_of_message.ensures (ap (λ (x : Me Rec View). x.1) before ∙ value.1) c.exchange.ensures.3
     ∙ ap (λ (x : Me Rec View). let y : Me Rec View = (x.0, (slot_at m, rec) ∷ value.0) in y) before in
-    let F : Me Rec View → Type 0 = λ x. Allows (Told c.args.top.now.key) z.slots i x (word_at m) (λ n. (n + 1) % 2 ^ 64) (reply_is_told (step z.slots (word_at m) 1 0 none) x) in
+    let F : Me Rec View → Type 0 = λ x. Allows (Ledger c.args.top.now.key) z.slots i x (word_at m) (λ n. (n + 1) % 2 ^ 64) (replies_to_it (step z.slots (word_at m) 1 0 none) x) in
     let call : call_of rec ≡ (at me.0 m).got = ap call_of (sym is) ∙ held.2 in
-    let H : ℕ → Type 0 = λ j. (j < z.words) × Allows (Told c.args.top.now.key) z.slots i c.exchange.new.seat.me j (λ n. (n + 1) % 2 ^ 64) (reply_is_told (step z.slots j 1 0 none) c.exchange.new.seat.me) in
+    let H : ℕ → Type 0 = λ j. (j < z.words) × Allows (Ledger c.args.top.now.key) z.slots i c.exchange.new.seat.me j (λ n. (n + 1) % 2 ^ 64) (replies_to_it (step z.slots j 1 0 none) c.exchange.new.seat.me) in
     let here = subst H (sym c.word_of_message.ensures) (word_inside c.args.place.now z c.args.cpu m sat c.requires.table c.requires.exists, subst F (sym me_is) (reply_allowed c.args.top.now.key i front c.args.cpu m sat.kind c.requires.exists z.slots rec value.0 refl c.requires.taken.0 call)) in
     (c.exchange.ensures.0 ∙ (c.front-rec.ensures.seat.0.0 ∙ c.requires.table), here.0, here.1)
 

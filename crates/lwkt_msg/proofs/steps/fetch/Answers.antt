@@ -6,10 +6,10 @@ use Rattle.lwkt_base.specs.MessageWord.{message_word}
 use Rattle.lwkt_msg.specs.declared.views.View.{View}
 use Rattle.lwkt_msg.specs.Views.{word_at, slot_at, at, who, reaped}
 use Rattle.lwkt_msg.specs.Deeds as deed
-use Rattle.lwkt_msg.specs.Told.{Told}
+use Rattle.lwkt_msg.specs.Ledger.{Ledger}
 use Rattle.lwkt_msg.specs.Hands.{IsOwn, IsInHand}
 use Rattle.lwkt_msg.specs.Steps.{rest_word}
-use Rattle.lwkt_msg.specs.Plays.{HasFetched, reap_is_told}
+use Rattle.lwkt_msg.specs.Plays.{HasFetched, reaps_it}
 use Rattle.lwkt_msg.proofs.Allowing.{reap_allowed, first_same}
 use Rattle.lwkt_msg.proofs.Sitting.{sat_taken, word_inside}
 use Rattle.lwkt_msg.proofs.steps.fetch.Goals as goal
@@ -22,9 +22,9 @@ store-requires c =
     let z = c.args.top.now.table_id in
     let i = c.args.place.now.id in
     let n_is : c.make.result ≡ message_word (rest_word c.args.word.origin (at me.0 m).round) = c.make.ensures ∙ ap message_word c.requires.word in
-    let G : ℕ → Type 0 = λ n. Allows (Told c.args.top.now.key) z.slots i me (word_at m) (λ _. n) (λ _. reap_is_told (step z.slots (word_at m) n 0 none) me n) in
+    let G : ℕ → Type 0 = λ n. Allows (Ledger c.args.top.now.key) z.slots i me (word_at m) (λ _. n) (λ _. reaps_it (step z.slots (word_at m) n 0 none) me n) in
     let back = c.requires.back in
-    let F : ℕ → Type 0 = λ j. (j < z.words) × Allows (Told c.args.top.now.key) z.slots i me j (λ _. c.make.result) (λ _. reap_is_told (step z.slots j c.make.result 0 none) me c.make.result) in
+    let F : ℕ → Type 0 = λ j. (j < z.words) × Allows (Ledger c.args.top.now.key) z.slots i me j (λ _. c.make.result) (λ _. reaps_it (step z.slots j c.make.result 0 none) me c.make.result) in
     let allowed = subst F (sym c.word_of_message.ensures) (word_inside c.args.place.now z c.args.word.origin m sat c.requires.table c.requires.exists, subst G (sym n_is) (reap_allowed c.args.top.now.key i me c.args.word.origin m sat.kind c.requires.exists z.slots back.0 back.1 back.2)) in
     (c.requires.table, allowed.0, allowed.1)
 

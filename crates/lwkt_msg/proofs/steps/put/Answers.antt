@@ -6,10 +6,10 @@ use Rattle.lwkt_base.specs.declared.records.Rec.{Rec}
 use Rattle.lwkt_base.specs.MessageWord.{message_word, MessageFits}
 use Rattle.lwkt_msg.specs.declared.views.View.{View}
 use Rattle.lwkt_msg.specs.Views.{word_at, slot_at, call_of, flags_of, at, who, sent}
-use Rattle.lwkt_msg.specs.Told.{Told}
+use Rattle.lwkt_msg.specs.Ledger.{Ledger}
 use Rattle.lwkt_msg.specs.Steps.{sent_word}
 use Rattle.lwkt_msg.specs.Deeds as deed
-use Rattle.lwkt_msg.specs.Plays.{IsAfter, send_is_told}
+use Rattle.lwkt_msg.specs.Plays.{IsAfter, sends_it}
 use Rattle.lwkt_msg.proofs.Allowing.{send_allowed}
 use Rattle.lwkt_msg.proofs.Sitting.{sat_given, wrote, word_inside}
 use Rattle.lwkt_msg.proofs.steps.put.Goals as goal
@@ -26,8 +26,8 @@ store-requires c =
     let n_is : c.make.result ≡ message_word (sent_word w.origin w.target ((at v m).round + 1) w.sync (flags_of w)) = c.make.ensures ∙ ap message_word c.requires.word in
     let z = c.args.top.now.table_id in
     let i = c.exchange.new.seat.id in
-    let F : Me Rec View → Type 0 = λ me. Allows (Told c.args.top.now.key) z.slots i me (word_at m) (λ _. c.make.result) (λ _. send_is_told (step z.slots (word_at m) c.make.result 0 none) me c.make.result) in
-    let G : ℕ → Type 0 = λ n. Allows (Told c.args.top.now.key) z.slots i front (word_at m) (λ _. n) (λ _. send_is_told (step z.slots (word_at m) n 0 none) front n) in
+    let F : Me Rec View → Type 0 = λ me. Allows (Ledger c.args.top.now.key) z.slots i me (word_at m) (λ _. c.make.result) (λ _. sends_it (step z.slots (word_at m) c.make.result 0 none) me c.make.result) in
+    let G : ℕ → Type 0 = λ n. Allows (Ledger c.args.top.now.key) z.slots i front (word_at m) (λ _. n) (λ _. sends_it (step z.slots (word_at m) n 0 none) front n) in
     let few = sat.cpus in
     let there = sat.there in
     let to = c.requires.fits.0 in
@@ -35,7 +35,7 @@ store-requires c =
     let to_few : w.target.0 < 8 = omega arith in
     let home = c.requires.home in
     let allowed = send_allowed c.args.top.now.key i front w.origin m sat.kind c.requires.exists z.slots w.target w.sync (flags_of w) c.args.rec held.1.0 refl home.0 home.2 cpu_few to_few to c.requires.fits.1 c.requires.clean.0 c.requires.clean.1 in
-    let H : ℕ → Type 0 = λ j. (j < z.words) × Allows (Told c.args.top.now.key) z.slots i c.exchange.new.seat.me j (λ _. c.make.result) (λ _. send_is_told (step z.slots j c.make.result 0 none) c.exchange.new.seat.me c.make.result) in
+    let H : ℕ → Type 0 = λ j. (j < z.words) × Allows (Ledger c.args.top.now.key) z.slots i c.exchange.new.seat.me j (λ _. c.make.result) (λ _. sends_it (step z.slots j c.make.result 0 none) c.exchange.new.seat.me c.make.result) in
     let here = subst H (sym c.word_of_message.ensures) (word_inside c.args.place.now z w.origin m sat c.requires.table c.requires.exists, subst F (sym me_is) (subst G (sym n_is) allowed)) in
     (c.exchange.ensures.0 ∙ c.requires.table, here.0, here.1)
 

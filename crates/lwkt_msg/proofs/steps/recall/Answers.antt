@@ -9,7 +9,7 @@ use Rattle.lwkt_msg.specs.Views.{slot_at, at, who, dropped}
 use Rattle.lwkt_msg.specs.Deeds.{drops, loses}
 use Rattle.lwkt_msg.specs.Hands.{IsOwn, IsInHand}
 use Rattle.lwkt_msg.specs.Steps.{rest_word}
-use Rattle.lwkt_msg.specs.Told.{Told}
+use Rattle.lwkt_msg.specs.Ledger.{Ledger}
 use Rattle.lwkt_msg.specs.Plays.{HasRecalled, HasMissed, drops_it}
 use Rattle.lwkt_msg.proofs.Allowing.{first_same}
 use Rattle.lwkt_msg.proofs.Revoking.{drop_allowed}
@@ -25,7 +25,7 @@ compare_exchange-seen-requires c =
     let own = c.requires.own in
     let new : ℕ = c.make-at_rest.result in
     let new_is : new ≡ message_word (rest_word c.args.word.origin (at c.args.place.now.me.0 c.args.m).round) = c.make-at_rest.ensures ∙ ap message_word (c.requires.home ∙ ap (λ (n : ℕ). rest_word c.args.word.origin n) own.4) in
-    let F : ℕ → Type 0 = λ i. (i < z.words) × Allows (Told c.args.top.now.key) z.slots c.args.place.now.id c.args.place.now.me i (λ n. either (eqb n c.args.found) new n) (drops_it (step z.slots i c.args.found new none) c.args.place.now.me) in
+    let F : ℕ → Type 0 = λ i. (i < z.words) × Allows (Ledger c.args.top.now.key) z.slots c.args.place.now.id c.args.place.now.me i (λ n. either (eqb n c.args.found) new n) (drops_it (step z.slots i c.args.found new none) c.args.place.now.me) in
     let allowed = subst F (sym c.word_of_message.ensures) (word_inside c.args.place.now z c.args.word.origin c.args.m sat c.requires.table c.requires.exists, drop_allowed c.args.top.now.key c.args.place.now.id c.args.place.now.me c.args.word.origin c.args.m sat.kind c.requires.exists z.slots c.args.found new c.args.word w.0 new_is w.1 w.2 own.0 own.1) in
     (c.requires.table, allowed.0, allowed.1)
 

@@ -5,7 +5,7 @@ use Rattle.atomic_table.specs.Table.{step, Allows}
 use Rattle.lwkt_base.specs.MessageWord.{message_word}
 use Rattle.lwkt_msg.specs.Views.{at, who, requested}
 use Rattle.lwkt_msg.specs.Deeds as deed
-use Rattle.lwkt_msg.specs.Told.{Told}
+use Rattle.lwkt_msg.specs.Ledger.{Ledger}
 use Rattle.lwkt_msg.specs.Plays.{requests}
 use Rattle.lwkt_msg.proofs.Revoking.{request_allowed}
 use Rattle.lwkt_msg.proofs.Sitting.{sat_alike, word_inside}
@@ -16,7 +16,7 @@ fetch_or-requires c =
     let sat = c.requires.sat in
     let z = c.args.top.now.table_id in
     let own = c.requires.own in
-    let F : ℕ → Type 0 = λ i. (i < z.words) × Allows (Told c.args.top.now.key) z.slots c.args.place.now.id c.args.place.now.me i (λ n. bit_or n 4) (requests (step z.slots i 4 0 none) c.args.place.now.me) in
+    let F : ℕ → Type 0 = λ i. (i < z.words) × Allows (Ledger c.args.top.now.key) z.slots c.args.place.now.id c.args.place.now.me i (λ n. bit_or n 4) (requests (step z.slots i 4 0 none) c.args.place.now.me) in
     let allowed = subst F (sym c.word_of_message.ensures) (word_inside c.args.place.now z c.args.cpu c.args.m sat c.requires.table c.requires.exists, request_allowed c.args.top.now.key c.args.place.now.id c.args.place.now.me c.args.cpu c.args.m sat.kind c.requires.exists z.slots own.0 own.1) in
     (c.requires.table, allowed.0, allowed.1)
 

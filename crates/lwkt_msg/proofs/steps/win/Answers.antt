@@ -3,7 +3,7 @@ use Rattle.atomic_table.specs.Table.{Me, step, Allows}
 use mathlib.Core.Option.{none}
 use prog.Atomic.{either}
 use Rattle.lwkt_base.specs.MessageWord.{message_word}
-use Rattle.lwkt_msg.specs.Told.{Told}
+use Rattle.lwkt_msg.specs.Ledger.{Ledger}
 use Rattle.lwkt_base.specs.declared.records.Rec.{Rec}
 use Rattle.lwkt_msg.specs.declared.views.View.{View}
 use Rattle.lwkt_msg.specs.Views.{slot_at, at, who, took}
@@ -18,7 +18,7 @@ compare_exchange-seen-requires c =
     let sat = c.requires.sat in
     let z = c.args.top.now.table_id in
     let w = c.requires.word in
-    let F : ℕ → Type 0 = λ i. (i < z.words) × Allows (Told c.args.top.now.key) z.slots c.args.place.now.id c.args.place.now.me i (λ n. either (eqb n c.args.found) (c.args.found + 1) n) (takes_it (step z.slots i c.args.found (c.args.found + 1) none) c.args.place.now.me) in
+    let F : ℕ → Type 0 = λ i. (i < z.words) × Allows (Ledger c.args.top.now.key) z.slots c.args.place.now.id c.args.place.now.me i (λ n. either (eqb n c.args.found) (c.args.found + 1) n) (takes_it (step z.slots i c.args.found (c.args.found + 1) none) c.args.place.now.me) in
     let allowed = subst F (sym c.word_of_message.ensures) (word_inside c.args.place.now z c.args.word.target c.args.m sat c.requires.table c.requires.exists, take_allowed c.args.top.now.key c.args.place.now.id c.args.place.now.me c.args.word.target c.args.m sat.kind c.requires.exists z.slots c.args.found (c.args.found + 1) c.args.word w.0 (ap (λ (n : ℕ). n + 1) w.0) w.1 w.2 refl) in
     (c.requires.table, allowed.0, allowed.1)
 

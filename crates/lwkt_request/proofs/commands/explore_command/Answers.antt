@@ -1,7 +1,5 @@
-use Rattle.std.proofs.lemmas.Result.{IfOk-weaker}
-use Rattle.lwkt_request.specs.CommandLine.{IsBuilt, explore}
 use Rattle.lwkt_request.proofs.commands.explore_command.Goals as goal
 
 pub returns : goal.returns
 returns c =
-    IfOk-weaker c.with_file.result _ (IsBuilt explore) (λ more is. is _ (c.in_ok-command-8.ensures _ (c.in_ok-command-7.ensures _ (c.in_ok-command-6.ensures _ (c.in_ok-command-5.ensures _ (c.in_ok-command-4.ensures _ (c.in_ok-command-3.ensures _ (c.in_ok-command-2.ensures _ (c.in_ok-command.ensures _ (c.described-command.ensures _ (record { is = c.new.ensures.app; local = c.new.ensures.local; whole = c.new.ensures.whole }))))))))))) c.with_file.ensures
+    c.with_file.ensures _ (c.with_flag-command-3.ensures _ (c.with_flag-command-2.ensures _ (c.with_value-command-5.ensures _ (c.with_value-command-4.ensures _ (c.with_value-command-3.ensures _ (c.with_value-command-2.ensures _ (c.with_value-command.ensures _ (c.with_flag-command.ensures _ (c.described.ensures _ (record { is = c.new.ensures.app; local = c.new.ensures.local; whole = c.new.ensures.whole }))))))))))

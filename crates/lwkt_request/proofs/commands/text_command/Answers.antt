@@ -1,7 +1,5 @@
-use Rattle.std.proofs.lemmas.Result.{IfOk-weaker}
-use Rattle.lwkt_request.specs.CommandLine.{IsBuilt, text}
 use Rattle.lwkt_request.proofs.commands.text_command.Goals as goal
 
 pub returns : goal.returns
 returns c =
-    IfOk-weaker c.with_file.result _ (IsBuilt text) (λ more is. is _ (c.in_ok-command-3.ensures _ (c.in_ok-command-2.ensures _ (c.in_ok-command.ensures _ (c.described-command.ensures _ (record { is = c.new.ensures.app; local = c.new.ensures.local; whole = c.new.ensures.whole })))))) c.with_file.ensures
+    c.with_file.ensures _ (c.with_flag-command-3.ensures _ (c.with_flag-command-2.ensures _ (c.with_flag-command.ensures _ (c.described.ensures _ (record { is = c.new.ensures.app; local = c.new.ensures.local; whole = c.new.ensures.whole })))))

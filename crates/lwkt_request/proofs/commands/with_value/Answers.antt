@@ -1,8 +1,5 @@
-use Rattle.std.proofs.lemmas.Result.{IfOk-weaker}
-use Rattle.clap.specs.Words.{App, with_rule}
-use Rattle.lwkt_request.specs.CommandLine.{IsBuilt, valued}
+use Rattle.lwkt_request.specs.CommandLine.{valued}
 use Rattle.lwkt_request.proofs.commands.with_value.Goals as goal
 
 pub returns : goal.returns
-returns c =
-    IfOk-weaker c.with.result _ (λ more. (app : App) → IsBuilt app c.args.command → IsBuilt (with_rule app (valued c.args.name.now)) more) (λ more is app built. is app (valued c.args.name.now) built c.valued.ensures.rule) c.with.ensures
+returns c = λ app built. c.with.ensures app (valued c.args.name.now) built c.valued.ensures.rule

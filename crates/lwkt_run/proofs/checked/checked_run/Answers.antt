@@ -4,7 +4,7 @@ use Rattle.lwkt_core.specs.declared.events.Event.{Event}
 use Rattle.lwkt_core.specs.Machine.{Machine}
 use Rattle.lwkt_verdict.specs.Follow.{Begins}
 use Rattle.lwkt_run.specs.Checked.{EndsSo, DeclinesSo}
-use Rattle.lwkt_run.specs.Driving.{Stand, stand}
+use Rattle.lwkt_run.specs.Driving.{DriverState, driver_state}
 use Rattle.lwkt_run.proofs.CheckedMoves.{Closes, KeepsAll, keeps_all, within_machine, leaves_checked, saying}
 use Rattle.lwkt_run.proofs.IdMoves.{opened_has}
 use Rattle.lwkt_run.proofs.RoomMoves.{room_stays, as_many}
@@ -18,17 +18,17 @@ drive-requires-clause-few g c = omega (arith, c.in_ok-machine.ensures.ok.as_many
 
 pub left_by-requires-clause-bank : goal.left_by-requires-clause-bank
 left_by-requires-clause-bank g c =
-    let s : Stand = stand c.in_ok-machine.machine (g.K.Keeper.kept c.args.keeper) 0 c.in_ok-follower.follower in
+    let s : DriverState = driver_state c.in_ok-machine.machine (g.K.Keeper.kept c.args.keeper) 0 c.in_ok-follower.follower in
     let n = c.drive.new in
-    let t : Stand = stand n.machine (g.K.Keeper.kept n.keeper) n.events n.follower in
+    let t : DriverState = driver_state n.machine (g.K.Keeper.kept n.keeper) n.events n.follower in
     let k : KeepsAll c.args.script.now s t = keeps_all c.args.script.now c.args.course c.in_ok-fits.fits s t c.in_ok-machine.ensures.ok c.requires.fresh refl c.in_ok-fits.ensures.ok in
     ap (λ (bank : BankId). bank.plans) k.bank ∙ c.in_ok-machine.ensures.ok.plans
 
 pub left_by-requires-clause-threads : goal.left_by-requires-clause-threads
 left_by-requires-clause-threads g c =
-    let s : Stand = stand c.in_ok-machine.machine (g.K.Keeper.kept c.args.keeper) 0 c.in_ok-follower.follower in
+    let s : DriverState = driver_state c.in_ok-machine.machine (g.K.Keeper.kept c.args.keeper) 0 c.in_ok-follower.follower in
     let n = c.drive.new in
-    let t : Stand = stand n.machine (g.K.Keeper.kept n.keeper) n.events n.follower in
+    let t : DriverState = driver_state n.machine (g.K.Keeper.kept n.keeper) n.events n.follower in
     let k : KeepsAll c.args.script.now s t = keeps_all c.args.script.now c.args.course c.in_ok-fits.fits s t c.in_ok-machine.ensures.ok c.requires.fresh refl c.in_ok-fits.ensures.ok in
     k.has
 
@@ -36,9 +36,9 @@ pub left_by-requires-clause-room : goal.left_by-requires-clause-room
 left_by-requires-clause-room g c =
     let script = c.args.script.now in
     let m = c.in_ok-machine.machine in
-    let s : Stand = stand m (g.K.Keeper.kept c.args.keeper) 0 c.in_ok-follower.follower in
+    let s : DriverState = driver_state m (g.K.Keeper.kept c.args.keeper) 0 c.in_ok-follower.follower in
     let n = c.drive.new in
-    let t : Stand = stand n.machine (g.K.Keeper.kept n.keeper) n.events n.follower in
+    let t : DriverState = driver_state n.machine (g.K.Keeper.kept n.keeper) n.events n.follower in
     let k : KeepsAll script s t = keeps_all script c.args.course c.in_ok-fits.fits s t c.in_ok-machine.ensures.ok c.requires.fresh refl c.in_ok-fits.ensures.ok in
     room_stays m n.machine c.in_ok-close_room.close_room k.bank k.book (as_many script.cpus script.threads m.cpus n.machine.cpus (opened_has script m c.in_ok-machine.ensures.ok) k.has) c.in_ok-close_room.ensures
 
@@ -47,21 +47,21 @@ returns-clause-leaves g c =
     let script = c.args.script.now in
     let opened = c.in_ok-machine in
     let follower = c.in_ok-follower in
-    let told = c.in_ok-left in
-    let left = told.field-0.left in
-    let stops = told.field-0.stops.items in
-    let s : Stand = stand opened.machine (g.K.Keeper.kept c.args.keeper) 0 follower.follower in
+    let left_so = c.in_ok-left in
+    let left = left_so.field-0.left in
+    let stops = left_so.field-0.stops.items in
+    let s : DriverState = driver_state opened.machine (g.K.Keeper.kept c.args.keeper) 0 follower.follower in
     let n = c.drive.new in
-    let t : Stand = stand n.machine (g.K.Keeper.kept n.keeper) n.events n.follower in
+    let t : DriverState = driver_state n.machine (g.K.Keeper.kept n.keeper) n.events n.follower in
     let B : Machine → Type 0 = λ m. Begins script.threads m follower.follower in
     let closes : Closes script s t left stops = record {
       opens = opened.ensures.ok;
       within = opened.ensures.within;
       lawful = opened.ensures.lawful;
-      values = told.ensures.values;
-      ids = told.ensures.threads;
-      shown = told.ensures.shown;
-      leaves = told.ensures.leaves.0;
+      values = left_so.ensures.values;
+      ids = left_so.ensures.threads;
+      shown = left_so.ensures.shown;
+      leaves = left_so.ensures.leaves.0;
       begins = subst B c.in_ok-opening.ensures.ok follower.ensures.begins;
       fresh = c.requires.fresh;
       uncounted = refl;

@@ -9,5 +9,5 @@ use Rattle.lwkt_run.proofs.checked.opened.Goals as goal
 pub returns-clause-refused : goal.returns-clause-refused
 returns-clause-refused c =
     let s = c.args.script.now in
-    let told : IfErr c.open.result (λ fault. DeclinesTables s.cpus s.tokens s.messages fault) = search rules in
-    IfErr-weaker c.open.result (λ fault. DeclinesTables s.cpus s.tokens s.messages fault) (λ fault. DeclinesRun s fault) (λ fault why. declines_more s fault c.requires.few why) told
+    let declined : IfErr c.open.result (λ fault. DeclinesTables s.cpus s.tokens s.messages fault) = search rules in
+    IfErr-weaker c.open.result (λ fault. DeclinesTables s.cpus s.tokens s.messages fault) (λ fault. DeclinesRun s fault) (λ fault why. declines_more s fault c.requires.few why) declined

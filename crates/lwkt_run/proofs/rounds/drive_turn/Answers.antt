@@ -2,7 +2,7 @@ use Rattle.std.proofs.Common.{◌≡◌, ◌+◌, ℕ, List, length, min, refl, 
 use Rattle.std.specs.Prelude.{option_map}
 use Rattle.lwkt_core.specs.declared.events.Event.{Event}
 use Rattle.lwkt_run.specs.declared.polled.Polled.{Polled}
-use Rattle.lwkt_run.specs.Driving.{GoesOnBy, DeclinesBy, Stand, stand}
+use Rattle.lwkt_run.specs.Driving.{GoesOnBy, DeclinesBy, DriverState, driver_state}
 use Rattle.lwkt_run.specs.Keeping.{polled_of, story_after}
 use Rattle.lwkt_run.proofs.DriveMoves.{Turns, turn_unfit, turn_fits}
 use Rattle.lwkt_run.proofs.PollMoves.{turn_polled}
@@ -15,8 +15,8 @@ pub returns-then-not-branch-clause-ok : goal.returns-then-not-branch-clause-ok
 returns-then-not-branch-clause-ok g c =
     let kept = g.K.Keeper.kept in
     let asks : Option Polled = option_map polled_of c.asks_of-asks.result in
-    let s : Stand = stand c.args.machine.now (kept c.args.keeper.now) c.args.events.now c.args.follower.now in
-    let t : Stand = stand c.turn_into.new.self (kept c.note.new.self) c.args.events.now c.fits.new.follower in
+    let s : DriverState = driver_state c.args.machine.now (kept c.args.keeper.now) c.args.events.now c.args.follower.now in
+    let t : DriverState = driver_state c.turn_into.new.self (kept c.note.new.self) c.args.events.now c.fits.new.follower in
     let K : List Event → Type 0 = λ es. kept c.note.new.self ≡ option_map (story_after c.args.cpu asks es) (kept c.args.keeper.now) in
     let made : Turns c.args.cpu c.in_ok-turned.turned asks s t = record {
       room = c.clear.new.self;
@@ -33,8 +33,8 @@ pub returns-clause-ok : goal.returns-clause-ok
 returns-clause-ok g c =
     let kept = g.K.Keeper.kept in
     let asks : Option Polled = option_map polled_of c.asks_of-asks.result in
-    let s : Stand = stand c.args.machine.now (kept c.args.keeper.now) c.args.events.now c.args.follower.now in
-    let t : Stand = stand c.turn_into.new.self (kept c.note.new.self) c.saturating_add.result c.fits.new.follower in
+    let s : DriverState = driver_state c.args.machine.now (kept c.args.keeper.now) c.args.events.now c.args.follower.now in
+    let t : DriverState = driver_state c.turn_into.new.self (kept c.note.new.self) c.saturating_add.result c.fits.new.follower in
     let K : List Event → Type 0 = λ es. kept c.note.new.self ≡ option_map (story_after c.args.cpu asks es) (kept c.args.keeper.now) in
     let G : List Event → Type 0 = λ es. GoesOnBy c.args.cpu asks es c.args.follower.now c.fits.new.follower in
     let value = c.as_slice-part.ensures.value in

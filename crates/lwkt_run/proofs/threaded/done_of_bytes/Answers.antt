@@ -1,7 +1,7 @@
 use Rattle.std.proofs.Common.{◌≡◌, Ok, refl, rules}
 use Rattle.lwkt_report.specs.Report.{report_text}
 use Rattle.lwkt_script.specs.Format.{script_of}
-use Rattle.lwkt_run.specs.Run.{end_told}
+use Rattle.lwkt_run.specs.Run.{end_of_closing}
 use Rattle.lwkt_run.specs.Threaded.{HasThreadedRun}
 use Rattle.lwkt_run.proofs.RunLemmas.{done_has}
 use Rattle.lwkt_run.proofs.threaded.done_of_bytes.Goals as goal
@@ -11,5 +11,5 @@ returns-clause-ok g c =
     let script = c.in_ok-script.script in
     let closing = c.in_ok-closing.closing in
     let read : script_of c.args.bytes.now ≡ Ok script = search rules in
-    let run : HasThreadedRun (g.G.Gate.answers c.args.gate.now) c.args.bytes.now (end_told closing) (report_text closing) = record { script = script; read = read; closing = closing; closes = c.in_ok-closing.ensures.ok; is_text = refl; is_end = refl } in
+    let run : HasThreadedRun (g.G.Gate.answers c.args.gate.now) c.args.bytes.now (end_of_closing closing) (report_text closing) = record { script = script; read = read; closing = closing; closes = c.in_ok-closing.ensures.ok; is_text = refl; is_end = refl } in
     done_has (HasThreadedRun (g.G.Gate.answers c.args.gate.now) c.args.bytes.now) closing c.in_ok-done_of.field-0 run c.in_ok-done_of.ensures.text c.in_ok-done_of.ensures.end

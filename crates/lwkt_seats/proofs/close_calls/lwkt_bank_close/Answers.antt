@@ -9,7 +9,7 @@ pub returns-in-Ok-clause-closed : goal.returns-in-Ok-clause-closed
 returns-in-Ok-clause-closed c = λ is.
     let room = length c.args.closings.now in
     let F : Option Desk → Type 0 = λ bank. IsSomeAnd bank (λ desk. ClosesDesk desk room c.in-Ok.closed) in
-    (c.in-Ok.closed, (subst F (sym c.in-Some.ensures) c.in-Ok.ensures.ok, c.tell.ensures))
+    (c.in-Ok.closed, (subst F (sym c.in-Some.ensures) c.in-Ok.ensures.ok, c.put_closings.ensures))
 
 pub returns-in-Err-clause-closed : goal.returns-in-Err-clause-closed
 returns-in-Err-clause-closed c = λ is. absurd (refuses c.in-Err.answer c.in-Err.ensures.only is)

@@ -10,5 +10,5 @@ put_back-requires c =
 
 pub returns-clause-does : goal.returns-clause-does
 returns-clause-does c =
-    answered-in c.args.bank.desk c.args.seat c.in-Ok.found.0.now c.in-Ok.found.1.value c.deref_mut-held.result.now c.add-answer.new.seat (AddsTo c.args.token c.args.amount c.args.value.now c.tell_added.new.value) c.tell_added.result c.deref_mut-held.ensures.value
-    c.in-Ok.ensures.ok c.in-Ok.ensures.seated c.add-answer.ensures.same (c.add-answer.result, (c.tell_added.ensures.is, c.add-answer.ensures.does, c.tell_added.ensures.told))
+    answered-in c.args.bank.desk c.args.seat c.in-Ok.found.0.now c.in-Ok.found.1.value c.deref_mut-held.result.now c.add-answer.new.seat (AddsTo c.args.token c.args.amount c.args.value.now c.put_added.new.value) c.put_added.result c.deref_mut-held.ensures.value
+    c.in-Ok.ensures.ok c.in-Ok.ensures.seated c.add-answer.ensures.same (c.add-answer.result, (c.put_added.ensures.is, c.add-answer.ensures.does, c.put_added.ensures.put))

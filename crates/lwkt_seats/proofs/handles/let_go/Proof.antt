@@ -44,7 +44,7 @@ use Rattle.core.specs.contracts.option.Option as OP
 use Rattle.core.proofs.option.Made.{Some-of, none_of}
 use Rattle.lwkt_seats.specs.Handles.{is_held}
 use Rattle.lwkt_seats.specs.contracts.desks.Desk as Desk
-use Rattle.lwkt_seats.specs.contracts.parts.Parts as parts
+use Rattle.lwkt_seats.specs.contracts.raw_boxes.RawBox as parts
 use Rattle.lwkt_seats.specs.contracts.handles.LwktHeld as Held
 use Rattle.lwkt_seats.proofs.DeskBox.{E}
 use Rattle.lwkt_seats.proofs.HeldSteps.{w}

@@ -10,5 +10,5 @@ put_back-requires c =
 
 pub returns-clause-does : goal.returns-clause-does
 returns-clause-does c =
-    answered-in c.args.bank.desk c.args.seat c.in-Ok.found.0.now c.in-Ok.found.1.value c.deref_mut-held.result.now c.block-first.new.seat (GivesUpAll c.args.restored.now c.tell_first.new.restored) c.tell_first.result c.deref_mut-held.ensures.value
-    c.in-Ok.ensures.ok c.in-Ok.ensures.seated c.block-first.ensures.same (c.block-first.result, (c.tell_first.ensures.is, c.block-first.ensures.does, c.tell_first.ensures.told))
+    answered-in c.args.bank.desk c.args.seat c.in-Ok.found.0.now c.in-Ok.found.1.value c.deref_mut-held.result.now c.block-first.new.seat (GivesUpAll c.args.restored.now c.put_first.new.restored) c.put_first.result c.deref_mut-held.ensures.value
+    c.in-Ok.ensures.ok c.in-Ok.ensures.seated c.block-first.ensures.same (c.block-first.result, (c.put_first.ensures.is, c.block-first.ensures.does, c.put_first.ensures.put))

@@ -10,5 +10,5 @@ put_back-requires c =
 
 pub returns-clause-does : goal.returns-clause-does
 returns-clause-does c =
-    answered-in c.args.bank.desk c.args.seat c.in-Ok.found.0.now c.in-Ok.found.1.value c.deref_mut-held.result.now c.resume-came.new.seat (ResumesList c.args.list.now c.args.missed.now c.tell_place.new.missed) c.tell_place.result c.deref_mut-held.ensures.value
-    c.in-Ok.ensures.ok c.in-Ok.ensures.seated c.resume-came.ensures.same (c.resume-came.result, (c.tell_place.ensures.is, c.resume-came.ensures.does, c.tell_place.ensures.told))
+    answered-in c.args.bank.desk c.args.seat c.in-Ok.found.0.now c.in-Ok.found.1.value c.deref_mut-held.result.now c.resume-came.new.seat (ResumesList c.args.list.now c.args.missed.now c.put_place.new.missed) c.put_place.result c.deref_mut-held.ensures.value
+    c.in-Ok.ensures.ok c.in-Ok.ensures.seated c.resume-came.ensures.same (c.resume-came.result, (c.put_place.ensures.is, c.resume-came.ensures.does, c.put_place.ensures.put))

@@ -1,10 +1,10 @@
 use Rattle.std.proofs.Common.{string_bytes, ◌∙◌}
 use Rattle.std.specs.Option.{option_copied}
-use Rattle.lwkt_show.proofs.Rows.{told_whole}
+use Rattle.lwkt_show.proofs.Rows.{shown_whole}
 use Rattle.lwkt_show.proofs.lines.lines_of.Goals as goal
 
 pub returns-clause-lines : goal.returns-clause-lines
 returns-clause-lines c =
     let run = c.args.run.now in
-    told_whole c.args.chosen (option_copied run.order) run.script.now.cpus run.polls.now run.turns.now run.closing.now (string_bytes c.in_ok-out.out) c.as_str.result.now (string_bytes c.push_str.new.out)
+    shown_whole c.args.chosen (option_copied run.order) run.script.now.cpus run.polls.now run.turns.now run.closing.now (string_bytes c.in_ok-out.out) c.as_str.result.now (string_bytes c.push_str.new.out)
     c.in_ok-out.ensures.begins (c.as_str.ensures.value ∙ c.in_ok-text.ensures) c.in_ok-push_str.ensures

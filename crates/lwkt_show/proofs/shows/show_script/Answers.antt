@@ -13,6 +13,6 @@ returns-in-Ok-clause-shown c = record {
   run = c.in_ok-run.run';
   is_run = c.in_ok-run.ensures.ok;
   not_before = λ before. let e : true ≡ false = sym (c.ends_before.ensures.1 before) ∙ c.if-ends_before.false in cc;
-  is_end = c.end_told-end.ensures;
+  is_end = c.end_of_closing-end.ensures;
   shows = c.in-Ok.ensures.shows;
 }

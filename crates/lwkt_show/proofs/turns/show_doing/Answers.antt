@@ -4,14 +4,14 @@ use Rattle.lwkt_show.proofs.turns.show_doing.Goals as goal
 
 pub returns-in-Some : goal.returns-in-Some
 returns-in-Some c =
-    let told : AddsWords (IsDoing (Some c.in-Some.poll)) c.args.out.now c.show_poll.new.out = record {
+    let shows : AddsWords (IsDoing (Some c.in-Some.poll)) c.args.out.now c.show_poll.new.out = record {
       words = poll_text c.in-Some.poll c.step_of-step.result c.came_of-came.result;
       holds = (c.step_of-step.result, c.came_of-came.result, refl);
       grows = c.show_poll.ensures;
     } in
-    rw c.in-Some.is told
+    rw c.in-Some.is shows
 
 pub returns-in-None : goal.returns-in-None
 returns-in-None c =
-    let told : AddsWords (IsDoing None) c.args.out.now c.show_idle.new.out = c.show_idle.ensures in
-    rw c.in-None.is told
+    let shows : AddsWords (IsDoing None) c.args.out.now c.show_idle.new.out = c.show_idle.ensures in
+    rw c.in-None.is shows

@@ -9,7 +9,7 @@ returns c = record {
   holds = record {
     doing = c.show_doing.ensures.words;
     events = string_bytes c.play-broken.new.out.text;
-    tells = c.show_doing.ensures.holds;
+    doing_is = c.show_doing.ensures.holds;
     parts = refl;
   };
   grows = joined (joined (joined c.show_head.ensures c.show_doing.ensures.grows) c.add_page.ensures.text) c.add.ensures;

@@ -14,13 +14,13 @@ returns-then-is_same-clause-polled c = λ yes.
     let same : c.in-Some.ask.now ≡ a.asked.now = c.is_same.ensures.0 c.if-is_same.true in
     let Next : Ask → Type 0 = λ ask. MatchOption mid.plan ⊥ (λ plan. ask_at plan mid.polls ≡ Some ask) in
     let Asked : Ask → Type 0 = λ ask. Asks a.state.now ask a.part.now mid c.go_on.new.self in
-    is_polled a.state.now a.told.now a.asked.now a.part.now a.followed.now mid c.go_on.new.self c.hear.ensures.few (c.in_ok-hear.ensures.heard c.if-not-branch.false) (subst Next same c.in-Some.ensures.asks) (subst Asked same (c.go_on.ensures.asked yes))
+    is_polled a.state.now a.heard.now a.asked.now a.part.now a.followed.now mid c.go_on.new.self c.hear.ensures.few (c.in_ok-hear.ensures.hears_it c.if-not-branch.false) (subst Next same c.in-Some.ensures.asks) (subst Asked same (c.go_on.ensures.asked yes))
 
 pub returns-in_default-clause-declines : goal.returns-in_default-clause-declines
 returns-in_default-clause-declines c = λ no may.
     let a = c.args in
     let mid = c.hear.new.self in
-    let hears : Hears a.told.now a.followed.now mid = c.in_ok-hear.ensures.heard c.if-not-branch.false in
+    let hears : Hears a.heard.now a.followed.now mid = c.in_ok-hear.ensures.hears_it c.if-not-branch.false in
     let N : Known → Type 0 = λ t. MayAskNext a.asked.now t in
     let P : Known → Type 0 = λ t. t.polls < 18446744073709551615 in
     c.next_ask.ensures.none (ap (λ o. is_some o) c.in_default.is) (subst P (sym hears.logged) may.few) a.asked.now (subst N (sym hears.logged) may.asks)

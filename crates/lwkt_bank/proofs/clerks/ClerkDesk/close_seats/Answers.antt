@@ -17,7 +17,7 @@ gather-requires-clause-begin c =
     let seats = c.args.seats.items in
     let F : Key → Type 0 = λ k. Gathering (record { table = b.table.shared.table_id; plans = k.plans.items }) v seats seats c.args.room.kept.items 0 in
     let G : List Kept → Type 0 = λ ks. Gathering (id_of_desk b) v seats seats ks 0 in
-    subst F (sym b.told) (subst G (sym c.requires.room.none.0) (gathering_none (id_of_desk b) v seats c.requires.desk.0 c.requires.desk.1 b.informed c.requires.ready b.clean))
+    subst F (sym b.key_is) (subst G (sym c.requires.room.none.0) (gathering_none (id_of_desk b) v seats c.requires.desk.0 c.requires.desk.1 b.informed c.requires.ready b.clean))
 
 pub values-requires-clause-fits : goal.values-requires-clause-fits
 values-requires-clause-fits c =

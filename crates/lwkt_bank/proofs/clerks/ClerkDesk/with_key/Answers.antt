@@ -3,28 +3,28 @@ use Rattle.atomic_table.specs.Table.{opening}
 use Rattle.lwkt_base.specs.declared.laws.Law.TheVariants.{Tally}
 use Rattle.lwkt_bank.specs.declared.views.Plan.{Plan}
 use Rattle.lwkt_bank.specs.Rule.{plan_at}
-use Rattle.lwkt_bank.specs.Told.{Told}
+use Rattle.lwkt_bank.specs.Ledger.{Ledger}
 use Rattle.lwkt_bank.specs.Views.{at, amount, first_view}
 use Rattle.lwkt_bank.specs.Notes.{clerk_number}
 use Rattle.lwkt_bank.specs.Opened.{plans_of, opening_words, slot_of_spec}
 use Rattle.std.proofs.lemmas.List.{length-map}
 use Rattle.lwkt_bank.proofs.OpenMoves.{short_plans, single_plans, many_plans}
-use Rattle.lwkt_bank.proofs.ToldMoves.{Told-opening}
+use Rattle.lwkt_bank.proofs.LedgerMoves.{Ledger-opening}
 use Rattle.lwkt_bank.proofs.clerks.ClerkDesk.with_key.Goals as goal
 
 pub table-requires : goal.table-requires
 table-requires c =
     let cpus = c.args.key.cpus in
-    let F : List Plan → Type 0 = λ ps. Told ps cpus (opening c.args.words.now c.args.slots.items (first_view ps)) in
-    let G : List ℕ → Type 0 = λ ws. Told (plans_of c.args.specs.now) cpus (opening ws c.args.slots.items (first_view (plans_of c.args.specs.now))) in
-    let H : List (List ℕ) → Type 0 = λ xs. Told (plans_of c.args.specs.now) cpus (opening (opening_words c.args.specs.now) xs (first_view (plans_of c.args.specs.now))) in
-    subst F (sym c.requires.plans) (subst G (sym c.requires.words) (subst H (sym c.requires.slots) (Told-opening cpus c.args.specs.now c.requires.within c.requires.lawful).0))
+    let F : List Plan → Type 0 = λ ps. Ledger ps cpus (opening c.args.words.now c.args.slots.items (first_view ps)) in
+    let G : List ℕ → Type 0 = λ ws. Ledger (plans_of c.args.specs.now) cpus (opening ws c.args.slots.items (first_view (plans_of c.args.specs.now))) in
+    let H : List (List ℕ) → Type 0 = λ xs. Ledger (plans_of c.args.specs.now) cpus (opening (opening_words c.args.specs.now) xs (first_view (plans_of c.args.specs.now))) in
+    subst F (sym c.requires.plans) (subst G (sym c.requires.words) (subst H (sym c.requires.slots) (Ledger-opening cpus c.args.specs.now c.requires.within c.requires.lawful).0))
 
 pub invariant_of-result : goal.invariant_of-result
 invariant_of-result c =
     let specs = c.args.specs.now in
     let t = c.in_ok-table.ensures in
-    let r = (Told-opening c.args.key.cpus specs c.requires.within c.requires.lawful).0.rule in
+    let r = (Ledger-opening c.args.key.cpus specs c.requires.within c.requires.lawful).0.rule in
     let many : length c.args.key.plans.items ≡ length specs = ap length c.requires.plans ∙ many_plans specs in
     let wide = r.wide in
     let words = ap length c.requires.words in
@@ -34,7 +34,7 @@ invariant_of-result c =
     let F : List Plan → Type 0 = λ ps. (tok : ℕ) → (plan_at ps tok).cells ≤ 4 in
     let G : List Plan → Type 0 = λ ps. (tok : ℕ) → (plan_at ps tok).law ≡ Tally → (plan_at ps tok).cells ≡ 1 in
     record {
-      told = t.5;
+      key_is = t.5;
       wide = let w = t.0 in omega arith;
       deep = t.1 ∙ ap length c.requires.slots ∙ length-map specs slot_of_spec ∙ sym many;
       few = omega arith;

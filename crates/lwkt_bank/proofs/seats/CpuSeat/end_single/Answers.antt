@@ -4,7 +4,7 @@ use Rattle.lwkt_base.specs.Holding.{is_held}
 use Rattle.lwkt_base.specs.declared.sections.Section.{Section}
 use Rattle.lwkt_bank.specs.declared.views.TokenEntry.{TokenEntry}
 use Rattle.lwkt_bank.specs.Seats.{entry, Knowing, last_loads}
-use Rattle.lwkt_bank.proofs.CellMoves.{section_told, section_ended}
+use Rattle.lwkt_bank.proofs.CellMoves.{section_by_parts, section_ended}
 use Rattle.lwkt_bank.proofs.seats.CpuSeat.end_single.Goals as goal
 
 -- a row of one cell is that cell
@@ -25,4 +25,4 @@ returns c =
     let F : ℕ → Type 0 = λ cells. Knowing s change.new.self t (entry s t) (last_loads s.cpu t (entry s t) cells) in
     let loaded = subst F (sym c.requires.single) change.ensures.knowing in
     let section : Section = record { before = c.of.result; after = c.of-2.result; generation = c.end_written-generation.result; tok = c.args.tok } in
-    section_ended s change.new.self c.end_written-generation.new.self t section (section_told t (entry s t) section before after generation refl) loaded c.end_written-generation.ensures.stepped
+    section_ended s change.new.self c.end_written-generation.new.self t section (section_by_parts t (entry s t) section before after generation refl) loaded c.end_written-generation.ensures.stepped

@@ -1,7 +1,7 @@
 use Rattle.std.proofs.Common.{◌≡◌, set, refl, ap, ◌∙◌, subst, Some, None}
 use Rattle.lwkt_hold.specs.Runs.{Ran}
 use Rattle.lwkt_cpu.specs.Nexts.{next_with}
-use Rattle.lwkt_cpu.proofs.TellMoves.{given_quiet}
+use Rattle.lwkt_cpu.proofs.MailTraceMoves.{given_quiet}
 use Rattle.lwkt_cpu.specs.declared.threads.Thread.{Thread}
 use Rattle.lwkt_cpu.specs.Processors.{Processor, is_over, processor_of}
 use Rattle.lwkt_cpu.specs.Searches.{IsOfOne}

@@ -5,9 +5,9 @@ use Rattle.lwkt_bank.specs.Seats.{holding}
 use Rattle.lwkt_hold.specs.Runs.{Ran}
 use Rattle.lwkt_hold.proofs.RunMoves.{ran_then, ran_weaker}
 use Rattle.lwkt_msg.specs.Desks.{Desk, desk_cpu}
-use Rattle.lwkt_cpu.specs.Telling.{TellsMail}
+use Rattle.lwkt_cpu.specs.Traced.{TracesMail}
 use Rattle.lwkt_cpu.proofs.MailMoves.{ran_mail}
-use Rattle.lwkt_cpu.proofs.TellMoves.{mail_none, mail_then, mail_told}
+use Rattle.lwkt_cpu.proofs.MailTraceMoves.{mail_none, mail_then, mail_traced}
 use Rattle.lwkt_cpu.specs.declared.threads.Thread.{Thread}
 use Rattle.lwkt_cpu.specs.Processors.{AllOver}
 use Rattle.lwkt_cpu.specs.Searches.{IsOfOne}
@@ -58,18 +58,18 @@ returns-clause-stops g c =
       empty = ap holding y.seat ∙ e.empty;
     }
 
-pub returns-clause-told : goal.returns-clause-told
-returns-clause-told g c =
+pub returns-clause-traced : goal.returns-clause-traced
+returns-clause-traced g c =
     let d = c.args.self.now.post.seat in
     let t = c.args.trace.now.items in
     let h = c.halt_running in
     let n = c.end_all in
     let y = c.pay in
     let same : n.new.self.post.seat ≡ d = n.ensures.post ∙ h.ensures.post in
-    let F : Desk → Type 0 = λ x. TellsMail d x t h.new.trace.items in
+    let F : Desk → Type 0 = λ x. TracesMail d x t h.new.trace.items in
     mail_then d n.new.self.post.seat y.new.self.post.seat t h.new.trace.items y.new.trace.items
     (subst F (sym same) (mail_none d t h.new.trace.items h.ensures.quiet))
-    (mail_told (desk_cpu n.new.self.post.seat) 64 n.new.self.post.seat y.new.self.post.seat h.new.trace y.new.trace y.ensures.told y.ensures.grew)
+    (mail_traced (desk_cpu n.new.self.post.seat) 64 n.new.self.post.seat y.new.self.post.seat h.new.trace y.new.trace y.ensures.traced y.ensures.grew)
 
 pub returns-clause-same : goal.returns-clause-same
 returns-clause-same g c =

@@ -2,10 +2,10 @@ use Rattle.std.proofs.Common.{◌*◌, ◌≤◌, List, length, refl, ap, sym, �
 use Rattle.lwkt_hold.specs.Runs.{Ran}
 use Rattle.lwkt_msg.specs.Desks.{desk_cpu}
 use Rattle.lwkt_port.specs.Posts.{IsSamePost}
-use Rattle.lwkt_port.proofs.Telling.{tells_then}
-use Rattle.lwkt_cpu.specs.Telling.{TellsMail}
+use Rattle.lwkt_port.proofs.Tracing.{deeds_then}
+use Rattle.lwkt_cpu.specs.Traced.{TracesMail}
 use Rattle.lwkt_cpu.proofs.MailMoves.{ran_mail}
-use Rattle.lwkt_cpu.proofs.TellMoves.{mail_told}
+use Rattle.lwkt_cpu.proofs.MailTraceMoves.{mail_traced}
 use Rattle.lwkt_cpu.specs.declared.threads.Thread.{Thread}
 use Rattle.lwkt_cpu.specs.Processors.{Processor, IsAtRest, processor_of}
 use Rattle.lwkt_cpu.specs.Turning.{IsMailed}
@@ -56,15 +56,15 @@ returns-clause-ran g c =
     subst F c.self.view_is (ran_mail (IsMailed i.threads.items) (desk_cpu i.ports.seat) 2304 i.hold.seat c.args.trace.now w.new.trace c.self.invariant.mine (held_mailed i.hold.seat i.threads.items i.running c.self.invariant.held)
     (grew_more i.ports t.new.self 256 (128 * length c.deref_mut.result.now) 2304 c.args.trace.now t.new.trace w.new.trace (omega (arith, few)) t.ensures.same t.ensures.grew w.ensures.grew))
 
-pub returns-clause-told : goal.returns-clause-told
-returns-clause-told g c =
+pub returns-clause-traced : goal.returns-clause-traced
+returns-clause-traced g c =
     let i = c.self.inside in
     let w = c.wake_all in
     let t = c.take_in-count in
-    let F : Processor g.row.B.Denot → Type 0 = λ p. TellsMail p.post.seat w.new.ports.seat c.args.trace.now.items w.new.trace.items in
+    let F : Processor g.row.B.Denot → Type 0 = λ p. TracesMail p.post.seat w.new.ports.seat c.args.trace.now.items w.new.trace.items in
     let few : length c.deref_mut.result.now ≤ 16 = omega (arith, c.self.invariant.few, ap length c.deref_mut.ensures.value) in
-    subst F c.self.view_is (mail_told (desk_cpu i.ports.seat) 2304 i.ports.seat w.new.ports.seat c.args.trace.now w.new.trace
-    (tells_then i.ports.seat t.new.self.seat w.new.ports.seat c.args.trace.now.items t.new.trace.items w.new.trace.items t.ensures.told w.ensures.told)
+    subst F c.self.view_is (mail_traced (desk_cpu i.ports.seat) 2304 i.ports.seat w.new.ports.seat c.args.trace.now w.new.trace
+    (deeds_then i.ports.seat t.new.self.seat w.new.ports.seat c.args.trace.now.items t.new.trace.items w.new.trace.items t.ensures.traced w.ensures.traced)
     (grew_more i.ports t.new.self 256 (128 * length c.deref_mut.result.now) 2304 c.args.trace.now t.new.trace w.new.trace (omega (arith, few)) t.ensures.same t.ensures.grew w.ensures.grew))
 
 pub returns-clause-same : goal.returns-clause-same

@@ -1,9 +1,9 @@
 use Rattle.std.proofs.Common.{ℕ, refl, sym, ◌∙◌, subst, arith, Option}
 use Rattle.std.proofs.lemmas.Bool.{false≢true}
-use Rattle.lwkt_cpu.proofs.TellMoves.{mail_then}
+use Rattle.lwkt_cpu.proofs.MailTraceMoves.{mail_then}
 use Rattle.lwkt_cpu.specs.Turning.{Chooses}
 use Rattle.lwkt_cpu.proofs.RestMoves.{turn_ran, search_ran}
-use Rattle.lwkt_cpu.proofs.ToldMoves.{chosen_post, chosen_told}
+use Rattle.lwkt_cpu.proofs.TurnTraceMoves.{chosen_post, chosen_traced}
 use Rattle.lwkt_cpu.proofs.WakeMoves.{post_then}
 use Rattle.lwkt_cpu.proofs.cpus.Cpu.turn_in_room.Goals as goal
 
@@ -23,7 +23,7 @@ returns-in-Some-clause-makes g c =
       mail = c.take_mail.ensures.mail;
       turns = (mid, (c.choose.new.trace, (subst F c.in-Some.is c.choose.ensures.chooses, c.run_on.ensures.runs_one)));
       ran = turn_ran {B = g.row.B.Denot} old met mid new t t c.take_mail.new.trace c.choose.new.trace c.run_on.new.trace met.running c.choose.result refl refl (omega arith) c.take_mail.ensures.woken c.choose.ensures.chooses c.take_mail.ensures.ran c.choose.ensures.ran c.run_on.ensures.ran;
-      told = mail_then old.post.seat mid.post.seat new.post.seat t.items c.choose.new.trace.items c.run_on.new.trace.items (chosen_told old.post.seat met.post.seat mid.post.seat t.items t.items c.take_mail.new.trace.items c.choose.new.trace.items refl c.take_mail.ensures.told c.choose.ensures.quiet (chosen_post {B = g.row.B.Denot} met mid c.take_mail.new.trace c.choose.new.trace met.running c.choose.result c.choose.ensures.chooses)) c.run_on.ensures.told;
+      traced = mail_then old.post.seat mid.post.seat new.post.seat t.items c.choose.new.trace.items c.run_on.new.trace.items (chosen_traced old.post.seat met.post.seat mid.post.seat t.items t.items c.take_mail.new.trace.items c.choose.new.trace.items refl c.take_mail.ensures.traced c.choose.ensures.quiet (chosen_post {B = g.row.B.Denot} met mid c.take_mail.new.trace c.choose.new.trace met.running c.choose.result c.choose.ensures.chooses)) c.run_on.ensures.traced;
       ports = post_then old.post mid.post new.post (post_then old.post met.post mid.post c.take_mail.ensures.same c.choose.ensures.same) c.run_on.ensures.same;
       rest = c.run_on.ensures.rest;
     }
@@ -43,7 +43,7 @@ returns-in-None-clause-makes g c =
       mail = c.take_mail.ensures.mail;
       turns = (subst F c.in-None.is c.choose.ensures.chooses, c.all_over.ensures.over.0 c.if-all_over.true);
       ran = search_ran {B = g.row.B.Denot} old met new t t c.take_mail.new.trace c.choose.new.trace refl refl (omega arith) c.take_mail.ensures.woken c.take_mail.ensures.ran c.choose.ensures.ran;
-      told = chosen_told old.post.seat met.post.seat new.post.seat t.items t.items c.take_mail.new.trace.items c.choose.new.trace.items refl c.take_mail.ensures.told c.choose.ensures.quiet (chosen_post {B = g.row.B.Denot} met new c.take_mail.new.trace c.choose.new.trace met.running c.choose.result c.choose.ensures.chooses);
+      traced = chosen_traced old.post.seat met.post.seat new.post.seat t.items t.items c.take_mail.new.trace.items c.choose.new.trace.items refl c.take_mail.ensures.traced c.choose.ensures.quiet (chosen_post {B = g.row.B.Denot} met new c.take_mail.new.trace c.choose.new.trace met.running c.choose.result c.choose.ensures.chooses);
       ports = post_then old.post met.post new.post c.take_mail.ensures.same c.choose.ensures.same;
       rest = c.all_over.ensures.rest;
     }
@@ -63,7 +63,7 @@ returns-in-None-2-clause-makes g c =
       mail = c.take_mail.ensures.mail;
       turns = (subst F c.in-None.is c.choose.ensures.chooses, λ over. false≢true (sym c.if-all_over.false ∙ c.all_over.ensures.over.1 over));
       ran = search_ran {B = g.row.B.Denot} old met new t t c.take_mail.new.trace c.choose.new.trace refl refl (omega arith) c.take_mail.ensures.woken c.take_mail.ensures.ran c.choose.ensures.ran;
-      told = chosen_told old.post.seat met.post.seat new.post.seat t.items t.items c.take_mail.new.trace.items c.choose.new.trace.items refl c.take_mail.ensures.told c.choose.ensures.quiet (chosen_post {B = g.row.B.Denot} met new c.take_mail.new.trace c.choose.new.trace met.running c.choose.result c.choose.ensures.chooses);
+      traced = chosen_traced old.post.seat met.post.seat new.post.seat t.items t.items c.take_mail.new.trace.items c.choose.new.trace.items refl c.take_mail.ensures.traced c.choose.ensures.quiet (chosen_post {B = g.row.B.Denot} met new c.take_mail.new.trace c.choose.new.trace met.running c.choose.result c.choose.ensures.chooses);
       ports = post_then old.post met.post new.post c.take_mail.ensures.same c.choose.ensures.same;
       rest = c.all_over.ensures.rest;
     }

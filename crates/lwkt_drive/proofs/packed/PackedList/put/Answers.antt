@@ -18,7 +18,7 @@ invariant_of-self c =
     let longs : List Event = k.new.longs.items in
     let row : ShortEvent = k.result in
     let IsIn : ShortEvent → Type 0 = λ r. IsEventIn (length cells) (length wides) (length longs) r in
-    let before : All IsIn i.rows.items = inside_grown i.cells.items cells i.wides.items wides i.longs.items longs i.rows.items k.ensures.sections.0 k.ensures.numbers.0 k.ensures.grows.0 c.self.invariant.inside in
+    let before : All IsIn i.rows.items = inside_grown i.cells.items cells i.wides.items wides i.longs.items longs i.rows.items k.ensures.takes.cell.behind k.ensures.takes.wide.behind k.ensures.takes.long.behind c.self.invariant.inside in
     record {
       inside = subst (λ (rows : List ShortEvent). All IsIn rows) (sym c.push_reserved.ensures.items) (All-append IsIn i.rows.items (row ∷ []) before (all_one IsIn row k.ensures.inside));
       room = omega (arith, k.ensures.room);
@@ -31,4 +31,4 @@ returns-clause-items c =
     let cells : List CellSection = k.new.cells.items in
     let wides : List WideEvent = k.new.wides.items in
     let longs : List Event = k.new.longs.items in
-    events_pushed cells wides longs i.rows.items c.push_reserved.new.self.items k.result c.args.self.now.items c.args.event.now c.push_reserved.ensures.items (events_grown i.cells.items cells i.wides.items wides i.longs.items longs i.rows.items k.ensures.sections.0 k.ensures.numbers.0 k.ensures.grows.0 c.self.invariant.inside ∙ ap (λ t. t.items) c.self.view_is) k.ensures.same
+    events_pushed cells wides longs i.rows.items c.push_reserved.new.self.items k.result c.args.self.now.items c.args.event.now c.push_reserved.ensures.items (events_grown i.cells.items cells i.wides.items wides i.longs.items longs i.rows.items k.ensures.takes.cell.behind k.ensures.takes.wide.behind k.ensures.takes.long.behind c.self.invariant.inside ∙ ap (λ t. t.items) c.self.view_is) k.ensures.same

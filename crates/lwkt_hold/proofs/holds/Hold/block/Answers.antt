@@ -7,7 +7,7 @@ use Rattle.lwkt_hold.proofs.RunMoves.{ran_none, ran_then, ran_weaker}
 use Rattle.lwkt_hold.proofs.TakeMoves.{unused}
 use Rattle.lwkt_hold.proofs.ReadMoves.{front_within}
 use Rattle.lwkt_hold.proofs.ListMoves.{back_front, back_held, back_removed}
-use Rattle.lwkt_hold.proofs.EventMoves.{Tells, tells_none, tells_more, tells_done, released_before}
+use Rattle.lwkt_hold.proofs.EventMoves.{GivesSoFar, traced_none, traced_more, traced_done, released_before}
 use Rattle.lwkt_hold.specs.Givings.{Releases, ReleasesAll}
 use Rattle.lwkt_base.specs.declared.holdings.Held.{Held}
 use Rattle.lwkt_hold.proofs.BlockMoves.{given_none, given_more, first_none, first_more, token_at, all_given, none_broken}
@@ -22,7 +22,7 @@ loop-given-init c =
       ran = ran_none (IsFront (take c.args.held c.refs-refs.result.now)) c.args.self.now.seat c.args.trace.now;
       front = c.requires.held ∙ ap (λ xs. holding_of (take c.args.held xs)) (sym c.refs-refs.ensures.value) ∙ ap (λ n. holding_of (take n c.refs-refs.result.now)) e;
       rows = given_none c.args.self.now.seat;
-      told = let F : ℕ → Type 0 = λ n. Tells c.args.self.now.seat c.refs-refs.result.now c.args.held n c.args.trace.now.items c.args.trace.now.items in subst F e (tells_none c.args.self.now.seat c.refs-refs.result.now c.args.held c.args.trace.now.items);
+      traced = let F : ℕ → Type 0 = λ n. GivesSoFar c.args.self.now.seat c.refs-refs.result.now c.args.held n c.args.trace.now.items c.args.trace.now.items in subst F e (traced_none c.args.self.now.seat c.refs-refs.result.now c.args.held c.args.trace.now.items);
       first = first_none c.args.self.now.seat c.refs-refs.result.now;
     }
 
@@ -53,14 +53,14 @@ loop-given-preserved c =
       ran = ran_weaker (IsFront front) (IsFront front) (6 * l.given + 6) (6 * (l.given + 1)) a g.new.seat c.args.trace.now g.new.trace (λ h p. p) (omega arith) all;
       front = given ∙ ap (λ n. holding_of (take n refs)) next;
       rows = given_more a l.self.seat g.new.seat (holding_of (take place refs)) last.tok last.mode g.result l.invariant.ran.bank was given l.invariant.rows g.ensures.rows;
-      told =
+      traced =
           let own = g.ensures.events in
           let up : held - l.given ≡ place + 1 = omega arith in
           let back = back_held l.self.seat refs held l.given more within l.invariant.front in
-          let T : ℕ → Type 0 = λ n. Tells a refs held n c.args.trace.now.items l.trace.items in
-          let U : ℕ → Type 0 = λ n. Tells a refs held n c.args.trace.now.items g.new.trace.items in
+          let T : ℕ → Type 0 = λ n. GivesSoFar a refs held n c.args.trace.now.items l.trace.items in
+          let U : ℕ → Type 0 = λ n. GivesSoFar a refs held n c.args.trace.now.items g.new.trace.items in
           let H : Held → Type 0 = λ x. Releases a x last.tok own.0 in
-          subst U next (tells_more a refs held place unused c.args.trace.now.items l.trace.items g.new.trace.items own.0 inside (subst T up l.invariant.told) own.1.0
+          subst U next (traced_more a refs held place unused c.args.trace.now.items l.trace.items g.new.trace.items own.0 inside (subst T up l.invariant.traced) own.1.0
           (subst H (ap (λ h. h last.tok.0) (l.invariant.front ∙ ap (λ n. holding_of (take n refs)) up)) (released_before a l.self.seat last.tok (holding l.self.seat last.tok.0) own.0 l.invariant.ran.bank l.invariant.ran.cpu (l.invariant.rows.same last.tok.0 back).0 own.1.1)));
       first = subst F (sym c.first_restored-first.ensures) (first_more a l.self.seat g.new.seat (holding_of (take place refs)) last.tok last.mode g.result l.invariant.ran.bank was given l.invariant.rows g.ensures.rows refs place (token_at refs place unused inside) refl l.first l.invariant.first);
     }
@@ -75,20 +75,20 @@ returns-in-None-clause-events c =
     let l = c.loop-given in
     let a = c.args.self.now.seat in
     let none : c.args.held - l.given ≡ 0 = omega (arith, c.loop-given-test.false) in
-    let F : ℕ → Type 0 = λ n. Tells a c.refs-refs.result.now c.args.held n c.args.trace.now.items l.trace.items in
-    let told = tells_done a c.refs-refs.result.now c.args.held c.args.trace.now.items l.trace.items (subst F none l.invariant.told) in
-    let G : List Ref → Type 0 = λ refs. ReleasesAll a [] (take c.args.held refs) told.0 in
-    (told.0, (told.1.0, subst G c.refs-refs.ensures.value told.1.1))
+    let F : ℕ → Type 0 = λ n. GivesSoFar a c.refs-refs.result.now c.args.held n c.args.trace.now.items l.trace.items in
+    let traced = traced_done a c.refs-refs.result.now c.args.held c.args.trace.now.items l.trace.items (subst F none l.invariant.traced) in
+    let G : List Ref → Type 0 = λ refs. ReleasesAll a [] (take c.args.held refs) traced.0 in
+    (traced.0, (traced.1.0, subst G c.refs-refs.ensures.value traced.1.1))
 
 pub returns-in-Some-clause-events : goal.returns-in-Some-clause-events
 returns-in-Some-clause-events c =
     let l = c.loop-given in
     let a = c.args.self.now.seat in
     let none : c.args.held - l.given ≡ 0 = omega (arith, c.loop-given-test.false) in
-    let F : ℕ → Type 0 = λ n. Tells a c.refs-refs.result.now c.args.held n c.args.trace.now.items l.trace.items in
-    let told = tells_done a c.refs-refs.result.now c.args.held c.args.trace.now.items l.trace.items (subst F none l.invariant.told) in
-    let G : List Ref → Type 0 = λ refs. ReleasesAll a [] (take c.args.held refs) told.0 in
-    (told.0, (told.1.0, subst G c.refs-refs.ensures.value told.1.1))
+    let F : ℕ → Type 0 = λ n. GivesSoFar a c.refs-refs.result.now c.args.held n c.args.trace.now.items l.trace.items in
+    let traced = traced_done a c.refs-refs.result.now c.args.held c.args.trace.now.items l.trace.items (subst F none l.invariant.traced) in
+    let G : List Ref → Type 0 = λ refs. ReleasesAll a [] (take c.args.held refs) traced.0 in
+    (traced.0, (traced.1.0, subst G c.refs-refs.ensures.value traced.1.1))
 
 pub give_last-restored-requires-clause-held : goal.give_last-restored-requires-clause-held
 give_last-restored-requires-clause-held c =

@@ -5,25 +5,29 @@ use Rattle.std.proofs.lemmas.Bool.{false≢true}
 use Rattle.lwkt_base.specs.declared.names.Mode.{Mode}
 use Rattle.lwkt_bank.specs.Views.{read}
 use Rattle.lwkt_bank.specs.Seats.{entry}
-use Rattle.lwkt_hold.specs.Fronts.{IsFront}
-use Rattle.lwkt_hold.proofs.ReadMoves.{ran_still, held_listed, read_ran}
+use Rattle.lwkt_hold.proofs.ReadMoves.{held_listed, read_ran}
 use Rattle.lwkt_hold.proofs.RunMoves.{holding_kept}
+use Rattle.lwkt_hold.proofs.OutcomeMoves.{kept_still}
 use Rattle.lwkt_hold.proofs.holds.Hold.read.Goals as goal
-
-pub returns-then-tok-tokens-clause-ran : goal.returns-then-tok-tokens-clause-ran
-returns-then-tok-tokens-clause-ran c = ran_still (IsFront c.args.list.now) 1 c.args.self.now.seat c.args.trace.now
-
-pub returns-then-cell-cells-clause-ran : goal.returns-then-cell-cells-clause-ran
-returns-then-cell-cells-clause-ran c = ran_still (IsFront c.args.list.now) 1 c.args.self.now.seat c.args.trace.now
-
-pub returns-then-is_none-clause-ran : goal.returns-then-is_none-clause-ran
-returns-then-is_none-clause-ran c = ran_still (IsFront c.args.list.now) 1 c.args.self.now.seat c.args.trace.now
 
 pub load-value-requires-clause-held : goal.load-value-requires-clause-held
 load-value-requires-clause-held c = held_listed c.args.self.now.seat c.args.list.now c.args.tok.0 c.requires.held (λ none. false≢true (sym (ap (is_some {T = Mode}) (c.mode.ensures ∙ none)) ∙ c.is_none.ensures ∙ ap not c.if-is_none.false))
 
-pub returns-clause-ran : goal.returns-clause-ran
-returns-clause-ran c = read_ran c.args.list.now c.args.self.now.seat c.load-value.new.self c.args.tok (read (entry c.args.self.now.seat c.args.tok.0) c.args.cell) c.cpu-cpu.result c.args.cell c.load-value.result c.args.trace.now c.note_read.new.trace c.load-value.ensures.changes refl c.requires.held c.cpu-cpu.ensures.is c.note_read.ensures.items c.note_read.ensures.longer c.note_read.ensures.room
+pub returns-then-tok-tokens-clause-keeps : goal.returns-then-tok-tokens-clause-keeps
+returns-then-tok-tokens-clause-keeps c = kept_still c.args.list.now c.args.self.now.seat c.args.trace.now c.requires.held
 
-pub returns-clause-kept : goal.returns-clause-kept
-returns-clause-kept c = let s = c.args.self.now.seat in holding_kept s c.load-value.new.self c.args.tok.0 (read (entry s c.args.tok.0) c.args.cell) _ c.load-value.ensures.changes refl ∙ c.requires.held
+pub returns-then-cell-cells-clause-keeps : goal.returns-then-cell-cells-clause-keeps
+returns-then-cell-cells-clause-keeps c = kept_still c.args.list.now c.args.self.now.seat c.args.trace.now c.requires.held
+
+pub returns-then-is_none-clause-keeps : goal.returns-then-is_none-clause-keeps
+returns-then-is_none-clause-keeps c = kept_still c.args.list.now c.args.self.now.seat c.args.trace.now c.requires.held
+
+pub returns-clause-keeps : goal.returns-clause-keeps
+returns-clause-keeps c =
+    let s = c.args.self.now.seat in
+    let l = c.load-value in
+    let e = read (entry s c.args.tok.0) c.args.cell in
+    record {
+      ran = read_ran c.args.list.now s l.new.self c.args.tok e c.cpu-cpu.result c.args.cell l.result c.args.trace.now c.note_read.new.trace l.ensures.changes refl c.requires.held c.cpu-cpu.ensures.is c.note_read.ensures.items c.note_read.ensures.longer c.note_read.ensures.room;
+      held = holding_kept s l.new.self c.args.tok.0 e _ l.ensures.changes refl ∙ c.requires.held;
+    }

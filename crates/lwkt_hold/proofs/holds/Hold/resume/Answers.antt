@@ -18,7 +18,7 @@ loop-at-init c = record {
   ran = ran_none (IsFront c.refs-refs.result.now) c.args.self.now.seat c.args.trace.now;
   front = c.requires.empty;
   clean = clean_empty c.args.self.now.seat c.requires.empty;
-  told = sym (append-nil c.args.trace.now.items);
+  traced = sym (append-nil c.args.trace.now.items);
 }
 
 pub returns-in-Err-clause-ran : goal.returns-in-Err-clause-ran
@@ -54,7 +54,7 @@ loop-at-preserved c =
       ran = ran_then P l.at 1 c.args.self.now.seat l.self.seat c.take_one.new.seat c.args.trace.now l.trace c.take_one.new.trace l.invariant.ran c.in_default.ensures.ran;
       front = c.in_default.ensures.taken;
       clean = clean_taken l.self.seat c.take_one.new.seat c.in_default.ensures.rows l.invariant.clean;
-      told = takes_more c.refs-refs.result.now l.at unused c.args.self.now.seat.cpu l.self.seat.cpu c.args.trace.now.items l.trace.items c.take_one.new.trace.items c.loop-at-test.true l.invariant.ran.cpu l.invariant.told c.in_default.ensures.told;
+      traced = takes_more c.refs-refs.result.now l.at unused c.args.self.now.seat.cpu l.self.seat.cpu c.args.trace.now.items l.trace.items c.take_one.new.trace.items c.loop-at-test.true l.invariant.ran.cpu l.invariant.traced c.in_default.ensures.traced;
     }
 
 pub give_clean-requires-clause-clean : goal.give_clean-requires-clause-clean
@@ -68,9 +68,9 @@ returns-in-Err-clause-passed c =
     let l = c.loop-at in
     let cpu = c.args.self.now.seat.cpu in
     let taker : c.take_one.new.seat.cpu ≡ cpu = c.in-Err.ensures.ran.cpu ∙ l.invariant.ran.cpu in
-    passed_as c.refs-refs.result.now c.args.list.now l.at c.in-Err.why cpu c.take_one.new.seat.cpu c.args.trace.now.items l.trace.items c.take_one.new.trace.items c.give_clean.new.trace.items c.refs-refs.ensures.value taker l.invariant.told (ap (λ (t : Vec Event Global). t.items) c.in-Err.ensures.silent) c.give_clean.ensures.told
+    passed_as c.refs-refs.result.now c.args.list.now l.at c.in-Err.why cpu c.take_one.new.seat.cpu c.args.trace.now.items l.trace.items c.take_one.new.trace.items c.give_clean.new.trace.items c.refs-refs.ensures.value taker l.invariant.traced (ap (λ (t : Vec Event Global). t.items) c.in-Err.ensures.silent) c.give_clean.ensures.traced
 
 pub returns-clause-all : goal.returns-clause-all
 returns-clause-all c =
     let l = c.loop-at in
-    taken_all c.refs-refs.result.now c.args.list.now l.at c.args.self.now.seat.cpu c.args.trace.now.items l.trace.items c.refs-refs.ensures.value c.loop-at-test.false l.invariant.told
+    taken_all c.refs-refs.result.now c.args.list.now l.at c.args.self.now.seat.cpu c.args.trace.now.items l.trace.items c.refs-refs.ensures.value c.loop-at-test.false l.invariant.traced

@@ -12,5 +12,5 @@ invariant-loop-at l = record {
   ran : Ran (IsFront l.refs) l.at l.initial.self.seat l.self.seat l.initial.trace l.trace;
   front : holding l.self.seat ≡ holding_of (take l.at l.refs);
   clean : IsAllClean l.self.seat;
-  told : l.trace.items ≡ l.initial.trace.items ++ takes_all l.initial.self.seat.cpu [] (take l.at l.refs);
+  traced : l.trace.items ≡ l.initial.trace.items ++ takes_all l.initial.self.seat.cpu [] (take l.at l.refs);
 }

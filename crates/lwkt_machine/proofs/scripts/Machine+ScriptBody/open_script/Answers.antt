@@ -1,8 +1,8 @@
 use Rattle.std.proofs.Common.{◌≡◌, ◌∙◌, List, length, sym, subst}
 use Rattle.std.specs.Prelude.{IfErr, IfOk, OnOk}
 use Rattle.std.proofs.lemmas.Result.{IfErr-weaker, IfOk-weaker, on_ok_weaker}
-use Rattle.lwkt_base.specs.declared.openings.MsgSpec.{MsgSpec}
-use Rattle.lwkt_base.specs.declared.openings.TokSpec.{TokSpec}
+use Rattle.lwkt_base.specs.declared.opening_specs.MsgSpec.{MsgSpec}
+use Rattle.lwkt_base.specs.declared.opening_specs.TokSpec.{TokSpec}
 use Rattle.lwkt_core.specs.Opening.{AllOpenLawfully}
 use Rattle.lwkt_script.specs.declared.scripts.ThreadSpec.{ThreadSpec}
 use Rattle.lwkt_machine.specs.Opened.{Declines, IsOpenedMachine, IsWithin}

@@ -1,5 +1,5 @@
 use Rattle.std.proofs.Common.{rules, ◌≡◌, ℕ, ◌*◌, [], List, length, replicate, ap, sym, ◌∙◌, subst}
-use Rattle.lwkt_base.specs.declared.openings.MsgSpec.{MsgSpec}
+use Rattle.lwkt_base.specs.declared.opening_specs.MsgSpec.{MsgSpec}
 use Rattle.lwkt_core.specs.Opening.{AreWithin}
 use Rattle.lwkt_msg.specs.declared.views.Key.{Key}
 use Rattle.lwkt_msg.specs.Book.{no_rec}

@@ -42,4 +42,4 @@ returns-in-Done-clause-away c =
     let mails : List Mail = set r.mails.items m c.come_home.new.mail in
     let is = reaped_at c.args.keep c.in-Done.rec r.mails.items m c.args.note.msg.0 c.index_mut.result.now c.come_home.new.mail (rw same there) c.index_mut.ensures.value same c.come_home.ensures in
     let fewer : away_count mails + 1 ≡ away_count r.mails.items = reaped_away c.args.keep c.args.note (desk_cpu r.seat) r.seat c.reap.new.self r.mails.items mails (reaped_.Done c.in-Done.rec) c.in-Done.ensures.answer is there r.kept in
-    omega (arith, fewer, c.tell_reap.ensures.longer)
+    omega (arith, fewer, c.trace_reap.ensures.longer)

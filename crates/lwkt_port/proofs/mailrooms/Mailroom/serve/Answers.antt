@@ -1,7 +1,7 @@
 use Rattle.std.proofs.Common.{◌≡◌, ◌≢◌, ◌+◌, ◌∙◌, ◌∷◌, ◌++◌, ap, sym, true≢false, vec_len, arith}
 use Rattle.lwkt_port.proofs.Serving.{named_head, serving_more}
 use Rattle.lwkt_port.proofs.Classing.{leaving_chains}
-use Rattle.lwkt_port.proofs.Growing.{stands_then, stands_is}
+use Rattle.lwkt_port.proofs.Growing.{grew_so_then, grew_so_within}
 use Rattle.lwkt_port.proofs.Hinting.{serves_owe}
 use Rattle.lwkt_port.specs.declared.gets.Served.{Served}
 use Rattle.lwkt_port.specs.declared.gets.Served.TheVariants as served
@@ -29,18 +29,18 @@ returns-in-Shown-clause-serves c =
       leaving_chains c.args.port.now l.port c.drop_front-in-Shown.new.port s.order left.2,
     )
 
-pub returns-in-Shown-clause-stands : goal.returns-in-Shown-clause-stands
-returns-in-Shown-clause-stands c =
+pub returns-in-Shown-clause-grew_so : goal.returns-in-Shown-clause-grew_so
+returns-in-Shown-clause-grew_so c =
     let l = c.loop-turn in
     let n = c.serve_note.new in
-    stands_is (l._turn + 1) 128 c.args.self.now n.self c.args.trace.now n.trace (omega (arith, c.count-notes.ensures.few, c.loop-turn-test.true)) (stands_then l._turn 1 c.args.self.now l.self n.self c.args.trace.now l.trace n.trace l.invariant.serving.stands c.in-Shown.ensures.stands)
+    grew_so_within (l._turn + 1) 128 c.args.self.now n.self c.args.trace.now n.trace (omega (arith, c.count-notes.ensures.few, c.loop-turn-test.true)) (grew_so_then l._turn 1 c.args.self.now l.self n.self c.args.trace.now l.trace n.trace l.invariant.serving.grew_so c.in-Shown.ensures.grew_so)
 
 pub loop-turn-preserved : goal.loop-turn-preserved
 loop-turn-preserved c =
     let l = c.loop-turn in
     let r = c.in-Some.ensures in
     let e = c.in-Passed.ensures in record {
-      serving = serving_more c.args.thread l._turn c.args.self.now c.args.trace.now c.args.port.now l.self l.trace l.port c.serve_note.new.self c.serve_note.new.trace c.drop_front.new.port c.in-Some.note r.0 l.invariant.serving r.1 (c.drop_front.ensures c.in-Some.note r.0 r.1) e.serves e.stands;
+      serving = serving_more c.args.thread l._turn c.args.self.now c.args.trace.now c.args.port.now l.self l.trace l.port c.serve_note.new.self c.serve_note.new.trace c.drop_front.new.port c.in-Some.note r.0 l.invariant.serving r.1 (c.drop_front.ensures c.in-Some.note r.0 r.1) e.serves e.grew_so;
       hint = λ unset. absurd (true≢false unset);
     }
 

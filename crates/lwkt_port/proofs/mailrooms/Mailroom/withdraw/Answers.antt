@@ -39,7 +39,7 @@ invariant_of-self-in-Err-1 c =
     let there : c.args.msg.0 < length r.mails.items = search rules in
     record { kept = untouched_keeps r.seat c.drop_msg.new.self r.mails.items c.args.msg c.in-Err.fault c.in-Err.ensures.seat (there_of c.in-Err.fault r.seat c.drop_msg.new.self r.mails.items c.args.msg.0 r.kept there c.in-Err.ensures.answer) r.kept }
 
-pub returns-in-Err-clause-stands : goal.returns-in-Err-clause-stands
-returns-in-Err-clause-stands c =
+pub returns-in-Err-clause-grew_so : goal.returns-in-Err-clause-grew_so
+returns-in-Err-clause-grew_so c =
     let cpu = desk_cpu c.args.self.now.seat in
     let t = c.args.trace.now in record { same = c.in-Err.ensures.seat; len = refl; grew = grew_few cpu 0 1 t t (grew_none cpu t) (omega arith) }

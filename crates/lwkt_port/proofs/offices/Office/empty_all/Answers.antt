@@ -1,7 +1,7 @@
 use Rattle.std.proofs.Common.{◌≡◌, ◌+◌, ◌-◌, ◌<◌, ◌∙◌, length, refl, sym, vec_len, rules, arith, slice_set}
 use Rattle.lwkt_port.specs.declared.lines.Lane.{Lane}
 use Rattle.lwkt_port.specs.Intakes.{Intake, intake, desks, desks_of, Empties, EmptiesFrom}
-use Rattle.lwkt_port.specs.Works.{work, Standing, standing}
+use Rattle.lwkt_port.specs.Works.{work, WorkState, work_state}
 use Rattle.lwkt_port.proofs.Chaining.{chain_more}
 use Rattle.lwkt_port.proofs.Dispatching.{changed, line_named}
 use Rattle.lwkt_port.proofs.Emptying.{keeps_none, keeps_then, line_named_after}
@@ -13,7 +13,7 @@ pub loop-sender-init : goal.loop-sender-init
 loop-sender-init c = record {
   notes = λ z chain. chain;
   within = c.requires.taken;
-  keeps = keeps_none (standing c.args.self.now.counters c.args.trace.now);
+  keeps = keeps_none (work_state c.args.self.now.counters c.args.trace.now);
   len = refl;
 }
 
@@ -26,9 +26,9 @@ loop-sender-preserved c =
     let x : Intake = intake l.self l.trace l.count in
     let y : Intake = record { work = work n.self.room n.trace; lanes = slice_set l.self.lanes.items l.sender n.line; ports = n.self.ports.items; count = l.count + c.empty-count.result } in
     let R : Lane → Lane → Type 0 = λ a b. Empties (c.args.limit - l.count) c.empty-count.result a b (desks_of x) (desks_of y) in
-    let s : Standing = standing c.args.self.now.counters c.args.trace.now in
-    let s1 : Standing = standing l.self.counters l.trace in
-    let s2 : Standing = standing n.self n.trace in record {
+    let s : WorkState = work_state c.args.self.now.counters c.args.trace.now in
+    let s1 : WorkState = work_state l.self.counters l.trace in
+    let s2 : WorkState = work_state n.self n.trace in record {
       notes = λ z chain. chain_more Intake (EmptiesFrom c.args.limit) l.sender z x y (l.invariant.notes z chain) (c.empty-count.result, changed Lane R l.sender l.sender l.self.lanes.items c.index_mut.result.now n.line there c.index_mut.ensures.value refl e.empties, refl);
       within = omega (arith, e.within, l.invariant.within);
       keeps = keeps_then s s1 s2 l.invariant.keeps e.keeps;

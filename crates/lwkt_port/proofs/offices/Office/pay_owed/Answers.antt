@@ -2,7 +2,7 @@ use Rattle.std.proofs.Common.{◌≡◌, ◌+◌, ◌∙◌, ℕ, Option, Some, 
 use Rattle.lwkt_port.specs.Intakes.{Payer, payer, PaysOwed, Pays}
 use Rattle.lwkt_port.specs.Mails.{kept_mail_at}
 use Rattle.lwkt_port.proofs.Chaining.{chain_none, chain_more}
-use Rattle.lwkt_port.proofs.Growing.{stands_none, stands_then, stands_is}
+use Rattle.lwkt_port.proofs.Growing.{grew_so_none, grew_so_then, grew_so_within}
 use Rattle.lwkt_port.proofs.Hinting.{pays_none}
 use Rattle.lwkt_port.proofs.offices.Office.pay_owed.Goals as goal
 
@@ -13,14 +13,14 @@ returns-then-not-self c =
     let t = c.args.trace.now in
     record {
       pays = pays_none (vec_len r.mails) (payer o t) (o.hint c.if-not-self.true);
-      stands = stands_is 0 64 r r t t (omega arith) (stands_none r t);
+      grew_so = grew_so_within 0 64 r r t t (omega arith) (grew_so_none r t);
       ports_same = refl;
     }
 
 pub loop-m-init : goal.loop-m-init
 loop-m-init c = record {
   pays = chain_none Payer Pays (payer c.args.self.now c.args.trace.now);
-  stands = stands_none c.args.self.now.counters.room c.args.trace.now;
+  grew_so = grew_so_none c.args.self.now.counters.room c.args.trace.now;
   ports_same = refl;
 }
 
@@ -34,7 +34,7 @@ loop-m-preserved-in_default c =
     let same : PaysOwed None l.m x x = refl in
     record {
       pays = chain_more Payer Pays l.m (payer o c.args.trace.now) x x l.invariant.pays (subst F (sym none) same);
-      stands = stands_is l.m (l.m + 1) o.counters.room l.self.counters.room c.args.trace.now l.trace (omega arith) l.invariant.stands;
+      grew_so = grew_so_within l.m (l.m + 1) o.counters.room l.self.counters.room c.args.trace.now l.trace (omega arith) l.invariant.grew_so;
       ports_same = l.invariant.ports_same;
     }
 
@@ -51,6 +51,6 @@ loop-m-preserved c =
     let made : PaysOwed (Some c.in-Some.error) l.m x y = (c.answer.result, e.means) in
     record {
       pays = chain_more Payer Pays l.m (payer o c.args.trace.now) x y l.invariant.pays (subst F (sym owed) made);
-      stands = stands_then l.m 1 o.counters.room l.self.counters.room n.self.counters.room c.args.trace.now l.trace n.trace l.invariant.stands e.beside.stands;
+      grew_so = grew_so_then l.m 1 o.counters.room l.self.counters.room n.self.counters.room c.args.trace.now l.trace n.trace l.invariant.grew_so e.beside.grew_so;
       ports_same = e.beside.ports_same ∙ l.invariant.ports_same;
     }

@@ -7,18 +7,18 @@ use Rattle.lwkt_port.specs.Intakes.{Intake, Payer, Pays, intake, payer, EmptiesF
 use Rattle.lwkt_port.specs.declared.mails.Mail.{Mail}
 use Rattle.lwkt_port.specs.declared.queues.Port.{Port}
 use Rattle.lwkt_port.specs.Hints.{OwesNone}
-use Rattle.lwkt_port.specs.Works.{Standing, standing, work}
+use Rattle.lwkt_port.specs.Works.{WorkState, work_state, work}
 use Rattle.lwkt_port.proofs.Chaining.{chain_none}
-use Rattle.lwkt_port.proofs.Intaking.{stands_in_all}
+use Rattle.lwkt_port.proofs.Intaking.{grew_so_in_all}
 use Rattle.lwkt_port.proofs.offices.Office.take_all.Goals as goal
 
-pub returns-clause-stands : goal.returns-clause-stands
-returns-clause-stands c =
+pub returns-clause-grew_so : goal.returns-clause-grew_so
+returns-clause-grew_so c =
     let p = c.pay_owed in
     let e = c.empty_all-count in
-    let s1 : Standing = standing p.new.self.counters p.new.trace in
-    let s2 : Standing = standing e.new.self.counters e.new.trace in
-    stands_in_all c.args.self.now.counters.room c.args.trace.now s1 s2 c.clear_all.new.self.room c.clear_all.new.trace p.ensures.stands e.ensures.keeps c.clear_all.ensures.stands
+    let s1 : WorkState = work_state p.new.self.counters p.new.trace in
+    let s2 : WorkState = work_state e.new.self.counters e.new.trace in
+    grew_so_in_all c.args.self.now.counters.room c.args.trace.now s1 s2 c.clear_all.new.self.room c.clear_all.new.trace p.ensures.grew_so e.ensures.keeps c.clear_all.ensures.grew_so
 
 pub may_owe-self-requires : goal.may_owe-self-requires
 may_owe-self-requires c = record {

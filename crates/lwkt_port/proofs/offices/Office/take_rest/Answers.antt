@@ -4,13 +4,13 @@ use Rattle.lwkt_port.specs.declared.lines.Lane.{Lane}
 use Rattle.lwkt_port.specs.Chains.{Chain}
 use Rattle.lwkt_port.specs.Hints.{OwesNone}
 use Rattle.lwkt_port.specs.Intakes.{Intake, intake, desks, untaken, EmptiesFrom}
-use Rattle.lwkt_port.specs.Works.{Work, work, MailroomStands, Standing, standing, KeepsStanding}
+use Rattle.lwkt_port.specs.Works.{Work, work, MailroomGrew, WorkState, work_state, KeepsWorkState}
 use Rattle.lwkt_port.proofs.Dispatching.{line_named}
 use Rattle.lwkt_port.proofs.Emptying.{keeps_then, line_named_after}
-use Rattle.lwkt_port.proofs.Growing.{stands_none, stands_is}
+use Rattle.lwkt_port.proofs.Growing.{grew_so_none, grew_so_within}
 use Rattle.lwkt_port.proofs.HandMoves.{hands_put, emptied_none}
 use Rattle.lwkt_port.proofs.Hinting.{emptied_owes, line_owes}
-use Rattle.lwkt_port.proofs.Intaking.{stands_in_all}
+use Rattle.lwkt_port.proofs.Intaking.{grew_so_in_all}
 use Rattle.lwkt_port.proofs.Passing.{front_emptied, calm_takes}
 use Rattle.lwkt_port.proofs.offices.Office.take_rest.Goals as goal
 
@@ -43,18 +43,18 @@ returns-clause-takes c = λ before front hands.
     let notes : F (vec_len o.lanes) = e.ensures.notes x (front_emptied c.args.limit f.result c.args.first w v o.counters.ports.items f.new.self.ports.items before o.lanes.items c.index_mut.result.now f.new.line front c.index_mut.ensures.value f.ensures.empties) in
     calm_takes c.args.limit c.clear_all.ensures.clears.0 w o.counters.ports.items before y (record { work = work n.self.room n.trace; lanes = e.new.self.lanes.items; ports = n.self.ports.items }) c.requires.owing hands (subst F many notes) c.clear_all.ensures.clears.1 refl
 
-pub returns-clause-stands : goal.returns-clause-stands
-returns-clause-stands c =
+pub returns-clause-grew_so : goal.returns-clause-grew_so
+returns-clause-grew_so c =
     let f = c.empty-taken in
     let e = c.empty_all-count in
     let r = c.args.self.now.counters.room in
     let t = c.args.trace.now in
-    let s1 : Standing = standing c.args.self.now.counters t in
-    let s2 : Standing = standing f.new.self f.new.trace in
-    let s3 : Standing = standing e.new.self.counters e.new.trace in
-    let keeps : KeepsStanding s1 s3 = keeps_then s1 s2 s3 f.ensures.keeps e.ensures.keeps in
-    let still : MailroomStands 64 r t r t = stands_is 0 64 r r t t (omega arith) (stands_none r t) in
-    stands_in_all r t s1 s3 c.clear_all.new.self.room c.clear_all.new.trace still keeps c.clear_all.ensures.stands
+    let s1 : WorkState = work_state c.args.self.now.counters t in
+    let s2 : WorkState = work_state f.new.self f.new.trace in
+    let s3 : WorkState = work_state e.new.self.counters e.new.trace in
+    let keeps : KeepsWorkState s1 s3 = keeps_then s1 s2 s3 f.ensures.keeps e.ensures.keeps in
+    let still : MailroomGrew 64 r t r t = grew_so_within 0 64 r r t t (omega arith) (grew_so_none r t) in
+    grew_so_in_all r t s1 s3 c.clear_all.new.self.room c.clear_all.new.trace still keeps c.clear_all.ensures.grew_so
 
 pub may_owe-self-requires : goal.may_owe-self-requires
 may_owe-self-requires c = record {

@@ -3,21 +3,21 @@ use Rattle.std.specs.Prelude.{IfOk}
 use Rattle.lwkt_msg.specs.Desks.{Desk}
 use Rattle.lwkt_port.specs.Posts.{Post}
 use Rattle.lwkt_port.specs.Sendings.{IsShownTo}
-use Rattle.lwkt_port.specs.Tellings.{TellsDeeds}
+use Rattle.lwkt_port.specs.Traced.{TracesDeeds}
 use Rattle.lwkt_port.specs.Withdrawals.{PostHears}
 use Rattle.lwkt_port.specs.Works.{Work}
-use Rattle.lwkt_port.proofs.Telling.{hear_told}
+use Rattle.lwkt_port.proofs.Tracing.{hear_traced}
 use Rattle.lwkt_port.proofs.Withdrawing.{hears, post_hears}
 use Rattle.lwkt_port.proofs.posts.Ports.is_aborted.Goals as goal
 
-pub returns-clause-told : goal.returns-clause-told
-returns-clause-told c = λ events.
+pub returns-clause-traced : goal.returns-clause-traced
+returns-clause-traced c = λ events.
     let i = c.self.inside.office.counters.room in
     let r = c.hear in
-    let F : Desk → Type 0 = λ d. TellsDeeds d r.new.self.seat events events in
+    let F : Desk → Type 0 = λ d. TracesDeeds d r.new.self.seat events events in
     let w : Work = record { seat = i.seat; mails = i.mails.items; trace = events } in
     let w' : Work = record { seat = r.new.self.seat; mails = r.new.self.mails.items; trace = events } in
-    subst F (ap (λ (p : Post). p.seat) c.self.view_is) (hear_told c.args.msg w w' r.result r.ensures.always (hears r.result i.seat r.new.self.seat i.mails.items r.new.self.mails.items c.args.msg events r.ensures.heard))
+    subst F (ap (λ (p : Post). p.seat) c.self.view_is) (hear_traced c.args.msg w w' r.result r.ensures.always (hears r.result i.seat r.new.self.seat i.mails.items r.new.self.mails.items c.args.msg events r.ensures.heard))
 
 pub returns-clause-heard : goal.returns-clause-heard
 returns-clause-heard c =

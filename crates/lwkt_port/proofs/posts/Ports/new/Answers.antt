@@ -2,7 +2,7 @@ use Rattle.std.proofs.Common.{◌≡◌, ◌∙◌, ℕ, List, length, subst, sy
 use Rattle.std.specs.Prelude.{All}
 use Rattle.lwkt_port.specs.declared.mails.Mail.{Mail}
 use Rattle.lwkt_port.specs.Hints.{OwesNone}
-use Rattle.lwkt_port.specs.Openings.{KeepLimits}
+use Rattle.lwkt_port.specs.OpenedPorts.{KeepLimits}
 use Rattle.lwkt_port.specs.Posts.{Post, IsPost, KeepsNamed}
 use Rattle.lwkt_port.specs.Queues.{HasNamed}
 use Rattle.lwkt_port.proofs.Begun.{opened}

@@ -1,18 +1,18 @@
 use Rattle.std.proofs.Common.{ap, refl, subst}
 use Rattle.lwkt_msg.specs.Desks.{Desk}
 use Rattle.lwkt_port.specs.Posts.{Post, IsSamePost}
-use Rattle.lwkt_port.specs.Tellings.{TellsDeeds}
+use Rattle.lwkt_port.specs.Traced.{TracesDeeds}
 use Rattle.lwkt_port.specs.Works.{work}
 use Rattle.lwkt_port.proofs.SameLanes.{answer_lanes}
-use Rattle.lwkt_port.proofs.Telling.{answer_told}
+use Rattle.lwkt_port.proofs.Tracing.{answer_traced}
 use Rattle.lwkt_port.proofs.posts.Ports.reply.Goals as goal
 
-pub returns-clause-told : goal.returns-clause-told
-returns-clause-told c =
+pub returns-clause-traced : goal.returns-clause-traced
+returns-clause-traced c =
     let r = c.self.inside.office.counters.room in
     let n = c.answer in
-    let F : Desk → Type 0 = λ d. TellsDeeds d n.new.self.counters.room.seat c.args.trace.now.items n.new.trace.items in
-    subst F (ap (λ (p : Post). p.seat) c.self.view_is) (answer_told c.args.msg c.args.error c.args.outcome c.self.inside.office.lanes.items n.new.self.lanes.items (work r c.args.trace.now) (work n.new.self.counters.room n.new.trace) n.result n.ensures.means)
+    let F : Desk → Type 0 = λ d. TracesDeeds d n.new.self.counters.room.seat c.args.trace.now.items n.new.trace.items in
+    subst F (ap (λ (p : Post). p.seat) c.self.view_is) (answer_traced c.args.msg c.args.error c.args.outcome c.self.inside.office.lanes.items n.new.self.lanes.items (work r c.args.trace.now) (work n.new.self.counters.room n.new.trace) n.result n.ensures.means)
 
 pub returns-clause-same : goal.returns-clause-same
 returns-clause-same c =
@@ -20,7 +20,7 @@ returns-clause-same c =
     let n = c.answer in
     let now : Post = record { seat = n.new.self.counters.room.seat; lanes = n.new.self.lanes.items; ports = n.new.self.counters.ports.items; mails = n.new.self.counters.room.mails.items; threads = c.self.inside.threads } in
     let F : Post → Type 0 = λ p. IsSamePost p now in
-    subst F c.self.view_is (record { seat = n.ensures.beside.stands.same; lanes = answer_lanes c.args.msg c.args.error c.args.outcome o.lanes.items n.new.self.lanes.items (work o.counters.room c.args.trace.now) (work n.new.self.counters.room n.new.trace) n.result n.ensures.means; threads = refl })
+    subst F c.self.view_is (record { seat = n.ensures.beside.grew_so.same; lanes = answer_lanes c.args.msg c.args.error c.args.outcome o.lanes.items n.new.self.lanes.items (work o.counters.room c.args.trace.now) (work n.new.self.counters.room n.new.trace) n.result n.ensures.means; threads = refl })
 
 pub returns-then-not-answer-clause-same : goal.returns-then-not-answer-clause-same
 returns-then-not-answer-clause-same c =
@@ -28,4 +28,4 @@ returns-then-not-answer-clause-same c =
     let n = c.answer in
     let now : Post = record { seat = n.new.self.counters.room.seat; lanes = n.new.self.lanes.items; ports = n.new.self.counters.ports.items; mails = n.new.self.counters.room.mails.items; threads = c.self.inside.threads } in
     let F : Post → Type 0 = λ p. IsSamePost p now in
-    subst F c.self.view_is (record { seat = n.ensures.beside.stands.same; lanes = answer_lanes c.args.msg c.args.error c.args.outcome o.lanes.items n.new.self.lanes.items (work o.counters.room c.args.trace.now) (work n.new.self.counters.room n.new.trace) n.result n.ensures.means; threads = refl })
+    subst F c.self.view_is (record { seat = n.ensures.beside.grew_so.same; lanes = answer_lanes c.args.msg c.args.error c.args.outcome o.lanes.items n.new.self.lanes.items (work o.counters.room c.args.trace.now) (work n.new.self.counters.room n.new.trace) n.result n.ensures.means; threads = refl })

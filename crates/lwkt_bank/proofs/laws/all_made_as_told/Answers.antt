@@ -1,5 +1,0 @@
-use Rattle.lwkt_bank.proofs.MadeMoves.{all_made_as_told}
-use Rattle.lwkt_bank.proofs.laws.all_made_as_told.Goals as goal
-
-pub returns : goal.returns
-returns c = all_made_as_told

@@ -1,6 +1,0 @@
-use Rattle.std.proofs.Common.{◌≡◌, take, map}
-use Rattle.lwkt_port.specs.Openings.{new_mail}
-use Rattle.lwkt_port.proofs.openings.open_mails.Given as goal
-
-abbrev pub invariant-loop-origin : goal.invariant-loop-origin
-invariant-loop-origin l = l.mails.items ≡ map (new_mail l.cpu) (take l.origin-index l.origins)

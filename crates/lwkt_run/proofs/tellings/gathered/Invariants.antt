@@ -1,6 +1,0 @@
-use Rattle.std.proofs.Common.{◌≡◌, flat_map}
-use Rattle.lwkt_core.specs.RunSections.{sections_told}
-use Rattle.lwkt_run.proofs.tellings.gathered.Given as goal
-
-abbrev pub invariant-loop-trace : goal.invariant-loop-trace
-invariant-loop-trace l = l.sections.items ≡ flat_map (λ trace. sections_told trace.items) l.yielded

@@ -1,6 +1,0 @@
-use Rattle.std.proofs.Common.{◌≡◌, map, take}
-use Rattle.lwkt_seats.specs.Openings.{spec_of}
-use Rattle.lwkt_seats.proofs.openings.specs_of.Given as goal
-
-abbrev pub invariant-loop-token : goal.invariant-loop-token
-invariant-loop-token l = l.specs.items ≡ map spec_of (take l.token-index l.tokens)

@@ -1,5 +1,0 @@
-use Rattle.lwkt_show.proofs.AskPartings.{texts_apart}
-use Rattle.lwkt_show.proofs.laws.texts_tell_asks.Goals as goal
-
-pub returns : goal.returns
-returns c = texts_apart
