@@ -54,6 +54,16 @@ def copy_tree(crates, names, room):
     write(f"{room}/crates.txt", "".join(f"{' '.join([it.name, *it.kind.split()])}: {' '.join(it.uses)}\n" for it in map(crates.get, names)))
 
 
+def are_newer(crates, names):
+    """Returns whether the libraries of these crates in the tree were built after the last change of their sources and of those below."""
+    for name in names:
+        built = f"{TOP}/crates/{name}/out/rlib/{name}.rlib"
+        files = [file for it in below(crates, [name]) for file in sources(it)]
+        if not os.path.isdir(built) or os.path.getmtime(built) < max(map(os.path.getmtime, files)):
+            return False
+    return True
+
+
 def link(from_file, to_file):
     try:
         os.link(from_file, to_file)
