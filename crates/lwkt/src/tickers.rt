@@ -6,6 +6,9 @@ use lwkt_base::memory::put;
 use lwkt_explore::{Seen, Watch};
 use lwkt_report::{Sink, write_whole};
 use lwkt_request::Search;
+use lwkt_run::TurnsRun;
+use lwkt_script::Script;
+use lwkt_show::whys_of;
 use std::alloc::Global;
 use std::time::{Clock, Duration, Instant};
 
@@ -110,5 +113,9 @@ impl<'a, R: Clock, E: Sink> Watch for Ticker<'a, R, E> {
         let now = Instant::now(self.rt).ok();
         self.say(now, seen);
         !self.is_over(now)
+    }
+
+    fn why(alloc: Global, script: &Script, run: &TurnsRun) -> Result<String, OutOfMemory> {
+        whys_of(alloc, script, run)
     }
 }

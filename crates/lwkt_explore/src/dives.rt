@@ -19,7 +19,7 @@ const ORDERS: u64 = 64;
 const TURNS: usize = 40000;
 
 // Makes an order of at most so many turns, and keeps its outcome, unless it was cut. Says how many turns the order has.
-fn add_one(
+fn add_one<W: Watch>(
     alloc: Global,
     script: &Script,
     walk: &mut Walk,
@@ -42,14 +42,14 @@ fn add_one(
     if last_state == LastState::Cut {
         return Ok(turns);
     }
-    match outcomes.add(alloc, script, order, last_state) {
+    match outcomes.add::<W>(alloc, script, order, last_state) {
         Ok(_) => Ok(turns),
         Err(fault) => Err(fault),
     }
 }
 
 // Makes the run in rounds.
-fn go_round(
+fn go_round<W: Watch>(
     alloc: Global,
     script: &Script,
     walk: &mut Walk,
@@ -67,7 +67,7 @@ fn go_round(
     let rounds = (script.turns as usize).saturating_mul(usize::from(script.cpus));
     let most = walk.bounds.turns.min(TURNS).min(rounds);
     let mut course = Course::Rounds;
-    add_one(alloc, script, walk, outcomes, &mut course, most)?;
+    add_one::<W>(alloc, script, walk, outcomes, &mut course, most)?;
     Ok(())
 }
 
@@ -96,7 +96,7 @@ fn go_about<W: Watch>(
             return Ok(false);
         }
         let most = walk.bounds.turns.min(left);
-        let turns = add_one(alloc, script, walk, outcomes, &mut course, most)?;
+        let turns = add_one::<W>(alloc, script, walk, outcomes, &mut course, most)?;
         left = left.saturating_sub(turns);
     }
     Ok(true)
@@ -120,6 +120,6 @@ pub(crate) fn dive<W: Watch>(
     ensures refused { IfErr result (λ fault. RefusesSearch script.now fault) }
 {
     let mut walk = Walk::begin(alloc, script, bounds, Method::Plain)?;
-    go_round(alloc, script, &mut walk, outcomes)?;
+    go_round::<W>(alloc, script, &mut walk, outcomes)?;
     go_about(alloc, script, &mut walk, outcomes, watch)
 }

@@ -57,4 +57,4 @@ pub use samples::sample;
 pub use searches::{Bounds, Found, Method, Tried, explore};
 pub use statuses::status_of_found;
 pub use verdicts::verdicts_of;
-pub use watches::{Seen, Unwatched, Watch};
+pub use watches::{Seen, Watch};

@@ -2,18 +2,18 @@
 ghost use Rattle.std.specs.Prelude.{◌≡◌, ◌≢◌, ℕ, ◌+◌, ◌<◌, ◌≤◌, [], ◌∷◌, ◌++◌, length, sum, string_bytes, Err, IfOk, IfErr, OnOk, OnErr, IfSome, OnSome};
 ghost use Rattle.std.specs.List.{Any};
 ghost use Rattle.std.specs.Option.{option_to_list};
-ghost use Rattle.lwkt_run.specs.Run.{AreThere, end_of_closing};
+ghost use Rattle.lwkt_run.specs.Run.{AreThere, IsOrderRun, end_of_closing};
 ghost use Rattle.lwkt_script.specs.declared.scripts.Script.{Script};
 ghost use Rattle.lwkt_explore.specs.Outcomes.{settled_text, IsKind, IsOutcome, AreOutcomes, AreShort, AreWhole, HasEnded, HasRoom, RefusesSearch};
 ghost use Rattle.lwkt_explore.specs.Verdicts.{IsOfVerdict};
 
 use crate::walks::number_in_order;
+use crate::watches::Watch;
 use lwkt_base::memory::{from_slice, push, reserve};
 use lwkt_base::{Fault, OutOfMemory};
 use lwkt_report::{Closing, Verdict, report_front};
 use lwkt_run::{End, TurnsRun, end_of_closing, order_run_of};
 use lwkt_script::Script;
-use lwkt_show::{Reel, whys_of};
 use std::alloc::Global;
 
 /// How a run along an order stood when it stopped.
@@ -52,7 +52,7 @@ pub struct Outcome {
     pub text: String,
     /// Those of them that are of tokens and threads. Outcomes of one kind that differ in the others alone are grouped.
     pub settled: String,
-    /// Of a stuck outcome what each thread that hasn't ended waits for, in one line; of every other nothing.
+    /// Of a stuck outcome what each thread that hasn't ended waits for, in the words of who looks on; of every other nothing.
     pub why: Option<String>,
 }
 
@@ -88,32 +88,22 @@ fn kind_of(run: &TurnsRun, last_state: LastState) -> Result<Kind, Fault>
     }
 }
 
-// Why the threads of a run haven't ended, where it is stuck.
-fn why_of(
+// Makes the run along an order, and says which kind of outcome it is.
+fn lawful_run(
     alloc: Global,
     script: &Script,
-    kind: Kind,
-    run: &TurnsRun,
-) -> Result<Option<String>, OutOfMemory> {
-    match kind {
-        Kind::Ended | Kind::Cut => return Ok(None),
-        Kind::Stuck => {}
-    }
-    let events = run.trace.whole(alloc)?;
-    let reel = Reel {
-        script,
-        trace: &events,
-        polls: &run.polls,
-        turns: &run.turns,
-        order: Some(&run.order),
-        closing: &run.closing,
-    };
-    match whys_of(alloc, &reel) {
-        Ok(why) => Ok(Some(why)),
-        Err(Fault::Memory(refused)) => Err(refused),
-        // (a machine of this script was opened, so there is no other fault)
-        Err(_) => Ok(None),
-    }
+    order: &[u8],
+    last_state: LastState,
+) -> Result<(TurnsRun, Kind), Fault>
+    requires { AreThere script.now order.now }
+    ensures run { IfOk result (λ made. IsOrderRun script.now order.now made.0) }
+    ensures lawful { IfOk result (λ made. made.0.closing.verdict ≡ Verdict.Lawful) }
+    ensures kind { IfOk result (λ made. IsKind made.1 (end_of_closing made.0.closing)) }
+    ensures refused { IfErr result (λ fault. RefusesSearch script.now fault) }
+{
+    let run = order_run_of(alloc, script, order)?;
+    let kind = kind_of(&run, last_state)?;
+    Ok((run, kind))
 }
 
 // The token and thread lines of a report, with what it shows.
@@ -139,7 +129,7 @@ fn settled_of(alloc: Global, closing: Closing) -> Result<(Closing, String), OutO
 }
 
 // The outcome of a run along an order.
-fn outcome_of(
+fn outcome_of<W: Watch>(
     alloc: Global,
     script: &Script,
     order: Vec<u8>,
@@ -150,10 +140,12 @@ fn outcome_of(
     ensures order { IfOk result (λ outcome. outcome.order.items ≡ order.items) }
     ensures refused { IfErr result (λ fault. RefusesSearch script.now fault) }
 {
-    let run = order_run_of(alloc, script, order.as_slice())?;
-    let kind = kind_of(&run, last_state)?;
+    let (run, kind) = lawful_run(alloc, script, order.as_slice(), last_state)?;
+    let why = match kind {
+        Kind::Stuck => Some(W::why(alloc, script, &run)?),
+        Kind::Ended | Kind::Cut => None,
+    };
     let text = report_front(alloc, &run.closing)?;
-    let why = why_of(alloc, script, kind, &run)?;
     let (closing, settled) = settled_of(alloc, run.closing)?;
     Ok(Outcome {
         kind,
@@ -180,7 +172,7 @@ pub(crate) fn judge(
     if let Some(cpu) = cpu {
         push(&mut whole, number_in_order(cpu))?;
     }
-    outcome_of(alloc, script, whole, LastState::Cut)?;
+    lawful_run(alloc, script, whole.as_slice(), LastState::Cut)?;
     Ok(())
 }
 
@@ -265,7 +257,7 @@ impl Outcomes {
 
     /// Makes the run along an order, and keeps its report, if it is a new one: room for it is made before the run. Says which kind of
     /// outcome it is.
-    pub(crate) fn add(
+    pub(crate) fn add<W: Watch>(
         &mut self,
         alloc: Global,
         script: &Script,
@@ -284,7 +276,7 @@ impl Outcomes {
         ensures refused { IfErr result (λ fault. RefusesSearch script.now fault) }
     {
         self.make_room()?;
-        let outcome = outcome_of(alloc, script, order, last_state)?;
+        let outcome = outcome_of::<W>(alloc, script, order, last_state)?;
         let kind = outcome.kind;
         match self.place_of(&outcome) {
             Some(place) => self.count(place),

@@ -77,7 +77,7 @@ impl Course {
 }
 
 // Makes one random order, and keeps its outcome.
-fn add_one(
+fn add_one<W: Watch>(
     alloc: Global,
     script: &Script,
     walk: &mut Walk,
@@ -96,7 +96,7 @@ fn add_one(
 {
     let most = walk.bounds.turns;
     let (order, last_state) = walk.stray(alloc, script, course, most)?;
-    match outcomes.add(alloc, script, order, last_state) {
+    match outcomes.add::<W>(alloc, script, order, last_state) {
         Ok(_) => Ok(()),
         Err(fault) => Err(fault),
     }
@@ -125,7 +125,7 @@ fn add_all<W: Watch>(
         if !watch.goes_on(walk.strayed(made)) {
             return Ok(());
         }
-        add_one(alloc, script, walk, outcomes, course)?;
+        add_one::<W>(alloc, script, walk, outcomes, course)?;
     }
     Ok(())
 }

@@ -68,7 +68,7 @@ impl Found {
 }
 
 // Adds the outcome of a state, which stands so. Says which kind it is of.
-fn add_at(
+fn add_at<W: Watch>(
     alloc: Global,
     script: &Script,
     walk: &mut Walk,
@@ -84,7 +84,7 @@ fn add_at(
     ensures refused { IfErr result (λ fault. RefusesSearch script.now fault) }
 {
     let order = walk.graph.order(alloc, at)?;
-    let kind = outcomes.add(alloc, script, order, last_state)?;
+    let kind = outcomes.add::<W>(alloc, script, order, last_state)?;
     if kind == Kind::Cut {
         walk.meet(Bound::Turns);
     }
@@ -92,7 +92,7 @@ fn add_at(
 }
 
 // Goes on from a state; where all threads have ended, nothing changes any more, or a bound is met, there is an outcome.
-fn expand(
+fn expand<W: Watch>(
     alloc: Global,
     script: &Script,
     walk: &mut Walk,
@@ -109,7 +109,7 @@ fn expand(
     let Some(last_state) = walk.last_state(at, leads) else {
         return Ok(walk.note_end(false)?);
     };
-    let kind = add_at(alloc, script, walk, outcomes, at, last_state)?;
+    let kind = add_at::<W>(alloc, script, walk, outcomes, at, last_state)?;
     Ok(walk.note_end(kind == Kind::Ended)?)
 }
 
@@ -137,7 +137,7 @@ fn search<W: Watch>(
             walk.met = Some(Bound::Stopped);
             return Ok(());
         }
-        expand(alloc, script, walk, outcomes, at)?;
+        expand::<W>(alloc, script, walk, outcomes, at)?;
     }
     // (no state may be kept, and the opening is one)
     if walk.graph.len() > states {

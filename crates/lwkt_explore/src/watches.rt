@@ -1,4 +1,8 @@
 //! Who looks on at a search.
+use lwkt_base::OutOfMemory;
+use lwkt_run::TurnsRun;
+use lwkt_script::Script;
+use std::alloc::Global;
 
 /// How far a search is.
 #[derive(Clone, Copy, PartialEq, Eq)]
@@ -11,18 +15,13 @@ pub struct Seen {
     pub turns: u64,
 }
 
-/// Who looks on at a search.
+/// Who looks on at a search, and knows the words for why a run is stuck.
 pub trait Watch {
     /// Whether the search goes on. It asks before each random order, and before it goes on from a state, and ends at the first no.
     fn goes_on(&mut self, seen: Seen) -> bool;
-}
 
-/// Nobody looks on: every search goes on.
-#[derive(Clone, Copy, PartialEq, Eq)]
-pub struct Unwatched;
-
-impl Watch for Unwatched {
-    fn goes_on(&mut self, _seen: Seen) -> bool {
-        true
-    }
+    /// Of a stuck run what each thread that hasn't ended waits for, in one line without its end.
+    ///
+    /// Refused if memory is.
+    fn why(alloc: Global, script: &Script, run: &TurnsRun) -> Result<String, OutOfMemory>;
 }

@@ -8,11 +8,14 @@ use crate::answers::{LwktAnswer, status_of_fault};
 use crate::fronts::{blank, fill, put_both};
 use crate::readings::input_onto;
 use crate::refusals::{say_memory, say_unmade};
-use lwkt_base::Fault;
+use lwkt_base::{Fault, OutOfMemory};
 use lwkt_explore::{
-    Bounds, Found, Method, Unwatched, explore, status_of_text, text_of, verdicts_of,
+    Bounds, Found, Method, Seen, Watch, explore, status_of_text, text_of, verdicts_of,
 };
 use lwkt_report::Page;
+use lwkt_run::TurnsRun;
+use lwkt_script::Script;
+use lwkt_show::whys_of;
 use lwkt_text::Input;
 use std::alloc::Global;
 
@@ -25,6 +28,20 @@ pub struct Search {
     pub verdicts: String,
     /// The status by what was found.
     pub status: u8,
+}
+
+// Nobody looks on: every search goes on.
+#[derive(Drop)]
+struct Unwatched;
+
+impl Watch for Unwatched {
+    fn goes_on(&mut self, _seen: Seen) -> bool {
+        true
+    }
+
+    fn why(alloc: Global, script: &Script, run: &TurnsRun) -> Result<String, OutOfMemory> {
+        whys_of(alloc, script, run)
+    }
 }
 
 // Tries every order of a script that was read of these bytes; why it is refused is put on a page.

@@ -34,6 +34,5 @@ mod words;
 
 pub use laws::{lines_decide_turns, texts_decide_asks};
 pub use options::{Counted, Options, Rendering};
-pub use reels::Reel;
 pub use shows::{Shown, show_script, show_threads};
 pub use whys::whys_of;
