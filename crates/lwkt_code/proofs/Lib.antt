@@ -1,6 +1,0 @@
-pub mod Heights
-pub mod Insides
-pub mod Lists
-pub mod Marking
-pub mod Walks
-pub mod Ways
