@@ -27,7 +27,7 @@ at_word R st m n m' = (m'.1 ≡ m.1) × ((tok : ℕ) → st.word ≡ token_word 
 abbrev pub at_cell : (List Deed → ℕ → ℕ → View → ℕ → View → Type 0) → Step (List ℕ) → Me (List ℕ) View → ℕ → Me (List ℕ) View → Type 0
 at_cell R st m n m' = (m'.1 ≡ m.1) × ((tok cell : ℕ) → cell < 4 → st.word ≡ cell_word tok cell → Amid m.0 (λ between. R between tok cell m.0 n m'.0))
 
--- a look at the word: the generation doesn't fall, and there is room for a reference more
+-- a load of the word: its generation is no lower than the seat knew, and the count has room for one more reference
 abbrev pub Looks : List Deed → ℕ → View → ℕ → View → Type 0
 Looks between tok v n w = (n + 4 < 18446744073709551616) × ((at v.tokens tok).generation ≤ generation_in n) × (w ≡ noted between v (looked (at v.tokens tok) n) (loads (who v) tok n))
 

@@ -100,8 +100,8 @@ pub record IsSame (old new : Seat (List ℕ) View) : Type 0 where
 abbrev pub Decides : ℕ → Mode → Bool → Decision → Type 0
 Decides word mode alone answer = (w : TokWord) → Fits w → word_of w ≡ word → decision w mode alone ≡ answer
 
--- after a call on a token the seat knows this of it, and as before of every other; it is the same seat of the same bank; and it
--- has done these deeds, between which others may have acted
+-- what a call on one token does to its seat: of this token the seat knows e now, of every other what it knew before; it stays that
+-- processor's seat of that bank; its own steps were these deeds, and other seats may have made steps in between
 pub record Changes (s s' : CpuSeat) (tok : ℕ) (e : TokenEntry) (deeds : List Deed) : Type 0 where
   pub bank : bank_of s' ≡ bank_of s
   pub cpu : s'.cpu ≡ s.cpu
@@ -110,7 +110,7 @@ pub record Changes (s s' : CpuSeat) (tok : ℕ) (e : TokenEntry) (deeds : List D
   pub grows : Grows s.cpu.0 (past_of s) deeds (past_of s')
   pub own : AreOwn s.cpu.0 deeds
 
--- a look at a token word that found this: the generation doesn't fall, and there is room for a reference more
+-- a load of a token's word that gave `found`: its generation is no lower than the seat knew, and the count has room for one more reference
 pub record Looked (s s' : CpuSeat) (tok found : ℕ) : Type 0 where
   pub room : found + 4 < 18446744073709551616
   pub rises : (entry s tok).generation ≤ generation_in found

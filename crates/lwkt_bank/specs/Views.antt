@@ -168,7 +168,8 @@ abbrev pub merged : ℕ → List TokenEntry → List TokenEntry → List TokenEn
 merged zero ds es = []
 merged (suc n) ds es = both_of n (at ds n) (at es n) ∷ merged n ds es
 
--- the clerk's view after a seat was taken back, whose past it keeps, and what stays of that seat's view
+-- a seat is taken back: the clerk's view gets the seat's past as a chapter, and what the seat knew of the tokens; the seat's own view is
+-- spent then
 abbrev pub chapter_of : View → Chapter
 chapter_of w = record { cpu = who w; past = w.past }
 

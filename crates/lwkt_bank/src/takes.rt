@@ -20,7 +20,7 @@ fn is_free(word: u64) -> bool
     word % GENERATION == 0
 }
 
-// What such a word answers an exclusive request: nearly each take finds one, and needs no other part of the word.
+// What an exclusive request is answered at a word that nobody holds or marks. Most takes find such a word.
 #[inline(always)]
 fn decide_free(word: u64) -> Decision
     requires free { word % GENERATION ≡ 0 }
@@ -87,7 +87,7 @@ impl CpuSeat {
         ensures hit { result ≡ true → Hit self.old self.new tok.0 mode word next }
         ensures miss { result ≡ false → Miss self.old self.new tok.0 word next }
     {
-        // Noted before the exchange: between two atomic steps a write would be waited for.
+        // Noted before the exchange, where the write overlaps with the load; a write between two atomic steps delays the second.
         let note = &mut self.notes[tok.0 as usize];
         note.take(mode);
         let found = steps::swing(bank, &mut self.seat, tok, mode, word, next);

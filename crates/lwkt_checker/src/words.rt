@@ -8,7 +8,7 @@ use lwkt_core::Event;
 use lwkt_trace::Stated;
 use lwkt_trace::words::{Subject, event_word, show_bytes, show_numbers, subject_of};
 
-/// Appends words.
+/// Appends words of the verdict's sentence to the output, as they are.
 #[tactic(auto, unfolding(crate::specs::Said::said))]
 pub fn say(out: &mut String, words: &str) -> Result<(), OutOfMemory>
     ensures { OnOk result (string_bytes out.new ≡ string_bytes out.old ++ said words.now) }

@@ -52,7 +52,7 @@ pub struct Said {
     no: bool,
 }
 
-/// The gate as a drive has it: it is asked by `Driven::ask` alone, which counts each yes and keeps a no.
+/// The gate of a drive. Only `Driven::ask` can ask it, so that each yes is counted and a no is kept.
 #[derive(Clone, Copy)]
 pub(crate) struct Door<'a, G> {
     gate: &'a G,

@@ -32,7 +32,8 @@ pub struct CellSection {
     pub generation: u32,
 }
 
-/// An event, or the place of what a row has no room for. Each other kind is that of `Event`, with a number of 32 bits.
+/// An event as a short row. Most kinds are those of `Event`, with a number of 32 bits; a section or an event that doesn't fit stands in a
+/// list beside the rows, and its row has the place there.
 #[derive(Clone, Copy)]
 pub enum ShortEvent {
     Load(CpuId, TokId),

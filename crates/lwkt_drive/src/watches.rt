@@ -7,7 +7,7 @@ use std::{hint, thread};
 // The most hints of a pause.
 const LONGEST_PAUSE: u32 = 512;
 
-// The most longest pauses between two idle turns of a processor that waits for others to come under way.
+// A processor that waits for others to begin pauses at most so many times LONGEST_PAUSE hints between two idle turns.
 const WAITS: u32 = 64;
 
 /// What a turn has left: how many turns ran a thread, how many events there are, and how far the processor has come.

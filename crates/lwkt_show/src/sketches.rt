@@ -168,7 +168,7 @@ impl Sketch {
         self.values.get_mut(bar.value?)
     }
 
-    // The room of the last value under a bar ends before this round.
+    // The last value that is written under a bar may reach up to this round, and not into it.
     fn end_value(&mut self, bar: Bar, round: usize) {
         if let Some(value) = self.value_of(bar) {
             value.until = round;

@@ -25,7 +25,7 @@ comma_at n = if n == 0 then [] else codes ","
 abbrev pub line_at : ℕ → List ℕ
 line_at n = if n == 0 then codes "\n" else codes ",\n"
 
--- the texts of some parts, numbered from n, each behind what stands before it
+-- the texts of some parts one after another, each with a text before it that depends on its number; the first has number n
 abbrev pub parted : {A : Type 0} → (ℕ → List ℕ) → (A → List ℕ) → ℕ → List A → List ℕ
 parted before text n [] = []
 parted before text n (x ∷ xs) = before n ++ text x ++ parted before text (n + 1) xs

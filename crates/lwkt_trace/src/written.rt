@@ -147,14 +147,14 @@ fn put_event<const SIZE: usize>(text: &mut ArrayVec<u8, SIZE>, event: &Event) ->
     put(text, b"]")
 }
 
-// What stands between the first two quotation marks, and what stands behind them.
+// What stands between the quotation mark that is byte 1 of a line and the next one, and what stands behind that.
 fn parted(line: &[u8]) -> Option<(&[u8], &[u8])> {
     let quoted = line.get(2..)?;
     let end = quoted.iter().position(|byte| *byte == b'"')?;
     Some((&quoted[..end], &quoted[end + 1..]))
 }
 
-// What stands between the first two quotation marks of bytes that begin with any.
+// What stands between the first two quotation marks.
 fn quoted(bytes: &[u8]) -> Option<&[u8]> {
     let begin = bytes.iter().position(|byte| *byte == b'"')?;
     let behind = bytes.get(begin.saturating_add(1)..)?;
@@ -298,7 +298,7 @@ fn likely_event(line: &[u8]) -> Option<Event>
     }
 }
 
-// Whether a line is the text of an event, which has no record, or a small one, then.
+// Whether a line of at most 64 bytes is the text of an event.
 fn is_short_text(line: &[u8], event: &Event) -> bool
     ensures { IsTrue result → line.now ≡ event_text event.now }
 {
@@ -309,7 +309,7 @@ fn is_short_text(line: &[u8], event: &Event) -> bool
     }
 }
 
-// Whether a line is the text of an event, which has a record of at most 64 bytes, or none, then.
+// Whether a line is the text of an event, if that has no record of more than 64 bytes.
 fn is_long_text(line: &[u8], event: &Event) -> bool
     ensures { IsTrue result → line.now ≡ event_text event.now }
 {

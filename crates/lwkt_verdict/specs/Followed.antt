@@ -1,4 +1,4 @@
--- What a turn leaves of what a check knows of one thread that follows a run (own).
+-- What a check knows of one thread of a run, before and after a turn of its processor (own).
 use Rattle.std.specs.Prelude.{◌≡◌, ℕ, ◌+◌, ◌*◌, ◌/◌, ◌<◌, nat_lt, Bool, true, false, List, [], ◌∷◌, ◌++◌, length, take, max, slice_get, if◌then◌else◌, Option, Some, None, MatchOption, option_map}
 use Rattle.lwkt_base.specs.declared.asks.Ask.{Ask}
 use Rattle.lwkt_base.specs.declared.asks.Answer.{Answer}

@@ -90,7 +90,7 @@ fn note_any(log: &mut Vec<Entry>, ask: &Ask, heard: &Answer) -> Result<(), OutOf
     push_entry(log, entry_of(*ask, *heard))
 }
 
-// The entry of an answer goes behind a log, if it has one and there is room for it. Most answers have none.
+// Appends to a log the entry that an answer makes, if it makes one and the log has room. Most answers make none.
 #[inline(always)]
 fn note(log: &mut Vec<Entry>, ask: &Ask, heard: &Answer) -> Result<(), OutOfMemory>
     requires few { length log.old.items ≤ 32 }
