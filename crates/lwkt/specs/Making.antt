@@ -1,5 +1,6 @@
 -- What each task makes of an input: a text for standard output, and the status that goes with it (own).
 use Rattle.std.specs.Prelude.{◌≡◌, ◌≤◌, ℕ, length, List, Bool, true, false, Option, None, Some, Result, Ok}
+use Rattle.lwkt_base.specs.declared.limits.TheConstants.{SCRIPT_BYTES}
 use Rattle.lwkt_explore.specs.declared.extents.Extent.TheVariants.{Sampled}
 use Rattle.lwkt_explore.specs.declared.searches.Found.{Found}
 use Rattle.lwkt_explore.specs.Expectations.{status_of_text}
@@ -47,7 +48,7 @@ IsShow true options order script text status = (end : End) × (IsShownOnThreads 
 
 -- a text has no more bytes than a script may have
 abbrev pub IsShort : List ℕ → Type 0
-IsShort text = length text ≤ 1048576
+IsShort text = length text ≤ SCRIPT_BYTES
 
 -- the script in this form, or the report of a run in rounds
 abbrev pub IsForm : Form → Input → List ℕ → ℕ → Type 0

@@ -8,6 +8,7 @@ use Rattle.lwkt_base.specs.declared.laws.Law.TheVariants.{Tally}
 use Rattle.lwkt_base.specs.declared.holdings.Held.TheVariants.{Nothing, Holds}
 use Rattle.lwkt_base.specs.declared.opening_specs.TokSpec.{TokSpec}
 use Rattle.lwkt_base.specs.declared.words.Decision.TheVariants.{Take as Takes}
+use Rattle.lwkt_base.specs.declared.limits.TheConstants.{LIST_LIMIT, RECORD_LIMIT}
 use Rattle.lwkt_base.specs.Holding.{is_held, is_exclusive}
 use Rattle.lwkt_bank.specs.Hands.{IsInHand}
 use Rattle.lwkt_table.specs.declared.seats.SeatKind.TheVariants.{Clerk, Of}
@@ -132,15 +133,15 @@ abbrev pub LookIsLoad : Type 0
 LookIsLoad = AtSeat (λ plans cpus id v tok. Deeds plans cpus id v (token_word tok) (λ n. n) (λ n. loads (who v) tok n) stays (λ _ n w. Amid v (λ between. Looks between tok v n w)))
 
 abbrev pub ExchangeIsTake : Type 0
-ExchangeIsTake = AtSeat (λ plans cpus id v tok. (old new : ℕ) (alone : Bool) → count_from 0 (length plans) (held_of v.tokens) < 32 → Decides old Exclusive alone (Takes new)
+ExchangeIsTake = AtSeat (λ plans cpus id v tok. (old new : ℕ) (alone : Bool) → count_from 0 (length plans) (held_of v.tokens) < LIST_LIMIT → Decides old Exclusive alone (Takes new)
     → Deeds plans cpus id v (token_word tok) (λ n. if n == old then new else n) (λ n. deed_by (who v) (if n == old then Take (who v) (named tok) else Load (who v) (named tok)) (exchange tok old new n ∷ [])) (taken_home (plan_at plans tok).blob tok old) (λ homes n w. Amid v (λ between. Exchanges Exclusive old new between tok v n w × (n ≡ old → FindsAt (plan_at plans tok).blob tok homes (at w.tokens tok).blob))))
 
 abbrev pub ExchangeIsShare : Type 0
-ExchangeIsShare = AtSeat (λ plans cpus id v tok. (old new : ℕ) (alone : Bool) → count_from 0 (length plans) (held_of v.tokens) < 32 → Decides old Shared alone (Takes new) → (at v.tokens tok).held ≡ Nothing
+ExchangeIsShare = AtSeat (λ plans cpus id v tok. (old new : ℕ) (alone : Bool) → count_from 0 (length plans) (held_of v.tokens) < LIST_LIMIT → Decides old Shared alone (Takes new) → (at v.tokens tok).held ≡ Nothing
     → Deeds plans cpus id v (token_word tok) (λ n. if n == old then new else n) (λ n. deed_by (who v) (if n == old then Share (who v) (named tok) else Load (who v) (named tok)) (exchange tok old new n ∷ [])) stays (λ _ n w. Amid v (λ between. Exchanges Shared old new between tok v n w)))
 
 abbrev pub AddIsAgain : Type 0
-AddIsAgain = AtSeat (λ plans cpus id v tok. is_held (at v.tokens tok).held ≡ true → count_from 0 (length plans) (held_of v.tokens) < 32 → Deeds plans cpus id v (token_word tok) (λ n. (n + 4) % 2 ^ 64) (λ n. adds_one (who v) tok n) stays (λ _ n w. Amid v (λ between. AddsOne between tok v n w)))
+AddIsAgain = AtSeat (λ plans cpus id v tok. is_held (at v.tokens tok).held ≡ true → count_from 0 (length plans) (held_of v.tokens) < LIST_LIMIT → Deeds plans cpus id v (token_word tok) (λ n. (n + 4) % 2 ^ 64) (λ n. adds_one (who v) tok n) stays (λ _ n w. Amid v (λ between. AddsOne between tok v n w)))
 
 abbrev pub OrIsMark : Type 0
 OrIsMark = AtSeat (λ plans cpus id v tok. Deeds plans cpus id v (token_word tok) (λ n. bit_or n 2) (λ n. marks (who v) tok n) stays (λ _ n w. Amid v (λ between. Marks between tok v n w)))
@@ -170,7 +171,7 @@ abbrev pub AccessIsReadBlob : Type 0
 AccessIsReadBlob = AtSeat (λ plans cpus id v tok. (bytes : List ℕ) → is_exclusive (at v.tokens tok).held ≡ true → (at v.tokens tok).blob ≡ Some bytes → Deeds plans cpus id v (cell_word tok 0) (λ n. n) (λ _. reads_blob (who v) tok bytes) stays (λ _ _ w. Amid v (λ between. ReadsBlob between tok v w)))
 
 abbrev pub AccessIsWriteBlob : Type 0
-AccessIsWriteBlob = AtSeat (λ plans cpus id v tok. (bytes : List ℕ) → IsInHand v tok → length bytes ≤ 64 → Deeds plans cpus id v (cell_word tok 0) (λ n. n) (λ _. writes_blob (who v) tok bytes) stays (λ _ _ w. Amid v (λ between. WritesBlob bytes between tok v w)))
+AccessIsWriteBlob = AtSeat (λ plans cpus id v tok. (bytes : List ℕ) → IsInHand v tok → length bytes ≤ RECORD_LIMIT → Deeds plans cpus id v (cell_word tok 0) (λ n. n) (λ _. writes_blob (who v) tok bytes) stays (λ _ _ w. Amid v (λ between. WritesBlob bytes between tok v w)))
 
 -- what a call's deeds say of its seat's steps on token words and of its events: they are appended, in order
 abbrev pub DeedsAreAppended : Type 0

@@ -5,6 +5,7 @@ use Rattle.lwkt_base.specs.declared.names.Mode.TheVariants.{Exclusive}
 use Rattle.lwkt_base.specs.declared.laws.Law.TheVariants.{Tally}
 use Rattle.lwkt_base.specs.declared.holdings.Held.{Held}
 use Rattle.lwkt_base.specs.declared.holdings.Held.TheVariants.{Nothing, Holds}
+use Rattle.lwkt_base.specs.declared.limits.TheConstants.{CELL_LIMIT, RECORD_LIMIT}
 use Rattle.lwkt_base.specs.Holding.{references_in, is_held, is_exclusive}
 use Rattle.lwkt_table.specs.declared.seats.SeatKind.{SeatKind}
 use Rattle.lwkt_table.specs.declared.seats.SeatKind.TheVariants.{Clerk, Of, Spent}
@@ -98,9 +99,9 @@ pub record IsRecordTouched (touch : Touch) (kept : List ℕ) (first value : Reco
 -- what a seat keeps at run time of a token is what its view says; how the cells stand only while it is held exclusively, and the
 -- value of a cell only where it was stored to in the section
 pub record IsNoted (plan : Plan) (cpu : ℕ) (e : TokenEntry) (note : TokenNote) : Type 0 where
-  pub four : length note.cells ≡ 4
-  pub firsts : length note.first ≡ 4
-  pub lasts : length note.last ≡ 4
+  pub four : length note.cells ≡ CELL_LIMIT
+  pub firsts : length note.first ≡ CELL_LIMIT
+  pub lasts : length note.last ≡ CELL_LIMIT
   pub tally : note.tally ≡ amount cpu e.added
   pub own : (other : ℕ) → other ≢ cpu → amount other e.added ≡ 0
   pub long : is_held e.held ≡ true → (length e.first ≡ plan.cells) × (length e.row ≡ plan.cells)
@@ -113,7 +114,7 @@ pub record IsNoted (plan : Plan) (cpu : ℕ) (e : TokenEntry) (note : TokenNote)
   pub covered : plan.law ≡ Tally → is_exclusive e.held ≡ true → is_stored (touch_at note 0) ≡ true → amount cpu e.added ≤ slice_index e.row 0
   pub record_touched : is_exclusive e.held ≡ true → IsRecordTouched note.record_ note.first_blob e.first_blob e.blob
   pub guarded : is_held e.held ≡ true → (is_some e.blob ≡ is_some plan.blob) × (is_some e.first_blob ≡ is_some plan.blob)
-  pub short : is_held e.held ≡ true → (bytes : List ℕ) → e.first_blob ≡ Some bytes → length bytes ≤ 64
+  pub short : is_held e.held ≡ true → (bytes : List ℕ) → e.first_blob ≡ Some bytes → length bytes ≤ RECORD_LIMIT
 
 -- what a seat keeps at run time is what its view says, the view is that of its processor, and it holds no token that isn't there
 pub record Keeps (notes : List TokenNote) (cpu : CpuId) (v : View) : Type 0 where

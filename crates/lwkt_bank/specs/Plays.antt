@@ -3,6 +3,7 @@ use Rattle.atomic_table.specs.Table.{Me, Step, rest}
 use Rattle.lwkt_base.specs.declared.names.Mode.{Mode}
 use Rattle.lwkt_base.specs.declared.laws.Law.TheVariants.{Tally}
 use Rattle.lwkt_base.specs.declared.names.Mode.TheVariants.{Exclusive, Shared}
+use Rattle.lwkt_base.specs.declared.limits.TheConstants.{CELL_LIMIT}
 use Rattle.lwkt_base.specs.Law.{Obeys}
 use Rattle.lwkt_core.specs.Tokens.{IsShort, length_of}
 use Rattle.lwkt_bank.specs.Hands.{TakesOut, PutsBack, Brings}
@@ -25,7 +26,7 @@ at_word R st m n m' = (m'.1 ≡ m.1) × ((tok : ℕ) → st.word ≡ token_word 
 
 -- what a step on a cell of a token says
 abbrev pub at_cell : (List Deed → ℕ → ℕ → View → ℕ → View → Type 0) → Step (List ℕ) → Me (List ℕ) View → ℕ → Me (List ℕ) View → Type 0
-at_cell R st m n m' = (m'.1 ≡ m.1) × ((tok cell : ℕ) → cell < 4 → st.word ≡ cell_word tok cell → Amid m.0 (λ between. R between tok cell m.0 n m'.0))
+at_cell R st m n m' = (m'.1 ≡ m.1) × ((tok cell : ℕ) → cell < CELL_LIMIT → st.word ≡ cell_word tok cell → Amid m.0 (λ between. R between tok cell m.0 n m'.0))
 
 -- a load of the word: its generation is no lower than the seat knew, and the count has room for one more reference
 abbrev pub Looks : List Deed → ℕ → View → ℕ → View → Type 0

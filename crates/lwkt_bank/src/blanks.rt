@@ -1,4 +1,5 @@
 ghost use Rattle.std.specs.Prelude.{◌≡◌, ◌≤◌, [], vec_capacity};
+ghost use Rattle.lwkt_base.specs.declared.limits.TheConstants.{CELL_LIMIT, CPU_LIMIT};
 
 use lwkt_base::OutOfMemory;
 use lwkt_base::memory::with_capacity;
@@ -9,8 +10,8 @@ use std::alloc::Global;
 pub(crate) struct Blank {
     pub(crate) row: Vec<u64>,
     pub(crate) tallies: Vec<u64>,
-    ghost row_room: { (row.items ≡ []) × (4 ≤ vec_capacity row) },
-    ghost tallies_room: { (tallies.items ≡ []) × (8 ≤ vec_capacity tallies) },
+    ghost row_room: { (row.items ≡ []) × (CELL_LIMIT ≤ vec_capacity row) },
+    ghost tallies_room: { (tallies.items ≡ []) × (CPU_LIMIT ≤ vec_capacity tallies) },
 }
 
 impl Blank {

@@ -1,5 +1,6 @@
 ghost use Rattle.std.specs.Prelude.{◌≡◌, ℕ, ◌+◌, ◌*◌, ◌≤◌, length};
 ghost use Rattle.std.specs.Coded.{Coded-set};
+ghost use Rattle.lwkt_base.specs.declared.limits.TheConstants.{CELL_LIMIT, CPU_LIMIT, TOKEN_LIMIT};
 ghost use Rattle.lwkt_base.specs.declared.laws.Law.TheVariants.{Tally};
 ghost use Rattle.lwkt_bank.specs.Views.{at, amount};
 ghost use Rattle.lwkt_bank.specs.Rule.{plan_at, table_words};
@@ -20,9 +21,9 @@ pub(crate) struct ClerkDesk {
     ghost key_is: { table.shared.key ≡ key } by { Coded-set key-code table.shared.key key },
     ghost wide: { table.shared.table_id.words ≡ table_words (length key.plans.items) },
     ghost deep: { table.shared.table_id.slots ≡ length key.plans.items },
-    ghost few: { length key.plans.items ≤ 64 },
-    ghost few_cpus: { key.cpus ≤ 8 },
-    ghost short: { (tok : ℕ) → (plan_at key.plans.items tok).cells ≤ 4 },
+    ghost few: { length key.plans.items ≤ TOKEN_LIMIT },
+    ghost few_cpus: { key.cpus ≤ CPU_LIMIT },
+    ghost short: { (tok : ℕ) → (plan_at key.plans.items tok).cells ≤ CELL_LIMIT },
     ghost single: { (tok : ℕ) → (plan_at key.plans.items tok).law ≡ Tally → (plan_at key.plans.items tok).cells ≡ 1 },
     ghost seated: { clerk.table_id ≡ table.shared.table_id },
     ghost counts: { clerk_number clerk.me.0.kind ≡ 1 },

@@ -20,6 +20,7 @@ use crate::rules::{BankRule, Key};
 use crate::seats::CpuSeat;
 use crate::views::{Plan, View};
 use atomic_table::{Closed as ClosedTable, Seat, Table};
+use lwkt_base::limits::{CELL_LIMIT, CPU_LIMIT, TOKEN_LIMIT};
 use lwkt_base::{Blob, Cells, Fault, Law, OutOfMemory, TokId};
 use lwkt_table::SeatKind;
 use std::alloc::Global;
@@ -75,7 +76,7 @@ pub(crate) fn last_words(
 }
 
 fn added_of(kept: &Kept, tok: usize, cpu: usize) -> u64
-    requires { tok < 64 }
+    requires { tok < TOKEN_LIMIT }
     ensures { result ≡ kept_tally tok cpu kept.now }
 {
     if kept.cpu.0 as usize == cpu {
@@ -87,7 +88,7 @@ fn added_of(kept: &Kept, tok: usize, cpu: usize) -> u64
 
 // What a processor has added to a token, over all that was kept.
 fn added(kept: &[Kept], tok: usize, cpu: usize) -> u64
-    requires room { tok < 64 }
+    requires room { tok < TOKEN_LIMIT }
     requires fits { sum_by (kept_tally tok cpu) kept.now < 2 ^ 64 }
     ensures { result ≡ sum_by (kept_tally tok cpu) kept.now }
 {
@@ -100,7 +101,7 @@ fn added(kept: &[Kept], tok: usize, cpu: usize) -> u64
 
 // One number for each processor: what it has added to a Tally token.
 fn tallies_of(kept: &[Kept], tok: usize, cpus: usize, mut tallies: Vec<u64>) -> Vec<u64>
-    requires room { tok < 64 }
+    requires room { tok < TOKEN_LIMIT }
     requires fits { (cpu : ℕ) → kept_by kept.now tok cpu < 2 ^ 64 }
     requires none { tallies.items ≡ [] }
     requires wide { cpus ≤ vec_capacity tallies }
@@ -115,8 +116,8 @@ fn tallies_of(kept: &[Kept], tok: usize, cpus: usize, mut tallies: Vec<u64>) -> 
 
 // The cells of a token.
 fn row_of(words: &[u64], tok: usize, cells: usize, mut row: Vec<u64>) -> Vec<u64>
-    requires room { tok < 64 }
-    requires few { cells ≤ 4 }
+    requires room { tok < TOKEN_LIMIT }
+    requires few { cells ≤ CELL_LIMIT }
     requires inside { cell_word tok cells ≤ length words.now }
     requires none { row.items ≡ [] }
     requires wide { cells ≤ vec_capacity row }
@@ -130,7 +131,7 @@ fn row_of(words: &[u64], tok: usize, cells: usize, mut row: Vec<u64>) -> Vec<u64
 }
 
 fn tallies_by_law(plan: Plan, kept: &[Kept], tok: usize, cpus: usize, tallies: Vec<u64>) -> Vec<u64>
-    requires room { tok < 64 }
+    requires room { tok < TOKEN_LIMIT }
     requires fits { plan.law ≡ Law.Tally → (cpu : ℕ) → kept_by kept.now tok cpu < 2 ^ 64 }
     requires none { tallies.items ≡ [] }
     requires wide { cpus ≤ vec_capacity tallies }
@@ -166,13 +167,13 @@ fn close_token(
     cpus: usize,
     blank: Blank,
 )
-    requires count { length closed.old.gens.items < 64 }
+    requires count { length closed.old.gens.items < TOKEN_LIMIT }
     requires same { (length closed.old.rows.items ≡ length closed.old.gens.items) × (length closed.old.tallies.items ≡ length closed.old.gens.items) × (length closed.old.blobs.items ≡ length closed.old.gens.items) }
     requires deep { length closed.old.gens.items < length slots.now }
     requires room { HasRoom closed.old (length closed.old.gens.items + 1) }
-    requires wide { cell_word (length closed.old.gens.items) 4 ≤ length words.now }
-    requires short { plan.cells ≤ 4 }
-    requires few { cpus ≤ 8 }
+    requires wide { cell_word (length closed.old.gens.items) CELL_LIMIT ≤ length words.now }
+    requires short { plan.cells ≤ CELL_LIMIT }
+    requires few { cpus ≤ CPU_LIMIT }
     requires fits { plan.law ≡ Law.Tally → (cpu : ℕ) → kept_by kept.now (length closed.old.gens.items) cpu < 2 ^ 64 }
     ensures read { (row : List ℕ) × (generation : ℕ) × (tallies : List ℕ) × (blob : RecordOf) × IsRead plan cpus words.now slots.now kept.now (length closed.old.gens.items) row generation tallies blob
         × (closed.new.rows.items ≡ closed.old.rows.items ++ row ∷ []) × (closed.new.gens.items ≡ closed.old.gens.items ++ generation ∷ []) × (closed.new.tallies.items ≡ closed.old.tallies.items ++ tallies ∷ []) × (closed.new.blobs.items ≡ closed.old.blobs.items ++ blob ∷ []) }
@@ -205,11 +206,11 @@ fn values(
     mut blanks: Vec<Blank>,
     mut closed: Closed,
 ) -> Closed
-    requires few { length plans.now ≤ 64 }
-    requires processors { cpus ≤ 8 }
+    requires few { length plans.now ≤ TOKEN_LIMIT }
+    requires processors { cpus ≤ CPU_LIMIT }
     requires wide { length words.now ≡ table_words (length plans.now) }
     requires deep { length slots.now ≡ length plans.now }
-    requires short { (tok : ℕ) → (plan_at plans.now tok).cells ≤ 4 }
+    requires short { (tok : ℕ) → (plan_at plans.now tok).cells ≤ CELL_LIMIT }
     requires fits { ((k : ℕ) → slice_index words.now k < 2 ^ 64) → (tok : ℕ) → tok < length plans.now → (plan_at plans.now tok).law ≡ Law.Tally → (cpu : ℕ) → kept_by kept.now tok cpu < 2 ^ 64 }
     requires blank { length blanks.items ≡ length plans.now }
     requires room { IsEmptyRoom closed (length plans.now) }

@@ -16,6 +16,7 @@ use crate::rules::{BankRule, Key};
 use crate::seats::CpuSeat;
 use crate::views::View;
 use atomic_table::{Seat, Table};
+use lwkt_base::limits::{CPU_LIMIT, TOKEN_LIMIT};
 use lwkt_base::memory::{push, table as open_table, with_capacity};
 use lwkt_base::{Blob, CpuId, Fault, OutOfMemory, TokSpec};
 use lwkt_core::all_open_lawfully;
@@ -24,7 +25,7 @@ use std::alloc::Global;
 
 // What a seat keeps at the opening.
 fn blank_notes() -> [TokenNote; 64]
-    ensures { result ≡ replicate 64 no_note }
+    ensures { result ≡ replicate TOKEN_LIMIT no_note }
 {
     [TokenNote::blank(); 64]
 }
@@ -82,7 +83,7 @@ impl ClerkDesk {
     // Makes the seats of all processors.
     fn hand_out_all(&mut self, seats: &mut Vec<CpuSeat>) -> Result<(), OutOfMemory>
         requires next { HasMade self.old 0 }
-        requires limit { self.old.key.cpus ≤ 8 }
+        requires limit { self.old.key.cpus ≤ CPU_LIMIT }
         requires none { seats.old.items ≡ [] }
         ensures out { OnOk result ((length seats.new.items ≡ self.old.key.cpus) × AreHandedOut (id_of_desk self.old) seats.new.items) }
         ensures same { id_of_desk self.new ≡ id_of_desk self.old }

@@ -3,6 +3,7 @@ ghost use Rattle.lwkt_base.specs.Holding.{is_held};
 ghost use Rattle.lwkt_core.specs.Tokens.{IsNotLastExclusive};
 ghost use Rattle.lwkt_bank.specs.Notes.{no_note, held_in, touch_of, begun, note_changed, IsTouchOf, Overwrites};
 
+use lwkt_base::limits::RECORD_LIMIT;
 use lwkt_base::{Blob, Held, Mode};
 
 /// A store to a cell in a section.
@@ -41,7 +42,7 @@ pub enum Touch {
 // The bytes of a record that has 64 of them.
 #[inline(always)]
 fn full(blob: &Blob) -> Option<&[u8; 64]>
-    ensures { MatchOption result (length blob.now ≢ 64) (λ bytes. bytes.now ≡ blob.now) }
+    ensures { MatchOption result (length blob.now ≢ RECORD_LIMIT) (λ bytes. bytes.now ≡ blob.now) }
 {
     if blob.len() == 64 {
         blob.as_slice().as_array()

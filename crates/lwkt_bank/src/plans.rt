@@ -2,6 +2,7 @@ ghost use Rattle.std.specs.Prelude.{◌≡◌, ◌+◌, ◌<◌, ◌≤◌, is_s
 
 use crate::banks::Bank;
 use crate::views::Plan;
+use lwkt_base::limits::{CELL_LIMIT, TOKEN_LIMIT};
 use lwkt_base::{Law, TokId};
 
 impl Bank {
@@ -10,7 +11,7 @@ impl Bank {
     /// How many tokens there are, 0 to 64.
     pub fn tokens(&self) -> usize
         ensures is { result ≡ tokens_of (id_of self.now) }
-        ensures few { result ≤ 64 }
+        ensures few { result ≤ TOKEN_LIMIT }
     {
         self.key.plans.len()
     }
@@ -19,7 +20,7 @@ impl Bank {
     pub fn cells(&self, tok: TokId) -> usize
         requires { tok.0 < tokens_of (id_of self.now) }
         ensures is { result ≡ (plan_of (id_of self.now) tok.0).cells }
-        ensures short { result ≤ 4 }
+        ensures short { result ≤ CELL_LIMIT }
         ensures single { (plan_of (id_of self.now) tok.0).law ≡ Law.Tally → result ≡ 1 }
     {
         self.plan(tok).cells

@@ -8,6 +8,7 @@ ghost use Rattle.lwkt_bank.specs.Seats.{id_of, bank_of, tokens_of, plan_of, entr
 use crate::banks::Bank;
 use crate::seats::CpuSeat;
 use crate::steps;
+use lwkt_base::limits::RECORD_LIMIT;
 use lwkt_base::{Blob, TokId};
 
 impl CpuSeat {
@@ -33,7 +34,7 @@ impl CpuSeat {
         requires there { tok.0 < tokens_of (bank_of self.old) }
         requires held { is_exclusive (holding self.old tok.0) ≡ true }
         requires guarded { is_some (plan_of (bank_of self.old) tok.0).blob ≡ true }
-        requires short { length blob.now ≤ 64 }
+        requires short { length blob.now ≤ RECORD_LIMIT }
         ensures { Changes self.old self.new tok.0 (wrote_record (entry self.old tok.0) blob.now) (writes_blob self.old.cpu tok.0 blob.now ∷ []) }
     {
         let note = &mut self.notes[tok.0 as usize];

@@ -6,6 +6,7 @@ ghost use Rattle.lwkt_bank.specs.Closing.{IsEmptyRoom, IsRoomOf};
 use crate::blanks::Blank;
 use crate::closed::Closed;
 use crate::kept::Kept;
+use lwkt_base::limits::{CPU_LIMIT, TOKEN_LIMIT};
 use lwkt_base::memory::{push, with_capacity};
 use lwkt_base::{Blob, Cells, OutOfMemory};
 use std::alloc::Global;
@@ -48,7 +49,7 @@ pub(crate) fn put_slot(list: &mut Vec<Blob>, blob: Blob)
 
 /// Room for the rows and tallies of so many tokens.
 pub(crate) fn blanks_for(alloc: Global, tokens: usize) -> Result<Vec<Blank>, OutOfMemory>
-    requires { tokens ≤ 64 }
+    requires { tokens ≤ TOKEN_LIMIT }
     ensures { IfOk result (λ blanks. length blanks.items ≡ tokens) }
 {
     let mut blanks = with_capacity(alloc, tokens)?;
@@ -60,7 +61,7 @@ pub(crate) fn blanks_for(alloc: Global, tokens: usize) -> Result<Vec<Blank>, Out
 
 /// Room for the closing values of so many tokens.
 pub(crate) fn closed_for(alloc: Global, tokens: usize) -> Result<Closed, OutOfMemory>
-    requires { tokens ≤ 64 }
+    requires { tokens ≤ TOKEN_LIMIT }
     ensures { IfOk result (λ closed. IsEmptyRoom closed tokens) }
 {
     let rows = with_capacity(alloc, tokens)?;
@@ -93,10 +94,10 @@ pub(crate) fn room_of(
     words: usize,
     slots: usize,
 ) -> Result<CloseRoom, OutOfMemory>
-    requires tokens { tokens ≤ 64 }
-    requires cpus { cpus ≤ 8 }
-    requires words { words ≤ table_words 64 }
-    requires slots { slots ≤ 64 }
+    requires tokens { tokens ≤ TOKEN_LIMIT }
+    requires cpus { cpus ≤ CPU_LIMIT }
+    requires words { words ≤ table_words TOKEN_LIMIT }
+    requires slots { slots ≤ TOKEN_LIMIT }
     ensures { IfOk result (λ room. IsRoomOf tokens cpus words slots room) }
 {
     Ok(CloseRoom {

@@ -13,6 +13,7 @@ use crate::banks::Bank;
 use crate::gives::is_other;
 use crate::notes::Change;
 use crate::seats::CpuSeat;
+use lwkt_base::limits::CELL_LIMIT;
 use lwkt_base::{Blob, Law, Row, TokId};
 
 // Whether the law asks nothing of a row.
@@ -38,7 +39,7 @@ impl CpuSeat {
         requires of { bank_of self.old ≡ id_of bank.now }
         requires there { tok.0 < tokens_of (bank_of self.old) }
         requires held { is_held (holding self.old tok.0) ≡ true }
-        ensures four { length result ≡ 4 }
+        ensures four { length result ≡ CELL_LIMIT }
         ensures row { (cell : ℕ) → cell < (plan_of (bank_of self.old) tok.0).cells → slice_index result cell ≡ slice_index (entry self.old tok.0).row cell }
         ensures knowing { Knowing self.old self.new tok.0 (entry self.old tok.0) (reads_all self.old.cpu tok.0 0 (entry self.old tok.0).row) }
     {
@@ -56,7 +57,7 @@ impl CpuSeat {
         requires of { bank_of self.old ≡ id_of bank.now }
         requires there { tok.0 < tokens_of (bank_of self.old) }
         requires held { is_exclusive (holding self.old tok.0) ≡ true }
-        ensures four { (length result.0 ≡ 4) × (length result.1 ≡ 4) }
+        ensures four { (length result.0 ≡ CELL_LIMIT) × (length result.1 ≡ CELL_LIMIT) }
         ensures first { (cell : ℕ) → cell < (plan_of (bank_of self.old) tok.0).cells → slice_index result.0 cell ≡ slice_index (entry self.old tok.0).first cell }
         ensures row { (cell : ℕ) → cell < (plan_of (bank_of self.old) tok.0).cells → slice_index result.1 cell ≡ slice_index (entry self.old tok.0).row cell }
         ensures knowing { Knowing self.old self.new tok.0 (entry self.old tok.0) (last_loads self.old.cpu tok.0 (entry self.old tok.0) (plan_of (bank_of self.old) tok.0).cells) }

@@ -1,4 +1,5 @@
 ghost use Rattle.std.specs.Prelude.{◌≡◌, length};
+ghost use Rattle.lwkt_base.specs.declared.limits.TheConstants.{TOKEN_LIMIT};
 ghost use Rattle.lwkt_bank.specs.Notes.{Keeps};
 ghost use Rattle.lwkt_bank.specs.Hands.{AreHands};
 
@@ -15,5 +16,5 @@ pub struct CpuSeat {
     pub(crate) cpu: CpuId,
     ghost kept: { Keeps notes cpu seat.me.0 },
     ghost hands: { AreHands seat.me.0 seat.me.1 },
-    ghost sized: { length notes ≡ 64 },
+    ghost sized: { length notes ≡ TOKEN_LIMIT },
 }

@@ -20,6 +20,7 @@ use crate::plays::{
 };
 use crate::views::View;
 use atomic_table::Seat;
+use lwkt_base::limits::{LIST_LIMIT, RECORD_LIMIT};
 use lwkt_base::{Blob, Decision, Mode, TokId};
 
 pub(crate) fn look(bank: &Bank, seat: &mut Seat<Blob, View>, tok: TokId) -> u64
@@ -45,7 +46,7 @@ pub(crate) fn swing(
     requires there { tok.0 < length bank.now.key.plans.items }
     requires decided { (alone : Bool) × Decides old mode alone (Decision.Take new) }
     requires free { (at seat.old.me.0.tokens tok.0).held ≡ Held.Nothing }
-    requires few { count_from 0 (length bank.now.key.plans.items) (held_of seat.old.me.0.tokens) < 32 }
+    requires few { count_from 0 (length bank.now.key.plans.items) (held_of seat.old.me.0.tokens) < LIST_LIMIT }
     ensures table { seat.new.table_id ≡ seat.old.table_id }
     ensures hands { TakesHands mode old tok.0 result seat.old.me seat.new.me }
     ensures exchanges { Amid seat.old.me.0 (λ between. Exchanges mode old new between tok.0 seat.old.me.0 result seat.new.me.0) }
@@ -67,7 +68,7 @@ pub(crate) fn add_one(bank: &Bank, seat: &mut Seat<Blob, View>, tok: TokId) -> u
     requires of { IsOf bank.now seat.old }
     requires there { tok.0 < length bank.now.key.plans.items }
     requires held { is_held (at seat.old.me.0.tokens tok.0).held ≡ true }
-    requires few { count_from 0 (length bank.now.key.plans.items) (held_of seat.old.me.0.tokens) < 32 }
+    requires few { count_from 0 (length bank.now.key.plans.items) (held_of seat.old.me.0.tokens) < LIST_LIMIT }
     ensures same { IsSame seat.old seat.new }
     ensures adds { Amid seat.old.me.0 (λ between. AddsOne between tok.0 seat.old.me.0 result seat.new.me.0) }
 {
@@ -197,7 +198,7 @@ pub(crate) fn write_record(
     requires of { IsOf bank.now seat.old }
     requires there { tok.0 < length bank.now.key.plans.items }
     requires held { IsInHand seat.old.me.0 tok.0 }
-    requires short { length blob.now ≤ 64 }
+    requires short { length blob.now ≤ RECORD_LIMIT }
     requires hands { AreHands seat.old.me.0 seat.old.me.1 }
     ensures table { seat.new.table_id ≡ seat.old.table_id }
     ensures notes { (old : List ℕ) × (((at seat.old.me.0.tokens tok.0).blob ≡ Some old) × Overwrites note.old note.new old blob.now) }

@@ -10,6 +10,7 @@ use crate::banks::Bank;
 use crate::places::{GENERATION, LAST_WORD, generation_in};
 use crate::seats::CpuSeat;
 use crate::steps;
+use lwkt_base::limits::LIST_LIMIT;
 use lwkt_base::{CpuId, Decision, Held, Mode, TokId, TokWord};
 
 // Whether a word shows neither holders nor a mark.
@@ -83,7 +84,7 @@ impl CpuSeat {
         requires there { tok.0 < tokens_of (bank_of self.old) }
         requires decided { (alone : Bool) × Decides word mode alone (Decision.Take next) }
         requires free { holding self.old tok.0 ≡ Held.Nothing }
-        requires few { references self.old < 32 }
+        requires few { references self.old < LIST_LIMIT }
         ensures hit { result ≡ true → Hit self.old self.new tok.0 mode word next }
         ensures miss { result ≡ false → Miss self.old self.new tok.0 word next }
     {
@@ -106,7 +107,7 @@ impl CpuSeat {
         requires of { bank_of self.old ≡ id_of bank.now }
         requires there { tok.0 < tokens_of (bank_of self.old) }
         requires free { holding self.old tok.0 ≡ Held.Nothing }
-        requires few { references self.old < 32 }
+        requires few { references self.old < LIST_LIMIT }
         ensures { Tried self.old self.new tok.0 mode alone result }
     {
         let word = self.word(bank, tok);
@@ -130,7 +131,7 @@ impl CpuSeat {
         requires of { bank_of self.old ≡ id_of bank.now }
         requires there { tok.0 < tokens_of (bank_of self.old) }
         requires held { is_held (holding self.old tok.0) ≡ true }
-        requires few { references self.old < 32 }
+        requires few { references self.old < LIST_LIMIT }
         ensures { Stepped self.old self.new tok.0 (more (entry self.old tok.0)) adds_one }
     {
         let note = &mut self.notes[tok.0 as usize];

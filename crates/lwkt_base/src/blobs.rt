@@ -1,5 +1,6 @@
 ghost use Rattle.std.specs.Prelude.{◌≡◌, ◌↔◌, IsTrue, bytes_eq, Option, option_map, ◌==◌, length, take, replicate, ◌++◌, ◌-◌, ◌≤◌, ◌<◌};
 
+use crate::limits::RECORD_LIMIT;
 use std::marker::Model;
 
 /// The record that a token guards, by value: 0 to 64 bytes. It takes no memory of its own.
@@ -15,6 +16,7 @@ pub struct Blob {
 impl Model for Blob {
     ghost use Rattle.std.specs.Prelude.{ℕ, List, take, length, ◌++◌, ◌-◌, replicate};
     ghost use Rattle.lwkt_base.specs.Blob.{IsPadded, padded, counted, blob_given_back};
+    ghost use Rattle.lwkt_base.specs.declared.limits.TheConstants.{RECORD_LIMIT};
 
     ghost Value = { List ℕ };
 
@@ -22,7 +24,7 @@ impl Model for Blob {
 
     ghost invariant = { λ b. IsPadded b.bytes b.len };
 
-    ghost inverse = { λ bytes. record { len = length bytes; bytes = padded (take 64 bytes) } };
+    ghost inverse = { λ bytes. record { len = length bytes; bytes = padded (take RECORD_LIMIT bytes) } };
 
     ghost inverse_ok = { λ b is. blob_given_back b.bytes b.len is };
 }
@@ -34,7 +36,7 @@ impl Blob {
     pub fn of(bytes: &[u8]) -> Self
         requires { length bytes.now < 256 }
         ensures kept { result ≡ kept_of bytes.now }
-        ensures short { length bytes.now ≤ 64 → result ≡ bytes.now }
+        ensures short { length bytes.now ≤ RECORD_LIMIT → result ≡ bytes.now }
     {
         if bytes.len() <= 64 {
             Blob::short(bytes)
@@ -45,7 +47,7 @@ impl Blob {
 
     // The record of at most 64 bytes.
     fn short(bytes: &[u8]) -> Self
-        requires { length bytes.now ≤ 64 }
+        requires { length bytes.now ≤ RECORD_LIMIT }
         ensures { result ≡ bytes.now }
     {
         let mut kept = [0; 64];
@@ -58,9 +60,9 @@ impl Blob {
 
     // The record of more than 64 bytes, of which these are the first.
     fn long(bytes: &[u8], len: u8) -> Self
-        requires front { length bytes.now ≡ 64 }
-        requires long { 64 < len }
-        ensures { result ≡ bytes.now ++ replicate (len - 64) 0 }
+        requires front { length bytes.now ≡ RECORD_LIMIT }
+        requires long { RECORD_LIMIT < len }
+        ensures { result ≡ bytes.now ++ replicate (len - RECORD_LIMIT) 0 }
     {
         let mut kept = [0; 64];
         kept.copy_from_slice(bytes);
@@ -90,8 +92,8 @@ impl Blob {
 
     /// The bytes that are kept: all of a record of at most 64, else the first 64.
     pub fn as_slice(&self) -> &[u8]
-        ensures kept { result.now ≡ take 64 self.now }
-        ensures short { length self.now ≤ 64 → result.now ≡ self.now }
+        ensures kept { result.now ≡ take RECORD_LIMIT self.now }
+        ensures short { length self.now ≤ RECORD_LIMIT → result.now ≡ self.now }
     {
         if self.len <= 64 {
             &self.bytes[..self.len as usize]

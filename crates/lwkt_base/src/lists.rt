@@ -15,6 +15,7 @@ pub struct TokList {
 
 impl Model for TokList {
     ghost use Rattle.std.specs.Prelude.{List, take, ◌≤◌};
+    ghost use Rattle.lwkt_base.specs.declared.limits.TheConstants.{LIST_LIMIT};
     ghost use Rattle.lwkt_base.specs.declared.names.Ref.{Ref};
     ghost use Rattle.lwkt_base.specs.Refs.{IsLawfulList};
 
@@ -22,7 +23,7 @@ impl Model for TokList {
 
     ghost view = { λ l. take l.count l.items };
 
-    ghost invariant = { λ l. (l.count ≤ 32) × IsLawfulList (take l.count l.items) };
+    ghost invariant = { λ l. (l.count ≤ LIST_LIMIT) × IsLawfulList (take l.count l.items) };
 }
 
 const UNUSED: Ref = Ref {
@@ -47,7 +48,7 @@ impl TokList {
     /// The references, the first acquired first.
     pub fn refs(&self) -> &[Ref]
         ensures value { result.now ≡ self.now }
-        ensures within { length self.now ≤ 32 }
+        ensures within { length self.now ≤ LIST_LIMIT }
         ensures lawful { IsLawfulList self.now }
     {
         &self.items[..self.count]
@@ -56,7 +57,7 @@ impl TokList {
     /// How many references there are, 0 to 32.
     pub fn len(&self) -> usize
         ensures value { result ≡ length self.now }
-        ensures within { result ≤ 32 }
+        ensures within { result ≤ LIST_LIMIT }
     {
         self.refs().len()
     }
@@ -99,9 +100,9 @@ impl TokList {
     pub fn push(&mut self, new: Ref) -> Result<(), Fault>
         ensures ok { OnOk result (self.new ≡ self.old ++ new ∷ []) }
         ensures err { OnErr result (self.new ≡ self.old) }
-        ensures full { (result ≡ Err Fault.ListFull) ↔ (length self.old ≡ 32) }
+        ensures full { (result ≡ Err Fault.ListFull) ↔ (length self.old ≡ LIST_LIMIT) }
         ensures upgrade { (result ≡ Err Fault.Upgrade)
-            ↔ ((length self.old < 32) × (new.mode ≡ Mode.Exclusive) × (first_mode self.old new.tok.0 ≡ Some Mode.Shared)) }
+            ↔ ((length self.old < LIST_LIMIT) × (new.mode ≡ Mode.Exclusive) × (first_mode self.old new.tok.0 ≡ Some Mode.Shared)) }
         ensures only { OnErr result ((result ≡ Err Fault.ListFull) ⊎ (result ≡ Err Fault.Upgrade)) }
     {
         if self.count == LIST_LIMIT {

@@ -1,5 +1,6 @@
 ghost use Rattle.std.specs.Prelude.{◌≡◌, ℕ, List, length, ◌≤◌};
 
+use crate::limits::CELL_LIMIT;
 use std::marker::Model;
 
 /// The cells of one token by value, in order: 0 to 4. It takes no memory of its own.
@@ -29,7 +30,7 @@ impl Model for Row {
 impl Row {
     /// The row with these cells.
     pub fn of(cells: &[u64]) -> Self
-        requires { length cells.now ≤ 4 }
+        requires { length cells.now ≤ CELL_LIMIT }
         ensures { result ≡ cells.now }
     {
         let mut row = [0; 4];
@@ -43,7 +44,7 @@ impl Row {
     /// The cells.
     pub fn as_slice(&self) -> &[u64]
         ensures value { result.now ≡ self.now }
-        ensures within { length self.now ≤ 4 }
+        ensures within { length self.now ≤ CELL_LIMIT }
     {
         &self.cells[..self.len as usize]
     }

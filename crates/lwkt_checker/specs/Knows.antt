@@ -1,5 +1,6 @@
 -- What a judge knows of the trace that it was fed so far, wherever its pieces came from (own).
 use Rattle.std.specs.Prelude.{◌≡◌, ℕ, ◌≤◌, List, length, map, is_some}
+use Rattle.lwkt_base.specs.declared.limits.TheConstants.{TRACE_EVENTS}
 use Rattle.lwkt_core.specs.declared.events.Event.{Event}
 use Rattle.lwkt_trace.specs.declared.traces.Trace.{Trace}
 use Rattle.lwkt_trace.specs.Readback.{stated_alone}
@@ -17,5 +18,5 @@ pub record Knows (trace : Trace) (judge : Judge) : Type 0 where
 pub record KnowsWritten (trace : Trace) (text : List ℕ) (judge : Judge) : Type 0 where
   pub events : List Event
   pub written : AreWritten text events
-  pub few : length events ≤ 50000000
+  pub few : length events ≤ TRACE_EVENTS
   pub knows : Knows (with_events trace (map stated_alone events)) judge

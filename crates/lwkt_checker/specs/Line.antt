@@ -3,6 +3,7 @@ use Rattle.std.specs.Prelude.{ℕ, ◌==◌, ◌&&◌, nat_le, List, [], ◌∷�
 use Rattle.std.specs.Str.{is_utf8}
 use Rattle.serde_json.specs.Data.{Data}
 use Rattle.serde_json.specs.Read.{read}
+use Rattle.lwkt_base.specs.declared.limits.TheConstants.{LINE_BYTES}
 
 -- whether a byte is a line feed
 abbrev pub is_line_feed : ℕ → Bool
@@ -20,4 +21,4 @@ lines_of (byte ∷ bytes) = if is_line_feed byte then [] ∷ lines_of bytes else
 
 -- the value that a line is: one JSON text of at most 1048576 bytes
 unfoldable pub value_of : List ℕ → Option Data
-value_of line = if nat_le (length line) 1048576 && is_utf8 line then read line else None
+value_of line = if nat_le (length line) LINE_BYTES && is_utf8 line then read line else None

@@ -2,6 +2,7 @@
 use Rattle.std.specs.Prelude.{ℕ, ◌+◌, ◌&&◌, min, nat_lt, List, [], ◌∷◌, length, codes, Bool, not, is_some, if◌then◌else◌, Option, Some, None, Result, Ok}
 use Rattle.serde_json.specs.Data.{Data}
 use Rattle.serde_json.specs.Find.{get, as_object}
+use Rattle.lwkt_base.specs.declared.limits.TheConstants.{MOST_CPUS}
 use Rattle.lwkt_script.specs.Field.{has_members, number_in, list_in}
 use Rattle.lwkt_script.specs.Outcome.{◌>>=◌, ◌>>◌, part, demand, each}
 use Rattle.lwkt_trace.specs.declared.traces.Trace.{Trace}
@@ -22,7 +23,7 @@ opened d = do
   token_items ← part 1 (list_in (codes "tokens") d)
   message_items ← part 1 (list_in (codes "messages") d)
   version ← part 2 (number_in (codes "version") 1 1 d)
-  cpus ← part 3 (number_in (codes "cpus") 1 8 d)
+  cpus ← part 3 (number_in (codes "cpus") 1 MOST_CPUS d)
   tokens ← each guarded [] token_items
   messages ← each (message_behind cpus) [] message_items
   Ok (record { cpus = cpus; tokens = tokens; messages = messages; events = []; last = None })

@@ -2,6 +2,7 @@
 use Rattle.std.specs.Prelude.{◌≡◌, ◌⊎◌, ℕ, ◌+◌, ◌<◌, ◌≤◌, List, [], ◌∷◌, ◌++◌, length, take, drop, Bool, true, false, if◌then◌else◌, Option}
 use Rattle.std.specs.List.{list_any}
 use Rattle.std.specs.Io.KnownBytes.{Consumes, IsAtEnd, prepend_known}
+use Rattle.lwkt_base.specs.declared.limits.TheConstants.{LINE_BYTES}
 use Rattle.lwkt_checker.specs.declared.lines.Lines.{Lines}
 use Rattle.lwkt_checker.specs.Line.{is_line_feed}
 
@@ -24,4 +25,4 @@ left_of lines left = prepend_known (unread lines) left
 pub record IsNextLine (old new : Option (List ℕ)) (line : List ℕ) (ended : Bool) : Type 0 where
   pub no_feed : list_any is_line_feed line ≡ false
   pub taken : Consumes old new (if ended then line ++ 10 ∷ [] else line)
-  pub last : ended ≡ false → IsAtEnd new ⊎ (1048576 < length line)
+  pub last : ended ≡ false → IsAtEnd new ⊎ (LINE_BYTES < length line)

@@ -14,6 +14,7 @@ use Rattle.lwkt_base.specs.declared.names.Mode.TheVariants.{Exclusive, Shared}
 use Rattle.lwkt_base.specs.declared.owners.MsgEnd.{MsgEnd}
 use Rattle.lwkt_base.specs.declared.owners.Owner.{Owner}
 use Rattle.lwkt_base.specs.declared.owners.Owner.TheVariants.{Rest, Out, With, Back}
+use Rattle.lwkt_base.specs.declared.limits.TheConstants.{RECORD_LIMIT}
 use Rattle.lwkt_core.specs.Events.{cpu_of, place_of}
 use Rattle.lwkt_core.specs.Lacks.{Lacks}
 use Rattle.lwkt_core.specs.Machine.{Machine, Needs}
@@ -56,11 +57,11 @@ place_said (AtMessage msg) = codes " of message " ++ decimal msg
 -- a record, if there is one; of one that is too long the first 64 bytes
 abbrev pub record_said : Option (List ℕ) → List ℕ
 record_said None = codes "no record"
-record_said (Some blob) = codes "record " ++ bytes_text (take 64 blob)
+record_said (Some blob) = codes "record " ++ bytes_text (take RECORD_LIMIT blob)
 
 -- the record that an event says: one that is too long by its length
 unfoldable pub stated_record_said : List ℕ → List ℕ
-stated_record_said blob = if nat_lt 64 (length blob) then codes ", a record of " ++ decimal (length blob) ++ codes " bytes" else codes ", " ++ record_said (Some blob)
+stated_record_said blob = if nat_lt RECORD_LIMIT (length blob) then codes ", a record of " ++ decimal (length blob) ++ codes " bytes" else codes ", " ++ record_said (Some blob)
 
 -- what else an event says
 abbrev pub rest_said : Event → List ℕ

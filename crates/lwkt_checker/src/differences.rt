@@ -6,6 +6,7 @@ ghost use Rattle.lwkt_checker.specs.Shown.{Appends, Shows, ShowsFirst};
 use crate::holdings::show_holders;
 use crate::words::{show_owner, show_record};
 use lwkt_base::blobs::are_same;
+use lwkt_base::limits::CPU_LIMIT;
 use lwkt_base::memory::{push_str, put};
 use lwkt_base::{Blob, Cells, Law, MsgEnd, MsgId, OutOfMemory, TokId};
 use lwkt_core::{Final, Message, State, Token};
@@ -29,7 +30,7 @@ pub enum Other {
 
 // The tallies that a token shows.
 fn shown(token: &Token, cpus: usize) -> &[u64]
-    requires { cpus ≤ 8 }
+    requires { cpus ≤ CPU_LIMIT }
     ensures { result.now ≡ shown_tallies token.now.law cpus token.now.tallies }
 {
     match token.law {
@@ -47,7 +48,7 @@ fn other_of(
     tallies: &Cells,
     blob: &Option<Blob>,
 ) -> Option<Other>
-    requires { cpus ≤ 8 }
+    requires { cpus ≤ CPU_LIMIT }
     ensures { IsOther token.now cpus row.now generation tallies.now blob.now result }
 {
     if !token.is_free() {
@@ -70,7 +71,7 @@ fn other_of(
 
 // The same of the closing values of a place, or none where they aren't all given.
 fn other_at(token: &Token, cpus: usize, last: &Final, place: usize) -> Option<Other>
-    requires { cpus ≤ 8 }
+    requires { cpus ≤ CPU_LIMIT }
     ensures { IsOtherAt token.now cpus last.now place result }
 {
     let row = last.rows.get(place)?;
@@ -148,7 +149,7 @@ fn show_generations(
 // Appends the tallies that a token shows.
 #[tactic(auto, unfolding(crate::specs::Said::shown_said))]
 fn show_shown(out: &mut String, token: &Token, cpus: usize) -> Result<(), OutOfMemory>
-    requires { cpus ≤ 8 }
+    requires { cpus ≤ CPU_LIMIT }
     ensures { OnOk result (string_bytes out.new ≡ string_bytes out.old ++ shown_said token.now cpus) }
 {
     show_numbers(out, shown(token, cpus))
@@ -163,7 +164,7 @@ fn show_tallies(
     last: &Final,
     place: usize,
 ) -> Result<(), OutOfMemory>
-    requires { cpus ≤ 8 }
+    requires { cpus ≤ CPU_LIMIT }
     ensures { OnOk result (string_bytes out.new ≡ string_bytes out.old ++ tallies_differ_said token.now cpus last.now place) }
 {
     push_str(out, "the tallies are")?;
@@ -197,7 +198,7 @@ fn show_other(
     place: usize,
     other: Other,
 ) -> Result<(), OutOfMemory>
-    requires { cpus ≤ 8 }
+    requires { cpus ≤ CPU_LIMIT }
     ensures { OnOk result (string_bytes out.new ≡ string_bytes out.old ++ other_said cpus last.now place token.now other) }
 {
     match other {
@@ -219,7 +220,7 @@ fn show_token_other(
     place: usize,
     other: Other,
 ) -> Result<(), OutOfMemory>
-    requires { cpus ≤ 8 }
+    requires { cpus ≤ CPU_LIMIT }
     ensures { OnOk result (string_bytes out.new ≡ string_bytes out.old ++ token_other_said cpus last.now place token.now other) }
 {
     put(out, ("token ", place, ": "))?;

@@ -2,14 +2,15 @@ ghost use Rattle.std.specs.Prelude.{◌≡◌, ◌≤◌, length};
 ghost use Rattle.lwkt_core.specs.Tokens.{section_at};
 ghost use Rattle.lwkt_checker.specs.Stated.{section_due, event_stated, StatedIsOnly};
 
+use lwkt_base::limits::CELL_LIMIT;
 use lwkt_base::{Row, Section, TokId};
 use lwkt_core::{Event, State, Token};
 use lwkt_trace::Stated;
 
 // The section of a token of this number that would end now.
 fn section_at(tok: TokId, token: &Token) -> Section
-    requires before { length token.now.first ≤ 4 }
-    requires after { length token.now.row ≤ 4 }
+    requires before { length token.now.first ≤ CELL_LIMIT }
+    requires after { length token.now.row ≤ CELL_LIMIT }
     ensures { result ≡ section_at tok token.now }
 {
     Section {

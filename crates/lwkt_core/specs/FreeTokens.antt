@@ -9,7 +9,7 @@ use Rattle.lwkt_base.specs.declared.names.Ref.{Ref}
 use Rattle.lwkt_base.specs.declared.holdings.Held.{Held}
 use Rattle.lwkt_base.specs.declared.holdings.Held.TheVariants.{Nothing, Holds}
 use Rattle.lwkt_base.specs.declared.words.Decision.TheVariants.{Take as TakeTo, Held as IsHeldBack}
-use Rattle.lwkt_base.specs.declared.limits.TheConstants.{LAST_GENERATION}
+use Rattle.lwkt_base.specs.declared.limits.TheConstants.{LAST_GENERATION, LIST_LIMIT}
 use Rattle.lwkt_base.specs.Refs.{is_to}
 use Rattle.lwkt_base.specs.Holding.{Holding, holds_nothing, added, holding_of, mode_of}
 use Rattle.lwkt_base.specs.TokenWord.{word_of, decision}
@@ -40,7 +40,7 @@ takings cpu held (r ∷ refs) = taking_by cpu r.tok r.mode (held r.tok.0) ∷ ta
 -- the last generation (own)
 pub record MayBeTaken (m : Machine) (refs : List Ref) : Type 0 where
   pub there : All (λ r. r.tok.0 < length m.tokens) refs
-  pub few : length refs ≤ 32
+  pub few : length refs ≤ LIST_LIMIT
   pub unworn : (i : ℕ) (tok : Token) → slice_get m.tokens i ≡ Some tok → mode_of (holding_of refs i) ≡ Some Exclusive → tok.generation < LAST_GENERATION
 
 -- a processor holds exactly the references of a list

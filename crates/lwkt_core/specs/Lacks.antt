@@ -3,7 +3,7 @@ use Rattle.std.specs.Prelude.{◌≡◌, ◌⊎◌, ℕ, ◌+◌, ◌<◌, ◌�
 use Rattle.lwkt_base.specs.declared.names.Mode.TheVariants.{Exclusive}
 use Rattle.lwkt_base.specs.declared.holdings.Held.TheVariants.{Nothing, Holds}
 use Rattle.lwkt_base.specs.declared.owners.Owner.TheVariants.{Rest}
-use Rattle.lwkt_base.specs.declared.limits.TheConstants.{LAST_GENERATION, LAST_ROUND}
+use Rattle.lwkt_base.specs.declared.limits.TheConstants.{LAST_GENERATION, LAST_ROUND, LIST_LIMIT, RECORD_LIMIT}
 use Rattle.lwkt_core.specs.declared.tokens.Token.{Token}
 use Rattle.lwkt_core.specs.declared.messages.Message.{Message}
 use Rattle.lwkt_core.specs.declared.lacks.Lack.{Lack}
@@ -38,7 +38,7 @@ TokenLacks tok (GiveWritten cpu t section) lack = FirstFails lack NotHeldExclusi
 TokenLacks tok (Read cpu t cell value) lack = FirstFails lack NotHeld (IsHolder tok cpu.0) (FirstFails lack NoCell (cell < length tok.row) (Fails lack OtherValue (slice_get tok.row cell ≡ Some value)))
 TokenLacks tok (Write cpu t cell value) lack = FirstFails lack NotHeldExclusively (IsExclusiveHolder tok cpu.0) (FirstFails lack NoCell (cell < length tok.row) (Fails lack LessThanBefore (MayWrite tok.law (slice_index tok.row cell) value)))
 TokenLacks tok (ReadBlob cpu t blob) lack = FirstFails lack NotHeldExclusively (IsExclusiveHolder tok cpu.0) (FirstFails lack NoRecord (HasRecord tok) (Fails lack OtherRecord (tok.blob ≡ Some blob)))
-TokenLacks tok (WriteBlob cpu t blob) lack = FirstFails lack NotHeldExclusively (IsExclusiveHolder tok cpu.0) (FirstFails lack NoRecord (HasRecord tok) (Fails lack RecordLong (length blob ≤ 64)))
+TokenLacks tok (WriteBlob cpu t blob) lack = FirstFails lack NotHeldExclusively (IsExclusiveHolder tok cpu.0) (FirstFails lack NoRecord (HasRecord tok) (Fails lack RecordLong (length blob ≤ RECORD_LIMIT)))
 TokenLacks tok (Send cpu msg to round) lack = lack ≡ NoToken
 TokenLacks tok (TakeMsg cpu msg round) lack = lack ≡ NoToken
 TokenLacks tok (DropMsg cpu msg) lack = lack ≡ NoToken
@@ -74,7 +74,7 @@ PlaceLacks m e (AtMessage i) lack = MatchOption (slice_get m.messages i) (lack �
 
 -- which of an event's needs is the first that isn't met
 abbrev pub Lacks : Machine → Event → Lack → Type 0
-Lacks m e lack = FirstFails lack NoProcessor (cpu_of e < m.cpus) (FirstFails lack TooManyReferences (adds_reference e ≡ true → references_of m.tokens (cpu_of e) < 32) (PlaceLacks m e (place_of e) lack))
+Lacks m e lack = FirstFails lack NoProcessor (cpu_of e < m.cpus) (FirstFails lack TooManyReferences (adds_reference e ≡ true → references_of m.tokens (cpu_of e) < LIST_LIMIT) (PlaceLacks m e (place_of e) lack))
 
 -- what is found of an event's needs of its token, or of its message: nothing where they are met, or the first that isn't
 abbrev pub FindsTokenLack : Token → Event → Option Lack → Type 0

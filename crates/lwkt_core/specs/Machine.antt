@@ -1,5 +1,6 @@
 use Rattle.std.specs.Prelude.{◌≡◌, ℕ, ◌<◌, ◌≤◌, true, List, length, All, slice_get, slice_set, sum_by, IsSomeAnd}
 use Rattle.std.specs.Option.{option_map_or}
+use Rattle.lwkt_base.specs.declared.limits.TheConstants.{CPU_LIMIT, LIST_LIMIT, MESSAGE_LIMIT, TOKEN_LIMIT}
 use Rattle.lwkt_base.specs.Holding.{references_in}
 use Rattle.lwkt_core.specs.declared.tokens.Token.{Token}
 use Rattle.lwkt_core.specs.declared.messages.Message.{Message}
@@ -26,11 +27,11 @@ references_of tokens cpu = sum_by (λ tok. references_in (held_by tok cpu)) toke
 
 -- the machine is safe: each token and message is, and no processor has more than 32 references
 pub record IsSafe (m : Machine) : Type 0 where
-  pub processors : m.cpus ≤ 8
-  pub token_limit : length m.tokens ≤ 64
+  pub processors : m.cpus ≤ CPU_LIMIT
+  pub token_limit : length m.tokens ≤ TOKEN_LIMIT
   pub each_token : All (IsSafeToken m.cpus) m.tokens
-  pub few : (cpu : ℕ) → references_of m.tokens cpu ≤ 32
-  pub message_limit : length m.messages ≤ 64
+  pub few : (cpu : ℕ) → references_of m.tokens cpu ≤ LIST_LIMIT
+  pub message_limit : length m.messages ≤ MESSAGE_LIMIT
   pub each_message : All (IsSafeMessage m.cpus) m.messages
 
 -- what an event needs of the token or message that it is at, which has to exist
@@ -42,7 +43,7 @@ PlaceNeeds m e (AtMessage i) = IsSomeAnd (slice_get m.messages i) (λ msg. Messa
 pub record Needs (m : Machine) (e : Event) : Type 0 where
   pub processor : cpu_of e < m.cpus
   pub place : PlaceNeeds m e (place_of e)
-  pub room : adds_reference e ≡ true → references_of m.tokens (cpu_of e) < 32
+  pub room : adds_reference e ≡ true → references_of m.tokens (cpu_of e) < LIST_LIMIT
 
 -- a list with one element changed
 abbrev pub changed : {A : Type 0} → (A → A) → List A → ℕ → List A

@@ -7,7 +7,7 @@ use Rattle.lwkt_base.specs.declared.opening_specs.TokSpec.{TokSpec}
 use Rattle.lwkt_base.specs.declared.opening_specs.MsgSpec.{MsgSpec}
 use Rattle.lwkt_base.specs.Law.{OpensLawfully}
 use Rattle.lwkt_core.specs.declared.tokens.Token.{Token}
-use Rattle.lwkt_base.specs.declared.limits.TheConstants.{CPU_LIMIT, LAST_GENERATION, LAST_ROUND}
+use Rattle.lwkt_base.specs.declared.limits.TheConstants.{CPU_LIMIT, LAST_GENERATION, LAST_ROUND, CELL_LIMIT, MESSAGE_LIMIT, THREAD_LIMIT, TOKEN_LIMIT}
 use Rattle.lwkt_core.specs.declared.messages.Message.{Message}
 use Rattle.lwkt_core.specs.Tokens.{IsShort, length_of}
 use Rattle.lwkt_core.specs.Machine.{Machine}
@@ -33,20 +33,20 @@ pub record IsRecordWithin (spec : TokSpec) : Type 0 where
 -- an opening token keeps the limits: 0 to 4 cells, exactly 1 under Tally, a generation not past the last, and those of its
 -- record (own)
 abbrev pub IsTokenWithin : TokSpec → Type 0
-IsTokenWithin spec = (length spec.cells ≤ 4) × (spec.law ≡ Tally → length spec.cells ≡ 1) × (spec.generation ≤ LAST_GENERATION) × IsRecordWithin spec
+IsTokenWithin spec = (length spec.cells ≤ CELL_LIMIT) × (spec.law ≡ Tally → length spec.cells ≡ 1) × (spec.generation ≤ LAST_GENERATION) × IsRecordWithin spec
 
 -- an opening message keeps the limits: its origin's processor exists, the thread's number is below 16, and its round is not
 -- past the last (own)
 abbrev pub IsMessageWithin : ℕ → MsgSpec → Type 0
-IsMessageWithin cpus spec = (spec.origin.cpu.0 < cpus) × (spec.origin.thread < 16) × (spec.round ≤ LAST_ROUND)
+IsMessageWithin cpus spec = (spec.origin.cpu.0 < cpus) × (spec.origin.thread < THREAD_LIMIT) × (spec.round ≤ LAST_ROUND)
 
 -- an opening keeps the limits: 1 to 8 processors, at most 64 tokens and 64 messages (own)
 pub record AreWithin (cpus : ℕ) (tokens : List TokSpec) (messages : List MsgSpec) : Type 0 where
   pub some_processor : 0 < cpus
   pub processors : cpus ≤ CPU_LIMIT
-  pub token_limit : length tokens ≤ 64
+  pub token_limit : length tokens ≤ TOKEN_LIMIT
   pub each_token : All IsTokenWithin tokens
-  pub message_limit : length messages ≤ 64
+  pub message_limit : length messages ≤ MESSAGE_LIMIT
   pub each_message : All (IsMessageWithin cpus) messages
 
 -- each opening row, with the length of its record, obeys its law

@@ -11,7 +11,7 @@ use Rattle.lwkt_base.specs.declared.holdings.Held.TheVariants.{Nothing, Holds}
 use Rattle.lwkt_base.specs.Holding.{is_exclusive, is_held, one_more, one_less}
 use Rattle.lwkt_base.specs.Law.{Obeys, IsTallied}
 use Rattle.lwkt_core.specs.declared.tokens.Token.{Token}
-use Rattle.lwkt_base.specs.declared.limits.TheConstants.{CPU_LIMIT, LAST_GENERATION}
+use Rattle.lwkt_base.specs.declared.limits.TheConstants.{CPU_LIMIT, LAST_GENERATION, CELL_LIMIT, RECORD_LIMIT}
 use Rattle.lwkt_core.specs.declared.events.Event.{Event}
 use Rattle.lwkt_core.specs.declared.events.Event.TheVariants.{Load, Take, Share, Again, Mark, GiveOne, GiveClean, GiveWritten, Read, Write, ReadBlob, WriteBlob, Send, TakeMsg, DropMsg, Reply, Reap, Abort}
 
@@ -57,7 +57,7 @@ IsLawful tok = Obeys tok.law tok.param tok.row (length_of tok.blob)
 
 -- a record has at most 64 bytes (own)
 abbrev pub IsShort : Option (List ℕ) → Type 0
-IsShort blob = IfSome blob (λ bytes. length bytes ≤ 64)
+IsShort blob = IfSome blob (λ bytes. length bytes ≤ RECORD_LIMIT)
 
 -- a token of a machine of so many processors is safe: it has one exclusive holder or only shared ones (token(9)); a row and a
 -- record that nobody writes are the first ones; the first row and record obey the law, and a tally cell its sum; a token has a
@@ -66,7 +66,7 @@ pub record IsSafeToken (cpus : ℕ) (tok : Token) : Type 0 where
   pub eight_holders : length tok.holders ≡ CPU_LIMIT
   pub eight_tallies : length tok.tallies ≡ CPU_LIMIT
   pub absent : (cpu : ℕ) → cpus ≤ cpu → (held_by tok cpu ≡ Nothing) × (tally_of tok cpu ≡ 0)
-  pub few_cells : length tok.row ≤ 4
+  pub few_cells : length tok.row ≤ CELL_LIMIT
   pub same_cells : length tok.first ≡ length tok.row
   pub compatible : (cpu other : ℕ) → IsExclusiveHolder tok cpu → cpu ≢ other → held_by tok other ≡ Nothing
   pub settled : IsOpen tok → tok.row ≡ tok.first
@@ -110,7 +110,7 @@ TokenNeeds tok (GiveWritten cpu t section) = (held_by tok cpu.0 ≡ Holds Exclus
 TokenNeeds tok (Read cpu t cell value) = IsHolder tok cpu.0 × (slice_get tok.row cell ≡ Some value)
 TokenNeeds tok (Write cpu t cell value) = IsExclusiveHolder tok cpu.0 × (cell < length tok.row) × MayWrite tok.law (slice_index tok.row cell) value
 TokenNeeds tok (ReadBlob cpu t blob) = IsExclusiveHolder tok cpu.0 × (tok.blob ≡ Some blob)
-TokenNeeds tok (WriteBlob cpu t blob) = IsExclusiveHolder tok cpu.0 × HasRecord tok × (length blob ≤ 64)
+TokenNeeds tok (WriteBlob cpu t blob) = IsExclusiveHolder tok cpu.0 × HasRecord tok × (length blob ≤ RECORD_LIMIT)
 TokenNeeds tok (Send cpu msg to round) = ⊥
 TokenNeeds tok (TakeMsg cpu msg round) = ⊥
 TokenNeeds tok (DropMsg cpu msg) = ⊥

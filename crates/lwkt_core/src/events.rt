@@ -1,5 +1,8 @@
 use lwkt_base::{Blob, CpuId, MsgId, Section, TokId};
 
+/// For how many events a trace has to have room when a list of tokens or a port is used. None of these calls appends more.
+pub const CALL_EVENTS: usize = 256;
+
 /// One atomic step of one processor on one token or message.
 #[derive(Clone, Copy, PartialEq, Eq)]
 pub enum Event {

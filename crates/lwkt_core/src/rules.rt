@@ -8,11 +8,11 @@ use crate::events::{Event, Place};
 use crate::messages::Message;
 use crate::tokens::Token;
 use lwkt_base::CpuId;
-use lwkt_base::limits::CPU_LIMIT;
+use lwkt_base::limits::{CPU_LIMIT, LIST_LIMIT};
 
 /// How many references a processor has in all.
 pub fn references_of(tokens: &[Token], cpu: CpuId) -> usize
-    requires { references_of tokens.now cpu.0 ≤ 32 }
+    requires { references_of tokens.now cpu.0 ≤ LIST_LIMIT }
     ensures { result ≡ references_of tokens.now cpu.0 }
 {
     tokens.iter().map(|tok| tok.held_by(cpu).references()).sum()
@@ -43,7 +43,7 @@ pub fn apply_at_token(tokens: &mut Vec<Token>, place: usize, event: &Event)
     requires allowed { IsSomeAnd (slice_get tokens.old.items place) (λ tok. TokenNeeds tok event.now) }
     requires exists { cpu_of event.now < CPU_LIMIT }
     requires safe { (cpus : ℕ) × All (IsSafeToken cpus) tokens.old.items }
-    requires few { references_of tokens.old.items (cpu_of event.now) ≤ 32 }
+    requires few { references_of tokens.old.items (cpu_of event.now) ≤ LIST_LIMIT }
     ensures { tokens.new.items ≡ changed (λ tok. token_after tok event.now) tokens.old.items place }
 {
     let tok = &mut tokens[place];

@@ -6,6 +6,7 @@ use crate::lacks::Lack;
 use crate::messages::Message;
 use crate::tokens::Token;
 use crate::{finals, first_states, lacks, rules};
+use lwkt_base::limits::LIST_LIMIT;
 use lwkt_base::{CpuId, Fault, MsgId, MsgSpec, TokId, TokSpec};
 use std::alloc::Global;
 use std::marker::Model;
@@ -118,7 +119,7 @@ impl State {
 
     // Whether the processor may have a reference more.
     fn has_room(&self, cpu: CpuId) -> bool
-        ensures { IsTrue result ↔ (references_of self.now.tokens cpu.0 < 32) }
+        ensures { IsTrue result ↔ (references_of self.now.tokens cpu.0 < LIST_LIMIT) }
     {
         rules::references_of(&self.tokens, cpu) < 32
     }

@@ -2,7 +2,7 @@ ghost use Rattle.std.specs.Prelude.{◌≡◌, ◌↔◌, ℕ, ◌+◌, true, �
 
 use crate::events::Event;
 use lwkt_base::blobs::{are_same, length_of};
-use lwkt_base::limits::{CPU_LIMIT, LAST_GENERATION};
+use lwkt_base::limits::{CPU_LIMIT, LAST_GENERATION, RECORD_LIMIT};
 use lwkt_base::{Blob, Cells, CpuId, Held, Law, Mode, Section, TokId};
 
 /// One token of the model: what is declared of it, and its state.
@@ -116,7 +116,7 @@ impl Token {
 
     // Whether the token has a record, and this one may take its place.
     fn may_store_blob(&self, blob: &Blob) -> bool
-        ensures { IsTrue result ↔ (HasRecord self.now × (length blob.now ≤ 64)) }
+        ensures { IsTrue result ↔ (HasRecord self.now × (length blob.now ≤ RECORD_LIMIT)) }
     {
         self.has_record() && blob.len() <= 64
     }

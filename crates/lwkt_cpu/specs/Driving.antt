@@ -10,6 +10,7 @@ use Rattle.lwkt_cpu.specs.declared.answers.Turned.{Turned}
 use Rattle.lwkt_cpu.specs.declared.answers.Turned.TheVariants.{Ran, Idle, AllExited}
 use Rattle.lwkt_cpu.specs.declared.answers.Drove.{Drove}
 use Rattle.lwkt_cpu.specs.declared.threads.Thread.{Thread}
+use Rattle.lwkt_cpu.specs.declared.turns.TheConstants.{TURN_EVENTS}
 use Rattle.lwkt_cpu.specs.Processors.{Processor}
 use Rattle.lwkt_cpu.specs.Searches.{IsOfOne}
 use Rattle.lwkt_cpu.specs.Turning.{HasSameEvents, LacksRoom, MakesTurn}
@@ -42,7 +43,7 @@ none_driven = record { ran = 0; idle = 0; all_exited = false }
 pub record Drives {B : Type 0} (polled : B → Answer → Ask → B → Type 0) (bank : BankId) (old new : Processor B) (t u : Vec Event Global) (limit : ℕ) (drove : Drove) : Type 0 where
   pub turns : List Turned
   pub made : Made polled bank old new t u turns
-  pub ran : Runs (IsOfSome (stood polled bank old new t u turns made)) (4096 * length turns) old.seat new.seat t u
+  pub ran : Runs (IsOfSome (stood polled bank old new t u turns made)) (TURN_EVENTS * length turns) old.seat new.seat t u
   pub counts : drove ≡ fold with_turn none_driven turns
   pub stops : (All (λ turned. turned ≢ AllExited) turns × (length turns ≡ limit))
       ⊎ ((earlier : List Turned) × (All (λ turned. turned ≢ AllExited) earlier × (turns ≡ earlier ++ AllExited ∷ []) × (length turns ≤ limit)))
@@ -54,7 +55,7 @@ pub record DrivesShort {B : Type 0} (polled : B → Answer → Ask → B → Typ
   pub v : Vec Event Global
   pub made : Made polled bank old new t v turns
   pub same : HasSameEvents v u
-  pub ran : Runs (IsOfSome (stood polled bank old new t v turns made)) (4096 * length turns) old.seat new.seat t u
+  pub ran : Runs (IsOfSome (stood polled bank old new t v turns made)) (TURN_EVENTS * length turns) old.seat new.seat t u
   pub few : length turns < limit
   pub going : All (λ turned. turned ≢ AllExited) turns
   pub full : LacksRoom u

@@ -7,6 +7,7 @@ use Rattle.lwkt_bank.specs.declared.seats.CpuSeat.{CpuSeat}
 use Rattle.lwkt_bank.specs.Seats.{bank_of, tokens_of, holding}
 use Rattle.lwkt_hold.specs.Misses.{IsRefusing}
 use Rattle.lwkt_base.specs.declared.names.MsgId.{MsgId}
+use Rattle.lwkt_base.specs.declared.limits.TheConstants.{THREAD_LIMIT}
 use Rattle.lwkt_msg.specs.Desks.{desk_cpu, messages_of}
 use Rattle.lwkt_port.specs.Posts.{Post}
 use Rattle.lwkt_cpu.specs.declared.phases.Phase.{Phase}
@@ -70,7 +71,7 @@ AllAwait messages threads = (k : ℕ) (t : Thread) → slice_get threads k ≡ S
 -- a processor between two turns (own): at most one thread runs, every list is lawful, and the holding is that of the running
 -- thread's list, or nothing
 pub record IsAtRest {B : Type 0} (p : Processor B) : Type 0 where
-  pub few : length p.threads ≤ 16
+  pub few : length p.threads ≤ THREAD_LIMIT
   pub as_many : length p.bodies ≡ length p.threads
   pub mine : desk_cpu p.post.seat ≡ p.seat.cpu
   pub ported : p.post.threads ≡ length p.threads

@@ -13,6 +13,7 @@ use Rattle.lwkt_cpu.specs.declared.phases.Phase.TheVariants.{Live}
 use Rattle.lwkt_cpu.specs.declared.answers.Turned.{Turned}
 use Rattle.lwkt_cpu.specs.declared.answers.Turned.TheVariants.{Ran, Idle, AllExited}
 use Rattle.lwkt_cpu.specs.declared.threads.Thread.{Thread}
+use Rattle.lwkt_cpu.specs.declared.turns.TheConstants.{TURN_EVENTS}
 use Rattle.lwkt_cpu.specs.Processors.{Processor, AllOver, IsAtRest}
 use Rattle.lwkt_cpu.specs.Searches.{point, FindsThread, IsOfOne}
 use Rattle.lwkt_cpu.specs.Ending.{is_worn, ClosesPorts}
@@ -73,7 +74,7 @@ HasSameEvents t u = (u.items ≡ t.items) × (vec_len u ≡ vec_len t) × (vec_c
 
 -- a trace has no room for the events of a turn
 abbrev pub LacksRoom : Vec Event Global → Type 0
-LacksRoom t = vec_capacity t < vec_len t + 4096
+LacksRoom t = vec_capacity t < vec_len t + TURN_EVENTS
 
 -- a whole turn: the trace is given room for 4,096 events, mail is taken in, and then the turn is made; each event is one of the seat's steps, and
 -- after it the seat holds what a front of one thread's list holds; at its end the seat holds exactly the list of the thread that runs, in
@@ -85,7 +86,7 @@ pub record MakesTurn {B : Type 0} (polled : B → Answer → Ask → B → Type 
   pub v : Vec Event Global
   pub mail : TakesMail old mid room v
   pub turns : Turns polled bank mid new v u turned
-  pub ran : Runs (IsOfThread old.threads new.threads) 4096 old.seat new.seat t u
+  pub ran : Runs (IsOfThread old.threads new.threads) TURN_EVENTS old.seat new.seat t u
   pub traced : TracesMail old.post.seat new.post.seat t.items u.items
   pub ports : IsSamePost old.post new.post
   pub rest : IsAtRest new

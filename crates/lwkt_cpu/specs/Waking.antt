@@ -18,6 +18,7 @@ use Rattle.lwkt_port.specs.Works.{Grew}
 use Rattle.lwkt_cpu.specs.declared.phases.Phase.{Phase}
 use Rattle.lwkt_cpu.specs.declared.phases.Phase.TheVariants.{Live, AwaitsItem, AwaitsReply, Exited, Faulted}
 use Rattle.lwkt_cpu.specs.declared.threads.Thread.{Thread}
+use Rattle.lwkt_cpu.specs.declared.turns.TheConstants.{TURN_NOTES}
 use Rattle.lwkt_cpu.specs.Processors.{Processor}
 
 -- a thread that waits for its port, after a look at it: an item makes it ready, with that item
@@ -64,7 +65,7 @@ pub record TakesMail {B : Type 0} (old new : Processor B) (t u : Vec Event Globa
   pub post : Post
   pub v : Vec Event Global
   pub count : ℕ
-  pub takes : PostTakesIn 16 old.post post t v count
+  pub takes : PostTakesIn TURN_NOTES old.post post t v count
   pub wakes : WakesAll (ward post old.threads v) (ward new.post new.threads u)
   pub seat : new.seat ≡ old.seat
   pub bodies : new.bodies ≡ old.bodies

@@ -6,6 +6,7 @@ ghost use Rattle.lwkt_cpu.specs.Counts.{ended_count, Counts};
 
 use crate::cpus::Cpu;
 use crate::threads::Thread;
+use lwkt_base::limits::{CPU_LIMIT, MESSAGE_LIMIT};
 use lwkt_port::Notes;
 
 /// How far a processor has come, by counts. Where they are the same before and after a turn that polled no thread, the turn moved no
@@ -34,7 +35,7 @@ impl<B> Cpu<B> {
     /// How many processors there are, with this one, 1 to 8: as many as its book has seats for.
     pub fn cpus(&self) -> usize
         ensures count { result ≡ cpus_of self.now.post.seat }
-        ensures few { result ≤ 8 }
+        ensures few { result ≤ CPU_LIMIT }
     {
         self.ports.cpus()
     }
@@ -42,7 +43,7 @@ impl<B> Cpu<B> {
     /// How many messages its ports owe a reply, 0 to 64.
     pub fn owed(&self) -> usize
         ensures count { result ≡ owed_count self.now.post.mails }
-        ensures few { result ≤ 64 }
+        ensures few { result ≤ MESSAGE_LIMIT }
     {
         self.ports.owed()
     }

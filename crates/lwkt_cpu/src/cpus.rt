@@ -9,7 +9,7 @@ use crate::answers::Status;
 use crate::phases::Phase;
 use crate::threads::Thread;
 use lwkt_bank::CpuSeat;
-use lwkt_base::limits::THREAD_LIMIT;
+use lwkt_base::limits::{LIST_LIMIT, THREAD_LIMIT};
 use lwkt_base::memory::push;
 use lwkt_base::{Answer, Fault, OutOfMemory, ThreadState, TokList};
 use lwkt_hold::Hold;
@@ -61,8 +61,8 @@ fn fresh_threads(alloc: Global, count: usize) -> Result<Vec<Thread>, OutOfMemory
 
 // Whether there are at most so many bodies as a processor may have threads, and as many as the ports have.
 fn fits(ports: &Ports, count: usize) -> bool
-    ensures yes { result ≡ true → (count ≤ 16) × (ports.now.threads ≡ count) }
-    ensures no { result ≡ false → (16 < count) ⊎ (ports.now.threads ≢ count) }
+    ensures yes { result ≡ true → (count ≤ THREAD_LIMIT) × (ports.now.threads ≡ count) }
+    ensures no { result ≡ false → (THREAD_LIMIT < count) ⊎ (ports.now.threads ≢ count) }
 {
     if count > THREAD_LIMIT {
         return false;
@@ -86,7 +86,7 @@ impl<B> Cpu<B> {
         requires mine { desk_cpu ports.seat ≡ seat.cpu }
         requires empty { holding seat ≡ holds_nothing }
         ensures ok { IfOk result (λ cpu. IsNewCpu seat ports bodies.items cpu) }
-        ensures only { OnErr result ((result ≡ Err no_memory) ⊎ ((result ≡ Err Fault.Limits) × ((16 < vec_len bodies) ⊎ (ports.threads ≢ vec_len bodies)))) }
+        ensures only { OnErr result ((result ≡ Err no_memory) ⊎ ((result ≡ Err Fault.Limits) × ((THREAD_LIMIT < vec_len bodies) ⊎ (ports.threads ≢ vec_len bodies)))) }
     {
         let count = bodies.len();
         let threads = fresh_threads(alloc, count)?;
@@ -115,7 +115,7 @@ impl<B> Cpu<B> {
     /// What the thread of this number is doing, and its references. `None` exactly if there is no such thread.
     pub fn thread(&self, i: usize) -> Option<Status<'_>>
         ensures shows { ShowsThread self.now i result }
-        ensures few { IfSome result (λ status. length status.list.now ≤ 32) }
+        ensures few { IfSome result (λ status. length status.list.now ≤ LIST_LIMIT) }
     {
         let thread = self.threads.get(i)?;
         let state = match thread.phase {

@@ -10,6 +10,7 @@ use crate::phases::{Phase, ToClose};
 use crate::threads::Thread;
 use crate::{AnswerKept, Next};
 use lwkt_base::TokList;
+use lwkt_base::limits::THREAD_LIMIT;
 use lwkt_port::Ports;
 
 /// Ends a thread: its list is empty from now on.
@@ -39,7 +40,7 @@ pub(crate) fn close_if(ports: &mut Ports, number: u8, ends: bool)
 #[inline]
 pub(crate) fn close_all(ports: &mut Ports, threads: &[Thread], which: ToClose)
     requires ported { ports.old.threads ≡ length threads.now }
-    requires few { length threads.now ≤ 16 }
+    requires few { length threads.now ≤ THREAD_LIMIT }
     ensures closes { ClosesPorts (includes which) threads.now ports.old ports.new }
     ensures same { IsSamePost ports.old ports.new }
     ensures seat { ports.new.seat ≡ ports.old.seat }

@@ -13,6 +13,7 @@ use crate::nexts::{AnswerKept, Next};
 use lwkt_bank::Bank;
 use lwkt_base::{Answer, Fault, TokList};
 use lwkt_core::Event;
+use lwkt_core::events::CALL_EVENTS;
 use lwkt_hold::{Blocked, Hold};
 
 // What comes next once everything was given up.
@@ -52,7 +53,7 @@ fn give_up(
     requires of { bank_of (seat_of hold.old) ≡ id_of bank.now }
     requires within { held ≤ length list.now }
     requires held { holding (seat_of hold.old) ≡ holding_of (take held list.now) }
-    requires room { vec_len trace.old + 256 ≤ vec_capacity trace.old }
+    requires room { vec_len trace.old + CALL_EVENTS ≤ vec_capacity trace.old }
     ensures ran { Ran (IsFront (take held list.now)) 192 (seat_of hold.old) (seat_of hold.new) trace.old trace.new }
     ensures empty { holding (seat_of hold.new) ≡ holds_nothing }
     ensures gives_up { (answer : Answer) → GivesUp (seat_of hold.old) (seat_of hold.new) list.now held trace.old trace.new (next_with meant answer) (next_with result answer) }
@@ -74,7 +75,7 @@ pub(crate) fn be_ready(
     requires of { bank_of (seat_of hold.old) ≡ id_of bank.now }
     requires within { held ≤ length list.now }
     requires held { holding (seat_of hold.old) ≡ holding_of (take held list.now) }
-    requires room { vec_len trace.old + 256 ≤ vec_capacity trace.old }
+    requires room { vec_len trace.old + CALL_EVENTS ≤ vec_capacity trace.old }
     ensures ran { Ran (IsFront (take held list.now)) 192 (seat_of hold.old) (seat_of hold.new) trace.old trace.new }
     ensures empty { holding (seat_of hold.new) ≡ holds_nothing }
     ensures gives_up { GivesUp (seat_of hold.old) (seat_of hold.new) list.now held trace.old trace.new (Next.Readies Answer.Done) (next_with result last.new) }
@@ -96,7 +97,7 @@ pub(crate) fn leave(
 ) -> Next<AnswerKept>
     requires of { bank_of (seat_of hold.old) ≡ id_of bank.now }
     requires held { holding (seat_of hold.old) ≡ holding_of list.now }
-    requires room { vec_len trace.old + 256 ≤ vec_capacity trace.old }
+    requires room { vec_len trace.old + CALL_EVENTS ≤ vec_capacity trace.old }
     ensures ran { Ran (IsFront list.now) 192 (seat_of hold.old) (seat_of hold.new) trace.old trace.new }
     ensures empty { holding (seat_of hold.new) ≡ holds_nothing }
     ensures gives_up { (answer : Answer) → GivesUp (seat_of hold.old) (seat_of hold.new) list.now (length list.now) trace.old trace.new (next_with meant answer) (next_with result answer) }
@@ -116,7 +117,7 @@ pub(crate) fn leave_ready(
 ) -> Next<AnswerKept>
     requires of { bank_of (seat_of hold.old) ≡ id_of bank.now }
     requires held { holding (seat_of hold.old) ≡ holding_of list.now }
-    requires room { vec_len trace.old + 256 ≤ vec_capacity trace.old }
+    requires room { vec_len trace.old + CALL_EVENTS ≤ vec_capacity trace.old }
     ensures ran { Ran (IsFront list.now) 192 (seat_of hold.old) (seat_of hold.new) trace.old trace.new }
     ensures empty { holding (seat_of hold.new) ≡ holds_nothing }
     ensures gives_up { GivesUp (seat_of hold.old) (seat_of hold.new) list.now (length list.now) trace.old trace.new (Next.Readies Answer.Done) (next_with result last.new) }
@@ -137,7 +138,7 @@ pub fn exit(
 ) -> Next<AnswerKept>
     requires of { bank_of (seat_of hold.old) ≡ id_of bank.now }
     requires held { holding (seat_of hold.old) ≡ holding_of list.now }
-    requires room { vec_len trace.old + 256 ≤ vec_capacity trace.old }
+    requires room { vec_len trace.old + CALL_EVENTS ≤ vec_capacity trace.old }
     ensures ran { Ran (IsFront list.now) 192 (seat_of hold.old) (seat_of hold.new) trace.old trace.new }
     ensures empty { holding (seat_of hold.new) ≡ holds_nothing }
     ensures gives_up { (answer : Answer) → GivesUp (seat_of hold.old) (seat_of hold.new) list.now (length list.now) trace.old trace.new Next.Exits (next_with result answer) }

@@ -17,6 +17,7 @@ use crate::phases::Phase;
 use crate::threads::{BusyAt, Thread};
 use lwkt_bank::Bank;
 use lwkt_base::Fault;
+use lwkt_base::limits::THREAD_LIMIT;
 use lwkt_core::Event;
 use lwkt_hold::{Hold, Missed, Resumed};
 
@@ -134,7 +135,7 @@ pub(crate) fn find(
     requires of { bank_of (seat_of hold.old) ≡ id_of bank.now }
     requires there { AreThere (seat_of hold.old) threads.old }
     requires busy { AllKeepBusyWords threads.old }
-    requires few { length threads.old ≤ 16 }
+    requires few { length threads.old ≤ THREAD_LIMIT }
     requires within { cursor ≤ length threads.old }
     requires empty { holding (seat_of hold.old) ≡ holds_nothing }
     requires room { vec_len trace.old + 1024 ≤ vec_capacity trace.old }

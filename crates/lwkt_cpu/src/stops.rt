@@ -26,6 +26,7 @@ use lwkt_bank::{Bank, CpuSeat};
 use lwkt_base::Fault;
 use lwkt_base::memory::reserve;
 use lwkt_core::Event;
+use lwkt_core::events::CALL_EVENTS;
 use lwkt_msg::{MsgBook, MsgSeat};
 
 /// For how many events a trace has room in which a processor stops without being given more.
@@ -56,7 +57,7 @@ impl<B> Cpu<B> {
     fn halt(&mut self, bank: &Bank, place: usize, trace: &mut Vec<Event>)
         requires of { bank_of self.old.seat ≡ id_of bank.now }
         requires runs { self.old.running ≡ Some place }
-        requires room { vec_len trace.old + 512 ≤ vec_capacity trace.old }
+        requires room { vec_len trace.old + STOP_EVENTS ≤ vec_capacity trace.old }
         ensures halts { Halts self.old self.new trace.old trace.new place }
         ensures ran { Ran (IsOfOne self.old.threads) 194 self.old.seat self.new.seat trace.old trace.new }
         ensures quiet { TracesTokensOnly trace.old.items trace.new.items }
@@ -72,7 +73,7 @@ impl<B> Cpu<B> {
     // The thread that runs halts, if any does.
     fn halt_running(&mut self, bank: &Bank, trace: &mut Vec<Event>)
         requires of { bank_of self.old.seat ≡ id_of bank.now }
-        requires room { vec_len trace.old + 512 ≤ vec_capacity trace.old }
+        requires room { vec_len trace.old + STOP_EVENTS ≤ vec_capacity trace.old }
         ensures halts { HaltsRunning self.old self.new trace.old trace.new self.old.running }
         ensures ran { Ran (IsOfOne self.old.threads) 194 self.old.seat self.new.seat trace.old trace.new }
         ensures quiet { TracesTokensOnly trace.old.items trace.new.items }
@@ -107,7 +108,7 @@ impl<B> Cpu<B> {
     // The replies that are owed go out, as lanes have room.
     fn pay(&mut self, book: &MsgBook, trace: &mut Vec<Event>)
         requires table { self.old.post.seat.table ≡ book.now.table }
-        requires room { vec_len trace.old + 256 ≤ vec_capacity trace.old }
+        requires room { vec_len trace.old + CALL_EVENTS ≤ vec_capacity trace.old }
         ensures pays { PostPays self.old.post self.new.post trace.old trace.new }
         ensures seat { self.new.seat ≡ self.old.seat }
         ensures bodies { self.new.bodies ≡ self.old.bodies }
@@ -146,7 +147,7 @@ impl<B> Cpu<B> {
     pub fn stop_in_room(&mut self, bank: &Bank, book: &MsgBook, trace: &mut Vec<Event>)
         requires of { bank_of self.old.seat ≡ id_of bank.now }
         requires table { self.old.post.seat.table ≡ book.now.table }
-        requires room { vec_len trace.old + 512 ≤ vec_capacity trace.old }
+        requires room { vec_len trace.old + STOP_EVENTS ≤ vec_capacity trace.old }
         ensures stops { Stops self.old self.new trace.old trace.new }
         ensures ran { Ran (IsMailed self.old.threads) 258 self.old.seat self.new.seat trace.old trace.new }
         ensures traced { TracesMail self.old.post.seat self.new.post.seat trace.old.items trace.new.items }

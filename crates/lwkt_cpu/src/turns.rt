@@ -19,6 +19,7 @@ use crate::searches::find;
 use crate::wakes::wake_all;
 use lwkt_bank::Bank;
 use lwkt_base::Fault;
+use lwkt_base::limits::THREAD_LIMIT;
 use lwkt_base::memory::reserve;
 use lwkt_core::Event;
 use lwkt_msg::MsgBook;
@@ -26,12 +27,12 @@ use lwkt_msg::MsgBook;
 /// For how many events a turn or a stop makes room in its trace before it begins.
 pub const TURN_EVENTS: usize = 4096;
 
-/// The notes that a turn takes in.
-const TURN_NOTES: usize = 16;
+/// The most notes that a turn takes in.
+pub const TURN_NOTES: usize = 16;
 
 // Where the next search begins.
 fn past(cursor: usize, found: Option<usize>) -> usize
-    requires { IfSome found (λ place. place < 16) }
+    requires { IfSome found (λ place. place < THREAD_LIMIT) }
     ensures { result ≡ cursor_after cursor found }
 {
     match found {
@@ -152,7 +153,7 @@ impl<B: Body> Cpu<B> {
     pub fn turn_in_room(&mut self, bank: &Bank, book: &MsgBook, trace: &mut Vec<Event>) -> Turned
         requires of { bank_of self.old.seat ≡ id_of bank.now }
         requires table { self.old.post.seat.table ≡ book.now.table }
-        requires room { vec_len trace.old + 4096 ≤ vec_capacity trace.old }
+        requires room { vec_len trace.old + TURN_EVENTS ≤ vec_capacity trace.old }
         ensures makes { MakesTurn B.polled (id_of bank.now) self.old self.new trace.old trace.new result }
         ensures of { bank_of self.new.seat ≡ bank_of self.old.seat }
         ensures table { self.new.post.seat.table ≡ self.old.post.seat.table }

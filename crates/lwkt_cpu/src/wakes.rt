@@ -9,6 +9,7 @@ ghost use Rattle.lwkt_cpu.specs.Waking.{woken_by, replied_by, LooksAfter, WakesA
 
 use crate::phases::Phase;
 use crate::threads::Thread;
+use lwkt_base::limits::THREAD_LIMIT;
 use lwkt_base::{Answer, Fault, Item, MsgId, Rec};
 use lwkt_core::Event;
 use lwkt_msg::MsgBook;
@@ -93,7 +94,7 @@ pub(crate) fn wake_all(
 )
     requires table { ports.old.seat.table ≡ book.now.table }
     requires ported { ports.old.threads ≡ length threads.old }
-    requires few { length threads.old ≤ 16 }
+    requires few { length threads.old ≤ THREAD_LIMIT }
     requires awaits { AllAwait (messages_of ports.old.seat) threads.old }
     requires room { vec_len trace.old + 2048 ≤ vec_capacity trace.old }
     ensures wakes { WakesAll (ward ports.old threads.old trace.old) (ward ports.new threads.new trace.new) }

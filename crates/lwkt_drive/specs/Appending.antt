@@ -10,6 +10,7 @@ use Rattle.lwkt_bank.specs.Seats.{BankId}
 use Rattle.lwkt_hold.specs.Runs.{Ran}
 use Rattle.lwkt_port.specs.Posts.{IsSamePost}
 use Rattle.lwkt_cpu.specs.declared.answers.Turned.{Turned}
+use Rattle.lwkt_cpu.specs.declared.turns.TheConstants.{TURN_EVENTS}
 use Rattle.lwkt_cpu.specs.Processors.{Processor}
 use Rattle.lwkt_cpu.specs.Stopping.{Stops}
 use Rattle.lwkt_cpu.specs.Turning.{IsMailed, LacksRoom, MakesTurn}
@@ -45,10 +46,10 @@ AppendsStop old new t u = IsAppended (TracesStop old new) t u
 
 -- a room has no place for the events of a turn, or a trace has none for as many
 abbrev pub LacksMemory : Vec Event Global → KeptTrace → Type 0
-LacksMemory room trace = LacksRoom room ⊎ (trace.capacity < length trace.items + 4096)
+LacksMemory room trace = LacksRoom room ⊎ (trace.capacity < length trace.items + TURN_EVENTS)
 
 -- the room into which a processor's next turn is told is empty, and it and the trace have places for the events of a turn
 pub record HasTurnRoom {B : Type 0} (d : Driven B) : Type 0 where
   pub none : d.room.items ≡ []
-  pub room : vec_len d.room + 4096 ≤ vec_capacity d.room
-  pub trace : length d.trace.items + 4096 ≤ d.trace.capacity
+  pub room : vec_len d.room + TURN_EVENTS ≤ vec_capacity d.room
+  pub trace : length d.trace.items + TURN_EVENTS ≤ d.trace.capacity

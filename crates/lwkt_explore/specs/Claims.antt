@@ -16,6 +16,7 @@ use Rattle.lwkt_base.specs.Fault.{number_of}
 use Rattle.lwkt_base.specs.Threads.{has_ended}
 use Rattle.lwkt_report.specs.declared.closings.Closing.{Closing}
 use Rattle.lwkt_base.specs.declared.threads.ThreadLine.{ThreadLine}
+use Rattle.lwkt_base.specs.declared.limits.TheConstants.{LOG_LIMIT}
 use Rattle.lwkt_text.specs.declared.claims.Claim.{Claim}
 use Rattle.lwkt_text.specs.declared.claims.Claim.TheVariants as claims
 use Rattle.lwkt_text.specs.declared.claims.Relation.{Relation}
@@ -84,7 +85,7 @@ has_logged id entry line = same_thread line.id id && has_entry entry line.log
 
 -- whether this is the line of a thread, and its log is full: it has 32 entries, and later ones aren't kept
 abbrev pub is_full : ThreadId → ThreadLine → Bool
-is_full id line = same_thread line.id id && nat_le 32 (length line.log)
+is_full id line = same_thread line.id id && nat_le LOG_LIMIT (length line.log)
 
 -- whether this is the line of a thread that stands so
 abbrev pub has_state : ThreadId → ClaimedState → ThreadLine → Bool

@@ -1,5 +1,6 @@
 -- A walk over the states of a script, and a search that is under way (own).
 use Rattle.std.specs.Prelude.{◌≡◌, ℕ, ◌<◌, ◌≤◌, Bool, true, false, Option, None, Some, max, length, Contains}
+use Rattle.lwkt_base.specs.declared.limits.TheConstants.{CPU_LIMIT}
 use Rattle.lwkt_script.specs.declared.scripts.Script.{Script}
 use Rattle.lwkt_explore.specs.declared.outcomes.Outcomes.{Outcomes}
 use Rattle.lwkt_explore.specs.declared.outcomes.LastState.{LastState}
@@ -22,7 +23,7 @@ last_state_of false Off false = None
 -- a walk over a script: the turns that lead to the states are of its processors, and states and turns are within the bounds
 pub record IsWalk (script : Script) (walk : Walk) : Type 0 where
   pub some_cpus : 1 ≤ script.cpus
-  pub few_cpus : script.cpus ≤ 8
+  pub few_cpus : script.cpus ≤ CPU_LIMIT
   pub nodes : AreNodes script.cpus walk.bounds.turns walk.graph
   pub few : length walk.graph.nodes.items ≤ max 1 walk.bounds.states
 

@@ -9,6 +9,7 @@ ghost use Rattle.lwkt_explore.specs.Verdicts.{IsOfVerdict};
 
 use crate::walks::number_in_order;
 use crate::watches::Watch;
+use lwkt_base::limits::CPU_LIMIT;
 use lwkt_base::memory::{from_slice, push, reserve};
 use lwkt_base::{Fault, OutOfMemory};
 use lwkt_report::{Closing, Verdict, report_front};
@@ -165,7 +166,7 @@ pub(crate) fn judge(
     cpu: Option<usize>,
 ) -> Result<(), Fault>
     requires order { AreThere script.now (order.now ++ option_to_list cpu) }
-    requires cpu { IfSome cpu (λ cpu. cpu < 8) }
+    requires cpu { IfSome cpu (λ cpu. cpu < CPU_LIMIT) }
     ensures { IfErr result (λ fault. RefusesSearch script.now fault) }
 {
     let mut whole = from_slice(alloc, order)?;

@@ -7,6 +7,7 @@ use Rattle.lwkt_base.specs.declared.laws.Law.TheVariants.{Any, Sum, Order, Cap, 
 use Rattle.lwkt_base.specs.declared.names.Mode.{Mode}
 use Rattle.lwkt_base.specs.declared.names.Mode.TheVariants.{Exclusive, Shared}
 use Rattle.lwkt_base.specs.declared.names.Ref.{Ref}
+use Rattle.lwkt_base.specs.declared.limits.TheConstants.{LIST_LIMIT, RECORD_LIMIT}
 use Rattle.lwkt_base.specs.Refs.{first_mode}
 use Rattle.lwkt_bank.specs.Seats.{BankId, tokens_of, plan_of}
 
@@ -61,7 +62,7 @@ abbrev pub record_read_refusal : BankId → List Ref → ℕ → Option Fault
 record_read_refusal bank refs tok = record_refusal bank refs tok None
 
 abbrev pub record_write_refusal : BankId → List Ref → ℕ → List ℕ → Option Fault
-record_write_refusal bank refs tok bytes = record_refusal bank refs tok (if nat_lt 64 (length bytes) then Some RecordLong else None)
+record_write_refusal bank refs tok bytes = record_refusal bank refs tok (if nat_lt RECORD_LIMIT (length bytes) then Some RecordLong else None)
 
 -- whether an exclusive reference would stand behind a shared one to its token (own)
 abbrev pub is_upgrade : Mode → Option Mode → Bool
@@ -74,7 +75,7 @@ is_upgrade Shared first = false
 abbrev pub get_refusal : BankId → List Ref → Ref → Option Fault
 get_refusal bank refs new =
     if nat_le (tokens_of bank) new.tok.0 then Some NoToken
-    else (if length refs == 32 then Some ListFull
+    else (if length refs == LIST_LIMIT then Some ListFull
     else (if is_upgrade new.mode (first_mode refs new.tok.0) then Some Upgrade else None))
 
 -- a call is refused for this reason; where there is none beforehand, only for one that its step at the token finds

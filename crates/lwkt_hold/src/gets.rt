@@ -19,6 +19,7 @@ use crate::traces::note;
 use lwkt_bank::{Bank, CpuSeat};
 use lwkt_base::{Fault, Mode, Ref, TokId, TokList};
 use lwkt_core::Event;
+use lwkt_core::events::CALL_EVENTS;
 
 /// Puts the mark of an exclusive request on its token; a shared one puts none.
 fn mark(seat: &mut CpuSeat, bank: &Bank, new: Ref, trace: &mut Vec<Event>)
@@ -99,7 +100,7 @@ impl Hold {
         new: Ref,
         trace: &mut Vec<Event>,
     ) -> Result<Acquired, Fault>
-        requires { IsReady (id_of bank.now) (seat_of self.old) list.old trace.old 256 }
+        requires { IsReady (id_of bank.now) (seat_of self.old) list.old trace.old CALL_EVENTS }
         ensures ran { Ran (IsFront list.new) 1 (seat_of self.old) (seat_of self.new) trace.old trace.new }
         ensures refused { RefusedBy (get_refusal (id_of bank.now) list.old new) (IsWorn list.old new (seat_of self.old) (seat_of self.new)) result }
         ensures ok { IfOk result (λ acquired. Acquires list.old list.new new (seat_of self.old) (seat_of self.new) trace.old trace.new acquired) }
@@ -131,7 +132,7 @@ impl Hold {
         tok: TokId,
         trace: &mut Vec<Event>,
     ) -> Result<(), Fault>
-        requires { IsReady (id_of bank.now) (seat_of self.old) list.old trace.old 256 }
+        requires { IsReady (id_of bank.now) (seat_of self.old) list.old trace.old CALL_EVENTS }
         ensures ran { Ran (IsFront list.new) 1 (seat_of self.old) (seat_of self.new) trace.old trace.new }
         ensures refused { RefusedBy (get_refusal (id_of bank.now) list.old (exclusive tok)) (IsMissed list.old (exclusive tok) (seat_of self.old) (seat_of self.new)) result }
         ensures ok { OnOk result (Takes list.old list.new (exclusive tok) (seat_of self.old) (seat_of self.new) trace.old trace.new) }

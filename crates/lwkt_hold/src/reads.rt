@@ -13,6 +13,7 @@ use crate::traces::{note_read, note_write};
 use lwkt_bank::Bank;
 use lwkt_base::{Fault, Held, Mode, TokId, TokList};
 use lwkt_core::Event;
+use lwkt_core::events::CALL_EVENTS;
 
 impl Hold {
     ghost use Rattle.lwkt_hold.specs.Holds.{seat_of};
@@ -63,7 +64,7 @@ impl Hold {
         cell: u8,
         trace: &mut Vec<Event>,
     ) -> Result<u64, Fault>
-        requires { IsReady (id_of bank.now) (seat_of self.old) list.now trace.old 256 }
+        requires { IsReady (id_of bank.now) (seat_of self.old) list.now trace.old CALL_EVENTS }
         ensures keeps { Keeps list.now (seat_of self.old) (seat_of self.new) trace.old trace.new }
         ensures refused { result_err result ≡ read_refusal (id_of bank.now) list.now tok.0 cell }
         ensures ok { IfOk result (λ value. Reads (seat_of self.old) (seat_of self.new) tok cell value trace.old trace.new) }
@@ -100,7 +101,7 @@ impl Hold {
         value: u64,
         trace: &mut Vec<Event>,
     ) -> Result<(), Fault>
-        requires { IsReady (id_of bank.now) (seat_of self.old) list.now trace.old 256 }
+        requires { IsReady (id_of bank.now) (seat_of self.old) list.now trace.old CALL_EVENTS }
         ensures keeps { Keeps list.now (seat_of self.old) (seat_of self.new) trace.old trace.new }
         ensures refused { result_err result ≡ write_refusal (id_of bank.now) list.now tok.0 cell }
         ensures ok { OnOk result (Writes (seat_of self.old) (seat_of self.new) tok cell value trace.old trace.new) }
@@ -134,7 +135,7 @@ impl Hold {
         k: u64,
         trace: &mut Vec<Event>,
     ) -> Result<(), Fault>
-        requires { IsReady (id_of bank.now) (seat_of self.old) list.now trace.old 256 }
+        requires { IsReady (id_of bank.now) (seat_of self.old) list.now trace.old CALL_EVENTS }
         ensures keeps { Keeps list.now (seat_of self.old) (seat_of self.new) trace.old trace.new }
         ensures refused { result_err result ≡ add_refusal (id_of bank.now) list.now tok.0 (slice_index (row (seat_of self.old) tok.0) 0 + k) }
         ensures ok { OnOk result (Writes (seat_of self.old) (seat_of self.new) tok 0 (slice_index (row (seat_of self.old) tok.0) 0 + k) trace.old trace.new) }

@@ -13,6 +13,7 @@ use crate::traces::{note_record_read, note_record_written};
 use lwkt_bank::Bank;
 use lwkt_base::{Blob, Fault, Mode, TokId, TokList};
 use lwkt_core::Event;
+use lwkt_core::events::CALL_EVENTS;
 
 impl Hold {
     ghost use Rattle.lwkt_hold.specs.Holds.{seat_of};
@@ -50,7 +51,7 @@ impl Hold {
         tok: TokId,
         trace: &mut Vec<Event>,
     ) -> Result<Blob, Fault>
-        requires { IsReady (id_of bank.now) (seat_of self.old) list.now trace.old 256 }
+        requires { IsReady (id_of bank.now) (seat_of self.old) list.now trace.old CALL_EVENTS }
         ensures keeps { Keeps list.now (seat_of self.old) (seat_of self.new) trace.old trace.new }
         ensures refused { result_err result ≡ record_read_refusal (id_of bank.now) list.now tok.0 }
         ensures ok { IfOk result (λ bytes. ReadsRecord (seat_of self.old) (seat_of self.new) tok bytes trace.old trace.new) }
@@ -77,7 +78,7 @@ impl Hold {
         blob: &Blob,
         trace: &mut Vec<Event>,
     ) -> Result<(), Fault>
-        requires { IsReady (id_of bank.now) (seat_of self.old) list.now trace.old 256 }
+        requires { IsReady (id_of bank.now) (seat_of self.old) list.now trace.old CALL_EVENTS }
         ensures keeps { Keeps list.now (seat_of self.old) (seat_of self.new) trace.old trace.new }
         ensures refused { result_err result ≡ record_write_refusal (id_of bank.now) list.now tok.0 blob.now }
         ensures ok { OnOk result (WritesRecord (seat_of self.old) (seat_of self.new) tok blob.now trace.old trace.new) }

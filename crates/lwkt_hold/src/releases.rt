@@ -15,6 +15,7 @@ use crate::holds::Hold;
 use lwkt_bank::Bank;
 use lwkt_base::{Fault, TokId, TokList};
 use lwkt_core::Event;
+use lwkt_core::events::CALL_EVENTS;
 
 impl Hold {
     ghost use Rattle.lwkt_hold.specs.Holds.{seat_of};
@@ -36,7 +37,7 @@ impl Hold {
         tok: TokId,
         trace: &mut Vec<Event>,
     ) -> Result<(), Fault>
-        requires { IsReady (id_of bank.now) (seat_of self.old) list.old trace.old 256 }
+        requires { IsReady (id_of bank.now) (seat_of self.old) list.old trace.old CALL_EVENTS }
         ensures ran { Ran (IsFront list.old) 6 (seat_of self.old) (seat_of self.new) trace.old trace.new }
         ensures held { holding (seat_of self.new) ≡ holding_of list.new }
         ensures ok { OnOk result (ReleasesLast (seat_of self.old) (seat_of self.new) list.old list.new tok false trace.old.items trace.new.items) }
@@ -66,7 +67,7 @@ impl Hold {
         requires of { bank_of (seat_of self.old) ≡ id_of bank.now }
         requires within { held ≤ length list.now }
         requires held { holding (seat_of self.old) ≡ holding_of (take held list.now) }
-        requires room { vec_len trace.old + 256 ≤ vec_capacity trace.old }
+        requires room { vec_len trace.old + CALL_EVENTS ≤ vec_capacity trace.old }
         ensures ran { Ran (IsFront (take held list.now)) 192 (seat_of self.old) (seat_of self.new) trace.old trace.new }
         ensures empty { holding (seat_of self.new) ≡ holds_nothing }
         ensures rows { GivenUp (seat_of self.old) (seat_of self.new) }

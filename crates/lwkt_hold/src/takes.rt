@@ -11,6 +11,7 @@ ghost use Rattle.lwkt_hold.specs.Rows.{SameRow};
 use crate::answers::Missed;
 use crate::traces::{note_again, note_taken};
 use lwkt_bank::{Bank, CpuSeat, Try};
+use lwkt_base::limits::LIST_LIMIT;
 use lwkt_base::{Ref, TokId};
 use lwkt_core::Event;
 
@@ -33,7 +34,7 @@ pub(crate) fn take_one(
 ) -> Result<(), Missed>
     requires of { bank_of seat.old ≡ id_of bank.now }
     requires there { IsSomeAnd (slice_get refs.now at) (λ r. r.tok.0 < tokens_of (bank_of seat.old)) }
-    requires short { length refs.now ≤ 32 }
+    requires short { length refs.now ≤ LIST_LIMIT }
     requires within { at < length refs.now }
     requires front { holding seat.old ≡ holding_of (take at refs.now) }
     requires room { vec_len trace.old < vec_capacity trace.old }

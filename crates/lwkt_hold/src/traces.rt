@@ -4,6 +4,7 @@ ghost use Rattle.std.specs.Prelude.{◌≡◌, ◌+◌, ◌<◌, ◌≤◌, [], 
 ghost use Rattle.lwkt_hold.specs.Rows.{write_events, record_write_events};
 ghost use Rattle.lwkt_hold.specs.Steps.{taking};
 
+use lwkt_base::limits::CELL_LIMIT;
 use lwkt_base::{Blob, CpuId, Mode, Ref, Section, TokId};
 use lwkt_core::Event;
 
@@ -198,11 +199,11 @@ fn note_cell(trace: &mut Vec<Event>, cpu: CpuId, tok: TokId, cell: u8, value: Op
 
 /// The stores of these values in the cells of a token, rising.
 pub(crate) fn note_cells(trace: &mut Vec<Event>, cpu: CpuId, tok: TokId, values: &[Option<u64>; 4])
-    requires four { length values.now ≡ 4 }
-    requires room { vec_len trace.old + 4 ≤ vec_capacity trace.old }
+    requires four { length values.now ≡ CELL_LIMIT }
+    requires room { vec_len trace.old + CELL_LIMIT ≤ vec_capacity trace.old }
     ensures items { trace.new.items ≡ trace.old.items ++ write_events cpu tok 0 values.now }
     ensures longer { vec_len trace.new ≡ vec_len trace.old + length (write_events cpu tok 0 values.now) }
-    ensures few { length (write_events cpu tok 0 values.now) ≤ 4 }
+    ensures few { length (write_events cpu tok 0 values.now) ≤ CELL_LIMIT }
     ensures room { vec_capacity trace.old ≤ vec_capacity trace.new }
 {
     note_cell(trace, cpu, tok, 0, values[0]);

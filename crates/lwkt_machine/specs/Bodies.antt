@@ -4,6 +4,7 @@ use Rattle.lwkt_base.specs.declared.asks.Ask.{Ask}
 use Rattle.lwkt_base.specs.declared.asks.Ask.TheVariants.{Exit}
 use Rattle.lwkt_base.specs.declared.asks.Answer.{Answer}
 use Rattle.lwkt_base.specs.declared.entries.Entry.{Entry}
+use Rattle.lwkt_base.specs.declared.limits.TheConstants.{LOG_LIMIT}
 use Rattle.lwkt_script.specs.Logs.{entry_of, nth_ask}
 
 -- what callers see of a body: its steps and how many times it makes them, how many polls it has had, what it asked at the last of
@@ -47,7 +48,7 @@ entry_heard asked heard = option_and_then (λ answer. entry_for asked answer) he
 -- a log keeps its first 32 entries
 abbrev pub logged : List Entry → Option Entry → List Entry
 logged log None = log
-logged log (Some e) = if nat_lt (length log) 32 then log ++ e ∷ [] else log
+logged log (Some e) = if nat_lt (length log) LOG_LIMIT then log ++ e ∷ [] else log
 
 -- a body after one more poll, with this answer
 abbrev pub after_poll : Answer → Scripted → Scripted

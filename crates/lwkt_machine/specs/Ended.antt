@@ -8,6 +8,7 @@ use Rattle.lwkt_bank.specs.Seats.{BankId, bank_of, holding}
 use Rattle.lwkt_core.specs.declared.events.Event.{Event}
 use Rattle.lwkt_msg.specs.Desks.{Shelf, AreClosed, IsBookRoom}
 use Rattle.lwkt_port.specs.Posts.{IsSamePost}
+use Rattle.lwkt_cpu.specs.declared.stops.TheConstants.{STOP_EVENTS}
 use Rattle.lwkt_cpu.specs.Processors.{Processor, AllOver}
 use Rattle.lwkt_drive.specs.declared.driven.Driven.{Driven}
 use Rattle.lwkt_drive.specs.Appending.{AppendsStop}
@@ -54,7 +55,7 @@ pub record AreStoppedShort {B : Type 0} (olds news : List (Driven B)) : Type 0 w
 
 -- an empty list with room for the events of a stop
 abbrev pub IsStopRoom : Vec Event Global → Type 0
-IsStopRoom stop = (stop.items ≡ []) × (vec_len stop + 512 ≤ vec_capacity stop)
+IsStopRoom stop = (stop.items ≡ []) × (vec_len stop + STOP_EVENTS ≤ vec_capacity stop)
 
 -- a processor stops, and these events are what its seats at bank and book did; its trace and what was kept of its driving stay
 pub record EndsWith {B : Type 0} (old new : Driven B) (stop : Vec Event Global) : Type 0 where

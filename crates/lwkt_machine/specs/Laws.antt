@@ -4,6 +4,7 @@ use Rattle.lwkt_base.specs.declared.asks.Ask.{Ask}
 use Rattle.lwkt_base.specs.declared.asks.Ask.TheVariants.{Exit}
 use Rattle.lwkt_base.specs.declared.asks.Answer.{Answer}
 use Rattle.lwkt_base.specs.declared.entries.Entry.{Entry}
+use Rattle.lwkt_base.specs.declared.limits.TheConstants.{LOG_LIMIT}
 use Rattle.lwkt_script.specs.Logs.{nth_ask}
 use Rattle.lwkt_machine.specs.Bodies.{Scripted, unpolled, entry_for, IsPolled}
 
@@ -23,4 +24,4 @@ AsksAreTheScripts = (steps : List Ask) (repeat : ℕ) (polls : List (Answer × A
 
 -- a theorem: the log of a body is the first 32 entries that the answers to its asks make
 abbrev pub LogsAreFirstEntries : Type 0
-LogsAreFirstEntries = (steps : List Ask) (repeat : ℕ) (polls : List (Answer × Ask)) (b : Scripted) → ArePolls (unpolled steps repeat) polls b → b.log ≡ take 32 (entries_made None polls)
+LogsAreFirstEntries = (steps : List Ask) (repeat : ℕ) (polls : List (Answer × Ask)) (b : Scripted) → ArePolls (unpolled steps repeat) polls b → b.log ≡ take LOG_LIMIT (entries_made None polls)

@@ -1,6 +1,7 @@
 -- A machine (own).
 use Rattle.std.specs.Prelude.{◌≡◌, ◌⊎◌, ℕ, ◌+◌, ◌≤◌, List, [], ◌∷◌, length, map, All, IsSomeAnd, Option, Some, None, Vec, slice_get, slice_index_or}
 use Rattle.std.specs.declared.alloc.Global.{Global}
+use Rattle.lwkt_base.specs.declared.limits.TheConstants.{CPU_LIMIT}
 use Rattle.lwkt_base.specs.Law.{Obeys, IsTallied}
 use Rattle.lwkt_core.specs.Tokens.{length_of}
 use Rattle.lwkt_bank.specs.declared.views.Plan.{Plan}
@@ -59,7 +60,7 @@ AreKept kept lists = All (λ v. All kept v.items) lists
 pub record AreOneMachine {B : Type 0} (kept : B → Type 0) (seats : ℕ) (bank : BankId) (book : Shelf) (cpus : List (Processor B)) : Type 0 where
   pub seats_are : seats ≡ length cpus
   pub mails_are : book.cpus ≡ length cpus
-  pub few : length cpus ≤ 8
+  pub few : length cpus ≤ CPU_LIMIT
   pub each : All (IsOfMachine bank book) cpus
   pub numbered : AreNumbered cpus
   pub joined : AreAllJoined cpus

@@ -5,6 +5,7 @@ use Rattle.lwkt_base.specs.declared.faults.Fault.{Fault}
 use Rattle.lwkt_base.specs.declared.faults.Fault.TheVariants.{Memory, Limits, LawBroken}
 use Rattle.lwkt_base.specs.declared.opening_specs.MsgSpec.{MsgSpec}
 use Rattle.lwkt_base.specs.declared.opening_specs.TokSpec.{TokSpec}
+use Rattle.lwkt_base.specs.declared.limits.TheConstants.{THREAD_LIMIT}
 use Rattle.lwkt_core.specs.Opening.{AreWithin, AllOpenLawfully}
 use Rattle.lwkt_bank.specs.declared.seats.CpuSeat.{CpuSeat}
 use Rattle.lwkt_bank.specs.Gathered.{IsNew}
@@ -81,7 +82,7 @@ pub record IsOpenedMachine {B : Type 0} (tokens : List TokSpec) (messages : List
 -- an opening keeps the limits, those of bank and book, and at most 16 bodies for each processor
 pub record IsWithin {B : Type 0} (tokens : List TokSpec) (messages : List MsgSpec) (lists : List (Vec B Global)) : Type 0 where
   pub tables : AreWithin (length lists) tokens messages
-  pub few : All (λ v. length v.items ≤ 16) lists
+  pub few : All (λ v. length v.items ≤ THREAD_LIMIT) lists
 
 -- why no machine is opened: out of memory, of which nothing is claimed; or a limit is passed; or within the limits an opening row
 -- breaks its law

@@ -3,6 +3,7 @@ use Rattle.std.specs.Prelude.{◌≡◌, ℕ, ◌<◌, ◌≤◌, ◌==◌, List
 use Rattle.std.specs.declared.alloc.Global.{Global}
 use Rattle.lwkt_base.specs.declared.faults.Fault.{Fault}
 use Rattle.lwkt_base.specs.declared.faults.Fault.TheVariants.{Memory, Limits, LawBroken}
+use Rattle.lwkt_base.specs.declared.limits.TheConstants.{THREAD_LIMIT}
 use Rattle.lwkt_core.specs.Opening.{AreWithin, AllOpenLawfully}
 use Rattle.lwkt_script.specs.declared.scripts.Script.{Script}
 use Rattle.lwkt_script.specs.declared.scripts.ThreadSpec.{ThreadSpec}
@@ -46,7 +47,7 @@ pub record IsOpenedScript (script : Script) (m : Rig Scripted) : Type 0 where
 
 -- none of so many processors has more than 16 of these threads
 abbrev pub AreFew : ℕ → List ThreadSpec → Type 0
-AreFew cpus threads = (cpu : ℕ) → cpu < cpus → threads_on cpu threads ≤ 16
+AreFew cpus threads = (cpu : ℕ) → cpu < cpus → threads_on cpu threads ≤ THREAD_LIMIT
 
 -- the opening of a script keeps the limits, those of bank and book, and at most 16 threads for each processor
 pub record IsScriptWithin (script : Script) : Type 0 where

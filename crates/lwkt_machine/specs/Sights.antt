@@ -5,6 +5,7 @@ use Rattle.lwkt_core.specs.declared.events.Event.{Event}
 use Rattle.lwkt_port.specs.declared.lines.Lane.{Lane}
 use Rattle.lwkt_port.specs.Posts.{ChangesOne}
 use Rattle.lwkt_port.specs.Sights.{SeesAll, SeesOwnLine, LooksBeside, IsDelivered}
+use Rattle.lwkt_cpu.specs.declared.turns.TheConstants.{TURN_NOTES}
 use Rattle.lwkt_cpu.specs.Processors.{Processor}
 use Rattle.lwkt_cpu.specs.Sights.{SeesLane}
 use Rattle.lwkt_cpu.specs.Waking.{TakesMail}
@@ -44,4 +45,4 @@ KeepsLog old new = new ≡ record old { cpu = new.cpu }
 -- what each processor, also this one itself, had put into the queue of its lane to the one of this number is received by that one as it
 -- takes mail in, in order, unless its line keeps a note that found its port's queue full, or it took in the 16 notes of a turn
 abbrev pub AreDelivered : {B : Type 0} (cpu : ℕ) (olds : List (Processor B)) {p q : Processor B} {t u : Vec Event Global} → TakesMail p q t u → Type 0
-AreDelivered {B} cpu olds mail = (k : ℕ) (s : Processor B) (d e : Lane) → slice_get olds k ≡ Some s → IsDelivered 16 mail.count (slice_index_or s.post.lanes cpu d).out (slice_index_or mail.post.lanes k e)
+AreDelivered {B} cpu olds mail = (k : ℕ) (s : Processor B) (d e : Lane) → slice_get olds k ≡ Some s → IsDelivered TURN_NOTES mail.count (slice_index_or s.post.lanes cpu d).out (slice_index_or mail.post.lanes k e)

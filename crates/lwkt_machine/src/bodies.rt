@@ -34,13 +34,14 @@ pub struct ScriptBody {
 
 impl Model for ScriptBody {
     ghost use Rattle.std.specs.Prelude.{◌≡◌, ◌+◌, ◌%◌, ◌<◌, ◌≤◌, length, take, vec_capacity, option_and_then, slice_get};
+    ghost use Rattle.lwkt_base.specs.declared.limits.TheConstants.{LOG_LIMIT};
     ghost use Rattle.lwkt_machine.specs.Bodies.{Scripted, asks_of, total_asks};
 
     ghost Value = { Scripted };
 
     ghost view = { λ b. record { steps = take b.count b.asks.items; repeat = b.repeat; polls = b.polls; asked = option_and_then (slice_get b.asks.items) b.asked; heard = b.heard; log = b.log.items } };
 
-    ghost invariant = { λ b. (length b.log.items ≤ 32) × (32 ≤ vec_capacity b.log) × (b.asks.items ≡ asks_of (take b.count b.asks.items)) × (length b.asks.items ≡ b.count + 1) × (b.total ≡ total_asks b.repeat b.count) × (0 < b.count → b.step ≡ b.polls % b.count) };
+    ghost invariant = { λ b. (length b.log.items ≤ LOG_LIMIT) × (LOG_LIMIT ≤ vec_capacity b.log) × (b.asks.items ≡ asks_of (take b.count b.asks.items)) × (length b.asks.items ≡ b.count + 1) × (b.total ≡ total_asks b.repeat b.count) × (0 < b.count → b.step ≡ b.polls % b.count) };
 }
 
 // What an answer puts in the log, by the ask that it answers.
@@ -146,7 +147,7 @@ impl ScriptBody {
     /// The log, at most 32 entries, the first one first.
     pub fn log(&self) -> &[Entry]
         ensures log { result.now ≡ self.now.log }
-        ensures few { length self.now.log ≤ 32 }
+        ensures few { length self.now.log ≤ LOG_LIMIT }
     {
         self.log.as_slice()
     }
@@ -209,7 +210,7 @@ impl ScriptBody {
     // Keeps what an answer that was heard puts in the log, which has room for it.
     #[inline(never)]
     fn add_entry(&mut self)
-        requires { length self.old.log < 32 }
+        requires { length self.old.log < LOG_LIMIT }
         ensures { self.new ≡ record self.old { log = logged self.old.log (entry_heard self.old.asked self.old.heard) } }
     {
         if let Some(entry) = entry_heard(self.asked().copied(), &self.heard) {

@@ -11,14 +11,14 @@ use crate::machines::Machine;
 use crate::processors::seat_all;
 use crate::seatings::{Rest, origins_of};
 use crate::tables::{Tables, open_tables};
-use lwkt_base::limits::THREAD_LIMIT;
+use lwkt_base::limits::{CPU_LIMIT, THREAD_LIMIT};
 use lwkt_base::{Fault, MsgSpec, OutOfMemory, TokSpec};
 use lwkt_lane::{Lanes, open_lanes};
 use std::alloc::Global;
 
 // Whether no list has more bodies than a processor may have threads.
 fn are_few<B>(lists: &[Vec<B>]) -> bool
-    ensures { IsTrue result ↔ All (λ v. length v.items ≤ 16) lists.now }
+    ensures { IsTrue result ↔ All (λ v. length v.items ≤ THREAD_LIMIT) lists.now }
 {
     lists.iter().all(|list| list.len() <= THREAD_LIMIT)
 }
@@ -34,8 +34,8 @@ impl<B: Lasting + Drop> Machine<B> {
     ) -> Result<Self, OutOfMemory>
         requires bank { IsOpened (length bodies.items) tokens.now tables.bank tables.seats.items }
         requires book { AreOpened (length bodies.items) messages.now tables.book tables.mails.items }
-        requires cpus { length bodies.items ≤ 8 }
-        requires few { All (λ v. length v.items ≤ 16) bodies.items }
+        requires cpus { length bodies.items ≤ CPU_LIMIT }
+        requires few { All (λ v. length v.items ≤ THREAD_LIMIT) bodies.items }
         requires kept { AreKept B.kept bodies.items }
         ensures { IfOk result (λ machine. IsOpenedMachine tokens.now messages.now bodies.items machine) }
     {

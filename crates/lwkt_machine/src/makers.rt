@@ -2,6 +2,7 @@
 ghost use Rattle.std.specs.Prelude.{◌≡◌, ◌⊎◌, ◌<◌, ◌≤◌, ◌∷◌, [], length, Err, IfOk, OnErr, OnOk, None, Some};
 ghost use Rattle.lwkt_base.specs.Fault.{no_memory};
 
+use lwkt_base::limits::RECORD_LIMIT;
 use lwkt_base::memory::{from_array, from_slice};
 use lwkt_base::{Blob, Cells, CpuId, Fault, Law, MsgSpec, OutOfMemory, ThreadId, TokSpec};
 use std::alloc::Global;
@@ -72,8 +73,8 @@ pub fn tally(alloc: Global, first: u64) -> Result<TokSpec, OutOfMemory>
 /// Refused with `Limits` exactly if the record has more than 64 bytes.
 pub fn guarding(token: TokSpec, record_: &[u8]) -> Result<TokSpec, Fault>
     ensures ok { IfOk result (λ spec. spec ≡ record token { blob = Some record_.now }) }
-    ensures within { OnOk result (length record_.now ≤ 64) }
-    ensures only { OnErr result ((result ≡ Err Fault.Limits) × (64 < length record_.now)) }
+    ensures within { OnOk result (length record_.now ≤ RECORD_LIMIT) }
+    ensures only { OnErr result ((result ≡ Err Fault.Limits) × (RECORD_LIMIT < length record_.now)) }
 {
     if record_.len() > 64 {
         return Err(Fault::Limits);
@@ -99,8 +100,8 @@ pub fn guarding(token: TokSpec, record_: &[u8]) -> Result<TokSpec, Fault>
 /// Refused with `Limits` only if the record has more than 64 bytes, and with `Memory` if memory is refused.
 pub fn len(alloc: Global, cells: &[u64], record_: &[u8]) -> Result<TokSpec, Fault>
     ensures ok { IfOk result (λ spec. spec ≡ record { cells = cells.now; law = Law.Len; param = 0; generation = 0; blob = Some record_.now }) }
-    ensures within { OnOk result (length record_.now ≤ 64) }
-    ensures only { OnErr result ((result ≡ Err no_memory) ⊎ ((result ≡ Err Fault.Limits) × (64 < length record_.now))) }
+    ensures within { OnOk result (length record_.now ≤ RECORD_LIMIT) }
+    ensures only { OnErr result ((result ≡ Err no_memory) ⊎ ((result ≡ Err Fault.Limits) × (RECORD_LIMIT < length record_.now))) }
 {
     let token = token(alloc, cells, Law::Len, 0)?;
     guarding(token, record_)

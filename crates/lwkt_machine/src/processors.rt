@@ -9,6 +9,7 @@ ghost use Rattle.lwkt_machine.specs.Opened.{IsOpenedDriven, AreOpenedCpus};
 
 use crate::seatings::Rest;
 use lwkt_bank::Bank;
+use lwkt_base::limits::THREAD_LIMIT;
 use lwkt_base::memory::push;
 use lwkt_base::{MsgSpec, OutOfMemory, ThreadId};
 use lwkt_drive::Driven;
@@ -28,7 +29,7 @@ fn seat_next<B: Drop>(
     requires some { 0 < length rest.old.seats.items }
     requires rest { IsRest (id_of bank.now) book.now number rest.old }
     requires origins { origins.now ≡ map (λ (spec : MsgSpec). spec.origin) book.now.specs }
-    requires few { length bodies.items ≤ 16 }
+    requires few { length bodies.items ≤ THREAD_LIMIT }
     ensures ok { IfOk result (λ d. IsOpenedDriven (id_of bank.now) book.now number bodies.items d) }
     ensures lines { IfOk result (λ d. HasLines rest.old.outs.items rest.old.ins.items 0 d.cpu) }
     ensures left { AreLeft 1 rest.old rest.new }
@@ -52,7 +53,7 @@ pub(crate) fn seat_all<B: Drop>(
     requires rest { IsRest (id_of bank.now) book.now 0 rest.old }
     requires origins { origins.now ≡ map (λ (spec : MsgSpec). spec.origin) book.now.specs }
     requires lists { length lists.items ≡ length rest.old.seats.items }
-    requires few { All (λ v. length v.items ≤ 16) lists.items }
+    requires few { All (λ v. length v.items ≤ THREAD_LIMIT) lists.items }
     ensures as_many { IfOk result (λ cpus. length cpus.items ≡ length lists.items) }
     ensures each { IfOk result (λ cpus. AreOpenedCpus (id_of bank.now) book.now lists.items cpus.items) }
     ensures lines { IfOk result (λ cpus. HaveLines rest.old.outs.items rest.old.ins.items (processors cpus.items)) }

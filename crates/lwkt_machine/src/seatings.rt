@@ -8,6 +8,7 @@ ghost use Rattle.lwkt_cpu.specs.Wiring.{HasLines};
 ghost use Rattle.lwkt_machine.specs.Opened.{IsSeat, IsOpenedCpu};
 
 use lwkt_bank::{Bank, CpuSeat};
+use lwkt_base::limits::THREAD_LIMIT;
 use lwkt_base::memory::{push, with_capacity_for};
 use lwkt_base::{Fault, MsgSpec, OutOfMemory, ThreadId};
 use lwkt_cpu::Cpu;
@@ -82,7 +83,7 @@ fn seat_one<B: Drop>(
     requires desk { IsOpened number book.now ports.seat }
     requires new { AreNewPorts (length bodies.items) ports.ports }
     requires mails { ports.mails ≡ map (new_mail (desk_cpu ports.seat)) (map (λ (spec : MsgSpec). spec.origin) book.now.specs) }
-    requires few { length bodies.items ≤ 16 }
+    requires few { length bodies.items ≤ THREAD_LIMIT }
     requires threads { ports.threads ≡ length bodies.items }
     ensures ok { IfOk result (λ cpu. IsOpenedCpu (id_of bank.now) book.now number bodies.items cpu) }
     ensures lines { IfOk result (λ cpu. cpu.post.lanes ≡ ports.lanes) }
@@ -114,7 +115,7 @@ impl Rest {
         requires some { 0 < length self.old.seats.items }
         requires rest { IsRest (id_of bank.now) book.now number self.old }
         requires origins { origins.now ≡ map (λ (spec : MsgSpec). spec.origin) book.now.specs }
-        requires few { length bodies.items ≤ 16 }
+        requires few { length bodies.items ≤ THREAD_LIMIT }
         ensures ok { IfOk result (λ cpu. IsOpenedCpu (id_of bank.now) book.now number bodies.items cpu) }
         ensures lines { IfOk result (λ cpu. HasLines self.old.outs.items self.old.ins.items 0 cpu) }
         ensures left { AreLeft 1 self.old self.new }

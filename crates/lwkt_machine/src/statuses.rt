@@ -5,6 +5,7 @@ ghost use Rattle.lwkt_cpu.specs.Processors.{is_running};
 
 use crate::lasting::Lasting;
 use crate::machines::Machine;
+use lwkt_base::limits::LIST_LIMIT;
 use lwkt_base::memory::push;
 use lwkt_base::{CpuId, OutOfMemory, Ref, ThreadId, ThreadState, TokList};
 use lwkt_cpu::Cpu;
@@ -24,7 +25,7 @@ pub struct ThreadStatus {
 // The list of these references.
 fn list_of(refs: &[Ref]) -> TokList
     requires lawful { IsLawfulList refs.now }
-    requires few { length refs.now ≤ 32 }
+    requires few { length refs.now ≤ LIST_LIMIT }
     ensures { result ≡ refs.now }
 {
     let mut list = TokList::new();

@@ -31,7 +31,7 @@ fn turn_traced<B: Lasting>(
 ) -> Turned
     requires there { number < length cpus.old }
     requires whole { AreOneMachine B.kept (cpus_of bank.now) (id_of bank.now) book.now (processors cpus.old) }
-    requires room { vec_len trace.old + 4096 ≤ vec_capacity trace.old }
+    requires room { vec_len trace.old + TURN_EVENTS ≤ vec_capacity trace.old }
     ensures turns { (before : Vector Event Global) → trace.old.items ≡ before.items → vec_len trace.old ≡ vec_len before → vec_capacity before ≤ vec_capacity trace.old → TurnsAt B.polled number (rig_of (id_of bank.now) book.now cpus.old) (rig_of (id_of bank.now) book.now cpus.new) before trace.new result }
     ensures logs { AllZip KeepsLog cpus.old cpus.new }
     ensures whole { AreOneMachine B.kept (cpus_of bank.now) (id_of bank.now) book.now (processors cpus.new) }

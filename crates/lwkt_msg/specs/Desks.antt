@@ -28,6 +28,7 @@ use Rattle.lwkt_base.specs.declared.owners.Owner.TheVariants.{Rest, Out, With, B
 use Rattle.lwkt_base.specs.declared.message_words.MsgWord.{MsgWord}
 use Rattle.lwkt_base.specs.declared.message_words.MsgState.{MsgState}
 use Rattle.lwkt_base.specs.declared.message_words.MsgState.TheVariants as state
+use Rattle.lwkt_base.specs.declared.limits.TheConstants.{CPU_LIMIT, MESSAGE_LIMIT}
 use Rattle.lwkt_base.specs.MessageWord.{message_word, MessageFits}
 use Rattle.lwkt_msg.specs.Hands.{AreHands}
 use Rattle.lwkt_msg.specs.Book.{Mail, Knows, mail_at}
@@ -61,7 +62,7 @@ pub record IsMsgSeat (cpu : CpuId) (cpus messages : ℕ) (place : Seat Rec View)
 pub record IsMsgBook (cpus messages : ℕ) (table : TableId) (key : Key) (clerk : Seat Rec View) : Type 0 where
   pub words : table.words ≡ 16 * messages + 1
   pub slots : table.slots ≡ 4 * messages
-  pub few : messages ≤ 64
+  pub few : messages ≤ MESSAGE_LIMIT
   pub cpus_is : cpus ≡ key.cpus
   pub messages_is : messages ≡ length key.specs.items
   pub clerk_table : clerk.table_id ≡ table
@@ -192,8 +193,8 @@ pub record IsHanding (cpu : CpuId) (upto : ℕ) (place : Seat Rec View) : Type 0
   pub kind : place.me.0.kind ≡ Of cpu
   pub words : place.table_id.words ≡ 16 * length place.me.0.specs + 1
   pub slots : place.table_id.slots ≡ 4 * length place.me.0.specs
-  pub few : length place.me.0.specs ≤ 64
-  pub cpus : place.me.0.cpus ≤ 8
+  pub few : length place.me.0.specs ≤ MESSAGE_LIMIT
+  pub cpus : place.me.0.cpus ≤ CPU_LIMIT
   pub there : cpu.0 < place.me.0.cpus
   pub within : AreWithin place.me.0.cpus [] place.me.0.specs
   pub hands : AreHands place.me.0 cpu.0 place.me.1
@@ -211,8 +212,8 @@ pub record IsClerk (made cpus : ℕ) (specs : List MsgSpec) (place : Seat Rec Vi
   pub no_chapters : place.me.0.chapters ≡ []
   pub words : place.table_id.words ≡ 16 * length specs + 1
   pub slots : place.table_id.slots ≡ 4 * length specs
-  pub few : length specs ≤ 64
-  pub few_cpus : cpus ≤ 8
+  pub few : length specs ≤ MESSAGE_LIMIT
+  pub few_cpus : cpus ≤ CPU_LIMIT
   pub within : AreWithin cpus [] specs
 
 -- the words of a table that is opened with these messages

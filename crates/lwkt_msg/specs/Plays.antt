@@ -4,6 +4,7 @@ use Rattle.atomic_table.specs.declared.shared.Seat.{Seat}
 use Rattle.lwkt_base.specs.declared.names.CpuId.{CpuId}
 use Rattle.lwkt_base.specs.declared.records.Rec.{Rec}
 use Rattle.lwkt_base.specs.declared.message_words.MsgWord.{MsgWord}
+use Rattle.lwkt_base.specs.declared.limits.TheConstants.{CPU_LIMIT, MESSAGE_LIMIT}
 use Rattle.lwkt_base.specs.MessageWord.{message_word, MessageFits}
 use Rattle.lwkt_table.specs.declared.seats.Deed.{Deed}
 use Rattle.lwkt_table.specs.declared.seats.SeatKind.TheVariants.{Of}
@@ -139,8 +140,8 @@ pub record IsSat (cpu : CpuId) (place : Seat Rec View) : Type 0 where
   pub kind : place.me.0.kind ≡ Of cpu
   pub words : place.table_id.words ≡ 16 * length place.me.0.specs + 1
   pub slots : place.table_id.slots ≡ 4 * length place.me.0.specs
-  pub few : length place.me.0.specs ≤ 64
-  pub cpus : place.me.0.cpus ≤ 8
+  pub few : length place.me.0.specs ≤ MESSAGE_LIMIT
+  pub cpus : place.me.0.cpus ≤ CPU_LIMIT
   pub there : cpu.0 < place.me.0.cpus
   pub within : AreWithin place.me.0.cpus [] place.me.0.specs
   pub had : (m : ℕ) → m < length place.me.0.specs → IsOwn place.me.0 cpu.0 m → (at place.me.0 m).had ≡ true

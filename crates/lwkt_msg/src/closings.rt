@@ -12,6 +12,7 @@ use crate::plays::{CutOff, TakeBack};
 use crate::rules::{Place, Top};
 use crate::seats::MsgSeat;
 use atomic_table::Closed;
+use lwkt_base::limits::MESSAGE_LIMIT;
 use lwkt_base::{MsgEnd, MsgState, MsgWord, Owner, Rec};
 use std::alloc::Global;
 
@@ -69,7 +70,7 @@ pub(crate) fn take_all(top: &Top, clerk: &mut Place, cpus: usize, seats: Vec<Msg
 // What the closing words show, in this room.
 fn read_ends(closed: &Closed<Rec, Global>, messages: usize, room: Vec<MsgEnd>) -> Vec<MsgEnd>
     requires words { IsFull closed.now.words × (slots_len closed.now.words ≡ 16 * messages + 1) }
-    requires few { messages ≤ 64 }
+    requires few { messages ≤ MESSAGE_LIMIT }
     requires none { room.items ≡ [] }
     requires room { messages ≤ vec_capacity room }
     ensures { AreShown messages (slots_items closed.now.words) result.items }
@@ -100,7 +101,7 @@ pub(crate) fn read_and_free(
 ) -> Vec<MsgEnd>
     requires words { IsFull closed.words × (slots_len closed.words ≡ 16 * messages + 1) }
     requires slots { IsFull closed.slots }
-    requires few { messages ≤ 64 }
+    requires few { messages ≤ MESSAGE_LIMIT }
     requires none { room.items ≡ [] }
     requires room { messages ≤ vec_capacity room }
     ensures { AreShown messages (slots_items closed.words) result.items }

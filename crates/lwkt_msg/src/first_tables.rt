@@ -10,6 +10,7 @@ use crate::places::{slots_of, word_of_message, words_of};
 use crate::plays::{HandOut, MakeSeat};
 use crate::rules::{Place, Top};
 use crate::seats::MsgSeat;
+use lwkt_base::limits::MESSAGE_LIMIT;
 use lwkt_base::memory::{from_slice, push, resize};
 use lwkt_base::{CpuId, MsgSpec, OutOfMemory, Rec};
 use std::alloc::Global;
@@ -40,7 +41,7 @@ pub(crate) fn opening_words(
 
 // The slots of a table of so many messages.
 pub(crate) fn blank_records(alloc: Global, messages: usize) -> Result<Vec<Rec>, OutOfMemory>
-    requires { messages ≤ 64 }
+    requires { messages ≤ MESSAGE_LIMIT }
     ensures { IfOk result (λ v. v.items ≡ replicate (4 * messages) no_rec) }
 {
     let mut records = Vec::new(alloc);

@@ -2,6 +2,8 @@
 ghost use Rattle.std.specs.Prelude.{◌≡◌, ℕ, ◌+◌, ◌*◌, ◌≤◌};
 ghost use Rattle.lwkt_msg.specs.Views.{word_at, slot_at};
 
+use lwkt_base::limits::MESSAGE_LIMIT;
+
 // How far apart the words of two messages lie, and their records.
 const WORD_STRIDE: usize = 16;
 
@@ -9,7 +11,7 @@ const SLOT_STRIDE: usize = 4;
 
 // The place of a message's word.
 pub(crate) fn word_of_message(m: usize) -> usize
-    requires { m ≤ 64 }
+    requires { m ≤ MESSAGE_LIMIT }
     ensures { result ≡ word_at m }
 {
     WORD_STRIDE * m + 1
@@ -17,7 +19,7 @@ pub(crate) fn word_of_message(m: usize) -> usize
 
 // The slot of a message's record.
 pub(crate) fn slot_of_message(m: usize) -> usize
-    requires { m ≤ 64 }
+    requires { m ≤ MESSAGE_LIMIT }
     ensures { result ≡ slot_at m }
 {
     SLOT_STRIDE * m
@@ -25,14 +27,14 @@ pub(crate) fn slot_of_message(m: usize) -> usize
 
 // How many words, and how many slots, the table of so many messages has.
 pub(crate) fn words_of(messages: usize) -> usize
-    requires { messages ≤ 64 }
+    requires { messages ≤ MESSAGE_LIMIT }
     ensures { result ≡ 16 * messages + 1 }
 {
     word_of_message(messages)
 }
 
 pub(crate) fn slots_of(messages: usize) -> usize
-    requires { messages ≤ 64 }
+    requires { messages ≤ MESSAGE_LIMIT }
     ensures { result ≡ 4 * messages }
 {
     slot_of_message(messages)

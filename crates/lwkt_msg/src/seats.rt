@@ -7,6 +7,7 @@ use crate::calls::Sending;
 use crate::rules::Place;
 use crate::views::View;
 use atomic_table::Seat;
+use lwkt_base::limits::{CPU_LIMIT, MESSAGE_LIMIT};
 use lwkt_base::{Call, CpuId, Fault, Flags, MsgId, Rec};
 use std::marker::Model;
 
@@ -74,7 +75,7 @@ impl MsgSeat {
     /// How many messages the book has, 0 to 64.
     pub fn messages(&self) -> usize
         ensures count { result ≡ messages_of self.now }
-        ensures few { result ≤ 64 }
+        ensures few { result ≤ MESSAGE_LIMIT }
     {
         self.messages
     }
@@ -82,7 +83,7 @@ impl MsgSeat {
     /// How many processors the book has seats for, 1 to 8.
     pub fn cpus(&self) -> usize
         ensures count { result ≡ cpus_of self.now }
-        ensures few { result ≤ 8 }
+        ensures few { result ≤ CPU_LIMIT }
     {
         self.cpus
     }

@@ -15,6 +15,7 @@ ghost use Rattle.lwkt_msg.specs.Plays.{IsAfter, Looked, HasWon, HasLost, HasFetc
 use crate::places::{slot_of_message, word_of_message};
 use crate::plays::{Abort, DropMsg, Look, Reap, Reply, Send, Take};
 use crate::rules::{Place, Top};
+use lwkt_base::limits::MESSAGE_LIMIT;
 use lwkt_base::{CpuId, MsgWord, Rec};
 
 // The bit of the request to abort in a message's word.
@@ -35,7 +36,7 @@ pub(crate) fn look(top: &Top, place: &mut Place, m: usize) -> u64
 // The record of a message, which lies in front.
 fn front(top: &Top, place: &mut Place, m: usize) -> Rec
     requires table { place.old.table_id ≡ top.now.table_id }
-    requires few { m < 64 }
+    requires few { m < MESSAGE_LIMIT }
     requires held { (rec : Rec) × IsInFront place.old m rec }
     ensures seat { IsSameSeat place.old place.new × (place.new.me ≡ place.old.me) }
     ensures value { IsInFront place.old m result }

@@ -1,4 +1,5 @@
 use Rattle.std.specs.Prelude.{◌≡◌, ℕ, ◌<◌, ◌≤◌, true, false, List, length, slice_index_or, None, IsSome}
+use Rattle.lwkt_base.specs.declared.limits.TheConstants.{MESSAGE_LIMIT}
 use Rattle.lwkt_msg.specs.Desks.{Desk, desk_cpu, cpus_of, messages_of, entry}
 use Rattle.lwkt_msg.specs.Views.{spec_at}
 use Rattle.lwkt_msg.specs.Hands.{IsOwn}
@@ -25,5 +26,5 @@ pub record IsMail (d : Desk) (m : ℕ) (mail : Mail) : Type 0 where
 -- the same of all messages of the book
 pub record AreMails (d : Desk) (mails : List Mail) : Type 0 where
   pub as_many : length mails ≡ messages_of d
-  pub few : length mails ≤ 64
+  pub few : length mails ≤ MESSAGE_LIMIT
   pub each : (m : ℕ) → m < length mails → IsMail d m (kept_mail_at mails m)

@@ -3,6 +3,7 @@ use Rattle.std.specs.Prelude.{◌≡◌, ℕ, ◌<◌, ◌≤◌, ◌==◌, nat_
 use Rattle.lwkt_base.specs.declared.names.CpuId.{CpuId}
 use Rattle.lwkt_base.specs.declared.names.ThreadId.{ThreadId}
 use Rattle.lwkt_base.specs.declared.opening_specs.MsgSpec.{MsgSpec}
+use Rattle.lwkt_base.specs.declared.limits.TheConstants.{THREAD_LIMIT}
 use Rattle.lwkt_lane.specs.declared.ins.LaneIn.{LaneIn}
 use Rattle.lwkt_lane.specs.declared.outs.LaneOut.{LaneOut}
 use Rattle.lwkt_msg.specs.Desks.{Desk, desk_cpu, cpus_of, messages_of, entry, opened_entry}
@@ -10,6 +11,7 @@ use Rattle.lwkt_msg.specs.Views.{spec_at}
 use Rattle.lwkt_port.specs.declared.lines.Lane.{Lane}
 use Rattle.lwkt_port.specs.declared.mails.Mail.{Mail}
 use Rattle.lwkt_port.specs.declared.queues.Port.{Port}
+use Rattle.lwkt_port.specs.declared.opened_ports.TheConstants.{PORTS}
 use Rattle.lwkt_port.specs.Posts.{Post}
 use Rattle.lwkt_port.specs.Queues.{queue_of}
 
@@ -26,7 +28,7 @@ AreNew threads ports = (number : ℕ) (port : Port) → slice_get ports number �
 
 -- the 16 ports as they are opened
 pub record AreNewPorts (threads : ℕ) (ports : List Port) : Type 0 where
-  pub as_many : length ports ≡ 16
+  pub as_many : length ports ≡ PORTS
   pub new : AreNew threads ports
 
 -- the line of two ends
@@ -38,7 +40,7 @@ ArePaired outs ins lanes = lanes ≡ map new_line (zip outs ins)
 
 -- the limits are kept: at most 16 threads, one lane each way for each processor, one origin for each message
 pub record KeepLimits (seat : Desk) (outs : List LaneOut) (ins : List LaneIn) (origins : List ThreadId) (threads : ℕ) : Type 0 where
-  pub few : threads ≤ 16
+  pub few : threads ≤ THREAD_LIMIT
   pub outs_are : length outs ≡ cpus_of seat
   pub ins_are : length ins ≡ cpus_of seat
   pub origins_are : length origins ≡ messages_of seat

@@ -1,12 +1,14 @@
 use Rattle.std.specs.Prelude.{◌≡◌, ℕ, ◌<◌, ◌≤◌, List, length, slice_index_or, slice_set, map, All, IfSome, Option, Some, None, Vec, vec_len}
 use Rattle.std.specs.Coded.{×_prop, Unit-prop, le_prop}
 use Rattle.std.specs.declared.alloc.Global.{Global}
+use Rattle.lwkt_base.specs.declared.limits.TheConstants.{THREAD_LIMIT}
 use Rattle.lwkt_lane.specs.declared.notes.Note.{Note}
 use Rattle.lwkt_lane.specs.Lane.{LaneId, out_lane, in_lane}
 use Rattle.lwkt_msg.specs.Desks.{Desk, cpus_of, IsSameDesk}
 use Rattle.lwkt_port.specs.declared.lines.Lane.{Lane}
 use Rattle.lwkt_port.specs.declared.mails.Mail.{Mail}
 use Rattle.lwkt_port.specs.declared.queues.Port.{Port}
+use Rattle.lwkt_port.specs.declared.opened_ports.TheConstants.{PORTS}
 use Rattle.lwkt_core.specs.declared.events.Event.{Event}
 use Rattle.lwkt_port.specs.Lines.{HasNoneInHand}
 use Rattle.lwkt_port.specs.Mails.{AreMails}
@@ -40,8 +42,8 @@ have_kept-prop n lanes = all-prop (KeepsNamed n) (λ line. keeps_named-prop n li
 -- a processor's ports are in order: lanes to and from each processor, 16 ports, and what is kept of each message fits the seat
 pub record IsPost (p : Post) : Type 0 where
   pub lanes_are : length p.lanes ≡ cpus_of p.seat
-  pub ports_are : length p.ports ≡ 16
-  pub few : p.threads ≤ 16
+  pub ports_are : length p.ports ≡ PORTS
+  pub few : p.threads ≤ THREAD_LIMIT
   pub mails_are : AreMails p.seat p.mails
   pub queued : All (HasNamed (length p.mails)) p.ports
   pub kept : All (KeepsNamed (length p.mails)) p.lanes

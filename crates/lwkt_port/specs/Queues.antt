@@ -4,6 +4,8 @@ use Rattle.std.specs.Prelude.{◌≡◌, ◌⊎◌, ℕ, ◌<◌, Bool, true, fa
 use Rattle.std.specs.Coded.{Coded-set, coded_bool, ×_prop, Π_prop, →_prop, le_prop}
 use Rattle.lwkt_lane.specs.declared.notes.Note.{Note}
 use Rattle.lwkt_port.specs.declared.queues.Port.{Port}
+use Rattle.lwkt_port.specs.declared.note_queues.TheConstants.{QUEUE_LIMIT}
+use Rattle.lwkt_port.specs.declared.opened_ports.TheConstants.{PORTS}
 
 -- the urgent notes of a port, and the others, the oldest first
 abbrev pub urgent_of : Port → List Note
@@ -18,15 +20,15 @@ queue_of port = urgent_of port ++ ordinary_of port
 
 -- a note was put at the end of a list of notes that had room, or found it full
 abbrev pub IsPut : Note → List Note → List Note → Bool → Type 0
-IsPut note queue queue' true = (queue' ≡ queue ++ note ∷ []) × (length queue < 64)
-IsPut note queue queue' false = (queue' ≡ queue) × (length queue ≡ 64)
+IsPut note queue queue' true = (queue' ≡ queue ++ note ∷ []) × (length queue < QUEUE_LIMIT)
+IsPut note queue queue' false = (queue' ≡ queue) × (length queue ≡ QUEUE_LIMIT)
 
 -- a note was put at the end of the queue of its class, or found that full; the other queue stays
 abbrev pub IsQueuedAs : Bool → Note → Port → Port → Bool → Type 0
-IsQueuedAs true note port port' true = (urgent_of port' ≡ urgent_of port ++ note ∷ []) × (length (urgent_of port) < 64) × (ordinary_of port' ≡ ordinary_of port) × (port'.closed ≡ port.closed)
-IsQueuedAs false note port port' true = (ordinary_of port' ≡ ordinary_of port ++ note ∷ []) × (length (ordinary_of port) < 64) × (urgent_of port' ≡ urgent_of port) × (port'.closed ≡ port.closed)
-IsQueuedAs true note port port' false = (port' ≡ port) × (length (urgent_of port) ≡ 64)
-IsQueuedAs false note port port' false = (port' ≡ port) × (length (ordinary_of port) ≡ 64)
+IsQueuedAs true note port port' true = (urgent_of port' ≡ urgent_of port ++ note ∷ []) × (length (urgent_of port) < QUEUE_LIMIT) × (ordinary_of port' ≡ ordinary_of port) × (port'.closed ≡ port.closed)
+IsQueuedAs false note port port' true = (ordinary_of port' ≡ ordinary_of port ++ note ∷ []) × (length (ordinary_of port) < QUEUE_LIMIT) × (urgent_of port' ≡ urgent_of port) × (port'.closed ≡ port.closed)
+IsQueuedAs true note port port' false = (port' ≡ port) × (length (urgent_of port) ≡ QUEUE_LIMIT)
+IsQueuedAs false note port port' false = (port' ≡ port) × (length (ordinary_of port) ≡ QUEUE_LIMIT)
 
 abbrev pub IsQueued : Note → Port → Port → Bool → Type 0
 IsQueued note port port' done = IsQueuedAs note.urgent note port port' done
@@ -48,7 +50,7 @@ abbrev pub NamesMessage : ℕ → Note → Type 0
 NamesMessage n note = note.msg.0 < n
 
 abbrev pub NamesBoth : ℕ → Note → Type 0
-NamesBoth n note = (note.msg.0 < n) × (note.port < 16)
+NamesBoth n note = (note.msg.0 < n) × (note.port < PORTS)
 
 -- a note of a class names one of so many messages
 abbrev pub Belongs : ℕ → Bool → Note → Type 0

@@ -13,6 +13,7 @@ use Rattle.lwkt_msg.specs.Desks.{desk_cpu, cpus_of}
 use Rattle.lwkt_port.specs.declared.deeds.Sending.{Sending}
 use Rattle.lwkt_port.specs.declared.lines.Lane.{Lane}
 use Rattle.lwkt_port.specs.declared.mails.Mail.{Mail}
+use Rattle.lwkt_port.specs.declared.opened_ports.TheConstants.{PORTS}
 use Rattle.lwkt_port.specs.Deeds.{Sends, IsRefused, Replies}
 use Rattle.lwkt_port.specs.Lines.{IsRoomed, HasPosted}
 use Rattle.lwkt_port.specs.Mails.{kept_mail_at}
@@ -29,7 +30,7 @@ answer_note msg mail = record { round = mail.round; msg = msg; port = mail.origi
 
 -- there may be such a port: the processor is there, and the thread's number is that of a port
 abbrev pub IsPortName : ℕ → ThreadId → Type 0
-IsPortName cpus to = (to.cpu.0 < cpus) × (to.thread < 16)
+IsPortName cpus to = (to.cpu.0 < cpus) × (to.thread < PORTS)
 
 -- the thread may send the message: it is its own, and at rest
 abbrev pub MaySend : Sending → List Mail → Type 0

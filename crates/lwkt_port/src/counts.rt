@@ -4,8 +4,10 @@ ghost use Rattle.lwkt_lane.specs.Lane.{in_hand};
 ghost use Rattle.lwkt_port.specs.Counts.{owed_count, in_hand_count, kept_count, queued_count};
 
 use crate::lines::{Lane, has_none_in_hand};
+use crate::opened_ports::PORTS;
 use crate::posts::Ports;
 use crate::queues::{Port, count};
+use lwkt_base::limits::MESSAGE_LIMIT;
 
 /// How many notes the ports of a processor's threads have, by where these are.
 #[derive(Clone, Copy, PartialEq, Eq)]
@@ -27,7 +29,7 @@ fn has_in_hand(line: &Lane) -> bool
 
 // How many notes the queues have.
 fn queued(ports: &[Port]) -> usize
-    requires few { length ports.now ≤ 16 }
+    requires few { length ports.now ≤ PORTS }
     ensures { result ≡ queued_count ports.now }
 {
     ports.iter().map(count).sum()
@@ -37,7 +39,7 @@ impl Ports {
     /// How many messages are owed a reply, 0 to 64.
     pub fn owed(&self) -> usize
         ensures count { result ≡ owed_count self.now.mails }
-        ensures few { result ≤ 64 }
+        ensures few { result ≤ MESSAGE_LIMIT }
     {
         let mails = &self.office.counters.room.mails;
         mails.iter().filter(|mail| mail.owed.is_some()).count()

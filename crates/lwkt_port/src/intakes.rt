@@ -18,6 +18,7 @@ use crate::offices::Office;
 use crate::posts::Ports;
 use lwkt_base::MsgId;
 use lwkt_core::Event;
+use lwkt_core::events::CALL_EVENTS;
 use lwkt_msg::MsgBook;
 
 // Moves the note in hand of each sending end on.
@@ -121,11 +122,11 @@ impl Office {
         limit: usize,
         trace: &mut Vec<Event>,
     ) -> usize
-        requires ready { CanStep 256 self.old.counters.room book.now trace.old }
+        requires ready { CanStep CALL_EVENTS self.old.counters.room book.now trace.old }
         requires owing { OwesNone self.old.counters.room.mails.items }
         requires front { (before : List Lane) × IsFronted limit first (work self.old.counters.room trace.old) self.old.counters.ports.items before self.old.lanes.items }
         ensures takes { (before : List Lane) → IsFronted limit first (work self.old.counters.room trace.old) self.old.counters.ports.items before self.old.lanes.items → All HasNoneInHand before → TakesIn limit (record { work = work self.old.counters.room trace.old; lanes = before; ports = self.old.counters.ports.items }) (hall self.new trace.new) result }
-        ensures grew_so { MailroomGrew 256 self.old.counters.room trace.old self.new.counters.room trace.new }
+        ensures grew_so { MailroomGrew CALL_EVENTS self.old.counters.room trace.old self.new.counters.room trace.new }
     {
         let taken = self
             .counters
@@ -143,9 +144,9 @@ impl Office {
     #[cold]
     #[inline(never)]
     fn take_all(&mut self, book: &MsgBook, limit: usize, trace: &mut Vec<Event>) -> usize
-        requires ready { CanStep 256 self.old.counters.room book.now trace.old }
+        requires ready { CanStep CALL_EVENTS self.old.counters.room book.now trace.old }
         ensures takes { TakesIn limit (hall self.old trace.old) (hall self.new trace.new) result }
-        ensures grew_so { MailroomGrew 256 self.old.counters.room trace.old self.new.counters.room trace.new }
+        ensures grew_so { MailroomGrew CALL_EVENTS self.old.counters.room trace.old self.new.counters.room trace.new }
     {
         make_room(&mut self.lanes);
         self.pay_owed(book, trace);
@@ -162,9 +163,9 @@ impl Office {
     // Takes the notes in that came over the lanes.
     #[inline(always)]
     fn take_in(&mut self, book: &MsgBook, limit: usize, trace: &mut Vec<Event>) -> usize
-        requires ready { CanStep 256 self.old.counters.room book.now trace.old }
+        requires ready { CanStep CALL_EVENTS self.old.counters.room book.now trace.old }
         ensures takes { TakesIn limit (hall self.old trace.old) (hall self.new trace.new) result }
-        ensures grew_so { MailroomGrew 256 self.old.counters.room trace.old self.new.counters.room trace.new }
+        ensures grew_so { MailroomGrew CALL_EVENTS self.old.counters.room trace.old self.new.counters.room trace.new }
     {
         if self.owing || self.counters.uncleared || self.holding {
             return self.take_all(book, limit, trace);
@@ -188,11 +189,11 @@ impl Ports {
     #[inline(always)]
     pub fn take_in(&mut self, book: &MsgBook, limit: usize, trace: &mut Vec<Event>) -> usize
         requires table { self.old.seat.table ≡ book.now.table }
-        requires room { vec_len trace.old + 256 ≤ vec_capacity trace.old }
+        requires room { vec_len trace.old + CALL_EVENTS ≤ vec_capacity trace.old }
         ensures takes { PostTakesIn limit self.old self.new trace.old trace.new result }
         ensures within { result ≤ limit }
         ensures same { IsSamePost self.old self.new }
-        ensures grew { Grew (desk_cpu self.old.seat) 256 trace.old trace.new }
+        ensures grew { Grew (desk_cpu self.old.seat) CALL_EVENTS trace.old trace.new }
         ensures traced { TracesDeeds self.old.seat self.new.seat trace.old.items trace.new.items }
     {
         self.office.take_in(book, limit, trace)
@@ -204,7 +205,7 @@ impl Ports {
     /// That the trace has room for 256 events is the caller's condition.
     pub fn send_owed(&mut self, book: &MsgBook, trace: &mut Vec<Event>)
         requires table { self.old.seat.table ≡ book.now.table }
-        requires room { vec_len trace.old + 256 ≤ vec_capacity trace.old }
+        requires room { vec_len trace.old + CALL_EVENTS ≤ vec_capacity trace.old }
         ensures pays { PostPays self.old self.new trace.old trace.new }
         ensures same { IsSamePost self.old self.new }
         ensures grew { Grew (desk_cpu self.old.seat) 64 trace.old trace.new }

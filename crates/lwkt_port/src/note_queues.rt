@@ -21,12 +21,13 @@ pub struct NoteQueue {
 impl Model for NoteQueue {
     ghost use Rattle.std.specs.Prelude.{◌≡◌, List};
     ghost use Rattle.lwkt_lane.specs.declared.notes.Note.{Note};
+    ghost use Rattle.lwkt_port.specs.declared.note_queues.TheConstants.{QUEUE_LIMIT};
 
     ghost Value = { List Note };
 
     ghost view = { λ q. q.ring.items };
 
-    ghost invariant = { λ q. q.ring.capacity ≡ 64 };
+    ghost invariant = { λ q. q.ring.capacity ≡ QUEUE_LIMIT };
 }
 
 impl NoteQueue {
@@ -42,7 +43,7 @@ impl NoteQueue {
     #[inline(always)]
     pub(crate) fn len(&self) -> usize
         ensures count { result ≡ length self.now }
-        ensures few { result ≤ 64 }
+        ensures few { result ≤ QUEUE_LIMIT }
     {
         self.ring.len()
     }

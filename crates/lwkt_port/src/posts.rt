@@ -4,6 +4,7 @@ ghost use Rattle.std.specs.Prelude.{◌≡◌, ◌≤◌};
 use crate::counters::Counters;
 use crate::mailrooms::Mailroom;
 use crate::offices::Office;
+use lwkt_base::limits::{CPU_LIMIT, THREAD_LIMIT};
 use lwkt_msg::MsgSeat;
 use std::marker::Model;
 
@@ -16,13 +17,14 @@ pub struct Ports {
 
 impl Model for Ports {
     ghost use Rattle.std.specs.Prelude.{◌≤◌};
+    ghost use Rattle.lwkt_base.specs.declared.limits.TheConstants.{THREAD_LIMIT};
     ghost use Rattle.lwkt_port.specs.Posts.{Post};
 
     ghost Value = { Post };
 
     ghost view = { λ p. record { seat = p.office.counters.room.seat; lanes = p.office.lanes.items; ports = p.office.counters.ports.items; mails = p.office.counters.room.mails.items; threads = p.threads } };
 
-    ghost invariant = { λ p. p.threads ≤ 16 };
+    ghost invariant = { λ p. p.threads ≤ THREAD_LIMIT };
 }
 
 impl Ports {
@@ -32,7 +34,7 @@ impl Ports {
     /// How many threads have a port, 0 to 16.
     pub fn threads(&self) -> usize
         ensures count { result ≡ self.now.threads }
-        ensures few { result ≤ 16 }
+        ensures few { result ≤ THREAD_LIMIT }
         ensures order { IsPost self.now }
     {
         self.threads
@@ -41,7 +43,7 @@ impl Ports {
     /// How many processors the book has seats for, 1 to 8.
     pub fn cpus(&self) -> usize
         ensures count { result ≡ cpus_of self.now.seat }
-        ensures few { result ≤ 8 }
+        ensures few { result ≤ CPU_LIMIT }
     {
         self.office.counters.room.seat.cpus()
     }

@@ -14,6 +14,7 @@ use crate::offices::Office;
 use crate::posts::Ports;
 use lwkt_base::{Fault, MsgId, Rec};
 use lwkt_core::Event;
+use lwkt_core::events::CALL_EVENTS;
 use lwkt_lane::{Note, NoteKind};
 use lwkt_msg::MsgBook;
 
@@ -118,7 +119,7 @@ impl Ports {
         trace: &mut Vec<Event>,
     ) -> Result<(), Fault>
         requires table { self.old.seat.table ≡ book.now.table }
-        requires room { vec_len trace.old + 256 ≤ vec_capacity trace.old }
+        requires room { vec_len trace.old + CALL_EVENTS ≤ vec_capacity trace.old }
         ensures replied { OnOk result (PostReplies thread msg error outcome self.old self.new trace.old trace.new) }
         ensures refused { IfErr result (λ fault. PostRefusesReply thread msg error outcome self.old self.new trace.old trace.new fault) }
         ensures same { IsSamePost self.old self.new }

@@ -15,6 +15,7 @@ use crate::offices::Office;
 use crate::posts::Ports;
 use lwkt_base::{Call, CpuId, Fault, Flags, MsgId, ThreadId};
 use lwkt_core::Event;
+use lwkt_core::events::CALL_EVENTS;
 use lwkt_lane::{Note, NoteKind};
 use lwkt_msg::{MsgBook, MsgSeat};
 
@@ -125,7 +126,7 @@ impl Ports {
         trace: &mut Vec<Event>,
     ) -> Result<(), Fault>
         requires table { self.old.seat.table ≡ book.now.table }
-        requires room { vec_len trace.old + 256 ≤ vec_capacity trace.old }
+        requires room { vec_len trace.old + CALL_EVENTS ≤ vec_capacity trace.old }
         ensures sent { OnOk result (PostSends (record { thread = thread; msg = msg; to = to; call = call; flags = flags; sync = false }) self.old self.new trace.old trace.new) }
         ensures refused { IfErr result (λ fault. PostRefuses (record { thread = thread; msg = msg; to = to; call = call; flags = flags; sync = false }) self.old self.new trace.old trace.new fault) }
         ensures same { IsSamePost self.old self.new }
@@ -163,7 +164,7 @@ impl Ports {
         trace: &mut Vec<Event>,
     ) -> Result<(), Fault>
         requires table { self.old.seat.table ≡ book.now.table }
-        requires room { vec_len trace.old + 256 ≤ vec_capacity trace.old }
+        requires room { vec_len trace.old + CALL_EVENTS ≤ vec_capacity trace.old }
         ensures sent { OnOk result (PostSends (record { thread = thread; msg = msg; to = to; call = call; flags = no_flags; sync = true }) self.old self.new trace.old trace.new) }
         ensures refused { IfErr result (λ fault. PostRefuses (record { thread = thread; msg = msg; to = to; call = call; flags = no_flags; sync = true }) self.old self.new trace.old trace.new fault) }
         ensures same { IsSamePost self.old self.new }

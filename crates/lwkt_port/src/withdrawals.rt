@@ -14,6 +14,7 @@ use crate::replies::is_shown_to;
 use crate::traces::note_event;
 use lwkt_base::{Fault, MsgId, Rec, ThreadId};
 use lwkt_core::Event;
+use lwkt_core::events::CALL_EVENTS;
 use lwkt_msg::MsgBook;
 
 impl Mailroom {
@@ -106,7 +107,7 @@ impl Ports {
         trace: &mut Vec<Event>,
     ) -> Result<(), Fault>
         requires table { self.old.seat.table ≡ book.now.table }
-        requires room { vec_len trace.old + 256 ≤ vec_capacity trace.old }
+        requires room { vec_len trace.old + CALL_EVENTS ≤ vec_capacity trace.old }
         ensures aborted { OnOk result (PostAborts thread msg self.old self.new trace.old trace.new) }
         ensures refused { IfErr result (λ fault. PostRefusesAbort thread msg self.old self.new trace.old trace.new fault) }
         ensures same { IsSamePost self.old self.new }
@@ -152,7 +153,7 @@ impl Ports {
         trace: &mut Vec<Event>,
     ) -> Result<Rec, Fault>
         requires table { self.old.seat.table ≡ book.now.table }
-        requires room { vec_len trace.old + 256 ≤ vec_capacity trace.old }
+        requires room { vec_len trace.old + CALL_EVENTS ≤ vec_capacity trace.old }
         ensures dropped { IfOk result (λ rec. PostDrops thread msg self.old self.new trace.old trace.new rec) }
         ensures refused { IfErr result (λ fault. PostRefusesDrop thread msg self.old self.new trace.old trace.new fault) }
         ensures same { IsSamePost self.old self.new }

@@ -16,6 +16,7 @@ use Rattle.lwkt_report.specs.declared.closings.TokenLine.{TokenLine}
 use Rattle.lwkt_base.specs.declared.threads.ThreadLine.{ThreadLine}
 use Rattle.lwkt_base.specs.declared.entries.Entry.{Entry}
 use Rattle.lwkt_base.specs.declared.entries.Entry.TheVariants.{Value, Bytes, Aborted, Request, Reply, NoMessage, Dropped, Refused}
+use Rattle.lwkt_base.specs.declared.limits.TheConstants.{RECORD_LIMIT}
 use Rattle.lwkt_report.specs.declared.closings.Verdict.{Verdict}
 use Rattle.lwkt_report.specs.declared.closings.Verdict.TheVariants.{Closed, Lawful, Unlawful}
 
@@ -46,7 +47,7 @@ tally_line tok (Some tallies) = codes "tally " ++ decimal tok ++ spaced decimal 
 
 -- the bytes of a record, two digits for each, or `-` for none; a record has at most 64
 abbrev pub record_text : List ℕ → List ℕ
-record_text blob = bytes_text (take 64 blob)
+record_text blob = bytes_text (take RECORD_LIMIT blob)
 
 -- `record T HEX`, for a token with a record alone
 abbrev pub record_line : ℕ → Option (List ℕ) → List ℕ

@@ -2,6 +2,7 @@
 use Rattle.std.specs.Prelude.{◌≡◌, ◌≢◌, ℕ, List, All, Some, slice_get, slice_index_or}
 use Rattle.lwkt_port.specs.declared.lines.Lane.{Lane}
 use Rattle.lwkt_port.specs.Sights.{IsDelivered}
+use Rattle.lwkt_cpu.specs.declared.turns.TheConstants.{TURN_NOTES}
 use Rattle.lwkt_cpu.specs.Processors.{Processor}
 use Rattle.lwkt_machine.specs.Bodies.{Scripted}
 use Rattle.lwkt_run.specs.Running.{Scene, MakesTurns, MakesTurnAt}
@@ -12,4 +13,4 @@ use Rattle.lwkt_run.specs.Running.{Scene, MakesTurns, MakesTurnAt}
 abbrev pub NotesArrive : Type 0
 NotesArrive = (from to : ℕ) (order : List ℕ) (x y z : Scene) → All (λ cpu. cpu ≢ from) order → MakesTurns order x y → (turn : MakesTurnAt to y z)
     → (s : Processor Scripted) (d e : Lane) → slice_get x.machine.cpus from ≡ Some s
-    → IsDelivered 16 turn.1.makes.turns.does.mail.count (slice_index_or s.post.lanes to d).out (slice_index_or turn.1.makes.turns.does.mail.post.lanes from e)
+    → IsDelivered TURN_NOTES turn.1.makes.turns.does.mail.count (slice_index_or s.post.lanes to d).out (slice_index_or turn.1.makes.turns.does.mail.post.lanes from e)

@@ -13,6 +13,7 @@ use Rattle.lwkt_machine.specs.Machines.{Rig, ShowsBody}
 use Rattle.lwkt_machine.specs.Statuses.{statuses_of}
 use Rattle.lwkt_machine.specs.Turns.{TurnsAt}
 use Rattle.lwkt_base.specs.declared.threads.ThreadLine.{ThreadLine}
+use Rattle.lwkt_base.specs.declared.limits.TheConstants.{THREAD_LIMIT}
 use Rattle.lwkt_script.specs.declared.scripts.ThreadSpec.{ThreadSpec}
 use Rattle.lwkt_script.specs.Format.{threads_on}
 use Rattle.lwkt_verdict.specs.Run.{whose}
@@ -63,7 +64,7 @@ abbrev pub WasPolled : Rig Scripted → ℕ → ℕ → Type 0
 WasPolled m cpu thread = IsSomeAnd (slice_get m.cpus cpu) (λ q. thread < length q.threads) × ((p : Polled) × IsPolledAt m cpu thread p)
 
 abbrev pub HasPolled : ℕ → Rig Scripted → Turned → Type 0
-HasPolled cpu m (Ran thread) = (thread < 16) × WasPolled m cpu thread
+HasPolled cpu m (Ran thread) = (thread < THREAD_LIMIT) × WasPolled m cpu thread
 HasPolled cpu m Idle = Unit {0}
 HasPolled cpu m AllExited = Unit {0}
 

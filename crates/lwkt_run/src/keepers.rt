@@ -5,6 +5,7 @@ ghost use Rattle.lwkt_run.specs.Keeping.{Story, polled_of, story_after};
 
 use crate::polled::PolledRef;
 use lwkt_base::OutOfMemory;
+use lwkt_base::limits::MACHINE_THREADS;
 use lwkt_core::Event;
 
 /// What takes the turns of a run one by one, and keeps them or not.
@@ -22,7 +23,7 @@ pub trait Keeper {
         part: &[Event],
         asks: Option<PolledRef<'_>>,
     ) -> Result<(), OutOfMemory>
-        requires { IfSome asks (λ p. slot_of p.thread < 128) }
+        requires { IfSome asks (λ p. slot_of p.thread < MACHINE_THREADS) }
         ensures { OnOk result (kept self.new ≡ option_map (story_after cpu (option_map polled_of asks.entry) part.now) (kept self.old)) };
 }
 

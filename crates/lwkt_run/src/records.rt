@@ -1,5 +1,6 @@
 //! All that is kept of a run that is shown.
 ghost use Rattle.std.specs.Prelude.{◌≡◌, ℕ, ◌<◌, Some, slice_get};
+ghost use Rattle.lwkt_base.specs.declared.limits.TheConstants.{MACHINE_THREADS};
 ghost use Rattle.lwkt_core.specs.Machine.{changed};
 ghost use Rattle.lwkt_run.specs.Keeping.{last_place, with_answer};
 
@@ -26,7 +27,7 @@ pub struct Record {
     pub turns: Vec<Turn>,
     // Of each thread the place of its last poll, 16 threads for each processor.
     last: [Option<usize>; MACHINE_THREADS],
-    ghost places: { (slot : ℕ) → slot < 128 → slice_get last slot ≡ Some (last_place slot polls.items) },
+    ghost places: { (slot : ℕ) → slot < MACHINE_THREADS → slice_get last slot ≡ Some (last_place slot polls.items) },
 }
 
 // The poll at a place, if there is one, gets this answer.
@@ -60,7 +61,7 @@ impl Record {
 
     // The last poll of a thread, if it was polled before, gets its answer.
     fn answer(&mut self, slot: usize, heard: &Answer)
-        requires { slot < 128 }
+        requires { slot < MACHINE_THREADS }
         ensures polls { self.new.polls.items ≡ polls_answered slot heard.now self.old.polls.items }
         ensures turns { self.new.turns ≡ self.old.turns }
         ensures order { self.new.order ≡ self.old.order }
@@ -73,7 +74,7 @@ impl Record {
 
     // Keeps a poll, and the answer to what its thread asked before, if it was polled before.
     fn keep_poll(&mut self, polled: PolledRef<'_>) -> Result<(), OutOfMemory>
-        requires { slot_of polled.thread < 128 }
+        requires { slot_of polled.thread < MACHINE_THREADS }
         ensures polls { OnOk result (self.new.polls.items ≡ polls_after (Some (polled_of polled.entry)) self.old.polls.items) }
         ensures turns { self.new.turns ≡ self.old.turns }
         ensures order { self.new.order ≡ self.old.order }

@@ -7,6 +7,7 @@ ghost use Rattle.lwkt_run.specs.Running.{WasPolled, HasPolled, IsPolledAt, HasBe
 
 use crate::keepers::Keeper;
 use crate::polled::PolledRef;
+use lwkt_base::limits::{CPU_LIMIT, MACHINE_THREADS, THREAD_LIMIT};
 use lwkt_base::{CpuId, OutOfMemory, ThreadId};
 use lwkt_core::Event;
 use lwkt_cpu::Turned;
@@ -37,8 +38,8 @@ impl Course<'_> {
 
 // What the last turn of a processor asked, which polled this thread.
 fn polled_at(machine: &Machine<ScriptBody>, cpu: usize, thread: usize) -> PolledRef<'_>
-    requires processor { cpu < 8 }
-    requires numbered { thread < 16 }
+    requires processor { cpu < CPU_LIMIT }
+    requires numbered { thread < THREAD_LIMIT }
     requires polled { WasPolled machine.now cpu thread }
     ensures { IsPolledAt machine.now cpu thread (polled_of result) }
 {
@@ -55,10 +56,10 @@ fn polled_at(machine: &Machine<ScriptBody>, cpu: usize, thread: usize) -> Polled
 
 // What the last turn of a processor asked, which says this.
 fn asks_of(machine: &Machine<ScriptBody>, cpu: usize, turned: Turned) -> Option<PolledRef<'_>>
-    requires processor { cpu < 8 }
+    requires processor { cpu < CPU_LIMIT }
     requires polled { HasPolled cpu machine.now turned }
     ensures asked { HasBeenAsked cpu machine.now turned (option_map polled_of result) }
-    ensures within { IfSome result (λ p. slot_of p.thread < 128) }
+    ensures within { IfSome result (λ p. slot_of p.thread < MACHINE_THREADS) }
 {
     match turned {
         Turned::Ran { thread } => Some(polled_at(machine, cpu, thread)),
@@ -87,7 +88,7 @@ fn fits(
     asks: Option<PolledRef<'_>>,
     part: &[Event],
 ) -> Result<bool, OutOfMemory>
-    requires processor { cpu < 8 }
+    requires processor { cpu < CPU_LIMIT }
     ensures goes { IfOk result (λ yes. IsTrue yes → GoesOnBy cpu (option_map polled_of asks.entry) part.now follower.old follower.new) }
     ensures declines { IfOk result (λ yes. yes ≡ false → DeclinesBy cpu (option_map polled_of asks.entry) part.now follower.old) }
 {
@@ -108,7 +109,7 @@ fn drive_turn<K: Keeper>(
     events: &mut usize,
 ) -> Result<Option<bool>, OutOfMemory>
     requires there { cpu < length machine.old.cpus }
-    requires few { length machine.old.cpus ≤ 8 }
+    requires few { length machine.old.cpus ≤ CPU_LIMIT }
     ensures ok { IfOk result (λ heard. TurnDriven cpu heard (driver_state machine.old (K.kept keeper.old) events.old follower.old) (driver_state machine.new (K.kept keeper.new) events.new follower.new)) }
     ensures as_many { length machine.new.cpus ≡ length machine.old.cpus }
 {
@@ -178,7 +179,7 @@ fn drive_turns<K: Keeper>(
     events: &mut usize,
 ) -> Result<bool, OutOfMemory>
     requires processors { All (λ x. x < length machine.old.cpus) order.now }
-    requires few { length machine.old.cpus ≤ 8 }
+    requires few { length machine.old.cpus ≤ CPU_LIMIT }
     ensures ok { IfOk result (λ fits. TurnsDriven order.now fits (driver_state machine.old (K.kept keeper.old) events.old follower.old) (driver_state machine.new (K.kept keeper.new) events.new follower.new)) }
 {
     for at in 0..order.len() {
@@ -205,7 +206,7 @@ pub fn drive<K: Keeper>(
     events: &mut usize,
 ) -> Result<bool, OutOfMemory>
     requires processors { IsWithin (length machine.old.cpus) course }
-    requires few { length machine.old.cpus ≤ 8 }
+    requires few { length machine.old.cpus ≤ CPU_LIMIT }
     ensures short { IsShort course.entry }
     ensures ok { IfOk result (λ fits. IsDriven course.entry fits (driver_state machine.old (K.kept keeper.old) events.old follower.old) (driver_state machine.new (K.kept keeper.new) events.new follower.new)) }
 {

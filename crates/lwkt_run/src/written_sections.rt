@@ -4,6 +4,7 @@ ghost use Rattle.lwkt_core.specs.RunSections.{sections_named};
 ghost use Rattle.lwkt_run.specs.NamedSections.{sections_of_all, AreSorted, opening_rows, closing_rows, IsVerdictOn, IsVerdictOnAll};
 
 use crate::stretches::stretches_of;
+use lwkt_base::limits::CELL_LIMIT;
 use lwkt_base::memory::{push, with_capacity_for};
 use lwkt_base::{Fault, OutOfMemory, Row, Rows, Section, TokSpec};
 use lwkt_core::{Event, Final, check_sections};
@@ -68,7 +69,7 @@ pub fn sections_in_order(
 
 // The rows and generations that tokens are opened with.
 fn rows_opened(alloc: Global, specs: &[TokSpec]) -> Result<Rows, OutOfMemory>
-    requires { All (λ spec. length spec.cells ≤ 4) specs.now }
+    requires { All (λ spec. length spec.cells ≤ CELL_LIMIT) specs.now }
     ensures { IfOk result (λ rows. rows ≡ opening_rows specs.now) }
 {
     let mut rows = with_capacity_for(alloc, specs)?;
@@ -81,7 +82,7 @@ fn rows_opened(alloc: Global, specs: &[TokSpec]) -> Result<Rows, OutOfMemory>
 // Closing rows and generations.
 fn rows_closed(alloc: Global, last: &Final) -> Result<Rows, OutOfMemory>
     requires as_many { length last.now.gens.items ≡ length last.now.rows.items }
-    requires few { All (λ row. length row ≤ 4) last.now.rows.items }
+    requires few { All (λ row. length row ≤ CELL_LIMIT) last.now.rows.items }
     ensures { IfOk result (λ rows. rows ≡ closing_rows last.now) }
 {
     let mut rows = with_capacity_for(alloc, &last.rows)?;
@@ -115,8 +116,8 @@ pub fn judged(
 ) -> Result<Verdict, OutOfMemory>
     requires opened { length last.now.rows.items ≡ length specs.now }
     requires as_many { length last.now.gens.items ≡ length last.now.rows.items }
-    requires few { All (λ spec. length spec.cells ≤ 4) specs.now }
-    requires few_closed { All (λ row. length row ≤ 4) last.now.rows.items }
+    requires few { All (λ spec. length spec.cells ≤ CELL_LIMIT) specs.now }
+    requires few_closed { All (λ row. length row ≤ CELL_LIMIT) last.now.rows.items }
     ensures { IfOk result (λ verdict. IsVerdictOn verdict (opening_rows specs.now) (closing_rows last.now) sections.now) }
 {
     let first = rows_opened(alloc, specs)?;
@@ -136,8 +137,8 @@ pub fn judged_by_stretches<R: Threads + Sync>(
 ) -> Result<Verdict, OutOfMemory>
     requires opened { length last.now.rows.items ≡ length specs.now }
     requires as_many { length last.now.gens.items ≡ length last.now.rows.items }
-    requires few { All (λ spec. length spec.cells ≤ 4) specs.now }
-    requires few_closed { All (λ row. length row ≤ 4) last.now.rows.items }
+    requires few { All (λ spec. length spec.cells ≤ CELL_LIMIT) specs.now }
+    requires few_closed { All (λ row. length row ≤ CELL_LIMIT) last.now.rows.items }
     ensures { IfOk result (λ verdict. IsVerdictOnAll verdict (opening_rows specs.now) (closing_rows last.now) (sections_of_all traces.items stops.now)) }
 {
     let first = rows_opened(alloc, specs)?;

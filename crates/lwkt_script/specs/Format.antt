@@ -8,6 +8,7 @@ use Rattle.serde_json.specs.Read.{read}
 use Rattle.lwkt_base.specs.declared.asks.Ask.{Ask}
 use Rattle.lwkt_base.specs.declared.opening_specs.MsgSpec.{MsgSpec}
 use Rattle.lwkt_base.specs.declared.opening_specs.TokSpec.{TokSpec}
+use Rattle.lwkt_base.specs.declared.limits.TheConstants.{LAST_GENERATION, LAST_ROUND, MESSAGE_LIMIT, MOST_CPUS, MOST_IDLE, MOST_REPEATS, MOST_TURNS, SCRIPT_BYTES, STEP_LIMIT, THREAD_LIMIT, TOKEN_LIMIT}
 use Rattle.lwkt_script.specs.declared.scripts.Script.{Script}
 use Rattle.lwkt_script.specs.declared.scripts.ThreadSpec.{ThreadSpec}
 use Rattle.lwkt_script.specs.declared.versions.Version.{Version}
@@ -30,7 +31,7 @@ token_read version place d = do
   law ← part place (law_in d)
   demand place (has_law version law && allows law (items_len items))
   param ← part place (number_in (codes "param") 0 18446744073709551615 d)
-  generation ← part place (number_in (codes "gen") 0 70368744177663 d)
+  generation ← part place (number_in (codes "gen") 0 LAST_GENERATION d)
   blob ← part place (record_in version d)
   demand place (may_guard law blob)
   cells ← each (cell place) [] items
@@ -39,7 +40,7 @@ token_read version place d = do
 -- the token after those: there are at most 64
 abbrev pub token : Version → List TokSpec → Data → Result TokSpec ℕ
 token version before d = do
-  demand 1064 (nat_lt (length before) 64)
+  demand 1064 (nat_lt (length before) TOKEN_LIMIT)
   token_read version (1000 + length before) d
 
 -- a message: the thread that it is of, and its round
@@ -47,13 +48,13 @@ unfoldable pub message_at : ℕ → ℕ → Data → Result MsgSpec ℕ
 message_at cpus place d = do
   demand place (has_members 2 d)
   origin ← part place (origin_in cpus d)
-  round ← part place (number_in (codes "round") 0 2251799813685247 d)
+  round ← part place (number_in (codes "round") 0 LAST_ROUND d)
   Ok (record { round = round; origin = origin })
 
 -- the message after those: there are at most 64
 abbrev pub message : ℕ → List MsgSpec → Data → Result MsgSpec ℕ
 message cpus before d = do
-  demand 2064 (nat_lt (length before) 64)
+  demand 2064 (nat_lt (length before) MESSAGE_LIMIT)
   message_at cpus (2000 + length before) d
 
 -- step j of thread n stands at 100000 + 1000*n + j
@@ -66,7 +67,7 @@ threads_on cpu threads = count_by (λ t. t.cpu.0 == cpu) threads
 
 -- a thread of a processor has at most 256 steps, and comes after fewer than 16 threads of its processor
 abbrev pub has_room : List ThreadSpec → ℕ → ℕ → Bool
-has_room before cpu steps = nat_le steps 256 && nat_lt (threads_on cpu before) 16
+has_room before cpu steps = nat_le steps STEP_LIMIT && nat_lt (threads_on cpu before) THREAD_LIMIT
 
 -- the thread after those: its members first, then its steps
 unfoldable pub thread : Version → ℕ → List ThreadSpec → Data → Result ThreadSpec ℕ
@@ -74,7 +75,7 @@ thread version cpus before d = do
   let place = 3000 + length before
   demand place (has_members 3 d)
   cpu ← part place (number_in (codes "cpu") 0 (cpus - 1) d)
-  repeat ← part place (number_in (codes "repeat") 1 1000000 d)
+  repeat ← part place (number_in (codes "repeat") 1 MOST_REPEATS d)
   items ← part place (list_in (codes "steps") d)
   demand place (has_room before cpu (items_len items))
   steps ← each (step version (length before)) [] items
@@ -93,9 +94,9 @@ script d = do
   thread_items ← part 1 (list_in (codes "threads") d)
   number ← part 2 (number_in (codes "version") 1 2 d)
   let version = version_of number
-  turns ← part 3 (number_in (codes "turns") 1 1000000 d)
-  idle ← part 4 (number_in (codes "idle") 1 100000000 d)
-  cpus ← part 5 (number_in (codes "cpus") 1 8 d)
+  turns ← part 3 (number_in (codes "turns") 1 MOST_TURNS d)
+  idle ← part 4 (number_in (codes "idle") 1 MOST_IDLE d)
+  cpus ← part 5 (number_in (codes "cpus") 1 MOST_CPUS d)
   tokens ← each (token version) [] token_items
   messages ← each (message cpus) [] message_items
   threads ← each (thread version cpus) [] thread_items
@@ -103,4 +104,4 @@ script d = do
 
 -- the script that the bytes are: at most 1048576 of them, and one JSON text
 unfoldable pub script_of : List ℕ → Result Script ℕ
-script_of bytes = part 0 (if nat_le (length bytes) 1048576 && is_utf8 bytes then read bytes else None) >>= script
+script_of bytes = part 0 (if nat_le (length bytes) SCRIPT_BYTES && is_utf8 bytes then read bytes else None) >>= script

@@ -4,16 +4,17 @@ use Rattle.lwkt_base.specs.declared.names.ThreadId.{ThreadId}
 use Rattle.lwkt_base.specs.declared.opening_specs.MsgSpec.{MsgSpec}
 use Rattle.lwkt_base.specs.declared.laws.Law.TheVariants.{Tally, Len}
 use Rattle.lwkt_base.specs.declared.opening_specs.TokSpec.{TokSpec}
+use Rattle.lwkt_base.specs.declared.limits.TheConstants.{CELL_LIMIT, LAST_GENERATION, RECORD_LIMIT, LAST_ROUND, MOST_REPEATS, STEP_LIMIT, MOST_TURNS, MOST_IDLE, CPU_LIMIT, TOKEN_LIMIT, MESSAGE_LIMIT, THREAD_LIMIT}
 use Rattle.lwkt_script.specs.declared.scripts.Script.{Script}
 use Rattle.lwkt_script.specs.declared.scripts.ThreadSpec.{ThreadSpec}
 use Rattle.lwkt_script.specs.Format.{threads_on}
 
 -- a token that a script may open
 pub record IsToken (t : TokSpec) : Type 0 where
-  pub few_cells : length t.cells ≤ 4
+  pub few_cells : length t.cells ≤ CELL_LIMIT
   pub one_cell : t.law ≡ Tally → length t.cells ≡ 1
-  pub generation : t.generation ≤ 70368744177663
-  pub short : IfSome t.blob (λ blob. length blob ≤ 64)
+  pub generation : t.generation ≤ LAST_GENERATION
+  pub short : IfSome t.blob (λ blob. length blob ≤ RECORD_LIMIT)
   pub some_cell : t.law ≡ Len → 0 < length t.cells
   pub guarded : t.law ≡ Len → t.blob ≢ None
   pub unguarded : t.law ≡ Tally → t.blob ≡ None
@@ -26,26 +27,26 @@ pub record IsOrigin (cpus : ℕ) (t : ThreadId) : Type 0 where
 -- a message that a script of so many processors may have
 pub record IsMessage (cpus : ℕ) (m : MsgSpec) : Type 0 where
   pub origin : IsOrigin cpus m.origin
-  pub round : m.round ≤ 2251799813685247
+  pub round : m.round ≤ LAST_ROUND
 
 -- a thread that a script of so many processors may have
 pub record IsThread (cpus : ℕ) (t : ThreadSpec) : Type 0 where
   pub cpu : t.cpu.0 < cpus
   pub some_repeats : 1 ≤ t.repeat
-  pub few_repeats : t.repeat ≤ 1000000
-  pub few_steps : length t.steps ≤ 256
+  pub few_repeats : t.repeat ≤ MOST_REPEATS
+  pub few_steps : length t.steps ≤ STEP_LIMIT
 
 -- a script within its limits
 pub record IsWithinLimits (s : Script) : Type 0 where
   pub some_turns : 1 ≤ s.turns
-  pub few_turns : s.turns ≤ 1000000
+  pub few_turns : s.turns ≤ MOST_TURNS
   pub some_idle : 1 ≤ s.idle
-  pub few_idle : s.idle ≤ 100000000
+  pub few_idle : s.idle ≤ MOST_IDLE
   pub some_cpus : 1 ≤ s.cpus
-  pub few_cpus : s.cpus ≤ 8
-  pub few_tokens : length s.tokens ≤ 64
+  pub few_cpus : s.cpus ≤ CPU_LIMIT
+  pub few_tokens : length s.tokens ≤ TOKEN_LIMIT
   pub tokens : All IsToken s.tokens
-  pub few_messages : length s.messages ≤ 64
+  pub few_messages : length s.messages ≤ MESSAGE_LIMIT
   pub messages : All (IsMessage s.cpus) s.messages
   pub threads : All (IsThread s.cpus) s.threads
-  pub few_threads : (cpu : ℕ) → threads_on cpu s.threads ≤ 16
+  pub few_threads : (cpu : ℕ) → threads_on cpu s.threads ≤ THREAD_LIMIT

@@ -5,6 +5,7 @@ use Rattle.serde_json.specs.Find.{get, at, as_str}
 use Rattle.lwkt_base.specs.declared.laws.Law.{Law}
 use Rattle.lwkt_base.specs.declared.laws.Law.TheVariants.{Any, Sum, Order, Cap, Tally, Len}
 use Rattle.lwkt_base.specs.declared.names.ThreadId.{ThreadId}
+use Rattle.lwkt_base.specs.declared.limits.TheConstants.{CELL_LIMIT}
 use Rattle.lwkt_script.specs.Field.{item_count, number}
 
 infixl 10 ◌>>=◌
@@ -27,12 +28,12 @@ law_in d = (get (codes "law") d >>= as_str) >>= law_of
 
 -- how many cells a token may have: at most 4, exactly 1 under Tally, and at least 1 under Len
 abbrev pub allows : Law → ℕ → Bool
-allows Any count = nat_le count 4
-allows Sum count = nat_le count 4
-allows Order count = nat_le count 4
-allows Cap count = nat_le count 4
+allows Any count = nat_le count CELL_LIMIT
+allows Sum count = nat_le count CELL_LIMIT
+allows Order count = nat_le count CELL_LIMIT
+allows Cap count = nat_le count CELL_LIMIT
 allows Tally count = count == 1
-allows Len count = nat_lt 0 count && nat_le count 4
+allows Len count = nat_lt 0 count && nat_le count CELL_LIMIT
 
 -- the processor and the thread that are written as a list of two numbers
 unfoldable pub thread_of : ℕ → Data → Option ThreadId

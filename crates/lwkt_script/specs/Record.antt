@@ -5,6 +5,7 @@ use Rattle.serde_json.specs.Find.{get, as_null, as_str}
 use Rattle.lwkt_base.specs.Blob.{kept_of}
 use Rattle.lwkt_base.specs.declared.laws.Law.{Law}
 use Rattle.lwkt_base.specs.declared.laws.Law.TheVariants.{Any, Sum, Order, Cap, Tally, Len}
+use Rattle.lwkt_base.specs.declared.limits.TheConstants.{RECORD_LIMIT}
 use Rattle.lwkt_script.specs.declared.versions.Version.{Version}
 use Rattle.lwkt_script.specs.declared.versions.Version.TheVariants.{First, Second}
 
@@ -32,7 +33,7 @@ blob_in most d = option_and_then (blob_of most) (as_str d)
 
 -- a record of at most 64 bytes, or null for none
 abbrev pub guard_in : Data → Option (Option (List ℕ))
-guard_in d = if is_some (as_null d) then Some None else option_map Some (blob_in 64 d)
+guard_in d = if is_some (as_null d) then Some None else option_map Some (blob_in RECORD_LIMIT d)
 
 -- what a token of a version says of its record: in the first nothing
 abbrev pub record_in : Version → Data → Option (Option (List ℕ))

@@ -9,6 +9,7 @@ use Rattle.lwkt_base.specs.declared.steps.Part.TheVariants.{Token, Cell, Value, 
 use Rattle.lwkt_base.specs.declared.steps.PartKind.{PartKind}
 use Rattle.lwkt_base.specs.declared.steps.PartKind.TheVariants as kinds
 use Rattle.lwkt_base.specs.declared.steps.Verb.{Verb}
+use Rattle.lwkt_base.specs.declared.limits.TheConstants.{MOST_CODE}
 use Rattle.lwkt_base.specs.Step.{verb_named, part_kinds, is_later, ask_of}
 use Rattle.lwkt_script.specs.declared.versions.Version.{Version}
 use Rattle.lwkt_script.specs.Version.{is_second}
@@ -25,7 +26,7 @@ small_at i d = at i d >>= number 0 255
 
 -- item i, a number of 32 bits
 abbrev pub code_at : ℕ → Data → Option ℕ
-code_at i d = at i d >>= number 0 4294967295
+code_at i d = at i d >>= number 0 MOST_CODE
 
 -- item i, any whole number
 abbrev pub whole_at : ℕ → Data → Option ℕ

@@ -61,7 +61,7 @@ pub fn message_at(cpus: u8, place: u32, value: &Value) -> Result<MsgSpec, Fault>
 fn message(cpus: u8, before: &[MsgSpec], value: &Value) -> Result<MsgSpec, Fault>
     requires { 0 < cpus }
     ensures exact { Gives (λ m. m) result (message cpus before.now (view value.now)) }
-    ensures within { IfOk result (λ m. IsMessage cpus m × (length before.now < 64)) }
+    ensures within { IfOk result (λ m. IsMessage cpus m × (length before.now < MESSAGE_LIMIT)) }
 {
     if before.len() >= MESSAGE_LIMIT {
         return Err(Fault::Script { place: 2064 });
@@ -73,7 +73,7 @@ fn message(cpus: u8, before: &[MsgSpec], value: &Value) -> Result<MsgSpec, Fault
 pub fn messages_of(alloc: Global, cpus: u8, items: &[Value]) -> Result<Vec<MsgSpec>, Fault>
     requires { 0 < cpus }
     ensures exact { Gives (λ v. v.items) result (each (message cpus) [] (items_view items.now)) }
-    ensures within { IfOk result (λ v. (length v.items ≤ 64) × All (IsMessage cpus) v.items) }
+    ensures within { IfOk result (λ v. (length v.items ≤ MESSAGE_LIMIT) × All (IsMessage cpus) v.items) }
 {
     let mut messages = Vec::new(alloc);
     for item in items {

@@ -82,7 +82,7 @@ pub fn read_script(alloc: Global, bytes: &[u8]) -> Result<Script, Fault>
     ensures limits { IfOk result IsWithinLimits }
 
     // No memory is taken for no bytes or for too many.
-    ensures memory { result ≡ Err no_memory → (0 < length bytes.now) × (length bytes.now ≤ 1048576) }
+    ensures memory { result ≡ Err no_memory → (0 < length bytes.now) × (length bytes.now ≤ SCRIPT_BYTES) }
 {
     if bytes.len() > SCRIPT_BYTES {
         return Err(Fault::Script { place: 0 });

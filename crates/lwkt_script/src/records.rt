@@ -4,6 +4,7 @@ ghost use Rattle.serde_json.specs.View.{view};
 ghost use Rattle.lwkt_script.specs.Record.{digit_of, byte_of, blob_of, blob_in, guard_in, record_in, may_guard};
 
 use crate::versions::Version;
+use lwkt_base::limits::RECORD_LIMIT;
 use lwkt_base::{Blob, Law};
 use serde_json::Value;
 
@@ -60,7 +61,7 @@ pub fn blob_in(most: usize, value: &Value) -> Option<Blob>
 /// A record of at most 64 bytes that a value is, or none where it is null.
 pub fn guard_in(value: &Value) -> Option<Option<Blob>>
     ensures exact { result ≡ guard_in (view value.now) }
-    ensures short { IfSome result (λ guard. IfSome guard (λ blob. length blob ≤ 64)) }
+    ensures short { IfSome result (λ guard. IfSome guard (λ blob. length blob ≤ RECORD_LIMIT)) }
 {
     if value.is_null() {
         return Some(None);
@@ -72,7 +73,7 @@ pub fn guard_in(value: &Value) -> Option<Option<Blob>>
 /// What a token says of its record.
 pub fn record_in(version: Version, value: &Value) -> Option<Option<Blob>>
     ensures exact { result ≡ record_in version (view value.now) }
-    ensures short { IfSome result (λ guard. IfSome guard (λ blob. length blob ≤ 64)) }
+    ensures short { IfSome result (λ guard. IfSome guard (λ blob. length blob ≤ RECORD_LIMIT)) }
 {
     match version {
         Version::First => Some(None),

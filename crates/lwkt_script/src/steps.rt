@@ -7,6 +7,7 @@ ghost use Rattle.lwkt_script.specs.Format.{step};
 use crate::fields::{item_count, number};
 use crate::records::blob_in;
 use crate::versions::Version;
+use lwkt_base::limits::{MACHINE_THREADS, STEP_LIMIT};
 use lwkt_base::memory::push;
 use lwkt_base::steps::{ask_of, verb_named};
 use lwkt_base::{
@@ -154,8 +155,8 @@ fn ask_in(version: Version, value: &Value) -> Option<Ask>
 
 /// The asks of the steps of thread n of a script.
 pub fn steps_of(alloc: Global, version: Version, n: u32, items: &[Value]) -> Result<Vec<Ask>, Fault>
-    requires thread { n ≤ 128 }
-    requires steps { length items.now ≤ 256 }
+    requires thread { n ≤ MACHINE_THREADS }
+    requires steps { length items.now ≤ STEP_LIMIT }
     ensures exact { Gives (λ v. v.items) result (each (step version n) [] (items_view items.now)) }
     ensures count { IfOk result (λ v. length v.items ≡ length items.now) }
 {

@@ -9,7 +9,7 @@ use crate::scripts::ThreadSpec;
 use crate::series::Series;
 use crate::steps::steps_of;
 use crate::versions::Version;
-use lwkt_base::limits::{MOST_REPEATS, STEP_LIMIT, THREAD_LIMIT};
+use lwkt_base::limits::{CPU_LIMIT, MACHINE_THREADS, MOST_REPEATS, STEP_LIMIT, THREAD_LIMIT};
 use lwkt_base::memory::push;
 use lwkt_base::{CpuId, Fault};
 use serde_json::Value;
@@ -39,9 +39,9 @@ fn thread(
     value: &Value,
 ) -> Result<ThreadSpec, Fault>
     requires cpus { 0 < cpus }
-    requires few { length before.now ≤ 128 }
+    requires few { length before.now ≤ MACHINE_THREADS }
     ensures exact { Gives (λ t. t) result (thread version cpus before.now (view value.now)) }
-    ensures within { IfOk result (λ t. IsThread cpus t × (threads_on t.cpu.0 before.now < 16)) }
+    ensures within { IfOk result (λ t. IsThread cpus t × (threads_on t.cpu.0 before.now < THREAD_LIMIT)) }
 {
     let place = 3000 + before.len() as u32;
     if !has_members(value, 3) {
@@ -70,9 +70,9 @@ pub fn threads_of(
     items: &[Value],
 ) -> Result<Vec<ThreadSpec>, Fault>
     requires some { 0 < cpus }
-    requires few { cpus ≤ 8 }
+    requires few { cpus ≤ CPU_LIMIT }
     ensures exact { Gives (λ v. v.items) result (each (thread version cpus) [] (items_view items.now)) }
-    ensures within { IfOk result (λ v. All (IsThread cpus) v.items × ((cpu : ℕ) → threads_on cpu v.items ≤ 16)) }
+    ensures within { IfOk result (λ v. All (IsThread cpus) v.items × ((cpu : ℕ) → threads_on cpu v.items ≤ THREAD_LIMIT)) }
 {
     let mut threads = Vec::new(alloc);
     for item in items {

@@ -102,7 +102,7 @@ pub fn token(
     value: &Value,
 ) -> Result<TokSpec, Fault>
     ensures exact { Gives (λ t. t) result (token version before.now (view value.now)) }
-    ensures within { IfOk result (λ t. IsToken t × (length before.now < 64)) }
+    ensures within { IfOk result (λ t. IsToken t × (length before.now < TOKEN_LIMIT)) }
 {
     if before.len() >= TOKEN_LIMIT {
         return Err(Fault::Script { place: 1064 });
@@ -113,7 +113,7 @@ pub fn token(
 /// Tokens by their numbers, at most 64, or the place of the first bad one.
 pub fn tokens_of(alloc: Global, version: Version, items: &[Value]) -> Result<Vec<TokSpec>, Fault>
     ensures exact { Gives (λ v. v.items) result (each (token version) [] (items_view items.now)) }
-    ensures within { IfOk result (λ v. (length v.items ≤ 64) × All IsToken v.items) }
+    ensures within { IfOk result (λ v. (length v.items ≤ TOKEN_LIMIT) × All IsToken v.items) }
 {
     let mut tokens = Vec::new(alloc);
     for item in items {

@@ -5,6 +5,7 @@ use Rattle.lwkt_base.specs.declared.names.Mode.TheVariants.{Exclusive, Shared}
 use Rattle.lwkt_base.specs.declared.holdings.Held.{Held}
 use Rattle.lwkt_base.specs.declared.holdings.Held.TheVariants.{Nothing, Holds}
 use Rattle.lwkt_base.specs.declared.words.Decision.TheVariants.{Held as IsHeld, Marked as IsMarked, Worn as IsWorn}
+use Rattle.lwkt_base.specs.declared.limits.TheConstants.{LIST_LIMIT}
 use Rattle.lwkt_base.specs.Holding.{is_held}
 use Rattle.lwkt_bank.specs.declared.seats.CpuSeat.{CpuSeat}
 use Rattle.lwkt_bank.specs.declared.answers.Given.{Given}
@@ -41,23 +42,23 @@ has_no_reference s = references s == 0
 
 -- a first reference may be asked for
 abbrev pub MayAskFirst : CpuSeat → ℕ → Type 0
-MayAskFirst s tok = IsThere s tok × (references s < 32) × (holding s tok ≡ Nothing)
+MayAskFirst s tok = IsThere s tok × (references s < LIST_LIMIT) × (holding s tok ≡ Nothing)
 
 abbrev pub AsksFor : Mode → ℕ → CpuSeat → CpuSeat → Asked → Type 0
 AsksFor mode tok old new asked.Taken = MayAskFirst old tok × ((generation : ℕ) × Took old new tok mode (has_no_reference old) generation)
-AsksFor mode tok old new asked.Further = IsThere old tok × (references old < 32) × (is_held (holding old tok) ≡ true) × (is_upgrade mode (holding old tok) ≡ false) × Stepped old new tok (more (entry old tok)) adds_one
+AsksFor mode tok old new asked.Further = IsThere old tok × (references old < LIST_LIMIT) × (is_held (holding old tok) ≡ true) × (is_upgrade mode (holding old tok) ≡ false) × Stepped old new tok (more (entry old tok)) adds_one
 AsksFor mode tok old new asked.NoToken = IsMissing old tok × (new ≡ old)
-AsksFor mode tok old new asked.ListFull = IsThere old tok × (32 ≤ references old) × (new ≡ old)
-AsksFor mode tok old new asked.Upgrade = IsThere old tok × (references old < 32) × (is_upgrade mode (holding old tok) ≡ true) × (new ≡ old)
+AsksFor mode tok old new asked.ListFull = IsThere old tok × (LIST_LIMIT ≤ references old) × (new ≡ old)
+AsksFor mode tok old new asked.Upgrade = IsThere old tok × (references old < LIST_LIMIT) × (is_upgrade mode (holding old tok) ≡ true) × (new ≡ old)
 AsksFor mode tok old new asked.Busy = MayAskFirst old tok × ((word : ℕ) × ((Decides word mode (has_no_reference old) IsHeld ⊎ Decides word mode (has_no_reference old) IsMarked) × Looked old new tok word))
 AsksFor mode tok old new asked.Again = MayAskFirst old tok × Lost old new tok mode (has_no_reference old)
 AsksFor mode tok old new asked.Worn = MayAskFirst old tok × ((word : ℕ) × (Decides word mode (has_no_reference old) IsWorn × Looked old new tok word))
 
 abbrev pub Furthers : ℕ → CpuSeat → CpuSeat → Furthered → Type 0
-Furthers tok old new furthered.Further = IsThere old tok × (is_held (holding old tok) ≡ true) × (references old < 32) × Stepped old new tok (more (entry old tok)) adds_one
+Furthers tok old new furthered.Further = IsThere old tok × (is_held (holding old tok) ≡ true) × (references old < LIST_LIMIT) × Stepped old new tok (more (entry old tok)) adds_one
 Furthers tok old new furthered.NoToken = IsMissing old tok × (new ≡ old)
 Furthers tok old new furthered.NotHeld = IsThere old tok × (is_held (holding old tok) ≡ false) × (new ≡ old)
-Furthers tok old new furthered.ListFull = IsThere old tok × (is_held (holding old tok) ≡ true) × (32 ≤ references old) × (new ≡ old)
+Furthers tok old new furthered.ListFull = IsThere old tok × (is_held (holding old tok) ≡ true) × (LIST_LIMIT ≤ references old) × (new ≡ old)
 
 abbrev pub MarksToken : ℕ → CpuSeat → CpuSeat → Marked → Type 0
 MarksToken tok old new marked.Set = IsThere old tok × Stepped old new tok (entry old tok) marks

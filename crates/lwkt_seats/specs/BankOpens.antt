@@ -3,12 +3,13 @@ use Rattle.std.specs.Prelude.{ℕ, ◌≤◌, ◌==◌, if◌then◌else◌, Lis
 use Rattle.lwkt_base.specs.declared.laws.Law.{Law}
 use Rattle.lwkt_base.specs.declared.laws.Law.TheVariants.{Any, Sum, Order, Cap, Tally, Len}
 use Rattle.lwkt_base.specs.declared.opening_specs.TokSpec.{TokSpec}
+use Rattle.lwkt_base.specs.declared.limits.TheConstants.{CELL_LIMIT, RECORD_LIMIT}
 use Rattle.lwkt_bank.specs.Views.{RecordOf}
 use Rattle.lwkt_seats.specs.declared.tokens.LwktToken.{LwktToken}
 
 -- a token has at most four cells, one of the six laws, at most 64 bytes and at most one record
 abbrev pub IsOpenable : LwktToken → Type 0
-IsOpenable token = (token.cells ≤ 4) × (token.law ≤ 5) × (token.length ≤ 64) × (token.records ≤ 1)
+IsOpenable token = (token.cells ≤ CELL_LIMIT) × (token.law ≤ 5) × (token.length ≤ RECORD_LIMIT) × (token.records ≤ 1)
 
 abbrev pub AreTokens : List LwktToken → Type 0
 AreTokens tokens = All IsOpenable tokens

@@ -21,6 +21,7 @@ use Rattle.lwkt_seats.specs.Asks.{AsksFor, Furthers, MarksToken, GivesToken}
 use Rattle.lwkt_seats.specs.Cells.{Loads, StoresInCell, AddsToCell, JudgesToken, Restores}
 use Rattle.lwkt_seats.specs.Records.{ReadsBytes, WritesBytes, buffer_with_bytes}
 use Rattle.lwkt_base.specs.declared.names.TokId.{TokId}
+use Rattle.lwkt_base.specs.declared.limits.TheConstants.{RECORD_LIMIT}
 use Rattle.lwkt_seats.specs.declared.references.LwktReference.{LwktReference}
 use Rattle.lwkt_seats.specs.declared.list_answers.Resumed.{Resumed}
 use Rattle.lwkt_seats.specs.declared.list_answers.Resumed.TheVariants as resumed
@@ -45,7 +46,7 @@ PutsAdded added.Overflow before now = now ≡ before
 -- what is stored for the caller of a record: its bytes, of which there are at most 64, as far as there is room, and their number; with
 -- no record all stays as it was
 abbrev pub PutsRecord : RecordRead → List ℕ → List ℕ → ℕ → ℕ → Type 0
-PutsRecord (read.Bytes bytes) before now before_length now_length = (now ≡ buffer_with_bytes before (take 64 bytes)) × (now_length ≡ length bytes)
+PutsRecord (read.Bytes bytes) before now before_length now_length = (now ≡ buffer_with_bytes before (take RECORD_LIMIT bytes)) × (now_length ≡ length bytes)
 PutsRecord read.NoToken before now before_length now_length = (now ≡ before) × (now_length ≡ before_length)
 PutsRecord read.NoRecord before now before_length now_length = (now ≡ before) × (now_length ≡ before_length)
 PutsRecord read.NotHeld before now before_length now_length = (now ≡ before) × (now_length ≡ before_length)

@@ -2,6 +2,7 @@
 use Rattle.std.specs.Prelude.{◌≡◌, ◌≢◌, ℕ, ◌<◌, ◌≤◌, List, [], length, All, None, Some, slice_get, slice_index_or, vec_capacity}
 use Rattle.std.specs.Arc.{arc_value}
 use Rattle.std.specs.Global.{Box}
+use Rattle.lwkt_base.specs.declared.limits.TheConstants.{CELL_LIMIT, CPU_LIMIT}
 use Rattle.lwkt_base.specs.Holding.{holds_nothing}
 use Rattle.lwkt_base.specs.Law.{Obeys}
 use Rattle.lwkt_core.specs.Tokens.{IsShort, length_of}
@@ -48,7 +49,7 @@ IsWide desk room = (bank : Bank) × (IsBankOf desk bank × (room < tokens_of (id
 
 -- the closing values of a token fit what C gets of it
 abbrev pub IsSized : Closed → Type 0
-IsSized closed = (tok : ℕ) → (length (slice_index_or closed.rows.items tok []) ≤ 4) × (length (slice_index_or closed.tallies.items tok []) ≤ 8) × IsShort (slice_index_or closed.blobs.items tok None)
+IsSized closed = (tok : ℕ) → (length (slice_index_or closed.rows.items tok []) ≤ CELL_LIMIT) × (length (slice_index_or closed.tallies.items tok []) ≤ CPU_LIMIT) × IsShort (slice_index_or closed.blobs.items tok None)
 
 -- each row, with its record, obeys the law of its token
 abbrev pub RowsObeyLaws : Bank → Closed → Type 0

@@ -1,5 +1,6 @@
 -- The closing values of tokens, as C gets them (own).
 use Rattle.std.specs.Prelude.{◌≡◌, ℕ, ◌-◌, ◌<◌, ◌≤◌, List, [], ◌++◌, length, replicate, None, Some, slice_get, slice_index, slice_index_or}
+use Rattle.lwkt_base.specs.declared.limits.TheConstants.{CELL_LIMIT, CPU_LIMIT, RECORD_LIMIT}
 use Rattle.lwkt_bank.specs.declared.closed.Closed.{Closed}
 use Rattle.lwkt_bank.specs.Views.{RecordOf}
 use Rattle.lwkt_seats.specs.declared.closings.LwktClosing.{LwktClosing}
@@ -20,12 +21,12 @@ count_in (Some bytes) = 1
 -- what a token came to at a close: cells, tallies and record are put with their numbers
 abbrev pub closing_of : Closed → ℕ → LwktClosing
 closing_of closed tok = record {
-  row = zero_padded 4 (slice_index_or closed.rows.items tok []);
+  row = zero_padded CELL_LIMIT (slice_index_or closed.rows.items tok []);
   generation = slice_index closed.gens.items tok;
-  tallies = zero_padded 8 (slice_index_or closed.tallies.items tok []);
+  tallies = zero_padded CPU_LIMIT (slice_index_or closed.tallies.items tok []);
   cells = length (slice_index_or closed.rows.items tok []);
   seats = length (slice_index_or closed.tallies.items tok []);
-  bytes = zero_padded 64 (bytes_in (slice_index_or closed.blobs.items tok None));
+  bytes = zero_padded RECORD_LIMIT (bytes_in (slice_index_or closed.blobs.items tok None));
   length = length (bytes_in (slice_index_or closed.blobs.items tok None));
   records = count_in (slice_index_or closed.blobs.items tok None);
 }

@@ -7,6 +7,7 @@ use Rattle.lwkt_base.specs.declared.names.Mode.TheVariants.{Exclusive, Shared}
 use Rattle.lwkt_base.specs.declared.names.Ref.{Ref}
 use Rattle.lwkt_base.specs.declared.holdings.Held.TheVariants.{Nothing, Holds}
 use Rattle.lwkt_base.specs.declared.words.Decision.TheVariants.{Held as IsHeld, Marked as IsMarked, Worn as IsWorn}
+use Rattle.lwkt_base.specs.declared.limits.TheConstants.{LIST_LIMIT}
 use Rattle.lwkt_base.specs.Holding.{is_held, holding_of, holds_nothing}
 use Rattle.lwkt_base.specs.Refs.{is_to, first_mode, IsLawfulList}
 use Rattle.lwkt_bank.specs.declared.seats.CpuSeat.{CpuSeat}
@@ -51,12 +52,12 @@ IsUpgrade front r = ((ref_of r).mode ≡ Exclusive) × (first_mode front r.token
 abbrev pub Unlists : BankId → List Ref → LwktReference → Unlisted → Type 0
 Unlists bank front r unlisted.NoToken = tokens_of bank ≤ r.token
 Unlists bank front r unlisted.NoMode = (r.token < tokens_of bank) × (1 < r.mode)
-Unlists bank front r unlisted.ListFull = IsReference bank r × (length front ≡ 32)
-Unlists bank front r unlisted.Upgrade = IsReference bank r × (length front < 32) × IsUpgrade front r
+Unlists bank front r unlisted.ListFull = IsReference bank r × (length front ≡ LIST_LIMIT)
+Unlists bank front r unlisted.Upgrade = IsReference bank r × (length front < LIST_LIMIT) × IsUpgrade front r
 
 -- these are references, at most 32, and a token whose first one is shared has no exclusive one among them
 abbrev pub IsList : BankId → List LwktReference → Type 0
-IsList bank refs = All (IsReference bank) refs × (length refs ≤ 32) × IsLawfulList (refs_of refs)
+IsList bank refs = All (IsReference bank) refs × (length refs ≤ LIST_LIMIT) × IsLawfulList (refs_of refs)
 
 -- the references in front of this place are a list, and the one at it can't follow them
 abbrev pub IsUnlisted : BankId → List LwktReference → ℕ → Unlisted → Type 0

@@ -1,5 +1,6 @@
 -- What calls on the record of a token do, by their answer.
 use Rattle.std.specs.Prelude.{◌≡◌, ℕ, ◌<◌, ◌≤◌, true, false, List, [], ◌∷◌, ◌++◌, length, take, drop, Some, is_some}
+use Rattle.lwkt_base.specs.declared.limits.TheConstants.{RECORD_LIMIT}
 use Rattle.lwkt_bank.specs.declared.seats.CpuSeat.{CpuSeat}
 use Rattle.lwkt_bank.specs.Views.{wrote_record}
 use Rattle.lwkt_bank.specs.Deeds.{reads_blob, writes_blob}
@@ -27,13 +28,13 @@ ReadsBytes tok old new read.NotHeld = GuardsRecord old tok × IsUnheld old tok �
 ReadsBytes tok old new read.SharedRecord = GuardsRecord old tok × IsShared old tok × (new ≡ old)
 
 abbrev pub WritesBytes : ℕ → List ℕ → CpuSeat → CpuSeat → RecordWritten → Type 0
-WritesBytes tok bytes old new wrote.Written = GuardsRecord old tok × IsMine old tok × (length bytes ≤ 64)
+WritesBytes tok bytes old new wrote.Written = GuardsRecord old tok × IsMine old tok × (length bytes ≤ RECORD_LIMIT)
     × Changes old new tok (wrote_record (entry old tok) bytes) (writes_blob old.cpu tok bytes ∷ [])
 WritesBytes tok bytes old new wrote.NoToken = IsMissing old tok × (new ≡ old)
 WritesBytes tok bytes old new wrote.NoRecord = IsBare old tok × (new ≡ old)
 WritesBytes tok bytes old new wrote.NotHeld = GuardsRecord old tok × IsUnheld old tok × (new ≡ old)
 WritesBytes tok bytes old new wrote.SharedRecord = GuardsRecord old tok × IsShared old tok × (new ≡ old)
-WritesBytes tok bytes old new wrote.RecordLong = GuardsRecord old tok × IsMine old tok × (64 < length bytes) × (new ≡ old)
+WritesBytes tok bytes old new wrote.RecordLong = GuardsRecord old tok × IsMine old tok × (RECORD_LIMIT < length bytes) × (new ≡ old)
 
 -- a buffer after bytes were put into it: all of them, or as much of their front as there is room for, and what stood behind that
 abbrev pub buffer_with_bytes : List ℕ → List ℕ → List ℕ

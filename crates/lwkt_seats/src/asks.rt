@@ -7,6 +7,7 @@ ghost use Rattle.lwkt_seats.specs.Seated.{KeepsBankAndCpu};
 
 use crate::answers::{Asked, Furthered, GaveBack, Marked};
 use lwkt_bank::{Bank, CpuSeat, Try};
+use lwkt_base::limits::LIST_LIMIT;
 use lwkt_base::{Held, Mode, TokId};
 
 /// How many references the seat has to a token.
@@ -49,7 +50,7 @@ fn is_upgrade(mode: Mode, held: Held) -> bool
 fn take_first(seat: &mut CpuSeat, bank: &Bank, tok: TokId, mode: Mode, alone: bool) -> Asked
     requires of { bank_of seat.old ≡ id_of bank.now }
     requires there { tok.0 < tokens_of (bank_of seat.old) }
-    requires few { references seat.old < 32 }
+    requires few { references seat.old < LIST_LIMIT }
     requires free { holding seat.old tok.0 ≡ Held.Nothing }
     requires alone { alone ≡ has_no_reference seat.old }
     ensures does { AsksFor mode tok.0 seat.old seat.new result }

@@ -19,6 +19,7 @@ use crate::spots::{Sitter, Spot, Stall};
 use crate::tokens::LwktToken;
 use counted_slot::Counted;
 use lwkt_bank::{Bank, CpuSeat};
+use lwkt_base::limits::{CPU_LIMIT, TOKEN_LIMIT};
 use lwkt_base::memory::{boxed, push, shared, with_capacity, with_capacity_for};
 use lwkt_base::{CpuId, Fault, OutOfMemory, TokSpec};
 use std::alloc::Global;
@@ -40,7 +41,7 @@ fn each_is_within(tokens: &[LwktToken]) -> bool
 
 // Whether neither the seats nor the tokens are too many, and there is a seat.
 fn are_few(tokens: &[LwktToken], seats: usize) -> bool
-    ensures { IsTrue result ↔ ((0 < seats) × (seats ≤ 8) × (length tokens.now ≤ 64)) }
+    ensures { IsTrue result ↔ ((0 < seats) × (seats ≤ CPU_LIMIT) × (length tokens.now ≤ TOKEN_LIMIT)) }
 {
     0 < seats && seats <= 8 && tokens.len() <= 64
 }
@@ -134,7 +135,7 @@ fn places_for(
 // were at work.
 fn chest_for(alloc: Global, bank: &Arc<Bank>, cpus: usize) -> Result<Option<Chest>, OutOfMemory>
     requires all { cpus ≡ cpus_of (arc_value bank.now) }
-    requires few { cpus ≤ 8 }
+    requires few { cpus ≤ CPU_LIMIT }
     ensures { IfOk result (λ chest. IfSome chest (λ x. IsEndingOf (arc_value bank.now) x.parts.value)) }
 {
     let Ok(share) = Arc::try_clone(bank) else {
@@ -154,7 +155,7 @@ fn desk_of(alloc: Global, bank: Bank, seats: Vec<CpuSeat>) -> Result<Box<Desk>, 
     requires out { AreHandedOut (id_of bank) seats.items }
     requires all { length seats.items ≡ cpus_of bank }
     requires some { 0 < length seats.items }
-    requires few { length seats.items ≤ 8 }
+    requires few { length seats.items ≤ CPU_LIMIT }
     ensures { IfOk result (λ desk. length desk.value.places.items ≡ length seats.items) }
 {
     let bank = shared(alloc, bank)?;

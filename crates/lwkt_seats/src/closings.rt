@@ -6,6 +6,7 @@ ghost use Rattle.lwkt_seats.specs.Closings.{zero_padded, bytes_in, count_in, clo
 
 use lwkt_bank::Closed;
 use lwkt_base::Blob;
+use lwkt_base::limits::{CELL_LIMIT, CPU_LIMIT, RECORD_LIMIT};
 
 /// What a token came to, as C gets it.
 #[repr(C)]
@@ -67,8 +68,8 @@ fn blob_of(closed: &Closed, tok: usize) -> Option<Blob>
 }
 
 fn four(values: &[u64]) -> [u64; 4]
-    requires { length values.now ≤ 4 }
-    ensures { result ≡ zero_padded 4 values.now }
+    requires { length values.now ≤ CELL_LIMIT }
+    ensures { result ≡ zero_padded CELL_LIMIT values.now }
 {
     let mut all = [0; 4];
     all[..values.len()].copy_from_slice(values);
@@ -76,8 +77,8 @@ fn four(values: &[u64]) -> [u64; 4]
 }
 
 fn eight(values: &[u64]) -> [u64; 8]
-    requires { length values.now ≤ 8 }
-    ensures { result ≡ zero_padded 8 values.now }
+    requires { length values.now ≤ CPU_LIMIT }
+    ensures { result ≡ zero_padded CPU_LIMIT values.now }
 {
     let mut all = [0; 8];
     all[..values.len()].copy_from_slice(values);
@@ -85,8 +86,8 @@ fn eight(values: &[u64]) -> [u64; 8]
 }
 
 fn sixty_four(bytes: &[u8]) -> [u8; 64]
-    requires { length bytes.now ≤ 64 }
-    ensures { result ≡ zero_padded 64 bytes.now }
+    requires { length bytes.now ≤ RECORD_LIMIT }
+    ensures { result ≡ zero_padded RECORD_LIMIT bytes.now }
 {
     let mut all = [0; 64];
     all[..bytes.len()].copy_from_slice(bytes);
@@ -96,7 +97,7 @@ fn sixty_four(bytes: &[u8]) -> [u8; 64]
 // The bytes of a record; none where there is no record.
 fn bytes_in(blob: &Option<Blob>) -> [u8; 64]
     requires { IsShort blob.now }
-    ensures { result ≡ zero_padded 64 (bytes_in blob.now) }
+    ensures { result ≡ zero_padded RECORD_LIMIT (bytes_in blob.now) }
 {
     match blob {
         Some(blob) => sixty_four(blob.as_slice()),

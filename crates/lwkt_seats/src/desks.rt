@@ -1,6 +1,7 @@
 //! The desk of a bank: for each processor a place where its seat rests between calls, and what a close needs.
 ghost use Rattle.std.specs.Prelude.{◌≡◌, ◌⊎◌, ◌↔◌, ◌<◌, ◌≤◌, length, true, is_none, IsTrue, IfOk, IfErr, IfSome};
 ghost use Rattle.std.specs.Arc.{arc_value};
+ghost use Rattle.lwkt_base.specs.declared.limits.TheConstants.{CPU_LIMIT};
 ghost use Rattle.lwkt_seats.specs.Endings.{IsEndingOf};
 ghost use Rattle.lwkt_seats.specs.Seated.{IsSeated};
 ghost use Rattle.lwkt_seats.specs.Spots.{AreSpots, AreAllOf};
@@ -165,7 +166,7 @@ pub struct Desk {
     pub(crate) lost: AtomicU64,
     ghost spots: { AreSpots places.items },
     ghost some: { 0 < length places.items },
-    ghost few: { length places.items ≤ 8 },
+    ghost few: { length places.items ≤ CPU_LIMIT },
     ghost one: { AreAllOf (arc_value drawer) places.items },
 }
 

@@ -9,6 +9,7 @@ use crate::answers::RecordRead;
 use crate::desks::put_back;
 use crate::handles::LwktBank;
 use crate::records;
+use lwkt_base::limits::RECORD_LIMIT;
 
 // Puts bytes into a buffer, as far as this has room.
 fn fill(buffer: &mut [u8], whole: &[u8])
@@ -46,7 +47,7 @@ pub extern "C" fn lwkt_read_record(
     length: &mut usize,
 ) -> u32
     ensures does { IsDeskAnswer bank.desk seat (ReadsTheRecord token buffer.old buffer.new length.old length.new) result }
-    ensures short { result ≡ 0 → length.new ≤ 64 }
+    ensures short { result ≡ 0 → length.new ≤ RECORD_LIMIT }
     ensures kept { result ≢ 0 → (buffer.new ≡ buffer.old) × (length.new ≡ length.old) }
 {
     let (place, mut sitter) = match bank.seat(seat) {

@@ -5,6 +5,7 @@ ghost use Rattle.lwkt_seats.specs.Lists.{ref_of, refs_of, IsReference, IsList, I
 
 use crate::list_answers::Unlisted;
 use lwkt_bank::Bank;
+use lwkt_base::limits::{LIST_LIMIT, TOKEN_LIMIT};
 use lwkt_base::{Fault, Mode, Ref, TokId, TokList};
 
 /// A reference as C names it.
@@ -19,7 +20,7 @@ pub struct LwktReference {
 
 impl LwktReference {
     fn reference(self) -> Ref
-        requires { self.token < 64 }
+        requires { self.token < TOKEN_LIMIT }
         ensures { result ≡ ref_of self }
     {
         let mode = match self.mode {
@@ -36,8 +37,8 @@ impl LwktReference {
 // Puts a reference on a list.
 fn add_to(list: &mut TokList, bank: &Bank, new: LwktReference) -> Result<(), Unlisted>
     ensures ok { OnOk result (IsReference (id_of bank.now) new × (list.new ≡ list.old ++ ref_of new ∷ [])) }
-    ensures room { OnOk result (length list.old ≢ 32) }
-    ensures follows { OnOk result (length list.old < 32 → ¬ IsUpgrade list.old new) }
+    ensures room { OnOk result (length list.old ≢ LIST_LIMIT) }
+    ensures follows { OnOk result (length list.old < LIST_LIMIT → ¬ IsUpgrade list.old new) }
     ensures err { IfErr result (λ why. Unlists (id_of bank.now) list.old new why) }
 {
     if new.token as usize >= bank.tokens() {

@@ -9,6 +9,7 @@ use crate::asks::count;
 use crate::list_answers::{Missed, Resumed};
 use crate::references::{LwktReference, list_of};
 use lwkt_bank::{Bank, CpuSeat, Try};
+use lwkt_base::limits::LIST_LIMIT;
 use lwkt_base::{Ref, TokId};
 
 // Whether the list has no reference to another token.
@@ -22,7 +23,7 @@ fn has_only(refs: &[Ref], tok: TokId) -> bool
 fn take_one(seat: &mut CpuSeat, bank: &Bank, refs: &[Ref], new: Ref) -> Result<(), Missed>
     requires of { bank_of seat.old ≡ id_of bank.now }
     requires there { new.tok.0 < tokens_of (bank_of seat.old) }
-    requires few { references seat.old < 32 }
+    requires few { references seat.old < LIST_LIMIT }
     ensures ok { OnOk result (TakesOne refs.now new seat.old seat.new) }
     ensures err { IfErr result (λ why. MissesOne refs.now new seat.old seat.new why) }
     ensures same { KeepsBankAndCpu seat.old seat.new }
@@ -44,7 +45,7 @@ fn take_one(seat: &mut CpuSeat, bank: &Bank, refs: &[Ref], new: Ref) -> Result<(
 fn take_each(seat: &mut CpuSeat, bank: &Bank, refs: &[Ref]) -> Result<(), (usize, Missed)>
     requires of { bank_of seat.old ≡ id_of bank.now }
     requires there { All (λ r. r.tok.0 < tokens_of (bank_of seat.old)) refs.now }
-    requires short { length refs.now ≤ 32 }
+    requires short { length refs.now ≤ LIST_LIMIT }
     requires idle { holding seat.old ≡ holds_nothing }
     ensures all { OnOk result (TakesAll refs.now seat.old seat.new) }
     ensures missed { IfErr result (λ no. TakesUpTo refs.now no.0 no.1 seat.old seat.new) }
@@ -91,7 +92,7 @@ fn give_front(seat: &mut CpuSeat, bank: &Bank, refs: &[Ref], count: usize)
 fn take_all(seat: &mut CpuSeat, bank: &Bank, refs: &[Ref]) -> Result<(), (usize, Missed)>
     requires of { bank_of seat.old ≡ id_of bank.now }
     requires there { All (λ r. r.tok.0 < tokens_of (bank_of seat.old)) refs.now }
-    requires short { length refs.now ≤ 32 }
+    requires short { length refs.now ≤ LIST_LIMIT }
     requires idle { holding seat.old ≡ holds_nothing }
     ensures all { OnOk result (TakesAll refs.now seat.old seat.new) }
     ensures none { IfErr result (λ no. TakesNone refs.now no.0 no.1 seat.old seat.new) }

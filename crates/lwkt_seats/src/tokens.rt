@@ -4,7 +4,7 @@ ghost use Rattle.lwkt_base.specs.Law.{OpensLawfully};
 ghost use Rattle.lwkt_core.specs.Opening.{IsTokenWithin};
 
 use lwkt_base::blobs::length_of;
-use lwkt_base::limits::LAST_GENERATION;
+use lwkt_base::limits::{CELL_LIMIT, LAST_GENERATION, RECORD_LIMIT};
 use lwkt_base::memory::from_slice;
 use lwkt_base::{Blob, Cells, Law, OutOfMemory, TokSpec};
 use std::alloc::Global;
@@ -61,7 +61,7 @@ impl LwktToken {
     }
 
     fn record(&self) -> Option<Blob>
-        requires { self.now.length ≤ 64 }
+        requires { self.now.length ≤ RECORD_LIMIT }
         ensures { result ≡ record_of self.now }
     {
         if self.records == 0 {
@@ -100,8 +100,8 @@ impl LwktToken {
 
     /// What is declared of it.
     pub fn spec(&self, alloc: Global) -> Result<TokSpec, OutOfMemory>
-        requires few { self.now.cells ≤ 4 }
-        requires short { self.now.length ≤ 64 }
+        requires few { self.now.cells ≤ CELL_LIMIT }
+        requires short { self.now.length ≤ RECORD_LIMIT }
         ensures { IfOk result (λ spec. spec ≡ spec_of self.now) }
     {
         let all = [self.first, self.second, self.third, self.fourth];

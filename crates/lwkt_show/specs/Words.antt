@@ -17,6 +17,7 @@ use Rattle.lwkt_base.specs.declared.records.Flags.{Flags}
 use Rattle.lwkt_base.specs.declared.records.Rec.{Rec}
 use Rattle.lwkt_base.specs.declared.steps.Part.{Part}
 use Rattle.lwkt_base.specs.declared.steps.Part.TheVariants as parts
+use Rattle.lwkt_base.specs.declared.limits.TheConstants.{RECORD_LIMIT}
 use Rattle.lwkt_trace.specs.Written.{comma, blob_text}
 
 -- a thread by its processor and its number: `1.0`
@@ -79,7 +80,7 @@ cut_words blob = if nat_lt 24 (length blob) then codes ".., " ++ decimal (length
 
 -- a record that has bytes, of which at most 64 are kept
 abbrev pub full_words : List ℕ → List ℕ
-full_words blob = codes "record " ++ bytes_words (take 64 blob) ++ cut_words blob
+full_words blob = codes "record " ++ bytes_words (take RECORD_LIMIT blob) ++ cut_words blob
 
 -- a record: `record 'hello'`
 abbrev pub record_words : List ℕ → List ℕ

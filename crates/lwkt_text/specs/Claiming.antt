@@ -5,6 +5,7 @@ use Rattle.lwkt_base.specs.declared.entries.Entry.TheVariants as entries
 use Rattle.lwkt_base.specs.declared.message_words.MsgState.{MsgState}
 use Rattle.lwkt_base.specs.declared.message_words.MsgState.TheVariants as places
 use Rattle.lwkt_base.specs.declared.names.ThreadId.{ThreadId}
+use Rattle.lwkt_base.specs.declared.limits.TheConstants.{MOST_CODE, RECORD_LIMIT}
 use Rattle.lwkt_text.specs.declared.claims.Claim.{Claim}
 use Rattle.lwkt_text.specs.declared.claims.Claim.TheVariants as claims
 use Rattle.lwkt_text.specs.declared.claims.Quantity.{Quantity}
@@ -132,7 +133,7 @@ saw_entry ws = number_at ws 3 0 18446744073709551615 >>= λ n. ends_at ws 4 >> O
 
 -- `found BYTES`
 abbrev pub found_entry : List Word → Result Entry Wrong
-found_entry ws = bytes_at ws 3 64 >>= λ blob. ends_at ws 4 >> Ok (entries.Bytes blob)
+found_entry ws = bytes_at ws 3 RECORD_LIMIT >>= λ blob. ends_at ws 4 >> Ok (entries.Bytes blob)
 
 -- `refused N`
 abbrev pub refused_entry : List Word → Result Entry Wrong
@@ -156,7 +157,7 @@ lost_entry names ws = message_id_at names ws 3 >>= λ m. call_at ws 4 >>= λ cal
 
 -- `answered M ERROR RESULT`
 abbrev pub answered_entry : Names → List Word → Result Entry Wrong
-answered_entry names ws = message_id_at names ws 3 >>= λ m. last_number ws 4 4294967295 >>= λ e. last_number ws 5 18446744073709551615 >>= λ r. ends_at ws 6 >> Ok (entries.Reply m e r)
+answered_entry names ws = message_id_at names ws 3 >>= λ m. last_number ws 4 MOST_CODE >>= λ e. last_number ws 5 18446744073709551615 >>= λ r. ends_at ws 6 >> Ok (entries.Reply m e r)
 
 -- `THREAD ENTRY`
 abbrev pub logged_claim : Names → List Word → Result Entry Wrong → Result Claim Wrong

@@ -1,6 +1,7 @@
 -- What the sentences of a text say, one after the other (own).
 use Rattle.std.specs.Prelude.{ℕ, ◌==◌, nat_lt, nat_le, List, [], ◌∷◌, ◌++◌, length, codes, if◌then◌else◌, Option, Some, None, is_some, Result, Ok, Err}
 use Rattle.lwkt_base.specs.declared.asks.Ask.{Ask}
+use Rattle.lwkt_base.specs.declared.limits.TheConstants.{MESSAGE_LIMIT, MOST_CPUS, MOST_IDLE, MOST_TURNS, STEP_LIMIT, THREAD_LIMIT, TOKEN_LIMIT}
 use Rattle.lwkt_script.specs.Format.{threads_on}
 use Rattle.lwkt_text.specs.declared.claims.When.{When}
 use Rattle.lwkt_text.specs.declared.claims.When.TheVariants as whens
@@ -44,9 +45,9 @@ part_said names ws =
 -- what a sentence says
 unfoldable pub said_by_sentence : Names → List Word → Result Said Wrong
 said_by_sentence names ws = demand_at ws 1000 whats.Long (nat_le (length ws) 1000) >> (
-    if is_at ws 0 (codes "turns") then (setting ws 1000000 >>= λ n. Ok (saids.Turns n)) else (
-    if is_at ws 0 (codes "idle") then (setting ws 100000000 >>= λ n. Ok (saids.Idle n)) else (
-    if is_at ws 0 (codes "cpus") then (setting ws 8 >>= λ n. Ok saids.Cpus) else part_said names ws)))
+    if is_at ws 0 (codes "turns") then (setting ws MOST_TURNS >>= λ n. Ok (saids.Turns n)) else (
+    if is_at ws 0 (codes "idle") then (setting ws MOST_IDLE >>= λ n. Ok (saids.Idle n)) else (
+    if is_at ws 0 (codes "cpus") then (setting ws MOST_CPUS >>= λ n. Ok saids.Cpus) else part_said names ws)))
 
 -- before the first sentence: 10000 turns, 100000000 idle ones, and what is wrong with the names
 abbrev pub no_draft : List Wrong → Draft
@@ -70,12 +71,12 @@ closed d = closed_by d.head d
 
 -- a thread begins, if its processor has fewer than 16
 abbrev pub thread_begun : Head → List Word → Draft → Draft
-thread_begun h ws d = if nat_lt (threads_on h.cpu.0 d.threads) 16 then record d { head = Some h } else crowded ws d
+thread_begun h ws d = if nat_lt (threads_on h.cpu.0 d.threads) THREAD_LIMIT then record d { head = Some h } else crowded ws d
 
 -- a step of the thread, if there is one; only the first step without a thread is said
 abbrev pub stepped : Ask → List Word → Draft → Draft
 stepped a ws d =
-    if is_some d.head then (if nat_lt (length d.steps) 256 then record d { steps = d.steps ++ a ∷ [] } else crowded ws d)
+    if is_some d.head then (if nat_lt (length d.steps) STEP_LIMIT then record d { steps = d.steps ++ a ∷ [] } else crowded ws d)
     else (if length d.faults == 0 then blamed (wrong_at ws 0 whats.NoThread) d else d)
 
 -- what was said, put behind what was said before: at most 64 tokens and as many messages
@@ -83,8 +84,8 @@ abbrev pub put : List Word → Said → Draft → Draft
 put ws (saids.Turns n) d = record d { turns = n }
 put ws (saids.Idle n) d = record d { idle = n }
 put ws saids.Cpus d = d
-put ws (saids.Token t) d = if nat_lt (length d.tokens) 64 then record d { tokens = d.tokens ++ t ∷ [] } else crowded ws d
-put ws (saids.Message m) d = if nat_lt (length d.messages) 64 then record d { messages = d.messages ++ m ∷ [] } else crowded ws d
+put ws (saids.Token t) d = if nat_lt (length d.tokens) TOKEN_LIMIT then record d { tokens = d.tokens ++ t ∷ [] } else crowded ws d
+put ws (saids.Message m) d = if nat_lt (length d.messages) MESSAGE_LIMIT then record d { messages = d.messages ++ m ∷ [] } else crowded ws d
 put ws (saids.Thread h) d = thread_begun h ws (closed d)
 put ws (saids.Step a) d = stepped a ws d
 put ws (saids.Expect e) d = record d { expectations = d.expectations ++ e ∷ [] }

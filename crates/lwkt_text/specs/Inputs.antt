@@ -1,6 +1,7 @@
 -- What programs read: a script in JSON, or as a text with its names and expectations (own).
 use Rattle.std.specs.Prelude.{◌≡◌, ℕ, ◌<◌, ◌==◌, ◌&&◌, ◌||◌, nat_le, List, [], ◌∷◌, length, codes, Bool, true, false, eqb, if◌then◌else◌, Option, Some, None, Result, Ok, Err}
 use Rattle.std.specs.List.{ends_with, list_any}
+use Rattle.lwkt_base.specs.declared.limits.TheConstants.{SCRIPT_BYTES}
 use Rattle.lwkt_script.specs.declared.scripts.Script.{Script}
 use Rattle.lwkt_script.specs.Format.{script_of}
 use Rattle.lwkt_text.specs.declared.inputs.Input.{Input}
@@ -36,7 +37,7 @@ is_no_json (Err place) = place == 0
 
 -- bytes of no known file that are taken for a text: not too long, no JSON, and a sentence of them declares something
 abbrev pub is_text : List ℕ → Bool
-is_text bytes = is_no_json (script_of bytes) && (nat_le (length bytes) 1048576 && one_declares (sentences_of bytes))
+is_text bytes = is_no_json (script_of bytes) && (nat_le (length bytes) SCRIPT_BYTES && one_declares (sentences_of bytes))
 
 -- what holds of a text, or else of JSON
 abbrev pub ByForm : Bool → Type 0 → Type 0 → Type 0
@@ -54,10 +55,10 @@ text_input (Err wrongs) = Err (Wrongs wrongs)
 
 -- a text has at most 1048576 bytes
 abbrev pub long_wrong : Wrong
-long_wrong = record { at = 1048576; what = Length }
+long_wrong = record { at = SCRIPT_BYTES; what = Length }
 
 abbrev pub reading_within : List ℕ → Result Reading (List Wrong)
-reading_within bytes = if nat_le (length bytes) 1048576 then reading_of bytes else Err (long_wrong ∷ [])
+reading_within bytes = if nat_le (length bytes) SCRIPT_BYTES then reading_of bytes else Err (long_wrong ∷ [])
 
 -- what the bytes of a file of this name mean
 abbrev pub input_of : Option (List ℕ) → List ℕ → Result Input Unread

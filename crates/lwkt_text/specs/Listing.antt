@@ -1,6 +1,7 @@
 -- The names that a text gives, and how many processors it has (own).
 use Rattle.std.specs.Prelude.{ℕ, ◌+◌, ◌<◌, ◌≤◌, ◌==◌, not, nat_le, List, [], ◌∷◌, ◌++◌, codes, true, false, if◌then◌else◌, count_by, is_some, ⊤, Result, Ok, Err}
 use Rattle.lwkt_base.specs.declared.names.ThreadId.{ThreadId}
+use Rattle.lwkt_base.specs.declared.limits.TheConstants.{CPU_LIMIT, MOST_CPUS}
 use Rattle.lwkt_text.specs.declared.listings.Listing.{Listing}
 use Rattle.lwkt_text.specs.declared.declarations.CellList.{CellList}
 use Rattle.lwkt_text.specs.declared.tables.Names.{Names}
@@ -23,7 +24,7 @@ no_listing = record { names = no_names; is_said = false; faults = [] }
 
 -- there are 1 to 8 processors
 abbrev pub HasCpus : Listing → Type 0
-HasCpus l = (0 < l.names.cpus) × (l.names.cpus ≤ 8)
+HasCpus l = (0 < l.names.cpus) × (l.names.cpus ≤ CPU_LIMIT)
 
 -- word 1 is a name that none of these is
 abbrev pub new_name : List (List ℕ) → List Word → Result ⊤ Wrong
@@ -90,7 +91,7 @@ sentence_listed ws l =
     if is_at ws 0 (codes "token") then token_listed (new_name l.names.tokens ws) ws l else (
     if is_at ws 0 (codes "message") then message_listed (new_name l.names.messages ws) ws l else (
     if is_at ws 0 (codes "thread") then thread_listed (new_name l.names.threads ws) ws l else (
-    if is_at ws 0 (codes "cpus") then cpus_listed (number_at ws 1 1 8) l else l)))
+    if is_at ws 0 (codes "cpus") then cpus_listed (number_at ws 1 1 MOST_CPUS) l else l)))
 
 abbrev pub all_listed : List Sentence → Listing → Listing
 all_listed [] l = l

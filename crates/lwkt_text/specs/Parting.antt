@@ -4,6 +4,7 @@ use Rattle.lwkt_base.specs.declared.laws.Law.{Law}
 use Rattle.lwkt_base.specs.declared.laws.Law.TheVariants.{Any, Sum, Order, Cap, Tally, Len}
 use Rattle.lwkt_base.specs.declared.opening_specs.MsgSpec.{MsgSpec}
 use Rattle.lwkt_base.specs.declared.opening_specs.TokSpec.{TokSpec}
+use Rattle.lwkt_base.specs.declared.limits.TheConstants.{LAST_GENERATION, LAST_ROUND, MOST_REPEATS, RECORD_LIMIT}
 use Rattle.lwkt_script.specs.Member.{law_of, allows}
 use Rattle.lwkt_script.specs.Record.{may_guard}
 use Rattle.lwkt_text.specs.declared.declarations.CellList.{CellList}
@@ -86,7 +87,7 @@ guard_place ws = past_key ws (param_end ws) (codes "gen")
 
 -- the record that a token's sentence says, if it says one
 abbrev pub guard_of : List Word → Result (Option (List ℕ)) Wrong
-guard_of ws = if is_at ws (guard_place ws) (codes "record") then (bytes_at ws (guard_place ws + 1) 64 >>= λ blob. Ok (Some blob)) else Ok None
+guard_of ws = if is_at ws (guard_place ws) (codes "record") then (bytes_at ws (guard_place ws + 1) RECORD_LIMIT >>= λ blob. Ok (Some blob)) else Ok None
 
 -- where `cells` may stand
 abbrev pub cells_place : List Word → ℕ
@@ -101,7 +102,7 @@ cells_in ws = if is_at ws (cells_place ws) (codes "cells") then cells_at ws (cel
 unfoldable pub token_of : List Word → Result TokSpec Wrong
 token_of ws = do
   param ← param_of ws
-  generation ← optional ws (param_end ws) (codes "gen") 0 70368744177663 0
+  generation ← optional ws (param_end ws) (codes "gen") 0 LAST_GENERATION 0
   blob ← guard_of ws
   cells ← cells_in ws
   demand_at ws (length ws) whats.CellCount (allows (law_at ws) (length cells.values))
@@ -114,7 +115,7 @@ message_of names ws = do
   demand_at ws 2 (whats.Word wanted.Of) (is_at ws 2 (codes "of"))
   origin ← thread_id_at names ws 3
   demand_at ws 3 whats.Origin (nat_lt origin.cpu.0 names.cpus && nat_le origin.thread 15)
-  round ← optional ws (3 + thread_length ws 3) (codes "round") 0 2251799813685247 0
+  round ← optional ws (3 + thread_length ws 3) (codes "round") 0 LAST_ROUND 0
   ends_at ws (past_key ws (3 + thread_length ws 3) (codes "round"))
   Ok (record { round = round; origin = origin })
 
@@ -123,6 +124,6 @@ unfoldable pub head_of : Names → List Word → Result Head Wrong
 head_of names ws = do
   demand_at ws 2 (whats.Word wanted.On) (is_at ws 2 (codes "on"))
   cpu ← number_at ws 3 0 (names.cpus - 1)
-  repeat ← optional ws 4 (codes "repeat") 1 1000000 1
+  repeat ← optional ws 4 (codes "repeat") 1 MOST_REPEATS 1
   ends_at ws (past_key ws 4 (codes "repeat"))
   Ok (record { cpu = record { 0 = cpu }; repeat = repeat })

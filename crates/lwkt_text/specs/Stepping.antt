@@ -9,6 +9,7 @@ use Rattle.lwkt_base.specs.declared.steps.Part.{Part}
 use Rattle.lwkt_base.specs.declared.steps.Part.TheVariants.{Token, Cell, Value, Record, Message, Target, Call, Flags, Code, Outcome}
 use Rattle.lwkt_base.specs.declared.steps.PartKind.{PartKind}
 use Rattle.lwkt_base.specs.declared.steps.PartKind.TheVariants as kinds
+use Rattle.lwkt_base.specs.declared.limits.TheConstants.{MOST_CODE}
 use Rattle.lwkt_base.specs.Step.{verb_named, part_kinds, ask_of}
 use Rattle.lwkt_text.specs.declared.tables.Names.{Names}
 use Rattle.lwkt_text.specs.declared.words.Word.{Word}
@@ -22,7 +23,7 @@ use Rattle.lwkt_text.specs.Outcome.{◌>>=◌, ◌>>◌}
 -- `op N arg N` from word i on, each of them 0 where it is left out
 unfoldable pub call_at : List Word → ℕ → Result CallOf Wrong
 call_at ws i = do
-  op ← optional ws i (codes "op") 0 4294967295 0
+  op ← optional ws i (codes "op") 0 MOST_CODE 0
   arg ← optional ws (past_key ws i (codes "op")) (codes "arg") 0 18446744073709551615 0
   Ok (record { arg = arg; op = op })
 
@@ -67,7 +68,7 @@ part_by_words names kinds.Message ws i = message_id_at names ws i >>= λ msg. Ok
 part_by_words names kinds.Target ws i = target_at names ws i >>= λ to. Ok (Target to)
 part_by_words names kinds.Call ws i = call_at ws i >>= λ call. Ok (Call call)
 part_by_words names kinds.Flags ws i = Ok (Flags (flags_at ws i))
-part_by_words names kinds.Code ws i = last_number ws i 4294967295 >>= λ n. Ok (Code n)
+part_by_words names kinds.Code ws i = last_number ws i MOST_CODE >>= λ n. Ok (Code n)
 part_by_words names kinds.Outcome ws i = last_number ws i 18446744073709551615 >>= λ n. Ok (Outcome n)
 
 -- the place behind such a part

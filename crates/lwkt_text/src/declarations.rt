@@ -14,7 +14,7 @@ use crate::slips::checked;
 use crate::tables::{Names, position, thread_id_at, thread_length};
 use crate::words::Word;
 use crate::wrongs::{Slip, Wanted, What, Wrong};
-use lwkt_base::limits::{LAST_GENERATION, LAST_ROUND, MOST_REPEATS};
+use lwkt_base::limits::{LAST_GENERATION, LAST_ROUND, MOST_REPEATS, RECORD_LIMIT};
 use lwkt_base::{Blob, Cells, CpuId, Law, MsgSpec, OutOfMemory, TokSpec};
 use lwkt_script::records::may_guard;
 use std::alloc::Global;
@@ -221,7 +221,7 @@ fn guard_place(words: &[Word]) -> usize
 // The record that a token's sentence says, if it says one.
 fn guard_of(words: &[Word]) -> Result<Option<Blob>, Wrong>
     ensures exact { result ≡ guard_of words.now }
-    ensures short { IfOk result (λ guard. IfSome guard (λ blob. length blob ≤ 64)) }
+    ensures short { IfOk result (λ guard. IfSome guard (λ blob. length blob ≤ RECORD_LIMIT)) }
 {
     let place = guard_place(words);
     if !is_at(words, place, "record") {
@@ -309,7 +309,7 @@ pub fn head_of(names: &Names, words: &[Word]) -> Result<Head, Wrong>
     requires some { 0 < names.now.cpus }
     ensures exact { result ≡ head_of names.now words.now }
     ensures cpu { IfOk result (λ h. h.cpu.0 < names.now.cpus) }
-    ensures repeats { IfOk result (λ h. (1 ≤ h.repeat) × (h.repeat ≤ 1000000)) }
+    ensures repeats { IfOk result (λ h. (1 ≤ h.repeat) × (h.repeat ≤ MOST_REPEATS)) }
 {
     demand_at(words, 2, What::Word(Wanted::On), is_at(words, 2, "on"))?;
     let cpu = number_at(words, 3, 0, names.cpus as u64 - 1)? as u8;

@@ -70,8 +70,8 @@ fn one_declares(sentences: &[Sentence]) -> bool
 
 // The sentences of bytes that are no JSON, if these are taken for a text.
 fn sentences_within(alloc: Global, bytes: &[u8]) -> Result<Option<Many<Sentence>>, OutOfMemory>
-    ensures some { IfOk result (λ read. IfSome read (λ sentences. (length bytes.now ≤ 1048576) × (sentences ≡ sentences_of bytes.now) × (one_declares sentences ≡ true))) }
-    ensures none { IfOk result (λ read. IfNone read ((nat_le (length bytes.now) 1048576 && one_declares (sentences_of bytes.now)) ≡ false)) }
+    ensures some { IfOk result (λ read. IfSome read (λ sentences. (length bytes.now ≤ SCRIPT_BYTES) × (sentences ≡ sentences_of bytes.now) × (one_declares sentences ≡ true))) }
+    ensures none { IfOk result (λ read. IfNone read ((nat_le (length bytes.now) SCRIPT_BYTES && one_declares (sentences_of bytes.now)) ≡ false)) }
 {
     if bytes.len() > SCRIPT_BYTES {
         return Ok(None);

@@ -11,6 +11,7 @@ use crate::scans::sentences_of;
 use crate::tables::{Names, position};
 use crate::words::{Sentence, Word};
 use crate::wrongs::{Slip, What, Wrong};
+use lwkt_base::limits::MOST_CPUS;
 use lwkt_base::{CpuId, OutOfMemory, ThreadId};
 use std::alloc::Global;
 
@@ -168,7 +169,7 @@ impl Listing {
     }
 
     fn list_cpus(&mut self, words: &[Word])
-        ensures exact { self.new ≡ cpus_listed (number_at words.now 1 1 8) self.old }
+        ensures exact { self.new ≡ cpus_listed (number_at words.now 1 1 MOST_CPUS) self.old }
         ensures cpus { HasCpus self.old → HasCpus self.new }
     {
         if let Ok(cpus) = number_at(words, 1, 1, 8) {

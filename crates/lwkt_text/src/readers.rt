@@ -15,6 +15,7 @@ use crate::tables::Names;
 use crate::words::Sentence;
 use crate::wrongs::Wrong;
 use lwkt_base::OutOfMemory;
+use lwkt_base::limits::CPU_LIMIT;
 use lwkt_script::{Script, Series};
 use std::alloc::Global;
 
@@ -52,7 +53,7 @@ impl From<OutOfMemory> for Refusal {
 // All that was said.
 fn drafted(names: Names, draft: Draft) -> Reading
     ensures exact { result ≡ drafted names draft }
-    ensures limits { IsDraft names.cpus draft → 1 ≤ names.cpus → names.cpus ≤ 8 → IsWithinLimits result.script }
+    ensures limits { IsDraft names.cpus draft → 1 ≤ names.cpus → names.cpus ≤ CPU_LIMIT → IsWithinLimits result.script }
 {
     let script = Script {
         turns: draft.turns,
@@ -89,7 +90,7 @@ fn sealed(alloc: Global, names: Names, draft: Draft) -> Result<Reading, Refusal>
     ensures ok { IfOk result (λ reading. sealed names draft ≡ Ok reading) }
     ensures err { IfErr result (λ refusal. IsRefusalOf refusal (sealed names draft)) }
     ensures there { IfOk result (λ reading. NamesWhatIsThere reading.script reading.expectations) }
-    ensures limits { IsDraft names.cpus draft → 1 ≤ names.cpus → names.cpus ≤ 8 → IfOk result (λ reading. IsWithinLimits reading.script) }
+    ensures limits { IsDraft names.cpus draft → 1 ≤ names.cpus → names.cpus ≤ CPU_LIMIT → IfOk result (λ reading. IsWithinLimits reading.script) }
 {
     if draft.faults.len() != 0 {
         return Err(Refusal::Wrongs(draft.faults));

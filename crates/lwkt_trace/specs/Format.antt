@@ -6,6 +6,7 @@ use Rattle.serde_json.specs.Find.{get, as_null, as_array}
 use Rattle.serde_json.specs.Read.{read}
 use Rattle.lwkt_base.specs.declared.opening_specs.MsgSpec.{MsgSpec}
 use Rattle.lwkt_base.specs.declared.owners.MsgEnd.{MsgEnd}
+use Rattle.lwkt_base.specs.declared.limits.TheConstants.{MESSAGE_LIMIT, MOST_CPUS, TOKEN_LIMIT, TRACE_BYTES, TRACE_EVENTS}
 use Rattle.lwkt_script.specs.Field.{has_members, number_in, list_in}
 use Rattle.lwkt_script.specs.Format.{cell, message_at}
 use Rattle.lwkt_script.specs.Outcome.{◌>>=◌, ◌>>◌, part, demand, each}
@@ -19,13 +20,13 @@ use Rattle.lwkt_trace.specs.Words.{event_of, message_end_of}
 -- the message after those: there are at most 64
 abbrev pub message_behind : ℕ → List MsgSpec → Data → Result MsgSpec ℕ
 message_behind cpus before d = do
-  demand 2064 (nat_lt (length before) 64)
+  demand 2064 (nat_lt (length before) MESSAGE_LIMIT)
   message_at cpus (2000 + length before) d
 
 -- the event after those, of which there are at most 50000000
 abbrev pub event : List Stated → Data → Result Stated ℕ
 event before d = do
-  demand 51000000 (nat_lt (length before) 50000000)
+  demand 51000000 (nat_lt (length before) TRACE_EVENTS)
   part (1000000 + length before) (event_of d)
 
 -- a list of whole numbers that stands at a place
@@ -35,25 +36,25 @@ numbers place d = part place (as_array d) >>= each (cell place) []
 -- the row after those: there are at most 64
 abbrev pub row_behind : List (List ℕ) → Data → Result (List ℕ) ℕ
 row_behind before d = do
-  demand 3064 (nat_lt (length before) 64)
+  demand 3064 (nat_lt (length before) TOKEN_LIMIT)
   numbers (3000 + length before) d
 
 -- the tallies after those: there are at most 64 lists of them
 abbrev pub tally : List (List ℕ) → Data → Result (List ℕ) ℕ
 tally before d = do
-  demand 4064 (nat_lt (length before) 64)
+  demand 4064 (nat_lt (length before) TOKEN_LIMIT)
   numbers (4000 + length before) d
 
 -- the end of a message after those: there are at most 64
 abbrev pub end : List MsgEnd → Data → Result MsgEnd ℕ
 end before d = do
-  demand 5064 (nat_lt (length before) 64)
+  demand 5064 (nat_lt (length before) MESSAGE_LIMIT)
   part (5000 + length before) (message_end_of d)
 
 -- the record of a token after those: there are at most 64
 abbrev pub record_behind : List (Option (List ℕ)) → Data → Result (Option (List ℕ)) ℕ
 record_behind before d = do
-  demand 6064 (nat_lt (length before) 64)
+  demand 6064 (nat_lt (length before) TOKEN_LIMIT)
   part (6000 + length before) (guard_in d)
 
 -- the records of so many tokens; where they are left out, no token has one
@@ -101,7 +102,7 @@ trace d = do
   event_items ← part 1 (list_in (codes "events") d)
   last_part ← part 1 (get (codes "last") d)
   version ← part 2 (number_in (codes "version") 1 1 d)
-  cpus ← part 3 (number_in (codes "cpus") 1 8 d)
+  cpus ← part 3 (number_in (codes "cpus") 1 MOST_CPUS d)
   tokens ← each guarded [] token_items
   messages ← each (message_behind cpus) [] message_items
   events ← each event [] event_items
@@ -110,4 +111,4 @@ trace d = do
 
 -- the trace that the bytes are: at most 268435456 of them, and one JSON text
 unfoldable pub trace_of : List ℕ → Result Trace ℕ
-trace_of bytes = part 0 (if nat_le (length bytes) 268435456 && is_utf8 bytes then read bytes else None) >>= trace
+trace_of bytes = part 0 (if nat_le (length bytes) TRACE_BYTES && is_utf8 bytes then read bytes else None) >>= trace

@@ -2,6 +2,7 @@
 use Rattle.std.specs.Prelude.{◌≡◌, ◌<◌, ◌≤◌, ◌^◌, List, length, Some, Ok}
 use Rattle.serde_json.specs.Data.{Num, unsigned, negative, float, Data, null, boolean, number, string, array, object, Items, no_items, item, Members, no_members, member}
 use Rattle.serde_json.specs.Read.{read}
+use Rattle.lwkt_base.specs.declared.limits.TheConstants.{TRACE_BYTES}
 use Rattle.lwkt_core.specs.declared.events.Event.{Event}
 use Rattle.lwkt_report.specs.declared.closings.Closing as report
 use Rattle.lwkt_script.specs.declared.scripts.Script.{Script}
@@ -42,4 +43,4 @@ TextIsOfValue =
 abbrev pub WrittenIsReadBack : Type 0
 WrittenIsReadBack =
     (script : Script) (events : List Event) (c : report.Closing) → IsWritableTrace script events c → HasWords (trace_data script events c)
-    → length (trace_text script events c) ≤ 268435456 → trace_of (trace_text script events c) ≡ Ok (stated_trace script events c)
+    → length (trace_text script events c) ≤ TRACE_BYTES → trace_of (trace_text script events c) ≡ Ok (stated_trace script events c)

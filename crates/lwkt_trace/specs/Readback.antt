@@ -7,6 +7,7 @@ use Rattle.lwkt_base.specs.declared.opening_specs.MsgSpec.{MsgSpec}
 use Rattle.lwkt_base.specs.declared.owners.Owner.{Owner}
 use Rattle.lwkt_base.specs.declared.owners.Owner.TheVariants.{Rest, Out, With, Back}
 use Rattle.lwkt_base.specs.declared.owners.MsgEnd.{MsgEnd}
+use Rattle.lwkt_base.specs.declared.limits.TheConstants.{MESSAGE_LIMIT, RECORD_LIMIT, TRACE_EVENTS}
 use Rattle.lwkt_core.specs.Events.{cpu_of}
 use Rattle.lwkt_core.specs.declared.events.Event.{Event}
 use Rattle.lwkt_core.specs.declared.events.Event.TheVariants.{Load, Take, Share, Again, Mark, GiveOne, GiveClean, GiveWritten, Read, Write, ReadBlob, WriteBlob, Send, TakeMsg, DropMsg, Reply, Reap, Abort}
@@ -23,7 +24,7 @@ abbrev pub number_data : ℕ → Data
 number_data n = number (unsigned n)
 
 abbrev pub blob_data : List ℕ → Data
-blob_data blob = string (hex_text (take 64 blob) ++ past_text blob)
+blob_data blob = string (hex_text (take RECORD_LIMIT blob) ++ past_text blob)
 
 -- one item, two and three
 abbrev pub one_item : Data → Items
@@ -120,7 +121,7 @@ EventsAreReadBack = (e : Event) → IsWritable e → event_of (event_data e) ≡
 
 -- a law: the list of the lists that events are written as is read as these events, where a trace may have so many
 abbrev pub EventListsAreReadBack : Type 0
-EventListsAreReadBack = (es : List Event) → AreWritable es → length es ≤ 50000000 → each event [] (events_data es) ≡ Ok (map stated_alone es)
+EventListsAreReadBack = (es : List Event) → AreWritable es → length es ≤ TRACE_EVENTS → each event [] (events_data es) ≡ Ok (map stated_alone es)
 
 -- where a message is, as a list: a word, its processors and its round
 abbrev pub end_data : Owner → ℕ → Data
@@ -146,7 +147,7 @@ AreWritableEnds (e ∷ es) = IsWritablePlace e.state × AreWritableEnds es
 
 -- a law: the list of the ends of at most 64 messages is read as these ends
 abbrev pub EndsAreReadBack : Type 0
-EndsAreReadBack = (es : List MsgEnd) → AreWritableEnds es → length es ≤ 64 → each end [] (ends_data es) ≡ Ok es
+EndsAreReadBack = (es : List MsgEnd) → AreWritableEnds es → length es ≤ MESSAGE_LIMIT → each end [] (ends_data es) ≡ Ok es
 
 -- a message of the opening: its origin and its round
 abbrev pub message_data : MsgSpec → Data
@@ -162,4 +163,4 @@ AreMessages cpus (m ∷ ms) = IsMessage cpus m × AreMessages cpus ms
 
 -- a law: the list of at most 64 messages that a script may have is read as these messages
 abbrev pub MessagesAreReadBack : Type 0
-MessagesAreReadBack = (cpus : ℕ) (ms : List MsgSpec) → AreMessages cpus ms → length ms ≤ 64 → each (message_behind cpus) [] (messages_data ms) ≡ Ok ms
+MessagesAreReadBack = (cpus : ℕ) (ms : List MsgSpec) → AreMessages cpus ms → length ms ≤ MESSAGE_LIMIT → each (message_behind cpus) [] (messages_data ms) ≡ Ok ms

@@ -1,6 +1,7 @@
 -- Texts that are written just as this crate writes them: an event, events one after another, and what stands round them in a
 -- trace (own).
 use Rattle.std.specs.Prelude.{◌≡◌, ℕ, ◌<◌, ◌≤◌, List, ◌++◌, length, map, take, Option, Ok}
+use Rattle.lwkt_base.specs.declared.limits.TheConstants.{TRACE_BYTES, TRACE_EVENTS}
 use Rattle.lwkt_core.specs.declared.events.Event.{Event}
 use Rattle.lwkt_trace.specs.Format.{trace_of}
 use Rattle.lwkt_trace.specs.Printed.{HasWords, ItemsHaveWords}
@@ -45,5 +46,5 @@ with_events trace events = record { cpus = trace.cpus; tokens = trace.tokens; me
 -- whatever events are written between these bytes, at most 50000000 of them, the whole is read as this trace with these events
 abbrev pub Frames : List ℕ → List ℕ → Trace → Type 0
 Frames front back trace =
-    (text : List ℕ) (events : List Event) → AreWritten text events → length events ≤ 50000000 → length (front ++ (text ++ back)) ≤ 268435456
+    (text : List ℕ) (events : List Event) → AreWritten text events → length events ≤ TRACE_EVENTS → length (front ++ (text ++ back)) ≤ TRACE_BYTES
     → trace_of (front ++ (text ++ back)) ≡ Ok (with_events trace (map stated_alone events))

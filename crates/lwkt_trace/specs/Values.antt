@@ -3,6 +3,7 @@ use Rattle.std.specs.Prelude.{◌≡◌, ℕ, ◌≤◌, List, [], length, map, 
 use Rattle.std.specs.List.{list_any}
 use Rattle.serde_json.specs.Data.{Data, null, string, array, object, Members, no_members, member}
 use Rattle.lwkt_base.specs.declared.opening_specs.TokSpec.{TokSpec}
+use Rattle.lwkt_base.specs.declared.limits.TheConstants.{MESSAGE_LIMIT, RECORD_LIMIT, TOKEN_LIMIT, TRACE_EVENTS}
 use Rattle.lwkt_core.specs.declared.events.Event.{Event}
 use Rattle.lwkt_report.specs.declared.closings.Closing as report
 use Rattle.lwkt_report.specs.declared.closings.TokenLine.{TokenLine}
@@ -40,7 +41,7 @@ pub record IsTyped (t : TokSpec) : Type 0 where
 
 -- a law: the list of at most 64 tokens that a script may open is read as these tokens
 abbrev pub TokensAreReadBack : Type 0
-TokensAreReadBack = (ts : List TokSpec) → All IsToken ts → All IsTyped ts → length ts ≤ 64 → each guarded [] (items_as token_data ts) ≡ Ok ts
+TokensAreReadBack = (ts : List TokSpec) → All IsToken ts → All IsTyped ts → length ts ≤ TOKEN_LIMIT → each guarded [] (items_as token_data ts) ≡ Ok ts
 
 -- what a processor has added, none where the token's law isn't Tally
 abbrev pub tallies_data : Option (List ℕ) → Data
@@ -99,7 +100,7 @@ stated_closing c = record {
 
 -- a record that a token may guard: at most 64 bytes
 abbrev pub IsGuard : List ℕ → Type 0
-IsGuard blob = (length blob ≤ 64) × AreBytes blob
+IsGuard blob = (length blob ≤ RECORD_LIMIT) × AreBytes blob
 
 -- a line of a token whose record, if it has one, it may guard
 abbrev pub HasGuard : TokenLine → Type 0
@@ -107,9 +108,9 @@ HasGuard line = IfSome line.blob IsGuard
 
 -- closing values of at most 64 tokens and at most 64 messages, whose parts are of their types
 pub record IsWritableClosing (c : report.Closing) : Type 0 where
-  pub few_tokens : length c.tokens.items ≤ 64
+  pub few_tokens : length c.tokens.items ≤ TOKEN_LIMIT
   pub records : All HasGuard c.tokens.items
-  pub few_messages : length c.messages.items ≤ 64
+  pub few_messages : length c.messages.items ≤ MESSAGE_LIMIT
   pub messages : AreWritableEnds c.messages.items
 
 -- a law: the object that closing values are written as is read as these values
@@ -141,7 +142,7 @@ pub record IsWritableTrace (script : Script) (events : List Event) (c : report.C
   pub limits : IsWithinLimits script
   pub typed : All IsTyped script.tokens
   pub writable : AreWritable events
-  pub few_events : length events ≤ 50000000
+  pub few_events : length events ≤ TRACE_EVENTS
   pub closed : IsWritableClosing c
 
 -- a law: the object that a trace is written as is read as this trace

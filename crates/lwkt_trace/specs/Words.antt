@@ -11,6 +11,7 @@ use Rattle.lwkt_base.specs.declared.names.MsgId.{MsgId}
 use Rattle.lwkt_base.specs.declared.owners.Owner.TheVariants.{Rest, Out, With, Back}
 use Rattle.lwkt_base.specs.declared.owners.MsgEnd.{MsgEnd}
 use Rattle.lwkt_base.specs.declared.sections.Section.{Section}
+use Rattle.lwkt_base.specs.declared.limits.TheConstants.{CELL_LIMIT}
 use Rattle.lwkt_core.specs.declared.events.Event.{Event}
 use Rattle.lwkt_core.specs.declared.events.Event.TheVariants.{Load, Take, Share, Again, Mark, GiveOne, GiveClean, GiveWritten, Read, Write, ReadBlob, WriteBlob, Send, TakeMsg, DropMsg, Reply, Reap, Abort}
 use Rattle.lwkt_core.specs.declared.events.Place.{Place}
@@ -85,7 +86,7 @@ numbers_behind before (item d ds) = whole d >>= λ n. numbers_behind (before ++ 
 
 -- a row: at most four whole numbers
 abbrev pub row_of : Items → Option (List ℕ)
-row_of items = if nat_le (items_len items) 4 then numbers_behind [] items else None
+row_of items = if nat_le (items_len items) CELL_LIMIT then numbers_behind [] items else None
 
 -- item i, a row
 abbrev pub row_item : ℕ → Data → Option (List ℕ)

@@ -10,6 +10,7 @@ use Rattle.lwkt_base.specs.declared.opening_specs.TokSpec.{TokSpec}
 use Rattle.lwkt_base.specs.declared.owners.Owner.{Owner}
 use Rattle.lwkt_base.specs.declared.owners.Owner.TheVariants.{Rest, Out, With, Back}
 use Rattle.lwkt_base.specs.declared.owners.MsgEnd.{MsgEnd}
+use Rattle.lwkt_base.specs.declared.limits.TheConstants.{RECORD_LIMIT}
 use Rattle.lwkt_core.specs.Events.{cpu_of}
 use Rattle.lwkt_core.specs.declared.events.Event.{Event}
 use Rattle.lwkt_core.specs.declared.events.Event.TheVariants.{Load, Take, Share, Again, Mark, GiveOne, GiveClean, GiveWritten, Read, Write, ReadBlob, WriteBlob, Send, TakeMsg, DropMsg, Reply, Reap, Abort}
@@ -44,7 +45,7 @@ comma n = codes "," ++ decimal n
 
 -- the digits that stand for the bytes of a record past the 64th, of which there is one at most
 abbrev pub past_text : List ℕ → List ℕ
-past_text blob = if nat_lt 64 (length blob) then codes "00" else []
+past_text blob = if nat_lt RECORD_LIMIT (length blob) then codes "00" else []
 
 -- a record: two digits for each of its bytes
 unfoldable pub blob_text : List ℕ → List ℕ

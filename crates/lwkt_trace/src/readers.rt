@@ -78,7 +78,7 @@ pub fn read_trace(alloc: Global, bytes: &[u8]) -> Result<Trace, Fault>
     ensures exact { Gives (λ t. t) result (trace_of bytes.now) }
 
     // No memory is taken for no bytes or for too many.
-    ensures memory { result ≡ Err no_memory → (0 < length bytes.now) × (length bytes.now ≤ 268435456) }
+    ensures memory { result ≡ Err no_memory → (0 < length bytes.now) × (length bytes.now ≤ TRACE_BYTES) }
 {
     if bytes.len() > TRACE_BYTES {
         return Err(Fault::Script { place: 0 });

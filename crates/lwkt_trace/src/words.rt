@@ -6,6 +6,7 @@ ghost use Rattle.lwkt_trace.specs.Words.{IsWordOf, place_at, spaced_numbers, num
 ghost use Rattle.lwkt_trace.specs.Written.{word_of_event, law_text};
 
 use lwkt_base::hexes::show_hex_or_none;
+use lwkt_base::limits::RECORD_LIMIT;
 use lwkt_base::memory::{push_str, put};
 use lwkt_base::{Blob, Law, MsgId, OutOfMemory, TokId};
 use lwkt_core::Event;
@@ -87,7 +88,7 @@ pub fn law_name(law: Law) -> &'static str
 
 /// Appends the bytes of a record that are kept, two digits for each, or `-` where it has none.
 pub fn show_bytes(out: &mut String, blob: &Blob) -> Result<(), OutOfMemory>
-    ensures { OnOk result (string_bytes out.new ≡ string_bytes out.old ++ bytes_text (take 64 blob.now)) }
+    ensures { OnOk result (string_bytes out.new ≡ string_bytes out.old ++ bytes_text (take RECORD_LIMIT blob.now)) }
 {
     show_hex_or_none(blob.as_slice(), out)
 }

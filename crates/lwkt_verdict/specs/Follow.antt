@@ -12,6 +12,7 @@ use Rattle.lwkt_core.specs.declared.events.Event.{Event}
 use Rattle.lwkt_core.specs.Machine.{Machine}
 use Rattle.lwkt_script.specs.declared.scripts.ThreadSpec.{ThreadSpec}
 use Rattle.lwkt_base.specs.declared.threads.ThreadLine.{ThreadLine}
+use Rattle.lwkt_base.specs.declared.limits.TheConstants.{CPU_LIMIT, LOG_LIMIT, MACHINE_THREADS, THREAD_LIMIT}
 use Rattle.lwkt_verdict.specs.declared.expected.Expected.{Expected}
 use Rattle.lwkt_verdict.specs.declared.expected.Expected.TheVariants.{Any, NoRefusal, Refusal, Value, Bytes}
 use Rattle.lwkt_verdict.specs.declared.progress.Asked.{Asked}
@@ -57,18 +58,18 @@ entry_so t answer = option_and_then (λ w. logged_by (asked_so w answer)) t.last
 
 -- how far a thread has come whose last ask gets this answer
 abbrev pub come : Known → Option Answer → Progress
-come t answer = record { polls = t.polls; last = option_map (λ w. asked_so w answer) t.last; logged = option_map_or (λ e. min 32 (length t.log + 1)) (entry_so t answer) (length t.log) }
+come t answer = record { polls = t.polls; last = option_map (λ w. asked_so w answer) t.last; logged = option_map_or (λ e. min LOG_LIMIT (length t.log + 1)) (entry_so t answer) (length t.log) }
 
 -- a thread's last ask can have this answer, and its line has the entries so far, and then that of the answer, if there is room for it
 pub record Bears (t : Known) (answer : Option Answer) (line : ThreadLine) : Type 0 where
   pub expected : MatchOption t.last (Unit {0}) (λ w. is_expected w.expected answer ≡ true)
   pub answers : MatchOption t.last (Unit {0}) (λ w. MatchOption answer (Unit {0}) (λ a. may_answer w.ask a ≡ true))
   pub entries : take (length t.log) line.log ≡ t.log
-  pub entry : MatchOption (entry_so t answer) (Unit {0}) (λ e. length t.log < 32 → slice_get line.log (length t.log) ≡ Some e)
+  pub entry : MatchOption (entry_so t answer) (Unit {0}) (λ e. length t.log < LOG_LIMIT → slice_get line.log (length t.log) ≡ Some e)
 
 -- the same of all threads, 16 for each of 8 processors: each that the script has has its line
 abbrev pub AllBear : List Known → (ℕ → Option Answer) → List ThreadLine → Type 0
-AllBear table answers lines = (k : ℕ) → k < 128 → MatchOption (slice_get table k) ⊥ (λ t. MatchOption (line_of k lines) (t.plan ≡ None) (Bears t (answers k)))
+AllBear table answers lines = (k : ℕ) → k < MACHINE_THREADS → MatchOption (slice_get table k) ⊥ (λ t. MatchOption (line_of k lines) (t.plan ≡ None) (Bears t (answers k)))
 
 -- what is possible of a thread so far, if its last ask gets this answer: it has a line, which bears it, or has none and was never polled;
 -- and an ask whose event isn't there hasn't blocked it
@@ -78,15 +79,15 @@ pub record Allows (t : Known) (answer : Option Answer) (line : Option ThreadLine
 
 -- the same of all threads
 abbrev pub AllAllow : List Known → (ℕ → Option Answer) → List ThreadLine → Type 0
-AllAllow table answers lines = (k : ℕ) → k < 128 → MatchOption (slice_get table k) ⊥ (λ t. Allows t (answers k) (line_of k lines))
+AllAllow table answers lines = (k : ℕ) → k < MACHINE_THREADS → MatchOption (slice_get table k) ⊥ (λ t. Allows t (answers k) (line_of k lines))
 
 -- so far the threads have come after these turns, where their last asks get these answers
 abbrev pub AreShown : List Piece → List Known → (ℕ → Option Answer) → Type 0
-AreShown before table answers = (k : ℕ) → k < 128 → MatchOption (slice_get table k) ⊥ (λ t. came before k ≡ come t (answers k))
+AreShown before table answers = (k : ℕ) → k < MACHINE_THREADS → MatchOption (slice_get table k) ⊥ (λ t. came before k ≡ come t (answers k))
 
 -- each thread of a script in its place
 abbrev pub AreThreads : List ThreadSpec → List Known → Type 0
-AreThreads plans table = (length table ≡ 128) × ((cpu n : ℕ) → cpu < 8 → n < 16 → MatchOption (slice_get table (16 * cpu + n)) ⊥ (λ t. t.plan ≡ plan_of_thread cpu n plans))
+AreThreads plans table = (length table ≡ MACHINE_THREADS) × ((cpu n : ℕ) → cpu < CPU_LIMIT → n < THREAD_LIMIT → MatchOption (slice_get table (THREAD_LIMIT * cpu + n)) ⊥ (λ t. t.plan ≡ plan_of_thread cpu n plans))
 
 -- what a check knows that follows a run: the script's threads, what it knows of each, and the machine that the trace so far leads to
 pub record Follow : Type 0 where
@@ -146,7 +147,7 @@ pub record Begins (script : List ThreadSpec) (opening : Machine) (f : Follow) : 
 -- the run ends here, as these lines say, with the events of the stop
 pub record EndsHere (f : Follow) (lines : List ThreadLine) (stop : List Event) : Type 0 where
   pub listed : AreListed f.machine.cpus 0 lines
-  pub paired : (cpu n : ℕ) → cpu < 8 → n < 16 → IsPaired f.plans lines cpu n
+  pub paired : (cpu n : ℕ) → cpu < CPU_LIMIT → n < THREAD_LIMIT → IsPaired f.plans lines cpu n
   pub bear : AllBear f.table none_answered lines
   pub ends : (before : List Piece) → AreShown before f.table none_answered → EndsRun f.plans lines f.machine before stop
 

@@ -8,6 +8,7 @@ use Rattle.lwkt_core.specs.declared.events.Event.TheVariants.{Read, ReadBlob}
 use Rattle.lwkt_core.specs.Machine.{Machine}
 use Rattle.lwkt_script.specs.declared.scripts.ThreadSpec.{ThreadSpec}
 use Rattle.lwkt_base.specs.declared.threads.ThreadLine.{ThreadLine}
+use Rattle.lwkt_base.specs.declared.limits.TheConstants.{LOG_LIMIT, MACHINE_THREADS, THREAD_LIMIT}
 use Rattle.lwkt_verdict.specs.declared.expected.Expected.{Expected}
 use Rattle.lwkt_verdict.specs.declared.expected.Expected.TheVariants.{Any, NoRefusal, Refusal, Value, Bytes}
 use Rattle.lwkt_verdict.specs.Asks.{may_answer, makes_event}
@@ -38,7 +39,7 @@ unpolled plan = record { plan = plan; polls = 0; last = None; log = [] }
 -- a log with an entry behind it, if there is one and there is room for it
 abbrev pub log_with : List Entry → Option Entry → List Entry
 log_with log None = log
-log_with log (Some e) = if nat_lt (length log) 32 then (log ++ e ∷ []) else log
+log_with log (Some e) = if nat_lt (length log) LOG_LIMIT then (log ++ e ∷ []) else log
 
 -- what is known of a thread's last ask, if there is one
 abbrev pub awaited : Option Ask → Bool → Expected → Option Awaited
@@ -118,11 +119,11 @@ pub record IsEnded (t : Known) (line : Option ThreadLine) : Type 0 where
 
 -- what holds of each thread of a table, by its number
 abbrev pub AllThreads : (ℕ → Known → Type 0) → List Known → Type 0
-AllThreads P table = (k : ℕ) → k < 128 → MatchOption (slice_get table k) ⊥ (P k)
+AllThreads P table = (k : ℕ) → k < MACHINE_THREADS → MatchOption (slice_get table k) ⊥ (P k)
 
 -- what holds of each thread of a table before and after something, by its number
 abbrev pub AllPairs : (ℕ → Known → Known → Type 0) → List Known → List Known → Type 0
-AllPairs P old new = (k : ℕ) → k < 128 → MatchOption (slice_get old k) ⊥ (λ t. MatchOption (slice_get new k) ⊥ (P k t))
+AllPairs P old new = (k : ℕ) → k < MACHINE_THREADS → MatchOption (slice_get old k) ⊥ (λ t. MatchOption (slice_get new k) ⊥ (P k t))
 
 -- the threads stay in their places
 abbrev pub KeepsPlans : List Known → List Known → Type 0
@@ -134,12 +135,12 @@ AreKept old new = AllPairs (λ k. IsKept) old new
 
 -- each thread of a processor may rest
 abbrev pub MayAllRest : ℕ → List Known → List Known → Type 0
-MayAllRest cpu old new = AllPairs (λ k t u. k / 16 ≡ cpu → MayRest t u) old new
+MayAllRest cpu old new = AllPairs (λ k t u. k / THREAD_LIMIT ≡ cpu → MayRest t u) old new
 
 -- each thread of a processor can have rested, and no other one changes
 abbrev pub AllowAllRest : ℕ → List Known → List Known → Type 0
-AllowAllRest cpu old new = AllPairs (λ k t u. (k / 16 ≡ cpu → AllowsRest t u) × (¬ (k / 16 ≡ cpu) → u ≡ t)) old new
+AllowAllRest cpu old new = AllPairs (λ k t u. (k / THREAD_LIMIT ≡ cpu → AllowsRest t u) × (¬ (k / THREAD_LIMIT ≡ cpu) → u ≡ t)) old new
 
 -- a thread of a processor can't have rested
 abbrev pub OneMayNotRest : ℕ → List Known → Type 0
-OneMayNotRest cpu table = (n : ℕ) × ((n < 16) × MatchOption (slice_get table (16 * cpu + n)) ⊥ MayNotRest)
+OneMayNotRest cpu table = (n : ℕ) × ((n < THREAD_LIMIT) × MatchOption (slice_get table (THREAD_LIMIT * cpu + n)) ⊥ MayNotRest)

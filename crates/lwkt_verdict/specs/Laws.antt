@@ -5,6 +5,7 @@ use Rattle.lwkt_core.specs.Machine.{Machine}
 use Rattle.lwkt_core.specs.Trace.{Run}
 use Rattle.lwkt_script.specs.declared.scripts.ThreadSpec.{ThreadSpec}
 use Rattle.lwkt_base.specs.declared.threads.ThreadLine.{ThreadLine}
+use Rattle.lwkt_base.specs.declared.limits.TheConstants.{CPU_LIMIT, LOG_LIMIT, THREAD_LIMIT}
 use Rattle.lwkt_verdict.specs.declared.turns.Poll.{Poll}
 use Rattle.lwkt_verdict.specs.declared.turns.Turn.{Turn}
 use Rattle.lwkt_verdict.specs.declared.progress.Asked.{Asked}
@@ -21,7 +22,7 @@ pieces_of polls (turn ∷ turns) events = piece (poll_of polls turn) (take turn.
 
 -- what the turns of a run asked of thread n of a processor, in order
 abbrev pub asks_of : List Poll → List Turn → List Event → ℕ → ℕ → List Asked
-asks_of polls turns trace cpu n = asked_by (16 * cpu + n) (pieces_of polls turns trace)
+asks_of polls turns trace cpu n = asked_by (THREAD_LIMIT * cpu + n) (pieces_of polls turns trace)
 
 -- what holds of each run of each script
 abbrev pub OfRuns : (List ThreadSpec → Machine → List Poll → List Turn → List Event → List ThreadLine → Type 0) → Type 0
@@ -29,7 +30,7 @@ OfRuns P = (plans : List ThreadSpec) (pace : Pace) (order : List ℕ) (opening :
 
 -- what holds of each of the threads that there can be
 abbrev pub OfThreads : (ℕ → ℕ → Type 0) → Type 0
-OfThreads P = (cpu n : ℕ) → cpu < 8 → n < 16 → P cpu n
+OfThreads P = (cpu n : ℕ) → cpu < CPU_LIMIT → n < THREAD_LIMIT → P cpu n
 
 -- a theorem: no turn at all is no run in rounds
 abbrev pub NoTurnsAreNoRun : Type 0
@@ -53,4 +54,4 @@ AllButTheLastAreAnswered = OfRuns (λ plans opening polls turns trace lines. OfT
 
 -- a theorem: a thread's printed log is the first 32 entries of the answers to its asks
 abbrev pub LogsAreTheFirstEntries : Type 0
-LogsAreTheFirstEntries = OfRuns (λ plans opening polls turns trace lines. OfThreads (λ cpu n. IfSome (line_of (16 * cpu + n) lines) (λ line. line.log ≡ take 32 (entries_of (asks_of polls turns trace cpu n)))))
+LogsAreTheFirstEntries = OfRuns (λ plans opening polls turns trace lines. OfThreads (λ cpu n. IfSome (line_of (THREAD_LIMIT * cpu + n) lines) (λ line. line.log ≡ take LOG_LIMIT (entries_of (asks_of polls turns trace cpu n)))))

@@ -7,6 +7,7 @@ use Rattle.lwkt_core.specs.Events.{cpu_of}
 use Rattle.lwkt_core.specs.Machine.{Machine}
 use Rattle.lwkt_script.specs.declared.scripts.ThreadSpec.{ThreadSpec}
 use Rattle.lwkt_base.specs.declared.threads.ThreadLine.{ThreadLine}
+use Rattle.lwkt_base.specs.declared.limits.TheConstants.{CPU_LIMIT, THREAD_LIMIT}
 use Rattle.lwkt_verdict.specs.declared.turns.Poll.{Poll}
 use Rattle.lwkt_verdict.specs.declared.turns.Turn.{Turn}
 use Rattle.lwkt_verdict.specs.declared.turns.Pace.{Pace}
@@ -40,14 +41,14 @@ asked_of_poll q blocked = record { ask = q.ask; answer = q.answer; blocked = blo
 -- in the thread's log
 pub record PollFits (plans : List ThreadSpec) (lines : List ThreadLine) (cpu : ℕ) (p : Progress) (q : Poll) : Type 0 where
   pub here : q.thread.cpu.0 ≡ cpu
-  pub numbered : q.thread.thread < 16
+  pub numbered : q.thread.thread < THREAD_LIMIT
   pub asks : MatchOption (plan_of_thread cpu q.thread.thread plans) ⊥ (λ plan. MayAsk plan p q.ask)
   pub answers : MatchOption q.answer (Unit {0}) (λ a. may_answer q.ask a ≡ true)
-  pub logs : MatchOption (line_of (16 * cpu + q.thread.thread) lines) ⊥ (λ line. IsLogged line p (asked_of_poll q false))
+  pub logs : MatchOption (line_of (THREAD_LIMIT * cpu + q.thread.thread) lines) ⊥ (λ line. IsLogged line p (asked_of_poll q false))
 
 -- a turn without an ask fits threads that have come so far: each thread of its processor may rest
 abbrev pub Idles : List ThreadSpec → ℕ → (ℕ → Progress) → Type 0
-Idles plans cpu progress = (n : ℕ) → n < 16 → MatchOption (plan_of_thread cpu n plans) (Unit {0}) (λ plan. Rests (progress (16 * cpu + n)))
+Idles plans cpu progress = (n : ℕ) → n < THREAD_LIMIT → MatchOption (plan_of_thread cpu n plans) (Unit {0}) (λ plan. Rests (progress (THREAD_LIMIT * cpu + n)))
 
 -- the part of a turn with or without an ask
 abbrev pub MakesPart : Machine → Option Poll → List Event → Type 0
@@ -63,7 +64,7 @@ pub record TurnFits (plans : List ThreadSpec) (lines : List ThreadLine) (cpu : �
 -- the end of a run: the events of the stop may happen unasked, and each thread of the script has its line and ends as it says
 pub record EndsRun (plans : List ThreadSpec) (lines : List ThreadLine) (m : Machine) (before : List Piece) (stop : List Event) : Type 0 where
   pub quiet : GoesQuietly m stop
-  pub ends : (cpu n : ℕ) → cpu < 8 → n < 16 → EndsAsShown (plan_of_thread cpu n plans) (line_of (16 * cpu + n) lines) (came before (16 * cpu + n))
+  pub ends : (cpu n : ℕ) → cpu < CPU_LIMIT → n < THREAD_LIMIT → EndsAsShown (plan_of_thread cpu n plans) (line_of (THREAD_LIMIT * cpu + n) lines) (came before (THREAD_LIMIT * cpu + n))
 
 -- the processor of the turn of this number, by an order of processors
 abbrev pub whose : List ℕ → ℕ → ℕ
@@ -85,12 +86,12 @@ BeginRun plans lines polls order m before (turn ∷ turns) events =
 
 -- a thread and its line are both there, or neither is
 abbrev pub IsPaired : List ThreadSpec → List ThreadLine → ℕ → ℕ → Type 0
-IsPaired plans lines cpu n = is_some (plan_of_thread cpu n plans) ≡ is_some (line_of (16 * cpu + n) lines)
+IsPaired plans lines cpu n = is_some (plan_of_thread cpu n plans) ≡ is_some (line_of (THREAD_LIMIT * cpu + n) lines)
 
 -- the lines of threads are in order, by processor, then number
 abbrev pub AreListed : ℕ → ℕ → List ThreadLine → Type 0
 AreListed cpus least [] = Unit {0}
-AreListed cpus least (l ∷ ls) = (least ≤ slot_of l.id) × ((l.id.cpu.0 < cpus) × ((l.id.thread < 16) × AreListed cpus (slot_of l.id + 1) ls))
+AreListed cpus least (l ∷ ls) = (least ≤ slot_of l.id) × ((l.id.cpu.0 < cpus) × ((l.id.thread < THREAD_LIMIT) × AreListed cpus (slot_of l.id + 1) ls))
 
 -- the rounds of a run end before the script's are used up: the last round has no ask, and every thread has ended
 pub record EndsEarly (polls : List Poll) (cpus : ℕ) (limit : ℕ) (turns : List Turn) (lines : List ThreadLine) : Type 0 where
@@ -120,7 +121,7 @@ KeepsPace Named polls cpus order turns lines = Unit {0}
 -- which ends as the lines say
 pub record IsScriptRun (plans : List ThreadSpec) (pace : Pace) (order : List ℕ) (opening : Machine) (polls : List Poll) (turns : List Turn) (trace : List Event) (lines : List ThreadLine) : Type 0 where
   pub listed : AreListed opening.cpus 0 lines
-  pub paired : (cpu n : ℕ) → cpu < 8 → n < 16 → IsPaired plans lines cpu n
+  pub paired : (cpu n : ℕ) → cpu < CPU_LIMIT → n < THREAD_LIMIT → IsPaired plans lines cpu n
   pub named : length order ≡ length turns
   pub within : All (λ cpu. cpu < opening.cpus) order
   pub paced : KeepsPace pace polls opening.cpus order turns lines

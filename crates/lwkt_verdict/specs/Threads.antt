@@ -9,6 +9,7 @@ use Rattle.lwkt_base.specs.declared.entries.Entry.{Entry}
 use Rattle.lwkt_base.specs.Fault.{number_of}
 use Rattle.lwkt_script.specs.declared.scripts.ThreadSpec.{ThreadSpec}
 use Rattle.lwkt_base.specs.declared.threads.ThreadLine.{ThreadLine}
+use Rattle.lwkt_base.specs.declared.limits.TheConstants.{LOG_LIMIT, THREAD_LIMIT}
 use Rattle.lwkt_verdict.specs.declared.progress.Asked.{Asked}
 use Rattle.lwkt_verdict.specs.declared.progress.Progress.{Progress}
 use Rattle.lwkt_verdict.specs.declared.progress.Piece.{Piece}
@@ -17,7 +18,7 @@ use Rattle.lwkt_verdict.specs.Asks.{is_refused, is_exit, may_block, may_wait}
 
 -- a thread's number among those of all processors, 16 for each
 abbrev pub slot_of : ThreadId → ℕ
-slot_of id = 16 * id.cpu.0 + id.thread
+slot_of id = THREAD_LIMIT * id.cpu.0 + id.thread
 
 -- thread number n of a processor: its n-th thread in the script, counted from 0
 abbrev pub plan_of_thread : ℕ → ℕ → List ThreadSpec → Option ThreadSpec
@@ -56,11 +57,11 @@ entries_of asked = filter_map logged_by asked
 
 -- how far a thread has come
 abbrev pub progress_of : List Asked → Progress
-progress_of asked = record { polls = length asked; last = last_of asked; logged = min 32 (length (entries_of asked)) }
+progress_of asked = record { polls = length asked; last = last_of asked; logged = min LOG_LIMIT (length (entries_of asked)) }
 
 -- how far a thread has come after one more ask
 abbrev pub progress_after : Progress → Asked → Progress
-progress_after p a = record { polls = p.polls + 1; last = Some a; logged = option_map_or (λ e. min 32 (p.logged + 1)) (logged_by a) p.logged }
+progress_after p a = record { polls = p.polls + 1; last = Some a; logged = option_map_or (λ e. min LOG_LIMIT (p.logged + 1)) (logged_by a) p.logged }
 
 -- a thread that has come so far may be polled with this ask: it is the thread's next ask, and the ask before it has its answer
 abbrev pub MayAsk : ThreadSpec → Progress → Ask → Type 0
@@ -68,7 +69,7 @@ MayAsk plan p ask = (ask_at plan p.polls ≡ Some ask) × MatchOption p.last (Un
 
 -- the entry of an ask's answer, if it has one and is among the first 32, stands at its place in the thread's log
 abbrev pub IsLogged : ThreadLine → Progress → Asked → Type 0
-IsLogged line p a = MatchOption (logged_by a) (Unit {0}) (λ e. p.logged < 32 → slice_get line.log p.logged ≡ Some e)
+IsLogged line p a = MatchOption (logged_by a) (Unit {0}) (λ e. p.logged < LOG_LIMIT → slice_get line.log p.logged ≡ Some e)
 
 -- whether a thread is blocked by what it last asked: that isn't refused, and its part shows that it blocked
 abbrev pub is_blocked : Asked → Bool

@@ -12,7 +12,7 @@ use crate::followed::Followed;
 use crate::plans::{find_line, find_thread};
 use crate::rounds::are_listed;
 use crate::turn_parts::{are_of, goes_quietly};
-use lwkt_base::limits::MACHINE_THREADS;
+use lwkt_base::limits::{CPU_LIMIT, MACHINE_THREADS, THREAD_LIMIT};
 use lwkt_base::memory::{push, with_capacity};
 use lwkt_base::{Answer, Ask, OutOfMemory, ThreadId, ThreadLine};
 use lwkt_core::{Event, State};
@@ -50,8 +50,8 @@ impl<'p> Model for Follower<'p> {
 
 // The thread of this number, 16 for each processor, if the script has it.
 fn thread_at(plans: &[ThreadSpec], slot: usize) -> Option<&ThreadSpec>
-    requires { slot < 128 }
-    ensures { option_copied result ≡ plan_of_thread (slot / 16) (slot % 16) plans.now }
+    requires { slot < MACHINE_THREADS }
+    ensures { option_copied result ≡ plan_of_thread (slot / THREAD_LIMIT) (slot % THREAD_LIMIT) plans.now }
 {
     match find_thread((slot / 16) as u8, (slot % 16) as u8, plans) {
         None => None,
@@ -74,7 +74,7 @@ fn unpolled_threads<'p>(
     alloc: Global,
     plans: &'p [ThreadSpec],
 ) -> Result<Vec<Followed<'p>>, OutOfMemory>
-    ensures { IfOk result (λ table. (length table.items ≡ 128) × AllThreads (λ k t. t ≡ unpolled (plan_of_thread (k / 16) (k % 16) plans.now)) table.items) }
+    ensures { IfOk result (λ table. (length table.items ≡ MACHINE_THREADS) × AllThreads (λ k t. t ≡ unpolled (plan_of_thread (k / THREAD_LIMIT) (k % THREAD_LIMIT) plans.now)) table.items) }
 {
     let mut table = with_capacity(alloc, MACHINE_THREADS)?;
     for slot in 0..MACHINE_THREADS {
@@ -113,8 +113,8 @@ fn asks<'p>(
 
 // Whether each thread of a processor rests.
 fn all_rest(table: &mut [Followed<'_>], cpu: usize) -> bool
-    requires processor { cpu < 8 }
-    requires room { length table.old ≡ 128 }
+    requires processor { cpu < CPU_LIMIT }
+    requires room { length table.old ≡ MACHINE_THREADS }
     ensures plans { KeepsPlans table.old table.new }
     ensures kept { IsTrue result → AreKept table.old table.new }
     ensures rests { IsTrue result → MayAllRest cpu table.old table.new }
@@ -131,7 +131,7 @@ fn all_rest(table: &mut [Followed<'_>], cpu: usize) -> bool
 
 // Whether each thread ends as its line says.
 fn all_end(table: &[Followed<'_>], lines: &[ThreadLine]) -> bool
-    requires room { length table.now ≡ 128 }
+    requires room { length table.now ≡ MACHINE_THREADS }
     ensures ends { IsTrue result → AllThreads (λ k t. IsEnded t (line_of k lines.now)) table.now }
     ensures declines { result ≡ false → ¬ AllThreads (λ k t. MayEnd t (line_of k lines.now)) table.now }
 {
@@ -177,7 +177,7 @@ impl<'p> Follower<'p> {
         asked: &Ask,
         part: &[Event],
     ) -> Result<bool, OutOfMemory>
-        requires processor { cpu < 8 }
+        requires processor { cpu < CPU_LIMIT }
         ensures goes { IfOk result (λ yes. IsTrue yes → GoesOnByPoll cpu thread heard.now asked.now part.now self.old self.new) }
         ensures declines { IfOk result (λ yes. yes ≡ false → DeclinesPoll cpu thread heard.now asked.now part.now self.old) }
     {
@@ -198,7 +198,7 @@ impl<'p> Follower<'p> {
     /// Whether a turn of this processor, 0 to 7, that polled no thread fits the turns before it, with this part of the trace. If it fits, the
     /// check goes on by it; else nothing follows from the check any more.
     pub fn rest(&mut self, cpu: usize, part: &[Event]) -> bool
-        requires processor { cpu < 8 }
+        requires processor { cpu < CPU_LIMIT }
         ensures goes { IsTrue result → GoesOnUnasked cpu part.now self.old self.new }
         ensures declines { result ≡ false → DeclinesUnasked cpu part.now self.old }
     {

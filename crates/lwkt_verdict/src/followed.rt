@@ -44,6 +44,7 @@ pub struct Followed<'p> {
 impl<'p> Model for Followed<'p> {
     ghost use Rattle.std.specs.Prelude.{◌≡◌, ◌<◌, ◌≤◌, length, option_map};
     ghost use Rattle.std.specs.Option.{option_copied};
+    ghost use Rattle.lwkt_base.specs.declared.limits.TheConstants.{LOG_LIMIT};
     ghost use Rattle.lwkt_verdict.specs.Spots.{spot_at};
     ghost use Rattle.lwkt_verdict.specs.Follow.{Known};
     ghost use Rattle.lwkt_verdict.specs.Followed.{awaited, count_of};
@@ -52,7 +53,7 @@ impl<'p> Model for Followed<'p> {
 
     ghost view = { λ f. record { plan = option_copied f.plan; polls = f.polls; last = awaited (option_copied f.last) f.blocked f.expected; log = f.log.items } };
 
-    ghost invariant = { λ f. (f.count ≡ count_of (option_copied f.plan)) × (f.spot ≡ spot_at f.count f.polls) × (length f.log.items ≤ 32) };
+    ghost invariant = { λ f. (f.count ≡ count_of (option_copied f.plan)) × (f.spot ≡ spot_at f.count f.polls) × (length f.log.items ≤ LOG_LIMIT) };
 }
 
 // How many steps a thread has, 1 if it has none or isn't there.
@@ -67,9 +68,9 @@ fn step_count(plan: Option<&ThreadSpec>) -> u64
 
 // An entry goes behind a log that has room for it, if there is one.
 fn push_entry(log: &mut Vec<Entry>, entry: Option<Entry>) -> Result<(), OutOfMemory>
-    requires few { length log.old.items < 32 }
+    requires few { length log.old.items < LOG_LIMIT }
     ensures items { OnOk result (log.new.items ≡ log_with log.old.items entry) }
-    ensures few { length log.new.items ≤ 32 }
+    ensures few { length log.new.items ≤ LOG_LIMIT }
 {
     match entry {
         None => Ok(()),
@@ -80,9 +81,9 @@ fn push_entry(log: &mut Vec<Entry>, entry: Option<Entry>) -> Result<(), OutOfMem
 // The entry of an answer, whatever the answer, goes behind a log, if it has one and there is room for it.
 #[inline(never)]
 fn note_any(log: &mut Vec<Entry>, ask: &Ask, heard: &Answer) -> Result<(), OutOfMemory>
-    requires few { length log.old.items ≤ 32 }
+    requires few { length log.old.items ≤ LOG_LIMIT }
     ensures items { OnOk result (log.new.items ≡ log_with log.old.items (entry_of ask.now heard.now)) }
-    ensures few { length log.new.items ≤ 32 }
+    ensures few { length log.new.items ≤ LOG_LIMIT }
 {
     if log.len() >= LOG_LIMIT {
         return Ok(());
@@ -93,9 +94,9 @@ fn note_any(log: &mut Vec<Entry>, ask: &Ask, heard: &Answer) -> Result<(), OutOf
 // Appends to a log the entry that an answer makes, if it makes one and the log has room. Most answers make none.
 #[inline(always)]
 fn note(log: &mut Vec<Entry>, ask: &Ask, heard: &Answer) -> Result<(), OutOfMemory>
-    requires few { length log.old.items ≤ 32 }
+    requires few { length log.old.items ≤ LOG_LIMIT }
     ensures items { OnOk result (log.new.items ≡ log_with log.old.items (entry_of ask.now heard.now)) }
-    ensures few { length log.new.items ≤ 32 }
+    ensures few { length log.new.items ≤ LOG_LIMIT }
 {
     match heard {
         Answer::Begin | Answer::Done => Ok(()),
@@ -154,7 +155,7 @@ impl<'p> Followed<'p> {
     #[inline]
     pub fn hear(&mut self, heard: &Answer) -> Result<bool, OutOfMemory>
         ensures plan { self.new.plan ≡ self.old.plan }
-        ensures few { length self.old.log ≤ 32 }
+        ensures few { length self.old.log ≤ LOG_LIMIT }
         ensures hears_it { IfOk result (λ yes. IsTrue yes → Hears heard.now self.old self.new) }
         ensures declines { IfOk result (λ yes. yes ≡ false → ¬ MayHear heard.now self.old) }
     {

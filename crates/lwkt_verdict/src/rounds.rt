@@ -4,10 +4,11 @@ ghost use Rattle.lwkt_verdict.specs.Run.{AreListed};
 
 use crate::plans::slot_of;
 use lwkt_base::ThreadLine;
+use lwkt_base::limits::THREAD_LIMIT;
 
 // Whether a line is of a thread that can be, and comes after those before it.
 fn is_listed(cpus: usize, least: usize, line: &ThreadLine) -> bool
-    ensures { IsTrue result ↔ ((least ≤ slot_of line.now.id) × (line.now.id.cpu.0 < cpus) × (line.now.id.thread < 16)) }
+    ensures { IsTrue result ↔ ((least ≤ slot_of line.now.id) × (line.now.id.cpu.0 < cpus) × (line.now.id.thread < THREAD_LIMIT)) }
 {
     least <= slot_of(line.id) && usize::from(line.id.cpu.0) < cpus && line.id.thread < 16
 }
