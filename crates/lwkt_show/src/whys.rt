@@ -1,12 +1,11 @@
 //! Why the threads of a run haven't ended.
+use crate::marks::show_left_mark;
 use crate::reels::{Reel, scene_of};
 use crate::replays::Replay;
 use crate::stories::Doing;
 use crate::turns::pass_turn;
-use lwkt_base::{Fault, OutOfMemory};
+use lwkt_base::Fault;
 use lwkt_refusals::Page;
-use lwkt_run::TurnsRun;
-use lwkt_script::Script;
 use std::alloc::Global;
 
 // Makes all turns happen.
@@ -26,34 +25,20 @@ fn show_whys(out: &mut Page, replay: &Replay) {
         if story.doing != Doing::Ended {
             out.add(if some { "; thread " } else { "thread " });
             story.show_why(out, &replay.state, &replay.runners);
+            show_left_mark(out, replay, story);
             some = true;
         }
     }
 }
 
-/// Of each thread of a run along an order that hasn't ended what it waits for after the last turn, or that it could go on, in one line
+/// Of each thread of a run that is stuck and hasn't ended what it waits for after the last turn, or that it could go on, in one line
 /// without its end: `thread 0.0 waits for ..; thread 1.0 ..`. It is empty if every thread has ended.
 ///
-/// Refused if memory is.
-pub fn whys_of(alloc: Global, script: &Script, run: &TurnsRun) -> Result<String, OutOfMemory> {
-    let events = run.trace.whole(alloc)?;
-    let reel = Reel {
-        script,
-        trace: &events,
-        polls: &run.polls,
-        turns: &run.turns,
-        order: Some(&run.order),
-        closing: &run.closing,
-    };
+/// Refused with `Memory` if memory is refused, and with `Limits` or `LawBroken` as `State::open` is for the script's opening.
+pub fn whys_of(alloc: Global, run: &Reel) -> Result<String, Fault> {
+    let mut replay = Replay::open(alloc, run.script, &run.closing.threads)?;
+    pass_all(alloc, run, &mut replay);
     let mut out = Page::new(alloc);
-    match Replay::open(alloc, script, &run.closing.threads) {
-        Ok(mut replay) => {
-            pass_all(alloc, &reel, &mut replay);
-            show_whys(&mut out, &replay)
-        }
-        Err(Fault::Memory(refused)) => return Err(refused),
-        // (a machine of this script was opened, so there is no other fault)
-        Err(_) => {}
-    }
-    out.whole()
+    show_whys(&mut out, &replay);
+    Ok(out.whole()?)
 }
