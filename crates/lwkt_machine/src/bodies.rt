@@ -81,12 +81,7 @@ fn said_in<'a>(steps: &'a [Step], said: &'a Said) -> Option<&'a Ask>
 }
 
 // What an answer that was heard puts in the log.
-fn entry_of_heard(
-    code: &Code,
-    local: &Local,
-    said: &Said,
-    heard: &Option<Answer>,
-) -> Option<Entry>
+fn entry_of_heard(code: &Code, local: &Local, said: &Said, heard: &Option<Answer>) -> Option<Entry>
     ensures { result ≡ option_and_then (λ answer. entry_by code.now.steps local.now (ask_said code.now.steps said.now) answer) heard.now }
 {
     let answer = heard.as_ref()?;

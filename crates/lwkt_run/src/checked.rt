@@ -49,11 +49,7 @@ fn opened(alloc: Global, script: &Script) -> Result<State, Fault>
 }
 
 // A check of a run of a script from this opening on.
-fn follower_of(
-    alloc: Global,
-    script: &Script,
-    opening: State,
-) -> Result<Follower<'_>, OutOfMemory>
+fn follower_of(alloc: Global, script: &Script, opening: State) -> Result<Follower<'_>, OutOfMemory>
     ensures begins { IfOk result (λ f. Begins script.now.threads opening f) }
 {
     Follower::new(alloc, script.threads.as_slice(), opening)

@@ -63,7 +63,9 @@ impl Walk {
         if self.has_ended() {
             return self.repeat().saturating_mul(self.steps());
         }
-        let time = self.repeat().saturating_sub(u64::from(self.local.left).saturating_add(1));
+        let time = self
+            .repeat()
+            .saturating_sub(u64::from(self.local.left).saturating_add(1));
         let before = match self.code.steps().get(..self.local.at.saturating_sub(1)) {
             Some(before) => count_written(before),
             None => 0,

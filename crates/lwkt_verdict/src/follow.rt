@@ -179,13 +179,7 @@ impl<'p> Follower<'p> {
             return Ok(false);
         }
         let slot = 16 * cpu + usize::from(thread.thread);
-        asks(
-            &mut self.table[slot],
-            &mut self.state,
-            heard,
-            asked,
-            part,
-        )
+        asks(&mut self.table[slot], &mut self.state, heard, asked, part)
     }
 
     /// Whether a turn of this processor, 0 to 7, that polled no thread fits the turns before it, with this part of the trace. If it fits, the

@@ -100,12 +100,7 @@ fn push_entry(log: &mut Vec<Entry>, entry: Option<Entry>) -> Result<(), OutOfMem
 }
 
 // What an answer puts in the log.
-fn entry_by(
-    plan: Option<&ThreadSpec>,
-    local: &Local,
-    ask: &Ask,
-    heard: &Answer,
-) -> Option<Entry>
+fn entry_by(plan: Option<&ThreadSpec>, local: &Local, ask: &Ask, heard: &Answer) -> Option<Entry>
     ensures { result ≡ logged_by (program_of (option_copied plan.entry)).steps local.now (record { ask = ask.now; answer = Some heard.now; blocked = false }) }
 {
     if may_log(plan, local, heard) {
