@@ -12,6 +12,7 @@ pub mod decisions;
 pub mod events;
 mod finals;
 mod first_states;
+pub mod free_tokens;
 pub mod headline;
 pub mod lacks;
 pub mod messages;

@@ -153,8 +153,3 @@ ShowsEvent s (DropMsg cpu msg) = ⊥
 ShowsEvent s (Reply cpu msg) = ⊥
 ShowsEvent s (Reap cpu msg) = ⊥
 ShowsEvent s (Abort cpu msg) = ⊥
-
--- the event of taking a first reference
-abbrev pub taking : CpuId → TokId → Mode → Event
-taking cpu tok Exclusive = Take cpu tok
-taking cpu tok Shared = Share cpu tok
