@@ -4,12 +4,16 @@
 -- thread, or nothing (`IsAtRest` of lwkt_cpu). So while no thread runs nobody holds a token, as here, and the list of each thread that
 -- waits for its tokens is a list as here: of at most 32 references, to tokens that exist. A resume takes it by these events and these
 -- decisions (`takes_all`, `Decides`, `is_alone`). If a word answers Worn, the thread doesn't wait: it ends by 20.
+--
+-- The hypotheses hold of each initial state (`openings_are_safe`, `openings_are_free`), and of the state of `MarksMayBeLeft`, in which a
+-- list that fits is refused.
 use Rattle.std.specs.Prelude.{◌≡◌, ◌≢◌, ◌⊎◌, ◌↔◌, ◌==◌, ℕ, ◌<◌, ◌≤◌, Bool, true, false, List, [], ◌∷◌, ◌++◌, length, All, Some, slice_get, IsSomeAnd}
 use Rattle.lwkt_base.specs.declared.names.CpuId.{CpuId}
 use Rattle.lwkt_base.specs.declared.names.Mode.{Mode}
 use Rattle.lwkt_base.specs.declared.names.Mode.TheVariants.{Exclusive, Shared}
 use Rattle.lwkt_base.specs.declared.names.Ref.{Ref}
 use Rattle.lwkt_base.specs.declared.opening_specs.TokSpec.{TokSpec}
+use Rattle.lwkt_base.specs.declared.opening_specs.MsgSpec.{MsgSpec}
 use Rattle.lwkt_base.specs.declared.words.Decision.{Decision}
 use Rattle.lwkt_base.specs.declared.words.Decision.TheVariants.{Take as TakeTo, Held as IsHeldBack, Marked, Worn}
 use Rattle.lwkt_base.specs.declared.limits.TheConstants.{LAST_GENERATION}
@@ -26,6 +30,10 @@ use Rattle.lwkt_core.specs.Trace.{Run}
 use Rattle.lwkt_core.specs.Picture.{picture_of}
 use Rattle.lwkt_core.specs.Takings.{taking, taking_event, takes_all}
 use Rattle.lwkt_core.specs.WordEvents.{word_after}
+
+-- a theorem: nobody holds a token in an initial state
+abbrev pub OpeningsAreFree : Type 0
+OpeningsAreFree = (cpus : ℕ) (tokens : List TokSpec) (messages : List MsgSpec) → All IsFree (opening cpus tokens messages).tokens
 
 -- a list fits a machine: its tokens exist, and it has at most 32 references (own)
 abbrev pub FitsMachine : Machine → List Ref → Type 0

@@ -1,4 +1,9 @@
-ghost use Rattle.lwkt_core.specs.FreeTokens.{FreeTokensCanBeTaken, OnlyMarksRefuseFreeTokens, MarksRefuseLoneReaders, FreeWordsAreNotHeld, MarksStayUntilTaken, WornMarksStay, MarksMayBeLeft};
+ghost use Rattle.lwkt_core.specs.FreeTokens.{OpeningsAreFree, FreeTokensCanBeTaken, OnlyMarksRefuseFreeTokens, MarksRefuseLoneReaders, FreeWordsAreNotHeld, MarksStayUntilTaken, WornMarksStay, MarksMayBeLeft};
+
+/// The theorem that nobody holds a token in an initial state.
+pub fn openings_are_free()
+    ensures { OpeningsAreFree }
+{}
 
 /// The theorem that where nobody holds a token, a processor can take a list whole, and then hold exactly it, exactly if the list's
 /// tokens exist, it has at most 32 references, and none of its exclusive ones is to a token at the last generation.
