@@ -85,6 +85,23 @@ IsLoneReaderAtMark m refs = (i : ℕ) × ((tok : Token) × ((slice_get m.tokens 
 abbrev pub MarksRefuseLoneReaders : Type 0
 MarksRefuseLoneReaders = (m : Machine) (refs : List Ref) → All IsFree m.tokens → WordAnswers m refs Marked ↔ IsLoneReaderAtMark m refs
 
+-- a thread that waits for its list, on its processor
+pub record Waiter : Type 0 where
+  pub cpu : CpuId
+  pub list : List Ref
+
+-- a thread may wait in a machine: its processor exists, and its list fits and is unworn (else it ends by 20; own)
+pub record MayWait (m : Machine) (w : Waiter) : Type 0 where
+  pub here : w.cpu.0 < m.cpus
+  pub fits : FitsMachine m w.list
+  pub unworn : IsUnworn m w.list
+
+-- a theorem: where nobody holds a token, threads that wait for their lists are in deadlock, since none gets its list by the words,
+-- exactly if each is a lone reader at a mark (own)
+abbrev pub TokensDeadlockAtMarksAlone : Type 0
+TokensDeadlockAtMarksAlone = (m : Machine) (waiters : List Waiter) → IsSafe m → All IsFree m.tokens → All (MayWait m) waiters
+    → All (λ w. ¬ GetsByWords m w.cpu w.list) waiters ↔ All (λ w. IsLoneReaderAtMark m w.list) waiters
+
 -- a theorem: the word of a token that nobody holds never answers Held (token(9))
 abbrev pub FreeWordsAreNotHeld : Type 0
 FreeWordsAreNotHeld = (tok : Token) (mode : Mode) (alone : Bool) → IsFree tok → decision (picture_of tok) mode alone ≢ IsHeldBack

@@ -1,4 +1,4 @@
-ghost use Rattle.lwkt_core.specs.FreeTokens.{OpeningsAreFree, FreeTokensCanBeTaken, OnlyMarksRefuseFreeTokens, MarksRefuseLoneReaders, FreeWordsAreNotHeld, MarksStayUntilTaken, WornMarksStay, MarksMayBeLeft};
+ghost use Rattle.lwkt_core.specs.FreeTokens.{OpeningsAreFree, FreeTokensCanBeTaken, OnlyMarksRefuseFreeTokens, MarksRefuseLoneReaders, TokensDeadlockAtMarksAlone, FreeWordsAreNotHeld, MarksStayUntilTaken, WornMarksStay, MarksMayBeLeft};
 
 /// The theorem that nobody holds a token in an initial state.
 pub fn openings_are_free()
@@ -21,6 +21,12 @@ pub fn only_marks_refuse_free_tokens()
 /// first of them shared, and that token is marked.
 pub fn marks_refuse_lone_readers()
     ensures { MarksRefuseLoneReaders }
+{}
+
+/// The theorem that where nobody holds a token, threads that wait for their lists are in deadlock exactly if each is a lone reader at a
+/// mark.
+pub fn tokens_deadlock_at_marks_alone()
+    ensures { TokensDeadlockAtMarksAlone }
 {}
 
 /// The theorem that the word of a token that nobody holds never answers Held.
