@@ -16,7 +16,7 @@ use Rattle.lwkt_base.specs.declared.opening_specs.TokSpec.{TokSpec}
 use Rattle.lwkt_base.specs.declared.opening_specs.MsgSpec.{MsgSpec}
 use Rattle.lwkt_base.specs.declared.words.Decision.{Decision}
 use Rattle.lwkt_base.specs.declared.words.Decision.TheVariants.{Take as TakeTo, Held as IsHeldBack, Marked, Worn}
-use Rattle.lwkt_base.specs.declared.limits.TheConstants.{LAST_GENERATION}
+use Rattle.lwkt_base.specs.declared.limits.TheConstants.{LAST_GENERATION, LIST_LIMIT}
 use Rattle.lwkt_base.specs.Refs.{names, is_alone, first_mode}
 use Rattle.lwkt_base.specs.Holding.{holding_of}
 use Rattle.lwkt_base.specs.TokenWord.{decision}
@@ -37,7 +37,7 @@ OpeningsAreFree = (cpus : ℕ) (tokens : List TokSpec) (messages : List MsgSpec)
 
 -- a list fits a machine: its tokens exist, and it has at most 32 references (own)
 abbrev pub FitsMachine : Machine → List Ref → Type 0
-FitsMachine m refs = All (λ r. r.tok.0 < length m.tokens) refs × (length refs ≤ 32)
+FitsMachine m refs = All (λ r. r.tok.0 < length m.tokens) refs × (length refs ≤ LIST_LIMIT)
 
 -- no token whose first reference is exclusive is at the last generation (own)
 abbrev pub IsUnworn : Machine → List Ref → Type 0
