@@ -178,7 +178,7 @@ pub fn frame_of(alloc: Global, front: &[u8], back: &[u8]) -> Result<Option<Trace
     match bare_trace(alloc, front, back)? {
         None => Ok(None),
         Some(trace) => match is_frame(alloc, front, back, &trace) {
-            Ok(is) => Ok(trace_if(trace, is)),
+            Ok(framed) => Ok(trace_if(trace, framed)),
             Err(refused) => Err(refused),
         },
     }
