@@ -34,15 +34,25 @@ fn fed(alloc: Global, opening: &Trace, text: &[u8]) -> Result<Option<Judge>, Out
     Ok(Some(judge))
 }
 
+// The same of an opening that is let go.
+fn fed_by(alloc: Global, opening: Trace, text: &[u8]) -> Result<Option<Judge>, OutOfMemory>
+    requires events { opening.events ≡ [] }
+    requires last { opening.last ≡ None }
+    ensures { IfOk result (λ found. IfSome found (KnowsWritten opening text.now)) }
+{
+    fed(alloc, &opening, text)
+}
+
 // A judge that was fed a trace with the events of a text in place of its own, if the text has nothing but events as they are
 // written.
 fn fed_with(alloc: Global, trace: Trace, text: &[u8]) -> Result<Option<Judge>, OutOfMemory>
     ensures { IfOk result (λ found. IfSome found (KnowsWritten trace text.now)) }
 {
     let (opening, _, last) = parted(alloc, trace);
-    match fed(alloc, &opening, text)? {
-        None => Ok(None),
-        Some(judge) => Ok(Some(judge.and_last(alloc, last)?)),
+    match fed_by(alloc, opening, text) {
+        Ok(None) => Ok(None),
+        Ok(Some(judge)) => Ok(Some(judge.and_last(alloc, last)?)),
+        Err(refused) => Err(refused),
     }
 }
 
