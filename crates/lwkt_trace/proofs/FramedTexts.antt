@@ -9,7 +9,7 @@ use Rattle.lwkt_core.specs.declared.events.Event.{Event}
 use Rattle.lwkt_script.specs.declared.scripts.Script.{Script}
 use Rattle.lwkt_script.specs.Field.{number_in}
 use Rattle.lwkt_script.specs.Outcome.{◌>>=◌, part, each}
-use Rattle.lwkt_trace.specs.Format.{event, message_behind, closing, trace_of_parts, trace, trace_of}
+use Rattle.lwkt_trace.specs.Format.{event, message_behind, closing, cpus_in, trace_of_parts, trace, trace_of}
 use Rattle.lwkt_trace.specs.Guard.{guarded}
 use Rattle.lwkt_trace.specs.Printed.{HasWords, ItemsHaveWords}
 use Rattle.lwkt_trace.specs.Readback.{number_data, items_as, events_data, messages_data, stated_alone, AreWritable}
@@ -58,7 +58,7 @@ of_parts script last events =
     assembled (part 3 (number_in (codes "cpus") 1 8 (object (member (codes "cpus") (number_data script.cpus) no_members)))) (each guarded [] (items_as token_data script.tokens)) (λ cpus. each (message_behind cpus) [] (messages_data script.messages)) events (closing last)
 
 value_parts : (script : Script) (events : List Event) (last : Data) → trace (data_with script events last) ≡ of_parts script last (each event [] (events_data events))
-unfolding trace trace_of_parts
+unfolding trace cpus_in trace_of_parts
 value_parts script events last = refl
 
 -- a value without events is a trace: with events it is this trace with these events

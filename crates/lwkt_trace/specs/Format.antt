@@ -98,6 +98,12 @@ closing d = if is_some (as_null d) then Ok None else (closing_at d >>= there)
 abbrev pub has_six_members : Data → Bool
 has_six_members d = has_members 6 d && is_some (get (codes "version") d) && is_some (get (codes "cpus") d) && is_some (get (codes "last") d)
 
+-- how many processors there are, in a trace of version 1
+unfoldable pub cpus_in : Data → Result ℕ ℕ
+cpus_in d = do
+  version ← part 2 (number_in (codes "version") 1 1 d)
+  part 3 (number_in (codes "cpus") 1 MOST_CPUS d)
+
 -- a trace of so many processors by its parts, in their order
 unfoldable pub trace_of_parts : ℕ → Items → Items → Items → Data → Result Trace ℕ
 trace_of_parts cpus token_items message_items event_items last_part = do
@@ -115,8 +121,7 @@ trace d = do
   message_items ← part 1 (list_in (codes "messages") d)
   event_items ← part 1 (list_in (codes "events") d)
   last_part ← part 1 (get (codes "last") d)
-  version ← part 2 (number_in (codes "version") 1 1 d)
-  cpus ← part 3 (number_in (codes "cpus") 1 MOST_CPUS d)
+  cpus ← cpus_in d
   trace_of_parts cpus token_items message_items event_items last_part
 
 -- the trace that the bytes are: at most 268435456 of them, and one JSON text

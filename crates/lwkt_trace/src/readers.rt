@@ -1,7 +1,7 @@
-ghost use Rattle.std.specs.Prelude.{◌≡◌, ◌<◌, ◌≤◌, length, Err};
+ghost use Rattle.std.specs.Prelude.{◌≡◌, ◌<◌, ◌≤◌, length, Err, IfOk};
 ghost use Rattle.serde_json.specs.View.{view, items_view};
 ghost use Rattle.lwkt_script.specs.Outcome.{Gives};
-ghost use Rattle.lwkt_trace.specs.Format.{has_six_members, trace_of_parts, trace, trace_of};
+ghost use Rattle.lwkt_trace.specs.Format.{has_six_members, cpus_in, trace_of_parts, trace, trace_of};
 ghost use Rattle.lwkt_base.specs.Fault.{no_memory};
 
 use crate::closings::closing;
@@ -22,6 +22,16 @@ fn is_whole(value: &Value) -> bool
     ensures { result ≡ has_six_members (view value.now) }
 {
     has_members(value, 6) && has(value, "version") && has(value, "cpus") && has(value, "last")
+}
+
+// How many processors there are, in a trace of version 1.
+#[tactic(auto, unfolding(crate::specs::Format::cpus_in))]
+fn cpus_in(value: &Value) -> Result<u8, Fault>
+    ensures exact { Gives (λ n. n) result (cpus_in (view value.now)) }
+    ensures some { IfOk result (λ n. 0 < n) }
+{
+    number_at(2, value, "version", 1, 1)?;
+    Ok(number_at(3, value, "cpus", 1, MOST_CPUS)? as u8)
 }
 
 // The trace of so many processors that has these parts.
@@ -63,11 +73,9 @@ fn trace(alloc: Global, value: &Value) -> Result<Trace, Fault>
     let Some(last_part) = value.get("last") else {
         return Err(Fault::Script { place: 1 });
     };
-    number_at(2, value, "version", 1, 1)?;
-    let cpus = number_at(3, value, "cpus", 1, MOST_CPUS)? as u8;
     trace_of_parts(
         alloc,
-        cpus,
+        cpus_in(value)?,
         token_items.as_slice(),
         message_items.as_slice(),
         event_items.as_slice(),

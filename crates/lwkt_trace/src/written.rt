@@ -177,24 +177,11 @@ fn numbers_of(bytes: &[u8]) -> ([u64; NUMBERS], usize) {
     (numbers, count)
 }
 
-// The event of a word with a processor and a token, but for a give.
-fn at_token(word: &[u8], cpu: CpuId, tok: TokId) -> Option<Event>
+// The event of a word with a processor and the number of what it is at.
+fn at_place(word: &[u8], cpu: CpuId, place: u8) -> Option<Event>
     ensures { IfSome result (λ event. IsWritable event × HasWords (event_data event)) }
 {
-    match word {
-        b"take" => Some(Event::Take { cpu, tok }),
-        b"share" => Some(Event::Share { cpu, tok }),
-        b"again" => Some(Event::Again { cpu, tok }),
-        b"load" => Some(Event::Load { cpu, tok }),
-        b"mark" => Some(Event::Mark { cpu, tok }),
-        _ => None,
-    }
-}
-
-// A written give, of which no section is stated.
-fn given(cpu: CpuId, tok: TokId) -> Event
-    ensures { IsWritable result × HasWords (event_data result) }
-{
+    let (tok, msg) = (TokId(place), MsgId(place));
     let row = Row::of(&[]);
     let section = Section {
         before: row,
@@ -202,45 +189,21 @@ fn given(cpu: CpuId, tok: TokId) -> Event
         generation: 0,
         tok,
     };
-    Event::GiveWritten { cpu, tok, section }
-}
-
-// The give of a word with a processor and a token.
-fn at_give(word: &[u8], cpu: CpuId, tok: TokId) -> Option<Event>
-    ensures { IfSome result (λ event. IsWritable event × HasWords (event_data event)) }
-{
-    match word {
-        b"give_one" => Some(Event::GiveOne { cpu, tok }),
-        b"give_clean" => Some(Event::GiveClean { cpu, tok }),
-        b"give_written" => Some(given(cpu, tok)),
-        _ => None,
-    }
-}
-
-// The event of a word with a processor and a message.
-fn at_message(word: &[u8], cpu: CpuId, msg: MsgId) -> Option<Event>
-    ensures { IfSome result (λ event. IsWritable event × HasWords (event_data event)) }
-{
-    match word {
-        b"reply" => Some(Event::Reply { cpu, msg }),
-        b"reap" => Some(Event::Reap { cpu, msg }),
-        b"drop" => Some(Event::DropMsg { cpu, msg }),
-        b"abort" => Some(Event::Abort { cpu, msg }),
-        _ => None,
-    }
-}
-
-// The event of a word with a processor and the number of what it is at.
-fn at_place(word: &[u8], cpu: CpuId, place: u8) -> Option<Event>
-    ensures { IfSome result (λ event. IsWritable event × HasWords (event_data event)) }
-{
-    if let Some(event) = at_token(word, cpu, TokId(place)) {
-        return Some(event);
-    }
-    match at_give(word, cpu, TokId(place)) {
-        Some(event) => Some(event),
-        None => at_message(word, cpu, MsgId(place)),
-    }
+    Some(match word {
+        b"take" => Event::Take { cpu, tok },
+        b"share" => Event::Share { cpu, tok },
+        b"again" => Event::Again { cpu, tok },
+        b"give_one" => Event::GiveOne { cpu, tok },
+        b"give_clean" => Event::GiveClean { cpu, tok },
+        b"give_written" => Event::GiveWritten { cpu, tok, section },
+        b"load" => Event::Load { cpu, tok },
+        b"mark" => Event::Mark { cpu, tok },
+        b"reply" => Event::Reply { cpu, msg },
+        b"reap" => Event::Reap { cpu, msg },
+        b"drop" => Event::DropMsg { cpu, msg },
+        b"abort" => Event::Abort { cpu, msg },
+        _ => return None,
+    })
 }
 
 // The event of a word with a processor, what it is at, and two numbers more.
@@ -291,24 +254,17 @@ fn record_of(digits: &[u8]) -> Option<Blob>
     Some(blob)
 }
 
-// The event of a word with a processor, a token and a record.
-fn with_record(word: &[u8], cpu: CpuId, tok: TokId, blob: Blob) -> Option<Event>
-    requires { IsStatedBlob blob }
+// The event of a word with a processor, a token, and a record in quotation marks.
+fn at_record(word: &[u8], cpu: CpuId, tok: u8, rest: &[u8]) -> Option<Event>
     ensures { IfSome result (λ event. IsWritable event × HasWords (event_data event)) }
 {
+    let tok = TokId(tok);
+    let blob = record_of(quoted(rest)?)?;
     match word {
         b"read_record" => Some(Event::ReadBlob { cpu, tok, blob }),
         b"write_record" => Some(Event::WriteBlob { cpu, tok, blob }),
         _ => None,
     }
-}
-
-// The event of a word with a processor, a token, and a record in quotation marks.
-fn at_record(word: &[u8], cpu: CpuId, tok: u8, rest: &[u8]) -> Option<Event>
-    ensures { IfSome result (λ event. IsWritable event × HasWords (event_data event)) }
-{
-    let digits = quoted(rest)?;
-    with_record(word, cpu, TokId(tok), record_of(digits)?)
 }
 
 // The event of a word with a processor, what it is at, and a round or a record.
