@@ -14,3 +14,4 @@ pub mod PartTexts
 pub mod WrittenTexts
 pub mod FramedTexts
 pub mod NextTexts
+pub mod EachLoops
