@@ -14,4 +14,3 @@ pub mod PartTexts
 pub mod WrittenTexts
 pub mod FramedTexts
 pub mod NextTexts
-pub mod EachLoops

@@ -2,8 +2,7 @@ use Rattle.std.proofs.Common.{[]}
 use Rattle.serde_json.specs.View.{items_view}
 use Rattle.lwkt_script.specs.Outcome.{each}
 use Rattle.lwkt_trace.specs.Format.{record_behind}
-use Rattle.lwkt_script.proofs.EachLemmas.{goes_on}
-use Rattle.lwkt_trace.proofs.EachLoops.{refuses, hands_on, ends as ended}
+use Rattle.lwkt_script.proofs.EachLemmas.{goes_on, refuses, hands_on, ends as ended}
 use Rattle.lwkt_trace.proofs.closings.blobs_of.Goals as goal
 
 pub loop-item-preserved : goal.loop-item-preserved
