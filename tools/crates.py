@@ -2,6 +2,7 @@
 
 import collections
 import functools
+import json
 import os
 import re
 import shutil
@@ -81,6 +82,26 @@ def take_built(names, room):
         # (links, since the run that built them puts older ones in their place when it ends)
         shutil.copytree(built, f"{room}/crates/{name}/out/rlib", copy_function=link)
     return True
+
+
+def take_modules(library, name, own, kept):
+    """Gives a folder for --incremental what a library that was built of the crate in the folder own holds checked: what the crate states, and
+    its lemmas. What isn't found is checked again, and so is what isn't up to date."""
+    index = f"{library}/toolchain/checked.json"
+    for module, at, size in map(json.loads, read(index).split("\n")[:-1]) if os.path.isfile(index) else []:
+        is_lemma = os.path.isfile(f"{own}/proofs/{module.removeprefix(f'Rattle-{name}-proofs.').replace('.', '/')}.antt")
+        if not is_lemma and not module.startswith(f"Rattle-{name}-specs"):
+            continue
+        with open(f"{library}/toolchain/checked.a", "rb") as it:
+            it.seek(at)
+            text = it.read(size)
+        # (the folder in it has the name of the prover that checked the module, which is in the module's head)
+        prover = re.search(r"--@ kernel (\S+)", text[:1000].decode(errors="replace"))
+        if prover:
+            folder = f"{kept}/{prover[1].replace('/', '_')}"
+            os.makedirs(folder, exist_ok=True)
+            with open(f"{folder}/{module}.oantt", "wb") as it:
+                it.write(text)
 
 
 def prove(room, seconds=None):

@@ -1,4 +1,5 @@
-"""The functions of a crate's sources, which are laid out, and copies of a crate that have whole only some of them; for bench/edits."""
+"""The functions of a crate's sources, which are laid out, and copies of a crate that have whole only some of them, or some more than once; for
+bench/edits."""
 
 import collections
 import os
@@ -114,31 +115,86 @@ def body_of(lines, at, indent):
     return None
 
 
-def without_bodies(text, path, whole, homes):
-    """Returns the text of a file in which the functions but these have no body, as far as that can be, and where the proofs of those are."""
-    lines, kept, places, of_type, is_type = text.split("\n"), [], [], "", True
-    at = 0
-    while at < len(lines):
-        line, found = lines[at], FUNCTION.match(lines[at])
+def functions_in(lines, path):
+    """Yields the functions of a laid out file that have a body of their own lines and stand in a module or in a block that is of a whole
+    type, each with the line of its head and between which lines its body stands."""
+    of_type, is_type = "", True
+    for at, line in enumerate(lines):
+        found = FUNCTION.match(line)
         if line.startswith("impl"):
             of_type, is_type = type_of(line), " for " not in line and not given_in(line)
         elif re.match(r"(pub(\([a-z]+\))? )?trait ", line):
             is_type = False
         elif line == "}":
             of_type, is_type = "", True
-        function = Function("" if of_type else path, of_type, found[3]) if found else None
-        home = homes.get(of_type) if of_type else module_of(path)
-        can_be = found and is_type and home is not None and function not in whole and "const" not in found[2] and len(found[1]) == (4 if of_type else 0)
+        can_be = found and is_type and "const" not in found[2] and len(found[1]) == (4 if of_type else 0)
         body = body_of(lines, at, found[1]) if can_be else None
-        # (a function that calls itself, or is in a circle of calls, has its proof elsewhere)
-        if body and not re.search(rf"\b{found[3]}\(", "\n".join(lines[slice(*body)])) and "#[cycle" not in "".join(lines[max(at - 3, 0) : at]):
-            kept += [*lines[at : body[0]], found[1] + "    loop {}"]
-            places.append([*home, of_type, found[3]] if of_type else [*home, found[3]])
-            at = body[1]
-        else:
-            kept.append(line)
-            at += 1
-    return "\n".join(kept), places
+        if body:
+            yield Function("" if of_type else path, of_type, found[3]), at, body
+
+
+def begins_at(lines, at):
+    """Returns the line at which what stands above a function's head begins: its attributes and comments."""
+    while at and re.match(r" *(#\[|//[^!])", lines[at - 1]):
+        at -= 1
+    return at
+
+
+def calls_itself(lines, function, at, body):
+    """Returns whether a function calls itself or is in a circle of calls, so that its proof stands elsewhere. A call of its name on a field,
+    as `self.seat.take(`, or at another type, as `Word::decide(`, is another function's."""
+    own = "|".join(filter(None, ["Self", function.of_type]))
+    text = re.sub(rf"(self\.\w+\.|\b(?!({own})\b)[A-Z]\w*::){function.name}\(", "", "\n".join(lines[slice(*body)]))
+    return re.search(rf"\b{function.name}\(", text) or "#[cycle" in "".join(lines[begins_at(lines, at) : at])
+
+
+def place_of(function, home):
+    """Returns the names that lead to a function whose module, or that of its type, has the names home."""
+    return [*home, *filter(None, [function.of_type]), function.name]
+
+
+def without_bodies(text, path, whole, homes):
+    """Returns the text of a file in which the functions but these have no body, as far as that can be, and where the proofs of those are, each
+    with the names of its module."""
+    lines, kept, places, done = text.split("\n"), [], [], 0
+    for function, at, body in functions_in(lines, path):
+        home = homes.get(function.of_type) if function.of_type else module_of(path)
+        if function not in whole and home is not None and not calls_itself(lines, function, at, body):
+            kept += [*lines[done : body[0]], FUNCTION.match(lines[at])[1] + "    loop {}"]
+            places.append((place_of(function, home), home))
+            done = body[1]
+    return "\n".join(kept + lines[done:]), places
+
+
+def folders_of(place, home):
+    """Returns the folders of a function's proofs: its own, and that of its closures."""
+    return ["/".join(it) for it in (place, [*place[: len(home)], "fn", *place[len(home) :]])]
+
+
+def lines_of(text, path, function):
+    """Returns between which lines a function stands, with what is above it, or None where no copy of it can stand beside it."""
+    lines = text.split("\n")
+    for it, at, body in functions_in(lines, path):
+        if it == function and not calls_itself(lines, it, at, body):
+            return begins_at(lines, at), body[1] + 1
+    return None
+
+
+def add_copy(folder, path, function, text, name):
+    """Adds a function to a file of the crate in this folder, behind itself: as it stands in this text of the file, and with this name. It has
+    a copy of the proofs."""
+    lines, its = read(f"{folder}/{path}").split("\n"), text.split("\n")[slice(*lines_of(text, path, function))]
+    behind = lines_of("\n".join(lines), path, function)[1]
+    copy = re.sub(rf"(?m)^( *[a-z() ]*fn ){function.name}\b", rf"\g<1>{name}", "\n".join(its), count=1)
+    write(f"{folder}/{path}", "\n".join([*lines[:behind], "", copy, *lines[behind:]]))
+    home = homes_of(folder)[function.of_type] if function.of_type else module_of(path)
+    places = [folders_of(place_of(it, home), home) for it in (function, function._replace(name=name))]
+    for old, new in zip(*places):
+        for at, _, files in os.walk(f"{folder}/proofs/{old}"):
+            for file in files:
+                proof = read(f"{at}/{file}").replace(f".{old.replace('/', '.')}.", f".{new.replace('/', '.')}.")
+                to = at.replace(f"/proofs/{old}", f"/proofs/{new}")
+                write(f"{to}/{file}", re.sub(rf"\b{function.name}_spec\b", f"{name}_spec", proof))
 
 
 def leave_contracts(folder, crate, whole):
@@ -148,10 +204,10 @@ def leave_contracts(folder, crate, whole):
     for path in files_of(folder):
         text, places = without_bodies(read(f"{folder}/{path}"), path, whole, homes)
         write(f"{folder}/{path}", text)
-        for parts in places:
-            for it in (parts, [*parts[: len(module_of(path))], "fn", *parts[len(module_of(path)) :]]):
-                shutil.rmtree(f"{folder}/proofs/{'/'.join(it)}", ignore_errors=True)
-            write(f"{folder}/proofs/{'/'.join(parts)}/Proof.antt", PROOF % (".".join([crate, "proofs", *parts]), crate, parts[-1], parts[-1]))
+        for place, home in places:
+            for it in folders_of(place, home):
+                shutil.rmtree(f"{folder}/proofs/{it}", ignore_errors=True)
+            write(f"{folder}/proofs/{'/'.join(place)}/Proof.antt", PROOF % (".".join([crate, "proofs", *place]), crate, place[-1], place[-1]))
     listed = f"{folder}/proofs/Lib.antt"
     write(listed, (read(listed) if os.path.isfile(listed) else "") + "pub mod Assumed\n")
     write(f"{folder}/proofs/Assumed.antt", ASSUMED)

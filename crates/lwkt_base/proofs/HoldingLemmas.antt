@@ -1,15 +1,15 @@
 use Rattle.std.proofs.Common.{◌+◌, ◌-◌, ◌≡◌, ℕ, Bool, true, false, cond, eqb, eq-eqb, inl, inr, List, [], ◌∷◌, Option, Some, None, refl, ap, sym, ◌∙◌, arith}
-use Rattle.std.specs.Prelude.{fold, find, option_map}
+use Rattle.std.specs.Prelude.{◌||◌, fold, find, option_map}
 use Rattle.std.specs.Option.{option_or}
 use Rattle.std.proofs.lemmas.List.Sums.{fold-append, sum_by-cons}
-use Rattle.std.proofs.lemmas.Bool.{eqb-true, ne_eqb, cases_eq}
+use Rattle.std.proofs.lemmas.Bool.{eqb-true, eqb-false, ne_eqb, cases_eq, cases_Bool}
 use Rattle.std.proofs.Math.Path.{fun_ext}
 use Rattle.lwkt_base.specs.declared.names.Mode.{Mode}
 use Rattle.lwkt_base.specs.declared.names.Ref.{Ref}
 use Rattle.lwkt_base.specs.declared.holdings.Held.{Held}
 use Rattle.lwkt_base.specs.declared.holdings.Held.TheVariants.{Nothing, Holds}
-use Rattle.lwkt_base.specs.Refs.{is_to, first_mode, references_to}
-use Rattle.lwkt_base.specs.Holding.{Holding, holds_nothing, added, removed, one_more, one_less, holding_of, mode_of, references_in, ListsAreHeld, AcquiringAdds, ReleasingRemoves, RemovingUndoesAdding}
+use Rattle.lwkt_base.specs.Refs.{is_to, names, first_mode, references_to}
+use Rattle.lwkt_base.specs.Holding.{Holding, holds_nothing, added, removed, one_more, one_less, holding_of, mode_of, is_held, references_in, ListsAreHeld, AcquiringAdds, ReleasingRemoves, RemovingUndoesAdding}
 
 -- a further reference given back
 less_more : (held : Held) (mode : Mode) → one_less (one_more held mode) ≡ held
@@ -90,3 +90,36 @@ references-after holding (r ∷ refs) tok =
 
 pub holding_of-known : ListsAreHeld
 holding_of-known refs tok = (mode_of-after holds_nothing refs tok, (references-after holds_nothing refs tok ∙ omega arith))
+
+-- what a reference more does to whether a token is held
+held_if : (b : Bool) (held : Held) (mode : Mode) → is_held (cond b (one_more held mode) held) ≡ (b || is_held held)
+held_if true Nothing mode = refl
+held_if true (Holds first further) mode = refl
+held_if false held mode = refl
+
+or_nothing : (b : Bool) → (b || false) ≡ b
+or_nothing true = refl
+or_nothing false = refl
+
+or_turn : (a b c : Bool) → (a || (b || c)) ≡ (b || a || c)
+or_turn true true c = refl
+or_turn true false c = refl
+or_turn false true c = refl
+or_turn false false c = refl
+
+eqb_turn : (a b : ℕ) → eqb a b ≡ eqb b a
+eqb_turn a b = elim (cases_Bool (eqb a b)) [
+  | inl is ↦ is ∙ sym (eq-eqb b a (sym (eqb-true a b is)))
+  | inr is ↦ is ∙ sym (ne_eqb b a (λ same. eqb-false a b is (sym same)))
+]
+
+names_fold : (refs : List Ref) (h : Holding) (tok : ℕ) → is_held (fold (λ held r. added held r.tok.0 r.mode) h refs tok) ≡ (names refs tok || is_held (h tok))
+names_fold [] h tok = refl
+names_fold (r ∷ refs) h tok =
+    names_fold refs (added h r.tok.0 r.mode) tok
+    ∙ ap (λ b. names refs tok || b) (held_if (eqb tok r.tok.0) (h tok) r.mode ∙ ap (λ b. b || is_held (h tok)) (eqb_turn tok r.tok.0))
+    ∙ or_turn (names refs tok) (is_to tok r) (is_held (h tok))
+
+-- a list holds the tokens that it names
+pub held_named : (refs : List Ref) (tok : ℕ) → is_held (holding_of refs tok) ≡ names refs tok
+held_named refs tok = names_fold refs holds_nothing tok ∙ or_nothing (names refs tok)

@@ -1,4 +1,5 @@
 use Rattle.std.specs.Prelude.{◌≡◌, ℕ, ◌==◌, Bool, List, [], ◌∷◌, ◌++◌, All, Option, Some, option_map, find, count_by}
+use Rattle.std.specs.List.{list_all, list_any}
 use Rattle.lwkt_base.specs.declared.names.Mode.{Mode}
 use Rattle.lwkt_base.specs.declared.names.Mode.TheVariants.{Shared}
 use Rattle.lwkt_base.specs.declared.names.Ref.{Ref}
@@ -6,6 +7,14 @@ use Rattle.lwkt_base.specs.declared.names.Ref.{Ref}
 -- whether a reference is to the token
 abbrev pub is_to : ℕ → Ref → Bool
 is_to tok r = r.tok.0 == tok
+
+-- whether a list has a reference to the token
+abbrev pub names : List Ref → ℕ → Bool
+names refs tok = list_any (is_to tok) refs
+
+-- whether a list has no reference to another token (own)
+abbrev pub is_alone : List Ref → ℕ → Bool
+is_alone refs tok = list_all (is_to tok) refs
 
 -- the mode of the first reference to the token, if there is one
 abbrev pub first_mode : List Ref → ℕ → Option Mode

@@ -2,8 +2,9 @@
 //!
 //! Words: a *reference* is a token with a mode; a *list* is a thread's references, the first acquired first; a *holding* is
 //! what a processor holds of one token; a *law* restricts a token's *row* of cells and the length of its *record*; a
-//! *section* is the time from an exclusive take to the release of the last reference; an *ask* is what a thread's body wants
-//! of its turn, an *answer* what it is given for it; a *fault* is a refusal with its number.
+//! token's record is a `Blob` (`blobs`), a message's a `Rec` (`records`); a *section* is the time from an exclusive take to
+//! the release of the last reference; an *ask* is what a thread's body wants of its turn, an *answer* what it is given for
+//! it; a *fault* is a refusal with its number.
 #![tactic(auto)]
 
 pub mod asks;

@@ -1,6 +1,6 @@
 -- What a judge knows of the events of a text.
-use Rattle.std.proofs.Common.{◌≡◌, ℕ, ◌+◌, ◌-◌, ◌<◌, ◌≤◌, List, [], ◌∷◌, ◌++◌, length, map, take, drop, Option, Some, Ok, refl, sym, ap, ◌∙◌, subst, arith}
-use Rattle.std.specs.Prelude.{IfSome}
+use Rattle.std.proofs.Common.{◌≡◌, ℕ, ◌+◌, ◌-◌, ◌<◌, ◌≤◌, List, [], ◌∷◌, ◌++◌, length, map, take, drop, Option, None, Some, Result, Ok, Err, false, refl, sym, ap, ◌∙◌, subst, arith}
+use Rattle.std.specs.Prelude.{IfOk, IfSome}
 use Rattle.std.proofs.lemmas.List.{take_all, take-append-drop, length-append, length-map, length-take-le, length-drop}
 use Rattle.std.proofs.Math.Seq.{take-append-add}
 use Rattle.lwkt_base.specs.declared.faults.Fault.{Fault as Refusal}
@@ -16,7 +16,7 @@ use Rattle.lwkt_checker.specs.Judgement.{DeclinesTrace, RefusesTrace}
 use Rattle.lwkt_checker.specs.Knows.{Knows, KnowsWritten}
 use Rattle.lwkt_checker.specs.Stages.{with_stated, opening_alone, closed_so}
 use Rattle.lwkt_checker.specs.declared.judges.Judge.{Judge}
-use Rattle.lwkt_checker.proofs.Knowing.{nothing_known, whole_known}
+use Rattle.lwkt_checker.proofs.Knowing.{nothing_known, open_so, whole_known}
 use Rattle.lwkt_checker.proofs.Stops.{refuses_declined}
 
 -- a longer front of a text
@@ -77,3 +77,16 @@ next_in_rest text from number size e is = subst (λ (t : List ℕ). IsNextWritte
 -- what is said of what is there
 pub at_some : {A : Type 0} (P : A → Type 0) (o : Option A) (x : A) → o ≡ Some x → IfSome o P → P x
 at_some {A} P o x is h = subst (λ (p : Option A). IfSome p P) is h
+
+-- the closing values of a judge that was fed an opening and a text haven't come
+pub still_open : (found : Option Judge) (opening trace : Trace) (text : List ℕ) → opening ≡ opening_alone trace → IfSome found (KnowsWritten opening text) → IfSome found (λ j. j.closed ≡ false)
+still_open None opening trace text is so = tt
+still_open (Some judge) opening trace text is so = open_so (with_events opening (map stated_alone so.events)) judge (ap (λ (t : Trace). t.last) is) so.knows
+
+-- the closing values came, if memory sufficed
+pub closes_written : {E : Type 0} (r : Result (Option Judge) E) (judge : Option Judge) (trace opening : Trace) (last : Option Closing) (text : List ℕ) → opening ≡ opening_alone trace → last ≡ trace.last → IfSome judge (KnowsWritten opening text)
+    → IfOk r (λ found. IfSome found (λ after. (before : Judge) × ((judge ≡ Some before) × ((t : Trace) → Knows t before → Knows (closed_so t last) after)))) → IfOk r (λ found. IfSome found (KnowsWritten trace text))
+closes_written (Ok None) judge trace opening last text is_opening is_last so closes = tt
+closes_written (Ok (Some after)) judge trace opening last text is_opening is_last so closes =
+    ends_with trace opening last closes.0 after text is_opening is_last (at_some (KnowsWritten opening text) judge closes.0 closes.1.0 so) closes.1.1
+closes_written (Err refused) judge trace opening last text is_opening is_last so closes = tt

@@ -97,3 +97,9 @@ whole_known trace opening events last judge after is_opening are_events is_last 
     subst (λ (o : Trace). Knows (closed_so (with_events o trace.events) trace.last) after) is_opening
     (subst (λ (es : List Stated). Knows (closed_so (with_events opening es) trace.last) after) are_events
     (subst (λ (l : Option Closing). Knows (closed_so (with_events opening events) l) after) is_last (closes (with_events opening events) knows)))
+
+-- where the closing values come, if memory suffices
+pub closes_whole : {E : Type 0} (r : Result Judge E) (trace opening : Trace) (events : List Stated) (last : Option Closing) (judge : Judge) → opening ≡ opening_alone trace → events ≡ trace.events → last ≡ trace.last → Knows (with_events opening events) judge
+    → IfOk r (λ after. (t : Trace) → Knows t judge → Knows (closed_so t last) after) → IfOk r (λ after. Knows trace after)
+closes_whole (Ok after) trace opening events last judge is_opening are_events is_last knows closes = whole_known trace opening events last judge after is_opening are_events is_last knows closes
+closes_whole (Err refused) trace opening events last judge is_opening are_events is_last knows closes = tt

@@ -1,16 +1,18 @@
 //! Feeds a judge a trace that is written just as `trace_text` writes one, with closing values or without any: its events as they
 //! are read one after another, none of which is kept.
-ghost use Rattle.std.specs.Prelude.{◌≡◌, [], Ok, None, IfOk, IfErr, IfSome};
+ghost use Rattle.std.specs.Prelude.{◌≡◌, [], false, Ok, None, Some, IfOk, IfErr, IfSome};
 ghost use Rattle.lwkt_trace.specs.declared.traces.Trace.{Trace};
 ghost use Rattle.lwkt_trace.specs.Format.{trace_of};
 ghost use Rattle.lwkt_checker.specs.Judgement.{IsJudgedTrace, RefusesTrace};
 ghost use Rattle.lwkt_checker.specs.Knows.{Knows, KnowsWritten};
+ghost use Rattle.lwkt_checker.specs.Stages.{closed_so};
+ghost use Rattle.lwkt_checker.specs.declared.judges.Judge.{Judge};
 
 use crate::judges::{Finding, Judge};
 use crate::trees::parted;
 use lwkt_base::limits::{TRACE_BYTES, TRACE_EVENTS};
 use lwkt_base::{Fault, OutOfMemory};
-use lwkt_trace::{Trace, frame_of, next_written, parts_of, stated_alone};
+use lwkt_trace::{Closing, Trace, frame_of, next_written, parts_of, stated_alone};
 use std::alloc::Global;
 
 // A judge that was fed an opening and the events of a text, if the text has nothing but events as they are written.
@@ -34,15 +36,39 @@ fn fed(alloc: Global, opening: &Trace, text: &[u8]) -> Result<Option<Judge>, Out
     Ok(Some(judge))
 }
 
+// The same of an opening that is let go.
+fn fed_by(alloc: Global, opening: Trace, text: &[u8]) -> Result<Option<Judge>, OutOfMemory>
+    requires events { opening.events ≡ [] }
+    requires last { opening.last ≡ None }
+    ensures { IfOk result (λ found. IfSome found (KnowsWritten opening text.now)) }
+{
+    fed(alloc, &opening, text)
+}
+
+// A judge, if there is one, with closing values behind the events, or with none.
+fn closed_by(
+    alloc: Global,
+    judge: Option<Judge>,
+    last: Option<Closing>,
+) -> Result<Option<Judge>, OutOfMemory>
+    requires { IfSome judge (λ j. j.closed ≡ false) }
+    ensures { IfOk result (λ found. IfSome found (λ after. (before : Judge) × ((judge ≡ Some before) × ((trace : Trace) → Knows trace before → Knows (closed_so trace last) after)))) }
+{
+    match judge {
+        None => Ok(None),
+        Some(fed) => Ok(Some(fed.and_last(alloc, last)?)),
+    }
+}
+
 // A judge that was fed a trace with the events of a text in place of its own, if the text has nothing but events as they are
 // written.
 fn fed_with(alloc: Global, trace: Trace, text: &[u8]) -> Result<Option<Judge>, OutOfMemory>
     ensures { IfOk result (λ found. IfSome found (KnowsWritten trace text.now)) }
 {
     let (opening, _, last) = parted(alloc, trace);
-    match fed(alloc, &opening, text)? {
-        None => Ok(None),
-        Some(judge) => Ok(Some(judge.and_last(alloc, last)?)),
+    match fed_by(alloc, opening, text) {
+        Ok(judge) => closed_by(alloc, judge, last),
+        Err(refused) => Err(refused),
     }
 }
 

@@ -1,4 +1,4 @@
-ghost use Rattle.std.specs.Prelude.{◌≡◌, ◌<◌, ℕ, false, Option, Some, None, Ok, IfOk, IfErr, MatchOption};
+ghost use Rattle.std.specs.Prelude.{◌≡◌, ◌<◌, ℕ, [], false, Option, Some, None, Ok, IfOk, IfErr, MatchOption};
 ghost use Rattle.serde_json.specs.Data.{Data};
 ghost use Rattle.serde_json.specs.View.{view};
 ghost use Rattle.lwkt_script.specs.Outcome.{Gives, IsFaultOf as IsRefused, part};
@@ -13,8 +13,8 @@ ghost use Rattle.lwkt_checker.specs.LineJudged.{KnowsSo, Judges, lines_behind, l
 use crate::judges::{Finding, Judge};
 use crate::line_openings::opened;
 use crate::line_values::value_of;
-use lwkt_base::Fault;
-use lwkt_trace::{Stated, closing_at, event_of, stated_alone, written_event};
+use lwkt_base::{Fault, OutOfMemory};
+use lwkt_trace::{Stated, Trace, closing_at, event_of, stated_alone, written_event};
 use serde_json::Value;
 use std::alloc::Global;
 
@@ -49,6 +49,16 @@ fn value_at(alloc: Global, place: u32, line: &[u8]) -> Result<Value, Fault>
     }
 }
 
+// The judge of an opening that is let go.
+fn begun(alloc: Global, opening: Trace) -> Result<Judge, OutOfMemory>
+    requires events { opening.events ≡ [] }
+    requires last { opening.last ≡ None }
+    ensures knows { IfOk result (Knows opening) }
+    ensures counts { IfOk result (λ judge. (judge.count ≡ 0) × (judge.closed ≡ false)) }
+{
+    Judge::opened(alloc, &opening)
+}
+
 // The judge of the opening that a line is.
 fn opened_by(alloc: Global, line: &[u8]) -> Result<Judge, Fault>
     ensures stated { IfOk result (λ judge. (trace : Trace) × ((next None line.now ≡ Ok (Some trace)) × Knows trace judge)) }
@@ -57,7 +67,7 @@ fn opened_by(alloc: Global, line: &[u8]) -> Result<Judge, Fault>
 {
     let value = value_at(alloc, 0, line)?;
     let opening = opened(alloc, &value)?;
-    match Judge::opened(alloc, &opening) {
+    match begun(alloc, opening) {
         Ok(judge) => Ok(judge),
         Err(refused) => Err(Fault::Memory(refused)),
     }

@@ -47,13 +47,24 @@ fn fed(alloc: Global, opening: &Trace, events: &[Stated]) -> Result<Judge, OutOf
     Ok(judge)
 }
 
+// The same of an opening and events that are let go.
+fn fed_by(alloc: Global, opening: Trace, events: Series<Stated>) -> Result<Judge, OutOfMemory>
+    requires events { opening.events ≡ [] }
+    requires last { opening.last ≡ None }
+    ensures { IfOk result (Knows (with_events opening events)) }
+{
+    fed(alloc, &opening, events.as_slice())
+}
+
 // A judge that was fed a trace.
 fn fed_whole(alloc: Global, trace: Trace) -> Result<Judge, OutOfMemory>
     ensures { IfOk result (Knows trace) }
 {
     let (opening, events, last) = parted(alloc, trace);
-    let judge = fed(alloc, &opening, events.as_slice())?;
-    Ok(judge.and_last(alloc, last)?)
+    match fed_by(alloc, opening, events) {
+        Ok(judge) => judge.and_last(alloc, last),
+        Err(refused) => Err(refused),
+    }
 }
 
 /// What a trace is: lawful, or the index at which it fails and why.

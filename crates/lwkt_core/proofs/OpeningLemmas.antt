@@ -44,7 +44,7 @@ tallied_from_opens Len param cells len tallies none opens = tt
 tallied_from_opens Tally param cells len tallies none opens = opens ∙ ap (λ c. c ∷ []) (let e : param ≡ param + sum tallies = omega arith in e)
 
 -- nobody holds a token at the opening
-held_opened : (spec : TokSpec) (cpu : ℕ) → held_by (opened_token spec) cpu ≡ Nothing
+pub held_opened : (spec : TokSpec) (cpu : ℕ) → held_by (opened_token spec) cpu ≡ Nothing
 held_opened spec cpu = get_or_replicated CPU_LIMIT cpu Nothing
 
 IsSafeToken-opened : (cpus : ℕ) (spec : TokSpec) → IsTokenWithin spec → OpensLawfully spec.law spec.param spec.cells (length_of spec.blob) → IsSafeToken cpus (opened_token spec)

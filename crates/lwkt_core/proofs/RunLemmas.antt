@@ -49,7 +49,7 @@ get-set_here [] i x h = absurd (omega arith)
 get-set_here (z ∷ zs) zero x h = refl
 get-set_here (z ∷ zs) (suc i) x h = get-set_here zs i x (omega arith)
 
-get-set_else : {A : Type 0} (xs : List A) (i j : ℕ) (x : A) → j ≢ i → slice_get (set xs i x) j ≡ slice_get xs j
+pub get-set_else : {A : Type 0} (xs : List A) (i j : ℕ) (x : A) → j ≢ i → slice_get (set xs i x) j ≡ slice_get xs j
 get-set_else [] i j x differ = refl
 get-set_else (z ∷ zs) zero zero x differ = absurd (differ refl)
 get-set_else (z ∷ zs) zero (suc j) x differ = refl

@@ -9,6 +9,7 @@ pub mod Picture
 pub mod RunSections
 pub mod Safety
 pub mod SectionChain
+pub mod Takings
 pub mod Tokens
 pub mod Trace
 pub mod Values

@@ -1,4 +1,3 @@
-ghost use Rattle.lwkt_core.specs.FreeTokens.{FreeTokensCanBeTaken, WordsLetFreeTokens, MarksAloneRefuse, WornMarksStay, FreeWordsAreNotHeld};
 ghost use Rattle.lwkt_core.specs.RunSections.{RunsWriteChains, TracesWriteChains, RunsNameSections};
 ghost use Rattle.lwkt_core.specs.Headline.{RunsAreCompatible, RunsKeepLaws, TalliesAreRaises, CountsAreEvents, MessagesGoRound, EachSendIsAnsweredOnce, AnswersAreOfTheirSend, SectionsAreChain, RowsStandBetweenSections, RecordsAreChain, RecordsStandBetweenSections, RecordsAreLastWritten};
 
@@ -85,32 +84,4 @@ pub fn traces_write_chains()
 /// The theorem that the sections which the written gives of a run name are, token by token, its written sections.
 pub fn runs_name_sections()
     ensures { RunsNameSections }
-{}
-
-/// The theorem that where nobody holds any token, each list of references to tokens that exist, of at most 32, the exclusive ones
-/// below the last generation, can be taken whole by any processor, which then holds exactly it.
-pub fn free_tokens_can_be_taken()
-    ensures { FreeTokensCanBeTaken }
-{}
-
-/// The theorem that where nobody holds any token, a processor that decides by the tokens' words takes each such list whole that no
-/// mark refuses.
-pub fn words_let_free_tokens()
-    ensures { WordsLetFreeTokens }
-{}
-
-/// The theorem that where nobody holds any token, a processor that decides by the tokens' words takes such a list exactly if no mark
-/// refuses it.
-pub fn marks_alone_refuse()
-    ensures { MarksAloneRefuse }
-{}
-
-/// The theorem that a mark on a token at its last generation is never cleared.
-pub fn worn_marks_stay()
-    ensures { WornMarksStay }
-{}
-
-/// The theorem that the word of a token that nobody holds never answers that it is held.
-pub fn free_words_are_not_held()
-    ensures { FreeWordsAreNotHeld }
 {}

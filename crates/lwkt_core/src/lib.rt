@@ -1,5 +1,6 @@
 //! The model of the threading layer as plain data: a machine of tokens and messages, the events of its processors, what
-//! each event needs and leaves, a checker of traces, one of the written sections of tokens, and the steps on a token's word as events.
+//! each event needs and leaves, a checker of traces, one of the written sections of tokens, the steps on a token's word as events, and
+//! what can be taken of tokens that nobody holds.
 //!
 //! Words: a *machine* is the state of all tokens and messages, and it is *safe* if its tokens and messages are; an *event*
 //! is one atomic step of one processor; its *needs* say when it can happen, and a *lack* is the first need that isn't met; a
@@ -12,6 +13,7 @@ pub mod decisions;
 pub mod events;
 mod finals;
 mod first_states;
+pub mod free_tokens;
 pub mod headline;
 pub mod lacks;
 pub mod messages;

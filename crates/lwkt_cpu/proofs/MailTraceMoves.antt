@@ -22,13 +22,12 @@ use Rattle.lwkt_bank.specs.declared.seats.CpuSeat.{CpuSeat}
 use Rattle.lwkt_bank.specs.Seats.{BankId, holding}
 use Rattle.lwkt_hold.specs.declared.answers.Acquired.{Acquired}
 use Rattle.lwkt_hold.specs.declared.answers.Acquired.TheVariants.{Got, MustSwitch}
-use Rattle.lwkt_hold.specs.Fronts.{names}
+use Rattle.lwkt_base.specs.Refs.{names}
 use Rattle.lwkt_hold.specs.Givings.{gives, gives_all, Releases, ReleasesAll, ReleasesLast}
 use Rattle.lwkt_bank.specs.Views.{RecordOf}
 use Rattle.lwkt_hold.specs.Rows.{section_now, write_events, record_write_events}
-use Rattle.lwkt_hold.specs.Steps.{taking}
+use Rattle.lwkt_core.specs.Takings.{taking, taking_event, takes_all}
 use Rattle.lwkt_hold.specs.Outcomes.{Marks}
-use Rattle.lwkt_hold.specs.Takings.{taking_event, takes_all}
 use Rattle.lwkt_msg.specs.Desks.{Desk, desk_cpu, past_of}
 use Rattle.lwkt_msg.specs.Views.{seat_cpu}
 use Rattle.lwkt_port.specs.Traced.{TracesDeeds}

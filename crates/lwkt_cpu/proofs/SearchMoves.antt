@@ -20,7 +20,7 @@ use Rattle.lwkt_hold.specs.Fronts.{IsFront}
 use Rattle.lwkt_hold.specs.Runs.{Ran}
 use Rattle.lwkt_hold.specs.Stays.{Stays}
 use Rattle.lwkt_hold.specs.Rows.{IsAllClean}
-use Rattle.lwkt_hold.specs.Takings.{takes_all}
+use Rattle.lwkt_core.specs.Takings.{takes_all}
 use Rattle.lwkt_hold.specs.Givings.{gives_all}
 use Rattle.lwkt_hold.specs.Holds.{Resumes}
 use Rattle.lwkt_hold.proofs.RunMoves.{ran_then, ran_weaker}

@@ -12,7 +12,7 @@ use Rattle.lwkt_hold.specs.declared.answers.Missed.{Missed}
 use Rattle.lwkt_hold.specs.declared.answers.Resumed.{Resumed}
 use Rattle.lwkt_hold.specs.declared.answers.Resumed.TheVariants.{All, Passed}
 use Rattle.lwkt_hold.specs.Givings.{gives_all}
-use Rattle.lwkt_hold.specs.Takings.{takes_all}
+use Rattle.lwkt_core.specs.Takings.{takes_all}
 use Rattle.lwkt_msg.specs.Desks.{Desk}
 use Rattle.lwkt_cpu.specs.Traced.{TracesMail, TracesTokensOnly}
 use Rattle.lwkt_cpu.proofs.MailTraceMoves.{quiet_none, mail_none, mail_then, mail_quiet, quiet_mail, plain_append, plain_takes_all, plain_gives_all}

@@ -19,7 +19,7 @@ use Rattle.lwkt_hold.specs.Rows.{IsAllClean}
 use Rattle.lwkt_hold.specs.Misses.{Misses}
 use Rattle.lwkt_hold.specs.Stays.{Stays}
 use Rattle.lwkt_hold.specs.Holds.{Resumes}
-use Rattle.lwkt_hold.specs.Takings.{takes_all}
+use Rattle.lwkt_core.specs.Takings.{takes_all}
 use Rattle.lwkt_hold.specs.Givings.{gives_all}
 use Rattle.lwkt_port.specs.Chains.{Chain}
 use Rattle.lwkt_cpu.specs.declared.phases.Phase.{Phase}

@@ -11,9 +11,9 @@ use Rattle.lwkt_base.specs.declared.holdings.Held.TheVariants.{Nothing, Holds}
 use Rattle.lwkt_base.specs.Holding.{Holding, is_held, is_exclusive, one_more, added, holding_of, holds_nothing}
 use Rattle.lwkt_bank.specs.declared.seats.CpuSeat.{CpuSeat}
 use Rattle.lwkt_bank.specs.Seats.{bank_of, entry, holding}
-use Rattle.lwkt_hold.specs.Fronts.{names}
+use Rattle.lwkt_base.specs.Refs.{names}
 use Rattle.lwkt_hold.specs.Rows.{row, first_row, blob, first_blob, IsBroken, SameSection, GivesBack, GivenUp, IsFirstSoFar, first_of}
-use Rattle.lwkt_hold.proofs.HoldingMoves.{held_named}
+use Rattle.lwkt_base.proofs.HoldingLemmas.{held_named}
 use Rattle.lwkt_hold.proofs.GiveMoves.{more_here, held_more, same_law, same_then, section_from}
 
 exclusive_more : (held : Held) (mode : Mode) → is_held held ≡ true → is_exclusive (one_more held mode) ≡ is_exclusive held

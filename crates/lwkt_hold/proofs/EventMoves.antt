@@ -19,10 +19,9 @@ use Rattle.lwkt_bank.specs.Seats.{bank_of, holding}
 use Rattle.lwkt_hold.specs.declared.answers.Missed.{Missed}
 use Rattle.lwkt_hold.specs.declared.answers.Resumed.{Resumed}
 use Rattle.lwkt_hold.specs.declared.answers.Resumed.TheVariants.{All, Passed}
-use Rattle.lwkt_hold.specs.Fronts.{names}
-use Rattle.lwkt_hold.specs.Steps.{taking}
+use Rattle.lwkt_base.specs.Refs.{names}
+use Rattle.lwkt_core.specs.Takings.{taking, taking_event, takes_all}
 use Rattle.lwkt_hold.specs.Rows.{IsUnwritten, section_now, MeetsItsLaw, SameSection, Mends}
-use Rattle.lwkt_hold.specs.Takings.{taking_event, takes_all}
 use Rattle.lwkt_hold.proofs.GiveMoves.{same_law, section_same, restores_same, restores_before}
 use Rattle.lwkt_hold.specs.Givings.{gives, gives_all, GivesBy, RestoresBy, Releases, ReleasesAll}
 

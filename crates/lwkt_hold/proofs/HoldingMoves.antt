@@ -1,7 +1,7 @@
-use Rattle.std.proofs.Common.{◌≡◌, ℕ, zero, suc, ◌+◌, ◌-◌, ◌<◌, ◌≤◌, Bool, true, false, cond, eqb, length, take, get_or, List, [], ◌∷◌, ◌++◌, refl, ap, sym, ◌∙◌, arith, inl, inr, eq-eqb, ne_eqb}
-use Rattle.std.specs.Prelude.{◌||◌, fold}
+use Rattle.std.proofs.Common.{◌≡◌, ℕ, zero, suc, ◌+◌, ◌-◌, ◌<◌, ◌≤◌, Bool, true, false, cond, eqb, length, take, get_or, List, [], ◌∷◌, ◌++◌, refl, ap, ◌∙◌, arith, ne_eqb}
+use Rattle.std.specs.Prelude.{fold}
 use Rattle.std.proofs.lemmas.List.Sums.{fold-append}
-use Rattle.std.proofs.lemmas.Bool.{eqb-true, eqb-false, cases_Bool}
+use Rattle.std.proofs.lemmas.Bool.{eqb-true}
 use Rattle.std.proofs.lemmas.Grind.{common_steps}
 use Rattle.std.proofs.Math.Path.{fun_ext}
 use Rattle.lwkt_base.specs.declared.names.Mode.{Mode}
@@ -9,10 +9,8 @@ use Rattle.lwkt_base.specs.declared.names.Mode.TheVariants.{Shared}
 use Rattle.lwkt_base.specs.declared.names.Ref.{Ref}
 use Rattle.lwkt_base.specs.declared.holdings.Held.{Held}
 use Rattle.lwkt_base.specs.declared.holdings.Held.TheVariants.{Nothing, Holds}
-use Rattle.lwkt_base.specs.Refs.{is_to}
 use Rattle.lwkt_base.specs.Holding.{Holding, references_in, is_held, one_more, one_less, added, removed, holding_of, holds_nothing}
 use Rattle.lwkt_bank.specs.Views.{count_from}
-use Rattle.lwkt_hold.specs.Fronts.{names}
 
 -- what a list with one reference more holds
 pub holding_of_push : (refs : List Ref) (r : Ref) → holding_of (refs ++ r ∷ []) ≡ added (holding_of refs) r.tok.0 r.mode
@@ -101,36 +99,3 @@ count_of_list n refs =
     let e = count_fold n refs holds_nothing in
     let f = count_nothing n 0 in
     omega arith
-
--- what a reference more does to whether a token is held
-held_if : (b : Bool) (held : Held) (mode : Mode) → is_held (cond b (one_more held mode) held) ≡ (b || is_held held)
-held_if true Nothing mode = refl
-held_if true (Holds first further) mode = refl
-held_if false held mode = refl
-
-or_none : (b : Bool) → (b || false) ≡ b
-or_none true = refl
-or_none false = refl
-
-or_turn : (a b c : Bool) → (a || (b || c)) ≡ (b || a || c)
-or_turn true true c = refl
-or_turn true false c = refl
-or_turn false true c = refl
-or_turn false false c = refl
-
-eqb_turn : (a b : ℕ) → eqb a b ≡ eqb b a
-eqb_turn a b = elim (cases_Bool (eqb a b)) [
-  | inl is ↦ is ∙ sym (eq-eqb b a (sym (eqb-true a b is)))
-  | inr is ↦ is ∙ sym (ne_eqb b a (λ same. eqb-false a b is (sym same)))
-]
-
-names_fold : (refs : List Ref) (h : Holding) (tok : ℕ) → is_held (fold (λ held r. added held r.tok.0 r.mode) h refs tok) ≡ (names refs tok || is_held (h tok))
-names_fold [] h tok = refl
-names_fold (r ∷ refs) h tok =
-    names_fold refs (added h r.tok.0 r.mode) tok
-    ∙ ap (λ b. names refs tok || b) (held_if (eqb tok r.tok.0) (h tok) r.mode ∙ ap (λ b. b || is_held (h tok)) (eqb_turn tok r.tok.0))
-    ∙ or_turn (names refs tok) (is_to tok r) (is_held (h tok))
-
--- a list holds the tokens that it names
-pub held_named : (refs : List Ref) (tok : ℕ) → is_held (holding_of refs tok) ≡ names refs tok
-held_named refs tok = names_fold refs holds_nothing tok ∙ or_none (names refs tok)

@@ -21,7 +21,7 @@ use Rattle.lwkt_bank.specs.Seats.{holding}
 use Rattle.lwkt_hold.specs.declared.answers.Missed.{Missed}
 use Rattle.lwkt_base.specs.declared.names.CpuId.{CpuId}
 use Rattle.lwkt_hold.specs.Fronts.{IsFront}
-use Rattle.lwkt_hold.specs.Takings.{taking_event}
+use Rattle.lwkt_core.specs.Takings.{taking_event}
 use Rattle.lwkt_table.specs.History.{events_in, steps_in}
 use Rattle.lwkt_hold.specs.Steps.{is_counted, is_of_token, is_on_word, ShowsEvent, AreTraced}
 use Rattle.lwkt_hold.specs.Runs.{Moves, Ran}

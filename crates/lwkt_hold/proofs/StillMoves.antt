@@ -13,7 +13,8 @@ use Rattle.lwkt_bank.specs.Seats.{entry, steps_of, Decides, Looked, Lost}
 use Rattle.lwkt_bank.specs.Views.{load, looked}
 use Rattle.lwkt_bank.specs.Deeds.{loads}
 use Rattle.lwkt_hold.specs.declared.answers.Missed.TheVariants.{Busy}
-use Rattle.lwkt_hold.specs.Fronts.{IsFront, is_alone, names}
+use Rattle.lwkt_base.specs.Refs.{is_alone, names}
+use Rattle.lwkt_hold.specs.Fronts.{IsFront}
 use Rattle.lwkt_hold.specs.Misses.{IsMiss, Misses, IsRefusing}
 use Rattle.lwkt_hold.specs.Rows.{SameRow}
 use Rattle.lwkt_hold.specs.Stays.{Stays, RunsUnseen}

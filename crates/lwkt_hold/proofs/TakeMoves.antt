@@ -24,11 +24,14 @@ use Rattle.lwkt_bank.specs.Views.{count_from, generation_in, looked, taken, more
 use Rattle.lwkt_bank.specs.Deeds.{take_event, loads, takes, loses, adds_one}
 use Rattle.lwkt_bank.specs.Seats.{bank_of, tokens_of, entry, holding, references, steps_of, Looked, Took, Lost, Stepped}
 use Rattle.lwkt_hold.specs.declared.answers.Missed.{Missed}
-use Rattle.lwkt_hold.specs.Fronts.{IsFront, is_alone, names}
-use Rattle.lwkt_hold.specs.Steps.{held_after, is_counted, is_of_token, is_on_word, is_look, ShowsEvent, AreTraced, taking}
+use Rattle.lwkt_base.specs.Refs.{is_alone, names}
+use Rattle.lwkt_hold.specs.Fronts.{IsFront}
+use Rattle.lwkt_core.specs.Takings.{taking}
+use Rattle.lwkt_hold.specs.Steps.{held_after, is_counted, is_of_token, is_on_word, is_look, ShowsEvent, AreTraced}
 use Rattle.lwkt_hold.specs.Runs.{Ran}
 use Rattle.lwkt_hold.specs.Misses.{IsMiss, Misses}
-use Rattle.lwkt_hold.proofs.HoldingMoves.{holding_of_more, more_in_any_mode, count_of_list, held_named}
+use Rattle.lwkt_base.proofs.HoldingLemmas.{held_named}
+use Rattle.lwkt_hold.proofs.HoldingMoves.{holding_of_more, more_in_any_mode, count_of_list}
 use Rattle.lwkt_hold.proofs.RunMoves.{traced_one, ran_step, ran_quiet, ran_weaker, holding_changed, holding_kept}
 
 -- a further reference in any mode

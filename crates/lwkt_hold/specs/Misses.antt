@@ -12,7 +12,7 @@ use Rattle.lwkt_bank.specs.Seats.{steps_of, Decides}
 use Rattle.lwkt_bank.specs.Views.{load, exchange}
 use Rattle.lwkt_hold.specs.declared.answers.Missed.{Missed}
 use Rattle.lwkt_hold.specs.declared.answers.Missed.TheVariants.{Busy, Again, Worn}
-use Rattle.lwkt_hold.specs.Fronts.{is_alone, names}
+use Rattle.lwkt_base.specs.Refs.{is_alone, names}
 
 -- the steps of a try that was missed: a load of the word that was refused, or a load of a word that can be taken and an
 -- exchange that found another (own)

@@ -21,7 +21,8 @@ use Rattle.lwkt_hold.specs.Fronts.{IsFront}
 use Rattle.lwkt_hold.specs.Misses.{Misses, fault_of}
 use Rattle.lwkt_hold.specs.Runs.{Ran}
 use Rattle.lwkt_hold.specs.Rows.{row, blob, SameRow, OnlyRow, OnlyRecord}
-use Rattle.lwkt_hold.specs.Takings.{taking_event, TakesRows}
+use Rattle.lwkt_core.specs.Takings.{taking_event}
+use Rattle.lwkt_hold.specs.Takings.{TakesRows}
 
 -- a call on the list that is held: what it did is at most one event, within the fronts of the list, and the list is held as before (own)
 pub record Keeps (refs : List Ref) (old new : CpuSeat) (before now : Vec Event Global) : Type 0 where

@@ -11,7 +11,7 @@ use Rattle.lwkt_core.specs.declared.events.Event.TheVariants.{Write, WriteBlob}
 use Rattle.lwkt_core.specs.Tokens.{length_of}
 use Rattle.lwkt_hold.specs.declared.answers.Blocked.{Blocked}
 use Rattle.lwkt_hold.specs.declared.answers.Blocked.TheVariants.{Clean, Restored}
-use Rattle.lwkt_hold.specs.Fronts.{names}
+use Rattle.lwkt_base.specs.Refs.{names}
 use Rattle.lwkt_bank.specs.declared.seats.CpuSeat.{CpuSeat}
 use Rattle.lwkt_base.specs.declared.sections.Section.{Section}
 use Rattle.lwkt_bank.specs.Views.{RecordOf, is_touched, ended_section}

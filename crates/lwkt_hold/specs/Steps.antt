@@ -1,7 +1,4 @@
 use Rattle.std.specs.Prelude.{◌≡◌, ◌⊎◌, ℕ, ◌==◌, Bool, true, false, List, [], ◌∷◌}
-use Rattle.lwkt_base.specs.declared.names.CpuId.{CpuId}
-use Rattle.lwkt_base.specs.declared.names.TokId.{TokId}
-use Rattle.lwkt_base.specs.declared.names.Mode.{Mode}
 use Rattle.lwkt_base.specs.declared.names.Mode.TheVariants.{Exclusive, Shared}
 use Rattle.lwkt_base.specs.Holding.{Holding, added, removed}
 use Rattle.lwkt_core.specs.declared.events.Event.{Event}
@@ -153,8 +150,3 @@ ShowsEvent s (DropMsg cpu msg) = ⊥
 ShowsEvent s (Reply cpu msg) = ⊥
 ShowsEvent s (Reap cpu msg) = ⊥
 ShowsEvent s (Abort cpu msg) = ⊥
-
--- the event of taking a first reference
-abbrev pub taking : CpuId → TokId → Mode → Event
-taking cpu tok Exclusive = Take cpu tok
-taking cpu tok Shared = Share cpu tok

@@ -16,7 +16,7 @@ use lwkt_core::Event;
 impl Hold {
     ghost use Rattle.lwkt_hold.specs.Holds.{seat_of, Resumes};
     ghost use Rattle.lwkt_hold.specs.Rows.{IsAllClean};
-    ghost use Rattle.lwkt_hold.specs.Takings.{takes_all};
+    ghost use Rattle.lwkt_core.specs.Takings.{takes_all};
     ghost use Rattle.lwkt_hold.specs.Givings.{gives_all};
     ghost use Rattle.lwkt_hold.specs.declared.answers.Missed.{Missed};
 

@@ -2,9 +2,11 @@
 ghost use Rattle.std.specs.Prelude.{◌≡◌, ℕ, ◌+◌, ◌<◌, ◌≤◌, [], ◌∷◌, ◌++◌, length, take, slice_get, IsSomeAnd, OnOk, OnErr, IfErr, vec_len, vec_capacity};
 ghost use Rattle.lwkt_base.specs.Holding.{holding_of};
 ghost use Rattle.lwkt_bank.specs.Seats.{id_of, bank_of, tokens_of, holding};
-ghost use Rattle.lwkt_hold.specs.Fronts.{IsFront, is_alone};
+ghost use Rattle.lwkt_base.specs.Refs.{is_alone};
+ghost use Rattle.lwkt_hold.specs.Fronts.{IsFront};
 ghost use Rattle.lwkt_hold.specs.Runs.{Ran};
-ghost use Rattle.lwkt_hold.specs.Takings.{taking_event, TakesRows};
+ghost use Rattle.lwkt_core.specs.Takings.{taking_event};
+ghost use Rattle.lwkt_hold.specs.Takings.{TakesRows};
 ghost use Rattle.lwkt_hold.specs.Misses.{Misses};
 ghost use Rattle.lwkt_hold.specs.Rows.{SameRow};
 

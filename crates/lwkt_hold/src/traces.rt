@@ -2,7 +2,7 @@
 //! record, which is set to 0 at the start of the function that makes it, so only then when there is such an event.
 ghost use Rattle.std.specs.Prelude.{◌≡◌, ◌+◌, ◌<◌, ◌≤◌, [], ◌∷◌, ◌++◌, length, vec_len, vec_capacity};
 ghost use Rattle.lwkt_hold.specs.Rows.{write_events, record_write_events};
-ghost use Rattle.lwkt_hold.specs.Steps.{taking};
+ghost use Rattle.lwkt_core.specs.Takings.{taking};
 
 use lwkt_base::limits::CELL_LIMIT;
 use lwkt_base::{Blob, CpuId, Mode, Ref, Section, TokId};

@@ -1,3 +1,4 @@
+use crate::marks::show_marker;
 use crate::records::show_hex;
 use crate::replays::Replay;
 use crate::stories::{Logged, Story};
@@ -41,6 +42,7 @@ fn show_end(out: &mut Page, replay: &Replay, story: &Story) {
         ThreadState::Ready | ThreadState::Waiting | ThreadState::Running => {
             out.add("the turns are used up, and thread ");
             story.show_why(out, &replay.state, &replay.runners);
+            show_marker(out, replay, story);
             out.add("\n");
         }
     }

@@ -17,6 +17,7 @@ mod laws;
 mod layouts;
 mod legends;
 mod lines;
+mod marks;
 mod options;
 mod pictures;
 mod records;

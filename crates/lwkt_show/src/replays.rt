@@ -5,7 +5,7 @@ use crate::stories::{Doing, Outcome, Story, doing_after};
 use crate::tokens::Runners;
 use crate::tries::{held_after, taker};
 use crate::words::fill;
-use lwkt_base::limits::MESSAGE_LIMIT;
+use lwkt_base::limits::{MESSAGE_LIMIT, TOKEN_LIMIT};
 use lwkt_base::memory::push;
 use lwkt_base::{Answer, Ask, Blob, Fault, Law, MsgId, ThreadId, ThreadLine, ThreadState, TokId};
 use lwkt_core::{Event, State};
@@ -27,6 +27,8 @@ pub(crate) struct Replay {
     sent_to: [ThreadId; MESSAGE_LIMIT],
     // Whether each message was last sent with priority.
     urgent: [bool; MESSAGE_LIMIT],
+    // The thread that last marked each token, if one did.
+    marked_by: [Option<ThreadId>; TOKEN_LIMIT],
 }
 
 // The thread of a script that has this number on its processor.
@@ -106,6 +108,7 @@ impl Replay {
             runners: [None; 8],
             sent_to: [ThreadId::default(); MESSAGE_LIMIT],
             urgent: [false; MESSAGE_LIMIT],
+            marked_by: [None; TOKEN_LIMIT],
         })
     }
 
@@ -115,6 +118,14 @@ impl Replay {
             .get(usize::from(msg.0))
             .copied()
             .unwrap_or(false)
+    }
+
+    /// The thread that last marked a token, if one did.
+    pub(crate) fn marker(&self, tok: TokId) -> Option<ThreadId> {
+        match self.marked_by.get(usize::from(tok.0)) {
+            Some(marker) => *marker,
+            None => None,
+        }
     }
 
     /// The own round of a message that is sent or replied to by an event.
@@ -318,6 +329,17 @@ impl Replay {
         }
     }
 
+    // Notes which tokens a thread marked, by a turn's events.
+    fn note_marks(&mut self, id: ThreadId, part: &[Event]) {
+        for event in part {
+            if let Event::Mark { tok, .. } = *event {
+                if let Some(slot) = self.marked_by.get_mut(usize::from(tok.0)) {
+                    *slot = Some(id);
+                }
+            }
+        }
+    }
+
     // Notes what a poll came to, and of a section that broke its law what is said of it.
     fn note_poll(&mut self, poll: &Poll, outcome: Outcome, why: Page) {
         self.note_sending(poll);
@@ -337,6 +359,7 @@ impl Replay {
             return;
         };
         if let Some(poll) = &scene.poll {
+            self.note_marks(poll.thread, scene.part);
             self.note_poll(poll, outcome, why);
         }
     }

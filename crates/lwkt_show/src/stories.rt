@@ -288,6 +288,30 @@ impl Story {
         None
     }
 
+    /// The token that the thread, a lone reader, can't have for its mark alone: nobody holds it.
+    pub(crate) fn stopped_by_mark(&self, state: &State) -> Option<TokId> {
+        if self.doing != Doing::WantsList {
+            return None;
+        }
+        let wanted = self.lacks(state)?;
+        let token = state.token(wanted.tok)?;
+        if wanted.mode == Mode::Shared && token.is_free() {
+            Some(wanted.tok)
+        } else {
+            None
+        }
+    }
+
+    /// Whether the thread has an exclusive reference to a token on its list.
+    pub(crate) fn wants_exclusively(&self, tok: TokId) -> bool {
+        for wanted in self.list.refs() {
+            if wanted.tok.0 == tok.0 && wanted.mode == Mode::Exclusive {
+                return true;
+            }
+        }
+        false
+    }
+
     // Appends which token of its list a thread can't have.
     fn show_want(&self, out: &mut Page, state: &State, runners: &Runners) {
         let Some(wanted) = self.lacks(state) else {

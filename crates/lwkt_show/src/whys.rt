@@ -1,4 +1,5 @@
 //! Why the threads of a run haven't ended.
+use crate::marks::show_left_mark;
 use crate::reels::{Reel, scene_of};
 use crate::replays::Replay;
 use crate::stories::Doing;
@@ -26,13 +27,15 @@ fn show_whys(out: &mut Page, replay: &Replay) {
         if story.doing != Doing::Ended {
             out.add(if some { "; thread " } else { "thread " });
             story.show_why(out, &replay.state, &replay.runners);
+            show_left_mark(out, replay, story);
             some = true;
         }
     }
 }
 
-/// Of each thread of a run along an order that hasn't ended what it waits for after the last turn, or that it could go on, in one line
-/// without its end: `thread 0.0 waits for ..; thread 1.0 ..`. It is empty if every thread has ended.
+/// Of each thread of a stuck run along an order that hasn't ended what it waits for after the last turn, or that it could go on, in one
+/// line without its end: `thread 0.0 waits for ..; thread 1.0 ..`. It is empty if every thread has ended. Of a thread that waits for a
+/// token that nobody holds it also says who left the mark, if that thread has ended, and whether nobody is left who clears it.
 ///
 /// Refused if memory is.
 pub fn whys_of(alloc: Global, script: &Script, run: &TurnsRun) -> Result<String, OutOfMemory> {

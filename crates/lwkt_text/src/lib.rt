@@ -1,7 +1,8 @@
 //! Reads and writes scripts as a text that people write.
 //!
-//! Words: a *text* names its processors, tokens, messages and threads; an *expectation* says of outcomes that a *claim*
-//! holds always, sometimes or never; a *wrong* is one thing that is wrong with a text, with its place.
+//! Words: a *text* names its processors, tokens, messages and threads; a *sentence* is some words, each with its place;
+//! `looks` has what word i of one says, and where that would stand if it is missing; an *expectation* says of outcomes that
+//! a *claim* holds always, sometimes or never; a *wrong* is one thing that is wrong with a text, with its place.
 #![tactic(auto)]
 
 mod absences;

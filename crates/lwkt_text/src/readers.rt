@@ -70,6 +70,20 @@ fn drafted(names: Names, draft: Draft) -> Reading
     }
 }
 
+// Refuses what was read where a claim of it names what isn't there.
+fn claims_looked_at(alloc: Global, reading: &Reading) -> Result<(), Refusal>
+    ensures ok { IfOk result (λ _. claims_checked reading.now ≡ Ok reading.now) }
+    ensures there { IfOk result (λ _. NamesWhatIsThere reading.now.script reading.now.expectations) }
+    ensures err { IfErr result (λ refusal. IsRefusalOf refusal (claims_checked reading.now)) }
+{
+    let wrongs = absences(alloc, &reading.script, reading.expectations.as_slice())?;
+    if wrongs.len() == 0 {
+        Ok(())
+    } else {
+        Err(Refusal::Wrongs(wrongs))
+    }
+}
+
 // What was read, if each of its claims names what is there.
 fn claims_checked(alloc: Global, reading: Reading) -> Result<Reading, Refusal>
     ensures ok { IfOk result (λ checked. claims_checked reading ≡ Ok checked) }
@@ -77,11 +91,9 @@ fn claims_checked(alloc: Global, reading: Reading) -> Result<Reading, Refusal>
     ensures there { IfOk result (λ checked. NamesWhatIsThere checked.script checked.expectations) }
     ensures err { IfErr result (λ refusal. IsRefusalOf refusal (claims_checked reading)) }
 {
-    let wrongs = absences(alloc, &reading.script, reading.expectations.as_slice())?;
-    if wrongs.len() == 0 {
-        Ok(reading)
-    } else {
-        Err(Refusal::Wrongs(wrongs))
+    match claims_looked_at(alloc, &reading) {
+        Ok(()) => Ok(reading),
+        Err(refusal) => Err(refusal),
     }
 }
 

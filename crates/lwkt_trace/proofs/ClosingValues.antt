@@ -7,7 +7,7 @@ use Rattle.serde_json.specs.Data.{Data, array, object, member}
 use Rattle.lwkt_base.specs.declared.owners.MsgEnd.{MsgEnd}
 use Rattle.lwkt_report.specs.declared.closings.TokenLine.{TokenLine}
 use Rattle.lwkt_script.specs.Outcome.{◌>>=◌, each}
-use Rattle.lwkt_trace.specs.Format.{row_behind, tally, record_behind, closing_at, there}
+use Rattle.lwkt_trace.specs.Format.{row_behind, tally, record_behind, closing_of_parts, closing_at, there}
 use Rattle.lwkt_trace.specs.Written.{has_record}
 use Rattle.lwkt_trace.specs.Readback.{items_as, ends_data, AreWritableEnds}
 use Rattle.lwkt_trace.specs.Values.{row_data, generation_data, tallies_data, tally_data, last_blob_data, record_data, rows_members, HasGuard, IsGuard, ClosingIsReadBack}
@@ -79,7 +79,7 @@ closing_with lines ends blobs = record { rows = map cells_of lines; gens = map g
 
 closing_is : (recorded : Bool) (lines : List TokenLine) (ends : List MsgEnd) → list_any has_record lines ≡ recorded → length lines ≤ 64 → All HasGuard lines → length ends ≤ 64 → AreWritableEnds ends
     → closing_at (closing_by recorded lines ends) ≡ Ok (closing_with lines ends (map blob_of lines))
-unfolding closing_at
+unfolding closing_at closing_of_parts
 closing_is true lines ends is few all few_ends writable =
     rw (rows_are lines few, numbers_read 5 generation_of [] lines, tallies_are lines few, ends_read_back ends writable few_ends, records_are lines few all) refl
 closing_is false lines ends is few all few_ends writable =

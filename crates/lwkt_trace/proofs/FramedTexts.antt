@@ -1,6 +1,6 @@
 -- A written trace whose events are read one after another.
-use Rattle.std.proofs.Common.{◌≡◌, ℕ, ◌+◌, ◌≤◌, List, [], ◌++◌, length, map, Option, Result, Ok, Err, refl, sym, ap, ap₂, ◌∙◌, subst, arith, append_assoc}
-use Rattle.std.specs.Prelude.{codes}
+use Rattle.std.proofs.Common.{◌≡◌, ℕ, ◌+◌, ◌≤◌, List, [], ◌++◌, length, map, Bool, Option, Some, None, Result, Ok, Err, refl, sym, ap, ap₂, ◌∙◌, subst, arith, append_assoc}
+use Rattle.std.specs.Prelude.{codes, IfOk, IfSome, IsTrue}
 use Rattle.std.proofs.lemmas.List.{length-append}
 use Rattle.serde_json.specs.Data.{Data, object, no_members, member}
 use Rattle.lwkt_base.specs.declared.opening_specs.MsgSpec.{MsgSpec}
@@ -9,7 +9,7 @@ use Rattle.lwkt_core.specs.declared.events.Event.{Event}
 use Rattle.lwkt_script.specs.declared.scripts.Script.{Script}
 use Rattle.lwkt_script.specs.Field.{number_in}
 use Rattle.lwkt_script.specs.Outcome.{◌>>=◌, part, each}
-use Rattle.lwkt_trace.specs.Format.{event, message_behind, closing, trace, trace_of}
+use Rattle.lwkt_trace.specs.Format.{event, message_behind, closing, cpus_in, trace_of_parts, trace, trace_of}
 use Rattle.lwkt_trace.specs.Guard.{guarded}
 use Rattle.lwkt_trace.specs.Printed.{HasWords, ItemsHaveWords}
 use Rattle.lwkt_trace.specs.Readback.{number_data, items_as, events_data, messages_data, stated_alone, AreWritable}
@@ -58,7 +58,7 @@ of_parts script last events =
     assembled (part 3 (number_in (codes "cpus") 1 8 (object (member (codes "cpus") (number_data script.cpus) no_members)))) (each guarded [] (items_as token_data script.tokens)) (λ cpus. each (message_behind cpus) [] (messages_data script.messages)) events (closing last)
 
 value_parts : (script : Script) (events : List Event) (last : Data) → trace (data_with script events last) ≡ of_parts script last (each event [] (events_data events))
-unfolding trace
+unfolding trace cpus_in trace_of_parts
 value_parts script events last = refl
 
 -- a value without events is a trace: with events it is this trace with these events
@@ -96,3 +96,14 @@ frames front back t is front_is behind cpus tokens messages = λ text events are
     let whole_short : length (framed script events last) ≤ 268435456 = subst (λ (l : List ℕ). length l ≤ 268435456) whole short in
     let bare_read : trace (data_with script [] (last_data last)) ≡ Ok t = sym (framed_read script [] last (cpus, (tt, (behind.words, (messages, (tokens, (one, tt)))))) bare_short) ∙ ap trace_of (sym bare) ∙ is in
     ap trace_of whole ∙ framed_read script events last (cpus, (are.words, (behind.words, (messages, (tokens, (one, tt)))))) whole_short ∙ value_with script events (last_data last) t are.writable few bare_read
+
+-- what was looked at, if memory sufficed: the front, the numbers, and then the back
+pub framed_so : {E : Type 0} (r : Result Bool E) (front back : List ℕ) (t : Trace) → front ≡ front_text t.cpus t.tokens t.messages → HasWords (number_data t.cpus) → ItemsHaveWords (items_as token_data t.tokens) → ItemsHaveWords (messages_data t.messages)
+    → IfOk r (λ is. IsTrue is → IsBack back) → IfOk r (λ is. IsTrue is → trace_of (front ++ back) ≡ Ok t → Frames front back t)
+framed_so {E} (Ok b) front back t front_is cpus tokens messages behind = λ so read. frames front back t read front_is (behind so) cpus tokens messages
+framed_so {E} (Err e) front back t front_is cpus tokens messages behind = tt
+
+-- a trace that is kept only where it is framed
+pub kept_so : (found : Option Trace) (t : Trace) (is : Bool) (front back : List ℕ) → IfSome found (λ kept. (kept ≡ t) × IsTrue is) → (IsTrue is → trace_of (front ++ back) ≡ Ok t → Frames front back t) → trace_of (front ++ back) ≡ Ok t → IfSome found (Frames front back)
+kept_so None t is front back so framed_if read = tt
+kept_so (Some kept) t is front back so framed_if read = subst (λ (u : Trace). Frames front back u) (sym so.0) (framed_if so.1 read)

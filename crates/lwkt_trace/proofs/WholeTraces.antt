@@ -2,7 +2,7 @@
 use Rattle.std.proofs.Common.{ℕ, suc, List, [], ◌∷◌, All, refl, arith, le-leb}
 use Rattle.lwkt_base.specs.declared.opening_specs.MsgSpec.{MsgSpec}
 use Rattle.lwkt_script.specs.Limits.{IsMessage}
-use Rattle.lwkt_trace.specs.Format.{trace}
+use Rattle.lwkt_trace.specs.Format.{cpus_in, trace_of_parts, trace}
 use Rattle.lwkt_trace.specs.Readback.{AreMessages}
 use Rattle.lwkt_trace.specs.Values.{TraceIsReadBack}
 use Rattle.lwkt_trace.proofs.EventLists.{lists_read_back}
@@ -15,7 +15,7 @@ messages_are cpus [] all = tt
 messages_are cpus (m ∷ ms) all = (all 0 m (omega arith), messages_are cpus ms (λ k d l. all (suc k) d (omega (arith, l))))
 
 pub trace_read_back : TraceIsReadBack
-unfolding trace
+unfolding trace cpus_in trace_of_parts
 trace_read_back script events c is =
     rw (
       le-leb 1 script.cpus is.limits.some_cpus,

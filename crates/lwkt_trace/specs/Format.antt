@@ -1,7 +1,7 @@
 -- A trace, version 1 (own): what it says, and the place of its first bad part.
 use Rattle.std.specs.Prelude.{ℕ, ◌+◌, ◌&&◌, nat_lt, nat_le, List, [], length, replicate, codes, Bool, is_some, if◌then◌else◌, Option, Some, None, Result, Ok}
 use Rattle.std.specs.Str.{is_utf8}
-use Rattle.serde_json.specs.Data.{Data}
+use Rattle.serde_json.specs.Data.{Data, Items}
 use Rattle.serde_json.specs.Find.{get, as_null, as_array}
 use Rattle.serde_json.specs.Read.{read}
 use Rattle.lwkt_base.specs.declared.opening_specs.MsgSpec.{MsgSpec}
@@ -66,7 +66,17 @@ blobs count (Some d) = part 4 (as_array d) >>= each record_behind []
 abbrev pub members_of : Data → ℕ
 members_of d = if is_some (get (codes "records") d) then 5 else 4
 
--- the closing values: the shape of the whole first, then the parts in their order
+-- the closing values by their parts, in their order
+unfoldable pub closing_of_parts : Data → Items → Items → Items → Items → Result Closing ℕ
+closing_of_parts d row_items gen_items tally_items end_items = do
+  rows ← each row_behind [] row_items
+  gens ← each (cell 5) [] gen_items
+  tallies ← each tally [] tally_items
+  ends ← each end [] end_items
+  records ← blobs (length rows) (get (codes "records") d)
+  Ok (record { rows = rows; gens = gens; tallies = tallies; messages = ends; blobs = records })
+
+-- the closing values: the shape of the whole first, then the parts
 unfoldable pub closing_at : Data → Result Closing ℕ
 closing_at d = do
   demand 4 (has_members (members_of d) d)
@@ -74,12 +84,7 @@ closing_at d = do
   gen_items ← part 4 (list_in (codes "gens") d)
   tally_items ← part 4 (list_in (codes "tallies") d)
   end_items ← part 4 (list_in (codes "messages") d)
-  rows ← each row_behind [] row_items
-  gens ← each (cell 5) [] gen_items
-  tallies ← each tally [] tally_items
-  ends ← each end [] end_items
-  records ← blobs (length rows) (get (codes "records") d)
-  Ok (record { rows = rows; gens = gens; tallies = tallies; messages = ends; blobs = records })
+  closing_of_parts d row_items gen_items tally_items end_items
 
 -- what is there
 abbrev pub there : {A : Type 0} → A → Result (Option A) ℕ
@@ -93,7 +98,22 @@ closing d = if is_some (as_null d) then Ok None else (closing_at d >>= there)
 abbrev pub has_six_members : Data → Bool
 has_six_members d = has_members 6 d && is_some (get (codes "version") d) && is_some (get (codes "cpus") d) && is_some (get (codes "last") d)
 
--- a trace: the shape of the whole first, then the parts in their order
+-- how many processors there are, in a trace of version 1
+unfoldable pub cpus_in : Data → Result ℕ ℕ
+cpus_in d = do
+  version ← part 2 (number_in (codes "version") 1 1 d)
+  part 3 (number_in (codes "cpus") 1 MOST_CPUS d)
+
+-- a trace of so many processors by its parts, in their order
+unfoldable pub trace_of_parts : ℕ → Items → Items → Items → Data → Result Trace ℕ
+trace_of_parts cpus token_items message_items event_items last_part = do
+  tokens ← each guarded [] token_items
+  messages ← each (message_behind cpus) [] message_items
+  events ← each event [] event_items
+  last ← closing last_part
+  Ok (record { cpus = cpus; tokens = tokens; messages = messages; events = events; last = last })
+
+-- a trace: the shape of the whole first, then the parts
 unfoldable pub trace : Data → Result Trace ℕ
 trace d = do
   demand 1 (has_six_members d)
@@ -101,13 +121,8 @@ trace d = do
   message_items ← part 1 (list_in (codes "messages") d)
   event_items ← part 1 (list_in (codes "events") d)
   last_part ← part 1 (get (codes "last") d)
-  version ← part 2 (number_in (codes "version") 1 1 d)
-  cpus ← part 3 (number_in (codes "cpus") 1 MOST_CPUS d)
-  tokens ← each guarded [] token_items
-  messages ← each (message_behind cpus) [] message_items
-  events ← each event [] event_items
-  last ← closing last_part
-  Ok (record { cpus = cpus; tokens = tokens; messages = messages; events = events; last = last })
+  cpus ← cpus_in d
+  trace_of_parts cpus token_items message_items event_items last_part
 
 -- the trace that the bytes are: at most 268435456 of them, and one JSON text
 unfoldable pub trace_of : List ℕ → Result Trace ℕ

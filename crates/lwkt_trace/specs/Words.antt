@@ -116,13 +116,26 @@ abbrev pub stated_at : List ℕ → ℕ → ℕ → Option Stated
 stated_at word cpu place =
     if bytes_eq word (codes "give_written") then Some (Given (cpu_id cpu) (tok_id place)) else whole_event (with_place word cpu place)
 
+-- what a word states with three items in all, and the event that it says with four, five or six
+abbrev pub stated_of_three : List ℕ → Data → Option Stated
+stated_of_three word d = small_at 1 d >>= λ cpu. small_at 2 d >>= λ place. stated_at word cpu place
+
+abbrev pub event_of_four : List ℕ → Data → Option Event
+event_of_four word d = or_else (event_with_round word d) (event_with_record word d)
+
+abbrev pub event_of_five : List ℕ → Data → Option Event
+event_of_five word d = small_at 1 d >>= λ cpu. small_at 2 d >>= λ place. small_at 3 d >>= λ part. whole_at 4 d >>= λ value. with_value word cpu place part value
+
+abbrev pub event_of_six : List ℕ → Data → Option Event
+event_of_six word d = small_at 1 d >>= λ cpu. (small_at 2 d >>= λ tok. section_items tok d) >>= with_section word cpu
+
 -- what a word states with so many items in all
 abbrev pub happened : List ℕ → ℕ → Data → Option Stated
 happened word count d =
-    if count == 3 then (small_at 1 d >>= λ cpu. small_at 2 d >>= λ place. stated_at word cpu place) else (
-    if count == 4 then whole_event (or_else (event_with_round word d) (event_with_record word d)) else (
-    if count == 5 then whole_event (small_at 1 d >>= λ cpu. small_at 2 d >>= λ place. small_at 3 d >>= λ part. whole_at 4 d >>= λ value. with_value word cpu place part value) else (
-    if count == 6 then whole_event (small_at 1 d >>= λ cpu. (small_at 2 d >>= λ tok. section_items tok d) >>= with_section word cpu) else None)))
+    if count == 3 then stated_of_three word d else (
+    if count == 4 then whole_event (event_of_four word d) else (
+    if count == 5 then whole_event (event_of_five word d) else (
+    if count == 6 then whole_event (event_of_six word d) else None)))
 
 -- an event as it is stated: a word, and what goes with it
 abbrev pub event_of : Data → Option Stated
@@ -139,11 +152,15 @@ at_other word origin target round =
     if bytes_eq word (codes "with") then Some (record { round = round; state = With (cpu_id origin) (cpu_id target) }) else (
     if bytes_eq word (codes "back") then Some (record { round = round; state = Back (cpu_id origin) (cpu_id target) }) else None))
 
--- the end of a word with so many items in all
+-- the end of a word with three items in all, with four, and with so many
+abbrev pub end_of_three : List ℕ → Data → Option MsgEnd
+end_of_three word d = small_at 1 d >>= λ origin. whole_at 2 d >>= λ round. at_rest word origin round
+
+abbrev pub end_of_four : List ℕ → Data → Option MsgEnd
+end_of_four word d = small_at 1 d >>= λ origin. small_at 2 d >>= λ target. whole_at 3 d >>= λ round. at_other word origin target round
+
 abbrev pub end_by_word : List ℕ → ℕ → Data → Option MsgEnd
-end_by_word word count d =
-    if count == 3 then (small_at 1 d >>= λ origin. whole_at 2 d >>= λ round. at_rest word origin round) else (
-    if count == 4 then (small_at 1 d >>= λ origin. small_at 2 d >>= λ target. whole_at 3 d >>= λ round. at_other word origin target round) else None)
+end_by_word word count d = if count == 3 then end_of_three word d else (if count == 4 then end_of_four word d else None)
 
 -- a message's end: a word, and the numbers that go with it
 abbrev pub message_end_of : Data → Option MsgEnd

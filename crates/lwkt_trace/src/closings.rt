@@ -2,8 +2,8 @@ ghost use Rattle.std.specs.Prelude.{◌≡◌, [], None, Ok, codes, replicate};
 ghost use Rattle.serde_json.specs.View.{view, items_view};
 ghost use Rattle.serde_json.specs.Find.{get};
 ghost use Rattle.lwkt_script.specs.Outcome.{Gives, each};
-ghost use Rattle.lwkt_trace.specs.Words.{at_rest, at_other, end_by_word, message_end_of};
-ghost use Rattle.lwkt_trace.specs.Format.{numbers, row_behind, tally, end, record_behind, blobs, members_of, closing_at, closing};
+ghost use Rattle.lwkt_trace.specs.Words.{at_rest, at_other, end_of_three, end_of_four, end_by_word, message_end_of};
+ghost use Rattle.lwkt_trace.specs.Format.{numbers, row_behind, tally, end, record_behind, blobs, members_of, closing_of_parts, closing_at, closing};
 
 use crate::traces::Closing;
 use lwkt_base::memory::push;
@@ -57,18 +57,30 @@ fn at_other(word: &str, origin: u8, target: u8, round: u64) -> Option<MsgEnd>
     }
 }
 
+// The end of a word with three items in all.
+fn end_of_three(word: &str, value: &Value) -> Option<MsgEnd>
+    ensures { result ≡ end_of_three word.now (view value.now) }
+{
+    let origin = small_at(value, 1)?;
+    at_rest(word, origin, whole_at(value, 2)?)
+}
+
+// The end of a word with four items in all.
+fn end_of_four(word: &str, value: &Value) -> Option<MsgEnd>
+    ensures { result ≡ end_of_four word.now (view value.now) }
+{
+    let origin = small_at(value, 1)?;
+    let target = small_at(value, 2)?;
+    at_other(word, origin, target, whole_at(value, 3)?)
+}
+
 // The end of a word with so many items in all.
 fn ended(word: &str, count: usize, value: &Value) -> Option<MsgEnd>
     ensures { result ≡ end_by_word word.now count (view value.now) }
 {
     match count {
-        3 => at_rest(word, small_at(value, 1)?, whole_at(value, 2)?),
-        4 => at_other(
-            word,
-            small_at(value, 1)?,
-            small_at(value, 2)?,
-            whole_at(value, 3)?,
-        ),
+        3 => end_of_three(word, value),
+        4 => end_of_four(word, value),
         _ => None,
     }
 }
@@ -216,6 +228,32 @@ fn members_of(value: &Value) -> usize
     if has(value, "records") { 5 } else { 4 }
 }
 
+// The closing values that have these lists, and the records that an object has.
+#[tactic(auto, unfolding(crate::specs::Format::closing_of_parts))]
+fn closing_of_parts(
+    alloc: Global,
+    value: &Value,
+    row_items: &[Value],
+    gen_items: &[Value],
+    tally_items: &[Value],
+    end_items: &[Value],
+) -> Result<Closing, Fault>
+    ensures { Gives (λ c. c) result (closing_of_parts (view value.now) (items_view row_items.now) (items_view gen_items.now) (items_view tally_items.now) (items_view end_items.now)) }
+{
+    let rows = rows_of(alloc, row_items)?;
+    let gens = cells_of(alloc, 5, gen_items)?;
+    let tallies = tallies_of(alloc, tally_items)?;
+    let ends = ends_of(alloc, end_items)?;
+    let blobs = blobs_in(alloc, rows.len(), value)?;
+    Ok(Closing {
+        rows: Series::from_vec(rows),
+        gens: Cells::from_vec(gens),
+        tallies: Series::from_vec(tallies),
+        messages: Series::from_vec(ends),
+        blobs: Series::from_vec(blobs),
+    })
+}
+
 /// The closing values that an object is.
 ///
 /// Refused with `Script` and the place of the first bad part, as `read_trace` says it (4, 3000 + n, 5, 4000 + n, 5000 + n,
@@ -231,18 +269,14 @@ pub fn closing_at(alloc: Global, value: &Value) -> Result<Closing, Fault>
     let gen_items = list_at(4, value, "gens")?;
     let tally_items = list_at(4, value, "tallies")?;
     let end_items = list_at(4, value, "messages")?;
-    let rows = rows_of(alloc, row_items.as_slice())?;
-    let gens = cells_of(alloc, 5, gen_items.as_slice())?;
-    let tallies = tallies_of(alloc, tally_items.as_slice())?;
-    let ends = ends_of(alloc, end_items.as_slice())?;
-    let blobs = blobs_in(alloc, rows.len(), value)?;
-    Ok(Closing {
-        rows: Series::from_vec(rows),
-        gens: Cells::from_vec(gens),
-        tallies: Series::from_vec(tallies),
-        messages: Series::from_vec(ends),
-        blobs: Series::from_vec(blobs),
-    })
+    closing_of_parts(
+        alloc,
+        value,
+        row_items.as_slice(),
+        gen_items.as_slice(),
+        tally_items.as_slice(),
+        end_items.as_slice(),
+    )
 }
 
 /// The closing values, or none where there is null.

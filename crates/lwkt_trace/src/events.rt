@@ -1,7 +1,7 @@
 ghost use Rattle.std.specs.Prelude.{◌≡◌, []};
 ghost use Rattle.serde_json.specs.View.{view, items_view};
 ghost use Rattle.lwkt_script.specs.Outcome.{Gives, each};
-ghost use Rattle.lwkt_trace.specs.Words.{with_token, with_message, with_place, or_else, with_round, with_record, event_with_round, event_with_record, with_value, with_section, stated_at, happened, event_of};
+ghost use Rattle.lwkt_trace.specs.Words.{with_token, with_message, with_place, with_round, with_record, event_with_round, event_with_record, event_of_four, with_value, with_section, whole_event, stated_at, stated_of_three, event_of_five, event_of_six, happened, event_of};
 ghost use Rattle.lwkt_trace.specs.Format.{event};
 
 use crate::sections::section_in;
@@ -106,7 +106,7 @@ fn event_with_record(word: &str, value: &Value) -> Option<Event>
 
 // The event of a word with four items in all.
 fn event_of_four(word: &str, value: &Value) -> Option<Event>
-    ensures { result ≡ or_else (event_with_round word.now (view value.now)) (event_with_record word.now (view value.now)) }
+    ensures { result ≡ event_of_four word.now (view value.now) }
 {
     match event_with_round(word, value) {
         Some(event) => Some(event),
@@ -156,6 +156,13 @@ fn with_section(word: &str, cpu: u8, section: Section) -> Option<Event>
     }
 }
 
+// An event that is stated whole.
+fn whole_event(event: Option<Event>) -> Option<Stated>
+    ensures { result ≡ whole_event event }
+{
+    Some(Stated::Whole(event?))
+}
+
 // What a word states with a processor and the number of what it is at: a written give's section isn't stated.
 fn stated_at(word: &str, cpu: u8, place: u8) -> Option<Stated>
     ensures { result ≡ stated_at word.now cpu place }
@@ -165,8 +172,35 @@ fn stated_at(word: &str, cpu: u8, place: u8) -> Option<Stated>
             cpu: CpuId(cpu),
             tok: TokId(place),
         }),
-        _ => Some(Stated::Whole(with_place(word, cpu, place)?)),
+        _ => whole_event(with_place(word, cpu, place)),
     }
+}
+
+// What a word with three items in all states.
+fn stated_of_three(word: &str, value: &Value) -> Option<Stated>
+    ensures { result ≡ stated_of_three word.now (view value.now) }
+{
+    let cpu = small_at(value, 1)?;
+    stated_at(word, cpu, small_at(value, 2)?)
+}
+
+// The event of a word with five items in all.
+fn event_of_five(word: &str, value: &Value) -> Option<Event>
+    ensures { result ≡ event_of_five word.now (view value.now) }
+{
+    let cpu = small_at(value, 1)?;
+    let place = small_at(value, 2)?;
+    let part = small_at(value, 3)?;
+    with_value(word, cpu, place, part, whole_at(value, 4)?)
+}
+
+// The event of a word with six items in all.
+fn event_of_six(word: &str, value: &Value) -> Option<Event>
+    ensures { result ≡ event_of_six word.now (view value.now) }
+{
+    let cpu = small_at(value, 1)?;
+    let tok = small_at(value, 2)?;
+    with_section(word, cpu, section_in(tok, value)?)
 }
 
 // What a word states with so many items in all.
@@ -174,20 +208,10 @@ fn happened(word: &str, count: usize, value: &Value) -> Option<Stated>
     ensures { result ≡ happened word.now count (view value.now) }
 {
     match count {
-        3 => stated_at(word, small_at(value, 1)?, small_at(value, 2)?),
-        4 => Some(Stated::Whole(event_of_four(word, value)?)),
-        5 => Some(Stated::Whole(with_value(
-            word,
-            small_at(value, 1)?,
-            small_at(value, 2)?,
-            small_at(value, 3)?,
-            whole_at(value, 4)?,
-        )?)),
-        6 => Some(Stated::Whole(with_section(
-            word,
-            small_at(value, 1)?,
-            section_in(small_at(value, 2)?, value)?,
-        )?)),
+        3 => stated_of_three(word, value),
+        4 => whole_event(event_of_four(word, value)),
+        5 => whole_event(event_of_five(word, value)),
+        6 => whole_event(event_of_six(word, value)),
         _ => None,
     }
 }

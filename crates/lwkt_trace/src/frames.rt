@@ -73,42 +73,50 @@ fn bare_trace(alloc: Global, front: &[u8], back: &[u8]) -> Result<Option<Trace>,
     }
 }
 
-// What a token is at the close, as a report has it, if all is given.
+// What a token is at the close, as a report has it. What isn't given is left out, or 0: no text is written so.
 fn line_of(
     alloc: Global,
     closing: &Closing,
     place: usize,
     cells: &Cells,
-) -> Result<Option<TokenLine>, OutOfMemory> {
-    let generation = closing.gens.as_slice().get(place);
-    let tallies = closing.tallies.as_slice().get(place);
-    let blob = closing.blobs.as_slice().get(place);
-    match (generation, tallies, blob) {
-        (Some(generation), Some(tallies), Some(blob)) => Ok(Some(TokenLine {
-            generation: *generation,
-            cells: cells.try_clone(alloc)?,
-            tallies: Some(tallies.try_clone(alloc)?),
-            blob: *blob,
-        })),
-        _ => Ok(None),
+) -> Result<TokenLine, OutOfMemory> {
+    Ok(TokenLine {
+        generation: closing.gens.as_slice().get(place).copied().unwrap_or(0),
+        blob: closing.blobs.as_slice().get(place).copied().flatten(),
+        cells: cells.try_clone(alloc)?,
+        tallies: tallies_at(alloc, closing, place)?,
+    })
+}
+
+// The tallies of a token at the close, where they are given.
+fn tallies_at(
+    alloc: Global,
+    closing: &Closing,
+    place: usize,
+) -> Result<Option<Cells>, OutOfMemory> {
+    match closing.tallies.as_slice().get(place) {
+        None => Ok(None),
+        Some(tallies) => Ok(Some(tallies.try_clone(alloc)?)),
     }
 }
 
-// The closing values as a report has them, if all of them are given.
-fn reported(alloc: Global, closing: &Closing) -> Result<Option<Reported>, OutOfMemory> {
-    let mut tokens = Vec::new(alloc);
+// What each token that has a row is at the close.
+fn lines_of(alloc: Global, closing: &Closing) -> Result<Vec<TokenLine>, OutOfMemory> {
+    let mut lines = Vec::new(alloc);
     for (place, cells) in closing.rows.as_slice().iter().enumerate() {
-        let Some(line) = line_of(alloc, closing, place, cells)? else {
-            return Ok(None);
-        };
-        push(&mut tokens, line)?;
+        push(&mut lines, line_of(alloc, closing, place, cells)?)?;
     }
-    Ok(Some(Reported {
-        tokens,
+    Ok(lines)
+}
+
+// The closing values as a report has them.
+fn reported(alloc: Global, closing: &Closing) -> Result<Reported, OutOfMemory> {
+    Ok(Reported {
+        tokens: lines_of(alloc, closing)?,
         messages: from_slice(alloc, closing.messages.as_slice())?,
         threads: Vec::new(alloc),
         verdict: Verdict::Closed,
-    }))
+    })
 }
 
 // Whether the front of a text is just as it is written for this trace.
@@ -137,13 +145,29 @@ fn is_back_of(alloc: Global, back: &[u8], last: &Option<Reported>) -> Result<boo
 fn is_back(alloc: Global, back: &[u8], last: &Option<Closing>) -> Result<bool, OutOfMemory>
     ensures { IfOk result (λ is. IsTrue is → IsBack back.now) }
 {
-    let Some(closing) = last else {
-        return is_back_of(alloc, back, &None);
-    };
-    match reported(alloc, closing)? {
-        None => Ok(false),
-        some => is_back_of(alloc, back, &some),
+    match last {
+        None => is_back_of(alloc, back, &None),
+        Some(closing) => is_back_of(alloc, back, &Some(reported(alloc, closing)?)),
     }
+}
+
+// Whether the two parts of a text, which are this trace, are just as they are written for it.
+fn is_frame(alloc: Global, front: &[u8], back: &[u8], trace: &Trace) -> Result<bool, OutOfMemory>
+    ensures { IfOk result (λ is. IsTrue is → trace_of (front.now ++ back.now) ≡ Ok trace.now → Frames front.now back.now trace.now) }
+{
+    words_of_opening(trace);
+    if is_front(alloc, front, trace)? {
+        is_back(alloc, back, &trace.last)
+    } else {
+        Ok(false)
+    }
+}
+
+// A trace, where something is so.
+fn trace_if(trace: Trace, is: bool) -> Option<Trace>
+    ensures { IfSome result (λ kept. (kept ≡ trace) × IsTrue is) }
+{
+    if is { Some(trace) } else { None }
 }
 
 /// The trace without events that these two parts of a text are, if they are just as `trace_text` writes them: whatever events
@@ -151,15 +175,11 @@ fn is_back(alloc: Global, back: &[u8], last: &Option<Closing>) -> Result<bool, O
 pub fn frame_of(alloc: Global, front: &[u8], back: &[u8]) -> Result<Option<Trace>, OutOfMemory>
     ensures { IfOk result (λ found. IfSome found (Frames front.now back.now)) }
 {
-    let Some(trace) = bare_trace(alloc, front, back)? else {
-        return Ok(None);
-    };
-    words_of_opening(&trace);
-    if !is_front(alloc, front, &trace)? {
-        return Ok(None);
+    match bare_trace(alloc, front, back)? {
+        None => Ok(None),
+        Some(trace) => match is_frame(alloc, front, back, &trace) {
+            Ok(framed) => Ok(trace_if(trace, framed)),
+            Err(refused) => Err(refused),
+        },
     }
-    if !is_back(alloc, back, &trace.last)? {
-        return Ok(None);
-    }
-    Ok(Some(trace))
 }

@@ -1,7 +1,7 @@
-ghost use Rattle.std.specs.Prelude.{◌≡◌, ◌<◌, ◌≤◌, length, Err};
-ghost use Rattle.serde_json.specs.View.{view};
+ghost use Rattle.std.specs.Prelude.{◌≡◌, ◌<◌, ◌≤◌, length, Err, IfOk};
+ghost use Rattle.serde_json.specs.View.{view, items_view};
 ghost use Rattle.lwkt_script.specs.Outcome.{Gives};
-ghost use Rattle.lwkt_trace.specs.Format.{has_six_members, trace, trace_of};
+ghost use Rattle.lwkt_trace.specs.Format.{has_six_members, cpus_in, trace_of_parts, trace, trace_of};
 ghost use Rattle.lwkt_base.specs.Fault.{no_memory};
 
 use crate::closings::closing;
@@ -24,6 +24,42 @@ fn is_whole(value: &Value) -> bool
     has_members(value, 6) && has(value, "version") && has(value, "cpus") && has(value, "last")
 }
 
+// How many processors there are, in a trace of version 1.
+#[tactic(auto, unfolding(crate::specs::Format::cpus_in))]
+fn cpus_in(value: &Value) -> Result<u8, Fault>
+    ensures exact { Gives (λ n. n) result (cpus_in (view value.now)) }
+    ensures some { IfOk result (λ n. 0 < n) }
+{
+    number_at(2, value, "version", 1, 1)?;
+    Ok(number_at(3, value, "cpus", 1, MOST_CPUS)? as u8)
+}
+
+// The trace of so many processors that has these parts.
+#[tactic(auto, unfolding(crate::specs::Format::trace_of_parts))]
+fn trace_of_parts(
+    alloc: Global,
+    cpus: u8,
+    token_items: &[Value],
+    message_items: &[Value],
+    event_items: &[Value],
+    last_part: &Value,
+) -> Result<Trace, Fault>
+    requires { 0 < cpus }
+    ensures { Gives (λ t. t) result (trace_of_parts cpus (items_view token_items.now) (items_view message_items.now) (items_view event_items.now) (view last_part.now)) }
+{
+    let tokens = guarded_of(alloc, token_items)?;
+    let messages = messages_of(alloc, cpus, message_items)?;
+    let events = events_of(alloc, event_items)?;
+    let last = closing(alloc, last_part)?;
+    Ok(Trace {
+        cpus,
+        tokens: Series::from_vec(tokens),
+        messages: Series::from_vec(messages),
+        events: Series::from_vec(events),
+        last,
+    })
+}
+
 #[tactic(auto, unfolding(crate::specs::Format::trace))]
 fn trace(alloc: Global, value: &Value) -> Result<Trace, Fault>
     ensures { Gives (λ t. t) result (trace (view value.now)) }
@@ -37,19 +73,14 @@ fn trace(alloc: Global, value: &Value) -> Result<Trace, Fault>
     let Some(last_part) = value.get("last") else {
         return Err(Fault::Script { place: 1 });
     };
-    number_at(2, value, "version", 1, 1)?;
-    let cpus = number_at(3, value, "cpus", 1, MOST_CPUS)? as u8;
-    let tokens = guarded_of(alloc, token_items.as_slice())?;
-    let messages = messages_of(alloc, cpus, message_items.as_slice())?;
-    let events = events_of(alloc, event_items.as_slice())?;
-    let last = closing(alloc, last_part)?;
-    Ok(Trace {
-        cpus,
-        tokens: Series::from_vec(tokens),
-        messages: Series::from_vec(messages),
-        events: Series::from_vec(events),
-        last,
-    })
+    trace_of_parts(
+        alloc,
+        cpus_in(value)?,
+        token_items.as_slice(),
+        message_items.as_slice(),
+        event_items.as_slice(),
+        last_part,
+    )
 }
 
 /// Reads a trace of version 1: one JSON text of at most 268435456 bytes.

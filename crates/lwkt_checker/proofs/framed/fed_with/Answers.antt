@@ -1,9 +1,11 @@
-use Rattle.lwkt_checker.specs.Knows.{KnowsWritten}
-use Rattle.lwkt_checker.proofs.Framing.{at_some, ends_with}
+use Rattle.lwkt_checker.proofs.Framing.{still_open, closes_written}
 use Rattle.lwkt_checker.proofs.framed.fed_with.Goals as goal
 
-pub returns : goal.returns
-returns c =
+pub closed_by-requires : goal.closed_by-requires
+closed_by-requires c =
+    let parts = c.parted-opening in still_open c.in-Ok.judge parts.result.0 c.args.trace c.args.text.now parts.ensures.opening c.in-Ok.ensures
+
+pub returns-in-Ok : goal.returns-in-Ok
+returns-in-Ok c =
     let parts = c.parted-opening in
-    ends_with c.args.trace parts.result.0 parts.result.2 c.in-Some.judge c.in_ok-and_last-in-Some.field-0 c.args.text.now parts.ensures.opening parts.ensures.last
-    (at_some (KnowsWritten parts.result.0 c.args.text.now) c.in_ok-fed.field-0 c.in-Some.judge c.in-Some.is c.in_ok-fed.ensures) c.in_ok-and_last-in-Some.ensures
+    closes_written c.closed_by.result c.in-Ok.judge c.args.trace parts.result.0 parts.result.2 c.args.text.now parts.ensures.opening parts.ensures.last c.in-Ok.ensures c.closed_by.ensures

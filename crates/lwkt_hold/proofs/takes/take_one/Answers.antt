@@ -9,7 +9,7 @@ use Rattle.lwkt_hold.proofs.ListMoves.{takes_changed, looked_rows, lost_rows}
 use Rattle.lwkt_hold.proofs.StillMoves.{looked_same, lost_same}
 use Rattle.lwkt_hold.proofs.EventMoves.{again_traced, first_traced}
 use Rattle.lwkt_hold.specs.Fronts.{IsFront}
-use Rattle.lwkt_hold.specs.Steps.{taking}
+use Rattle.lwkt_core.specs.Takings.{taking}
 use Rattle.lwkt_hold.specs.declared.answers.Missed.TheVariants.{Busy, Again, Worn}
 use Rattle.lwkt_hold.proofs.TakeMoves.{unused, front_names, held_in_front, free_in_front, few_in_front, again_holds, again_ran, took_holds, took_ran, looked_ran, looked_kept, lost_ran, lost_kept, misses}
 use Rattle.lwkt_hold.proofs.takes.take_one.Goals as goal

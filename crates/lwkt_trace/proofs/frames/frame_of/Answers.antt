@@ -1,7 +1,6 @@
 use Rattle.std.proofs.Common.{rules}
-use Rattle.lwkt_trace.proofs.FramedTexts.{frames}
+use Rattle.lwkt_trace.proofs.FramedTexts.{kept_so}
 use Rattle.lwkt_trace.proofs.frames.frame_of.Goals as goal
 
-pub returns : goal.returns
-returns c =
-    frames c.args.front.now c.args.back.now c.in-Some.trace (search rules) (search rules) (search rules) c.words_of_opening.ensures.cpus c.words_of_opening.ensures.tokens c.words_of_opening.ensures.messages
+pub returns-in-Ok : goal.returns-in-Ok
+returns-in-Ok c = kept_so c.trace_if.result c.in-Some.trace c.in-Ok.framed c.args.front.now c.args.back.now c.trace_if.ensures c.in-Ok.ensures (search rules)

@@ -4,7 +4,7 @@ use Rattle.lwkt_bank.specs.Seats.{holding}
 use Rattle.lwkt_hold.specs.Fronts.{IsFront}
 use Rattle.lwkt_hold.specs.Runs.{Ran}
 use Rattle.lwkt_hold.specs.Rows.{IsAllClean}
-use Rattle.lwkt_hold.specs.Takings.{takes_all}
+use Rattle.lwkt_core.specs.Takings.{takes_all}
 use Rattle.lwkt_hold.proofs.holds.Hold.resume.Given as goal
 
 abbrev pub invariant-loop-at : goal.invariant-loop-at
