@@ -59,4 +59,4 @@ pub checked_wrong : (n repeat : ℕ) (vars : List ℕ) (draft : Draft) (wrong : 
 unfolding checked
 checked_wrong n repeat vars draft TooMany h = rw (lt-leb (length draft.steps) 768 h) refl
 checked_wrong n repeat vars draft (StepIsWrong at flaw) h = rw (le-leb (length draft.steps) 768 h.0, h.1) refl
-checked_wrong n repeat vars draft (Circle begin end) h = rw (le-leb (length draft.steps) 768 h.0, h.1.0, h.1.1) refl
+checked_wrong n repeat vars draft (Circle begin end) h = rw (le-leb (length draft.steps) 768 h.0, h.1, h.2) refl
