@@ -8,7 +8,7 @@ use Rattle.serde_json.specs.Read.{read}
 use Rattle.lwkt_base.specs.declared.asks.Ask.{Ask}
 use Rattle.lwkt_base.specs.declared.opening_specs.MsgSpec.{MsgSpec}
 use Rattle.lwkt_base.specs.declared.opening_specs.TokSpec.{TokSpec}
-use Rattle.lwkt_base.specs.declared.limits.TheConstants.{LAST_GENERATION, LAST_ROUND, MESSAGE_LIMIT, MOST_CPUS, MOST_IDLE, MOST_REPEATS, MOST_TURNS, SCRIPT_BYTES, STEP_LIMIT, THREAD_LIMIT, TOKEN_LIMIT}
+use Rattle.lwkt_base.specs.declared.limits.TheConstants.{LAST_GENERATION, LAST_ROUND, MESSAGE_LIMIT, MOST_CPUS, MOST_IDLE, MOST_TURNS, SCRIPT_BYTES, STEP_LIMIT, THREAD_LIMIT, TOKEN_LIMIT}
 use Rattle.lwkt_code.specs.Programs.{Program, listed_program}
 use Rattle.lwkt_script.specs.declared.scripts.Script.{Script}
 use Rattle.lwkt_script.specs.declared.scripts.ThreadSpec.{ThreadSpec}

@@ -4,7 +4,7 @@ use Rattle.lwkt_base.specs.declared.names.ThreadId.{ThreadId}
 use Rattle.lwkt_base.specs.declared.opening_specs.MsgSpec.{MsgSpec}
 use Rattle.lwkt_base.specs.declared.laws.Law.TheVariants.{Tally, Len}
 use Rattle.lwkt_base.specs.declared.opening_specs.TokSpec.{TokSpec}
-use Rattle.lwkt_base.specs.declared.limits.TheConstants.{CELL_LIMIT, LAST_GENERATION, RECORD_LIMIT, LAST_ROUND, MOST_REPEATS, STEP_LIMIT, MOST_TURNS, MOST_IDLE, CPU_LIMIT, TOKEN_LIMIT, MESSAGE_LIMIT, THREAD_LIMIT}
+use Rattle.lwkt_base.specs.declared.limits.TheConstants.{CELL_LIMIT, LAST_GENERATION, RECORD_LIMIT, LAST_ROUND, MOST_TURNS, MOST_IDLE, CPU_LIMIT, TOKEN_LIMIT, MESSAGE_LIMIT, THREAD_LIMIT}
 use Rattle.lwkt_script.specs.declared.scripts.Script.{Script}
 use Rattle.lwkt_script.specs.declared.scripts.ThreadSpec.{ThreadSpec}
 use Rattle.lwkt_script.specs.Format.{threads_on}
