@@ -7,3 +7,4 @@ pub mod Reaching
 pub mod Linking
 pub mod Ending
 pub mod Spreading
+pub mod Closing

@@ -16,6 +16,7 @@ use Rattle.lwkt_text.specs.declared.wrongs.Wanted.TheVariants as wanted
 use Rattle.lwkt_text.specs.declared.wrongs.What.TheVariants as whats
 use Rattle.lwkt_text.specs.declared.wrongs.Wrong.{Wrong}
 use Rattle.lwkt_text.specs.Claiming.{claim_of}
+use Rattle.lwkt_text.specs.Expanding.{constant_at}
 use Rattle.lwkt_text.specs.Listing.{new_name}
 use Rattle.lwkt_text.specs.Looking.{is_at, place_of_word, demand_at, ends_at, number_at}
 use Rattle.lwkt_text.specs.Operating.{flawless, leaf_at}
@@ -31,16 +32,16 @@ setting ws high = number_at ws 1 1 high >>= λ n. ends_at ws 2 >> Ok n
 abbrev pub expected : Names → List Word → When → Result Said Wrong
 expected names ws when = claim_of names ws >>= λ claim. Ok (saids.Expect (record { when = when; claim = claim; at = place_of_word ws 0 }))
 
--- `var NAME = N`: a name that no variable of the thread has, and no token and no message
+-- `var NAME = EXPR`, of numbers: a name that no variable of the thread has, and no token and no message
 unfoldable pub var_of : Names → List (List ℕ) → List Word → Result ℕ Wrong
 var_of names vars ws = do
   new_name vars ws
   new_name names.tokens ws
   new_name names.messages ws
   demand_at ws 2 (whats.Word wanted.Equals) (is_at ws 2 (codes "="))
-  n ← number_at ws 3 0 18446744073709551615
-  ends_at ws 4
-  Ok n
+  f ← constant_at ws 3
+  ends_at ws f.end
+  Ok f.value
 
 -- `if COND`, or `while COND`
 abbrev pub test_said : List (List ℕ) → List Word → Test → Result Act Wrong
