@@ -7,4 +7,3 @@ pub mod Reaching
 pub mod Linking
 pub mod Ending
 pub mod Spreading
-pub mod Closing

@@ -60,18 +60,18 @@ abbrev pub alone_said : List Word → Act → Result Act Wrong
 alone_said ws act = ends_at ws 1 >> Ok act
 
 -- what a sentence of a thread asks, or assigns
-abbrev pub leaf_said : Names → List (List ℕ) → List Word → Result Act Wrong
+unfoldable pub leaf_said : Names → List (List ℕ) → List Word → Result Act Wrong
 leaf_said names vars ws = leaf_at names vars ws >>= λ step. Ok (acts.Step step)
 
 -- what a sentence of a thread says that neither holds others nor ends them
-abbrev pub plainly_said : Names → List (List ℕ) → List Word → Result Act Wrong
+unfoldable pub plainly_said : Names → List (List ℕ) → List Word → Result Act Wrong
 plainly_said names vars ws =
     if is_at ws 0 (codes "var") then (var_of names vars ws >>= λ n. Ok (acts.Var n)) else (
     if is_at ws 0 (codes "assert") then assertion_said vars ws else (
     if is_at ws 0 (codes "break") then alone_said ws (acts.Step (Goto Break 0)) else leaf_said names vars ws))
 
 -- what a sentence of a thread says
-abbrev pub thread_said : Names → List (List ℕ) → List Word → Result Act Wrong
+unfoldable pub thread_said : Names → List (List ℕ) → List Word → Result Act Wrong
 thread_said names vars ws =
     if is_at ws 0 (codes "if") then test_said vars ws If else (
     if is_at ws 0 (codes "while") then test_said vars ws While else (
@@ -81,14 +81,14 @@ thread_said names vars ws =
     if is_at ws 0 (codes "end") then alone_said ws acts.End else plainly_said names vars ws)))))
 
 -- an expectation, or a sentence of a thread
-abbrev pub claim_said : Names → List (List ℕ) → List Word → Result Said Wrong
+unfoldable pub claim_said : Names → List (List ℕ) → List Word → Result Said Wrong
 claim_said names vars ws =
     if is_at ws 0 (codes "always") then expected names ws whens.Always else (
     if is_at ws 0 (codes "sometimes") then expected names ws whens.Sometimes else (
     if is_at ws 0 (codes "never") then expected names ws whens.Never else (thread_said names vars ws >>= λ act. Ok (saids.Do act))))
 
 -- a token, a message, a thread, or else
-abbrev pub part_said : Names → List (List ℕ) → List Word → Result Said Wrong
+unfoldable pub part_said : Names → List (List ℕ) → List Word → Result Said Wrong
 part_said names vars ws =
     if is_at ws 0 (codes "token") then (token_of ws >>= λ t. Ok (saids.Token t)) else (
     if is_at ws 0 (codes "message") then (message_of names ws >>= λ m. Ok (saids.Message m)) else (

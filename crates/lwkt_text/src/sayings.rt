@@ -129,6 +129,7 @@ fn alone_said(words: &[Word], act: Act) -> Result<Act, Wrong>
 }
 
 // What a sentence of a thread asks, or assigns.
+#[tactic(auto, unfolding(crate::specs::Saying::leaf_said))]
 fn leaf_said(alloc: Global, names: &Names, vars: &[Name], words: &[Word]) -> Result<Act, Slip>
     requires { length words.now ≤ 1000 }
     ensures { IsAsRead result (leaf_said names.now vars.now words.now) }
@@ -137,6 +138,7 @@ fn leaf_said(alloc: Global, names: &Names, vars: &[Name], words: &[Word]) -> Res
 }
 
 // What a sentence of a thread says that doesn't begin with `if` and so on.
+#[tactic(auto, unfolding(crate::specs::Saying::plainly_said))]
 fn plainly_said(alloc: Global, names: &Names, vars: &[Name], words: &[Word]) -> Result<Act, Slip>
     requires { length words.now ≤ 1000 }
     ensures { IsAsRead result (plainly_said names.now vars.now words.now) }
@@ -150,6 +152,7 @@ fn plainly_said(alloc: Global, names: &Names, vars: &[Name], words: &[Word]) -> 
 }
 
 // What a sentence of a thread says.
+#[tactic(auto, unfolding(crate::specs::Saying::thread_said))]
 fn thread_said(alloc: Global, names: &Names, vars: &[Name], words: &[Word]) -> Result<Act, Slip>
     requires { length words.now ≤ 1000 }
     ensures { IsAsRead result (thread_said names.now vars.now words.now) }
@@ -166,6 +169,7 @@ fn thread_said(alloc: Global, names: &Names, vars: &[Name], words: &[Word]) -> R
 }
 
 // An expectation, or a sentence of a thread.
+#[tactic(auto, unfolding(crate::specs::Saying::claim_said))]
 fn claim_said(alloc: Global, names: &Names, vars: &[Name], words: &[Word]) -> Result<Said, Slip>
     requires { length words.now ≤ 1000 }
     ensures exact { IsAsRead result (claim_said names.now vars.now words.now) }
@@ -180,6 +184,7 @@ fn claim_said(alloc: Global, names: &Names, vars: &[Name], words: &[Word]) -> Re
 }
 
 // A token, a message, a thread, or else.
+#[tactic(auto, unfolding(crate::specs::Saying::part_said))]
 fn part_said(alloc: Global, names: &Names, vars: &[Name], words: &[Word]) -> Result<Said, Slip>
     requires some { 0 < names.now.cpus }
     requires few { length words.now ≤ 1000 }

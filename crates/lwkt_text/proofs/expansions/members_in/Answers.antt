@@ -13,5 +13,5 @@ returns-in-None c =
 pub loop-word-preserved : goal.loop-word-preserved
 loop-word-preserved c =
     let there : slice_get c.args.words.now c.loop-word.i ≡ Some c.in-Some.word.now = slice_get-get_or c.args.words.now c.loop-word.i c.in-Some.word.now c.in-Some.ensures.lookup.3.0 ∙ ap (λ (w : Word). Some w) (sym c.in-Some.ensures.lookup.1) in
-    rw c.in_ok-push.ensures.ok
-    (members_on c.args.words.now c.loop-word.list _ c.loop-word._word-index c.loop-word.i c.in-Some.word.now c._word-item.result c.in_ok-found.found c.loop-word-test.true there c.in_ok-found.ensures c.loop-word.invariant)
+    rw c.in_ok-push-in-Some.ensures.ok
+    (members_on c.args.words.now c.loop-word.list _ c.loop-word._word-index c.loop-word.i c.in-Some.word.now c._word-item.result c.in_ok-found-in-Some.found c.loop-word-test.true there c.in_ok-found-in-Some.ensures c.loop-word.invariant)
