@@ -1,5 +1,5 @@
 -- What is said keeps the limits of the format.
-use Rattle.std.proofs.Common.{◌≡◌, ℕ, suc, ◌+◌, ◌<◌, ◌≤◌, List, [], ◌∷◌, ◌++◌, length, nat_lt, ◌==◌, ◌&&◌, ◌||◌, cond, Bool, true, false, refl, sym, ap, subst, arith, Option, Some, None, is_some, Result, Ok, Err}
+use Rattle.std.proofs.Common.{◌≡◌, ℕ, suc, ◌+◌, ◌<◌, ◌≤◌, List, [], ◌∷◌, ◌++◌, length, nat_lt, ◌==◌, ◌&&◌, ◌||◌, cond, Bool, true, false, refl, sym, ap, subst, arith, Option, Some, None, is_some, Result, Ok, Err, OnOk}
 use Rattle.std.specs.Prelude.{All, ⊤, codes, slice_set}
 use Rattle.std.proofs.lemmas.List.{length-append}
 use Rattle.std.proofs.lemmas.List.Elements.{All-push}
@@ -322,6 +322,10 @@ wrong_like ws d =
 pub wrong_within : (cpus : ℕ) (wrong : Wrong) (ws : List Word) (d : Draft) → IsDraft cpus d → IsDraft cpus (put_or_blamed (Err wrong) ws d)
 wrong_within cpus wrong ws d i =
     like_kept cpus d (put_or_blamed (Err wrong) ws d) (blamed_like wrong d (cond (is_some d.head) (begun_wrong ws d) d) (like_if (is_some d.head) d (begun_wrong ws d) d (wrong_like ws d) (like_self d))) i
+
+pub wrong_kept : {E : Type 0} (out : Result ⊤ E) (cpus : ℕ) (wrong : Wrong) (ws : List Word) (d e : Draft) → OnOk out (e ≡ put_or_blamed (Err wrong) ws d) → OnOk out (IsDraft cpus d → IsDraft cpus e)
+wrong_kept (Ok ok) cpus wrong ws d e is = λ i. subst (IsDraft cpus) (sym is) (wrong_within cpus wrong ws d i)
+wrong_kept (Err refused) cpus wrong ws d e is = tt
 
 -- what is said keeps the limits where it keeps its own
 pub put_within : (cpus : ℕ) (ws : List Word) (s : Said) (d : Draft) → MayBeSaid cpus s → IsDraft cpus d → IsDraft cpus (put ws s d)

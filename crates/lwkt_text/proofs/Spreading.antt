@@ -1,11 +1,12 @@
 -- Sentences that stand for others, by how deep they may stand, and one after the other.
-use Rattle.std.proofs.Common.{◌≡◌, ℕ, zero, suc, ◌+◌, ◌-◌, ◌<◌, List, [], ◌∷◌, length, drop, get_or, refl, sym, ap, subst, ◌∙◌, arith, true, false}
-use Rattle.std.specs.Prelude.{codes}
-use Rattle.std.proofs.lemmas.List.{drop_more}
+use Rattle.std.proofs.Common.{◌≡◌, ℕ, zero, suc, ◌+◌, ◌-◌, ◌<◌, ◌≤◌, List, [], ◌∷◌, ◌++◌, length, drop, get_or, Option, Some, None, refl, sym, ap, subst, ◌∙◌, arith, true, false}
+use Rattle.std.specs.Prelude.{codes, slice_get}
+use Rattle.std.proofs.lemmas.List.{append-nil, append_assoc, drop_more}
+use Rattle.lwkt_text.specs.declared.expansions.FoundWord.{FoundWord}
 use Rattle.lwkt_text.specs.declared.expansions.Spread.{Spread}
 use Rattle.lwkt_text.specs.declared.words.Sentence.{Sentence}
 use Rattle.lwkt_text.specs.declared.words.Word.{Word}
-use Rattle.lwkt_text.specs.Expanding.{with_constant, with_first, is_full, inside, rounds, own, for_put, plain_put, spread, spread_rest, spread_for}
+use Rattle.lwkt_text.specs.Expanding.{found_at, members_from, with_constant, with_first, is_full, inside, rounds, own, for_put, plain_put, spread, spread_rest, spread_for}
 use Rattle.lwkt_text.specs.Looking.{is_at}
 
 -- the next value of a name
@@ -18,6 +19,12 @@ pub rounds_on : (inner : Spread → Spread) (count : ℕ) (name : List ℕ) (to 
 rounds_on inner count name to value s within room =
     let e : suc (to - (value + 1)) ≡ to - value = omega arith in
     subst (λ n. rounds inner count name n value s ≡ rounds inner count name (to - (value + 1)) (value + 1) (with_first count (inner (with_constant name value s)))) e (rounds_suc inner count name (to - (value + 1)) value s room)
+
+-- no value is left
+pub rounds_done : (inner : Spread → Spread) (count : ℕ) (name : List ℕ) (to value : ℕ) (s : Spread) → to ≤ value → rounds inner count name (to - value) value s ≡ s
+rounds_done inner count name to value s none =
+    let e : to - value ≡ 0 = omega arith in
+    ap (λ n. rounds inner count name n value s) e
 
 rounds_full_suc : (inner : Spread → Spread) (count : ℕ) (name : List ℕ) (n value : ℕ) (s : Spread) → is_full s ≡ true → rounds inner count name n value s ≡ s
 rounds_full_suc inner count name zero value s full = refl
@@ -80,3 +87,25 @@ pub plain_on : (deep skip at : ℕ) (ss : List Sentence) (x : Sentence) (s t : S
     → spread_rest deep skip (drop at ss) s ≡ t → spread_rest deep 0 (drop (at + 1) ss) (plain_put x.words s) ≡ t
 plain_on deep skip at ss x s t within is none named so_far =
     sym (rest_plain deep x (drop (at + 1) ss) s named) ∙ ap (λ n. spread_rest deep n (x ∷ drop (at + 1) ss) s) (sym none) ∙ sym (front deep skip ss at x s within is) ∙ so_far
+
+-- words of which those of a member are one: where no word is left
+members_none : (ws : List Word) (i : ℕ) (x : Word) (rest : List Word) → slice_get ws i ≡ None → members_from ws i (x ∷ rest) ≡ []
+members_none ws i x rest none = rw none refl
+
+-- and with the next word, or the member that it begins
+members_some : (ws : List Word) (i : ℕ) (w x : Word) (rest : List Word) → slice_get ws i ≡ Some w → members_from ws i (x ∷ rest) ≡ (found_at ws i w).word ∷ members_from ws (found_at ws i w).end rest
+members_some ws i w x rest there = rw there refl
+
+pub members_end : (ws list total : List Word) (n i : ℕ) (x : Word) → n < length ws → slice_get ws i ≡ None → list ++ members_from ws i (drop n ws) ≡ total → list ≡ total
+members_end ws list total n i x within none so_far =
+    sym (append-nil list)
+    ∙ ap (λ (l : List Word). list ++ l) (sym (ap (λ (rest : List Word). members_from ws i rest) (drop_more ws n x within) ∙ members_none ws i (get_or ws n x) (drop (n + 1) ws) none))
+    ∙ so_far
+
+pub members_on : (ws list total : List Word) (n i : ℕ) (w x : Word) (f : FoundWord) → n < length ws → slice_get ws i ≡ Some w → f ≡ found_at ws i w → list ++ members_from ws i (drop n ws) ≡ total
+    → (list ++ f.word ∷ []) ++ members_from ws f.end (drop (n + 1) ws) ≡ total
+members_on ws list total n i w x f within there is so_far =
+    append_assoc list (f.word ∷ []) (members_from ws f.end (drop (n + 1) ws))
+    ∙ ap (λ (g : FoundWord). list ++ g.word ∷ members_from ws g.end (drop (n + 1) ws)) is
+    ∙ ap (λ (l : List Word). list ++ l) (sym (ap (λ (rest : List Word). members_from ws i rest) (drop_more ws n x within) ∙ members_some ws i w (get_or ws n x) (drop (n + 1) ws) there))
+    ∙ so_far

@@ -1,5 +1,5 @@
 -- Sentences that hold others, and where the steps that they begin and end lead (own, version 3).
-use Rattle.std.specs.Prelude.{ℕ, ◌+◌, ◌-◌, ◌==◌, ◌&&◌, ◌||◌, min, List, [], ◌∷◌, length, count_by, Bool, true, false, if◌then◌else◌, Option, Some, None}
+use Rattle.std.specs.Prelude.{ℕ, ◌+◌, ◌-◌, ◌==◌, ◌&&◌, ◌||◌, min, List, [], ◌∷◌, length, drop, count_by, slice_get, Bool, true, false, if◌then◌else◌, Option, Some, None, option_and_then}
 use Rattle.lwkt_code.specs.declared.steps.Jump.TheVariants.{Else, Back, Break, Loop, End}
 use Rattle.lwkt_code.specs.declared.steps.Step.{Step}
 use Rattle.lwkt_code.specs.declared.steps.Step.TheVariants.{Unless, Goto, Count, Again, Assert}
@@ -124,6 +124,10 @@ aim_of at (Goto Break to) ss = Some (found true (at + 1) 0 ss)
 aim_of at (Goto Loop to) ss = Some (at + 1)
 aim_of at (Goto End to) ss = Some (at + 1)
 aim_of at _ ss = None
+
+-- the same, of a place in a list of steps
+abbrev pub aim_in : List Step → ℕ → Option ℕ
+aim_in steps at = option_and_then (λ step. aim_of at step (drop (at + 1) steps)) (slice_get steps at)
 
 -- a step that leads there
 abbrev pub aimed : Option ℕ → Step → Step

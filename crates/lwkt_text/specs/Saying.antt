@@ -16,6 +16,7 @@ use Rattle.lwkt_text.specs.declared.wrongs.Wanted.TheVariants as wanted
 use Rattle.lwkt_text.specs.declared.wrongs.What.TheVariants as whats
 use Rattle.lwkt_text.specs.declared.wrongs.Wrong.{Wrong}
 use Rattle.lwkt_text.specs.Claiming.{claim_of}
+use Rattle.lwkt_text.specs.Expanding.{constant_at}
 use Rattle.lwkt_text.specs.Listing.{new_name}
 use Rattle.lwkt_text.specs.Looking.{is_at, place_of_word, demand_at, ends_at, number_at}
 use Rattle.lwkt_text.specs.Operating.{flawless, leaf_at}
@@ -31,16 +32,16 @@ setting ws high = number_at ws 1 1 high >>= λ n. ends_at ws 2 >> Ok n
 abbrev pub expected : Names → List Word → When → Result Said Wrong
 expected names ws when = claim_of names ws >>= λ claim. Ok (saids.Expect (record { when = when; claim = claim; at = place_of_word ws 0 }))
 
--- `var NAME = N`: a name that no variable of the thread has, and no token and no message
+-- `var NAME = EXPR`, of numbers: a name that no variable of the thread has, and no token and no message
 unfoldable pub var_of : Names → List (List ℕ) → List Word → Result ℕ Wrong
 var_of names vars ws = do
   new_name vars ws
   new_name names.tokens ws
   new_name names.messages ws
   demand_at ws 2 (whats.Word wanted.Equals) (is_at ws 2 (codes "="))
-  n ← number_at ws 3 0 18446744073709551615
-  ends_at ws 4
-  Ok n
+  f ← constant_at ws 3
+  ends_at ws f.end
+  Ok f.value
 
 -- `if COND`, or `while COND`
 abbrev pub test_said : List (List ℕ) → List Word → Test → Result Act Wrong
@@ -59,18 +60,18 @@ abbrev pub alone_said : List Word → Act → Result Act Wrong
 alone_said ws act = ends_at ws 1 >> Ok act
 
 -- what a sentence of a thread asks, or assigns
-abbrev pub leaf_said : Names → List (List ℕ) → List Word → Result Act Wrong
+unfoldable pub leaf_said : Names → List (List ℕ) → List Word → Result Act Wrong
 leaf_said names vars ws = leaf_at names vars ws >>= λ step. Ok (acts.Step step)
 
 -- what a sentence of a thread says that neither holds others nor ends them
-abbrev pub plainly_said : Names → List (List ℕ) → List Word → Result Act Wrong
+unfoldable pub plainly_said : Names → List (List ℕ) → List Word → Result Act Wrong
 plainly_said names vars ws =
     if is_at ws 0 (codes "var") then (var_of names vars ws >>= λ n. Ok (acts.Var n)) else (
     if is_at ws 0 (codes "assert") then assertion_said vars ws else (
     if is_at ws 0 (codes "break") then alone_said ws (acts.Step (Goto Break 0)) else leaf_said names vars ws))
 
 -- what a sentence of a thread says
-abbrev pub thread_said : Names → List (List ℕ) → List Word → Result Act Wrong
+unfoldable pub thread_said : Names → List (List ℕ) → List Word → Result Act Wrong
 thread_said names vars ws =
     if is_at ws 0 (codes "if") then test_said vars ws If else (
     if is_at ws 0 (codes "while") then test_said vars ws While else (
@@ -80,14 +81,14 @@ thread_said names vars ws =
     if is_at ws 0 (codes "end") then alone_said ws acts.End else plainly_said names vars ws)))))
 
 -- an expectation, or a sentence of a thread
-abbrev pub claim_said : Names → List (List ℕ) → List Word → Result Said Wrong
+unfoldable pub claim_said : Names → List (List ℕ) → List Word → Result Said Wrong
 claim_said names vars ws =
     if is_at ws 0 (codes "always") then expected names ws whens.Always else (
     if is_at ws 0 (codes "sometimes") then expected names ws whens.Sometimes else (
     if is_at ws 0 (codes "never") then expected names ws whens.Never else (thread_said names vars ws >>= λ act. Ok (saids.Do act))))
 
 -- a token, a message, a thread, or else
-abbrev pub part_said : Names → List (List ℕ) → List Word → Result Said Wrong
+unfoldable pub part_said : Names → List (List ℕ) → List Word → Result Said Wrong
 part_said names vars ws =
     if is_at ws 0 (codes "token") then (token_of ws >>= λ t. Ok (saids.Token t)) else (
     if is_at ws 0 (codes "message") then (message_of names ws >>= λ m. Ok (saids.Message m)) else (

@@ -1,6 +1,6 @@
 //! Sentences that hold others, and where the steps that they begin and end lead.
 ghost use Rattle.std.specs.Prelude.{◌≡◌, ◌+◌, ◌≤◌, ◌<◌, count_by, drop, length, option_and_then, slice_get};
-ghost use Rattle.lwkt_text.specs.Blocks.{is_round, is_times, round_in, times_in, is_assertion, numbered, is_if, end_of, opens, closes, ends_round, ends_arm, deeper, lands, found, aim_of, aimed, block_of, linked};
+ghost use Rattle.lwkt_text.specs.Blocks.{is_round, is_times, round_in, times_in, is_assertion, numbered, is_if, end_of, opens, closes, ends_round, ends_arm, deeper, lands, found, aim_of, aim_in, aimed, block_of, linked};
 
 use lwkt_code::{Jump, Step, Test};
 
@@ -95,7 +95,13 @@ fn is_assertion(step: &Step) -> bool
 fn assertions(steps: &[Step]) -> usize
     ensures { result ≡ count_by is_assertion steps.now }
 {
-    steps.iter().filter(|step| is_assertion(*step)).count()
+    let mut count = 0usize;
+    for step in steps {
+        if is_assertion(step) {
+            count += 1;
+        }
+    }
+    count
 }
 
 /// A step with its number: that of its count among those that aren't ended, or its own among the assertions.
@@ -269,13 +275,22 @@ fn aim_step(step: &mut Step, to: Option<usize>)
     }
 }
 
+// Where the step at a place of a list leads, if that depends on the steps behind it.
+fn aim_in(steps: &[Step], at: usize) -> Option<usize>
+    requires few { length steps.now ≤ 768 }
+    requires there { at < length steps.now }
+    ensures { result ≡ aim_in steps.now at }
+{
+    aim_of(at, &steps[at], &steps[at + 1..])
+}
+
 /// Lets each step lead where it has to.
 pub fn link(steps: &mut [Step])
     requires { length steps.old ≤ 768 }
     ensures { steps.new ≡ linked 0 steps.old }
 {
     for at in 0..steps.len() {
-        let to = aim_of(at, &steps[at], &steps[at + 1..]);
+        let to = aim_in(steps, at);
         aim_step(&mut steps[at], to);
     }
 }

@@ -453,7 +453,7 @@ impl Draft {
     }
 
     // A sentence, said.
-    #[tactic(auto, using(crate::proofs::Keeping::put_within, crate::proofs::Keeping::wrong_within))]
+    #[tactic(auto, using(crate::proofs::Keeping::put_within))]
     fn add_sentence(
         &mut self,
         alloc: Global,

@@ -100,8 +100,8 @@ fn valued_words(alloc: Global, s: &Spread, words: &[Word]) -> Result<Many<Word>,
     Ok(list)
 }
 
-// An expression of numbers from word i on.
-fn constant_at(alloc: Global, words: &[Word], i: usize) -> Result<FoundNumber, Slip>
+/// An expression of numbers from word i on.
+pub fn constant_at(alloc: Global, words: &[Word], i: usize) -> Result<FoundNumber, Slip>
     requires few { length words.now ≤ 1000 }
     requires start { i ≤ 100000 }
     ensures exact { IsAsRead result (constant_at words.now i) }
@@ -184,12 +184,14 @@ fn members_in(alloc: Global, words: &[Word]) -> Result<Many<Word>, OutOfMemory>
     let mut list = Many::new(alloc);
     let mut i = 0;
     for _word in words {
-        let Some(word) = words.get(i) else {
-            return Ok(list);
-        };
-        let found = found_at(alloc, words, i, word)?;
-        list.push(found.word)?;
-        i = found.end;
+        match words.get(i) {
+            Some(word) => {
+                let found = found_at(alloc, words, i, word)?;
+                list.push(found.word)?;
+                i = found.end;
+            }
+            None => return Ok(list),
+        }
     }
     Ok(list)
 }
@@ -355,6 +357,7 @@ impl Spread {
 
     // What sentences say for each value of a name.
     #[cycle(spreads)]
+    #[tactic(auto, using(crate::proofs::Spreading::rounds_on, crate::proofs::Spreading::rounds_done, crate::proofs::Spreading::rounds_full))]
     fn put_rounds(
         &mut self,
         alloc: Global,
@@ -402,6 +405,7 @@ impl Spread {
 
     // A `for` before these sentences; says how many of them are its own, with its end.
     #[cycle(spreads)]
+    #[tactic(auto, using(crate::proofs::Spreading::for_later))]
     fn put_for(
         &mut self,
         alloc: Global,
@@ -426,6 +430,7 @@ impl Spread {
 
     // What sentences stand for.
     #[cycle(spreads)]
+    #[tactic(auto, using(crate::proofs::Spreading::spread_begun, crate::proofs::Spreading::rest_none, crate::proofs::Spreading::skip_on, crate::proofs::Spreading::for_on, crate::proofs::Spreading::plain_on))]
     fn put_all(
         &mut self,
         alloc: Global,

@@ -167,7 +167,7 @@ fn numbered_at(alloc: Global, vars: &[Name], words: &[Word], i: usize) -> Result
     requires few { length words.now ≤ 1000 }
     requires start { i ≤ 10000 }
     ensures exact { IsAsRead result (numbered_at vars.now words.now i) }
-    ensures most { IfOk result (λ f. f.end ≤ i + 3 + (998 - i)) }
+    ensures most { IfOk result (λ f. f.end ≤ 1000) }
 {
     let cpu = expr_at(alloc, vars, words, 7, i)?;
     checked(closed_at(words, cpu.end, ".", Wanted::Point))?;

@@ -5,6 +5,7 @@ ghost use Rattle.lwkt_text.specs.Within.{MayBeSaid};
 
 use crate::claims::{Expectation, When};
 use crate::declarations::{Head, head_of, message_of, token_of};
+use crate::expansions::constant_at;
 use crate::expecting::claim_of;
 use crate::listings::new_name;
 use crate::looks::{demand_at, ends_at, is_at, number_at, place_of_word, text_at};
@@ -76,18 +77,20 @@ fn expected(alloc: Global, names: &Names, words: &[Word], when: When) -> Result<
     }))
 }
 
-// `var NAME = N`: a name that no variable of the thread has, and no token and no message.
+// `var NAME = EXPR`, of numbers: a name that no variable of the thread has, and no token and no message.
 #[tactic(auto, unfolding(crate::specs::Saying::var_of))]
-fn var_of(names: &Names, vars: &[Name], words: &[Word]) -> Result<u64, Wrong>
-    ensures { result ≡ var_of names.now vars.now words.now }
+fn var_of(alloc: Global, names: &Names, vars: &[Name], words: &[Word]) -> Result<u64, Slip>
+    requires { length words.now ≤ 1000 }
+    ensures { IsAsRead result (var_of names.now vars.now words.now) }
 {
-    new_name(vars, words)?;
-    new_name(names.tokens.as_slice(), words)?;
-    new_name(names.messages.as_slice(), words)?;
-    demand_at(words, 2, What::Word(Wanted::Equals), is_at(words, 2, "="))?;
-    let n = number_at(words, 3, 0, u64::MAX)?;
-    ends_at(words, 4)?;
-    Ok(n)
+    checked(new_name(vars, words))?;
+    checked(new_name(names.tokens.as_slice(), words))?;
+    checked(new_name(names.messages.as_slice(), words))?;
+    let is_equals = is_at(words, 2, "=");
+    checked(demand_at(words, 2, What::Word(Wanted::Equals), is_equals))?;
+    let found = constant_at(alloc, words, 3)?;
+    checked(ends_at(words, found.end))?;
+    Ok(found.value)
 }
 
 // `if COND`, or `while COND`.
@@ -126,6 +129,7 @@ fn alone_said(words: &[Word], act: Act) -> Result<Act, Wrong>
 }
 
 // What a sentence of a thread asks, or assigns.
+#[tactic(auto, unfolding(crate::specs::Saying::leaf_said))]
 fn leaf_said(alloc: Global, names: &Names, vars: &[Name], words: &[Word]) -> Result<Act, Slip>
     requires { length words.now ≤ 1000 }
     ensures { IsAsRead result (leaf_said names.now vars.now words.now) }
@@ -134,12 +138,13 @@ fn leaf_said(alloc: Global, names: &Names, vars: &[Name], words: &[Word]) -> Res
 }
 
 // What a sentence of a thread says that doesn't begin with `if` and so on.
+#[tactic(auto, unfolding(crate::specs::Saying::plainly_said))]
 fn plainly_said(alloc: Global, names: &Names, vars: &[Name], words: &[Word]) -> Result<Act, Slip>
     requires { length words.now ≤ 1000 }
     ensures { IsAsRead result (plainly_said names.now vars.now words.now) }
 {
     match text_at(words, 0) {
-        "var" => Ok(Act::Var(checked(var_of(names, vars, words))?)),
+        "var" => Ok(Act::Var(var_of(alloc, names, vars, words)?)),
         "assert" => assertion_said(alloc, vars, words),
         "break" => checked(alone_said(words, Act::Step(Step::Goto(Jump::Break, 0)))),
         _ => leaf_said(alloc, names, vars, words),
@@ -147,6 +152,7 @@ fn plainly_said(alloc: Global, names: &Names, vars: &[Name], words: &[Word]) -> 
 }
 
 // What a sentence of a thread says.
+#[tactic(auto, unfolding(crate::specs::Saying::thread_said))]
 fn thread_said(alloc: Global, names: &Names, vars: &[Name], words: &[Word]) -> Result<Act, Slip>
     requires { length words.now ≤ 1000 }
     ensures { IsAsRead result (thread_said names.now vars.now words.now) }
@@ -163,6 +169,7 @@ fn thread_said(alloc: Global, names: &Names, vars: &[Name], words: &[Word]) -> R
 }
 
 // An expectation, or a sentence of a thread.
+#[tactic(auto, unfolding(crate::specs::Saying::claim_said))]
 fn claim_said(alloc: Global, names: &Names, vars: &[Name], words: &[Word]) -> Result<Said, Slip>
     requires { length words.now ≤ 1000 }
     ensures exact { IsAsRead result (claim_said names.now vars.now words.now) }
@@ -177,6 +184,7 @@ fn claim_said(alloc: Global, names: &Names, vars: &[Name], words: &[Word]) -> Re
 }
 
 // A token, a message, a thread, or else.
+#[tactic(auto, unfolding(crate::specs::Saying::part_said))]
 fn part_said(alloc: Global, names: &Names, vars: &[Name], words: &[Word]) -> Result<Said, Slip>
     requires some { 0 < names.now.cpus }
     requires few { length words.now ≤ 1000 }
