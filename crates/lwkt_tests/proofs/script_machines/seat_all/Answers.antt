@@ -5,7 +5,7 @@ use Rattle.lwkt_bank.specs.Seats.{id_of}
 use Rattle.lwkt_cpu.specs.Processors.{Processor}
 use Rattle.lwkt_machine.specs.declared.bodies.ScriptBody.{ScriptBody}
 use Rattle.lwkt_machine.specs.Machines.{IsOfMachine}
-use Rattle.lwkt_layer_tests.proofs.script_machines.seat_all.Goals as goal
+use Rattle.lwkt_tests.proofs.script_machines.seat_all.Goals as goal
 
 pub seat_next-requires-clause-some : goal.seat_next-requires-clause-some
 seat_next-requires-clause-some c = omega (arith, c.loop-number-test.true, c.loop-number.auto.number-end, c.len-number-end.ensures, c.loop-number.invariant.left)

@@ -2,7 +2,7 @@ use Rattle.std.specs.Prelude.{◌≡◌, ◌+◌, All, length}
 use Rattle.lwkt_bank.specs.Seats.{id_of}
 use Rattle.lwkt_machine.specs.Machines.{IsOfMachine}
 use Rattle.lwkt_machine.specs.Seating.{IsRest}
-use Rattle.lwkt_layer_tests.proofs.script_machines.seat_all.Given as goal
+use Rattle.lwkt_tests.proofs.script_machines.seat_all.Given as goal
 
 abbrev pub invariant-loop-number : goal.invariant-loop-number
 invariant-loop-number l = record {

@@ -1,6 +1,6 @@
 use Rattle.std.proofs.Common.{◌∙◌}
 use Rattle.lwkt_machine.proofs.TableMoves.{rest_first}
-use Rattle.lwkt_layer_tests.proofs.script_machines.parts_of.Goals as goal
+use Rattle.lwkt_tests.proofs.script_machines.parts_of.Goals as goal
 
 pub seat_all-requires-clause-rest : goal.seat_all-requires-clause-rest
 seat_all-requires-clause-rest c =
