@@ -1,0 +1,8 @@
+//! What is stated of the plain machine.
+ghost use Rattle.std.specs.Prelude.{◌≡◌, ℕ};
+ghost use Rattle.lwkt_plain.specs.Tokens.{resume};
+
+/// A probe.
+pub fn probe()
+    ensures { resume ≡ resume }
+{}
