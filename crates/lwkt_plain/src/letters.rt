@@ -70,3 +70,21 @@ pub struct Port {
     /// The other notes.
     pub ordinary: Items<Note>,
 }
+
+/// The error of a reply to a request that was aborted before a thread saw it: EINTR.
+pub const ABORTED: u32 = 4;
+
+/// The error of a reply to a request at the port of a thread that has ended, or isn't there.
+pub const NO_PORT: u32 = 30;
+
+/// The error of a reply to a request whose thread has ended.
+pub const GONE: u32 = 41;
+
+/// The most notes in the queue of a lane; one more may be in hand.
+pub const LANE_QUEUE: usize = 31;
+
+/// The most notes in each of the two queues of a port.
+pub const PORT_QUEUE: usize = 64;
+
+/// How many ports a processor has, of which threads have the first ones.
+pub const PORTS: usize = 16;

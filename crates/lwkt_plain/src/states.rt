@@ -67,3 +67,9 @@ pub struct Plain {
     /// Its processors, by number.
     pub cpus: Items<Processor>,
 }
+
+/// The most notes that a turn takes in.
+pub const TURN_NOTES: usize = 16;
+
+/// The most notes of closed ports that a turn handles.
+pub const CLEARED_AT_ONCE: usize = 16;
