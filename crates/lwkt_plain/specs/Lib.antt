@@ -1,5 +1,9 @@
+pub mod Forms
 pub mod Intakes
 pub mod Letters
+pub mod Mailing
+pub mod Openings
 pub mod Places
 pub mod Tokens
 pub mod TokenAsks
+pub mod Turns
