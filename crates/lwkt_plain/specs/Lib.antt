@@ -4,6 +4,7 @@ pub mod Letters
 pub mod Mailing
 pub mod Openings
 pub mod Places
+pub mod Rows
 pub mod Tokens
 pub mod TokenAsks
 pub mod Turns

@@ -1,8 +1,7 @@
 //! What is stated of the plain machine.
-ghost use Rattle.std.specs.Prelude.{◌≡◌, ℕ};
-ghost use Rattle.lwkt_plain.specs.Forms.{FormsRespectTurns};
+ghost use Rattle.lwkt_plain.specs.Rows.{CrossedWords};
 
-/// A probe.
-pub fn probe()
-    ensures { FormsRespectTurns ≡ FormsRespectTurns }
+/// The row of two crossed lists.
+pub fn crossed_words()
+    ensures { CrossedWords }
 {}
