@@ -5,6 +5,7 @@ pub mod Mailing
 pub mod Openings
 pub mod Places
 pub mod Rows
+pub mod Sound
 pub mod Tokens
 pub mod TokenAsks
 pub mod Turns

@@ -106,6 +106,9 @@ pub record Missed : Type 0 where
   pub at : ℕ
   pub why : Miss
 
+abbrev pub missed_pair : Missed → ℕ × Miss
+missed_pair m = (m.at, m.why)
+
 -- the tokens after a list was tried, and what was missed, if it isn't held now
 pub record Tried : Type 0 where
   pub tokens : List Token

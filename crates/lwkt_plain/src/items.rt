@@ -1,5 +1,7 @@
-ghost use Rattle.std.specs.Prelude.{◌≡◌, List, ◌<◌, length, slice_index_or};
+ghost use Rattle.std.specs.Prelude.{◌≡◌, List, [], ◌∷◌, ◌++◌, ◌-◌, take, drop, length, Option, Some, None, OnOk, slice_get, option_to_list};
 
+use lwkt_base::OutOfMemory;
+use lwkt_base::memory::push;
 use std::marker::Model;
 
 /// The parts of one kind of a state, in order.
@@ -22,13 +24,6 @@ impl<T> Items<T> {
         Items { items }
     }
 
-    /// The parts as a vector. Takes no memory.
-    pub fn into_vec(self) -> Vec<T>
-        ensures { result.items ≡ self }
-    {
-        self.items
-    }
-
     /// The parts, the first first.
     pub fn as_slice(&self) -> &[T]
         ensures { result.now ≡ self.now }
@@ -36,7 +31,7 @@ impl<T> Items<T> {
         self.items.as_slice()
     }
 
-    /// The parts, the first first, each of which can be changed.
+    /// The parts, each of which can be changed.
     pub fn as_mut_slice(&mut self) -> &mut [T]
         ensures before { result.old ≡ self.old }
         ensures after { self.new ≡ result.new }
@@ -49,5 +44,31 @@ impl<T> Items<T> {
         ensures { result ≡ length self.now }
     {
         self.items.len()
+    }
+
+    /// Whether there is none.
+    pub fn is_empty(&self) -> bool {
+        self.items.is_empty()
+    }
+}
+
+impl<T: Drop> Items<T> {
+    /// Appends one.
+    pub fn push(&mut self, item: T) -> Result<(), OutOfMemory>
+        ensures { OnOk result (self.new ≡ self.old ++ item ∷ []) }
+    {
+        push(&mut self.items, item)
+    }
+}
+
+impl<T: Copy> Items<T> {
+    /// Takes the first one off, if there is one.
+    pub fn take_first(&mut self) -> Option<T>
+        ensures first { result ≡ slice_get self.old 0 }
+        ensures rest { self.new ≡ drop 1 self.old }
+    {
+        let first = self.items.get(0).copied()?;
+        let _ = self.items.remove(0);
+        Some(first)
     }
 }

@@ -7,10 +7,11 @@
 #![tactic(auto)]
 
 pub mod items;
-mod laws;
 pub mod letters;
+mod laws;
 pub mod nexts;
 pub mod states;
+pub mod tokens;
 
 pub use items::Items;
 pub use letters::{Hands, Lane, Letter, Note, NoteKind, Port};
