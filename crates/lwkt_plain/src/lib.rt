@@ -6,14 +6,23 @@
 //! its list last; a *form* is a state in which only such words are kept as can refuse a list again.
 #![tactic(auto)]
 
+mod intakes;
 pub mod items;
-pub mod letters;
 mod laws;
+pub mod letters;
+mod mailing;
 pub mod nexts;
+mod openings;
+mod places;
 pub mod states;
+mod token_asks;
 pub mod tokens;
+mod turns;
 
 pub use items::Items;
 pub use letters::{Hands, Lane, Letter, Note, NoteKind, Port};
 pub use nexts::{Miss, Next};
 pub use states::{BusyAt, Phase, Plain, Processor, Thread};
+
+#[cfg(test)]
+mod rows;
