@@ -189,3 +189,23 @@ mail_refusals = script_of 1 [] (message_of 0 0 ∷ record { round = 225179981368
 abbrev pub MailRefusalsEnd : Type 0
 MailRefusalsEnd = after_rounds mail_refusals 16 ≡ shown [] ((0, 1) ∷ (0, 2251799813685247) ∷ [])
     (((Exited, refused_by (29 ∷ 30 ∷ 25 ∷ 31 ∷ 26 ∷ 26 ∷ 36 ∷ 28 ∷ 27 ∷ 25 ∷ []) ++ entries.Request (msg 0) (call 1 1) ∷ entries.Reply (msg 0) 3 4 ∷ []) ∷ []) ∷ [])
+
+-- examples/writer_let_in_by_the_mark.json: the writer marks the token; the second reader, which has no other token, is refused by the mark; the
+-- writer is let in, which clears the mark, and the reader after it
+abbrev pub mark : Script
+mark = script_of 3 (token_of (0 ∷ []) ∷ []) []
+    (thread_on 0 (GetShared (tok 0) ∷ Read (tok 0) 0 ∷ Read (tok 0) 0 ∷ Rel (tok 0) ∷ [])
+    ∷ thread_on 1 (Yield ∷ GetShared (tok 0) ∷ Read (tok 0) 0 ∷ Rel (tok 0) ∷ [])
+    ∷ thread_on 2 (Get (tok 0) ∷ Write (tok 0) 0 7 ∷ Rel (tok 0) ∷ []) ∷ [])
+
+abbrev pub MarkWords : Type 0
+MarkWords =
+    (words (rounds mark 1 (opened mark)) ≡ 6 ∷ [])
+    × (words (rounds mark 3 (opened mark)) ≡ 6 ∷ [])
+    × (words (rounds mark 4 (opened mark)) ≡ 1 ∷ [])
+    × (words (rounds mark 5 (opened mark)) ≡ 262144 ∷ [])
+    × (words (rounds mark 6 (opened mark)) ≡ 262148 ∷ [])
+
+abbrev pub MarkEnd : Type 0
+MarkEnd = after_rounds mark 9 ≡ shown ((1, 7 ∷ []) ∷ []) []
+    (((Exited, entries.Value 0 ∷ entries.Value 0 ∷ []) ∷ []) ∷ ((Exited, entries.Value 7 ∷ []) ∷ []) ∷ ((Exited, []) ∷ []) ∷ [])

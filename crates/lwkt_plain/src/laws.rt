@@ -1,5 +1,5 @@
 //! What is stated of the plain machine.
-ghost use Rattle.lwkt_plain.specs.Rows.{CrossedWords, CrossedEnd, CallEnd, StaleNoteEnd, AbortsEnd, EndedPortEnd, BrokenEnd, RefusalsEnd, SwapsEnd, MailRefusalsEnd};
+ghost use Rattle.lwkt_plain.specs.Rows.{CrossedWords, CrossedEnd, CallEnd, StaleNoteEnd, AbortsEnd, EndedPortEnd, BrokenEnd, RefusalsEnd, SwapsEnd, MailRefusalsEnd, MarkWords, MarkEnd};
 
 /// Two lists crossed: the words after the first rounds.
 pub fn crossed_words()
@@ -49,4 +49,14 @@ pub fn swaps_end()
 /// Refused asks about messages.
 pub fn mail_refusals_end()
     ensures { MailRefusalsEnd }
+{}
+
+/// A writer let in by its mark: the words after the first rounds.
+pub fn mark_words()
+    ensures { MarkWords }
+{}
+
+/// The end of the same.
+pub fn mark_end()
+    ensures { MarkEnd }
 {}
