@@ -1,5 +1,5 @@
 -- A turn of a processor: what a script means (token(9), msgport(9); the search for a thread and its order own).
-use Rattle.std.specs.Prelude.{ℕ, ◌+◌, ◌-◌, ◌==◌, ◌&&◌, nat_lt, Bool, true, false, if◌then◌else◌, List, [], ◌∷◌, ◌++◌, length, take, map, filter, Option, Some, None, is_some, unwrap_or, option_and_then, slice_get}
+use Rattle.std.specs.Prelude.{ℕ, ◌+◌, ◌-◌, ◌==◌, ◌&&◌, nat_lt, Bool, true, false, if◌then◌else◌, List, [], ◌∷◌, ◌++◌, length, take, map, filter, Option, Some, None, is_some, unwrap_or, slice_get}
 use Rattle.std.specs.List.{range_with_len}
 use Rattle.std.specs.Option.{option_map_or}
 use Rattle.lwkt_base.specs.declared.names.CpuId.{CpuId}
@@ -109,16 +109,17 @@ abbrev pub logged : List Entry → Option Entry → List Entry
 logged log None = log
 logged log (Some e) = if nat_lt (length log) LOG_LIMIT then log ++ e ∷ [] else log
 
+-- ask k of a thread: its steps, so many times over, and then Exit
+abbrev pub ask_at : ThreadSpec → ℕ → Ask
+ask_at spec k = unwrap_or (nth_ask spec.repeat spec.steps k) Exit
+
 -- what a thread's last answer puts in its log: nothing before it has asked
 abbrev pub entry_for : ThreadSpec → Thread → Option Entry
-entry_for spec t = if t.polls == 0 then None else option_and_then (λ ask. entry_of ask t.last) (nth_ask spec.repeat spec.steps (t.polls - 1))
+entry_for spec t = if t.polls == 0 then None else entry_of (ask_at spec (t.polls - 1)) t.last
 
 -- a thread is polled: it logs its last answer, and asks its next step (own)
 abbrev pub polled : ThreadSpec → Thread → Thread
 polled spec t = record t { polls = t.polls + 1; busy = None; log = logged t.log (entry_for spec t) }
-
-abbrev pub ask_of : ThreadSpec → Thread → Ask
-ask_of spec t = unwrap_or (nth_ask spec.repeat spec.steps t.polls) Exit
 
 -- the state after an ask was performed, the thread's list, and what comes next
 pub record Performed : Type 0 where
@@ -181,7 +182,7 @@ goes_on cpu k x (Leaves held phase) =
 -- a thread is polled once, and its ask is performed
 abbrev pub polls_thread : CpuId → ℕ → Plain → ThreadSpec → Thread → Plain
 polls_thread cpu k p spec t =
-    let x = performs cpu k (with_thread (λ old. polled spec t) cpu.0 k p) t.list (ask_of spec t) in
+    let x = performs cpu k (with_thread (λ old. polled spec t) cpu.0 k p) t.list (ask_at spec t.polls) in
     goes_on cpu k x x.next
 
 abbrev pub polls_at : Script → ℕ → Plain → ℕ → Plain

@@ -1,7 +1,7 @@
 //! The asks of a running thread about tokens.
 ghost use Rattle.std.specs.Prelude.{◌≡◌};
 ghost use Rattle.lwkt_plain.specs.Sound.{AreSoundTokens, AreHeld};
-ghost use Rattle.lwkt_plain.specs.TokenAsks as meant;
+ghost use Rattle.lwkt_plain.specs.TokenAsks.{asked, get, try_get, rel, read, write, add, read_blob, write_blob};
 
 use crate::nexts::{Miss, Next};
 use crate::states::Phase;
@@ -48,7 +48,7 @@ fn take_off(list: &mut TokList, r: Ref) {
 pub(crate) fn get(cpu: CpuId, tokens: &mut [Token], list: &mut TokList, r: Ref) -> Next
     requires sound { AreSoundTokens tokens.old }
     requires held { AreHeld cpu.0 list.old tokens.old }
-    ensures { meant.asked tokens.new list.new result ≡ meant.get cpu tokens.old list.old r }
+    ensures { asked tokens.new list.new result ≡ get cpu tokens.old list.old r }
 {
     let at = match push_new(tokens, list, r) {
         Ok(at) => at,
@@ -74,7 +74,7 @@ pub(crate) fn get(cpu: CpuId, tokens: &mut [Token], list: &mut TokList, r: Ref) 
 pub(crate) fn try_get(cpu: CpuId, tokens: &mut [Token], list: &mut TokList, r: Ref) -> Next
     requires sound { AreSoundTokens tokens.old }
     requires held { AreHeld cpu.0 list.old tokens.old }
-    ensures { meant.asked tokens.new list.new result ≡ meant.try_get cpu tokens.old list.old r }
+    ensures { asked tokens.new list.new result ≡ try_get cpu tokens.old list.old r }
 {
     let at = match push_new(tokens, list, r) {
         Ok(at) => at,
@@ -100,7 +100,7 @@ pub(crate) fn try_get(cpu: CpuId, tokens: &mut [Token], list: &mut TokList, r: R
 pub(crate) fn rel(cpu: CpuId, tokens: &mut [Token], list: &mut TokList, tok: TokId) -> Next
     requires sound { AreSoundTokens tokens.old }
     requires held { AreHeld cpu.0 list.old tokens.old }
-    ensures { meant.asked tokens.new list.new result ≡ meant.rel cpu tokens.old list.old tok }
+    ensures { asked tokens.new list.new result ≡ rel cpu tokens.old list.old tok }
 {
     match list.pop(tok) {
         Err(fault) => refused(fault),
@@ -148,7 +148,7 @@ fn cell_of(tokens: &[Token], list: &TokList, tok: TokId, cell: u8) -> Result<u64
 
 /// A cell read.
 pub(crate) fn read(tokens: &[Token], list: &TokList, tok: TokId, cell: u8) -> Next
-    ensures { meant.asked tokens.now list.now result ≡ meant.read tokens.now list.now tok cell }
+    ensures { asked tokens.now list.now result ≡ read tokens.now list.now tok cell }
 {
     match cell_of(tokens, list, tok, cell) {
         Ok(value) => Next::Runs(Answer::Value(value)),
@@ -184,7 +184,7 @@ pub(crate) fn write(
 ) -> Next
     requires sound { AreSoundTokens tokens.old }
     requires held { AreHeld cpu.0 list.now tokens.old }
-    ensures { meant.asked tokens.new list.now result ≡ meant.write cpu tokens.old list.now tok cell value }
+    ensures { asked tokens.new list.now result ≡ write cpu tokens.old list.now tok cell value }
 {
     if let Err(fault) = may_write(tokens, list, tok, cell) {
         return refused(fault);
@@ -227,7 +227,7 @@ pub(crate) fn add(
 ) -> Next
     requires sound { AreSoundTokens tokens.old }
     requires held { AreHeld cpu.0 list.now tokens.old }
-    ensures { meant.asked tokens.new list.now result ≡ meant.add cpu tokens.old list.now tok more }
+    ensures { asked tokens.new list.now result ≡ add cpu tokens.old list.now tok more }
 {
     match sum_of(tokens, list, tok, more) {
         Err(fault) => refused(fault),
@@ -261,7 +261,7 @@ fn record_of(tokens: &[Token], list: &TokList, tok: TokId) -> Result<Blob, Fault
 
 /// A record read.
 pub(crate) fn read_blob(tokens: &[Token], list: &TokList, tok: TokId) -> Next
-    ensures { meant.asked tokens.now list.now result ≡ meant.read_blob tokens.now list.now tok }
+    ensures { asked tokens.now list.now result ≡ read_blob tokens.now list.now tok }
 {
     match record_of(tokens, list, tok) {
         Ok(blob) => Next::Runs(Answer::Bytes(blob)),
@@ -287,7 +287,7 @@ pub(crate) fn write_blob(
 ) -> Next
     requires sound { AreSoundTokens tokens.old }
     requires held { AreHeld cpu.0 list.now tokens.old }
-    ensures { meant.asked tokens.new list.now result ≡ meant.write_blob cpu tokens.old list.now tok blob }
+    ensures { asked tokens.new list.now result ≡ write_blob cpu tokens.old list.now tok blob }
 {
     if let Err(fault) = may_store(tokens, list, tok, &blob) {
         return refused(fault);

@@ -1,13 +1,12 @@
 //! The tokens of a state: references of lists, taken and given back.
-ghost use Rattle.std.specs.Prelude.{◌≡◌, ◌<◌, ◌≤◌, ℕ, List, length, take, option_map};
+ghost use Rattle.std.specs.Prelude.{◌≡◌, [], option_map};
 ghost use Rattle.lwkt_core.specs.Picture.{picture_of};
 ghost use Rattle.lwkt_plain.specs.Sound.{AreSoundTokens, AreHeld};
 ghost use Rattle.lwkt_plain.specs.Tokens.{gives, resume, missed_pair};
 
 use crate::nexts::Miss;
 use lwkt_base::blobs::{are_same, length_of};
-use lwkt_base::{CpuId, Decision, Held, Mode, Ref, Section, TokId, TokWord};
-use lwkt_base::Row;
+use lwkt_base::{CpuId, Decision, Held, Mode, Ref, Row, Section, TokId, TokWord};
 use lwkt_core::{Event, Token};
 
 // What a processor's holding adds to the count of the word.
@@ -76,7 +75,8 @@ pub(crate) fn take_at(cpu: CpuId, tokens: &mut [Token], refs: &[Ref], at: usize)
     };
     let tok = r.tok;
     if have(&refs[..at], tok) {
-        return step(tokens, tok, Event::Again { cpu, tok });
+        step(tokens, tok, Event::Again { cpu, tok });
+        return;
     }
     match r.mode {
         Mode::Exclusive => step(tokens, tok, Event::Take { cpu, tok }),

@@ -1,7 +1,7 @@
 //! A turn of a processor.
 ghost use Rattle.std.specs.Prelude.{◌≡◌, ◌<◌, OnOk};
 ghost use Rattle.lwkt_plain.specs.Sound.{IsSound};
-ghost use Rattle.lwkt_plain.specs.Turns as meant;
+ghost use Rattle.lwkt_plain.specs.Turns.{turn};
 
 use crate::letters::{GONE, Hands};
 use crate::mailing::{Asker, Sending};
@@ -10,7 +10,7 @@ use crate::states::{BusyAt, Phase, Plain, Thread};
 use crate::token_asks;
 use crate::tokens::{give_all, resume, word_of};
 use lwkt_base::limits::LOG_LIMIT;
-use lwkt_base::{Answer, Ask, CpuId, Entry, Fault, Flags, Mode, OutOfMemory, Ref, TokId, TokList};
+use lwkt_base::{Answer, Ask, CpuId, Entry, Fault, Flags, Mode, MsgId, OutOfMemory, Ref, TokId, TokList};
 use lwkt_core::Token;
 use lwkt_script::{Script, ThreadSpec, entry_of};
 
@@ -21,7 +21,7 @@ const PLAIN_FLAGS: Flags = Flags {
 };
 
 // Ask k of a thread: its steps, so many times over, and then `Exit`.
-fn ask_of(spec: &ThreadSpec, k: u64) -> Ask {
+fn ask_at(spec: &ThreadSpec, k: u64) -> Ask {
     let steps = spec.steps.as_slice();
     let count = steps.len() as u64;
     if count == 0 || k / count >= u64::from(spec.repeat) {
@@ -35,12 +35,16 @@ fn ask_of(spec: &ThreadSpec, k: u64) -> Ask {
 
 // The script of the thread of a number.
 fn spec_at(script: &Script, c: usize, k: usize) -> Option<&ThreadSpec> {
-    script
-        .threads
-        .as_slice()
-        .iter()
-        .filter(|spec| usize::from(spec.cpu.0) == c)
-        .nth(k)
+    let mut before = 0usize;
+    for spec in script.threads.as_slice() {
+        if usize::from(spec.cpu.0) == c {
+            if before == k {
+                return Some(spec);
+            }
+            before += 1;
+        }
+    }
+    None
 }
 
 impl Thread {
@@ -49,7 +53,7 @@ impl Thread {
         if self.polls == 0 {
             return None;
         }
-        entry_of(ask_of(spec, self.polls - 1), self.last)
+        entry_of(ask_at(spec, self.polls - 1), self.last)
     }
 
     // Polls it: it logs its last answer, and asks its next step.
@@ -59,7 +63,7 @@ impl Thread {
                 self.log.push(entry)?;
             }
         }
-        let ask = ask_of(spec, self.polls);
+        let ask = ask_at(spec, self.polls);
         self.polls = self.polls.wrapping_add(1);
         self.busy = None;
         Ok(ask)
@@ -92,12 +96,21 @@ fn reference(tok: TokId, mode: Mode) -> Ref {
 }
 
 impl Plain {
+    // What a thread that ends was shown is owed a reply.
+    fn leave(&mut self, c: usize, k: usize, msg: MsgId) {
+        let Some(mut letter) = self.letter(msg) else {
+            return;
+        };
+        if letter.is_shown_to(c, k) {
+            letter.hands = Hands::Owes(GONE);
+            self.put_letter(msg, letter);
+        }
+    }
+
     // A thread ends: what it was shown is owed a reply.
     fn end(&mut self, c: usize, k: usize, phase: Phase) {
-        for letter in self.letters.as_mut_slice() {
-            if letter.is_shown_to(c, k) {
-                letter.hands = Hands::Owes(GONE);
-            }
+        for m in 0..self.letters.len() {
+            self.leave(c, k, MsgId(m as u8));
         }
         if let Some(thread) = self.thread_mut(c, k) {
             thread.end(phase);
@@ -106,17 +119,16 @@ impl Plain {
 
     // Tries the list of a ready thread that isn't refused still. Says whether it is held now.
     fn try_list(&mut self, c: usize, k: usize) -> bool {
-        let Plain { tokens, cpus, .. } = self;
-        let Some(cpu) = cpus.as_mut_slice().get_mut(c) else {
+        let Some(cpu) = self.cpus.as_mut_slice().get_mut(c) else {
             return false;
         };
         let Some(thread) = cpu.threads.as_mut_slice().get_mut(k) else {
             return false;
         };
-        if thread.phase != Phase::Live || thread.is_still_busy(tokens.as_slice()) {
+        if thread.phase != Phase::Live || thread.is_still_busy(self.tokens.as_slice()) {
             return false;
         }
-        match resume(CpuId(c as u8), tokens.as_mut_slice(), thread.list.refs()) {
+        match resume(CpuId(c as u8), self.tokens.as_mut_slice(), thread.list.refs()) {
             None => true,
             Some((at, Miss::Busy(word))) => {
                 thread.busy = Some(BusyAt { word, at });
@@ -264,9 +276,8 @@ impl Plain {
 
     fn become_so(&mut self, c: usize, k: usize, phase: Phase) {
         if phase.has_ended() {
-            return self.end(c, k, phase);
-        }
-        if let Some(thread) = self.thread_mut(c, k) {
+            self.end(c, k, phase);
+        } else if let Some(thread) = self.thread_mut(c, k) {
             thread.phase = phase;
             thread.last = Answer::Done;
         }
@@ -294,7 +305,7 @@ impl Plain {
     /// `OutOfMemory` if memory is refused; part of the turn may have been made then.
     pub fn turn(&mut self, script: &Script, c: usize) -> Result<(), OutOfMemory>
         requires sound { IsSound self.old }
-        ensures exact { OnOk result (self.new ≡ meant.turn script.now self.old c) }
+        ensures exact { OnOk result (self.new ≡ turn script.now self.old c) }
         ensures sound { OnOk result (IsSound self.new) }
     {
         self.take_mail(c)?;
