@@ -1,4 +1,4 @@
-"""The steps of a thread, by the two tables of docs/FORMATS.md; for tools/pages, tools/schemas and the benches."""
+"""The steps of a thread, by the tables of docs/FORMATS.md; for tools/pages, tools/schemas and the benches."""
 
 import collections
 import os
@@ -31,3 +31,8 @@ def table():
         known.update((number, what) for number, what in refusals.items() if what)
         yield Step(written.strip("`"), word, [firsts[name] for name in parts], form.strip("`"), does, 2 if "version 2" in does else 1,
                    {int(number): known[number] for number in refusals})
+
+
+def places():
+    """How many variables may take the answer to a step, by its keyword, in version 3."""
+    return {word: int(count[-1]) for names, count, _ in rows("Step | Places") if count[-1].isdigit() for word in re.findall(r"\w+", names)}

@@ -2,7 +2,7 @@
 use Rattle.std.specs.Prelude.{ℕ, List, [], ◌++◌, codes}
 use Rattle.std.specs.Fmt.{decimal}
 use Rattle.lwkt_base.specs.declared.faults.Fault.{Fault}
-use Rattle.lwkt_base.specs.declared.faults.Fault.TheVariants.{ListFull, Upgrade, NotLast, NotHeld, SwapSame, SwapShort, NoToken, NoCell, SharedWrite, Broken, Worn, Overflow, TallyOnly, Busy, LaneFull, NotOwner, NotOut, NotAbortable, NotDropable, SelfDo, NoPort, NotTaken, Memory, Script, Again, Unlawful, RoundsOut, SharedRecord, RecordLong, Limits, LawBroken}
+use Rattle.lwkt_base.specs.declared.faults.Fault.TheVariants.{ListFull, Upgrade, NotLast, NotHeld, SwapSame, SwapShort, NoToken, NoCell, SharedWrite, Broken, Worn, Overflow, TallyOnly, Busy, LaneFull, NotOwner, NotOut, NotAbortable, NotDropable, SelfDo, NoPort, NotTaken, Memory, Script, Again, Unlawful, RoundsOut, SharedRecord, RecordLong, Limits, LawBroken, Assertion}
 
 -- want of memory. Each refusal of an allocator is the same value.
 abbrev pub no_memory : Fault
@@ -41,6 +41,7 @@ number_of SharedRecord = 37
 number_of RecordLong = 38
 number_of Limits = 39
 number_of LawBroken = 40
+number_of Assertion = 42
 
 -- the words of a fault's message, but for a number at the end
 abbrev pub fault_words : Fault → List ℕ
@@ -75,6 +76,7 @@ fault_words SharedRecord = codes "record under a shared token"
 fault_words RecordLong = codes "record too long"
 fault_words Limits = codes "limit passed"
 fault_words LawBroken = codes "opening breaks its law"
+fault_words Assertion = codes "assertion failed"
 
 -- the number at the end of a fault's message
 abbrev pub fault_place : Fault → List ℕ

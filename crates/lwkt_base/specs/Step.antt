@@ -1,5 +1,5 @@
 -- The steps of a thread: their words, and what stands behind each (own).
-use Rattle.std.specs.Prelude.{◌≡◌, ◌&&◌, ℕ, Bool, true, false, List, [], ◌∷◌, codes, bytes_eq, Option, Some, None, IfSome, is_some}
+use Rattle.std.specs.Prelude.{◌≡◌, ◌&&◌, ℕ, Bool, true, false, List, [], ◌∷◌, codes, bytes_eq, Option, Some, None, IfSome, is_some, option_and_then, if◌then◌else◌}
 use Rattle.std.specs.List.{find}
 use Rattle.lwkt_base.specs.declared.steps.TheConstants.{VERBS}
 use Rattle.lwkt_base.specs.declared.asks.Ask.{Ask}
@@ -9,7 +9,7 @@ use Rattle.lwkt_base.specs.declared.steps.Part.TheVariants.{Token, Cell, Value, 
 use Rattle.lwkt_base.specs.declared.steps.PartKind.{PartKind}
 use Rattle.lwkt_base.specs.declared.steps.PartKind.TheVariants as kinds
 use Rattle.lwkt_base.specs.declared.steps.Verb.{Verb}
-use Rattle.lwkt_base.specs.declared.steps.Verb.TheVariants.{Get, GetShared, TryGet, Rel, Swap, Read, Write, Add, ReadBlob, WriteBlob, Send, Do, Reply, Abort, IsAborted, DropMsg, GetPort, WaitPort, Yield, Exit}
+use Rattle.lwkt_base.specs.declared.steps.Verb.TheVariants.{Get, GetShared, TryGet, Rel, Swap, Read, Write, Add, ReadBlob, WriteBlob, Send, Do, Reply, Abort, IsAborted, DropMsg, GetPort, WaitPort, Yield, Exit, Assert}
 
 -- the table: the word of each kind of step, and the kinds of what stands behind it
 abbrev pub row_of : Verb → List ℕ × List PartKind
@@ -33,6 +33,7 @@ row_of GetPort = (codes "getport", [])
 row_of WaitPort = (codes "wait", [])
 row_of Yield = (codes "yield", [])
 row_of Exit = (codes "exit", [])
+row_of Assert = (codes "assert", kinds.Code ∷ [])
 
 abbrev pub word_of : Verb → List ℕ
 word_of verb = (row_of verb).0
@@ -46,9 +47,18 @@ is_later ReadBlob = true
 is_later WriteBlob = true
 is_later _ = false
 
+-- whether a step of a kind is written as its word and its parts: an assertion isn't, which has a condition
+abbrev pub is_written : Verb → Bool
+is_written Assert = false
+is_written _ = true
+
 -- the kind of step that has this word
 abbrev pub verb_named : List ℕ → Option Verb
 verb_named word = find (λ verb. bytes_eq (word_of verb) word) VERBS
+
+-- the same, if such steps are written as a word and parts
+abbrev pub verb_written : List ℕ → Option Verb
+verb_written word = option_and_then (λ verb. if is_written verb then Some verb else None) (verb_named word)
 
 -- the step that stands for an ask
 abbrev pub step_of : Ask → Verb × List Part
@@ -72,6 +82,7 @@ step_of asks.GetPort = (GetPort, [])
 step_of asks.WaitPort = (WaitPort, [])
 step_of asks.Yield = (Yield, [])
 step_of asks.Exit = (Exit, [])
+step_of (asks.Fail number) = (Assert, Code number ∷ [])
 
 -- the ask that a step stands for, if its parts are of its kinds
 abbrev pub ask_of : Verb → List Part → Option Ask
@@ -95,6 +106,7 @@ ask_of GetPort [] = Some asks.GetPort
 ask_of WaitPort [] = Some asks.WaitPort
 ask_of Yield [] = Some asks.Yield
 ask_of Exit [] = Some asks.Exit
+ask_of Assert (Code number ∷ []) = Some (asks.Fail number)
 ask_of _ _ = None
 
 -- whether a part is of a kind

@@ -46,6 +46,8 @@ pub enum Ask {
     Yield,
     /// To end.
     Exit,
+    /// To end with fault 42, since this assertion of the thread's program doesn't hold.
+    Fail(u32),
 }
 
 /// An item of a message port.

@@ -21,4 +21,6 @@ pub enum Entry {
     Dropped(MsgId, Call),
     /// A refusal: the fault's number, 10 to 40.
     Refused(u8),
+    /// An assertion of its program that didn't hold: its number among the thread's assertions.
+    Failed(u32),
 }

@@ -70,13 +70,15 @@ pub enum Fault {
     Limits,
     /// 40: an opening row breaks its law.
     LawBroken,
+    /// 42: an assertion of a thread's program doesn't hold.
+    Assertion,
 }
 
 impl Fault {
     ghost use Rattle.std.specs.Prelude.{◌≡◌};
     ghost use Rattle.lwkt_base.specs.Fault.{number_of, fault_words};
 
-    /// The fault's number, 10 to 40.
+    /// The fault's number, 10 to 40 or 42.
     pub fn number(&self) -> u8
         ensures { result ≡ number_of self.now }
     {
@@ -112,6 +114,7 @@ impl Fault {
             Fault::RecordLong => 38,
             Fault::Limits => 39,
             Fault::LawBroken => 40,
+            Fault::Assertion => 42,
         }
     }
 
@@ -151,6 +154,7 @@ impl Fault {
             Fault::RecordLong => "record too long",
             Fault::Limits => "limit passed",
             Fault::LawBroken => "opening breaks its law",
+            Fault::Assertion => "assertion failed",
         }
     }
 }

@@ -1,6 +1,6 @@
 //! The table of the steps of a thread: the word of each, and what stands behind it. Whatever reads a step or shows an ask goes by it.
 ghost use Rattle.std.specs.Prelude.{[], ◌∷◌, ◌≡◌, ◌≤◌, length};
-ghost use Rattle.lwkt_base.specs.Step.{verb_named, step_of, ask_of, StepsDecideAsks, AsksDecideSteps, WordsNameVerbs, PartsFit};
+ghost use Rattle.lwkt_base.specs.Step.{verb_named, verb_written, step_of, ask_of, StepsDecideAsks, AsksDecideSteps, WordsNameVerbs, PartsFit};
 
 use crate::asks::Ask;
 use crate::blobs::Blob;
@@ -31,10 +31,11 @@ pub enum Verb {
     WaitPort,
     Yield,
     Exit,
+    Assert,
 }
 
 /// All kinds of steps.
-pub const VERBS: [Verb; 20] = [
+pub const VERBS: [Verb; 21] = [
     Verb::Get,
     Verb::GetShared,
     Verb::TryGet,
@@ -55,6 +56,7 @@ pub const VERBS: [Verb; 20] = [
     Verb::WaitPort,
     Verb::Yield,
     Verb::Exit,
+    Verb::Assert,
 ];
 
 /// What may stand at a place behind the word of a step.
@@ -149,7 +151,7 @@ impl StepParts {
 }
 
 impl Verb {
-    ghost use Rattle.lwkt_base.specs.Step.{row_of, word_of, part_kinds, is_later};
+    ghost use Rattle.lwkt_base.specs.Step.{row_of, word_of, part_kinds, is_later, is_written};
 
     // The row of the table.
     fn row(self) -> (&'static str, &'static [PartKind])
@@ -188,6 +190,7 @@ impl Verb {
             Verb::WaitPort => ("wait", &[]),
             Verb::Yield => ("yield", &[]),
             Verb::Exit => ("exit", &[]),
+            Verb::Assert => ("assert", &[PartKind::Code]),
         }
     }
 
@@ -212,6 +215,13 @@ impl Verb {
     {
         matches!(self, Verb::ReadBlob | Verb::WriteBlob)
     }
+
+    /// Whether such a step is written as its word and its parts. An assertion isn't: it has a condition, and only a program asks for it.
+    pub fn is_written(self) -> bool
+        ensures { result ≡ is_written self }
+    {
+        !matches!(self, Verb::Assert)
+    }
 }
 
 /// The kind of step that has this word.
@@ -219,6 +229,14 @@ pub fn verb_named(word: &str) -> Option<Verb>
     ensures { result ≡ verb_named word.now }
 {
     VERBS.iter().copied().find(|verb| verb.word() == word)
+}
+
+/// The kind of step that has this word, if such steps are written as a word and parts.
+pub fn verb_written(word: &str) -> Option<Verb>
+    ensures { result ≡ verb_written word.now }
+{
+    let verb = verb_named(word)?;
+    if verb.is_written() { Some(verb) } else { None }
 }
 
 /// The ask that a step stands for, if its parts are of its kinds.
@@ -261,6 +279,7 @@ fn ask_with_one(verb: Verb, part: Part) -> Option<Ask>
         (Verb::Abort, Part::Message(msg)) => Some(Ask::Abort(msg)),
         (Verb::IsAborted, Part::Message(msg)) => Some(Ask::IsAborted(msg)),
         (Verb::DropMsg, Part::Message(msg)) => Some(Ask::DropMsg(msg)),
+        (Verb::Assert, Part::Code(number)) => Some(Ask::Fail(number)),
         _ => None,
     }
 }
@@ -343,6 +362,7 @@ pub fn step_of(ask: &Ask) -> (Verb, StepParts)
         Ask::WaitPort => (Verb::WaitPort, StepParts::of(&[])),
         Ask::Yield => (Verb::Yield, StepParts::of(&[])),
         Ask::Exit => (Verb::Exit, StepParts::of(&[])),
+        Ask::Fail(number) => (Verb::Assert, StepParts::of(&[Part::Code(number)])),
     }
 }
 

@@ -6,8 +6,9 @@ use Rattle.lwkt_base.specs.declared.names.TokId.{TokId}
 use Rattle.lwkt_base.specs.declared.names.Mode.TheVariants.{Shared}
 use Rattle.lwkt_base.specs.declared.names.Ref.{Ref}
 use Rattle.lwkt_base.specs.declared.faults.Fault.{Fault}
+use Rattle.lwkt_base.specs.declared.faults.Fault.TheVariants.{Assertion}
 use Rattle.lwkt_base.specs.declared.asks.Ask.{Ask}
-use Rattle.lwkt_base.specs.declared.asks.Ask.TheVariants.{Get, GetShared, TryGet, Rel, Swap, Read, Write, Add, ReadBlob, WriteBlob, Send, Do, Reply, Abort, IsAborted, DropMsg, GetPort, WaitPort, Yield, Exit}
+use Rattle.lwkt_base.specs.declared.asks.Ask.TheVariants.{Get, GetShared, TryGet, Rel, Swap, Read, Write, Add, ReadBlob, WriteBlob, Send, Do, Reply, Abort, IsAborted, DropMsg, GetPort, WaitPort, Yield, Exit, Fail}
 use Rattle.lwkt_base.specs.declared.asks.Answer.TheVariants.{Done, Refused}
 use Rattle.lwkt_core.specs.declared.events.Event.{Event}
 use Rattle.lwkt_bank.specs.declared.seats.CpuSeat.{CpuSeat}
@@ -20,7 +21,7 @@ use Rattle.lwkt_hold.specs.declared.answers.Acquired.TheVariants.{Got, MustSwitc
 use Rattle.lwkt_hold.specs.Misses.{exclusive}
 use Rattle.lwkt_cpu.specs.declared.nexts.Next.{Next}
 use Rattle.lwkt_cpu.specs.declared.nexts.AnswerKept.{AnswerKept}
-use Rattle.lwkt_cpu.specs.declared.nexts.Next.TheVariants.{Runs, Readies, AwaitsReply, Exits}
+use Rattle.lwkt_cpu.specs.declared.nexts.Next.TheVariants.{Runs, Readies, AwaitsReply, Exits, Faults}
 use Rattle.lwkt_cpu.specs.Nexts.{done_or, value_or, bytes_or, bit_or, HoldsAfter, next_with, KeepsAnswer}
 use Rattle.lwkt_cpu.specs.Calls.{Acquires, Tries, Rels, Swaps, Reads, Stores, Adds, ReadsRecord, StoresRecord}
 use Rattle.lwkt_cpu.specs.Leaving.{GivesUp}
@@ -72,6 +73,7 @@ Performs bank thread a b p q refs now t u GetPort next = (b ≡ a) × (now ≡ r
 Performs bank thread a b p q refs now t u WaitPort next = (now ≡ refs) × WaitsPort thread p q a b refs t u next
 Performs bank thread a b p q refs now t u Yield next = (q ≡ p) × (now ≡ refs) × GivesUp a b refs (length refs) t u (Readies Done) next
 Performs bank thread a b p q refs now t u Exit next = (q ≡ p) × (now ≡ refs) × GivesUp a b refs (length refs) t u Exits next
+Performs bank thread a b p q refs now t u (Fail number) next = (q ≡ p) × (now ≡ refs) × GivesUp a b refs (length refs) t u (Faults Assertion) next
 
 -- the caller's conditions of an ask: the processor's seat at the bank is ready for so many events of the thread's list, and its ports are
 -- of this book and this processor, and have the thread (own)

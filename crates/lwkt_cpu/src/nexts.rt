@@ -13,8 +13,8 @@ pub enum Next<A> {
     AwaitsReply(MsgId),
     /// It has ended: it asked `Exit`, or its processor stopped.
     Exits,
-    /// It was ended by this fault: 19 if what it gave up ended a section that had broken its law. No ask ends a thread by another
-    /// one.
+    /// It was ended by this fault: 19 if what it gave up ended a section that had broken its law, else 42 if it asked `Fail`. No ask
+    /// ends a thread by another one.
     Faults(Fault),
 }
 

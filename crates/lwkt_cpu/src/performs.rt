@@ -13,7 +13,7 @@ use crate::leaves::{leave, leave_ready};
 use crate::mails::{abort, drop_msg, get_port, is_aborted, reply, send, send_and_wait, wait_port};
 use crate::nexts::{AnswerKept, Next};
 use lwkt_bank::Bank;
-use lwkt_base::{Answer, Ask, Mode, Ref, TokId, TokList};
+use lwkt_base::{Answer, Ask, Fault, Mode, Ref, TokId, TokList};
 use lwkt_core::Event;
 use lwkt_hold::Hold;
 use lwkt_msg::MsgBook;
@@ -96,5 +96,6 @@ pub fn perform(
         Ask::WaitPort => wait_port(hold, ports, bank, book, thread, list, last, trace),
         Ask::Yield => leave_ready(hold, bank, list, last, trace),
         Ask::Exit => leave(hold, bank, list, Next::Exits, trace),
+        Ask::Fail(_) => leave(hold, bank, list, Next::Faults(Fault::Assertion), trace),
     }
 }

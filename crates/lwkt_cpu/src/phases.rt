@@ -14,7 +14,7 @@ pub enum Phase {
     /// It has ended: it asked `Exit`, or its processor stopped.
     Exited,
     /// It was ended by this fault: 19 if a section of its had broken its law when it gave up its tokens, 20 if a token of its list
-    /// was at its last generation when the list was tried.
+    /// was at its last generation when the list was tried, 42 if it asked `Fail`.
     Faulted(Fault),
 }
 

@@ -69,6 +69,7 @@ same_entry (entries.Reply m e r) (entries.Reply n f s) = m.0 == n.0 && e == f &&
 same_entry entries.NoMessage entries.NoMessage = true
 same_entry (entries.Dropped m c) (entries.Dropped n d) = m.0 == n.0 && same_call c d
 same_entry (entries.Refused m) (entries.Refused n) = m == n
+same_entry (entries.Failed m) (entries.Failed n) = m == n
 same_entry _ _ = false
 
 abbrev pub same_thread : ThreadId → ThreadId → Bool

@@ -75,6 +75,7 @@ fn same_entry(one: &Entry, other: &Entry) -> bool
         (Entry::NoMessage, Entry::NoMessage) => true,
         (Entry::Dropped(m, c), Entry::Dropped(n, d)) => m.0 == n.0 && same_call(*c, *d),
         (Entry::Refused(m), Entry::Refused(n)) => *m == *n,
+        (Entry::Failed(m), Entry::Failed(n)) => *m == *n,
         _ => false,
     }
 }

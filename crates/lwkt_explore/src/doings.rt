@@ -2,6 +2,7 @@
 use crate::mails::Mails;
 use crate::touches::{NOTHING, Touch, disturb, has, listed, touched_by, touched_by_all};
 use lwkt_base::{Ask, ThreadState};
+use lwkt_code::{Code, Local, Step};
 use lwkt_machine::{Machine, ScriptBody};
 use lwkt_script::{Script, ThreadSpec};
 
@@ -36,27 +37,54 @@ pub(crate) struct Doings {
     all: [Doing; 8],
 }
 
-// The step that a thread asks after so many polls; `None` where it has made them all, and exits.
-fn next_step(spec: &ThreadSpec, polls: u64) -> Option<&Ask> {
-    let steps = spec.steps.as_slice();
-    let count = steps.len() as u64;
-    if count == 0 || polls / count >= u64::from(spec.repeat) {
-        return None;
+// Whether each step of a program is an ask that is the same each time.
+fn is_list(code: &Code) -> bool {
+    code.steps()
+        .iter()
+        .all(|step| matches!(step, Step::Fixed(_)))
+}
+
+// The ask that stands there, if one does that is the same each time.
+fn fixed_at(code: &Code, at: usize) -> Option<&Ask> {
+    match code.steps().get(at) {
+        Some(Step::Fixed(ask)) => Some(ask),
+        _ => None,
     }
-    steps.get((polls % count) as usize)
+}
+
+// What a thread whose steps are a list asks next; `None` where it has made them all, and exits.
+fn next_step<'c>(code: &'c Code, local: &Local) -> Option<&'c Ask> {
+    if local.at < code.steps().len() {
+        return fixed_at(code, local.at);
+    }
+    if local.left > 0 && local.asked {
+        fixed_at(code, 0)
+    } else {
+        None
+    }
 }
 
 // Whether a thread that asks this may not run any more then: it ends, or gives its tokens up, and a broken law ends it there.
 fn may_leave(ask: &Ask) -> bool {
     matches!(
         ask,
-        Ask::Exit | Ask::Yield | Ask::WaitPort | Ask::Do(..) | Ask::Get(_) | Ask::GetShared(_)
+        Ask::Exit
+            | Ask::Fail(_)
+            | Ask::Yield
+            | Ask::WaitPort
+            | Ask::Do(..)
+            | Ask::Get(_)
+            | Ask::GetShared(_)
     )
 }
 
-// What the step touches that a thread asks after so many polls, and whether the thread may not run any more then.
-fn step_of(spec: &ThreadSpec, polls: u64) -> (Touch, bool) {
-    match next_step(spec, polls) {
+// What the next ask of a thread may touch, and whether the thread may not run any more then. Of one that decides it may be any ask of its
+// program.
+fn step_of(code: &Code, local: &Local) -> (Touch, bool) {
+    if !is_list(code) {
+        return (touched_by_all(code.steps()), true);
+    }
+    match next_step(code, local) {
         Some(ask) => (touched_by(*ask), may_leave(ask)),
         None => (NOTHING, true),
     }
@@ -71,17 +99,13 @@ fn may_wear(script: &Script) -> bool {
         .any(|token| token.generation >= LOW)
 }
 
-// The steps that a thread asks after so many polls.
-fn steps_left(spec: &ThreadSpec, polls: u64) -> &[Ask] {
-    let steps = spec.steps.as_slice();
-    let count = steps.len() as u64;
-    if count == 0 || polls / count >= u64::from(spec.repeat) {
-        return &[];
-    }
-    if polls / count + 1 < u64::from(spec.repeat) {
+// The steps that a thread may still come to.
+fn steps_left<'c>(code: &'c Code, local: &Local) -> &'c [Step] {
+    let steps = code.steps();
+    if local.left > 0 || !is_list(code) {
         return steps;
     }
-    match steps.get((polls % count) as usize..) {
+    match steps.get(local.at..) {
         Some(rest) => rest,
         None => &[],
     }
@@ -103,14 +127,8 @@ impl Doing {
         }
     }
 
-    // Notes a thread that has made so many polls.
-    fn note_thread(
-        &mut self,
-        machine: &Machine<ScriptBody>,
-        cpu: usize,
-        place: usize,
-        spec: &ThreadSpec,
-    ) {
+    // Notes a thread, by where it stands in its program.
+    fn note_thread(&mut self, machine: &Machine<ScriptBody>, cpu: usize, place: usize) {
         let (Some(status), Some(body)) = (machine.thread(cpu, place), machine.body(cpu, place))
         else {
             return;
@@ -121,8 +139,8 @@ impl Doing {
             ThreadState::Ready | ThreadState::Waiting => false,
         };
         let list = listed(status.list);
-        let (step, leaves) = step_of(spec, body.polls());
-        let later = list.and(touched_by_all(steps_left(spec, body.polls())));
+        let (step, leaves) = step_of(body.code(), body.local());
+        let later = list.and(touched_by_all(steps_left(body.code(), body.local())));
         self.note(runs, leaves, list.and(step), later);
     }
 
@@ -200,7 +218,7 @@ impl Doings {
         let (Some(doing), Some(count)) = (self.all.get_mut(cpu), counts.get_mut(cpu)) else {
             return;
         };
-        doing.note_thread(machine, cpu, *count, spec);
+        doing.note_thread(machine, cpu, *count);
         *count = count.saturating_add(1);
     }
 

@@ -1,7 +1,8 @@
 //! Which processors a message of a script can be with, and where its notes can go.
-use crate::touches::{Touch, bit, cpu_bit, has, touched_by};
+use crate::touches::{Touch, bit, cpu_bit, has, touched_by_step};
 use lwkt_base::memory::push;
-use lwkt_base::{Ask, OutOfMemory};
+use lwkt_base::{Ask, OutOfMemory, Verb};
+use lwkt_code::Step;
 use lwkt_script::Script;
 use std::alloc::Global;
 
@@ -20,19 +21,28 @@ pub(crate) struct Mails {
     all: Vec<Mail>,
 }
 
-// Notes what a step does with its message.
-fn note(mail: &mut Mail, number: usize, ask: &Ask) {
-    let touch = touched_by(*ask);
-    if touch.messages & bit(number) != 0 {
-        mail.parties |= touch.targets;
-        mail.is_dropped = mail.is_dropped || matches!(ask, Ask::DropMsg(_));
+// Whether a step drops a message.
+fn drops(step: &Step) -> bool {
+    match step {
+        Step::Fixed(ask) => matches!(ask, Ask::DropMsg(_)),
+        Step::Make(wish, _) => matches!(wish.verb, Verb::DropMsg),
+        _ => false,
     }
 }
 
-// Notes what steps do with a message.
-fn note_all(mail: &mut Mail, number: usize, asks: &[Ask]) {
-    for ask in asks {
-        note(mail, number, ask);
+// Notes what a step may do with a message.
+fn note(mail: &mut Mail, number: usize, step: &Step) {
+    let touch = touched_by_step(step);
+    if touch.messages & bit(number) != 0 {
+        mail.parties |= touch.targets;
+        mail.is_dropped = mail.is_dropped || drops(step);
+    }
+}
+
+// Notes what steps may do with a message.
+fn note_all(mail: &mut Mail, number: usize, steps: &[Step]) {
+    for step in steps {
+        note(mail, number, step);
     }
 }
 
@@ -43,7 +53,7 @@ fn mail_of(script: &Script, number: usize, origin: usize) -> Mail {
         is_dropped: false,
     };
     for thread in script.threads.as_slice() {
-        note_all(&mut mail, number, thread.steps.as_slice());
+        note_all(&mut mail, number, thread.code.steps());
     }
     mail
 }

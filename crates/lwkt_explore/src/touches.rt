@@ -2,6 +2,7 @@
 //! processors. It is never too little; it may be too much.
 use lwkt_base::steps::step_of;
 use lwkt_base::{Ask, Part, Ref};
+use lwkt_code::{Expr, ExprTree, Operand, Step, Wish};
 
 /// Tokens, messages and processors, each as a bit.
 #[derive(Clone, Copy, PartialEq, Eq)]
@@ -90,11 +91,77 @@ pub(crate) fn touched_by(ask: Ask) -> Touch {
     touch
 }
 
-/// What steps touch by themselves.
-pub(crate) fn touched_by_all(asks: &[Ask]) -> Touch {
+// The number that an expression always is, if it is always the same.
+fn fixed_number(e: &Expr) -> Option<usize> {
+    match e.tree() {
+        ExprTree::Number(n) => Some((*n).min(255) as usize),
+        _ => None,
+    }
+}
+
+// The tokens or messages that an expression may name: one, or any.
+fn bits_of(e: &Expr) -> u64 {
+    match fixed_number(e) {
+        Some(number) => bit(number),
+        None => u64::MAX,
+    }
+}
+
+// The processors that an expression may name: one, or any.
+fn cpus_of(e: &Expr) -> u8 {
+    match fixed_number(e) {
+        Some(number) => cpu_bit(number),
+        None => u8::MAX,
+    }
+}
+
+// What an operand may name.
+fn named_in(operand: &Operand) -> Touch {
+    match operand {
+        Operand::Token(tok) | Operand::Cell(tok, _) => Touch {
+            tokens: bits_of(tok),
+            ..NOTHING
+        },
+        Operand::Message(msg) => Touch {
+            messages: bits_of(msg),
+            ..NOTHING
+        },
+        Operand::Target(cpu, _) => Touch {
+            targets: cpus_of(cpu),
+            ..NOTHING
+        },
+        Operand::Value(_)
+        | Operand::Record(_)
+        | Operand::Call(..)
+        | Operand::Flags(_)
+        | Operand::Code(_)
+        | Operand::Outcome(_) => NOTHING,
+    }
+}
+
+// What an ask may touch whose numbers are expressions.
+fn touched_by_wish(wish: &Wish) -> Touch {
     let mut touch = NOTHING;
-    for ask in asks {
-        touch = touch.and(touched_by(*ask));
+    for operand in wish.operands.as_slice() {
+        touch = touch.and(named_in(operand));
+    }
+    touch
+}
+
+/// What a step of a program may touch.
+pub(crate) fn touched_by_step(step: &Step) -> Touch {
+    match step {
+        Step::Fixed(ask) => touched_by(*ask),
+        Step::Make(wish, _) => touched_by_wish(wish),
+        _ => NOTHING,
+    }
+}
+
+/// What steps may touch.
+pub(crate) fn touched_by_all(steps: &[Step]) -> Touch {
+    let mut touch = NOTHING;
+    for step in steps {
+        touch = touch.and(touched_by_step(step));
     }
     touch
 }

@@ -1,92 +1,79 @@
 -- Polls of a body, one after another.
-use Rattle.std.proofs.Common.{◌≡◌, ℕ, zero, suc, ◌+◌, ◌*◌, ◌/◌, ◌%◌, ◌<◌, ◌≤◌, Bool, true, false, List, [], ◌∷◌, ◌++◌, length, take, refl, ap, sym, ◌∙◌, subst, arith, min, Option, Some, None, append_assoc, length-append}
-use Rattle.std.specs.Prelude.{option_to_list, slice_get, unwrap_or, nat_lt}
-use Rattle.std.proofs.lemmas.Bool.{ltb-true, ltb-false}
-use Rattle.std.proofs.lemmas.Bool.Decides.{nat_tests}
-use Rattle.std.proofs.Math.Nat.{mul-zero}
-use Rattle.std.proofs.lemmas.Nat.{div_below, mod_below}
-use Rattle.std.proofs.lemmas.Option.{slice_get_cases}
-use Rattle.std.proofs.lemmas.List.{length-take-le}
+use Rattle.std.proofs.Common.{◌≡◌, ℕ, zero, suc, ◌+◌, ◌<◌, ◌≤◌, Bool, true, false, List, [], ◌∷◌, ◌++◌, length, take, refl, ap, sym, ◌∙◌, subst, arith, Option, Some, None, append_assoc, length-append}
+use Rattle.std.specs.Prelude.{map, option_and_then, option_map, option_to_list, replicate, slice_get, unwrap_or, nat_lt, if◌then◌else◌}
+use Rattle.std.proofs.lemmas.Bool.{ltb-true, ltb-false, le-ltb}
+use Rattle.std.proofs.lemmas.List.{length-map}
+use Rattle.std.proofs.lemmas.Option.{slice_get_within}
 use Rattle.lwkt_base.specs.declared.asks.Ask.{Ask}
 use Rattle.lwkt_base.specs.declared.asks.Ask.TheVariants.{Exit}
 use Rattle.lwkt_base.specs.declared.asks.Answer.{Answer}
 use Rattle.lwkt_base.specs.declared.asks.Answer.TheVariants.{Begin, Done}
 use Rattle.lwkt_base.specs.declared.entries.Entry.{Entry}
-use Rattle.lwkt_script.specs.Logs.{nth_ask}
-use Rattle.lwkt_machine.specs.Bodies.{Scripted, unpolled, entry_for, entry_heard, logged, after_poll}
+use Rattle.lwkt_code.specs.declared.locals.Local.{Local}
+use Rattle.lwkt_code.specs.declared.steps.Step.{Step}
+use Rattle.lwkt_code.specs.declared.steps.Step.TheVariants.{Fixed}
+use Rattle.lwkt_code.specs.Answers.{last_step, logs, taken}
+use Rattle.lwkt_code.specs.Next.{ask_at, moved, next, asks_by}
+use Rattle.lwkt_code.specs.Programs.{Program, listed_program, listed_ask}
+use Rattle.lwkt_code.proofs.Walks.{ask_here}
+use Rattle.lwkt_code.proofs.Lists.{asks_as_listed}
+use Rattle.lwkt_script.specs.Logs.{entry_of, failure_of}
 use Rattle.lwkt_lane.proofs.PlaceMoves.{refilled_front}
-use Rattle.lwkt_machine.specs.Laws.{ArePolls, entries_made, AsksAreTheScripts, LogsAreFirstEntries}
+use Rattle.lwkt_machine.specs.declared.bodies.Said.{Said}
+use Rattle.lwkt_machine.specs.declared.bodies.Said.TheVariants.{Standing}
+use Rattle.lwkt_machine.specs.Bodies.{Scripted, unpolled, fixed_ask, ask_said, entry_by, entry_heard, entry_kept, logged, next_of, after_hearing, after_ask, after_poll, IsPolled}
+use Rattle.lwkt_machine.specs.Laws.{ArePolls, entries_made, AsksAreTheScripts, AsksAreTheLists, LogsAreFirstEntries}
 
--- where polls are fewer than the asks that the steps make, there are steps, and one more poll can be counted
-pub is_counted : (repeat count polls : ℕ) → polls < min (repeat * count) 18446744073709551615 → (polls + 1 ≡ min (polls + 1) 18446744073709551615) × (polls < repeat * count) × (0 < count)
-is_counted repeat zero polls below = absurd (omega (arith, below, mul-zero repeat))
-is_counted repeat (suc n) polls below = (omega (arith, below), omega (arith, below), omega arith)
+abbrev pub body_so : Program → Local → Option Ask → Option Answer → List Entry → Scripted
+body_so program local asked heard log = record { program = program; local = local; asked = asked; heard = heard; log = log }
 
--- the next ask is then the step of the number that is left over
-pub small_step : (steps : List Ask) (repeat polls step : ℕ) → polls < min (repeat * length steps) 18446744073709551615 → (0 < length steps → step ≡ polls % length steps) → (step < length steps) × (slice_get steps step ≡ Some (unwrap_or (nth_ask repeat steps polls) Exit))
-small_step steps repeat polls step below at =
-    let small = is_counted repeat (length steps) polls below in
-    let rounds : polls / length steps < repeat = div_below polls (length steps) repeat small.2 small.1 in
-    let is : step ≡ polls % length steps = at small.2 in
-    let inside : polls % length steps < length steps = mod_below polls (length steps) small.2 in
-    grind (arith, nat_tests, slice_get_cases)
+-- what is asked next where an ask stands, and where the thread stands then
+pub fixed_next : (steps : List Step) (s : Local) (last : Answer) (ask : Ask) → slice_get steps s.at ≡ Some (Fixed ask) → next steps s last ≡ (ask, record (taken steps s last) { at = s.at + 1; asked = true })
+fixed_next steps s last ask is =
+    let t : Local = taken steps s last in
+    ask_here steps t ask (ap (λ (o : Option Step). ask_at o t) is) ∙ ap (λ (o : Option Step). (ask, moved o t)) is
 
--- the steps of a body lie before its last ask
-pub length_steps : (asks : List Ask) (count : ℕ) → length asks ≡ count + 1 → length (take count asks) ≡ count
-length_steps asks count is = length-take-le count asks (omega (arith, is))
+-- a body that goes on past an ask that stands where it stands, and keeps its place
+pub passed : (program : Program) (s t : Local) (said : Said) (heard : Option Answer) (log : List Entry) (last : Answer) (ask : Ask) → slice_get program.steps s.at ≡ Some (Fixed ask) → failure_of ask ≡ None → next program.steps s last ≡ (ask, t)
+    → (ask ≡ (next_of (body_so program s (ask_said program.steps said) heard log) last).0) × (body_so program t (ask_said program.steps (Standing s.at)) heard log ≡ after_ask last (body_so program s (ask_said program.steps said) heard log))
+passed program s t said heard log last ask stands quiet is =
+    let asked : ask_said program.steps (Standing s.at) ≡ Some ask = ap (λ (o : Option Step). option_and_then fixed_ask o) stands in
+    let same : log ≡ logged log (failure_of ask) = sym (ap (λ (o : Option Entry). logged log o) quiet) in
+    let after : Ask × Local → Scripted = λ r. body_so program r.1 (Some r.0) heard (logged log (failure_of r.0)) in (
+      sym (ap (λ (r : Ask × Local). r.0) is),
+      ap (λ (o : Option Ask). body_so program t o heard log) asked ∙ ap (λ (es : List Entry). body_so program t (Some ask) heard es) same ∙ sym (ap after is),
+    )
 
-pub ask_at_end : (steps : List Ask) (k : ℕ) → k ≡ length steps → slice_get (steps ++ Exit ∷ []) k ≡ Some Exit
-ask_at_end [] zero is = refl
-ask_at_end [] (suc k) is = absurd (omega (arith, is))
-ask_at_end (s ∷ steps) zero is = absurd (omega (arith, is))
-ask_at_end (s ∷ steps) (suc k) is = ask_at_end steps k (omega (arith, is))
+-- a poll: the answer is heard, and then the next ask is made
+pub polled_so : (old mid new : Scripted) (last : Answer) (ask : Ask) → mid ≡ after_hearing last old → ask ≡ (next_of mid last).0 → new ≡ after_ask last mid → IsPolled old last ask new
+polled_so old mid new last ask heard asks goes = (asks ∙ ap (λ (m : Scripted). (next_of m last).0) heard, goes ∙ ap (λ (m : Scripted). after_ask last m) heard)
 
-pub ask_at_step : (steps : List Ask) (k : ℕ) → k < length steps → slice_get (steps ++ Exit ∷ []) k ≡ slice_get steps k
-ask_at_step [] k below = absurd (omega (arith, below))
-ask_at_step (s ∷ steps) zero below = refl
-ask_at_step (s ∷ steps) (suc k) below = ask_at_step steps k (omega (arith, below))
-
--- where the next ask of a body stands: without steps, after all of them, and before that
-pub next_without_steps : (asks : List Ask) (repeat count polls : ℕ) → length asks ≡ count + 1 → count ≡ 0 → slice_get (take count asks ++ Exit ∷ []) count ≡ Some (unwrap_or (nth_ask repeat (take count asks) polls) Exit)
-next_without_steps asks repeat count polls is none =
-    let long = length_steps asks count is in
-    let last = ask_at_end (take count asks) count (sym long) in
-    grind (arith, nat_tests)
-
-pub next_at_end : (asks : List Ask) (repeat count polls : ℕ) → length asks ≡ count + 1 → 0 < count → repeat ≤ polls / count → slice_get (take count asks ++ Exit ∷ []) count ≡ Some (unwrap_or (nth_ask repeat (take count asks) polls) Exit)
-next_at_end asks repeat count polls is some done =
-    let long = length_steps asks count is in
-    let last = ask_at_end (take count asks) count (sym long) in
-    grind (arith, nat_tests)
-
-pub next_at_step : (asks : List Ask) (repeat count polls : ℕ) → length asks ≡ count + 1 → 0 < count → polls / count < repeat → slice_get (take count asks ++ Exit ∷ []) (polls % count) ≡ Some (unwrap_or (nth_ask repeat (take count asks) polls) Exit)
-next_at_step asks repeat count polls is some more =
-    let long = length_steps asks count is in
-    let inside : polls % count < count = mod_below polls count some in
-    let inside_steps : polls % count < length (take count asks) = omega (arith, long, inside) in
-    let same = ask_at_step (take count asks) (polls % count) inside_steps in
-    grind (arith, nat_tests, slice_get_cases)
-
-asks_from : (steps : List Ask) (repeat : ℕ) (polls : List (Answer × Ask)) (old b : Scripted) → old.steps ≡ steps → old.repeat ≡ repeat → old.polls + length polls ≤ 18446744073709551615 → ArePolls old polls b → (k : ℕ) (q : Answer × Ask) → slice_get polls k ≡ Some q → q.1 ≡ unwrap_or (nth_ask repeat steps (old.polls + k)) Exit
-asks_from steps repeat [] old b is many few are k q at = absurd (let e : ◌≡◌ {A = Option (Answer × Ask)} None (Some q) = at in cc)
-asks_from steps repeat (p ∷ polls) old b is many few are zero q at =
-    let same : p ≡ q = cc in
-    let z : old.polls ≡ old.polls + 0 = omega arith in
-    ap (λ (x : Answer × Ask). x.1) (sym same) ∙ are.1.0.0 ∙ ap (λ xs. unwrap_or (nth_ask old.repeat xs old.polls) Exit) is ∙ ap (λ n. unwrap_or (nth_ask n steps old.polls) Exit) many ∙ ap (λ n. unwrap_or (nth_ask repeat steps n) Exit) z
-asks_from steps repeat (p ∷ polls) old b is many few are (suc k) q at =
+asks_from : (polls : List (Answer × Ask)) (old b : Scripted) → ArePolls old polls b → map (λ (q : Answer × Ask). q.1) polls ≡ asks_by old.program.steps old.local (map (λ (q : Answer × Ask). q.0) polls)
+asks_from [] old b are = refl
+asks_from (p ∷ polls) old b are =
     let mid = are.0 in
     let step : mid ≡ after_poll p.0 old = are.1.0.1 in
-    let counted : mid.polls ≡ min (old.polls + 1) 18446744073709551615 = ap (λ (x : Scripted). x.polls) step in
-    let small : min (old.polls + 1) 18446744073709551615 ≡ old.polls + 1 = grind (arith, nat_tests) in
-    let n : mid.polls + k ≡ old.polls + suc k = omega (arith, counted, small) in
-    asks_from steps repeat polls mid b (ap (λ (x : Scripted). x.steps) step ∙ is) (ap (λ (x : Scripted). x.repeat) step ∙ many) (omega (arith, few, counted, small)) are.1.1 k q at
-    ∙ ap (λ m. unwrap_or (nth_ask repeat steps m) Exit) n
+    let told : List Answer = map (λ (q : Answer × Ask). q.0) polls in
+    let asked : List Ask = map (λ (q : Answer × Ask). q.1) polls in
+    ap (λ (x : Ask). x ∷ asked) are.1.0.0
+    ∙ ap (λ (xs : List Ask). (next_of old p.0).0 ∷ xs) (asks_from polls mid b are.1.1 ∙ ap (λ (m : Scripted). asks_by m.program.steps m.local told) step)
 
 pub asks_are : AsksAreTheScripts
-asks_are steps repeat polls b few are k q at =
-    let z : 0 + k ≡ k = omega arith in
-    let room : 0 + length polls ≤ 18446744073709551615 = omega (arith, few) in
-    asks_from steps repeat polls (unpolled steps repeat) b refl refl room are k q at ∙ ap (λ m. unwrap_or (nth_ask repeat steps m) Exit) z
+asks_are program polls b are = asks_from polls (unpolled program) b are
+
+map_at : (polls : List (Answer × Ask)) (k : ℕ) → slice_get (map (λ (q : Answer × Ask). q.1) polls) k ≡ option_map (λ (q : Answer × Ask). q.1) (slice_get polls k)
+map_at [] k = refl
+map_at (p ∷ polls) zero = refl
+map_at (p ∷ polls) (suc k) = map_at polls k
+
+pub lists_are : AsksAreTheLists
+lists_are asks repeat polls b are k q at =
+    let told : List Answer = map (λ (q : Answer × Ask). q.0) polls in
+    let here : slice_get (map (λ (q : Answer × Ask). q.1) polls) k ≡ Some q.1 = map_at polls k ∙ ap (λ (o : Option (Answer × Ask)). option_map (λ (q : Answer × Ask). q.1) o) at in
+    let long : length told ≡ length polls = length-map polls (λ (q : Answer × Ask). q.0) in
+    let inside : k < length told = omega (arith, long, slice_get_within polls k q at) in
+    let listed_so = asks_as_listed asks repeat (replicate 8 0) told k inside in
+    ap (λ (o : Option Ask). unwrap_or o Exit) (sym here ∙ ap (λ (xs : List Ask). slice_get xs k) (asks_are (listed_program asks repeat) polls b are) ∙ listed_so)
 
 take_all : {A : Type 0} (xs : List A) (n : ℕ) → length xs ≤ n → xs ≡ take n (xs ++ [])
 take_all {A = A} [] zero few = refl
@@ -95,17 +82,29 @@ take_all {A = A} (x ∷ xs) zero few = absurd (omega (arith, few))
 take_all {A = A} (x ∷ xs) (suc n) few = ap (λ ys. x ∷ ys) (take_all xs n (omega (arith, few)))
 
 -- nothing is put in the log where nothing was asked before, and where an ask was only done
-pub nothing_begun : (asked : Option Ask) → entry_heard asked (Some Begin) ≡ None
-nothing_begun None = refl
-nothing_begun (Some ask) = refl
+none_either : (b : Bool) (o : Option Entry) → o ≡ None → (if b then o else None) ≡ None
+none_either true o is = is
+none_either false o is = refl
 
-pub nothing_done : (asked : Option Ask) → entry_heard asked (Some Done) ≡ None
-nothing_done None = refl
-nothing_done (Some ask) = refl
+pub nothing_begun : (steps : List Step) (s : Local) (asked : Option Ask) → entry_by steps s asked Begin ≡ None
+nothing_begun steps s None = refl
+nothing_begun steps s (Some ask) = none_either (logs (last_step steps s) Begin) (entry_of ask Begin) refl
+
+pub nothing_done : (steps : List Step) (s : Local) (asked : Option Ask) → entry_by steps s asked Done ≡ None
+nothing_done steps s None = refl
+nothing_done steps s (Some ask) = none_either (logs (last_step steps s) Done) (entry_of ask Done) refl
 
 -- a full log takes nothing more
 full : (log rest more : List Entry) → length log ≡ 32 → take 32 (log ++ rest) ≡ take 32 (log ++ more)
 full log rest more long = refilled_front log rest 32 long ∙ sym (refilled_front log more 32 long)
+
+pub full_log : (log : List Entry) (o : Option Entry) → 32 ≤ length log → logged log o ≡ log
+full_log log None far = refl
+full_log log (Some e) far = ap (λ (b : Bool). if b then log ++ e ∷ [] else log) (le-ltb (length log) 32 far)
+
+-- a body that puts nothing in its log stays as it is
+pub kept_same : (b : Scripted) → logged b.log (entry_kept b) ≡ b.log → b ≡ record b { log = logged b.log (entry_kept b) }
+kept_same b same = ap (λ (es : List Entry). body_so b.program b.local b.asked b.heard es) (sym same)
 
 logged_one : (fits : Bool) (log rest : List Entry) (e : Entry) → nat_lt (length log) 32 ≡ fits → length log ≤ 32 → (length (logged log (Some e)) ≤ 32) × (take 32 (logged log (Some e) ++ rest) ≡ take 32 (log ++ e ∷ rest))
 logged_one true log rest e is few = rw is (let l = length-append log (e ∷ []) in omega (arith, l, ltb-true (length log) 32 is), ap (λ xs. take 32 xs) (append_assoc log (e ∷ []) rest))
@@ -115,19 +114,30 @@ logged_any : (o : Option Entry) (log rest : List Entry) → length log ≤ 32 �
 logged_any None log rest few = (few, refl)
 logged_any (Some e) log rest few = logged_one (nat_lt (length log) 32) log rest e refl few
 
-logs_from : (polls : List (Answer × Ask)) (old b : Scripted) → length old.log ≤ 32 → ArePolls old polls b → b.log ≡ take 32 (old.log ++ entries_made old.asked polls)
+-- a log with two entries more, or fewer
+logged_both : (one other : Option Entry) (log rest : List Entry) → length log ≤ 32 → (length (logged (logged log one) other) ≤ 32) × (take 32 (logged (logged log one) other ++ rest) ≡ take 32 (log ++ ((option_to_list one ++ option_to_list other) ++ rest)))
+logged_both one other log rest few =
+    let x : List Entry = option_to_list one in
+    let y : List Entry = option_to_list other in
+    let first = logged_any one log (y ++ rest) few in
+    let second = logged_any other (logged log one) rest first.0 in
+    (second.0, second.1 ∙ first.1 ∙ ap (λ es. take 32 (log ++ es)) (sym (append_assoc x y rest)))
+
+logs_from : (polls : List (Answer × Ask)) (old b : Scripted) → length old.log ≤ 32 → ArePolls old polls b → b.log ≡ take 32 (old.log ++ entries_made old.program.steps old.local old.asked polls)
 logs_from [] old b few are = ap (λ (x : Scripted). x.log) are ∙ take_all old.log 32 few
 logs_from (p ∷ polls) old b few are =
     let mid = are.0 in
     let step : mid ≡ after_poll p.0 old = are.1.0.1 in
-    let o = entry_for old.asked p.0 in
-    let log : mid.log ≡ logged old.log o = ap (λ (x : Scripted). x.log) step in
-    let asked : mid.asked ≡ Some p.1 = ap (λ (x : Scripted). x.asked) step ∙ ap (λ a. Some a) (sym are.1.0.0) in
-    let F : List Entry → Type 0 = λ xs. length xs ≤ 32 in
-    let rest = entries_made (Some p.1) polls in
-    logs_from polls mid b (subst F (sym log) (logged_any o old.log rest few).0) are.1.1
-    ∙ ap (λ xs. take 32 (xs ++ entries_made mid.asked polls)) log ∙ ap (λ a. take 32 (logged old.log o ++ entries_made a polls)) asked
-    ∙ (logged_any o old.log rest few).1
+    let steps : List Step = old.program.steps in
+    let o : Option Entry = entry_heard old p.0 in
+    let after : Local = (next_of old p.0).1 in
+    let F : Ask → Type 0 = λ ask. mid.log ≡ logged (logged old.log o) (failure_of ask) in
+    let log : F p.1 = subst F (sym are.1.0.0) (ap (λ (x : Scripted). x.log) step) in
+    let few_so : length mid.log ≤ 32 = subst (λ (es : List Entry). length es ≤ 32) (sym log) (logged_both o (failure_of p.1) old.log [] few).0 in
+    let R : Scripted → Type 0 = λ m. b.log ≡ take 32 (m.log ++ entries_made m.program.steps m.local m.asked polls) in
+    let Q : Ask → Type 0 = λ ask. b.log ≡ take 32 (logged (logged old.log o) (failure_of ask) ++ entries_made steps after (Some ask) polls) in
+    let so : Q p.1 = subst Q (sym are.1.0.0) (subst R step (logs_from polls mid b few_so are.1.1)) in
+    so ∙ (logged_both o (failure_of p.1) old.log (entries_made steps after (Some p.1) polls) few).1
 
 pub logs_are : LogsAreFirstEntries
-logs_are steps repeat polls b are = logs_from polls (unpolled steps repeat) b (omega arith) are
+logs_are program polls b are = logs_from polls (unpolled program) b (omega arith) are

@@ -19,7 +19,7 @@ use Rattle.lwkt_machine.specs.Opened.{AreFresh, IsOpenedCpu}
 
 -- the body of a thread of a script
 abbrev pub body_of : ThreadSpec → Scripted
-body_of t = unpolled t.steps t.repeat
+body_of t = unpolled t.code
 
 -- the bodies of the threads of a processor, in the script's order
 abbrev pub bodies_on : ℕ → List ThreadSpec → List Scripted

@@ -1,66 +1,95 @@
 //! The bodies of a script's threads.
-ghost use Rattle.std.specs.Prelude.{◌≡◌, ℕ, ◌+◌, ◌%◌, ◌<◌, ◌≤◌, length, min, false, IfOk, Option, Some, None, IsSome, slice_get};
+ghost use Rattle.std.specs.Prelude.{◌≡◌, ◌<◌, ◌≤◌, List, length, false, IfOk, IfSome, Option, Some, None, option_and_then, slice_get};
 ghost use Rattle.std.specs.Option.{option_copied};
-ghost use Rattle.lwkt_machine.specs.Bodies.{unpolled, next_ask, after_ask, entry_for, entry_heard, logged, asks_of};
+ghost use Rattle.lwkt_base.specs.declared.asks.Ask.{Ask};
+ghost use Rattle.lwkt_code.specs.declared.locals.Local.{Local};
+ghost use Rattle.lwkt_code.specs.declared.steps.Step.{Step};
+ghost use Rattle.lwkt_code.specs.declared.steps.Step.TheVariants.{Fixed};
+ghost use Rattle.lwkt_code.specs.Next.{next};
+ghost use Rattle.lwkt_script.specs.Logs.{failure_of};
+ghost use Rattle.lwkt_machine.specs.Bodies.{unpolled, fixed_ask, ask_said, next_of, after_ask, after_hearing, entry_by, entry_kept, logged};
 
 use crate::lasting::Lasting;
 use lwkt_base::limits::LOG_LIMIT;
-use lwkt_base::memory::{MOST_ROOM, extend_from_slice, push, with_capacity};
+use lwkt_base::memory::with_capacity;
 use lwkt_base::{Answer, Ask, Entry, OutOfMemory};
+use lwkt_code::answers::take;
+use lwkt_code::{Code, Local, Step};
 use lwkt_cpu::Body;
-use lwkt_script::entry_of;
+use lwkt_script::{entry_of, failure_of};
 use std::alloc::Global;
 use std::marker::Model;
 
-/// The body of a script's thread: it asks its steps in order, so many times over, and then `Exit`, and `Exit` ever after. Its
+/// What a body asked last.
+#[derive(Clone, Copy)]
+pub enum Said {
+    /// Nothing: it was never polled.
+    Nothing,
+    /// The ask that stands at this place of its program.
+    Standing(usize),
+    /// Another one.
+    Made(Ask),
+}
+
+/// The body of a script's thread: it asks what its program asks, by the answers that it is given, and after its end `Exit` ever after. Its
 /// log has the first 32 entries that its answers make; an answer `Done` makes none.
 #[derive(Drop)]
 pub struct ScriptBody {
-    // The steps, and `Exit` after them, so that each ask is copied from where it stands.
-    asks: Vec<Ask>,
-    // How many steps there are.
-    count: usize,
-    repeat: u32,
-    polls: u64,
-    // How many asks the steps make in all, and 18446744073709551615 where they make more.
-    total: u64,
-    // Where the next ask stands, as long as it is a step.
-    step: usize,
-    // Where the last ask stands.
-    asked: Option<usize>,
+    code: Code,
+    local: Local,
+    asked: Said,
     heard: Option<Answer>,
     log: Vec<Entry>,
 }
 
 impl Model for ScriptBody {
-    ghost use Rattle.std.specs.Prelude.{◌≡◌, ◌+◌, ◌%◌, ◌<◌, ◌≤◌, length, take, vec_capacity, option_and_then, slice_get};
     ghost use Rattle.lwkt_base.specs.declared.limits.TheConstants.{LOG_LIMIT};
-    ghost use Rattle.lwkt_machine.specs.Bodies.{Scripted, asks_of, total_asks};
+    ghost use Rattle.std.specs.Prelude.{◌≤◌, length, vec_capacity};
+    ghost use Rattle.std.specs.Coded.{codes};
+    ghost use Rattle.lwkt_code.specs.Codes.{term_code, formula_code};
+    ghost use Rattle.lwkt_machine.specs.Bodies.{Scripted, ask_said};
 
     ghost Value = { Scripted };
 
-    ghost view = { λ b. record { steps = take b.count b.asks.items; repeat = b.repeat; polls = b.polls; asked = option_and_then (slice_get b.asks.items) b.asked; heard = b.heard; log = b.log.items } };
+    ghost coded = { Prim.hlevel (codes, term_code, formula_code) };
 
-    ghost invariant = { λ b. (length b.log.items ≤ LOG_LIMIT) × (LOG_LIMIT ≤ vec_capacity b.log) × (b.asks.items ≡ asks_of (take b.count b.asks.items)) × (length b.asks.items ≡ b.count + 1) × (b.total ≡ total_asks b.repeat b.count) × (0 < b.count → b.step ≡ b.polls % b.count) };
+    ghost view = { λ b. record { program = b.code; local = b.local; asked = ask_said b.code.steps b.asked; heard = b.heard; log = b.log.items } };
+
+    ghost invariant = { λ b. (length b.log.items ≤ 32) × (32 ≤ vec_capacity b.log) };
 }
 
-// What an answer puts in the log, by the ask that it answers.
-fn entry_for(asked: Option<Ask>, answer: Answer) -> Option<Entry>
-    ensures { result ≡ entry_for asked answer }
+// The ask that stands at a place of some steps, if it is the same each time.
+#[inline(always)]
+fn fixed_at(steps: &[Step], at: usize) -> Option<&Ask>
+    ensures { option_copied result ≡ option_and_then fixed_ask (slice_get steps.now at) }
 {
-    match asked {
-        None => None,
-        Some(ask) => entry_of(ask, answer),
+    match steps.get(at) {
+        Some(Step::Fixed(ask)) => Some(ask),
+        _ => None,
+    }
+}
+
+// The ask that is meant.
+fn said_in<'a>(steps: &'a [Step], said: &'a Said) -> Option<&'a Ask>
+    ensures { option_copied result ≡ ask_said steps.now said.now }
+{
+    match said {
+        Said::Nothing => None,
+        Said::Standing(at) => fixed_at(steps, *at),
+        Said::Made(ask) => Some(ask),
     }
 }
 
 // What an answer that was heard puts in the log.
-fn entry_heard(asked: Option<Ask>, heard: &Option<Answer>) -> Option<Entry>
-    ensures { result ≡ entry_heard asked heard.now }
+fn entry_of_heard(code: &Code, local: &Local, said: &Said, heard: &Option<Answer>) -> Option<Entry>
+    ensures { result ≡ option_and_then (λ answer. entry_by code.now.steps local.now (ask_said code.now.steps said.now) answer) heard.now }
 {
-    match heard {
-        None => None,
-        Some(answer) => entry_for(asked, *answer),
+    let answer = heard.as_ref()?;
+    let ask = said_in(code.steps(), said)?;
+    if code.logs(local, answer) {
+        entry_of(*ask, *answer)
+    } else {
+        None
     }
 }
 
@@ -68,72 +97,78 @@ fn entry_heard(asked: Option<Ask>, heard: &Option<Answer>) -> Option<Entry>
 #[inline(always)]
 #[tactic(auto, using(crate::proofs::BodyMoves::nothing_begun, crate::proofs::BodyMoves::nothing_done))]
 fn may_log(heard: &Option<Answer>) -> bool
-    ensures { result ≡ false → (asked : Option Ask) → entry_heard asked heard.now ≡ None }
+    ensures { result ≡ false → (steps : List Step) (s : Local) (asked : Option Ask) → option_and_then (λ answer. entry_by steps s asked answer) heard.now ≡ None }
 {
     !matches!(heard, None | Some(Answer::Begin | Answer::Done))
 }
 
-// Which of so many steps ask k is, as long as it is one.
-fn step_of(count: usize, k: u64) -> usize
-    ensures { 0 < count → result ≡ k % count }
+// The ask that stands at a place of some steps, if it is the same each time and puts nothing in the log by itself.
+#[inline(always)]
+fn standing_at(steps: &[Step], at: usize) -> Option<&Ask>
+    ensures stands { IfSome (option_copied result) (λ ask. slice_get steps.now at ≡ Some (Fixed ask)) }
+    ensures quiet { IfSome (option_copied result) (λ ask. failure_of ask ≡ None) }
 {
-    if count == 0 {
-        return 0;
+    match steps.get(at) {
+        Some(Step::Fixed(ask)) => if matches!(ask, Ask::Fail(_)) {
+            None
+        } else {
+            Some(ask)
+        },
+        _ => None,
     }
-    (k % count as u64) as usize
 }
 
-// Which of so many steps comes after this one: the next, or the first.
+// Goes on past the ask that stands where a thread stands, which is given the answer to the ask before.
 #[inline(always)]
-fn step_after(step: usize, count: usize) -> usize
-    requires { step < count }
-    ensures { (k : ℕ) → step ≡ k % count → result ≡ (k + 1) % count }
+fn pass_fixed(steps: &[Step], local: &mut Local, last: &Answer)
+    requires { local.old.at < length steps.now }
+    ensures { (ask : Ask) → slice_get steps.now local.old.at ≡ Some (Fixed ask) → next steps.now local.old last.now ≡ (ask, local.new) }
 {
-    let after = step + 1;
-    if after < count { after } else { 0 }
+    let at = local.at;
+    take(steps, local, last);
+    local.at = at + 1;
+    local.asked = true;
 }
 
 impl ScriptBody {
-    /// A body that makes these steps `repeat` times, 0 to 4294967295, and was never polled. Its log has room for its 32 entries
-    /// from the beginning.
+    /// A body that makes this program, in memory of its own, and was never polled. Its log has room for its 32 entries from the
+    /// beginning.
     ///
-    /// `OutOfMemory` if memory for the steps or the log is refused.
-    pub fn new(alloc: Global, steps: &[Ask], repeat: u32) -> Result<Self, OutOfMemory>
-        ensures { IfOk result (λ body. body ≡ unpolled steps.now repeat) }
+    /// `OutOfMemory` if memory for the program or the log is refused.
+    pub fn new(alloc: Global, code: &Code) -> Result<Self, OutOfMemory>
+        ensures { IfOk result (λ body. body ≡ unpolled code.now) }
     {
         let log = with_capacity(alloc, LOG_LIMIT)?;
-        let count = steps.len();
-        let mut asks = with_capacity(alloc, (count + 1).min(MOST_ROOM))?;
-        extend_from_slice(&mut asks, steps)?;
-        push(&mut asks, Ask::Exit)?;
+        let code = code.copy(alloc)?;
+        let local = code.start();
         Ok(ScriptBody {
-            asks,
-            count,
-            repeat,
-            polls: 0,
-            total: u64::from(repeat).saturating_mul(count as u64),
-            step: 0,
-            asked: None,
+            code,
+            local,
+            asked: Said::Nothing,
             heard: None,
             log,
         })
     }
 
-    /// How many polls the body has had, 0 to 18446744073709551615, at which it stays.
-    pub fn polls(&self) -> u64
-        ensures { result ≡ self.now.polls }
+    /// The program that the body makes.
+    pub fn code(&self) -> &Code
+        ensures { result.now ≡ self.now.program }
     {
-        self.polls
+        &self.code
+    }
+
+    /// Where the body stands in its program.
+    pub fn local(&self) -> &Local
+        ensures { result.now ≡ self.now.local }
+    {
+        &self.local
     }
 
     /// What the body asked at its last poll. `None` before the first one.
     pub fn asked(&self) -> Option<&Ask>
         ensures { option_copied result ≡ self.now.asked }
     {
-        match self.asked {
-            None => None,
-            Some(at) => self.asks.get(at),
-        }
+        said_in(self.code.steps(), &self.asked)
     }
 
     /// The answer that the body was given at its last poll: that to the ask before, and `Begin` at its first poll. `None` before
@@ -152,68 +187,13 @@ impl ScriptBody {
         self.log.as_slice()
     }
 
-    // Where the next ask stands.
-    #[tactic(auto, using(crate::proofs::BodyMoves::next_without_steps, crate::proofs::BodyMoves::next_at_end, crate::proofs::BodyMoves::next_at_step))]
-    fn next(&self) -> usize
-        ensures { slice_get (asks_of self.now.steps) result ≡ Some (next_ask self.now) }
-    {
-        let count = self.count as u64;
-        if count == 0 {
-            return self.count;
-        }
-        if self.polls / count >= u64::from(self.repeat) {
-            return self.count;
-        }
-        (self.polls % count) as usize
-    }
-
-    // Asks what is next, whatever that is. It divides, so it is for what comes after the steps.
-    #[cold]
-    #[inline(never)]
-    fn ask_any(&mut self) -> usize
-        ensures next { slice_get (asks_of self.old.steps) result ≡ Some (next_ask self.old) }
-        ensures goes { self.new ≡ after_ask self.old }
-    {
-        let next = self.next();
-        self.polls = self.polls.saturating_add(1);
-        self.step = step_of(self.count, self.polls);
-        self.asked = Some(next);
-        next
-    }
-
-    // Asks what is next, and says where it stands: of a step it neither divides nor multiplies.
-    #[inline(always)]
-    #[tactic(auto, using(crate::proofs::BodyMoves::small_step, crate::proofs::BodyMoves::is_counted, crate::proofs::BodyMoves::length_steps, crate::proofs::BodyMoves::ask_at_step))]
-    fn ask_next(&mut self) -> usize
-        ensures next { slice_get (asks_of self.old.steps) result ≡ Some (next_ask self.old) }
-        ensures goes { self.new ≡ after_ask self.old }
-    {
-        if self.polls >= self.total {
-            return self.ask_any();
-        }
-        let step = self.step;
-        self.step = step_after(step, self.count);
-        self.polls += 1;
-        self.asked = Some(step);
-        step
-    }
-
-    // The ask that stands there.
-    #[inline(always)]
-    fn ask_at(&self, at: usize) -> &Ask
-        requires { IsSome (slice_get (asks_of self.now.steps) at) }
-        ensures { Some result.now ≡ slice_get (asks_of self.now.steps) at }
-    {
-        &self.asks[at]
-    }
-
     // Keeps what an answer that was heard puts in the log, which has room for it.
     #[inline(never)]
     fn add_entry(&mut self)
-        requires { length self.old.log < LOG_LIMIT }
-        ensures { self.new ≡ record self.old { log = logged self.old.log (entry_heard self.old.asked self.old.heard) } }
+        requires { length self.old.log < 32 }
+        ensures { self.new ≡ record self.old { log = logged self.old.log (entry_kept self.old) } }
     {
-        if let Some(entry) = entry_heard(self.asked().copied(), &self.heard) {
+        if let Some(entry) = entry_of_heard(&self.code, &self.local, &self.asked, &self.heard) {
             self.log.push(entry).unwrap();
         }
     }
@@ -221,7 +201,7 @@ impl ScriptBody {
     // Keeps what an answer that was heard puts in the log, if the log has room.
     #[inline(always)]
     fn keep(&mut self)
-        ensures { self.new ≡ record self.old { log = logged self.old.log (entry_heard self.old.asked self.old.heard) } }
+        ensures { self.new ≡ record self.old { log = logged self.old.log (entry_kept self.old) } }
     {
         if may_log(&self.heard) && self.log.len() < LOG_LIMIT {
             self.add_entry();
@@ -231,15 +211,68 @@ impl ScriptBody {
     // Keeps an answer, and what it puts in the log. `Done`, the most common one, puts nothing there and is made anew, since an
     // answer that is copied takes its room for a record along.
     #[inline(always)]
-    fn hear(&mut self, last: Answer)
-        ensures { self.new ≡ record self.old { heard = Some last; log = logged self.old.log (entry_for self.old.asked last) } }
+    #[tactic(auto, using(crate::proofs::BodyMoves::nothing_done))]
+    fn hear(&mut self, last: &Answer)
+        ensures { self.new ≡ after_hearing last.now self.old }
     {
         if let Answer::Done = last {
             self.heard = Some(Answer::Done);
             return;
         }
-        self.heard = Some(last);
+        self.heard = Some(*last);
         self.keep();
+    }
+
+    // Keeps what an ask puts in the log by itself, if the log has room.
+    #[tactic(auto, using(crate::proofs::BodyMoves::full_log))]
+    fn keep_failure(&mut self, ask: &Ask)
+        ensures { self.new ≡ record self.old { log = logged self.old.log (failure_of ask.now) } }
+    {
+        if self.log.len() >= LOG_LIMIT {
+            return;
+        }
+        if let Some(entry) = failure_of(ask) {
+            self.log.push(entry).unwrap();
+        }
+    }
+
+    // Goes on to the next ask, whatever that is.
+    #[inline(never)]
+    fn ask_any(&mut self, last: &Answer) -> Ask
+        ensures ask { result ≡ (next_of self.old last.now).0 }
+        ensures goes { self.new ≡ after_ask last.now self.old }
+    {
+        let ask = self.code.next(&mut self.local, last);
+        self.keep_failure(&ask);
+        self.asked = Said::Made(ask);
+        ask
+    }
+
+    // Goes on past the ask that stands where the body stands, and keeps its place.
+    #[inline(always)]
+    fn pass(&mut self, last: &Answer)
+        requires { self.old.local.at < length self.old.program.steps }
+        ensures { (ask : Ask) → slice_get self.old.program.steps self.old.local.at ≡ Some (Fixed ask) → failure_of ask ≡ None → (ask ≡ (next_of self.old last.now).0) × (self.new ≡ after_ask last.now self.old) }
+    {
+        let at = self.local.at;
+        pass_fixed(self.code.steps(), &mut self.local, last);
+        self.asked = Said::Standing(at);
+    }
+
+    // Goes on to the next ask. One that stands where the body stands is copied from there, and only its place is kept.
+    #[inline(always)]
+    fn ask_next(&mut self, last: &Answer) -> Ask
+        ensures ask { result ≡ (next_of self.old last.now).0 }
+        ensures goes { self.new ≡ after_ask last.now self.old }
+    {
+        match standing_at(self.code.steps(), self.local.at) {
+            None => self.ask_any(last),
+            Some(ask) => {
+                let ask = *ask;
+                self.pass(last);
+                ask
+            }
+        }
     }
 }
 
@@ -249,10 +282,10 @@ impl Body for ScriptBody {
     ghost polled = { IsPolled };
 
     #[inline(always)]
+    #[tactic(auto, using(crate::proofs::BodyMoves::polled_so))]
     fn poll(&mut self, last: Answer) -> Ask {
-        self.hear(last);
-        let next = self.ask_next();
-        *self.ask_at(next)
+        self.hear(&last);
+        self.ask_next(&last)
     }
 }
 

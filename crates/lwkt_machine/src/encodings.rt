@@ -6,6 +6,7 @@ use crate::bodies::ScriptBody;
 use crate::machines::Machine;
 use lwkt_base::memory::push;
 use lwkt_base::{Blob, Entry, Fault, MsgId, OutOfMemory, Rec};
+use lwkt_code::Local;
 use lwkt_cpu::Cpu;
 use lwkt_drive::Driven;
 use lwkt_msg::{MsgBook, MsgSeat, Reaped};
@@ -54,16 +55,51 @@ fn add_entry(words: &mut Vec<u64>, entry: &Entry) -> Result<(), OutOfMemory> {
         }
         Entry::Refused(number) => add_four(words, 7, u64::from(*number), 0, 0),
         Entry::Bytes(blob) => add_bytes(words, 8, blob),
+        Entry::Failed(number) => add_four(words, 9, u64::from(*number), 0, 0),
     }
 }
 
+// A number after others: it is left out if it is 0, and else stands behind its place.
+fn add_number(words: &mut Vec<u64>, place: u64, number: u64) -> Result<(), OutOfMemory> {
+    if number == 0 {
+        return Ok(());
+    }
+    push(words, place)?;
+    push(words, number)
+}
+
+// The numbers that aren't 0, each behind its place, counted from 1, and a 0 at their end.
+fn add_vars(words: &mut Vec<u64>, vars: &[u64; 8]) -> Result<(), OutOfMemory> {
+    for k in 0..8usize {
+        add_number(words, k as u64 + 1, vars[k])?;
+    }
+    push(words, 0)
+}
+
+fn add_counts(words: &mut Vec<u64>, counts: &[u32; 8]) -> Result<(), OutOfMemory> {
+    for k in 0..8usize {
+        add_number(words, k as u64 + 1, u64::from(counts[k]))?;
+    }
+    push(words, 0)
+}
+
+// Where a body stands in its program. What its last ask was answered it is told only at its next poll, so the number of a refusal that it
+// was told before says nothing of what it does from here on.
+fn add_local(words: &mut Vec<u64>, local: &Local) -> Result<(), OutOfMemory> {
+    push(words, local.at as u64)?;
+    push(words, u64::from(local.left))?;
+    push(words, u64::from(local.asked))?;
+    add_vars(words, &local.vars)?;
+    add_counts(words, &local.counts)
+}
+
 impl ScriptBody {
-    /// Appends to `words` what tells this body apart from what it was or will be at another time: how many polls it has had, and its
-    /// log, with a 0 at its end.
+    /// Appends to `words` what tells this body apart from what it was or will be at another time, as far as it matters for what it does
+    /// from then on: where it stands in its program, with its variables and its counts, and its log, with a 0 at its end.
     ///
     /// `OutOfMemory` if memory is refused; some of the numbers may have been appended then.
     pub fn encode(&self, words: &mut Vec<u64>) -> Result<(), OutOfMemory> {
-        push(words, self.polls())?;
+        add_local(words, self.local())?;
         for entry in self.log() {
             add_entry(words, entry)?;
         }

@@ -1,14 +1,15 @@
 //! Laws of the bodies of a script's threads, and of what the processors of a machine did.
-ghost use Rattle.lwkt_machine.specs.Laws.{AsksAreTheScripts, LogsAreFirstEntries};
+ghost use Rattle.lwkt_machine.specs.Laws.{AsksAreTheScripts, AsksAreTheLists, LogsAreFirstEntries};
 ghost use Rattle.lwkt_machine.specs.ProcessorParts.{DrivesArePartsOfRuns, ThreadsArePartsOfRuns};
 
 use crate::lasting::Lasting;
 use lwkt_drive::Gate;
 
-/// The theorem that over all its polls a body asks what its script says, each ask by its number and `Exit` after the last, and its
-/// log is the first 32 entries that the answers to its asks make.
+/// The theorem that over all its polls a body asks what its program asks, by the answers that it is given; a list of asks in order, each by
+/// its number, and `Exit` after the last; and that its log is the first 32 entries that its polls make.
 pub fn bodies_follow_scripts()
     ensures asks { AsksAreTheScripts }
+    ensures lists { AsksAreTheLists }
     ensures logs { LogsAreFirstEntries }
 {}
 

@@ -5,7 +5,7 @@
 //! Words: the *tables* of a machine are its bank and its book; a *lane* leads from each processor to each, and a machine is *wired* if
 //! each lane has its two ends at its two processors; a *maker* makes a token, a message or a thread of the declaration; a *stepper*
 //! keeps the answer to each of its asks beside it; what a body *keeps* is an invariant that holds after each poll; a *script body*
-//! makes the steps of a thread of a script, so many times over, and keeps its *log*.
+//! makes the program of a thread of a script, and keeps its *log*.
 #![tactic(auto)]
 
 pub mod bodies;

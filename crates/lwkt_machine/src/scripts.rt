@@ -47,7 +47,7 @@ fn bodies_on(
     let mut bodies = Vec::new(alloc);
     for spec in threads {
         if spec.cpu.0 as usize == cpu {
-            let body = ScriptBody::new(alloc, spec.steps.as_slice(), spec.repeat)?;
+            let body = ScriptBody::new(alloc, &spec.code)?;
             push(&mut bodies, body)?;
         }
     }

@@ -3,7 +3,7 @@ use crate::pages::Page;
 use crate::sentences::{NAME_LIMIT, place_in_sentence, word_in_sentence};
 use lwkt_base::VERBS;
 use lwkt_base::memory::changes_between;
-use lwkt_base::steps::verb_named;
+use lwkt_base::steps::verb_written;
 use lwkt_text::{Name, Names, What};
 use std::alloc::Global;
 
@@ -86,8 +86,8 @@ pub(crate) fn keyword(i: usize) -> &'static str {
         return KEYWORDS[i];
     }
     match VERBS.get(i.saturating_sub(KEYWORDS.len())) {
-        Some(verb) => verb.word(),
-        None => "",
+        Some(verb) if verb.is_written() => verb.word(),
+        _ => "",
     }
 }
 
@@ -102,7 +102,7 @@ fn nearest_keyword(page: &mut Page, alloc: Global, text: &str) -> &'static str {
 
 /// Whether a sentence may begin with this word.
 pub(crate) fn is_keyword(text: &str) -> bool {
-    KEYWORDS.contains(&text) || verb_named(text).is_some()
+    KEYWORDS.contains(&text) || verb_written(text).is_some()
 }
 
 // The names of the parts that are wanted.

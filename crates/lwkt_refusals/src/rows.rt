@@ -4,7 +4,7 @@ use crate::json_parts::Part;
 use crate::tokens::{is_record, show_no_record};
 use crate::words::Words;
 use lwkt_base::limits::CELL_LIMIT;
-use lwkt_base::steps::verb_named;
+use lwkt_base::steps::verb_written;
 use lwkt_base::{PartKind, VERBS};
 
 // The most bytes of a record in a list.
@@ -101,7 +101,7 @@ const SHAPE_LIMIT: usize = 20;
 
 // Whether only steps of version 2 have this word.
 fn is_later(word: &str) -> bool {
-    matches!(verb_named(word), Some(verb) if verb.is_later())
+    matches!(verb_written(word), Some(verb) if verb.is_later())
 }
 
 impl Kind {
@@ -117,9 +117,10 @@ impl Kind {
     // One of the words that it may begin with, and what may stand behind it, if there are so many.
     fn shape(self, i: usize) -> Option<Shape> {
         match self {
-            Kind::Step | Kind::SecondStep => VERBS
-                .get(i)
-                .map(|verb| (verb.word(), verb.kinds(), 0)),
+            Kind::Step | Kind::SecondStep => match VERBS.get(i) {
+                Some(verb) if verb.is_written() => Some((verb.word(), verb.kinds(), 0)),
+                _ => None,
+            },
             Kind::Event => EVENTS.get(i).copied(),
             Kind::End => ENDS.get(i).copied(),
         }

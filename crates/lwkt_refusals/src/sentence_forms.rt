@@ -2,11 +2,11 @@
 use crate::pages::Page;
 use crate::rows::form_of_part;
 use lwkt_base::PartKind;
-use lwkt_base::steps::verb_named;
+use lwkt_base::steps::verb_written;
 
 /// What stands behind the word of a step, or nothing if the word is that of no step.
 pub(crate) fn kinds_of(word: &str) -> &'static [PartKind] {
-    match verb_named(word) {
+    match verb_written(word) {
         Some(verb) => verb.kinds(),
         None => &[],
     }
@@ -19,7 +19,7 @@ fn behind(word: &str) -> Option<&'static str> {
         "token" => Some(" NAME [LAW [N]] [gen N] [record BYTES] [cells CELL ..]"),
         "message" => Some(" NAME of TH [round N]"),
         "thread" => Some(" NAME on N [repeat N]"),
-        _ if verb_named(word).is_some() => Some(""),
+        _ if verb_written(word).is_some() => Some(""),
         _ => None,
     }
 }

@@ -8,7 +8,7 @@ use crate::proposals::{is_keyword, near_cell, proposal, token_before};
 use crate::sentence_forms::{NO_SUBJECT, claim_form, show_sentence};
 use crate::sentences::{NAME_LIMIT, sentence_at, word_at, word_from, word_in_sentence};
 use lwkt_base::memory::from_slice;
-use lwkt_text::{Name, Names, Wanted, What, Wrong, names_of};
+use lwkt_text::{Flaw, Name, Names, Wanted, What, Wrong, names_of};
 
 // Of how many places it is said what is wrong there.
 const FAULT_LIMIT: usize = 100;
@@ -20,6 +20,22 @@ fn word_of(wanted: Wanted) -> &'static str {
         Wanted::Point => "`.` is wanted here",
         Wanted::Of => "`of` is wanted here",
         Wanted::On => "`on` is wanted here",
+        Wanted::In => "`in` is wanted here",
+        Wanted::Equals => "`=` is wanted here",
+        Wanted::Close => "`)` is wanted here",
+        Wanted::Square => "`]` is wanted here",
+    }
+}
+
+// What is wrong with a step by itself.
+fn flaw_of(flaw: Flaw) -> &'static str {
+    match flaw {
+        Flaw::Large => "an expression has at most 16 operators",
+        Flaw::Places => "the answer to this has fewer numbers than variables stand before the `=`",
+        Flaw::NoVariable => "a thread has at most 8 variables",
+        Flaw::NoCount => "`times` stands in at most 7 others",
+        Flaw::Outside => "this leads out of the thread's steps",
+        Flaw::StepParts => "what stands behind this word doesn't go with it",
     }
 }
 
@@ -55,6 +71,20 @@ fn words_of(what: What) -> &'static str {
             "a step stands behind the head of its thread: write `thread NAME on N` before it",
         What::Crowd => "there are too many ",
         What::Absent(_) => "the claim names what isn't there: ",
+        What::Variable =>
+            "a variable of the thread is wanted here: `var NAME = N` at its head gives one",
+        What::Expression => "a number, a variable of the thread or a bracket is wanted here",
+        What::Condition => "a condition is wanted here, as `x < 3`",
+        What::Sides =>
+            "what stands beside this doesn't go with it: numbers are added and compared, conditions joined",
+        What::Large => "the expression is too long",
+        What::Flawed(flaw) => flaw_of(flaw),
+        What::Late => "a variable stands before the first step of its thread",
+        What::Unopened => "nothing is open here that this could go on with or end",
+        What::Unended => "nothing ends this: write `end` behind what stands in it",
+        What::NoLoop => "`break` stands in a loop, and none is open here",
+        What::Deep => "this stands in too many others",
+        What::Silent => "this loop goes round without an ask, for ever",
     }
 }
 
@@ -64,6 +94,8 @@ fn crowd_of(word: &str) -> &'static str {
         "token" => "tokens: at most 64",
         "message" => "messages: at most 64",
         "thread" => "threads of this processor: at most 16",
+        "var" => "variables of this thread: at most 8",
+        "for" => "sentences for this: at most 65536 in all",
         _ => "steps of this thread: at most 256",
     }
 }

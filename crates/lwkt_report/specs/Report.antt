@@ -15,8 +15,8 @@ use Rattle.lwkt_report.specs.declared.closings.Closing.{Closing}
 use Rattle.lwkt_report.specs.declared.closings.TokenLine.{TokenLine}
 use Rattle.lwkt_base.specs.declared.threads.ThreadLine.{ThreadLine}
 use Rattle.lwkt_base.specs.declared.entries.Entry.{Entry}
-use Rattle.lwkt_base.specs.declared.entries.Entry.TheVariants.{Value, Bytes, Aborted, Request, Reply, NoMessage, Dropped, Refused}
 use Rattle.lwkt_base.specs.declared.limits.TheConstants.{RECORD_LIMIT}
+use Rattle.lwkt_base.specs.declared.entries.Entry.TheVariants.{Value, Bytes, Aborted, Request, Reply, NoMessage, Dropped, Refused, Failed}
 use Rattle.lwkt_report.specs.declared.closings.Verdict.{Verdict}
 use Rattle.lwkt_report.specs.declared.closings.Verdict.TheVariants.{Closed, Lawful, Unlawful}
 
@@ -88,7 +88,7 @@ mode_text Shared = codes "s"
 abbrev pub ref_text : Ref → List ℕ
 ref_text r = decimal r.tok.0 ++ mode_text r.mode
 
--- an entry of a log: `v=VALUE`, `b=HEX`, `a=0` or `a=1`, `q=MSG:OP:ARG`, `r=MSG:ERROR:RESULT`, `n`, `d=MSG:OP:ARG` or `f=NUMBER`
+-- an entry of a log: `v=VALUE`, `b=HEX`, `a=0` or `a=1`, `q=MSG:OP:ARG`, `r=MSG:ERROR:RESULT`, `n`, `d=MSG:OP:ARG`, `f=NUMBER` or `x=NUMBER`
 abbrev pub entry_text : Entry → List ℕ
 entry_text (Value value) = codes "v=" ++ decimal value
 entry_text (Bytes blob) = codes "b=" ++ record_text blob
@@ -99,6 +99,7 @@ entry_text (Reply message error outcome) = codes "r=" ++ decimal message.0 ++ co
 entry_text NoMessage = codes "n"
 entry_text (Dropped message call) = codes "d=" ++ decimal message.0 ++ codes ":" ++ decimal call.op ++ codes ":" ++ decimal call.arg
 entry_text (Refused number) = codes "f=" ++ decimal number
+entry_text (Failed number) = codes "x=" ++ decimal number
 
 -- `thread P.T STATE list L log E`
 abbrev pub thread_line : ThreadLine → List ℕ

@@ -101,6 +101,7 @@ impl Shown for Entry {
                 put(out, ("d=", message.0, ':', call.op, (':', call.arg)))
             }
             Entry::Refused(number) => put(out, ("f=", *number)),
+            Entry::Failed(number) => put(out, ("x=", *number)),
         }
     }
 }

@@ -30,7 +30,7 @@ use Rattle.lwkt_verdict.specs.TurnParts.{after_all}
 use Rattle.lwkt_verdict.specs.Run.{GoesRound, AreRounds, KeepsPace, IsScriptRun, whose}
 use Rattle.lwkt_run.specs.Checked.{EndsSo, DeclinesSo, IsMadeOf, LeavesChecked}
 use Rattle.lwkt_run.specs.Courses.{ClosesBy, IsRunBy}
-use Rattle.lwkt_run.specs.Driving.{Pair, pair, DeclinesTurn, FollowsStep, Walk, walk, DriverState, IsOf, IsAt, IsDriven, IsWithin, IsShort, HasTurns, IsCourseOf, pace_of}
+use Rattle.lwkt_run.specs.Driving.{Pair, pair, DeclinesTurn, FollowsStep, Walk, walk, DriverState, IsOf, IsAt, IsDriven, IsWithin, HasTurns, IsCourseOf, pace_of}
 use Rattle.lwkt_run.specs.Judging.{ids_of, CountsBefore, FitBefore, IsVerdict}
 use Rattle.lwkt_run.specs.Keeping.{Kept, Story, turn_of, none_kept, no_story, story_as}
 use Rattle.lwkt_run.specs.Leaving.{Leaves}
@@ -319,29 +319,20 @@ no_course script (Rounds limit) follows left stops y all not_so run = elim (case
 ]
 no_course script (Along order) follows left stops y all not_so run = false≢true (sym not_so ∙ all (refl, tt))
 
--- turns of a course are fewer than are counted
-short_order : (course : Course) (cpus : ℕ) (made : List ℕ) → cpus ≤ 8 → IsShort course → IsFrontOf course cpus made → length made ≤ 18446744073709551615
-short_order (Rounds limit) cpus made few short front = omega (arith, front.1, mul-le-mul_right cpus short, few)
-short_order (Along order) cpus made few short front = omega (arith, ap (λ (o : List ℕ). length o) front.1, length-append made front.0, short)
-
 -- why the check said no
-says_no : (script : Script) (course : Course) (fits follows : Bool) (s t : DriverState) (left : Left) (stops : List Event) (y : Scene) → IsShort course → Closes script s t left stops → DroveTo course script.cpus fits s (first_of s) t y → (IsTrue fits × HasTurns course → IsTrue follows) → (follows ≡ false) ⊎ DeclinesSo t.follow left stops → SaysNo script course left stops t y
-says_no script course false follows s t left stops y short c d all why =
+says_no : (script : Script) (course : Course) (fits follows : Bool) (s t : DriverState) (left : Left) (stops : List Event) (y : Scene) → Closes script s t left stops → DroveTo course script.cpus fits s (first_of s) t y → (IsTrue fits × HasTurns course → IsTrue follows) → (follows ≡ false) ⊎ DeclinesSo t.follow left stops → SaysNo script course left stops t y
+says_no script course false follows s t left stops y c d all why =
     let opening = opening_of_script script in
     let w = d.why script.threads opening (stands_none script.threads opening s.machine s.follow c.begins) in
     let turn = w.1.1.1.1.turn in
     let same = before_is w.1.1.0.at.kept.turns w.0.before (turn_of turn.asks turn.events (length w.1.1.0.at.kept.polls)) w.0.last (sym turn.keeps.turns ∙ w.0.turns_are) in
-    let p = w.1.1.0 in
-    let cpus : script.cpus ≤ 8 = c.within.processors in
-    let order : length y.kept.order ≤ 18446744073709551615 = short_order course script.cpus y.kept.order cpus short d.front in
-    let few : length y.kept.turns ≤ 18446744073709551615 = omega (arith, order, ap (λ (o : List ℕ). length o) turn.keeps.order, length_push p.at.kept.order w.1.0, ap (λ (ts : List Turn). length ts) turn.keeps.turns, length_push p.at.kept.turns (turn_of turn.asks turn.events (length p.at.kept.polls)), w.1.1.1.0.long) in
     let F : List Turn → Type 0 = λ ts. FitBefore opening y.kept.order script.threads (y.trace ++ stops) y.kept.polls ts in
     inl (record {
       stood = w.0;
       fits = subst F same (begun_before script.threads opening w.1.0 w.1.1.0 y w.1.1.1.1 w.1.1.1.0 stops);
-      misfits = λ lines runs. none_begins script.threads opening w.1.0 w.1.1.0 y w.1.1.1.1 w.1.1.1.0 stops few lines runs;
+      misfits = λ lines runs. none_begins script.threads opening w.1.0 w.1.1.0 y w.1.1.1.1 w.1.1.1.0 stops lines runs;
     })
-says_no script course true follows s t left stops y short c d all why =
+says_no script course true follows s t left stops y c d all why =
     let opening = opening_of_script script in
     let w = d.why script.threads opening (stands_none script.threads opening s.machine s.follow c.begins) in
     inr (record {
@@ -358,14 +349,14 @@ abbrev pub Says : Verdict → Bool → ℕ → (List Event → Type 0) → (List
 Says verdict follows events E D stops = ((verdict ≡ Lawful) × (IsTrue follows × E stops)) ⊎ ((verdict ≡ Unlawful events) × ((follows ≡ false) ⊎ D stops))
 
 -- either way
-pub leaves_checked : (script : Script) (course : Course) (fits follows : Bool) (s t : DriverState) (left : Left) (stops : List Event) (verdict : Verdict) → IsShort course → IsCourseOf script course → Closes script s t left stops → IsDriven course fits s t → (IsTrue follows ↔ (IsTrue fits × HasTurns course)) → Says verdict follows t.events (EndsSo t.follow left) (DeclinesSo t.follow left) stops → LeavesChecked course script t.kept left stops verdict
-leaves_checked script course fits follows s t left stops verdict short of c driven all (inl lawful) =
+pub leaves_checked : (script : Script) (course : Course) (fits follows : Bool) (s t : DriverState) (left : Left) (stops : List Event) (verdict : Verdict) → IsCourseOf script course → Closes script s t left stops → IsDriven course fits s t → (IsTrue follows ↔ (IsTrue fits × HasTurns course)) → Says verdict follows t.events (EndsSo t.follow left) (DeclinesSo t.follow left) stops → LeavesChecked course script t.kept left stops verdict
+leaves_checked script course fits follows s t left stops verdict of c driven all (inl lawful) =
     let is = all.0 lawful.1.0 in
     let so : IsDriven course true s t = subst (λ b. IsDriven course b s t) is.0 driven in
     subst (λ v. LeavesChecked course script t.kept left stops v) (sym lawful.0) (leaves_lawful script course s t left stops of c so is.1 lawful.1.1)
-leaves_checked script course fits follows s t left stops verdict short of c driven all (inr said) =
+leaves_checked script course fits follows s t left stops verdict of c driven all (inr said) =
     let d = drove course script.cpus fits s t (first_of s) c.opens.as_many refl (at_first s c.fresh c.uncounted) driven in
-    subst (λ v. LeavesChecked course script t.kept left stops v) (sym said.0) (leaves_unlawful script course fits s t left stops d.0 of c d.1 (says_no script course fits follows s t left stops d.0 short c d.1 all.1 said.1))
+    subst (λ v. LeavesChecked course script t.kept left stops v) (sym said.0) (leaves_unlawful script course fits s t left stops d.0 of c d.1 (says_no script course fits follows s t left stops d.0 c d.1 all.1 said.1))
 
 -- the report of what is left
 pub closes_so : (course : Course) (script : Script) (kept : Option Story) (left : Left) (stops : List Event) (verdict : Verdict) (closing : Closing) (l : LeavesChecked course script kept left stops verdict) → ShowsLeft script.tokens left.threads.items left.last verdict closing → IsJudgedBy (pace_of course) script closing l.story.kept.order (l.story.trace ++ stops) l.story.kept.polls l.story.kept.turns

@@ -108,8 +108,8 @@ stands_on plans opening cpu turned p q step s =
     }
 
 -- a turn more that the check doesn't go on by: no run of the script begins with these turns
-pub none_begins : (plans : List ThreadSpec) (opening : Machine) (cpu : ℕ) (p : Pair) (y : Scene) → DeclinesTurn cpu p y → IsFollowedSoFar plans opening p → (stops : List Event) → length y.kept.turns ≤ 18446744073709551615 → (lines : List ThreadLine) → BeginRun plans lines y.kept.polls y.kept.order opening [] y.kept.turns (y.trace ++ stops) → ⊥
-none_begins plans opening cpu p y d s stops few lines runs =
+pub none_begins : (plans : List ThreadSpec) (opening : Machine) (cpu : ℕ) (p : Pair) (y : Scene) → DeclinesTurn cpu p y → IsFollowedSoFar plans opening p → (stops : List Event) → (lines : List ThreadLine) → BeginRun plans lines y.kept.polls y.kept.order opening [] y.kept.turns (y.trace ++ stops) → ⊥
+none_begins plans opening cpu p y d s stops lines runs =
     let t = d.turn in
     let part : List Event = t.part.items in
     let old = p.at.kept in
@@ -117,8 +117,7 @@ none_begins plans opening cpu p y d s stops few lines runs =
     let kept : y.kept ≡ more = kept_is cpu t.events t.asks part old y.kept t.counted t.keeps in
     let B : Kept → List Event → Type 0 = λ k es. BeginRun plans lines k.polls k.order opening [] k.turns (es ++ stops) in
     let begun : B more (p.at.trace ++ part) = subst (λ es. B more es) t.grown (subst (λ k. B k y.trace) kept runs) in
-    let long : length y.kept.turns ≡ length old.turns + 1 = ap (λ (k : Kept). length k.turns) kept ∙ length_push old.turns (turn_of t.asks (length part) (length old.polls)) in
-    declined_on plans opening old p.at.trace p.follow cpu t.asks part s.threads s.long (omega (arith, long, few)) s.waits (still_wait t.asks old.polls s.waits) d.declines s.knows lines stops begun
+    declined_on plans opening old p.at.trace p.follow cpu t.asks part s.threads s.long s.waits (still_wait t.asks old.polls s.waits) d.declines s.knows lines stops begun
 
 -- the turns so far begin one
 pub begun_before : (plans : List ThreadSpec) (opening : Machine) (cpu : ℕ) (p : Pair) (y : Scene) → DeclinesTurn cpu p y → IsFollowedSoFar plans opening p → (stops : List Event) → FitBefore opening y.kept.order plans (y.trace ++ stops) y.kept.polls p.at.kept.turns

@@ -215,17 +215,17 @@ knows_on plans opening kept trace f g cpu (Some p) part threads long goes knows 
     (knows ends (answered_at (slot_of p.thread) (Some p.heard) answers) lines polls order q.0 (less_front ℕ kept.order order cpu named) (t ∷ later) (part ++ events) (one_more ends plans opening lines polls order kept.turns later t trace part events runs))
 
 -- a turn more that the check doesn't go on by: no run begins so
-declined : (plans : List ThreadSpec) (turns : List Turn) (f : Follow) (cpu : ℕ) (part : List Event) (poll : (ℕ → Option Answer) → Option Poll) (former : (ℕ → Option Answer) → ℕ → Option Answer) (lines : List ThreadLine) (polls : List Poll) (order : List ℕ) (t : Turn) (events : List Event) → f.plans ≡ plans → Declines cpu part poll former f → whose order (length turns) ≡ cpu → t.events ≡ length part → poll_of polls t ≡ poll none_answered → length turns < 18446744073709551615
+declined : (plans : List ThreadSpec) (turns : List Turn) (f : Follow) (cpu : ℕ) (part : List Event) (poll : (ℕ → Option Answer) → Option Poll) (former : (ℕ → Option Answer) → ℕ → Option Answer) (lines : List ThreadLine) (polls : List Poll) (order : List ℕ) (t : Turn) (events : List Event) → f.plans ≡ plans → Declines cpu part poll former f → whose order (length turns) ≡ cpu → t.events ≡ length part → poll_of polls t ≡ poll none_answered
     → Know false plans turns f (former none_answered) lines polls order (t ∷ []) (part ++ events) → ⊥
-declined plans turns f cpu part poll former lines polls order t events threads declines named count is few know =
+declined plans turns f cpu part poll former lines polls order t events threads declines named count is know =
     let both = runs_off false plans lines polls order f.machine know.before t [] (poll none_answered) part events count is know.on in
     let here : whose order (length know.before) ≡ cpu = ap (whose order) know.long ∙ named in
     let fits : TurnFits f.plans lines cpu f.machine know.before (poll none_answered) part = subst (λ ps. TurnFits ps lines cpu f.machine know.before (poll none_answered) part) (sym threads) (subst (λ c. TurnFits plans lines c f.machine know.before (poll none_answered) part) here both.0) in
-    declines lines know.before (omega (arith, know.long, few)) know.allow know.shown fits
+    declines lines know.before know.allow know.shown fits
 
-pub declined_on : (plans : List ThreadSpec) (opening : Machine) (kept : Kept) (trace : List Event) (f : Follow) (cpu : ℕ) (asks : Option Polled) (part : List Event) → f.plans ≡ plans → length kept.order ≡ length kept.turns → length kept.turns < 18446744073709551615 → filled none_answered kept.polls ≡ kept.polls → filled none_answered (polls_after asks kept.polls) ≡ polls_after asks kept.polls → DeclinesBy cpu asks part f → Knows plans opening kept trace f → (lines : List ThreadLine) (events : List Event)
+pub declined_on : (plans : List ThreadSpec) (opening : Machine) (kept : Kept) (trace : List Event) (f : Follow) (cpu : ℕ) (asks : Option Polled) (part : List Event) → f.plans ≡ plans → length kept.order ≡ length kept.turns → filled none_answered kept.polls ≡ kept.polls → filled none_answered (polls_after asks kept.polls) ≡ polls_after asks kept.polls → DeclinesBy cpu asks part f → Knows plans opening kept trace f → (lines : List ThreadLine) (events : List Event)
     → BeginRun plans lines (polls_after asks kept.polls) (kept.order ++ cpu ∷ []) opening [] (kept.turns ++ turn_of asks (length part) (length kept.polls) ∷ []) ((trace ++ part) ++ events) → ⊥
-declined_on plans opening kept trace f cpu None part threads long few waits more declines knows lines events runs =
+declined_on plans opening kept trace f cpu None part threads long waits more declines knows lines events runs =
     let t : Turn = turn_of None (length part) (length kept.polls) in
     let order : List ℕ = kept.order ++ cpu ∷ [] in
     let named : IsFront order order = ([], sym (append-nil order)) in
@@ -233,9 +233,9 @@ declined_on plans opening kept trace f cpu None part threads long few waits more
     let here : whose order (length kept.turns) ≡ cpu = ap (whose order) (sym long) ∙ whose_named kept.order order cpu named in
     let B : List Turn → Type 0 = λ ts. BeginRun plans lines kept.polls order opening [] ts ((trace ++ part) ++ events) in
     let through = through_begun plans lines kept.polls order opening [] ((kept.turns ++ t ∷ []) ++ []) ((trace ++ part) ++ events) (subst B (sym (append-nil (kept.turns ++ t ∷ []))) runs) in
-    declined plans kept.turns f cpu part (λ answers. None) (λ answers. answers) lines kept.polls order t events threads declines here refl refl few
+    declined plans kept.turns f cpu part (λ answers. None) (λ answers. answers) lines kept.polls order t events threads declines here refl refl
     (knows false none_answered lines kept.polls order fronts (less_front ℕ kept.order order cpu named) (t ∷ []) (part ++ events) (one_more false plans opening lines kept.polls order kept.turns [] t trace part events through))
-declined_on plans opening kept trace f cpu (Some p) part threads long few waits more declines knows lines events runs =
+declined_on plans opening kept trace f cpu (Some p) part threads long waits more declines knows lines events runs =
     let t : Turn = turn_of (Some p) (length part) (length kept.polls) in
     let order : List ℕ = kept.order ++ cpu ∷ [] in
     let polls : List Poll = polls_after (Some p) kept.polls in
@@ -245,5 +245,5 @@ declined_on plans opening kept trace f cpu (Some p) part threads long few waits 
     let here : whose order (length kept.turns) ≡ cpu = ap (whose order) (sym long) ∙ whose_named kept.order order cpu named in
     let B : List Turn → Type 0 = λ ts. BeginRun plans lines polls order opening [] ts ((trace ++ part) ++ events) in
     let through = through_begun plans lines polls order opening [] ((kept.turns ++ t ∷ []) ++ []) ((trace ++ part) ++ events) (subst B (sym (append-nil (kept.turns ++ t ∷ []))) runs) in
-    declined plans kept.turns f cpu part (poll_so p.thread p.asked) (answered_at (slot_of p.thread) (Some p.heard)) lines polls order t events threads declines here refl q.1 few
+    declined plans kept.turns f cpu part (poll_so p.thread p.asked) (answered_at (slot_of p.thread) (Some p.heard)) lines polls order t events threads declines here refl q.1
     (knows false (answered_at (slot_of p.thread) (Some p.heard) none_answered) lines polls order q.0 (less_front ℕ kept.order order cpu named) (t ∷ []) (part ++ events) (one_more false plans opening lines polls order kept.turns [] t trace part events through))

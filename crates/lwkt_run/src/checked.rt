@@ -1,6 +1,5 @@
 //! A run of a script that a check follows to its end, or up to the turn that it says no to.
 ghost use Rattle.std.specs.Prelude.{◌≡◌, ◌⊎◌, ◌↔◌, IsTrue, false, IfOk, IfErr, IfSome, OnOk};
-ghost use Rattle.lwkt_base.specs.declared.asks.Ask.TheVariants.{Exit};
 ghost use Rattle.lwkt_core.specs.Opening.{AreWithin, AllOpenLawfully};
 ghost use Rattle.lwkt_machine.specs.Scripts.{AreFew};
 ghost use Rattle.lwkt_verdict.specs.Follow.{Begins};
@@ -12,7 +11,7 @@ ghost use Rattle.lwkt_run.specs.Run.{opening_of_script, DeclinesRun};
 use crate::endings::{Left, Remains, left_by};
 use crate::keepers::Keeper;
 use crate::rounds::{Course, drive};
-use lwkt_base::{Ask, Fault, OutOfMemory};
+use lwkt_base::{Fault, OutOfMemory};
 use lwkt_core::{Event, State};
 use lwkt_machine::Machine;
 use lwkt_report::Verdict;
@@ -49,17 +48,11 @@ fn opened(alloc: Global, script: &Script) -> Result<State, Fault>
     )
 }
 
-// A check of a run of a script from this opening on; `end` is the ask that ends a thread.
-fn follower_of<'p>(
-    alloc: Global,
-    script: &'p Script,
-    opening: State,
-    end: &'p Ask,
-) -> Result<Follower<'p>, OutOfMemory>
-    requires end { end.now ≡ Exit }
+// A check of a run of a script from this opening on.
+fn follower_of(alloc: Global, script: &Script, opening: State) -> Result<Follower<'_>, OutOfMemory>
     ensures begins { IfOk result (λ f. Begins script.now.threads opening f) }
 {
-    Follower::new(alloc, script.threads.as_slice(), opening, end)
+    Follower::new(alloc, script.threads.as_slice(), opening)
 }
 
 // Whether the check followed all turns of a course, and these are some, if they are rounds.
@@ -116,8 +109,7 @@ pub fn checked_run<K: Keeper + Drop>(
     let mut machine = Machine::open_script(alloc, script)?;
     let close_room = machine.room(alloc)?;
     let opening = opened(alloc, script)?;
-    let end = Ask::Exit;
-    let mut follower = follower_of(alloc, script, opening, &end)?;
+    let mut follower = follower_of(alloc, script, opening)?;
     let mut room = Vec::new(alloc);
     let mut events = 0;
     let fits = drive(

@@ -12,6 +12,10 @@ has_members count d = unwrap_or (option_map (λ ms. members_len ms == count) (as
 abbrev pub item_count : Data → Option ℕ
 item_count d = option_map items_len (as_array d)
 
+-- whether a value is a list of so many items
+abbrev pub has_items : ℕ → Data → Bool
+has_items count d = unwrap_or (option_map (λ n. n == count) (item_count d)) false
+
 -- a whole number of 64 bits, written without a fraction or an exponent
 abbrev pub whole : Data → Option ℕ
 whole d = option_and_then as_u64 (as_number d)

@@ -1,23 +1,27 @@
--- A script, of version 1 or 2 (own): what it says, and the place of its first bad part.
+-- A script, of version 1, 2 or 3 (own): what it says, and the place of its first bad part.
 use Rattle.std.specs.Prelude.{ℕ, ◌+◌, ◌-◌, ◌*◌, ◌==◌, ◌&&◌, nat_lt, nat_le, List, [], length, count_by, codes, Bool, is_some, if◌then◌else◌, None, Result, Ok}
 use Rattle.std.specs.Str.{is_utf8}
-use Rattle.serde_json.specs.Data.{Data}
+use Rattle.serde_json.specs.Data.{Data, Items}
 use Rattle.serde_json.specs.Events.{items_len}
 use Rattle.serde_json.specs.Find.{get}
 use Rattle.serde_json.specs.Read.{read}
 use Rattle.lwkt_base.specs.declared.asks.Ask.{Ask}
 use Rattle.lwkt_base.specs.declared.opening_specs.MsgSpec.{MsgSpec}
 use Rattle.lwkt_base.specs.declared.opening_specs.TokSpec.{TokSpec}
-use Rattle.lwkt_base.specs.declared.limits.TheConstants.{LAST_GENERATION, LAST_ROUND, MESSAGE_LIMIT, MOST_CPUS, MOST_IDLE, MOST_REPEATS, MOST_TURNS, SCRIPT_BYTES, STEP_LIMIT, THREAD_LIMIT, TOKEN_LIMIT}
+use Rattle.lwkt_base.specs.declared.limits.TheConstants.{LAST_GENERATION, LAST_ROUND, MESSAGE_LIMIT, MOST_CPUS, MOST_IDLE, MOST_TURNS, SCRIPT_BYTES, STEP_LIMIT, THREAD_LIMIT, TOKEN_LIMIT}
+use Rattle.lwkt_code.specs.Programs.{Program, listed_program}
 use Rattle.lwkt_script.specs.declared.scripts.Script.{Script}
 use Rattle.lwkt_script.specs.declared.scripts.ThreadSpec.{ThreadSpec}
 use Rattle.lwkt_script.specs.declared.versions.Version.{Version}
-use Rattle.lwkt_script.specs.Version.{version_of, has_law, token_members}
+use Rattle.lwkt_script.specs.declared.versions.Version.TheVariants.{First, Second, Third}
+use Rattle.lwkt_script.specs.Version.{version_of, has_law, token_members, thread_members}
 use Rattle.lwkt_script.specs.Record.{record_in, may_guard}
 use Rattle.lwkt_script.specs.Field.{has_members, whole, number_in, list_in}
 use Rattle.lwkt_script.specs.Member.{law_in, allows, origin_in}
 use Rattle.lwkt_script.specs.Outcome.{◌>>=◌, ◌>>◌, part, demand, each}
+use Rattle.lwkt_script.specs.Sentences.{program}
 use Rattle.lwkt_script.specs.Step.{ask_in}
+use Rattle.lwkt_script.specs.Variables.{vars_in, service_in}
 
 -- a cell, any whole number of 64 bits
 abbrev pub cell : ℕ → List ℕ → Data → Result ℕ ℕ
@@ -69,17 +73,29 @@ threads_on cpu threads = count_by (λ t. t.cpu.0 == cpu) threads
 abbrev pub has_room : List ThreadSpec → ℕ → ℕ → Bool
 has_room before cpu steps = nat_le steps STEP_LIMIT && nat_lt (threads_on cpu before) THREAD_LIMIT
 
+-- the program of a list of asks of thread n
+abbrev pub listed_code : Version → ℕ → ℕ → Items → Result Program ℕ
+listed_code version n repeat items = each (step version n) [] items >>= λ asks. Ok (listed_program asks repeat)
+
+-- the program of thread n: before version 3 a list of asks
+abbrev pub code : Version → ℕ → ℕ → List ℕ → Items → Result Program ℕ
+code First n repeat vars items = listed_code First n repeat items
+code Second n repeat vars items = listed_code Second n repeat items
+code Third n repeat vars items = program n repeat vars items
+
 -- the thread after those: its members first, then its steps
 unfoldable pub thread : Version → ℕ → List ThreadSpec → Data → Result ThreadSpec ℕ
 thread version cpus before d = do
   let place = 3000 + length before
-  demand place (has_members 3 d)
+  demand place (has_members (thread_members version) d)
   cpu ← part place (number_in (codes "cpu") 0 (cpus - 1) d)
-  repeat ← part place (number_in (codes "repeat") 1 MOST_REPEATS d)
+  repeat ← part place (number_in (codes "repeat") 1 1000000 d)
+  service ← part place (service_in version d)
+  vars ← part place (vars_in version d)
   items ← part place (list_in (codes "steps") d)
   demand place (has_room before cpu (items_len items))
-  steps ← each (step version (length before)) [] items
-  Ok (record { cpu = record { 0 = cpu }; repeat = repeat; steps = steps })
+  made ← code version (length before) repeat vars items
+  Ok (record { cpu = record { 0 = cpu }; service = service; code = made })
 
 -- an object with exactly the seven members
 abbrev pub is_whole : Data → Bool
@@ -92,7 +108,7 @@ script d = do
   token_items ← part 1 (list_in (codes "tokens") d)
   message_items ← part 1 (list_in (codes "messages") d)
   thread_items ← part 1 (list_in (codes "threads") d)
-  number ← part 2 (number_in (codes "version") 1 2 d)
+  number ← part 2 (number_in (codes "version") 1 3 d)
   let version = version_of number
   turns ← part 3 (number_in (codes "turns") 1 MOST_TURNS d)
   idle ← part 4 (number_in (codes "idle") 1 MOST_IDLE d)

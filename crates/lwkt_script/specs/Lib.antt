@@ -4,6 +4,11 @@ pub mod Version
 pub mod Record
 pub mod Member
 pub mod Step
+pub mod Formulas
+pub mod Wish
+pub mod Frames
+pub mod Sentences
+pub mod Variables
 pub mod Format
 pub mod Limits
 pub mod Logs

@@ -4,7 +4,7 @@ use Rattle.lwkt_base.specs.declared.names.ThreadId.{ThreadId}
 use Rattle.lwkt_base.specs.declared.opening_specs.MsgSpec.{MsgSpec}
 use Rattle.lwkt_base.specs.declared.laws.Law.TheVariants.{Tally, Len}
 use Rattle.lwkt_base.specs.declared.opening_specs.TokSpec.{TokSpec}
-use Rattle.lwkt_base.specs.declared.limits.TheConstants.{CELL_LIMIT, LAST_GENERATION, RECORD_LIMIT, LAST_ROUND, MOST_REPEATS, STEP_LIMIT, MOST_TURNS, MOST_IDLE, CPU_LIMIT, TOKEN_LIMIT, MESSAGE_LIMIT, THREAD_LIMIT}
+use Rattle.lwkt_base.specs.declared.limits.TheConstants.{CELL_LIMIT, LAST_GENERATION, RECORD_LIMIT, LAST_ROUND, MOST_TURNS, MOST_IDLE, CPU_LIMIT, TOKEN_LIMIT, MESSAGE_LIMIT, THREAD_LIMIT}
 use Rattle.lwkt_script.specs.declared.scripts.Script.{Script}
 use Rattle.lwkt_script.specs.declared.scripts.ThreadSpec.{ThreadSpec}
 use Rattle.lwkt_script.specs.Format.{threads_on}
@@ -32,9 +32,9 @@ pub record IsMessage (cpus : ℕ) (m : MsgSpec) : Type 0 where
 -- a thread that a script of so many processors may have
 pub record IsThread (cpus : ℕ) (t : ThreadSpec) : Type 0 where
   pub cpu : t.cpu.0 < cpus
-  pub some_repeats : 1 ≤ t.repeat
-  pub few_repeats : t.repeat ≤ MOST_REPEATS
-  pub few_steps : length t.steps ≤ STEP_LIMIT
+  pub some_repeats : 1 ≤ t.code.repeat
+  pub few_repeats : t.code.repeat ≤ 1000000
+  pub few_steps : length t.code.steps ≤ 768
 
 -- a script within its limits
 pub record IsWithinLimits (s : Script) : Type 0 where

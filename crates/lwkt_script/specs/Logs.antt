@@ -1,13 +1,13 @@
 -- What a thread of a script asks, and what the answers put in its log (own).
 use Rattle.std.specs.Prelude.{ℕ, ◌/◌, ◌%◌, ◌==◌, ◌&&◌, nat_lt, if◌then◌else◌, List, length, slice_get, Option, Some, None}
 use Rattle.lwkt_base.specs.declared.asks.Ask.{Ask}
-use Rattle.lwkt_base.specs.declared.asks.Ask.TheVariants.{IsAborted, Exit}
+use Rattle.lwkt_base.specs.declared.asks.Ask.TheVariants.{IsAborted, Exit, Fail}
 use Rattle.lwkt_base.specs.declared.asks.Item.{Item}
 use Rattle.lwkt_base.specs.declared.asks.Item.TheVariants.{Request, Answered}
 use Rattle.lwkt_base.specs.declared.asks.Answer.{Answer}
 use Rattle.lwkt_base.specs.declared.asks.Answer.TheVariants.{Begin, Done, Value, Bytes, Dropped, Got, NoMsg, Refused}
 use Rattle.lwkt_base.specs.declared.entries.Entry.{Entry}
-use Rattle.lwkt_base.specs.declared.entries.Entry.TheVariants.{Value as ValueEntry, Bytes as BytesEntry, Aborted, Request as RequestEntry, Reply as ReplyEntry, NoMessage, Dropped as DroppedEntry, Refused as RefusedEntry}
+use Rattle.lwkt_base.specs.declared.entries.Entry.TheVariants.{Value as ValueEntry, Bytes as BytesEntry, Aborted, Request as RequestEntry, Reply as ReplyEntry, NoMessage, Dropped as DroppedEntry, Refused as RefusedEntry, Failed}
 use Rattle.lwkt_base.specs.Fault.{number_of}
 
 -- ask k of a thread: its steps, so many times over, and then Exit
@@ -37,3 +37,8 @@ entry_of ask (Dropped msg rec) = Some (DroppedEntry msg (record { arg = rec.arg;
 entry_of ask (Got item) = Some (item_entry item)
 entry_of ask NoMsg = Some NoMessage
 entry_of ask (Refused fault) = Some (RefusedEntry (number_of fault))
+
+-- what an ask puts in the log by itself: that to end by an assertion that doesn't hold, its number
+abbrev pub failure_of : Ask → Option Entry
+failure_of (Fail number) = Some (Failed number)
+failure_of _ = None

@@ -7,7 +7,7 @@ use Rattle.lwkt_base.specs.declared.laws.Law.{Law}
 use Rattle.lwkt_base.specs.declared.laws.Law.TheVariants.{Any, Sum, Order, Cap, Tally, Len}
 use Rattle.lwkt_base.specs.declared.limits.TheConstants.{RECORD_LIMIT}
 use Rattle.lwkt_script.specs.declared.versions.Version.{Version}
-use Rattle.lwkt_script.specs.declared.versions.Version.TheVariants.{First, Second}
+use Rattle.lwkt_script.specs.declared.versions.Version.TheVariants.{First, Second, Third}
 
 -- the value of a hexadecimal digit, of which letters are small
 abbrev pub digit_of : ℕ → Option ℕ
@@ -39,6 +39,7 @@ guard_in d = if is_some (as_null d) then Some None else option_map Some (blob_in
 abbrev pub record_in : Version → Data → Option (Option (List ℕ))
 record_in First d = Some None
 record_in Second d = option_and_then guard_in (get (codes "record") d)
+record_in Third d = option_and_then guard_in (get (codes "record") d)
 
 -- whether a token under this law may have a record, or none: under Len it has one, under Tally none
 abbrev pub may_guard : Law → Option (List ℕ) → Bool

@@ -10,9 +10,9 @@ use Rattle.lwkt_base.specs.declared.steps.PartKind.{PartKind}
 use Rattle.lwkt_base.specs.declared.steps.PartKind.TheVariants as kinds
 use Rattle.lwkt_base.specs.declared.steps.Verb.{Verb}
 use Rattle.lwkt_base.specs.declared.limits.TheConstants.{MOST_CODE}
-use Rattle.lwkt_base.specs.Step.{verb_named, part_kinds, is_later, ask_of}
+use Rattle.lwkt_base.specs.Step.{verb_written, part_kinds, is_later as is_later_verb, ask_of}
 use Rattle.lwkt_script.specs.declared.versions.Version.{Version}
-use Rattle.lwkt_script.specs.Version.{is_second}
+use Rattle.lwkt_script.specs.Version.{is_later}
 use Rattle.lwkt_script.specs.Record.{blob_in}
 use Rattle.lwkt_script.specs.Field.{item_count, number, whole}
 
@@ -42,7 +42,7 @@ flags_under priority n =
 
 -- the same, and in the second version plus 4 for priority
 abbrev pub flags_by_number : Version → ℕ → Option FlagsOf
-flags_by_number version n = if nat_lt n 4 then flags_under false n else (if is_second version then flags_under true (n - 4) else None)
+flags_by_number version n = if nat_lt n 4 then flags_under false n else (if is_later version then flags_under true (n - 4) else None)
 
 -- how many items a part of a kind takes
 abbrev pub width_of : PartKind → ℕ
@@ -71,7 +71,7 @@ step_parts version (kind ∷ kinds) i count d = step_part version kind i d >>= �
 
 -- the kind of step that has this word in a version
 abbrev pub verb_in : Version → List ℕ → Option Verb
-verb_in version word = verb_named word >>= λ verb. if is_later verb && not (is_second version) then None else Some verb
+verb_in version word = verb_written word >>= λ verb. if is_later_verb verb && not (is_later version) then None else Some verb
 
 -- the ask of a step of this kind that has so many items
 abbrev pub ask_with : Version → Verb → ℕ → Data → Option Ask

@@ -2,7 +2,7 @@
 ghost use Rattle.std.specs.Prelude.{◌≡◌, ◌≤◌, is_some, Err, IfOk, IfSome, OnErr};
 ghost use Rattle.serde_json.specs.Find.{get};
 ghost use Rattle.serde_json.specs.View.{view, items_view};
-ghost use Rattle.lwkt_script.specs.Field.{has_members, item_count, number, number_in, list_in};
+ghost use Rattle.lwkt_script.specs.Field.{has_members, item_count, has_items, number, number_in, list_in};
 ghost use Rattle.lwkt_script.specs.Outcome.{Gives, part};
 
 use lwkt_base::Fault;
@@ -27,6 +27,16 @@ pub fn item_count(value: &Value) -> Option<usize>
     match value.as_array() {
         Some(items) => Some(items.len()),
         None => None,
+    }
+}
+
+/// Whether the value is a list of so many items.
+pub fn has_items(value: &Value, count: usize) -> bool
+    ensures { result ≡ has_items count (view value.now) }
+{
+    match item_count(value) {
+        None => false,
+        Some(n) => n == count,
     }
 }
 

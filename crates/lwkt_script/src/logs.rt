@@ -1,6 +1,6 @@
 //! What the answers to a thread's asks put in its log.
 ghost use Rattle.std.specs.Prelude.{◌≡◌};
-ghost use Rattle.lwkt_script.specs.Logs.{value_entry, item_entry, entry_of};
+ghost use Rattle.lwkt_script.specs.Logs.{value_entry, item_entry, entry_of, failure_of};
 
 use lwkt_base::{Answer, Ask, Call, Entry, Item};
 
@@ -42,5 +42,15 @@ pub fn entry_of(ask: Ask, answer: Answer) -> Option<Entry>
         Answer::Got(item) => Some(item_entry(item)),
         Answer::NoMsg => Some(Entry::NoMessage),
         Answer::Refused(fault) => Some(Entry::Refused(fault.number())),
+    }
+}
+
+/// What an ask puts in the log by itself: that to end by an assertion that doesn't hold, its number.
+pub fn failure_of(ask: &Ask) -> Option<Entry>
+    ensures { result ≡ failure_of ask.now }
+{
+    match ask {
+        Ask::Fail(number) => Some(Entry::Failed(*number)),
+        _ => None,
     }
 }

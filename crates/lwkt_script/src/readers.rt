@@ -8,13 +8,13 @@ ghost use Rattle.lwkt_base.specs.Fault.{no_memory};
 use crate::fields::{has, has_members, list_at, number_at};
 use crate::messages::messages_of;
 use crate::scripts::Script;
-use crate::series::Series;
 use crate::threads::threads_of;
 use crate::tokens::tokens_of;
 use crate::versions::version_of;
 use lwkt_base::Fault;
 use lwkt_base::limits::{MOST_CPUS, MOST_IDLE, MOST_TURNS, SCRIPT_BYTES};
 use lwkt_base::memory::read_json;
+use lwkt_code::Series;
 use serde_json::Value;
 use std::alloc::Global;
 
@@ -40,7 +40,7 @@ fn script(alloc: Global, value: &Value) -> Result<Script, Fault>
     let token_items = list_at(1, value, "tokens")?;
     let message_items = list_at(1, value, "messages")?;
     let thread_items = list_at(1, value, "threads")?;
-    let version = version_of(number_at(2, value, "version", 1, 2)?);
+    let version = version_of(number_at(2, value, "version", 1, 3)?);
     let turns = number_at(3, value, "turns", 1, MOST_TURNS)? as u32;
     let idle = number_at(4, value, "idle", 1, MOST_IDLE)? as u32;
     let cpus = number_at(5, value, "cpus", 1, MOST_CPUS)? as u8;
@@ -57,7 +57,7 @@ fn script(alloc: Global, value: &Value) -> Result<Script, Fault>
     })
 }
 
-/// Reads a script of version 1 or 2: one JSON text of at most 1048576 bytes.
+/// Reads a script of version 1, 2 or 3: one JSON text of at most 1048576 bytes.
 ///
 /// Refused with `Script` and the place of the first bad part, and with `Memory` only where an allocation was refused;
 /// there is no other fault. The places, in the order in which the parts are looked at, numbers counting from 0:
@@ -65,11 +65,15 @@ fn script(alloc: Global, value: &Value) -> Result<Script, Fault>
 /// - 0: the text is too long, or no JSON text (nested at most 127 deep).
 /// - 1: it is no object with exactly `version`, `turns`, `idle`, `cpus`, `tokens`, `messages` and `threads`, or one of
 ///   the last three is no list.
-/// - 2, 3, 4, 5: `version` isn't 1 or 2, `turns` isn't 1 to 1000000, `idle` isn't 1 to 100000000, `cpus` isn't 1 to 8.
+/// - 2, 3, 4, 5: `version` isn't 1 to 3, `turns` isn't 1 to 1000000, `idle` isn't 1 to 100000000, `cpus` isn't 1 to 8.
 /// - 1000 + n: token n, which is 64 where there are more than 64.
 /// - 2000 + n: message n, which is 64 where there are more than 64.
 /// - 3000 + n: thread n: its members, more than 256 steps, or the 17th thread of its processor.
-/// - 100000 + 1000 * n + j: step j of thread n.
+/// - 100000 + 1000 * n + j: step j of thread n. In version 3 steps stand in one another, and j counts in reading order.
+///
+/// In version 3 each step of a thread is read first. Then each is looked at by itself (an expression of more than 16
+/// operators, more places than an answer has numbers), and then loops are looked for in which nothing is asked; such a
+/// loop is told at the step that begins the innermost loop which the first of its steps stands at or in.
 ///
 /// Of a member that stands twice the last one counts. A number with a fraction or an exponent, -0, and a number of
 /// more than 64 bits are no whole numbers.

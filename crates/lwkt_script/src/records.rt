@@ -77,7 +77,7 @@ pub fn record_in(version: Version, value: &Value) -> Option<Option<Blob>>
 {
     match version {
         Version::First => Some(None),
-        Version::Second => guard_in(value.get("record")?),
+        Version::Second | Version::Third => guard_in(value.get("record")?),
     }
 }
 

@@ -1,5 +1,5 @@
-use crate::series::Series;
-use lwkt_base::{Ask, CpuId, MsgSpec, TokSpec};
+use lwkt_base::{CpuId, MsgSpec, TokSpec};
+use lwkt_code::{Code, Series};
 
 /// A script, read.
 #[derive(Drop)]
@@ -23,8 +23,8 @@ pub struct Script {
 pub struct ThreadSpec {
     /// The thread's processor, below the script's `cpus`.
     pub cpu: CpuId,
-    /// How many times the thread makes its steps, 1 to 1000000.
-    pub repeat: u32,
-    /// What the thread asks for, in order: at most 256 asks.
-    pub steps: Series<Ask>,
+    /// Whether it serves others, and need not end.
+    pub service: bool,
+    /// What the thread asks for: at most 768 steps, made 1 to 1000000 times over. Of versions 1 and 2 at most 256 asks, in order.
+    pub code: Code,
 }

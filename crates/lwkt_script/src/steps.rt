@@ -9,7 +9,7 @@ use crate::records::blob_in;
 use crate::versions::Version;
 use lwkt_base::limits::{MACHINE_THREADS, STEP_LIMIT};
 use lwkt_base::memory::push;
-use lwkt_base::steps::{ask_of, verb_named};
+use lwkt_base::steps::{ask_of, verb_written};
 use lwkt_base::{
     Ask, Call, CpuId, Fault, Flags, MsgId, Part, PartKind, StepParts, ThreadId, TokId, Verb,
 };
@@ -26,8 +26,8 @@ pub fn small_at(value: &Value, i: usize) -> Option<u8>
     }
 }
 
-// Item i of a step as a number of 32 bits.
-fn code_at(value: &Value, i: usize) -> Option<u32>
+/// Item i of a step as a number of 32 bits.
+pub fn code_at(value: &Value, i: usize) -> Option<u32>
     ensures { result ≡ code_at i (view value.now) }
 {
     match number(value.get(i)?, 0, 4_294_967_295) {
@@ -50,14 +50,14 @@ fn flags_under(priority: bool, n: u64) -> Option<Flags>
     })
 }
 
-// The same, and plus 4 for priority.
-fn flags_of(version: Version, n: u64) -> Option<Flags>
+/// The same, and plus 4 for priority.
+pub fn flags_of(version: Version, n: u64) -> Option<Flags>
     ensures { result ≡ flags_by_number version n }
 {
     if n < 4 {
         return flags_under(false, n);
     }
-    if !version.is_second() {
+    if !version.is_later() {
         return None;
     }
     flags_under(true, n - 4)
@@ -70,8 +70,8 @@ pub fn whole_at(value: &Value, i: usize) -> Option<u64>
     value.get(i)?.as_u64()
 }
 
-// How many items a part of a kind takes.
-fn width_of(kind: PartKind) -> usize
+/// How many items a part of a kind takes.
+pub fn width_of(kind: PartKind) -> usize
     ensures value { result ≡ width_of kind }
     ensures few { result ≤ 2 }
 {
@@ -125,12 +125,12 @@ fn step_parts(
     if at == count { Some(parts) } else { None }
 }
 
-// The kind of step that has this word in a version.
-fn verb_in(version: Version, word: &str) -> Option<Verb>
+/// The kind of step that has this word in a version.
+pub fn verb_in(version: Version, word: &str) -> Option<Verb>
     ensures { result ≡ verb_in version word.now }
 {
-    let verb = verb_named(word)?;
-    if verb.is_later() && !version.is_second() {
+    let verb = verb_written(word)?;
+    if verb.is_later() && !version.is_later() {
         return None;
     }
     Some(verb)
@@ -144,8 +144,8 @@ fn ask_with(version: Version, verb: Verb, count: usize, value: &Value) -> Option
     ask_of(verb, parts.as_slice())
 }
 
-// The ask that a step stands for.
-fn ask_in(version: Version, value: &Value) -> Option<Ask>
+/// The ask that a step stands for.
+pub fn ask_in(version: Version, value: &Value) -> Option<Ask>
     ensures { result ≡ ask_in version (view value.now) }
 {
     let count = item_count(value)?;

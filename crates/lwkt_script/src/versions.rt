@@ -1,5 +1,5 @@
 ghost use Rattle.std.specs.Prelude.{◌≡◌};
-ghost use Rattle.lwkt_script.specs.Version.{version_of, is_second, has_law, token_members};
+ghost use Rattle.lwkt_script.specs.Version.{version_of, is_later, has_law, token_members, thread_members};
 
 use lwkt_base::Law;
 
@@ -10,27 +10,30 @@ pub enum Version {
     First,
     /// Tokens may have records.
     Second,
+    /// Threads may compute and decide.
+    Third,
 }
 
 /// The version of a number.
 pub fn version_of(n: u64) -> Version
     ensures { result ≡ version_of n }
 {
-    if n == 2 {
-        Version::Second
-    } else {
-        Version::First
+    match n {
+        3 => Version::Third,
+        2 => Version::Second,
+        _ => Version::First,
     }
 }
 
 impl Version {
     /// Whether it has records of tokens, a law of them, steps on them, and messages sent with priority.
-    pub fn is_second(self) -> bool
-        ensures { result ≡ is_second self }
+    pub fn is_later(self) -> bool
+        ensures { result ≡ is_later self }
     {
         match self {
             Version::First => false,
             Version::Second => true,
+            Version::Third => true,
         }
     }
 
@@ -39,8 +42,19 @@ impl Version {
         ensures { result ≡ has_law self law }
     {
         match law {
-            Law::Len => self.is_second(),
+            Law::Len => self.is_later(),
             _ => true,
+        }
+    }
+
+    /// How many members a thread has.
+    pub fn thread_members(self) -> usize
+        ensures { result ≡ thread_members self }
+    {
+        match self {
+            Version::First => 3,
+            Version::Second => 3,
+            Version::Third => 5,
         }
     }
 
@@ -51,6 +65,7 @@ impl Version {
         match self {
             Version::First => 4,
             Version::Second => 5,
+            Version::Third => 5,
         }
     }
 }

@@ -4,14 +4,17 @@ use crate::replays::Replay;
 use crate::stories::{Logged, Story};
 use crate::turns::show_step;
 use crate::words::{fill, show_ask, show_fault, show_thread};
-use lwkt_base::{Blob, Entry, ThreadLine, ThreadState};
+use lwkt_base::{Blob, Entry, Fault, ThreadLine, ThreadState};
 use lwkt_refusals::Page;
 
 // Appends the rule by which a thread ended faulted, with its values.
-fn show_rule(out: &mut Page, replay: &Replay, story: &Story) {
+fn show_rule(out: &mut Page, replay: &Replay, story: &Story, fault: Fault) {
     if let Some(why) = &story.why {
         out.add(": ");
         out.add_page(why);
+        return;
+    }
+    if fault != Fault::Worn {
         return;
     }
     let Some(tok) = story.worn(&replay.state) else {
@@ -36,7 +39,7 @@ fn show_end(out: &mut Page, replay: &Replay, story: &Story) {
             show_thread(out, story.id);
             out.add(" ended faulted ");
             show_fault(out, fault);
-            show_rule(out, replay, story);
+            show_rule(out, replay, story, fault);
             out.add("\n");
         }
         ThreadState::Ready | ThreadState::Waiting | ThreadState::Running => {
@@ -86,10 +89,11 @@ fn show_entry(out: &mut Page, entry: Entry) {
             )
         }
         Entry::Refused(number) => out.number("f=", u64::from(number)),
+        Entry::Failed(number) => out.number("x=", u64::from(number)),
     }
 }
 
-// Appends an entry of a log beside the step that it answers.
+// Appends an entry of a log beside the step that made it.
 fn show_logged(out: &mut Page, story: &Story, entry: Entry, logged: Logged) {
     out.add("  ");
     show_entry(out, entry);

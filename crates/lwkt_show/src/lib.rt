@@ -30,6 +30,7 @@ mod stories;
 mod tokens;
 mod tries;
 mod turns;
+mod walks;
 mod whys;
 mod words;
 

@@ -4,10 +4,13 @@ use crate::reels::Scene;
 use crate::stories::{Doing, Outcome, Story, doing_after};
 use crate::tokens::Runners;
 use crate::tries::{held_after, taker};
+use crate::walks::Walk;
 use crate::words::fill;
 use lwkt_base::limits::{MESSAGE_LIMIT, TOKEN_LIMIT};
 use lwkt_base::memory::push;
-use lwkt_base::{Answer, Ask, Blob, Fault, Law, MsgId, ThreadId, ThreadLine, ThreadState, TokId};
+use lwkt_base::{
+    Answer, Ask, Blob, Fault, Law, MsgId, OutOfMemory, ThreadId, ThreadLine, ThreadState, TokId,
+};
 use lwkt_core::{Event, State};
 use lwkt_refusals::{Page, show_breach};
 use lwkt_script::{Script, ThreadSpec};
@@ -65,12 +68,12 @@ fn show_first_record(out: &mut Page, blob: &Option<Blob>, first: &Option<Blob>) 
 }
 
 // What is said of a thread before the first turn.
-fn story_of(alloc: Global, script: &Script, line: &ThreadLine) -> Story {
-    let (steps, repeat) = match spec_of(script, line.id) {
-        Some(spec) => (spec.steps.as_slice().len() as u64, u64::from(spec.repeat)),
-        None => (0, 0),
+fn story_of(alloc: Global, script: &Script, line: &ThreadLine) -> Result<Story, OutOfMemory> {
+    let walk = match spec_of(script, line.id) {
+        Some(spec) => Some(Walk::new(spec.code.copy(alloc)?)),
+        None => None,
     };
-    Story::new(alloc, line.id, steps, repeat, line.state)
+    Ok(Story::new(alloc, line.id, walk, line.state))
 }
 
 // Whether the ask of a turn stores what its thread says, so that a write is its own.
@@ -100,7 +103,7 @@ impl Replay {
         )?;
         let mut stories = Vec::new(alloc);
         for line in lines {
-            push(&mut stories, story_of(alloc, script, line))?;
+            push(&mut stories, story_of(alloc, script, line)?)?;
         }
         Ok(Replay {
             state,

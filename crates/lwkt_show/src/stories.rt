@@ -1,5 +1,6 @@
 use crate::events::show_owner;
 use crate::tokens::{Runners, excludes, show_holders, show_word};
+use crate::walks::Walk;
 use crate::words::{mode_word, show_thread};
 use lwkt_base::limits::{LAST_GENERATION, LOG_LIMIT};
 use lwkt_base::memory::push;
@@ -8,7 +9,7 @@ use lwkt_base::{
 };
 use lwkt_core::{Event, State, Token};
 use lwkt_refusals::Page;
-use lwkt_script::entry_of;
+use lwkt_script::{entry_of, failure_of};
 use lwkt_verdict::Poll;
 use std::alloc::Global;
 
@@ -36,16 +37,16 @@ pub enum Came {
     Waits,
     /// It ends.
     Ends,
-    /// It ends by this fault, 19 or 20.
+    /// It ends by this fault: 19, 20 or 42.
     Faulted(Fault),
 }
 
 /// Which step a thread makes.
 #[derive(Clone, Copy)]
 pub struct Step {
-    /// How many polls the thread has had before.
+    /// How many steps the thread makes before, where each repetition makes each step once.
     pub polls: u64,
-    /// How many steps it makes, 0 to 256.
+    /// How many steps it has, 0 to 256.
     pub steps: u64,
     /// How many times it makes them, 0 to 1000000.
     pub repeat: u64,
@@ -60,18 +61,17 @@ pub(crate) struct Story {
     pub doing: Doing,
     /// The references that it wants or holds.
     pub list: TokList,
-    /// How many polls it has had.
+    /// The number of its next step, where each repetition makes each step once.
     pub polls: u64,
-    // How many steps it makes, and how many times over.
-    steps: u64,
-    repeat: u64,
+    // Its way through its program, if the script has it.
+    walk: Option<Walk>,
     /// How it ends.
     pub end: ThreadState,
     /// The turn in which it ended, if it has.
     pub ended_in: Option<usize>,
     /// Of a section that broke its law, or a token at its last generation, what is said of it.
     pub why: Option<Page>,
-    /// Of each entry of the log the ask that it answers, by its number among the thread's asks.
+    /// Of each entry of the log the ask that made it, by its number among the thread's asks.
     pub logged: Vec<Logged>,
     /// That memory for one of these was refused, if it was.
     pub lost: Option<OutOfMemory>,
@@ -79,12 +79,12 @@ pub(crate) struct Story {
     pub entries: u64,
 }
 
-/// An ask whose answer is in the log.
+/// An ask of which an entry is in the log.
 #[derive(Clone, Copy)]
 pub(crate) struct Logged {
     /// The ask.
     pub ask: Ask,
-    /// How many asks the thread had made before.
+    /// The number of the step that made it.
     pub number: u64,
 }
 
@@ -127,7 +127,7 @@ pub(crate) fn doing_after(poll: &Poll, part: &[Event], mail: bool) -> Doing {
         Ask::Do(msg, _, _) if has_send(part) => Doing::WaitsForReply(msg),
         Ask::WaitPort if !mail => Doing::WaitsForPort,
         Ask::Yield => Doing::WantsList,
-        Ask::Exit => Doing::Ended,
+        Ask::Exit | Ask::Fail(_) => Doing::Ended,
         _ => Doing::Runs,
     }
 }
@@ -173,21 +173,18 @@ impl Story {
         }
     }
 
-    /// A thread before its first poll, that makes so many steps so many times, and ends so.
-    pub(crate) fn new(
-        alloc: Global,
-        id: ThreadId,
-        steps: u64,
-        repeat: u64,
-        end: ThreadState,
-    ) -> Self {
+    /// A thread before its first poll, that goes this way through its program, and ends so.
+    pub(crate) fn new(alloc: Global, id: ThreadId, walk: Option<Walk>, end: ThreadState) -> Self {
+        let polls = match &walk {
+            Some(walk) => walk.number(),
+            None => 0,
+        };
         Story {
             id,
             doing: Doing::WantsList,
             list: TokList::new(),
-            polls: 0,
-            steps,
-            repeat,
+            polls,
+            walk,
             end,
             ended_in: None,
             why: None,
@@ -197,12 +194,33 @@ impl Story {
         }
     }
 
-    // Notes the entry that an answer makes in the log.
+    // Whether this answer to its ask may make an entry in its log.
+    fn logs(&self, answer: &Answer) -> bool {
+        match &self.walk {
+            Some(walk) => walk.logs(answer),
+            None => true,
+        }
+    }
+
+    // Whether an ask makes an entry in the log, by its answer or by having none.
+    fn has_entry(&self, poll: &Poll) -> bool {
+        match poll.answer {
+            Some(answer) => self.logs(&answer) && entry_of(poll.ask, answer).is_some(),
+            None => failure_of(&poll.ask).is_some(),
+        }
+    }
+
+    // Goes on to the next step, if the ask has its answer.
+    fn go_on(&mut self, answer: Option<Answer>) {
+        if let (Some(walk), Some(answer)) = (&mut self.walk, answer) {
+            walk.go_on(&answer);
+            self.polls = walk.number();
+        }
+    }
+
+    // Notes the entry that a poll makes in the log.
     fn note_entry(&mut self, poll: &Poll) {
-        let Some(answer) = poll.answer else {
-            return;
-        };
-        if entry_of(poll.ask, answer).is_none() {
+        if !self.has_entry(poll) {
             return;
         }
         self.entries = self.entries.saturating_add(1);
@@ -234,7 +252,7 @@ impl Story {
         self.note_entry(poll);
         self.note_list(poll);
         self.doing = outcome.doing;
-        self.polls = self.polls.saturating_add(1);
+        self.go_on(poll.answer);
         if outcome.doing == Doing::Ended {
             self.ended_in = Some(outcome.turn);
         }
@@ -243,12 +261,16 @@ impl Story {
         }
     }
 
-    /// Which step the thread makes after so many polls.
+    /// The step of this number.
     pub(crate) fn step_at(&self, polls: u64) -> Step {
+        let (steps, repeat) = match &self.walk {
+            Some(walk) => (walk.steps(), walk.repeat()),
+            None => (0, 0),
+        };
         Step {
             polls,
-            steps: self.steps,
-            repeat: self.repeat,
+            steps,
+            repeat,
         }
     }
 

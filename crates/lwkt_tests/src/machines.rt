@@ -3,7 +3,7 @@
 use crate::cautious::{Cautious, ends_at_a_refusal};
 use crate::listed::{Listed, TOKEN};
 use crate::traders::{ROUNDS, Trader};
-use lwkt_base::{Ask, CpuId, Fault, MsgEnd, Owner, Row, Section, TokSpec};
+use lwkt_base::{Ask, CpuId, Fault, MsgEnd, Owner, Row, Section, ThreadState, TokSpec};
 use lwkt_core::Event;
 use lwkt_machine::{Closed, Ending, LIMITS, Machine, Stepper, Turned, makers};
 use std::alloc::Global;
@@ -109,6 +109,30 @@ fn law_broken_at_wait(rt: HostRuntime) {
     let alloc = rt.alloc();
     let sum = makers::sum(alloc, &[5, 5], 10).expect(&rt, "a token");
     assert!(rt; closes(alloc, sum, 9, Ask::WaitPort, 5, 0) == Ok(true));
+}
+
+// Whether a thread that writes this value in a section, and then fails an assertion, is ended by this fault, and what it leaves.
+fn fails(
+    alloc: Global,
+    value: u64,
+    fault: Fault,
+    cell: u64,
+    generation: u64,
+) -> Result<bool, Fault> {
+    let mut machine = one(alloc, makers::cap(alloc, &[1], 3)?, value, Ask::Fail(0))?;
+    machine.run(9)?;
+    let ended = match machine.thread(0, 0) {
+        Some(status) => status.state == ThreadState::Faulted(fault),
+        None => false,
+    };
+    Ok(ended && is_left(&machine.close(alloc)?, cell, generation))
+}
+
+#[test]
+fn a_failed_assertion_ends_its_thread(rt: HostRuntime) {
+    let alloc = rt.alloc();
+    assert!(rt; fails(alloc, 2, Fault::Assertion, 2, 1) == Ok(true));
+    assert!(rt; fails(alloc, 4, Fault::Broken, 1, 0) == Ok(true));
 }
 
 // Sections that obey a law and that break it.

@@ -67,6 +67,7 @@ const FAULTS: &[(Fault, u8, &str)] = &[
     (Fault::RecordLong, 38, "record too long"),
     (Fault::Limits, 39, "limit passed"),
     (Fault::LawBroken, 40, "opening breaks its law"),
+    (Fault::Assertion, 42, "assertion failed"),
 ];
 
 // Whether a fault has this number and this message.

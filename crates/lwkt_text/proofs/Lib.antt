@@ -3,3 +3,7 @@ pub mod Keeping
 pub mod Inputting
 pub mod ListedThreads
 pub mod Presence
+pub mod Reaching
+pub mod Linking
+pub mod Ending
+pub mod Spreading

@@ -3,9 +3,14 @@ pub mod Outcome
 pub mod Looking
 pub mod Naming
 pub mod Stepping
+pub mod Phrasing
+pub mod Operating
+pub mod Blocks
 pub mod Parting
 pub mod Claiming
 pub mod Listing
+pub mod Expanding
+pub mod Saying
 pub mod Drafting
 pub mod Absence
 pub mod Reading

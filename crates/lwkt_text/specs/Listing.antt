@@ -13,7 +13,6 @@ use Rattle.lwkt_text.specs.Looking.{text_at, is_at, demand_at, name_at, number_a
 use Rattle.lwkt_text.specs.Naming.{position}
 use Rattle.lwkt_text.specs.Outcome.{◌>>◌}
 use Rattle.lwkt_text.specs.Parting.{cells_in}
-use Rattle.lwkt_text.specs.Scanning.{sentences_of}
 
 -- before the first sentence: one processor
 abbrev pub no_names : Names
@@ -96,7 +95,3 @@ sentence_listed ws l =
 abbrev pub all_listed : List Sentence → Listing → Listing
 all_listed [] l = l
 all_listed (s ∷ ss) l = all_listed ss (sentence_listed s.words l)
-
--- the names that a text gives
-abbrev pub names_of : List ℕ → Names
-names_of bytes = (all_listed (sentences_of bytes) no_listing).names

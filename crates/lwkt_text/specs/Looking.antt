@@ -70,6 +70,10 @@ bytes_at ws i most = part_at ws i (Bytes most) (bytes_of most (text_at ws i))
 abbrev pub past_key : List Word → ℕ → List ℕ → ℕ
 past_key ws i key = if is_at ws i key then i + 2 else i
 
+-- the place behind a word that may stand at i
+abbrev pub past : List Word → ℕ → List ℕ → ℕ
+past ws i text = if is_at ws i text then i + 1 else i
+
 -- the value of the key that word i may be, or what stands for it
 abbrev pub optional : List Word → ℕ → List ℕ → ℕ → ℕ → ℕ → Result ℕ Wrong
 optional ws i key low high default = if is_at ws i key then number_at ws (i + 1) low high else Ok default

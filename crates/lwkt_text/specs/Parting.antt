@@ -14,7 +14,7 @@ use Rattle.lwkt_text.specs.declared.words.Word.{Word}
 use Rattle.lwkt_text.specs.declared.wrongs.Wanted.TheVariants as wanted
 use Rattle.lwkt_text.specs.declared.wrongs.What.TheVariants as whats
 use Rattle.lwkt_text.specs.declared.wrongs.Wrong.{Wrong}
-use Rattle.lwkt_text.specs.Looking.{text_at, is_at, demand_at, ends_at, decimal_number, number_at, bytes_at, optional, past_key, is_name}
+use Rattle.lwkt_text.specs.Looking.{text_at, is_at, demand_at, ends_at, decimal_number, number_at, bytes_at, optional, past_key, past, is_name}
 use Rattle.lwkt_text.specs.Naming.{position, thread_id_at, thread_length}
 use Rattle.lwkt_text.specs.Outcome.{◌>>=◌, ◌>>◌}
 
@@ -119,11 +119,11 @@ message_of names ws = do
   ends_at ws (past_key ws (3 + thread_length ws 3) (codes "round"))
   Ok (record { round = round; origin = origin })
 
--- `thread NAME on N repeat N`: the thread makes its steps once where `repeat` is left out
+-- `thread NAME on N repeat N service`: the thread makes its steps once where `repeat` is left out
 unfoldable pub head_of : Names → List Word → Result Head Wrong
 head_of names ws = do
   demand_at ws 2 (whats.Word wanted.On) (is_at ws 2 (codes "on"))
   cpu ← number_at ws 3 0 (names.cpus - 1)
-  repeat ← optional ws 4 (codes "repeat") 1 MOST_REPEATS 1
-  ends_at ws (past_key ws 4 (codes "repeat"))
-  Ok (record { cpu = record { 0 = cpu }; repeat = repeat })
+  repeat ← optional ws 4 (codes "repeat") 1 1000000 1
+  ends_at ws (past ws (past_key ws 4 (codes "repeat")) (codes "service"))
+  Ok (record { cpu = record { 0 = cpu }; repeat = repeat; service = is_at ws (past_key ws 4 (codes "repeat")) (codes "service") })

@@ -3,6 +3,7 @@ use Rattle.std.specs.Prelude.{◌≡◌, ℕ, ◌==◌, List, [], length, if◌t
 use Rattle.std.specs.List.{filter_map}
 use Rattle.lwkt_script.specs.declared.scripts.Script.{Script}
 use Rattle.lwkt_text.specs.declared.drafts.Draft.{Draft}
+use Rattle.lwkt_text.specs.declared.expansions.Spread.{Spread}
 use Rattle.lwkt_text.specs.declared.listings.Listing.{Listing}
 use Rattle.lwkt_text.specs.declared.readers.Reading.{Reading}
 use Rattle.lwkt_text.specs.declared.tables.Names.{Names}
@@ -10,6 +11,7 @@ use Rattle.lwkt_text.specs.declared.words.Sentence.{Sentence}
 use Rattle.lwkt_text.specs.declared.wrongs.Wrong.{Wrong}
 use Rattle.lwkt_text.specs.Absence.{absence}
 use Rattle.lwkt_text.specs.Drafting.{no_draft, closed, all_added}
+use Rattle.lwkt_text.specs.Expanding.{spread_of}
 use Rattle.lwkt_text.specs.Listing.{no_listing, all_listed}
 use Rattle.lwkt_text.specs.Scanning.{sentences_of}
 
@@ -29,8 +31,12 @@ sealed names d = if length d.faults == 0 then claims_checked (drafted names d) e
 abbrev pub reading_with : List Sentence → Listing → Result Reading (List Wrong)
 reading_with sentences l = sealed l.names (closed (all_added l.names sentences (no_draft l.faults)))
 
+-- constants and sentences that stand for others first
+abbrev pub reading_spread : Spread → Result Reading (List Wrong)
+reading_spread s = reading_with s.sentences (all_listed s.sentences (record no_listing { faults = s.faults }))
+
 abbrev pub reading_of_sentences : List Sentence → Result Reading (List Wrong)
-reading_of_sentences sentences = reading_with sentences (all_listed sentences no_listing)
+reading_of_sentences sentences = reading_spread (spread_of sentences)
 
 -- what the bytes are
 unfoldable pub reading_of : List ℕ → Result Reading (List Wrong)

@@ -13,13 +13,17 @@ is_letter b = (nat_le 48 b && nat_le b 57) || (nat_le 65 b && nat_le b 90) || (n
 abbrev pub is_blank : ℕ → Bool
 is_blank b = b == 32 || b == 9 || b == 13 || b == 44 || b == 58
 
+-- a full stop or a bracket
+abbrev pub is_point : ℕ → Bool
+is_point b = b == 46 || b == 40 || b == 41 || b == 91 || b == 93
+
 -- what a byte is to a text
 abbrev pub kind_of : ℕ → Kind
 kind_of b =
     if b == 10 || b == 59 then End else (
     if is_blank b then Blank else (
     if b == 35 then Remark else (
-    if b == 46 then Point else (
+    if is_point b then Point else (
     if is_letter b then Letter else Sign))))
 
 -- the character that stands for a byte

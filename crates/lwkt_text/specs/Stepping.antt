@@ -10,13 +10,13 @@ use Rattle.lwkt_base.specs.declared.steps.Part.TheVariants.{Token, Cell, Value, 
 use Rattle.lwkt_base.specs.declared.steps.PartKind.{PartKind}
 use Rattle.lwkt_base.specs.declared.steps.PartKind.TheVariants as kinds
 use Rattle.lwkt_base.specs.declared.limits.TheConstants.{MOST_CODE}
-use Rattle.lwkt_base.specs.Step.{verb_named, part_kinds, ask_of}
+use Rattle.lwkt_base.specs.Step.{verb_written, part_kinds, ask_of}
 use Rattle.lwkt_text.specs.declared.tables.Names.{Names}
 use Rattle.lwkt_text.specs.declared.words.Word.{Word}
 use Rattle.lwkt_text.specs.declared.wrongs.Wanted.TheVariants.{Arrow}
 use Rattle.lwkt_text.specs.declared.wrongs.What.TheVariants as whats
 use Rattle.lwkt_text.specs.declared.wrongs.Wrong.{Wrong}
-use Rattle.lwkt_text.specs.Looking.{text_at, is_at, demand_at, ends_at, wrong_at, number_at, bytes_at, optional, past_key}
+use Rattle.lwkt_text.specs.Looking.{text_at, is_at, demand_at, ends_at, wrong_at, number_at, bytes_at, optional, past_key, past}
 use Rattle.lwkt_text.specs.Naming.{token_id_at, message_id_at, cell_by_words, thread_id_at, thread_length}
 use Rattle.lwkt_text.specs.Outcome.{◌>>=◌, ◌>>◌}
 
@@ -30,10 +30,6 @@ call_at ws i = do
 -- the place behind them
 abbrev pub call_end : List Word → ℕ → ℕ
 call_end ws i = past_key ws (past_key ws i (codes "op")) (codes "arg")
-
--- the place behind a word that may stand at i
-abbrev pub past : List Word → ℕ → List ℕ → ℕ
-past ws i text = if is_at ws i text then i + 1 else i
 
 -- the place behind `dropable`, and behind `dropable abortable`, as they are there from word i on
 abbrev pub past_dropable : List Word → ℕ → ℕ
@@ -90,4 +86,4 @@ known ws found = ok_or found (wrong_at ws 0 whats.Keyword)
 
 -- the ask of a step: a word of the table of steps, and what stands behind it
 abbrev pub step_ask : Names → List Word → Result Ask Wrong
-step_ask names ws = known ws (verb_named (text_at ws 0)) >>= λ verb. parts_at names (part_kinds verb) ws 1 >>= λ parts. known ws (ask_of verb parts)
+step_ask names ws = known ws (verb_written (text_at ws 0)) >>= λ verb. parts_at names (part_kinds verb) ws 1 >>= λ parts. known ws (ask_of verb parts)

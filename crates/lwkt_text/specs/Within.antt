@@ -23,7 +23,7 @@ MayBeSaid cpus saids.Cpus = Unit {0}
 MayBeSaid cpus (saids.Token t) = IsToken t
 MayBeSaid cpus (saids.Message m) = IsMessage cpus m
 MayBeSaid cpus (saids.Thread h) = IsHead cpus h
-MayBeSaid cpus (saids.Step a) = Unit {0}
+MayBeSaid cpus (saids.Do act) = Unit {0}
 MayBeSaid cpus (saids.Expect e) = Unit {0}
 
 -- the thread whose steps are said has room behind the others
@@ -44,4 +44,3 @@ pub record IsDraft (cpus : ℕ) (d : Draft) : Type 0 where
   pub threads : All (IsThread cpus) d.threads
   pub few_threads : (cpu : ℕ) → threads_on cpu d.threads ≤ THREAD_LIMIT
   pub head : HasRoomBehind cpus d.threads d.head
-  pub few_steps : length d.steps ≤ STEP_LIMIT

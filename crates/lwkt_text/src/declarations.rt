@@ -5,8 +5,8 @@ ghost use Rattle.lwkt_text.specs.Outcome.{IsAsRead, IsSlipAsRead};
 ghost use Rattle.lwkt_text.specs.Parting.{no_cells, cell_added, name_added, cell_named, word_added, cells_added, cells_at, law_said, law_end, has_param, param_end, asks_nothing, law_at, param_of, guard_place, guard_of, cells_place, cells_in, token_of, message_of, head_of};
 
 use crate::looks::{
-    bytes_at, decimal_number, demand_at, ends_at, is_at, is_name, number_at, optional, past_key,
-    text_at,
+    bytes_at, decimal_number, demand_at, ends_at, is_at, is_name, number_at, optional, past,
+    past_key, text_at,
 };
 use crate::many::Many;
 use crate::names::Name;
@@ -37,6 +37,8 @@ pub struct Head {
     pub cpu: CpuId,
     /// How many times the thread makes its steps, 1 to 1000000.
     pub repeat: u32,
+    /// Whether the thread serves others, and need not end.
+    pub service: bool,
 }
 
 impl CellList {
@@ -314,9 +316,12 @@ pub fn head_of(names: &Names, words: &[Word]) -> Result<Head, Wrong>
     demand_at(words, 2, What::Word(Wanted::On), is_at(words, 2, "on"))?;
     let cpu = number_at(words, 3, 0, names.cpus as u64 - 1)? as u8;
     let repeat = optional(words, 4, "repeat", 1, MOST_REPEATS, 1)? as u32;
-    ends_at(words, past_key(words, 4, "repeat"))?;
+    let end = past_key(words, 4, "repeat");
+    let service = is_at(words, end, "service");
+    ends_at(words, past(words, end, "service"))?;
     Ok(Head {
         cpu: CpuId(cpu),
         repeat,
+        service,
     })
 }

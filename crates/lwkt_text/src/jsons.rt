@@ -3,12 +3,15 @@ ghost use Rattle.std.specs.Prelude.{◌≡◌, Ok, IfOk, OnOk, IsTrue, string_by
 ghost use Rattle.lwkt_script.specs.Format.{script_of};
 ghost use Rattle.lwkt_script.specs.Limits.{IsWithinLimits};
 
+use crate::json_steps::{held_first, write_steps};
 use crate::pages::Sheet;
 use crate::sames::same_script;
+use crate::steps_written::is_listed;
 use crate::unsaid::Unsaid;
 use lwkt_base::hexes::digits_of;
 use lwkt_base::steps::step_of;
 use lwkt_base::{Ask, Blob, Fault, Flags, Law, MsgSpec, OutOfMemory, Part, TokSpec};
+use lwkt_code::Step;
 use lwkt_script::{Script, ThreadSpec, Version, read_script};
 use std::alloc::Global;
 
@@ -30,25 +33,46 @@ fn is_guarded(token: &TokSpec) -> bool {
 }
 
 // Whether an ask needs a version with records and messages sent with priority.
-fn is_of_second(ask: &Ask) -> bool {
+fn is_ask_of_second(ask: &Ask) -> bool {
     let (verb, parts) = step_of(ask);
     verb.is_later()
         || parts.as_slice().iter().any(|part| matches!(part, Part::Flags(flags) if flags.priority))
 }
 
-// The least version in which a script can be written.
-fn version_for(script: &Script) -> Version {
+// Whether a step is such an ask.
+fn is_of_second(step: &Step) -> bool {
+    match step {
+        Step::Fixed(ask) => is_ask_of_second(ask),
+        _ => false,
+    }
+}
+
+// Whether a thread needs a version in which threads compute and decide.
+fn is_of_third(thread: &ThreadSpec) -> bool {
+    thread.service || !is_listed(&thread.code)
+}
+
+// The least version for a script whose threads only ask.
+fn version_of_asks(script: &Script) -> Version {
     for token in script.tokens.as_slice() {
         if is_guarded(token) {
             return Version::Second;
         }
     }
     for thread in script.threads.as_slice() {
-        if thread.steps.as_slice().iter().any(is_of_second) {
+        if thread.code.steps().iter().any(is_of_second) {
             return Version::Second;
         }
     }
     Version::First
+}
+
+// The least version in which a script can be written.
+fn version_for(script: &Script) -> Version {
+    if script.threads.as_slice().iter().any(is_of_third) {
+        return Version::Third;
+    }
+    version_of_asks(script)
 }
 
 /// Writes the bytes of a record, two digits for each.
@@ -85,7 +109,7 @@ fn write_token(page: &mut Sheet, version: Version, token: &TokSpec) -> Result<()
     page.text(law_name(token.law))?;
     page.tagged("\", \"param\": ", token.param)?;
     page.tagged(", \"gen\": ", token.generation)?;
-    if version.is_second() {
+    if version.is_later() {
         write_record(page, &token.blob)?;
     }
     page.text("}")
@@ -104,7 +128,8 @@ fn write_two(page: &mut Sheet, first: u64, second: u64) -> Result<(), OutOfMemor
     page.tagged(", ", second)
 }
 
-fn number_of_flags(flags: Flags) -> u64 {
+/// What its origin may do with a message, as a number.
+pub fn number_of_flags(flags: Flags) -> u64 {
     let dropable = if flags.dropable { 1 } else { 0 };
     let abortable = if flags.abortable { 2 } else { 0 };
     let priority = if flags.priority { 4 } else { 0 };
@@ -130,8 +155,8 @@ fn write_part(page: &mut Sheet, part: &Part) -> Result<(), OutOfMemory> {
     }
 }
 
-// What stands between the brackets of a step.
-fn write_ask(page: &mut Sheet, ask: &Ask) -> Result<(), OutOfMemory> {
+/// What stands between the brackets of an ask.
+pub fn write_ask(page: &mut Sheet, ask: &Ask) -> Result<(), OutOfMemory> {
     let (verb, parts) = step_of(ask);
     page.text("\"")?;
     page.text(verb.word())?;
@@ -142,20 +167,24 @@ fn write_ask(page: &mut Sheet, ask: &Ask) -> Result<(), OutOfMemory> {
     Ok(())
 }
 
-fn write_steps(page: &mut Sheet, steps: &[Ask]) -> Result<(), OutOfMemory> {
-    for (i, ask) in steps.iter().enumerate() {
-        page.text(if i > 0 { ", [" } else { "[" })?;
-        write_ask(page, ask)?;
-        page.text("]")?;
-    }
-    Ok(())
-}
-
-fn write_thread(page: &mut Sheet, thread: &ThreadSpec) -> Result<(), OutOfMemory> {
+fn write_thread(
+    page: &mut Sheet,
+    version: Version,
+    thread: &ThreadSpec,
+) -> Result<(), OutOfMemory> {
     page.tagged("{\"cpu\": ", u64::from(thread.cpu.0))?;
-    page.tagged(", \"repeat\": ", u64::from(thread.repeat))?;
+    page.tagged(", \"repeat\": ", u64::from(thread.code.repeat()))?;
+    if version == Version::Third {
+        page.text(", \"vars\": [")?;
+        page.numbers(", ", held_first(&thread.code))?;
+        page.text(if thread.service {
+            "], \"service\": true"
+        } else {
+            "], \"service\": false"
+        })?;
+    }
     page.text(", \"steps\": [")?;
-    write_steps(page, thread.steps.as_slice())?;
+    write_steps(page, thread.code.steps())?;
     page.text("]}")
 }
 
@@ -180,10 +209,14 @@ fn write_messages(page: &mut Sheet, messages: &[MsgSpec]) -> Result<(), OutOfMem
     Ok(())
 }
 
-fn write_threads(page: &mut Sheet, threads: &[ThreadSpec]) -> Result<(), OutOfMemory> {
+fn write_threads(
+    page: &mut Sheet,
+    version: Version,
+    threads: &[ThreadSpec],
+) -> Result<(), OutOfMemory> {
     for (i, thread) in threads.iter().enumerate() {
         break_line(page, i)?;
-        write_thread(page, thread)?;
+        write_thread(page, version, thread)?;
     }
     Ok(())
 }
@@ -192,10 +225,10 @@ fn write_threads(page: &mut Sheet, threads: &[ThreadSpec]) -> Result<(), OutOfMe
 fn written(alloc: Global, script: &Script) -> Result<String, OutOfMemory> {
     let mut page = Sheet::new(alloc);
     let version = version_for(script);
-    page.text(if version.is_second() {
-        "{\"version\": 2"
-    } else {
-        "{\"version\": 1"
+    page.text(match version {
+        Version::First => "{\"version\": 1",
+        Version::Second => "{\"version\": 2",
+        Version::Third => "{\"version\": 3",
     })?;
     page.tagged(", \"turns\": ", u64::from(script.turns))?;
     page.tagged(", \"idle\": ", u64::from(script.idle))?;
@@ -205,7 +238,7 @@ fn written(alloc: Global, script: &Script) -> Result<String, OutOfMemory> {
     page.text("],\n  \"messages\": [")?;
     write_messages(&mut page, script.messages.as_slice())?;
     page.text("],\n  \"threads\": [")?;
-    write_threads(&mut page, script.threads.as_slice())?;
+    write_threads(&mut page, version, script.threads.as_slice())?;
     page.text("]}\n")?;
     Ok(page.into_string())
 }

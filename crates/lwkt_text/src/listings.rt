@@ -1,9 +1,11 @@
 ghost use Rattle.std.specs.Prelude.{◌≡◌, ◌≤◌, ◌<◌, OnOk, IfOk};
-ghost use Rattle.lwkt_text.specs.Listing.{no_names, no_listing, new_name, names_read, token_added, message_added, next_thread, thread_added, cpu_named, cpu_used, thread_used, HasCpus, token_listed, message_listed, thread_listed, cpus_listed, sentence_listed, all_listed, names_of};
+ghost use Rattle.lwkt_text.specs.Listing.{no_names, no_listing, new_name, names_read, token_added, message_added, next_thread, thread_added, cpu_named, cpu_used, thread_used, HasCpus, token_listed, message_listed, thread_listed, cpus_listed, sentence_listed, all_listed};
+ghost use Rattle.lwkt_text.specs.Expanding.{names_of};
 ghost use Rattle.lwkt_text.specs.Looking.{number_at};
 ghost use Rattle.lwkt_text.specs.Parting.{cells_in};
 
 use crate::declarations::cells_in;
+use crate::expansions::spread_of;
 use crate::looks::{demand_at, name_at, number_at, text_at};
 use crate::many::Many;
 use crate::names::Name;
@@ -26,8 +28,8 @@ pub struct Listing {
     pub faults: Many<Wrong>,
 }
 
-// Word 1 is a name that none of these is.
-fn new_name(names: &[Name], words: &[Word]) -> Result<(), Wrong>
+/// Word 1 is a name that none of these is.
+pub fn new_name(names: &[Name], words: &[Word]) -> Result<(), Wrong>
     ensures { result ≡ new_name names.now words.now }
 {
     name_at(words, 1)?;
@@ -106,13 +108,13 @@ impl Names {
 }
 
 impl Listing {
-    fn new(alloc: Global) -> Self
-        ensures { result ≡ no_listing }
+    fn new(alloc: Global, faults: Many<Wrong>) -> Self
+        ensures { result ≡ record no_listing { faults = faults } }
     {
         Listing {
             names: Names::new(alloc),
             is_said: false,
-            faults: Many::new(alloc),
+            faults,
         }
     }
 
@@ -197,12 +199,16 @@ impl Listing {
     }
 }
 
-/// The names that sentences give.
-pub fn listing_of(alloc: Global, sentences: &[Sentence]) -> Result<Listing, OutOfMemory>
-    ensures ok { IfOk result (λ listing. listing ≡ all_listed sentences.now no_listing) }
+/// The names that sentences give, behind what is wrong before.
+pub fn listing_of(
+    alloc: Global,
+    sentences: &[Sentence],
+    faults: Many<Wrong>,
+) -> Result<Listing, OutOfMemory>
+    ensures ok { IfOk result (λ listing. listing ≡ all_listed sentences.now (record no_listing { faults = faults })) }
     ensures cpus { IfOk result HasCpus }
 {
-    let mut listing = Listing::new(alloc);
+    let mut listing = Listing::new(alloc, faults);
     for sentence in sentences {
         listing.list(alloc, sentence.words.as_slice())?;
     }
@@ -214,6 +220,7 @@ pub fn names_of(alloc: Global, bytes: &[u8]) -> Result<Names, OutOfMemory>
     ensures { IfOk result (λ names. names ≡ names_of bytes.now) }
 {
     let sentences = sentences_of(alloc, bytes)?;
-    let listing = listing_of(alloc, sentences.as_slice())?;
+    let spread = spread_of(alloc, sentences.as_slice())?;
+    let listing = listing_of(alloc, spread.sentences.as_slice(), Many::new(alloc))?;
     Ok(listing.names)
 }

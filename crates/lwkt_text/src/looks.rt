@@ -1,7 +1,7 @@
 // What the words of a sentence say, by their places.
 ghost use Rattle.std.specs.Prelude.{◌≡◌, ◌≤◌, ◌+◌, length, option_and_then, IfSome, IfOk};
 ghost use Rattle.lwkt_script.specs.Field.{within};
-ghost use Rattle.lwkt_text.specs.Looking.{text_at, is_at, sentence_end, place_of_word, wrong_at, demand_at, ends_at, digit_added, digits, decimal_number, number_at, bytes_of, bytes_at, past_key, optional, is_name, name_at};
+ghost use Rattle.lwkt_text.specs.Looking.{text_at, is_at, sentence_end, place_of_word, wrong_at, demand_at, ends_at, digit_added, digits, decimal_number, number_at, bytes_of, bytes_at, past_key, past, optional, is_name, name_at};
 
 use crate::words::Word;
 use crate::wrongs::{What, Wrong};
@@ -153,6 +153,15 @@ pub fn past_key(words: &[Word], i: usize, key: &str) -> usize
     ensures most { result ≤ i + 2 }
 {
     if is_at(words, i, key) { i + 2 } else { i }
+}
+
+/// The place behind a word that may stand at i.
+pub fn past(words: &[Word], i: usize, text: &str) -> usize
+    requires { i ≤ 10000 }
+    ensures exact { result ≡ past words.now i text.now }
+    ensures most { result ≤ i + 1 }
+{
+    if is_at(words, i, text) { i + 1 } else { i }
 }
 
 /// The value of the key that word i may be, or what stands for it.

@@ -1,4 +1,4 @@
-ghost use Rattle.std.specs.Prelude.{◌≡◌, ◌∷◌, [], ◌++◌, length, List, OnOk, OnErr};
+ghost use Rattle.std.specs.Prelude.{◌≡◌, ◌∷◌, [], ◌++◌, length, take, List, OnOk, OnErr};
 
 use lwkt_base::OutOfMemory;
 use lwkt_base::memory::push;
@@ -46,6 +46,15 @@ impl<T> Many<T> {
         Many {
             items: mem::replace(&mut self.items, Vec::new(alloc)),
         }
+    }
+
+    /// Leaves out the items behind so many.
+    pub fn keep(&mut self, count: usize)
+    where
+        T: Drop,
+        ensures { self.new ≡ take count self.old }
+    {
+        self.items.truncate(count)
     }
 
     /// How many items there are.

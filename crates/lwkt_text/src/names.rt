@@ -1,7 +1,7 @@
-ghost use Rattle.std.specs.Prelude.{◌≡◌, ℕ, ◌<◌, ◌∷◌, [], ◌++◌, List, string_bytes, OnOk, IfOk};
+ghost use Rattle.std.specs.Prelude.{◌≡◌, ℕ, ◌<◌, ◌∷◌, [], ◌++◌, List, decimal, string_bytes, OnOk, IfOk};
 
 use lwkt_base::OutOfMemory;
-use lwkt_base::memory::{from_str, push_char};
+use lwkt_base::memory::{from_str, push_char, push_number};
 use std::alloc::Global;
 use std::marker::Model;
 
@@ -42,6 +42,13 @@ impl Name {
         ensures { OnOk result (self.new ≡ self.old ++ byte ∷ []) }
     {
         push_char(&mut self.text, byte as char)
+    }
+
+    /// Puts the digits of a number at the end.
+    pub(crate) fn push_number(&mut self, n: u64) -> Result<(), OutOfMemory>
+        ensures { OnOk result (self.new ≡ self.old ++ decimal n) }
+    {
+        push_number(&mut self.text, n)
     }
 
     /// Gives the characters away and has none then. Takes no memory.

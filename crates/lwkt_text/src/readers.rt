@@ -2,12 +2,13 @@ ghost use Rattle.std.specs.Prelude.{◌≡◌, ◌<◌, ◌≤◌, Ok, Err, IfOk
 ghost use Rattle.lwkt_script.specs.Limits.{IsWithinLimits};
 ghost use Rattle.lwkt_text.specs.Within.{IsDraft};
 ghost use Rattle.lwkt_text.specs.Absence.{NamesWhatIsThere};
-ghost use Rattle.lwkt_text.specs.Reading.{drafted, claims_checked, sealed, reading_of, reading_of_sentences};
+ghost use Rattle.lwkt_text.specs.Reading.{drafted, claims_checked, sealed, reading_of, reading_spread, reading_of_sentences};
 ghost use Rattle.lwkt_text.specs.Refusing.{IsRefusalOf};
 
 use crate::absences::absences;
 use crate::claims::Expectation;
 use crate::drafts::{Draft, draft_of};
+use crate::expansions::{Spread, spread_of};
 use crate::listings::{Listing, listing_of};
 use crate::many::Many;
 use crate::scans::sentences_of;
@@ -110,6 +111,28 @@ fn sealed(alloc: Global, names: Names, draft: Draft) -> Result<Reading, Refusal>
     claims_checked(alloc, drafted(names, draft))
 }
 
+// Reads what the sentences of a text stand for.
+fn read_spread(alloc: Global, spread: Spread) -> Result<Reading, Refusal>
+    ensures ok { IfOk result (λ reading. reading_spread spread ≡ Ok reading) }
+    ensures limits { IfOk result (λ reading. IsWithinLimits reading.script) }
+    ensures there { IfOk result (λ reading. NamesWhatIsThere reading.script reading.expectations) }
+    ensures err { IfErr result (λ refusal. IsRefusalOf refusal (reading_spread spread)) }
+{
+    let Spread {
+        names: _,
+        values: _,
+        sentences,
+        faults: before,
+    } = spread;
+    let Listing {
+        names,
+        is_said: _,
+        faults,
+    } = listing_of(alloc, sentences.as_slice(), before)?;
+    let draft = draft_of(alloc, &names, sentences.as_slice(), faults)?;
+    sealed(alloc, names, draft)
+}
+
 // Reads the sentences of a text.
 pub(crate) fn read_sentences(alloc: Global, sentences: &[Sentence]) -> Result<Reading, Refusal>
     ensures ok { IfOk result (λ reading. reading_of_sentences sentences.now ≡ Ok reading) }
@@ -117,13 +140,8 @@ pub(crate) fn read_sentences(alloc: Global, sentences: &[Sentence]) -> Result<Re
     ensures there { IfOk result (λ reading. NamesWhatIsThere reading.script reading.expectations) }
     ensures err { IfErr result (λ refusal. IsRefusalOf refusal (reading_of_sentences sentences.now)) }
 {
-    let Listing {
-        names,
-        is_said: _,
-        faults,
-    } = listing_of(alloc, sentences)?;
-    let draft = draft_of(alloc, &names, sentences, faults)?;
-    sealed(alloc, names, draft)
+    let spread = spread_of(alloc, sentences)?;
+    read_spread(alloc, spread)
 }
 
 /// Reads a text: the script that it is, its names, and what it says of outcomes.

@@ -1,10 +1,10 @@
 // Whether two scripts are the same.
 ghost use Rattle.std.specs.Prelude.{◌≡◌, IsTrue};
-ghost use Rattle.lwkt_base.specs.declared.asks.Ask.TheVariants.{WriteBlob};
 
+use crate::same_steps::same_steps;
 use lwkt_base::blobs::are_same;
-use lwkt_base::{Ask, Blob, MsgSpec, TokId, TokSpec};
-use lwkt_script::{Script, ThreadSpec};
+use lwkt_base::{MsgSpec, TokSpec};
+use lwkt_script::{Code, Script, ThreadSpec};
 
 // Whether two tokens are the same.
 #[tactic(auto, using(crate::proofs::Equality::token_same))]
@@ -31,38 +31,15 @@ fn same_tokens(ones: &[TokSpec], others: &[TokSpec]) -> bool
     true
 }
 
-// Whether an ask stores this record in this token.
-fn is_storing(ask: &Ask, tok: TokId, blob: &Blob) -> bool
-    ensures { IsTrue result → ask.now ≡ WriteBlob tok blob.now }
-{
-    match ask {
-        Ask::WriteBlob(other, stored) => *other == tok && stored.is_same(blob),
-        _ => false,
-    }
-}
-
-// Whether two asks are the same.
-fn same_ask(one: &Ask, other: &Ask) -> bool
+// Whether two programs are the same.
+#[tactic(auto, using(crate::proofs::Equality::code_same))]
+fn same_code(one: &Code, other: &Code) -> bool
     ensures { IsTrue result → one.now ≡ other.now }
 {
-    match one {
-        Ask::WriteBlob(tok, blob) => is_storing(other, *tok, blob),
-        _ => *one == *other,
-    }
-}
-
-fn same_steps(ones: &[Ask], others: &[Ask]) -> bool
-    ensures { IsTrue result → ones.now ≡ others.now }
-{
-    if ones.len() != others.len() {
+    if !same_steps(one.steps(), other.steps()) {
         return false;
     }
-    for i in 0..ones.len() {
-        if !same_ask(&ones[i], &others[i]) {
-            return false;
-        }
-    }
-    true
+    one.repeat() == other.repeat() && one.vars().as_slice() == other.vars().as_slice()
 }
 
 // Whether two threads are the same.
@@ -70,10 +47,10 @@ fn same_steps(ones: &[Ask], others: &[Ask]) -> bool
 fn same_thread(one: &ThreadSpec, other: &ThreadSpec) -> bool
     ensures { IsTrue result → one.now ≡ other.now }
 {
-    if !same_steps(one.steps.as_slice(), other.steps.as_slice()) {
+    if !same_code(&one.code, &other.code) {
         return false;
     }
-    one.cpu == other.cpu && one.repeat == other.repeat
+    one.cpu == other.cpu && one.service == other.service
 }
 
 fn same_threads(ones: &[ThreadSpec], others: &[ThreadSpec]) -> bool

@@ -20,7 +20,7 @@ pub enum Kind {
     Letter,
     /// Any other byte, as `-`, `>` or `=`. Those that follow one another are one word.
     Sign,
-    /// A full stop, a word of its own.
+    /// A full stop or a bracket, a word of its own.
     Point,
 }
 
@@ -49,7 +49,7 @@ fn kind_of(byte: u8) -> Kind
         b'\n' | b';' => Kind::End,
         b' ' | b'\t' | b'\r' | b',' | b':' => Kind::Blank,
         b'#' => Kind::Remark,
-        b'.' => Kind::Point,
+        b'.' | b'(' | b')' | b'[' | b']' => Kind::Point,
         b'0'..=b'9' | b'A'..=b'Z' | b'a'..=b'z' | b'_' => Kind::Letter,
         _ => Kind::Sign,
     }

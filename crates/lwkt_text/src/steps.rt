@@ -1,14 +1,14 @@
 ghost use Rattle.std.specs.Prelude.{◌≡◌, ◌≤◌, ◌+◌, length, IfOk};
-ghost use Rattle.lwkt_text.specs.Stepping.{call_at, call_end, past, past_dropable, past_abortable, flags_at, flags_end, last_number, target_at, part_end, part_by_words, parts_at, known, step_ask};
+ghost use Rattle.lwkt_text.specs.Stepping.{call_at, call_end, past_dropable, past_abortable, flags_at, flags_end, last_number, target_at, part_end, part_by_words, parts_at, known, step_ask};
 
 use crate::looks::{
-    bytes_at, demand_at, ends_at, is_at, number_at, optional, past_key, text_at, wrong_at,
+    bytes_at, demand_at, ends_at, is_at, number_at, optional, past, past_key, text_at, wrong_at,
 };
 use crate::tables::{Names, cell_at, message_id_at, thread_id_at, thread_length, token_id_at};
 use crate::words::Word;
 use crate::wrongs::{Wanted, What, Wrong};
 use lwkt_base::limits::MOST_CODE;
-use lwkt_base::steps::{ask_of, verb_named};
+use lwkt_base::steps::{ask_of, verb_written};
 use lwkt_base::{Ask, Call, Flags, Part, PartKind, StepParts, ThreadId};
 
 /// `op N arg N` from word i on, each of them 0 where it is left out.
@@ -31,18 +31,9 @@ pub fn call_end(words: &[Word], i: usize) -> usize
     past_key(words, past_key(words, i, "op"), "arg")
 }
 
-// The place behind a word that may stand at i.
-fn past(words: &[Word], i: usize, text: &str) -> usize
-    requires { i ≤ 10000 }
-    ensures exact { result ≡ past words.now i text.now }
-    ensures most { result ≤ i + 1 }
-{
-    if is_at(words, i, text) { i + 1 } else { i }
-}
-
 // The place behind `dropable`.
 fn past_dropable(words: &[Word], i: usize) -> usize
-    requires { i ≤ 100 }
+    requires { i ≤ 9000 }
     ensures exact { result ≡ past_dropable words.now i }
     ensures most { result ≤ i + 1 }
 {
@@ -51,16 +42,16 @@ fn past_dropable(words: &[Word], i: usize) -> usize
 
 // The place behind `dropable abortable`.
 fn past_abortable(words: &[Word], i: usize) -> usize
-    requires { i ≤ 100 }
+    requires { i ≤ 9000 }
     ensures exact { result ≡ past_abortable words.now i }
     ensures most { result ≤ i + 2 }
 {
     past(words, past_dropable(words, i), "abortable")
 }
 
-// `dropable abortable priority` from word i on, as they are there.
-fn flags_at(words: &[Word], i: usize) -> Flags
-    requires { i ≤ 100 }
+/// `dropable abortable priority` from word i on, as they are there.
+pub fn flags_at(words: &[Word], i: usize) -> Flags
+    requires { i ≤ 9000 }
     ensures { result ≡ flags_at words.now i }
 {
     Flags {
@@ -70,9 +61,9 @@ fn flags_at(words: &[Word], i: usize) -> Flags
     }
 }
 
-// The place behind them.
-fn flags_end(words: &[Word], i: usize) -> usize
-    requires { i ≤ 100 }
+/// The place behind them.
+pub fn flags_end(words: &[Word], i: usize) -> usize
+    requires { i ≤ 9000 }
     ensures exact { result ≡ flags_end words.now i }
     ensures most { result ≤ i + 3 }
 {
@@ -92,7 +83,7 @@ pub fn last_number(words: &[Word], i: usize, high: u64) -> Result<u64, Wrong>
 
 // `-> THREAD` from word i on.
 fn target_at(names: &Names, words: &[Word], i: usize) -> Result<ThreadId, Wrong>
-    requires { i ≤ 100 }
+    requires { i ≤ 9000 }
     ensures { result ≡ target_at names.now words.now i }
 {
     demand_at(words, i, What::Word(Wanted::Arrow), is_at(words, i, "->"))?;
@@ -101,7 +92,7 @@ fn target_at(names: &Names, words: &[Word], i: usize) -> Result<ThreadId, Wrong>
 
 // The part of a kind from word i on.
 fn part_by_words(names: &Names, kind: PartKind, words: &[Word], i: usize) -> Result<Part, Wrong>
-    requires { i ≤ 100 }
+    requires { i ≤ 9000 }
     ensures { result ≡ part_by_words names.now kind words.now i }
 {
     Ok(match kind {
@@ -123,7 +114,7 @@ fn part_by_words(names: &Names, kind: PartKind, words: &[Word], i: usize) -> Res
 
 // The place behind such a part.
 fn part_end(kind: PartKind, words: &[Word], i: usize) -> usize
-    requires { i ≤ 100 }
+    requires { i ≤ 9000 }
     ensures exact { result ≡ part_end kind words.now i }
     ensures most { result ≤ i + 4 }
 {
@@ -162,7 +153,7 @@ fn known<A>(words: &[Word], found: Option<A>) -> Result<A, Wrong>
 pub fn step_ask(names: &Names, words: &[Word]) -> Result<Ask, Wrong>
     ensures { result ≡ step_ask names.now words.now }
 {
-    let verb = known(words, verb_named(text_at(words, 0)))?;
+    let verb = known(words, verb_written(text_at(words, 0)))?;
     let parts = parts_at(names, verb.kinds(), words)?;
     known(words, ask_of(verb, parts.as_slice()))
 }

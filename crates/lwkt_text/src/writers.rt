@@ -6,6 +6,7 @@ use crate::jsons::{law_name, write_bytes};
 use crate::pages::Sheet;
 use crate::readers::{Refusal, read_text};
 use crate::sames::same_script;
+use crate::steps_written::{write_steps, write_vars};
 use crate::unsaid::Unsaid;
 use lwkt_base::steps::step_of;
 use lwkt_base::{
@@ -14,15 +15,15 @@ use lwkt_base::{
 use lwkt_script::{Script, ThreadSpec};
 use std::alloc::Global;
 
-// How many tokens and messages have names.
+/// How many tokens and messages have names.
 #[derive(Clone, Copy)]
-struct Known {
-    tokens: usize,
-    messages: usize,
+pub struct Known {
+    pub tokens: usize,
+    pub messages: usize,
 }
 
-// A record: two digits for each byte, or `-` for none.
-fn write_record(page: &mut Sheet, text: &str, blob: &Blob) -> Result<(), OutOfMemory> {
+/// A record: two digits for each byte, or `-` for none.
+pub fn write_record(page: &mut Sheet, text: &str, blob: &Blob) -> Result<(), OutOfMemory> {
     page.text(text)?;
     if blob.is_empty() {
         return page.text("-");
@@ -66,16 +67,17 @@ fn write_message(page: &mut Sheet, i: usize, message: &MsgSpec) -> Result<(), Ou
 
 // A token: its name, if it has one, and else its number.
 fn write_tok(page: &mut Sheet, known: Known, tok: TokId) -> Result<(), OutOfMemory> {
-    page.text(if usize::from(tok.0) < known.tokens {
-        " t"
-    } else {
-        " "
-    })?;
-    page.number(u64::from(tok.0))
+    write_number_tok(page, known, u64::from(tok.0))
 }
 
-// A message: its name, if it has one, and else its number.
-fn write_msg(page: &mut Sheet, known: Known, msg: MsgId) -> Result<(), OutOfMemory> {
+/// A token of a number: its name, if it has one, and else its number.
+pub fn write_number_tok(page: &mut Sheet, known: Known, n: u64) -> Result<(), OutOfMemory> {
+    page.text(if n < known.tokens as u64 { " t" } else { " " })?;
+    page.number(n)
+}
+
+/// A message: its name, if it has one, and else its number.
+pub fn write_msg(page: &mut Sheet, known: Known, msg: MsgId) -> Result<(), OutOfMemory> {
     page.text(if usize::from(msg.0) < known.messages {
         " m"
     } else {
@@ -95,7 +97,8 @@ fn write_call(page: &mut Sheet, call: Call) -> Result<(), OutOfMemory> {
     Ok(())
 }
 
-fn write_flags(page: &mut Sheet, flags: Flags) -> Result<(), OutOfMemory> {
+/// What its origin may do with a message.
+pub fn write_flags(page: &mut Sheet, flags: Flags) -> Result<(), OutOfMemory> {
     if flags.dropable {
         page.text(", dropable")?;
     }
@@ -129,19 +132,12 @@ fn write_part(page: &mut Sheet, known: Known, part: &Part) -> Result<(), OutOfMe
     }
 }
 
-fn write_step(page: &mut Sheet, known: Known, ask: &Ask) -> Result<(), OutOfMemory> {
+/// An ask.
+pub fn write_ask(page: &mut Sheet, known: Known, ask: &Ask) -> Result<(), OutOfMemory> {
     let (verb, parts) = step_of(ask);
-    page.text("    ")?;
     page.text(verb.word())?;
     for part in parts.as_slice() {
         write_part(page, known, part)?;
-    }
-    page.text("\n")
-}
-
-fn write_steps(page: &mut Sheet, known: Known, steps: &[Ask]) -> Result<(), OutOfMemory> {
-    for ask in steps {
-        write_step(page, known, ask)?;
     }
     Ok(())
 }
@@ -155,11 +151,15 @@ fn write_thread(
 ) -> Result<(), OutOfMemory> {
     page.tagged("\nthread p", i as u64)?;
     page.tagged(" on ", u64::from(thread.cpu.0))?;
-    if thread.repeat != 1 {
-        page.tagged(", repeat ", u64::from(thread.repeat))?;
+    if thread.code.repeat() != 1 {
+        page.tagged(", repeat ", u64::from(thread.code.repeat()))?;
+    }
+    if thread.service {
+        page.text(", service")?;
     }
     page.text(":\n")?;
-    write_steps(page, known, thread.steps.as_slice())
+    write_vars(page, &thread.code)?;
+    write_steps(page, known, thread.code.steps())
 }
 
 fn write_tokens(page: &mut Sheet, tokens: &[TokSpec]) -> Result<(), OutOfMemory> {

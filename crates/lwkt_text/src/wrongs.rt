@@ -1,4 +1,5 @@
 use lwkt_base::{CpuId, MsgId, OutOfMemory, ThreadId, TokId};
+use lwkt_code::Flaw;
 
 /// What a claim names.
 #[derive(Clone, Copy, PartialEq, Eq)]
@@ -64,6 +65,30 @@ pub enum What {
     Crowd,
     /// The claim names this, and the script doesn't have it.
     Absent(Mention),
+    /// A variable of the thread is wanted.
+    Variable,
+    /// An expression is wanted: numbers, variables of the thread, `+ - * / %` and brackets.
+    Expression,
+    /// A condition is wanted.
+    Condition,
+    /// What stands on the sides of this sign doesn't go with it: numbers are added and compared, conditions joined by `and` and `or`.
+    Sides,
+    /// The expression goes on for too long.
+    Large,
+    /// This is wrong with the step by itself.
+    Flawed(Flaw),
+    /// A variable stands behind the first step of its thread.
+    Late,
+    /// No `if` is open here, or nothing that could end.
+    Unopened,
+    /// Nothing ends what this sentence begins.
+    Unended,
+    /// No loop is open here.
+    NoLoop,
+    /// The step stands in more than eight others, or a `for` in more than one.
+    Deep,
+    /// The loop goes round without an ask.
+    Silent,
 }
 
 /// A word that has to stand at its place.
@@ -77,6 +102,14 @@ pub enum Wanted {
     Of,
     /// `on`
     On,
+    /// `in`
+    In,
+    /// `=`
+    Equals,
+    /// `)`
+    Close,
+    /// `]`
+    Square,
 }
 
 /// What is wrong with a text, and where.

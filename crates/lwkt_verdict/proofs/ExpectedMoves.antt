@@ -2,7 +2,7 @@ use Rattle.std.proofs.Common.{inl, inr, ◌≡◌, ℕ, ◌<◌, List, [], ◌�
 use Rattle.std.specs.Prelude.{◌⊎◌, ◌↔◌, IsTrue, Bool, true, false, not, ◌==◌, ◌&&◌, is_some, if◌then◌else◌}
 use Rattle.std.proofs.lemmas.Bool.{false≢true, and_parts}
 use Rattle.lwkt_base.specs.declared.asks.Ask.{Ask}
-use Rattle.lwkt_base.specs.declared.asks.Ask.TheVariants.{Get, GetShared, TryGet, Rel, Swap, Read as ReadAsk, Write as WriteAsk, Add as AddAsk, ReadBlob as ReadBlobAsk, WriteBlob as WriteBlobAsk, Send as SendAsk, Do as DoAsk, Reply as ReplyAsk, Abort as AbortAsk, IsAborted, DropMsg as DropAsk, GetPort, WaitPort, Yield, Exit}
+use Rattle.lwkt_base.specs.declared.asks.Ask.TheVariants.{Get, GetShared, TryGet, Rel, Swap, Read as ReadAsk, Write as WriteAsk, Add as AddAsk, ReadBlob as ReadBlobAsk, WriteBlob as WriteBlobAsk, Send as SendAsk, Do as DoAsk, Reply as ReplyAsk, Abort as AbortAsk, IsAborted, DropMsg as DropAsk, GetPort, WaitPort, Yield, Exit, Fail}
 use Rattle.lwkt_base.specs.declared.names.CpuId.{CpuId}
 use Rattle.lwkt_base.specs.declared.names.TokId.{TokId}
 use Rattle.lwkt_base.specs.declared.asks.Answer.{Answer}
@@ -262,6 +262,7 @@ read_value m GetPort answer cpu t c value own = absurd (false≢true own)
 read_value m WaitPort answer cpu t c value own = absurd (false≢true own)
 read_value m Yield answer cpu t c value own = absurd (false≢true own)
 read_value m Exit answer cpu t c value own = absurd (false≢true own)
+read_value m (Fail number) answer cpu t c value own = absurd (false≢true own)
 
 record_value : (m : Machine) (ask : Ask) (answer : Option Answer) (cpu : CpuId) (t : TokId) (blob : List ℕ) → is_own m ask answer (ReadBlob cpu t blob) ≡ true → agrees_with_record answer blob ≡ true
 record_value m (Get tok) answer cpu t blob own = absurd (false≢true own)
@@ -284,6 +285,7 @@ record_value m GetPort answer cpu t blob own = absurd (false≢true own)
 record_value m WaitPort answer cpu t blob own = absurd (false≢true own)
 record_value m Yield answer cpu t blob own = absurd (false≢true own)
 record_value m Exit answer cpu t blob own = absurd (false≢true own)
+record_value m (Fail number) answer cpu t blob own = absurd (false≢true own)
 
 -- an answer with which an event is an ask's own, and which is no refusal, is expected of it
 own_expected : (m : Machine) (ask : Ask) (unasked : Bool) (answer : Option Answer) (e : Event) → is_own m ask answer e ≡ true → is_refused answer ≡ false → is_expected (expected_by unasked e) answer ≡ true

@@ -9,6 +9,7 @@ use Rattle.lwkt_base.specs.declared.names.ThreadId.{ThreadId}
 use Rattle.lwkt_core.specs.declared.events.Event.{Event}
 use Rattle.lwkt_core.specs.Events.{cpu_of}
 use Rattle.lwkt_core.specs.Machine.{Machine}
+use Rattle.lwkt_code.specs.Next.{next}
 use Rattle.lwkt_script.specs.declared.scripts.ThreadSpec.{ThreadSpec}
 use Rattle.lwkt_base.specs.declared.threads.ThreadLine.{ThreadLine}
 use Rattle.lwkt_verdict.specs.declared.turns.Poll.{Poll}
@@ -18,11 +19,11 @@ use Rattle.lwkt_verdict.specs.declared.progress.Piece.{Piece}
 use Rattle.lwkt_verdict.specs.Owns.{has_blocked}
 use Rattle.lwkt_verdict.specs.Asks.{may_answer}
 use Rattle.lwkt_verdict.specs.TurnParts.{after_all, GoesQuietly, IsPartOf}
-use Rattle.lwkt_verdict.specs.Threads.{slot_of, asked_in, asked_by, plan_of_thread, line_of, progress_after, ask_at, MayAsk, IsLogged, Rests, EndsAsShown}
-use Rattle.lwkt_verdict.specs.Run.{piece, came, asked_of_poll, PollFits, TurnFits, Idles, AreListed}
-use Rattle.lwkt_verdict.specs.Follow.{Awaited, Known, Follow, is_expected, asked_so, come, Bears, AllBear, Allows, AllAllow, AreShown, AreThreads, answered_at, none_answered, poll_so, GoesOnByPoll, DeclinesPoll, GoesOnUnasked, DeclinesUnasked, EndsHere, DeclinesEnd}
-use Rattle.lwkt_verdict.proofs.KnownMoves.{unpolled_allows}
-use Rattle.lwkt_verdict.specs.Followed.{unpolled, IsPolled, MayHear, MayBePolled, IsKept, MayRest, AllowsRest, MayNotRest, IsEnded, MayEnd, AllThreads, AllPairs, KeepsPlans, AreKept, MayAllRest, AllowAllRest, OneMayNotRest}
+use Rattle.lwkt_verdict.specs.Threads.{slot_of, asked_in, asked_by, plan_of_thread, program_of, line_of, told, progress_after, MayAsk, IsLogged, Rests, EndsAsShown}
+use Rattle.lwkt_verdict.specs.Run.{piece, came, came_by, asked_of_poll, PollFits, TurnFits, Idles, AreListed}
+use Rattle.lwkt_verdict.specs.Follow.{Awaited, Known, Follow, is_expected, asked_so, steps_of, entry_so, come, Bears, AllBear, Allows, AllAllow, AreShown, AreThreads, answered_at, none_answered, poll_so, GoesOnByPoll, DeclinesPoll, GoesOnUnasked, DeclinesUnasked, EndsHere, DeclinesEnd}
+use Rattle.lwkt_verdict.proofs.KnownMoves.{told_is, back_of, unpolled_allows}
+use Rattle.lwkt_verdict.specs.Followed.{log_so, unpolled, next_so, IsPolled, MayHear, MayAskNext, MayBePolled, IsKept, MayRest, AllowsRest, MayNotRest, IsEnded, MayEnd, AllThreads, AllPairs, KeepsPlans, AreKept, MayAllRest, AllowAllRest, OneMayNotRest}
 use Rattle.lwkt_verdict.proofs.EndMoves.{slot_cpu}
 use Rattle.lwkt_verdict.proofs.ShowMoves.{came_other, came_next, asked_here, asked_there, get_set, get_set_other}
 
@@ -88,48 +89,67 @@ bear_by m heard asked part table slot t u small inside at same polled answers li
     ]
 
 -- how far a thread has come that was polled, by what is shown
-came_heard : (heard : Answer) (table : List Known) (slot : ℕ) (t : Known) (before : List Piece) (answers : ℕ → Option Answer) → slot < 128 → slice_get table slot ≡ Some t → AreShown before table (answered_at slot (Some heard) answers) → came before slot ≡ come t (Some heard)
+came_heard : (heard : Answer) (table : List Known) (slot : ℕ) (t : Known) (before : List Piece) (answers : ℕ → Option Answer) → slot < 128 → slice_get table slot ≡ Some t → AreShown before table (answered_at slot (Some heard) answers) → came_by t.plan before slot ≡ come t (Some heard)
 came_heard heard table slot t before answers small at shown =
-    there (λ x. came before slot ≡ come x (answered_at slot (Some heard) answers slot)) (slice_get table slot) t at (shown slot small) ∙ ap (λ (a : Option Answer). come t a) (heard_here slot (Some heard) answers)
+    there (λ x. came_by x.plan before slot ≡ come x (answered_at slot (Some heard) answers slot)) (slice_get table slot) t at (shown slot small) ∙ ap (λ (a : Option Answer). come t a) (heard_here slot (Some heard) answers)
 
-shown_by : (m : Machine) (heard : Answer) (part : List Event) (table : List Known) (slot : ℕ) (t u : Known) (q : Poll) → slot_of q.thread ≡ slot → slot < 128 → slot < length table → slice_get table slot ≡ Some t → IsPolled m heard q.ask part t u → (answers : ℕ → Option Answer) → q.answer ≡ answers slot → (before : List Piece) → AreShown before table (answered_at slot (Some heard) answers) → AreShown (before ++ piece (Some q) part ∷ []) (slice_set table slot u) answers
-shown_by m heard part table slot t u q whose small inside at polled answers answered before shown k below =
+-- the same of the thread of the script
+came_at : (heard : Answer) (plans : List ThreadSpec) (cpu : ℕ) (thread : ThreadId) (table : List Known) (t : Known) (before : List Piece) (answers : ℕ → Option Answer) → thread.cpu.0 ≡ cpu → t.plan ≡ plan_of_thread cpu thread.thread plans → slot_of thread < 128 → slice_get table (slot_of thread) ≡ Some t → AreShown before table (answered_at (slot_of thread) (Some heard) answers) → came plans before cpu thread.thread ≡ come t (Some heard)
+came_at heard plans cpu thread table t before answers own planned small at shown =
+    ap (λ c. came_by (plan_of_thread cpu thread.thread plans) before (16 * c + thread.thread)) (sym own) ∙ ap (λ (o : Option ThreadSpec). came_by o before (slot_of thread)) (sym planned) ∙ came_heard heard table (slot_of thread) t before answers small at shown
+
+shown_by : (m : Machine) (heard : Answer) (part : List Event) (table : List Known) (slot : ℕ) (t u : Known) (q : Poll) → slot_of q.thread ≡ slot → slot < 128 → slot < length table → slice_get table slot ≡ Some t → u.plan ≡ t.plan → IsPolled m heard q.ask part t u → (answers : ℕ → Option Answer) → q.answer ≡ answers slot → (before : List Piece) → AreShown before table (answered_at slot (Some heard) answers) → AreShown (before ++ piece (Some q) part ∷ []) (slice_set table slot u) answers
+shown_by m heard part table slot t u q whose small inside at same polled answers answered before shown k below =
     let p : Piece = piece (Some q) part in
     let a : Asked = asked_of_poll q (has_blocked q.ask part) in
-    let G : ℕ → Type 0 = λ j. MatchOption (slice_get (slice_set table slot u) j) ⊥ (λ x. came (before ++ p ∷ []) j ≡ come x (answers j)) in
+    let G : ℕ → Type 0 = λ j. MatchOption (slice_get (slice_set table slot u) j) ⊥ (λ x. came_by x.plan (before ++ p ∷ []) j ≡ come x (answers j)) in
     elim (cases_eq slot k) [
-      | inl is ↦ (let next : came (before ++ p ∷ []) slot ≡ progress_after (came before slot) a = came_next slot before p a (asked_here slot q (has_blocked q.ask part) whose) in
-          let from : progress_after (came before slot) a ≡ progress_after (come t (Some heard)) a = ap (λ (x : Progress). progress_after x a) (came_heard heard table slot t before answers small at shown) in
-          let to : come u q.answer ≡ progress_after (come t (Some heard)) a = polled.came q.answer in
-          let now : came (before ++ p ∷ []) slot ≡ come u (answers slot) = next ∙ from ∙ sym to ∙ ap (λ (x : Option Answer). come u x) answered in
-          subst G is (here (λ x. came (before ++ p ∷ []) slot ≡ come x (answers slot)) (slice_get (slice_set table slot u) slot) u (get_set table slot u inside) now))
-      | inr apart ↦ (let stays : came (before ++ p ∷ []) k ≡ came before k = came_other k before p (asked_there k q (has_blocked q.ask part) (λ is. apart (sym whose ∙ is))) in
-          let O : Option Known → Type 0 = λ o. MatchOption o ⊥ (λ x. came (before ++ p ∷ []) k ≡ come x (answers k)) in
-          let then_so : (x : Known) → came before k ≡ come x (answered_at slot (Some heard) answers k) → came (before ++ p ∷ []) k ≡ come x (answers k) = λ x e. stays ∙ e ∙ ap (λ (b : Option Answer). come x b) (heard_there slot k (Some heard) answers apart) in
-          subst O (sym (get_set_other table slot k u apart)) (mapped (λ x. came before k ≡ come x (answered_at slot (Some heard) answers k)) (λ x. came (before ++ p ∷ []) k ≡ come x (answers k)) (slice_get table k) then_so (shown k below)))
+      | inl is ↦ (let from : came_by t.plan (before ++ p ∷ []) slot ≡ progress_after (steps_of t) (came_by t.plan before slot) a = came_next t.plan slot before p a (asked_here slot q (has_blocked q.ask part) whose) in
+          let on : progress_after (steps_of t) (came_by t.plan before slot) a ≡ progress_after (steps_of t) (come t (Some heard)) a = ap (λ (x : Progress). progress_after (steps_of t) x a) (came_heard heard table slot t before answers small at shown) in
+          let to : come u q.answer ≡ progress_after (steps_of t) (come t (Some heard)) a = polled.came q.answer in
+          let now : came_by u.plan (before ++ p ∷ []) slot ≡ come u (answers slot) = ap (λ (o : Option ThreadSpec). came_by o (before ++ p ∷ []) slot) same ∙ from ∙ on ∙ sym to ∙ ap (λ (x : Option Answer). come u x) answered in
+          subst G is (here (λ x. came_by x.plan (before ++ p ∷ []) slot ≡ come x (answers slot)) (slice_get (slice_set table slot u) slot) u (get_set table slot u inside) now))
+      | inr apart ↦ (let stays : (x : Known) → came_by x.plan (before ++ p ∷ []) k ≡ came_by x.plan before k = λ x. came_other x.plan k before p (asked_there k q (has_blocked q.ask part) (λ is. apart (sym whose ∙ is))) in
+          let O : Option Known → Type 0 = λ o. MatchOption o ⊥ (λ x. came_by x.plan (before ++ p ∷ []) k ≡ come x (answers k)) in
+          let then_so : (x : Known) → came_by x.plan before k ≡ come x (answered_at slot (Some heard) answers k) → came_by x.plan (before ++ p ∷ []) k ≡ come x (answers k) = λ x e. stays x ∙ e ∙ ap (λ (b : Option Answer). come x b) (heard_there slot k (Some heard) answers apart) in
+          subst O (sym (get_set_other table slot k u apart)) (mapped (λ x. came_by x.plan before k ≡ come x (answered_at slot (Some heard) answers k)) (λ x. came_by x.plan (before ++ p ∷ []) k ≡ come x (answers k)) (slice_get table k) then_so (shown k below)))
     ]
+
+-- a thread's next ask, as a run has it and as a check knows it
+may_ask : (heard : Answer) (asked : Ask) (t : Known) (o : Option ThreadSpec) → t.plan ≡ o → MatchOption o ⊥ (λ plan. asked ≡ (next_so t heard).0) → MatchOption o ⊥ (λ plan. MayAsk plan.code.steps (come t (Some heard)) asked)
+may_ask heard asked t None is asks = absurd asks
+may_ask heard asked t (Some plan) is asks = (
+  asks ∙ ap (λ (x : Answer). (next (steps_of t) t.local x).0) (sym (told_is heard t)) ∙ ap (λ (o : Option ThreadSpec). (next (program_of o).steps t.local (told (come t (Some heard)).last)).0) is,
+  heard_last heard t.last,
+)
+
+ask_may : (heard : Answer) (asked : Ask) (t : Known) (o : Option ThreadSpec) → t.plan ≡ o → MatchOption o ⊥ (λ plan. MayAsk plan.code.steps (come t (Some heard)) asked) → MatchOption o ⊥ (λ plan. asked ≡ (next_so t heard).0)
+ask_may heard asked t None is may = absurd may
+ask_may heard asked t (Some plan) is may =
+    may.0 ∙ ap (λ (o : Option ThreadSpec). (next (program_of o).steps t.local (told (come t (Some heard)).last)).0) (sym is) ∙ ap (λ (x : Answer). (next (steps_of t) t.local x).0) (told_is heard t)
 
 -- the poll of a thread fits how far the thread has come
 poll_fits : (m : Machine) (heard : Answer) (asked : Ask) (part : List Event) (plans : List ThreadSpec) (lines : List ThreadLine) (cpu : ℕ) (thread : ThreadId) (t u : Known) (line : ThreadLine) (answer : Option Answer) → thread.cpu.0 ≡ cpu → thread.thread < 16 → t.plan ≡ plan_of_thread cpu thread.thread plans → line_of (slot_of thread) lines ≡ Some line → IsPolled m heard asked part t u → Bears u answer line → PollFits plans lines cpu (come t (Some heard)) (record { answer = answer; ask = asked; thread = thread })
 poll_fits m heard asked part plans lines cpu thread t u line answer own few planned at polled bears =
-    let May : ThreadSpec → Type 0 = λ plan. MayAsk plan (come t (Some heard)) asked in
-    let M : Option ThreadSpec → Type 0 = λ o. MatchOption o ⊥ May in
-    let L : ℕ → Type 0 = λ c. MatchOption (line_of (16 * c + thread.thread) lines) ⊥ (λ l. IsLogged l (come t (Some heard)) (record { ask = asked; answer = answer; blocked = false })) in
+    let M : Option ThreadSpec → Type 0 = λ o. MatchOption o ⊥ (λ plan. MayAsk plan.code.steps (come t (Some heard)) asked) in
+    let a : Asked = record { ask = asked; answer = answer; blocked = false } in
+    let L : ℕ → Option ThreadSpec → Type 0 = λ c o. MatchOption (line_of (16 * c + thread.thread) lines) ⊥ (λ l. IsLogged (program_of o).steps l (come t (Some heard)) a) in
+    let logs : L thread.cpu.0 t.plan = here (λ l. IsLogged (steps_of t) l (come t (Some heard)) a) (line_of (slot_of thread) lines) line at (polled.logs answer line bears) in
     record {
       here = own;
       numbered = few;
-      asks = subst M planned (mapped (λ plan. ask_at plan t.polls ≡ Some asked) May t.plan (λ plan is. (is, heard_last heard t.last)) polled.asks);
+      asks = subst M planned (may_ask heard asked t t.plan refl polled.asks);
       answers = polled.answers answer line bears;
-      logs = subst L own (here (λ l. IsLogged l (come t (Some heard)) (record { ask = asked; answer = answer; blocked = false })) (line_of (slot_of thread) lines) line at (polled.logs answer line bears));
+      logs = subst (λ c. L c (plan_of_thread cpu thread.thread plans)) own (subst (λ (o : Option ThreadSpec). L thread.cpu.0 o) planned logs);
     }
 
 -- what is possible of a thread that was polled, it is after the poll, where that fits
-allows_heard : (m : Machine) (heard : Answer) (asked : Ask) (part : List Event) (t u : Known) (o : Option ThreadLine) (answer : Option Answer) → IsPolled m heard asked part t u → Allows t (Some heard) o → MatchOption answer (Unit {0}) (λ a. may_answer asked a ≡ true) → MatchOption o ⊥ (λ line. IsLogged line (come t (Some heard)) (record { ask = asked; answer = answer; blocked = false })) → IsPartOf m asked answer part → Allows u answer o
+allows_heard : (m : Machine) (heard : Answer) (asked : Ask) (part : List Event) (t u : Known) (o : Option ThreadLine) (answer : Option Answer) → IsPolled m heard asked part t u → Allows t (Some heard) o → MatchOption answer (Unit {0}) (λ a. may_answer asked a ≡ true) → MatchOption o ⊥ (λ line. IsLogged (steps_of t) line (come t (Some heard)) (record { ask = asked; answer = answer; blocked = false })) → IsPartOf m asked answer part → Allows u answer o
 allows_heard m heard asked part t u None answer polled allows answers logs makes = absurd logs
 allows_heard m heard asked part t u (Some line) answer polled allows answers logs makes = record { bears = polled.allows answer line allows.bears answers logs makes; unblocked = polled.unblocked }
 
-allows_by : (m : Machine) (heard : Answer) (thread : ThreadId) (asked : Ask) (part : List Event) (plans : List ThreadSpec) (cpu : ℕ) (table : List Known) (t u : Known) → slot_of thread < 128 → slot_of thread < length table → slice_get table (slot_of thread) ≡ Some t → IsPolled m heard asked part t u → (answers : ℕ → Option Answer) (lines : List ThreadLine) → AllAllow table (answered_at (slot_of thread) (Some heard) answers) lines → (before : List Piece) → AreShown before table (answered_at (slot_of thread) (Some heard) answers) → TurnFits plans lines cpu m before (poll_so thread asked answers) part → AllAllow (slice_set table (slot_of thread) u) answers lines
-allows_by m heard thread asked part plans cpu table t u small inside at polled answers lines allow before shown fits k below =
+allows_by : (m : Machine) (heard : Answer) (thread : ThreadId) (asked : Ask) (part : List Event) (plans : List ThreadSpec) (cpu : ℕ) (table : List Known) (t u : Known) → t.plan ≡ plan_of_thread cpu thread.thread plans → slot_of thread < 128 → slot_of thread < length table → slice_get table (slot_of thread) ≡ Some t → IsPolled m heard asked part t u → (answers : ℕ → Option Answer) (lines : List ThreadLine) → AllAllow table (answered_at (slot_of thread) (Some heard) answers) lines → (before : List Piece) → AreShown before table (answered_at (slot_of thread) (Some heard) answers) → TurnFits plans lines cpu m before (poll_so thread asked answers) part → AllAllow (slice_set table (slot_of thread) u) answers lines
+allows_by m heard thread asked part plans cpu table t u planned small inside at polled answers lines allow before shown fits k below =
     let slot = slot_of thread in
     let a : Asked = record { ask = asked; answer = answers slot; blocked = false } in
     let A : Option Answer → Known → Type 0 = λ answer x. Allows x answer (line_of slot lines) in
@@ -137,9 +157,9 @@ allows_by m heard thread asked part plans cpu table t u small inside at polled a
     elim (cases_eq slot k) [
       | inl is ↦ (let old : A (answered_at slot (Some heard) answers slot) t = there (A (answered_at slot (Some heard) answers slot)) (slice_get table slot) t at (allow slot small) in
           let heard_so : A (Some heard) t = subst (λ (x : Option Answer). A x t) (heard_here slot (Some heard) answers) old in
-          let L : ℕ → Type 0 = λ c. MatchOption (line_of (16 * c + thread.thread) lines) ⊥ (λ line. IsLogged line (came before slot) a) in
-          let logs : MatchOption (line_of slot lines) ⊥ (λ line. IsLogged line (came before slot) a) = subst L (sym fits.polls.here) fits.polls.logs in
-          let P : Progress → Type 0 = λ p. MatchOption (line_of slot lines) ⊥ (λ line. IsLogged line p a) in
+          let L : ℕ → Option ThreadSpec → Type 0 = λ c o. MatchOption (line_of (16 * c + thread.thread) lines) ⊥ (λ line. IsLogged (program_of o).steps line (came_by o before (16 * c + thread.thread)) a) in
+          let logs : L thread.cpu.0 t.plan = subst (λ (o : Option ThreadSpec). L thread.cpu.0 o) (sym planned) (subst (λ c. L c (plan_of_thread cpu thread.thread plans)) (sym fits.polls.here) fits.polls.logs) in
+          let P : Progress → Type 0 = λ p. MatchOption (line_of slot lines) ⊥ (λ line. IsLogged (steps_of t) line p a) in
           let logs_so : P (come t (Some heard)) = subst P (came_heard heard table slot t before answers small at shown) logs in
           let new : A (answers slot) u = allows_heard m heard asked part t u (line_of slot lines) (answers slot) polled heard_so fits.polls.answers logs_so fits.makes in
           subst G is (here (A (answers slot)) (slice_get (slice_set table slot u) slot) u (get_set table slot u inside) new))
@@ -156,7 +176,7 @@ goes_by_poll cpu thread heard asked part old new t u processor own few events th
     let inside : slot < length old.table = omega (arith, small, threads.0) in
     let P : ℕ → Type 0 = λ c. MatchOption (slice_get old.table (16 * c + thread.thread)) ⊥ (λ x. x.plan ≡ plan_of_thread cpu thread.thread old.plans) in
     let planned : t.plan ≡ plan_of_thread cpu thread.thread old.plans = there (λ x. x.plan ≡ plan_of_thread cpu thread.thread old.plans) (slice_get old.table slot) t at (subst P (sym own) (threads.1 cpu thread.thread processor few)) in
-    let present : u.plan ≡ None → ⊥ = λ none. not_none (λ plan. ask_at plan t.polls ≡ Some asked) t.plan polled.asks (sym same ∙ none) in
+    let present : u.plan ≡ None → ⊥ = λ none. not_none (λ plan. asked ≡ (next_so t heard).0) t.plan polled.asks (sym same ∙ none) in
     let N : Follow = record { plans = old.plans; table = slice_set old.table slot u; machine = after_all old.machine part } in
     let F : Follow → Type 0 = λ f. GoesOnByPoll cpu thread heard asked part old f in
     subst F (sym is) (record {
@@ -171,28 +191,11 @@ goes_by_poll cpu thread heard asked part old new t u processor own few events th
           record {
             own = events;
             makes = polled.makes (answers slot) line.0 line.1.1;
-            polls = subst Fits (sym (came_heard heard old.table slot t before answers small at shown)) (poll_fits old.machine heard asked part old.plans lines cpu thread t u line.0 (answers slot) own few planned line.1.0 polled line.1.1);
+            polls = subst Fits (sym (came_at heard old.plans cpu thread old.table t before answers own planned small at shown)) (poll_fits old.machine heard asked part old.plans lines cpu thread t u line.0 (answers slot) own few planned line.1.0 polled line.1.1);
           });
-      shown = λ answers before shown. shown_by old.machine heard part old.table slot t u (record { answer = answers slot; ask = asked; thread = thread }) refl small inside at polled answers refl before shown;
-      allows = λ answers lines allow before shown fits. allows_by old.machine heard thread asked part old.plans cpu old.table t u small inside at polled answers lines allow before shown fits;
+      shown = λ answers before shown. shown_by old.machine heard part old.table slot t u (record { answer = answers slot; ask = asked; thread = thread }) refl small inside at same polled answers refl before shown;
+      allows = λ answers lines allow before shown fits. allows_by old.machine heard thread asked part old.plans cpu old.table t u planned small inside at polled answers lines allow before shown fits;
     })
-
--- what a turn asked of a thread is one ask at most
-asked_few : (slot : ℕ) (p : Piece) → length (asked_in slot p) ≤ 1
-asked_few slot p = go p.poll
-  where
-    one : (b : Bool) (a : Asked) → length {A = Asked} (if b then a ∷ [] else []) ≤ 1
-    one true a = omega arith
-    one false a = omega arith
-
-    go : (o : Option Poll) → length {A = Asked} (asked_in slot (record { poll = o; blocked = p.blocked })) ≤ 1
-    go None = omega arith
-    go (Some q) = one (slot_of q.thread == slot) (record { ask = q.ask; answer = q.answer; blocked = p.blocked })
-
--- so a thread was polled no more often than there were turns
-polled_few : (slot : ℕ) (before : List Piece) → length (asked_by slot before) ≤ length before
-polled_few slot [] = omega arith
-polled_few slot (p ∷ before) = omega (arith, asked_few slot p, polled_few slot before, length-append (asked_in slot p) (asked_by slot before))
 
 -- what its last ask was answered, where that is possible
 hears_by : (heard : Answer) (o : Option Awaited) → MatchOption o (Unit {0}) (λ w. is_expected w.expected (Some heard) ≡ true) → MatchOption o (Unit {0}) (λ w. may_answer w.ask heard ≡ true) → MatchOption o (Unit {0}) (λ w. (is_expected w.expected (Some heard) ≡ true) × (may_answer w.ask heard ≡ true))
@@ -207,7 +210,7 @@ may_hear heard t (Some line) allows = hears_by heard t.last allows.bears.expecte
 
 -- a check doesn't go on by a poll that its thread can't have had
 pub declines_at : (cpu : ℕ) (thread : ThreadId) (heard : Answer) (asked : Ask) (part : List Event) (plans : List ThreadSpec) (table : List Known) (m : Machine) (place : ℕ) (t : Known) → cpu < 8 → thread.cpu.0 ≡ cpu → thread.thread < 16 → place ≡ 16 * cpu + thread.thread → AreThreads plans table → t ≡ get_or table place t → ¬ MayBePolled m heard asked part t → DeclinesPoll cpu thread heard asked part (follow plans table m)
-declines_at cpu thread heard asked part plans table m place t processor own few is_place threads is unfit lines before turns allow shown fits =
+declines_at cpu thread heard asked part plans table m place t processor own few is_place threads is unfit lines before allow shown fits =
     let slot = slot_of thread in
     let same : place ≡ slot = is_place ∙ ap (λ k. 16 * k + thread.thread) (sym own) in
     let small : slot < 128 = omega (arith, own) in
@@ -217,18 +220,14 @@ declines_at cpu thread heard asked part plans table m place t processor own few 
     let A : Option Answer → Type 0 = λ answer. Allows t answer (line_of slot lines) in
     let old : A (answered_at slot (Some heard) none_answered slot) = there (λ x. Allows x (answered_at slot (Some heard) none_answered slot) (line_of slot lines)) (slice_get table slot) t at (allow slot small) in
     let allowed : A (Some heard) = subst A (heard_here slot (Some heard) none_answered) old in
-    let came_so : came before slot ≡ come t (Some heard) = came_heard heard table slot t before none_answered small at shown in
-    let polls : length (asked_by slot before) ≡ t.polls = ap (λ (p : Progress). p.polls) came_so in
     let P : ℕ → Type 0 = λ c. MatchOption (slice_get table (16 * c + thread.thread)) ⊥ (λ x. x.plan ≡ plan_of_thread cpu thread.thread plans) in
     let planned : t.plan ≡ plan_of_thread cpu thread.thread plans = there (λ x. x.plan ≡ plan_of_thread cpu thread.thread plans) (slice_get table slot) t at (subst P (sym own) (threads.1 cpu thread.thread processor few)) in
-    let May : Progress → ThreadSpec → Type 0 = λ p plan. MayAsk plan p asked in
-    let M : Progress → Type 0 = λ p. MatchOption (plan_of_thread cpu thread.thread plans) ⊥ (May p) in
-    let next : M (come t (Some heard)) = subst M came_so fits.polls.asks in
-    let N : Option ThreadSpec → Type 0 = λ o. MatchOption o ⊥ (λ plan. ask_at plan t.polls ≡ Some asked) in
+    let M : Progress → Type 0 = λ p. MatchOption (plan_of_thread cpu thread.thread plans) ⊥ (λ plan. MayAsk plan.code.steps p asked) in
+    let next_ask : M (come t (Some heard)) = subst M (came_at heard plans cpu thread table t before none_answered own planned small at shown) fits.polls.asks in
+    let N : Option ThreadSpec → Type 0 = λ o. MatchOption o ⊥ (λ plan. asked ≡ (next_so t heard).0) in
     unfit (record {
-      few = omega (arith, polls, polled_few slot before, turns);
       hears = may_hear heard t (line_of slot lines) allowed;
-      asks = subst N (sym planned) (mapped (May (come t (Some heard))) (λ plan. ask_at plan t.polls ≡ Some asked) (plan_of_thread cpu thread.thread plans) (λ plan may. may.0) next);
+      asks = subst N (sym planned) (ask_may heard asked t (plan_of_thread cpu thread.thread plans) planned next_ask);
       makes = fits.makes;
     })
 
@@ -275,8 +274,9 @@ shown_kept : (table after : List Known) (part : List Event) → AreKept table af
 shown_kept table after part kept answers before shown k below =
     let one = some_at (λ t. MatchOption (slice_get after k) ⊥ (IsKept t)) (slice_get table k) (kept k below) in
     let other = some_at (IsKept one.0) (slice_get after k) one.1.1 in
-    let came_so = there (λ t. came before k ≡ come t (answers k)) (slice_get table k) one.0 one.1.0 (shown k below) in
-    here (λ u. came (before ++ piece None part ∷ []) k ≡ come u (answers k)) (slice_get after k) other.0 other.1.0 (came_other k before (piece None part) refl ∙ came_so ∙ sym (other.1.1.came (answers k)))
+    let came_so = there (λ t. came_by t.plan before k ≡ come t (answers k)) (slice_get table k) one.0 one.1.0 (shown k below) in
+    let same = ap (λ (o : Option ThreadSpec). came_by o (before ++ piece None part ∷ []) k) other.1.1.plan in
+    here (λ u. came_by u.plan (before ++ piece None part ∷ []) k ≡ come u (answers k)) (slice_get after k) other.0 other.1.0 (same ∙ came_other one.0.plan k before (piece None part) refl ∙ came_so ∙ sym (other.1.1.came (answers k)))
 
 -- a thread may rest that is there, whatever its last ask is answered
 rests_by : (t u : Known) (plan : Option ThreadSpec) (o : Option ThreadLine) (answer : Option Answer) (p : Progress) → t.plan ≡ plan → IsKept t u → MayRest t u → BearsAt o answer u → p ≡ come t answer → MatchOption plan (Unit {0}) (λ s. Rests p)
@@ -287,17 +287,17 @@ rests_by t u (Some s) o answer p is kept may bears came_so =
     let rests : F (Some s) = subst F is may in
     subst Rests (sym came_so) (rests answer line.0 line.1.1)
 
-idles_by : (cpu : ℕ) (plans : List ThreadSpec) (table after : List Known) → cpu < 8 → AreThreads plans table → AreKept table after → MayAllRest cpu table after → (answers : ℕ → Option Answer) (lines : List ThreadLine) → AllBear after answers lines → (before : List Piece) → AreShown before table answers → Idles plans cpu (came before)
+idles_by : (cpu : ℕ) (plans : List ThreadSpec) (table after : List Known) → cpu < 8 → AreThreads plans table → AreKept table after → MayAllRest cpu table after → (answers : ℕ → Option Answer) (lines : List ThreadLine) → AllBear after answers lines → (before : List Piece) → AreShown before table answers → Idles plans cpu (came plans before cpu)
 idles_by cpu plans table after processor threads kept rests answers lines bear before shown n few =
     let k = 16 * cpu + n in
     let below : k < 128 = omega arith in
     let one = some_at (λ t. t.plan ≡ plan_of_thread cpu n plans) (slice_get table k) (threads.1 cpu n processor few) in
     let other = pair_at IsKept (slice_get table k) (slice_get after k) one.0 one.1.0 (kept k below) in
     let resting = there (λ u. k / 16 ≡ cpu → MayRest one.0 u) (slice_get after k) other.0 other.1.0 (there (λ t. MatchOption (slice_get after k) ⊥ (λ u. k / 16 ≡ cpu → MayRest t u)) (slice_get table k) one.0 one.1.0 (rests k below)) in
-    rests_by one.0 other.0 (plan_of_thread cpu n plans) (line_of k lines) (answers k) (came before k) one.1.1 other.1.1 (resting (slot_cpu cpu n few)) (there (BearsAt (line_of k lines) (answers k)) (slice_get after k) other.0 other.1.0 (bear k below)) (there (λ t. came before k ≡ come t (answers k)) (slice_get table k) one.0 one.1.0 (shown k below))
+    rests_by one.0 other.0 (plan_of_thread cpu n plans) (line_of k lines) (answers k) (came plans before cpu n) one.1.1 other.1.1 (resting (slot_cpu cpu n few)) (there (BearsAt (line_of k lines) (answers k)) (slice_get after k) other.0 other.1.0 (bear k below)) (ap (λ (o : Option ThreadSpec). came_by o before k) (sym one.1.1) ∙ there (λ t. came_by t.plan before k ≡ come t (answers k)) (slice_get table k) one.0 one.1.0 (shown k below))
 
 -- what is possible of the threads, of which one processor's rest
-allows_kept : (cpu : ℕ) (plans : List ThreadSpec) (table after : List Known) → cpu < 8 → AreThreads plans table → AllowAllRest cpu table after → (answers : ℕ → Option Answer) (lines : List ThreadLine) → AllAllow table answers lines → (before : List Piece) → AreShown before table answers → Idles plans cpu (came before) → AllAllow after answers lines
+allows_kept : (cpu : ℕ) (plans : List ThreadSpec) (table after : List Known) → cpu < 8 → AreThreads plans table → AllowAllRest cpu table after → (answers : ℕ → Option Answer) (lines : List ThreadLine) → AllAllow table answers lines → (before : List Piece) → AreShown before table answers → Idles plans cpu (came plans before cpu) → AllAllow after answers lines
 allows_kept cpu plans table after processor threads rests answers lines allow before shown idles k below =
     let one = some_at (λ t. Allows t (answers k) (line_of k lines)) (slice_get table k) (allow k below) in
     let t = one.0 in
@@ -310,11 +310,11 @@ allows_kept cpu plans table after processor threads rests answers lines allow be
           let place : 16 * cpu + n ≡ k = omega (arith, is) in
           let T : ℕ → Type 0 = λ j. MatchOption (slice_get table j) ⊥ (λ x. x.plan ≡ plan_of_thread cpu n plans) in
           let planned : t.plan ≡ plan_of_thread cpu n plans = there (λ x. x.plan ≡ plan_of_thread cpu n plans) (slice_get table k) t one.1.0 (subst T place (threads.1 cpu n processor few)) in
-          let came_so : came before k ≡ come t (answers k) = there (λ x. came before k ≡ come x (answers k)) (slice_get table k) t one.1.0 (shown k below) in
+          let came_so : came_by t.plan before k ≡ come t (answers k) = there (λ x. came_by x.plan before k ≡ come x (answers k)) (slice_get table k) t one.1.0 (shown k below) in
           let R : Progress → Option ThreadSpec → Type 0 = λ p o. MatchOption o (Unit {0}) (λ plan. Rests p) in
-          let Q : ℕ → Type 0 = λ j. R (came before j) (plan_of_thread cpu n plans) in
-          let idle : R (came before k) (plan_of_thread cpu n plans) = subst Q place (idles n few) in
-          let rest : R (come t (answers k)) t.plan = subst (λ (p : Progress). R p t.plan) came_so (subst (λ (o : Option ThreadSpec). R (came before k) o) (sym planned) idle) in
+          let Q : ℕ → Type 0 = λ j. R (came_by (plan_of_thread cpu n plans) before j) (plan_of_thread cpu n plans) in
+          let idle : R (came_by (plan_of_thread cpu n plans) before k) (plan_of_thread cpu n plans) = subst Q place (idles n few) in
+          let rest : R (come t (answers k)) t.plan = subst (λ (p : Progress). R p t.plan) came_so (subst (λ (o : Option ThreadSpec). R (came_by o before k) o) (sym planned) idle) in
           other.1.1.0 is (answers k) (line_of k lines) one.1.1 rest)
       | inr apart ↦ subst A (sym (other.1.1.1 apart)) one.1.1
     ] in
@@ -322,7 +322,7 @@ allows_kept cpu plans table after processor threads rests answers lines allow be
 
 -- a check doesn't go on by a turn that polled no thread, where one can't rest
 pub declines_rest : (cpu : ℕ) (part : List Event) (plans : List ThreadSpec) (table : List Known) (m : Machine) → cpu < 8 → AreThreads plans table → OneMayNotRest cpu table → DeclinesUnasked cpu part (follow plans table m)
-declines_rest cpu part plans table m processor threads loud lines before turns allow shown fits =
+declines_rest cpu part plans table m processor threads loud lines before allow shown fits =
     let n = loud.0 in
     let few : n < 16 = loud.1.0 in
     let k = 16 * cpu + n in
@@ -331,9 +331,9 @@ declines_rest cpu part plans table m processor threads loud lines before turns a
     let t = one.0 in
     let may_not : MayNotRest t = there MayNotRest (slice_get table k) t one.1.0 loud.1.1 in
     let allows : Allows t None (line_of k lines) = there (λ x. Allows x None (line_of k lines)) (slice_get table k) t one.1.0 (allow k below) in
-    let came_so : came before k ≡ come t None = there (λ x. came before k ≡ come x None) (slice_get table k) t one.1.0 (shown k below) in
+    let came_so : came_by t.plan before k ≡ come t None = there (λ x. came_by x.plan before k ≡ come x None) (slice_get table k) t one.1.0 (shown k below) in
     let R : Progress → Option ThreadSpec → Type 0 = λ p o. MatchOption o (Unit {0}) (λ plan. Rests p) in
-    may_not (line_of k lines) allows (subst (λ (p : Progress). R p t.plan) came_so (subst (λ (o : Option ThreadSpec). R (came before k) o) (sym one.1.1) (fits.polls n few)))
+    may_not (line_of k lines) allows (subst (λ (p : Progress). R p t.plan) came_so (subst (λ (o : Option ThreadSpec). R (came_by o before k) o) (sym one.1.1) (fits.polls n few)))
 
 -- a check goes on by a turn that polled no thread
 pub goes_unasked : (cpu : ℕ) (part : List Event) (plans : List ThreadSpec) (table after : List Known) (m n : Machine) → cpu < 8 → All (λ e. cpu_of e ≡ cpu) part → AreThreads plans table → GoesQuietly m part → n ≡ after_all m part → AreKept table after → MayAllRest cpu table after → AllowAllRest cpu table after → GoesOnUnasked cpu part (follow plans table m) (follow plans after n)
@@ -367,15 +367,15 @@ paired_by (Some plan) (Some line) p ends = refl
 -- the run ends where each thread ends as its line says
 pub ends_here : (plans : List ThreadSpec) (table : List Known) (m : Machine) (lines : List ThreadLine) (stop : List Event) → AreThreads plans table → AreListed m.cpus 0 lines → AllThreads (λ k t. IsEnded t (line_of k lines)) table → GoesQuietly m stop → EndsHere (follow plans table m) lines stop
 ends_here plans table m lines stop threads listed ended quiet =
-    let ends : (before : List Piece) → AreShown before table none_answered → (cpu n : ℕ) → cpu < 8 → n < 16 → EndsAsShown (plan_of_thread cpu n plans) (line_of (16 * cpu + n) lines) (came before (16 * cpu + n)) = λ before shown cpu n processor few. (
+    let ends : (before : List Piece) → AreShown before table none_answered → (cpu n : ℕ) → cpu < 8 → n < 16 → EndsAsShown (plan_of_thread cpu n plans) (line_of (16 * cpu + n) lines) (came plans before cpu n) = λ before shown cpu n processor few. (
     let k = 16 * cpu + n in
     let below : k < 128 = omega arith in
     let one = some_at (λ t. t.plan ≡ plan_of_thread cpu n plans) (slice_get table k) (threads.1 cpu n processor few) in
     let is = there (λ t. IsEnded t (line_of k lines)) (slice_get table k) one.0 one.1.0 (ended k below) in
-    let came_so = there (λ t. came before k ≡ come t None) (slice_get table k) one.0 one.1.0 (shown k below) in
-    let P : Option ThreadSpec → Type 0 = λ o. EndsAsShown o (line_of k lines) (come one.0 None) in
-    let Q : Progress → Type 0 = λ p. EndsAsShown (plan_of_thread cpu n plans) (line_of k lines) p in
-    subst Q (sym came_so) (subst P one.1.1 is.ends)) in
+    let came_so = there (λ t. came_by t.plan before k ≡ come t None) (slice_get table k) one.0 one.1.0 (shown k below) in
+    let P : Option ThreadSpec → Type 0 = λ o. EndsAsShown o (line_of k lines) (came_by o before k) in
+    let Q : Progress → Type 0 = λ p. EndsAsShown one.0.plan (line_of k lines) p in
+    subst P one.1.1 (subst Q (sym came_so) is.ends)) in
     record {
       listed = listed;
       paired = λ cpu n processor few. (
@@ -399,16 +399,16 @@ declines_end plans table m lines stop threads unfit before allow shown listed en
     let one = some_at (λ t. t.plan ≡ plan_of_thread cpu n plans) (slice_get table k) (subst T place (threads.1 cpu n processor few)) in
     let t = one.0 in
     let allows : Allows t None (line_of k lines) = there (λ x. Allows x None (line_of k lines)) (slice_get table k) t one.1.0 (allow k below) in
-    let came_so : came before k ≡ come t None = there (λ x. came before k ≡ come x None) (slice_get table k) t one.1.0 (shown k below) in
-    let E : ℕ → Type 0 = λ j. EndsAsShown (plan_of_thread cpu n plans) (line_of j lines) (came before j) in
+    let came_so : came_by t.plan before k ≡ come t None = there (λ x. came_by x.plan before k ≡ come x None) (slice_get table k) t one.1.0 (shown k below) in
+    let E : ℕ → Type 0 = λ j. EndsAsShown (plan_of_thread cpu n plans) (line_of j lines) (came_by (plan_of_thread cpu n plans) before j) in
     let heard : E k = subst E place (ends.ends cpu n processor few) in
-    let F : Option ThreadSpec → Type 0 = λ o. EndsAsShown o (line_of k lines) (come t None) in
-    let so : F t.plan = subst F (sym one.1.1) (subst (λ (p : Progress). EndsAsShown (plan_of_thread cpu n plans) (line_of k lines) p) came_so heard) in
+    let F : Option ThreadSpec → Type 0 = λ o. EndsAsShown o (line_of k lines) (came_by o before k) in
+    let so : EndsAsShown t.plan (line_of k lines) (come t None) = subst (λ (p : Progress). EndsAsShown t.plan (line_of k lines) p) came_so (subst F (sym one.1.1) heard) in
     here (λ x. MayEnd x (line_of k lines)) (slice_get table k) t one.1.0 (record { ends = so; logs = begun t (line_of k lines) allows }))
   where
-    begun : (t : Known) (o : Option ThreadLine) → Allows t None o → MatchOption o (Unit {0}) (λ l. take (length t.log) l.log ≡ t.log)
+    begun : (t : Known) (o : Option ThreadLine) → Allows t None o → MatchOption o (Unit {0}) (λ l. take (length (log_so t)) l.log ≡ log_so t)
     begun t None allows = tt
-    begun t (Some line) allows = allows.bears.entries
+    begun t (Some line) allows = back_of t.log (entry_so t None) line.log allows.bears.entries allows.bears.entry
 
 -- a number below the one after another, and not that one, is below that
 below_but : (k n : ℕ) → (n ≡ k → ⊥) → k < n + 1 → k < n
@@ -506,7 +506,7 @@ filled new items n is = take_at new (drop (length new) items) n is
 
 -- threads that were never polled
 pub begins_shown : (plan : ℕ → Option ThreadSpec) (table : List Known) (answers : ℕ → Option Answer) → AllThreads (λ k t. t ≡ unpolled (plan k)) table → AreShown [] table answers
-begins_shown plan table answers all k below = mapped (λ t. t ≡ unpolled (plan k)) (λ t. came [] k ≡ come t (answers k)) (slice_get table k) (λ t is. sym (ap (λ (x : Known). come x (answers k)) is)) (all k below)
+begins_shown plan table answers all k below = mapped (λ t. t ≡ unpolled (plan k)) (λ t. came_by t.plan [] k ≡ come t (answers k)) (slice_get table k) (λ t is. let F : Known → Type 0 = λ x. came_by x.plan [] k ≡ come x (answers k) in subst F (sym is) refl) (all k below)
 
 pub begins_allows : (plan : ℕ → Option ThreadSpec) (table : List Known) (answers : ℕ → Option Answer) (lines : List ThreadLine) → AllThreads (λ k t. t ≡ unpolled (plan k)) table → AllAllow table answers lines
 begins_allows plan table answers lines all k below = mapped (λ t. t ≡ unpolled (plan k)) (λ t. Allows t (answers k) (line_of k lines)) (slice_get table k) (λ t is. subst (λ (x : Known). Allows x (answers k) (line_of k lines)) (sym is) (unpolled_allows (plan k) (answers k) (line_of k lines))) (all k below)
@@ -517,3 +517,13 @@ one_open table lines k t line below room is same unfit all =
     let inside : k < length table = omega (arith, room) in
     let at : slice_get table k ≡ Some t = slice_get-get_or table k t inside ∙ ap (λ (x : Known). Some x) (sym is) in
     unfit (subst (MayEnd t) (sym same) (there (λ x. MayEnd x (line_of k lines)) (slice_get table k) t at (all k below)))
+
+-- one thread more ends as its line says
+pub ended_more : (table : List Known) (lines : List ThreadLine) (n : ℕ) (t : Known) (line : Option ThreadLine) → n < length table → t ≡ get_or table n t → line ≡ line_of n lines → IsEnded t line → ((k : ℕ) → k < n → MatchOption (slice_get table k) ⊥ (λ x. IsEnded x (line_of k lines))) → (k : ℕ) → k < n + 1 → MatchOption (slice_get table k) ⊥ (λ x. IsEnded x (line_of k lines))
+ended_more table lines n t line inside is same ended so_far k below =
+    let at : slice_get table n ≡ Some t = slice_get-get_or table n t inside ∙ ap (λ (x : Known). Some x) (sym is) in
+    let G : ℕ → Type 0 = λ j. MatchOption (slice_get table j) ⊥ (λ x. IsEnded x (line_of j lines)) in
+    elim (cases_eq n k) [
+      | inl e ↦ subst G e (here (λ x. IsEnded x (line_of n lines)) (slice_get table n) t at (subst (λ (o : Option ThreadLine). IsEnded t o) same ended))
+      | inr apart ↦ so_far k (below_but k n apart below)
+    ]

@@ -1,10 +1,16 @@
 use Rattle.std.proofs.Common.{zero, suc, inl, inr, ◌≡◌, ◌⊎◌, ℕ, ◌+◌, ◌-◌, ◌*◌, ◌<◌, List, [], ◌∷◌, ◌++◌, length, take, drop, true, false, refl, sym, ap, ◌∙◌, subst, arith, Option, Some, None, append-nil, append_assoc}
-use Rattle.std.specs.Prelude.{slice_get, is_some, min, MatchOption, IfSome}
-use Rattle.std.proofs.lemmas.Bool.{cases_eq, cases_order, cases_lt}
-use Rattle.std.proofs.lemmas.List.{length_push, take_all, take-append-le}
-use Rattle.std.proofs.lemmas.List.Elements.{filter_map-append}
-use Rattle.std.specs.List.{cons_option}
+use Rattle.std.specs.Prelude.{slice_get, is_some, map, min, option_to_list, MatchOption, IfSome}
+use Rattle.std.proofs.lemmas.Bool.{cases_eq, cases_order, cases_lt, false≢true}
+use Rattle.std.proofs.lemmas.List.{length_push, map-append, take_all, take-append-le}
+use Rattle.std.proofs.lemmas.Option.{none-some, slice_get_within}
+use Rattle.lwkt_base.specs.declared.asks.Ask.{Ask}
+use Rattle.lwkt_base.specs.declared.asks.Ask.TheVariants.{Exit, Fail}
+use Rattle.lwkt_base.specs.declared.asks.Answer.{Answer}
+use Rattle.lwkt_base.specs.declared.asks.Answer.TheVariants.{Begin, Done, Value, Bytes, Dropped, Got, NoMsg, Refused}
 use Rattle.lwkt_base.specs.declared.entries.Entry.{Entry}
+use Rattle.lwkt_code.specs.declared.locals.Local.{Local}
+use Rattle.lwkt_code.specs.Next.{next, asks_by}
+use Rattle.lwkt_code.specs.Programs.{Program, start}
 use Rattle.lwkt_core.specs.declared.events.Event.{Event}
 use Rattle.lwkt_core.specs.Machine.{Machine}
 use Rattle.lwkt_script.specs.declared.scripts.ThreadSpec.{ThreadSpec}
@@ -13,11 +19,12 @@ use Rattle.lwkt_verdict.specs.declared.turns.Poll.{Poll}
 use Rattle.lwkt_verdict.specs.declared.turns.Turn.{Turn}
 use Rattle.lwkt_verdict.specs.declared.progress.Asked.{Asked}
 use Rattle.lwkt_verdict.specs.declared.progress.Piece.{Piece}
+use Rattle.lwkt_verdict.specs.Asks.{may_answer, is_end}
 use Rattle.lwkt_verdict.specs.TurnParts.{after_all}
-use Rattle.lwkt_verdict.specs.Threads.{IsLogged, slot_of, plan_of_thread, line_of, ask_at, asked_by, last_of, logged_by, entries_of, progress_of, EndsAs, EndsAsShown}
-use Rattle.lwkt_verdict.specs.Run.{poll_of, piece, whose, came, asked_of_poll, PollFits, TurnFits, EndsRun, RunsThrough}
-use Rattle.lwkt_verdict.specs.Laws.{pieces_of, asks_of, AsksAreThoseOfTheScript, AllButTheLastAreAnswered, LogsAreTheFirstEntries}
-use Rattle.lwkt_verdict.proofs.ShowMoves.{asked_push, asked_here, asked_there}
+use Rattle.lwkt_verdict.specs.Threads.{MayAsk, IsLogged, slot_of, plan_of_thread, program_of, line_of, asked_by, last_of, told, told_by, stands_after, logged_by, entries_of, progress_of, EndsAs, EndsAsShown}
+use Rattle.lwkt_verdict.specs.Run.{poll_of, piece, whose, came, came_by, asked_of_poll, PollFits, TurnFits, EndsRun, RunsThrough}
+use Rattle.lwkt_verdict.specs.Laws.{pieces_of, asks_of, AsksAreThoseOfTheScript, AllButTheLastAreAnswered, NothingFollowsAnEnd, LogsAreTheFirstEntries}
+use Rattle.lwkt_verdict.proofs.ShowMoves.{asked_push, asked_here, asked_there, last_or, last_or_is, asks_push, entries_more}
 
 -- what holds after all turns of a run, with the end of the run
 pub record Ended (plans : List ThreadSpec) (lines : List ThreadLine) (Q : List Piece → Type 0) (all : List Piece) : Type 0 where
@@ -42,7 +49,7 @@ pub record Asks (plans : List ThreadSpec) (lines : List ThreadLine) (slot : ℕ)
   pub q : Poll
   pub cpu : ℕ
   pub here : slot_of q.thread ≡ slot
-  pub fits : PollFits plans lines cpu (came before slot) q
+  pub fits : PollFits plans lines cpu (came plans before cpu q.thread.thread) q
   pub is : asked_by slot (before ++ p ∷ []) ≡ asked_by slot before ++ asked_of_poll q p.blocked ∷ []
 
 pub asks_or_not : (plans : List ThreadSpec) (lines : List ThreadLine) (slot cpu : ℕ) (m : Machine) (before : List Piece) (poll : Option Poll) (part : List Event) → TurnFits plans lines cpu m before poll part → (asked_by slot (before ++ piece poll part ∷ []) ≡ asked_by slot before) ⊎ Asks plans lines slot before (piece poll part)
@@ -55,7 +62,7 @@ asks_or_not plans lines slot cpu m before (Some q) part fits =
         q = q;
         cpu = cpu;
         here = same;
-        fits = subst (λ k. PollFits plans lines cpu (came before k) q) same fits.polls;
+        fits = fits.polls;
         is = asked_push slot before p ∙ ap (λ (xs : List Asked). asked_by slot before ++ xs) (asked_here slot q p.blocked same);
       })
       | inr apart ↦ inl (asked_push slot before p ∙ ap (λ (xs : List Asked). asked_by slot before ++ xs) (asked_there slot q p.blocked apart) ∙ append-nil (asked_by slot before))
@@ -72,38 +79,48 @@ get_push (y ∷ ys) a (suc k) x is =
       | inr last ↦ inr (ap suc last.0, last.1)
     ]
 
--- what holds of an option's value, weakened; and what of it doesn't depend on the value
-match_on : {A : Type 0} (o : Option A) (P R : A → Type 0) → MatchOption o ⊥ P → ((x : A) → P x → R x) → MatchOption o ⊥ R
-match_on None P R there step = there
-match_on (Some x) P R there step = step x there
-
+-- what an option's value has that doesn't depend on the value
 match_any : {A : Type 0} (o : Option A) (P : A → Type 0) (C : Type 0) → MatchOption o ⊥ P → ((x : A) → P x → C) → C
 match_any None P C there step = absurd there
 match_any (Some x) P C there step = step x there
 
--- what a thread asks after some turns is a front of what its plan has
+-- what some asks were
+abbrev asks_in : List Asked → List Ask
+asks_in asked = map (λ (a : Asked). a.ask) asked
+
+-- what a thread asks after some turns is what its program asks, by the answers that it was given
+abbrev Follows : Option ThreadSpec → List Asked → Type 0
+Follows plan asked = MatchOption plan (asked ≡ []) (λ p. asks_in asked ≡ asks_by p.code.steps (start p.code) (told_by None asked))
+
+-- so after one ask more
+follows_more : (o : Option ThreadSpec) (xs : List Asked) (a : Asked) → Follows o xs → MatchOption o ⊥ (λ plan. MayAsk plan.code.steps (progress_of (program_of o) xs) a.ask) → Follows o (xs ++ a ∷ [])
+follows_more None xs a follows may = absurd may
+follows_more (Some plan) xs a follows may =
+    let p : Program = plan.code in
+    let next_ask : Option Asked → List Ask = λ o. (next p.steps (stands_after p xs) (told o)).0 ∷ [] in
+    let new : a.ask ∷ [] ≡ next_ask (last_or None xs) = ap (λ (x : Ask). x ∷ []) may.0 ∙ ap next_ask (sym (last_or_is xs)) in
+    map-append (λ (x : Asked). x.ask) xs (a ∷ []) ∙ ap (λ (ys : List Ask). ys ++ a.ask ∷ []) follows ∙ ap (λ (ys : List Ask). asks_by p.steps (start p) (told_by None xs) ++ ys) new ∙ sym (asks_push p.steps (start p) None xs a)
+
 FollowsPlan : List ThreadSpec → ℕ → ℕ → List Piece → Type 0
-FollowsPlan plans cpu n before = (k : ℕ) (a : Asked) → slice_get (asked_by (16 * cpu + n) before) k ≡ Some a → MatchOption (plan_of_thread cpu n plans) ⊥ (λ plan. ask_at plan k ≡ Some a.ask)
+FollowsPlan plans cpu n before = Follows (plan_of_thread cpu n plans) (asked_by (16 * cpu + n) before)
 
 follows_step : (plans : List ThreadSpec) (lines : List ThreadLine) (cpu n now : ℕ) → n < 16 → (m : Machine) (before : List Piece) (poll : Option Poll) (part : List Event) → FollowsPlan plans cpu n before → TurnFits plans lines now m before poll part → FollowsPlan plans cpu n (before ++ piece poll part ∷ [])
 unfolding FollowsPlan
-follows_step plans lines cpu n now small m before poll part follows fits k a is =
+follows_step plans lines cpu n now small m before poll part follows fits =
     let slot = 16 * cpu + n in
     let xs : List Asked = asked_by slot before in
-    let G : ℕ → ℕ → ℕ → Asked → Type 0 = λ c t j x. MatchOption (plan_of_thread c t plans) ⊥ (λ plan. ask_at plan j ≡ Some x.ask) in
+    let o : Option ThreadSpec = plan_of_thread cpu n plans in
     elim (asks_or_not plans lines slot now m before poll part fits) [
-      | inl same ↦ follows k a (subst (λ (ys : List Asked). slice_get ys k ≡ Some a) same is)
+      | inl same ↦ subst (λ (ys : List Asked). Follows o ys) (sym same) follows
       | inr w ↦ (let new : Asked = asked_of_poll w.q (piece poll part).blocked in
           let there = w.fits.here in
           let few = w.fits.numbered in
           let here = w.here in
           let same_cpu : w.cpu ≡ cpu = omega arith in
           let same_n : w.q.thread.thread ≡ n = omega arith in
-          let next : G w.cpu w.q.thread.thread (length xs) new = match_on (plan_of_thread w.cpu w.q.thread.thread plans) (λ plan. (ask_at plan (length xs) ≡ Some w.q.ask) × MatchOption (last_of xs) (Unit {0}) (λ x. is_some x.answer ≡ true)) (λ plan. ask_at plan (length xs) ≡ Some w.q.ask) w.fits.asks (λ plan may. may.0) in
-          elim (get_push xs new k a (subst (λ (ys : List Asked). slice_get ys k ≡ Some a) w.is is)) [
-            | inl old ↦ follows k a old
-            | inr last ↦ subst (λ c. G c n k a) same_cpu (subst (λ t. G w.cpu t k a) same_n (subst (λ j. G w.cpu w.q.thread.thread j a) (sym last.0) (subst (λ (x : Asked). G w.cpu w.q.thread.thread (length xs) x) (sym last.1) next)))
-          ])
+          let M : ℕ → ℕ → Type 0 = λ c t. MatchOption (plan_of_thread c t plans) ⊥ (λ plan. MayAsk plan.code.steps (came_by (plan_of_thread c t plans) before (16 * c + t)) w.q.ask) in
+          let may : M cpu n = subst (λ c. M c n) same_cpu (subst (λ t. M w.cpu t) same_n w.fits.asks) in
+          subst (λ (ys : List Asked). Follows o ys) (sym w.is) (follows_more o xs new follows may))
     ]
 
 -- each ask of a thread but its last has its answer
@@ -119,7 +136,11 @@ answered_step plans lines slot now m before poll part answered fits k a is insid
       | inr w ↦ (let new : Asked = asked_of_poll w.q (piece poll part).blocked in
           let more : length (xs ++ new ∷ []) ≡ length xs + 1 = length_push xs new in
           let below : k + 1 < length (xs ++ new ∷ []) = subst (λ (ys : List Asked). k + 1 < length ys) w.is inside in
-          let last_has : MatchOption (last_of xs) (Unit {0}) (λ x. is_some x.answer ≡ true) = match_any (plan_of_thread w.cpu w.q.thread.thread plans) (λ plan. (ask_at plan (length xs) ≡ Some w.q.ask) × MatchOption (last_of xs) (Unit {0}) (λ x. is_some x.answer ≡ true)) (MatchOption (last_of xs) (Unit {0}) (λ x. is_some x.answer ≡ true)) w.fits.asks (λ plan may. may.1) in
+          let there = w.fits.here in
+          let here = w.here in
+          let same : 16 * w.cpu + w.q.thread.thread ≡ slot = omega arith in
+          let L : ℕ → Type 0 = λ k. MatchOption (last_of (asked_by k before)) (Unit {0}) (λ x. is_some x.answer ≡ true) in
+          let last_has : L slot = subst L same (match_any (plan_of_thread w.cpu w.q.thread.thread plans) (λ plan. MayAsk plan.code.steps (came plans before w.cpu w.q.thread.thread) w.q.ask) (L (16 * w.cpu + w.q.thread.thread)) w.fits.asks (λ plan may. may.1)) in
           elim (get_push xs new k a (subst (λ (ys : List Asked). slice_get ys k ≡ Some a) w.is is)) [
             | inl old ↦ elim (cases_order (k + 1) (length xs)) [
               | inl at_last ↦ (let place : length xs - 1 ≡ k = omega arith in
@@ -141,7 +162,7 @@ take_get (x ∷ xs) zero e is = ap (λ (o : Entry). o ∷ []) cc
 take_get (x ∷ xs) (suc n) e is = ap (λ (ys : List Entry). x ∷ ys) (take_get xs n e is)
 
 -- a log that has the entries so far has the next one too, if there is one and it stands in its place
-log_step : (log es : List Entry) (o : Option Entry) → take (min 32 (length es)) log ≡ take 32 es → MatchOption o (Unit {0}) (λ e. min 32 (length es) < 32 → slice_get log (min 32 (length es)) ≡ Some e) → take (min 32 (length (es ++ cons_option o []))) log ≡ take 32 (es ++ cons_option o [])
+log_step : (log es : List Entry) (o : Option Entry) → take (min 32 (length es)) log ≡ take 32 es → MatchOption o (Unit {0}) (λ e. min 32 (length es) < 32 → slice_get log (min 32 (length es)) ≡ Some e) → take (min 32 (length (es ++ option_to_list o))) log ≡ take 32 (es ++ option_to_list o)
 log_step log es None so_far fits =
     subst (λ (ys : List Entry). take (min 32 (length ys)) log ≡ take 32 ys) (sym (append-nil es)) so_far
 log_step log es (Some e) so_far fits =
@@ -158,19 +179,24 @@ log_step log es (Some e) so_far fits =
     ]
 
 -- a thread's line says that its last ask has no answer, where it asked something at all
-ends_open : (t : Option ThreadSpec) (l : Option ThreadLine) (p : List Asked) (X : ThreadSpec → Type 0) → MatchOption t ⊥ X → EndsAsShown t l (progress_of p) → MatchOption (last_of p) (Unit {0}) (λ a. is_some a.answer ≡ false)
-ends_open None l p X there ends = absurd there
-ends_open (Some plan) None p X there ends = absurd ends
-ends_open (Some plan) (Some line) p X there ends = ends.0
+ends_open : (t : Option ThreadSpec) (l : Option ThreadLine) (p : List Asked) (k : ℕ) (a : Asked) → slice_get p k ≡ Some a → Follows t p → EndsAsShown t l (progress_of (program_of t) p) → MatchOption (last_of p) (Unit {0}) (λ a. is_some a.answer ≡ false)
+ends_open None l p k a is follows ends =
+    absurd (none-some a (sym (ap (λ (ys : List Asked). slice_get ys k) follows) ∙ is))
+ends_open (Some plan) None p k a is follows ends = absurd ends
+ends_open (Some plan) (Some line) p k a is follows ends = ends.0
 
-ends_line : (t : Option ThreadSpec) (line : ThreadLine) (p : List Asked) → EndsAsShown t (Some line) (progress_of p) → EndsAs line (progress_of p)
+ends_line : (t : Option ThreadSpec) (line : ThreadLine) (p : List Asked) → EndsAsShown t (Some line) (progress_of (program_of t) p) → EndsAs line (progress_of (program_of t) p)
 ends_line None line p ends = absurd ends
 ends_line (Some plan) line p ends = ends
+
+none_follow : (o : Option ThreadSpec) → Follows o []
+none_follow None = refl
+none_follow (Some plan) = refl
 
 pub asks_follow : AsksAreThoseOfTheScript
 unfolding FollowsPlan
 asks_follow plans pace order opening polls turns trace lines run cpu n here few =
-    (through plans lines polls order (FollowsPlan plans cpu n) (λ m before poll part q fits. follows_step plans lines cpu n (whose order (length before)) few m before poll part q fits) opening [] turns trace (λ k a none. absurd cc) run.runs).holds
+    (through plans lines polls order (FollowsPlan plans cpu n) (λ m before poll part q fits. follows_step plans lines cpu n (whose order (length before)) few m before poll part q fits) opening [] turns trace (none_follow (plan_of_thread cpu n plans)) run.runs).holds
 
 -- after all turns each ask but the last has its answer, and the last has none
 pub all_answered : AllButTheLastAreAnswered
@@ -179,33 +205,98 @@ all_answered plans pace order opening polls turns trace lines run cpu n here few
     let slot = 16 * cpu + n in
     let xs : List Asked = asks_of polls turns trace cpu n in
     let done = through plans lines polls order (AreAnswered slot) (λ m before poll part q fits. answered_step plans lines slot (whose order (length before)) m before poll part q fits) opening [] turns trace (λ j x none. absurd cc) run.runs in
-    let open_end : MatchOption (last_of xs) (Unit {0}) (λ x. is_some x.answer ≡ false) = ends_open (plan_of_thread cpu n plans) (line_of slot lines) xs (λ plan. ask_at plan k ≡ Some a.ask) (asks_follow plans pace order opening polls turns trace lines run cpu n here few k a is) (done.closes.ends cpu n here few) in (
+    let open_end : MatchOption (last_of xs) (Unit {0}) (λ x. is_some x.answer ≡ false) = ends_open (plan_of_thread cpu n plans) (line_of slot lines) xs k a is (asks_follow plans pace order opening polls turns trace lines run cpu n here few) (done.closes.ends cpu n here few) in (
       (λ inside. done.holds k a is inside),
       (λ last. (let place : length xs - 1 ≡ k = omega arith in
           let F : Option Asked → Type 0 = λ o. MatchOption o (Unit {0}) (λ x. is_some x.answer ≡ false) in
           subst F (ap (λ j. slice_get xs j) place ∙ is) open_end)),
     )
 
--- a log has the entries so far
-HasLogged : List Entry → ℕ → List Piece → Type 0
-HasLogged log slot before = take (min 32 (length (entries_of (asked_by slot before)))) log ≡ take 32 (entries_of (asked_by slot before))
+-- an ask that ends its thread has no answer
+end_unanswered : (ask : Ask) (x : Answer) → is_end ask ≡ true → may_answer ask x ≡ true → ⊥
+end_unanswered Exit Begin is may = false≢true may
+end_unanswered Exit Done is may = false≢true may
+end_unanswered Exit (Value value) is may = false≢true may
+end_unanswered Exit (Bytes blob) is may = false≢true may
+end_unanswered Exit (Dropped msg rec) is may = false≢true may
+end_unanswered Exit (Got item) is may = false≢true may
+end_unanswered Exit NoMsg is may = false≢true may
+end_unanswered Exit (Refused fault) is may = false≢true may
+end_unanswered (Fail number) Begin is may = false≢true may
+end_unanswered (Fail number) Done is may = false≢true may
+end_unanswered (Fail number) (Value value) is may = false≢true may
+end_unanswered (Fail number) (Bytes blob) is may = false≢true may
+end_unanswered (Fail number) (Dropped msg rec) is may = false≢true may
+end_unanswered (Fail number) (Got item) is may = false≢true may
+end_unanswered (Fail number) NoMsg is may = false≢true may
+end_unanswered (Fail number) (Refused fault) is may = false≢true may
+end_unanswered ask x is may = false≢true is
 
-logged_step : (plans : List ThreadSpec) (lines : List ThreadLine) (line : ThreadLine) (slot now : ℕ) → line_of slot lines ≡ Some line → (m : Machine) (before : List Piece) (poll : Option Poll) (part : List Event) → HasLogged line.log slot before → TurnFits plans lines now m before poll part → HasLogged line.log slot (before ++ piece poll part ∷ [])
+-- each answer is one that its ask can have, after turns that fit
+HaveAnswers : ℕ → List Piece → Type 0
+HaveAnswers slot before = (k : ℕ) (a : Asked) → slice_get (asked_by slot before) k ≡ Some a → MatchOption a.answer (Unit {0}) (λ x. may_answer a.ask x ≡ true)
+
+answers_step : (plans : List ThreadSpec) (lines : List ThreadLine) (slot now : ℕ) (m : Machine) (before : List Piece) (poll : Option Poll) (part : List Event) → HaveAnswers slot before → TurnFits plans lines now m before poll part → HaveAnswers slot (before ++ piece poll part ∷ [])
+unfolding HaveAnswers
+answers_step plans lines slot now m before poll part have fits k a is =
+    let xs : List Asked = asked_by slot before in
+    elim (asks_or_not plans lines slot now m before poll part fits) [
+      | inl same ↦ have k a (subst (λ (ys : List Asked). slice_get ys k ≡ Some a) same is)
+      | inr w ↦ (let new : Asked = asked_of_poll w.q (piece poll part).blocked in
+          let F : Asked → Type 0 = λ x. MatchOption x.answer (Unit {0}) (λ y. may_answer x.ask y ≡ true) in
+          elim (get_push xs new k a (subst (λ (ys : List Asked). slice_get ys k ≡ Some a) w.is is)) [
+            | inl old ↦ have k a old
+            | inr last ↦ subst F (sym last.1) w.fits.answers
+          ])
+    ]
+
+-- an answer that an ask which ends its thread has is none
+end_open : (a : Asked) (o : Option Answer) → a.answer ≡ o → MatchOption o (Unit {0}) (λ x. may_answer a.ask x ≡ true) → is_end a.ask ≡ true → is_some o ≡ true → ⊥
+end_open a None same may is some = false≢true some
+end_open a (Some x) same may is some = end_unanswered a.ask x is may
+
+-- after all turns an ask that ends its thread is its last
+pub ends_last : NothingFollowsAnEnd
+unfolding HaveAnswers
+ends_last plans pace order opening polls turns trace lines run cpu n here few k a is end =
+    let xs : List Asked = asks_of polls turns trace cpu n in
+    let slot = 16 * cpu + n in
+    let done = through plans lines polls order (HaveAnswers slot) (λ m before poll part q fits. answers_step plans lines slot (whose order (length before)) m before poll part q fits) opening [] turns trace (λ j x none. absurd cc) run.runs in
+    let may = done.holds k a is in
+    let answered = all_answered plans pace order opening polls turns trace lines run cpu n here few k a is in
+    let inside : k < length xs = slice_get_within xs k a is in
+    elim (cases_lt (k + 1) (length xs)) [
+      | inl more ↦ absurd (end_open a a.answer refl may end (answered.0 more))
+      | inr past ↦ omega (arith, inside, past)
+    ]
+
+-- a log has the entries so far
+HasLogged : Option ThreadSpec → List Entry → ℕ → List Piece → Type 0
+HasLogged plan log slot before = take (min 32 (length (entries_of (program_of plan) (asked_by slot before)))) log ≡ take 32 (entries_of (program_of plan) (asked_by slot before))
+
+logged_step : (plans : List ThreadSpec) (lines : List ThreadLine) (line : ThreadLine) (cpu n now : ℕ) → n < 16 → line_of (16 * cpu + n) lines ≡ Some line → (m : Machine) (before : List Piece) (poll : Option Poll) (part : List Event) → HasLogged (plan_of_thread cpu n plans) line.log (16 * cpu + n) before → TurnFits plans lines now m before poll part → HasLogged (plan_of_thread cpu n plans) line.log (16 * cpu + n) (before ++ piece poll part ∷ [])
 unfolding HasLogged
-logged_step plans lines line slot now is_line m before poll part so_far fits =
+logged_step plans lines line cpu n now small is_line m before poll part so_far fits =
+    let slot = 16 * cpu + n in
     let log : List Entry = line.log in
     let xs : List Asked = asked_by slot before in
+    let p : Program = program_of (plan_of_thread cpu n plans) in
     let G : List Entry → Type 0 = λ es. take (min 32 (length es)) log ≡ take 32 es in
     elim (asks_or_not plans lines slot now m before poll part fits) [
-      | inl same ↦ subst (λ (ys : List Asked). G (entries_of ys)) (sym same) so_far
+      | inl same ↦ subst (λ (ys : List Asked). G (entries_of p ys)) (sym same) so_far
       | inr w ↦ (let new : Asked = asked_of_poll w.q (piece poll part).blocked in
           let there = w.fits.here in
+          let few = w.fits.numbered in
           let here = w.here in
-          let place : 16 * w.cpu + w.q.thread.thread ≡ slot = omega arith in
-          let L : Option ThreadLine → Type 0 = λ o. MatchOption o ⊥ (λ l. IsLogged l (came before slot) (asked_of_poll w.q false)) in
-          let stands : IsLogged line (came before slot) (asked_of_poll w.q false) = subst L (ap (λ s. line_of s lines) place ∙ is_line) w.fits.logs in
-          let next : G (entries_of xs ++ cons_option (logged_by new) []) = log_step log (entries_of xs) (logged_by new) so_far stands in
-          subst (λ (ys : List Asked). G (entries_of ys)) (sym w.is) (subst G (sym (filter_map-append logged_by xs (new ∷ []))) next))
+          let same_cpu : w.cpu ≡ cpu = omega arith in
+          let same_n : w.q.thread.thread ≡ n = omega arith in
+          let L : ℕ → ℕ → Type 0 = λ c t. MatchOption (line_of (16 * c + t) lines) ⊥ (λ l. IsLogged (program_of (plan_of_thread c t plans)).steps l (came_by (plan_of_thread c t plans) before (16 * c + t)) (asked_of_poll w.q false)) in
+          let all : L cpu n = subst (λ c. L c n) same_cpu (subst (λ t. L w.cpu t) same_n w.fits.logs) in
+          let O : Option ThreadLine → Type 0 = λ o. MatchOption o ⊥ (λ l. IsLogged p.steps l (came plans before cpu n) (asked_of_poll w.q false)) in
+          let stands : IsLogged p.steps line (came plans before cpu n) (asked_of_poll w.q false) = subst O is_line all in
+          let entry = logged_by p.steps (next p.steps (stands_after p xs) (told (last_of xs))).1 new in
+          let more : G (entries_of p xs ++ option_to_list entry) = log_step log (entries_of p xs) entry so_far stands in
+          subst (λ (ys : List Asked). G (entries_of p ys)) (sym w.is) (subst G (sym (entries_more p xs new)) more))
     ]
 
 -- what holds of each value that an option can have
@@ -217,10 +308,12 @@ pub logs_are_first : LogsAreTheFirstEntries
 unfolding HasLogged
 logs_are_first plans pace order opening polls turns trace lines run cpu n here few =
     let slot = 16 * cpu + n in
+    let plan : Option ThreadSpec = plan_of_thread cpu n plans in
+    let p : Program = program_of plan in
     let xs : List Asked = asks_of polls turns trace cpu n in
-    with_value (line_of slot lines) (λ line. line.log ≡ take 32 (entries_of xs)) (λ line is_line. (let log : List Entry = line.log in
-    let done = through plans lines polls order (HasLogged log slot) (λ m before poll part q fits. logged_step plans lines line slot (whose order (length before)) is_line m before poll part q fits) opening [] turns trace refl run.runs in
-    let E : Option ThreadLine → Type 0 = λ o. EndsAsShown (plan_of_thread cpu n plans) o (progress_of xs) in
-    let ends = ends_line (plan_of_thread cpu n plans) line xs (subst E is_line (done.closes.ends cpu n here few)) in
-    let long : length log ≡ min 32 (length (entries_of xs)) = ends.1 in
-    sym (take_all (min 32 (length (entries_of xs))) log (omega arith)) ∙ done.holds))
+    with_value (line_of slot lines) (λ line. line.log ≡ take 32 (entries_of p xs)) (λ line is_line. (let log : List Entry = line.log in
+    let done = through plans lines polls order (HasLogged plan log slot) (λ m before poll part q fits. logged_step plans lines line cpu n (whose order (length before)) few is_line m before poll part q fits) opening [] turns trace refl run.runs in
+    let E : Option ThreadLine → Type 0 = λ o. EndsAsShown plan o (progress_of p xs) in
+    let ends = ends_line plan line xs (subst E is_line (done.closes.ends cpu n here few)) in
+    let long : length log ≡ min 32 (length (entries_of p xs)) = ends.1 in
+    sym (take_all (min 32 (length (entries_of p xs))) log (omega arith)) ∙ done.holds))

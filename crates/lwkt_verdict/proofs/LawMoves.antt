@@ -1,4 +1,4 @@
-use Rattle.std.proofs.Common.{◌≡◌, ◌+◌, ◌*◌, [], true, subst, arith, Option, Some, None}
+use Rattle.std.proofs.Common.{◌≡◌, [], true, subst, arith, Option, Some, None}
 use Rattle.std.specs.Prelude.{is_some, MatchOption}
 use Rattle.std.proofs.lemmas.Bool.{false≢true}
 use Rattle.lwkt_script.specs.declared.scripts.ThreadSpec.{ThreadSpec}
@@ -20,6 +20,6 @@ none_rests (Some plan) is may = may
 pub begins_with_an_ask : RunsBeginWithAnAsk
 begins_with_an_ask plans pace order opening polls turn turns trace lines there none run =
     let fits = run.runs.1.0 in
-    let F : Option Poll → Type 0 = λ o. MatchOption o (Idles plans (whose order 0) (came [])) (λ q. PollFits plans lines (whose order 0) (came [] (16 * q.thread.cpu.0 + q.thread.thread)) q) in
-    let idles : Idles plans (whose order 0) (came []) = subst F none fits.polls in
+    let F : Option Poll → Type 0 = λ o. MatchOption o (Idles plans (whose order 0) (came plans [] (whose order 0))) (λ q. PollFits plans lines (whose order 0) (came plans [] (whose order 0) q.thread.thread) q) in
+    let idles : Idles plans (whose order 0) (came plans [] (whose order 0)) = subst F none fits.polls in
     none_rests (plan_of_thread (whose order 0) 0 plans) there (idles 0 (omega arith))

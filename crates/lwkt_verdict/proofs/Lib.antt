@@ -5,7 +5,6 @@ pub mod EndMoves
 pub mod LawMoves
 pub mod TraceMoves
 pub mod HistoryMoves
-pub mod SpotMoves
 pub mod ExpectedMoves
 pub mod KnownMoves
 pub mod FollowMoves

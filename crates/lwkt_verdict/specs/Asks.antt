@@ -1,8 +1,8 @@
 -- What an ask can be answered, and what it leaves of the thread that made it (own).
-use Rattle.std.specs.Prelude.{ℕ, ◌==◌, nat_le, Bool, true, false, List, [], ◌∷◌, Option, Some, None}
+use Rattle.std.specs.Prelude.{ℕ, ◌==◌, ◌||◌, nat_le, Bool, true, false, List, [], ◌∷◌, Option, Some, None}
 use Rattle.std.specs.List.{list_any}
 use Rattle.lwkt_base.specs.declared.asks.Ask.{Ask}
-use Rattle.lwkt_base.specs.declared.asks.Ask.TheVariants.{Get, GetShared, TryGet, Rel, Swap, Read, Write, Add, ReadBlob, WriteBlob, Send, Do, Reply, Abort, IsAborted, DropMsg, GetPort, WaitPort, Yield, Exit}
+use Rattle.lwkt_base.specs.declared.asks.Ask.TheVariants.{Get, GetShared, TryGet, Rel, Swap, Read, Write, Add, ReadBlob, WriteBlob, Send, Do, Reply, Abort, IsAborted, DropMsg, GetPort, WaitPort, Yield, Exit, Fail}
 use Rattle.lwkt_base.specs.declared.asks.Item.{Item}
 use Rattle.lwkt_base.specs.declared.asks.Item.TheVariants.{Request, Answered}
 use Rattle.lwkt_base.specs.declared.asks.Answer.{Answer}
@@ -31,6 +31,7 @@ refusals GetPort = 34 ∷ []
 refusals WaitPort = []
 refusals Yield = []
 refusals Exit = []
+refusals (Fail number) = []
 
 -- whether an ask can be refused with a fault of this number
 abbrev pub may_refuse : Ask → ℕ → Bool
@@ -58,6 +59,7 @@ may_be_done GetPort = false
 may_be_done WaitPort = false
 may_be_done Yield = true
 may_be_done Exit = false
+may_be_done (Fail number) = false
 
 -- whether an ask can be answered by this value: a read by any, a question whether a message is to be aborted by 0 or 1
 abbrev pub may_give_value : Ask → ℕ → Bool
@@ -137,16 +139,26 @@ makes_event GetPort = false
 makes_event WaitPort = false
 makes_event Yield = false
 makes_event Exit = false
+makes_event (Fail number) = false
 
 -- whether an ask is a synchronous send, which goes on after its own event
 abbrev pub is_do : Ask → Bool
 is_do (Do msg to call) = true
 is_do _ = false
 
--- whether an ask is the last one of a body
+-- whether an ask is that to exit
 abbrev pub is_exit : Ask → Bool
 is_exit Exit = true
 is_exit _ = false
+
+-- whether an ask is that to end by an assertion that doesn't hold
+abbrev pub is_fail : Ask → Bool
+is_fail (Fail number) = true
+is_fail _ = false
+
+-- whether an ask is the last one of a thread: it has no answer
+abbrev pub is_end : Ask → Bool
+is_end ask = is_exit ask || is_fail ask
 
 -- whether an ask can leave its thread waiting for its port or for a reply
 abbrev pub may_wait : Ask → Bool

@@ -1,7 +1,7 @@
 -- A check that follows a run turn by turn, and keeps no turn (own).
 --
--- What an ask is answered is known when its thread is polled again. So of each thread the check keeps its last ask and which answers this
--- one can have by its turn's part of the trace; what it says of a turn holds for each of them.
+-- What an ask is answered is known when its thread is polled again. So of each thread the check keeps where its program stands, its last ask
+-- and which answers this one can have by its turn's part of the trace; what it says of a turn holds for each of them.
 use Rattle.std.specs.Prelude.{◌≡◌, ℕ, ◌+◌, ◌*◌, ◌<◌, ◌==◌, Bool, true, false, not, List, [], ◌∷◌, ◌++◌, length, take, min, slice_get, if◌then◌else◌, Option, Some, None, MatchOption, option_map, option_and_then}
 use Rattle.std.specs.Option.{option_map_or}
 use Rattle.lwkt_base.specs.declared.asks.Ask.{Ask}
@@ -10,6 +10,8 @@ use Rattle.lwkt_base.specs.declared.entries.Entry.{Entry}
 use Rattle.lwkt_base.specs.declared.names.ThreadId.{ThreadId}
 use Rattle.lwkt_core.specs.declared.events.Event.{Event}
 use Rattle.lwkt_core.specs.Machine.{Machine}
+use Rattle.lwkt_code.specs.declared.locals.Local.{Local}
+use Rattle.lwkt_code.specs.declared.steps.Step.{Step}
 use Rattle.lwkt_script.specs.declared.scripts.ThreadSpec.{ThreadSpec}
 use Rattle.lwkt_base.specs.declared.threads.ThreadLine.{ThreadLine}
 use Rattle.lwkt_base.specs.declared.limits.TheConstants.{CPU_LIMIT, LOG_LIMIT, MACHINE_THREADS, THREAD_LIMIT}
@@ -22,8 +24,8 @@ use Rattle.lwkt_verdict.specs.declared.turns.Poll.{Poll}
 use Rattle.lwkt_verdict.specs.Asks.{may_answer, is_refused}
 use Rattle.lwkt_verdict.specs.Owns.{agrees, agrees_with_record}
 use Rattle.lwkt_verdict.specs.TurnParts.{after_all}
-use Rattle.lwkt_verdict.specs.Threads.{slot_of, plan_of_thread, line_of, logged_by}
-use Rattle.lwkt_verdict.specs.Run.{came, piece, TurnFits, EndsRun, IsPaired, AreListed}
+use Rattle.lwkt_verdict.specs.Threads.{slot_of, plan_of_thread, line_of, program_of, logged_by}
+use Rattle.lwkt_verdict.specs.Run.{came_by, piece, TurnFits, EndsRun, IsPaired, AreListed}
 
 -- whether this answer, or none yet, is one of those that are expected
 abbrev pub is_expected : Expected → Option Answer → Bool
@@ -40,25 +42,29 @@ pub record Awaited : Type 0 where
   pub blocked : Bool
   pub expected : Expected
 
--- what is known of a thread: the script's thread, if there is one, how many times it was polled, what it last asked, and the first 32
--- entries that the answers to its asks before made
+-- what is known of a thread: the script's thread, if there is one, where it stands after what it last asked, what that was, and the first
+-- 32 entries that the asks before made
 pub record Known : Type 0 where
   pub plan : Option ThreadSpec
-  pub polls : ℕ
+  pub local : Local
   pub last : Option Awaited
   pub log : List Entry
+
+-- the steps of a thread
+abbrev pub steps_of : Known → List Step
+steps_of t = (program_of t.plan).steps
 
 -- what was asked, with this answer
 abbrev pub asked_so : Awaited → Option Answer → Asked
 asked_so w answer = record { ask = w.ask; answer = answer; blocked = w.blocked }
 
--- the entry that this answer to a thread's last ask makes, if it makes one
+-- the entry that a thread's last ask makes with this answer, if it makes one
 abbrev pub entry_so : Known → Option Answer → Option Entry
-entry_so t answer = option_and_then (λ w. logged_by (asked_so w answer)) t.last
+entry_so t answer = option_and_then (λ w. logged_by (steps_of t) t.local (asked_so w answer)) t.last
 
 -- how far a thread has come whose last ask gets this answer
 abbrev pub come : Known → Option Answer → Progress
-come t answer = record { polls = t.polls; last = option_map (λ w. asked_so w answer) t.last; logged = option_map_or (λ e. min LOG_LIMIT (length t.log + 1)) (entry_so t answer) (length t.log) }
+come t answer = record { local = t.local; last = option_map (λ w. asked_so w answer) t.last; logged = option_map_or (λ e. min 32 (length t.log + 1)) (entry_so t answer) (length t.log) }
 
 -- a thread's last ask can have this answer, and its line has the entries so far, and then that of the answer, if there is room for it
 pub record Bears (t : Known) (answer : Option Answer) (line : ThreadLine) : Type 0 where
@@ -83,7 +89,7 @@ AllAllow table answers lines = (k : ℕ) → k < MACHINE_THREADS → MatchOption
 
 -- so far the threads have come after these turns, where their last asks get these answers
 abbrev pub AreShown : List Piece → List Known → (ℕ → Option Answer) → Type 0
-AreShown before table answers = (k : ℕ) → k < MACHINE_THREADS → MatchOption (slice_get table k) ⊥ (λ t. came before k ≡ come t (answers k))
+AreShown before table answers = (k : ℕ) → k < 128 → MatchOption (slice_get table k) ⊥ (λ t. came_by t.plan before k ≡ come t (answers k))
 
 -- each thread of a script in its place
 abbrev pub AreThreads : List ThreadSpec → List Known → Type 0
@@ -114,10 +120,9 @@ pub record GoesOn (cpu : ℕ) (part : List Event) (poll : (ℕ → Option Answer
   pub shown : (answers : ℕ → Option Answer) (before : List Piece) → AreShown before old.table (former answers) → AreShown (before ++ piece (poll answers) part ∷ []) new.table answers
   pub allows : (answers : ℕ → Option Answer) (lines : List ThreadLine) → AllAllow old.table (former answers) lines → (before : List Piece) → AreShown before old.table (former answers) → TurnFits old.plans lines cpu old.machine before (poll answers) part → AllAllow new.table answers lines
 
--- a check doesn't go on by a turn: whatever answers the asks before got, the turn fits no turns before it. So many turns are
--- fewer than are counted
+-- a check doesn't go on by a turn: whatever answers the asks before got, the turn fits no turns before it
 abbrev pub Declines : ℕ → List Event → ((ℕ → Option Answer) → Option Poll) → ((ℕ → Option Answer) → ℕ → Option Answer) → Follow → Type 0
-Declines cpu part poll former f = (lines : List ThreadLine) (before : List Piece) → length before < 18446744073709551615 → AllAllow f.table (former none_answered) lines → AreShown before f.table (former none_answered) → ¬ TurnFits f.plans lines cpu f.machine before (poll none_answered) part
+Declines cpu part poll former f = (lines : List ThreadLine) (before : List Piece) → AllAllow f.table (former none_answered) lines → AreShown before f.table (former none_answered) → ¬ TurnFits f.plans lines cpu f.machine before (poll none_answered) part
 
 -- the poll of a thread which asked this, by the answers that the last asks get
 abbrev pub poll_so : ThreadId → Ask → (ℕ → Option Answer) → Option Poll

@@ -1,8 +1,13 @@
--- What a check knows of one thread of a run, before and after a turn of its processor (own).
-use Rattle.std.specs.Prelude.{◌≡◌, ℕ, ◌+◌, ◌*◌, ◌/◌, ◌<◌, nat_lt, Bool, true, false, List, [], ◌∷◌, ◌++◌, length, take, max, slice_get, if◌then◌else◌, Option, Some, None, MatchOption, option_map}
+-- What a turn leaves of what a check knows of one thread that follows a run (own).
+use Rattle.std.specs.Prelude.{◌≡◌, ℕ, ◌+◌, ◌*◌, ◌/◌, ◌<◌, nat_lt, Bool, true, false, List, [], ◌∷◌, ◌++◌, length, take, slice_get, if◌then◌else◌, Option, Some, None, MatchOption, is_some, option_map}
+use Rattle.std.specs.Option.{option_map_or}
 use Rattle.lwkt_base.specs.declared.asks.Ask.{Ask}
 use Rattle.lwkt_base.specs.declared.asks.Answer.{Answer}
+use Rattle.lwkt_base.specs.declared.asks.Answer.TheVariants.{Begin}
 use Rattle.lwkt_base.specs.declared.entries.Entry.{Entry}
+use Rattle.lwkt_code.specs.declared.locals.Local.{Local}
+use Rattle.lwkt_code.specs.Next.{next}
+use Rattle.lwkt_code.specs.Programs.{start}
 use Rattle.lwkt_core.specs.declared.events.Event.{Event}
 use Rattle.lwkt_core.specs.declared.events.Event.TheVariants.{Read, ReadBlob}
 use Rattle.lwkt_core.specs.Machine.{Machine}
@@ -14,8 +19,8 @@ use Rattle.lwkt_verdict.specs.declared.expected.Expected.TheVariants.{Any, NoRef
 use Rattle.lwkt_verdict.specs.Asks.{may_answer, makes_event}
 use Rattle.lwkt_verdict.specs.Owns.{has_blocked}
 use Rattle.lwkt_verdict.specs.TurnParts.{IsPartOf}
-use Rattle.lwkt_verdict.specs.Threads.{ask_at, progress_after, IsLogged, Rests, EndsAsShown}
-use Rattle.lwkt_verdict.specs.Follow.{is_expected, Awaited, Known, entry_so, come, Bears, Allows}
+use Rattle.lwkt_verdict.specs.Threads.{program_of, progress_after, IsLogged, Rests, EndsAsShown}
+use Rattle.lwkt_verdict.specs.Follow.{is_expected, Awaited, Known, steps_of, entry_so, come, Bears, Allows}
 
 -- which answers an ask can have that stands at this event of its own: any at one that may have happened unasked as well
 abbrev pub expected_by : Bool → Event → Expected
@@ -27,19 +32,26 @@ expected_by unasked _ = if unasked then Any else NoRefusal
 abbrev pub expected_without : Ask → Expected
 expected_without ask = if makes_event ask then Refusal else Any
 
--- how many steps a thread has: 1 where it has none or isn't there
-abbrev pub count_of : Option ThreadSpec → ℕ
-count_of None = 1
-count_of (Some plan) = max (length plan.steps) 1
-
 -- a thread, or none, that was never polled
 abbrev pub unpolled : Option ThreadSpec → Known
-unpolled plan = record { plan = plan; polls = 0; last = None; log = [] }
+unpolled plan = record { plan = plan; local = start (program_of plan); last = None; log = [] }
+
+-- what a thread is told that heard this: what it hears at its first poll isn't looked at
+abbrev pub told_so : Known → Answer → Answer
+told_so t heard = option_map_or (λ w. heard) t.last Begin
+
+-- what a thread asks next that heard this, and where it stands then
+abbrev pub next_so : Known → Answer → Ask × Local
+next_so t heard = next (steps_of t) t.local (told_so t heard)
 
 -- a log with an entry behind it, if there is one and there is room for it
 abbrev pub log_with : List Entry → Option Entry → List Entry
 log_with log None = log
 log_with log (Some e) = if nat_lt (length log) LOG_LIMIT then (log ++ e ∷ []) else log
+
+-- the log of a thread whose last ask has no answer
+abbrev pub log_so : Known → List Entry
+log_so t = log_with t.log (entry_so t None)
 
 -- what is known of a thread's last ask, if there is one
 abbrev pub awaited : Option Ask → Bool → Expected → Option Awaited
@@ -49,11 +61,17 @@ awaited last blocked expected = option_map (λ ask. record { ask = ask; blocked 
 pub record Hears (heard : Answer) (old new : Known) : Type 0 where
   pub expected : MatchOption old.last (Unit {0}) (λ w. is_expected w.expected (Some heard) ≡ true)
   pub answers : MatchOption old.last (Unit {0}) (λ w. may_answer w.ask heard ≡ true)
-  pub logged : new ≡ record { plan = old.plan; polls = old.polls; last = old.last; log = log_with old.log (entry_so old (Some heard)) }
+  pub logged : new ≡ record { plan = old.plan; local = old.local; last = old.last; log = log_with old.log (entry_so old (Some heard)) }
+
+-- the program of the thread goes on by what the thread heard, to this ask
+pub record Moves (heard : Answer) (asked : Ask) (old new : Known) : Type 0 where
+  pub plan : is_some old.plan ≡ true
+  pub asks : asked ≡ (next_so old heard).0
+  pub moved : new ≡ record { plan = old.plan; local = (next_so old heard).1; last = old.last; log = old.log }
 
 -- what is known of a thread once it has asked this
 abbrev pub after_asking : Known → Awaited → Known
-after_asking t w = record { plan = t.plan; polls = t.polls + 1; last = Some w; log = t.log }
+after_asking t w = record { plan = t.plan; local = t.local; last = Some w; log = t.log }
 
 -- the thread has asked this, by this part of the trace: which answers it can have, exactly, and whether it is blocked
 pub record Asks (m : Machine) (asked : Ask) (part : List Event) (old new : Known) : Type 0 where
@@ -67,26 +85,25 @@ pub record Asks (m : Machine) (asked : Ask) (part : List Event) (old new : Known
 abbrev pub MayHear : Answer → Known → Type 0
 MayHear heard t = MatchOption t.last (Unit {0}) (λ w. (is_expected w.expected (Some heard) ≡ true) × (may_answer w.ask heard ≡ true))
 
--- the thread has this ask next
-abbrev pub MayAskNext : Ask → Known → Type 0
-MayAskNext asked t = MatchOption t.plan ⊥ (λ plan. ask_at plan t.polls ≡ Some asked)
+-- the thread has this ask next, where it heard this
+abbrev pub MayAskNext : Answer → Ask → Known → Type 0
+MayAskNext heard asked t = MatchOption t.plan ⊥ (λ plan. asked ≡ (next_so t heard).0)
 
 -- the thread can be polled: told this, asking this, by this part of the trace
 pub record MayBePolled (m : Machine) (heard : Answer) (asked : Ask) (part : List Event) (t : Known) : Type 0 where
-  pub few : t.polls < 18446744073709551615
   pub hears : MayHear heard t
-  pub asks : MayAskNext asked t
+  pub asks : MayAskNext heard asked t
   pub makes : IsPartOf m asked None part
 
 -- the thread was polled, heard this, the answer to the ask before, and asked this: whatever that is answered, if its line bears it
 pub record IsPolled (m : Machine) (heard : Answer) (asked : Ask) (part : List Event) (old new : Known) : Type 0 where
-  pub asks : MatchOption old.plan ⊥ (λ plan. ask_at plan old.polls ≡ Some asked)
-  pub came : (answer : Option Answer) → come new answer ≡ progress_after (come old (Some heard)) (record { ask = asked; answer = answer; blocked = has_blocked asked part })
+  pub asks : MayAskNext heard asked old
+  pub came : (answer : Option Answer) → come new answer ≡ progress_after (steps_of old) (come old (Some heard)) (record { ask = asked; answer = answer; blocked = has_blocked asked part })
   pub bears : (answer : Option Answer) (line : ThreadLine) → Bears new answer line → Bears old (Some heard) line
   pub answers : (answer : Option Answer) (line : ThreadLine) → Bears new answer line → MatchOption answer (Unit {0}) (λ a. may_answer asked a ≡ true)
-  pub logs : (answer : Option Answer) (line : ThreadLine) → Bears new answer line → IsLogged line (come old (Some heard)) (record { ask = asked; answer = answer; blocked = false })
+  pub logs : (answer : Option Answer) (line : ThreadLine) → Bears new answer line → IsLogged (steps_of old) line (come old (Some heard)) (record { ask = asked; answer = answer; blocked = false })
   pub makes : (answer : Option Answer) (line : ThreadLine) → Bears new answer line → IsPartOf m asked answer part
-  pub allows : (answer : Option Answer) (line : ThreadLine) → Bears old (Some heard) line → MatchOption answer (Unit {0}) (λ a. may_answer asked a ≡ true) → IsLogged line (come old (Some heard)) (record { ask = asked; answer = answer; blocked = false }) → IsPartOf m asked answer part → Bears new answer line
+  pub allows : (answer : Option Answer) (line : ThreadLine) → Bears old (Some heard) line → MatchOption answer (Unit {0}) (λ a. may_answer asked a ≡ true) → IsLogged (steps_of old) line (come old (Some heard)) (record { ask = asked; answer = answer; blocked = false }) → IsPartOf m asked answer part → Bears new answer line
   pub unblocked : MatchOption new.last (Unit {0}) (λ w. w.expected ≡ Refusal → w.blocked ≡ false)
 
 -- the thread has come as far as before, with no more answers that its last ask can have
@@ -107,10 +124,10 @@ AllowsRest old new = (answer : Option Answer) (line : Option ThreadLine) → All
 abbrev pub MayNotRest : Known → Type 0
 MayNotRest t = (line : Option ThreadLine) → Allows t None line → ¬ MatchOption t.plan (Unit {0}) (λ plan. Rests (come t None))
 
--- the thread ends as its line says, if it is there, and so far its log begins the line's
+-- the thread ends as its line says, if it is there, and its log begins the line's
 pub record MayEnd (t : Known) (line : Option ThreadLine) : Type 0 where
   pub ends : EndsAsShown t.plan line (come t None)
-  pub logs : MatchOption line (Unit {0}) (λ l. take (length t.log) l.log ≡ t.log)
+  pub logs : MatchOption line (Unit {0}) (λ l. take (length (log_so t)) l.log ≡ log_so t)
 
 -- the thread ends as its line says, if it is there
 pub record IsEnded (t : Known) (line : Option ThreadLine) : Type 0 where

@@ -2,7 +2,6 @@ pub mod Asks
 pub mod Owns
 pub mod TurnParts
 pub mod Threads
-pub mod Spots
 pub mod Run
 pub mod Laws
 pub mod Follow

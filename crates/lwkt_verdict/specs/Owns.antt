@@ -2,7 +2,7 @@
 use Rattle.std.specs.Prelude.{◌≡◌, ℕ, ◌+◌, ◌-◌, ◌==◌, ◌&&◌, nat_lt, bytes_eq, Bool, true, false, not, List, [], ◌∷◌, length, slice_get, if◌then◌else◌, Option, Some, None, IsSomeAnd}
 use Rattle.std.specs.Option.{option_map_or}
 use Rattle.lwkt_base.specs.declared.asks.Ask.{Ask}
-use Rattle.lwkt_base.specs.declared.asks.Ask.TheVariants.{Get, GetShared, Read as ReadAsk, Write as WriteAsk, Add as AddAsk, ReadBlob as ReadBlobAsk, WriteBlob as WriteBlobAsk, Send as SendAsk, Do as DoAsk, Reply as ReplyAsk, Abort as AbortAsk, DropMsg as DropAsk, WaitPort, Yield, Exit}
+use Rattle.lwkt_base.specs.declared.asks.Ask.TheVariants.{Get, GetShared, Read as ReadAsk, Write as WriteAsk, Add as AddAsk, ReadBlob as ReadBlobAsk, WriteBlob as WriteBlobAsk, Send as SendAsk, Do as DoAsk, Reply as ReplyAsk, Abort as AbortAsk, DropMsg as DropAsk, WaitPort, Yield, Exit, Fail}
 use Rattle.lwkt_base.specs.declared.asks.Answer.{Answer}
 use Rattle.lwkt_base.specs.declared.asks.Answer.TheVariants.{Begin, Done, Value, Bytes, Dropped, Got, NoMsg, Refused}
 use Rattle.lwkt_base.specs.declared.laws.Law.{Law}
@@ -166,7 +166,7 @@ abbrev pub ends_taking : List Event → Bool
 ends_taking part = option_map_or adds_reference (slice_get part (length part - 1)) false
 
 -- whether its part shows that an ask, where it wasn't refused, blocked its thread: a blocking request for a token doesn't end
--- with a reference, and a synchronous send has its send; a wait for the port may block, to yield and to exit do
+-- with a reference, and a synchronous send has its send; a wait for the port may block, to yield and to end do
 abbrev pub has_blocked : Ask → List Event → Bool
 has_blocked (Get tok) part = not (ends_taking part)
 has_blocked (GetShared tok) part = not (ends_taking part)
@@ -174,4 +174,5 @@ has_blocked (DoAsk msg to call) part = nat_lt (first_send part) (length part)
 has_blocked WaitPort part = true
 has_blocked Yield part = true
 has_blocked Exit part = true
+has_blocked (Fail number) part = true
 has_blocked _ part = false

@@ -18,7 +18,7 @@ use Rattle.lwkt_verdict.specs.declared.progress.Piece.{Piece}
 use Rattle.lwkt_verdict.specs.Asks.{may_answer}
 use Rattle.lwkt_verdict.specs.Owns.{has_blocked}
 use Rattle.lwkt_verdict.specs.TurnParts.{after_all, GoesQuietly, IsPartOf}
-use Rattle.lwkt_verdict.specs.Threads.{slot_of, plan_of_thread, line_of, asked_by, progress_of, MayAsk, IsLogged, Rests, EndsAsShown}
+use Rattle.lwkt_verdict.specs.Threads.{slot_of, plan_of_thread, line_of, asked_by, program_of, progress_of, MayAsk, IsLogged, Rests, EndsAsShown}
 
 -- the poll of a turn, by its place among the polls
 abbrev pub poll_of : List Poll → Turn → Option Poll
@@ -28,27 +28,31 @@ poll_of polls turn = option_and_then (slice_get polls) turn.poll
 abbrev pub piece : Option Poll → List Event → Piece
 piece poll part = record { poll = poll; blocked = option_map_or (λ q. has_blocked q.ask part) poll false }
 
--- how far a thread has come after those turns
-abbrev pub came : List Piece → ℕ → Progress
-came before slot = progress_of (asked_by slot before)
+-- how far a thread has come after those turns, by its number among those of all processors
+abbrev pub came_by : Option ThreadSpec → List Piece → ℕ → Progress
+came_by plan before slot = progress_of (program_of plan) (asked_by slot before)
+
+-- the same of thread n of a processor
+abbrev pub came : List ThreadSpec → List Piece → ℕ → ℕ → Progress
+came plans before cpu n = came_by (plan_of_thread cpu n plans) before (16 * cpu + n)
 
 -- an ask and its answer, where its part shows that it blocked its thread, or doesn't
 abbrev pub asked_of_poll : Poll → Bool → Asked
 asked_of_poll q blocked = record { ask = q.ask; answer = q.answer; blocked = blocked }
 
--- a poll fits a thread that has come so far: the thread is one of the script's, of this processor, the ask is its next one,
--- the ask before it has its answer, the answer of this one, if it has one, is one that the ask can have, and its entry stands
--- in the thread's log
+-- a poll fits a thread that has come so far: the thread is one of the script's, of this processor, the ask is what its program asks
+-- next by the answers that it was given, the ask before it has its answer, the answer of this one, if it has one, is one that the ask
+-- can have, and its entry stands in the thread's log
 pub record PollFits (plans : List ThreadSpec) (lines : List ThreadLine) (cpu : ℕ) (p : Progress) (q : Poll) : Type 0 where
   pub here : q.thread.cpu.0 ≡ cpu
-  pub numbered : q.thread.thread < THREAD_LIMIT
-  pub asks : MatchOption (plan_of_thread cpu q.thread.thread plans) ⊥ (λ plan. MayAsk plan p q.ask)
+  pub numbered : q.thread.thread < 16
+  pub asks : MatchOption (plan_of_thread cpu q.thread.thread plans) ⊥ (λ plan. MayAsk plan.code.steps p q.ask)
   pub answers : MatchOption q.answer (Unit {0}) (λ a. may_answer q.ask a ≡ true)
-  pub logs : MatchOption (line_of (THREAD_LIMIT * cpu + q.thread.thread) lines) ⊥ (λ line. IsLogged line p (asked_of_poll q false))
+  pub logs : MatchOption (line_of (16 * cpu + q.thread.thread) lines) ⊥ (λ line. IsLogged (program_of (plan_of_thread cpu q.thread.thread plans)).steps line p (asked_of_poll q false))
 
 -- a turn without an ask fits threads that have come so far: each thread of its processor may rest
 abbrev pub Idles : List ThreadSpec → ℕ → (ℕ → Progress) → Type 0
-Idles plans cpu progress = (n : ℕ) → n < THREAD_LIMIT → MatchOption (plan_of_thread cpu n plans) (Unit {0}) (λ plan. Rests (progress (THREAD_LIMIT * cpu + n)))
+Idles plans cpu progress = (n : ℕ) → n < 16 → MatchOption (plan_of_thread cpu n plans) (Unit {0}) (λ plan. Rests (progress n))
 
 -- the part of a turn with or without an ask
 abbrev pub MakesPart : Machine → Option Poll → List Event → Type 0
@@ -59,12 +63,12 @@ MakesPart m poll part = MatchOption poll (GoesQuietly m part) (λ q. IsPartOf m 
 pub record TurnFits (plans : List ThreadSpec) (lines : List ThreadLine) (cpu : ℕ) (m : Machine) (before : List Piece) (poll : Option Poll) (part : List Event) : Type 0 where
   pub own : All (λ e. cpu_of e ≡ cpu) part
   pub makes : MakesPart m poll part
-  pub polls : MatchOption poll (Idles plans cpu (came before)) (λ q. PollFits plans lines cpu (came before (slot_of q.thread)) q)
+  pub polls : MatchOption poll (Idles plans cpu (came plans before cpu)) (λ q. PollFits plans lines cpu (came plans before cpu q.thread.thread) q)
 
 -- the end of a run: the events of the stop may happen unasked, and each thread of the script has its line and ends as it says
 pub record EndsRun (plans : List ThreadSpec) (lines : List ThreadLine) (m : Machine) (before : List Piece) (stop : List Event) : Type 0 where
   pub quiet : GoesQuietly m stop
-  pub ends : (cpu n : ℕ) → cpu < CPU_LIMIT → n < THREAD_LIMIT → EndsAsShown (plan_of_thread cpu n plans) (line_of (THREAD_LIMIT * cpu + n) lines) (came before (THREAD_LIMIT * cpu + n))
+  pub ends : (cpu n : ℕ) → cpu < 8 → n < 16 → EndsAsShown (plan_of_thread cpu n plans) (line_of (16 * cpu + n) lines) (came plans before cpu n)
 
 -- the processor of the turn of this number, by an order of processors
 abbrev pub whose : List ℕ → ℕ → ℕ

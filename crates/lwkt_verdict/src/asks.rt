@@ -1,6 +1,6 @@
 ghost use Rattle.std.specs.Prelude.{◌≡◌, ◌==◌, ◌↔◌, IsTrue};
-ghost use Rattle.lwkt_base.specs.declared.asks.Ask.TheVariants.{WriteBlob};
-ghost use Rattle.lwkt_verdict.specs.Asks.{refusals, may_refuse, may_be_done, may_give_value, may_give_bytes, may_drop, is_reply_to, may_give_item, may_find_nothing, may_answer, makes_event, is_do, is_exit, may_wait, may_block};
+ghost use Rattle.lwkt_base.specs.declared.asks.Ask.TheVariants.{WriteBlob, Fail};
+ghost use Rattle.lwkt_verdict.specs.Asks.{refusals, may_refuse, may_be_done, may_give_value, may_give_bytes, may_drop, is_reply_to, may_give_item, may_find_nothing, may_answer, makes_event, is_do, is_exit, is_fail, is_end, may_wait, may_block};
 
 use lwkt_base::{Answer, Ask, Blob, Item, TokId};
 
@@ -26,7 +26,7 @@ fn refusals(ask: &Ask) -> &'static [u8]
         Ask::IsAborted(_) => &[31],
         Ask::DropMsg(_) => &[25, 26, 28],
         Ask::GetPort => &[34],
-        Ask::WaitPort | Ask::Yield | Ask::Exit => &[],
+        Ask::WaitPort | Ask::Yield | Ask::Exit | Ask::Fail(_) => &[],
     }
 }
 
@@ -51,6 +51,7 @@ fn may_be_done(ask: &Ask) -> bool
             | Ask::GetPort
             | Ask::WaitPort
             | Ask::Exit
+            | Ask::Fail(_)
     )
 }
 
@@ -152,11 +153,25 @@ pub fn is_do(ask: &Ask) -> bool
     matches!(ask, Ask::Do(..))
 }
 
-/// Whether an ask is the last one of a body.
+/// Whether an ask is that to exit.
 pub fn is_exit(ask: &Ask) -> bool
     ensures { result ≡ is_exit ask.now }
 {
     matches!(ask, Ask::Exit)
+}
+
+/// Whether an ask is that to end by an assertion that doesn't hold.
+pub fn is_fail(ask: &Ask) -> bool
+    ensures { result ≡ is_fail ask.now }
+{
+    matches!(ask, Ask::Fail(_))
+}
+
+/// Whether an ask is the last one of a thread.
+pub fn is_end(ask: &Ask) -> bool
+    ensures { result ≡ is_end ask.now }
+{
+    is_exit(ask) || is_fail(ask)
 }
 
 /// Whether an ask can leave its thread waiting for its port or for a reply.
@@ -186,12 +201,32 @@ fn is_storing(ask: &Ask, tok: TokId, blob: &Blob) -> bool
     }
 }
 
+// Whether an ask is that to end by the assertion of this number.
+fn is_failing(ask: &Ask, number: u32) -> bool
+    ensures { IsTrue result ↔ (ask.now ≡ Fail number) }
+{
+    match ask {
+        Ask::Fail(other) => *other == number,
+        _ => false,
+    }
+}
+
 /// Whether two asks are one.
 pub fn is_same(one: &Ask, other: &Ask) -> bool
     ensures { IsTrue result ↔ (one.now ≡ other.now) }
 {
     match one {
         Ask::WriteBlob(tok, blob) => is_storing(other, *tok, blob),
+        Ask::Fail(number) => is_failing(other, *number),
+        Ask::Get(_)
+        | Ask::GetShared(_)
+        | Ask::TryGet(_)
+        | Ask::Rel(_)
+        | Ask::Swap
+        | Ask::Read(..)
+        | Ask::Write(..)
+        | Ask::Add(..)
+        | Ask::ReadBlob(_) => *one == *other,
         _ => *one == *other,
     }
 }

@@ -1,7 +1,6 @@
 //! A check that follows a run turn by turn, and keeps no turn.
 ghost use Rattle.std.specs.Prelude.{◌≡◌, ℕ, ◌<◌, ◌+◌, ◌*◌, ◌/◌, ◌%◌, ◌^◌, ◌-◌, ◌≤◌, ◌↔◌, IsTrue, IfOk, IfSome, MatchOption, length, slice_get, false, Some, is_some, option_map};
 ghost use Rattle.std.specs.Option.{option_copied};
-ghost use Rattle.lwkt_base.specs.declared.asks.Ask.TheVariants.{Exit};
 ghost use Rattle.lwkt_verdict.specs.TurnParts.{after_all, GoesQuietly};
 ghost use Rattle.lwkt_verdict.specs.Threads.{plan_of_thread, line_of};
 ghost use Rattle.lwkt_verdict.specs.Follow.{Follow, Begins, GoesOnByPoll, DeclinesPoll, GoesOnUnasked, DeclinesUnasked, EndsHere, DeclinesEnd, AreThreads};
@@ -20,16 +19,14 @@ use lwkt_script::ThreadSpec;
 use std::alloc::Global;
 use std::marker::Model;
 
-/// A check that follows a run of a script turn by turn, as it is made. It keeps no turn. Of each thread it keeps how many times it was
-/// polled, what it asked last, which answers that can have, and the first 32 entries of its log; and beside the threads the machine that
+/// A check that follows a run of a script turn by turn, as it is made. It keeps no turn. Of each thread it keeps where its program
+/// stands, what it asked last, which answers that can have, and the first 32 entries of its log; and beside the threads the machine that
 /// the trace so far leads to.
 ///
 /// What it says of a turn holds for each of these answers. It says no exactly of a turn that fits none of the turns before it.
 #[derive(Drop)]
 pub struct Follower<'p> {
     plans: &'p [ThreadSpec],
-    // The ask that ends a thread.
-    end: &'p Ask,
     // 16 threads for each of 8 processors.
     table: Vec<Followed<'p>>,
     // The machine that the trace so far leads to.
@@ -37,15 +34,17 @@ pub struct Follower<'p> {
 }
 
 impl<'p> Model for Follower<'p> {
-    ghost use Rattle.std.specs.Prelude.{◌≡◌};
-    ghost use Rattle.lwkt_base.specs.declared.asks.Ask.TheVariants.{Exit};
     ghost use Rattle.lwkt_verdict.specs.Follow.{Follow, AreThreads};
+    ghost use Rattle.std.specs.Coded.{codes};
+    ghost use Rattle.lwkt_code.specs.Codes.{term_code, formula_code};
 
     ghost Value = { Follow };
 
+    ghost coded = { Prim.hlevel (codes, term_code, formula_code) };
+
     ghost view = { λ f. record { plans = f.plans.now; table = f.table.items; machine = f.state } };
 
-    ghost invariant = { λ f. AreThreads f.plans.now f.table.items × (f.end.now ≡ Exit) };
+    ghost invariant = { λ f. AreThreads f.plans.now f.table.items };
 }
 
 // The thread of this number, 16 for each processor, if the script has it.
@@ -88,15 +87,13 @@ fn unpolled_threads<'p>(
 
 // Whether a thread that heard this may be polled with this ask and this part of the trace; it and the machine then go on.
 #[inline(always)]
-fn asks<'p>(
-    followed: &mut Followed<'p>,
+fn asks(
+    followed: &mut Followed<'_>,
     state: &mut State,
-    end: &'p Ask,
     heard: &Answer,
     asked: &Ask,
     part: &[Event],
 ) -> Result<bool, OutOfMemory>
-    requires end { end.now ≡ Exit }
     ensures plan { followed.new.plan ≡ followed.old.plan }
     ensures polled { IfOk result (λ yes. IsTrue yes → IsPolled state.old heard.now asked.now part.now followed.old followed.new) }
     ensures declines { IfOk result (λ yes. yes ≡ false → ¬ MayBePolled state.old heard.now asked.now part.now followed.old) }
@@ -105,10 +102,10 @@ fn asks<'p>(
     if !followed.hear(heard)? {
         return Ok(false);
     }
-    let Some(ask) = followed.next_ask(end) else {
+    let Some(ask) = followed.next_ask(heard) else {
         return Ok(false);
     };
-    Ok(is_same(ask, asked) && followed.go_on(state, ask, part))
+    Ok(is_same(&ask, asked) && followed.go_on(state, asked, part))
 }
 
 // Whether each thread of a processor rests.
@@ -144,20 +141,17 @@ fn all_end(table: &[Followed<'_>], lines: &[ThreadLine]) -> bool
 }
 
 impl<'p> Follower<'p> {
-    /// A check of a run of a script with these threads, from this opening on; `end` is the ask that ends a thread.
+    /// A check of a run of a script with these threads, from this opening on.
     pub fn new(
         alloc: Global,
         plans: &'p [ThreadSpec],
         opening: State,
-        end: &'p Ask,
     ) -> Result<Follower<'p>, OutOfMemory>
-        requires end { end.now ≡ Exit }
         ensures { IfOk result (λ f. Begins plans.now opening f) }
     {
         let table = unpolled_threads(alloc, plans)?;
         Ok(Follower {
             plans,
-            end,
             table,
             state: opening,
         })
@@ -185,14 +179,7 @@ impl<'p> Follower<'p> {
             return Ok(false);
         }
         let slot = 16 * cpu + usize::from(thread.thread);
-        asks(
-            &mut self.table[slot],
-            &mut self.state,
-            self.end,
-            heard,
-            asked,
-            part,
-        )
+        asks(&mut self.table[slot], &mut self.state, heard, asked, part)
     }
 
     /// Whether a turn of this processor, 0 to 7, that polled no thread fits the turns before it, with this part of the trace. If it fits, the

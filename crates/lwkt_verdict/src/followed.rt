@@ -1,26 +1,26 @@
 //! What a check that follows a run knows of a thread.
-ghost use Rattle.std.specs.Prelude.{◌≡◌, ℕ, ◌<◌, ◌+◌, ◌^◌, ◌-◌, ◌↔◌, ◌≤◌, IsTrue, true, false, length, max, Option, Some, None, is_some, MatchOption, IfOk, IfSome, OnOk, option_map};
-ghost use Rattle.std.specs.Option.{option_copied, option_map_or};
-ghost use Rattle.lwkt_base.specs.declared.asks.Ask.TheVariants.{Exit};
-ghost use Rattle.lwkt_script.specs.Logs.{entry_of};
-ghost use Rattle.lwkt_verdict.specs.Threads.{ask_at, may_end};
+ghost use Rattle.std.specs.Prelude.{◌≡◌, ℕ, ◌<◌, ◌↔◌, ◌≤◌, ◌++◌, ◌∷◌, [], IsTrue, true, false, length, Option, Some, None, is_some, option_and_then, IfOk, IfSome, OnOk, option_map};
+ghost use Rattle.std.specs.Option.{option_copied};
+ghost use Rattle.lwkt_code.specs.Answers.{last_step, logs};
+ghost use Rattle.lwkt_code.specs.Programs.{start};
+ghost use Rattle.lwkt_script.specs.Logs.{failure_of};
+ghost use Rattle.lwkt_verdict.specs.Threads.{program_of, logged_by, may_end};
 ghost use Rattle.lwkt_verdict.specs.Follow.{Awaited, Known, is_expected, come};
 ghost use Rattle.lwkt_base.specs.declared.asks.Ask.{Ask};
-ghost use Rattle.lwkt_verdict.specs.Followed.{count_of, unpolled, log_with, Hears, Asks, MayHear, MayAskNext, IsKept, MayRest, AllowsRest, MayNotRest, IsEnded, MayEnd};
+ghost use Rattle.lwkt_verdict.specs.Followed.{unpolled, log_with, Hears, Moves, Asks, MayHear, IsKept, MayRest, AllowsRest, MayNotRest, IsEnded, MayEnd};
 ghost use Rattle.lwkt_verdict.specs.TurnParts.{after_all, IsPartOf};
 
 use crate::asks::may_answer;
 use crate::expected::Expected;
 use crate::owns::has_blocked;
-use crate::plans::ask_at;
 use crate::progress::{is_same, may_end_after};
-use crate::spots::Spot;
 use crate::turn_parts::goes_by_ask;
 use lwkt_base::limits::LOG_LIMIT;
 use lwkt_base::memory::push;
 use lwkt_base::{Answer, Ask, Entry, OutOfMemory, ThreadLine, ThreadState};
+use lwkt_code::Local;
 use lwkt_core::{Event, State};
-use lwkt_script::{ThreadSpec, entry_of};
+use lwkt_script::{ThreadSpec, entry_of, failure_of};
 use std::alloc::Global;
 use std::marker::Model;
 
@@ -29,40 +29,61 @@ use std::marker::Model;
 pub struct Followed<'p> {
     // The thread, if the script has it.
     plan: Option<&'p ThreadSpec>,
-    polls: u64,
-    // How many steps the thread has, 1 where it has none or isn't there, and where its next ask stands among so many.
-    count: u64,
-    spot: Spot,
+    // Where its program stands after what it asked last.
+    local: Local,
     // What the thread last asked, whether its part shows that it blocked the thread, and which answers it can have.
-    last: Option<&'p Ask>,
+    last: Option<Ask>,
     blocked: bool,
     expected: Expected,
-    // The first 32 entries that the answers before made.
+    // The first 32 entries that the asks before made.
     log: Vec<Entry>,
 }
 
 impl<'p> Model for Followed<'p> {
-    ghost use Rattle.std.specs.Prelude.{◌≡◌, ◌<◌, ◌≤◌, length, option_map};
+    ghost use Rattle.std.specs.Prelude.{◌≤◌, length};
     ghost use Rattle.std.specs.Option.{option_copied};
     ghost use Rattle.lwkt_base.specs.declared.limits.TheConstants.{LOG_LIMIT};
-    ghost use Rattle.lwkt_verdict.specs.Spots.{spot_at};
     ghost use Rattle.lwkt_verdict.specs.Follow.{Known};
-    ghost use Rattle.lwkt_verdict.specs.Followed.{awaited, count_of};
+    ghost use Rattle.lwkt_verdict.specs.Followed.{awaited};
+    ghost use Rattle.std.specs.Coded.{codes};
+    ghost use Rattle.lwkt_code.specs.Codes.{term_code, formula_code};
 
     ghost Value = { Known };
 
-    ghost view = { λ f. record { plan = option_copied f.plan; polls = f.polls; last = awaited (option_copied f.last) f.blocked f.expected; log = f.log.items } };
+    ghost coded = { Prim.hlevel (codes, term_code, formula_code) };
 
-    ghost invariant = { λ f. (f.count ≡ count_of (option_copied f.plan)) × (f.spot ≡ spot_at f.count f.polls) × (length f.log.items ≤ LOG_LIMIT) };
+    ghost view = { λ f. record { plan = option_copied f.plan; local = f.local; last = awaited f.last f.blocked f.expected; log = f.log.items } };
+
+    ghost invariant = { λ f. length f.log.items ≤ 32 };
 }
 
-// How many steps a thread has, 1 if it has none or isn't there.
-fn step_count(plan: Option<&ThreadSpec>) -> u64
-    ensures { result ≡ count_of (option_copied plan.entry) }
+// Where a thread that isn't there stands.
+const NOWHERE: Local = Local {
+    at: 0,
+    left: 0,
+    vars: [0; 8],
+    counts: [0; 8],
+    refused: 0,
+    asked: false,
+};
+
+// Where a thread stands that was never polled.
+fn start_of(plan: Option<&ThreadSpec>) -> Local
+    ensures { result ≡ start (program_of (option_copied plan.entry)) }
 {
     match plan {
-        None => 1,
-        Some(plan) => (plan.steps.as_slice().len() as u64).max(1),
+        None => NOWHERE,
+        Some(plan) => plan.code.start(),
+    }
+}
+
+// Whether the answer to a thread's last ask may make an entry.
+fn may_log(plan: Option<&ThreadSpec>, local: &Local, heard: &Answer) -> bool
+    ensures { result ≡ logs (last_step (program_of (option_copied plan.entry)).steps local.now) heard.now }
+{
+    match plan {
+        None => true,
+        Some(plan) => plan.code.logs(local, heard),
     }
 }
 
@@ -78,29 +99,54 @@ fn push_entry(log: &mut Vec<Entry>, entry: Option<Entry>) -> Result<(), OutOfMem
     }
 }
 
+// What an answer puts in the log.
+fn entry_by(plan: Option<&ThreadSpec>, local: &Local, ask: &Ask, heard: &Answer) -> Option<Entry>
+    ensures { result ≡ logged_by (program_of (option_copied plan.entry)).steps local.now (record { ask = ask.now; answer = Some heard.now; blocked = false }) }
+{
+    if may_log(plan, local, heard) {
+        entry_of(*ask, *heard)
+    } else {
+        None
+    }
+}
+
 // The entry of an answer, whatever the answer, goes behind a log, if it has one and there is room for it.
 #[inline(never)]
-fn note_any(log: &mut Vec<Entry>, ask: &Ask, heard: &Answer) -> Result<(), OutOfMemory>
-    requires few { length log.old.items ≤ LOG_LIMIT }
-    ensures items { OnOk result (log.new.items ≡ log_with log.old.items (entry_of ask.now heard.now)) }
-    ensures few { length log.new.items ≤ LOG_LIMIT }
+#[tactic(auto, using(crate::proofs::KnownMoves::full_log))]
+fn note_any(
+    log: &mut Vec<Entry>,
+    plan: Option<&ThreadSpec>,
+    local: &Local,
+    ask: &Ask,
+    heard: &Answer,
+) -> Result<(), OutOfMemory>
+    requires few { length log.old.items ≤ 32 }
+    ensures items { OnOk result (log.new.items ≡ log_with log.old.items (logged_by (program_of (option_copied plan.entry)).steps local.now (record { ask = ask.now; answer = Some heard.now; blocked = false }))) }
+    ensures few { length log.new.items ≤ 32 }
 {
     if log.len() >= LOG_LIMIT {
         return Ok(());
     }
-    push_entry(log, entry_of(*ask, *heard))
+    push_entry(log, entry_by(plan, local, ask, heard))
 }
 
 // Appends to a log the entry that an answer makes, if it makes one and the log has room. Most answers make none.
 #[inline(always)]
-fn note(log: &mut Vec<Entry>, ask: &Ask, heard: &Answer) -> Result<(), OutOfMemory>
-    requires few { length log.old.items ≤ LOG_LIMIT }
-    ensures items { OnOk result (log.new.items ≡ log_with log.old.items (entry_of ask.now heard.now)) }
-    ensures few { length log.new.items ≤ LOG_LIMIT }
+#[tactic(auto, using(crate::proofs::KnownMoves::nothing_begun, crate::proofs::KnownMoves::nothing_done))]
+fn note(
+    log: &mut Vec<Entry>,
+    plan: Option<&ThreadSpec>,
+    local: &Local,
+    ask: &Ask,
+    heard: &Answer,
+) -> Result<(), OutOfMemory>
+    requires few { length log.old.items ≤ 32 }
+    ensures items { OnOk result (log.new.items ≡ log_with log.old.items (logged_by (program_of (option_copied plan.entry)).steps local.now (record { ask = ask.now; answer = Some heard.now; blocked = false }))) }
+    ensures few { length log.new.items ≤ 32 }
 {
     match heard {
         Answer::Begin | Answer::Done => Ok(()),
-        _ => note_any(log, ask, heard),
+        _ => note_any(log, plan, local, ask, heard),
     }
 }
 
@@ -124,9 +170,51 @@ fn are_same(log: &[Entry], other: &[Entry]) -> bool
     log.len() == other.len() && are_same_below(log, other)
 }
 
+// Whether a log is another one with an entry behind it.
+#[tactic(auto, using(crate::proofs::KnownMoves::snoc_same, crate::proofs::KnownMoves::snoc_none))]
+fn ends_with(log: &[Entry], entry: &Entry, whole: &[Entry]) -> bool
+    ensures { IsTrue result ↔ (log.now ++ entry.now ∷ [] ≡ whole.now) }
+{
+    match whole {
+        [] => false,
+        [front @ .., last] => are_same(log, front) && is_same(entry, last),
+    }
+}
+
+// The same where the log may have no room for the entry.
+#[tactic(auto, using(crate::proofs::KnownMoves::full_log, crate::proofs::KnownMoves::room_log))]
+fn is_with(log: &[Entry], entry: &Entry, whole: &[Entry]) -> bool
+    ensures { IsTrue result ↔ (log_with log.now (Some entry.now) ≡ whole.now) }
+{
+    if log.len() >= LOG_LIMIT {
+        return are_same(log, whole);
+    }
+    ends_with(log, entry, whole)
+}
+
+// What a thread's last ask puts in the log, if there is one, which has no answer.
+fn failure_in(last: &Option<Ask>) -> Option<Entry>
+    ensures { result ≡ option_and_then failure_of last.now }
+{
+    match last {
+        None => None,
+        Some(ask) => failure_of(ask),
+    }
+}
+
+// Whether a log is another one, with the entry of the last ask, which has no answer, behind it, if there is one and room for it.
+fn is_whole(log: &[Entry], last: &Option<Ask>, whole: &[Entry]) -> bool
+    ensures { IsTrue result ↔ (log_with log.now (option_and_then failure_of last.now) ≡ whole.now) }
+{
+    match failure_in(last) {
+        None => are_same(log, whole),
+        Some(entry) => is_with(log, &entry, whole),
+    }
+}
+
 // Whether a thread may be in this state whose last ask, if there is one, is open.
-fn may_end(state: ThreadState, last: Option<&Ask>, blocked: bool) -> bool
-    ensures { result ≡ may_end state (option_map (λ ask. record { ask = ask.now; answer = None; blocked = blocked }) last.entry) }
+fn may_end(state: ThreadState, last: &Option<Ask>, blocked: bool) -> bool
+    ensures { result ≡ may_end state (option_map (λ ask. record { ask = ask; answer = None; blocked = blocked }) last.now) }
 {
     match last {
         None => matches!(state, ThreadState::Ready),
@@ -141,9 +229,7 @@ impl<'p> Followed<'p> {
     {
         Followed {
             plan,
-            polls: 0,
-            count: step_count(plan),
-            spot: Spot::first(),
+            local: start_of(plan),
             last: None,
             blocked: false,
             expected: Expected::Any,
@@ -159,37 +245,35 @@ impl<'p> Followed<'p> {
         ensures hears_it { IfOk result (λ yes. IsTrue yes → Hears heard.now self.old self.new) }
         ensures declines { IfOk result (λ yes. yes ≡ false → ¬ MayHear heard.now self.old) }
     {
-        let Some(ask) = self.last else {
+        let Some(ask) = &self.last else {
             return Ok(true);
         };
         if !self.expected.allows(heard) || !may_answer(ask, heard) {
             return Ok(false);
         }
-        note(&mut self.log, ask, heard)?;
+        note(&mut self.log, self.plan, &self.local, ask, heard)?;
         Ok(true)
     }
 
-    /// What the thread asks next, if it is there and has one ask more; `end` is the ask that ends a thread.
+    /// What the thread asks next that heard this, if it is there. Its program goes on to that.
     #[inline(always)]
-    pub fn next_ask(&self, end: &'p Ask) -> Option<&'p Ask>
-        requires end { end.now ≡ Exit }
-        ensures asks { IfSome (option_copied result) (λ ask. MatchOption self.now.plan ⊥ (λ plan. ask_at plan self.now.polls ≡ Some ask)) }
-        ensures few { is_some result ≡ true → self.now.polls < 2 ^ 64 - 1 }
-        ensures none { is_some result ≡ false → self.now.polls < 2 ^ 64 - 1 → (asked : Ask) → ¬ MayAskNext asked self.now }
+    pub fn next_ask(&mut self, heard: &Answer) -> Option<Ask>
+        ensures plan { self.new.plan ≡ self.old.plan }
+        ensures moves { IfSome result (λ ask. Moves heard.now ask self.old self.new) }
+        ensures none { is_some result ≡ false → self.old.plan ≡ None }
     {
-        if self.polls == u64::MAX {
+        let Some(plan) = self.plan else {
             return None;
+        };
+        if self.last.is_none() {
+            return Some(plan.code.next(&mut self.local, &Answer::Begin));
         }
-        match self.plan {
-            None => None,
-            Some(plan) => ask_at(plan, self.polls, self.spot, end),
-        }
+        Some(plan.code.next(&mut self.local, heard))
     }
 
     /// Whether the thread may ask this, whose next ask it is, by this part of the trace. If so, it has asked it, and the machine goes on.
     #[inline(always)]
-    pub fn go_on(&mut self, state: &mut State, ask: &'p Ask, part: &[Event]) -> bool
-        requires few { self.old.polls < 2 ^ 64 - 1 }
+    pub fn go_on(&mut self, state: &mut State, ask: &Ask, part: &[Event]) -> bool
         ensures plan { self.new.plan ≡ self.old.plan }
         ensures asked { IsTrue result → Asks state.old ask.now part.now self.old self.new }
         ensures declines { result ≡ false → ¬ IsPartOf state.old ask.now None part.now }
@@ -198,9 +282,7 @@ impl<'p> Followed<'p> {
         if !goes_by_ask(state, ask, part, &mut self.expected) {
             return false;
         }
-        self.spot = self.spot.next(self.count);
-        self.polls += 1;
-        self.last = Some(ask);
+        self.last = Some(*ask);
         self.blocked = has_blocked(ask, part);
         true
     }
@@ -222,6 +304,17 @@ impl<'p> Followed<'p> {
         self.expected.leave_refusals()
     }
 
+    // Whether the line of a thread that is there has its log, and a state that it may be in.
+    fn has_line(&self, line: &ThreadLine) -> bool
+        ensures ends { IsTrue result → is_some self.now.plan ≡ true → IsEnded self.now (Some line.now) }
+        ensures declines { result ≡ false → ¬ MayEnd self.now (Some line.now) }
+    {
+        if !is_whole(self.log.as_slice(), &self.last, line.log.as_slice()) {
+            return false;
+        }
+        may_end(line.state, &self.last, self.blocked)
+    }
+
     /// Whether the thread, if it is there, ends as its line says, if there is one.
     pub fn ends_as(&self, line: Option<&ThreadLine>) -> bool
         ensures ends { IsTrue result → IsEnded self.now (option_copied line.entry) }
@@ -229,10 +322,7 @@ impl<'p> Followed<'p> {
     {
         match (self.plan, line) {
             (None, None) => true,
-            (Some(_), Some(line)) => {
-                are_same(self.log.as_slice(), line.log.as_slice())
-                    && may_end(line.state, self.last, self.blocked)
-            }
+            (Some(_), Some(line)) => self.has_line(line),
             _ => false,
         }
     }

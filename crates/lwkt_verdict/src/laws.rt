@@ -1,4 +1,4 @@
-ghost use Rattle.lwkt_verdict.specs.Laws.{NoTurnsAreNoRun, RunsBeginWithAnAsk, TracesOfRunsHappen, AsksAreThoseOfTheScript, AllButTheLastAreAnswered, LogsAreTheFirstEntries};
+ghost use Rattle.lwkt_verdict.specs.Laws.{NoTurnsAreNoRun, RunsBeginWithAnAsk, TracesOfRunsHappen, AsksAreThoseOfTheScript, AllButTheLastAreAnswered, NothingFollowsAnEnd, LogsAreTheFirstEntries};
 
 /// The theorem that no turn at all is no run in rounds.
 pub fn no_turns_are_no_run()
@@ -15,7 +15,7 @@ pub fn traces_of_runs_happen()
     ensures { TracesOfRunsHappen }
 {}
 
-/// The theorem that what a thread asks is a front of its steps, so many times over, and then `Exit`.
+/// The theorem that what a thread asks is what its program asks, by the answers that the thread was given.
 pub fn asks_are_those_of_the_script()
     ensures { AsksAreThoseOfTheScript }
 {}
@@ -25,7 +25,12 @@ pub fn all_but_the_last_are_answered()
     ensures { AllButTheLastAreAnswered }
 {}
 
-/// The theorem that a thread's printed log is the first 32 entries of the answers to its asks.
+/// The theorem that an ask that ends its thread is the last one that the thread makes.
+pub fn nothing_follows_an_end()
+    ensures { NothingFollowsAnEnd }
+{}
+
+/// The theorem that a thread's printed log is the first 32 entries that its asks and their answers make.
 pub fn logs_are_the_first_entries()
     ensures { LogsAreTheFirstEntries }
 {}

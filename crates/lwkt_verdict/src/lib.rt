@@ -3,10 +3,9 @@
 //!
 //! Words: an *event* is something that a processor did, as its trace has it; a *poll* is one call of a thread's body: what it
 //! asked, and the answer that it was given later; a *piece* is a turn's poll and its *part* of the trace; a turn *fits* if its
-//! piece is what the threads may do then; the *progress* of a thread is how far it is in its steps and its log, the
-//! *spot* of an ask how many rounds of all steps were made before it, and which step it is; a *pace* says how
-//! turns follow one another. A *follower* checks a run while it is made: of the last ask of each thread it knows which answers are
-//! *expected*.
+//! piece is what the threads may do then; a thread is *told* the answer to its last ask at its next poll; the *progress* of a
+//! thread is where it stands in its program, its last ask and how long its log is; a *pace* says how turns follow one another. A
+//! *follower* checks a run while it is made: of the last ask of each thread it knows which answers are *expected*.
 #![tactic(auto)]
 
 mod asks;
@@ -18,7 +17,6 @@ mod owns;
 mod plans;
 mod progress;
 mod rounds;
-mod spots;
 mod turn_parts;
 pub mod turns;
 

@@ -295,7 +295,7 @@ pub fn has_blocked(ask: &Ask, part: &[Event]) -> bool
     match ask {
         Ask::Get(_) | Ask::GetShared(_) => !ends_taking(part),
         Ask::Do(..) => first_send(part) < part.len(),
-        Ask::WaitPort | Ask::Yield | Ask::Exit => true,
+        Ask::WaitPort | Ask::Yield | Ask::Exit | Ask::Fail(_) => true,
         _ => false,
     }
 }

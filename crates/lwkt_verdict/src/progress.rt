@@ -2,10 +2,11 @@ ghost use Rattle.std.specs.Prelude.{◌≡◌, ◌↔◌, IsTrue, None};
 ghost use Rattle.lwkt_base.specs.declared.entries.Entry.TheVariants.{Bytes};
 ghost use Rattle.lwkt_verdict.specs.Threads.{may_fault, may_end_after};
 
-use crate::asks::{is_exit, may_block, may_wait};
+use crate::asks::{is_end, is_exit, is_fail, may_block, may_wait};
 use crate::turns::Poll;
 use lwkt_base::limits::LOG_LIMIT;
 use lwkt_base::{Answer, Ask, Blob, Entry, ThreadState};
+use lwkt_code::Local;
 
 /// An ask of a thread, its answer, if it has one, and whether its part of the trace shows that it blocked the thread. Only proofs have
 /// values of it.
@@ -20,10 +21,10 @@ pub struct Asked {
 }
 
 /// How far a thread has come. Only proofs have values of it.
-#[derive(Clone, Copy, PartialEq, Eq)]
+#[derive(Clone, Copy)]
 pub struct Progress {
-    /// How many times it was polled.
-    pub polls: u64,
+    /// Where it stands in its program, after its last ask.
+    pub local: Local,
     /// What it last asked.
     pub last: Option<Asked>,
     /// How many entries its log has, at most 32.
@@ -63,7 +64,9 @@ pub fn is_same(one: &Entry, other: &Entry) -> bool
 fn may_fault(number: u8, ask: &Ask) -> bool
     ensures { result ≡ may_fault number ask.now }
 {
-    (number == 19 && (is_exit(ask) || may_block(ask))) || (number == 20 && may_block(ask))
+    (number == 19 && (is_end(ask) || may_block(ask)))
+        || (number == 20 && may_block(ask))
+        || (number == 42 && is_fail(ask))
 }
 
 /// Whether a thread may be in this state that asked this last, which has no answer and blocked the thread, or didn't.
@@ -73,7 +76,7 @@ pub fn may_end_after(state: ThreadState, ask: &Ask, blocked: bool) -> bool
     match state {
         ThreadState::Ready => blocked && may_block(ask),
         ThreadState::Waiting => blocked && may_wait(ask),
-        ThreadState::Running => !is_exit(ask),
+        ThreadState::Running => !is_end(ask),
         ThreadState::Exited => is_exit(ask),
         ThreadState::Faulted(fault) => blocked && may_fault(fault.number(), ask),
     }

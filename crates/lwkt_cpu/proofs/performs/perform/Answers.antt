@@ -56,6 +56,9 @@ returns-in-Yield-clause-ran c = ran_left c.args.list.now (kept_list (next_with c
 pub returns-in-Exit-clause-ran : goal.returns-in-Exit-clause-ran
 returns-in-Exit-clause-ran c = let l = c.leave in ran_left c.args.list.now (kept_list (next_with l.result c.args.last.now) c.args.list.now) 192 c.args.hold.now.seat l.new.hold.seat c.args.trace.now l.new.trace (omega arith) l.ensures.ran
 
+pub returns-in-Fail-clause-ran : goal.returns-in-Fail-clause-ran
+returns-in-Fail-clause-ran c = let l = c.leave-in-Fail in ran_left c.args.list.now (kept_list (next_with l.result c.args.last.now) c.args.list.now) 192 c.args.hold.now.seat l.new.hold.seat c.args.trace.now l.new.trace (omega arith) l.ensures.ran
+
 pub returns-in-Get-clause-traced : goal.returns-in-Get-clause-traced
 returns-in-Get-clause-traced c = mail_none c.args.ports.now.seat c.args.trace.now.items c.get.new.trace.items (got_quiet _ _ _ _ _ _ c.args.trace.now c.get.new.trace _ c.get.ensures.gets)
 
@@ -88,6 +91,9 @@ returns-in-Yield-clause-traced c = mail_none c.args.ports.now.seat c.args.trace.
 
 pub returns-in-Exit-clause-traced : goal.returns-in-Exit-clause-traced
 returns-in-Exit-clause-traced c = let l = c.leave in mail_none c.args.ports.now.seat c.args.trace.now.items l.new.trace.items (given_quiet _ _ _ _ c.args.trace.now l.new.trace _ _ (l.ensures.gives_up c.args.last.now))
+
+pub returns-in-Fail-clause-traced : goal.returns-in-Fail-clause-traced
+returns-in-Fail-clause-traced c = let l = c.leave-in-Fail in mail_none c.args.ports.now.seat c.args.trace.now.items l.new.trace.items (given_quiet _ _ _ _ c.args.trace.now l.new.trace _ _ (l.ensures.gives_up c.args.last.now))
 
 pub returns-in-ReadBlob-clause-ran : goal.returns-in-ReadBlob-clause-ran
 returns-in-ReadBlob-clause-ran c = ran_left c.args.list.now c.args.list.now 1 c.args.hold.now.seat c.read_blob.new.hold.seat c.args.trace.now c.read_blob.new.trace (omega arith) c.read_blob.ensures.ran

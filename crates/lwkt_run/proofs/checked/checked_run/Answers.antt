@@ -69,4 +69,4 @@ returns-clause-leaves g c =
     let E : List Event → Type 0 = λ es. EndsSo n.follower left es in
     let D : List Event → Type 0 = λ es. DeclinesSo n.follower left es in
     let said = saying c.verdict_of-verdict.result c.is_followed-follows.result n.events E D c.as_slice.result.now stops c.as_slice.ensures.value c.verdict_of-verdict.ensures in
-    leaves_checked script c.args.course c.in_ok-fits.fits c.is_followed-follows.result s t left stops c.verdict_of-verdict.result c.drive.ensures.short c.requires.course closes c.in_ok-fits.ensures.ok c.is_followed-follows.ensures said
+    leaves_checked script c.args.course c.in_ok-fits.fits c.is_followed-follows.result s t left stops c.verdict_of-verdict.result c.requires.course closes c.in_ok-fits.ensures.ok c.is_followed-follows.ensures said

@@ -1,0 +1,7 @@
+pub mod FirstWrong
+pub mod Heights
+pub mod Insides
+pub mod Lists
+pub mod Marking
+pub mod Walks
+pub mod Ways

@@ -1,0 +1,12 @@
+pub mod Accepted
+pub mod Answers
+pub mod Codes
+pub mod Firsts
+pub mod Flaws
+pub mod Marks
+pub mod Next
+pub mod Programs
+pub mod Terms
+pub mod Trees
+pub mod Values
+pub mod Wishes
