@@ -16,8 +16,6 @@ use std::alloc::Global;
 // The most messages.
 const MESSAGES: u8 = 64;
 
-// The most threads of a processor.
-
 // The numbers that a place is given room for at first.
 const ROOM: usize = 256;
 
