@@ -166,9 +166,12 @@ fn show_places(out: &mut Words, step: Part<'_>) -> bool {
         return false;
     }
     out.point(last);
-    out.page
-        .say((" has ", count, " variables for an answer of "));
-    out.page.say((most, " numbers"));
+    let noun = if count == 1 {
+        " variable, and may into "
+    } else {
+        " variables, and may into "
+    };
+    out.page.say((" puts its answer into ", count, noun, most));
     true
 }
 

@@ -354,8 +354,8 @@ fn show_no_places(out: &mut Words, places: Option<Part<'_>>) -> bool {
 
 // Appends how many parts a list with a word has, and how many it may have, if there is a shape with the word; says whether
 // there is.
-fn show_count(out: &mut Words, word: Part<'_>, count: usize, kind: Kind) -> bool {
-    let noun = if count == 1 { " part, " } else { " parts, " };
+fn show_count(out: &mut Words, word: Part<'_>, count: usize, kind: Kind, behind: &str) -> bool {
+    let noun = if count == 1 { " part" } else { " parts" };
     let mut is_known = false;
     for i in 0..SHAPE_LIMIT {
         if let Some(shape) = kind.shape(i) {
@@ -363,7 +363,8 @@ fn show_count(out: &mut Words, word: Part<'_>, count: usize, kind: Kind) -> bool
                 if is_known {
                     out.page.say(" or ");
                 } else {
-                    out.page.say((" has ", count, noun, shape.0, " has "));
+                    out.page.say((" has ", count, noun, behind));
+                    out.page.say((shape.0, " has "));
                 }
                 out.page.say(count_of(shape));
                 is_known = true;
@@ -408,11 +409,14 @@ fn show_behind(out: &mut Words, list: Part<'_>, word: Part<'_>, kind: Kind) -> b
     }
     let places = places_of(list, word, kind);
     let count = list.count().unwrap_or(0);
-    let count = count.saturating_sub(usize::from(places.is_some()));
+    let (count, behind) = match places {
+        Some(_) => (count.saturating_sub(1), " before its variables, "),
+        None => (count, ", "),
+    };
     if let Some(shape) = shape_of(word, count, kind) {
         return show_part(out, list, shape, kind) || show_no_places(out, places);
     }
-    if !show_count(out, word, count, kind) {
+    if !show_count(out, word, count, kind, behind) {
         show_no_word(out, word, kind);
     }
     true
