@@ -1,5 +1,5 @@
 ghost use Rattle.std.specs.Prelude.{◌≡◌};
-ghost use Rattle.lwkt_base.specs.Threads.{has_ended};
+ghost use Rattle.lwkt_base.specs.Threads.{has_ended, is_done};
 
 use crate::faults::Fault;
 use crate::lists::TokList;
@@ -41,4 +41,15 @@ pub struct ThreadLine {
     pub list: TokList,
     /// The first 32 of the answers that it was given.
     pub log: Log,
+    /// Whether it is a service: it serves other threads and need not end.
+    pub service: bool,
+}
+
+impl ThreadLine {
+    /// Whether the run needn't go on for this thread: it has ended, or it is a service.
+    pub fn is_done(&self) -> bool
+        ensures { result ≡ is_done self.now }
+    {
+        self.service || self.state.has_ended()
+    }
 }

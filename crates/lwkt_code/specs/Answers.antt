@@ -1,5 +1,5 @@
 -- What an answer leaves in the thread that it is given to (own, version 3).
-use Rattle.std.specs.Prelude.{ℕ, ◌-◌, ◌==◌, ◌||◌, Bool, true, false, not, List, Option, Some, None, slice_get, slice_set, if◌then◌else◌}
+use Rattle.std.specs.Prelude.{ℕ, ◌-◌, ◌==◌, ◌||◌, Bool, true, false, not, List, Option, Some, None, is_some, slice_get, slice_set, if◌then◌else◌}
 use Rattle.lwkt_base.specs.declared.asks.Answer.{Answer}
 use Rattle.lwkt_base.specs.declared.asks.Answer.TheVariants.{Begin, Done, Value, Bytes, Dropped, Got, NoMsg, Refused}
 use Rattle.lwkt_base.specs.declared.asks.Item.{Item}
@@ -96,17 +96,12 @@ last_step steps s = if s.at == 0 then None else slice_get steps (s.at - 1)
 abbrev pub taken : List Step → Local → Answer → Local
 taken steps s answer = record s { vars = given (last_step steps s) answer s.vars; refused = refusal_of answer }
 
--- whether an answer to an ask of a kind is that a token is held or marked, and the token was only tried
-abbrev pub is_untaken : Verb → Answer → Bool
-is_untaken verbs.TryGet (Refused Busy) = true
-is_untaken _ answer = false
-
 -- whether a step puts its answer nowhere
 abbrev pub is_nowhere : Places → Bool
 is_nowhere Nowhere = true
 is_nowhere _ = false
 
--- whether the answer to a step's ask may make an entry in the log: that of a try with a place makes none if the token wasn't taken
+-- whether the answer to a step's ask may make an entry in the log: one that goes into variables makes none
 abbrev pub logs : Option Step → Answer → Bool
-logs (Some (Make wish places)) answer = is_nowhere places || not (is_untaken wish.verb answer)
+logs (Some (Make wish places)) answer = is_nowhere places || not (is_some (held_by wish.verb answer).first)
 logs _ answer = true

@@ -1,6 +1,6 @@
 //! What an answer leaves in the thread that it is given to.
 ghost use Rattle.std.specs.Prelude.{◌≡◌, Option, Some, None, slice_get};
-ghost use Rattle.lwkt_code.specs.Answers.{held_by_item, held_by_value, held_by_try, held_by_reply, held_by_port, held_by, put_in, stored, given, refusal_of, last_step, taken, is_untaken, logs};
+ghost use Rattle.lwkt_code.specs.Answers.{held_by_item, held_by_value, held_by_try, held_by_reply, held_by_port, held_by, put_in, stored, given, refusal_of, last_step, taken, logs};
 
 use crate::locals::Local;
 use crate::steps::{Places, Step};
@@ -173,18 +173,7 @@ pub fn take(steps: &[Step], local: &mut Local, answer: &Answer)
     }
 }
 
-// Whether an answer to an ask of a kind is that a token wasn't taken, and the token was only tried.
-fn is_untaken(verb: Verb, answer: &Answer) -> bool
-    ensures { result ≡ is_untaken verb answer.now }
-{
-    match verb {
-        Verb::TryGet => matches!(answer, Answer::Refused(Fault::Busy)),
-        _ => false,
-    }
-}
-
-/// Whether the answer to a thread's last ask may make an entry in its log: that of a try with a place makes none if the token wasn't
-/// taken.
+/// Whether the answer to a thread's last ask may make an entry in its log: one that goes into variables makes none.
 pub fn logs(steps: &[Step], local: &Local, answer: &Answer) -> bool
     ensures { result ≡ logs (last_step steps.now local.now) answer.now }
 {
@@ -193,7 +182,7 @@ pub fn logs(steps: &[Step], local: &Local, answer: &Answer) -> bool
     }
     match steps.get(local.at - 1) {
         Some(Step::Make(wish, places)) => {
-            matches!(places, Places::Nowhere) || !is_untaken(wish.verb, answer)
+            matches!(places, Places::Nowhere) || numbers(wish.verb, answer).first.is_none()
         }
         _ => true,
     }

@@ -13,7 +13,7 @@ use Rattle.lwkt_base.specs.declared.owners.Owner.TheVariants as owners
 use Rattle.lwkt_base.specs.declared.threads.ThreadState.{ThreadState}
 use Rattle.lwkt_base.specs.declared.threads.ThreadState.TheVariants as states
 use Rattle.lwkt_base.specs.Fault.{number_of}
-use Rattle.lwkt_base.specs.Threads.{has_ended}
+use Rattle.lwkt_base.specs.Threads.{is_done}
 use Rattle.lwkt_report.specs.declared.closings.Closing.{Closing}
 use Rattle.lwkt_base.specs.declared.threads.ThreadLine.{ThreadLine}
 use Rattle.lwkt_base.specs.declared.limits.TheConstants.{LOG_LIMIT}
@@ -128,9 +128,9 @@ compared relation None b = false
 abbrev pub lies : Closing → MsgId → MsgState → Bool
 lies o msg place = unwrap_or (option_map (λ line. is_place place line.state) (slice_get o.messages.items msg.0)) false
 
--- whether all threads of an outcome have ended
+-- whether all threads of an outcome have ended that are no services
 abbrev pub all_ended : Closing → Bool
-all_ended o = list_all (λ line. has_ended line.state) o.threads.items
+all_ended o = list_all is_done o.threads.items
 
 -- what is known to be so, or not
 abbrev pub known : Bool → Truth

@@ -109,8 +109,8 @@ fn by_size(given: &[u8; 8]) -> [u8; 8] {
 }
 
 impl Choice {
-    /// The choice at a place at which the processors may touch this. Where all threads have ended, each processor's turn is tried:
-    /// what it does to messages a report shows.
+    /// The choice at a place at which the processors may touch this. Where all threads have ended that are no services, each
+    /// processor's turn is tried: what it does to messages a report shows.
     pub(crate) fn of(doings: &Doings, cpus: usize) -> Choice {
         let mut choice = NO_CHOICE;
         let mut disturbed = [0u8; 8];
@@ -121,7 +121,7 @@ impl Choice {
                 choice.over |= cpu_bit(cpu);
             }
         }
-        choice.sets = if doings.all_ended() {
+        choice.sets = if doings.all_done() {
             Choice::all(cpus).sets
         } else {
             by_size(&choice.sets_of(cpus, &disturbed))

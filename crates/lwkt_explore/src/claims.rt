@@ -1,6 +1,6 @@
 //! Whether what a text says of an outcome is so, where the report tells.
 ghost use Rattle.std.specs.Prelude.{◌≡◌};
-ghost use Rattle.lwkt_base.specs.Threads.{has_ended};
+ghost use Rattle.lwkt_base.specs.Threads.{is_done};
 ghost use Rattle.lwkt_explore.specs.Claims.{is_in_state, is_place, has_faulted, same_call, same_entry, same_thread, has_entry, has_logged, is_full, has_state, any_faulted, any_logged, any_full, any_in_state, related, compared, lies, all_ended, known, logged_truth, truth_of};
 
 use crate::readings::sum_of;
@@ -201,11 +201,11 @@ fn lies(outcome: &Closing, msg: MsgId, place: MsgState) -> bool
     }
 }
 
-/// Whether all threads of an outcome have ended.
+/// Whether all threads of an outcome have ended that are no services.
 pub(crate) fn all_ended(outcome: &Closing) -> bool
     ensures { result ≡ all_ended outcome.now }
 {
-    outcome.threads.iter().all(|line| line.state.has_ended())
+    outcome.threads.iter().all(|line| line.is_done())
 }
 
 // What is known to be so, or not.

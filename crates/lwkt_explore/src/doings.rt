@@ -13,10 +13,11 @@ pub(crate) struct Doing {
     next: Touch,
     // in all turns from here on
     later: Touch,
-    // whether a thread of it runs, and how many haven't ended
+    // whether a thread of it runs, how many haven't ended, and how many of these are no services
     runs: bool,
     live: u8,
-    // whether its next turn may end all that haven't
+    pending: u8,
+    // whether its next turn may end all that haven't and are no services
     may_end: bool,
 }
 
@@ -25,6 +26,7 @@ const IDLE: Doing = Doing {
     later: NOTHING,
     runs: false,
     live: 0,
+    pending: 0,
     may_end: false,
 };
 
@@ -128,7 +130,13 @@ impl Doing {
     }
 
     // Notes a thread, by where it stands in its program.
-    fn note_thread(&mut self, machine: &Machine<ScriptBody>, cpu: usize, place: usize) {
+    fn note_thread(
+        &mut self,
+        machine: &Machine<ScriptBody>,
+        cpu: usize,
+        place: usize,
+        spec: &ThreadSpec,
+    ) {
         let (Some(status), Some(body)) = (machine.thread(cpu, place), machine.body(cpu, place))
         else {
             return;
@@ -142,11 +150,14 @@ impl Doing {
         let (step, leaves) = step_of(body.code(), body.local());
         let later = list.and(touched_by_all(steps_left(body.code(), body.local())));
         self.note(runs, leaves, list.and(step), later);
+        if !spec.service {
+            self.pending = self.pending.saturating_add(1);
+        }
     }
 
     // A turn ends one thread, or of those that don't run more where a token may be at its last generation.
     fn bounded(self, wears: bool) -> Doing {
-        let ends_all = self.live == 1 || (wears && !self.runs);
+        let ends_all = self.pending == 1 || (wears && !self.runs);
         Doing {
             may_end: self.may_end && ends_all,
             ..self
@@ -158,9 +169,19 @@ impl Doing {
         self.live == 0
     }
 
-    // Whether its next turn takes mail in, all its threads having ended.
+    // Whether all its threads have ended that are no services.
+    fn is_done(&self) -> bool {
+        self.pending == 0
+    }
+
+    // Whether it has services that haven't ended.
+    fn serves(&self) -> bool {
+        self.live > self.pending
+    }
+
+    // Whether its next turn takes mail in or lets a service run, all its other threads having ended.
     fn is_late(&self) -> bool {
-        self.has_ended() && self.next.messages != 0
+        self.is_done() && (self.serves() || self.next.messages != 0)
     }
 
     // Adds the messages that are away, and those that may still be sent, as far as they can be with the processor.
@@ -218,7 +239,7 @@ impl Doings {
         let (Some(doing), Some(count)) = (self.all.get_mut(cpu), counts.get_mut(cpu)) else {
             return;
         };
-        doing.note_thread(machine, cpu, *count);
+        doing.note_thread(machine, cpu, *count, spec);
         *count = count.saturating_add(1);
     }
 
@@ -249,9 +270,9 @@ impl Doings {
         self.of(cpu).next
     }
 
-    /// Whether the threads of all processors have ended.
-    pub(crate) fn all_ended(&self) -> bool {
-        self.all.iter().all(|doing| doing.has_ended())
+    /// Whether the threads of all processors have ended that are no services.
+    pub(crate) fn all_done(&self) -> bool {
+        self.all.iter().all(|doing| doing.is_done())
     }
 
     /// Whether the turn of a processor changes nothing, since all its threads have ended and no message can be with it.
@@ -265,13 +286,13 @@ impl Doings {
         a != b && !disturb(a, self.of(a).next, b, self.of(b).next)
     }
 
-    // Whether the next turn of a processor may come to stand on the other side of the end of all threads, if another one's turns are
-    // made before it: it takes mail in where all its own have ended, and the other one still has one to end; or it may end its own, and
-    // the other one may take mail in.
+    // Whether the next turn of a processor may come to stand on the other side of the end of all threads, services aside, if another
+    // one's turns are made before it: it is late, and the other one still has one to end; or it may end its own, and the other one may
+    // take mail in or has services.
     fn is_timed(&self, cpu: usize, other: usize) -> bool {
         let (doing, others) = (self.of(cpu), self.of(other));
-        let is_late = doing.is_late() && !others.has_ended();
-        is_late || (doing.may_end && others.later.messages != 0)
+        let is_late = doing.is_late() && !others.is_done();
+        is_late || (doing.may_end && (others.serves() || others.later.messages != 0))
     }
 
     /// Whether the next turn of a processor may be disturbed by another one, in whichever of its turns.

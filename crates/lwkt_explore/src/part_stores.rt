@@ -211,8 +211,8 @@ impl PartStore {
         doings
     }
 
-    /// Whether every thread has ended at a state.
-    pub(crate) fn all_ended(&self, state: &[u32]) -> bool {
-        self.of_threads(state).all_ended()
+    /// Whether every thread has ended at a state that is no service.
+    pub(crate) fn all_done(&self, state: &[u32]) -> bool {
+        self.of_threads(state).all_done()
     }
 }

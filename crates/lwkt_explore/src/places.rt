@@ -16,9 +16,6 @@ use std::alloc::Global;
 // The most messages.
 const MESSAGES: u8 = 64;
 
-// The most threads of a processor.
-const THREADS: usize = 16;
-
 // The numbers that a place is given room for at first.
 const ROOM: usize = 256;
 
@@ -71,16 +68,12 @@ fn step_all(state: &mut State, trace: &[Event]) -> bool {
     true
 }
 
-// Whether every thread of a processor has ended; so of one that isn't there.
-fn have_ended(machine: &Machine<ScriptBody>, cpu: usize) -> bool {
-    for thread in 0..THREADS {
-        match machine.thread(cpu, thread) {
-            Some(status) if status.state.has_ended() => {}
-            Some(_) => return false,
-            None => return true,
-        }
+// Whether a thread has ended, or isn't there.
+fn has_ended(machine: &Machine<ScriptBody>, cpu: usize, thread: usize) -> bool {
+    match machine.thread(cpu, thread) {
+        Some(status) => status.state.has_ended(),
+        None => true,
     }
-    true
 }
 
 impl Place {
@@ -128,9 +121,21 @@ impl Place {
         Ok(())
     }
 
-    /// Whether every thread has ended.
-    pub(crate) fn all_ended(&self) -> bool {
-        (0..8usize).all(|cpu| have_ended(&self.machine, cpu))
+    /// Whether every thread of the script has ended that is no service.
+    pub(crate) fn all_done(&self, script: &Script) -> bool {
+        let mut before = [0usize; 8];
+        for spec in script.threads.as_slice() {
+            let cpu = usize::from(spec.cpu.0);
+            let Some(count) = before.get_mut(cpu) else {
+                continue;
+            };
+            let thread = *count;
+            *count = count.saturating_add(1);
+            if !spec.service && !has_ended(&self.machine, cpu, thread) {
+                return false;
+            }
+        }
+        true
     }
 
     /// Writes what tells this place apart from others of the same script, and gives it up.

@@ -87,12 +87,12 @@ fn leads_of(row: &Row, at: usize, cpus: usize) -> Leads {
     leads
 }
 
-// How a state stands at which there is an outcome: where all threads have ended, whatever its turns lead to; else where no turn changes
+// How a state stands at which there is an outcome: where all threads have ended that are no services, whatever its turns lead to; else where no turn changes
 // anything, or a turn leads off and the order is as long as it may be.
-fn last_state_of(all_ended: bool, leads: Leads, is_far: bool) -> Option<LastState>
-    ensures { result ≡ last_state_of all_ended leads is_far }
+fn last_state_of(all_done: bool, leads: Leads, is_far: bool) -> Option<LastState>
+    ensures { result ≡ last_state_of all_done leads is_far }
 {
-    if all_ended {
+    if all_done {
         return Some(LastState::AllEnded);
     }
     match leads {
@@ -103,8 +103,8 @@ fn last_state_of(all_ended: bool, leads: Leads, is_far: bool) -> Option<LastStat
 }
 
 // How a place stands whose order isn't made longer.
-fn last_state_of_place(place: &Place) -> LastState {
-    if place.all_ended() {
+fn last_state_of_place(place: &Place, script: &Script) -> LastState {
+    if place.all_done(script) {
         LastState::AllEnded
     } else {
         LastState::Cut
@@ -270,8 +270,8 @@ impl Walk {
     /// How a state stands that was gone on from, if there is an outcome at it: where all threads have ended, where nothing changes any
     /// more, and where the order to it has as many turns as it may have.
     pub(crate) fn last_state(&self, at: usize, leads: Leads) -> Option<LastState> {
-        let all_ended = self.parts.all_ended(self.graph.parts(at));
-        last_state_of(all_ended, leads, self.is_far(at))
+        let all_done = self.parts.all_done(self.graph.parts(at));
+        last_state_of(all_done, leads, self.is_far(at))
     }
 
     /// Whether the order to a state has as many turns as it may have.
@@ -462,7 +462,7 @@ impl Walk {
         let mut order = Vec::new(alloc);
         let mut idle = 0usize;
         for turn in 0..most {
-            if place.all_ended() && course.stops(turn, cpus) {
+            if place.all_done(script) && course.stops(turn, cpus) {
                 return Ok((order, LastState::AllEnded));
             }
             if idle >= 4 * cpus {
@@ -480,7 +480,7 @@ impl Walk {
             };
             push(&mut order, number_in_order(cpu))?;
         }
-        Ok((order, last_state_of_place(&place)))
+        Ok((order, last_state_of_place(&place, script)))
     }
 
     /// Notes of the next state that was gone on from whether it is an end.

@@ -170,7 +170,7 @@ pub record Closes (script : Script) (s t : DriverState) (left : Left) (stops : L
   pub lawful : AllOpenLawfully script.tokens
   pub values : AreValuesOf script.tokens left.last
   pub ids : map (λ line. line.id) left.threads.items ≡ ids_of script.cpus script.threads
-  pub shown : ShowThreads left.threads.items t.machine
+  pub shown : ShowThreads script.threads left.threads.items t.machine
   pub leaves : Leaves t.machine stops left.last
   pub begins : Begins script.threads (opening_of_script script) s.follow
   pub fresh : IfSome s.kept (λ story. story ≡ no_story)
@@ -256,7 +256,7 @@ leaves_lawful script (Rounds limit) s t left stops of c driven some ends =
     let opening = opening_of_script script in
     let r : RoundsAre script.cpus limit x y = rounds_are script.cpus limit (pair x s.follow) (pair y t.follow) c.opens.as_many d.1.1 in
     let stands : IsFollowedSoFar script.threads opening (pair y t.follow) = rounds_stand script.threads opening limit (pair x s.follow) (pair y t.follow) d.1.1 (stands_none script.threads opening s.machine s.follow c.begins) in
-    let ended : AreOver y.machine.cpus → All (λ line. has_ended line.state ≡ true) left.threads.items = λ over. lines_ended left.threads.items y.machine (subst (ShowThreads left.threads.items) (sym d.1.0.of.machine) c.shown) over in
+    let ended : AreOver y.machine.cpus → All (λ line. has_ended line.state ≡ true) left.threads.items = λ over. lines_ended script.threads left.threads.items y.machine (subst (ShowThreads script.threads left.threads.items) (sym d.1.0.of.machine) c.shown) over in
     let w : Whole script.threads (InRounds limit) opening (pair y t.follow) left.threads.items stops = rounds_whole script.threads limit opening x (pair y t.follow) left.threads.items stops c.within.some_processor some refl r stands ended ends.ends in
     record {
       within = c.within;
@@ -305,7 +305,7 @@ no_rounds polls cpus limit order turns lines none rounds =
 -- the turns that were followed keep the pace of their course, or that asks for none
 kept_pace : (script : Script) (course : Course) (s t : DriverState) (left : Left) (stops : List Event) (y : Scene) → Closes script s t left stops → IsOf t y → IsFollowedSoFar script.threads (opening_of_script script) (pair y t.follow) → PacedBy course script.cpus (first_of s) y → (pace_of course ≡ InRounds 0) ⊎ KeepsPace (pace_of course) y.kept.polls (opening_of_script script).cpus y.kept.order y.kept.turns left.threads.items
 kept_pace script (Rounds limit) s t left stops y c of stands made = elim (cases_lt 0 limit) [
-  | inl some ↦ (let ended : AreOver y.machine.cpus → All (λ line. has_ended line.state ≡ true) left.threads.items = λ over. lines_ended left.threads.items y.machine (subst (ShowThreads left.threads.items) (sym of.machine) c.shown) over in
+  | inl some ↦ (let ended : AreOver y.machine.cpus → All (λ line. has_ended line.state ≡ true) left.threads.items = λ over. lines_ended script.threads left.threads.items y.machine (subst (ShowThreads script.threads left.threads.items) (sym of.machine) c.shown) over in
       inr (paced script.cpus limit (first_of s) y left.threads.items c.within.some_processor some refl stands.long made ended))
   | inr none ↦ (let is : limit ≡ 0 = omega (arith, none) in inl (ap InRounds is))
 ]

@@ -57,7 +57,7 @@ lines_say (line ∷ lines) all =
     All-cons SaysEnded line lines (All-head Ended line.state rest all) (lines_say lines (All-tail Ended line.state rest all))
 
 -- where every thread of a machine has ended, its lines say so
-pub lines_ended : (lines : List ThreadLine) (m : Rig Scripted) → ShowThreads lines m → AreOver m.cpus → All (λ line. has_ended line.state ≡ true) lines
-lines_ended lines m shown over =
+pub lines_ended : (threads : List ThreadSpec) (lines : List ThreadLine) (m : Rig Scripted) → ShowThreads threads lines m → AreOver m.cpus → All (λ line. has_ended line.state ≡ true) lines
+lines_ended threads lines m shown over =
     let F : List ThreadState → Type 0 = λ states. All Ended states in
     lines_say lines (subst F (sym shown.states) (All-map Ended (λ (s : ThreadStatus). s.state) (statuses_of m.cpus) (all_ended_from m.cpus 0 over)))

@@ -74,7 +74,7 @@ driven_are_parts answers limits script opened driven traces stops last opens dri
     ))
 
 -- what a run on threads left and traced
-pub ended : (answers : CpuId → ℕ → Bool → Type 0) (script : Script) (lines : List ThreadLine) (last : Final) (opened driven : Rig Scripted) (traces : List KeptTrace) (stops : List Event) → IsOpenedScript script opened → AreWithin script.cpus script.tokens script.messages → IsDrivenMachine IsPolled answers (record { turns = script.turns; idle = script.idle }) opened driven → ShowThreads lines driven → (leaves : Leaves driven stops last) → traces ≡ leaves.closed.traces.items
+pub ended : (answers : CpuId → ℕ → Bool → Type 0) (script : Script) (lines : List ThreadLine) (last : Final) (opened driven : Rig Scripted) (traces : List KeptTrace) (stops : List Event) → IsOpenedScript script opened → AreWithin script.cpus script.tokens script.messages → IsDrivenMachine IsPolled answers (record { turns = script.turns; idle = script.idle }) opened driven → ShowThreads script.threads lines driven → (leaves : Leaves driven stops last) → traces ≡ leaves.closed.traces.items
     → AreTracesOfRun answers script lines last traces stops
 ended answers script lines last opened driven traces stops opens within drives shown leaves are =
     let modelled = driven_are_parts answers (record { turns = script.turns; idle = script.idle }) script opened driven traces stops last opens drives leaves are in

@@ -4,7 +4,7 @@ use Rattle.std.specs.List.{list_all, range_with_len}
 use Rattle.std.specs.Io.KnownBytes.{Appends, Keeps}
 use Rattle.lwkt_base.specs.declared.faults.Fault.{Fault as Refusal}
 use Rattle.lwkt_base.specs.declared.faults.Fault.TheVariants.{Script as ScriptFault, NoPort, Memory, Limits, LawBroken}
-use Rattle.lwkt_base.specs.Threads.{has_ended}
+use Rattle.lwkt_base.specs.Threads.{is_done}
 use Rattle.lwkt_core.specs.declared.events.Event.{Event}
 use Rattle.lwkt_core.specs.declared.finals.Final.{Final}
 use Rattle.lwkt_core.specs.Machine.{Machine}
@@ -81,7 +81,7 @@ pub record RunsInRounds (script : Script) (lines : List ThreadLine) (kept : Kept
   pub stops : List Event
   pub opens : IsOpenedScript script opened
   pub rounds : HasMadeRounds script.turns (scene opened [] none_kept) (scene made traced kept)
-  pub shown : ShowThreads lines made
+  pub shown : ShowThreads script.threads lines made
   pub leaves : Leaves made stops last
   pub trace_is : trace ≡ traced ++ stops
   pub modelled : IsTraceOfOneRun script opened leaves.closed last trace
@@ -96,7 +96,7 @@ pub record RunsAlong (script : Script) (order : List ℕ) (lines : List ThreadLi
   pub stops : List Event
   pub opens : IsOpenedScript script opened
   pub along : MakesTurns order (scene opened [] none_kept) (scene made traced kept)
-  pub shown : ShowThreads lines made
+  pub shown : ShowThreads script.threads lines made
   pub leaves : Leaves made stops last
   pub trace_is : trace ≡ traced ++ stops
   pub modelled : IsTraceOfOneRun script opened leaves.closed last trace
@@ -160,7 +160,7 @@ end_by Lawful true = Ended
 end_by Lawful false = TurnsOut
 
 abbrev pub end_of_closing : Closing → End
-end_of_closing closing = end_by closing.verdict (list_all (λ line. has_ended line.state) closing.threads.items)
+end_of_closing closing = end_by closing.verdict (list_all is_done closing.threads.items)
 
 -- these bytes are a script, and a run of it may end so, with this report
 pub record HasRun (bytes : List ℕ) (end : End) (text : List ℕ) : Type 0 where

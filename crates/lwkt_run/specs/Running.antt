@@ -1,5 +1,5 @@
 -- What the machine of a script does in a run, and how the lines of a report show its threads (own).
-use Rattle.std.specs.Prelude.{◌≡◌, ◌⊎◌, ℕ, ◌<◌, Bool, true, false, if◌then◌else◌, List, [], ◌++◌, length, map, All, IsSomeAnd, Option, Some, None, Vec, slice_get}
+use Rattle.std.specs.Prelude.{◌≡◌, ◌⊎◌, ℕ, ◌<◌, Bool, true, false, if◌then◌else◌, List, [], ◌++◌, length, map, All, IsSomeAnd, Option, Some, None, option_map_or, Vec, slice_get}
 use Rattle.std.specs.declared.alloc.Global.{Global}
 use Rattle.lwkt_base.specs.declared.entries.Entry.{Entry}
 use Rattle.lwkt_core.specs.declared.events.Event.{Event}
@@ -12,11 +12,13 @@ use Rattle.lwkt_machine.specs.Ended.{AreOver}
 use Rattle.lwkt_machine.specs.Machines.{Rig, ShowsBody}
 use Rattle.lwkt_machine.specs.Statuses.{statuses_of}
 use Rattle.lwkt_machine.specs.Turns.{TurnsAt}
+use Rattle.lwkt_base.specs.declared.names.ThreadId.{ThreadId}
 use Rattle.lwkt_base.specs.declared.threads.ThreadLine.{ThreadLine}
 use Rattle.lwkt_base.specs.declared.limits.TheConstants.{THREAD_LIMIT}
 use Rattle.lwkt_script.specs.declared.scripts.ThreadSpec.{ThreadSpec}
 use Rattle.lwkt_script.specs.Format.{threads_on}
 use Rattle.lwkt_verdict.specs.Run.{whose}
+use Rattle.lwkt_verdict.specs.Threads.{plan_of_thread}
 use Rattle.lwkt_run.specs.declared.polled.Polled.{Polled}
 use Rattle.lwkt_run.specs.declared.records.Record.{Record}
 use Rattle.lwkt_run.specs.Keeping.{Kept, kept_as, KeepsTurn, Story, story_as}
@@ -35,13 +37,18 @@ log_in (Some body) = body.log
 abbrev pub IsLogOf : Rig Scripted → ThreadLine → Type 0
 IsLogOf m line = (body : Option Scripted) × (ShowsBody m line.id.cpu.0 line.id.thread body × (line.log ≡ log_in body))
 
--- the lines of threads show how a machine's threads stand, each in its place: what it is doing and its references; and what its body
--- has logged
-pub record ShowThreads (lines : List ThreadLine) (m : Rig Scripted) : Type 0 where
+-- whether a thread of a script is a service; one that the script doesn't have is none
+abbrev pub is_service : List ThreadSpec → ThreadId → Bool
+is_service threads id = option_map_or (λ thread. thread.service) (plan_of_thread id.cpu.0 id.thread threads) false
+
+-- the lines of a script's threads show how a machine's threads stand, each in its place: what it is doing and its references; what its
+-- body has logged; and whether it is a service
+pub record ShowThreads (threads : List ThreadSpec) (lines : List ThreadLine) (m : Rig Scripted) : Type 0 where
   pub ids : map (λ line. line.id) lines ≡ map (λ s. s.id) (statuses_of m.cpus)
   pub states : map (λ line. line.state) lines ≡ map (λ s. s.state) (statuses_of m.cpus)
   pub lists : map (λ line. line.list) lines ≡ map (λ s. s.list) (statuses_of m.cpus)
   pub logs : All (IsLogOf m) lines
+  pub services : All (λ line. line.service ≡ is_service threads line.id) lines
 
 -- what the last poll of a thread was: its body was given this answer to what it asked before, and asked this
 pub record IsPolledAt (m : Rig Scripted) (cpu thread : ℕ) (p : Polled) : Type 0 where

@@ -51,7 +51,7 @@ pub record RunsOnThreads (answers : CpuId → ℕ → Bool → Type 0) (script :
   pub stops : List Event
   pub opens : IsOpenedScript script opened
   pub drives : IsDrivenMachine IsPolled answers (record { turns = script.turns; idle = script.idle }) opened driven
-  pub shown : ShowThreads lines driven
+  pub shown : ShowThreads script.threads lines driven
   pub leaves : Leaves driven stops last
   pub traces_are : traces ≡ leaves.closed.traces.items
   pub modelled : ArePartsOfRuns opened leaves.closed (parts_from 0 traces stops)

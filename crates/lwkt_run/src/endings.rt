@@ -6,7 +6,7 @@ ghost use Rattle.lwkt_machine.specs.Bodies.{Scripted};
 ghost use Rattle.lwkt_machine.specs.Ended.{IsRoomFor};
 ghost use Rattle.lwkt_machine.specs.Machines.{ShowsBody};
 ghost use Rattle.lwkt_run.specs.Leaving.{events_of_stops, IsLeftBy, LeavesRemains};
-ghost use Rattle.lwkt_run.specs.Running.{HasThreads, ShowThreads, IsLogOf, log_in};
+ghost use Rattle.lwkt_run.specs.Running.{HasThreads, ShowThreads, IsLogOf, is_service, log_in};
 ghost use Rattle.lwkt_run.specs.Threaded.{ShowsLeft};
 ghost use Rattle.lwkt_run.specs.Values.{AreValuesOf};
 
@@ -18,6 +18,7 @@ use lwkt_drive::EventList;
 use lwkt_machine::{CloseRoom, Closed, Machine, ScriptBody, ThreadStatus};
 use lwkt_report::{Closing, Verdict};
 use lwkt_script::Script;
+use lwkt_verdict::find_thread;
 use std::alloc::Global;
 
 /// What a machine leaves: its closing values, and the lines of its threads as they were before it stopped.
@@ -51,9 +52,21 @@ fn log_of(alloc: Global, machine: &Machine<ScriptBody>, id: ThreadId) -> Result<
     Ok(Log::from_vec(entries))
 }
 
-// The line of a thread that stands so.
+// Whether a thread of a script is a service.
+fn is_service(script: &Script, id: ThreadId) -> bool
+    ensures { result ≡ is_service script.now.threads id }
+{
+    let threads = script.threads.as_slice();
+    match find_thread(id.cpu.0, id.thread, threads) {
+        Some(at) => threads[at].service,
+        None => false,
+    }
+}
+
+// The line of a thread of a script that stands so.
 fn thread_line(
     alloc: Global,
+    script: &Script,
     machine: &Machine<ScriptBody>,
     status: ThreadStatus,
 ) -> Result<ThreadLine, OutOfMemory>
@@ -61,6 +74,7 @@ fn thread_line(
     ensures state { IfOk result (λ line. line.state ≡ status.state) }
     ensures list { IfOk result (λ line. line.list ≡ status.list) }
     ensures log { IfOk result (λ line. IsLogOf machine.now line) }
+    ensures service { IfOk result (λ line. line.service ≡ is_service script.now.threads line.id) }
 {
     let ThreadStatus { id, state, list } = status;
     let log = log_of(alloc, machine, id)?;
@@ -69,20 +83,22 @@ fn thread_line(
         state,
         list,
         log,
+        service: is_service(script, id),
     })
 }
 
-// The lines of a machine's threads.
+// The lines of the threads of a script's machine.
 fn thread_lines(
     alloc: Global,
+    script: &Script,
     machine: &Machine<ScriptBody>,
 ) -> Result<Vec<ThreadLine>, OutOfMemory>
-    ensures { IfOk result (λ lines. ShowThreads lines.items machine.now) }
+    ensures { IfOk result (λ lines. ShowThreads script.now.threads lines.items machine.now) }
 {
     let statuses = machine.statuses(alloc)?;
     let mut lines = with_capacity_for(alloc, &statuses)?;
     for status in statuses {
-        push(&mut lines, thread_line(alloc, machine, status)?)?;
+        push(&mut lines, thread_line(alloc, script, machine, status)?)?;
     }
     Ok(lines)
 }
@@ -149,11 +165,10 @@ pub fn left_by(
     requires threads { HasThreads script.now.cpus script.now.threads machine.cpus }
     ensures values { IfOk result (λ remains. AreValuesOf script.now.tokens remains.left.last) }
     ensures leaves { IfOk result (λ remains. LeavesRemains machine remains) }
-    ensures shown { IfOk result (λ remains. ShowThreads remains.left.threads.items machine) }
+    ensures shown { IfOk result (λ remains. ShowThreads script.now.threads remains.left.threads.items machine) }
     ensures threads { IfOk result (λ remains. map (λ line. line.id) remains.left.threads.items ≡ ids_of script.now.cpus script.now.threads) }
 {
-    let _ = script;
-    let threads = thread_lines(alloc, &machine)?;
+    let threads = thread_lines(alloc, script, &machine)?;
     remains_at_close(alloc, threads, machine.close_in(close_room))
 }
 

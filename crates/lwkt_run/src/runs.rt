@@ -1,6 +1,6 @@
 ghost use Rattle.std.specs.Prelude.{◌≡◌, ◌⊎◌, ◌↔◌, IfOk, IfErr, OnOk, Err, IsTrue, string_bytes};
 ghost use Rattle.std.specs.List.{list_all};
-ghost use Rattle.lwkt_base.specs.Threads.{has_ended};
+ghost use Rattle.lwkt_base.specs.Threads.{is_done};
 ghost use Rattle.lwkt_run.specs.Driving.{IsCourseOf};
 ghost use Rattle.lwkt_run.specs.Courses.{ClosesBy, IsRunBy};
 ghost use Rattle.lwkt_run.specs.Run.{AreThere, MayClose, IsTurnsRun, IsOrderRun, ClosesAlong, DeclinesAlong, end_of_closing, HasRun, DeclinesRun, Refuses, ReportsRounds};
@@ -144,22 +144,22 @@ pub fn close_along(alloc: Global, script: &Script, order: &[u8]) -> Result<Closi
     close_course(alloc, script, Course::Along(order))
 }
 
-/// How a run ended, by the contents of its report: `Unlawful` by its verdict, else by whether every thread had ended.
+/// How a run ended, by the contents of its report: `Unlawful` by its verdict, else by whether every thread that is no service had ended.
 pub fn end_of_closing(closing: &Closing) -> End
     ensures { result ≡ end_of_closing closing.now }
 {
-    let all = all_ended(&closing.threads);
+    let all = all_done(&closing.threads);
     match closing.verdict {
         Verdict::Unlawful { .. } => End::Unlawful,
         Verdict::Closed | Verdict::Lawful => { if all { End::Ended } else { End::TurnsOut } }
     }
 }
 
-// Whether every thread had ended.
-fn all_ended(lines: &[ThreadLine]) -> bool
-    ensures { result ≡ list_all (λ line. has_ended line.state) lines.now }
+// Whether every thread that is no service had ended.
+fn all_done(lines: &[ThreadLine]) -> bool
+    ensures { result ≡ list_all is_done lines.now }
 {
-    lines.iter().all(|line| line.state.has_ended())
+    lines.iter().all(|line| line.is_done())
 }
 
 // Runs the script that the bytes are, to the text of its report.

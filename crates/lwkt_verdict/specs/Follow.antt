@@ -64,7 +64,7 @@ entry_so t answer = option_and_then (λ w. logged_by (steps_of t) t.local (asked
 
 -- how far a thread has come whose last ask gets this answer
 abbrev pub come : Known → Option Answer → Progress
-come t answer = record { local = t.local; last = option_map (λ w. asked_so w answer) t.last; logged = option_map_or (λ e. min 32 (length t.log + 1)) (entry_so t answer) (length t.log) }
+come t answer = record { local = t.local; last = option_map (λ w. asked_so w answer) t.last; logged = option_map_or (λ e. min LOG_LIMIT (length t.log + 1)) (entry_so t answer) (length t.log) }
 
 -- a thread's last ask can have this answer, and its line has the entries so far, and then that of the answer, if there is room for it
 pub record Bears (t : Known) (answer : Option Answer) (line : ThreadLine) : Type 0 where
@@ -89,7 +89,7 @@ AllAllow table answers lines = (k : ℕ) → k < MACHINE_THREADS → MatchOption
 
 -- so far the threads have come after these turns, where their last asks get these answers
 abbrev pub AreShown : List Piece → List Known → (ℕ → Option Answer) → Type 0
-AreShown before table answers = (k : ℕ) → k < 128 → MatchOption (slice_get table k) ⊥ (λ t. came_by t.plan before k ≡ come t (answers k))
+AreShown before table answers = (k : ℕ) → k < MACHINE_THREADS → MatchOption (slice_get table k) ⊥ (λ t. came_by t.plan before k ≡ come t (answers k))
 
 -- each thread of a script in its place
 abbrev pub AreThreads : List ThreadSpec → List Known → Type 0

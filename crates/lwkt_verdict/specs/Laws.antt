@@ -58,7 +58,7 @@ AllButTheLastAreAnswered = OfRuns (λ plans opening polls turns trace lines. OfT
 
 -- a theorem: a thread's printed log is the first 32 entries that its asks and their answers make
 abbrev pub LogsAreTheFirstEntries : Type 0
-LogsAreTheFirstEntries = OfRuns (λ plans opening polls turns trace lines. OfThreads (λ cpu n. IfSome (line_of (16 * cpu + n) lines) (λ line. line.log ≡ take 32 (entries_of (program_of (plan_of_thread cpu n plans)) (asks_of polls turns trace cpu n)))))
+LogsAreTheFirstEntries = OfRuns (λ plans opening polls turns trace lines. OfThreads (λ cpu n. IfSome (line_of (THREAD_LIMIT * cpu + n) lines) (λ line. line.log ≡ take LOG_LIMIT (entries_of (program_of (plan_of_thread cpu n plans)) (asks_of polls turns trace cpu n)))))
 
 -- a theorem: an ask that ends its thread is the last one that the thread makes
 abbrev pub NothingFollowsAnEnd : Type 0

@@ -34,7 +34,7 @@ came_by plan before slot = progress_of (program_of plan) (asked_by slot before)
 
 -- the same of thread n of a processor
 abbrev pub came : List ThreadSpec → List Piece → ℕ → ℕ → Progress
-came plans before cpu n = came_by (plan_of_thread cpu n plans) before (16 * cpu + n)
+came plans before cpu n = came_by (plan_of_thread cpu n plans) before (THREAD_LIMIT * cpu + n)
 
 -- an ask and its answer, where its part shows that it blocked its thread, or doesn't
 abbrev pub asked_of_poll : Poll → Bool → Asked
@@ -45,14 +45,14 @@ asked_of_poll q blocked = record { ask = q.ask; answer = q.answer; blocked = blo
 -- can have, and its entry stands in the thread's log
 pub record PollFits (plans : List ThreadSpec) (lines : List ThreadLine) (cpu : ℕ) (p : Progress) (q : Poll) : Type 0 where
   pub here : q.thread.cpu.0 ≡ cpu
-  pub numbered : q.thread.thread < 16
+  pub numbered : q.thread.thread < THREAD_LIMIT
   pub asks : MatchOption (plan_of_thread cpu q.thread.thread plans) ⊥ (λ plan. MayAsk plan.code.steps p q.ask)
   pub answers : MatchOption q.answer (Unit {0}) (λ a. may_answer q.ask a ≡ true)
-  pub logs : MatchOption (line_of (16 * cpu + q.thread.thread) lines) ⊥ (λ line. IsLogged (program_of (plan_of_thread cpu q.thread.thread plans)).steps line p (asked_of_poll q false))
+  pub logs : MatchOption (line_of (THREAD_LIMIT * cpu + q.thread.thread) lines) ⊥ (λ line. IsLogged (program_of (plan_of_thread cpu q.thread.thread plans)).steps line p (asked_of_poll q false))
 
 -- a turn without an ask fits threads that have come so far: each thread of its processor may rest
 abbrev pub Idles : List ThreadSpec → ℕ → (ℕ → Progress) → Type 0
-Idles plans cpu progress = (n : ℕ) → n < 16 → MatchOption (plan_of_thread cpu n plans) (Unit {0}) (λ plan. Rests (progress n))
+Idles plans cpu progress = (n : ℕ) → n < THREAD_LIMIT → MatchOption (plan_of_thread cpu n plans) (Unit {0}) (λ plan. Rests (progress n))
 
 -- the part of a turn with or without an ask
 abbrev pub MakesPart : Machine → Option Poll → List Event → Type 0
@@ -68,7 +68,7 @@ pub record TurnFits (plans : List ThreadSpec) (lines : List ThreadLine) (cpu : �
 -- the end of a run: the events of the stop may happen unasked, and each thread of the script has its line and ends as it says
 pub record EndsRun (plans : List ThreadSpec) (lines : List ThreadLine) (m : Machine) (before : List Piece) (stop : List Event) : Type 0 where
   pub quiet : GoesQuietly m stop
-  pub ends : (cpu n : ℕ) → cpu < 8 → n < 16 → EndsAsShown (plan_of_thread cpu n plans) (line_of (16 * cpu + n) lines) (came plans before cpu n)
+  pub ends : (cpu n : ℕ) → cpu < CPU_LIMIT → n < THREAD_LIMIT → EndsAsShown (plan_of_thread cpu n plans) (line_of (THREAD_LIMIT * cpu + n) lines) (came plans before cpu n)
 
 -- the processor of the turn of this number, by an order of processors
 abbrev pub whose : List ℕ → ℕ → ℕ

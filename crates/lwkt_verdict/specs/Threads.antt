@@ -85,7 +85,7 @@ entries_of p asked = entries_from p.steps (start p) None asked
 
 -- how far a thread has come
 abbrev pub progress_of : Program → List Asked → Progress
-progress_of p asked = record { local = stands_after p asked; last = last_of asked; logged = min 32 (length (entries_of p asked)) }
+progress_of p asked = record { local = stands_after p asked; last = last_of asked; logged = min LOG_LIMIT (length (entries_of p asked)) }
 
 -- what a thread asks next that has come so far, and where it stands then
 abbrev pub next_after : List Step → Progress → Ask × Local
@@ -93,7 +93,7 @@ next_after steps p = next steps p.local (told p.last)
 
 -- how far a thread has come after one more ask
 abbrev pub progress_after : List Step → Progress → Asked → Progress
-progress_after steps p a = let s = (next_after steps p).1 in record { local = s; last = Some a; logged = option_map_or (λ e. min 32 (p.logged + 1)) (logged_by steps s a) p.logged }
+progress_after steps p a = let s = (next_after steps p).1 in record { local = s; last = Some a; logged = option_map_or (λ e. min LOG_LIMIT (p.logged + 1)) (logged_by steps s a) p.logged }
 
 -- a thread that has come so far may be polled with this ask: it is what its program asks next, and the ask before it has its answer
 abbrev pub MayAsk : List Step → Progress → Ask → Type 0
@@ -101,7 +101,7 @@ MayAsk steps p ask = (ask ≡ (next_after steps p).0) × MatchOption p.last (Uni
 
 -- the entry of an ask, if it has one and that is among the first 32, stands at its place in the thread's log
 abbrev pub IsLogged : List Step → ThreadLine → Progress → Asked → Type 0
-IsLogged steps line p a = MatchOption (logged_by steps (next_after steps p).1 a) (Unit {0}) (λ e. p.logged < 32 → slice_get line.log p.logged ≡ Some e)
+IsLogged steps line p a = MatchOption (logged_by steps (next_after steps p).1 a) (Unit {0}) (λ e. p.logged < LOG_LIMIT → slice_get line.log p.logged ≡ Some e)
 
 -- whether a thread is blocked by what it last asked: that isn't refused, and its part shows that it blocked
 abbrev pub is_blocked : Asked → Bool

@@ -54,7 +54,7 @@ impl<'p> Model for Followed<'p> {
 
     ghost view = { λ f. record { plan = option_copied f.plan; local = f.local; last = awaited f.last f.blocked f.expected; log = f.log.items } };
 
-    ghost invariant = { λ f. length f.log.items ≤ 32 };
+    ghost invariant = { λ f. length f.log.items ≤ LOG_LIMIT };
 }
 
 // Where a thread that isn't there stands.
@@ -120,9 +120,9 @@ fn note_any(
     ask: &Ask,
     heard: &Answer,
 ) -> Result<(), OutOfMemory>
-    requires few { length log.old.items ≤ 32 }
+    requires few { length log.old.items ≤ LOG_LIMIT }
     ensures items { OnOk result (log.new.items ≡ log_with log.old.items (logged_by (program_of (option_copied plan.entry)).steps local.now (record { ask = ask.now; answer = Some heard.now; blocked = false }))) }
-    ensures few { length log.new.items ≤ 32 }
+    ensures few { length log.new.items ≤ LOG_LIMIT }
 {
     if log.len() >= LOG_LIMIT {
         return Ok(());
@@ -140,9 +140,9 @@ fn note(
     ask: &Ask,
     heard: &Answer,
 ) -> Result<(), OutOfMemory>
-    requires few { length log.old.items ≤ 32 }
+    requires few { length log.old.items ≤ LOG_LIMIT }
     ensures items { OnOk result (log.new.items ≡ log_with log.old.items (logged_by (program_of (option_copied plan.entry)).steps local.now (record { ask = ask.now; answer = Some heard.now; blocked = false }))) }
-    ensures few { length log.new.items ≤ 32 }
+    ensures few { length log.new.items ≤ LOG_LIMIT }
 {
     match heard {
         Answer::Begin | Answer::Done => Ok(()),

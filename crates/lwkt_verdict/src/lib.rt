@@ -21,5 +21,6 @@ mod turn_parts;
 pub mod turns;
 
 pub use follow::Follower;
+pub use plans::find_thread;
 pub use rounds::are_processors;
 pub use turns::{Pace, Poll, Turn};

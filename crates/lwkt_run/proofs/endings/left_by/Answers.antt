@@ -25,8 +25,8 @@ returns-clause-leaves c =
 pub returns-clause-shown : goal.returns-clause-shown
 returns-clause-shown c =
     let threads = c.in_ok-threads.threads.items in
-    let F : List ThreadLine → Type 0 = λ lines. ShowThreads lines c.args.machine in
-    IfOk-weaker c.remains_at_close.result (λ (remains : Remains). remains.left.threads.items ≡ threads) (λ (remains : Remains). ShowThreads remains.left.threads.items c.args.machine)
+    let F : List ThreadLine → Type 0 = λ lines. ShowThreads c.args.script.now.threads lines c.args.machine in
+    IfOk-weaker c.remains_at_close.result (λ (remains : Remains). remains.left.threads.items ≡ threads) (λ (remains : Remains). ShowThreads c.args.script.now.threads remains.left.threads.items c.args.machine)
     (λ remains same. subst F (sym same) c.in_ok-threads.ensures) c.remains_at_close.ensures.threads
 
 pub returns-clause-threads : goal.returns-clause-threads
