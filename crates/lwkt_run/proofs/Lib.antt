@@ -2,6 +2,7 @@ pub mod ArriveMoves
 pub mod ChainMoves
 pub mod CheckedMoves
 pub mod CloseMoves
+pub mod Crossings
 pub mod DriveMoves
 pub mod EndedMoves
 pub mod FillMoves

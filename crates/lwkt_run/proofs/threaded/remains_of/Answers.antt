@@ -1,3 +1,5 @@
+use denote.Param.Send.{sendable}
+use Rattle.lwkt_run.proofs.Crossings.{body_send}
 use Rattle.lwkt_run.proofs.RoomMoves.{room_stays}
 use Rattle.lwkt_run.proofs.ThreadedMoves.{driven_has, ended}
 use Rattle.lwkt_run.proofs.threaded.remains_of.Goals as goal
@@ -18,3 +20,6 @@ returns-clause-traces_of_run g c =
     let t = remains.field-0 in
     ended (g.G.Gate.answers c.args.gate.now) c.args.script.now t.left.threads.items t.left.last opened.machine c.drive_on_threads.new.self t.traces.items t.stops.items
     opened.ensures.ok opened.ensures.within c.drive_on_threads.ensures.driven remains.ensures.shown remains.ensures.leaves.0 remains.ensures.leaves.1
+
+pub drive_on_threads-requires-send-B : goal.drive_on_threads-requires-send-B
+drive_on_threads-requires-send-B g c κs within = search (sendable, body_send)
