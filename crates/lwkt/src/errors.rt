@@ -107,12 +107,13 @@ fn say_absent<E: Sink>(alloc: Global, errors: &mut E, path: Option<&str>, cpus: 
     }
 }
 
-// What is said if a script that was read isn't written again: of the limits of the format its form can pass this one alone.
+// What is said if a script that was read isn't written again: of the limits of the format its form can pass this one alone. And a text
+// numbers assertions in order.
 fn long_words(task: Task) -> &'static str {
     match task {
         Task::Text(Form::Json) =>
             "as JSON the script has more than 1048576 bytes, and isn't written",
-        _ => "as text the script has more than 1048576 bytes, and isn't written",
+        _ => "no text of at most 1048576 bytes means this script, so none is written",
     }
 }
 
