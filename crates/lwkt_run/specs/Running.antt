@@ -1,5 +1,6 @@
 -- What the machine of a script does in a run, and how the lines of a report show its threads (own).
-use Rattle.std.specs.Prelude.{◌≡◌, ◌⊎◌, ℕ, ◌<◌, Bool, true, false, if◌then◌else◌, List, [], ◌++◌, length, map, All, IsSomeAnd, Option, Some, None, option_map_or, Vec, slice_get}
+use Rattle.std.specs.Prelude.{◌≡◌, ◌⊎◌, ℕ, ◌<◌, Bool, true, false, if◌then◌else◌, List, [], ◌++◌, length, map, All, IsSomeAnd, Option, Some, None, Vec, slice_get}
+use Rattle.std.specs.Option.{option_map_or}
 use Rattle.std.specs.declared.alloc.Global.{Global}
 use Rattle.lwkt_base.specs.declared.entries.Entry.{Entry}
 use Rattle.lwkt_core.specs.declared.events.Event.{Event}
