@@ -33,4 +33,4 @@ AsksAreTheLists = (asks : List Ask) (repeat : ℕ) (polls : List (Answer × Ask)
 
 -- a theorem: the log of a body is the first 32 entries that its polls make
 abbrev pub LogsAreFirstEntries : Type 0
-LogsAreFirstEntries = (program : Program) (polls : List (Answer × Ask)) (b : Scripted) → ArePolls (unpolled program) polls b → b.log ≡ take 32 (entries_made program.steps (start program) None polls)
+LogsAreFirstEntries = (program : Program) (polls : List (Answer × Ask)) (b : Scripted) → ArePolls (unpolled program) polls b → b.log ≡ take LOG_LIMIT (entries_made program.steps (start program) None polls)

@@ -55,7 +55,7 @@ impl Model for ScriptBody {
 
     ghost view = { λ b. record { program = b.code; local = b.local; asked = ask_said b.code.steps b.asked; heard = b.heard; log = b.log.items } };
 
-    ghost invariant = { λ b. (length b.log.items ≤ 32) × (32 ≤ vec_capacity b.log) };
+    ghost invariant = { λ b. (length b.log.items ≤ LOG_LIMIT) × (LOG_LIMIT ≤ vec_capacity b.log) };
 }
 
 // The ask that stands at a place of some steps, if it is the same each time.
@@ -190,7 +190,7 @@ impl ScriptBody {
     // Keeps what an answer that was heard puts in the log, which has room for it.
     #[inline(never)]
     fn add_entry(&mut self)
-        requires { length self.old.log < 32 }
+        requires { length self.old.log < LOG_LIMIT }
         ensures { self.new ≡ record self.old { log = logged self.old.log (entry_kept self.old) } }
     {
         if let Some(entry) = entry_of_heard(&self.code, &self.local, &self.asked, &self.heard) {

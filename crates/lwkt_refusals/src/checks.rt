@@ -64,6 +64,19 @@ pub(crate) fn show_number(
     true
 }
 
+/// Appends what is bad of a member that has to be true or false; says whether something is.
+pub(crate) fn show_truth(out: &mut Words, part: Part<'_>, name: &str) -> bool {
+    let Some(found) = part.member(name) else {
+        return show_missing(out, name);
+    };
+    if matches!(found.written(), "true" | "false") {
+        return false;
+    }
+    out.page.say(name);
+    out.quote(" is ", found, ", and has to be true or false");
+    true
+}
+
 /// Appends what is bad of a member that has to be a list of at most so many items; says whether something is.
 pub(crate) fn show_list(out: &mut Words, part: Part<'_>, name: &str, most: usize) -> bool {
     let Some(list) = part.member(name) else {

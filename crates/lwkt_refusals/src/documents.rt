@@ -1,9 +1,11 @@
 //! What is bad at a place of a script or a trace.
-use crate::checks::{Check, show_checks, show_list, show_number, show_numbers};
+use crate::checks::{Check, show_checks, show_list, show_number, show_numbers, show_truth};
 use crate::json_parts::Part;
+use crate::programs::{show_spot, spot_of};
 use crate::rows::{Kind, show_row};
 use crate::tokens::{Guarding, show_message, show_no_record, show_token};
 use crate::words::Words;
+use lwkt_base::limits::{STEP_LIMIT, THREAD_LIMIT};
 
 /// What a text that was refused had to be.
 #[derive(Clone, Copy, PartialEq, Eq)]
@@ -50,6 +52,9 @@ const SCRIPT: [Check; 2] = [
     ),
     Check::Lists(&["tokens", "messages", "threads"]),
 ];
+
+// The members of a thread, the last two of them in version 3 alone.
+const THREAD: [&str; 5] = ["cpu", "repeat", "steps", "vars", "service"];
 
 // What a trace of one text has to be.
 const TRACE: [Check; 2] = [
@@ -104,21 +109,49 @@ fn show_listed(out: &mut Words, whole: Part<'_>, place: usize, guarding: Guardin
     }
 }
 
+// Appends what is bad of what a thread has in version 3 alone, but for its steps; says whether something is.
+fn show_third(out: &mut Words, thread: Part<'_>) -> bool {
+    if show_truth(out, thread, "service") || show_list(out, thread, "vars", 8) {
+        return true;
+    }
+    matches!(thread.member("vars"), Some(vars) if show_numbers(out, vars, "a first value"))
+}
+
+// Appends what is bad of the members of a thread of a script with so many processors; says whether something is.
+fn show_members_of(out: &mut Words, thread: Part<'_>, cpus: u64, kind: Kind) -> bool {
+    let is_third = kind == Kind::ThirdStep;
+    let checks = [
+        if is_third {
+            Check::Members(&THREAD, 5)
+        } else {
+            Check::Members(&THREAD[..3], 3)
+        },
+        Check::Number("cpu", 0, cpus.saturating_sub(1)),
+        Check::Number("repeat", 1, 1_000_000),
+    ];
+    show_checks(out, thread, &checks)
+        || (is_third && show_third(out, thread))
+        || show_list(out, thread, "steps", STEP_LIMIT)
+}
+
 // Appends what is bad of a thread at a place of the list but for its steps; says whether something is.
-fn show_thread_at(out: &mut Words, script: Part<'_>, at: usize) -> bool {
+fn show_thread_at(out: &mut Words, script: Part<'_>, at: usize, kind: Kind) -> bool {
     let cpus = script.number_of("cpus").unwrap_or(0);
     let Some(thread) = show_item(out, script, "threads", at) else {
         return false;
     };
-    let checks = [
-        Check::Members(&["cpu", "repeat", "steps"], 3),
-        Check::Number("cpu", 0, cpus.saturating_sub(1)),
-        Check::Number("repeat", 1, 1_000_000),
-        Check::List("steps", 256),
-    ];
-    if !show_checks(out, thread, &checks) {
-        out.point(thread);
+    if show_members_of(out, thread, cpus, kind) {
+        return true;
+    }
+    out.point(thread);
+    if is_crowded(script, at, thread) {
         out.page.say("its processor has 16 threads before it, and may have no more");
+    } else {
+        out.page.say((
+            "it has more than ",
+            STEP_LIMIT,
+            " steps, those in others among them",
+        ));
     }
     true
 }
@@ -139,6 +172,14 @@ fn threads_before(threads: Part<'_>, place: usize, cpu: u64) -> usize {
     count
 }
 
+// Whether a thread at a place of the list is one too many of its processor.
+fn is_crowded(script: Part<'_>, at: usize, thread: Part<'_>) -> bool {
+    let (Some(threads), Some(cpu)) = (script.member("threads"), thread.number_of("cpu")) else {
+        return false;
+    };
+    threads_before(threads, at, cpu) >= THREAD_LIMIT
+}
+
 // Appends a thread of the list by its processor and its number there: `thread 1.0`.
 fn show_name(out: &mut Words, threads: Part<'_>, place: usize, thread: Part<'_>) {
     match thread.number_of("cpu") {
@@ -153,17 +194,21 @@ fn show_name(out: &mut Words, threads: Part<'_>, place: usize, thread: Part<'_>)
 fn show_step(out: &mut Words, script: Part<'_>, n: usize, j: usize, kind: Kind) -> Option<()> {
     let threads = script.member("threads")?;
     let thread = threads.item(n)?;
-    let step = item_of(thread, "steps", j)?;
+    let spot = spot_of(thread.member("steps")?, j)?;
     out.page.say(("step ", j, " of "));
     show_name(out, threads, n, thread);
     out.page.say(": ");
-    show_row(out, step, kind);
+    match kind {
+        Kind::ThirdStep => show_spot(out, spot),
+        _ => show_row(out, spot.step, kind),
+    }
     Some(())
 }
 
 // What the version of a script says of its tokens and of its steps.
 fn forms_of(script: Part<'_>) -> (Guarding, Kind) {
     match script.number_of("version") {
+        Some(3) => (Guarding::Always, Kind::ThirdStep),
         Some(2) => (Guarding::Always, Kind::SecondStep),
         _ => (Guarding::Never, Kind::Step),
     }
@@ -174,12 +219,12 @@ fn show_in_script(out: &mut Words, script: Part<'_>, place: usize) -> bool {
     let (guarding, kind) = forms_of(script);
     match place {
         1 => show_checks(out, script, &SCRIPT),
-        2 => show_number(out, script, "version", 1, 2),
+        2 => show_number(out, script, "version", 1, 3),
         3 => show_number(out, script, "turns", 1, 1_000_000),
         4 => show_number(out, script, "idle", 1, 100_000_000),
         5 => show_number(out, script, "cpus", 1, 8),
         1000..=2999 => show_listed(out, script, place, guarding),
-        3000..=3999 => show_thread_at(out, script, place - 3000),
+        3000..=3999 => show_thread_at(out, script, place - 3000, kind),
         100_000.. => {
             let at = place - 100_000;
             show_step(out, script, at / 1000, at % 1000, kind).is_some()

@@ -67,9 +67,24 @@ impl<'a> Part<'a> {
         Some(Part::at(self.text, end.saturating_add(1)))
     }
 
+    /// Whether another part begins within it.
+    pub(crate) fn holds(&self, other: Part<'_>) -> bool {
+        self.from <= other.from && other.from < self.to
+    }
+
+    /// What stands behind it: a part, or one that begins with the comma or the bracket there.
+    pub(crate) fn past(&self) -> Part<'a> {
+        Part::at(self.text, self.to)
+    }
+
+    /// What stands behind its first byte, a comma or a bracket.
+    pub(crate) fn past_first(&self) -> Part<'a> {
+        Part::at(self.text, self.from.saturating_add(1))
+    }
+
     // The first part of what begins with this bracket, if it does and isn't empty.
     fn inside(&self, bracket: u8) -> Option<Part<'a>> {
-        let inner = Part::at(self.text, self.from.saturating_add(1));
+        let inner = self.past_first();
         if self.first() != bracket || matches!(inner.first(), b']' | b'}') {
             return None;
         }
@@ -88,6 +103,11 @@ impl<'a> Part<'a> {
             item = self.behind(item)?;
         }
         Some(item)
+    }
+
+    /// The last item of a list.
+    pub(crate) fn last(&self) -> Option<Part<'a>> {
+        self.item(self.count()?.saturating_sub(1))
     }
 
     /// The first item of a list that is no whole number.

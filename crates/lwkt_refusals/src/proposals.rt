@@ -7,8 +7,8 @@ use lwkt_base::steps::verb_written;
 use lwkt_text::{Name, Names, What};
 use std::alloc::Global;
 
-// The words that sentences begin with, but for those of steps.
-const KEYWORDS: [&str; 9] = [
+// The words that sentences begin with, but for those of asks.
+const KEYWORDS: [&str; 20] = [
     "turns",
     "idle",
     "cpus",
@@ -18,10 +18,21 @@ const KEYWORDS: [&str; 9] = [
     "always",
     "sometimes",
     "never",
+    "var",
+    "const",
+    "for",
+    "if",
+    "else",
+    "while",
+    "times",
+    "loop",
+    "break",
+    "end",
+    "assert",
 ];
 
 /// How many words sentences begin with.
-pub(crate) const KEYWORD_COUNT: usize = 29;
+pub(crate) const KEYWORD_COUNT: usize = 40;
 
 // Among how many words of a sentence a cell is looked for.
 const WORD_LIMIT: usize = 64;
@@ -123,7 +134,7 @@ pub(crate) fn proposal<'n>(
     what: What,
     text: &str,
 ) -> &'n str {
-    if what == What::Keyword {
+    if matches!(what, What::Keyword | What::Variable) {
         return nearest_keyword(page, alloc, text);
     }
     let names = names_of(names, what);

@@ -1,5 +1,6 @@
 //! What is bad of a list that begins with a word and goes on with numbers and rows.
 use crate::checks::{WHOLE, show_numbers};
+use crate::formulas::{Formula, bad_part, show_bad_part};
 use crate::json_parts::Part;
 use crate::tokens::{is_record, show_no_record};
 use crate::words::Words;
@@ -13,8 +14,14 @@ const RECORD_LIMIT: usize = 65;
 /// What may stand at a place of a list.
 #[derive(Clone, Copy)]
 pub(crate) enum Want {
-    /// A whole number from 0 to this one.
+    /// A whole number from 0 to this one; in version 3 any expression.
     UpTo(u64),
+    /// A whole number from one to another, in version 3 too.
+    Between(u64, u64),
+    /// A condition.
+    Condition,
+    /// A list of steps.
+    Steps,
     /// The flags of a send: 0 to 3, or to 7 where there is one for priority.
     Flags,
     /// A list of at most four whole numbers.
@@ -55,49 +62,78 @@ pub(crate) enum Kind {
     Step,
     /// A step of a script of version 2.
     SecondStep,
+    /// A step of a script of version 3.
+    ThirdStep,
     /// An event of a trace.
     Event,
     /// The end of a message in a trace.
     End,
 }
 
-// A word that a list may begin with, the parts that may stand behind it, and how many rows behind those.
-type Shape = (&'static str, &'static [PartKind], usize);
+// A word that a list may begin with, the parts that may stand behind it, and what may stand behind those.
+type Shape = (&'static str, &'static [PartKind], &'static [Want]);
 
 // A processor, and a token or a message; in JSON two numbers as a token and a cell are.
 const PLACE: PartKind = PartKind::Cell;
 
 const EVENTS: [Shape; 19] = [
-    ("load", &[PLACE], 0),
-    ("take", &[PLACE], 0),
-    ("share", &[PLACE], 0),
-    ("again", &[PLACE], 0),
-    ("mark", &[PLACE], 0),
-    ("give_one", &[PLACE], 0),
-    ("give_clean", &[PLACE], 0),
-    ("give_written", &[PLACE], 0),
-    ("give_written", &[PLACE, PartKind::Value], 2),
-    ("read", &[PLACE, PartKind::Token, PartKind::Value], 0),
-    ("write", &[PLACE, PartKind::Token, PartKind::Value], 0),
-    ("read_record", &[PLACE, PartKind::Record], 0),
-    ("write_record", &[PLACE, PartKind::Record], 0),
-    ("send", &[PLACE, PartKind::Token, PartKind::Value], 0),
-    ("take_msg", &[PLACE, PartKind::Value], 0),
-    ("drop", &[PLACE], 0),
-    ("reply", &[PLACE], 0),
-    ("reap", &[PLACE], 0),
-    ("abort", &[PLACE], 0),
+    ("load", &[PLACE], &[]),
+    ("take", &[PLACE], &[]),
+    ("share", &[PLACE], &[]),
+    ("again", &[PLACE], &[]),
+    ("mark", &[PLACE], &[]),
+    ("give_one", &[PLACE], &[]),
+    ("give_clean", &[PLACE], &[]),
+    ("give_written", &[PLACE], &[]),
+    (
+        "give_written",
+        &[PLACE, PartKind::Value],
+        &[Want::Row, Want::Row],
+    ),
+    ("read", &[PLACE, PartKind::Token, PartKind::Value], &[]),
+    ("write", &[PLACE, PartKind::Token, PartKind::Value], &[]),
+    ("read_record", &[PLACE, PartKind::Record], &[]),
+    ("write_record", &[PLACE, PartKind::Record], &[]),
+    ("send", &[PLACE, PartKind::Token, PartKind::Value], &[]),
+    ("take_msg", &[PLACE, PartKind::Value], &[]),
+    ("drop", &[PLACE], &[]),
+    ("reply", &[PLACE], &[]),
+    ("reap", &[PLACE], &[]),
+    ("abort", &[PLACE], &[]),
+];
+
+// The number of a variable.
+const VARIABLE: Want = Want::Between(0, 7);
+
+// The steps that only version 3 has.
+const SENTENCES: [Shape; 9] = [
+    ("set", &[], &[VARIABLE, ANY]),
+    ("fault", &[], &[VARIABLE]),
+    ("if", &[], &[Want::Condition, Want::Steps]),
+    ("if", &[], &[Want::Condition, Want::Steps, Want::Steps]),
+    ("while", &[], &[Want::Condition, Want::Steps]),
+    ("times", &[], &[Want::Between(1, 1_000_000), Want::Steps]),
+    ("loop", &[], &[Want::Steps]),
+    ("break", &[], &[]),
+    (
+        "assert",
+        &[],
+        &[Want::Condition, Want::Between(0, 4_294_967_295)],
+    ),
 ];
 
 const ENDS: [Shape; 4] = [
-    ("rest", &[PartKind::Token, PartKind::Value], 0),
-    ("out", &[PLACE, PartKind::Value], 0),
-    ("with", &[PLACE, PartKind::Value], 0),
-    ("back", &[PLACE, PartKind::Value], 0),
+    ("rest", &[PartKind::Token, PartKind::Value], &[]),
+    ("out", &[PLACE, PartKind::Value], &[]),
+    ("with", &[PLACE, PartKind::Value], &[]),
+    ("back", &[PLACE, PartKind::Value], &[]),
 ];
 
+// How many words of steps have their parts in the table of all versions.
+const VERB_COUNT: usize = 20;
+
 // The most shapes of a kind.
-const SHAPE_LIMIT: usize = 20;
+const SHAPE_LIMIT: usize = 29;
 
 // Whether only steps of version 2 have this word.
 fn is_later(word: &str) -> bool {
@@ -108,7 +144,7 @@ impl Kind {
     // What it is called.
     fn name(self) -> &'static str {
         match self {
-            Kind::Step | Kind::SecondStep => "step",
+            Kind::Step | Kind::SecondStep | Kind::ThirdStep => "step",
             Kind::Event => "event",
             Kind::End => "end of a message",
         }
@@ -117,8 +153,9 @@ impl Kind {
     // One of the words that it may begin with, and what may stand behind it, if there are so many.
     fn shape(self, i: usize) -> Option<Shape> {
         match self {
-            Kind::Step | Kind::SecondStep => match VERBS.get(i) {
-                Some(verb) if verb.is_written() => Some((verb.word(), verb.kinds(), 0)),
+            Kind::ThirdStep if i >= VERB_COUNT => SENTENCES.get(i - VERB_COUNT).copied(),
+            Kind::Step | Kind::SecondStep | Kind::ThirdStep => match VERBS.get(i) {
+                Some(verb) if verb.is_written() => Some((verb.word(), verb.kinds(), &[])),
                 _ => None,
             },
             Kind::Event => EVENTS.get(i).copied(),
@@ -137,20 +174,31 @@ impl Kind {
         }
     }
 
-    // The most that a number at a place may be, if it has to be one.
-    fn limit(self, want: Want) -> Option<u64> {
+    // From what to what a number at a place may be, if it has to be one.
+    fn range(self, want: Want) -> Option<(u64, u64)> {
         match want {
-            Want::UpTo(limit) => Some(limit),
-            Want::Flags if self == Kind::SecondStep => Some(7),
-            Want::Flags => Some(3),
-            Want::Row | Want::Record => None,
+            Want::UpTo(_) if self == Kind::ThirdStep => None,
+            Want::UpTo(limit) => Some((0, limit)),
+            Want::Between(low, high) => Some((low, high)),
+            Want::Flags if self == Kind::Step => Some((0, 3)),
+            Want::Flags => Some((0, 7)),
+            _ => None,
+        }
+    }
+
+    // What formula has to be at a place, if it has to be one.
+    fn formula(self, want: Want) -> Option<Formula> {
+        match want {
+            Want::UpTo(_) if self == Kind::ThirdStep => Some(Formula::Expression),
+            Want::Condition => Some(Formula::Condition),
+            _ => None,
         }
     }
 }
 
 // How many parts a list of a shape has.
 fn count_of(shape: Shape) -> usize {
-    let mut count = shape.2.saturating_add(1);
+    let mut count = shape.2.len().saturating_add(1);
     for kind in shape.1 {
         count = count.saturating_add(form_of_part(*kind).0.len());
     }
@@ -167,11 +215,7 @@ fn want_at(shape: Shape, place: usize) -> Option<Want> {
         }
         left = left.saturating_sub(wants.len());
     }
-    if left < shape.2 {
-        Some(Want::Row)
-    } else {
-        None
-    }
+    shape.2.get(left).copied()
 }
 
 // The shape that begins with a word and has so many parts, if there is one.
@@ -190,12 +234,21 @@ fn is_short_list(part: Part<'_>) -> bool {
     matches!(part.count(), Some(count) if count <= CELL_LIMIT)
 }
 
+// Whether a part is a whole number from one to another.
+fn is_between(part: Part<'_>, low: u64, high: u64) -> bool {
+    matches!(part.number(), Some(number) if low <= number && number <= high)
+}
+
 // Whether a part is what is wanted.
 fn fits(part: Part<'_>, want: Want, kind: Kind) -> bool {
+    if let Some(formula) = kind.formula(want) {
+        return bad_part(part, formula).is_none();
+    }
     match want {
         Want::Row => is_short_list(part) && part.odd_item().is_none(),
         Want::Record => is_record(part, RECORD_LIMIT),
-        _ => part.number().is_some() && part.number() <= kind.limit(want),
+        Want::Steps => part.first() == b'[',
+        _ => matches!(kind.range(want), Some((low, high)) if is_between(part, low, high)),
     }
 }
 
@@ -210,37 +263,99 @@ fn show_no_row(out: &mut Words, part: Part<'_>) {
     }
 }
 
+// Appends what is bad of a part that isn't the formula that it has to be.
+fn show_no_formula(out: &mut Words, part: Part<'_>, formula: Formula) {
+    if let Some((bad, wanted)) = bad_part(part, formula) {
+        show_bad_part(out, bad, wanted);
+    }
+}
+
 // Appends what is bad of the part at a place of a list, which isn't what is wanted.
 fn show_unfit(out: &mut Words, part: Part<'_>, place: usize, want: Want, kind: Kind) {
     out.point(part);
     out.page.say((" has a part ", place));
-    if let Some(limit) = kind.limit(want) {
-        out.page.say((" that is no whole number 0 to ", limit));
-    } else if matches!(want, Want::Row) {
-        show_no_row(out, part);
-    } else {
-        out.page.say(" that is ");
-        show_no_record(out, RECORD_LIMIT);
+    if let Some((low, high)) = kind.range(want) {
+        return out
+            .page
+            .say((" that is no whole number ", low, " to ", high));
+    }
+    if let Some(formula) = kind.formula(want) {
+        return show_no_formula(out, part, formula);
+    }
+    match want {
+        Want::Row => show_no_row(out, part),
+        Want::Steps => out.page.say(" that is no list of steps"),
+        _ => {
+            out.page.say(" that is ");
+            show_no_record(out, RECORD_LIMIT);
+        }
     }
 }
 
-// Appends which part of a list is bad.
-fn show_part(out: &mut Words, list: Part<'_>, shape: Shape, kind: Kind) {
+// Appends which part of a list is bad; says whether one is.
+fn show_part(out: &mut Words, list: Part<'_>, shape: Shape, kind: Kind) -> bool {
     for place in 1..count_of(shape) {
         let (Some(want), Some(part)) = (want_at(shape, place - 1), list.item(place)) else {
-            return;
+            return false;
         };
         if !fits(part, want, kind) {
-            return show_unfit(out, part, place, want, kind);
+            show_unfit(out, part, place, want, kind);
+            return true;
         }
     }
-    out.page.say(" is refused");
+    false
+}
+
+// Whether a part is a variable, or a list of one to three.
+fn is_variables(part: Part<'_>) -> bool {
+    let Some(count) = part.count() else {
+        return is_between(part, 0, 7);
+    };
+    let are_variables = (0..count.min(4)).all(
+        |i| matches!(part.item(i), Some(item) if is_between(item, 0, 7)),
+    );
+    0 < count && count < 4 && are_variables
+}
+
+// Whether a part says into which variables an answer goes.
+fn is_places(part: Part<'_>) -> bool {
+    part.stranger(&["to"]).is_none()
+        && matches!(part.member("to"), Some(variables) if is_variables(variables))
+}
+
+// The part behind the others of a step of version 3 with a word, if it is an object, as an ask may have one.
+fn places_of<'a>(list: Part<'a>, word: Part<'a>, kind: Kind) -> Option<Part<'a>> {
+    let last = list.last()?;
+    let is_ask = VERBS
+        .iter()
+        .any(|verb| verb.is_written() && word.is_text(verb.word()));
+    if kind == Kind::ThirdStep && is_ask && last.first() == b'{' {
+        Some(last)
+    } else {
+        None
+    }
+}
+
+// Appends that a part doesn't say into which variables an answer goes; says whether that is so.
+fn show_no_places(out: &mut Words, places: Option<Part<'_>>) -> bool {
+    let Some(part) = places else {
+        return false;
+    };
+    if is_places(part) {
+        return false;
+    }
+    out.quote(
+        " ends with ",
+        part,
+        ", and an answer goes to {\"to\":V} or {\"to\":[V,..]}, one to three variables 0 to 7",
+    );
+    true
 }
 
 // Appends how many parts a list with a word has, and how many it may have, if there is a shape with the word; says whether
 // there is.
-fn show_count(out: &mut Words, word: Part<'_>, count: usize, kind: Kind) -> bool {
-    let noun = if count == 1 { " part, " } else { " parts, " };
+fn show_count(out: &mut Words, word: Part<'_>, count: usize, kind: Kind, behind: &str) -> bool {
+    let noun = if count == 1 { " part" } else { " parts" };
     let mut is_known = false;
     for i in 0..SHAPE_LIMIT {
         if let Some(shape) = kind.shape(i) {
@@ -248,7 +363,8 @@ fn show_count(out: &mut Words, word: Part<'_>, count: usize, kind: Kind) -> bool
                 if is_known {
                     out.page.say(" or ");
                 } else {
-                    out.page.say((" has ", count, noun, shape.0, " has "));
+                    out.page.say((" has ", count, noun, behind));
+                    out.page.say((shape.0, " has "));
                 }
                 out.page.say(count_of(shape));
                 is_known = true;
@@ -262,40 +378,64 @@ fn show_count(out: &mut Words, word: Part<'_>, count: usize, kind: Kind) -> bool
 fn show_no_word(out: &mut Words, word: Part<'_>, kind: Kind) {
     out.page.say((" has a word that no ", kind.name(), " has"));
     kind.propose(out, word, false);
-    if kind == Kind::SecondStep {
+    if matches!(kind, Kind::SecondStep | Kind::ThirdStep) {
         kind.propose(out, word, true);
     }
 }
 
-// Whether a word is one that steps have in version 2 alone.
-fn is_second(word: Part<'_>) -> bool {
-    VERBS
+// The version from which on steps have a word, if those of a kind don't have it.
+fn version_with(word: Part<'_>, kind: Kind) -> Option<u64> {
+    if !matches!(kind, Kind::Step | Kind::SecondStep) {
+        return None;
+    }
+    if SENTENCES.iter().any(|shape| word.is_text(shape.0)) {
+        return Some(3);
+    }
+    let is_second = VERBS
         .iter()
-        .any(|verb| verb.is_later() && word.is_text(verb.word()))
+        .any(|verb| verb.is_later() && word.is_text(verb.word()));
+    if kind == Kind::Step && is_second {
+        Some(2)
+    } else {
+        None
+    }
 }
 
-// Appends what is bad of a list that begins with a word.
-fn show_behind(out: &mut Words, list: Part<'_>, word: Part<'_>, kind: Kind) {
-    if kind == Kind::Step && is_second(word) {
-        return out
-            .page
-            .say(" has a word that steps have in version 2 alone");
+// Appends what is bad of a list that begins with a word; says whether something is.
+fn show_behind(out: &mut Words, list: Part<'_>, word: Part<'_>, kind: Kind) -> bool {
+    if let Some(version) = version_with(word, kind) {
+        out.page.say((" has a word that steps have from version ", version, " on"));
+        return true;
     }
+    let places = places_of(list, word, kind);
     let count = list.count().unwrap_or(0);
+    let (count, behind) = match places {
+        Some(_) => (count.saturating_sub(1), " before its variables, "),
+        None => (count, ", "),
+    };
     if let Some(shape) = shape_of(word, count, kind) {
-        return show_part(out, list, shape, kind);
+        return show_part(out, list, shape, kind) || show_no_places(out, places);
     }
-    if !show_count(out, word, count, kind) {
+    if !show_count(out, word, count, kind, behind) {
         show_no_word(out, word, kind);
     }
+    true
+}
+
+/// Appends a list, and what is bad of it if it is of a kind; says whether something is, as far as the list alone says.
+pub(crate) fn show_bad_row(out: &mut Words, list: Part<'_>, kind: Kind) -> bool {
+    out.quote("", list, "");
+    match list.item(0) {
+        Some(word) if word.first() == b'"' => return show_behind(out, list, word, kind),
+        _ if list.first() == b'[' => out.page.say(" doesn't begin with a word"),
+        _ => out.page.say(" is no list"),
+    }
+    true
 }
 
 /// Appends what is bad of a list of a kind.
 pub(crate) fn show_row(out: &mut Words, list: Part<'_>, kind: Kind) {
-    out.quote("", list, "");
-    match list.item(0) {
-        Some(word) if word.first() == b'"' => show_behind(out, list, word, kind),
-        _ if list.first() == b'[' => out.page.say(" doesn't begin with a word"),
-        _ => out.page.say(" is no list"),
+    if !show_bad_row(out, list, kind) {
+        out.page.say(" is refused");
     }
 }

@@ -18,7 +18,13 @@ fn behind(word: &str) -> Option<&'static str> {
         "turns" | "idle" | "cpus" => Some(" N"),
         "token" => Some(" NAME [LAW [N]] [gen N] [record BYTES] [cells CELL ..]"),
         "message" => Some(" NAME of TH [round N]"),
-        "thread" => Some(" NAME on N [repeat N]"),
+        "thread" => Some(" NAME on N [repeat N] [service]"),
+        "var" => Some(" V = N"),
+        "const" => Some(" NAME = EXPR"),
+        "for" => Some(" NAME in A..B"),
+        "if" | "while" | "assert" => Some(" COND"),
+        "times" => Some(" N"),
+        "else" | "loop" | "break" | "end" => Some(""),
         _ if verb_written(word).is_some() => Some(""),
         _ => None,
     }
@@ -56,6 +62,11 @@ fn subject_form(word: &str) -> &'static str {
 
 /// How a claim is written that has no subject.
 pub(crate) const NO_SUBJECT: &str = "SUM RELATION SUM";
+
+/// Whether claims begin with this word.
+pub(crate) fn begins_claim(word: &str) -> bool {
+    matches!(word, "always" | "sometimes" | "never")
+}
 
 /// How a claim is written, by its first two words.
 pub(crate) fn claim_form(first: &str, second: &str) -> &'static str {

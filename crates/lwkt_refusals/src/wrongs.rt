@@ -5,7 +5,7 @@ use crate::messages::{Source, add_end, add_start};
 use crate::pages::Page;
 use crate::places::{Place, part_of, place_from};
 use crate::proposals::{is_keyword, near_cell, proposal, token_before};
-use crate::sentence_forms::{NO_SUBJECT, claim_form, show_sentence};
+use crate::sentence_forms::{NO_SUBJECT, begins_claim, claim_form, show_sentence};
 use crate::sentences::{NAME_LIMIT, sentence_at, word_at, word_from, word_in_sentence};
 use lwkt_base::memory::from_slice;
 use lwkt_text::{Flaw, Name, Names, Wanted, What, Wrong, names_of};
@@ -121,10 +121,13 @@ fn add_quoted(page: &mut Page, bytes: &[u8], at: usize) {
 
 // How the sentence of a place is written, or the claim in it.
 fn add_form(page: &mut Page, bytes: &[u8], at: usize) {
-    if !show_sentence(page, word_in_sentence(bytes, at, 0)) {
+    let first = word_in_sentence(bytes, at, 0);
+    if begins_claim(first) {
         let subject = word_in_sentence(bytes, at, 1);
         let form = claim_form(subject, word_in_sentence(bytes, at, 2));
         page.say((": the claim is written `", form, "`"));
+    } else if !show_sentence(page, first) {
+        page.say(": the sentence is written `V = EXPR` or `V, .. = ASK`");
     }
 }
 
@@ -211,7 +214,11 @@ fn token_with<'n>(names: &'n Names, what: What, word: &str) -> Option<&'n str> {
 // A name that is nearly the word at the place of what is wrong, and another one, or the empty one.
 fn near_name<'n>(page: &mut Page, source: Source<'_>, names: &'n Names, wrong: Wrong) -> &'n str {
     let word = word_at(source.bytes, wrong.at);
-    let near = if wrong.what == What::Cell {
+    let is_assigned = wrong.what == What::Variable
+        && (word.len() < 4 || word_in_sentence(source.bytes, wrong.at, 1) == "=");
+    let near = if is_assigned {
+        ""
+    } else if wrong.what == What::Cell {
         let before = token_before(source.bytes, wrong.at);
         near_cell(page, source.alloc, names, before, word)
     } else {

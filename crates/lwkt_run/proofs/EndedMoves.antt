@@ -16,6 +16,7 @@ use Rattle.lwkt_machine.specs.Machines.{Rig}
 use Rattle.lwkt_machine.specs.Statuses.{status_of, statuses_on, statuses_of}
 use Rattle.lwkt_machine.specs.declared.statuses.ThreadStatus.{ThreadStatus}
 use Rattle.lwkt_base.specs.declared.threads.ThreadLine.{ThreadLine}
+use Rattle.lwkt_script.specs.declared.scripts.ThreadSpec.{ThreadSpec}
 use Rattle.lwkt_run.specs.Running.{ShowThreads}
 
 abbrev Ended : ThreadState → Type 0

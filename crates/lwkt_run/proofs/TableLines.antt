@@ -1,5 +1,5 @@
 -- Lines that show what a check knows of each thread, whose last ask has no answer yet.
-use Rattle.std.proofs.Common.{zero, suc, inl, inr, ◌≡◌, ℕ, ◌+◌, ◌-◌, ◌*◌, ◌/◌, ◌%◌, ◌<◌, ◌≤◌, ◌==◌, List, [], ◌∷◌, length, take, refl, sym, ap, ◌∙◌, subst, arith, Option, Some, None, eq-eqb, ne_eqb}
+use Rattle.std.proofs.Common.{zero, suc, inl, inr, ◌≡◌, ℕ, ◌+◌, ◌-◌, ◌*◌, ◌/◌, ◌%◌, ◌<◌, ◌≤◌, ◌==◌, false, List, [], ◌∷◌, length, take, refl, sym, ap, ◌∙◌, subst, arith, Option, Some, None, eq-eqb, ne_eqb}
 use Rattle.std.specs.Prelude.{slice_get, if◌then◌else◌, MatchOption}
 use Rattle.std.proofs.lemmas.Bool.{cases_eq}
 use Rattle.std.proofs.lemmas.List.{take_all}
@@ -15,7 +15,7 @@ use Rattle.lwkt_verdict.proofs.KnownMoves.{front_of, all_expected, none_answers}
 
 -- the line of a thread by its number
 abbrev line_for : ℕ → Known → ThreadLine
-line_for n t = record { id = record { cpu = record { 0 = n / 16 }; thread = n % 16 }; state = Ready; list = []; log = log_so t }
+line_for n t = record { id = record { cpu = record { 0 = n / 16 }; thread = n % 16 }; state = Ready; list = []; log = log_so t; service = false }
 
 -- a line for each thread of a table, from this number on
 abbrev pub lines_of : ℕ → List Known → List ThreadLine

@@ -158,6 +158,11 @@ abbrev pub IsWithin : ℕ → Course → Type 0
 IsWithin cpus (Rounds limit) = Unit {0}
 IsWithin cpus (Along order) = All (λ x. x < cpus) order.now
 
+-- a course has fewer turns than 32 bits count rounds, or 64 bits turns
+abbrev pub IsShort : Course → Type 0
+IsShort (Rounds limit) = limit ≤ 4294967295
+IsShort (Along order) = length order.now ≤ 18446744073709551615
+
 -- a course may be that of a lawful run: rounds are some
 abbrev pub HasTurns : Course → Type 0
 HasTurns (Rounds limit) = 0 < limit

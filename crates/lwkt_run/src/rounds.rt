@@ -1,7 +1,7 @@
 //! The turns of a run: made one by one, kept by a keeper, and followed by a check, until it says no.
 ghost use Rattle.std.specs.Prelude.{◌≡◌, ◌↔◌, ◌<◌, ◌≤◌, IsTrue, false, All, length, IfOk, IfSome, option_map};
 ghost use Rattle.lwkt_verdict.specs.Threads.{slot_of};
-ghost use Rattle.lwkt_run.specs.Driving.{GoesOnBy, DeclinesBy, TurnDriven, RoundDriven, RoundsDriven, TurnsDriven, IsDriven, IsWithin, HasTurns, driver_state};
+ghost use Rattle.lwkt_run.specs.Driving.{GoesOnBy, DeclinesBy, TurnDriven, RoundDriven, RoundsDriven, TurnsDriven, IsDriven, IsWithin, IsShort, HasTurns, driver_state};
 ghost use Rattle.lwkt_run.specs.Keeping.{polled_of};
 ghost use Rattle.lwkt_run.specs.Running.{WasPolled, HasPolled, IsPolledAt, HasBeenAsked, says_over, both as both_so};
 
@@ -206,7 +206,8 @@ pub fn drive<K: Keeper>(
     events: &mut usize,
 ) -> Result<bool, OutOfMemory>
     requires processors { IsWithin (length machine.old.cpus) course }
-    requires few { length machine.old.cpus ≤ 8 }
+    requires few { length machine.old.cpus ≤ CPU_LIMIT }
+    ensures short { IsShort course.entry }
     ensures ok { IfOk result (λ fits. IsDriven course.entry fits (driver_state machine.old (K.kept keeper.old) events.old follower.old) (driver_state machine.new (K.kept keeper.new) events.new follower.new)) }
 {
     match course {

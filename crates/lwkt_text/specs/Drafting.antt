@@ -1,5 +1,5 @@
 -- What the sentences of a text say, one after the other (own).
-use Rattle.lwkt_base.specs.declared.limits.TheConstants.{MESSAGE_LIMIT, MOST_CPUS, MOST_IDLE, MOST_TURNS, STEP_LIMIT, THREAD_LIMIT, TOKEN_LIMIT}
+use Rattle.lwkt_base.specs.declared.limits.TheConstants.{MESSAGE_LIMIT, STEP_LIMIT, THREAD_LIMIT, TOKEN_LIMIT}
 use Rattle.std.specs.Prelude.{ℕ, ◌+◌, ◌-◌, ◌==◌, ◌&&◌, ◌||◌, nat_lt, Bool, true, not, List, [], ◌∷◌, ◌++◌, length, map, take, replicate, slice_get, slice_set, codes, false, if◌then◌else◌, Option, Some, None, is_some, is_none, unwrap_or, ⊤, Result, Ok, Err}
 use Rattle.lwkt_code.specs.Firsts.{first_flaw, first_circle}
 use Rattle.lwkt_code.specs.Programs.{Program, listed_program}
@@ -117,7 +117,7 @@ leaves _ = false
 -- what is wrong with a step where it stands: at most 256 count, in at most eight others, and a `break` stands in a loop
 abbrev pub misplaced : Step → Draft → Option What
 misplaced step d =
-    if not (nat_lt d.said 256) then Some whats.Crowd else (
+    if not (nat_lt d.said STEP_LIMIT) then Some whats.Crowd else (
     if nat_lt 8 (length d.blocks) then Some whats.Deep else (
     if leaves step && is_none (round_in d.blocks) then Some whats.NoLoop else None))
 

@@ -124,6 +124,6 @@ unfoldable pub head_of : Names → List Word → Result Head Wrong
 head_of names ws = do
   demand_at ws 2 (whats.Word wanted.On) (is_at ws 2 (codes "on"))
   cpu ← number_at ws 3 0 (names.cpus - 1)
-  repeat ← optional ws 4 (codes "repeat") 1 1000000 1
+  repeat ← optional ws 4 (codes "repeat") 1 MOST_REPEATS 1
   ends_at ws (past ws (past_key ws 4 (codes "repeat")) (codes "service"))
   Ok (record { cpu = record { 0 = cpu }; repeat = repeat; service = is_at ws (past_key ws 4 (codes "repeat")) (codes "service") })

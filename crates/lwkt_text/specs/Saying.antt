@@ -1,5 +1,6 @@
 -- What a sentence of a text says (own).
 use Rattle.std.specs.Prelude.{ℕ, nat_le, List, length, codes, if◌then◌else◌, Result, Ok}
+use Rattle.lwkt_base.specs.declared.limits.TheConstants.{MOST_CPUS, MOST_IDLE, MOST_REPEATS, MOST_TURNS}
 use Rattle.lwkt_code.specs.declared.steps.Jump.TheVariants.{Break, Loop}
 use Rattle.lwkt_code.specs.declared.steps.Step.TheVariants.{Unless, Goto, Count, Assert}
 use Rattle.lwkt_code.specs.declared.steps.Test.{Test}
@@ -53,7 +54,7 @@ assertion_said vars ws = cond_at vars ws 1 >>= λ c. flawless ws (Assert c 0) >>
 
 -- `times N`
 abbrev pub times_said : List Word → Result Act Wrong
-times_said ws = number_at ws 1 1 1000000 >>= λ n. ends_at ws 2 >> Ok (acts.Open (Count 0 n))
+times_said ws = number_at ws 1 1 MOST_REPEATS >>= λ n. ends_at ws 2 >> Ok (acts.Open (Count 0 n))
 
 -- one word alone says it all
 abbrev pub alone_said : List Word → Act → Result Act Wrong
@@ -97,6 +98,6 @@ part_said names vars ws =
 -- what a sentence says, behind the head of a thread that has these variables
 unfoldable pub said_by_sentence : Names → List (List ℕ) → List Word → Result Said Wrong
 said_by_sentence names vars ws = demand_at ws 1000 whats.Long (nat_le (length ws) 1000) >> (
-    if is_at ws 0 (codes "turns") then (setting ws 1000000 >>= λ n. Ok (saids.Turns n)) else (
-    if is_at ws 0 (codes "idle") then (setting ws 100000000 >>= λ n. Ok (saids.Idle n)) else (
-    if is_at ws 0 (codes "cpus") then (setting ws 8 >>= λ n. Ok saids.Cpus) else part_said names vars ws)))
+    if is_at ws 0 (codes "turns") then (setting ws MOST_TURNS >>= λ n. Ok (saids.Turns n)) else (
+    if is_at ws 0 (codes "idle") then (setting ws MOST_IDLE >>= λ n. Ok (saids.Idle n)) else (
+    if is_at ws 0 (codes "cpus") then (setting ws MOST_CPUS >>= λ n. Ok saids.Cpus) else part_said names vars ws)))

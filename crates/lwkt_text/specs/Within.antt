@@ -1,6 +1,6 @@
 -- What a text says keeps the limits of the format (own).
 use Rattle.std.specs.Prelude.{ℕ, ◌<◌, ◌≤◌, List, length, All, Option, Some, None}
-use Rattle.lwkt_base.specs.declared.limits.TheConstants.{MESSAGE_LIMIT, MOST_IDLE, MOST_REPEATS, MOST_TURNS, STEP_LIMIT, THREAD_LIMIT, TOKEN_LIMIT}
+use Rattle.lwkt_base.specs.declared.limits.TheConstants.{MESSAGE_LIMIT, MOST_IDLE, MOST_REPEATS, MOST_TURNS, THREAD_LIMIT, TOKEN_LIMIT}
 use Rattle.lwkt_script.specs.declared.scripts.ThreadSpec.{ThreadSpec}
 use Rattle.lwkt_script.specs.Format.{threads_on}
 use Rattle.lwkt_script.specs.Limits.{IsToken, IsMessage, IsThread}

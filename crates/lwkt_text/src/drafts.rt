@@ -280,7 +280,7 @@ impl Draft {
     // What is wrong with a step where it stands.
     fn misplaced(&self, step: &Step) -> Option<What>
         ensures exact { result ≡ misplaced step.now self.now }
-        ensures room { IfNone result (self.now.said < 256) }
+        ensures room { IfNone result (self.now.said < STEP_LIMIT) }
     {
         if self.said >= STEP_LIMIT {
             return Some(What::Crowd);
@@ -302,7 +302,7 @@ impl Draft {
         words: &[Word],
         step: Step,
     ) -> Result<(), OutOfMemory>
-        requires { IfNone wrong (self.old.said < 256) }
+        requires { IfNone wrong (self.old.said < STEP_LIMIT) }
         ensures { OnOk result (self.new ≡ placed wrong words.now step self.old) }
     {
         if let Some(what) = wrong {
