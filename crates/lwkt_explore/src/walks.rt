@@ -1,5 +1,6 @@
 //! A walk over the states of a script.
 ghost use Rattle.std.specs.Prelude.{◌≡◌, ◌≢◌, ◌⊎◌, ℕ, ◌+◌, ◌<◌, ◌≤◌, true, List, [], length, All, Ok, Err, Some, None, Contains, IsFalse, IfOk, IfErr, OnOk, OnErr, IfSome};
+ghost use Rattle.lwkt_core.specs.Opening.{AreWithin};
 ghost use Rattle.lwkt_explore.specs.Graphs.{depth_at, IsOrder};
 ghost use Rattle.lwkt_explore.specs.Outcomes.{RefusesSearch};
 ghost use Rattle.lwkt_explore.specs.Walks.{last_state_of, IsWalk, WalkStays, StaysThere, WalkGoesOn};
@@ -62,6 +63,15 @@ fn keep_memory(alloc: Global) {
     let _ = block;
 }
 
+// The opening state of a script, as it is written.
+fn opening_of(alloc: Global, script: &Script) -> Result<Written, Fault>
+    ensures within { OnOk result (AreWithin script.now.cpus script.now.tokens script.now.messages) }
+    ensures refused { IfErr result (λ fault. RefusesSearch script.now fault) }
+{
+    let opened = Place::open(alloc, script)?;
+    Ok(opened.write(alloc, script)?)
+}
+
 /// Where the turns from a state lead.
 #[derive(Clone, Copy, PartialEq, Eq)]
 pub(crate) enum Leads {
@@ -112,6 +122,51 @@ fn last_state_of_place(place: &Place, script: &Script) -> LastState {
 }
 
 impl Walk {
+    // A walk without a state.
+    fn empty(
+        alloc: Global,
+        script: &Script,
+        bounds: Bounds,
+        method: Method,
+    ) -> Result<Walk, OutOfMemory>
+        ensures none { IfOk result (λ walk. walk.graph.nodes.items ≡ []) }
+        ensures bounds { IfOk result (λ walk. walk.bounds ≡ bounds) }
+        ensures none_ends { IfOk result (λ walk. walk.ends.items ≡ []) }
+    {
+        let mails = Mails::of(alloc, script)?;
+        let layout = Layout::of(script);
+        let parts = PartStore::new(alloc, layout)?;
+        let memos = Memos::new(alloc)?;
+        let graph = Graph::new(alloc, usize::from(script.cpus))?;
+        Ok(Walk {
+            mails,
+            bounds,
+            method,
+            layout,
+            parts,
+            memos,
+            graph,
+            ends: Vec::new(alloc),
+            turns: 0,
+            met: None,
+            trace: Vec::new(alloc),
+        })
+    }
+
+    // Adds the opening state of a script, as it was written, to a walk without a state.
+    fn add_opening(&mut self, alloc: Global, written: &Written) -> Result<(), OutOfMemory>
+        requires { self.old.graph.nodes.items ≡ [] }
+        ensures walk { (script : Script) → AreWithin script.cpus script.tokens script.messages → OnOk result (IsWalk script self.new) }
+        ensures bounds { self.new.bounds ≡ self.old.bounds }
+        ensures some { OnOk result (1 ≤ length self.new.graph.nodes.items) }
+        ensures ends { self.new.ends ≡ self.old.ends }
+    {
+        let opening = self.parts.numbers_of(alloc, written)?;
+        let choice = self.choice_at(opening.as_slice());
+        self.graph.add(alloc, 0, 0, opening.as_slice(), choice)?;
+        Ok(())
+    }
+
     /// A walk that has the opening state of a script.
     pub(crate) fn begin(
         alloc: Global,
@@ -126,26 +181,9 @@ impl Walk {
         ensures refused { IfErr result (λ fault. RefusesSearch script.now fault) }
     {
         keep_memory(alloc);
-        let opened = Place::open(alloc, script)?;
-        let mails = Mails::of(alloc, script)?;
-        let layout = Layout::of(script);
-        let mut walk = Walk {
-            mails,
-            bounds,
-            method,
-            layout,
-            parts: PartStore::new(alloc, layout)?,
-            memos: Memos::new(alloc)?,
-            graph: Graph::new(alloc, usize::from(script.cpus))?,
-            ends: Vec::new(alloc),
-            turns: 0,
-            met: None,
-            trace: Vec::new(alloc),
-        };
-        let written = opened.write(alloc, script)?;
-        let opening = walk.parts.numbers_of(alloc, &written)?;
-        let choice = walk.choice_at(opening.as_slice());
-        walk.graph.add(alloc, 0, 0, opening.as_slice(), choice)?;
+        let written = opening_of(alloc, script)?;
+        let mut walk = Walk::empty(alloc, script, bounds, method)?;
+        walk.add_opening(alloc, &written)?;
         Ok(walk)
     }
 
@@ -158,8 +196,35 @@ impl Walk {
         }
     }
 
-    // Goes along an order, makes the turn of a processor then, and writes where that led. If the model refuses an event of these turns,
-    // the run along them is judged.
+    // Goes along an order from the opening, and makes the turn of a processor then. If the model refuses an event of these turns, the run
+    // along them is judged.
+    fn go_along(
+        &mut self,
+        alloc: Global,
+        script: &Script,
+        place: &mut Place,
+        order: &[u8],
+        cpu: Option<usize>,
+    ) -> Result<(), Fault>
+        requires walk { IsWalk script.now self.old }
+        requires place { length place.old.machine.cpus ≡ script.now.cpus }
+        requires order { All (λ cpu. cpu < script.now.cpus) order.now }
+        requires cpu { IfSome cpu (λ cpu. cpu < script.now.cpus) }
+        ensures stays { StaysThere self.old self.new }
+        ensures refused { IfErr result (λ fault. RefusesSearch script.now fault) }
+    {
+        place.go(order, &mut self.trace)?;
+        if let Some(cpu) = cpu {
+            place.turn(cpu, &mut self.trace)?;
+            self.turns = self.turns.saturating_add(1);
+        }
+        if !place.is_lawful {
+            judge(alloc, script, order, cpu)?;
+        }
+        Ok(())
+    }
+
+    // Goes along an order, makes the turn of a processor then, and writes where that led.
     fn write(
         &mut self,
         alloc: Global,
@@ -174,14 +239,7 @@ impl Walk {
         ensures refused { IfErr result (λ fault. RefusesSearch script.now fault) }
     {
         let mut place = Place::open(alloc, script)?;
-        place.go(order, &mut self.trace)?;
-        if let Some(cpu) = cpu {
-            place.turn(cpu, &mut self.trace)?;
-            self.turns = self.turns.saturating_add(1);
-        }
-        if !place.is_lawful {
-            judge(alloc, script, order, cpu)?;
-        }
+        self.go_along(alloc, script, &mut place, order, cpu)?;
         Ok(place.write(alloc, script)?)
     }
 
@@ -443,8 +501,50 @@ impl Walk {
         Ok(true)
     }
 
-    /// An order of at most so many turns that keeps to a course, up to where no turn changes anything, or all threads have ended and the
-    /// course stops. Says how the state stands that it led to.
+    // Makes the turns of a course from the opening, at most so many, and notes their processors: up to where no turn changes anything, or
+    // all threads have ended that are no services and the course stops. Says how the state stands that they led to.
+    fn stray_from(
+        &mut self,
+        alloc: Global,
+        script: &Script,
+        course: &mut Course,
+        most: usize,
+        place: &mut Place,
+        order: &mut Vec<u8>,
+    ) -> Result<LastState, Fault>
+        requires walk { IsWalk script.now self.old }
+        requires place { length place.old.machine.cpus ≡ script.now.cpus }
+        requires order { order.old.items ≡ [] }
+        ensures stays { StaysThere self.old self.new }
+        ensures order { OnOk result (IsOrder script.now.cpus most order.new.items) }
+        ensures refused { IfErr result (λ fault. RefusesSearch script.now fault) }
+    {
+        let cpus = usize::from(script.cpus);
+        let mut idle = 0usize;
+        for turn in 0..most {
+            if place.all_done(script) && course.stops(turn, cpus) {
+                return Ok(LastState::AllEnded);
+            }
+            if idle >= 4 * cpus {
+                if self.is_quiet(alloc, script, order.as_slice())? {
+                    return Ok(LastState::Quiet);
+                }
+                idle = 0;
+            }
+            let cpu = course.next(turn, cpus);
+            let turned = place.turn(cpu, &mut self.trace)?;
+            self.turns = self.turns.saturating_add(1);
+            idle = match turned {
+                Turned::Ran { .. } => 0,
+                Turned::Idle | Turned::AllExited => idle.saturating_add(1),
+            };
+            push(order, number_in_order(cpu))?;
+        }
+        Ok(last_state_of_place(place, script))
+    }
+
+    /// An order of at most so many turns that keeps to a course, up to where no turn changes anything, or all threads have ended that are
+    /// no services and the course stops. Says how the state stands that it led to.
     pub(crate) fn stray(
         &mut self,
         alloc: Global,
@@ -457,30 +557,10 @@ impl Walk {
         ensures order { IfOk result (λ made. IsOrder script.now.cpus most made.0.items) }
         ensures refused { IfErr result (λ fault. RefusesSearch script.now fault) }
     {
-        let cpus = usize::from(script.cpus);
         let mut place = Place::open(alloc, script)?;
         let mut order = Vec::new(alloc);
-        let mut idle = 0usize;
-        for turn in 0..most {
-            if place.all_done(script) && course.stops(turn, cpus) {
-                return Ok((order, LastState::AllEnded));
-            }
-            if idle >= 4 * cpus {
-                if self.is_quiet(alloc, script, order.as_slice())? {
-                    return Ok((order, LastState::Quiet));
-                }
-                idle = 0;
-            }
-            let cpu = course.next(turn, cpus);
-            let turned = place.turn(cpu, &mut self.trace)?;
-            self.turns = self.turns.saturating_add(1);
-            idle = match turned {
-                Turned::Ran { .. } => 0,
-                Turned::Idle | Turned::AllExited => idle.saturating_add(1),
-            };
-            push(&mut order, number_in_order(cpu))?;
-        }
-        Ok((order, last_state_of_place(&place, script)))
+        let last_state = self.stray_from(alloc, script, course, most, &mut place, &mut order)?;
+        Ok((order, last_state))
     }
 
     /// Notes of the next state that was gone on from whether it is an end.

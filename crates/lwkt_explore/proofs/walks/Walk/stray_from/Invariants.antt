@@ -1,6 +1,6 @@
 use Rattle.std.proofs.Common.{◌≡◌, ◌<◌, ◌≤◌, All, length}
 use Rattle.lwkt_explore.specs.Walks.{StaysThere}
-use Rattle.lwkt_explore.proofs.walks.Walk.stray.Given as goal
+use Rattle.lwkt_explore.proofs.walks.Walk.stray_from.Given as goal
 
 abbrev pub invariant-loop-turn : goal.invariant-loop-turn
 invariant-loop-turn l = record {

@@ -3,8 +3,8 @@ use Rattle.std.proofs.lemmas.List.Elements.{All-push}
 use Rattle.lwkt_explore.specs.declared.walks.Walk.{Walk}
 use Rattle.lwkt_explore.specs.Walks.{StaysThere}
 use Rattle.lwkt_explore.proofs.WalkLemmas.{stays_there_on}
-use Rattle.lwkt_explore.proofs.walks.Walk.stray.Goals as goal
-use Rattle.lwkt_explore.proofs.walks.Walk.stray.Goals.{then-idle-cpus+in_ok-is_quiet+else-branch, else-idle-cpus}
+use Rattle.lwkt_explore.proofs.walks.Walk.stray_from.Goals as goal
+use Rattle.lwkt_explore.proofs.walks.Walk.stray_from.Goals.{then-idle-cpus+in_ok-is_quiet+else-branch, else-idle-cpus}
 
 pub loop-turn-preserved : goal.loop-turn-preserved
 loop-turn-preserved c =
@@ -17,8 +17,8 @@ loop-turn-preserved c =
     ]
     in
     let cpus : c.from-cpus.result ≡ c.args.script.now.cpus = c.loop-turn.invariant.cpus in
-    let at_least : 1 ≤ c.args.script.now.cpus = c.requires.some_cpus in
-    let at_most : c.args.script.now.cpus ≤ 8 = c.requires.few_cpus in
+    let at_least : 1 ≤ c.args.script.now.cpus = c.requires.walk.some_cpus in
+    let at_most : c.args.script.now.cpus ≤ 8 = c.requires.walk.few_cpus in
     let some : 0 < c.from-cpus.result = omega arith in
     let below : c.next-cpu.result < c.from-cpus.result = c.next-cpu.ensures in
     let number : c.number_in_order.result ≡ c.next-cpu.result = c.number_in_order.ensures (omega arith) in

@@ -2,8 +2,8 @@ use Rattle.std.proofs.Common.{ℕ, ◌++◌, Option, sym, subst, ◌∙◌}
 use Rattle.std.specs.Option.{option_to_list}
 use Rattle.lwkt_run.specs.Run.{AreThere}
 use Rattle.lwkt_explore.proofs.WalkLemmas.{turn_behind}
-use Rattle.lwkt_explore.proofs.walks.Walk.write.Goals as goal
-use Rattle.lwkt_explore.proofs.walks.Walk.write.Goals.{in-Some+in_ok-turn, in_default}
+use Rattle.lwkt_explore.proofs.walks.Walk.go_along.Goals as goal
+use Rattle.lwkt_explore.proofs.walks.Walk.go_along.Goals.{in-Some+in_ok-turn, in_default}
 
 pub judge-requires-clause-order : goal.judge-requires-clause-order
 judge-requires-clause-order c =
