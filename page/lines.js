@@ -40,12 +40,18 @@ function readEvents(parts) {
   return events;
 }
 
-// What a line says of a turn that ran a thread, behind its head.
+// What a line says of a turn that ran a thread, behind its head. What the thread computed, if it did, stands before its step.
 function readPoll(turn, rest) {
-  const found = /^, thread (\d+\.\d+), (.*?): (\[.*?\]): (.*)$/s.exec(rest);
+  const found = /^, thread (\d+\.\d+), (?:([^:]*); )?([^:;]*): (\[.*?\]): (.*)$/s.exec(rest);
   if (!found) return;
-  const [outcome, ...parts] = partsIn(found[4]);
-  Object.assign(turn, { thread: found[1], step: found[2], ask: found[3], outcome, events: readEvents(parts) });
+  const [outcome, ...parts] = partsIn(found[5]);
+  Object.assign(turn, { thread: found[1], made: found[2] ?? "", step: found[3], ask: found[4], outcome, events: readEvents(parts) });
+}
+
+// Where the step stands that a turn's thread asks for, by where the steps of each thread do; nothing where that isn't known.
+function askPlace(turn, steps) {
+  const found = /^step (\d+)/.exec(turn.step ?? "");
+  return found ? steps.get(turn.thread)?.[Number(found[1])] : undefined;
 }
 
 // What a line says of a turn that ran none: of each thread of the processor why.

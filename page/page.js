@@ -1,6 +1,6 @@
 "use strict";
 const at = (id) => document.getElementById(id);
-const windowSize = 10000, rowHeight = 28, mostWindows = 12, mostCuts = 64, wholePicture = 120, pictureRounds = 20, mostItems = 200, mostTurns = 100000;
+const windowSize = 10000, rowHeight = 28, mostWindows = 12, mostCuts = 64, wholePicture = 120, pictureRounds = 20, mostItems = 200, mostTurns = 100000, mostMarked = 100000;
 
 // ---- The worker, which has the module.
 
@@ -86,6 +86,15 @@ async function openingOf(script) {
   return JSON.parse(textOf(await show(script, `${orderWords([])} --trace`)));
 }
 
+// Where the steps of each thread stand in a script. Of a long one that is left open, since a browser takes 0.3 s to mark a part of a
+// million characters.
+async function stepsOf(script, isText) {
+  if (script.length > mostMarked) return new Map();
+  if (!isText) return jsonSteps(script);
+  const sentences = sentencesOf(script), numbered = await ask("lwkt_text_json", numberSteps(sentences));
+  return textSteps(sentences, textOf(numbered), textOf(await ask("lwkt_text_json", script)));
+}
+
 // A run of a script, in rounds or along an order.
 async function makeRun(text, order) {
   const form = await readScript(text, order);
@@ -98,7 +107,7 @@ async function makeRun(text, order) {
   const opening = await show(text, `${orderWords([])} --chains`);
   const { messages, cpus, tokens } = await openingOf(text);
   const records = tokens.map(({ record }) => (typeof record === "string" ? recordWords(record) : null));
-  const made = { text, isText, order, words, names: isText ? namesOf(text) : noNames, verdicts: form.verdicts, cpus, messages, records, whole: read, status: form.status ?? whole.status, milliseconds: whole.milliseconds, total: read.total, openings: readOpenings(textOf(opening)), windows: new Map(), cuts: new Map(), parts: new Map() };
+  const made = { text, isText, order, words, names: isText ? namesOf(text) : noNames, steps: await stepsOf(text, isText), verdicts: form.verdicts, cpus, messages, records, whole: read, status: form.status ?? whole.status, milliseconds: whole.milliseconds, total: read.total, openings: readOpenings(textOf(opening)), windows: new Map(), cuts: new Map(), parts: new Map() };
   made.rounds = order ? made.total : Math.ceil(made.total / cpus);
   await addWindow(made, 0, read.turns);
   return { made };
@@ -241,6 +250,7 @@ async function drawChosen(it, turn) {
   scrollToChosen();
   drawRows();
   showTurn(at("chosen"), now, Boolean(it.order));
+  markAsk(it, now);
   const state = await stateAfter(part, index);
   if (it !== run || turn !== chosen) return;
   const look = { names: it.names, turn: now, turns: part.turns, at: index, state, from: part.from, go: choose, threads: [] };
@@ -423,6 +433,7 @@ function clearRefusal() {
   at("refusal").replaceChildren();
   at("mirror").replaceChildren();
   at("bubble").hidden = true;
+  at("bubble").textContent = "";
   at("script").removeAttribute("aria-invalid");
 }
 
@@ -481,19 +492,38 @@ function leadTo(part) {
   at("script").setSelectionRange(part.from, part.to);
 }
 
-// Marks bad parts in the editor, with what is bad of the first under it.
-function markParts(script, parts, said) {
+// Marks parts in the editor, and gives the first mark.
+function putMarks(script, parts, kind) {
   const pieces = [];
   let done = 0;
   for (const { from, to } of parts.filter((part, i) => i === 0 || part.from >= parts[i - 1].to)) {
     pieces.push(script.slice(done, from), make("mark", {}, script.slice(from, to) || " "));
     done = to;
   }
+  at("mirror").className = kind;
   at("mirror").replaceChildren(...pieces, script.slice(done), "\n");
-  const mark = at("mirror").querySelector("mark");
+  return at("mirror").querySelector("mark");
+}
+
+function scrollToMark(mark) {
   at("script").scrollTop = Math.max(0, mark.offsetTop - at("script").clientHeight / 3);
+}
+
+// Marks bad parts in the editor, with what is bad of the first under it.
+function markParts(script, parts, said) {
+  scrollToMark(putMarks(script, parts, "bad"));
   at("bubble").textContent = said;
   at("bubble").hidden = false;
+  followScroll();
+}
+
+// Marks the step in the editor that a turn's thread asks for, if the script that ran still stands there. It is brought into view unless
+// somebody is writing.
+function markAsk(it, turn) {
+  const box = at("script"), part = it.text === box.value && askPlace(turn, it.steps);
+  if (!part) return at("mirror").replaceChildren();
+  const mark = putMarks(it.text, [part], "asked"), isSeen = mark.offsetTop >= box.scrollTop && mark.offsetTop + mark.offsetHeight <= box.scrollTop + box.clientHeight;
+  if (!isSeen && document.activeElement !== box) scrollToMark(mark);
   followScroll();
 }
 
@@ -501,7 +531,7 @@ function markParts(script, parts, said) {
 function followScroll() {
   const box = at("script"), mark = at("mirror").querySelector("mark");
   at("mirror").scrollTop = box.scrollTop;
-  if (!mark) return;
+  if (!mark || !at("bubble").textContent) return;
   const rows = mark.getClientRects(), last = rows[rows.length - 1], outer = at("editor").getBoundingClientRect();
   const top = last.bottom - outer.top + 3;
   at("bubble").style.top = `${top}px`;

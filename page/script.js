@@ -50,22 +50,55 @@ function skipValue(text, at) {
   return at;
 }
 
-// The members of the object that the text is, each with its name and where its value stands.
-function membersOf(text) {
+// The members of the object that begins here, each with its name and where its value stands.
+function membersOf(text, from = 0) {
   const members = [];
-  let at = skipBlanks(text, 0);
+  let at = skipBlanks(text, from);
   if (text[at] !== "{") return members;
   at = skipBlanks(text, at + 1);
   while (text[at] === '"') {
     const behind = skipString(text, at);
     const name = JSON.parse(text.slice(at, behind));
-    const from = skipBlanks(text, skipBlanks(text, behind) + 1);
-    const to = skipValue(text, from);
-    members.push({ name, from, to });
+    const begin = skipBlanks(text, skipBlanks(text, behind) + 1);
+    const to = skipValue(text, begin);
+    members.push({ name, from: begin, to });
     at = skipBlanks(text, to);
     if (text[at] === ",") at = skipBlanks(text, at + 1);
   }
   return members;
+}
+
+// Where each item stands of the list that begins here.
+function itemsOf(text, from) {
+  const items = [];
+  let at = skipBlanks(text, from + 1);
+  while (text[from] === "[" && at < text.length && text[at] !== "]") {
+    const to = skipValue(text, at);
+    items.push({ from: at, to });
+    at = skipBlanks(text, to);
+    if (text[at] === ",") at = skipBlanks(text, at + 1);
+  }
+  return items;
+}
+
+// Where each step stands of the list that begins here, each before those inside it. A list of steps begins with a list, and any other
+// part of a step doesn't.
+function stepsIn(text, from) {
+  const isSteps = (part) => text[part.from] === "[" && text[skipBlanks(text, part.from + 1)] === "[";
+  return itemsOf(text, from).flatMap((step) => [step, ...itemsOf(text, step.from).filter(isSteps).flatMap((part) => stepsIn(text, part.from))]);
+}
+
+// Where the steps of each thread stand in JSON, by the thread's processor and its number there, as `0.1`.
+function jsonSteps(text) {
+  const steps = new Map(), counts = new Map(), partOf = (members, name) => members.findLast((it) => it.name === name);
+  const threads = partOf(membersOf(text), "threads");
+  for (const { from } of threads ? itemsOf(text, threads.from) : []) {
+    const members = membersOf(text, from), cpu = partOf(members, "cpu"), list = partOf(members, "steps");
+    const key = Number(text.slice(cpu.from, cpu.to)), number = counts.get(key) || 0;
+    steps.set(`${key}.${number}`, stepsIn(text, list.from));
+    counts.set(key, number + 1);
+  }
+  return steps;
 }
 
 // The same script, cut off after so many rounds. Of two sentences of a text that say how many there are the last one counts.

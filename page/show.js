@@ -31,6 +31,7 @@ function turnRow(turn, isChosen) {
 function showTurn(place, turn, isAlong) {
   const head = turn.thread ? `thread ${turn.thread}, ${turn.step}` : turn.outcome;
   const parts = [];
+  if (turn.made) parts.push(make("div", {}, turn.made));
   if (turn.thread) parts.push(make("div", {}, make("code", {}, turn.ask), ": ", make("strong", {}, turn.outcome)));
   for (const [id, why] of turn.idle || []) parts.push(make("div", {}, `${id} ${why}`));
   if (turn.events.length) parts.push(make("ul", {}, ...turn.events.map((event) => make("li", {}, event.text))));

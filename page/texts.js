@@ -8,12 +8,50 @@ function wordAt(text, line, column) {
   return { from, to: Math.min(text.length, from + (word ? word[0].length : 1)) };
 }
 
+// The sentences of a text, each with its first word and where it stands.
+function sentencesOf(text) {
+  const sentences = [];
+  for (const { 0: piece, index } of text.matchAll(/#[^\n]*|[^#;\n]+/g)) {
+    const found = /[^\s,:](?:[^]*[^\s,:])?/.exec(piece);
+    if (!found || piece[0] === "#") continue;
+    const from = index + found.index, [said] = found;
+    sentences.push({ said, word: /^\w*/.exec(said)[0], from, to: from + said.length });
+  }
+  return sentences;
+}
+
+// What a numbered copy of a text has as it is, what it leaves out, and what `end` ends.
+const keptWords = ["turns", "idle", "cpus", "token", "message", "thread", "const", "for"];
+const leftWords = ["var", "else", "end", "always", "sometimes", "never"];
+const openWords = ["for", "if", "while", "times", "loop"];
+
+// A copy of a text in which each step is one that writes the number of its sentence, and none stands in another. The library repeats
+// them as it does those of the text, so its JSON of the copy says of which sentence each step of a thread is.
+function numberSteps(sentences) {
+  const open = [];
+  return sentences.map(({ said, word }, number) => {
+    const ended = word === "end" ? open.pop() : "";
+    if (openWords.includes(word)) open.push(word);
+    if (keptWords.includes(word) || ended === "for") return said;
+    return leftWords.includes(word) ? "" : `write 0.0 ${number}`;
+  }).join("\n");
+}
+
+// Where the steps of each thread stand in a text, by the JSON of its numbered copy; left out of a thread that has another count of steps
+// in the JSON of the text.
+function textSteps(sentences, numbered, json) {
+  const steps = jsonSteps(json), sentenceOf = ({ from, to }) => sentences[JSON.parse(numbered.slice(from, to)).pop()];
+  const known = [...jsonSteps(numbered)].filter(([id, parts]) => parts.length === steps.get(id)?.length);
+  return new Map(known.map(([id, parts]) => [id, parts.map(sentenceOf)]));
+}
+
 // The names that a text gives to its tokens and messages, by their numbers, and to its threads, by processor and number there. They
-// are numbered in the order of their sentences.
+// are numbered in the order of their sentences; of a text that repeats sentences, or has a constant for a processor, no names are known.
 function namesOf(text) {
   const names = { tokens: [], messages: [], threads: new Map() }, counts = new Map();
-  for (const sentence of text.replace(/#.*$/gm, "").split(/[\n;]/)) {
-    const [kind, name, , cpu] = sentence.split(/[\s,:]+/).filter(Boolean);
+  for (const { said } of sentencesOf(text)) {
+    const [kind, name, , cpu] = said.split(/[\s,:]+/);
+    if (kind === "for" || (kind === "thread" && !/^\d+$/.test(cpu))) return noNames;
     if (kind === "token") names.tokens.push(name);
     if (kind === "message") names.messages.push(name);
     if (kind !== "thread") continue;

@@ -3,9 +3,9 @@ import { join } from "node:path";
 import { callProgram, check, exampleNames, examples, finish, namesIn, read, same, statusOf } from "./tools.mjs";
 import { load } from "./tools.mjs";
 
-const lines = load("lines.js", ["readRun", "readEvent", "readOpenings", "partsOf", "readWrongs", "readRefusal", "openState", "copyState", "tell", "tellFirstWords", "recordWords", "entryWords"]);
-const texts = load("texts.js", ["verdictsIn", "saidAt", "namesOf"]);
-const scripts = load("script.js", ["cutScript", "longWords", "membersOf", "partAt", "placeOf", "skipValue"]);
+const lines = load("lines.js", ["readRun", "readEvent", "readOpenings", "partsOf", "readWrongs", "readRefusal", "openState", "copyState", "tell", "tellFirstWords", "recordWords", "entryWords", "askPlace"]);
+const texts = load("texts.js", ["verdictsIn", "saidAt", "namesOf", "sentencesOf", "numberSteps", "textSteps"], "script.js");
+const scripts = load("script.js", ["jsonSteps", "cutScript", "longWords", "membersOf", "partAt", "placeOf", "skipValue"]);
 const orders = load("orders.js", ["readForm", "readSum"]);
 
 // Every line of a run is read: all its turns, and the report behind them.
@@ -114,7 +114,77 @@ function tryUrgent() {
   same([...new Set(seen)], ["- - -", "- out -", "- with -", "- back -"], "which messages are urgent, and where");
 }
 
+// Where the steps of each thread stand in a text, as the page asks for it.
+function stepsOfText(text) {
+  const sentences = texts.sentencesOf(text), [numbered, json] = [texts.numberSteps(sentences), text].map((it) => callProgram("lwkt_text_json", it).text);
+  return texts.textSteps(sentences, numbered, json);
+}
+
+// What stands where the asks of a run do: of each turn the words there, or nothing.
+function asksOf(script, steps, words = "turns") {
+  const { turns } = lines.readRun(callProgram("lwkt_show_turns", script, words).text);
+  return turns.map((turn) => ({ ...turn, part: lines.askPlace(turn, steps) })).map(({ part, ...turn }) => ({ ...turn, words: part && script.slice(part.from, part.to) }));
+}
+
+// Each turn that makes a step has its place in JSON: the same step where it computes nothing, else one of its kind.
+function tryPlaces(name, script) {
+  const steps = scripts.jsonSteps(script), asks = asksOf(script, steps).filter(({ step }) => step?.startsWith("step "));
+  const wordOf = (text) => JSON.parse(text)[0], isFixed = JSON.parse(script).version < 3;
+  const odd = asks.filter(({ ask, words }) => (isFixed ? JSON.stringify(JSON.parse(words)) !== ask && wordOf(words) !== "wrec" : wordOf(words) !== wordOf(ask)));
+  same(odd.map(({ line, words }) => [line, words]), [], `${name}: where its asks stand in JSON`);
+  return asks.length;
+}
+
+// The same of a text: the sentence has the word of the ask. Of each thread all steps are known.
+function tryTextPlaces(folder, name) {
+  const text = read(examples, folder, `${name}.lwkt`), json = callProgram("lwkt_text_json", text).text;
+  if (!json.startsWith("{")) return same([...stepsOfText(text)], [], `${name}: a text that is refused`);
+  const asks = asksOf(text, stepsOfText(text)).filter(({ step }) => step?.startsWith("step "));
+  const odd = asks.filter(({ ask, words }) => !new RegExp(`\\b${JSON.parse(ask)[0]}\\b`).test(words));
+  same(odd.map(({ line, words }) => [line, words]), [], `${name}: where its asks stand`);
+  same(tryPlaces(name, json), asks.length, `${name}: as many in JSON`);
+}
+
+// The words of the asks of a thread, one after another.
+const wordsOf = (text, thread, words) => asksOf(text, stepsOfText(text), words).filter((turn) => turn.thread === thread).map((turn) => turn.words ?? null);
+
+// Branches, loops and repeated sentences: the sentence is the one that was written, and the same one each time.
+function tryBranches() {
+  const second = read(examples, "version3/second_way.lwkt"), philosophers = read(examples, "version3/philosophers.lwkt");
+  same(wordsOf(second, "0.0"), ["got = try near", "write near.n 1", "rel near", null], "the first branch");
+  same(wordsOf(second, "0.0", "turns --order 10000000"), ["got = try near", "get far", "write far.n 1", "rel far", null], "the second branch");
+  const forks = ["get fork[(i + 1) % N]", "get fork[i]", "write fork[i].meals 1", "rel fork[i]", "rel fork[(i + 1) % N]"];
+  same(wordsOf(philosophers, "4.0"), [...forks, null], "the thread of the last number, in its second branch");
+  const rows = (text, thread) => asksOf(text, stepsOfText(text)).filter((turn) => turn.thread === thread).map((turn) => text.slice(0, lines.askPlace(turn, stepsOfText(text))?.from ?? 0).split("\n").length);
+  const looped = "token t\nthread a on 0 # get t; end\nvar x = 0; var y = 0\ntimes 2 ; get t\n\n while x < 2:; x = x + 1; yield\nend; if x = 9\nrel t; else; rel t; end\nx = 1\nend\nassert x = 0\n";
+  same(rows(looped, "0.0"), [4, 6, 6, 8, 4, 6, 8, 11], "lines of steps in loops, and of an assertion");
+  const repeated = "const N = 2\nthread z on 1\nyield\nfor i in 0..N\nthread a[i] on i, repeat 2\nvar x = 0\nif x = 0\nfor j in 1..3\nget t[j]; rel t[j]\nend\nend\nend\nyield\nfor i in 0..3; token t[i]; end\nalways: ended\n";
+  same([rows(repeated, "1.0"), rows(repeated, "0.0")], [[3, 1], [9, 9, 9, 9, 9, 9, 9, 9, 1]], "lines of steps that are repeated");
+  same(rows(repeated, "1.1"), [9, 9, 9, 9, 13, 9, 9, 9, 9, 13, 1], "and of one behind them");
+}
+
+// Where the sentences aren't known, or a copy would have other steps, no place is known.
+function tryUnknown() {
+  const text = "token t\nthread a on 0\nget t; rel t\n", sentences = texts.sentencesOf(text), json = callProgram("lwkt_text_json", text).text;
+  const numbered = (copy) => texts.textSteps(sentences, callProgram("lwkt_text_json", copy).text, json);
+  same([...numbered(texts.numberSteps(sentences))], [["0.0", sentences.slice(2)]], "places of two steps");
+  same([...numbered("thread a on 0\nwrite 0.0 2")], [], "another count of steps");
+  same([...numbered("thread a on 1\nwrite 0.0 2\nwrite 0.0 3")], [], "another thread");
+  same([...numbered("")], [], "no thread");
+  same([...scripts.jsonSteps("")], [], "no script");
+  same(lines.askPlace({ thread: "0.0", step: "after its steps" }, new Map([["0.0", [1]]])), undefined, "no step");
+  same(lines.askPlace({ idle: new Map() }, new Map()), undefined, "no thread runs");
+  same(["for i in 0..2; token t[i]; end; token s", "const N = 1\nthread a on N\nthread b on 1"].map((it) => texts.namesOf(it).threads.size + texts.namesOf(it).tokens.length), [0, 0], "names that can't be counted");
+  const blanks = `thread a on 0\n${" ".repeat(1000000)}yield${" ".repeat(1000000)};x`;
+  same(texts.sentencesOf(blanks).map(({ said }) => said), ["thread a on 0", "yield", "x"], "a million blanks");
+}
+
 for (const name of exampleNames()) tryExample(name);
+for (const name of exampleNames()) if (statusOf(name) !== 1) tryPlaces(name, read(examples, `${name}.json`));
+for (const folder of ["litmus", "version3"]) for (const name of namesIn(folder, ".lwkt")) tryTextPlaces(folder, name);
+tryPlaces("poll", read(examples, "version3/poll.json"));
+tryBranches();
+tryUnknown();
 for (const name of ["crossed_lists", "dining_philosophers", "server_of_three", "abort_before_and_after"]) tryCuts(name);
 for (const name of namesIn("litmus", ".lwkt")) tryTextCuts(name);
 for (const name of exampleNames()) tryThreads(name);
@@ -137,6 +207,9 @@ same(["", "6869", "00ff", "226162", "61".repeat(24), "61".repeat(40), "00".repea
 same(["b=-", "b=6869", "v=7", "b=00ff"].map(lines.entryWords), ["b=-", "b='hi'", "v=7", "b=00ff"], "records in a log");
 const odd = lines.readRun("turn 0, round 0, processor 0, thread 0.0, step 1: [\"rrec\",0]: record 'a; token 1: b'; token 0: record 'a; token 1: b' read; token 0: record '; ' stored\n").turns[0];
 same([odd.outcome, odd.events.map((it) => [it.number, it.record])], ["record 'a; token 1: b'", [[0, "'a; token 1: b'"], [0, "'; '"]]], "a record with semicolons");
+const computing = lines.readRun("turn 10, round 5, processor 0, thread 0.0, v0 = 1; v0 = 0? no; step 2: [\"write\",0,0,1]: done; token 0: cell 0 0 -> 1\n").turns[0];
+same([computing.made, computing.step, computing.ask, computing.outcome, computing.events.length], ["v0 = 1; v0 = 0? no", "step 2", '["write",0,0,1]', "done", 1], "what a thread computed before its step");
+same([odd.made, odd.step], ["", "step 1"], "a thread that computed nothing");
 same(texts.verdictsIn(["4: holds", "4: doesn't hold, order 0 1", "5: not decided", "x"]).map((it) => [it.line, it.place, it.words, it.order]), [[4, 0, "holds", null], [4, 1, "doesn't hold", [0, 1]], [5, 0, "not decided", null]], "verdicts");
 tryUrgent();
 same(["a".repeat(1048576), "\n".repeat(2999), "\r\n".repeat(2999), ""].map(scripts.longWords), [null, null, null, null], "texts that are short enough");

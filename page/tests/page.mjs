@@ -365,6 +365,44 @@ async function tryEditor(tab) {
   check(await tab.ask(`document.getElementById('bubble').hidden && !document.getElementById('refusal').textContent`), "an edit clears it");
 }
 
+// The step that the chosen turn's thread asks for is marked in the editor, in JSON and in texts, and brought into view.
+async function tryAsked(tab) {
+  const marks = () => tab.ask(`[...document.querySelectorAll('#mirror.asked mark')].map((it) => it.textContent)`);
+  const isSeen = () => tab.ask(`(() => { const mark = document.querySelector('#mirror mark').getBoundingClientRect(), box = document.getElementById('editor').getBoundingClientRect(); return mark.top >= box.top && mark.bottom <= box.bottom && !document.getElementById('bubble').checkVisibility(); })()`);
+  const crossed = read(examples, "crossed_lists.json");
+  await tab.ask(`document.activeElement.blur()`);
+  await run(tab, crossed);
+  await goTo(tab, 2);
+  same([await marks(), await isSeen()], [['["get",1]'], true], "a step in JSON");
+  await goTo(tab, 4);
+  same(await marks(), [], "a turn that runs no thread");
+  await goTo(tab, 2);
+  await put(tab, `${crossed} `);
+  same(await marks(), [], "an edit takes the mark away");
+  await goTo(tab, 0);
+  same(await marks(), [], "and none comes back");
+  const script = read(examples, "version3/second_way.lwkt");
+  await run(tab, `${script}${"# a\n".repeat(100)}${script.replaceAll(/^(token|always|sometimes).*/gm, "").replace("chooser", "other").replace("holder", "one")}`);
+  const turns = await tab.ask("run.windows.get(0).turns.filter((it) => it.step?.startsWith('step')).map((it) => [it.number, it.thread])");
+  for (const [thread, isFar] of [["0.0", false], ["0.1", true]]) {
+    const seen = [];
+    for (const [number] of turns.filter((it) => it[1] === thread)) {
+      await goTo(tab, number);
+      seen.push(...(await marks()), await isSeen(), (await tab.ask(`document.getElementById('script').scrollTop`)) > 1000);
+    }
+    same(seen, ["got = try near", "write near.n 1", "rel near"].flatMap((it) => [it, true, isFar]), `the steps of ${thread} in a text, in view`);
+  }
+  same(await tab.ask(`(() => { const a = document.getElementById('script'), b = document.getElementById('mirror'); return [a.clientWidth - b.clientWidth, a.scrollHeight - b.scrollHeight, a.scrollTop - b.scrollTop]; })()`), [0, 0, 0], "mark and text are laid out alike");
+  await tab.ask(`(() => { const box = document.getElementById('script'); box.focus(); box.scrollTop = 0; })()`);
+  await goTo(tab, turns.at(-1)[0]);
+  same([(await marks()).length, await tab.ask(`document.getElementById('script').scrollTop`)], [1, 0], "whoever writes isn't led away");
+  await tab.ask(`document.activeElement.blur()`);
+  for (const [length, count] of [[100000, 1], [100001, 0]]) {
+    await run(tab, crossed.padEnd(length));
+    same((await marks()).length, count, `marks in a script of ${length} characters`);
+  }
+}
+
 async function tryKeys(tab) {
   await put(tab, read(examples, "crossed_lists.json"));
   await tab.ask(`document.getElementById('script').focus()`);
@@ -626,7 +664,7 @@ try {
   for (const name of namesIn("litmus", ".lwkt")) await part(name, () => tryCourse(tab, name));
   for (const name of ["crossed_lists", "server_of_three", "law_broken_at_yield"]) await part(name, () => tryWalk(tab, name));
   for (const name of namesIn("refused", ".json")) await part(name, () => tryRefusal(tab, name));
-  const parts = { tryStates, tryMessages, tryWhy, tryEditor, tryKeys, tryTabbing, tryLink, tryPaste, tryNames, tryParts, tryOdd, tryLong, tryStop, tryTrap, tryTexts, tryOrders, tryReplay, tryRecords, tryUrgent };
+  const parts = { tryStates, tryMessages, tryWhy, tryEditor, tryAsked, tryKeys, tryTabbing, tryLink, tryPaste, tryNames, tryParts, tryOdd, tryLong, tryStop, tryTrap, tryTexts, tryOrders, tryReplay, tryRecords, tryUrgent };
   for (const [name, work] of Object.entries(parts)) await part(name, () => work(tab));
   await part("served", tryServed);
   await part("first link", tryFirstLink);

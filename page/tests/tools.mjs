@@ -30,9 +30,9 @@ export function finish() {
   process.exitCode = counted.failed ? 1 : 0;
 }
 
-// The functions of a source of the page.
-export function load(name, exported) {
-  const text = readFileSync(join(page, name), "utf8");
+// The functions of sources of the page, whose last one names them.
+export function load(name, exported, ...before) {
+  const text = [...before, name].map((it) => readFileSync(join(page, it), "utf8")).join("\n");
   return vm.runInThisContext(`(() => { ${text}\nreturn { ${exported.join(", ")} }; })()`, { filename: name });
 }
 
@@ -57,7 +57,7 @@ export function statusOf(name) {
 
 // The program that page/check names, else that of this tree; and by which of its names it answers as a call of the library does.
 const program = process.env.PAGE_PROGRAM || join(top, "lwkt");
-const names = { lwkt_run_turns: "lwkt_run", lwkt_run_text: "lwkt_run", lwkt_check_trace: "lwkt_check", lwkt_show_turns: "lwkt_show", lwkt_explore_orders: "lwkt_explore" };
+const names = { lwkt_run_turns: "lwkt_run", lwkt_run_text: "lwkt_run", lwkt_text_json: "lwkt_text", lwkt_check_trace: "lwkt_check", lwkt_show_turns: "lwkt_show", lwkt_explore_orders: "lwkt_explore" };
 
 // Whether bytes are taken for a text, as docs/FORMATS.md says: no JSON, and a sentence declares something.
 function isText(script) {
@@ -74,6 +74,7 @@ function isText(script) {
 
 // The arguments of the program for a call of the library: of a search its two bounds, else words with a blank between each two.
 function argumentsOf(name, words) {
+  if (name === "lwkt_text_json") return ["--json"];
   if (name === "lwkt_explore_orders") return ["--states", words.split(" ")[0], "--turns", words.split(" ")[1]];
   return words ? words.split(" ") : [];
 }
