@@ -1,7 +1,6 @@
 -- What is found wrong is the first.
-use Rattle.std.proofs.Common.{◌≡◌, ◌≢◌, ℕ, zero, suc, ◌<◌, ◌≤◌, Bool, true, false, cond, List, [], ◌∷◌, length, Option, Some, None, refl, sym, ap, ◌∙◌, subst, inl, inr, ⊎_elim, arith}
-use Rattle.std.specs.Prelude.{slice_get, slice_index, nat_lt, ◌==◌, ◌&&◌, ◌||◌, ◌⊎◌, is_some, option_and_then, MatchOption, if◌then◌else◌}
-use Rattle.std.specs.Option.{option_or}
+use Rattle.std.proofs.Common.{◌≡◌, ◌≢◌, ℕ, zero, suc, ◌<◌, ◌≤◌, Bool, true, false, List, [], ◌∷◌, length, Option, Some, None, refl, sym, ap, ◌∙◌, subst, inl, inr, ⊎_elim, arith}
+use Rattle.std.specs.Prelude.{slice_index, nat_lt, ◌==◌, ◌&&◌, ◌||◌, is_some, option_and_then, MatchOption}
 use Rattle.std.proofs.lemmas.Bool.{cases_lt, lt-ltb, le-ltb, ne_eqb, eq-eqb}
 use Rattle.std.proofs.lemmas.Option.{slice_get_past}
 use Rattle.std.proofs.Math.Bool.{or-true}
@@ -11,8 +10,7 @@ use Rattle.lwkt_code.specs.Flaws.{flaw_of}
 use Rattle.lwkt_code.specs.Accepted.{leads_from, IsOneOf, IsWay, AreBehind, last_from, IsCircle}
 use Rattle.lwkt_code.specs.Marks.{Opens, IsFirstCircle}
 use Rattle.lwkt_code.specs.Programs.{flaw_at, IsFirstFlaw, circle_of}
-use Rattle.lwkt_code.specs.Firsts.{first_below, some_pass, comes_back, first_flaw, first_circle, AreClear, IsFirstWrong}
-use Rattle.lwkt_code.proofs.Marking.{same_or_other}
+use Rattle.lwkt_code.specs.Firsts.{first_below, some_pass, comes_back, first_flaw, AreClear, IsFirstWrong}
 
 -- the first number that passes
 first_none : (n : ℕ) (test : ℕ → Bool) → ((k : ℕ) → k < n → test k ≡ false) → first_below n test ≡ None

@@ -1,6 +1,6 @@
 -- How many steps a thread of an accepted program makes at most before it asks.
 use Rattle.std.proofs.Common.{◌≡◌, ℕ, zero, suc, ◌+◌, ◌-◌, ◌*◌, ◌<◌, ◌≤◌, Bool, true, false, cond, List, length, Option, Some, None, refl, subst, inl, inr, ⊎_elim, arith}
-use Rattle.std.specs.Prelude.{nat_lt, slice_get, slice_index, ◌==◌, ◌||◌, ◌⊎◌, not}
+use Rattle.std.specs.Prelude.{nat_lt, slice_get, slice_index, ◌==◌, ◌||◌, not}
 use Rattle.std.proofs.lemmas.Bool.{cases_lt, lt-ltb, le-ltb}
 use Rattle.lwkt_base.specs.declared.asks.Ask.{Ask}
 use Rattle.lwkt_base.specs.declared.asks.Ask.TheVariants.{Exit, Fail}
@@ -9,7 +9,7 @@ use Rattle.lwkt_code.specs.declared.steps.Step.TheVariants.{Fixed, Make, Set, Fa
 use Rattle.lwkt_code.specs.declared.locals.Local.{Local}
 use Rattle.lwkt_code.specs.Values.{holds_in}
 use Rattle.lwkt_code.specs.Accepted.{leads_to, leads_from, IsOneOf, IsRanked, IsInside}
-use Rattle.lwkt_code.specs.Next.{is_last, ask_at, moved}
+use Rattle.lwkt_code.specs.Next.{ask_at, moved}
 
 -- 1 if a number is below another, and else 0
 abbrev bit : ℕ → ℕ → ℕ

@@ -1,6 +1,6 @@
 -- What steps lead to if none is wrong by itself.
-use Rattle.std.proofs.Common.{◌≡◌, ℕ, suc, ◌+◌, ◌<◌, ◌≤◌, Bool, true, false, cond, List, length, Option, Some, None, refl, inl, inr, ⊎_elim, arith}
-use Rattle.std.specs.Prelude.{slice_get, nat_le, option_and_then, ◌⊎◌, MatchOption}
+use Rattle.std.proofs.Common.{◌≡◌, ℕ, ◌+◌, ◌<◌, ◌≤◌, List, length, Option, Some, None, refl, inl, inr, ⊎_elim, arith}
+use Rattle.std.specs.Prelude.{slice_get, option_and_then, ◌⊎◌, MatchOption}
 use Rattle.std.specs.Option.{option_or}
 use Rattle.std.proofs.lemmas.Bool.{cases_lt}
 use Rattle.std.proofs.lemmas.Bool.Decides.{nat_tests}
@@ -9,7 +9,7 @@ use Rattle.lwkt_code.specs.declared.checks.Flaw.{Flaw}
 use Rattle.lwkt_code.specs.declared.steps.Step.{Step}
 use Rattle.lwkt_code.specs.declared.steps.Step.TheVariants.{Fixed, Make, Set, Fault, Unless, Goto, Count, Again, Assert}
 use Rattle.lwkt_code.specs.Flaws.{flaw_of, flaw_of_jump, flaw_of_cond, flaw_of_counter}
-use Rattle.lwkt_code.specs.Accepted.{leads_to, leads_from, IsOneOf, IsInside, IsCircle}
+use Rattle.lwkt_code.specs.Accepted.{leads_to, IsOneOf, IsInside}
 use Rattle.lwkt_code.specs.Marks.{Opens, IsFirstCircle}
 use Rattle.lwkt_code.specs.Programs.{flaw_at, IsFlawless, IsSound, IsWrong, circle_of}
 use Rattle.lwkt_code.proofs.Marking.{accepted}

@@ -1,6 +1,6 @@
 -- A list of asks is a program, whose asks are made in order.
-use Rattle.std.proofs.Common.{◌≡◌, ℕ, zero, suc, ◌+◌, ◌-◌, ◌*◌, ◌/◌, ◌%◌, ◌<◌, ◌≤◌, Bool, true, false, cond, List, [], ◌∷◌, length, map, Option, Some, None, refl, sym, ap, ◌∙◌, subst, inl, inr, ⊎_elim, arith}
-use Rattle.std.specs.Prelude.{slice_get, ◌⊎◌, ◌==◌, ◌||◌, not, nat_lt, unwrap_or, option_and_then}
+use Rattle.std.proofs.Common.{◌≡◌, ℕ, zero, suc, ◌+◌, ◌-◌, ◌*◌, ◌/◌, ◌%◌, ◌<◌, ◌≤◌, Bool, true, false, cond, List, [], ◌∷◌, length, Option, Some, None, refl, sym, ap, ◌∙◌, subst, inl, inr, ⊎_elim, arith}
+use Rattle.std.specs.Prelude.{slice_get, ◌⊎◌, ◌==◌, option_and_then}
 use Rattle.std.proofs.lemmas.Bool.{lt-ltb, le-ltb, cases_lt, ne_eqb}
 use Rattle.std.proofs.lemmas.Nat.{div-mul-add, mod-mul-add}
 use Rattle.std.proofs.Math.Nat.{le-div_iff_mul-le}
@@ -12,7 +12,7 @@ use Rattle.lwkt_code.specs.declared.steps.Step.{Step}
 use Rattle.lwkt_code.specs.declared.steps.Step.TheVariants.{Fixed}
 use Rattle.lwkt_code.specs.declared.locals.Local.{Local}
 use Rattle.lwkt_code.specs.Flaws.{flaw_of}
-use Rattle.lwkt_code.specs.Accepted.{leads_to, leads_from, IsOneOf, IsAccepted}
+use Rattle.lwkt_code.specs.Accepted.{leads_to, IsOneOf}
 use Rattle.lwkt_code.specs.Answers.{taken}
 use Rattle.lwkt_code.specs.Next.{is_last, ask_at, moved, ask_or, ask_within, ask_from, next, asks_by}
 use Rattle.lwkt_code.specs.Programs.{IsSound, listed, listed_ask, start}

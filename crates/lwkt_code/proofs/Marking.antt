@@ -1,12 +1,12 @@
 -- Marks at the places from which a way leads back to the beginning of a loop.
-use Rattle.std.proofs.Common.{◌≡◌, ◌≢◌, ℕ, zero, suc, ◌+◌, ◌-◌, ◌*◌, ◌<◌, ◌≤◌, Bool, true, false, cond, List, [], ◌∷◌, length, replicate, get_or, Option, Some, None, refl, sym, ap, ◌∙◌, subst, inl, inr, ⊎_elim, arith}
-use Rattle.std.specs.Prelude.{nat_lt, slice_get, slice_index, ◌==◌, ◌⊎◌, MatchOption, if◌then◌else◌}
-use Rattle.std.proofs.Math.ListN.{set, length-set}
+use Rattle.std.proofs.Common.{◌≡◌, ◌≢◌, ℕ, zero, suc, ◌+◌, ◌-◌, ◌*◌, ◌<◌, ◌≤◌, true, cond, List, [], ◌∷◌, length, replicate, get_or, Option, Some, None, refl, sym, ap, ◌∙◌, subst, inl, inr, ⊎_elim, arith}
+use Rattle.std.specs.Prelude.{nat_lt, slice_index, ◌==◌, ◌⊎◌, MatchOption, if◌then◌else◌}
+use Rattle.std.proofs.Math.ListN.{set}
 use Rattle.std.proofs.lemmas.Bool.{lt-ltb, le-ltb, cases_lt, ne_eqb, eq-eqb}
 use Rattle.std.proofs.lemmas.List.{get_or-set_same, get_or-set_other, get_or_past, get_or-replicate, length-replicate}
 use Rattle.std.proofs.lemmas.Option.{slice_get_past}
 use Rattle.lwkt_code.specs.declared.steps.Step.{Step}
-use Rattle.lwkt_code.specs.Accepted.{leads_to, leads_from, IsOneOf, IsRanked, IsInside, IsAccepted, LeadsBack, IsCircle}
+use Rattle.lwkt_code.specs.Accepted.{leads_to, leads_from, IsOneOf, IsInside, IsAccepted, LeadsBack, IsCircle}
 use Rattle.lwkt_code.specs.Marks.{back_by, back_of, back_from, bit, marked, AreMarks, IsReady, Opens}
 
 pub same_or_other : (m n : ℕ) → (m ≡ n) ⊎ (m ≢ n)

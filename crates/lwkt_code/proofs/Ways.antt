@@ -1,8 +1,7 @@
 -- Ways without an ask: those that go on for ever, and those that come back.
-use Rattle.std.proofs.Common.{◌≡◌, ◌≢◌, ℕ, zero, suc, ◌+◌, ◌<◌, ◌≤◌, List, [], ◌∷◌, refl, sym, subst, inl, inr, arith}
-use Rattle.std.specs.Prelude.{◌⊎◌}
+use Rattle.std.proofs.Common.{◌≡◌, ℕ, zero, suc, ◌+◌, ◌<◌, ◌≤◌, List, [], ◌∷◌, refl, sym, subst, arith}
 use Rattle.lwkt_code.specs.declared.steps.Step.{Step}
-use Rattle.lwkt_code.specs.Accepted.{leads_from, IsOneOf, IsRanked, IsAccepted, IsEndless, IsWay, last_from, LeadsBack, IsCircle}
+use Rattle.lwkt_code.specs.Accepted.{leads_from, IsOneOf, IsRanked, IsAccepted, IsEndless, IsWay, last_from, IsCircle}
 
 falling : (steps : List Step) (rank : ℕ → ℕ) (way : ℕ → ℕ) → IsRanked steps rank → IsEndless steps way → (i : ℕ) → rank (way i) + i ≤ rank (way 0)
 falling steps rank way h e zero = omega arith

@@ -1,10 +1,9 @@
 -- What an answer leaves in the thread that it is given to (own, version 3).
 use Rattle.std.specs.Prelude.{ℕ, ◌-◌, ◌==◌, ◌||◌, Bool, true, false, not, List, Option, Some, None, is_some, slice_get, slice_set, if◌then◌else◌}
 use Rattle.lwkt_base.specs.declared.asks.Answer.{Answer}
-use Rattle.lwkt_base.specs.declared.asks.Answer.TheVariants.{Begin, Done, Value, Bytes, Dropped, Got, NoMsg, Refused}
+use Rattle.lwkt_base.specs.declared.asks.Answer.TheVariants.{Done, Value, Got, NoMsg, Refused}
 use Rattle.lwkt_base.specs.declared.asks.Item.{Item}
 use Rattle.lwkt_base.specs.declared.asks.Item.TheVariants.{Request, Answered}
-use Rattle.lwkt_base.specs.declared.faults.Fault.{Fault}
 use Rattle.lwkt_base.specs.declared.faults.Fault.TheVariants.{Busy}
 use Rattle.lwkt_base.specs.Fault.{number_of}
 use Rattle.lwkt_base.specs.declared.steps.Verb.{Verb}

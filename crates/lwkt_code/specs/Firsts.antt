@@ -1,6 +1,7 @@
 -- The first step that is wrong, and the first loop without an ask, as functions (own, version 3).
 use Rattle.std.specs.Prelude.{◌≡◌, ℕ, zero, suc, ◌<◌, ◌≤◌, ◌==◌, ◌&&◌, ◌||◌, nat_lt, Bool, false, List, [], ◌∷◌, length, Option, Some, None, is_some, if◌then◌else◌}
 use Rattle.std.specs.Option.{option_or}
+use Rattle.lwkt_code.specs.declared.circles.TheConstants.{MOST_STEPS}
 use Rattle.lwkt_code.specs.declared.steps.Step.{Step}
 use Rattle.lwkt_code.specs.declared.codes.Wrong.{Wrong}
 use Rattle.lwkt_code.specs.declared.codes.Wrong.TheVariants.{TooMany, Step as StepIsWrong, Circle}
@@ -32,12 +33,12 @@ first_circle steps = first_below (length steps) (λ at. comes_back 771 steps at 
 
 -- steps of which none is wrong, and no loop is without an ask
 pub record AreClear (steps : List Step) : Type 0 where
-  pub few : length steps ≤ 768
+  pub few : length steps ≤ MOST_STEPS
   pub flawless : first_flaw steps ≡ None
   pub no_circle : first_circle steps ≡ None
 
 -- what is found wrong is the first: too many steps, then a step by itself, and then a loop
 abbrev pub IsFirstWrong : List Step → Wrong → Type 0
-IsFirstWrong steps TooMany = 768 < length steps
-IsFirstWrong steps (StepIsWrong at flaw) = (length steps ≤ 768) × (first_flaw steps ≡ Some at)
-IsFirstWrong steps (Circle begin end) = (length steps ≤ 768) × (first_flaw steps ≡ None) × (first_circle steps ≡ Some begin)
+IsFirstWrong steps TooMany = MOST_STEPS < length steps
+IsFirstWrong steps (StepIsWrong at flaw) = (length steps ≤ MOST_STEPS) × (first_flaw steps ≡ Some at)
+IsFirstWrong steps (Circle begin end) = (length steps ≤ MOST_STEPS) × (first_flaw steps ≡ None) × (first_circle steps ≡ Some begin)

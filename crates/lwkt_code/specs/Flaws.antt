@@ -1,5 +1,5 @@
 -- What may be wrong with a step by itself (own, version 3).
-use Rattle.std.specs.Prelude.{ℕ, ◌+◌, nat_lt, nat_le, Bool, true, not, ◌&&◌, List, [], ◌∷◌, replicate, Option, Some, None, is_none, if◌then◌else◌}
+use Rattle.std.specs.Prelude.{ℕ, ◌+◌, nat_lt, nat_le, Bool, true, ◌&&◌, List, [], ◌∷◌, replicate, Option, Some, None, is_none, if◌then◌else◌}
 use Rattle.std.specs.Option.{option_or}
 use Rattle.lwkt_base.specs.declared.steps.Verb.{Verb}
 use Rattle.lwkt_base.specs.declared.steps.Verb.TheVariants as verbs

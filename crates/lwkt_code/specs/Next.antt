@@ -1,5 +1,5 @@
 -- What a thread asks next (own, version 3).
-use Rattle.std.specs.Prelude.{◌≡◌, ℕ, zero, suc, ◌+◌, ◌-◌, ◌*◌, ◌==◌, ◌||◌, nat_lt, Bool, true, false, not, List, [], ◌∷◌, length, Option, Some, None, slice_get, slice_index, slice_set, if◌then◌else◌}
+use Rattle.std.specs.Prelude.{◌≡◌, ℕ, zero, suc, ◌+◌, ◌-◌, ◌*◌, ◌==◌, ◌||◌, nat_lt, Bool, true, false, not, List, [], ◌∷◌, length, Option, Some, None, option_and_then, slice_get, slice_index, slice_set, if◌then◌else◌}
 use Rattle.lwkt_base.specs.declared.asks.Ask.{Ask}
 use Rattle.lwkt_base.specs.declared.asks.Ask.TheVariants.{Exit, Fail}
 use Rattle.lwkt_base.specs.declared.asks.Answer.{Answer}
@@ -40,6 +40,17 @@ moved (Some (Goto jump to)) s = record s { at = to }
 moved (Some (Count k n)) s = record s { at = s.at + 1; counts = slice_set s.counts k n }
 moved (Some (Again k to)) s = record s { at = if nat_lt 1 (slice_index s.counts k) then to else s.at + 1; counts = slice_set s.counts k (slice_index s.counts k - 1) }
 moved (Some (Assert c n)) s = record s { at = s.at + 1; asked = if holds_in c s.vars then s.asked else true }
+
+-- the ask that a step is, if it is the same each time
+abbrev pub fixed_ask : Step → Option Ask
+fixed_ask (Fixed ask) = Some ask
+fixed_ask _ = None
+
+-- the ask that stands where a thread goes on, if one does that is the same each time: at its place, or at the end of a repetition that
+-- isn't the last first among the steps
+abbrev pub standing : List Step → Local → Option Ask
+standing steps s =
+    option_and_then fixed_ask (if nat_lt s.at (length steps) then slice_get steps s.at else (if is_last s then None else slice_get steps 0))
 
 -- an ask, and where its thread stands after it; without one, what comes later
 abbrev pub ask_or : Option Ask → Local → Ask × Local → Ask × Local

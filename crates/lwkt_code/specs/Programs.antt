@@ -1,8 +1,9 @@
 -- Whole programs (own, version 3).
-use Rattle.std.specs.Prelude.{◌≡◌, ℕ, ◌-◌, ◌/◌, ◌%◌, ◌<◌, ◌≤◌, ◌==◌, nat_lt, false, List, length, map, replicate, Option, Some, None, slice_get, unwrap_or, option_and_then, if◌then◌else◌}
+use Rattle.std.specs.Prelude.{◌≡◌, ℕ, ◌-◌, ◌/◌, ◌%◌, ◌<◌, ◌==◌, nat_lt, false, List, length, map, replicate, Option, Some, None, slice_get, unwrap_or, option_and_then, if◌then◌else◌}
 use Rattle.lwkt_base.specs.declared.asks.Ask.{Ask}
 use Rattle.lwkt_base.specs.declared.asks.Ask.TheVariants.{Exit}
 use Rattle.lwkt_base.specs.declared.asks.Answer.{Answer}
+use Rattle.lwkt_code.specs.declared.circles.TheConstants.{MOST_STEPS}
 use Rattle.lwkt_code.specs.declared.steps.Step.{Step}
 use Rattle.lwkt_code.specs.declared.steps.Step.TheVariants.{Fixed}
 use Rattle.lwkt_code.specs.declared.locals.Local.{Local}
@@ -43,7 +44,7 @@ circle_of (Some circle) = Some (Circle circle.0 circle.1)
 
 -- why steps aren't a program
 abbrev pub IsWrong : List Step → Wrong → Type 0
-IsWrong steps TooMany = 768 < length steps
+IsWrong steps TooMany = MOST_STEPS < length steps
 IsWrong steps (StepIsWrong at flaw) = IsFirstFlaw steps at flaw
 IsWrong steps (Circle begin end) = IsFlawless steps × IsCircle steps begin end
 

@@ -141,13 +141,21 @@ fn store(vars: &mut [u64; 8], places: Places, held: Held)
     }
 }
 
+// Puts what an answer to an ask of a kind holds in places.
+#[inline(never)]
+fn give_made(vars: &mut [u64; 8], places: Places, verb: Verb, answer: &Answer)
+    ensures { vars.new ≡ stored places (held_by verb answer.now) vars.old }
+{
+    store(vars, places, numbers(verb, answer));
+}
+
 // Gives the answer to the ask of the step at a place to that step's variables.
+#[inline(always)]
 fn give(steps: &[Step], at: usize, answer: &Answer, vars: &mut [u64; 8])
     ensures { vars.new ≡ given (slice_get steps.now at) answer.now vars.old }
 {
-    match steps.get(at) {
-        Some(Step::Make(wish, places)) => store(vars, *places, numbers(wish.verb, answer)),
-        _ => {}
+    if let Some(Step::Make(wish, places)) = steps.get(at) {
+        give_made(vars, *places, wish.verb, answer);
     }
 }
 

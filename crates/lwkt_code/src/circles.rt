@@ -17,7 +17,7 @@ pub enum Leads {
 }
 
 fn leads_from(steps: &[Step], at: usize) -> Leads
-    requires { length steps.now ≤ 768 }
+    requires { length steps.now ≤ MOST_STEPS }
     ensures { places result ≡ leads_to (slice_get steps.now at) at }
 {
     match steps.get(at) {
@@ -37,7 +37,7 @@ fn leads_from(steps: &[Step], at: usize) -> Leads
 // What a place gets as its mark if it leads there: 1 more than the place from which a way over it comes back to the beginning, and 0 if none
 // is known.
 fn back_by(marks: &[usize; 769], begin: usize, at: usize, to: usize) -> usize
-    requires { at ≤ 768 }
+    requires { at ≤ MOST_STEPS }
     ensures { result ≡ back_by marks.now begin at to }
 {
     if to == begin {
@@ -52,8 +52,8 @@ fn back_by(marks: &[usize; 769], begin: usize, at: usize, to: usize) -> usize
 
 // What a place gets as its mark.
 fn back_from(steps: &[Step], marks: &[usize; 769], begin: usize, at: usize) -> usize
-    requires few { length steps.now ≤ 768 }
-    requires at { at ≤ 768 }
+    requires few { length steps.now ≤ MOST_STEPS }
+    requires at { at ≤ MOST_STEPS }
     ensures { result ≡ back_from steps.now marks.now begin at }
 {
     match leads_from(steps, at) {
@@ -72,8 +72,8 @@ fn back_from(steps: &[Step], marks: &[usize; 769], begin: usize, at: usize) -> u
 
 // A place behind the beginning that has no mark and gets one, with that.
 fn find_ready(steps: &[Step], marks: &[usize; 769], begin: usize) -> Option<(usize, usize)>
-    requires few { length steps.now ≤ 768 }
-    requires begin { begin ≤ 768 }
+    requires few { length steps.now ≤ MOST_STEPS }
+    requires begin { begin ≤ MOST_STEPS }
     ensures { MatchOption result ((k : ℕ) → begin < k → k < length steps.now → slice_index marks.now k ≡ 0 → back_from steps.now marks.now begin k ≡ 0) (λ r. IsReady steps.now marks.now begin r.0 r.1) }
 {
     for at in begin + 1..steps.len() {
@@ -89,8 +89,8 @@ fn find_ready(steps: &[Step], marks: &[usize; 769], begin: usize) -> Option<(usi
 
 // Gives marks until no place gets one any more.
 fn mark(steps: &[Step], marks: &mut [usize; 769], begin: usize)
-    requires few { length steps.now ≤ 768 }
-    requires begin { begin ≤ 768 }
+    requires few { length steps.now ≤ MOST_STEPS }
+    requires begin { begin ≤ MOST_STEPS }
     requires marks { AreMarks steps.now begin marks.old }
     ensures marks { AreMarks steps.now begin marks.new }
     ensures all { (k : ℕ) → begin < k → k < length steps.now → slice_index marks.new k ≡ 0 → back_from steps.now marks.new begin k ≡ 0 }
@@ -112,8 +112,8 @@ fn place_of(back: usize) -> Option<usize>
 
 // The last place of a loop without an ask that begins there.
 fn circle_from(steps: &[Step], begin: usize) -> Option<usize>
-    requires few { length steps.now ≤ 768 }
-    requires begin { begin ≤ 768 }
+    requires few { length steps.now ≤ MOST_STEPS }
+    requires begin { begin ≤ MOST_STEPS }
     ensures { MatchOption result (Opens steps.now begin) (IsCircle steps.now begin) }
 {
     let mut marks = [0; 769];
@@ -123,7 +123,7 @@ fn circle_from(steps: &[Step], begin: usize) -> Option<usize>
 
 /// The first place and the last one of a loop without an ask: of those that begin first.
 pub fn find_circle(steps: &[Step]) -> Option<(usize, usize)>
-    requires few { length steps.now ≤ 768 }
+    requires few { length steps.now ≤ MOST_STEPS }
     ensures { MatchOption result ((k : ℕ) → k < length steps.now → Opens steps.now k) (λ r. IsFirstCircle steps.now r.0 r.1) }
 {
     for begin in 0..steps.len() {

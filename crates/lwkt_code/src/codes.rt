@@ -1,9 +1,11 @@
 //! Whole programs.
-ghost use Rattle.std.specs.Prelude.{◌≡◌, ℕ, ◌<◌, ◌≤◌, IfOk, IfErr, OnOk, Option, Some, None, MatchOption, length, slice_get};
+ghost use Rattle.std.specs.Prelude.{◌≡◌, ℕ, ◌<◌, ◌≤◌, ◌-◌, false, IfOk, IfErr, IfSome, OnOk, Option, Some, None, MatchOption, is_some, length, slice_get};
+ghost use Rattle.std.specs.Option.{option_copied};
+ghost use Rattle.lwkt_code.specs.declared.steps.Step.TheVariants.{Fixed};
 ghost use Rattle.lwkt_code.specs.Programs.{IsSound, flaw_at, IsFirstFlaw, circle_of, IsWrong, start, listed, listed_program};
 ghost use Rattle.lwkt_code.specs.Firsts.{AreClear, IsFirstWrong};
 ghost use Rattle.lwkt_code.specs.Answers.{last_step, logs};
-ghost use Rattle.lwkt_code.specs.Next.{next};
+ghost use Rattle.lwkt_code.specs.Next.{next, standing};
 
 use crate::answers::logs;
 use crate::checks::{Flaw, flaw_of};
@@ -11,7 +13,7 @@ pub use crate::circles::MOST_STEPS;
 use crate::circles::find_circle;
 use crate::copies::copy_steps;
 use crate::locals::Local;
-use crate::moves::next;
+use crate::moves::{next, pass};
 use crate::steps::Step;
 use lwkt_base::memory::{push, with_capacity_for};
 use lwkt_base::{Answer, Ask, OutOfMemory};
@@ -87,7 +89,7 @@ fn of_circle(found: Option<(usize, usize)>) -> Option<Wrong>
 
 // What is wrong with steps that are right by themselves.
 fn find_wrong_circle(steps: &[Step]) -> Option<Wrong>
-    requires few { length steps.now ≤ 768 }
+    requires few { length steps.now ≤ MOST_STEPS }
     requires flawless { (k : ℕ) → k < length steps.now → flaw_at steps.now k ≡ None }
     ensures why { MatchOption result (IsSound steps.now) (IsWrong steps.now) }
     ensures first { MatchOption result (AreClear steps.now) (IsFirstWrong steps.now) }
@@ -180,6 +182,20 @@ impl Code {
             refused: 0,
             asked: false,
         }
+    }
+
+    /// Goes on past the ask that stands where a thread stands, if one does that is the same each time, given the answer to its last ask;
+    /// that ask, which stands before the place where the thread then stands. `None` where something else comes first: then the thread
+    /// stays where it is, and `next` tells what it asks.
+    #[inline(always)]
+    pub fn pass(&self, local: &mut Local, answer: &Answer) -> Option<&Ask>
+        ensures asks { option_copied result ≡ standing self.now.steps local.old }
+        ensures ahead { IfSome (option_copied result) (λ ask. 0 < local.new.at) }
+        ensures stands { IfSome (option_copied result) (λ ask. slice_get self.now.steps (local.new.at - 1) ≡ Some (Fixed ask)) }
+        ensures passes { IfSome (option_copied result) (λ ask. next self.now.steps local.old answer.now ≡ (ask, local.new)) }
+        ensures stays { is_some result ≡ false → local.new ≡ local.old }
+    {
+        pass(self.steps.as_slice(), local, answer)
     }
 
     /// What a thread asks next, given the answer to its last ask: `Answer::Begin` if it asked nothing yet.

@@ -1,6 +1,6 @@
 -- Polls of a body, one after another.
-use Rattle.std.proofs.Common.{◌≡◌, ℕ, zero, suc, ◌+◌, ◌<◌, ◌≤◌, Bool, true, false, List, [], ◌∷◌, ◌++◌, length, take, refl, ap, sym, ◌∙◌, subst, arith, Option, Some, None, append_assoc, length-append}
-use Rattle.std.specs.Prelude.{map, option_and_then, option_map, option_to_list, replicate, slice_get, unwrap_or, nat_lt, if◌then◌else◌}
+use Rattle.std.proofs.Common.{◌≡◌, ℕ, zero, suc, ◌<◌, ◌≤◌, Bool, true, false, List, [], ◌∷◌, ◌++◌, length, take, refl, ap, sym, ◌∙◌, subst, arith, Option, Some, None, append_assoc, length-append}
+use Rattle.std.specs.Prelude.{map, option_map, option_to_list, replicate, slice_get, unwrap_or, nat_lt, if◌then◌else◌}
 use Rattle.std.proofs.lemmas.Bool.{ltb-true, ltb-false, le-ltb}
 use Rattle.std.proofs.lemmas.List.{length-map}
 use Rattle.std.proofs.lemmas.Option.{slice_get_within}
@@ -11,38 +11,17 @@ use Rattle.lwkt_base.specs.declared.asks.Answer.TheVariants.{Begin, Done}
 use Rattle.lwkt_base.specs.declared.entries.Entry.{Entry}
 use Rattle.lwkt_code.specs.declared.locals.Local.{Local}
 use Rattle.lwkt_code.specs.declared.steps.Step.{Step}
-use Rattle.lwkt_code.specs.declared.steps.Step.TheVariants.{Fixed}
-use Rattle.lwkt_code.specs.Answers.{last_step, logs, taken}
-use Rattle.lwkt_code.specs.Next.{ask_at, moved, next, asks_by}
-use Rattle.lwkt_code.specs.Programs.{Program, listed_program, listed_ask}
-use Rattle.lwkt_code.proofs.Walks.{ask_here}
+use Rattle.lwkt_code.specs.Answers.{last_step, logs}
+use Rattle.lwkt_code.specs.Next.{asks_by}
+use Rattle.lwkt_code.specs.Programs.{Program, listed_program}
 use Rattle.lwkt_code.proofs.Lists.{asks_as_listed}
 use Rattle.lwkt_script.specs.Logs.{entry_of, failure_of}
 use Rattle.lwkt_lane.proofs.PlaceMoves.{refilled_front}
-use Rattle.lwkt_machine.specs.declared.bodies.Said.{Said}
-use Rattle.lwkt_machine.specs.declared.bodies.Said.TheVariants.{Standing}
-use Rattle.lwkt_machine.specs.Bodies.{Scripted, unpolled, fixed_ask, ask_said, entry_by, entry_heard, entry_kept, logged, next_of, after_hearing, after_ask, after_poll, IsPolled}
+use Rattle.lwkt_machine.specs.Bodies.{Scripted, unpolled, entry_by, entry_heard, entry_kept, logged, next_of, after_hearing, after_ask, after_poll, IsPolled}
 use Rattle.lwkt_machine.specs.Laws.{ArePolls, entries_made, AsksAreTheScripts, AsksAreTheLists, LogsAreFirstEntries}
 
 abbrev pub body_so : Program → Local → Option Ask → Option Answer → List Entry → Scripted
 body_so program local asked heard log = record { program = program; local = local; asked = asked; heard = heard; log = log }
-
--- what is asked next where an ask stands, and where the thread stands then
-pub fixed_next : (steps : List Step) (s : Local) (last : Answer) (ask : Ask) → slice_get steps s.at ≡ Some (Fixed ask) → next steps s last ≡ (ask, record (taken steps s last) { at = s.at + 1; asked = true })
-fixed_next steps s last ask is =
-    let t : Local = taken steps s last in
-    ask_here steps t ask (ap (λ (o : Option Step). ask_at o t) is) ∙ ap (λ (o : Option Step). (ask, moved o t)) is
-
--- a body that goes on past an ask that stands where it stands, and keeps its place
-pub passed : (program : Program) (s t : Local) (said : Said) (heard : Option Answer) (log : List Entry) (last : Answer) (ask : Ask) → slice_get program.steps s.at ≡ Some (Fixed ask) → failure_of ask ≡ None → next program.steps s last ≡ (ask, t)
-    → (ask ≡ (next_of (body_so program s (ask_said program.steps said) heard log) last).0) × (body_so program t (ask_said program.steps (Standing s.at)) heard log ≡ after_ask last (body_so program s (ask_said program.steps said) heard log))
-passed program s t said heard log last ask stands quiet is =
-    let asked : ask_said program.steps (Standing s.at) ≡ Some ask = ap (λ (o : Option Step). option_and_then fixed_ask o) stands in
-    let same : log ≡ logged log (failure_of ask) = sym (ap (λ (o : Option Entry). logged log o) quiet) in
-    let after : Ask × Local → Scripted = λ r. body_so program r.1 (Some r.0) heard (logged log (failure_of r.0)) in (
-      sym (ap (λ (r : Ask × Local). r.0) is),
-      ap (λ (o : Option Ask). body_so program t o heard log) asked ∙ ap (λ (es : List Entry). body_so program t (Some ask) heard es) same ∙ sym (ap after is),
-    )
 
 -- a poll: the answer is heard, and then the next ask is made
 pub polled_so : (old mid new : Scripted) (last : Answer) (ask : Ask) → mid ≡ after_hearing last old → ask ≡ (next_of mid last).0 → new ≡ after_ask last mid → IsPolled old last ask new

@@ -1,5 +1,5 @@
 -- One processor of a machine makes a turn, after it saw what was sent to it, and the parts of the machine still belong together.
-use Rattle.std.proofs.Common.{◌≡◌, ◌∙◌, ℕ, ◌<◌, ◌≤◌, ◌++◌, List, length, set, get_or, refl, ap, sym, subst, arith, Some}
+use Rattle.std.proofs.Common.{◌≡◌, ◌∙◌, ℕ, ◌<◌, ◌≤◌, ◌++◌, List, length, set, get_or, refl, ap, sym, subst, Some}
 use Rattle.std.specs.Prelude.{All, Vec, slice_get}
 use Rattle.std.specs.List.{AllZip}
 use Rattle.std.specs.declared.alloc.Global.{Global}

@@ -1,14 +1,13 @@
 -- The body of a script's thread (own).
-use Rattle.std.specs.Prelude.{◌≡◌, ℕ, nat_lt, if◌then◌else◌, List, [], ◌∷◌, ◌++◌, length, slice_get, Option, Some, None, option_and_then}
+use Rattle.std.specs.Prelude.{◌≡◌, nat_lt, if◌then◌else◌, List, [], ◌∷◌, ◌++◌, length, slice_get, Option, Some, None, option_and_then}
 use Rattle.lwkt_base.specs.declared.asks.Ask.{Ask}
 use Rattle.lwkt_base.specs.declared.asks.Answer.{Answer}
 use Rattle.lwkt_base.specs.declared.entries.Entry.{Entry}
 use Rattle.lwkt_base.specs.declared.limits.TheConstants.{LOG_LIMIT}
 use Rattle.lwkt_code.specs.declared.locals.Local.{Local}
 use Rattle.lwkt_code.specs.declared.steps.Step.{Step}
-use Rattle.lwkt_code.specs.declared.steps.Step.TheVariants.{Fixed}
 use Rattle.lwkt_code.specs.Answers.{last_step, logs}
-use Rattle.lwkt_code.specs.Next.{next}
+use Rattle.lwkt_code.specs.Next.{next, fixed_ask}
 use Rattle.lwkt_code.specs.Programs.{Program, start}
 use Rattle.lwkt_script.specs.Logs.{entry_of, failure_of}
 use Rattle.lwkt_machine.specs.declared.bodies.Said.{Said}
@@ -26,11 +25,6 @@ pub record Scripted : Type 0 where
 -- a body that was never polled
 abbrev pub unpolled : Program → Scripted
 unpolled program = record { program = program; local = start program; asked = None; heard = None; log = [] }
-
--- the ask that a step is, if it is the same each time
-abbrev pub fixed_ask : Step → Option Ask
-fixed_ask (Fixed ask) = Some ask
-fixed_ask _ = None
 
 -- the ask that is meant: one that stands among the steps, or another
 abbrev pub ask_said : List Step → Said → Option Ask

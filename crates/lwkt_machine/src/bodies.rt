@@ -1,19 +1,17 @@
 //! The bodies of a script's threads.
-ghost use Rattle.std.specs.Prelude.{◌≡◌, ◌<◌, ◌≤◌, List, length, false, IfOk, IfSome, Option, Some, None, option_and_then, slice_get};
+ghost use Rattle.std.specs.Prelude.{◌≡◌, ◌<◌, ◌≤◌, List, length, false, IfOk, Option, None, option_and_then};
 ghost use Rattle.std.specs.Option.{option_copied};
 ghost use Rattle.lwkt_base.specs.declared.asks.Ask.{Ask};
 ghost use Rattle.lwkt_code.specs.declared.locals.Local.{Local};
 ghost use Rattle.lwkt_code.specs.declared.steps.Step.{Step};
-ghost use Rattle.lwkt_code.specs.declared.steps.Step.TheVariants.{Fixed};
-ghost use Rattle.lwkt_code.specs.Next.{next};
 ghost use Rattle.lwkt_script.specs.Logs.{failure_of};
-ghost use Rattle.lwkt_machine.specs.Bodies.{unpolled, fixed_ask, ask_said, next_of, after_ask, after_hearing, entry_by, entry_kept, logged};
+ghost use Rattle.lwkt_machine.specs.Bodies.{unpolled, ask_said, next_of, after_ask, after_hearing, entry_by, entry_kept, logged};
 
 use crate::lasting::Lasting;
 use lwkt_base::limits::LOG_LIMIT;
 use lwkt_base::memory::with_capacity;
 use lwkt_base::{Answer, Ask, Entry, OutOfMemory};
-use lwkt_code::answers::take;
+use lwkt_code::moves::fixed_at;
 use lwkt_code::{Code, Local, Step};
 use lwkt_cpu::Body;
 use lwkt_script::{entry_of, failure_of};
@@ -58,17 +56,6 @@ impl Model for ScriptBody {
     ghost invariant = { λ b. (length b.log.items ≤ LOG_LIMIT) × (LOG_LIMIT ≤ vec_capacity b.log) };
 }
 
-// The ask that stands at a place of some steps, if it is the same each time.
-#[inline(always)]
-fn fixed_at(steps: &[Step], at: usize) -> Option<&Ask>
-    ensures { option_copied result ≡ option_and_then fixed_ask (slice_get steps.now at) }
-{
-    match steps.get(at) {
-        Some(Step::Fixed(ask)) => Some(ask),
-        _ => None,
-    }
-}
-
 // The ask that is meant.
 fn said_in<'a>(steps: &'a [Step], said: &'a Said) -> Option<&'a Ask>
     ensures { option_copied result ≡ ask_said steps.now said.now }
@@ -100,34 +87,6 @@ fn may_log(heard: &Option<Answer>) -> bool
     ensures { result ≡ false → (steps : List Step) (s : Local) (asked : Option Ask) → option_and_then (λ answer. entry_by steps s asked answer) heard.now ≡ None }
 {
     !matches!(heard, None | Some(Answer::Begin | Answer::Done))
-}
-
-// The ask that stands at a place of some steps, if it is the same each time and puts nothing in the log by itself.
-#[inline(always)]
-fn standing_at(steps: &[Step], at: usize) -> Option<&Ask>
-    ensures stands { IfSome (option_copied result) (λ ask. slice_get steps.now at ≡ Some (Fixed ask)) }
-    ensures quiet { IfSome (option_copied result) (λ ask. failure_of ask ≡ None) }
-{
-    match steps.get(at) {
-        Some(Step::Fixed(ask)) => if matches!(ask, Ask::Fail(_)) {
-            None
-        } else {
-            Some(ask)
-        },
-        _ => None,
-    }
-}
-
-// Goes on past the ask that stands where a thread stands, which is given the answer to the ask before.
-#[inline(always)]
-fn pass_fixed(steps: &[Step], local: &mut Local, last: &Answer)
-    requires { local.old.at < length steps.now }
-    ensures { (ask : Ask) → slice_get steps.now local.old.at ≡ Some (Fixed ask) → next steps.now local.old last.now ≡ (ask, local.new) }
-{
-    let at = local.at;
-    take(steps, local, last);
-    local.at = at + 1;
-    local.asked = true;
 }
 
 impl ScriptBody {
@@ -224,8 +183,9 @@ impl ScriptBody {
     }
 
     // Keeps what an ask puts in the log by itself, if the log has room.
+    #[inline(never)]
     #[tactic(auto, using(crate::proofs::BodyMoves::full_log))]
-    fn keep_failure(&mut self, ask: &Ask)
+    fn add_failure(&mut self, ask: &Ask)
         ensures { self.new ≡ record self.old { log = logged self.old.log (failure_of ask.now) } }
     {
         if self.log.len() >= LOG_LIMIT {
@@ -233,6 +193,16 @@ impl ScriptBody {
         }
         if let Some(entry) = failure_of(ask) {
             self.log.push(entry).unwrap();
+        }
+    }
+
+    // The same. Only an assertion that doesn't hold puts something there.
+    #[inline(always)]
+    fn keep_failure(&mut self, ask: &Ask)
+        ensures { self.new ≡ record self.old { log = logged self.old.log (failure_of ask.now) } }
+    {
+        if let Ask::Fail(_) = ask {
+            self.add_failure(ask);
         }
     }
 
@@ -248,28 +218,18 @@ impl ScriptBody {
         ask
     }
 
-    // Goes on past the ask that stands where the body stands, and keeps its place.
-    #[inline(always)]
-    fn pass(&mut self, last: &Answer)
-        requires { self.old.local.at < length self.old.program.steps }
-        ensures { (ask : Ask) → slice_get self.old.program.steps self.old.local.at ≡ Some (Fixed ask) → failure_of ask ≡ None → (ask ≡ (next_of self.old last.now).0) × (self.new ≡ after_ask last.now self.old) }
-    {
-        let at = self.local.at;
-        pass_fixed(self.code.steps(), &mut self.local, last);
-        self.asked = Said::Standing(at);
-    }
-
     // Goes on to the next ask. One that stands where the body stands is copied from there, and only its place is kept.
     #[inline(always)]
     fn ask_next(&mut self, last: &Answer) -> Ask
         ensures ask { result ≡ (next_of self.old last.now).0 }
         ensures goes { self.new ≡ after_ask last.now self.old }
     {
-        match standing_at(self.code.steps(), self.local.at) {
+        match self.code.pass(&mut self.local, last) {
             None => self.ask_any(last),
             Some(ask) => {
                 let ask = *ask;
-                self.pass(last);
+                self.asked = Said::Standing(self.local.at - 1);
+                self.keep_failure(&ask);
                 ask
             }
         }

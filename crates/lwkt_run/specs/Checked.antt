@@ -1,15 +1,18 @@
 -- A run of a script that was driven and checked (own).
-use Rattle.std.specs.Prelude.{◌≡◌, ℕ, List, ◌++◌, map, Option, IfSome}
+use Rattle.std.specs.Prelude.{◌≡◌, ℕ, Bool, List, ◌++◌, length, map, Option, IfSome}
 use Rattle.lwkt_core.specs.declared.events.Event.{Event}
 use Rattle.lwkt_core.specs.Opening.{AreWithin, AllOpenLawfully}
 use Rattle.lwkt_core.specs.Trace.{Closes}
+use Rattle.lwkt_machine.specs.Bodies.{Scripted}
+use Rattle.lwkt_machine.specs.Ended.{IsRoomFor}
+use Rattle.lwkt_machine.specs.declared.closings.CloseRoom.{CloseRoom}
 use Rattle.lwkt_report.specs.declared.closings.Verdict.{Verdict}
 use Rattle.lwkt_script.specs.declared.scripts.Script.{Script}
 use Rattle.lwkt_verdict.specs.declared.progress.Piece.{Piece}
-use Rattle.lwkt_verdict.specs.Follow.{Follow, AllAllow, AreShown, none_answered, EndsHere}
+use Rattle.lwkt_verdict.specs.Follow.{Follow, AllAllow, AreShown, none_answered, Begins, EndsHere}
 use Rattle.lwkt_verdict.specs.TurnParts.{after_all}
 use Rattle.lwkt_verdict.specs.Run.{AreListed, EndsRun}
-use Rattle.lwkt_run.specs.Driving.{pace_of}
+use Rattle.lwkt_run.specs.Driving.{DriverState, IsDriven, pace_of}
 use Rattle.lwkt_run.specs.Judging.{ids_of, IsVerdict}
 use Rattle.lwkt_run.specs.Keeping.{Story}
 use Rattle.lwkt_run.specs.Run.{opening_of_script, RunsBy, AreMadeOf}
@@ -17,6 +20,13 @@ use Rattle.lwkt_run.specs.Values.{AreValuesOf}
 use Rattle.lwkt_run.specs.declared.endings.Left.{Left}
 use Rattle.lwkt_run.specs.declared.rounds.Course.{Course}
 use Rattle.lwkt_run.specs.declared.rounds.Course.TheVariants.{Rounds, Along}
+
+-- a new check of a script followed the turns of a course that a machine made, or up to the one that it says no to; and the machine has room
+-- for its close
+pub record FollowsCourse (course : Course) (script : Script) (s t : DriverState) (fits : Bool) (room : CloseRoom Scripted) : Type 0 where
+  pub begins : Begins script.threads (opening_of_script script) s.follow
+  pub driven : IsDriven course fits s t
+  pub room_enough : IsRoomFor s.machine.bank s.machine.book (length s.machine.cpus) room
 
 -- a check that has followed a run says that it ends so: with what is left, and with these events of the stop
 pub record EndsSo (f : Follow) (left : Left) (stop : List Event) : Type 0 where

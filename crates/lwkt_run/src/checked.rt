@@ -1,10 +1,10 @@
 //! A run of a script that a check follows to its end, or up to the turn that it says no to.
 ghost use Rattle.std.specs.Prelude.{◌≡◌, ◌⊎◌, ◌↔◌, IsTrue, false, IfOk, IfErr, IfSome, OnOk};
 ghost use Rattle.lwkt_core.specs.Opening.{AreWithin, AllOpenLawfully};
-ghost use Rattle.lwkt_machine.specs.Scripts.{AreFew};
-ghost use Rattle.lwkt_verdict.specs.Follow.{Begins};
-ghost use Rattle.lwkt_run.specs.Checked.{EndsSo, DeclinesSo, LeavesChecked};
-ghost use Rattle.lwkt_run.specs.Driving.{IsCourseOf, HasTurns};
+ghost use Rattle.lwkt_machine.specs.Scripts.{AreFew, IsOpenedScript};
+ghost use Rattle.lwkt_verdict.specs.Follow.{Follow, Begins};
+ghost use Rattle.lwkt_run.specs.Checked.{FollowsCourse, EndsSo, DeclinesSo, LeavesChecked};
+ghost use Rattle.lwkt_run.specs.Driving.{IsCourseOf, HasTurns, driver_state};
 ghost use Rattle.lwkt_run.specs.Keeping.{no_story};
 ghost use Rattle.lwkt_run.specs.Run.{opening_of_script, DeclinesRun};
 
@@ -13,7 +13,7 @@ use crate::keepers::Keeper;
 use crate::rounds::{Course, drive};
 use lwkt_base::{Fault, OutOfMemory};
 use lwkt_core::{Event, State};
-use lwkt_machine::Machine;
+use lwkt_machine::{CloseRoom, Machine, ScriptBody};
 use lwkt_report::Verdict;
 use lwkt_script::Script;
 use lwkt_verdict::Follower;
@@ -90,6 +90,53 @@ fn verdict_of(
     }
 }
 
+// What a check made of the turns of a run, and the room in which the run's machine closes.
+#[derive(Drop)]
+struct Followed<'p> {
+    follower: Follower<'p>,
+    // Whether it followed them all.
+    fits: bool,
+    // How many events the turns have that it followed.
+    events: usize,
+    close_room: CloseRoom<ScriptBody>,
+}
+
+// Makes the turns of a course on a machine of the script that was just opened. The keeper takes each turn, and a new check follows them.
+fn follow<'p, K: Keeper>(
+    alloc: Global,
+    script: &'p Script,
+    course: Course<'_>,
+    machine: &mut Machine<ScriptBody>,
+    keeper: &mut K,
+) -> Result<Followed<'p>, Fault>
+    requires course { IsCourseOf script.now course }
+    requires opens { IsOpenedScript script.now machine.old }
+    requires within { AreWithin script.now.cpus script.now.tokens script.now.messages }
+    requires few { AreFew script.now.cpus script.now.threads }
+    ensures follows { IfOk result (λ f. (begun : Follow) × FollowsCourse course.entry script.now (driver_state machine.old (K.kept keeper.old) 0 begun) (driver_state machine.new (K.kept keeper.new) f.events f.follower) f.fits f.close_room) }
+    ensures refused { IfErr result (λ fault. DeclinesRun script.now fault) }
+{
+    let close_room = machine.room(alloc)?;
+    let opening = opened(alloc, script)?;
+    let mut follower = follower_of(alloc, script, opening)?;
+    let mut room = Vec::new(alloc);
+    let mut events = 0;
+    let fits = drive(
+        machine,
+        course,
+        &mut room,
+        &mut follower,
+        keeper,
+        &mut events,
+    )?;
+    Ok(Followed {
+        follower,
+        fits,
+        events,
+        close_room,
+    })
+}
+
 /// Runs a script along a course, which is one of it, and checks the run while it is made. The keeper, which has kept nothing yet, takes
 /// each turn. If the check says no, the machine is stopped and closed where it stands then.
 ///
@@ -107,19 +154,13 @@ pub fn checked_run<K: Keeper + Drop>(
 {
     let mut keeper = keeper;
     let mut machine = Machine::open_script(alloc, script)?;
-    let close_room = machine.room(alloc)?;
-    let opening = opened(alloc, script)?;
-    let mut follower = follower_of(alloc, script, opening)?;
-    let mut room = Vec::new(alloc);
-    let mut events = 0;
-    let fits = drive(
-        &mut machine,
-        course,
-        &mut room,
-        &mut follower,
-        &mut keeper,
-        &mut events,
-    )?;
+    let followed = follow(alloc, script, course, &mut machine, &mut keeper)?;
+    let Followed {
+        follower,
+        fits,
+        events,
+        close_room,
+    } = followed;
     let Remains { left, stops, .. } = left_by(alloc, script, machine, close_room)?;
     let follows = is_followed(fits, course);
     let verdict = verdict_of(follows, events, follower, &left, stops.as_slice());

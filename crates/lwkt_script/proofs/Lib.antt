@@ -6,3 +6,4 @@ pub mod Turns
 pub mod RecordTexts
 pub mod Levels
 pub mod Sizes
+pub mod Sayings

@@ -8,7 +8,7 @@ use Rattle.serde_json.specs.Read.{read}
 use Rattle.lwkt_base.specs.declared.asks.Ask.{Ask}
 use Rattle.lwkt_base.specs.declared.opening_specs.MsgSpec.{MsgSpec}
 use Rattle.lwkt_base.specs.declared.opening_specs.TokSpec.{TokSpec}
-use Rattle.lwkt_base.specs.declared.limits.TheConstants.{LAST_GENERATION, LAST_ROUND, MESSAGE_LIMIT, MOST_CPUS, MOST_IDLE, MOST_TURNS, SCRIPT_BYTES, STEP_LIMIT, THREAD_LIMIT, TOKEN_LIMIT}
+use Rattle.lwkt_base.specs.declared.limits.TheConstants.{LAST_GENERATION, LAST_ROUND, MESSAGE_LIMIT, MOST_CPUS, MOST_IDLE, MOST_REPEATS, MOST_TURNS, SCRIPT_BYTES, STEP_LIMIT, THREAD_LIMIT, TOKEN_LIMIT}
 use Rattle.lwkt_code.specs.Programs.{Program, listed_program}
 use Rattle.lwkt_script.specs.declared.scripts.Script.{Script}
 use Rattle.lwkt_script.specs.declared.scripts.ThreadSpec.{ThreadSpec}
@@ -89,7 +89,7 @@ thread version cpus before d = do
   let place = 3000 + length before
   demand place (has_members (thread_members version) d)
   cpu ← part place (number_in (codes "cpu") 0 (cpus - 1) d)
-  repeat ← part place (number_in (codes "repeat") 1 1000000 d)
+  repeat ← part place (number_in (codes "repeat") 1 MOST_REPEATS d)
   service ← part place (service_in version d)
   vars ← part place (vars_in version d)
   items ← part place (list_in (codes "steps") d)

@@ -3,6 +3,7 @@ use Rattle.std.specs.Prelude.{ℕ, zero, suc, ◌+◌, min, List, codes, Bool, t
 use Rattle.serde_json.specs.Data.{Data, Items, no_items, item}
 use Rattle.serde_json.specs.Find.{at, as_str, as_array}
 use Rattle.serde_json.specs.View.{items_view}
+use Rattle.lwkt_base.specs.declared.limits.TheConstants.{MOST_REPEATS}
 use Rattle.lwkt_code.specs.declared.steps.Step.{Step}
 use Rattle.lwkt_code.specs.declared.steps.Step.TheVariants.{Unless, Goto, Count, Again}
 use Rattle.lwkt_code.specs.declared.steps.Test.TheVariants.{If, While}
@@ -96,7 +97,7 @@ while_frame size scope i j d = do
 
 -- how many times the list of a `times` is made
 abbrev pub times_at : Data → Option ℕ
-times_at d = at 1 d >>= number 1 1000000
+times_at d = at 1 d >>= number 1 MOST_REPEATS
 
 -- `times`: its count is the number of those that it stands in
 abbrev pub times_frame : (Items → ℕ) → Scope → ℕ → ℕ → Data → Option Nest

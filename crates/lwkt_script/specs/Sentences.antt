@@ -1,6 +1,8 @@
 -- The program that the sentences of a thread of version 3 make (own).
 use Rattle.std.specs.Prelude.{ℕ, zero, suc, ◌+◌, ◌*◌, nat_lt, nat_le, List, [], ◌∷◌, ◌++◌, length, if◌then◌else◌, Option, Some, None, unwrap_or, slice_get, Result, Ok, Err, ⊤}
 use Rattle.serde_json.specs.Data.{Data, Items, no_items, item}
+use Rattle.lwkt_base.specs.declared.limits.TheConstants.{STEP_LIMIT}
+use Rattle.lwkt_code.specs.declared.circles.TheConstants.{MOST_STEPS}
 use Rattle.lwkt_code.specs.declared.steps.Step.{Step}
 use Rattle.lwkt_code.specs.declared.codes.Wrong.{Wrong}
 use Rattle.lwkt_code.specs.declared.codes.Wrong.TheVariants.{TooMany, Step as StepIsWrong, Circle}
@@ -54,13 +56,13 @@ plain n scope draft word d = part (place n draft.said) (plain_step scope word d)
 -- the next sentence of thread n, of at most 256
 abbrev pub sentence : (Scope → Draft → Items → Result Draft ℕ) → (Items → ℕ) → ℕ → Scope → Draft → Data → Result Draft ℕ
 sentence inside size n scope draft d = do
-  demand (3000 + n) (nat_lt draft.said 256)
+  demand (3000 + n) (nat_lt draft.said STEP_LIMIT)
   word ← part (place n draft.said) (sentence_word d)
   if holds_others word then nested inside size n scope draft word d else plain n scope draft word d
 
 -- a sentence that stands too deep
 abbrev pub too_deep : ℕ → Draft → Result Draft ℕ
-too_deep n draft = demand (3000 + n) (nat_lt draft.said 256) >> Err (place n draft.said)
+too_deep n draft = demand (3000 + n) (nat_lt draft.said STEP_LIMIT) >> Err (place n draft.said)
 
 -- sentences one after another
 abbrev pub in_turn : (Draft → Data → Result Draft ℕ) → Draft → Items → Result Draft ℕ
@@ -88,7 +90,7 @@ none_wrong n told lines (Some at) = Err (place n (told (told_at lines at)))
 -- the program of steps: none is wrong by itself, and no loop without an ask
 unfoldable pub checked : ℕ → ℕ → List ℕ → Draft → Result Program ℕ
 checked n repeat vars draft = do
-  demand (3000 + n) (nat_le (length draft.steps) 768)
+  demand (3000 + n) (nat_le (length draft.steps) MOST_STEPS)
   none_wrong n (λ line. line.sentence) draft.lines (first_flaw draft.steps)
   none_wrong n (λ line. line.round) draft.lines (first_circle draft.steps)
   Ok (record { steps = draft.steps; repeat = repeat; vars = vars })

@@ -7,6 +7,7 @@ use crate::fields::{has_items, number};
 use crate::scopes::Scope;
 use crate::wishes::{cond_at, simple_step};
 use lwkt_base::OutOfMemory;
+use lwkt_base::limits::MOST_REPEATS;
 use lwkt_code::{Jump, Step, Test};
 use serde_json::Value;
 use std::alloc::Global;
@@ -229,7 +230,7 @@ fn while_frame(
 fn times_at(value: &Value) -> Option<u32>
     ensures { result ≡ times_at (view value.now) }
 {
-    match number(value.get(1usize)?, 1, 1_000_000) {
+    match number(value.get(1usize)?, 1, MOST_REPEATS) {
         None => None,
         Some(k) => Some(k as u32),
     }

@@ -25,6 +25,6 @@ pub struct ThreadSpec {
     pub cpu: CpuId,
     /// Whether it serves others, and need not end.
     pub service: bool,
-    /// What the thread asks for: at most 768 steps, made 1 to 1000000 times over. Of versions 1 and 2 at most 256 asks, in order.
+    /// What the thread asks for: at most 256 sentences, of at most 768 steps, made 1 to 1000000 times over. Of versions 1 and 2 each is an ask.
     pub code: Code,
 }

@@ -1,6 +1,8 @@
 //! The program that the sentences of a thread of version 3 make.
 ghost use Rattle.std.specs.Prelude.{◌≡◌, ◌≤◌, ◌+◌, length, IfOk};
 ghost use Rattle.serde_json.specs.View.{view, items_view};
+ghost use Rattle.lwkt_code.specs.declared.circles.TheConstants.{MOST_STEPS};
+ghost use Rattle.lwkt_script.specs.Limits.{sentences_in};
 ghost use Rattle.lwkt_script.specs.Outcome.{Gives};
 ghost use Rattle.lwkt_script.specs.Frames.{size_in, nest_of};
 ghost use Rattle.lwkt_script.specs.Sentences.{place, outermost, one_said, frame_read, sentence, too_deep, turn, sentences, told_at, wrong_place, program};
@@ -30,7 +32,7 @@ fn outermost() -> Scope
 
 // One sentence more.
 fn one_said(draft: Draft) -> Draft
-    requires { draft.said ≤ 256 }
+    requires { draft.said ≤ STEP_LIMIT }
     ensures { result ≡ one_said draft }
 {
     Draft {
@@ -53,7 +55,7 @@ fn frame_read(
     requires said { draft.said ≤ 255 }
     requires times { frame.scope.times + deep ≤ 9 }
     ensures exact { Gives (λ d. d) result (frame_read (sentences deep n) draft.said (nest_of frame.entry) draft) }
-    ensures said { IfOk result (λ d. d.said ≤ 256) }
+    ensures said { IfOk result (λ d. d.said ≤ STEP_LIMIT) }
 {
     let Frame {
         head,
@@ -90,10 +92,10 @@ fn sentence(
     value: &Value,
 ) -> Result<Draft, Fault>
     requires thread { n ≤ 128 }
-    requires said { draft.said ≤ 256 }
+    requires said { draft.said ≤ STEP_LIMIT }
     requires times { scope.times + deep ≤ 8 }
     ensures exact { Gives (λ d. d) result (sentence (sentences deep n) (size_in deep) n scope draft (view value.now)) }
-    ensures said { IfOk result (λ d. d.said ≤ 256) }
+    ensures said { IfOk result (λ d. d.said ≤ STEP_LIMIT) }
 {
     if draft.said as usize >= STEP_LIMIT {
         return Err(Fault::Script { place: 3000 + n });
@@ -120,7 +122,7 @@ fn sentence(
 // A sentence that stands too deep.
 fn too_deep(n: u32, draft: Draft) -> Result<Draft, Fault>
     requires thread { n ≤ 128 }
-    requires said { draft.said ≤ 256 }
+    requires said { draft.said ≤ STEP_LIMIT }
     ensures { Gives (λ d. d) result (too_deep n draft) }
 {
     if draft.said as usize >= STEP_LIMIT {
@@ -143,10 +145,10 @@ fn turn(
     value: &Value,
 ) -> Result<Draft, Fault>
     requires thread { n ≤ 128 }
-    requires said { draft.said ≤ 256 }
+    requires said { draft.said ≤ STEP_LIMIT }
     requires times { scope.times + deep ≤ 9 }
     ensures exact { Gives (λ d. d) result (turn deep n scope draft (view value.now)) }
-    ensures said { IfOk result (λ d. d.said ≤ 256) }
+    ensures said { IfOk result (λ d. d.said ≤ STEP_LIMIT) }
 {
     if deep == 0 {
         return too_deep(n, draft);
@@ -165,10 +167,10 @@ fn sentences(
     items: &[Value],
 ) -> Result<Draft, Fault>
     requires thread { n ≤ 128 }
-    requires said { draft.said ≤ 256 }
+    requires said { draft.said ≤ STEP_LIMIT }
     requires times { scope.times + deep ≤ 9 }
     ensures exact { Gives (λ d. d) result (sentences deep n scope draft (items_view items.now)) }
-    ensures said { IfOk result (λ d. d.said ≤ 256) }
+    ensures said { IfOk result (λ d. d.said ≤ STEP_LIMIT) }
 {
     let mut next = draft;
     for item in items {
@@ -218,7 +220,8 @@ pub fn program_of(
 ) -> Result<Code, Fault>
     requires { n ≤ 128 }
     ensures exact { Gives (λ c. c) result (program n repeat vars (items_view items.now)) }
-    ensures few { IfOk result (λ c. length c.steps ≤ 768) }
+    ensures few { IfOk result (λ c. length c.steps ≤ MOST_STEPS) }
+    ensures said { IfOk result (λ c. sentences_in c.steps ≤ STEP_LIMIT) }
     ensures repeats { IfOk result (λ c. c.repeat ≡ repeat) }
 {
     let draft = sentences(alloc, LEVELS, n, outermost(), Draft::new(alloc), items)?;

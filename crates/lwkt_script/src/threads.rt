@@ -1,8 +1,9 @@
 ghost use Rattle.std.specs.Prelude.{◌≡◌, ℕ, All, ◌<◌, ◌≤◌, [], length, IfOk};
 ghost use Rattle.serde_json.specs.View.{view, items_view};
+ghost use Rattle.lwkt_code.specs.declared.circles.TheConstants.{MOST_STEPS};
 ghost use Rattle.lwkt_script.specs.Outcome.{Gives, each};
 ghost use Rattle.lwkt_script.specs.Format.{threads_on, has_room, listed_code, code, thread};
-ghost use Rattle.lwkt_script.specs.Limits.{IsThread};
+ghost use Rattle.lwkt_script.specs.Limits.{IsThread, sentences_in};
 
 use crate::fields::{has_members, list_at, number_at};
 use crate::scripts::ThreadSpec;
@@ -32,7 +33,7 @@ fn has_room(before: &[ThreadSpec], cpu: u8, steps: usize) -> bool
 }
 
 // The program of a list of asks of thread n.
-#[tactic(auto, using(crate::proofs::Counts::listed_few))]
+#[tactic(auto, using(crate::proofs::Counts::listed_few, crate::proofs::Sayings::listed_said))]
 fn listed(
     alloc: Global,
     version: Version,
@@ -41,9 +42,10 @@ fn listed(
     items: &[Value],
 ) -> Result<Code, Fault>
     requires thread { n ≤ 128 }
-    requires steps { length items.now ≤ 256 }
+    requires steps { length items.now ≤ STEP_LIMIT }
     ensures exact { Gives (λ c. c) result (listed_code version n repeat (items_view items.now)) }
-    ensures few { IfOk result (λ c. length c.steps ≤ 768) }
+    ensures few { IfOk result (λ c. length c.steps ≤ MOST_STEPS) }
+    ensures said { IfOk result (λ c. sentences_in c.steps ≤ STEP_LIMIT) }
     ensures repeats { IfOk result (λ c. c.repeat ≡ repeat) }
 {
     let asks = steps_of(alloc, version, n, items)?;
@@ -61,9 +63,10 @@ fn code_of(
     items: &[Value],
 ) -> Result<Code, Fault>
     requires thread { n ≤ 128 }
-    requires steps { length items.now ≤ 256 }
+    requires steps { length items.now ≤ STEP_LIMIT }
     ensures exact { Gives (λ c. c) result (code version n repeat vars (items_view items.now)) }
-    ensures few { IfOk result (λ c. length c.steps ≤ 768) }
+    ensures few { IfOk result (λ c. length c.steps ≤ MOST_STEPS) }
+    ensures said { IfOk result (λ c. sentences_in c.steps ≤ STEP_LIMIT) }
     ensures repeats { IfOk result (λ c. c.repeat ≡ repeat) }
 {
     match version {

@@ -1,5 +1,6 @@
 -- Sentences that hold others, and where the steps that they begin and end lead (own, version 3).
 use Rattle.std.specs.Prelude.{ℕ, ◌+◌, ◌-◌, ◌==◌, ◌&&◌, ◌||◌, min, List, [], ◌∷◌, length, drop, count_by, slice_get, Bool, true, false, if◌then◌else◌, Option, Some, None, option_and_then}
+use Rattle.lwkt_code.specs.declared.circles.TheConstants.{MOST_STEPS}
 use Rattle.lwkt_code.specs.declared.steps.Jump.TheVariants.{Else, Back, Break, Loop, End}
 use Rattle.lwkt_code.specs.declared.steps.Step.{Step}
 use Rattle.lwkt_code.specs.declared.steps.Step.TheVariants.{Unless, Goto, Count, Again, Assert}
@@ -60,9 +61,9 @@ numbered blocks steps step = step
 
 -- what a step behind so many others begins, whose sentence stands there
 abbrev pub block_of : ℕ → ℕ → Step → Block
-block_of steps at (Unless If c to) = record { back = min steps 768; at = at; kind = opened.If }
-block_of steps at (Count k n) = record { back = min steps 768 + 1; at = at; kind = opened.Times k }
-block_of steps at _ = record { back = min steps 768; at = at; kind = opened.Round }
+block_of steps at (Unless If c to) = record { back = min steps MOST_STEPS; at = at; kind = opened.If }
+block_of steps at (Count k n) = record { back = min steps MOST_STEPS + 1; at = at; kind = opened.Times k }
+block_of steps at _ = record { back = min steps MOST_STEPS; at = at; kind = opened.Round }
 
 -- the step that ends a sentence
 abbrev pub ending : Opened → ℕ → Step

@@ -1,6 +1,7 @@
 -- What the sentences of a text say, one after the other (own).
 use Rattle.lwkt_base.specs.declared.limits.TheConstants.{MESSAGE_LIMIT, STEP_LIMIT, THREAD_LIMIT, TOKEN_LIMIT}
 use Rattle.std.specs.Prelude.{ℕ, ◌+◌, ◌-◌, ◌==◌, ◌&&◌, ◌||◌, nat_lt, Bool, true, not, List, [], ◌∷◌, ◌++◌, length, map, take, replicate, slice_get, slice_set, codes, false, if◌then◌else◌, Option, Some, None, is_some, is_none, unwrap_or, ⊤, Result, Ok, Err}
+use Rattle.lwkt_code.specs.declared.circles.TheConstants.{MOST_STEPS}
 use Rattle.lwkt_code.specs.Firsts.{first_flaw, first_circle}
 use Rattle.lwkt_code.specs.Programs.{Program, listed_program}
 use Rattle.lwkt_code.specs.declared.codes.Wrong.{Wrong as CodeWrong}
@@ -53,7 +54,7 @@ none_wrong what told lines (Some at) = Err (record { at = told (line_at lines at
 -- why steps aren't a program: a step that is wrong though its sentence is right counts in too many others, and a loop without an ask is told
 -- at the loop
 abbrev pub told_of : List Line → CodeWrong → Wrong
-told_of lines TooMany = record { at = (line_at lines 768).at; what = whats.Crowd }
+told_of lines TooMany = record { at = (line_at lines MOST_STEPS).at; what = whats.Crowd }
 told_of lines (StepIsWrong at flaw) = record { at = (line_at lines at).at; what = whats.Deep }
 told_of lines (Circle begin end) = record { at = (line_at lines begin).round; what = whats.Silent }
 
@@ -63,7 +64,7 @@ checked_program lines steps repeat vars = none_wrong whats.Deep (λ l. l.at) lin
 
 -- the program that was said, of at most 768 steps
 abbrev pub program_of : Head → Draft → Result Program Wrong
-program_of h d = if nat_lt 768 (length d.steps) then Err (record { at = (line_at d.lines 768).at; what = whats.Crowd }) else checked_program d.lines (linked 0 d.steps) h.repeat d.held
+program_of h d = if nat_lt MOST_STEPS (length d.steps) then Err (record { at = (line_at d.lines MOST_STEPS).at; what = whats.Crowd }) else checked_program d.lines (linked 0 d.steps) h.repeat d.held
 
 -- what was said of a thread; what it does is known only where nothing is wrong
 abbrev pub thread_read : Head → Draft → Result Program Wrong

@@ -3,7 +3,7 @@ use Rattle.std.specs.Prelude.{ℕ, ◌<◌, ◌≤◌, List, length, All, Option
 use Rattle.lwkt_base.specs.declared.limits.TheConstants.{MESSAGE_LIMIT, MOST_IDLE, MOST_REPEATS, MOST_TURNS, THREAD_LIMIT, TOKEN_LIMIT}
 use Rattle.lwkt_script.specs.declared.scripts.ThreadSpec.{ThreadSpec}
 use Rattle.lwkt_script.specs.Format.{threads_on}
-use Rattle.lwkt_script.specs.Limits.{IsToken, IsMessage, IsThread}
+use Rattle.lwkt_script.specs.Limits.{IsToken, IsMessage, IsThread, AreCounted}
 use Rattle.lwkt_text.specs.declared.drafts.Draft.{Draft}
 use Rattle.lwkt_text.specs.declared.declarations.Head.{Head}
 use Rattle.lwkt_text.specs.declared.sayings.Said.{Said}
@@ -44,3 +44,4 @@ pub record IsDraft (cpus : ℕ) (d : Draft) : Type 0 where
   pub threads : All (IsThread cpus) d.threads
   pub few_threads : (cpu : ℕ) → threads_on cpu d.threads ≤ THREAD_LIMIT
   pub head : HasRoomBehind cpus d.threads d.head
+  pub said : AreCounted d.steps d.said

@@ -2,7 +2,7 @@
 ghost use Rattle.std.specs.Prelude.{◌≡◌, ◌+◌, ◌≤◌, ◌<◌, count_by, drop, length, option_and_then, slice_get};
 ghost use Rattle.lwkt_text.specs.Blocks.{is_round, is_times, round_in, times_in, is_assertion, numbered, is_if, end_of, opens, closes, ends_round, ends_arm, deeper, lands, found, aim_of, aim_in, aimed, block_of, linked};
 
-use lwkt_code::{Jump, Step, Test};
+use lwkt_code::{Jump, MOST_STEPS, Step, Test};
 
 /// What a sentence that isn't ended yet is.
 #[derive(Clone, Copy)]
@@ -119,7 +119,7 @@ pub fn numbered(blocks: &[Block], steps: &[Step], step: Step) -> Step
 pub fn block_of(steps: usize, at: usize, step: &Step) -> Block
     ensures { result ≡ block_of steps at step.now }
 {
-    let begin = steps.min(768);
+    let begin = steps.min(MOST_STEPS);
     match step {
         Step::Unless(Test::If, _, _) => Block {
             back: begin,
@@ -225,8 +225,8 @@ fn lands(step: &Step, at: usize) -> usize
 
 // Where a way goes on that leaves a loop, or a list of an `if`, in which these steps stand, the first of them at a place.
 fn found(is_loop: bool, at: usize, steps: &[Step]) -> usize
-    requires few { length steps.now ≤ 768 }
-    requires start { at ≤ 768 }
+    requires few { length steps.now ≤ MOST_STEPS }
+    requires start { at ≤ MOST_STEPS }
     ensures { result ≡ found is_loop at 0 steps.now }
 {
     let mut depth = 0usize;
@@ -246,8 +246,8 @@ fn found(is_loop: bool, at: usize, steps: &[Step]) -> usize
 
 // Where a step at a place leads, if that depends on the steps behind it.
 fn aim_of(at: usize, step: &Step, behind: &[Step]) -> Option<usize>
-    requires few { length behind.now ≤ 768 }
-    requires start { at < 768 }
+    requires few { length behind.now ≤ MOST_STEPS }
+    requires start { at < MOST_STEPS }
     ensures { result ≡ aim_of at step.now behind.now }
 {
     match step {
@@ -277,7 +277,7 @@ fn aim_step(step: &mut Step, to: Option<usize>)
 
 // Where the step at a place of a list leads, if that depends on the steps behind it.
 fn aim_in(steps: &[Step], at: usize) -> Option<usize>
-    requires few { length steps.now ≤ 768 }
+    requires few { length steps.now ≤ MOST_STEPS }
     requires there { at < length steps.now }
     ensures { result ≡ aim_in steps.now at }
 {
@@ -286,7 +286,7 @@ fn aim_in(steps: &[Step], at: usize) -> Option<usize>
 
 /// Lets each step lead where it has to.
 pub fn link(steps: &mut [Step])
-    requires { length steps.old ≤ 768 }
+    requires { length steps.old ≤ MOST_STEPS }
     ensures { steps.new ≡ linked 0 steps.old }
 {
     for at in 0..steps.len() {

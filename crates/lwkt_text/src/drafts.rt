@@ -101,7 +101,7 @@ fn told_of(lines: &[Line], wrong: CodeWrong) -> Wrong
 // The program of steps, linked.
 #[tactic(auto, using(crate::proofs::Ending::clear_read, crate::proofs::Ending::wrong_read))]
 fn program_of(steps: Many<Step>, lines: &[Line], repeat: u32, vars: [u64; 8]) -> Result<Code, Slip>
-    requires { length steps ≤ 768 }
+    requires { length steps ≤ MOST_STEPS }
     ensures { IsAsRead result (checked_program lines.now (linked 0 steps) repeat vars) }
 {
     let mut list = steps.into_vec();

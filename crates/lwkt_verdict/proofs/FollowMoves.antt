@@ -1,5 +1,5 @@
-use Rattle.std.proofs.Common.{inl, inr, zero, suc, ◌≡◌, ℕ, ◌+◌, ◌*◌, ◌/◌, ◌%◌, ◌<◌, ◌≤◌, ◌==◌, List, [], ◌∷◌, ◌++◌, length, get_or, take, drop, refl, sym, ap, ◌∙◌, subst, arith, Option, Some, None, length-append}
-use Rattle.std.specs.Prelude.{Bool, true, false, slice_get, slice_set, if◌then◌else◌, MatchOption, All, is_some, option_map, Result, Ok, Err, IfOk}
+use Rattle.std.proofs.Common.{inl, inr, zero, suc, ◌≡◌, ℕ, ◌+◌, ◌*◌, ◌/◌, ◌%◌, ◌<◌, ◌≤◌, List, [], ◌∷◌, ◌++◌, length, get_or, take, drop, refl, sym, ap, ◌∙◌, subst, arith, Option, Some, None}
+use Rattle.std.specs.Prelude.{true, false, slice_get, slice_set, if◌then◌else◌, MatchOption, All, is_some, option_map, Result, Ok, Err, IfOk}
 use Rattle.std.proofs.lemmas.Bool.{cases_eq, cases_lt, eq-eqb, ne_eqb}
 use Rattle.std.proofs.lemmas.List.{take_at}
 use Rattle.std.proofs.lemmas.Option.{none-some, slice_get-get_or}
@@ -19,11 +19,11 @@ use Rattle.lwkt_verdict.specs.declared.progress.Piece.{Piece}
 use Rattle.lwkt_verdict.specs.Owns.{has_blocked}
 use Rattle.lwkt_verdict.specs.Asks.{may_answer}
 use Rattle.lwkt_verdict.specs.TurnParts.{after_all, GoesQuietly, IsPartOf}
-use Rattle.lwkt_verdict.specs.Threads.{slot_of, asked_in, asked_by, plan_of_thread, program_of, line_of, told, progress_after, MayAsk, IsLogged, Rests, EndsAsShown}
+use Rattle.lwkt_verdict.specs.Threads.{slot_of, plan_of_thread, program_of, line_of, told, progress_after, MayAsk, IsLogged, Rests, EndsAsShown}
 use Rattle.lwkt_verdict.specs.Run.{piece, came, came_by, asked_of_poll, PollFits, TurnFits, Idles, AreListed}
 use Rattle.lwkt_verdict.specs.Follow.{Awaited, Known, Follow, is_expected, asked_so, steps_of, entry_so, come, Bears, AllBear, Allows, AllAllow, AreShown, AreThreads, answered_at, none_answered, poll_so, GoesOnByPoll, DeclinesPoll, GoesOnUnasked, DeclinesUnasked, EndsHere, DeclinesEnd}
 use Rattle.lwkt_verdict.proofs.KnownMoves.{told_is, back_of, unpolled_allows}
-use Rattle.lwkt_verdict.specs.Followed.{log_so, unpolled, next_so, IsPolled, MayHear, MayAskNext, MayBePolled, IsKept, MayRest, AllowsRest, MayNotRest, IsEnded, MayEnd, AllThreads, AllPairs, KeepsPlans, AreKept, MayAllRest, AllowAllRest, OneMayNotRest}
+use Rattle.lwkt_verdict.specs.Followed.{log_so, unpolled, next_so, IsPolled, MayHear, MayBePolled, IsKept, MayRest, AllowsRest, MayNotRest, IsEnded, MayEnd, AllThreads, AllPairs, KeepsPlans, AreKept, MayAllRest, AllowAllRest, OneMayNotRest}
 use Rattle.lwkt_verdict.proofs.EndMoves.{slot_cpu}
 use Rattle.lwkt_verdict.proofs.ShowMoves.{came_other, came_next, asked_here, asked_there, get_set, get_set_other}
 

@@ -8,7 +8,6 @@ use Rattle.lwkt_base.specs.declared.asks.Ask.TheVariants.{Exit, Fail}
 use Rattle.lwkt_base.specs.declared.asks.Answer.{Answer}
 use Rattle.lwkt_base.specs.declared.asks.Answer.TheVariants.{Begin, Done, Value, Bytes, Dropped, Got, NoMsg, Refused}
 use Rattle.lwkt_base.specs.declared.entries.Entry.{Entry}
-use Rattle.lwkt_code.specs.declared.locals.Local.{Local}
 use Rattle.lwkt_code.specs.Next.{next, asks_by}
 use Rattle.lwkt_code.specs.Programs.{Program, start}
 use Rattle.lwkt_core.specs.declared.events.Event.{Event}

@@ -23,8 +23,8 @@ use Rattle.lwkt_core.specs.Machine.{Machine}
 use Rattle.lwkt_verdict.specs.declared.progress.Asked.{Asked}
 use Rattle.lwkt_verdict.specs.declared.progress.Progress.{Progress}
 use Rattle.lwkt_verdict.specs.Owns.{has_blocked}
-use Rattle.lwkt_verdict.specs.Threads.{program_of, told, logged_by, may_end, EndsAs, EndsAsShown}
-use Rattle.lwkt_verdict.specs.Follow.{Awaited, Known, is_expected, asked_so, steps_of, entry_so, come, Bears, Allows}
+use Rattle.lwkt_verdict.specs.Threads.{told, logged_by, may_end, EndsAs, EndsAsShown}
+use Rattle.lwkt_verdict.specs.Follow.{Awaited, Known, is_expected, asked_so, steps_of, entry_so, come, Allows}
 use Rattle.lwkt_verdict.specs.Followed.{log_with, log_so, awaited, unpolled, told_so, next_so, Hears, Moves, after_asking, Asks, MayAskNext, MayBePolled, IsPolled, IsKept, AllowsRest, MayNotRest, IsEnded, MayEnd}
 
 -- a test of two numbers in order, and not in order
@@ -149,21 +149,11 @@ is_polled m heard asked part old mid gone_on new few hears moves asks =
       unblocked = asks.unblocked;
     })
 
--- what a thread asks that heard this
-next_is : (heard : Answer) (asked : Ask) (t : Known) (o : Option ThreadSpec) → MatchOption o ⊥ (λ plan. asked ≡ (next_so t heard).0) → asked ≡ (next_so t heard).0
-next_is heard asked t None next_ask = absurd next_ask
-next_is heard asked t (Some plan) next_ask = next_ask
-
--- a thread whose next ask is another one can't be polled so
-pub other_asked : (m : Machine) (heard : Answer) (asked ask : Ask) (part : List Event) (old mid gone_on : Known) → Hears heard old mid → Moves heard ask mid gone_on → (ask ≡ asked → ⊥) → MayBePolled m heard asked part old → ⊥
-other_asked m heard asked ask part old mid gone_on hears moves apart may =
-    apart (moves.asks ∙ ap (λ (t : Known). (next_so t heard).0) hears.logged ∙ sym (next_is heard asked old old.plan may.asks))
-
--- a thread that isn't there can't be polled
-pub none_polled : (m : Machine) (heard : Answer) (asked : Ask) (part : List Event) (t : Known) → t.plan ≡ None → MayBePolled m heard asked part t → ⊥
-none_polled m heard asked part t none may =
-    let F : Option ThreadSpec → Type 0 = λ o. MatchOption o ⊥ (λ plan. asked ≡ (next_so t heard).0) in
-    subst F none may.asks
+-- a thread that has this ask not next, since it isn't there or has another one, can't be polled so
+pub other_asked : (m : Machine) (heard : Answer) (asked : Ask) (part : List Event) (old mid : Known) → Hears heard old mid → (MayAskNext heard asked mid → ⊥) → MayBePolled m heard asked part old → ⊥
+other_asked m heard asked part old mid hears apart may =
+    let Next : Known → Type 0 = λ t. MayAskNext heard asked t in
+    apart (subst Next (sym hears.logged) may.asks)
 
 -- a log that is full gets no entry, and none where none is made
 pub full_log : (log : List Entry) (o : Option Entry) → 32 ≤ length log → log ≡ log_with log o

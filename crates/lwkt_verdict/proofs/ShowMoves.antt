@@ -4,7 +4,6 @@ use Rattle.std.specs.Option.{option_map_or}
 use Rattle.std.proofs.lemmas.List.{length_push}
 use Rattle.lwkt_base.specs.declared.entries.Entry.{Entry}
 use Rattle.lwkt_base.specs.declared.asks.Ask.{Ask}
-use Rattle.lwkt_base.specs.declared.asks.Answer.{Answer}
 use Rattle.lwkt_code.specs.declared.locals.Local.{Local}
 use Rattle.lwkt_code.specs.declared.steps.Step.{Step}
 use Rattle.lwkt_code.specs.Next.{next, local_after, asks_by}

@@ -6,7 +6,6 @@ ghost use Rattle.lwkt_verdict.specs.Threads.{plan_of_thread, line_of};
 ghost use Rattle.lwkt_verdict.specs.Follow.{Follow, Begins, GoesOnByPoll, DeclinesPoll, GoesOnUnasked, DeclinesUnasked, EndsHere, DeclinesEnd, AreThreads};
 ghost use Rattle.lwkt_verdict.specs.Followed.{unpolled, IsPolled, MayBePolled, IsKept, MayRest, IsEnded, MayEnd, AllThreads, KeepsPlans, AreKept, MayAllRest, AllowAllRest, OneMayNotRest};
 
-use crate::asks::is_same;
 use crate::followed::Followed;
 use crate::plans::{find_line, find_thread};
 use crate::rounds::are_listed;
@@ -102,10 +101,7 @@ fn asks(
     if !followed.hear(heard)? {
         return Ok(false);
     }
-    let Some(ask) = followed.next_ask(heard) else {
-        return Ok(false);
-    };
-    Ok(is_same(&ask, asked) && followed.go_on(state, asked, part))
+    Ok(followed.asks_next(heard, asked) && followed.go_on(state, asked, part))
 }
 
 // Whether each thread of a processor rests.

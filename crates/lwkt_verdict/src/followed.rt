@@ -1,16 +1,17 @@
 //! What a check that follows a run knows of a thread.
-ghost use Rattle.std.specs.Prelude.{◌≡◌, ℕ, ◌<◌, ◌↔◌, ◌≤◌, ◌++◌, ◌∷◌, [], IsTrue, true, false, length, Option, Some, None, is_some, option_and_then, IfOk, IfSome, OnOk, option_map};
+ghost use Rattle.std.specs.Prelude.{◌≡◌, ◌≢◌, ℕ, ◌<◌, ◌↔◌, ◌≤◌, ◌++◌, ◌∷◌, [], IsTrue, true, false, length, Option, Some, None, is_some, option_and_then, IfOk, IfSome, OnOk, option_map};
 ghost use Rattle.std.specs.Option.{option_copied};
 ghost use Rattle.lwkt_code.specs.Answers.{last_step, logs};
+ghost use Rattle.lwkt_code.specs.Next.{next};
 ghost use Rattle.lwkt_code.specs.Programs.{start};
 ghost use Rattle.lwkt_script.specs.Logs.{failure_of};
 ghost use Rattle.lwkt_verdict.specs.Threads.{program_of, logged_by, may_end};
 ghost use Rattle.lwkt_verdict.specs.Follow.{Awaited, Known, is_expected, come};
 ghost use Rattle.lwkt_base.specs.declared.asks.Ask.{Ask};
-ghost use Rattle.lwkt_verdict.specs.Followed.{unpolled, log_with, Hears, Moves, Asks, MayHear, IsKept, MayRest, AllowsRest, MayNotRest, IsEnded, MayEnd};
+ghost use Rattle.lwkt_verdict.specs.Followed.{unpolled, log_with, Hears, Moves, Asks, MayHear, MayAskNext, IsKept, MayRest, AllowsRest, MayNotRest, IsEnded, MayEnd};
 ghost use Rattle.lwkt_verdict.specs.TurnParts.{after_all, IsPartOf};
 
-use crate::asks::may_answer;
+use crate::asks::{is_same as is_same_ask, may_answer};
 use crate::expected::Expected;
 use crate::owns::has_blocked;
 use crate::progress::{is_same, may_end_after};
@@ -18,7 +19,7 @@ use crate::turn_parts::goes_by_ask;
 use lwkt_base::limits::LOG_LIMIT;
 use lwkt_base::memory::push;
 use lwkt_base::{Answer, Ask, Entry, OutOfMemory, ThreadLine, ThreadState};
-use lwkt_code::Local;
+use lwkt_code::{Code, Local};
 use lwkt_core::{Event, State};
 use lwkt_script::{ThreadSpec, entry_of, failure_of};
 use std::alloc::Global;
@@ -222,6 +223,29 @@ fn may_end(state: ThreadState, last: &Option<Ask>, blocked: bool) -> bool
     }
 }
 
+// Whether a thread asks this next that was told this, whatever it asks; it then stands behind that.
+#[inline(never)]
+fn is_next_any(code: &Code, local: &mut Local, told: &Answer, asked: &Ask) -> bool
+    ensures asks { IsTrue result → asked.now ≡ (next code.now.steps local.old told.now).0 }
+    ensures moves { IsTrue result → local.new ≡ (next code.now.steps local.old told.now).1 }
+    ensures declines { result ≡ false → asked.now ≢ (next code.now.steps local.old told.now).0 }
+{
+    is_same_ask(&code.next(local, told), asked)
+}
+
+// The same. An ask that stands where the thread stands is compared there.
+#[inline(always)]
+fn is_next(code: &Code, local: &mut Local, told: &Answer, asked: &Ask) -> bool
+    ensures asks { IsTrue result → asked.now ≡ (next code.now.steps local.old told.now).0 }
+    ensures moves { IsTrue result → local.new ≡ (next code.now.steps local.old told.now).1 }
+    ensures declines { result ≡ false → asked.now ≢ (next code.now.steps local.old told.now).0 }
+{
+    match code.pass(local, told) {
+        None => is_next_any(code, local, told, asked),
+        Some(ask) => is_same_ask(ask, asked),
+    }
+}
+
 impl<'p> Followed<'p> {
     /// A thread, or none, that was never polled. Takes no memory.
     pub fn unpolled(alloc: Global, plan: Option<&'p ThreadSpec>) -> Followed<'p>
@@ -255,20 +279,20 @@ impl<'p> Followed<'p> {
         Ok(true)
     }
 
-    /// What the thread asks next that heard this, if it is there. Its program goes on to that.
+    /// Whether the thread, if it is there, asks this next that heard this. Its program then stands behind it.
     #[inline(always)]
-    pub fn next_ask(&mut self, heard: &Answer) -> Option<Ask>
+    pub fn asks_next(&mut self, heard: &Answer, asked: &Ask) -> bool
         ensures plan { self.new.plan ≡ self.old.plan }
-        ensures moves { IfSome result (λ ask. Moves heard.now ask self.old self.new) }
-        ensures none { is_some result ≡ false → self.old.plan ≡ None }
+        ensures moves { IsTrue result → Moves heard.now asked.now self.old self.new }
+        ensures declines { result ≡ false → ¬ MayAskNext heard.now asked.now self.old }
     {
         let Some(plan) = self.plan else {
-            return None;
+            return false;
         };
         if self.last.is_none() {
-            return Some(plan.code.next(&mut self.local, &Answer::Begin));
+            return is_next_any(&plan.code, &mut self.local, &Answer::Begin, asked);
         }
-        Some(plan.code.next(&mut self.local, heard))
+        is_next(&plan.code, &mut self.local, heard, asked)
     }
 
     /// Whether the thread may ask this, whose next ask it is, by this part of the trace. If so, it has asked it, and the machine goes on.

@@ -1,4 +1,4 @@
-use Rattle.std.proofs.Common.{◌≡◌, sym, ap, ◌∙◌, subst, ◌<◌}
+use Rattle.std.proofs.Common.{sym, ap, ◌∙◌, subst, ◌<◌}
 use Rattle.lwkt_code.specs.declared.locals.Local.{Local}
 use Rattle.lwkt_base.specs.declared.asks.Ask.{Ask}
 use Rattle.lwkt_code.specs.Next.{ask_from}

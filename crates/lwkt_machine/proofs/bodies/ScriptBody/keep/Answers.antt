@@ -1,4 +1,4 @@
-use Rattle.std.proofs.Common.{◌≡◌, ap, arith, Option}
+use Rattle.std.proofs.Common.{ap, arith, Option}
 use Rattle.lwkt_base.specs.declared.entries.Entry.{Entry}
 use Rattle.lwkt_machine.specs.Bodies.{Scripted, ask_said, entry_kept, logged}
 use Rattle.lwkt_machine.proofs.BodyMoves.{body_so, full_log, kept_same}

@@ -1,4 +1,4 @@
-use Rattle.std.proofs.Common.{◌++◌, ◌∙◌, List, length, take, drop, sym, subst, arith}
+use Rattle.std.proofs.Common.{◌++◌, ◌∙◌, List, length, take, drop, sym, subst}
 use Rattle.std.specs.List.{AllZip}
 use Rattle.lwkt_bank.specs.Seats.{id_of, cpus_of}
 use Rattle.lwkt_drive.specs.declared.driven.Driven.{Driven}

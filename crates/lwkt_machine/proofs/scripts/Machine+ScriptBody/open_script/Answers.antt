@@ -1,4 +1,4 @@
-use Rattle.std.proofs.Common.{◌≡◌, ◌∙◌, List, length, sym, subst}
+use Rattle.std.proofs.Common.{◌∙◌, List, subst}
 use Rattle.std.specs.Prelude.{IfErr, IfOk, OnOk}
 use Rattle.std.proofs.lemmas.Result.{IfErr-weaker, IfOk-weaker, on_ok_weaker}
 use Rattle.lwkt_base.specs.declared.opening_specs.MsgSpec.{MsgSpec}
@@ -6,7 +6,7 @@ use Rattle.lwkt_base.specs.declared.opening_specs.TokSpec.{TokSpec}
 use Rattle.lwkt_core.specs.Opening.{AllOpenLawfully}
 use Rattle.lwkt_script.specs.declared.scripts.ThreadSpec.{ThreadSpec}
 use Rattle.lwkt_machine.specs.Opened.{Declines, IsOpenedMachine, IsWithin}
-use Rattle.lwkt_machine.specs.Scripts.{AreBodiesOf, DeclinesScript, IsOpenedScript, IsScriptWithin}
+use Rattle.lwkt_machine.specs.Scripts.{AreBodiesOf, DeclinesScript, IsOpenedScript}
 use Rattle.lwkt_machine.proofs.ScriptMoves.{declines_script, nothing_kept, opened_script, within_script}
 use Rattle.lwkt_machine.proofs.scripts.Machine+ScriptBody.open_script.Goals as goal
 
