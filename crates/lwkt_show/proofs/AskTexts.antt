@@ -11,9 +11,12 @@ use Rattle.lwkt_base.specs.declared.steps.Verb.TheVariants.{Get}
 use Rattle.lwkt_base.specs.Step.{step_of, word_of}
 use Rattle.lwkt_trace.specs.Written.{comma, blob_text, past_text}
 use Rattle.lwkt_show.specs.declared.stories.Step.{Step}
+use Rattle.lwkt_show.specs.declared.walks.Way.{Way}
+use Rattle.lwkt_show.specs.Computed.{way_text}
 use Rattle.lwkt_show.specs.Lines.{time_text, step_text}
 use Rattle.lwkt_show.specs.Words.{ask_word, ask_parts, flags_number, part_text, parts_text}
 use Rattle.lwkt_show.proofs.Splits.{Each, IsDigit, each_append, each_if, each_flat, none_of, decimal_none}
+use Rattle.lwkt_show.proofs.WayTexts.{Before, decimal_before, way_before}
 
 -- a character that isn't a quotation mark
 abbrev pub Unquoted : ℕ → Type 0
@@ -22,10 +25,6 @@ Unquoted c = c ≢ 34
 -- a character that doesn't end the text of an ask
 abbrev pub Inside : ℕ → Type 0
 Inside c = c ≢ 93
-
--- a character that doesn't end the words before an ask
-abbrev pub Before : ℕ → Type 0
-Before c = c ≢ 58
 
 -- no word of a step has such a character
 no_quotes : (verb : Verb) → list_all (λ c. not (c == 34)) (word_of verb) ≡ true
@@ -116,18 +115,22 @@ front_inside ask =
     then_inside quoted (ask_parts ask)
     (then_inside word (codes "\"") (then_inside (codes "[\"") (ask_word ask) (none_of 93 refl (codes "[\"") refl) (word_inside ask)) quote_inside) (parts_inside (step_of ask).1)
 
-no_digit_parts : IsDigit 58 → ⊥
-no_digit_parts digit = omega (arith, digit.1)
-
 time_before : (step : Step) → Each Before (time_text step)
 time_before step =
     each_if Before (nat_lt 1 step.repeat) (codes " of time " ++ decimal (step.polls / step.steps + 1)) []
-    (each_append Before (codes " of time ") (decimal (step.polls / step.steps + 1)) (none_of 58 refl (codes " of time ") refl) (decimal_none 58 (step.polls / step.steps + 1) no_digit_parts)) tt
+    (each_append Before (codes " of time ") (decimal (step.polls / step.steps + 1)) (none_of 58 refl (codes " of time ") refl) (decimal_before (step.polls / step.steps + 1))) tt
 
-pub step_before : (step : Step) → Each Before (step_text step)
+step_before : (step : Step) → Each Before (step_text step)
 step_before step =
     let after : Each Before (codes "after its steps") = none_of 58 refl (codes "after its steps") refl in
     let number : ℕ = step.polls % step.steps in
     each_if Before (step.steps == 0) (codes "after its steps") (if nat_le step.repeat (step.polls / step.steps) then codes "after its steps" else codes "step " ++ decimal number ++ time_text step) after
     (each_if Before (nat_le step.repeat (step.polls / step.steps)) (codes "after its steps") (codes "step " ++ decimal number ++ time_text step) after
-    (each_append Before (codes "step " ++ decimal number) (time_text step) (each_append Before (codes "step ") (decimal number) (none_of 58 refl (codes "step ") refl) (decimal_none 58 number no_digit_parts)) (time_before step)))
+    (each_append Before (codes "step " ++ decimal number) (time_text step) (each_append Before (codes "step ") (decimal number) (none_of 58 refl (codes "step ") refl) (decimal_before number)) (time_before step)))
+
+-- all words before an ask: what its thread computed, and its step
+abbrev pub ask_before : Way → Step → List ℕ
+ask_before way step = way_text way ++ step_text step
+
+pub before_ask : (way : Way) (step : Step) → Each Before (ask_before way step)
+before_ask way step = each_append Before (way_text way) (step_text step) (way_before way) (step_before step)

@@ -1,3 +1,4 @@
+pub mod Ahead
 pub mod AskPartings
 pub mod AskTexts
 pub mod Partings
@@ -5,3 +6,4 @@ pub mod Pieces
 pub mod Refusals
 pub mod Rows
 pub mod Splits
+pub mod WayTexts

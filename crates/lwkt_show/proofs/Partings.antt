@@ -7,11 +7,13 @@ use Rattle.lwkt_base.specs.declared.names.ThreadId.{ThreadId}
 use Rattle.lwkt_verdict.specs.declared.turns.Poll.{Poll}
 use Rattle.lwkt_show.specs.declared.stories.Came.{Came}
 use Rattle.lwkt_show.specs.declared.stories.Step.{Step}
+use Rattle.lwkt_show.specs.declared.walks.Way.{Way}
 use Rattle.lwkt_show.specs.Apart.{AskAlike, PollAlike, LinesDecideTurns}
-use Rattle.lwkt_show.specs.Lines.{IsIdle, IsDoing, came_text, step_text, poll_text, turn_text}
+use Rattle.lwkt_show.specs.Lines.{IsIdle, IsDoing, came_text, poll_text, turn_text}
 use Rattle.lwkt_show.specs.Words.{ask_word, ask_parts}
-use Rattle.lwkt_show.proofs.AskTexts.{Unquoted, Inside, Before, ask_front, word_unquoted, front_inside, step_before}
+use Rattle.lwkt_show.proofs.AskTexts.{Unquoted, Inside, ask_front, ask_before, word_unquoted, front_inside, before_ask}
 use Rattle.lwkt_show.proofs.Splits.{IsDigit, same_split, same_number}
+use Rattle.lwkt_show.proofs.WayTexts.{Before}
 
 -- texts behind texts, from the front on
 grouped : (a b c d e f g h i : List ℕ) → (a ++ b) ++ (c ++ d) ++ (e ++ f) ++ g ++ h ++ i ≡ a ++ (b ++ (c ++ (d ++ (e ++ (f ++ (g ++ (h ++ i)))))))
@@ -23,9 +25,9 @@ head_is : (number round cpu : ℕ) (doing events : List ℕ)
 head_is number round cpu doing events = grouped (codes "turn ") (decimal number) (codes ", round ") (decimal round) (codes ", processor ") (decimal cpu) doing events (codes "\n")
 
 -- a poll, from its front on
-poll_is : (poll : Poll) (step : Step) (came : Came) (rest : List ℕ)
-    → poll_text poll step came ++ rest ≡ codes ", thread " ++ (decimal poll.thread.cpu.0 ++ (codes "." ++ (decimal poll.thread.thread ++ (codes ", " ++ (step_text step ++ (codes ": " ++ (ask_front poll.ask ++ (codes "]" ++ (codes ": " ++ (came_text came poll.answer ++ rest))))))))))
-poll_is poll step came rest = simp append_assoc
+poll_is : (poll : Poll) (way : Way) (step : Step) (came : Came) (rest : List ℕ)
+    → poll_text poll way step came ++ rest ≡ codes ", thread " ++ (decimal poll.thread.cpu.0 ++ (codes "." ++ (decimal poll.thread.thread ++ (codes ", " ++ (ask_before way step ++ (codes ": " ++ (ask_front poll.ask ++ (codes "]" ++ (codes ": " ++ (came_text came poll.answer ++ rest))))))))))
+poll_is poll way step came rest = simp append_assoc
 
 -- the front of an ask, from its front on
 front_is : (ask : Ask) → ask_front ask ≡ codes "[\"" ++ (ask_word ask ++ (codes "\"" ++ ask_parts ask))
@@ -49,17 +51,17 @@ same_word a b e =
     (same_split Unquoted (ask_word a) (ask_word b) 34 34 (ask_parts a) (ask_parts b) (word_unquoted a) (word_unquoted b) stop stop more).0
 
 -- polls that have the same text ask alike
-polls_alike : (a b : Poll) (step step' : Step) (came came' : Came) (rest rest' : List ℕ)
+polls_alike : (a b : Poll) (way way' : Way) (step step' : Step) (came came' : Came) (rest rest' : List ℕ)
     → (a.thread.cpu.0 < 2 ^ 64) × (a.thread.thread < 2 ^ 64) → (b.thread.cpu.0 < 2 ^ 64) × (b.thread.thread < 2 ^ 64)
-    → poll_text a step came ++ rest ≡ poll_text b step' came' ++ rest' → AskAlike a b
-polls_alike a b step step' came came' rest rest' small small' e =
-    let whole = append_cancel_left (codes ", thread ") _ _ (sym (poll_is a step came rest) ∙ e ∙ poll_is b step' came' rest') in
+    → poll_text a way step came ++ rest ≡ poll_text b way' step' came' ++ rest' → AskAlike a b
+polls_alike a b way way' step step' came came' rest rest' small small' e =
+    let whole = append_cancel_left (codes ", thread ") _ _ (sym (poll_is a way step came rest) ∙ e ∙ poll_is b way' step' came' rest') in
     let stop : IsDigit 46 → ⊥ = no_digit 46 (omega arith) in
     let comma : IsDigit 44 → ⊥ = no_digit 44 (omega arith) in
     let cpu = same_number a.thread.cpu.0 b.thread.cpu.0 46 46 _ _ small.0 small'.0 stop stop whole in
     let thread = same_number a.thread.thread b.thread.thread 44 44 _ _ small.1 small'.1 comma comma (append_cancel_left (codes ".") _ _ cpu.1) in
     let colon : Before 58 → ⊥ = λ before. before refl in
-    let steps = same_split Before (step_text step) (step_text step') 58 58 _ _ (step_before step) (step_before step') colon colon (append_cancel_left (codes ", ") _ _ thread.1) in
+    let steps = same_split Before (ask_before way step) (ask_before way' step') 58 58 _ _ (before_ask way step) (before_ask way' step') colon colon (append_cancel_left (codes ", ") _ _ thread.1) in
     let end : Inside 93 → ⊥ = λ inside. inside refl in
     let asks = same_split Inside (ask_front a.ask) (ask_front b.ask) 93 93 _ _ (front_inside a.ask) (front_inside b.ask) end end (append_cancel_left (codes ": ") _ _ steps.1) in
     record {
@@ -81,7 +83,7 @@ idle_opens words (inr why) = record { first = 58; behind = codes " no thread run
 
 opens : (poll : Option Poll) (words : List ℕ) → IsDoing poll words → Opens words
 opens None words idle = idle_opens words idle
-opens (Some poll) words doing_is = record { first = 44; behind = drop 1 (poll_text poll doing_is.0 doing_is.1); never = no_digit 44 (omega arith); is = doing_is.2 }
+opens (Some poll) words doing_is = record { first = 44; behind = drop 1 (poll_text poll doing_is.0 doing_is.1 doing_is.2); never = no_digit 44 (omega arith); is = doing_is.3 }
 
 -- and with this one where there is no poll, and with that one where there is one
 idle_first : (words rest : List ℕ) → IsIdle words → get_or (words ++ rest) 0 0 ≡ 58
@@ -89,7 +91,7 @@ idle_first words rest (inl is) = ap (λ (ws : List ℕ). get_or (ws ++ rest) 0 0
 idle_first words rest (inr why) = ap (λ (ws : List ℕ). get_or (ws ++ rest) 0 0) why.1
 
 poll_first : (poll : Poll) (words rest : List ℕ) → IsDoing (Some poll) words → get_or (words ++ rest) 0 0 ≡ 44
-poll_first poll words rest doing_is = ap (λ (ws : List ℕ). get_or (ws ++ rest) 0 0) doing_is.2
+poll_first poll words rest doing_is = ap (λ (ws : List ℕ). get_or (ws ++ rest) 0 0) doing_is.3
 
 first_same : (xs ys : List ℕ) → xs ≡ ys → get_or xs 0 0 ≡ get_or ys 0 0
 first_same xs ys e = ap (λ (l : List ℕ). get_or l 0 0) e
@@ -110,7 +112,7 @@ doing_alike (Some p) None words words' rest rest' small small' a b e =
     let same = first_same _ _ e in
     absurd (omega arith)
 doing_alike (Some p) (Some q) words words' rest rest' small small' a b e =
-    polls_alike p q a.0 b.0 a.1 b.1 rest rest' small small' (ap (λ (ws : List ℕ). ws ++ rest) (sym a.2) ∙ e ∙ ap (λ (ws : List ℕ). ws ++ rest') b.2)
+    polls_alike p q a.0 b.0 a.1 b.1 a.2 b.2 rest rest' small small' (ap (λ (ws : List ℕ). ws ++ rest) (sym a.3) ∙ e ∙ ap (λ (ws : List ℕ). ws ++ rest') b.3)
 
 -- processors behind which such words stand
 same_cpu : (m n : ℕ) (words words' rest rest' : List ℕ) → m < 2 ^ 64 → n < 2 ^ 64 → Opens words → Opens words' → decimal m ++ (words ++ rest) ≡ decimal n ++ (words' ++ rest') → (m ≡ n) × (words ++ rest ≡ words' ++ rest')

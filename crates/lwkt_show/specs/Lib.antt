@@ -1,4 +1,6 @@
 pub mod Apart
+pub mod Computed
+pub mod Keeping
 pub mod Lines
 pub mod Showing
 pub mod Shown

@@ -18,6 +18,8 @@ use Rattle.lwkt_show.specs.declared.reels.Reel.{Reel}
 use Rattle.lwkt_show.specs.declared.stories.Came.{Came}
 use Rattle.lwkt_show.specs.declared.stories.Came.TheVariants.{Runs, Waits, Ends, Faulted}
 use Rattle.lwkt_show.specs.declared.stories.Step.{Step}
+use Rattle.lwkt_show.specs.declared.walks.Way.{Way}
+use Rattle.lwkt_show.specs.Computed.{way_text}
 use Rattle.lwkt_show.specs.Words.{thread_text, ask_text, answer_text, fault_text}
 
 -- an answer for which the thread waits before it has it
@@ -55,10 +57,10 @@ step_text step =
     if step.steps == 0 then codes "after its steps" else (
     if nat_le step.repeat (step.polls / step.steps) then codes "after its steps" else codes "step " ++ decimal (step.polls % step.steps) ++ time_text step)
 
--- a poll: its thread, which of its steps that made, what it asked, and what came of it
-abbrev pub poll_text : Poll → Step → Came → List ℕ
-poll_text poll step came =
-    codes ", thread " ++ thread_text poll.thread ++ codes ", " ++ step_text step ++ codes ": " ++ ask_text poll.ask ++ codes ": " ++ came_text came poll.answer
+-- a poll: its thread, what that computed on its way, which of its steps it made, what it asked, and what came of it
+abbrev pub poll_text : Poll → Way → Step → Came → List ℕ
+poll_text poll way step came =
+    codes ", thread " ++ thread_text poll.thread ++ codes ", " ++ way_text way ++ step_text step ++ codes ": " ++ ask_text poll.ask ++ codes ": " ++ came_text came poll.answer
 
 -- a turn: its number, its round and its processor
 abbrev pub turn_text : ℕ → ℕ → ℕ → List ℕ
@@ -68,10 +70,11 @@ turn_text number round cpu = (codes "turn " ++ decimal number) ++ (codes ", roun
 abbrev pub IsIdle : List ℕ → Type 0
 IsIdle words = (words ≡ codes ": no thread is left") ⊎ ((why : List ℕ) × (words ≡ codes ": no thread runs: " ++ why))
 
--- some words say a turn's poll, or that it has none; which of its steps the thread made, and what it did then, is not said
+-- some words say a turn's poll, or that it has none; what the thread computed on its way, which of its steps it made, and what it did
+-- then, is not said
 abbrev pub IsDoing : Option Poll → List ℕ → Type 0
 IsDoing None words = IsIdle words
-IsDoing (Some poll) words = (step : Step) × (came : Came) × (words ≡ poll_text poll step came)
+IsDoing (Some poll) words = (way : Way) × (step : Step) × (came : Came) × (words ≡ poll_text poll way step came)
 
 -- the line of a turn: the turn, its poll, its events and the end of the line; what is said of its events is not said
 pub record IsLine (number round cpu : ℕ) (poll : Option Poll) (line : List ℕ) : Type 0 where

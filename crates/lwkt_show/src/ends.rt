@@ -106,7 +106,7 @@ fn show_logged(out: &mut Page, story: &Story, entry: Entry, logged: Logged) {
 
 // Appends the log of a thread, each entry beside its step, and how many entries it has no room for.
 fn show_log(out: &mut Page, story: &Story, line: &ThreadLine) {
-    if let Some(refused) = story.lost {
+    if let Some(refused) = story.lost() {
         out.lose(refused);
     }
     let entries = line.log.as_slice();

@@ -3,12 +3,14 @@
 //!
 //! Words: the *options* say which turns are *chosen* and in which form they are shown; a run goes in rounds or *along* an order of
 //! its processors; a run that made none of the chosen turns ended *before* them. A *reel* is what was kept of a run, and a *scene* one turn
-//! of it; a *replay* makes it again, event by event; a *story* is what happened to one thread so far; a *picture* has bars for held
-//! tokens and arrows for messages, and a *sketch* is what it has before it is known where that stands.
+//! of it; a *replay* makes it again, event by event; a *story* is what happened to one thread so far, and a *way* what it computed between
+//! two asks; a *picture* has bars for held tokens and arrows for messages, and a *sketch* is what it has before it is known where that
+//! stands.
 #![tactic(auto)]
 
 mod boxes;
 mod chains;
+mod conditions;
 mod drawings;
 mod ends;
 mod events;
@@ -31,6 +33,7 @@ mod tokens;
 mod tries;
 mod turns;
 mod walks;
+mod ways;
 mod whys;
 mod words;
 

@@ -119,7 +119,7 @@ fn front_of(alloc: Global, run: &Reel, chosen: Options) -> Result<String, Fault>
     ensures begins { IfOk result (λ text. BeginsWithLines run.now chosen (string_bytes text)) }
     ensures refused { IfErr result (MayBeRefused run.now.script.now) }
 {
-    let mut replay = Replay::open(alloc, run.script, &run.closing.threads)?;
+    let mut replay = Replay::open(alloc, run.script, &run.closing.threads, true)?;
     let mut out = Page::new(alloc);
     let mut behind = Page::new(alloc);
     let turns = chosen.in_turns(run.script.cpus);

@@ -233,6 +233,6 @@ fn picture(
 pub(crate) fn picture_of(alloc: Global, run: &Reel, chosen: Options) -> Result<String, Fault>
     ensures refused { IfErr result (MayBeRefused run.now.script.now) }
 {
-    let mut replay = Replay::open(alloc, run.script, &run.closing.threads)?;
+    let mut replay = Replay::open(alloc, run.script, &run.closing.threads, false)?;
     Ok(picture(alloc, run, &mut replay, chosen)?)
 }

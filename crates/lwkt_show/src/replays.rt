@@ -67,10 +67,15 @@ fn show_first_record(out: &mut Page, blob: &Option<Blob>, first: &Option<Blob>) 
     }
 }
 
-// What is said of a thread before the first turn.
-fn story_of(alloc: Global, script: &Script, line: &ThreadLine) -> Result<Story, OutOfMemory> {
+// What is said of a thread before the first turn; what it makes on its way through its program is kept if that is wanted.
+fn story_of(
+    alloc: Global,
+    script: &Script,
+    line: &ThreadLine,
+    keeps: bool,
+) -> Result<Story, OutOfMemory> {
     let walk = match spec_of(script, line.id) {
-        Some(spec) => Some(Walk::new(spec.code.copy(alloc)?)),
+        Some(spec) => Some(Walk::new(alloc, spec.code.copy(alloc)?, keeps)),
         None => None,
     };
     Ok(Story::new(alloc, line.id, walk, line.state))
@@ -91,8 +96,14 @@ impl Replay {
     ghost use Rattle.std.specs.Prelude.{IfErr};
     ghost use Rattle.lwkt_show.specs.Shown.{MayBeRefused};
 
-    /// A run of a script before its first turn, whose threads end as these lines say.
-    pub(crate) fn open(alloc: Global, script: &Script, lines: &[ThreadLine]) -> Result<Self, Fault>
+    /// A run of a script before its first turn, whose threads end as these lines say; what they make on their ways through their programs
+    /// is kept if that is wanted.
+    pub(crate) fn open(
+        alloc: Global,
+        script: &Script,
+        lines: &[ThreadLine],
+        keeps: bool,
+    ) -> Result<Self, Fault>
         ensures refused { IfErr result (MayBeRefused script.now) }
     {
         let state = State::open(
@@ -103,7 +114,7 @@ impl Replay {
         )?;
         let mut stories = Vec::new(alloc);
         for line in lines {
-            push(&mut stories, story_of(alloc, script, line)?)?;
+            push(&mut stories, story_of(alloc, script, line, keeps)?)?;
         }
         Ok(Replay {
             state,

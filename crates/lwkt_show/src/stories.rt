@@ -1,6 +1,6 @@
 use crate::events::show_owner;
 use crate::tokens::{Runners, excludes, show_holders, show_word};
-use crate::walks::Walk;
+use crate::walks::{Walk, Way};
 use crate::words::{mode_word, show_thread};
 use lwkt_base::limits::{LAST_GENERATION, LOG_LIMIT};
 use lwkt_base::memory::push;
@@ -73,8 +73,8 @@ pub(crate) struct Story {
     pub why: Option<Page>,
     /// Of each entry of the log the ask that made it, by its number among the thread's asks.
     pub logged: Vec<Logged>,
-    /// That memory for one of these was refused, if it was.
-    pub lost: Option<OutOfMemory>,
+    // That memory for one of these was refused, if it was.
+    lost: Option<OutOfMemory>,
     /// How many entries the log would have without a limit.
     pub entries: u64,
 }
@@ -271,6 +271,25 @@ impl Story {
             polls,
             steps,
             repeat,
+        }
+    }
+
+    /// That memory for what is noted of it was refused, if it was.
+    pub(crate) fn lost(&self) -> Option<OutOfMemory> {
+        match &self.walk {
+            Some(walk) if self.lost.is_none() => walk.lost(),
+            _ => self.lost,
+        }
+    }
+
+    /// Its way to its next ask.
+    pub(crate) fn way(&self) -> Way<'_> {
+        match &self.walk {
+            Some(walk) => walk.way(),
+            None => Way {
+                steps: &[],
+                made: &[],
+            },
         }
     }
 

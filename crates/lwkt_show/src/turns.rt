@@ -5,6 +5,8 @@ ghost use Rattle.lwkt_show.specs.Lines.{late_text, faulted_text, answered_text, 
 use crate::reels::Scene;
 use crate::replays::Replay;
 use crate::stories::{Came, Doing, Outcome, Step, Story};
+use crate::walks::Way;
+use crate::ways::show_way;
 use crate::words::{show_answer, show_ask, show_fault, show_thread};
 use lwkt_base::{Answer, Fault, ThreadId, ThreadState};
 use lwkt_refusals::Page;
@@ -86,18 +88,30 @@ pub(crate) fn show_step(out: &mut Page, step: Step)
     show_time(out, step, time)
 }
 
-// Appends a poll: thread, step, ask and what came of it.
-fn show_poll(out: &mut Page, poll: &Poll, step: Step, came: Came)
-    ensures { GrowsBy out.old out.new (poll_text poll.now step came) }
+// Appends a poll: thread, what it computed on its way, step, ask and what came of it.
+fn show_poll(out: &mut Page, poll: &Poll, way: &Way, step: Step, came: Came)
+    ensures { GrowsBy out.old out.new (poll_text poll.now way.now step came) }
 {
     out.add(", thread ");
     show_thread(out, poll.thread);
     out.add(", ");
+    show_way(out, way);
     show_step(out, step);
     out.add(": ");
     show_ask(out, &poll.ask);
     out.add(": ");
     show_came(out, came, poll.answer)
+}
+
+// What a thread computed since its last ask.
+fn way_of<'a>(replay: &'a Replay, id: ThreadId) -> Way<'a> {
+    match replay.story(id) {
+        Some(story) => story.way(),
+        None => Way {
+            steps: &[],
+            made: &[],
+        },
+    }
 }
 
 // Which step a thread makes next.
@@ -181,9 +195,10 @@ fn show_doing(
 {
     match scene.poll {
         Some(poll) => {
+            let way = way_of(replay, poll.thread);
             let step = step_of(replay, poll.thread);
             let came = came_of(replay, poll.thread, outcome);
-            show_poll(out, &poll, step, came)
+            show_poll(out, &poll, &way, step, came)
         }
         None => show_idle(alloc, out, replay, scene),
     }

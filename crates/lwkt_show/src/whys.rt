@@ -49,7 +49,7 @@ pub fn whys_of(alloc: Global, script: &Script, run: &TurnsRun) -> Result<String,
         closing: &run.closing,
     };
     let mut out = Page::new(alloc);
-    match Replay::open(alloc, script, &run.closing.threads) {
+    match Replay::open(alloc, script, &run.closing.threads, false) {
         Ok(mut replay) => {
             pass_all(alloc, &reel, &mut replay);
             show_whys(&mut out, &replay)

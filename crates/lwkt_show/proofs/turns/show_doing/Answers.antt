@@ -5,8 +5,8 @@ use Rattle.lwkt_show.proofs.turns.show_doing.Goals as goal
 pub returns-in-Some : goal.returns-in-Some
 returns-in-Some c =
     let shows : AddsWords (IsDoing (Some c.in-Some.poll)) c.args.out.now c.show_poll.new.out = record {
-      words = poll_text c.in-Some.poll c.step_of-step.result c.came_of-came.result;
-      holds = (c.step_of-step.result, c.came_of-came.result, refl);
+      words = poll_text c.in-Some.poll c.way_of-way.result c.step_of-step.result c.came_of-came.result;
+      holds = (c.way_of-way.result, c.step_of-step.result, c.came_of-came.result, refl);
       grows = c.show_poll.ensures;
     } in
     rw c.in-Some.is shows
