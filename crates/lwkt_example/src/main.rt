@@ -22,9 +22,9 @@ fn main(rt: HostRuntime) -> io::Result<ExitCode> {
     let Ok(closed) = accounts::run(&rt, rt.alloc()) else {
         return Ok(ExitCode::from(1));
     };
-    let (first, second) = (closed.cell(ACCOUNTS, 0), closed.cell(ACCOUNTS, 1));
-    let third = closed.cell(ACCOUNTS, 2);
-    println!(rt; "accounts {first} {second} {third}")?;
+    let (second, third) = (closed.cell(ACCOUNTS, 1), closed.cell(ACCOUNTS, 2));
+    let (first, others) = (closed.cell(ACCOUNTS, 0), second.wrapping_add(third));
+    println!(rt; "{first} units in the first account, {others} in the others")?;
     let Ok(closed) = caches::run(&rt, rt.alloc()) else {
         return Ok(ExitCode::from(1));
     };
