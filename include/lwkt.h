@@ -1,5 +1,5 @@
-// lwkt: the library. A script run to its report, a trace judged, a run shown, and the steps on a token's word, called from C
-// or from any language that calls C. Link liblwkt.a or liblwkt.so (docs/C.md).
+// lwkt: scripts run, traces judged, orders tried, and proved tokens for threads and kernels, from C or any language that calls C. Link
+// liblwkt.a or liblwkt.so (docs/C.md).
 //
 //     lwkt_answer answer;
 //     uint8_t text[65536];
@@ -43,6 +43,9 @@
 #include <stdbool.h>
 #include <stddef.h>
 #include <stdint.h>
+
+// The version of the header and of the library that it came with. Its first number is that of liblwkt.so.
+#define LWKT_VERSION "1.0.0"
 
 #ifdef __cplusplus
 extern "C" {
@@ -164,8 +167,8 @@ uint32_t lwkt_word_give_one(uint64_t word, uint64_t *next);
 // token exclusively, and with 12 where its holder has references beyond the first.
 uint32_t lwkt_word_give_clean(uint64_t word, uint64_t *next);
 
-// The same of a holder who has written: the generation is one more. Refused with 20 at the last generation; else as
-// `lwkt_word_give_clean`.
+// The last reference of an exclusive holder back, who has written: the generation is one more. Refused with 20 at the last
+// generation; else as `lwkt_word_give_clean`.
 uint32_t lwkt_word_give_written(uint64_t word, uint64_t *next);
 
 // A bank of tokens for the caller's own threads. A bank has up to 64 tokens and 1 to 8 seats: a thread asks for tokens, and reads

@@ -1,3 +1,4 @@
+use crate::SeatFault;
 use std::error::Error;
 use std::ffi::c_void;
 use std::fmt;
@@ -182,53 +183,11 @@ impl fmt::Display for Missed {
 
 impl Error for Missed {}
 
-/// Why a call on a seat was refused, by its number in include/lwkt.h.
-#[derive(Clone, Copy, Debug, PartialEq, Eq)]
-pub struct SeatFault(pub u32);
-
-impl SeatFault {
-    /// Whether the same call may go through later: another seat holds the token, or came between.
-    pub fn is_busy(self) -> bool {
-        matches!(self.0, 23 | 34)
-    }
-}
-
-impl fmt::Display for SeatFault {
-    fn fmt(&self, out: &mut fmt::Formatter<'_>) -> fmt::Result {
-        out.write_str(match self.0 {
-            10 => "list full",
-            11 => "shared reference can't become exclusive",
-            13 => "token not held",
-            16 => "no such token",
-            17 => "no such cell or record",
-            18 => "write under a shared token",
-            19 => "law broken",
-            20 => "last generation",
-            21 => "sum too large",
-            22 => "call and law don't fit",
-            23 => "token busy",
-            32 => "out of memory",
-            34 => "lost a race, try again",
-            37 => "record of a shared token",
-            38 => "record too long",
-            39 => "limit passed",
-            40 => "opening breaks its law",
-            51 => "a token is held",
-            52 => "bank closed",
-            53 => "bank in use",
-            54 => "seat lost",
-            _ => "seat not there",
-        })
-    }
-}
-
-impl Error for SeatFault {}
-
 fn done(status: u32) -> Result<(), SeatFault> {
     if status == 0 {
         Ok(())
     } else {
-        Err(SeatFault(status))
+        Err(SeatFault::of_number(status))
     }
 }
 
@@ -348,7 +307,7 @@ impl Bank {
     /// held.write_record(b"hello")?;
     /// std::mem::forget(held);
     /// let refused = bank.close().unwrap_err();
-    /// assert_eq!(refused.fault, SeatFault(51));
+    /// assert_eq!(refused.fault, SeatFault::SeatHolds);
     /// let mut bank = refused.bank;
     /// bank.seats()[0].block();
     /// let closings = bank.close()?;
@@ -399,8 +358,11 @@ pub struct Seat {
     whole: Whole,
 }
 
-// A seat's calls are those of the library, which any thread may make.
+// SAFETY: a seat's calls are those of the library, which any thread may make.
 unsafe impl Send for Seat {}
+
+// SAFETY: each call takes the seat as `&mut`, so that a seat that is shared makes none.
+unsafe impl Sync for Seat {}
 
 impl fmt::Debug for Seat {
     fn fmt(&self, out: &mut fmt::Formatter<'_>) -> fmt::Result {
@@ -418,7 +380,7 @@ impl Seat {
     /// let mut other = seats.pop().unwrap();
     /// let mut seat = seats.pop().unwrap();
     /// let mut held = seat.take(0)?;
-    /// assert_eq!(other.take(0).unwrap_err(), SeatFault(23));
+    /// assert_eq!(other.take(0).unwrap_err(), SeatFault::Busy);
     /// held.store(0, 30)?;
     /// assert!(!held.is_lawful()?);
     /// held.store(1, 70)?;
@@ -461,7 +423,7 @@ impl Seat {
     /// let mut held = seat.resume(&list)?;
     /// assert_eq!(held.load(0, 0), Ok(1));
     /// held.store(1, 0, 3).unwrap();
-    /// assert_eq!(other.resume(&list).unwrap_err(), Missed { place: 0, fault: SeatFault(23) });
+    /// assert_eq!(other.resume(&list).unwrap_err(), Missed { place: 0, fault: SeatFault::Busy });
     /// assert_eq!(held.block(), None);
     /// assert_eq!(other.resume(&list)?.load(1, 0), Ok(3));
     /// # Ok::<(), Missed>(())
@@ -585,7 +547,7 @@ impl Held<'_> {
 
     fn give_or_restore(&mut self) -> Result<(), SeatFault> {
         let given = done(unsafe { lwkt_give(self.seat.handle, self.seat.number, self.token) });
-        if given == Err(SeatFault(19)) {
+        if given == Err(SeatFault::Broken) {
             self.restore()?;
             done(unsafe { lwkt_give(self.seat.handle, self.seat.number, self.token) })?;
         }

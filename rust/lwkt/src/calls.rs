@@ -294,7 +294,7 @@ pub fn is_text(script: &[u8]) -> Result<bool, Refusal> {
 /// let json = lwkt::text_json(b"token word: any, cells 5")?;
 /// assert!(!lwkt::is_text(json.as_bytes())?);
 /// let Err(lwkt::Refusal::Malformed { why, .. }) = lwkt::text_json(b"tokken word") else { panic!() };
-/// assert!(why.starts_with("1:1: no sentence begins with this word (token?)"));
+/// assert!(why.starts_with("lwkt: standard input:1:1: "));
 /// # Ok::<(), lwkt::Refusal>(())
 /// ```
 pub fn text_json(script: &[u8]) -> Result<String, Refusal> {

@@ -1,5 +1,7 @@
 //! The threading layer of DragonFly BSD on modelled processors: scripts run to their reports, traces judged, runs shown, the
-//! steps on a token's word, and banks of tokens for the caller's own threads. This crate is safe Rust over a library that is proved in Rattle; it adds no logic of its own.
+//! steps on a token's word, and banks of tokens for the caller's own threads. This crate is safe Rust over a library that is proved in
+//! Rattle; it adds no logic of its own. Without the feature `std`, which is on unless turned off, it is the steps on words alone, and needs
+//! no standard library.
 //!
 //! ```
 //! let script = r#"{"version":1,"turns":50,"idle":100000000,"cpus":1,
@@ -13,14 +15,23 @@
 //!
 //! What is proved is said of the library's calls (docs/C.md); that this crate calls them as they are declared is not.
 #![warn(missing_docs)]
+#![cfg_attr(not(feature = "std"), no_std)]
 
+#[cfg(feature = "std")]
 mod bank;
+#[cfg(feature = "std")]
 mod calls;
+#[cfg(feature = "std")]
+mod fault;
 mod word;
 
-pub use bank::{Bank, Closing, Held, Missed, NotClosed, Reference, Resumed, RowLaw, Seat, SeatFault, Token};
+#[cfg(feature = "std")]
+pub use bank::{Bank, Closing, Held, Missed, NotClosed, Reference, Resumed, RowLaw, Seat, Token};
+#[cfg(feature = "std")]
 pub use calls::{
     check_trace, explore_orders, is_text, run_text, run_turns, show_turns, text_json, End, Finding, Judgement, Orders, Refusal,
     Run, TextRun, Tried,
 };
+#[cfg(feature = "std")]
+pub use fault::SeatFault;
 pub use word::{StepFault, Word};

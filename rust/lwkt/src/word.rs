@@ -1,5 +1,4 @@
-use std::error::Error;
-use std::fmt;
+use core::fmt;
 
 // As include/lwkt.h declares them.
 extern "C" {
@@ -39,7 +38,8 @@ impl fmt::Display for StepFault {
     }
 }
 
-impl Error for StepFault {}
+#[cfg(feature = "std")]
+impl std::error::Error for StepFault {}
 
 /// The word of a token that the caller keeps: the exclusive bit, the mark, the count of references, the generation. The steps are
 /// decisions: each gives the word to store in place of this one, by an exchange of the caller's own.

@@ -27,7 +27,7 @@ fn seats() -> Vec<Seat> {
 }
 
 fn refused<T>(answer: Result<T, SeatFault>) -> u32 {
-    answer.err().map_or(0, |fault| fault.0)
+    answer.err().map_or(0, SeatFault::number)
 }
 
 // Writes the record of the token of lengths anew, all of one letter, and its length into the cell.
@@ -131,7 +131,7 @@ fn nest(held: &mut Held<'_>, further: u32) -> u32 {
         Ok(mut next) => nest(&mut next, further + 1),
         Err(fault) => {
             assert_eq!(further, 31);
-            fault.0
+            fault.number()
         }
     }
 }
@@ -197,7 +197,7 @@ fn a_record_of_another_length_is_the_first_one_again() {
 fn missed(place: usize, fault: u32) -> Option<Missed> {
     Some(Missed {
         place,
-        fault: SeatFault(fault),
+        fault: SeatFault::of_number(fault),
     })
 }
 
@@ -347,7 +347,7 @@ fn a_bank_with_a_forgotten_reference_is_not_closed() {
     let mut bank = Bank::open(&tokens(), 2).unwrap();
     std::mem::forget(bank.seats()[1].take(SUM).unwrap());
     let refused = bank.close().unwrap_err();
-    assert_eq!(refused.fault, SeatFault(51));
+    assert_eq!(refused.fault, SeatFault::SeatHolds);
     assert_eq!(refused.to_string(), "a token is held");
     let mut bank = refused.bank;
     std::mem::forget(bank.seats()[1].take(SUM).unwrap());
@@ -384,4 +384,26 @@ fn seats_are_one_bank_again() {
     );
     assert!(Bank::of_seats(Vec::new()).is_err());
     assert!(Bank::of_seats(other).unwrap().close().is_ok());
+}
+
+// Runs a bank to its close, as a program does whose errors go to other threads.
+fn run_to_close() -> Result<usize, Box<dyn std::error::Error + Send + Sync>> {
+    let mut bank = Bank::open(&tokens(), 1)?;
+    bank.seats()[0].take(ANY)?.store(0, 1)?;
+    bank.seats()[0].resume(&[Reference::shared(ANY)])?.block();
+    Ok(bank.close()?.len())
+}
+
+#[test]
+fn errors_are_boxed_for_other_threads() {
+    assert_eq!(run_to_close().unwrap(), TOKENS as usize);
+}
+
+#[test]
+fn a_fault_has_the_number_that_it_was_made_of() {
+    for number in 0..100 {
+        assert_eq!(SeatFault::of_number(number).number(), number);
+    }
+    assert_eq!(SeatFault::of_number(34), SeatFault::Race);
+    assert_eq!(SeatFault::of_number(99).to_string(), "fault 99");
 }

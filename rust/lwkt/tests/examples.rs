@@ -38,15 +38,16 @@ fn scripts_have_their_reports() {
             continue;
         }
         let script = fs::read(with(&path, ".json")).unwrap();
-        let wanted = fs::read_to_string(with(&path, ".out")).unwrap();
         match run_turns(&script) {
             Ok(run) => {
+                let wanted = fs::read_to_string(with(&path, ".out")).unwrap();
                 let end = if run.end == End::Ended { "0" } else { "2" };
                 assert_eq!((run.text, end.to_string()), (wanted, status(&path)), "{}", path.display());
             }
             Err(refusal) => {
+                let wanted = fs::read_to_string(with(&path, ".err")).unwrap();
                 assert_eq!(status(&path), "1", "{}", path.display());
-                assert!(refusal.to_string().starts_with(&wanted), "{}", path.display());
+                assert_eq!(refusal.to_string(), wanted.trim_end(), "{}", path.display());
             }
         }
     }
