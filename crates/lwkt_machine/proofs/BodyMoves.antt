@@ -1,6 +1,6 @@
 -- Polls of a body, one after another.
 use Rattle.std.proofs.Common.{◌≡◌, ℕ, zero, suc, ◌<◌, ◌≤◌, Bool, true, false, List, [], ◌∷◌, ◌++◌, length, take, refl, ap, sym, ◌∙◌, subst, arith, Option, Some, None, append_assoc, length-append}
-use Rattle.std.specs.Prelude.{map, option_map, option_to_list, replicate, slice_get, unwrap_or, nat_lt, if◌then◌else◌}
+use Rattle.std.specs.Prelude.{IfSome, map, option_map, option_to_list, replicate, slice_get, unwrap_or, nat_lt, if◌then◌else◌}
 use Rattle.std.proofs.lemmas.Bool.{ltb-true, ltb-false, le-ltb}
 use Rattle.std.proofs.lemmas.List.{length-map}
 use Rattle.std.proofs.lemmas.Option.{slice_get_within}
@@ -24,8 +24,12 @@ abbrev pub body_so : Program → Local → Option Ask → Option Answer → List
 body_so program local asked heard log = record { program = program; local = local; asked = asked; heard = heard; log = log }
 
 -- a poll: the answer is heard, and then the next ask is made
-pub polled_so : (old mid new : Scripted) (last : Answer) (ask : Ask) → mid ≡ after_hearing last old → ask ≡ (next_of mid last).0 → new ≡ after_ask last mid → IsPolled old last ask new
-polled_so old mid new last ask heard asks goes = (asks ∙ ap (λ (m : Scripted). (next_of m last).0) heard, goes ∙ ap (λ (m : Scripted). after_ask last m) heard)
+pub polled_so : (old mid new : Scripted) (last : Answer) (ask : Ask) → mid ≡ after_hearing last old → IfSome mid.heard (λ (l : Answer). ask ≡ (next_of mid l).0) → IfSome mid.heard (λ (l : Answer). new ≡ after_ask l mid) → IsPolled old last ask new
+polled_so old mid new last ask heard asks goes =
+    let is : mid.heard ≡ Some last = ap (λ (m : Scripted). m.heard) heard in
+    let asks_so : ask ≡ (next_of mid last).0 = subst (λ (o : Option Answer). IfSome o (λ (l : Answer). ask ≡ (next_of mid l).0)) is asks in
+    let goes_so : new ≡ after_ask last mid = subst (λ (o : Option Answer). IfSome o (λ (l : Answer). new ≡ after_ask l mid)) is goes in
+    (asks_so ∙ ap (λ (m : Scripted). (next_of m last).0) heard, goes_so ∙ ap (λ (m : Scripted). after_ask last m) heard)
 
 asks_from : (polls : List (Answer × Ask)) (old b : Scripted) → ArePolls old polls b → map (λ (q : Answer × Ask). q.1) polls ≡ asks_by old.program.steps old.local (map (λ (q : Answer × Ask). q.0) polls)
 asks_from [] old b are = refl

@@ -1,5 +1,5 @@
 -- The body of a script's thread (own).
-use Rattle.std.specs.Prelude.{◌≡◌, nat_lt, if◌then◌else◌, List, [], ◌∷◌, ◌++◌, length, slice_get, Option, Some, None, option_and_then}
+use Rattle.std.specs.Prelude.{◌≡◌, ℕ, nat_lt, if◌then◌else◌, List, [], ◌∷◌, ◌++◌, length, slice_get, Option, Some, None, option_and_then}
 use Rattle.lwkt_base.specs.declared.asks.Ask.{Ask}
 use Rattle.lwkt_base.specs.declared.asks.Answer.{Answer}
 use Rattle.lwkt_base.specs.declared.entries.Entry.{Entry}
@@ -10,8 +10,6 @@ use Rattle.lwkt_code.specs.Answers.{last_step, logs}
 use Rattle.lwkt_code.specs.Next.{next, fixed_ask}
 use Rattle.lwkt_code.specs.Programs.{Program, start}
 use Rattle.lwkt_script.specs.Logs.{entry_of, failure_of}
-use Rattle.lwkt_machine.specs.declared.bodies.Said.{Said}
-use Rattle.lwkt_machine.specs.declared.bodies.Said.TheVariants.{Nothing, Standing, Made}
 
 -- what callers see of a body: its program and where it stands there, what it asked at its last poll and which answer it was given there,
 -- and its log
@@ -26,11 +24,10 @@ pub record Scripted : Type 0 where
 abbrev pub unpolled : Program → Scripted
 unpolled program = record { program = program; local = start program; asked = None; heard = None; log = [] }
 
--- the ask that is meant: one that stands among the steps, or another
-abbrev pub ask_said : List Step → Said → Option Ask
-ask_said steps Nothing = None
-ask_said steps (Standing at) = option_and_then fixed_ask (slice_get steps at)
-ask_said steps (Made ask) = Some ask
+-- the ask that stands at a place among the steps, or else another
+abbrev pub ask_said : List Step → Option ℕ → Option Ask → Option Ask
+ask_said steps None made = made
+ask_said steps (Some at) made = option_and_then fixed_ask (slice_get steps at)
 
 -- what an answer puts in the log, by where its thread stands and what it asked last; nothing, if nothing was asked
 abbrev pub entry_by : List Step → Local → Option Ask → Answer → Option Entry

@@ -1,5 +1,5 @@
 //! The bodies of a script's threads.
-ghost use Rattle.std.specs.Prelude.{◌≡◌, ◌<◌, ◌≤◌, List, length, false, IfOk, Option, None, option_and_then};
+ghost use Rattle.std.specs.Prelude.{◌≡◌, ◌<◌, ◌≤◌, List, length, vec_capacity, false, IfOk, IfSome, Option, None, option_and_then};
 ghost use Rattle.std.specs.Option.{option_copied};
 ghost use Rattle.lwkt_base.specs.declared.asks.Ask.{Ask};
 ghost use Rattle.lwkt_code.specs.declared.locals.Local.{Local};
@@ -18,24 +18,16 @@ use lwkt_script::{entry_of, failure_of};
 use std::alloc::Global;
 use std::marker::Model;
 
-/// What a body asked last.
-#[derive(Clone, Copy)]
-pub enum Said {
-    /// Nothing: it was never polled.
-    Nothing,
-    /// The ask that stands at this place of its program.
-    Standing(usize),
-    /// Another one.
-    Made(Ask),
-}
-
 /// The body of a script's thread: it asks what its program asks, by the answers that it is given, and after its end `Exit` ever after. Its
 /// log has the first 32 entries that its answers make; an answer `Done` makes none.
 #[derive(Drop)]
 pub struct ScriptBody {
     code: Code,
     local: Local,
-    asked: Said,
+    // Where the last ask stands in the program, if it stands there.
+    standing: Option<usize>,
+    // Else the last ask, if there is one.
+    made: Option<Ask>,
     heard: Option<Answer>,
     log: Vec<Entry>,
 }
@@ -51,32 +43,68 @@ impl Model for ScriptBody {
 
     ghost coded = { Prim.hlevel (codes, term_code, formula_code) };
 
-    ghost view = { λ b. record { program = b.code; local = b.local; asked = ask_said b.code.steps b.asked; heard = b.heard; log = b.log.items } };
+    ghost view = { λ b. record { program = b.code; local = b.local; asked = ask_said b.code.steps b.standing b.made; heard = b.heard; log = b.log.items } };
 
     ghost invariant = { λ b. (length b.log.items ≤ LOG_LIMIT) × (LOG_LIMIT ≤ vec_capacity b.log) };
 }
 
-// The ask that is meant.
-fn said_in<'a>(steps: &'a [Step], said: &'a Said) -> Option<&'a Ask>
-    ensures { option_copied result ≡ ask_said steps.now said.now }
+// The ask that stands at a place, or else another.
+fn said_in<'a>(steps: &'a [Step], standing: Option<usize>, made: &'a Option<Ask>) -> Option<&'a Ask>
+    ensures { option_copied result ≡ ask_said steps.now standing made.now }
 {
-    match said {
-        Said::Nothing => None,
-        Said::Standing(at) => fixed_at(steps, *at),
-        Said::Made(ask) => Some(ask),
+    match standing {
+        None => made.as_ref(),
+        Some(at) => fixed_at(steps, at),
     }
 }
 
-// What an answer that was heard puts in the log.
-fn entry_of_heard(code: &Code, local: &Local, said: &Said, heard: &Option<Answer>) -> Option<Entry>
-    ensures { result ≡ option_and_then (λ answer. entry_by code.now.steps local.now (ask_said code.now.steps said.now) answer) heard.now }
+// What an answer that was heard puts in the log, by what was asked.
+fn entry_of_heard(
+    code: &Code,
+    local: &Local,
+    asked: Option<&Ask>,
+    heard: &Option<Answer>,
+) -> Option<Entry>
+    ensures { result ≡ option_and_then (λ answer. entry_by code.now.steps local.now (option_copied asked.entry) answer) heard.now }
 {
     let answer = heard.as_ref()?;
-    let ask = said_in(code.steps(), said)?;
+    let ask = asked?;
     if code.logs(local, answer) {
         entry_of(*ask, *answer)
     } else {
         None
+    }
+}
+
+// Keeps what an ask puts in a log by itself, if the log has room.
+#[inline(never)]
+#[tactic(auto, using(crate::proofs::BodyMoves::full_log))]
+fn add_failure(log: &mut Vec<Entry>, ask: &Ask)
+    requires few { length log.old.items ≤ LOG_LIMIT }
+    requires room { LOG_LIMIT ≤ vec_capacity log.old }
+    ensures items { log.new.items ≡ logged log.old.items (failure_of ask.now) }
+    ensures few { length log.new.items ≤ LOG_LIMIT }
+    ensures room { LOG_LIMIT ≤ vec_capacity log.new }
+{
+    if log.len() >= LOG_LIMIT {
+        return;
+    }
+    if let Some(entry) = failure_of(ask) {
+        log.push(entry).unwrap();
+    }
+}
+
+// The same. Only an assertion that doesn't hold puts something there.
+#[inline(always)]
+fn keep_failure(log: &mut Vec<Entry>, ask: &Ask)
+    requires few { length log.old.items ≤ LOG_LIMIT }
+    requires room { LOG_LIMIT ≤ vec_capacity log.old }
+    ensures items { log.new.items ≡ logged log.old.items (failure_of ask.now) }
+    ensures few { length log.new.items ≤ LOG_LIMIT }
+    ensures room { LOG_LIMIT ≤ vec_capacity log.new }
+{
+    if let Ask::Fail(_) = ask {
+        add_failure(log, ask);
     }
 }
 
@@ -103,7 +131,8 @@ impl ScriptBody {
         Ok(ScriptBody {
             code,
             local,
-            asked: Said::Nothing,
+            standing: None,
+            made: None,
             heard: None,
             log,
         })
@@ -127,7 +156,7 @@ impl ScriptBody {
     pub fn asked(&self) -> Option<&Ask>
         ensures { option_copied result ≡ self.now.asked }
     {
-        said_in(self.code.steps(), &self.asked)
+        said_in(self.code.steps(), self.standing, &self.made)
     }
 
     /// The answer that the body was given at its last poll: that to the ask before, and `Begin` at its first poll. `None` before
@@ -152,7 +181,7 @@ impl ScriptBody {
         requires { length self.old.log < LOG_LIMIT }
         ensures { self.new ≡ record self.old { log = logged self.old.log (entry_kept self.old) } }
     {
-        if let Some(entry) = entry_of_heard(&self.code, &self.local, &self.asked, &self.heard) {
+        if let Some(entry) = entry_of_heard(&self.code, &self.local, self.asked(), &self.heard) {
             self.log.push(entry).unwrap();
         }
     }
@@ -171,66 +200,49 @@ impl ScriptBody {
     // answer that is copied takes its room for a record along.
     #[inline(always)]
     #[tactic(auto, using(crate::proofs::BodyMoves::nothing_done))]
-    fn hear(&mut self, last: &Answer)
-        ensures { self.new ≡ after_hearing last.now self.old }
+    fn hear(&mut self, last: Answer)
+        ensures { self.new ≡ after_hearing last self.old }
     {
         if let Answer::Done = last {
             self.heard = Some(Answer::Done);
             return;
         }
-        self.heard = Some(*last);
+        self.heard = Some(last);
         self.keep();
     }
 
-    // Keeps what an ask puts in the log by itself, if the log has room.
+    // Goes on to the next ask, whatever that is, by the answer that was heard.
     #[inline(never)]
-    #[tactic(auto, using(crate::proofs::BodyMoves::full_log))]
-    fn add_failure(&mut self, ask: &Ask)
-        ensures { self.new ≡ record self.old { log = logged self.old.log (failure_of ask.now) } }
+    fn ask_any(&mut self) -> Ask
+        ensures ask { IfSome self.old.heard (λ last. result ≡ (next_of self.old last).0) }
+        ensures goes { IfSome self.old.heard (λ last. self.new ≡ after_ask last self.old) }
     {
-        if self.log.len() >= LOG_LIMIT {
-            return;
-        }
-        if let Some(entry) = failure_of(ask) {
-            self.log.push(entry).unwrap();
-        }
-    }
-
-    // The same. Only an assertion that doesn't hold puts something there.
-    #[inline(always)]
-    fn keep_failure(&mut self, ask: &Ask)
-        ensures { self.new ≡ record self.old { log = logged self.old.log (failure_of ask.now) } }
-    {
-        if let Ask::Fail(_) = ask {
-            self.add_failure(ask);
-        }
-    }
-
-    // Goes on to the next ask, whatever that is.
-    #[inline(never)]
-    fn ask_any(&mut self, last: &Answer) -> Ask
-        ensures ask { result ≡ (next_of self.old last.now).0 }
-        ensures goes { self.new ≡ after_ask last.now self.old }
-    {
+        let Some(last) = &self.heard else {
+            return Ask::Exit;
+        };
         let ask = self.code.next(&mut self.local, last);
-        self.keep_failure(&ask);
-        self.asked = Said::Made(ask);
+        keep_failure(&mut self.log, &ask);
+        self.standing = None;
+        self.made = Some(ask);
         ask
     }
 
-    // Goes on to the next ask. One that stands where the body stands is copied from there, and only its place is kept.
+    // Goes on to the next ask, by the answer that was heard. One that stands where the body stands is copied from there once, and only its
+    // place is kept.
     #[inline(always)]
-    fn ask_next(&mut self, last: &Answer) -> Ask
-        ensures ask { result ≡ (next_of self.old last.now).0 }
-        ensures goes { self.new ≡ after_ask last.now self.old }
+    fn ask_next(&mut self) -> Ask
+        ensures ask { IfSome self.old.heard (λ last. result ≡ (next_of self.old last).0) }
+        ensures goes { IfSome self.old.heard (λ last. self.new ≡ after_ask last self.old) }
     {
+        let Some(last) = &self.heard else {
+            return Ask::Exit;
+        };
         match self.code.pass(&mut self.local, last) {
-            None => self.ask_any(last),
+            None => self.ask_any(),
             Some(ask) => {
-                let ask = *ask;
-                self.asked = Said::Standing(self.local.at - 1);
-                self.keep_failure(&ask);
-                ask
+                self.standing = Some(self.local.at - 1);
+                keep_failure(&mut self.log, ask);
+                *ask
             }
         }
     }
@@ -244,8 +256,8 @@ impl Body for ScriptBody {
     #[inline(always)]
     #[tactic(auto, using(crate::proofs::BodyMoves::polled_so))]
     fn poll(&mut self, last: Answer) -> Ask {
-        self.hear(&last);
-        self.ask_next(&last)
+        self.hear(last);
+        self.ask_next()
     }
 }
 

@@ -24,7 +24,6 @@ use Rattle.lwkt_code.specs.contracts.codes.Code as Code
 use Rattle.lwkt_code.specs.contracts.codes.Code.TheInside as InCode
 use Rattle.lwkt_machine.specs.contracts.bodies.ScriptBody as ScriptBody
 use Rattle.lwkt_machine.specs.contracts.bodies.ScriptBody.TheInside as InBody
-use Rattle.lwkt_machine.proofs.bodies.Said.TheSendSync as said
 use Rattle.lwkt_code.proofs.exprs.ExprTree.TheLaws.TheKnot.{send-ExprTree}
 use Rattle.lwkt_code.proofs.exprs.CondTree.TheLaws.TheKnot.{send-CondTree}
 use Rattle.lwkt_code.proofs.exprs.Operator.TheSendSync as operators
@@ -59,4 +58,4 @@ code : IsSend Code.the_row
 code = view_send _ _ _ _ _ (declared_send InCode.the_type (search (sendable, crosses, step)))
 
 pub body_send : IsSend ScriptBody.the_row
-body_send = view_send _ _ _ _ _ (declared_send InBody.the_type (code, (locals.the_send, (said.the_send, (search (sendable, options.the_send, answers.the_send), (search (sendable, crosses, entries.the_send), tt))))))
+body_send = view_send _ _ _ _ _ (declared_send InBody.the_type (code, (locals.the_send, (search (sendable, options.the_send), (search (sendable, options.the_send, asks.the_send), (search (sendable, options.the_send, answers.the_send), (search (sendable, crosses, entries.the_send), tt)))))))
