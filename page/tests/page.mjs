@@ -1,4 +1,5 @@
 // The page in a browser: page.mjs BROWSER PAGE [STANDIN]. With a third word the module's place is taken by the program of this tree.
+// With PAGE_TESTS set, a regular expression, only the parts whose names fit it are tried.
 import { readFileSync } from "node:fs";
 import { createServer } from "node:http";
 import { fileURLToPath } from "node:url";
@@ -10,6 +11,7 @@ import { callProgram, check, counted, exampleNames, examples, finish, namesIn, r
 const [program, made, standin] = process.argv.slice(2);
 const { url, close } = await openable(made, Boolean(standin));
 const browser = new Browser(program);
+const only = new RegExp(process.env.PAGE_TESTS || "");
 const settled = "!document.getElementById('look').matches('[aria-busy=true]') && !isDrawing";
 
 const put = (tab, script) => tab.ask(`(() => { const box = document.getElementById('script'); box.value = ${JSON.stringify(script)}; box.dispatchEvent(new Event('input')); })()`);
@@ -70,6 +72,23 @@ async function tryCourse(tab, name) {
   same(await tab.ask(`[...document.querySelectorAll('.thread .name, [data-token] .name')].map((it) => it.textContent.trim()).sort()`), names, `${name}: names beside the numbers`);
   await click(tab, "last");
   await settle(tab);
+}
+
+// A text of threads that decide, with its loops and its `for`: in each turn that asks for a step, the step's sentence is marked.
+async function tryDeciding(tab, name) {
+  const script = read(examples, "version3", `${name}.lwkt`), { status, text: told } = callProgram("lwkt_run_text", script);
+  await run(tab, script);
+  if (status === 1) return check((await text(tab, "refusal")).length > 0, `${name}: is refused`);
+  const shown = await tab.ask(`[...document.querySelectorAll('#verdicts li')].map((it) => [...it.querySelectorAll('span')].map((part) => part.textContent.trim()))`);
+  same(shown.map(([words, line]) => `${line.replace("line ", "")}: ${words}`), told.match(/^\d+: (holds|doesn't hold|not decided)$/gm), `${name}: its expectations`);
+  const turns = await tab.ask("run.windows.get(0).turns.slice(0, 24).map((it) => [it.number, it.step?.startsWith('step') ? it.ask : ''])");
+  for (const [number, step] of turns) {
+    await goTo(tab, number);
+    const marks = await tab.ask(`[...document.querySelectorAll('#mirror.asked mark')].map((it) => it.textContent)`);
+    const fits = step ? marks.length === 1 && marks[0].includes(/^\["(\w+)/.exec(step)[1]) && script.includes(marks[0]) : marks.length === 0;
+    if (!fits) check(false, `${name}, turn ${number}: of ${step} ${JSON.stringify(marks)} is marked`);
+  }
+  check(turns.some(([, step]) => step), `${name}: steps of ${turns.length} turns are marked`);
 }
 
 // What is wrong with a text is told, each with its place and a mark; what is typed tells its form.
@@ -650,6 +669,7 @@ async function tryOdd(tab) {
 }
 
 async function part(name, work) {
+  if (!only.test(name)) return;
   try {
     await work();
   } catch (error) {
@@ -662,6 +682,7 @@ try {
   check(await tab.until(`run && !isDrawing && document.querySelectorAll('.thread').length === 2`), "the page begins with a run");
   for (const name of exampleNames()) await part(name, () => tryExample(tab, name));
   for (const name of namesIn("litmus", ".lwkt")) await part(name, () => tryCourse(tab, name));
+  for (const name of namesIn("version3", ".lwkt")) await part(name, () => tryDeciding(tab, name));
   for (const name of ["crossed_lists", "server_of_three", "law_broken_at_yield"]) await part(name, () => tryWalk(tab, name));
   for (const name of namesIn("refused", ".json")) await part(name, () => tryRefusal(tab, name));
   const parts = { tryStates, tryMessages, tryWhy, tryEditor, tryAsked, tryKeys, tryTabbing, tryLink, tryPaste, tryNames, tryParts, tryOdd, tryLong, tryStop, tryTrap, tryTexts, tryOrders, tryReplay, tryRecords, tryUrgent };
