@@ -322,13 +322,15 @@ function setBusy(is) {
 async function start(turn = 0, order = null) {
   const script = at("script").value;
   clearRefusal();
+  markOld();
   say("Running ..");
   setBusy(true);
   try {
     const answer = await makeRun(script, order);
     say("");
-    if (answer.refused) showRefusal(script, answer.refused, answer.isText);
-    else showRun(answer.made, turn);
+    if (!answer.refused) showRun(answer.made, turn);
+    else if (script === at("script").value) showRefusal(script, answer.refused, answer.isText);
+    else putRunAway("Not run yet.");
   } catch (error) {
     putRunAway("Nothing came of the last run.");
     say(`It didn't run: ${error.message}`);
@@ -341,7 +343,27 @@ async function start(turn = 0, order = null) {
 function putRunAway(words) {
   run = null;
   at("ran").hidden = at("along").hidden = at("expected").hidden = true;
+  at("verdicts").replaceChildren();
   at("verdict").textContent = words;
+  markOld();
+}
+
+// Marks what is shown of a run as old while another script stands in the editor.
+function markOld() {
+  const isOld = Boolean(run) && run.text !== at("script").value;
+  at("old").hidden = !isOld;
+  at("look").classList.toggle("old", isOld);
+}
+
+// What an edit leaves: no refusal, and of an old run what it was, marked as old.
+function noteEdit() {
+  if (at("stop").hidden) say("");
+  clearRefusal();
+  if (!run) putRunAway("Not run yet.");
+  markOld();
+  chooseExample("");
+  clearOrders();
+  showFormSoon();
 }
 
 function showVerdict(it) {
@@ -366,6 +388,7 @@ function showRun(it, turn) {
   performance.mark("ran");
   run = it;
   chosen = wanted = 0;
+  markOld();
   showVerdict(it);
   showOrder(it);
   at("ran").hidden = it.total === 0 && Boolean(it.order);
@@ -779,7 +802,7 @@ function listen() {
   at("save-trace").addEventListener("click", () => save("trace.json", wholeTrace(), "application/json"));
   at("save-picture").addEventListener("click", () => save("run.svg", run.drawn || "", "image/svg+xml"));
   at("example").addEventListener("change", () => openExample(at("example").value));
-  at("script").addEventListener("input", () => { if (at("stop").hidden) say(""); clearRefusal(); chooseExample(""); clearOrders(); showFormSoon(); });
+  at("script").addEventListener("input", noteEdit);
   at("orders-start").addEventListener("click", tryOrders);
   at("orders-stop").addEventListener("click", () => stopWorker("it was stopped", searcher));
   at("script").addEventListener("scroll", followScroll);

@@ -384,6 +384,30 @@ async function tryEditor(tab) {
   check(await tab.ask(`document.getElementById('bubble').hidden && !document.getElementById('refusal').textContent`), "an edit clears it");
 }
 
+// What stands of a run is marked as old from an edit to the next run, or until the edit is taken back; of a refusal nothing stands.
+async function tryOld(tab) {
+  const script = read(examples, "litmus/14_a_sum.lwkt"), shown = () => tab.ask(`['old', 'ran', 'expected'].map((id) => document.getElementById(id).checkVisibility())`);
+  await run(tab, script);
+  same(await shown(), [false, true, true], "a run isn't old");
+  await put(tab, `${script} `);
+  same(await shown(), [true, true, true], "after an edit it is");
+  check((await text(tab, "old")).startsWith("Not run yet"), "which is said");
+  await put(tab, script);
+  same(await shown(), [false, true, true], "and no more when the edit is taken back");
+  await run(tab, script.replace("get accounts", "get acounts"));
+  same([await shown(), await tab.ask(`document.querySelectorAll('#verdicts li, #order-verdicts li, #outcomes li').length`)], [[false, false, false], 0], "no verdict stands above a refusal");
+  check((await text(tab, "verdict")).startsWith("The script was refused"), "which is said");
+  await put(tab, script);
+  same([await shown(), await text(tab, "verdict")], [[false, false, false], "Not run yet."], "nor a refusal above another script");
+  await click(tab, "run");
+  await settle(tab);
+  same(await shown(), [false, true, true], "the next run is shown");
+  await put(tab, `${script}\ntoken accounts`);
+  await tab.ask(`start(); document.getElementById('script').value = ${JSON.stringify(script)}; noteEdit()`);
+  await settle(tab);
+  same([await text(tab, "verdict"), await tab.ask(`document.querySelectorAll('#mirror mark').length`)], ["Not run yet.", 0], "a refusal that comes after an edit isn't shown");
+}
+
 // The step that the chosen turn's thread asks for is marked in the editor, in JSON and in texts, and brought into view.
 async function tryAsked(tab) {
   const marks = () => tab.ask(`[...document.querySelectorAll('#mirror.asked mark')].map((it) => it.textContent)`);
@@ -685,7 +709,7 @@ try {
   for (const name of namesIn("version3", ".lwkt")) await part(name, () => tryDeciding(tab, name));
   for (const name of ["crossed_lists", "server_of_three", "law_broken_at_yield"]) await part(name, () => tryWalk(tab, name));
   for (const name of namesIn("refused", ".json")) await part(name, () => tryRefusal(tab, name));
-  const parts = { tryStates, tryMessages, tryWhy, tryEditor, tryAsked, tryKeys, tryTabbing, tryLink, tryPaste, tryNames, tryParts, tryOdd, tryLong, tryStop, tryTrap, tryTexts, tryOrders, tryReplay, tryRecords, tryUrgent };
+  const parts = { tryStates, tryMessages, tryWhy, tryEditor, tryOld, tryAsked, tryKeys, tryTabbing, tryLink, tryPaste, tryNames, tryParts, tryOdd, tryLong, tryStop, tryTrap, tryTexts, tryOrders, tryReplay, tryRecords, tryUrgent };
   for (const [name, work] of Object.entries(parts)) await part(name, () => work(tab));
   await part("served", tryServed);
   await part("first link", tryFirstLink);
