@@ -235,7 +235,7 @@ function scrollToChosen() {
 function showNumbers() {
   at("number").value = chosen;
   at("number").max = run.total - 1;
-  at("of").textContent = `of 0 to ${run.total - 1}`;
+  at("of").textContent = `of ${run.total - 1}`;
   for (const [id, off] of [["first", chosen === 0], ["back", chosen === 0], ["forth", chosen >= run.total - 1], ["last", chosen >= run.total - 1]]) {
     at(id).setAttribute("aria-disabled", String(off));
   }
@@ -284,6 +284,29 @@ async function choose(turn) {
   } finally {
     isDrawing = false;
   }
+}
+
+// ---- Playing: a turn after another, from the first again where the last one is chosen.
+
+let playing = 0;
+
+function setPlaying(is) {
+  clearTimeout(playing);
+  playing = is ? setTimeout(playOn, 1000 / Number(at("speed").value)) : 0;
+  at("play").textContent = is ? "Pause" : "Play";
+  at("chosen").setAttribute("aria-live", is ? "off" : "polite");
+}
+
+async function playOn() {
+  const own = playing;
+  await choose(chosen + 1);
+  if (playing === own) setPlaying(chosen < run.total - 1);
+}
+
+async function togglePlay() {
+  if (playing || !run?.total) return setPlaying(false);
+  if (chosen === run.total - 1) await choose(0);
+  setPlaying(true);
 }
 
 // ---- The picture: the whole of a short run, else 20 rounds of it.
@@ -342,7 +365,8 @@ async function start(turn = 0, order = null) {
 // Takes all that is shown of a run away, and says what stands in its place.
 function putRunAway(words) {
   run = null;
-  at("ran").hidden = at("along").hidden = at("expected").hidden = true;
+  setPlaying(false);
+  for (const id of ["ran", "rest", "along", "expected"]) at(id).hidden = true;
   at("verdicts").replaceChildren();
   at("verdict").textContent = words;
   markOld();
@@ -357,6 +381,7 @@ function markOld() {
 
 // What an edit leaves: no refusal, and of an old run what it was, marked as old.
 function noteEdit() {
+  setPlaying(false);
   if (at("stop").hidden) say("");
   clearRefusal();
   if (!run) putRunAway("Not run yet.");
@@ -391,7 +416,8 @@ function showRun(it, turn) {
   markOld();
   showVerdict(it);
   showOrder(it);
-  at("ran").hidden = it.total === 0 && Boolean(it.order);
+  setPlaying(false);
+  at("ran").hidden = at("rest").hidden = it.total === 0 && Boolean(it.order);
   showExpected(it);
   at("report").textContent = [...it.whole.ends, ...it.whole.report].join("\n");
   for (const id of ["chains", "judged", "chains-note", "trace-note"]) at(id).textContent = "";
@@ -783,9 +809,10 @@ function turnsKey(event) {
   if (!run || event.ctrlKey || event.altKey || event.metaKey) return;
   const page = Math.max(1, Math.floor(at("turns").clientHeight / rowHeight) - 1);
   const moves = { ArrowDown: 1, ArrowUp: -1, ArrowRight: toSame(1), ArrowLeft: toSame(-1), PageDown: page, PageUp: -page, Home: -run.total, End: run.total };
-  if (!(event.key in moves)) return;
+  if (event.key === " ") togglePlay();
+  else if (event.key in moves) step(moves[event.key]);
+  else return;
   event.preventDefault();
-  step(moves[event.key]);
 }
 
 function setTheme(isDark) {
@@ -828,6 +855,7 @@ function listen() {
   for (const [id, by] of [["first", -Infinity], ["back", -1], ["forth", 1], ["last", Infinity]]) {
     at(id).addEventListener("click", () => (Number.isFinite(by) ? step(by) : run && choose(by < 0 ? 0 : run.total - 1)));
   }
+  at("play").addEventListener("click", togglePlay);
   at("number").addEventListener("change", () => choose(Number(at("number").value)));
   at("rounds-back").addEventListener("click", () => step(-pictureRounds * (run.order ? 1 : run.cpus)));
   at("rounds-forth").addEventListener("click", () => step(pictureRounds * (run.order ? 1 : run.cpus)));
@@ -845,7 +873,7 @@ async function begin() {
   if (typeof WebAssembly !== "object") return say("This browser has no WebAssembly.");
   if (await takeFragment()) return;
   const why = at("status").textContent;
-  await openExample("crossed_lists");
+  await openExample("01_one_at_a_time");
   if (why) say(why);
 }
 

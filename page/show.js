@@ -227,6 +227,13 @@ function hasColumns(picture) {
   return places.every((x, i) => i === 0 || x !== places[i - 1]);
 }
 
+// A picture is as wide as its place where its letters are then neither too small nor too large.
+function fitPicture(picture) {
+  const wide = picture.viewBox.baseVal.width;
+  picture.style.width = `clamp(${wide * 1.25}px, 100%, ${wide * 1.8}px)`;
+  picture.style.height = "auto";
+}
+
 // Puts a picture into its place and returns its root, or null where the text is no picture, or one that can't be read.
 function showPicture(place, text, isAlong) {
   const read = new DOMParser().parseFromString(text, "image/svg+xml");
@@ -236,8 +243,9 @@ function showPicture(place, text, isAlong) {
     return null;
   }
   const root = place.shadowRoot || place.attachShadow({ mode: "open" });
-  const style = make("style", {}, "svg{display:block}g[data-turn]{cursor:pointer}.chosen{fill:none;stroke:#0a58ca;stroke-width:3}");
+  const style = make("style", {}, "svg{display:block}g[data-turn]{cursor:pointer}.chosen{fill:none;stroke:#0a58ca;stroke-width:3}.later{opacity:.4}");
   root.replaceChildren(style, document.importNode(read.documentElement, true));
+  fitPicture(root.querySelector("svg"));
   for (const group of root.querySelectorAll("g")) {
     const found = /^turn (\d+), /.exec(group.querySelector("title")?.textContent || "");
     if (found) group.dataset.turn = found[1];
@@ -245,18 +253,19 @@ function showPicture(place, text, isAlong) {
   return root;
 }
 
-// Marks a turn in the picture, and brings it into view.
+// Marks a turn in the picture, with the turns behind it pale, and brings it into view.
 function markPicture(place, number) {
-  const root = place.shadowRoot;
-  root?.querySelector(".chosen")?.remove();
-  if (!root?.querySelector("svg")) return;
-  const box = root?.querySelector(`g[data-turn="${number}"] rect`);
+  const picture = place.shadowRoot?.querySelector("svg");
+  picture?.querySelector(".chosen")?.remove();
+  for (const group of picture?.querySelectorAll("g[data-turn]") || []) group.classList.toggle("later", Number(group.dataset.turn) > number);
+  const box = picture?.querySelector(`g[data-turn="${number}"] rect`);
   if (!box) return;
   const value = (name) => Number(box.getAttribute(name));
   const mark = document.createElementNS("http://www.w3.org/2000/svg", "rect");
   const attributes = { class: "chosen", x: value("x") - 3, y: value("y") - 3, width: value("width") + 6, height: value("height") + 6, rx: 3 };
   for (const [name, it] of Object.entries(attributes)) mark.setAttribute(name, it);
-  root.querySelector("svg").append(mark);
-  const left = value("x") - place.clientWidth / 2, top = value("y") - place.clientHeight / 2;
+  picture.append(mark);
+  const scale = picture.getBoundingClientRect().width / picture.viewBox.baseVal.width;
+  const left = value("x") * scale - place.clientWidth / 2, top = value("y") * scale - place.clientHeight / 2;
   place.scrollTo(Math.max(0, left), Math.max(0, top));
 }

@@ -473,6 +473,42 @@ async function tryKeys(tab) {
   same(await tab.ask("chosen"), 4, "a click in the picture leads there");
 }
 
+// Play goes on by itself up to the last turn, and from there to the first; it can be paused, and an edit ends it.
+async function tryPlay(tab) {
+  await run(tab, read(examples, "litmus/01_one_at_a_time.lwkt"));
+  await tab.ask(`document.getElementById('speed').value = '10'`);
+  await goTo(tab, 10);
+  await click(tab, "play");
+  same(await text(tab, "play"), "Pause", "it plays");
+  check(await tab.until("chosen === 15 && !playing"), "up to the last turn");
+  same(await text(tab, "play"), "Play", "and ends there");
+  await click(tab, "play");
+  check(await tab.until("playing && chosen > 1 && chosen < 15"), "again, from the first turn");
+  await tab.ask(`document.getElementById('turns').focus()`);
+  await tab.key(" ");
+  await settle(tab);
+  const paused = await tab.ask("chosen");
+  await new Promise((resolve) => setTimeout(resolve, 300));
+  same(await tab.ask("[chosen, playing]"), [paused, 0], "a blank pauses it");
+  same(await tab.ask(`document.getElementById('drawing').shadowRoot.querySelectorAll('.later').length`), 15 - paused, "what comes later is pale");
+  await tab.key(" ");
+  await put(tab, "");
+  same(await tab.ask("playing"), 0, "an edit ends it");
+  await tab.ask(`document.getElementById('speed').value = '1'`);
+}
+
+// The page opens with a lesson as a text, and with its picture in view, large enough to be read; on a phone too.
+async function tryOpening() {
+  for (const [width, height] of [[1366, 768], [390, 844]]) {
+    const tab = await browser.open(url, { width, height });
+    await tab.until(`run && ${settled} && document.querySelector('#drawing').shadowRoot?.querySelector('.chosen')`);
+    same(await value(tab, "script"), read(examples, "litmus/01_one_at_a_time.lwkt"), "the page opens with a lesson");
+    const [top, bottom, size] = await tab.ask(`(() => { const box = document.getElementById('drawing').getBoundingClientRect(), svg = document.getElementById('drawing').shadowRoot.querySelector('svg'); return [box.top, box.bottom, 10 * svg.getBoundingClientRect().width / svg.viewBox.baseVal.width]; })()`);
+    check(top > 0 && bottom < height && size >= 12, `its picture is in view at ${width} pixels, from ${top} to ${bottom}, with letters of ${size}`);
+    await tab.close();
+  }
+}
+
 // From the top with Tab alone: each thing that can be used is reached, shows that it has the focus, and nothing keeps it.
 async function tryTabbing(tab) {
   await run(tab, read(examples, "crossed_lists.json"));
@@ -483,7 +519,7 @@ async function tryTabbing(tab) {
     const id = await tab.ask(`document.activeElement === document.body ? '' : document.activeElement.id || document.activeElement.textContent.slice(0, 20)`);
     if (id) reached.add(id);
   }
-  for (const id of ["theme", "example", "script", "run", "link", "first", "back", "forth", "last", "number", "turns", "drawing", "report"]) check(reached.has(id), `Tab reaches ${id}`);
+  for (const id of ["theme", "example", "script", "run", "link", "first", "back", "play", "forth", "last", "speed", "number", "turns", "drawing", "report"]) check(reached.has(id), `Tab reaches ${id}`);
   const lines = await tab.ask(`(() => { document.getElementById('turns').focus(); return getComputedStyle(document.getElementById('turns')).outlineStyle; })()`);
   check(lines !== "none", "the focus is seen");
 }
@@ -709,8 +745,9 @@ try {
   for (const name of namesIn("version3", ".lwkt")) await part(name, () => tryDeciding(tab, name));
   for (const name of ["crossed_lists", "server_of_three", "law_broken_at_yield"]) await part(name, () => tryWalk(tab, name));
   for (const name of namesIn("refused", ".json")) await part(name, () => tryRefusal(tab, name));
-  const parts = { tryStates, tryMessages, tryWhy, tryEditor, tryOld, tryAsked, tryKeys, tryTabbing, tryLink, tryPaste, tryNames, tryParts, tryOdd, tryLong, tryStop, tryTrap, tryTexts, tryOrders, tryReplay, tryRecords, tryUrgent };
+  const parts = { tryStates, tryMessages, tryWhy, tryEditor, tryOld, tryAsked, tryKeys, tryPlay, tryTabbing, tryLink, tryPaste, tryNames, tryParts, tryOdd, tryLong, tryStop, tryTrap, tryTexts, tryOrders, tryReplay, tryRecords, tryUrgent };
   for (const [name, work] of Object.entries(parts)) await part(name, () => work(tab));
+  await part("opening", tryOpening);
   await part("served", tryServed);
   await part("first link", tryFirstLink);
   if (!standin) await part("first run", tryFirst);
