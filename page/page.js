@@ -382,6 +382,7 @@ function markOld() {
 // What an edit leaves: no refusal, and of an old run what it was, marked as old.
 function noteEdit() {
   setPlaying(false);
+  numberLines();
   if (at("stop").hidden) say("");
   clearRefusal();
   if (!run) putRunAway("Not run yet.");
@@ -541,6 +542,23 @@ function leadTo(part) {
   at("script").setSelectionRange(part.from, part.to);
 }
 
+// The lines of the editor, each with its number, laid out as the editor lays them out. A long script has none.
+let numbered = null;
+
+function numberLines() {
+  const script = at("script").value, isShort = script.length <= mostMarked;
+  if (script === numbered) return;
+  numbered = script;
+  at("lines").replaceChildren(...(isShort ? script.split("\n").map((line) => make("div", {}, line || " ")) : []));
+  followScroll();
+}
+
+// Puts a script into the editor.
+function putScript(script) {
+  at("script").value = script;
+  numberLines();
+}
+
 // Marks parts in the editor, and gives the first mark.
 function putMarks(script, parts, kind) {
   const pieces = [];
@@ -579,7 +597,7 @@ function markAsk(it, turn) {
 // Keeps the mark and what is under it beside the text.
 function followScroll() {
   const box = at("script"), mark = at("mirror").querySelector("mark");
-  at("mirror").scrollTop = box.scrollTop;
+  at("mirror").scrollTop = at("lines").scrollTop = box.scrollTop;
   if (!mark || !at("bubble").textContent) return;
   const rows = mark.getClientRects(), last = rows[rows.length - 1], outer = at("editor").getBoundingClientRect();
   const top = last.bottom - outer.top + 3;
@@ -749,7 +767,7 @@ async function takeFragment() {
     return false;
   }
   chooseExample("");
-  at("script").value = found.script;
+  putScript(found.script);
   clearOrders();
   await start(found.turn, found.order);
   return true;
@@ -788,7 +806,7 @@ function openExample(name) {
   const found = examples.find((it) => it.dataset.name === name);
   if (!found) return null;
   chooseExample(name);
-  at("script").value = found.textContent.replace(/^\n/, "");
+  putScript(found.textContent.replace(/^\n/, ""));
   clearOrders();
   return start();
 }

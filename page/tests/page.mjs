@@ -384,6 +384,24 @@ async function tryEditor(tab) {
   check(await tab.ask(`document.getElementById('bubble').hidden && !document.getElementById('refusal').textContent`), "an edit clears it");
 }
 
+// Each line of the editor has its number, at the height of its first row, also where lines are broken; a long script has none.
+async function tryLines(tab) {
+  const script = `${read(examples, "litmus/14_a_sum.lwkt")}\n${"# ab ".repeat(100)}\n\n${"a".repeat(1000)}\nlast`;
+  await put(tab, script);
+  const numbers = await tab.ask(`document.querySelectorAll('#lines > div').length`);
+  same(numbers, script.split("\n").length, "each line has a number");
+  const alike = `(() => { const [a, b] = ['script', 'lines'].map((id) => document.getElementById(id)); a.scrollTop = 1e6; followScroll(); return [a.clientWidth - b.clientWidth, a.scrollHeight - b.scrollHeight, a.scrollTop - b.scrollTop, a.scrollTop > 0]; })()`;
+  same(await tab.ask(alike), [0, 0, 0, true], "numbers and text are laid out alike");
+  const [first, second] = [/^thread clerk.*/m, /^thread auditor.*/m].map((it) => script.slice(0, script.search(it)).split("\n").length - 1);
+  const offset = await tab.ask(`(() => { putMarks(document.getElementById('script').value, [['thread clerk'], ['thread auditor']].map(([it]) => ({ from: document.getElementById('script').value.indexOf(it), to: document.getElementById('script').value.indexOf(it) + 5 })), 'asked'); followScroll(); const lines = document.querySelectorAll('#lines > div'); return [...document.querySelectorAll('#mirror mark')].map((mark, i) => Math.abs(mark.getBoundingClientRect().top - lines[[${first}, ${second}][i]].getBoundingClientRect().top) < 6); })()`);
+  same(offset, [true, true], "a number stands beside its line");
+  await put(tab, "#".padEnd(100001));
+  same(await tab.ask(`document.querySelectorAll('#lines > div').length`), 0, "a long script has no numbers");
+  await tab.ask(`openExample('01_one_at_a_time')`);
+  await settle(tab);
+  same(await tab.ask(`document.querySelectorAll('#lines > div').length`), read(examples, "litmus/01_one_at_a_time.lwkt").split("\n").length, "those of an example");
+}
+
 // What stands of a run is marked as old from an edit to the next run, or until the edit is taken back; of a refusal nothing stands.
 async function tryOld(tab) {
   const script = read(examples, "litmus/14_a_sum.lwkt"), shown = () => tab.ask(`['old', 'ran', 'expected'].map((id) => document.getElementById(id).checkVisibility())`);
@@ -745,7 +763,7 @@ try {
   for (const name of namesIn("version3", ".lwkt")) await part(name, () => tryDeciding(tab, name));
   for (const name of ["crossed_lists", "server_of_three", "law_broken_at_yield"]) await part(name, () => tryWalk(tab, name));
   for (const name of namesIn("refused", ".json")) await part(name, () => tryRefusal(tab, name));
-  const parts = { tryStates, tryMessages, tryWhy, tryEditor, tryOld, tryAsked, tryKeys, tryPlay, tryTabbing, tryLink, tryPaste, tryNames, tryParts, tryOdd, tryLong, tryStop, tryTrap, tryTexts, tryOrders, tryReplay, tryRecords, tryUrgent };
+  const parts = { tryStates, tryMessages, tryWhy, tryEditor, tryLines, tryOld, tryAsked, tryKeys, tryPlay, tryTabbing, tryLink, tryPaste, tryNames, tryParts, tryOdd, tryLong, tryStop, tryTrap, tryTexts, tryOrders, tryReplay, tryRecords, tryUrgent };
   for (const [name, work] of Object.entries(parts)) await part(name, () => work(tab));
   await part("opening", tryOpening);
   await part("served", tryServed);
