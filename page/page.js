@@ -387,7 +387,7 @@ function noteEdit() {
   clearRefusal();
   if (!run) putRunAway("Not run yet.");
   markOld();
-  chooseExample("");
+  nameScript(null);
   clearOrders();
   showFormSoon();
 }
@@ -766,7 +766,8 @@ async function takeFragment() {
     say(`The link's script isn't shown: ${found.why}.`);
     return false;
   }
-  chooseExample("");
+  showLesson(null);
+  nameScript(null);
   putScript(found.script);
   clearOrders();
   await start(found.turn, found.order);
@@ -792,20 +793,56 @@ function keepShort(event) {
 
 const examples = [...document.querySelectorAll("script.example")];
 
-function chooseExample(name) {
-  at("example").value = name;
-  at("told").textContent = examples.find((it) => it.dataset.name === name)?.dataset.told || "";
+const lessons = examples.filter((it) => it.dataset.group === "lesson");
+const titleOf = (it) => it.dataset.name.replace(/_/g, " ");
+
+// The lesson that is shown, if one is; an edit of its script leaves it.
+let lesson = null;
+
+// Words in which backticks stand round code.
+function codeParts(words) {
+  return words.split("`").map((part, i) => (i % 2 ? make("code", {}, part) : part));
 }
 
-function exampleGroup(label, group) {
-  const options = examples.filter((it) => it.dataset.group === group);
-  return make("optgroup", { label }, ...options.map((it) => make("option", { value: it.dataset.name }, it.dataset.name.replace(/_/g, " "))));
+// A lesson's question, and its answer behind a click.
+function showLesson(it) {
+  lesson = it;
+  const { question, answer, told } = it?.dataset || {};
+  at("question").replaceChildren(...(it ? codeParts(question || `${titleOf(it)}: what will it print?`) : []));
+  at("answered").replaceChildren(...[answer, told].filter(Boolean).map((words) => make("p", {}, ...codeParts(words))));
+  at("answer").hidden = !it;
+  at("answer").open = false;
+  at("next").disabled = it !== null && it === lessons.at(-1);
+}
+
+// Says in the two lists whether the script is a lesson's, a test's or another one.
+function nameScript(it) {
+  const isLesson = it?.dataset.group === "lesson";
+  at("lessons").value = isLesson ? it.dataset.name : "";
+  at("example").value = it && !isLesson ? it.dataset.name : "";
+  at("told").textContent = it && !isLesson ? it.dataset.told : "";
+}
+
+// The scripts of a group, or of a part of it.
+function options(label, of) {
+  return make("optgroup", { label }, ...of.map((it) => make("option", { value: it.dataset.name }, titleOf(it))));
+}
+
+function fillLists() {
+  const own = () => make("option", { value: "" }, "(own script)"), parts = [...new Set(lessons.map((it) => it.dataset.part))];
+  at("lessons").append(own(), ...parts.map((part) => options(part, lessons.filter((it) => it.dataset.part === part))));
+  at("example").append(own(), options("Tests, in JSON", examples.filter((it) => it.dataset.group === "test")));
+}
+
+function nextLesson() {
+  openExample(lessons[lessons.indexOf(lesson) + 1].dataset.name);
 }
 
 function openExample(name) {
   const found = examples.find((it) => it.dataset.name === name);
   if (!found) return null;
-  chooseExample(name);
+  showLesson(found.dataset.group === "lesson" ? found : null);
+  nameScript(found);
   putScript(found.textContent.replace(/^\n/, ""));
   clearOrders();
   return start();
@@ -846,7 +883,8 @@ function listen() {
   at("save-chains").addEventListener("click", () => save("sections.txt", run.parts.get("chains") || "", "text/plain"));
   at("save-trace").addEventListener("click", () => save("trace.json", wholeTrace(), "application/json"));
   at("save-picture").addEventListener("click", () => save("run.svg", run.drawn || "", "image/svg+xml"));
-  at("example").addEventListener("change", () => openExample(at("example").value));
+  for (const id of ["lessons", "example"]) at(id).addEventListener("change", () => openExample(at(id).value));
+  at("next").addEventListener("click", nextLesson);
   at("script").addEventListener("input", noteEdit);
   at("orders-start").addEventListener("click", tryOrders);
   at("orders-stop").addEventListener("click", () => stopWorker("it was stopped", searcher));
@@ -886,12 +924,12 @@ function listen() {
 
 async function begin() {
   setTheme(matchMedia("(prefers-color-scheme: dark)").matches);
-  at("example").append(make("option", { value: "" }, "(own script)"), exampleGroup("A course, in order", "course"), exampleGroup("Examples", "examples"));
+  fillLists();
   listen();
   if (typeof WebAssembly !== "object") return say("This browser has no WebAssembly.");
   if (await takeFragment()) return;
   const why = at("status").textContent;
-  await openExample("01_one_at_a_time");
+  await openExample(lessons[0].dataset.name);
   if (why) say(why);
 }
 

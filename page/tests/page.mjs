@@ -6,7 +6,7 @@ import { fileURLToPath } from "node:url";
 import { deflateRawSync } from "node:zlib";
 import { Browser } from "./browser.mjs";
 import { openable } from "./standin.mjs";
-import { callProgram, check, counted, exampleNames, examples, finish, namesIn, read, same, statusOf } from "./tools.mjs";
+import { callProgram, check, counted, exampleNames, examples, finish, namesIn, read, same, statusOf, top } from "./tools.mjs";
 
 const [program, made, standin] = process.argv.slice(2);
 const { url, close } = await openable(made, Boolean(standin));
@@ -57,11 +57,11 @@ async function tryExample(tab, name) {
 
 // A text of the course: its report is that of the same script in JSON, and all that it expects holds.
 async function tryCourse(tab, name) {
-  await tab.ask(`(() => { const box = document.getElementById('example'); box.value = ${JSON.stringify(name)}; box.dispatchEvent(new Event('change')); })()`);
+  await tab.ask(`(() => { const box = document.getElementById('lessons'); box.value = ${JSON.stringify(name)}; box.dispatchEvent(new Event('change')); })()`);
   await settle(tab);
   const script = read(examples, "litmus", `${name}.lwkt`);
   same(await value(tab, "script"), script, `${name}: its text is in the editor`);
-  check((await text(tab, "told")).length > 0, `${name}: something is said of it`);
+  check((await text(tab, "question")).endsWith("?") && (await text(tab, "answered")).length > 0, `${name}: it has a question and an answer`);
   check(await tab.until(`document.getElementById('editor').dataset.form === 'text'`), `${name}: it is read as a text`);
   const wanted = callProgram("lwkt_run_turns", read(examples, "litmus", `${name}.json`)).text;
   check(`${await text(tab, "report")}\n`.endsWith(wanted), `${name}: its report`);
@@ -89,6 +89,36 @@ async function tryDeciding(tab, name) {
     if (!fits) check(false, `${name}, turn ${number}: of ${step} ${JSON.stringify(marks)} is marked`);
   }
   check(turns.some(([, step]) => step), `${name}: steps of ${turns.length} turns are marked`);
+}
+
+// The lessons of the course in its order, one after another, each with its question or one of its title, the answer behind a click; and
+// apart from them the tests.
+async function tryLessons(tab) {
+  const course = read(top, "docs", "COURSE.md"), names = [...course.matchAll(/^- \[\w+\]\(\.\.\/examples\/\w+\/(\w+)\.lwkt\): /gm)].map(([, it]) => it);
+  const valuesOf = (id) => tab.ask(`[...document.getElementById('${id}').options].slice(1).map((it) => it.value)`);
+  same([await valuesOf("lessons"), (await valuesOf("example")).sort()], [names, exampleNames().sort()], "lessons and tests");
+  await tab.ask(`openExample(${JSON.stringify(names[0])})`);
+  const questions = [];
+  for (const [number, name] of names.entries()) {
+    await settle(tab);
+    same([await value(tab, "lessons"), await value(tab, "example"), await tab.ask(`document.getElementById('answer').open`)], [name, "", false], `${name} is shown, without its answer`);
+    questions.push(await text(tab, "question"));
+    if (number + 1 < names.length) await click(tab, "next");
+  }
+  const asked = questions.filter((it) => !it.endsWith(": what will it print?"));
+  same([...new Set(asked)].length, (course.match(/^\*\*.*\*\*$/gm) || []).length, "each question of the course is asked");
+  same(questions[0], "What does second read? Could it read something else in another order?", "the first one");
+  same(questions[2], "03 recursion: what will it print?", "a lesson without one");
+  check(await tab.ask(`document.getElementById('next').disabled`), "behind the last lesson there is none");
+  await tab.ask(`openExample(${JSON.stringify(names[13])})`);
+  await put(tab, "token t");
+  same([await value(tab, "lessons"), await text(tab, "question") !== ""], ["", true], "an edited lesson keeps its question");
+  await click(tab, "next");
+  await settle(tab);
+  same([await value(tab, "lessons"), await value(tab, "script")], [names[14], read(examples, "litmus", `${names[14]}.lwkt`)], "and the next one follows it");
+  await tab.ask(`openExample('crossed_lists')`);
+  await settle(tab);
+  same([await value(tab, "lessons"), await text(tab, "question"), (await text(tab, "told")).length > 0, await tab.ask(`document.getElementById('answer').hidden`)], ["", "", true, true], "a test has no question");
 }
 
 // What is wrong with a text is told, each with its place and a mark; what is typed tells its form.
@@ -397,7 +427,7 @@ async function tryLines(tab) {
   same(offset, [true, true], "a number stands beside its line");
   await put(tab, "#".padEnd(100001));
   same(await tab.ask(`document.querySelectorAll('#lines > div').length`), 0, "a long script has no numbers");
-  await tab.ask(`openExample('01_one_at_a_time')`);
+  await tab.ask(`openExample("01_one_at_a_time")`);
   await settle(tab);
   same(await tab.ask(`document.querySelectorAll('#lines > div').length`), read(examples, "litmus/01_one_at_a_time.lwkt").split("\n").length, "those of an example");
 }
@@ -534,10 +564,10 @@ async function tryTabbing(tab) {
   const reached = new Set();
   for (let i = 0; i < 60; i += 1) {
     await tab.key("Tab");
-    const id = await tab.ask(`document.activeElement === document.body ? '' : document.activeElement.id || document.activeElement.textContent.slice(0, 20)`);
+    const id = await tab.ask(`document.activeElement === document.body ? '' : document.activeElement.id || document.activeElement.closest('details')?.id || document.activeElement.textContent.slice(0, 20)`);
     if (id) reached.add(id);
   }
-  for (const id of ["theme", "example", "script", "run", "link", "first", "back", "play", "forth", "last", "speed", "number", "turns", "drawing", "report"]) check(reached.has(id), `Tab reaches ${id}`);
+  for (const id of ["theme", "lessons", "next", "answer", "example", "script", "run", "link", "first", "back", "play", "forth", "last", "speed", "number", "turns", "drawing", "report"]) check(reached.has(id), `Tab reaches ${id}`);
   const lines = await tab.ask(`(() => { document.getElementById('turns').focus(); return getComputedStyle(document.getElementById('turns')).outlineStyle; })()`);
   check(lines !== "none", "the focus is seen");
 }
@@ -763,7 +793,7 @@ try {
   for (const name of namesIn("version3", ".lwkt")) await part(name, () => tryDeciding(tab, name));
   for (const name of ["crossed_lists", "server_of_three", "law_broken_at_yield"]) await part(name, () => tryWalk(tab, name));
   for (const name of namesIn("refused", ".json")) await part(name, () => tryRefusal(tab, name));
-  const parts = { tryStates, tryMessages, tryWhy, tryEditor, tryLines, tryOld, tryAsked, tryKeys, tryPlay, tryTabbing, tryLink, tryPaste, tryNames, tryParts, tryOdd, tryLong, tryStop, tryTrap, tryTexts, tryOrders, tryReplay, tryRecords, tryUrgent };
+  const parts = { tryStates, tryMessages, tryWhy, tryEditor, tryLines, tryOld, tryAsked, tryKeys, tryPlay, tryTabbing, tryLink, tryPaste, tryNames, tryParts, tryOdd, tryLong, tryStop, tryTrap, tryLessons, tryTexts, tryOrders, tryReplay, tryRecords, tryUrgent };
   for (const [name, work] of Object.entries(parts)) await part(name, () => work(tab));
   await part("opening", tryOpening);
   await part("served", tryServed);
