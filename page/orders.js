@@ -80,6 +80,38 @@ function outcomeItem(outcome, go) {
 
 const boundWords = { states: "the bound of states was reached", turns: "some orders have too many turns", memory: "the memory was used up", stopped: "it was stopped" };
 
+// What a line of an outcome's report says, each fact with its head: what it is of, by its name where there is one.
+function factsIn(line, names) {
+  const [kind, number, ...words] = line.split(" "), thread = readThread(line);
+  const name = (names[`${kind}s`] || [])[number] ?? `${kind} ${number}`, cells = names.cells[number] || [];
+  if (kind === "token") return [[`${name} gen`, words[1]], ...words.slice(3).map((cell, i, { length }) => [cells.length === length && cells[i] ? `${name}.${cells[i]}` : `${name} cell ${i}`, cell])];
+  if (kind === "record") return [[`record of ${names.tokens[number] ?? `token ${number}`}`, recordWords(words[0].replace("-", ""))]];
+  if (kind === "message") return [[`${name} round`, words[1]], [name, words.slice(2).join(" ")]];
+  if (!thread) return [];
+  const who = names.threads.get(thread.id) ?? `thread ${thread.id}`;
+  return [[who, thread.state], [`list of ${who}`, thread.list.join(" ")], [`log of ${who}`, thread.log.map(entryWords).join(" ")]];
+}
+
+// What outcomes differ in: the heads of that, a row of each outcome, and of the others what is the same in all.
+function differences(outcomes, names) {
+  const facts = outcomes.map((outcome) => new Map([["ends", outcome.kind], ...outcome.report.flatMap((line) => factsIn(line, names))]));
+  const heads = [...new Set(facts.flatMap((it) => [...it.keys()]))];
+  const valuesOf = (head) => new Set(facts.map((it) => it.get(head) ?? ""));
+  const differing = heads.filter((head) => valuesOf(head).size > 1);
+  const same = heads.filter((head) => !differing.includes(head) && facts[0].get(head)).map((head) => `${head} ${facts[0].get(head)}`);
+  return { heads: differing.map((head) => ({ head, count: valuesOf(head).size })), rows: facts.map((it) => differing.map((head) => it.get(head) ?? "")), same };
+}
+
+// Outcomes as a table of what differs between them, with counts: of the values of a column, and of an outcome's turns and other forms.
+function differTable(outcomes, names, go) {
+  const { heads, rows, same } = differences(outcomes, names), hasForms = outcomes.some(({ forms }) => forms.length);
+  const first = ["Outcome", ...heads.map(({ head, count }) => `${head} (${count} values)`), "Turns", ...(hasForms ? ["Other forms"] : []), ""];
+  const parts = outcomes.map(({ number, order, forms }, i) => make("tr", {}, make("th", { scope: "row" }, number),
+    ...rows[i].map((value) => make("td", { class: "mono" }, value || "-")), make("td", {}, order.length), hasForms ? make("td", {}, forms.length) : null,
+    make("td", {}, make("button", { type: "button", class: "small", "aria-label": `Replay outcome ${number} of the table`, onclick: () => go(order) }, "Replay"))));
+  return [table(first, parts), make("p", { class: "quiet" }, same.length ? `The same in all: ${same.join(", ")}.` : "")];
+}
+
 // What was searched, in words.
 function sumWords({ sum }, isLast) {
   const states = sum.states === 1 ? "1 state" : `${sum.states} states`;

@@ -642,8 +642,8 @@ function setSearching(is) {
 function clearOrders() {
   if (search) stopWorker("it was stopped", searcher);
   search = null;
-  for (const id of ["outcomes", "lost", "order-verdicts"]) at(id).replaceChildren();
-  at("judged-orders").hidden = true;
+  for (const id of ["differ", "outcomes", "lost", "order-verdicts"]) at(id).replaceChildren();
+  at("judged-orders").hidden = at("each").hidden = true;
   sayOrders("");
 }
 
@@ -655,9 +655,17 @@ function replay(order) {
   });
 }
 
+// More than one outcome as a table, which stands before what is said of each; that is then closed.
+function showDifferences(outcomes, names) {
+  if (at("each").hidden || (outcomes.length > 1 && !at("differ").firstChild)) at("each").open = outcomes.length < 2;
+  at("each").hidden = outcomes.length === 0;
+  at("differ").replaceChildren(...(outcomes.length > 1 ? differTable(outcomes, names, replay) : []));
+}
+
 function showOrders(read, isLast, script) {
   sayOrders(sumWords(read, isLast));
   at("lost").replaceChildren(...lostParts(read.lost, replay));
+  showDifferences(read.outcomes.slice(0, mostItems), namesOf(script));
   at("outcomes").replaceChildren(...firstItems(read.outcomes, (outcome) => outcomeItem(outcome, replay)));
   at("judged-orders").hidden = read.verdicts.length === 0;
   const rows = script.split("\n");

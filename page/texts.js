@@ -45,14 +45,24 @@ function textSteps(sentences, numbered, json) {
   return new Map(known.map(([id, parts]) => [id, parts.map(sentenceOf)]));
 }
 
-// The names that a text gives to its tokens and messages, by their numbers, and to its threads, by processor and number there. They
-// are numbered in the order of their sentences; of a text that repeats sentences, or has a constant for a processor, no names are known.
+// The names of the cells that a token's sentence declares, or "" of a cell without one.
+function cellNames(said) {
+  const cells = /\bcells\b(.*)$/s.exec(said)?.[1] ?? "";
+  return [...cells.matchAll(/(?:([A-Za-z_]\w*)\s*=?\s*)?\d+/g)].map(([, name]) => name ?? "");
+}
+
+// The names that a text gives to its tokens, their cells and its messages, by their numbers, and to its threads, by processor and number
+// there. They are numbered in the order of their sentences; of a text that repeats sentences, or has a constant for a processor, no names
+// are known.
 function namesOf(text) {
-  const names = { tokens: [], messages: [], threads: new Map() }, counts = new Map();
+  const names = { tokens: [], cells: [], messages: [], threads: new Map() }, counts = new Map();
   for (const { said } of sentencesOf(text)) {
     const [kind, name, , cpu] = said.split(/[\s,:]+/);
     if (kind === "for" || (kind === "thread" && !/^\d+$/.test(cpu))) return noNames;
-    if (kind === "token") names.tokens.push(name);
+    if (kind === "token") {
+      names.tokens.push(name);
+      names.cells.push(cellNames(said));
+    }
     if (kind === "message") names.messages.push(name);
     if (kind !== "thread") continue;
     const number = counts.get(cpu) || 0;
@@ -62,7 +72,7 @@ function namesOf(text) {
   return names;
 }
 
-const noNames = { tokens: [], messages: [], threads: new Map() };
+const noNames = { tokens: [], cells: [], messages: [], threads: new Map() };
 
 // What a line of a text expects, each by itself.
 function expectationsIn(line) {

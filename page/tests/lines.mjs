@@ -6,7 +6,7 @@ import { load } from "./tools.mjs";
 const lines = load("lines.js", ["readRun", "readEvent", "readOpenings", "partsOf", "readWrongs", "readRefusal", "openState", "copyState", "tell", "tellFirstWords", "recordWords", "entryWords", "askPlace"]);
 const texts = load("texts.js", ["verdictsIn", "saidAt", "namesOf", "sentencesOf", "numberSteps", "textSteps"], "script.js");
 const scripts = load("script.js", ["jsonSteps", "cutScript", "longWords", "membersOf", "partAt", "placeOf", "skipValue"]);
-const orders = load("orders.js", ["readForm", "readSum"]);
+const orders = load("orders.js", ["readForm", "readSum", "readOrders", "differences"], "lines.js", "texts.js", "script.js");
 
 // Every line of a run is read: all its turns, and the report behind them.
 function tryExample(name) {
@@ -216,6 +216,17 @@ same(["a".repeat(1048576), "\n".repeat(2999), "\r\n".repeat(2999), ""].map(scrip
 same(["a".repeat(1048577), "\u00e4".repeat(524289)].map((it) => scripts.longWords(it).slice(0, 23)), Array(2).fill("more than 1048576 bytes"), "too many bytes");
 same(["\n", "\r", "\r\n"].map((it) => scripts.longWords(it.repeat(3000)).slice(0, 20)), Array(3).fill("more than 3000 lines"), "too many lines");
 same(["3 outcomes; 90 states, 133 turns; complete", "1 outcome; 1 state, 0 turns; a part (states)", "1 outcome; 2 states, 3 turns; a part"].map(orders.readSum).map((it) => [it.isComplete, it.bound]), [[true, null], [false, "states"], [false, null]], "how a search ended");
+// The table of what outcomes differ in: of any two outcomes some column differs, and each column has its values.
+function tryDifferences(script) {
+  const { outcomes } = orders.readOrders(callProgram("lwkt_explore_orders", script, "64000 100000").text);
+  const found = orders.differences(outcomes, texts.namesOf(script)), rows = found.rows.map((it) => it.join("; "));
+  check(new Set(rows).size === outcomes.length && found.heads.every(({ count }, i) => count === new Set(found.rows.map((it) => it[i])).size && count > 1), `outcomes differ: ${rows}`);
+  return [found.heads.map(({ head, count }) => `${head} ${count}`), found.rows.at(-1), found.same];
+}
+same(tryDifferences(read(examples, "litmus/14_a_sum.lwkt")), [["log of auditor 3"], ["v=5 v=5 v=5 v=5"], ["ends ended", "accounts gen 1", "accounts.from 2", "accounts.to 8", "clerk exited", "auditor exited"]], "what differs, with names");
+same(tryDifferences(read(examples, "crossed_lists.json")).slice(0, 2), [["token 0 cell 0 2", "log of thread 0.0 3"], ["8", "v=7 v=8"]], "with numbers");
+same(tryDifferences(read(examples, "litmus/24_drops.lwkt"))[0], ["ends 2", "note round 2", "sender 2", "log of sender 3", "receiver 2", "log of receiver 3"], "with messages and ends");
+same(texts.namesOf("token t: any, cells a=1 2, 3 b 4\ntoken s: tally\ntoken r: cells x=N y=1").cells, [["a", "", "", "b"], [], ["y"]], "names of cells");
 same(orders.readForm("or message 0 round 1 rest; message 1 round 1 back, order 0 1 1 0"), { said: "message 0 round 1 rest; message 1 round 1 back", order: [0, 1, 1, 0] }, "how else messages may stand");
 const named = texts.namesOf("# token no\ntoken a: any, cells 1; token,b # token c\n thread t on 1, repeat 2:\nget a; thread u on 0\nmessage m of t\nthread v on 1");
 same([named.tokens, named.messages, [...named.threads]], [["a", "b"], ["m"], [["1.0", "t"], ["0.0", "u"], ["1.1", "v"]]], "the names of a text");

@@ -186,6 +186,25 @@ async function tryOrders(tab) {
   await tab.ask(`document.getElementById('states').value = 64000`);
 }
 
+// More than one outcome is a table of what differs, in the script's names, with a replay in each row; what is said of each is then closed.
+async function tryDifferences(tab) {
+  const shown = () => tab.ask(`[...document.querySelectorAll('#differ tr')].map((row) => [...row.children].map((it) => it.textContent).join('|'))`);
+  const each = () => tab.ask(`[document.getElementById('each').hidden, document.getElementById('each').open]`);
+  await put(tab, read(examples, "litmus/14_a_sum.lwkt"));
+  same([await shown(), await each()], [[], [true, false]], "before a search there is no table");
+  await click(tab, "orders-start");
+  await tab.until(searched);
+  same(await shown(), ["Outcome|log of auditor (3 values)|Turns|", "1|v=2 v=8 v=2 v=8|16|Replay", "2|v=5 v=5 v=2 v=8|16|Replay", "3|v=5 v=5 v=5 v=5|16|Replay"], "what differs between three outcomes");
+  check((await text(tab, "differ")).includes("The same in all: ends ended, accounts gen 1, accounts.from 2,"), `and what doesn't: ${await text(tab, "differ")}`);
+  same(await each(), [false, false], "each outcome is behind a click");
+  await tab.ask(`document.querySelectorAll('#differ button')[1].click()`);
+  check(await tab.until(`run?.order?.length === 16 && ${settled}`) && (await text(tab, "report")).includes("v=5 v=5 v=2 v=8"), "a row's order is replayed");
+  await put(tab, read(examples, "litmus/23_calls_that_wait_for_each_other.lwkt"));
+  await click(tab, "orders-start");
+  await tab.until(searched);
+  same([await shown(), await each()], [[], [false, true]], "one outcome has no table");
+}
+
 // A click replays the order of an outcome, turn by turn: its turns are those of the order, and after the last one its report stands.
 async function tryReplay(tab) {
   const script = read(examples, "crossed_lists.json");
@@ -793,7 +812,7 @@ try {
   for (const name of namesIn("version3", ".lwkt")) await part(name, () => tryDeciding(tab, name));
   for (const name of ["crossed_lists", "server_of_three", "law_broken_at_yield"]) await part(name, () => tryWalk(tab, name));
   for (const name of namesIn("refused", ".json")) await part(name, () => tryRefusal(tab, name));
-  const parts = { tryStates, tryMessages, tryWhy, tryEditor, tryLines, tryOld, tryAsked, tryKeys, tryPlay, tryTabbing, tryLink, tryPaste, tryNames, tryParts, tryOdd, tryLong, tryStop, tryTrap, tryLessons, tryTexts, tryOrders, tryReplay, tryRecords, tryUrgent };
+  const parts = { tryStates, tryMessages, tryWhy, tryEditor, tryLines, tryOld, tryAsked, tryKeys, tryPlay, tryTabbing, tryLink, tryPaste, tryNames, tryParts, tryOdd, tryLong, tryStop, tryTrap, tryLessons, tryTexts, tryOrders, tryDifferences, tryReplay, tryRecords, tryUrgent };
   for (const [name, work] of Object.entries(parts)) await part(name, () => work(tab));
   await part("opening", tryOpening);
   await part("served", tryServed);
