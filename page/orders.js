@@ -98,7 +98,7 @@ function differences(outcomes, names) {
   const heads = [...new Set(facts.flatMap((it) => [...it.keys()]))];
   const valuesOf = (head) => new Set(facts.map((it) => it.get(head) ?? ""));
   const differing = heads.filter((head) => valuesOf(head).size > 1);
-  const same = heads.filter((head) => !differing.includes(head) && facts[0].get(head)).map((head) => `${head} ${facts[0].get(head)}`);
+  const same = heads.filter((head) => head !== "ends" && !differing.includes(head) && facts[0].get(head)).map((head) => `${head} ${facts[0].get(head)}`);
   return { heads: differing.map((head) => ({ head, count: valuesOf(head).size })), rows: facts.map((it) => differing.map((head) => it.get(head) ?? "")), same };
 }
 

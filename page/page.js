@@ -502,8 +502,8 @@ function beginRefusal(answer) {
   at("script").setAttribute("aria-invalid", "true");
 }
 
-function goThere(part) {
-  return make("button", { type: "button", class: "small", onclick: () => leadTo(part) }, "Go there");
+function goThere(part, words = "Go there") {
+  return make("button", { type: "button", class: "small", onclick: () => leadTo(part) }, words);
 }
 
 // The first items of a list, and behind them how many more there are.
@@ -532,9 +532,9 @@ function showExpected(it) {
 // What a text expects: whether it holds, what it is, where it stands, and the order that decides it, if one does.
 function expectationItem(script, { line, words, said, order }, go) {
   const [holds, color] = { holds: ["true", "good"], "doesn't hold": ["false", "bad"], "not decided": ["open", "open"] }[words], from = placeOf(script, line, 1);
-  const there = goThere({ from, to: (script.indexOf("\n", from) + 1 || script.length + 1) - 1 });
+  const there = goThere({ from, to: (script.indexOf("\n", from) + 1 || script.length + 1) - 1 }, `line ${line}`);
   const by = order ? [" decided by the order ", make("code", { class: "order" }, order.join(" ") || "of no turn"), " ", make("button", { type: "button", class: "small", onclick: () => go(order) }, "Replay")] : [];
-  return make("li", { "data-holds": holds }, make("span", { class: color }, words), " ", make("code", {}, said), " ", there, make("span", { class: "quiet" }, ` line ${line}`), ...by);
+  return make("li", { "data-holds": holds }, make("span", { class: color }, words), " ", make("code", {}, said), " ", there, ...by);
 }
 
 function leadTo(part) {
