@@ -298,9 +298,9 @@ function setPlaying(is) {
 }
 
 async function playOn() {
-  const own = playing;
-  await choose(chosen + 1);
-  if (playing === own) setPlaying(chosen < run.total - 1);
+  const own = playing, before = chosen;
+  await choose(before + 1);
+  if (playing === own) setPlaying(chosen !== before && chosen < run.total - 1);
 }
 
 async function togglePlay() {
@@ -651,7 +651,7 @@ function clearOrders() {
 function replay(order) {
   start(0, order).then(() => {
     at("look").scrollIntoView();
-    at(run?.total ? "turns" : "look-head").focus({ preventScroll: true });
+    at(!run?.total ? "look-head" : at("drawing").hidden ? "turns" : "drawing").focus({ preventScroll: true });
   });
 }
 
@@ -837,9 +837,9 @@ function options(label, of) {
 }
 
 function fillLists() {
-  const own = () => make("option", { value: "" }, "(own script)"), parts = [...new Set(lessons.map((it) => it.dataset.part))];
-  at("lessons").append(own(), ...parts.map((part) => options(part, lessons.filter((it) => it.dataset.part === part))));
-  at("example").append(own(), options("Tests, in JSON", examples.filter((it) => it.dataset.group === "test")));
+  const parts = [...new Set(lessons.map((it) => it.dataset.part))];
+  at("lessons").append(make("option", { value: "" }, "(own script)"), ...parts.map((part) => options(part, lessons.filter((it) => it.dataset.part === part))));
+  at("example").append(make("option", { value: "" }, "(choose one)"), options("Tests, in JSON", examples.filter((it) => it.dataset.group === "test")));
 }
 
 function nextLesson() {
@@ -905,7 +905,7 @@ function listen() {
     event.preventDefault();
     start();
   });
-  at("turns").addEventListener("keydown", turnsKey);
+  for (const id of ["turns", "drawing"]) at(id).addEventListener("keydown", turnsKey);
   at("turns").addEventListener("scroll", drawRows);
   new ResizeObserver(drawRows).observe(at("turns"));
   at("rows").addEventListener("click", (event) => {

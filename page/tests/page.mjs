@@ -216,7 +216,7 @@ async function tryReplay(tab) {
     await tab.ask(`document.querySelectorAll('#outcomes [data-replay]')[${number}].click()`);
     check(await tab.until(`run?.order?.join(' ') === ${JSON.stringify(order)} && !isDrawing && ${settled}`), `outcome ${number + 1} is replayed`);
     check((await text(tab, "report")).includes(`${report}\nlawful`), `its report: ${await text(tab, "report")}`);
-    same(await tab.ask("document.activeElement.id"), "turns", "the list of turns has the focus");
+    same(await tab.ask("document.activeElement.id"), await tab.ask("document.getElementById('drawing').hidden ? 'turns' : 'drawing'"), "the picture has the focus, or the list of turns");
     const cpus = order.split(" ").map(Number), wanted = callProgram("lwkt_show_turns", script, `turns --order ${cpus.join("")}`).text.split("\n");
     for (const turn of cpus.keys()) {
       await goTo(tab, turn);

@@ -40,7 +40,7 @@ const example = (name) => read(examples, `${name}.json`);
 try {
   await take("start", { width: 1440, height: 960 });
   await take("run", { script: example("server_of_three"), turn: 20, width: 1440, height: 1000 });
-  await take("step", { script: example("dining_philosophers"), turn: 22, whys: true, width: 1440, height: 1060 });
+  await take("step", { script: example("dining_philosophers"), turn: 22, whys: true, scroll: "chosen", width: 1440, height: 1060 });
   await take("error", { script: example("crossed_lists").replace('["write",0,0,7]', '["write",0,7]'), width: 1280, height: 760 });
   const text = (name) => read(examples, "litmus", `${name}.lwkt`);
   await take("text", { script: text("14_a_sum"), turn: 5, width: 1280, height: 800 });
@@ -48,7 +48,7 @@ try {
   await take("outcomes", { script: example("crossed_lists"), orders: true, scroll: "orders", width: 1280, height: 760 });
   await take("stuck", { script: text("23_calls_that_wait_for_each_other"), orders: true, scroll: "orders", width: 390, height: 844 });
   await take("replay", { script: example("crossed_lists"), orders: true, replayed: { number: 1, turn: 6 }, scroll: "look", width: 1440, height: 1000 });
-  await take("record", { script: example("mailbox_in_a_record"), turn: 11, width: 1440, height: 960 });
+  await take("record", { script: example("mailbox_in_a_record"), turn: 11, scroll: "chosen", width: 1440, height: 960 });
   await take("urgent", { script: text("29_an_urgent_note_first"), turn: 5, scroll: "state", width: 390, height: 844 });
   await take("phone", { script: example("server_waits_without_its_token"), turn: 9, scroll: "look", width: 390, height: 844 });
   await take("dark", { script: example("readers_and_writer"), turn: 8, dark: true, width: 1440, height: 900 });
