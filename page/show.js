@@ -230,7 +230,7 @@ function hasColumns(picture) {
 // A picture is as wide as its place where its letters are then neither too small nor too large.
 function fitPicture(picture) {
   const wide = picture.viewBox.baseVal.width;
-  picture.style.width = `clamp(${wide * 1.25}px, 100%, ${wide * 1.8}px)`;
+  picture.style.width = `clamp(${wide * 1.2}px, 100%, ${wide * 1.8}px)`;
   picture.style.height = "auto";
 }
 

@@ -654,7 +654,7 @@ const contrast = `(() => {
   const walk = document.createTreeWalker(document.body, NodeFilter.SHOW_TEXT);
   while (walk.nextNode()) {
     const it = walk.currentNode.parentElement;
-    if (!walk.currentNode.textContent.trim() || !it.checkVisibility() || it.closest('script, style, #mirror, option')) continue;
+    if (!walk.currentNode.textContent.trim() || !it.checkVisibility() || it.closest('script, style, #mirror, #lines, option')) continue;
     const [a, b] = [light(rgba(getComputedStyle(it).color)), light(ground(it))];
     const ratio = (Math.max(a, b) + 0.05) / (Math.min(a, b) + 0.05);
     if (ratio < 4.5) low.push([ratio.toFixed(2), it.tagName, it.className, it.textContent.slice(0, 30)]);
