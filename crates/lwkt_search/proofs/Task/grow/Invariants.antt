@@ -1,0 +1,12 @@
+use Rattle.std.proofs.Common.{◌≤◌, ◌-◌, length}
+use Rattle.lwkt_search.specs.Graphs.{IsSearchOf}
+use Rattle.lwkt_search.proofs.Task.grow.Given as goal
+
+abbrev pub invariant-loop-at : goal.invariant-loop-at
+invariant-loop-at g l = record {
+  search : IsSearchOf g.S.State.turn_of l.self.start l.self.cpus l.nodes.items l.at;
+  few : length l.nodes.items ≤ l.self.bound;
+}
+
+abbrev pub decreases-loop-at : goal.decreases-loop-at
+decreases-loop-at g l = l.self.bound - l.at

@@ -1,0 +1,39 @@
+use Rattle.std.proofs.Common.{◌≡◌, ◌+◌, ◌<◌, ◌≤◌, length, arith, ◌∙◌, ap, true, Vec}
+use Rattle.std.specs.declared.alloc.Global.{Global}
+use Rattle.lwkt_search.specs.declared.Outcome.{Outcome}
+use Rattle.lwkt_search.specs.Runs.{IsQuiet}
+use Rattle.lwkt_search.specs.Graphs.{node_at, IsCollected}
+use Rattle.lwkt_search.proofs.RunLemmas.{is_whole, collect_seen, collect_less, all_collected, read_state}
+use Rattle.lwkt_search.proofs.Task.search.Goals as goal
+use Rattle.lwkt_search.proofs.Task.search.Goals.{then-is_quiet+in_ok-order+in_ok-push, else-is_quiet}
+
+pub loop-at-preserved : goal.loop-at-preserved
+loop-at-preserved g c =
+    let turn = g.S.State.turn_of in
+    let start = c.args.self.now.start in
+    let cpus = c.args.self.now.cpus in
+    let nodes = c.in_ok-growth.growth.nodes.items in
+    let is_complete = c.in_ok-growth.growth.is_complete in
+    let at = c.loop-at.at in
+    let end : c.len-at-end.result ≡ length nodes = c.loop-at.invariant.end in
+    let there : at < length nodes = omega arith in
+    let same : c.index.result.now.state ≡ (node_at start nodes at).state = read_state start nodes at c.index.result.now there c.index.ensures in
+    let collected : IsCollected turn start cpus nodes is_complete c.if-is_quiet.outcomes.items (at + 1) =
+    elim c.if-is_quiet.branch [
+      | then-is_quiet+in_ok-order+in_ok-push w ↦
+          collect_seen turn start cpus nodes w.as_slice.result.now is_complete c.loop-at.outcomes.items c.if-is_quiet.outcomes.items at (record { state = c.index.result.now.state; order = w.in_ok-order.order }) c.loop-at.invariant.collected there
+          (λ all. is_whole turn start cpus nodes c.in_ok-growth.growth.gone_on c.in_ok-growth.ensures.search (c.in_ok-growth.ensures.complete all))
+          same (c.is_quiet.ensures.0 w.if-is_quiet.true) w.in_ok-order.ensures.order w.as_slice.ensures.value w.in_ok-order.ensures.leads w.in_ok-order.ensures.long (ap (λ (v : Vec (Outcome g.row.S.Denot) Global). v.items) w.outcomes-is ∙ w.in_ok-push.ensures.items)
+      | else-is_quiet w ↦
+          let loud : IsQuiet turn cpus c.index.result.now.state → ⊥ = λ quiet. let h : c.is_quiet.result ≡ true = c.is_quiet.ensures.1 quiet in cc in
+          collect_less turn start cpus nodes is_complete c.loop-at.outcomes.items c.if-is_quiet.outcomes.items at c.index.result.now.state c.loop-at.invariant.collected same loud (ap (λ (v : Vec (Outcome g.row.S.Denot) Global). v.items) w.outcomes-is)
+    ]
+    in
+    record { end = end; collected = collected }
+
+pub returns-clause-complete : goal.returns-clause-complete
+returns-clause-complete g c = λ complete order below quiet.
+    let end : length c.in_ok-growth.growth.nodes.items ≤ c.loop-at.at = omega (arith, c.loop-at.invariant.end) in
+    all_collected g.S.State.turn_of c.args.self.now.start c.args.self.now.cpus c.in_ok-growth.growth.nodes.items c.in_ok-growth.growth.is_complete c.loop-at.outcomes.items c.loop-at.at
+    (is_whole g.S.State.turn_of c.args.self.now.start c.args.self.now.cpus c.in_ok-growth.growth.nodes.items c.in_ok-growth.growth.gone_on c.in_ok-growth.ensures.search (c.in_ok-growth.ensures.complete complete))
+    c.loop-at.invariant.collected end order below quiet

@@ -1,0 +1,28 @@
+use Rattle.std.proofs.Common.{ℕ, List, All, IsTrue}
+use Rattle.std.proofs.lemmas.Result.{IfOk-weaker}
+use Rattle.lwkt_search.specs.declared.Canon.{Canon}
+use Rattle.lwkt_search.specs.declared.Found.{Found}
+use Rattle.lwkt_search.specs.Runs.{run, IsOrder, IsQuiet, IsOutcome, HasOutcome}
+use Rattle.lwkt_search.specs.Forms.{canon_turn, form_of, IsQuietForm, IsFormOutcome}
+use Rattle.lwkt_search.proofs.FormLemmas.{form_outcomes, forms_complete}
+use Rattle.lwkt_search.proofs.search_forms.Goals as goal
+
+pub returns-clause-sound : goal.returns-clause-sound
+returns-clause-sound g c =
+    let turn = g.M.Machine.turn_of in
+    let canon = g.M.Machine.canon_of in
+    let cpus = c.args.cpus in
+    let P : Found (Canon g.row.M.Denot) → Type 0 = λ found. All (λ outcome. IsOutcome (canon_turn turn canon) cpus (record { form = c.canon.result }) outcome) found.outcomes.items in
+    let Q : Found (Canon g.row.M.Denot) → Type 0 = λ found. All (λ outcome. IsFormOutcome turn canon cpus c.args.start outcome) found.outcomes.items in
+    IfOk-weaker c.search.result P Q (λ found. form_outcomes turn canon g.met.M.Machine.respects cpus c.args.start c.canon.result found.outcomes.items c.canon.ensures) c.search.ensures.sound
+
+pub returns-clause-complete : goal.returns-clause-complete
+returns-clause-complete g c =
+    let turn = g.M.Machine.turn_of in
+    let canon = g.M.Machine.canon_of in
+    let cpus = c.args.cpus in
+    let T : Canon g.row.M.Denot → ℕ → Canon g.row.M.Denot = canon_turn turn canon in
+    let first : Canon g.row.M.Denot = record { form = c.canon.result } in
+    let P : Found (Canon g.row.M.Denot) → Type 0 = λ found. IsTrue found.is_complete → (order : List ℕ) → IsOrder cpus order → IsQuiet T cpus (run T first order) → HasOutcome (run T first order) found.outcomes.items in
+    let Q : Found (Canon g.row.M.Denot) → Type 0 = λ found. IsTrue found.is_complete → (order : List ℕ) → IsOrder cpus order → IsQuietForm turn canon cpus (run turn c.args.start order) → HasOutcome (form_of canon (run turn c.args.start order)) found.outcomes.items in
+    IfOk-weaker c.search.result P Q (λ found all complete. forms_complete turn canon g.met.M.Machine.respects cpus c.args.start c.canon.result found.outcomes.items c.canon.ensures (all complete)) c.search.ensures.complete
