@@ -1,9 +1,11 @@
-use Rattle.std.proofs.Common.{◌≡◌, ℕ, ◌+◌, ◌<◌, ◌≤◌, List, [], ◌∷◌, ◌++◌, length, arith, ap, subst, sym, refl, ◌∙◌, below_more, length-append, Option, None, Some, true, false, All, HoldsAt, MatchOption, slice_index_or}
+use Rattle.std.proofs.Common.{◌≡◌, ℕ, ◌+◌, ◌<◌, ◌≤◌, List, [], ◌∷◌, ◌++◌, ◌⊎◌, inl, inr, zero, suc, length, arith, ap, subst, sym, refl, ◌∙◌, below_more, length-append, Option, None, Some, true, false, All, HoldsAt, MatchOption, slice_index_or}
 use Rattle.std.proofs.lemmas.List.{get_or_append_left, get_or_read}
 use Rattle.std.specs.Option.{is_some}
 use Rattle.std.proofs.Math.Seq.{get_or-append_seam}
 use Rattle.lwkt_search.specs.declared.Node.{Node}
-use Rattle.lwkt_search.specs.Graphs.{node_at, IsLink, IsGraph, IsTried, IsSearch, IsSearchOf, IsTriedOf, Grows, Differs}
+use Rattle.std.proofs.lemmas.List.Elements.{All-push}
+use Rattle.lwkt_search.specs.Runs.{run, IsOrder, CanReach, HasStates}
+use Rattle.lwkt_search.specs.Graphs.{node_at, IsLink, IsGraph, IsGraphOf, IsTried, IsSearch, IsSearchOf, IsTriedOf, Grows, Differs}
 
 -- what was tried stays so where more states are found
 pub tried_same : {S : Type 0} (turn : S → ℕ → S) (len more : ℕ) (node node' : ℕ → Node S) (i cpu : ℕ) → len ≤ more → ((k : ℕ) → k < len → node' k ≡ node k) → i < len → IsTried turn len node (node i) cpu → IsTried turn more node' (node' i) cpu
@@ -191,3 +193,52 @@ noted {S} turn start cpus nodes seen new at cpu before state found is there belo
       search = push_search turn start cpus nodes x at cpu is there below leads refl refl deep (λ k less eq. h k root less eq);
       tried = subst T (sym old) (record { place = length nodes; there = omega (arith, long); leads = subst ST (sym last) leads; depth = subst DE (sym last) shallow });
     })
+
+-- an order with one turn more
+run_push : {S : Type 0} (turn : S → ℕ → S) (state : S) (order : List ℕ) (cpu : ℕ) → run turn state (order ++ cpu ∷ []) ≡ turn (run turn state order) cpu
+run_push turn state [] cpu = refl
+run_push turn state (c ∷ order) cpu = run_push turn (turn state c) order cpu
+
+zero_or_more : (k : ℕ) → (k ≡ 0) ⊎ (0 < k)
+zero_or_more k = grind arith
+
+-- an order leads to each state of a graph
+pub reaches_node : {S : Type 0} (turn : S → ℕ → S) (start : S) (cpus len : ℕ) (node : ℕ → Node S) (n k : ℕ) → IsGraph turn start cpus len node → k ≤ n → k < len → CanReach turn cpus start (node k).state
+reaches_node {S} turn start cpus len node zero k g few there =
+    let F : ℕ → Type 0 = λ j. CanReach turn cpus start (node j).state in
+    let none : 0 ≡ k = omega arith in
+    let first : F 0 = record { order = []; below = λ i d h. absurd (omega arith); leads = sym g.first } in
+    subst F none first
+reaches_node {S} turn start cpus len node (suc n) k g few there = elim (zero_or_more k) [
+  | inl is ↦
+      let low : k ≤ n = omega arith in
+      reaches_node turn start cpus len node n k g low there
+  | inr more ↦
+      let l : IsLink turn cpus k (node k) (node ((node k).parent)) = g.links k there more in
+      let before : (node k).parent < k = l.before in
+      let low : (node k).parent ≤ n = omega arith in
+      let in_len : (node k).parent < len = omega arith in
+      let r : CanReach turn cpus start (node ((node k).parent)).state = reaches_node turn start cpus len node n (node k).parent g low in_len in
+      let C : ℕ → Type 0 = λ c. c < cpus in
+      let T : S → Type 0 = λ s. run turn start (r.order ++ (node k).cpu ∷ []) ≡ turn s (node k).cpu in
+      let on : run turn start (r.order ++ (node k).cpu ∷ []) ≡ turn (node ((node k).parent)).state (node k).cpu = subst T r.leads (run_push turn start r.order (node k).cpu) in
+      record { order = r.order ++ (node k).cpu ∷ []; below = All-push C r.order (node k).cpu r.below l.cpu; leads = on ∙ sym l.leads }
+]
+
+-- a graph has so many states
+pub has_states : {S : Type 0} (turn : S → ℕ → S) (start : S) (cpus len : ℕ) (node : ℕ → Node S) (count : ℕ) → IsGraph turn start cpus len node → count ≤ len → HasStates turn cpus start count
+has_states {S} turn start cpus len node count g few = record {
+  state = λ k. (node k).state;
+  reached = λ k h. let h2 : k < len = omega arith in let low : k ≤ k = omega arith in reaches_node turn start cpus len node k k g low h2;
+  distinct = λ i j less h. let h2 : j < len = omega arith in g.distinct i j less h2;
+}
+
+-- where a turn leads to a new state that isn't kept, there are more states than are kept
+pub crowded : {S : Type 0} (turn : S → ℕ → S) (start : S) (cpus : ℕ) (nodes seen : List (Node S)) (at cpu bound : ℕ) (before : Node S) (state : S) (found : Option ℕ) → IsSearchOf turn start cpus nodes at → at < length nodes → cpu < cpus → before ≡ slice_index_or nodes at before → state ≡ turn before.state cpu → seen ≡ nodes → false ≡ is_some found → MatchOption found (All (Differs state) seen) (λ k. (k < length seen) × HoldsAt (λ (node : Node S). node.state ≡ state) seen k) → bound ≤ length nodes → HasStates turn cpus start (bound + 1)
+crowded {S} turn start cpus nodes seen at cpu bound before state found is there below read led same is_not m full =
+    let x : Node S = record { state = state; parent = at; cpu = cpu; depth = before.depth + 1 } in
+    let new : List (Node S) = nodes ++ x ∷ [] in
+    let long : length new ≡ length nodes + 1 = length-append nodes (x ∷ []) in
+    let n : IsNoted turn start cpus new at cpu = noted turn start cpus nodes seen new at cpu before state found is there below read led same is_not m refl in
+    let few : bound + 1 ≤ length new = omega arith in
+    has_states turn start cpus (length new) (node_at start new) (bound + 1) n.search.graph few

@@ -6,9 +6,9 @@ use Rattle.std.specs.Option.{unwrap_or}
 use Rattle.lwkt_search.specs.declared.Node.{Node}
 use Rattle.lwkt_search.specs.declared.Outcome.{Outcome}
 use Rattle.lwkt_search.specs.Runs.{run, IsOrder, HasOutcome}
-use Rattle.lwkt_search.specs.Graphs.{node_at, IsSearchOf, IsTriedOf, Differs}
+use Rattle.lwkt_search.specs.Graphs.{node_at, IsGraphOf, IsSearchOf, IsTriedOf, Differs}
 use Rattle.lwkt_search.specs.Losses.{IsEnd, IsLost, CanEnd, IsLostOutcome, IsNext, LeadsOn, IsReaching, IsStable, IsSettled, missing, IsLostList}
-use Rattle.lwkt_search.proofs.RunLemmas.{IsReached, reached_from_start, has_push, has_last}
+use Rattle.lwkt_search.proofs.RunLemmas.{IsReached, reached_from_start, has_push, has_last, spread_more, spread_less}
 
 -- from a state where nothing is noted no order leads to an end, once that is stable
 pub lost_stable : {S : Type 0} (turn : S → ℕ → S) (ended : S → Bool) (start : S) (cpus : ℕ) (nodes : List (Node S)) (reaches : List Bool) (order : List ℕ) (i : ℕ) → IsReaching turn ended start cpus nodes reaches → ((k : ℕ) → k < length nodes → IsStable turn start cpus nodes reaches k) → i < length nodes → slice_index_or reaches i false ≡ false → IsOrder cpus order → IsEnd turn ended cpus (run turn (node_at start nodes i).state order) → ⊥
@@ -70,8 +70,8 @@ next_found {S} turn start cpus nodes at cpu before state (Some k) is there below
     record { there = m.0; leads = m.1 root ∙ subst L e led }
 
 -- one more lost state
-pub lost_more : {S : Type 0} (turn : S → ℕ → S) (ended : S → Bool) (start : S) (cpus : ℕ) (nodes seen : List (Node S)) (lost new : List (Outcome S)) (at : ℕ) (last : Outcome S) → IsLostList turn ended start cpus nodes lost at → last.state ≡ (node_at start nodes at).state → IsLost turn ended cpus (node_at start nodes at).state → IsOrder cpus last.order.items → seen ≡ nodes → run turn start last.order.items ≡ (node_at start seen at).state → new ≡ lost ++ last ∷ [] → IsLostList turn ended start cpus nodes new (at + 1)
-lost_more {S} turn ended start cpus nodes seen lost new at last was state dark order same leads pushed =
+pub lost_more : {S : Type 0} (turn : S → ℕ → S) (ended : S → Bool) (start : S) (cpus : ℕ) (nodes seen : List (Node S)) (lost new : List (Outcome S)) (at : ℕ) (last : Outcome S) → IsGraphOf turn start cpus nodes → at < length nodes → IsLostList turn ended start cpus nodes lost at → last.state ≡ (node_at start nodes at).state → IsLost turn ended cpus (node_at start nodes at).state → IsOrder cpus last.order.items → seen ≡ nodes → run turn start last.order.items ≡ (node_at start seen at).state → new ≡ lost ++ last ∷ [] → IsLostList turn ended start cpus nodes new (at + 1)
+lost_more {S} turn ended start cpus nodes seen lost new at last graph there was state dark order same leads pushed =
     let O : Outcome S → Type 0 = λ one. IsLostOutcome turn ended cpus start one in
     let L : S → Type 0 = λ s. IsLost turn ended cpus s in
     let R : List (Node S) → Type 0 = λ xs. run turn start last.order.items ≡ (node_at start xs at).state in
@@ -81,6 +81,7 @@ lost_more {S} turn ended start cpus nodes seen lost new at last was state dark o
     subst F (sym pushed) (record {
       sound = All-push O lost last was.sound one;
       each = below_more E at (λ k h q. has_push (node_at start nodes k).state lost last (was.each k h q)) (λ q. has_last (node_at start nodes at).state lost last state);
+      spread = spread_more turn start cpus nodes lost at last graph there was.spread state;
     })
 
 -- a state that is not lost
@@ -88,7 +89,7 @@ pub lost_less : {S : Type 0} (turn : S → ℕ → S) (ended : S → Bool) (star
 lost_less {S} turn ended start cpus nodes lost new at was can kept =
     let E : ℕ → Type 0 = λ k. IsLost turn ended cpus (node_at start nodes k).state → HasOutcome (node_at start nodes k).state lost in
     let F : List (Outcome S) → Type 0 = λ xs. IsLostList turn ended start cpus nodes xs (at + 1) in
-    subst F (sym kept) (record { sound = was.sound; each = below_more E at was.each (λ q. absurd (q can.order can.below can.end)) })
+    subst F (sym kept) (record { sound = was.sound; each = below_more E at was.each (λ q. absurd (q can.order can.below can.end)); spread = spread_less start nodes lost at was.spread })
 
 pub all_lost : {S : Type 0} (turn : S → ℕ → S) (ended : S → Bool) (start : S) (cpus : ℕ) (nodes : List (Node S)) (lost : List (Outcome S)) (at : ℕ) → IsSearchOf turn start cpus nodes (length nodes) → IsLostList turn ended start cpus nodes lost at → length nodes ≤ at → (order : List ℕ) → IsOrder cpus order → IsLost turn ended cpus (run turn start order) → HasOutcome (run turn start order) lost
 all_lost {S} turn ended start cpus nodes lost at is list end order below dark =

@@ -5,7 +5,7 @@ use Rattle.std.proofs.Math.Seq.{get_or-append_seam}
 use Rattle.lwkt_search.specs.declared.Node.{Node}
 use Rattle.lwkt_search.specs.declared.Outcome.{Outcome}
 use Rattle.lwkt_search.specs.Runs.{run, IsOrder, IsQuiet, IsOutcome, IsShortest, HasOutcome}
-use Rattle.lwkt_search.specs.Graphs.{node_at, IsGraph, IsTried, IsSearch, IsSearchOf, IsCollected}
+use Rattle.lwkt_search.specs.Graphs.{node_at, IsGraph, IsGraphOf, IsTried, IsSearch, IsSearchOf, IsCollected, IsFrom, IsSpread}
 
 -- a state that was found, at most so deep
 pub record IsReached {S : Type 0} (len : ℕ) (node : ℕ → Node S) (state : S) (most : ℕ) : Type 0 where
@@ -71,9 +71,43 @@ is_whole turn start cpus nodes gone_on is all =
     let F : ℕ → Type 0 = λ n. IsSearchOf turn start cpus nodes n in
     subst F all is
 
+-- one more state, at the next place
+pub spread_more : {S : Type 0} (turn : S → ℕ → S) (start : S) (cpus : ℕ) (nodes : List (Node S)) (outcomes : List (Outcome S)) (at : ℕ) (last : Outcome S) → IsGraphOf turn start cpus nodes → at < length nodes → IsSpread start nodes outcomes at → last.state ≡ (node_at start nodes at).state → IsSpread start nodes (outcomes ++ last ∷ []) (at + 1)
+spread_more {S} turn start cpus nodes outcomes at last graph there was state =
+    let new : List (Outcome S) = outcomes ++ last ∷ [] in
+    let long : length new ≡ length outcomes + 1 = length-append outcomes (last ∷ []) in
+    let left : (k : ℕ) → k < length outcomes → (d : Outcome S) → (slice_index_or new k d).state ≡ (slice_index_or outcomes k d).state = λ k h d. ap (λ (o : Outcome S). o.state) (get_or_append_left outcomes (last ∷ []) d k h) in
+    let seam : (d : Outcome S) → (slice_index_or new (length outcomes) d).state ≡ last.state = λ d. ap (λ (o : Outcome S). o.state) (get_or-append_seam outcomes last [] d) in
+    let A : ℕ → Type 0 = λ j. (i : ℕ) → i < j → (d : Outcome S) → (slice_index_or new i d).state ≡ (slice_index_or new j d).state → ⊥ in
+    let old : (j : ℕ) → j < length outcomes → A j = λ j h i less d e.
+        let h2 : i < length outcomes = omega arith in
+        was.apart i j less h d (sym (left i h2 d) ∙ (e ∙ left j h d))
+    in
+    let one : A (length outcomes) = λ i less d e.
+        let f : IsFrom start nodes outcomes at i = was.from i less in
+        graph.distinct f.place at f.before there (sym (f.is d) ∙ (sym (left i less d) ∙ (e ∙ (seam d ∙ state))))
+    in
+    let F : ℕ → Type 0 = λ k. IsFrom start nodes new (at + 1) k in
+    let kept : (k : ℕ) → k < length outcomes → F k = λ k h.
+        let f : IsFrom start nodes outcomes at k = was.from k h in
+        record { place = f.place; before = omega (arith, f.before); is = λ d. left k h d ∙ f.is d }
+    in
+    let here : F (length outcomes) = record { place = at; before = omega arith; is = λ d. seam d ∙ state } in
+    record {
+      apart = λ i j less h. let h2 : j < length outcomes + 1 = omega (arith, long, h) in below_more A (length outcomes) old one j h2 i less;
+      from = λ k h. let h2 : k < length outcomes + 1 = omega (arith, long, h) in below_more F (length outcomes) kept here k h2;
+    }
+
+-- no more states, at the next place
+pub spread_less : {S : Type 0} (start : S) (nodes : List (Node S)) (outcomes : List (Outcome S)) (at : ℕ) → IsSpread start nodes outcomes at → IsSpread start nodes outcomes (at + 1)
+spread_less {S} start nodes outcomes at was = record {
+  apart = was.apart;
+  from = λ k h. let f : IsFrom start nodes outcomes at k = was.from k h in record { place = f.place; before = omega (arith, f.before); is = f.is };
+}
+
 -- one more outcome
-pub collect_more : {S : Type 0} (turn : S → ℕ → S) (start : S) (cpus : ℕ) (nodes : List (Node S)) (is_complete : Bool) (outcomes new : List (Outcome S)) (at : ℕ) (last : Outcome S) → IsCollected turn start cpus nodes is_complete outcomes at → at < length nodes → (IsTrue is_complete → IsSearchOf turn start cpus nodes (length nodes)) → last.state ≡ (node_at start nodes at).state → IsQuiet turn cpus last.state → IsOrder cpus last.order.items → run turn start last.order.items ≡ (node_at start nodes at).state → length last.order.items ≡ (node_at start nodes at).depth → new ≡ outcomes ++ last ∷ [] → IsCollected turn start cpus nodes is_complete new (at + 1)
-collect_more {S} turn start cpus nodes is_complete outcomes new at last was there search state quiet order leads long pushed =
+pub collect_more : {S : Type 0} (turn : S → ℕ → S) (start : S) (cpus : ℕ) (nodes : List (Node S)) (is_complete : Bool) (outcomes new : List (Outcome S)) (at : ℕ) (last : Outcome S) → IsCollected turn start cpus nodes is_complete outcomes at → at < length nodes → IsGraphOf turn start cpus nodes → (IsTrue is_complete → IsSearchOf turn start cpus nodes (length nodes)) → last.state ≡ (node_at start nodes at).state → IsQuiet turn cpus last.state → IsOrder cpus last.order.items → run turn start last.order.items ≡ (node_at start nodes at).state → length last.order.items ≡ (node_at start nodes at).depth → new ≡ outcomes ++ last ∷ [] → IsCollected turn start cpus nodes is_complete new (at + 1)
+collect_more {S} turn start cpus nodes is_complete outcomes new at last was there graph search state quiet order leads long pushed =
     let O : Outcome S → Type 0 = λ outcome. IsOutcome turn cpus start outcome in
     let H : Outcome S → Type 0 = λ outcome. IsShortest turn cpus start outcome in
     let E : ℕ → Type 0 = λ k. IsQuiet turn cpus (node_at start nodes k).state → HasOutcome (node_at start nodes k).state (outcomes ++ last ∷ []) in
@@ -85,6 +119,7 @@ collect_more {S} turn start cpus nodes is_complete outcomes new at last was ther
       shortest = λ yes. All-push H outcomes last (was.shortest yes) (λ other below e.
           let least : (node_at start nodes at).depth ≤ length other = no_shorter turn start cpus (length nodes) (node_at start nodes) at other (search yes) there below (e ∙ state) in
           omega (arith, least, long));
+      spread = spread_more turn start cpus nodes outcomes at last graph there was.spread state;
     })
 
 -- a state that is no outcome
@@ -97,6 +132,7 @@ collect_less {S} turn start cpus nodes is_complete outcomes new at state was sam
       sound = was.sound;
       each = below_more E at was.each (λ q. absurd (loud (subst Q (sym same) q)));
       shortest = was.shortest;
+      spread = spread_less start nodes outcomes at was.spread;
     })
 
 -- each order that leads to a quiet state leads to an outcome
@@ -112,8 +148,8 @@ pub read_state : {S : Type 0} (start : S) (nodes : List (Node S)) (at : ℕ) (x 
 read_state {S} start nodes at x there read = ap (λ (y : Node S). y.state) (get_or_read nodes at x there read (record { state = start; parent = 0; cpu = 0; depth = 0 }))
 
 -- the same, by the list that the order was read from
-pub collect_seen : {S : Type 0} (turn : S → ℕ → S) (start : S) (cpus : ℕ) (nodes seen : List (Node S)) (is_complete : Bool) (outcomes new : List (Outcome S)) (at : ℕ) (last : Outcome S) → IsCollected turn start cpus nodes is_complete outcomes at → at < length nodes → (IsTrue is_complete → IsSearchOf turn start cpus nodes (length nodes)) → last.state ≡ (node_at start nodes at).state → IsQuiet turn cpus last.state → IsOrder cpus last.order.items → seen ≡ nodes → run turn start last.order.items ≡ (node_at start seen at).state → length last.order.items ≡ (node_at start seen at).depth → new ≡ outcomes ++ last ∷ [] → IsCollected turn start cpus nodes is_complete new (at + 1)
-collect_seen {S} turn start cpus nodes seen is_complete outcomes new at last was there search state quiet order same leads long pushed =
+pub collect_seen : {S : Type 0} (turn : S → ℕ → S) (start : S) (cpus : ℕ) (nodes seen : List (Node S)) (is_complete : Bool) (outcomes new : List (Outcome S)) (at : ℕ) (last : Outcome S) → IsCollected turn start cpus nodes is_complete outcomes at → at < length nodes → IsGraphOf turn start cpus nodes → (IsTrue is_complete → IsSearchOf turn start cpus nodes (length nodes)) → last.state ≡ (node_at start nodes at).state → IsQuiet turn cpus last.state → IsOrder cpus last.order.items → seen ≡ nodes → run turn start last.order.items ≡ (node_at start seen at).state → length last.order.items ≡ (node_at start seen at).depth → new ≡ outcomes ++ last ∷ [] → IsCollected turn start cpus nodes is_complete new (at + 1)
+collect_seen {S} turn start cpus nodes seen is_complete outcomes new at last was there graph search state quiet order same leads long pushed =
     let L : List (Node S) → Type 0 = λ xs. run turn start last.order.items ≡ (node_at start xs at).state in
     let D : List (Node S) → Type 0 = λ xs. length last.order.items ≡ (node_at start xs at).depth in
-    collect_more turn start cpus nodes is_complete outcomes new at last was there search state quiet order (subst L same leads) (subst D same long) pushed
+    collect_more turn start cpus nodes is_complete outcomes new at last was there graph search state quiet order (subst L same leads) (subst D same long) pushed

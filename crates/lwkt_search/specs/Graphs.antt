@@ -2,7 +2,7 @@
 use Rattle.std.specs.Prelude.{◌≡◌, ℕ, ◌+◌, ◌<◌, ◌≤◌, List, length, slice_index_or, All, Bool, IsTrue}
 use Rattle.lwkt_search.specs.declared.Node.{Node}
 use Rattle.lwkt_search.specs.declared.Outcome.{Outcome}
-use Rattle.lwkt_search.specs.Runs.{IsOutcome, IsQuiet, IsShortest, HasOutcome}
+use Rattle.lwkt_search.specs.Runs.{IsOutcome, IsQuiet, IsShortest, HasOutcome, AreApart}
 
 -- the state at a place, and the start past the end
 abbrev pub node_at : {S : Type 0} → S → List (Node S) → ℕ → Node S
@@ -58,8 +58,20 @@ pub record Grows {S : Type 0} (start : S) (old new : List (Node S)) : Type 0 whe
   pub longer : length old ≤ length new
   pub same : (k : ℕ) → k < length old → node_at start new k ≡ node_at start old k
 
+-- this outcome's state was found before this place
+pub record IsFrom {S : Type 0} (start : S) (nodes : List (Node S)) (outcomes : List (Outcome S)) (at k : ℕ) : Type 0 where
+  pub place : ℕ
+  pub before : place < at
+  pub is : (d : Outcome S) → (slice_index_or outcomes k d).state ≡ (node_at start nodes place).state
+
+-- no two outcomes have the same state, and each was found before this place
+pub record IsSpread {S : Type 0} (start : S) (nodes : List (Node S)) (outcomes : List (Outcome S)) (at : ℕ) : Type 0 where
+  pub apart : AreApart outcomes
+  pub from : (k : ℕ) → k < length outcomes → IsFrom start nodes outcomes at k
+
 -- the quiet states before this place are outcomes
 pub record IsCollected {S : Type 0} (turn : S → ℕ → S) (start : S) (cpus : ℕ) (nodes : List (Node S)) (is_complete : Bool) (outcomes : List (Outcome S)) (at : ℕ) : Type 0 where
   pub sound : All (λ outcome. IsOutcome turn cpus start outcome) outcomes
   pub each : (k : ℕ) → k < at → IsQuiet turn cpus (node_at start nodes k).state → HasOutcome (node_at start nodes k).state outcomes
   pub shortest : IsTrue is_complete → All (λ outcome. IsShortest turn cpus start outcome) outcomes
+  pub spread : IsSpread start nodes outcomes at

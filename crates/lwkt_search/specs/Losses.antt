@@ -3,7 +3,7 @@ use Rattle.std.specs.Prelude.{◌≡◌, ℕ, ◌<◌, List, length, slice_index
 use Rattle.lwkt_search.specs.declared.Node.{Node}
 use Rattle.lwkt_search.specs.declared.Outcome.{Outcome}
 use Rattle.lwkt_search.specs.Runs.{run, IsOrder, IsQuiet}
-use Rattle.lwkt_search.specs.Graphs.{node_at}
+use Rattle.lwkt_search.specs.Graphs.{node_at, IsSpread}
 
 -- a quiet state where everything has ended
 pub record IsEnd {S : Type 0} (turn : S → ℕ → S) (ended : S → Bool) (cpus : ℕ) (state : S) : Type 0 where
@@ -60,3 +60,4 @@ missing noted = cond noted 0 1
 pub record IsLostList {S : Type 0} (turn : S → ℕ → S) (ended : S → Bool) (start : S) (cpus : ℕ) (nodes : List (Node S)) (lost : List (Outcome S)) (at : ℕ) : Type 0 where
   pub sound : All (λ one. IsLostOutcome turn ended cpus start one) lost
   pub each : (k : ℕ) → k < at → IsLost turn ended cpus (node_at start nodes k).state → (j : ℕ) × (j < length lost) × ((d : Outcome S) → (slice_index_or lost j d).state ≡ (node_at start nodes k).state)
+  pub spread : IsSpread start nodes lost at

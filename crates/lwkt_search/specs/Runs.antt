@@ -28,3 +28,19 @@ IsShortest turn cpus start outcome = (order : List ℕ) → IsOrder cpus order �
 -- the state is one of the outcomes
 abbrev pub HasOutcome : {S : Type 0} → S → List (Outcome S) → Type 0
 HasOutcome {S} state outcomes = (k : ℕ) × (k < length outcomes) × ((d : Outcome S) → (slice_index_or outcomes k d).state ≡ state)
+
+-- no two outcomes have the same state
+abbrev pub AreApart : {S : Type 0} → List (Outcome S) → Type 0
+AreApart {S} outcomes = (i j : ℕ) → i < j → j < length outcomes → (d : Outcome S) → (slice_index_or outcomes i d).state ≡ (slice_index_or outcomes j d).state → ⊥
+
+-- an order leads to the state
+pub record CanReach {S : Type 0} (turn : S → ℕ → S) (cpus : ℕ) (start state : S) : Type 0 where
+  pub order : List ℕ
+  pub below : IsOrder cpus order
+  pub leads : run turn start order ≡ state
+
+-- orders lead to so many states, no two of them the same
+pub record HasStates {S : Type 0} (turn : S → ℕ → S) (cpus : ℕ) (start : S) (count : ℕ) : Type 0 where
+  pub state : ℕ → S
+  pub reached : (k : ℕ) → k < count → CanReach turn cpus start (state k)
+  pub distinct : (i j : ℕ) → i < j → j < count → state i ≡ state j → ⊥

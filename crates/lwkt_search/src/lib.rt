@@ -2,13 +2,15 @@
 #![tactic(auto)]
 
 ghost use Rattle.std.specs.Prelude.{◌≡◌, ◌↔◌, ℕ, ◌+◌, ◌<◌, ◌≤◌, List, length, All, HoldsAt, IsTrue, IsFalse, IfOk, IfSome, MatchOption, Bool, false, sum_by};
-ghost use Rattle.lwkt_search.specs.Runs.{run, IsOrder, IsQuiet, IsOutcome, IsShortest, HasOutcome};
+ghost use Rattle.lwkt_search.specs.Runs.{run, IsOrder, IsQuiet, IsOutcome, IsShortest, HasOutcome, AreApart, HasStates};
 ghost use Rattle.lwkt_search.specs.Graphs.{node_at, IsGraphOf, IsSearchOf, IsTriedOf, Grows, Differs};
 ghost use Rattle.lwkt_search.specs.Losses.{IsEnd, IsLost, IsLostOutcome, LeadsOn, IsNext, IsReaching, IsStable, IsSettled, missing};
 ghost use Rattle.lwkt_search.specs.Toys.{toy_turn, toy_ended};
 ghost use Rattle.lwkt_search.specs.Forms.{canon_turn, form_of, IsQuietForm, IsFormOutcome};
 
-use std::alloc::{AllocError, Global};
+use lwkt_base::OutOfMemory;
+use lwkt_base::memory::push;
+use std::alloc::Global;
 
 /// A state, as plain data, and where the turn of each processor leads.
 pub trait State: Copy {
@@ -95,13 +97,14 @@ impl<S: State> Task<S> {
     }
 
     // Keeps the state that the turn of a processor leads to. Says whether it is kept.
-    fn note(&self, nodes: &mut Vec<Node<S>>, at: usize, cpu: u8) -> Result<bool, AllocError>
+    fn note(&self, nodes: &mut Vec<Node<S>>, at: usize, cpu: u8) -> Result<bool, OutOfMemory>
         requires search { IsSearchOf S.turn_of self.now.start self.now.cpus nodes.old.items at }
         requires there { at < length nodes.old.items }
         requires cpu { cpu < self.now.cpus }
         ensures search { IfOk result (λ kept. IsSearchOf S.turn_of self.now.start self.now.cpus nodes.new.items at) }
         ensures grows { IfOk result (λ kept. Grows self.now.start nodes.old.items nodes.new.items) }
         ensures few { IfOk result (λ kept. length nodes.old.items ≤ self.now.bound → length nodes.new.items ≤ self.now.bound) }
+        ensures full { IfOk result (λ kept. IsFalse kept → HasStates S.turn_of self.now.cpus self.now.start (self.now.bound + 1)) }
         ensures tried { IfOk result (λ kept. IsTrue kept → IsTriedOf S.turn_of self.now.start nodes.new.items at cpu) }
     {
         let before = nodes[at];
@@ -112,7 +115,7 @@ impl<S: State> Task<S> {
         if nodes.len() >= self.bound {
             return Ok(false);
         }
-        nodes.push(Node {
+        push(nodes, Node {
             state,
             parent: at,
             cpu,
@@ -122,11 +125,12 @@ impl<S: State> Task<S> {
     }
 
     // Keeps the states that the turns from a state lead to. Says whether each is kept.
-    fn go_on(&self, nodes: &mut Vec<Node<S>>, at: usize) -> Result<bool, AllocError>
+    fn go_on(&self, nodes: &mut Vec<Node<S>>, at: usize) -> Result<bool, OutOfMemory>
         requires search { IsSearchOf S.turn_of self.now.start self.now.cpus nodes.old.items at }
         requires there { at < length nodes.old.items }
         ensures search { IfOk result (λ kept. IsSearchOf S.turn_of self.now.start self.now.cpus nodes.new.items at) }
         ensures few { IfOk result (λ kept. length nodes.old.items ≤ self.now.bound → length nodes.new.items ≤ self.now.bound) }
+        ensures full { IfOk result (λ kept. IsFalse kept → HasStates S.turn_of self.now.cpus self.now.start (self.now.bound + 1)) }
         ensures next { IfOk result (λ kept. IsTrue kept → IsSearchOf S.turn_of self.now.start self.now.cpus nodes.new.items (at + 1)) }
     {
         for cpu in 0..self.cpus {
@@ -138,13 +142,14 @@ impl<S: State> Task<S> {
     }
 
     // Goes on from each state that is found.
-    fn grow(&self, alloc: Global) -> Result<Growth<S>, AllocError>
+    fn grow(&self, alloc: Global) -> Result<Growth<S>, OutOfMemory>
         requires { 0 < self.now.bound }
         ensures search { IfOk result (λ growth. IsSearchOf S.turn_of self.now.start self.now.cpus growth.nodes.items growth.gone_on) }
+        ensures full { IfOk result (λ growth. IsFalse growth.is_complete → HasStates S.turn_of self.now.cpus self.now.start (self.now.bound + 1)) }
         ensures complete { IfOk result (λ growth. IsTrue growth.is_complete → growth.gone_on ≡ length growth.nodes.items) }
     {
         let mut nodes = Vec::new(alloc);
-        nodes.push(Node {
+        push(&mut nodes, Node {
             state: self.start,
             parent: 0,
             cpu: 0,
@@ -169,7 +174,7 @@ impl<S: State> Task<S> {
     }
 
     // The order that leads to a state.
-    fn order(&self, alloc: Global, nodes: &[Node<S>], at: usize) -> Result<Vec<u8>, AllocError>
+    fn order(&self, alloc: Global, nodes: &[Node<S>], at: usize) -> Result<Vec<u8>, OutOfMemory>
         requires graph { IsGraphOf S.turn_of self.now.start self.now.cpus nodes.now }
         requires there { at < length nodes.now }
         ensures leads { IfOk result (λ order. run S.turn_of self.now.start order.items ≡ (node_at self.now.start nodes.now at).state) }
@@ -179,7 +184,7 @@ impl<S: State> Task<S> {
         let mut order = Vec::new(alloc);
         let mut number = at;
         while number != 0 {
-            order.push(nodes[number].cpu)?;
+            push(&mut order, nodes[number].cpu)?;
             number = nodes[number].parent;
         }
         order.reverse();
@@ -187,7 +192,7 @@ impl<S: State> Task<S> {
     }
 
     /// Which quiet states orders of turns lead to.
-    pub fn search(&self, alloc: Global) -> Result<Found<S>, AllocError>
+    pub fn search(&self, alloc: Global) -> Result<Found<S>, OutOfMemory>
         requires { 0 < self.now.bound }
         // Each outcome is a quiet state that its order leads to.
         ensures sound { IfOk result (λ found. All (λ outcome. IsOutcome S.turn_of self.now.cpus self.now.start outcome) found.outcomes.items) }
@@ -195,6 +200,10 @@ impl<S: State> Task<S> {
         ensures complete { IfOk result (λ found. IsTrue found.is_complete → (order : List ℕ) → IsOrder self.now.cpus order → IsQuiet S.turn_of self.now.cpus (run S.turn_of self.now.start order) → HasOutcome (run S.turn_of self.now.start order) found.outcomes.items) }
         // No order that leads to an outcome is shorter than its order.
         ensures shortest { IfOk result (λ found. IsTrue found.is_complete → All (λ outcome. IsShortest S.turn_of self.now.cpus self.now.start outcome) found.outcomes.items) }
+        // No state is told twice.
+        ensures once { IfOk result (λ found. AreApart found.outcomes.items) }
+        // The search is cut off only where orders lead to more states than may be kept.
+        ensures full { IfOk result (λ found. IsFalse found.is_complete → HasStates S.turn_of self.now.cpus self.now.start (self.now.bound + 1)) }
     {
         let growth = self.grow(alloc)?;
         let mut outcomes = Vec::new(alloc);
@@ -202,7 +211,7 @@ impl<S: State> Task<S> {
             let state = growth.nodes[at].state;
             if self.is_quiet(state) {
                 let order = self.order(alloc, growth.nodes.as_slice(), at)?;
-                outcomes.push(Outcome { state, order })?;
+                push(&mut outcomes, Outcome { state, order })?;
             }
         }
         Ok(Found {
@@ -260,12 +269,14 @@ pub fn search_forms<M: Machine>(
     start: M,
     cpus: u8,
     bound: usize,
-) -> Result<Found<Canon<M>>, AllocError>
+) -> Result<Found<Canon<M>>, OutOfMemory>
     requires { 0 < bound }
     // Each outcome is the form of a state that its order leads to, and no turn changes that form.
     ensures sound { IfOk result (λ found. All (λ outcome. IsFormOutcome M.turn_of M.canon_of cpus start outcome) found.outcomes.items) }
     // The form of each state that an order leads to, and whose form no turn changes, is an outcome.
     ensures complete { IfOk result (λ found. IsTrue found.is_complete → (order : List ℕ) → IsOrder cpus order → IsQuietForm M.turn_of M.canon_of cpus (run M.turn_of start order) → HasOutcome (form_of M.canon_of (run M.turn_of start order)) found.outcomes.items) }
+    // No form is told twice.
+    ensures once { IfOk result (λ found. AreApart found.outcomes.items) }
 {
     let task = Task {
         start: Canon {
@@ -365,7 +376,7 @@ fn reaching<S: Ending>(
     task: &Task<S>,
     alloc: Global,
     nodes: &[Node<S>],
-) -> Result<Vec<bool>, AllocError>
+) -> Result<Vec<bool>, OutOfMemory>
     requires { IsSearchOf S.turn_of task.now.start task.now.cpus nodes.now (length nodes.now) }
     ensures same { IfOk result (λ reaches. length reaches.items ≡ length nodes.now) }
     ensures reaching { IfOk result (λ reaches. IsReaching S.turn_of S.ended_of task.now.start task.now.cpus nodes.now reaches.items) }
@@ -374,7 +385,7 @@ fn reaching<S: Ending>(
     let mut reaches = Vec::new(alloc);
     for at in 0..nodes.len() {
         let ends = is_end(task, nodes[at].state);
-        reaches.push(ends)?;
+        push(&mut reaches, ends)?;
     }
     while go_back(task, nodes, reaches.as_mut_slice()) {}
     Ok(reaches)
@@ -386,20 +397,21 @@ fn lost_of<S: Ending>(
     alloc: Global,
     nodes: &[Node<S>],
     reaches: &[bool],
-) -> Result<Vec<Outcome<S>>, AllocError>
+) -> Result<Vec<Outcome<S>>, OutOfMemory>
     requires search { IsSearchOf S.turn_of task.now.start task.now.cpus nodes.now (length nodes.now) }
     requires same { length reaches.now ≡ length nodes.now }
     requires reaching { IsReaching S.turn_of S.ended_of task.now.start task.now.cpus nodes.now reaches.now }
     requires settled { IsSettled S.turn_of task.now.start task.now.cpus nodes.now reaches.now }
     ensures sound { IfOk result (λ lost. All (λ one. IsLostOutcome S.turn_of S.ended_of task.now.cpus task.now.start one) lost.items) }
     ensures complete { IfOk result (λ lost. (order : List ℕ) → IsOrder task.now.cpus order → IsLost S.turn_of S.ended_of task.now.cpus (run S.turn_of task.now.start order) → HasOutcome (run S.turn_of task.now.start order) lost.items) }
+    ensures once { IfOk result (λ lost. AreApart lost.items) }
 {
     let mut lost = Vec::new(alloc);
     for at in 0..nodes.len() {
         if !reaches[at] {
             let state = nodes[at].state;
             let order = task.order(alloc, nodes, at)?;
-            lost.push(Outcome { state, order })?;
+            push(&mut lost, Outcome { state, order })?;
         }
     }
     Ok(lost)
@@ -409,12 +421,14 @@ fn lost_of<S: Ending>(
 pub fn lost_states<S: Ending>(
     task: &Task<S>,
     alloc: Global,
-) -> Result<Option<Vec<Outcome<S>>>, AllocError>
+) -> Result<Option<Vec<Outcome<S>>>, OutOfMemory>
     requires { 0 < task.now.bound }
     // Each is a state that its order leads to, and from which no order leads to an end.
     ensures sound { IfOk result (λ found. IfSome found (λ lost. All (λ one. IsLostOutcome S.turn_of S.ended_of task.now.cpus task.now.start one) lost.items)) }
     // Each state that an order leads to, and from which no order leads to an end, is one.
     ensures complete { IfOk result (λ found. IfSome found (λ lost. (order : List ℕ) → IsOrder task.now.cpus order → IsLost S.turn_of S.ended_of task.now.cpus (run S.turn_of task.now.start order) → HasOutcome (run S.turn_of task.now.start order) lost.items)) }
+    // No state is told twice.
+    ensures once { IfOk result (λ found. IfSome found (λ lost. AreApart lost.items)) }
 {
     let growth = task.grow(alloc)?;
     if growth.gone_on < growth.nodes.len() {

@@ -26,7 +26,7 @@ loop-at-preserved g c =
           let same : (slice_index_or nodes at x).state ≡ (node_at start nodes at).state = ap (λ (n : Node g.row.S.Denot). n.state) (get_or_default nodes at x root there) in
           let last : Outcome g.row.S.Denot = record { state = (slice_index_or nodes at x).state; order = w.in_ok-order.order } in
           let dark = lost_at turn ended start cpus nodes c.args.reaches.now at c.requires.reaching c.requires.settled there w.if-not-reaches-at.true in
-          lost_more turn ended start cpus nodes nodes c.loop-at.lost.items c.if-not-reaches-at.lost.items at last c.loop-at.invariant.lost same dark w.in_ok-order.ensures.order refl w.in_ok-order.ensures.leads (ap (λ (v : Vec (Outcome g.row.S.Denot) Global). v.items) w.lost-is ∙ w.in_ok-push.ensures.items)
+          lost_more turn ended start cpus nodes nodes c.loop-at.lost.items c.if-not-reaches-at.lost.items at last c.requires.search.graph there c.loop-at.invariant.lost same dark w.in_ok-order.ensures.order refl w.in_ok-order.ensures.leads (ap (λ (v : Vec (Outcome g.row.S.Denot) Global). v.items) w.lost-is ∙ w.in_ok-push.ensures.items)
       | else-not-reaches-at w ↦
           lost_less turn ended start cpus nodes c.loop-at.lost.items c.if-not-reaches-at.lost.items at c.loop-at.invariant.lost (c.requires.reaching.sound at there w.if-not-reaches-at.false) (ap (λ (v : Vec (Outcome g.row.S.Denot) Global). v.items) w.lost-is)
     ]
@@ -37,3 +37,6 @@ pub returns-clause-complete : goal.returns-clause-complete
 returns-clause-complete g c =
     let end : length c.args.nodes.now ≤ c.loop-at.at = omega (arith, c.loop-at.invariant.end) in
     all_lost g.S.State.turn_of g.S.Ending.ended_of c.args.task.now.start c.args.task.now.cpus c.args.nodes.now c.loop-at.lost.items c.loop-at.at c.requires.search c.loop-at.invariant.lost end
+
+pub returns-clause-once : goal.returns-clause-once
+returns-clause-once g c = c.loop-at.invariant.lost.spread.apart

@@ -17,5 +17,5 @@ loop-at-preserved g c =
     record {
       end = refl;
       same = ap length c.in_ok-push.ensures.items ∙ (length-append c.loop-at.reaches.items (c.is_end-ends.result ∷ []) ∙ ap (λ n. n + 1) c.loop-at.invariant.same);
-      exact = ends_more g.S.State.turn_of g.S.Ending.ended_of start c.args.task.now.cpus nodes c.loop-at.reaches.items c.push.new.self.items at c.is_end-ends.result (slice_index_or nodes at x).state c.loop-at.invariant.same c.loop-at.invariant.exact same c.is_end-ends.ensures c.in_ok-push.ensures.items;
+      exact = ends_more g.S.State.turn_of g.S.Ending.ended_of start c.args.task.now.cpus nodes c.loop-at.reaches.items c.push.new.list.items at c.is_end-ends.result (slice_index_or nodes at x).state c.loop-at.invariant.same c.loop-at.invariant.exact same c.is_end-ends.ensures c.in_ok-push.ensures.items;
     }

@@ -1,11 +1,17 @@
-use Rattle.lwkt_search.proofs.GraphLemmas.{found_tried, noted}
+use Rattle.std.proofs.Common.{◌≤◌, length, arith}
+use Rattle.lwkt_search.proofs.GraphLemmas.{found_tried, noted, crowded}
 use Rattle.lwkt_search.proofs.Task.note.Goals as goal
 
 pub returns-then-is_some-clause-tried : goal.returns-then-is_some-clause-tried
 returns-then-is_some-clause-tried g c = λ yes. found_tried g.S.State.turn_of c.args.self.now.start c.args.self.now.cpus c.args.nodes.now.items c.as_slice.result.now c.args.at c.args.cpu c.index-before.result.now c.turn-state.result c.find.result c.requires.search c.requires.there c.index-before.ensures c.turn-state.ensures c.as_slice.ensures.value c.if-is_some.ensures c.find.ensures
 
 pub returns-clause-search : goal.returns-clause-search
-returns-clause-search g c = (noted g.S.State.turn_of c.args.self.now.start c.args.self.now.cpus c.args.nodes.now.items c.as_slice.result.now c.push.new.self.items c.args.at c.args.cpu c.index-before.result.now c.turn-state.result c.find.result c.requires.search c.requires.there c.requires.cpu c.index-before.ensures c.turn-state.ensures c.as_slice.ensures.value c.if-is_some.ensures c.find.ensures c.in_ok-push.ensures.items).search
+returns-clause-search g c = (noted g.S.State.turn_of c.args.self.now.start c.args.self.now.cpus c.args.nodes.now.items c.as_slice.result.now c.push.new.list.items c.args.at c.args.cpu c.index-before.result.now c.turn-state.result c.find.result c.requires.search c.requires.there c.requires.cpu c.index-before.ensures c.turn-state.ensures c.as_slice.ensures.value c.if-is_some.ensures c.find.ensures c.in_ok-push.ensures.items).search
 
 pub returns-clause-tried : goal.returns-clause-tried
-returns-clause-tried g c = λ yes. (noted g.S.State.turn_of c.args.self.now.start c.args.self.now.cpus c.args.nodes.now.items c.as_slice.result.now c.push.new.self.items c.args.at c.args.cpu c.index-before.result.now c.turn-state.result c.find.result c.requires.search c.requires.there c.requires.cpu c.index-before.ensures c.turn-state.ensures c.as_slice.ensures.value c.if-is_some.ensures c.find.ensures c.in_ok-push.ensures.items).tried
+returns-clause-tried g c = λ yes. (noted g.S.State.turn_of c.args.self.now.start c.args.self.now.cpus c.args.nodes.now.items c.as_slice.result.now c.push.new.list.items c.args.at c.args.cpu c.index-before.result.now c.turn-state.result c.find.result c.requires.search c.requires.there c.requires.cpu c.index-before.ensures c.turn-state.ensures c.as_slice.ensures.value c.if-is_some.ensures c.find.ensures c.in_ok-push.ensures.items).tried
+
+pub returns-then-len-self-clause-full : goal.returns-then-len-self-clause-full
+returns-then-len-self-clause-full g c = λ no.
+    let full : c.args.self.now.bound ≤ length c.args.nodes.now.items = omega arith in
+    crowded g.S.State.turn_of c.args.self.now.start c.args.self.now.cpus c.args.nodes.now.items c.as_slice.result.now c.args.at c.args.cpu c.args.self.now.bound c.index-before.result.now c.turn-state.result c.find.result c.requires.search c.requires.there c.requires.cpu c.index-before.ensures c.turn-state.ensures c.as_slice.ensures.value c.if-is_some.ensures c.find.ensures full

@@ -21,7 +21,7 @@ loop-at-preserved g c =
     let collected : IsCollected turn start cpus nodes is_complete c.if-is_quiet.outcomes.items (at + 1) =
     elim c.if-is_quiet.branch [
       | then-is_quiet+in_ok-order+in_ok-push w ↦
-          collect_seen turn start cpus nodes w.as_slice.result.now is_complete c.loop-at.outcomes.items c.if-is_quiet.outcomes.items at (record { state = c.index.result.now.state; order = w.in_ok-order.order }) c.loop-at.invariant.collected there
+          collect_seen turn start cpus nodes w.as_slice.result.now is_complete c.loop-at.outcomes.items c.if-is_quiet.outcomes.items at (record { state = c.index.result.now.state; order = w.in_ok-order.order }) c.loop-at.invariant.collected there c.in_ok-growth.ensures.search.graph
           (λ all. is_whole turn start cpus nodes c.in_ok-growth.growth.gone_on c.in_ok-growth.ensures.search (c.in_ok-growth.ensures.complete all))
           same (c.is_quiet.ensures.0 w.if-is_quiet.true) w.in_ok-order.ensures.order w.as_slice.ensures.value w.in_ok-order.ensures.leads w.in_ok-order.ensures.long (ap (λ (v : Vec (Outcome g.row.S.Denot) Global). v.items) w.outcomes-is ∙ w.in_ok-push.ensures.items)
       | else-is_quiet w ↦
@@ -37,3 +37,6 @@ returns-clause-complete g c = λ complete order below quiet.
     all_collected g.S.State.turn_of c.args.self.now.start c.args.self.now.cpus c.in_ok-growth.growth.nodes.items c.in_ok-growth.growth.is_complete c.loop-at.outcomes.items c.loop-at.at
     (is_whole g.S.State.turn_of c.args.self.now.start c.args.self.now.cpus c.in_ok-growth.growth.nodes.items c.in_ok-growth.growth.gone_on c.in_ok-growth.ensures.search (c.in_ok-growth.ensures.complete complete))
     c.loop-at.invariant.collected end order below quiet
+
+pub returns-clause-once : goal.returns-clause-once
+returns-clause-once g c = c.loop-at.invariant.collected.spread.apart
