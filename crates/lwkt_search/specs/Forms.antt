@@ -21,3 +21,7 @@ pub record IsFormOutcome {S : Type 0} (turn : S → ℕ → S) (canon : S → S)
   pub order : IsOrder cpus outcome.order.items
   pub leads : canon (run turn start outcome.order.items) ≡ outcome.state.form
   pub quiet : IsQuietForm turn canon cpus (run turn start outcome.order.items)
+
+-- the hash of a form
+abbrev pub form_hash : {S : Type 0} → (S → ℕ) → Canon S → ℕ
+form_hash hash state = hash state.form

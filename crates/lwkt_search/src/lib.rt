@@ -1,24 +1,31 @@
 //! Every order of turns from a state: the quiet states that orders lead to, each once, with a shortest order.
 #![tactic(auto)]
 
-ghost use Rattle.std.specs.Prelude.{◌≡◌, ◌↔◌, ℕ, ◌+◌, ◌<◌, ◌≤◌, List, length, All, HoldsAt, IsTrue, IsFalse, IfOk, IfSome, MatchOption, Bool, false, sum_by};
+ghost use Rattle.std.specs.Prelude.{◌≡◌, ◌↔◌, ℕ, ◌+◌, ◌<◌, ◌≤◌, List, [], ◌++◌, ◌∷◌, length, All, HoldsAt, IsTrue, IsFalse, IfOk, IfSome, MatchOption, Bool, false, sum_by, replicate};
 ghost use Rattle.lwkt_search.specs.Runs.{run, IsOrder, IsQuiet, IsOutcome, IsShortest, HasOutcome, AreApart, HasStates};
 ghost use Rattle.lwkt_search.specs.Graphs.{node_at, IsGraphOf, IsSearchOf, IsTriedOf, Grows, Differs};
+ghost use Rattle.lwkt_search.specs.Indexes.{bucket_of, IsAdded, IsIndexOf};
 ghost use Rattle.lwkt_search.specs.Losses.{IsEnd, IsLost, IsLostOutcome, LeadsOn, IsNext, IsReaching, IsStable, IsSettled, missing};
-ghost use Rattle.lwkt_search.specs.Toys.{toy_turn, toy_ended};
-ghost use Rattle.lwkt_search.specs.Forms.{canon_turn, form_of, IsQuietForm, IsFormOutcome};
+ghost use Rattle.lwkt_search.specs.Toys.{toy_turn, toy_hash, toy_ended};
+ghost use Rattle.lwkt_search.specs.Forms.{canon_turn, form_of, form_hash, IsQuietForm, IsFormOutcome};
 
 use lwkt_base::OutOfMemory;
-use lwkt_base::memory::push;
+use lwkt_base::memory::{MOST_ROOM, push, resize};
 use std::alloc::Global;
 
 /// A state, as plain data, and where the turn of each processor leads.
 pub trait State: Copy {
     ghost turn_of: { Self → ℕ → Self };
 
+    ghost hash_of: { Self → ℕ };
+
     /// The state after the turn of a processor.
     fn turn(self, cpu: u8) -> Self
         ensures { result ≡ turn_of self cpu };
+
+    /// A number by which states are found again: the fewer states share one, the faster.
+    fn hash(self) -> u64
+        ensures { result ≡ hash_of self };
 
     /// Whether two states are the same.
     fn is_same(self, other: Self) -> bool
@@ -67,8 +74,104 @@ pub struct Task<S> {
 #[derive(Drop)]
 struct Growth<S> {
     nodes: Vec<Node<S>>,
+    index: Index,
     gone_on: usize,
     is_complete: bool,
+}
+
+// Where states are, by their hashes: of each bucket 1 more than the last place in it, and of each place 1 more than the one
+// before it in its bucket; 0 stands for none.
+#[derive(Drop)]
+struct Index {
+    heads: Vec<usize>,
+    links: Vec<usize>,
+}
+
+// The bucket of a state.
+fn bucket_of<S: State>(state: S, count: usize) -> usize
+    requires { 0 < count }
+    ensures is { result ≡ bucket_of S.hash_of count state }
+    ensures there { result < count }
+{
+    (state.hash() % count as u64) as usize
+}
+
+// Adds a state to an index, as the one at the next place.
+fn add<S: State>(index: &mut Index, state: S) -> Result<(), OutOfMemory>
+    requires { 0 < length index.old.heads.items }
+    ensures { IfOk result (λ done. IsAdded S.hash_of state index.old.heads.items index.old.links.items index.new.heads.items index.new.links.items) }
+{
+    let bucket = bucket_of(state, index.heads.len());
+    let before = index.heads[bucket];
+    let place = index.links.len();
+    push(&mut index.links, before)?;
+    index.heads[bucket] = place + 1;
+    Ok(())
+}
+
+// How many buckets an index of so many states gets.
+fn buckets_for(count: usize) -> usize
+    ensures some { 0 < result }
+    ensures few { result ≤ MOST_ROOM }
+{
+    if count < MOST_ROOM / 2 {
+        count * 2 + 1
+    } else {
+        MOST_ROOM
+    }
+}
+
+// Empty buckets.
+fn empty_buckets(alloc: Global, count: usize) -> Result<Vec<usize>, OutOfMemory>
+    requires { count ≤ MOST_ROOM }
+    ensures { IfOk result (λ heads. heads.items ≡ replicate count 0) }
+{
+    let mut heads = Vec::new(alloc);
+    resize(&mut heads, count, 0usize)?;
+    Ok(heads)
+}
+
+// An index of these states.
+fn index_of<S: State>(task: &Task<S>, alloc: Global, nodes: &[Node<S>]) -> Result<Index, OutOfMemory>
+    ensures { IfOk result (λ index. IsIndexOf S.hash_of task.now.start nodes.now index.heads.items index.links.items) }
+{
+    let heads = empty_buckets(alloc, buckets_for(nodes.len()))?;
+    let mut index = Index {
+        heads,
+        links: Vec::new(alloc),
+    };
+    for at in 0..nodes.len() {
+        add(&mut index, nodes[at].state)?;
+    }
+    Ok(index)
+}
+
+// The index, or a wider one where there are more states than buckets.
+fn widen<S: State>(task: &Task<S>, alloc: Global, nodes: &[Node<S>], index: Index) -> Result<Index, OutOfMemory>
+    requires { IsIndexOf S.hash_of task.now.start nodes.now index.heads.items index.links.items }
+    ensures { IfOk result (λ wide. IsIndexOf S.hash_of task.now.start nodes.now wide.heads.items wide.links.items) }
+{
+    if nodes.len() <= index.heads.len() || index.heads.len() >= MOST_ROOM {
+        return Ok(index);
+    }
+    index_of(task, alloc, nodes)
+}
+
+// Where a state is.
+fn seek<S: State>(task: &Task<S>, index: &Index, nodes: &[Node<S>], state: S) -> Option<usize>
+    requires { IsIndexOf S.hash_of task.now.start nodes.now index.now.heads.items index.now.links.items }
+    ensures { MatchOption result (All (Differs state) nodes.now) (λ at. (at < length nodes.now) × HoldsAt (λ node. node.state ≡ state) nodes.now at) }
+{
+    let bucket = bucket_of(state, index.heads.len());
+    let mut up = index.heads[bucket];
+    while up > 0 {
+        let at = up - 1;
+        if nodes[at].state.is_same(state) {
+            return Some(at);
+        }
+        up = index.links[at];
+    }
+    None
 }
 
 // Where a state is.
@@ -97,10 +200,12 @@ impl<S: State> Task<S> {
     }
 
     // Keeps the state that the turn of a processor leads to. Says whether it is kept.
-    fn note(&self, nodes: &mut Vec<Node<S>>, at: usize, cpu: u8) -> Result<bool, OutOfMemory>
+    fn note(&self, nodes: &mut Vec<Node<S>>, index: &mut Index, at: usize, cpu: u8) -> Result<bool, OutOfMemory>
         requires search { IsSearchOf S.turn_of self.now.start self.now.cpus nodes.old.items at }
         requires there { at < length nodes.old.items }
         requires cpu { cpu < self.now.cpus }
+        requires index { IsIndexOf S.hash_of self.now.start nodes.old.items index.old.heads.items index.old.links.items }
+        ensures index { IfOk result (λ kept. IsIndexOf S.hash_of self.now.start nodes.new.items index.new.heads.items index.new.links.items) }
         ensures search { IfOk result (λ kept. IsSearchOf S.turn_of self.now.start self.now.cpus nodes.new.items at) }
         ensures grows { IfOk result (λ kept. Grows self.now.start nodes.old.items nodes.new.items) }
         ensures few { IfOk result (λ kept. length nodes.old.items ≤ self.now.bound → length nodes.new.items ≤ self.now.bound) }
@@ -109,7 +214,7 @@ impl<S: State> Task<S> {
     {
         let before = nodes[at];
         let state = before.state.turn(cpu);
-        if find(nodes.as_slice(), state).is_some() {
+        if seek(self, index, nodes.as_slice(), state).is_some() {
             return Ok(true);
         }
         if nodes.len() >= self.bound {
@@ -121,20 +226,23 @@ impl<S: State> Task<S> {
             cpu,
             depth: before.depth + 1,
         })?;
+        add(index, state)?;
         Ok(true)
     }
 
     // Keeps the states that the turns from a state lead to. Says whether each is kept.
-    fn go_on(&self, nodes: &mut Vec<Node<S>>, at: usize) -> Result<bool, OutOfMemory>
+    fn go_on(&self, nodes: &mut Vec<Node<S>>, index: &mut Index, at: usize) -> Result<bool, OutOfMemory>
         requires search { IsSearchOf S.turn_of self.now.start self.now.cpus nodes.old.items at }
         requires there { at < length nodes.old.items }
+        requires index { IsIndexOf S.hash_of self.now.start nodes.old.items index.old.heads.items index.old.links.items }
+        ensures index { IfOk result (λ kept. IsIndexOf S.hash_of self.now.start nodes.new.items index.new.heads.items index.new.links.items) }
         ensures search { IfOk result (λ kept. IsSearchOf S.turn_of self.now.start self.now.cpus nodes.new.items at) }
         ensures few { IfOk result (λ kept. length nodes.old.items ≤ self.now.bound → length nodes.new.items ≤ self.now.bound) }
         ensures full { IfOk result (λ kept. IsFalse kept → HasStates S.turn_of self.now.cpus self.now.start (self.now.bound + 1)) }
         ensures next { IfOk result (λ kept. IsTrue kept → IsSearchOf S.turn_of self.now.start self.now.cpus nodes.new.items (at + 1)) }
     {
         for cpu in 0..self.cpus {
-            if !self.note(nodes, at, cpu)? {
+            if !self.note(nodes, index, at, cpu)? {
                 return Ok(false);
             }
         }
@@ -144,6 +252,7 @@ impl<S: State> Task<S> {
     // Goes on from each state that is found.
     fn grow(&self, alloc: Global) -> Result<Growth<S>, OutOfMemory>
         requires { 0 < self.now.bound }
+        ensures index { IfOk result (λ growth. IsIndexOf S.hash_of self.now.start growth.nodes.items growth.index.heads.items growth.index.links.items) }
         ensures search { IfOk result (λ growth. IsSearchOf S.turn_of self.now.start self.now.cpus growth.nodes.items growth.gone_on) }
         ensures full { IfOk result (λ growth. IsFalse growth.is_complete → HasStates S.turn_of self.now.cpus self.now.start (self.now.bound + 1)) }
         ensures complete { IfOk result (λ growth. IsTrue growth.is_complete → growth.gone_on ≡ length growth.nodes.items) }
@@ -155,11 +264,14 @@ impl<S: State> Task<S> {
             cpu: 0,
             depth: 0,
         })?;
+        let mut index = index_of(self, alloc, nodes.as_slice())?;
         let mut at = 0usize;
         while at < nodes.len() {
-            if !self.go_on(&mut nodes, at)? {
+            index = widen(self, alloc, nodes.as_slice(), index)?;
+            if !self.go_on(&mut nodes, &mut index, at)? {
                 return Ok(Growth {
                     nodes,
+                    index,
                     gone_on: at,
                     is_complete: false,
                 });
@@ -168,6 +280,7 @@ impl<S: State> Task<S> {
         }
         Ok(Growth {
             nodes,
+            index,
             gone_on: at,
             is_complete: true,
         })
@@ -227,6 +340,8 @@ pub trait Machine: Copy {
 
     ghost canon_of: { Self → Self };
 
+    ghost hash_of: { Self → ℕ };
+
     /// The state after the turn of a processor.
     fn turn(self, cpu: u8) -> Self
         ensures { result ≡ turn_of self cpu };
@@ -234,6 +349,10 @@ pub trait Machine: Copy {
     /// The state that stands for this one and those like it.
     fn canon(self) -> Self
         ensures { result ≡ canon_of self };
+
+    /// A number by which states are found again: the fewer states share one, the faster.
+    fn hash(self) -> u64
+        ensures { result ≡ hash_of self };
 
     /// Whether two states are the same.
     fn is_same(self, other: Self) -> bool
@@ -252,10 +371,16 @@ pub struct Canon<M> {
 impl<M: Machine> State for Canon<M> {
     ghost turn_of = { canon_turn M.turn_of M.canon_of };
 
+    ghost hash_of = { form_hash M.hash_of };
+
     fn turn(self, cpu: u8) -> Canon<M> {
         Canon {
             form: self.form.turn(cpu).canon(),
         }
+    }
+
+    fn hash(self) -> u64 {
+        self.form.hash()
     }
 
     fn is_same(self, other: Canon<M>) -> bool {
@@ -305,27 +430,29 @@ fn is_end<S: Ending>(task: &Task<S>, state: S) -> bool
 }
 
 // Where the turn of a processor leads from a state.
-fn next_of<S: State>(task: &Task<S>, nodes: &[Node<S>], at: usize, cpu: u8) -> usize
+fn next_of<S: State>(task: &Task<S>, nodes: &[Node<S>], index: &Index, at: usize, cpu: u8) -> usize
     requires search { IsSearchOf S.turn_of task.now.start task.now.cpus nodes.now (length nodes.now) }
+    requires index { IsIndexOf S.hash_of task.now.start nodes.now index.now.heads.items index.now.links.items }
     requires there { at < length nodes.now }
     requires cpu { cpu < task.now.cpus }
     ensures there { result < length nodes.now }
     ensures leads { (node_at task.now.start nodes.now result).state ≡ S.turn_of (node_at task.now.start nodes.now at).state cpu }
 {
     let next = nodes[at].state.turn(cpu);
-    find(nodes, next).unwrap_or(0)
+    seek(task, index, nodes, next).unwrap_or(0)
 }
 
 // Whether a turn leads from a state to one from which an end can be reached.
-fn leads_on<S: State>(task: &Task<S>, nodes: &[Node<S>], reaches: &[bool], at: usize) -> bool
+fn leads_on<S: State>(task: &Task<S>, nodes: &[Node<S>], index: &Index, reaches: &[bool], at: usize) -> bool
     requires search { IsSearchOf S.turn_of task.now.start task.now.cpus nodes.now (length nodes.now) }
+    requires index { IsIndexOf S.hash_of task.now.start nodes.now index.now.heads.items index.now.links.items }
     requires there { at < length nodes.now }
     requires same { length reaches.now ≡ length nodes.now }
     ensures some { IsTrue result → LeadsOn S.turn_of task.now.start task.now.cpus nodes.now reaches.now at }
     ensures none { IsFalse result → (cpu : ℕ) → cpu < task.now.cpus → IsNext S.turn_of task.now.start nodes.now reaches.now at cpu false }
 {
     for cpu in 0..task.cpus {
-        let next = next_of(task, nodes, at, cpu);
+        let next = next_of(task, nodes, index, at, cpu);
         if reaches[next] {
             return true;
         }
@@ -334,8 +461,9 @@ fn leads_on<S: State>(task: &Task<S>, nodes: &[Node<S>], reaches: &[bool], at: u
 }
 
 // Notes that an end can be reached from a state, if a turn leads to one from which it can. Says whether that is new.
-fn step_back<S: Ending>(task: &Task<S>, nodes: &[Node<S>], reaches: &mut [bool], at: usize) -> bool
+fn step_back<S: Ending>(task: &Task<S>, nodes: &[Node<S>], index: &Index, reaches: &mut [bool], at: usize) -> bool
     requires search { IsSearchOf S.turn_of task.now.start task.now.cpus nodes.now (length nodes.now) }
+    requires index { IsIndexOf S.hash_of task.now.start nodes.now index.now.heads.items index.now.links.items }
     requires there { at < length nodes.now }
     requires same { length reaches.old ≡ length nodes.now }
     requires reaching { IsReaching S.turn_of S.ended_of task.now.start task.now.cpus nodes.now reaches.old }
@@ -347,7 +475,7 @@ fn step_back<S: Ending>(task: &Task<S>, nodes: &[Node<S>], reaches: &mut [bool],
     if reaches[at] {
         return false;
     }
-    if !leads_on(task, nodes, reaches, at) {
+    if !leads_on(task, nodes, index, reaches, at) {
         return false;
     }
     reaches[at] = true;
@@ -355,8 +483,9 @@ fn step_back<S: Ending>(task: &Task<S>, nodes: &[Node<S>], reaches: &mut [bool],
 }
 
 // Finds one more state from which an end can be reached. Says whether there is one.
-fn go_back<S: Ending>(task: &Task<S>, nodes: &[Node<S>], reaches: &mut [bool]) -> bool
+fn go_back<S: Ending>(task: &Task<S>, nodes: &[Node<S>], index: &Index, reaches: &mut [bool]) -> bool
     requires search { IsSearchOf S.turn_of task.now.start task.now.cpus nodes.now (length nodes.now) }
+    requires index { IsIndexOf S.hash_of task.now.start nodes.now index.now.heads.items index.now.links.items }
     requires same { length reaches.old ≡ length nodes.now }
     requires reaching { IsReaching S.turn_of S.ended_of task.now.start task.now.cpus nodes.now reaches.old }
     ensures reaching { IsReaching S.turn_of S.ended_of task.now.start task.now.cpus nodes.now reaches.new }
@@ -364,7 +493,7 @@ fn go_back<S: Ending>(task: &Task<S>, nodes: &[Node<S>], reaches: &mut [bool]) -
     ensures settled { IsFalse result → IsSettled S.turn_of task.now.start task.now.cpus nodes.now reaches.new }
 {
     for at in 0..nodes.len() {
-        if step_back(task, nodes, reaches, at) {
+        if step_back(task, nodes, index, reaches, at) {
             return true;
         }
     }
@@ -375,9 +504,10 @@ fn go_back<S: Ending>(task: &Task<S>, nodes: &[Node<S>], reaches: &mut [bool]) -
 fn reaching<S: Ending>(
     task: &Task<S>,
     alloc: Global,
-    nodes: &[Node<S>],
+    nodes: &[Node<S>], index: &Index,
 ) -> Result<Vec<bool>, OutOfMemory>
-    requires { IsSearchOf S.turn_of task.now.start task.now.cpus nodes.now (length nodes.now) }
+    requires search { IsSearchOf S.turn_of task.now.start task.now.cpus nodes.now (length nodes.now) }
+    requires index { IsIndexOf S.hash_of task.now.start nodes.now index.now.heads.items index.now.links.items }
     ensures same { IfOk result (λ reaches. length reaches.items ≡ length nodes.now) }
     ensures reaching { IfOk result (λ reaches. IsReaching S.turn_of S.ended_of task.now.start task.now.cpus nodes.now reaches.items) }
     ensures settled { IfOk result (λ reaches. IsSettled S.turn_of task.now.start task.now.cpus nodes.now reaches.items) }
@@ -387,7 +517,7 @@ fn reaching<S: Ending>(
         let ends = is_end(task, nodes[at].state);
         push(&mut reaches, ends)?;
     }
-    while go_back(task, nodes, reaches.as_mut_slice()) {}
+    while go_back(task, nodes, index, reaches.as_mut_slice()) {}
     Ok(reaches)
 }
 
@@ -434,7 +564,7 @@ pub fn lost_states<S: Ending>(
     if growth.gone_on < growth.nodes.len() {
         return Ok(None);
     }
-    let reaches = reaching(task, alloc, growth.nodes.as_slice())?;
+    let reaches = reaching(task, alloc, growth.nodes.as_slice(), &growth.index)?;
     let lost = lost_of(task, alloc, growth.nodes.as_slice(), reaches.as_slice())?;
     Ok(Some(lost))
 }
@@ -443,12 +573,18 @@ pub fn lost_states<S: Ending>(
 impl State for u64 {
     ghost turn_of = { toy_turn };
 
+    ghost hash_of = { toy_hash };
+
     fn turn(self, cpu: u8) -> u64 {
         if self < 5 {
             self + 1 + u64::from(cpu)
         } else {
             self
         }
+    }
+
+    fn hash(self) -> u64 {
+        self
     }
 
     fn is_same(self, other: u64) -> bool {

@@ -12,6 +12,6 @@ returns-clause-leads g c =
     let at = c.args.at in
     let x = c.index-nodes-at.result in
     let root : Node g.row.S.Denot = record { state = start; parent = 0; cpu = 0; depth = 0 } in
-    let place : c.unwrap_or.result ≡ unwrap_or c.find.result 0 = c.unwrap_or.ensures in
+    let place : c.unwrap_or.result ≡ unwrap_or c.seek.result 0 = c.unwrap_or.ensures in
     let F = IsFoundAt g.S.State.turn_of start nodes at c.args.cpu in
-    (subst F (sym place) (next_found g.S.State.turn_of start c.args.task.now.cpus nodes at c.args.cpu (slice_index_or nodes at x) c.turn-next.result c.find.result c.requires.search c.requires.there c.requires.cpu (get_or_default nodes at x root c.requires.there) c.turn-next.ensures c.find.ensures)).leads
+    (subst F (sym place) (next_found g.S.State.turn_of start c.args.task.now.cpus nodes at c.args.cpu (slice_index_or nodes at x) c.turn-next.result c.seek.result c.requires.search c.requires.there c.requires.cpu (get_or_default nodes at x root c.requires.there) c.turn-next.ensures c.seek.ensures)).leads

@@ -15,6 +15,7 @@ loop-cpu-preserved g c =
     record {
       end = refl;
       search = c.in_ok-note.ensures.search;
+      index = c.in_ok-note.ensures.index;
       there = omega arith;
       few = λ h. c.in_ok-note.ensures.few (c.loop-cpu.invariant.few h);
       tried = below_more P c.loop-cpu.cpu (λ cpu h. tried_same g.S.State.turn_of (length old) (length new) (node_at start old) (node_at start new) c.args.at cpu longer c.in_ok-note.ensures.grows.same there (c.loop-cpu.invariant.tried cpu h)) (c.in_ok-note.ensures.tried yes);

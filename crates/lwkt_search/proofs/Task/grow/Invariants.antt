@@ -1,10 +1,12 @@
 use Rattle.std.proofs.Common.{◌≤◌, ◌-◌, length}
 use Rattle.lwkt_search.specs.Graphs.{IsSearchOf}
+use Rattle.lwkt_search.specs.Indexes.{IsIndexOf}
 use Rattle.lwkt_search.proofs.Task.grow.Given as goal
 
 abbrev pub invariant-loop-at : goal.invariant-loop-at
 invariant-loop-at g l = record {
   search : IsSearchOf g.S.State.turn_of l.self.start l.self.cpus l.nodes.items l.at;
+  index : IsIndexOf g.S.State.hash_of l.self.start l.nodes.items l.index.heads.items l.index.links.items;
   few : length l.nodes.items ≤ l.self.bound;
 }
 
