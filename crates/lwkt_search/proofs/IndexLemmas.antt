@@ -1,4 +1,4 @@
-use Rattle.std.proofs.Common.{◌≡◌, ◌≢◌, ℕ, ◌+◌, ◌<◌, ◌≤◌, List, [], ◌∷◌, ◌++◌, ◌⊎◌, inl, inr, length, length-append, arith, ap, subst, sym, refl, ◌∙◌, below_more, slice_index_or, slice_set, HoldsAt, get_or-set_other, get_or-set_same, zero, suc, replicate}
+use Rattle.std.proofs.Common.{◌≡◌, ◌≢◌, ℕ, ◌+◌, ◌<◌, ◌≤◌, List, [], ◌∷◌, ◌++◌, ◌⊎◌, inl, inr, length, length-append, arith, ap, subst, sym, refl, ◌∙◌, below_more, slice_index_or, slice_set, HoldsAt, get_or-set_other, get_or-set_same}
 use Rattle.std.proofs.lemmas.List.{get_or_push, get_or_append_left, get_or_read, length-set}
 use Rattle.lwkt_search.specs.declared.Node.{Node}
 use Rattle.lwkt_search.specs.Graphs.{node_at, Differs, Grows}
@@ -123,18 +123,6 @@ sought_next {S} hash start nodes heads links wanted at is there was differs =
       none = λ k more less. elim (under_or_over k (at + 1)) [ inl h ↦ here k more h | inr h ↦ was.none k h less ];
     }
 
--- an index of no states
-pub index_none : {S : Type 0} (hash : S → ℕ) (state : ℕ → S) (heads : List ℕ) → 0 < length heads → ((k : ℕ) → slice_index_or heads k 0 ≡ 0) → IsIndex hash state heads [] 0
-index_none {S} hash state heads some zeros = record {
-  some = some;
-  long = refl;
-  head = λ b h.
-      let U : ℕ → Type 0 = λ up. IsLast hash (length heads) state b 0 up in
-      let none : U 0 = record { within = omega arith; inside = λ k e. absurd (omega arith); none = λ k m l. absurd (omega arith) } in
-      subst U (sym (zeros b)) none;
-  link = λ k h. absurd (omega arith);
-}
-
 -- an index of the list with one state more
 pub index_pushed : {S : Type 0} (hash : S → ℕ) (start : S) (nodes new : List (Node S)) (x : Node S) (heads links heads' links' : List ℕ) → IsIndexOf hash start nodes heads links → new ≡ nodes ++ x ∷ [] → IsAdded hash x.state heads links heads' links' → IsIndexOf hash start new heads' links'
 index_pushed {S} hash start nodes new x heads links heads' links' is pushed added =
@@ -146,17 +134,6 @@ index_pushed {S} hash start nodes new x heads links heads' links' is pushed adde
     let F : ℕ → Type 0 = λ n. IsIndex hash (state_at start list) heads' links' n in
     let G : List (Node S) → Type 0 = λ xs. IsIndexOf hash start xs heads' links' in
     subst G (sym pushed) (subst F (sym long) (added (state_at start list) (length nodes) was last))
-
-zero_at : (n k : ℕ) → slice_index_or (replicate n 0) k 0 ≡ 0
-zero_at zero k = refl
-zero_at (suc n) zero = refl
-zero_at (suc n) (suc k) = zero_at n k
-
--- an index of no states, in new buckets
-pub index_new : {S : Type 0} (hash : S → ℕ) (state : ℕ → S) (heads : List ℕ) (count : ℕ) → 0 < count → heads ≡ replicate count 0 → length heads ≡ count → IsIndex hash state heads [] 0
-index_new {S} hash state heads count some new long =
-    let Z : List ℕ → Type 0 = λ xs. (k : ℕ) → slice_index_or xs k 0 ≡ 0 in
-    index_none hash state heads (omega arith) (subst Z (sym new) (zero_at count))
 
 -- what is written into an index for one state more
 pub add_is : {S : Type 0} (hash : S → ℕ) (heads links new : List ℕ) (count bucket place before : ℕ) (last : S) → count ≡ length heads → bucket ≡ bucket_of hash count last → bucket < count → before ≡ slice_index_or heads bucket before → place ≡ length links → new ≡ links ++ before ∷ [] → IsAdded hash last heads links (slice_set heads bucket (place + 1)) new
