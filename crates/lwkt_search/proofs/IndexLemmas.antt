@@ -78,13 +78,13 @@ index_more {S} hash state heads links end bucket is here there =
     ]
     in
     let link : L (length heads) = below_more (λ k. IsLast hash (length heads) state (bucket_of hash (length heads) (state k)) k (slice_index_or links' k 0)) end
-        (λ k h.
-        let less : k < length links = omega (arith, is.long) in
-        let U : ℕ → Type 0 = λ up. IsLast hash (length heads) state (bucket_of hash (length heads) (state k)) k up in
-        subst U (sym (get_or_append_left links (slice_index_or heads bucket 0 ∷ []) 0 k less)) (is.link k h))
-        (let U : ℕ → Type 0 = λ up. IsLast hash (length heads) state (bucket_of hash (length heads) (state end)) end up in
-        let B : ℕ → Type 0 = λ b. IsLast hash (length heads) state b end (slice_index_or heads bucket 0) in
-        subst U (sym seam) (subst B here (is.head bucket there)))
+    (λ k h.
+    let less : k < length links = omega (arith, is.long) in
+    let U : ℕ → Type 0 = λ up. IsLast hash (length heads) state (bucket_of hash (length heads) (state k)) k up in
+    subst U (sym (get_or_append_left links (slice_index_or heads bucket 0 ∷ []) 0 k less)) (is.link k h))
+    (let U : ℕ → Type 0 = λ up. IsLast hash (length heads) state (bucket_of hash (length heads) (state end)) end up in
+    let B : ℕ → Type 0 = λ b. IsLast hash (length heads) state b end (slice_index_or heads bucket 0) in
+    subst U (sym seam) (subst B here (is.head bucket there)))
     in
     record {
       some = omega (arith, count, is.some);
@@ -115,7 +115,7 @@ sought_next {S} hash start nodes heads links wanted at is there was differs =
     let in_it : bucket_of hash (length heads) (state_at start nodes at) ≡ bucket_of hash (length heads) wanted = was.inside at refl in
     let low : (k : ℕ) → up ≤ k → k < at → state_at start nodes k ≡ wanted → ⊥ = λ k more less e. l.none k more less (ap (bucket_of hash (length heads)) e ∙ sym in_it) in
     let here : (k : ℕ) → up ≤ k → k < at + 1 → state_at start nodes k ≡ wanted → ⊥ = λ k more less.
-        below_more (λ j. up ≤ j → state_at start nodes j ≡ wanted → ⊥) at (λ j h m. low j m h) (λ m. differs) k less more
+    below_more (λ j. up ≤ j → state_at start nodes j ≡ wanted → ⊥) at (λ j h m. low j m h) (λ m. differs) k less more
     in
     record {
       within = omega (arith, l.within);

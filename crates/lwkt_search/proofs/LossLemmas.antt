@@ -114,5 +114,14 @@ ends_more {S} turn ended start cpus nodes reaches new at b state long was same e
     subst (B k) (sym (get_or_append_left reaches (b ∷ []) false k less)) (was k h))
     (subst (B at) (sym last) (subst I same exact)))
 
+-- once each state was looked at, what is noted are the ends
+pub ends_all : {S : Type 0} (turn : S → ℕ → S) (ended : S → Bool) (start : S) (cpus : ℕ) (nodes : List (Node S)) (reaches : List Bool) (at : ℕ) → at ≡ length nodes → ((k : ℕ) → k < at → (slice_index_or reaches k false ≡ true) ↔ IsEnd turn ended cpus (node_at start nodes k).state) → IsReaching turn ended start cpus nodes reaches
+ends_all turn ended start cpus nodes reaches at all exact = record {
+  sound = λ k h light.
+      let less : k < at = omega arith in
+      record { order = []; below = λ i d low. absurd (omega arith); end = (exact k less).0 light };
+  ends = λ k h end. let less : k < at = omega arith in (exact k less).1 end;
+}
+
 pub lost_at : {S : Type 0} (turn : S → ℕ → S) (ended : S → Bool) (start : S) (cpus : ℕ) (nodes : List (Node S)) (reaches : List Bool) (at : ℕ) → IsReaching turn ended start cpus nodes reaches → IsSettled turn start cpus nodes reaches → at < length nodes → slice_index_or reaches at false ≡ false → IsLost turn ended cpus (node_at start nodes at).state
 lost_at turn ended start cpus nodes reaches at is settled there dark = λ order below end. lost_stable turn ended start cpus nodes reaches order at is settled.stable there dark below end

@@ -80,17 +80,17 @@ spread_more {S} turn start cpus nodes outcomes at last graph there was state =
     let seam : (d : Outcome S) → (slice_index_or new (length outcomes) d).state ≡ last.state = λ d. ap (λ (o : Outcome S). o.state) (get_or-append_seam outcomes last [] d) in
     let A : ℕ → Type 0 = λ j. (i : ℕ) → i < j → (d : Outcome S) → (slice_index_or new i d).state ≡ (slice_index_or new j d).state → ⊥ in
     let old : (j : ℕ) → j < length outcomes → A j = λ j h i less d e.
-        let h2 : i < length outcomes = omega arith in
-        was.apart i j less h d (sym (left i h2 d) ∙ (e ∙ left j h d))
+    let h2 : i < length outcomes = omega arith in
+    was.apart i j less h d (sym (left i h2 d) ∙ (e ∙ left j h d))
     in
     let one : A (length outcomes) = λ i less d e.
-        let f : IsFrom start nodes outcomes at i = was.from i less in
-        graph.distinct f.place at f.before there (sym (f.is d) ∙ (sym (left i less d) ∙ (e ∙ (seam d ∙ state))))
+    let f : IsFrom start nodes outcomes at i = was.from i less in
+    graph.distinct f.place at f.before there (sym (f.is d) ∙ (sym (left i less d) ∙ (e ∙ (seam d ∙ state))))
     in
     let F : ℕ → Type 0 = λ k. IsFrom start nodes new (at + 1) k in
     let kept : (k : ℕ) → k < length outcomes → F k = λ k h.
-        let f : IsFrom start nodes outcomes at k = was.from k h in
-        record { place = f.place; before = omega (arith, f.before); is = λ d. left k h d ∙ f.is d }
+    let f : IsFrom start nodes outcomes at k = was.from k h in
+    record { place = f.place; before = omega (arith, f.before); is = λ d. left k h d ∙ f.is d }
     in
     let here : F (length outcomes) = record { place = at; before = omega arith; is = λ d. seam d ∙ state } in
     record {

@@ -1,5 +1,5 @@
 -- States by their canonical forms.
-use Rattle.std.specs.Prelude.{◌≡◌, ℕ, ◌<◌}
+use Rattle.std.specs.Prelude.{◌≡◌, ℕ, ◌<◌, ◌≤◌, List, length}
 use Rattle.lwkt_search.specs.declared.Canon.{Canon}
 use Rattle.lwkt_search.specs.declared.Outcome.{Outcome}
 use Rattle.lwkt_search.specs.Runs.{run, IsOrder}
@@ -25,3 +25,23 @@ pub record IsFormOutcome {S : Type 0} (turn : S → ℕ → S) (canon : S → S)
 -- the hash of a form
 abbrev pub form_hash : {S : Type 0} → (S → ℕ) → Canon S → ℕ
 form_hash hash state = hash state.form
+
+-- no order that leads to a state of the outcome's form is shorter
+abbrev pub IsShortestForm : {S : Type 0} → (S → ℕ → S) → (S → S) → ℕ → S → Outcome (Canon S) → Type 0
+IsShortestForm turn canon cpus start outcome = (order : List ℕ) → IsOrder cpus order → canon (run turn start order) ≡ outcome.state.form → length outcome.order.items ≤ length order
+
+-- an order leads to a state of the form
+pub record CanReachForm {S : Type 0} (turn : S → ℕ → S) (canon : S → S) (cpus : ℕ) (start form : S) : Type 0 where
+  pub order : List ℕ
+  pub below : IsOrder cpus order
+  pub leads : canon (run turn start order) ≡ form
+
+-- orders lead to states of so many forms
+pub record HasForms {S : Type 0} (turn : S → ℕ → S) (canon : S → S) (cpus : ℕ) (start : S) (count : ℕ) : Type 0 where
+  pub form : ℕ → S
+  pub reached : (k : ℕ) → k < count → CanReachForm turn canon cpus start (form k)
+  pub distinct : (i j : ℕ) → i < j → j < count → form i ≡ form j → ⊥
+
+-- orders lead to states of at most so many forms
+abbrev pub HasAtMostForms : {S : Type 0} → (S → ℕ → S) → (S → S) → ℕ → S → ℕ → Type 0
+HasAtMostForms turn canon cpus start most = (count : ℕ) → HasForms turn canon cpus start count → count ≤ most

@@ -44,3 +44,7 @@ pub record HasStates {S : Type 0} (turn : S → ℕ → S) (cpus : ℕ) (start :
   pub state : ℕ → S
   pub reached : (k : ℕ) → k < count → CanReach turn cpus start (state k)
   pub distinct : (i j : ℕ) → i < j → j < count → state i ≡ state j → ⊥
+
+-- orders lead to at most so many states
+abbrev pub HasAtMost : {S : Type 0} → (S → ℕ → S) → ℕ → S → ℕ → Type 0
+HasAtMost turn cpus start most = (count : ℕ) → HasStates turn cpus start count → count ≤ most

@@ -2,12 +2,12 @@
 #![tactic(auto)]
 
 ghost use Rattle.std.specs.Prelude.{◌≡◌, ◌↔◌, ℕ, ◌+◌, ◌<◌, ◌≤◌, List, [], ◌++◌, ◌∷◌, length, All, HoldsAt, IsTrue, IsFalse, IfOk, IfSome, MatchOption, Bool, false, sum_by, replicate};
-ghost use Rattle.lwkt_search.specs.Runs.{run, IsOrder, IsQuiet, IsOutcome, IsShortest, HasOutcome, AreApart, HasStates};
+ghost use Rattle.lwkt_search.specs.Runs.{run, IsOrder, IsQuiet, IsOutcome, IsShortest, HasOutcome, AreApart, HasStates, HasAtMost};
 ghost use Rattle.lwkt_search.specs.Graphs.{node_at, IsGraphOf, IsSearchOf, IsTriedOf, Grows, Differs};
 ghost use Rattle.lwkt_search.specs.Indexes.{bucket_of, IsAdded, IsIndexOf};
 ghost use Rattle.lwkt_search.specs.Losses.{IsEnd, IsLost, IsLostOutcome, LeadsOn, IsNext, IsReaching, IsStable, IsSettled, missing};
 ghost use Rattle.lwkt_search.specs.Toys.{toy_turn, toy_hash, toy_ended};
-ghost use Rattle.lwkt_search.specs.Forms.{canon_turn, form_of, form_hash, IsQuietForm, IsFormOutcome};
+ghost use Rattle.lwkt_search.specs.Forms.{canon_turn, form_of, form_hash, IsQuietForm, IsFormOutcome, IsShortestForm, HasForms, HasAtMostForms};
 
 use lwkt_base::OutOfMemory;
 use lwkt_base::memory::{MOST_ROOM, push, resize};
@@ -132,7 +132,11 @@ fn empty_buckets(alloc: Global, count: usize) -> Result<Vec<usize>, OutOfMemory>
 }
 
 // An index of these states.
-fn index_of<S: State>(task: &Task<S>, alloc: Global, nodes: &[Node<S>]) -> Result<Index, OutOfMemory>
+fn index_of<S: State>(
+    task: &Task<S>,
+    alloc: Global,
+    nodes: &[Node<S>],
+) -> Result<Index, OutOfMemory>
     ensures { IfOk result (λ index. IsIndexOf S.hash_of task.now.start nodes.now index.heads.items index.links.items) }
 {
     let heads = empty_buckets(alloc, buckets_for(nodes.len()))?;
@@ -147,7 +151,12 @@ fn index_of<S: State>(task: &Task<S>, alloc: Global, nodes: &[Node<S>]) -> Resul
 }
 
 // The index, or a wider one where there are more states than buckets.
-fn widen<S: State>(task: &Task<S>, alloc: Global, nodes: &[Node<S>], index: Index) -> Result<Index, OutOfMemory>
+fn widen<S: State>(
+    task: &Task<S>,
+    alloc: Global,
+    nodes: &[Node<S>],
+    index: Index,
+) -> Result<Index, OutOfMemory>
     requires { IsIndexOf S.hash_of task.now.start nodes.now index.heads.items index.links.items }
     ensures { IfOk result (λ wide. IsIndexOf S.hash_of task.now.start nodes.now wide.heads.items wide.links.items) }
 {
@@ -174,18 +183,6 @@ fn seek<S: State>(task: &Task<S>, index: &Index, nodes: &[Node<S>], state: S) ->
     None
 }
 
-// Where a state is.
-fn find<S: State>(nodes: &[Node<S>], state: S) -> Option<usize>
-    ensures { MatchOption result (All (Differs state) nodes.now) (λ at. (at < length nodes.now) × HoldsAt (λ node. node.state ≡ state) nodes.now at) }
-{
-    for at in 0..nodes.len() {
-        if nodes[at].state.is_same(state) {
-            return Some(at);
-        }
-    }
-    None
-}
-
 impl<S: State> Task<S> {
     // Whether no turn changes a state.
     fn is_quiet(&self, state: S) -> bool
@@ -200,7 +197,13 @@ impl<S: State> Task<S> {
     }
 
     // Keeps the state that the turn of a processor leads to. Says whether it is kept.
-    fn note(&self, nodes: &mut Vec<Node<S>>, index: &mut Index, at: usize, cpu: u8) -> Result<bool, OutOfMemory>
+    fn note(
+        &self,
+        nodes: &mut Vec<Node<S>>,
+        index: &mut Index,
+        at: usize,
+        cpu: u8,
+    ) -> Result<bool, OutOfMemory>
         requires search { IsSearchOf S.turn_of self.now.start self.now.cpus nodes.old.items at }
         requires there { at < length nodes.old.items }
         requires cpu { cpu < self.now.cpus }
@@ -220,18 +223,26 @@ impl<S: State> Task<S> {
         if nodes.len() >= self.bound {
             return Ok(false);
         }
-        push(nodes, Node {
-            state,
-            parent: at,
-            cpu,
-            depth: before.depth + 1,
-        })?;
+        push(
+            nodes,
+            Node {
+                state,
+                parent: at,
+                cpu,
+                depth: before.depth + 1,
+            },
+        )?;
         add(index, state)?;
         Ok(true)
     }
 
     // Keeps the states that the turns from a state lead to. Says whether each is kept.
-    fn go_on(&self, nodes: &mut Vec<Node<S>>, index: &mut Index, at: usize) -> Result<bool, OutOfMemory>
+    fn go_on(
+        &self,
+        nodes: &mut Vec<Node<S>>,
+        index: &mut Index,
+        at: usize,
+    ) -> Result<bool, OutOfMemory>
         requires search { IsSearchOf S.turn_of self.now.start self.now.cpus nodes.old.items at }
         requires there { at < length nodes.old.items }
         requires index { IsIndexOf S.hash_of self.now.start nodes.old.items index.old.heads.items index.old.links.items }
@@ -256,14 +267,18 @@ impl<S: State> Task<S> {
         ensures search { IfOk result (λ growth. IsSearchOf S.turn_of self.now.start self.now.cpus growth.nodes.items growth.gone_on) }
         ensures full { IfOk result (λ growth. IsFalse growth.is_complete → HasStates S.turn_of self.now.cpus self.now.start (self.now.bound + 1)) }
         ensures complete { IfOk result (λ growth. IsTrue growth.is_complete → growth.gone_on ≡ length growth.nodes.items) }
+        ensures few { IfOk result (λ growth. length growth.nodes.items ≤ self.now.bound) }
     {
         let mut nodes = Vec::new(alloc);
-        push(&mut nodes, Node {
-            state: self.start,
-            parent: 0,
-            cpu: 0,
-            depth: 0,
-        })?;
+        push(
+            &mut nodes,
+            Node {
+                state: self.start,
+                parent: 0,
+                cpu: 0,
+                depth: 0,
+            },
+        )?;
         let mut index = index_of(self, alloc, nodes.as_slice())?;
         let mut at = 0usize;
         while at < nodes.len() {
@@ -317,6 +332,8 @@ impl<S: State> Task<S> {
         ensures once { IfOk result (λ found. AreApart found.outcomes.items) }
         // The search is cut off only where orders lead to more states than may be kept.
         ensures full { IfOk result (λ found. IsFalse found.is_complete → HasStates S.turn_of self.now.cpus self.now.start (self.now.bound + 1)) }
+        // Else they lead to no more.
+        ensures few { IfOk result (λ found. IsTrue found.is_complete → HasAtMost S.turn_of self.now.cpus self.now.start self.now.bound) }
     {
         let growth = self.grow(alloc)?;
         let mut outcomes = Vec::new(alloc);
@@ -400,8 +417,14 @@ pub fn search_forms<M: Machine>(
     ensures sound { IfOk result (λ found. All (λ outcome. IsFormOutcome M.turn_of M.canon_of cpus start outcome) found.outcomes.items) }
     // The form of each state that an order leads to, and whose form no turn changes, is an outcome.
     ensures complete { IfOk result (λ found. IsTrue found.is_complete → (order : List ℕ) → IsOrder cpus order → IsQuietForm M.turn_of M.canon_of cpus (run M.turn_of start order) → HasOutcome (form_of M.canon_of (run M.turn_of start order)) found.outcomes.items) }
+    // No order that leads to a state of an outcome's form is shorter than its order.
+    ensures shortest { IfOk result (λ found. IsTrue found.is_complete → All (λ outcome. IsShortestForm M.turn_of M.canon_of cpus start outcome) found.outcomes.items) }
     // No form is told twice.
     ensures once { IfOk result (λ found. AreApart found.outcomes.items) }
+    // The search is cut off only where orders lead to states of more forms than may be kept.
+    ensures full { IfOk result (λ found. IsFalse found.is_complete → HasForms M.turn_of M.canon_of cpus start (bound + 1)) }
+    // Else they lead to states of no more.
+    ensures few { IfOk result (λ found. IsTrue found.is_complete → HasAtMostForms M.turn_of M.canon_of cpus start bound) }
 {
     let task = Task {
         start: Canon {
@@ -443,7 +466,13 @@ fn next_of<S: State>(task: &Task<S>, nodes: &[Node<S>], index: &Index, at: usize
 }
 
 // Whether a turn leads from a state to one from which an end can be reached.
-fn leads_on<S: State>(task: &Task<S>, nodes: &[Node<S>], index: &Index, reaches: &[bool], at: usize) -> bool
+fn leads_on<S: State>(
+    task: &Task<S>,
+    nodes: &[Node<S>],
+    index: &Index,
+    reaches: &[bool],
+    at: usize,
+) -> bool
     requires search { IsSearchOf S.turn_of task.now.start task.now.cpus nodes.now (length nodes.now) }
     requires index { IsIndexOf S.hash_of task.now.start nodes.now index.now.heads.items index.now.links.items }
     requires there { at < length nodes.now }
@@ -461,7 +490,13 @@ fn leads_on<S: State>(task: &Task<S>, nodes: &[Node<S>], index: &Index, reaches:
 }
 
 // Notes that an end can be reached from a state, if a turn leads to one from which it can. Says whether that is new.
-fn step_back<S: Ending>(task: &Task<S>, nodes: &[Node<S>], index: &Index, reaches: &mut [bool], at: usize) -> bool
+fn step_back<S: Ending>(
+    task: &Task<S>,
+    nodes: &[Node<S>],
+    index: &Index,
+    reaches: &mut [bool],
+    at: usize,
+) -> bool
     requires search { IsSearchOf S.turn_of task.now.start task.now.cpus nodes.now (length nodes.now) }
     requires index { IsIndexOf S.hash_of task.now.start nodes.now index.now.heads.items index.now.links.items }
     requires there { at < length nodes.now }
@@ -483,7 +518,12 @@ fn step_back<S: Ending>(task: &Task<S>, nodes: &[Node<S>], index: &Index, reache
 }
 
 // Finds one more state from which an end can be reached. Says whether there is one.
-fn go_back<S: Ending>(task: &Task<S>, nodes: &[Node<S>], index: &Index, reaches: &mut [bool]) -> bool
+fn go_back<S: Ending>(
+    task: &Task<S>,
+    nodes: &[Node<S>],
+    index: &Index,
+    reaches: &mut [bool],
+) -> bool
     requires search { IsSearchOf S.turn_of task.now.start task.now.cpus nodes.now (length nodes.now) }
     requires index { IsIndexOf S.hash_of task.now.start nodes.now index.now.heads.items index.now.links.items }
     requires same { length reaches.old ≡ length nodes.now }
@@ -504,7 +544,8 @@ fn go_back<S: Ending>(task: &Task<S>, nodes: &[Node<S>], index: &Index, reaches:
 fn reaching<S: Ending>(
     task: &Task<S>,
     alloc: Global,
-    nodes: &[Node<S>], index: &Index,
+    nodes: &[Node<S>],
+    index: &Index,
 ) -> Result<Vec<bool>, OutOfMemory>
     requires search { IsSearchOf S.turn_of task.now.start task.now.cpus nodes.now (length nodes.now) }
     requires index { IsIndexOf S.hash_of task.now.start nodes.now index.now.heads.items index.now.links.items }

@@ -3,6 +3,7 @@ use Rattle.std.specs.declared.alloc.Global.{Global}
 use Rattle.lwkt_search.specs.declared.Outcome.{Outcome}
 use Rattle.lwkt_search.specs.Runs.{IsQuiet}
 use Rattle.lwkt_search.specs.Graphs.{node_at, IsCollected}
+use Rattle.lwkt_search.proofs.CountLemmas.{no_more}
 use Rattle.lwkt_search.proofs.RunLemmas.{is_whole, collect_seen, collect_less, all_collected, read_state}
 use Rattle.lwkt_search.proofs.Task.search.Goals as goal
 use Rattle.lwkt_search.proofs.Task.search.Goals.{then-is_quiet+in_ok-order+in_ok-push, else-is_quiet}
@@ -40,3 +41,12 @@ returns-clause-complete g c = λ complete order below quiet.
 
 pub returns-clause-once : goal.returns-clause-once
 returns-clause-once g c = c.loop-at.invariant.collected.spread.apart
+
+pub returns-clause-few : goal.returns-clause-few
+returns-clause-few g c = λ complete count has.
+    let nodes = c.in_ok-growth.growth.nodes.items in
+    let start = c.args.self.now.start in
+    let cpus = c.args.self.now.cpus in
+    let few : length nodes ≤ c.args.self.now.bound = c.in_ok-growth.ensures.few in
+    let most : count ≤ length nodes = no_more g.S.State.turn_of start cpus (length nodes) (node_at start nodes) count (is_whole g.S.State.turn_of start cpus nodes c.in_ok-growth.growth.gone_on c.in_ok-growth.ensures.search (c.in_ok-growth.ensures.complete complete)) has in
+    omega arith
