@@ -1,7 +1,7 @@
 use Rattle.std.proofs.Common.{◌≡◌, ℕ, List, [], ◌∷◌, All, ap, subst, sym, refl, ◌∙◌}
 use Rattle.std.proofs.lemmas.List.Elements.{All-weaker}
-use Rattle.lwkt_search.specs.declared.Canon.{Canon}
-use Rattle.lwkt_search.specs.declared.Outcome.{Outcome}
+use Rattle.lwkt_search.specs.declared.forms.Canon.{Canon}
+use Rattle.lwkt_search.specs.declared.searches.Outcome.{Outcome}
 use Rattle.lwkt_search.specs.Runs.{run, IsOrder, IsQuiet, IsOutcome, IsShortest, HasOutcome, CanReach, HasStates, HasAtMost}
 use Rattle.lwkt_search.specs.Forms.{form_of, canon_turn, IsQuietForm, IsFormOutcome, IsShortestForm, CanReachForm, HasForms, HasAtMostForms}
 

@@ -1,11 +1,10 @@
-use Rattle.std.proofs.Common.{◌≡◌, ℕ, ◌+◌, ◌<◌, ◌≤◌, List, [], ◌∷◌, ◌++◌, ◌⊎◌, inl, inr, zero, suc, length, arith, ap, subst, sym, refl, ◌∙◌, below_more, length-append, Option, None, Some, true, false, All, HoldsAt, MatchOption, slice_index_or}
-use Rattle.std.proofs.lemmas.List.{get_or_append_left, get_or_read}
-use Rattle.std.specs.Option.{is_some}
+use Rattle.std.proofs.Common.{◌≡◌, ℕ, ◌+◌, ◌<◌, ◌≤◌, List, [], ◌∷◌, ◌++◌, ◌⊎◌, inl, inr, zero, suc, length, arith, ap, subst, sym, refl, ◌∙◌, below_more, length-append, All}
+use Rattle.std.proofs.lemmas.List.{get_or_append_left}
 use Rattle.std.proofs.Math.Seq.{get_or-append_seam}
-use Rattle.lwkt_search.specs.declared.Node.{Node}
+use Rattle.lwkt_search.specs.declared.searches.Node.{Node}
 use Rattle.std.proofs.lemmas.List.Elements.{All-push}
 use Rattle.lwkt_search.specs.Runs.{run, IsOrder, CanReach, HasStates}
-use Rattle.lwkt_search.specs.Graphs.{node_at, IsLink, IsGraph, IsGraphOf, IsTried, IsSearch, IsSearchOf, IsTriedOf, Grows, Differs}
+use Rattle.lwkt_search.specs.Graphs.{node_at, IsLink, IsGraph, IsTried, IsSearch, IsSearchOf, IsLed, IsTurnAt, Grows, Differs}
 
 -- what was tried stays so where more states are found
 pub tried_same : {S : Type 0} (turn : S → ℕ → S) (len more : ℕ) (node node' : ℕ → Node S) (i cpu : ℕ) → len ≤ more → ((k : ℕ) → k < len → node' k ≡ node k) → i < len → IsTried turn len node (node i) cpu → IsTried turn more node' (node' i) cpu
@@ -142,57 +141,28 @@ begin_search {S} turn start cpus =
       done = λ i h. absurd (omega arith);
     }
 
-pub some_of : (P : Type 0) (Q : ℕ → Type 0) (found : Option ℕ) → true ≡ is_some found → MatchOption found P Q → (k : ℕ) × Q k
-some_of P Q None e m = cc
-some_of P Q (Some k) e m = (k, m)
-
-pub none_of : (P : Type 0) (Q : ℕ → Type 0) (found : Option ℕ) → false ≡ is_some found → MatchOption found P Q → P
-none_of P Q None e m = m
-none_of P Q (Some k) e m = cc
-
--- a turn that leads to a state that was found before
-pub found_tried : {S : Type 0} (turn : S → ℕ → S) (start : S) (cpus : ℕ) (nodes seen : List (Node S)) (at cpu : ℕ) (before : Node S) (state : S) (found : Option ℕ) → IsSearchOf turn start cpus nodes at → at < length nodes → before ≡ slice_index_or nodes at before → state ≡ turn before.state cpu → seen ≡ nodes → true ≡ is_some found → MatchOption found (All (Differs state) seen) (λ k. (k < length seen) × HoldsAt (λ (node : Node S). node.state ≡ state) seen k) → IsTriedOf turn start nodes at cpu
-found_tried {S} turn start cpus nodes seen at cpu before state found is there read led same is_found m =
+-- the node that a turn leads to, where its state is new
+pub kept_search : {S : Type 0} (turn : S → ℕ → S) (start : S) (cpus : ℕ) (nodes : List (Node S)) (node : Node S) (at cpu : ℕ) → IsSearchOf turn start cpus nodes at → at < length nodes → cpu < cpus → IsLed turn start nodes at cpu node → All (Differs node.state) nodes → IsSearchOf turn start cpus (nodes ++ node ∷ []) at
+kept_search {S} turn start cpus nodes node at cpu is there below led fresh =
     let root : Node S = record { state = start; parent = 0; cpu = 0; depth = 0 } in
-    let e : before ≡ node_at start nodes at = get_or_read nodes at before there read root in
-    let Q : List (Node S) → ℕ → Type 0 = λ xs k. (k < length xs) × HoldsAt (λ (node : Node S). node.state ≡ state) xs k in
-    let f : (k : ℕ) × Q seen k = some_of (All (Differs state) seen) (Q seen) found is_found m in
-    let F : List (Node S) → Type 0 = λ xs. Q xs f.0 in
-    let h : Q nodes f.0 = subst F same f.1 in
-    let L : Node S → Type 0 = λ x. state ≡ turn x.state cpu in
-    record { place = f.0; there = h.0; leads = h.1 root ∙ subst L e led; depth = is.near f.0 h.0 there }
+    push_search turn start cpus nodes node at cpu is there below led.state led.parent led.by led.depth (λ k less eq. fresh k root less eq)
 
--- a turn that leads to a new state
-pub record IsNoted {S : Type 0} (turn : S → ℕ → S) (start : S) (cpus : ℕ) (new : List (Node S)) (at cpu : ℕ) : Type 0 where
-  pub search : IsSearchOf turn start cpus new at
-  pub tried : IsTriedOf turn start new at cpu
-
-pub noted : {S : Type 0} (turn : S → ℕ → S) (start : S) (cpus : ℕ) (nodes seen new : List (Node S)) (at cpu : ℕ) (before : Node S) (state : S) (found : Option ℕ) → IsSearchOf turn start cpus nodes at → at < length nodes → cpu < cpus → before ≡ slice_index_or nodes at before → state ≡ turn before.state cpu → seen ≡ nodes → false ≡ is_some found → MatchOption found (All (Differs state) seen) (λ k. (k < length seen) × HoldsAt (λ (node : Node S). node.state ≡ state) seen k) → new ≡ nodes ++ (record { state = state; parent = at; cpu = cpu; depth = before.depth + 1 }) ∷ [] → IsNoted turn start cpus new at cpu
-noted {S} turn start cpus nodes seen new at cpu before state found is there below read led same is_not m pushed =
-    let root : Node S = record { state = start; parent = 0; cpu = 0; depth = 0 } in
-    let x : Node S = record { state = state; parent = at; cpu = cpu; depth = before.depth + 1 } in
-    let e : before ≡ node_at start nodes at = get_or_read nodes at before there read root in
-    let Q : ℕ → Type 0 = λ k. (k < length seen) × HoldsAt (λ (node : Node S). node.state ≡ state) seen k in
-    let f : All (Differs state) seen = none_of (All (Differs state) seen) Q found is_not m in
-    let A : List (Node S) → Type 0 = λ xs. All (Differs state) xs in
-    let h : All (Differs state) nodes = subst A same f in
-    let L : Node S → Type 0 = λ y. state ≡ turn y.state cpu in
-    let D : Node S → Type 0 = λ y. before.depth + 1 ≡ y.depth + 1 in
-    let leads : state ≡ turn (node_at start nodes at).state cpu = subst L e led in
-    let deep : before.depth + 1 ≡ (node_at start nodes at).depth + 1 = subst D e refl in
-    let list : List (Node S) = nodes ++ x ∷ [] in
-    let last : node_at start list (length nodes) ≡ x = pushed_at start nodes x in
-    let old : node_at start list at ≡ node_at start nodes at = get_or_append_left nodes (x ∷ []) root at there in
-    let long : length list ≡ length nodes + 1 = length-append nodes (x ∷ []) in
-    let T : Node S → Type 0 = λ y. IsTried turn (length list) (node_at start list) y cpu in
-    let ST : Node S → Type 0 = λ y. y.state ≡ turn (node_at start nodes at).state cpu in
-    let DE : Node S → Type 0 = λ y. y.depth ≤ (node_at start nodes at).depth + 1 in
-    let shallow : before.depth + 1 ≤ (node_at start nodes at).depth + 1 = omega arith in
-    let P : List (Node S) → Type 0 = λ xs. IsNoted turn start cpus xs at cpu in
-    subst P (sym pushed) (record {
-      search = push_search turn start cpus nodes x at cpu is there below leads refl refl deep (λ k less eq. h k root less eq);
-      tried = subst T (sym old) (record { place = length nodes; there = omega (arith, long); leads = subst ST (sym last) leads; depth = subst DE (sym last) shallow });
-    })
+pub kept_turn : {S : Type 0} (turn : S → ℕ → S) (start : S) (nodes : List (Node S)) (node : Node S) (at cpu : ℕ) → at < length nodes → IsLed turn start nodes at cpu node → IsTurnAt turn start (nodes ++ node ∷ []) at cpu (length nodes)
+kept_turn {S} turn start nodes node at cpu there led =
+    let list : List (Node S) = nodes ++ node ∷ [] in
+    let last : node_at start list (length nodes) ≡ node = pushed_at start nodes node in
+    let old : node_at start list at ≡ node_at start nodes at = (grows_push start nodes node).same at there in
+    let L : Node S → Type 0 = λ y. (node_at start list (length nodes)).state ≡ turn y.state cpu in
+    let M : Node S → Type 0 = λ y. y.state ≡ turn (node_at start nodes at).state cpu in
+    let D : Node S → Type 0 = λ y. (node_at start list (length nodes)).depth ≤ y.depth + 1 in
+    let E : Node S → Type 0 = λ y. y.depth ≤ (node_at start nodes at).depth + 1 in
+    let deep : node.depth ≤ (node_at start nodes at).depth + 1 = omega (arith, led.depth) in
+    let long : length list ≡ length nodes + 1 = length-append nodes (node ∷ []) in
+    record {
+      there = omega (arith, long);
+      leads = subst L (sym old) (subst M (sym last) led.state);
+      depth = subst D (sym old) (subst E (sym last) deep);
+    }
 
 -- an order with one turn more
 run_push : {S : Type 0} (turn : S → ℕ → S) (state : S) (order : List ℕ) (cpu : ℕ) → run turn state (order ++ cpu ∷ []) ≡ turn (run turn state order) cpu
@@ -234,11 +204,10 @@ has_states {S} turn start cpus len node count g few = record {
 }
 
 -- where a turn leads to a new state that isn't kept, there are more states than are kept
-pub crowded : {S : Type 0} (turn : S → ℕ → S) (start : S) (cpus : ℕ) (nodes seen : List (Node S)) (at cpu bound : ℕ) (before : Node S) (state : S) (found : Option ℕ) → IsSearchOf turn start cpus nodes at → at < length nodes → cpu < cpus → before ≡ slice_index_or nodes at before → state ≡ turn before.state cpu → seen ≡ nodes → false ≡ is_some found → MatchOption found (All (Differs state) seen) (λ k. (k < length seen) × HoldsAt (λ (node : Node S). node.state ≡ state) seen k) → bound ≤ length nodes → HasStates turn cpus start (bound + 1)
-crowded {S} turn start cpus nodes seen at cpu bound before state found is there below read led same is_not m full =
-    let x : Node S = record { state = state; parent = at; cpu = cpu; depth = before.depth + 1 } in
-    let new : List (Node S) = nodes ++ x ∷ [] in
-    let long : length new ≡ length nodes + 1 = length-append nodes (x ∷ []) in
-    let n : IsNoted turn start cpus new at cpu = noted turn start cpus nodes seen new at cpu before state found is there below read led same is_not m refl in
-    let few : bound + 1 ≤ length new = omega arith in
-    has_states turn start cpus (length new) (node_at start new) (bound + 1) n.search.graph few
+pub crowded : {S : Type 0} (turn : S → ℕ → S) (start : S) (cpus : ℕ) (nodes : List (Node S)) (node : Node S) (at cpu bound : ℕ) → IsSearchOf turn start cpus nodes at → at < length nodes → cpu < cpus → IsLed turn start nodes at cpu node → All (Differs node.state) nodes → bound ≤ length nodes → HasStates turn cpus start (bound + 1)
+crowded {S} turn start cpus nodes node at cpu bound is there below led fresh full =
+    let list : List (Node S) = nodes ++ node ∷ [] in
+    let long : length list ≡ length nodes + 1 = length-append nodes (node ∷ []) in
+    let s : IsSearchOf turn start cpus list at = kept_search turn start cpus nodes node at cpu is there below led fresh in
+    let few : bound + 1 ≤ length list = omega arith in
+    has_states turn start cpus (length list) (node_at start list) (bound + 1) s.graph few

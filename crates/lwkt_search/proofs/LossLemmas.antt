@@ -1,12 +1,11 @@
-use Rattle.std.proofs.Common.{◌≡◌, ◌≢◌, ◌↔◌, ℕ, ◌+◌, ◌<◌, ◌≤◌, List, [], ◌∷◌, ◌++◌, ◌⊎◌, inl, inr, length, arith, ap, subst, sym, ◌∙◌, All, Option, None, Some, Bool, true, false, IsTrue, below_more, slice_index_or, slice_set, sum_by, HoldsAt, MatchOption, get_or-set_other, get_or-set_same}
+use Rattle.std.proofs.Common.{◌≡◌, ◌≢◌, ◌↔◌, ℕ, ◌+◌, ◌<◌, ◌≤◌, List, [], ◌∷◌, ◌++◌, ◌⊎◌, inl, inr, length, arith, ap, subst, sym, ◌∙◌, refl, All, Bool, true, false, true≢false, IsTrue, below_more, slice_index_or, slice_set, sum_by, get_or-set_other, get_or-set_same}
 use Rattle.std.proofs.lemmas.List.Elements.{All-head, All-tail, All-push, All-cons}
 use Rattle.std.proofs.lemmas.List.Sums.{sum_by-set}
 use Rattle.std.proofs.lemmas.List.{get_or_push, get_or_append_left}
-use Rattle.std.specs.Option.{unwrap_or}
-use Rattle.lwkt_search.specs.declared.Node.{Node}
-use Rattle.lwkt_search.specs.declared.Outcome.{Outcome}
+use Rattle.lwkt_search.specs.declared.searches.Node.{Node}
+use Rattle.lwkt_search.specs.declared.searches.Outcome.{Outcome}
 use Rattle.lwkt_search.specs.Runs.{run, IsOrder, HasOutcome}
-use Rattle.lwkt_search.specs.Graphs.{node_at, IsGraphOf, IsSearchOf, IsTriedOf, Differs}
+use Rattle.lwkt_search.specs.Graphs.{node_at, IsGraphOf, IsSearchOf, IsTold}
 use Rattle.lwkt_search.specs.Losses.{IsEnd, IsLost, CanEnd, IsLostOutcome, IsNext, LeadsOn, IsReaching, IsStable, IsSettled, missing, IsLostList}
 use Rattle.lwkt_search.proofs.RunLemmas.{IsReached, reached_from_start, has_push, has_last, spread_more, spread_less}
 
@@ -53,35 +52,20 @@ set_fewer reaches at there dark =
     let one : missing (slice_index_or reaches at false) ≡ 1 = ap missing dark in
     omega arith
 
--- where the turn leads, among the found states
-pub record IsFoundAt {S : Type 0} (turn : S → ℕ → S) (start : S) (nodes : List (Node S)) (at cpu place : ℕ) : Type 0 where
-  pub there : place < length nodes
-  pub leads : (node_at start nodes place).state ≡ turn (node_at start nodes at).state cpu
-
-pub next_found : {S : Type 0} (turn : S → ℕ → S) (start : S) (cpus : ℕ) (nodes : List (Node S)) (at cpu : ℕ) (before : Node S) (state : S) (found : Option ℕ) → IsSearchOf turn start cpus nodes (length nodes) → at < length nodes → cpu < cpus → before ≡ node_at start nodes at → state ≡ turn before.state cpu → MatchOption found (All (Differs state) nodes) (λ k. (k < length nodes) × HoldsAt (λ (node : Node S). node.state ≡ state) nodes k) → IsFoundAt turn start nodes at cpu (unwrap_or found 0)
-next_found {S} turn start cpus nodes at cpu before state None is there below e led m =
-    let root : Node S = record { state = start; parent = 0; cpu = 0; depth = 0 } in
-    let t : IsTriedOf turn start nodes at cpu = is.done at there cpu below in
-    let L : Node S → Type 0 = λ x. state ≡ turn x.state cpu in
-    absurd (m t.place root t.there (t.leads ∙ sym (subst L e led)))
-next_found {S} turn start cpus nodes at cpu before state (Some k) is there below e led m =
-    let root : Node S = record { state = start; parent = 0; cpu = 0; depth = 0 } in
-    let L : Node S → Type 0 = λ x. state ≡ turn x.state cpu in
-    record { there = m.0; leads = m.1 root ∙ subst L e led }
-
 -- one more lost state
-pub lost_more : {S : Type 0} (turn : S → ℕ → S) (ended : S → Bool) (start : S) (cpus : ℕ) (nodes seen : List (Node S)) (lost new : List (Outcome S)) (at : ℕ) (last : Outcome S) → IsGraphOf turn start cpus nodes → at < length nodes → IsLostList turn ended start cpus nodes lost at → last.state ≡ (node_at start nodes at).state → IsLost turn ended cpus (node_at start nodes at).state → IsOrder cpus last.order.items → seen ≡ nodes → run turn start last.order.items ≡ (node_at start seen at).state → new ≡ lost ++ last ∷ [] → IsLostList turn ended start cpus nodes new (at + 1)
-lost_more {S} turn ended start cpus nodes seen lost new at last graph there was state dark order same leads pushed =
+pub lost_more : {S : Type 0} (turn : S → ℕ → S) (ended : S → Bool) (start : S) (cpus : ℕ) (nodes seen : List (Node S)) (lost new : List (Outcome S)) (at : ℕ) (last : Outcome S) → IsGraphOf turn start cpus nodes → at < length nodes → IsLostList turn ended start cpus nodes lost at → seen ≡ nodes → IsTold turn start cpus seen at last → IsLost turn ended cpus (node_at start nodes at).state → new ≡ lost ++ last ∷ [] → IsLostList turn ended start cpus nodes new (at + 1)
+lost_more {S} turn ended start cpus nodes seen lost new at last graph there was same told_seen dark pushed =
+    let T : List (Node S) → Type 0 = λ xs. IsTold turn start cpus xs at last in
+    let told : IsTold turn start cpus nodes at last = subst T same told_seen in
     let O : Outcome S → Type 0 = λ one. IsLostOutcome turn ended cpus start one in
     let L : S → Type 0 = λ s. IsLost turn ended cpus s in
-    let R : List (Node S) → Type 0 = λ xs. run turn start last.order.items ≡ (node_at start xs at).state in
     let E : ℕ → Type 0 = λ k. IsLost turn ended cpus (node_at start nodes k).state → HasOutcome (node_at start nodes k).state (lost ++ last ∷ []) in
     let F : List (Outcome S) → Type 0 = λ xs. IsLostList turn ended start cpus nodes xs (at + 1) in
-    let one : IsLostOutcome turn ended cpus start last = record { order = order; leads = subst R same leads ∙ sym state; lost = subst L (sym state) dark } in
+    let one : IsLostOutcome turn ended cpus start last = record { order = told.order; leads = told.leads ∙ sym told.state; lost = subst L (sym told.state) dark } in
     subst F (sym pushed) (record {
       sound = All-push O lost last was.sound one;
-      each = below_more E at (λ k h q. has_push (node_at start nodes k).state lost last (was.each k h q)) (λ q. has_last (node_at start nodes at).state lost last state);
-      spread = spread_more turn start cpus nodes lost at last graph there was.spread state;
+      each = below_more E at (λ k h q. has_push (node_at start nodes k).state lost last (was.each k h q)) (λ q. has_last (node_at start nodes at).state lost last told.state);
+      spread = spread_more turn start cpus nodes lost at last graph there was.spread told.state;
     })
 
 -- a state that is not lost
@@ -125,3 +109,61 @@ ends_all turn ended start cpus nodes reaches at all exact = record {
 
 pub lost_at : {S : Type 0} (turn : S → ℕ → S) (ended : S → Bool) (start : S) (cpus : ℕ) (nodes : List (Node S)) (reaches : List Bool) (at : ℕ) → IsReaching turn ended start cpus nodes reaches → IsSettled turn start cpus nodes reaches → at < length nodes → slice_index_or reaches at false ≡ false → IsLost turn ended cpus (node_at start nodes at).state
 lost_at turn ended start cpus nodes reaches at is settled there dark = λ order below end. lost_stable turn ended start cpus nodes reaches order at is settled.stable there dark below end
+
+-- how far a way back over all states has come, from the last one down to a place
+pub record IsPassed {S : Type 0} (turn : S → ℕ → S) (ended : S → Bool) (start : S) (cpus : ℕ) (nodes : List (Node S)) (old reaches : List Bool) (is_new : Bool) (up : ℕ) : Type 0 where
+  pub same : length reaches ≡ length nodes
+  pub reaching : IsReaching turn ended start cpus nodes reaches
+  pub most : sum_by missing reaches ≤ sum_by missing old
+  pub fewer : is_new ≡ true → sum_by missing reaches < sum_by missing old
+  pub kept : is_new ≡ false → reaches ≡ old
+  pub stable : is_new ≡ false → (k : ℕ) → up ≤ k → k < length nodes → IsStable turn start cpus nodes old k
+
+pub pass_begun : {S : Type 0} (turn : S → ℕ → S) (ended : S → Bool) (start : S) (cpus : ℕ) (nodes : List (Node S)) (old : List Bool) (is_new : Bool) (up : ℕ) → length old ≡ length nodes → IsReaching turn ended start cpus nodes old → is_new ≡ false → length nodes ≤ up → IsPassed turn ended start cpus nodes old old is_new up
+pass_begun turn ended start cpus nodes old is_new up same is none all = record {
+  same = same;
+  reaching = is;
+  most = omega arith;
+  fewer = λ so. absurd (true≢false (sym so ∙ none));
+  kept = λ not_so. refl;
+  stable = λ not_so k more less. absurd (omega arith);
+}
+
+-- an end can be reached from one more state
+pub pass_new : {S : Type 0} (turn : S → ℕ → S) (ended : S → Bool) (start : S) (cpus : ℕ) (nodes : List (Node S)) (old reaches new : List Bool) (was is_new : Bool) (up at : ℕ) → IsPassed turn ended start cpus nodes old reaches was up → length new ≡ length reaches → IsReaching turn ended start cpus nodes new → sum_by missing new < sum_by missing reaches → is_new ≡ true → IsPassed turn ended start cpus nodes old new is_new at
+pass_new turn ended start cpus nodes old reaches new was is_new up at p long is less so = record {
+  same = long ∙ p.same;
+  reaching = is;
+  most = omega (arith, p.most, less);
+  fewer = λ h. omega (arith, p.most, less);
+  kept = λ not_so. absurd (true≢false (sym so ∙ not_so));
+  stable = λ not_so. absurd (true≢false (sym so ∙ not_so));
+}
+
+-- nothing new at a state
+pub pass_same : {S : Type 0} (turn : S → ℕ → S) (ended : S → Bool) (start : S) (cpus : ℕ) (nodes : List (Node S)) (old reaches new : List Bool) (was is_new : Bool) (up at : ℕ) → IsPassed turn ended start cpus nodes old reaches was up → up ≡ at + 1 → new ≡ reaches → IsStable turn start cpus nodes reaches at → is_new ≡ was → IsPassed turn ended start cpus nodes old new is_new at
+pass_same {S} turn ended start cpus nodes old reaches new was is_new up at p next left here same =
+    let L : List Bool → Type 0 = λ xs. IsPassed turn ended start cpus nodes old xs is_new at in
+    let B : Bool → Type 0 = λ b. IsPassed turn ended start cpus nodes old reaches b at in
+    let A : List Bool → Type 0 = λ xs. IsStable turn start cpus nodes xs at in
+    subst L (sym left) (subst B (sym same) (record {
+      same = p.same;
+      reaching = p.reaching;
+      most = p.most;
+      fewer = p.fewer;
+      kept = p.kept;
+      stable = λ not_so k more less. elim (same_or_not k at) [
+        | inl is ↦
+            let K : ℕ → Type 0 = λ j. IsStable turn start cpus nodes old j in
+            subst K (sym is) (subst A (p.kept not_so) here)
+        | inr other ↦
+            let above : up ≤ k = omega arith in
+            p.stable not_so k above less
+      ];
+    }))
+
+-- nothing new at all
+pub pass_done : {S : Type 0} (turn : S → ℕ → S) (ended : S → Bool) (start : S) (cpus : ℕ) (nodes : List (Node S)) (old reaches : List Bool) (is_new : Bool) (up : ℕ) → IsPassed turn ended start cpus nodes old reaches is_new up → up ≤ 0 → is_new ≡ false → IsSettled turn start cpus nodes reaches
+pass_done turn ended start cpus nodes old reaches is_new up p down not_so =
+    let F : List Bool → Type 0 = λ xs. IsSettled turn start cpus nodes xs in
+    subst F (sym (p.kept not_so)) (record { stable = λ k h. let above : up ≤ k = omega arith in p.stable not_so k above h })

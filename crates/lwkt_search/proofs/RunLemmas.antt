@@ -2,10 +2,10 @@ use Rattle.std.proofs.Common.{◌≡◌, ℕ, ◌+◌, ◌<◌, ◌≤◌, List,
 use Rattle.std.proofs.lemmas.List.Elements.{All-head, All-tail, All-push}
 use Rattle.std.proofs.lemmas.List.{get_or_append_left, get_or_read, length-append}
 use Rattle.std.proofs.Math.Seq.{get_or-append_seam}
-use Rattle.lwkt_search.specs.declared.Node.{Node}
-use Rattle.lwkt_search.specs.declared.Outcome.{Outcome}
+use Rattle.lwkt_search.specs.declared.searches.Node.{Node}
+use Rattle.lwkt_search.specs.declared.searches.Outcome.{Outcome}
 use Rattle.lwkt_search.specs.Runs.{run, IsOrder, IsQuiet, IsOutcome, IsShortest, HasOutcome}
-use Rattle.lwkt_search.specs.Graphs.{node_at, IsGraph, IsGraphOf, IsTried, IsSearch, IsSearchOf, IsCollected, IsFrom, IsSpread}
+use Rattle.lwkt_search.specs.Graphs.{node_at, IsGraph, IsGraphOf, IsTried, IsSearch, IsSearchOf, IsTold, IsCollected, IsFrom, IsSpread}
 
 -- a state that was found, at most so deep
 pub record IsReached {S : Type 0} (len : ℕ) (node : ℕ → Node S) (state : S) (most : ℕ) : Type 0 where
@@ -106,31 +106,37 @@ spread_less {S} start nodes outcomes at was = record {
 }
 
 -- one more outcome
-pub collect_more : {S : Type 0} (turn : S → ℕ → S) (start : S) (cpus : ℕ) (nodes : List (Node S)) (is_complete : Bool) (outcomes new : List (Outcome S)) (at : ℕ) (last : Outcome S) → IsCollected turn start cpus nodes is_complete outcomes at → at < length nodes → IsGraphOf turn start cpus nodes → (IsTrue is_complete → IsSearchOf turn start cpus nodes (length nodes)) → last.state ≡ (node_at start nodes at).state → IsQuiet turn cpus last.state → IsOrder cpus last.order.items → run turn start last.order.items ≡ (node_at start nodes at).state → length last.order.items ≡ (node_at start nodes at).depth → new ≡ outcomes ++ last ∷ [] → IsCollected turn start cpus nodes is_complete new (at + 1)
-collect_more {S} turn start cpus nodes is_complete outcomes new at last was there graph search state quiet order leads long pushed =
+pub collect_more : {S : Type 0} (turn : S → ℕ → S) (start : S) (cpus : ℕ) (nodes : List (Node S)) (is_complete : Bool) (outcomes new : List (Outcome S)) (at : ℕ) (last : Outcome S) → IsCollected turn start cpus nodes is_complete outcomes at → at < length nodes → IsGraphOf turn start cpus nodes → (IsTrue is_complete → IsSearchOf turn start cpus nodes (length nodes)) → IsTold turn start cpus nodes at last → IsQuiet turn cpus (node_at start nodes at).state → new ≡ outcomes ++ last ∷ [] → IsCollected turn start cpus nodes is_complete new (at + 1)
+collect_more {S} turn start cpus nodes is_complete outcomes new at last was there graph search told quiet pushed =
     let O : Outcome S → Type 0 = λ outcome. IsOutcome turn cpus start outcome in
     let H : Outcome S → Type 0 = λ outcome. IsShortest turn cpus start outcome in
+    let Q : S → Type 0 = λ s. IsQuiet turn cpus s in
     let E : ℕ → Type 0 = λ k. IsQuiet turn cpus (node_at start nodes k).state → HasOutcome (node_at start nodes k).state (outcomes ++ last ∷ []) in
     let F : List (Outcome S) → Type 0 = λ xs. IsCollected turn start cpus nodes is_complete xs (at + 1) in
-    let one : IsOutcome turn cpus start last = record { order = order; leads = leads ∙ sym state; quiet = quiet } in
+    let one : IsOutcome turn cpus start last = record { order = told.order; leads = told.leads ∙ sym told.state; quiet = subst Q (sym told.state) quiet } in
     subst F (sym pushed) (record {
       sound = All-push O outcomes last was.sound one;
-      each = below_more E at (λ k h q. has_push (node_at start nodes k).state outcomes last (was.each k h q)) (λ q. has_last (node_at start nodes at).state outcomes last state);
+      each = below_more E at (λ k h q. has_push (node_at start nodes k).state outcomes last (was.each k h q)) (λ q. has_last (node_at start nodes at).state outcomes last told.state);
       shortest = λ yes. All-push H outcomes last (was.shortest yes) (λ other below e.
-          let least : (node_at start nodes at).depth ≤ length other = no_shorter turn start cpus (length nodes) (node_at start nodes) at other (search yes) there below (e ∙ state) in
-          omega (arith, least, long));
-      spread = spread_more turn start cpus nodes outcomes at last graph there was.spread state;
+          let least : (node_at start nodes at).depth ≤ length other = no_shorter turn start cpus (length nodes) (node_at start nodes) at other (search yes) there below (e ∙ told.state) in
+          omega (arith, least, told.long));
+      spread = spread_more turn start cpus nodes outcomes at last graph there was.spread told.state;
     })
 
+-- the same, by the list that the outcome was read from
+pub collect_seen : {S : Type 0} (turn : S → ℕ → S) (start : S) (cpus : ℕ) (nodes seen : List (Node S)) (is_complete : Bool) (outcomes new : List (Outcome S)) (at : ℕ) (last : Outcome S) → IsCollected turn start cpus nodes is_complete outcomes at → at < length nodes → IsGraphOf turn start cpus nodes → (IsTrue is_complete → IsSearchOf turn start cpus nodes (length nodes)) → seen ≡ nodes → IsTold turn start cpus seen at last → IsQuiet turn cpus (node_at start nodes at).state → new ≡ outcomes ++ last ∷ [] → IsCollected turn start cpus nodes is_complete new (at + 1)
+collect_seen {S} turn start cpus nodes seen is_complete outcomes new at last was there graph search same told quiet pushed =
+    let T : List (Node S) → Type 0 = λ xs. IsTold turn start cpus xs at last in
+    collect_more turn start cpus nodes is_complete outcomes new at last was there graph search (subst T same told) quiet pushed
+
 -- a state that is no outcome
-pub collect_less : {S : Type 0} (turn : S → ℕ → S) (start : S) (cpus : ℕ) (nodes : List (Node S)) (is_complete : Bool) (outcomes new : List (Outcome S)) (at : ℕ) (state : S) → IsCollected turn start cpus nodes is_complete outcomes at → state ≡ (node_at start nodes at).state → (IsQuiet turn cpus state → ⊥) → new ≡ outcomes → IsCollected turn start cpus nodes is_complete new (at + 1)
-collect_less {S} turn start cpus nodes is_complete outcomes new at state was same loud kept =
+pub collect_less : {S : Type 0} (turn : S → ℕ → S) (start : S) (cpus : ℕ) (nodes : List (Node S)) (is_complete : Bool) (outcomes new : List (Outcome S)) (at : ℕ) → IsCollected turn start cpus nodes is_complete outcomes at → (IsQuiet turn cpus (node_at start nodes at).state → ⊥) → new ≡ outcomes → IsCollected turn start cpus nodes is_complete new (at + 1)
+collect_less {S} turn start cpus nodes is_complete outcomes new at was loud kept =
     let E : ℕ → Type 0 = λ k. IsQuiet turn cpus (node_at start nodes k).state → HasOutcome (node_at start nodes k).state outcomes in
     let F : List (Outcome S) → Type 0 = λ xs. IsCollected turn start cpus nodes is_complete xs (at + 1) in
-    let Q : S → Type 0 = λ s. IsQuiet turn cpus s in
     subst F (sym kept) (record {
       sound = was.sound;
-      each = below_more E at was.each (λ q. absurd (loud (subst Q (sym same) q)));
+      each = below_more E at was.each (λ q. absurd (loud q));
       shortest = was.shortest;
       spread = spread_less start nodes outcomes at was.spread;
     })
@@ -146,10 +152,3 @@ all_collected {S} turn start cpus nodes is_complete outcomes at is collected end
 
 pub read_state : {S : Type 0} (start : S) (nodes : List (Node S)) (at : ℕ) (x : Node S) → at < length nodes → x ≡ slice_index_or nodes at x → x.state ≡ (node_at start nodes at).state
 read_state {S} start nodes at x there read = ap (λ (y : Node S). y.state) (get_or_read nodes at x there read (record { state = start; parent = 0; cpu = 0; depth = 0 }))
-
--- the same, by the list that the order was read from
-pub collect_seen : {S : Type 0} (turn : S → ℕ → S) (start : S) (cpus : ℕ) (nodes seen : List (Node S)) (is_complete : Bool) (outcomes new : List (Outcome S)) (at : ℕ) (last : Outcome S) → IsCollected turn start cpus nodes is_complete outcomes at → at < length nodes → IsGraphOf turn start cpus nodes → (IsTrue is_complete → IsSearchOf turn start cpus nodes (length nodes)) → last.state ≡ (node_at start nodes at).state → IsQuiet turn cpus last.state → IsOrder cpus last.order.items → seen ≡ nodes → run turn start last.order.items ≡ (node_at start seen at).state → length last.order.items ≡ (node_at start seen at).depth → new ≡ outcomes ++ last ∷ [] → IsCollected turn start cpus nodes is_complete new (at + 1)
-collect_seen {S} turn start cpus nodes seen is_complete outcomes new at last was there graph search state quiet order same leads long pushed =
-    let L : List (Node S) → Type 0 = λ xs. run turn start last.order.items ≡ (node_at start xs at).state in
-    let D : List (Node S) → Type 0 = λ xs. length last.order.items ≡ (node_at start xs at).depth in
-    collect_more turn start cpus nodes is_complete outcomes new at last was there graph search state quiet order (subst L same leads) (subst D same long) pushed

@@ -1,7 +1,7 @@
 -- States by their canonical forms.
 use Rattle.std.specs.Prelude.{◌≡◌, ℕ, ◌<◌, ◌≤◌, List, length}
-use Rattle.lwkt_search.specs.declared.Canon.{Canon}
-use Rattle.lwkt_search.specs.declared.Outcome.{Outcome}
+use Rattle.lwkt_search.specs.declared.forms.Canon.{Canon}
+use Rattle.lwkt_search.specs.declared.searches.Outcome.{Outcome}
 use Rattle.lwkt_search.specs.Runs.{run, IsOrder}
 
 -- a state's form

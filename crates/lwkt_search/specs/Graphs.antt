@@ -1,8 +1,8 @@
 -- The states that a search found, as a graph.
-use Rattle.std.specs.Prelude.{◌≡◌, ℕ, ◌+◌, ◌<◌, ◌≤◌, List, length, slice_index_or, All, Bool, IsTrue}
-use Rattle.lwkt_search.specs.declared.Node.{Node}
-use Rattle.lwkt_search.specs.declared.Outcome.{Outcome}
-use Rattle.lwkt_search.specs.Runs.{IsOutcome, IsQuiet, IsShortest, HasOutcome, AreApart}
+use Rattle.std.specs.Prelude.{◌≡◌, ℕ, ◌+◌, ◌*◌, ◌<◌, ◌≤◌, List, length, slice_index_or, All, Bool, IsTrue}
+use Rattle.lwkt_search.specs.declared.searches.Node.{Node}
+use Rattle.lwkt_search.specs.declared.searches.Outcome.{Outcome}
+use Rattle.lwkt_search.specs.Runs.{run, IsOrder, IsOutcome, IsQuiet, IsShortest, HasOutcome, AreApart}
 
 -- the state at a place, and the start past the end
 abbrev pub node_at : {S : Type 0} → S → List (Node S) → ℕ → Node S
@@ -52,6 +52,42 @@ IsSearchOf turn start cpus nodes at = IsSearch turn start cpus (length nodes) (n
 
 abbrev pub IsTriedOf : {S : Type 0} → (S → ℕ → S) → S → List (Node S) → ℕ → ℕ → Type 0
 IsTriedOf turn start nodes at cpu = IsTried turn (length nodes) (node_at start nodes) (node_at start nodes at) cpu
+
+-- the node that the turn of a processor leads to from the one at a place
+pub record IsLed {S : Type 0} (turn : S → ℕ → S) (start : S) (nodes : List (Node S)) (at cpu : ℕ) (node : Node S) : Type 0 where
+  pub state : node.state ≡ turn (node_at start nodes at).state cpu
+  pub parent : node.parent ≡ at
+  pub by : node.cpu ≡ cpu
+  pub depth : node.depth ≡ (node_at start nodes at).depth + 1
+
+-- the turn of a processor leads from the state at a place to that at the next one, at most one turn deeper
+pub record IsTurnAt {S : Type 0} (turn : S → ℕ → S) (start : S) (nodes : List (Node S)) (at cpu next : ℕ) : Type 0 where
+  pub there : next < length nodes
+  pub leads : (node_at start nodes next).state ≡ turn (node_at start nodes at).state cpu
+  pub depth : (node_at start nodes next).depth ≤ (node_at start nodes at).depth + 1
+
+-- the row of a state has where the turn of a processor leads
+pub record IsInRow {S : Type 0} (turn : S → ℕ → S) (start : S) (cpus : ℕ) (nodes : List (Node S)) (next : List ℕ) (at cpu : ℕ) : Type 0 where
+  pub inside : at * cpus + cpu < length next
+  pub leads : IsTurnAt turn start nodes at cpu (slice_index_or next (at * cpus + cpu) 0)
+
+-- the search has gone on from each state before a place, and these have rows
+pub record IsGrown {S : Type 0} (turn : S → ℕ → S) (start : S) (cpus : ℕ) (nodes : List (Node S)) (next : List ℕ) (at : ℕ) : Type 0 where
+  pub search : IsSearchOf turn start cpus nodes at
+  pub rows : (i : ℕ) → i < at → (cpu : ℕ) → cpu < cpus → IsInRow turn start cpus nodes next i cpu
+
+-- the same, and the row at the place has where the turns of the processors below a number lead
+pub record IsGrownTo {S : Type 0} (turn : S → ℕ → S) (start : S) (cpus : ℕ) (nodes : List (Node S)) (next : List ℕ) (at below : ℕ) : Type 0 where
+  pub grown : IsGrown turn start cpus nodes next at
+  pub long : length next ≡ at * cpus + below
+  pub row : (cpu : ℕ) → cpu < below → IsInRow turn start cpus nodes next at cpu
+
+-- a state that was found, and an order that leads to it, as long as it is deep
+pub record IsTold {S : Type 0} (turn : S → ℕ → S) (start : S) (cpus : ℕ) (nodes : List (Node S)) (at : ℕ) (outcome : Outcome S) : Type 0 where
+  pub state : outcome.state ≡ (node_at start nodes at).state
+  pub order : IsOrder cpus outcome.order.items
+  pub leads : run turn start outcome.order.items ≡ (node_at start nodes at).state
+  pub long : length outcome.order.items ≡ (node_at start nodes at).depth
 
 -- the new list has each node of the old one at its place
 pub record Grows {S : Type 0} (start : S) (old new : List (Node S)) : Type 0 where

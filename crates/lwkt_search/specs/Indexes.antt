@@ -1,6 +1,6 @@
 -- An index of states by their hashes.
 use Rattle.std.specs.Prelude.{◌≡◌, ℕ, ◌+◌, ◌%◌, ◌<◌, ◌≤◌, List, length, slice_index_or, All}
-use Rattle.lwkt_search.specs.declared.Node.{Node}
+use Rattle.lwkt_search.specs.declared.searches.Node.{Node}
 use Rattle.lwkt_search.specs.Graphs.{node_at}
 
 -- the bucket of a state

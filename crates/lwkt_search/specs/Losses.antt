@@ -1,9 +1,15 @@
 -- States from which no end can be reached.
 use Rattle.std.specs.Prelude.{◌≡◌, ℕ, ◌<◌, List, length, slice_index_or, All, Bool, true, false, IsTrue, cond}
-use Rattle.lwkt_search.specs.declared.Node.{Node}
-use Rattle.lwkt_search.specs.declared.Outcome.{Outcome}
+use Rattle.lwkt_search.specs.declared.searches.Node.{Node}
+use Rattle.lwkt_search.specs.declared.searches.Outcome.{Outcome}
+use Rattle.lwkt_search.specs.declared.searches.Growth.{Growth}
 use Rattle.lwkt_search.specs.Runs.{run, IsOrder, IsQuiet}
-use Rattle.lwkt_search.specs.Graphs.{node_at, IsSpread}
+use Rattle.lwkt_search.specs.Graphs.{node_at, IsGrown, IsSpread}
+
+-- what was found, with a row of each state
+pub record IsWhole {S : Type 0} (turn : S → ℕ → S) (start : S) (cpus : ℕ) (growth : Growth S) : Type 0 where
+  pub grown : IsGrown turn start cpus growth.nodes.items growth.next.items growth.gone_on
+  pub each : growth.gone_on ≡ length growth.nodes.items
 
 -- a quiet state where everything has ended
 pub record IsEnd {S : Type 0} (turn : S → ℕ → S) (ended : S → Bool) (cpus : ℕ) (state : S) : Type 0 where

@@ -1,6 +1,6 @@
 -- Orders of turns, and what a search says of them.
 use Rattle.std.specs.Prelude.{◌≡◌, ℕ, ◌<◌, ◌≤◌, List, [], ◌∷◌, All, length, slice_index_or}
-use Rattle.lwkt_search.specs.declared.Outcome.{Outcome}
+use Rattle.lwkt_search.specs.declared.searches.Outcome.{Outcome}
 
 -- the state that an order leads to
 abbrev pub run : {S : Type 0} → (S → ℕ → S) → S → List ℕ → S
