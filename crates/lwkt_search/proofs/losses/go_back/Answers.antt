@@ -29,8 +29,8 @@ loop-up-preserved-then-step_back g c =
       passed = pass_new turn ended start cpus nodes c.args.reaches.now c.loop-up.reaches c.step_back.new.reaches c.loop-up.is_new true up at p long c.step_back.ensures.reaching less refl;
     }
 
-pub loop-up-preserved-else-step_back : goal.loop-up-preserved-else-step_back
-loop-up-preserved-else-step_back g c =
+pub loop-up-preserved : goal.loop-up-preserved
+loop-up-preserved g c =
     let turn = g.S.State.turn_of in
     let ended = g.S.Ending.ended_of in
     let start = c.args.task.now.start in
