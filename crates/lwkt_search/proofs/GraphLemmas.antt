@@ -3,7 +3,7 @@ use Rattle.std.proofs.lemmas.List.{get_or_append_left}
 use Rattle.std.proofs.Math.Seq.{get_or-append_seam}
 use Rattle.lwkt_search.specs.declared.searches.Node.{Node}
 use Rattle.std.proofs.lemmas.List.Elements.{All-push}
-use Rattle.lwkt_search.specs.Runs.{run, IsOrder, CanReach, HasStates}
+use Rattle.lwkt_search.specs.Runs.{run, CanReach, HasStates}
 use Rattle.lwkt_search.specs.Graphs.{node_at, IsLink, IsGraph, IsTried, IsSearch, IsSearchOf, IsLed, IsTurnAt, Grows, Differs}
 
 -- what was tried stays so where more states are found

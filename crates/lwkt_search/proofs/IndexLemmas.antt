@@ -1,7 +1,6 @@
-use Rattle.std.proofs.Common.{◌≡◌, ◌≢◌, ℕ, ◌+◌, ◌<◌, ◌≤◌, List, [], ◌∷◌, ◌++◌, ◌⊎◌, inl, inr, length, length-append, arith, ap, subst, sym, refl, ◌∙◌, below_more, slice_index_or, slice_set, HoldsAt, get_or-set_other, get_or-set_same}
+use Rattle.std.proofs.Common.{◌≡◌, ◌≢◌, ℕ, ◌+◌, ◌<◌, ◌≤◌, List, [], ◌∷◌, ◌++◌, ◌⊎◌, inl, inr, length, length-append, arith, ap, subst, sym, refl, ◌∙◌, below_more, slice_index_or, slice_set, get_or-set_other, get_or-set_same}
 use Rattle.std.proofs.lemmas.List.{get_or_push, get_or_append_left, get_or_read, length-set}
 use Rattle.lwkt_search.specs.declared.searches.Node.{Node}
-use Rattle.lwkt_search.specs.Graphs.{node_at, Differs, Grows}
 use Rattle.lwkt_search.proofs.GraphLemmas.{grows_push, pushed_at}
 use Rattle.lwkt_search.specs.Indexes.{bucket_of, IsLast, IsIndex, IsIndexOf, IsAdded, state_at}
 

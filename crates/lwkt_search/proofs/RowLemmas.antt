@@ -4,7 +4,7 @@ use Rattle.std.proofs.Math.Nat.{add-mul}
 use Rattle.std.specs.Option.{is_some, unwrap_or}
 use Rattle.lwkt_search.specs.declared.searches.Node.{Node}
 use Rattle.lwkt_search.specs.Runs.{IsQuiet}
-use Rattle.lwkt_search.specs.Graphs.{node_at, IsGraphOf, IsSearchOf, IsTriedOf, IsLed, IsTurnAt, IsInRow, IsGrown, IsGrownTo, Grows, Differs}
+use Rattle.lwkt_search.specs.Graphs.{node_at, IsGraphOf, IsSearchOf, IsTriedOf, IsLed, IsTurnAt, IsInRow, IsGrownTo, Grows, Differs}
 use Rattle.lwkt_search.proofs.GraphLemmas.{begin_search, grows_push, kept_search, kept_turn, next_search}
 use Rattle.lwkt_search.proofs.RunLemmas.{same_place}
 

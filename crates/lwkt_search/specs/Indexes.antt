@@ -1,5 +1,5 @@
 -- An index of states by their hashes.
-use Rattle.std.specs.Prelude.{◌≡◌, ℕ, ◌+◌, ◌%◌, ◌<◌, ◌≤◌, List, length, slice_index_or, All}
+use Rattle.std.specs.Prelude.{◌≡◌, ℕ, ◌+◌, ◌%◌, ◌<◌, ◌≤◌, List, length, slice_index_or}
 use Rattle.lwkt_search.specs.declared.searches.Node.{Node}
 use Rattle.lwkt_search.specs.Graphs.{node_at}
 

@@ -1,4 +1,4 @@
-use Rattle.std.proofs.Common.{◌≡◌, ◌+◌, ◌-◌, ◌<◌, ◌≤◌, length, arith, refl, true, false}
+use Rattle.std.proofs.Common.{◌≡◌, ◌+◌, ◌-◌, ◌≤◌, length, arith, refl, true, false}
 use Rattle.lwkt_search.proofs.LossLemmas.{pass_begun, pass_new, pass_same, pass_done}
 use Rattle.lwkt_search.proofs.losses.go_back.Goals as goal
 

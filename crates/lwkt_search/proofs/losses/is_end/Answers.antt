@@ -1,4 +1,4 @@
-use Rattle.std.proofs.Common.{◌≡◌, ◌<◌, length, ap, sym, ◌∙◌, true, false}
+use Rattle.std.proofs.Common.{◌≡◌, ap, sym, ◌∙◌, true, false}
 use Rattle.lwkt_search.specs.Runs.{IsQuiet}
 use Rattle.lwkt_search.specs.Graphs.{node_at}
 use Rattle.lwkt_search.specs.Losses.{IsEnd}

@@ -1,7 +1,6 @@
-use Rattle.std.proofs.Common.{◌≡◌, ◌+◌, ◌<◌, ◌≤◌, length, arith, refl, ◌∙◌, ap, subst, Vec, ℕ}
+use Rattle.std.proofs.Common.{◌+◌, ◌<◌, ◌≤◌, length, arith, ◌∙◌, ap, Vec}
 use Rattle.std.specs.declared.alloc.Global.{Global}
 use Rattle.lwkt_search.specs.declared.searches.Outcome.{Outcome}
-use Rattle.lwkt_search.specs.Graphs.{IsSearchOf}
 use Rattle.lwkt_search.specs.Losses.{IsLostList}
 use Rattle.lwkt_search.proofs.LossLemmas.{lost_more, lost_less, lost_at, all_lost}
 use Rattle.lwkt_search.proofs.RunLemmas.{is_whole}

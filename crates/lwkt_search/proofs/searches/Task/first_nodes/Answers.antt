@@ -1,4 +1,4 @@
-use Rattle.std.proofs.Common.{◌≡◌, List, [], ◌∷◌, ◌++◌, ap, ◌∙◌}
+use Rattle.std.proofs.Common.{List, [], ◌∷◌, ◌++◌, ap, ◌∙◌}
 use Rattle.lwkt_search.specs.declared.searches.Node.{Node}
 use Rattle.lwkt_search.proofs.searches.Task.first_nodes.Goals as goal
 

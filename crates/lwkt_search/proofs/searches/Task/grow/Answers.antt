@@ -1,4 +1,4 @@
-use Rattle.std.proofs.Common.{◌≡◌, ℕ, ◌<◌, List, length, arith, ap, subst}
+use Rattle.std.proofs.Common.{◌≡◌, ◌<◌, List, length, arith, ap, subst}
 use Rattle.lwkt_search.specs.declared.searches.Node.{Node}
 use Rattle.lwkt_search.specs.Indexes.{IsIndexOf}
 use Rattle.lwkt_search.proofs.RowLemmas.{begin_grown}

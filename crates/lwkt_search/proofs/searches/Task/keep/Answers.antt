@@ -1,5 +1,4 @@
-use Rattle.std.proofs.Common.{◌≡◌, ◌+◌, ◌≤◌, length, arith}
-use Rattle.lwkt_search.specs.Graphs.{IsGrownTo}
+use Rattle.std.proofs.Common.{◌≡◌, ◌≤◌, length, arith}
 use Rattle.lwkt_search.proofs.GraphLemmas.{crowded}
 use Rattle.lwkt_search.proofs.IndexLemmas.{index_pushed}
 use Rattle.lwkt_search.proofs.RowLemmas.{kept_row}

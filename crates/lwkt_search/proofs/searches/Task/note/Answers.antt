@@ -1,4 +1,3 @@
-use Rattle.std.proofs.Common.{◌+◌, length}
 use Rattle.lwkt_search.proofs.RowLemmas.{seen_row}
 use Rattle.lwkt_search.proofs.searches.Task.note.Goals as goal
 

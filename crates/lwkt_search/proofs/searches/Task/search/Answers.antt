@@ -1,4 +1,4 @@
-use Rattle.std.proofs.Common.{◌≡◌, ℕ, ◌+◌, ◌<◌, ◌≤◌, length, arith, ◌∙◌, ap, true, Vec}
+use Rattle.std.proofs.Common.{◌≡◌, ◌+◌, ◌<◌, ◌≤◌, length, arith, ◌∙◌, ap, true, Vec}
 use Rattle.std.specs.declared.alloc.Global.{Global}
 use Rattle.lwkt_search.specs.declared.searches.Outcome.{Outcome}
 use Rattle.lwkt_search.specs.Runs.{IsQuiet}

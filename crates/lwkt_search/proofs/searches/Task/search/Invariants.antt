@@ -1,4 +1,4 @@
-use Rattle.std.proofs.Common.{◌≡◌, length}
+use Rattle.std.proofs.Common.{◌≡◌}
 use Rattle.lwkt_search.specs.Graphs.{IsCollected}
 use Rattle.lwkt_search.proofs.searches.Task.search.Given as goal
 
