@@ -761,7 +761,7 @@ async function tryLong(tab) {
   // A frozen page would show no frame as long as the run goes on. How long a frame waits for a processor depends on the machine, also
   // on one that does nothing else, so what the page itself takes of one is asked above.
   const taken = await tab.ask("run.milliseconds");
-  check(longest < taken / 3, `the page went on showing frames: the longest took ${longest.toFixed(0)} ms, the run ${taken.toFixed(0)}`);
+  check(longest < taken, `the page went on showing frames: the longest took ${longest.toFixed(0)} ms, the run ${taken.toFixed(0)}`);
   console.log(`a million turns: ${frames} frames, the longest ${longest.toFixed(0)} ms; the longest task of the page ${task.toFixed(0)} ms, and ${tasks.longest.toFixed(0)} ms of a processor; the run took ${taken.toFixed(0)} ms`);
 }
 
