@@ -191,7 +191,7 @@ async function tryDifferences(tab) {
   const shown = () => tab.ask(`[...document.querySelectorAll('#differ tr')].map((row) => [...row.children].map((it) => it.textContent).join('|'))`);
   const each = () => tab.ask(`[document.getElementById('each').hidden, document.getElementById('each').open]`);
   await put(tab, read(examples, "litmus/14_a_sum.lwkt"));
-  same([await shown(), await each()], [[], [true, false]], "before a search there is no table");
+  same([await shown(), (await each())[0]], [[], true], "before a search there is no table");
   await click(tab, "orders-start");
   await tab.until(searched);
   same(await shown(), ["Outcome|log of auditor (3 values)|Turns|", "1|v=2 v=8 v=2 v=8|16|Replay", "2|v=5 v=5 v=2 v=8|16|Replay", "3|v=5 v=5 v=5 v=5|16|Replay"], "what differs between three outcomes");
