@@ -30,7 +30,7 @@ below n = range_with_len 0 n
 
 -- the notes in a processor's hands move on
 abbrev pub moves_on : ℕ → Plain → Plain
-moves_on c p = record p { cpus = map (λ (cpu : Processor). record cpu { lanes = changed moved cpu.lanes c }) p.cpus }
+moves_on c p = fold (λ now to. with_lane moved c to now) p (below (length p.cpus))
 
 -- a note is sent over the lane from a processor to another, which has room
 abbrev pub posts : ℕ → ℕ → Note → Plain → Plain
@@ -47,9 +47,13 @@ pays_at c p msg l = option_map_or (λ error. if has_room (lane_at p c l.origin.c
 abbrev pub pays : ℕ → Plain → ℕ → Plain
 pays c p m = option_map_or (pays_at c p (record { 0 = m })) (slice_get p.letters m) p
 
+-- a thread is ready, with an item
+abbrev pub gets : Item → Thread → Thread
+gets item t = record t { last = Got item; phase = Live }
+
 -- a thread that waits for this message is ready, with the reply
 abbrev pub hears_from : Phase → MsgId → Letter → Thread → Thread
-hears_from (AwaitsReply own) msg l t = if own.0 == msg.0 then record t { last = Got (answer_of msg l); phase = Live } else t
+hears_from (AwaitsReply own) msg l t = if own.0 == msg.0 then gets (answer_of msg l) t else t
 hears_from _ msg l t = t
 
 -- a synchronous answer: the message comes home, and its thread is ready
@@ -62,14 +66,16 @@ abbrev pub is_sync_answer : NoteKind → Letter → Bool
 is_sync_answer Request l = false
 is_sync_answer Answer l = l.word.sync
 
--- a note stands behind the others of its class at its port; none if that queue is full
-abbrev pub queued_at : Note → Port → Option Port
-queued_at note port =
-    if note.urgent then (if nat_lt (length port.urgent) PORT_QUEUE then Some (record port { urgent = port.urgent ++ note ∷ [] }) else None)
-    else (if nat_lt (length port.ordinary) PORT_QUEUE then Some (record port { ordinary = port.ordinary ++ note ∷ [] }) else None)
+-- whether the queue of a note's class at its port has room, and the note behind the others there
+abbrev pub has_space : Note → Port → Bool
+has_space note port = if note.urgent then nat_lt (length port.urgent) PORT_QUEUE else nat_lt (length port.ordinary) PORT_QUEUE
 
+abbrev pub queued : Note → Port → Port
+queued note port = if note.urgent then record port { urgent = port.urgent ++ note ∷ [] } else record port { ordinary = port.ordinary ++ note ∷ [] }
+
+-- a note stands at its port; none if that queue is full
 abbrev pub queues : ℕ → Note → Plain → Option Plain
-queues c note p = option_and_then (λ port. Some (with_port (λ old. port) c note.port p)) (queued_at note (port_at p c note.port))
+queues c note p = if has_space note (port_at p c note.port) then Some (with_port (queued note) c note.port p) else None
 
 -- a note that came over a lane: a synchronous answer is heard, any other note queued. None if its queue is full
 abbrev pub comes_in : ℕ → Note → Plain → Option Plain
@@ -83,25 +89,31 @@ pub record Intake : Type 0 where
 abbrev pub intake : ℕ → Plain → Intake
 intake left plain = record { left = left; plain = plain }
 
+-- the lane from a sender without its first note, and with a note that is kept there, or none
+abbrev pub without_first : ℕ → ℕ → Plain → Plain
+without_first sender c p = with_lane (λ (lane : Lane). record lane { queue = drop 1 lane.queue }) sender c p
+
+abbrev pub keeps : Option Note → ℕ → ℕ → Plain → Plain
+keeps note sender c p = with_lane (λ (lane : Lane). record lane { kept = note }) sender c p
+
 -- the queue of the lane from a sender is received, note after note, up to the limit, and up to a note whose port's queue is full: that one
 -- is kept
-abbrev pub receives : ℕ → ℕ → ℕ → Plain → List Note → Intake
-receives c sender zero p notes = intake 0 (with_lane (λ lane. record lane { queue = notes }) sender c p)
-receives c sender (suc left) p [] = intake (suc left) (with_lane (λ lane. record lane { queue = [] }) sender c p)
-receives c sender (suc left) p (note ∷ notes) =
-    option_map_or (λ next. receives c sender left next notes) (comes_in c note p)
-    (intake left (with_lane (λ lane. record lane { queue = notes; kept = Some note }) sender c p))
+unfoldable pub receives : ℕ → ℕ → ℕ → Plain → Intake
+receives c sender zero p = intake 0 p
+receives c sender (suc left) p =
+    option_map_or
+    (λ note. option_map_or (λ next. receives c sender left next) (comes_in c note (without_first sender c p)) (intake left (keeps (Some note) sender c (without_first sender c p))))
+    (slice_get (lane_at p sender c).queue 0) (intake (suc left) p)
 
 -- the same after the note that is kept, if there is one, which has to come in first
-abbrev pub receives_from : ℕ → Lane → Intake → ℕ → Intake
-receives_from c lane i sender =
-    option_map_or
-    (λ note. option_map_or (λ next. receives c sender i.left (with_lane (λ old. record old { kept = None }) sender c next) lane.queue) (comes_in c note i.plain) i)
-    lane.kept (receives c sender i.left i.plain lane.queue)
+abbrev pub receives_from : ℕ → Intake → ℕ → Intake
+receives_from c i sender =
+    option_map_or (λ note. option_map_or (λ next. receives c sender i.left (keeps None sender c next)) (comes_in c note i.plain) i)
+    (lane_at i.plain sender c).kept (receives c sender i.left i.plain)
 
 -- the lanes to a processor, by rising sender
 abbrev pub receives_all : ℕ → Plain → Plain
-receives_all c p = (fold (λ i sender. receives_from c (lane_at i.plain sender c) i sender) (intake TURN_NOTES p) (below (length p.cpus))).plain
+receives_all c p = (fold (receives_from c) (intake TURN_NOTES p) (below (length p.cpus))).plain
 
 -- whether a thread has ended; and whether the port of a number is closed: its thread has, or isn't there
 abbrev pub has_ended : Phase → Bool
@@ -114,62 +126,62 @@ has_ended (Faulted fault) = true
 abbrev pub is_closed : ℕ → ℕ → Plain → Bool
 is_closed c k p = option_map_or (λ t. has_ended t.phase) (thread_at p c k) true
 
--- notes are handled one after another
-abbrev pub all_handled : ℕ → Option ℕ → List Letter → List Note → List Letter
-all_handled c thread letters notes = fold (λ now note. changed (handled c thread note) now note.msg.0) letters notes
+-- the note of a port that is served first, an urgent one if there is one; and the port without it
+abbrev pub first_note : Port → Option Note
+first_note port = option_map_or (λ note. Some note) (slice_get port.urgent 0) (slice_get port.ordinary 0)
 
--- the first notes of a closed port are handled, the urgent ones first, at most so many
+abbrev pub without_note : Port → Port
+without_note port = if is_some (slice_get port.urgent 0) then record port { urgent = drop 1 port.urgent } else record port { ordinary = drop 1 port.ordinary }
+
+-- a note of a port is taken off, and handled: for a thread, or for nobody
+abbrev pub handles : ℕ → ℕ → Option ℕ → Note → Plain → Plain
+handles c k thread note p = with_letter (handled c thread note) note.msg.0 (with_port without_note c k p)
+
+-- the first notes of a port are handled for nobody, at most so many
+unfoldable pub clears_port : ℕ → ℕ → ℕ → Plain → Intake
+clears_port c k zero p = intake 0 p
+clears_port c k (suc left) p = option_map_or (λ note. clears_port c k left (handles c k None note p)) (first_note (port_at p c k)) (intake (suc left) p)
+
+-- those of a closed port
 abbrev pub clears : ℕ → Intake → ℕ → Intake
-clears c i k =
-    if is_closed c k i.plain then (
-    let port = port_at i.plain c k in
-    let count = min i.left (length port.urgent + length port.ordinary) in
-    let letters = all_handled c None i.plain.letters (take count (port.urgent ++ port.ordinary)) in
-    let rest = (λ (old : Port). record old { urgent = drop count old.urgent; ordinary = drop (count - length old.urgent) old.ordinary }) in
-    intake (i.left - count) (with_port rest c k (record (i.plain) { letters = letters })))
-    else i
+clears c i k = if is_closed c k i.plain then clears_port c k i.left i.plain else i
 
 -- the closed ports, by rising number
 abbrev pub clears_all : ℕ → Plain → Plain
 clears_all c p = (fold (clears c) (intake CLEARED_AT_ONCE p) (below PORTS)).plain
-
--- notes of a thread's queue up to the first that shows something: those behind it, the messages then, and the item
-pub record Served : Type 0 where
-  pub notes : List Note
-  pub letters : List Letter
-  pub item : Option Item
-
-abbrev pub served : List Note → List Letter → Option Item → Served
-served notes letters item = record { notes = notes; letters = letters; item = item }
-
-abbrev pub serves : ℕ → ℕ → List Letter → List Note → Served
-serves c k letters [] = served [] letters None
-serves c k letters (note ∷ notes) =
-    let after = changed (handled c (Some k) note) letters note.msg.0 in
-    option_map_or (λ item. served notes after (Some item)) (option_and_then (item_of c note) (slice_get letters note.msg.0)) (serves c k after notes)
 
 -- a state after a thread looked at its port, and the item, if there was one
 pub record Looked : Type 0 where
   pub plain : Plain
   pub item : Option Item
 
-abbrev pub looked : ℕ → ℕ → Plain → List Note → Served → Looked
-looked c k p urgent s =
-    record { plain = with_port (λ (old : Port). record { urgent = urgent; ordinary = s.notes }) c k (record p { letters = s.letters }); item = s.item }
+abbrev pub looked : Plain → Option Item → Looked
+looked plain item = record { plain = plain; item = item }
 
--- a thread looks at its port, at the urgent notes first (lwkt_getport)
+-- what a note shows a thread
+abbrev pub shown_by : ℕ → Note → Plain → Option Item
+shown_by c note p = option_and_then (item_of c note) (slice_get p.letters note.msg.0)
+
+-- the first notes of a thread's port are handled up to the first that shows something, at most so many
+unfoldable pub looks_within : ℕ → ℕ → ℕ → Plain → Looked
+looks_within zero c k p = looked p None
+looks_within (suc n) c k p =
+    option_map_or (λ note. option_map_or (λ item. looked (handles c k (Some k) note p) (Some item)) (shown_by c note p) (looks_within n c k (handles c k (Some k) note p)))
+    (first_note (port_at p c k)) (looked p None)
+
+-- how many notes a port has
+abbrev pub notes_in : Port → ℕ
+notes_in port = length port.urgent + length port.ordinary
+
+-- a thread looks at its port (lwkt_getport)
 abbrev pub looks : ℕ → ℕ → Plain → Looked
-looks c k p =
-    let port = port_at p c k in
-    let first = serves c k p.letters port.urgent in
-    if is_some first.item then looked c k p first.notes (served port.ordinary first.letters first.item)
-    else looked c k p [] (serves c k first.letters port.ordinary)
+looks c k p = looks_within (notes_in (port_at p c k)) c k p
 
 -- a thread that waits for its port looks at it, and is ready with an item
 abbrev pub wakes : ℕ → ℕ → Plain → Phase → Plain
 wakes c k p AwaitsItem =
     let now = looks c k p in
-    option_map_or (λ item. with_thread (λ (t : Thread). record t { last = Got item; phase = Live }) c k now.plain) now.item now.plain
+    option_map_or (λ item. with_thread (gets item) c k now.plain) now.item now.plain
 wakes c k p _ = p
 
 abbrev pub wakes_at : ℕ → Plain → ℕ → Plain

@@ -13,7 +13,6 @@ use Rattle.lwkt_base.specs.declared.message_words.MsgState.{MsgState}
 use Rattle.lwkt_base.specs.declared.message_words.MsgState.TheVariants.{Rest, Out, With, Back}
 use Rattle.lwkt_base.specs.declared.message_words.MsgWord.{MsgWord}
 use Rattle.lwkt_base.specs.declared.opening_specs.MsgSpec.{MsgSpec}
-use Rattle.lwkt_base.specs.MessageWord.{state_number}
 use Rattle.lwkt_plain.specs.declared.letters.Hands.{Hands}
 use Rattle.lwkt_plain.specs.declared.letters.Hands.TheVariants.{Nobody, Shown, Owes}
 use Rattle.lwkt_plain.specs.declared.letters.Letter.{Letter}
@@ -22,9 +21,22 @@ use Rattle.lwkt_plain.specs.declared.letters.NoteKind.{NoteKind}
 use Rattle.lwkt_plain.specs.declared.letters.NoteKind.TheVariants.{Request, Answer}
 use Rattle.lwkt_plain.specs.declared.letters.TheConstants.{ABORTED, NO_PORT, GONE}
 
--- whether a message is in this state
-abbrev pub is_in : MsgState → Letter → Bool
-is_in state l = state_number l.word.state == state_number state
+-- whether a message is at rest, on its way, taken, or replied to
+abbrev pub is_rest : MsgState → Bool
+is_rest Rest = true
+is_rest _ = false
+
+abbrev pub is_out : MsgState → Bool
+is_out Out = true
+is_out _ = false
+
+abbrev pub is_with : MsgState → Bool
+is_with With = true
+is_with _ = false
+
+abbrev pub is_back : MsgState → Bool
+is_back Back = true
+is_back _ = false
 
 -- the word and record of a message at rest
 abbrev pub rest_word : CpuId → ℕ → MsgWord
@@ -62,10 +74,14 @@ aborted l = record l { word = record (l.word) { aborted = true } }
 -- whether a message is on its way to this processor in the round of a note; and whether it came back to it in that round. Else the note
 -- is stale
 abbrev pub can_be_taken : ℕ → Note → Letter → Bool
-can_be_taken cpu note l = is_in Out l && l.word.target.0 == cpu && l.word.round == note.round
+can_be_taken cpu note l = is_out l.word.state && l.word.target.0 == cpu && l.word.round == note.round
 
 abbrev pub can_be_reaped : ℕ → Note → Letter → Bool
-can_be_reaped cpu note l = is_in Back l && l.origin.cpu.0 == cpu && l.word.round == note.round
+can_be_reaped cpu note l = is_back l.word.state && l.origin.cpu.0 == cpu && l.word.round == note.round
+
+-- whether a message is of a thread
+abbrev pub is_of : ℕ → ℕ → Letter → Bool
+is_of c k l = l.origin.cpu.0 == c && l.origin.thread == k
 
 -- whether a thread of a processor was shown a message, and hasn't replied yet
 abbrev pub is_thread : ℕ → Hands → Bool
@@ -74,7 +90,7 @@ is_thread thread Nobody = false
 is_thread thread (Owes error) = false
 
 abbrev pub is_shown_to : ℕ → ℕ → Letter → Bool
-is_shown_to cpu thread l = is_in With l && l.word.target.0 == cpu && is_thread thread l.hands
+is_shown_to cpu thread l = is_with l.word.state && l.word.target.0 == cpu && is_thread thread l.hands
 
 -- the error of a reply that a processor owes, if it owes one
 abbrev pub owed : Hands → Option ℕ
@@ -83,7 +99,7 @@ owed Nobody = None
 owed (Shown thread) = None
 
 abbrev pub owed_by : ℕ → Letter → Option ℕ
-owed_by cpu l = if is_in With l && l.word.target.0 == cpu then owed l.hands else None
+owed_by cpu l = if is_with l.word.state && l.word.target.0 == cpu then owed l.hands else None
 
 -- a thread has ended: what it was shown is owed a reply that it is gone
 abbrev pub left_by : ℕ → ℕ → Letter → Letter

@@ -1,11 +1,4 @@
-pub mod Forms
 pub mod Intakes
 pub mod Letters
 pub mod Mailing
-pub mod Openings
 pub mod Places
-pub mod Rows
-pub mod Sound
-pub mod Tokens
-pub mod TokenAsks
-pub mod Turns

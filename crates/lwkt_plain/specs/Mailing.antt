@@ -3,7 +3,6 @@ use Rattle.std.specs.Prelude.{ℕ, ◌==◌, ◌&&◌, nat_lt, not, Bool, true, 
 use Rattle.std.specs.Option.{option_map_or}
 use Rattle.lwkt_base.specs.declared.names.MsgId.{MsgId}
 use Rattle.lwkt_base.specs.declared.names.ThreadId.{ThreadId}
-use Rattle.lwkt_base.specs.declared.message_words.MsgState.TheVariants.{Rest, Out, With}
 use Rattle.lwkt_base.specs.declared.faults.Fault.{Fault}
 use Rattle.lwkt_base.specs.declared.faults.Fault.TheVariants.{LaneFull, NotOwner, NotOut, NotAbortable, NotDropable, SelfDo, NoPort, NotTaken, RoundsOut}
 use Rattle.lwkt_base.specs.declared.asks.Item.{Item}
@@ -19,7 +18,7 @@ use Rattle.lwkt_plain.specs.declared.nexts.Next.{Next}
 use Rattle.lwkt_plain.specs.declared.nexts.Next.TheVariants.{Runs, Leaves}
 use Rattle.lwkt_plain.specs.declared.states.Phase.TheVariants.{AwaitsItem, AwaitsReply}
 use Rattle.lwkt_plain.specs.declared.states.Plain.{Plain}
-use Rattle.lwkt_plain.specs.Letters.{is_in, sent, aborted, come_home, is_shown_to, request_note}
+use Rattle.lwkt_plain.specs.Letters.{is_of, is_rest, is_out, is_with, sent, aborted, come_home, is_shown_to, request_note}
 use Rattle.lwkt_plain.specs.Places.{lane_at, with_lane, with_letter, moved, has_room}
 use Rattle.lwkt_plain.specs.Intakes.{posts, replies, looks}
 
@@ -46,17 +45,13 @@ pub record Sending : Type 0 where
 abbrev pub plain_flags : Flags
 plain_flags = record { dropable = false; abortable = false; priority = false }
 
--- whether a message is of a thread
-abbrev pub is_of : ℕ → ℕ → Letter → Bool
-is_of c k l = l.origin.cpu.0 == c && l.origin.thread == k
-
 -- why a send is refused before its lane is looked at: no such port, a synchronous send to itself, a message that isn't the thread's own or
 -- is away
 abbrev pub send_refusal : ℕ → ℕ → Plain → Sending → Option Fault
 send_refusal c k p s =
     if not (nat_lt s.to.cpu.0 (length p.cpus) && nat_lt s.to.thread PORTS) then Some NoPort
     else (if s.sync && (s.to.cpu.0 == c && s.to.thread == k) then Some SelfDo
-    else (if option_map_or (λ l. is_of c k l && is_in Rest l) (slice_get p.letters s.msg.0) false then None
+    else (if option_map_or (λ l. is_of c k l && is_rest l.word.state) (slice_get p.letters s.msg.0) false then None
     else Some NotOwner))
 
 -- a message that goes out over a lane that has room
@@ -99,8 +94,8 @@ reply c k p msg error outcome =
 abbrev pub abort_refusal : ℕ → ℕ → Letter → Option Fault
 abort_refusal c k l =
     if not (is_of c k l) then Some NotOwner
-    else (if is_in Out l then (if l.word.abortable then None else Some NotAbortable)
-    else (if is_in With l then (if l.word.abortable then None else Some NotAbortable)
+    else (if is_out l.word.state then (if l.word.abortable then None else Some NotAbortable)
+    else (if is_with l.word.state then (if l.word.abortable then None else Some NotAbortable)
     else Some NotOut))
 
 abbrev pub abort : ℕ → ℕ → Plain → MsgId → Mailed
@@ -118,7 +113,7 @@ is_aborted c k p msg =
 abbrev pub drop_refusal : ℕ → ℕ → Letter → Option Fault
 drop_refusal c k l =
     if not (is_of c k l) then Some NotOwner
-    else (if not (is_in Out l) then Some NotOut
+    else (if not (is_out l.word.state) then Some NotOut
     else (if l.word.dropable then None else Some NotDropable))
 
 abbrev pub drop_msg : ℕ → ℕ → Plain → MsgId → Mailed

@@ -1,292 +1,117 @@
 //! What a processor does about mail at the beginning of its turn.
-ghost use Rattle.std.specs.Prelude.{◌≡◌, OnOk};
-ghost use Rattle.lwkt_plain.specs.Intakes.{takes_mail};
-ghost use Rattle.lwkt_plain.specs.Sound.{IsSound};
+ghost use Rattle.std.specs.Prelude.{◌≡◌, ◌<◌, ◌≤◌, ◌^◌, false, Option, Some, None, if◌then◌else◌, length, IfOk, OnOk};
+ghost use Rattle.lwkt_base.specs.declared.limits.TheConstants.{MESSAGE_LIMIT};
+ghost use Rattle.lwkt_plain.specs.Intakes.{below, moves_on, replies, pays, pays_at, hears, is_sync_answer, queues, comes_in, intake, receives, receives_from, receives_all, has_ended, is_closed, handles, clears_port, clears_all, looked, looks_within, looks, wakes_at, takes_mail};
 
-use crate::letters::{Letter, Note, NoteKind, PORT_QUEUE, PORTS, Port};
-use crate::states::{CLEARED_AT_ONCE, Phase, Plain, TURN_NOTES, Thread};
-use lwkt_base::{Answer, Item, MsgId, OutOfMemory};
-
-impl Port {
-    // Puts a note behind the others of its class. False if that queue is full.
-    fn enqueue(&mut self, note: Note) -> Result<bool, OutOfMemory> {
-        let queue = if note.urgent {
-            &mut self.urgent
-        } else {
-            &mut self.ordinary
-        };
-        if queue.len() >= PORT_QUEUE {
-            return Ok(false);
-        }
-        queue.push(note)?;
-        Ok(true)
-    }
-
-    // Takes the note off that is served first.
-    fn take_first(&mut self) -> Option<Note> {
-        match self.urgent.take_first() {
-            Some(note) => Some(note),
-            None => self.ordinary.take_first(),
-        }
-    }
-}
-
-impl Thread {
-    // The reply to a message, for a thread that waits for it.
-    fn hear_from(&mut self, msg: MsgId, item: Item) {
-        if self.phase == Phase::AwaitsReply(msg) {
-            self.get_item(item);
-        }
-    }
-
-    // An item, for a thread that waits for one.
-    fn get_item(&mut self, item: Item) {
-        self.last = Answer::Got(item);
-        self.phase = Phase::Live;
-    }
-}
+use crate::letters::{Letter, Note, NoteKind, PORTS};
+use crate::states::{CLEARED_AT_ONCE, Phase, Plain, TURN_NOTES};
+use lwkt_base::{Item, MsgId, OutOfMemory};
 
 impl Phase {
     /// Whether the thread has ended.
-    pub fn has_ended(self) -> bool {
+    pub fn has_ended(self) -> bool
+        ensures { result ≡ has_ended self }
+    {
         matches!(self, Phase::Exited | Phase::Faulted(_))
+    }
+}
+
+impl Note {
+    // Whether it is the answer to a synchronous send.
+    fn is_sync_answer(&self, letter: &Letter) -> bool
+        ensures { result ≡ is_sync_answer self.now.kind letter.now }
+    {
+        match self.kind {
+            NoteKind::Request => false,
+            NoteKind::Answer => letter.word.sync,
+        }
     }
 }
 
 impl Plain {
     // The notes in a processor's hands move on.
-    fn move_on(&mut self, c: usize) -> Result<(), OutOfMemory> {
+    fn move_on(&mut self, c: usize) -> Result<(), OutOfMemory>
+        ensures { OnOk result (self.new ≡ moves_on c self.old) }
+    {
         for to in 0..self.cpus.len() {
-            if let Some(lane) = self.lane_mut(c, to) {
-                lane.room()?;
-            }
+            self.move_lane(c, to)?;
         }
         Ok(())
     }
 
-    /// Whether the lane from a processor to another has room, after the note in hand was moved on.
-    pub(crate) fn has_room(&mut self, from: usize, to: usize) -> Result<bool, OutOfMemory> {
-        match self.lane_mut(from, to) {
-            Some(lane) => lane.room(),
-            None => Ok(true),
-        }
-    }
-
-    /// Sends a note over a lane that has room.
-    pub(crate) fn post(&mut self, from: usize, to: usize, note: Note) -> Result<(), OutOfMemory> {
-        match self.lane_mut(from, to) {
-            Some(lane) => lane.send(note),
-            None => Ok(()),
-        }
-    }
-
-    /// Replies to a message that a processor has taken. False if the lane to its origin is full.
+    /// Replies to a message that a processor has taken, over a lane that has room.
     pub(crate) fn answer(
         &mut self,
         c: usize,
         msg: MsgId,
-        letter: Letter,
+        letter: &Letter,
         error: u32,
         outcome: u64,
-    ) -> Result<bool, OutOfMemory> {
-        let to = usize::from(letter.origin.cpu.0);
-        if !self.has_room(c, to)? {
-            return Ok(false);
-        }
-        let note = letter.note(msg, letter.origin.thread, NoteKind::Answer);
-        self.put_letter(msg, letter.replied(error, outcome));
-        self.post(c, to, note)?;
-        Ok(true)
+    ) -> Result<(), OutOfMemory>
+        ensures { OnOk result (self.new ≡ replies c msg error outcome letter.now self.old) }
+    {
+        self.reply_letter(usize::from(msg.0), error, outcome);
+        self.post(c, usize::from(letter.origin.cpu.0), letter.answer_note(msg))
     }
 
-    // The reply that is owed to a message goes out, if the lane has room.
-    fn pay(&mut self, c: usize, msg: MsgId) -> Result<(), OutOfMemory> {
-        let Some(letter) = self.letter(msg) else {
+    // The reply that is owed to this message goes out, if the lane has room.
+    fn pay_at(&mut self, c: usize, msg: MsgId, letter: &Letter) -> Result<(), OutOfMemory>
+        ensures { OnOk result (self.new ≡ pays_at c self.old msg letter.now) }
+    {
+        let Some(error) = letter.owed_by(c) else {
             return Ok(());
         };
-        if let Some(error) = letter.owed_by(c) {
-            self.answer(c, msg, letter, error, 0)?;
+        if !self.has_room(c, usize::from(letter.origin.cpu.0)) {
+            return Ok(());
         }
-        Ok(())
+        self.answer(c, msg, letter, error, 0)
     }
 
-    fn pay_all(&mut self, c: usize) -> Result<(), OutOfMemory> {
-        for m in 0..self.letters.len() {
-            self.pay(c, MsgId(m as u8))?;
+    // The same of the message of a number, if there is one.
+    fn pay(&mut self, c: usize, m: u8) -> Result<(), OutOfMemory>
+        ensures { OnOk result (self.new ≡ pays c self.old m) }
+    {
+        match self.letter(usize::from(m)) {
+            None => Ok(()),
+            Some(letter) => self.pay_at(c, MsgId(m), &letter),
         }
-        Ok(())
     }
 
     // A synchronous answer: its message comes home, and its thread is ready.
-    fn hear(&mut self, c: usize, note: &Note, letter: Letter) {
-        if !letter.can_be_reaped(c, note) {
-            return;
+    fn hear(&mut self, c: usize, note: &Note, letter: &Letter)
+        ensures { self.new ≡ hears c note.now letter.now self.old }
+    {
+        if letter.can_be_reaped(c, note) {
+            self.bring_home(usize::from(note.msg.0));
+            self.hear_at(c, usize::from(note.port), note.msg, letter);
         }
-        self.put_letter(note.msg, letter.come_home());
-        if let Some(thread) = self.thread_mut(c, usize::from(note.port)) {
-            thread.hear_from(note.msg, letter.answer(note.msg));
+    }
+
+    // A note is queued. False if its port's queue is full.
+    fn queue(&mut self, c: usize, note: &Note) -> Result<bool, OutOfMemory>
+        ensures comes { IfOk result (λ came. queues c note.now self.old ≡ (if came then Some self.new else None)) }
+        ensures stays { IfOk result (λ came. came ≡ false → self.new ≡ self.old) }
+    {
+        let k = usize::from(note.port);
+        if !self.has_space(c, k, note) {
+            return Ok(false);
         }
+        self.enqueue(c, k, *note)?;
+        Ok(true)
     }
 
     // A note that came over a lane. False if its port's queue is full.
-    fn come_in(&mut self, c: usize, note: Note) -> Result<bool, OutOfMemory> {
-        let Some(letter) = self.letter(note.msg) else {
-            return Ok(true);
-        };
-        if note.kind == NoteKind::Answer && letter.word.sync {
-            self.hear(c, &note, letter);
-            return Ok(true);
-        }
-        match self.port_mut(c, usize::from(note.port)) {
-            Some(port) => port.enqueue(note),
-            None => Ok(true),
-        }
-    }
-
-    // The next note of a lane's queue.
-    fn next_note(&mut self, c: usize, sender: usize) -> Option<Note> {
-        self.lane_mut(sender, c)?.queue.take_first()
-    }
-
-    fn keep(&mut self, c: usize, sender: usize, note: Option<Note>) {
-        if let Some(lane) = self.lane_mut(sender, c) {
-            lane.kept = note;
-        }
-    }
-
-    // Receives at most so many notes of a lane that keeps none. Says how many more may be received.
-    fn receive(&mut self, c: usize, sender: usize, left: usize) -> Result<usize, OutOfMemory> {
-        for received in 0..left {
-            let Some(note) = self.next_note(c, sender) else {
-                return Ok(left - received);
-            };
-            if !self.come_in(c, note)? {
-                self.keep(c, sender, Some(note));
-                return Ok(left - received - 1);
-            }
-        }
-        Ok(0)
-    }
-
-    // The same, after the note that is kept.
-    fn receive_from(&mut self, c: usize, sender: usize, left: usize) -> Result<usize, OutOfMemory> {
-        let kept = match self.lane_mut(sender, c) {
-            Some(lane) => lane.kept,
-            None => None,
-        };
-        if let Some(note) = kept {
-            if !self.come_in(c, note)? {
-                return Ok(left);
-            }
-            self.keep(c, sender, None);
-        }
-        self.receive(c, sender, left)
-    }
-
-    fn receive_all(&mut self, c: usize) -> Result<(), OutOfMemory> {
-        let mut left = TURN_NOTES;
-        for sender in 0..self.cpus.len() {
-            left = self.receive_from(c, sender, left)?;
-        }
-        Ok(())
-    }
-
-    // Whether the port of a number is closed: its thread isn't there, or has ended.
-    fn is_closed(&self, c: usize, k: usize) -> bool {
-        match self.thread(c, k) {
-            Some(thread) => thread.phase.has_ended(),
-            None => true,
-        }
-    }
-
-    // What a note makes of its message.
-    fn handle(&mut self, c: usize, thread: Option<u8>, note: &Note) {
-        if let Some(letter) = self.letter(note.msg) {
-            self.put_letter(note.msg, letter.handled(c, thread, note));
-        }
-    }
-
-    // The next note of a port.
-    fn first_note(&mut self, c: usize, k: usize) -> Option<Note> {
-        self.port_mut(c, k)?.take_first()
-    }
-
-    // Clears a port of at most so many notes. Says how many more may be cleared.
-    fn clear(&mut self, c: usize, k: usize, left: usize) -> usize {
-        for cleared in 0..left {
-            let Some(note) = self.first_note(c, k) else {
-                return left - cleared;
-            };
-            self.handle(c, None, &note);
-        }
-        0
-    }
-
-    fn clear_all(&mut self, c: usize) {
-        let mut left = CLEARED_AT_ONCE;
-        for k in 0..PORTS {
-            if self.is_closed(c, k) {
-                left = self.clear(c, k, left);
-            }
-        }
-    }
-
-    // What a note shows a thread, and what it makes of its message.
-    fn serve(&mut self, c: usize, k: usize, note: &Note) -> Option<Item> {
-        let letter = self.letter(note.msg)?;
-        let item = letter.item(c, note);
-        self.put_letter(note.msg, letter.handled(c, Some(k as u8), note));
-        item
-    }
-
-    /// A thread looks at its port.
-    pub(crate) fn look(&mut self, c: usize, k: usize) -> Option<Item> {
-        for _ in 0..2 * PORT_QUEUE {
-            let note = self.first_note(c, k)?;
-            let item = self.serve(c, k, &note);
-            if item.is_some() {
-                return item;
-            }
-        }
-        None
-    }
-
-    // A thread that waits for its port looks at it.
-    fn wake(&mut self, c: usize, k: usize) {
-        let waits = match self.thread(c, k) {
-            Some(thread) => thread.phase == Phase::AwaitsItem,
-            None => false,
-        };
-        if !waits {
-            return;
-        }
-        let Some(item) = self.look(c, k) else {
-            return;
-        };
-        if let Some(thread) = self.thread_mut(c, k) {
-            thread.get_item(item);
-        }
-    }
-
-    fn threads_of(&self, c: usize) -> usize {
-        match self.cpus.as_slice().get(c) {
-            Some(cpu) => cpu.threads.len(),
-            None => 0,
-        }
-    }
-
-    /// All of it.
-    pub(crate) fn take_mail(&mut self, c: usize) -> Result<(), OutOfMemory>
-        requires { IsSound self.old }
-        ensures { OnOk result (self.new ≡ takes_mail c self.old) }
+    fn come_in(&mut self, c: usize, note: &Note) -> Result<bool, OutOfMemory>
+        ensures comes { IfOk result (λ came. comes_in c note.now self.old ≡ (if came then Some self.new else None)) }
+        ensures stays { IfOk result (λ came. came ≡ false → self.new ≡ self.old) }
     {
-        self.move_on(c)?;
-        self.pay_all(c)?;
-        self.receive_all(c)?;
-        self.clear_all(c);
-        for k in 0..self.threads_of(c) {
-            self.wake(c, k);
+        let Some(letter) = self.letter(usize::from(note.msg.0)) else {
+            return Ok(true);
+        };
+        if note.is_sync_answer(&letter) {
+            self.hear(c, note, &letter);
+            return Ok(true);
         }
-        Ok(())
+        self.queue(c, note)
     }
 }

@@ -1,7 +1,10 @@
-ghost use Rattle.std.specs.Prelude.{◌≡◌, List, [], ◌∷◌, ◌++◌, ◌-◌, take, drop, length, Option, Some, None, OnOk, slice_get, option_to_list};
+ghost use Rattle.std.specs.Prelude.{◌≡◌, ◌<◌, List, [], ◌∷◌, ◌++◌, ◌-◌, drop, length, Option, Some, None, OnOk, IsTrue, slice_get, slice_set};
+ghost use Rattle.std.specs.Borrow.{Lends, sem};
+ghost use Rattle.lwkt_plain.specs.contracts.items.Items.{the_row};
 
 use lwkt_base::OutOfMemory;
 use lwkt_base::memory::push;
+use std::alloc::Global;
 use std::marker::Model;
 
 /// The parts of one kind of a state, in order.
@@ -11,12 +14,23 @@ pub struct Items<T> {
 }
 
 impl<T> Model for Items<T> {
+    ghost use Rattle.std.specs.Prelude.{List};
+
     ghost Value = { List T };
 
     ghost view = { λ p. p.items.items };
 }
 
 impl<T> Items<T> {
+    /// No parts. Takes no memory.
+    pub fn none(alloc: Global) -> Self
+        ensures { result ≡ [] }
+    {
+        Items {
+            items: Vec::new(alloc),
+        }
+    }
+
     /// The parts that are the items of a vector. Takes no memory.
     pub fn from_vec(items: Vec<T>) -> Self
         ensures { result ≡ items.items }
@@ -31,12 +45,13 @@ impl<T> Items<T> {
         self.items.as_slice()
     }
 
-    /// The parts, each of which can be changed.
-    pub fn as_mut_slice(&mut self) -> &mut [T]
-        ensures before { result.old ≡ self.old }
-        ensures after { self.new ≡ result.new }
+    /// The part of a number, to be changed.
+    pub fn at(&mut self, i: usize) -> &mut T
+        requires { i < length self.old }
+        ensures* writes_back { sem 𝓛 (Lends (the_row T.row) T.row self.entry result (slice_set self.old i)) }
+        ensures value { slice_get self.old i ≡ Some result.now }
     {
-        self.items.as_mut_slice()
+        &mut self.items[i]
     }
 
     /// How many there are.
@@ -44,11 +59,6 @@ impl<T> Items<T> {
         ensures { result ≡ length self.now }
     {
         self.items.len()
-    }
-
-    /// Whether there is none.
-    pub fn is_empty(&self) -> bool {
-        self.items.is_empty()
     }
 }
 

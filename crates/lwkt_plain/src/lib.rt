@@ -8,21 +8,14 @@
 
 mod intakes;
 pub mod items;
-mod laws;
+mod lanes;
+mod letter_moves;
 pub mod letters;
-mod mailing;
 pub mod nexts;
-mod openings;
 mod places;
 pub mod states;
-mod token_asks;
-pub mod tokens;
-mod turns;
 
 pub use items::Items;
 pub use letters::{Hands, Lane, Letter, Note, NoteKind, Port};
 pub use nexts::{Miss, Next};
 pub use states::{BusyAt, Phase, Plain, Processor, Thread};
-
-#[cfg(test)]
-mod rows;

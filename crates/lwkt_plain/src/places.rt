@@ -1,226 +1,334 @@
-//! The parts of a state by number, and the steps on a message and on a lane.
+//! The parts of a state by number.
+ghost use Rattle.std.specs.Prelude.{◌≡◌, ◌<◌, drop, length, IfOk, OnOk, Option, Some, None, option_map, slice_get, slice_index_or};
+ghost use Rattle.std.specs.Option.{option_copied, option_map_or};
+ghost use Rattle.lwkt_core.specs.Machine.{changed};
+ghost use Rattle.lwkt_plain.specs.Letters.{replied, come_home, handled, aborted, left_by};
+ghost use Rattle.lwkt_plain.specs.Places.{moved, has_room, pushed, with_lane, with_letter, with_port, with_thread, lane_at, port_at, thread_at, cpu_at, empty_lane, empty_port};
+ghost use Rattle.lwkt_plain.specs.Intakes.{posts, has_space, queued, first_note, without_note, without_first, keeps, gets, hears_from};
 
-use crate::letters::{ABORTED, Hands, Lane, Letter, NO_PORT, Note, NoteKind, LANE_QUEUE, Port};
-use crate::states::{Plain, Processor, Thread};
-use lwkt_base::{Call, CpuId, Flags, Item, MsgId, MsgState, MsgWord, OutOfMemory, Rec, ThreadId};
+use crate::letters::{Letter, Note};
+use crate::states::{Phase, Plain, Processor, Thread};
+use lwkt_base::{Answer, Item, MsgId, OutOfMemory};
 
-impl Plain {
-    pub(crate) fn cpu_mut(&mut self, c: usize) -> Option<&mut Processor> {
-        self.cpus.as_mut_slice().get_mut(c)
+impl Thread {
+    /// Makes it ready, with an item.
+    pub(crate) fn get_item(&mut self, item: Item)
+        ensures { self.new ≡ gets item self.old }
+    {
+        self.last = Answer::Got(item);
+        self.phase = Phase::Live;
     }
 
-    pub(crate) fn thread(&self, c: usize, k: usize) -> Option<&Thread> {
-        self.cpus.as_slice().get(c)?.threads.as_slice().get(k)
-    }
-
-    pub(crate) fn thread_mut(&mut self, c: usize, k: usize) -> Option<&mut Thread> {
-        self.cpu_mut(c)?.threads.as_mut_slice().get_mut(k)
-    }
-
-    pub(crate) fn port_mut(&mut self, c: usize, k: usize) -> Option<&mut Port> {
-        self.cpu_mut(c)?.ports.as_mut_slice().get_mut(k)
-    }
-
-    /// The lane from a processor to another.
-    pub(crate) fn lane_mut(&mut self, from: usize, to: usize) -> Option<&mut Lane> {
-        self.cpu_mut(to)?.lanes.as_mut_slice().get_mut(from)
-    }
-
-    pub(crate) fn letter(&self, msg: MsgId) -> Option<Letter> {
-        self.letters.as_slice().get(usize::from(msg.0)).copied()
-    }
-
-    pub(crate) fn put_letter(&mut self, msg: MsgId, letter: Letter) {
-        if let Some(own) = self.letters.as_mut_slice().get_mut(usize::from(msg.0)) {
-            *own = letter;
+    /// The reply to a message, for a thread that waits for it.
+    pub(crate) fn hear_from(&mut self, msg: MsgId, letter: &Letter)
+        ensures { self.new ≡ hears_from self.old.phase msg letter.now self.old }
+    {
+        if let Phase::AwaitsReply(own) = self.phase {
+            if own.0 == msg.0 {
+                self.get_item(letter.answer(msg));
+            }
         }
     }
 }
 
-impl Lane {
-    /// Moves the note in hand into the queue, if that has room, and says whether none is in hand.
-    pub(crate) fn room(&mut self) -> Result<bool, OutOfMemory> {
-        if let Some(note) = self.hand {
-            if self.queue.len() < LANE_QUEUE {
-                self.queue.push(note)?;
-                self.hand = None;
-            }
+#[tactic(auto, using(crate::proofs::Changes::changed_in, crate::proofs::Changes::changed_out))]
+impl Processor {
+    fn move_lane(&mut self, from: usize) -> Result<(), OutOfMemory>
+        ensures { OnOk result (self.new ≡ record self.old { lanes = changed moved self.old.lanes from }) }
+    {
+        if from >= self.lanes.len() {
+            return Ok(());
         }
-        Ok(self.hand.is_none())
+        let lane = self.lanes.at(from);
+        lane.move_on()
+    }
+
+    fn send(&mut self, from: usize, note: Note) -> Result<(), OutOfMemory>
+        ensures { OnOk result (self.new ≡ record self.old { lanes = changed (λ lane. pushed note (moved lane)) self.old.lanes from }) }
+    {
+        if from >= self.lanes.len() {
+            return Ok(());
+        }
+        let lane = self.lanes.at(from);
+        lane.send(note)
+    }
+
+    fn has_room(&self, from: usize) -> bool
+        ensures { result ≡ has_room (slice_index_or self.now.lanes from empty_lane) }
+    {
+        match self.lanes.as_slice().get(from) {
+            Some(lane) => lane.has_room(),
+            None => true,
+        }
+    }
+
+    fn take_first(&mut self, sender: usize) -> Option<Note>
+        ensures first { result ≡ slice_get (slice_index_or self.old.lanes sender empty_lane).queue 0 }
+        ensures rest { self.new ≡ record self.old { lanes = changed (λ lane. record lane { queue = drop 1 lane.queue }) self.old.lanes sender } }
+    {
+        if sender >= self.lanes.len() {
+            return None;
+        }
+        let lane = self.lanes.at(sender);
+        lane.take_first()
+    }
+
+    fn kept(&self, sender: usize) -> Option<Note>
+        ensures { result ≡ (slice_index_or self.now.lanes sender empty_lane).kept }
+    {
+        match self.lanes.as_slice().get(sender) {
+            Some(lane) => lane.kept,
+            None => None,
+        }
+    }
+
+    fn keep(&mut self, sender: usize, note: Option<Note>)
+        ensures { self.new ≡ record self.old { lanes = changed (λ lane. record lane { kept = note }) self.old.lanes sender } }
+    {
+        if sender < self.lanes.len() {
+            let lane = self.lanes.at(sender);
+            lane.keep(note);
+        }
+    }
+
+    fn has_space(&self, k: usize, note: &Note) -> bool
+        ensures { result ≡ has_space note.now (slice_index_or self.now.ports k empty_port) }
+    {
+        match self.ports.as_slice().get(k) {
+            Some(port) => port.has_space(note),
+            None => true,
+        }
+    }
+
+    fn enqueue(&mut self, k: usize, note: Note) -> Result<(), OutOfMemory>
+        ensures { OnOk result (self.new ≡ record self.old { ports = changed (queued note) self.old.ports k }) }
+    {
+        if k >= self.ports.len() {
+            return Ok(());
+        }
+        let port = self.ports.at(k);
+        port.enqueue(note)
+    }
+
+    fn take_note(&mut self, k: usize) -> Option<Note>
+        ensures first { result ≡ first_note (slice_index_or self.old.ports k empty_port) }
+        ensures rest { self.new ≡ record self.old { ports = changed without_note self.old.ports k } }
+    {
+        if k >= self.ports.len() {
+            return None;
+        }
+        let port = self.ports.at(k);
+        port.take_first()
+    }
+
+    fn hear(&mut self, k: usize, msg: MsgId, letter: &Letter)
+        ensures { self.new ≡ record self.old { threads = changed (λ t. hears_from t.phase msg letter.now t) self.old.threads k } }
+    {
+        if k < self.threads.len() {
+            let thread = self.threads.at(k);
+            thread.hear_from(msg, letter);
+        }
+    }
+
+    fn get_item(&mut self, k: usize, item: Item)
+        ensures { self.new ≡ record self.old { threads = changed (gets item) self.old.threads k } }
+    {
+        if k < self.threads.len() {
+            let thread = self.threads.at(k);
+            thread.get_item(item);
+        }
+    }
+}
+
+#[tactic(auto, using(crate::proofs::Changes::changed_in, crate::proofs::Changes::changed_out))]
+impl Plain {
+    /// Moves the note in hand from a processor to another into the queue, if that has room.
+    pub(crate) fn move_lane(&mut self, from: usize, to: usize) -> Result<(), OutOfMemory>
+        ensures { OnOk result (self.new ≡ with_lane moved from to self.old) }
+    {
+        if to >= self.cpus.len() {
+            return Ok(());
+        }
+        let cpu = self.cpus.at(to);
+        cpu.move_lane(from)
     }
 
     /// Sends a note over a lane that has room.
-    pub(crate) fn send(&mut self, note: Note) -> Result<(), OutOfMemory> {
-        if self.queue.len() < LANE_QUEUE {
-            return self.queue.push(note);
+    pub(crate) fn post(&mut self, from: usize, to: usize, note: Note) -> Result<(), OutOfMemory>
+        ensures { OnOk result (self.new ≡ posts from to note self.old) }
+    {
+        if to >= self.cpus.len() {
+            return Ok(());
         }
-        self.hand = Some(note);
-        Ok(())
+        let cpu = self.cpus.at(to);
+        cpu.send(from, note)
     }
-}
 
-impl Letter {
-    /// At rest.
-    pub(crate) fn at_rest(origin: ThreadId, round: u64) -> Letter {
-        Letter {
-            origin,
-            word: MsgWord {
-                round,
-                state: MsgState::Rest,
-                origin: origin.cpu,
-                target: CpuId(0),
-                aborted: false,
-                sync: false,
-                dropable: false,
-                abortable: false,
-                priority: false,
-            },
-            rec: Rec {
-                arg: 0,
-                result: 0,
-                op: 0,
-                error: 0,
-            },
-            hands: Hands::Nobody,
+    /// Whether a note can be sent over a lane.
+    pub(crate) fn has_room(&self, from: usize, to: usize) -> bool
+        ensures { result ≡ has_room (lane_at self.now from to) }
+    {
+        match self.cpus.as_slice().get(to) {
+            Some(cpu) => cpu.has_room(from),
+            None => true,
         }
     }
 
-    pub(crate) fn come_home(self) -> Letter {
-        Letter::at_rest(self.origin, self.word.round)
+    /// Takes the first note off that came over a lane.
+    pub(crate) fn take_first(&mut self, sender: usize, c: usize) -> Option<Note>
+        ensures first { result ≡ slice_get (lane_at self.old sender c).queue 0 }
+        ensures rest { self.new ≡ without_first sender c self.old }
+    {
+        if c >= self.cpus.len() {
+            return None;
+        }
+        let cpu = self.cpus.at(c);
+        cpu.take_first(sender)
     }
 
-    /// Sent in its next round, which isn't past the last.
-    pub(crate) fn sent(self, target: CpuId, call: Call, flags: Flags, sync: bool) -> Letter {
-        Letter {
-            word: MsgWord {
-                round: self.word.round.wrapping_add(1),
-                state: MsgState::Out,
-                origin: self.origin.cpu,
-                target,
-                aborted: false,
-                sync,
-                dropable: flags.dropable,
-                abortable: flags.abortable,
-                priority: flags.priority,
-            },
-            rec: Rec {
-                arg: call.arg,
-                result: 0,
-                op: call.op,
-                error: 0,
-            },
-            ..self
+    /// The note of a lane that is kept.
+    pub(crate) fn kept(&self, sender: usize, c: usize) -> Option<Note>
+        ensures { result ≡ (lane_at self.now sender c).kept }
+    {
+        match self.cpus.as_slice().get(c) {
+            Some(cpu) => cpu.kept(sender),
+            None => None,
         }
     }
 
-    pub(crate) fn taken(self, hands: Hands) -> Letter {
-        let mut word = self.word;
-        word.state = MsgState::With;
-        Letter {
-            word,
-            hands,
-            ..self
+    /// Keeps a note of a lane, or none.
+    pub(crate) fn keep(&mut self, note: Option<Note>, sender: usize, c: usize)
+        ensures { self.new ≡ keeps note sender c self.old }
+    {
+        if c < self.cpus.len() {
+            let cpu = self.cpus.at(c);
+            cpu.keep(sender, note);
         }
     }
 
-    pub(crate) fn replied(self, error: u32, outcome: u64) -> Letter {
-        let mut word = self.word;
-        word.state = MsgState::Back;
-        let mut rec = self.rec;
-        rec.error = error;
-        rec.result = outcome;
-        Letter {
-            word,
-            rec,
-            hands: Hands::Nobody,
-            ..self
+    /// Whether the queue of a note's class has room at a port.
+    pub(crate) fn has_space(&self, c: usize, k: usize, note: &Note) -> bool
+        ensures { result ≡ has_space note.now (port_at self.now c k) }
+    {
+        match self.cpus.as_slice().get(c) {
+            Some(cpu) => cpu.has_space(k, note),
+            None => true,
         }
     }
 
-    /// Whether it is on its way to this processor in the round of a note.
-    pub(crate) fn can_be_taken(&self, cpu: usize, note: &Note) -> bool {
-        self.word.state == MsgState::Out
-            && usize::from(self.word.target.0) == cpu
-            && self.word.round == note.round
+    /// Puts a note behind the others of its class at a port.
+    pub(crate) fn enqueue(&mut self, c: usize, k: usize, note: Note) -> Result<(), OutOfMemory>
+        ensures { OnOk result (self.new ≡ with_port (queued note) c k self.old) }
+    {
+        if c >= self.cpus.len() {
+            return Ok(());
+        }
+        let cpu = self.cpus.at(c);
+        cpu.enqueue(k, note)
     }
 
-    /// Whether it came back to this processor in the round of a note.
-    pub(crate) fn can_be_reaped(&self, cpu: usize, note: &Note) -> bool {
-        self.word.state == MsgState::Back
-            && usize::from(self.origin.cpu.0) == cpu
-            && self.word.round == note.round
+    /// Takes the note of a port off that is served first.
+    pub(crate) fn take_note(&mut self, c: usize, k: usize) -> Option<Note>
+        ensures first { result ≡ first_note (port_at self.old c k) }
+        ensures rest { self.new ≡ with_port without_note c k self.old }
+    {
+        if c >= self.cpus.len() {
+            return None;
+        }
+        let cpu = self.cpus.at(c);
+        cpu.take_note(k)
     }
 
-    fn is_with(&self, cpu: usize) -> bool {
-        self.word.state == MsgState::With && usize::from(self.word.target.0) == cpu
-    }
-
-    pub(crate) fn is_shown_to(&self, cpu: usize, thread: usize) -> bool {
-        match self.hands {
-            Hands::Shown(other) => self.is_with(cpu) && usize::from(other) == thread,
-            Hands::Nobody | Hands::Owes(_) => false,
+    /// The reply to a message, for a thread that waits for it.
+    pub(crate) fn hear_at(&mut self, c: usize, k: usize, msg: MsgId, letter: &Letter)
+        ensures { self.new ≡ with_thread (λ t. hears_from t.phase msg letter.now t) c k self.old }
+    {
+        if c < self.cpus.len() {
+            let cpu = self.cpus.at(c);
+            cpu.hear(k, msg, letter);
         }
     }
 
-    pub(crate) fn owed_by(&self, cpu: usize) -> Option<u32> {
-        match self.hands {
-            Hands::Owes(error) if self.is_with(cpu) => Some(error),
-            _ => None,
+    /// Makes a thread ready, with an item.
+    pub(crate) fn get_item(&mut self, c: usize, k: usize, item: Item)
+        ensures { self.new ≡ with_thread (gets item) c k self.old }
+    {
+        if c < self.cpus.len() {
+            let cpu = self.cpus.at(c);
+            cpu.get_item(k, item);
         }
     }
 
-    pub(crate) fn is_of(&self, cpu: usize, thread: usize) -> bool {
-        usize::from(self.origin.cpu.0) == cpu && usize::from(self.origin.thread) == thread
+    /// What a thread is doing, if it is there.
+    pub(crate) fn phase(&self, c: usize, k: usize) -> Option<Phase>
+        ensures { result ≡ option_map (λ t. t.phase) (thread_at self.now c k) }
+    {
+        let cpu = self.cpus.as_slice().get(c)?;
+        let thread = cpu.threads.as_slice().get(k)?;
+        Some(thread.phase)
     }
 
-    /// What a note makes of it, of a port whose thread is this, or has ended.
-    pub(crate) fn handled(self, cpu: usize, thread: Option<u8>, note: &Note) -> Letter {
-        match note.kind {
-            NoteKind::Request if self.can_be_taken(cpu, note) => {
-                self.taken(hands_for(thread, self.word.aborted))
-            }
-            NoteKind::Answer if self.can_be_reaped(cpu, note) => self.come_home(),
-            _ => self,
+    /// How many threads a processor has.
+    pub(crate) fn threads_of(&self, c: usize) -> usize
+        ensures { result ≡ length (cpu_at self.now c).threads }
+    {
+        match self.cpus.as_slice().get(c) {
+            Some(cpu) => cpu.threads.len(),
+            None => 0,
         }
     }
 
-    /// What a note of it shows a thread.
-    pub(crate) fn item(&self, cpu: usize, note: &Note) -> Option<Item> {
-        match note.kind {
-            NoteKind::Request if self.can_be_taken(cpu, note) && !self.word.aborted => {
-                let call = Call {
-                    arg: self.rec.arg,
-                    op: self.rec.op,
-                };
-                Some(Item::Request(note.msg, call))
-            }
-            NoteKind::Answer if self.can_be_reaped(cpu, note) => Some(self.answer(note.msg)),
-            _ => None,
+    /// The message of a number.
+    pub(crate) fn letter(&self, m: usize) -> Option<Letter>
+        ensures { result ≡ slice_get self.now.letters m }
+    {
+        self.letters.as_slice().get(m).copied()
+    }
+
+    /// A message of a number goes out so.
+    pub(crate) fn put_letter(&mut self, m: usize, letter: Letter)
+        ensures { self.new ≡ with_letter (λ old. letter) m self.old }
+    {
+        if m < self.letters.len() {
+            *self.letters.at(m) = letter;
         }
     }
 
-    /// The reply to it, as an item.
-    pub(crate) fn answer(&self, msg: MsgId) -> Item {
-        Item::Answered(msg, self.rec.error, self.rec.result)
-    }
-
-    /// The note of a send or a reply, for a port.
-    pub(crate) fn note(&self, msg: MsgId, port: u8, kind: NoteKind) -> Note {
-        Note {
-            round: self.word.round,
-            msg,
-            port,
-            kind,
-            urgent: self.word.priority,
+    pub(crate) fn reply_letter(&mut self, m: usize, error: u32, outcome: u64)
+        ensures { self.new ≡ with_letter (replied error outcome) m self.old }
+    {
+        if m < self.letters.len() {
+            let own = self.letters.at(m);
+            *own = own.replied(error, outcome);
         }
     }
-}
 
-// In whose hands a message is that is taken for a thread, or for nobody.
-fn hands_for(thread: Option<u8>, aborted: bool) -> Hands {
-    match thread {
-        None => Hands::Owes(NO_PORT),
-        Some(_) if aborted => Hands::Owes(ABORTED),
-        Some(thread) => Hands::Shown(thread),
+    pub(crate) fn bring_home(&mut self, m: usize)
+        ensures { self.new ≡ with_letter come_home m self.old }
+    {
+        if m < self.letters.len() {
+            let own = self.letters.at(m);
+            *own = own.come_home();
+        }
+    }
+
+    pub(crate) fn abort_letter(&mut self, m: usize)
+        ensures { self.new ≡ with_letter aborted m self.old }
+    {
+        if m < self.letters.len() {
+            let own = self.letters.at(m);
+            *own = own.aborted();
+        }
+    }
+
+    /// What a note makes of its message.
+    pub(crate) fn handle_letter(&mut self, c: usize, thread: Option<u8>, note: &Note)
+        ensures { self.new ≡ with_letter (handled c thread note.now) note.now.msg.0 self.old }
+    {
+        let m = usize::from(note.msg.0);
+        if m < self.letters.len() {
+            let own = self.letters.at(m);
+            *own = own.handled(c, thread, note);
+        }
     }
 }

@@ -1,6 +1,7 @@
 use crate::items::Items;
 use crate::letters::{Lane, Letter, Port};
-use lwkt_base::{Answer, Entry, Fault, MsgId, TokList};
+use lwkt_base::{Answer, Ask, Entry, Fault, MsgId, TokList};
+use lwkt_code::Local;
 use lwkt_core::Token;
 
 /// What a thread is doing, whether it runs or not.
@@ -36,9 +37,11 @@ pub struct Thread {
     pub last: Answer,
     /// The word that refused its list when that was last tried.
     pub busy: Option<BusyAt>,
-    /// How many polls it has had.
-    pub polls: u64,
-    /// What its answers put in its log.
+    /// Where it stands in its program.
+    pub local: Local,
+    /// What it asked at its last poll. `None` before the first one.
+    pub asked: Option<Ask>,
+    /// What its answers and its asks put in its log, at most 32 entries, the first one first.
     pub log: Items<Entry>,
 }
 
