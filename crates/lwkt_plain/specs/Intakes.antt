@@ -25,11 +25,11 @@ use Rattle.lwkt_plain.specs.Letters.{replied, can_be_reaped, come_home, answer_o
 use Rattle.lwkt_plain.specs.Places.{cpu_at, thread_at, port_at, lane_at, with_cpu, with_thread, with_port, with_lane, with_letter, moved, has_room, pushed}
 
 -- the numbers below this one
-abbrev pub below : ℕ → List ℕ
+unfoldable pub below : ℕ → List ℕ
 below n = range_with_len 0 n
 
 -- the notes in a processor's hands move on
-abbrev pub moves_on : ℕ → Plain → Plain
+unfoldable pub moves_on : ℕ → Plain → Plain
 moves_on c p = fold (λ now to. with_lane moved c to now) p (below (length p.cpus))
 
 -- a note is sent over the lane from a processor to another, which has room
@@ -46,6 +46,9 @@ pays_at c p msg l = option_map_or (λ error. if has_room (lane_at p c l.origin.c
 
 abbrev pub pays : ℕ → Plain → ℕ → Plain
 pays c p m = option_map_or (pays_at c p (record { 0 = m })) (slice_get p.letters m) p
+
+unfoldable pub pays_all : ℕ → Plain → Plain
+pays_all c p = fold (pays c) p (below (length p.letters))
 
 -- a thread is ready, with an item
 abbrev pub gets : Item → Thread → Thread
@@ -112,7 +115,7 @@ receives_from c i sender =
     (lane_at i.plain sender c).kept (receives c sender i.left i.plain)
 
 -- the lanes to a processor, by rising sender
-abbrev pub receives_all : ℕ → Plain → Plain
+unfoldable pub receives_all : ℕ → Plain → Plain
 receives_all c p = (fold (receives_from c) (intake TURN_NOTES p) (below (length p.cpus))).plain
 
 -- whether a thread has ended; and whether the port of a number is closed: its thread has, or isn't there
@@ -147,7 +150,7 @@ abbrev pub clears : ℕ → Intake → ℕ → Intake
 clears c i k = if is_closed c k i.plain then clears_port c k i.left i.plain else i
 
 -- the closed ports, by rising number
-abbrev pub clears_all : ℕ → Plain → Plain
+unfoldable pub clears_all : ℕ → Plain → Plain
 clears_all c p = (fold (clears c) (intake CLEARED_AT_ONCE p) (below PORTS)).plain
 
 -- a state after a thread looked at its port, and the item, if there was one
@@ -187,9 +190,10 @@ wakes c k p _ = p
 abbrev pub wakes_at : ℕ → Plain → ℕ → Plain
 wakes_at c p k = option_map_or (λ t. wakes c k p t.phase) (thread_at p c k) p
 
+-- the threads of a processor, by rising number
+unfoldable pub wakes_all : ℕ → Plain → Plain
+wakes_all c p = fold (wakes_at c) p (below (length (cpu_at p c).threads))
+
 -- all of it
 abbrev pub takes_mail : ℕ → Plain → Plain
-takes_mail c p =
-    let paid = fold (pays c) (moves_on c p) (below (length p.letters)) in
-    let cleared = clears_all c (receives_all c paid) in
-    fold (wakes_at c) cleared (below (length (cpu_at cleared c).threads))
+takes_mail c p = wakes_all c (clears_all c (receives_all c (pays_all c (moves_on c p))))

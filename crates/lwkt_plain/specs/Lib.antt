@@ -2,3 +2,4 @@ pub mod Intakes
 pub mod Letters
 pub mod Mailing
 pub mod Places
+pub mod Sound

@@ -76,6 +76,7 @@ impl<T: Copy> Items<T> {
     pub fn take_first(&mut self) -> Option<T>
         ensures first { result ≡ slice_get self.old 0 }
         ensures rest { self.new ≡ drop 1 self.old }
+        ensures stays { result ≡ None → self.new ≡ self.old }
     {
         let first = self.items.get(0).copied()?;
         let _ = self.items.remove(0);

@@ -1,7 +1,7 @@
 //! The steps on lanes and ports.
 ghost use Rattle.std.specs.Prelude.{◌≡◌, drop, length, OnOk, Option, Some, None, is_some, slice_get};
 ghost use Rattle.lwkt_plain.specs.Places.{moved, has_room, pushed};
-ghost use Rattle.lwkt_plain.specs.Intakes.{has_space, queued, first_note, without_note, notes_in};
+ghost use Rattle.lwkt_plain.specs.Intakes.{has_space, queued, first_note, without_note};
 
 use crate::letters::{LANE_QUEUE, Lane, Note, PORT_QUEUE, Port};
 use lwkt_base::OutOfMemory;
@@ -51,6 +51,7 @@ impl Lane {
     pub(crate) fn take_first(&mut self) -> Option<Note>
         ensures first { result ≡ slice_get self.old.queue 0 }
         ensures rest { self.new ≡ record self.old { queue = drop 1 self.old.queue } }
+        ensures stays { result ≡ None → self.new ≡ self.old }
     {
         self.queue.take_first()
     }
@@ -89,18 +90,11 @@ impl Port {
     pub(crate) fn take_first(&mut self) -> Option<Note>
         ensures first { result ≡ first_note self.old }
         ensures rest { self.new ≡ without_note self.old }
+        ensures stays { result ≡ None → self.new ≡ self.old }
     {
         match self.urgent.take_first() {
             Some(note) => Some(note),
             None => self.ordinary.take_first(),
         }
-    }
-
-    /// How many notes it has, at most so many.
-    pub(crate) fn count(&self) -> usize
-        requires { notes_in self.now < usize.MAX }
-        ensures { result ≡ notes_in self.now }
-    {
-        self.urgent.len() + self.ordinary.len()
     }
 }

@@ -62,9 +62,11 @@ impl Processor {
         }
     }
 
+    #[tactic(auto, using(crate::proofs::Changes::changed_in, crate::proofs::Changes::changed_out, crate::proofs::Changes::set_back))]
     fn take_first(&mut self, sender: usize) -> Option<Note>
         ensures first { result ≡ slice_get (slice_index_or self.old.lanes sender empty_lane).queue 0 }
         ensures rest { self.new ≡ record self.old { lanes = changed (λ lane. record lane { queue = drop 1 lane.queue }) self.old.lanes sender } }
+        ensures stays { result ≡ None → self.new ≡ self.old }
     {
         if sender >= self.lanes.len() {
             return None;
@@ -110,9 +112,11 @@ impl Processor {
         port.enqueue(note)
     }
 
+    #[tactic(auto, using(crate::proofs::Changes::changed_in, crate::proofs::Changes::changed_out, crate::proofs::Changes::set_back))]
     fn take_note(&mut self, k: usize) -> Option<Note>
         ensures first { result ≡ first_note (slice_index_or self.old.ports k empty_port) }
         ensures rest { self.new ≡ record self.old { ports = changed without_note self.old.ports k } }
+        ensures stays { result ≡ None → self.new ≡ self.old }
     {
         if k >= self.ports.len() {
             return None;
@@ -175,9 +179,11 @@ impl Plain {
     }
 
     /// Takes the first note off that came over a lane.
+    #[tactic(auto, using(crate::proofs::Changes::changed_in, crate::proofs::Changes::changed_out, crate::proofs::Changes::set_back))]
     pub(crate) fn take_first(&mut self, sender: usize, c: usize) -> Option<Note>
         ensures first { result ≡ slice_get (lane_at self.old sender c).queue 0 }
         ensures rest { self.new ≡ without_first sender c self.old }
+        ensures stays { result ≡ None → self.new ≡ self.old }
     {
         if c >= self.cpus.len() {
             return None;
@@ -228,9 +234,11 @@ impl Plain {
     }
 
     /// Takes the note of a port off that is served first.
+    #[tactic(auto, using(crate::proofs::Changes::changed_in, crate::proofs::Changes::changed_out, crate::proofs::Changes::set_back))]
     pub(crate) fn take_note(&mut self, c: usize, k: usize) -> Option<Note>
         ensures first { result ≡ first_note (port_at self.old c k) }
         ensures rest { self.new ≡ with_port without_note c k self.old }
+        ensures stays { result ≡ None → self.new ≡ self.old }
     {
         if c >= self.cpus.len() {
             return None;
