@@ -1,3 +1,4 @@
 pub mod Changes
 pub mod Folds
+pub mod Frames
 pub mod Receipts

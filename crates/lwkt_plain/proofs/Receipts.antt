@@ -1,5 +1,5 @@
 -- Notes that are received and served, one after another.
-use Rattle.std.proofs.Common.{◌≡◌, ℕ, zero, suc, ◌+◌, ◌<◌, ◌≤◌, List, [], ◌∷◌, length, get_or, drop, ap, ◌∙◌, refl, sym, cc, arith, Option, Some, None, false, true, Bool}
+use Rattle.std.proofs.Common.{◌≡◌, ℕ, zero, suc, ◌+◌, ◌<◌, ◌≤◌, List, [], ◌∷◌, length, get_or, drop, ap, ◌∙◌, refl, sym, arith, Option, Some, None, false, true, Bool}
 use Rattle.std.specs.Prelude.{slice_get}
 use Rattle.std.specs.Option.{option_map_or}
 use Rattle.std.proofs.lemmas.List.{get_or_past}
@@ -14,13 +14,13 @@ use Rattle.lwkt_plain.specs.Intakes.{Intake, intake, receives, without_first, ke
 use Rattle.lwkt_plain.proofs.Changes.{get_or_changed}
 
 -- a note that comes in or not
-abbrev on_note : ℕ → ℕ → ℕ → Plain → Note → Option Plain → Intake
+abbrev pub on_note : ℕ → ℕ → ℕ → Plain → Note → Option Plain → Intake
 on_note c s m p note next = option_map_or (λ q. receives c s m q) next (intake m (keeps (Some note) s c (without_first s c p)))
 
-abbrev on_first : ℕ → ℕ → ℕ → Plain → Option Note → Intake
+abbrev pub on_first : ℕ → ℕ → ℕ → Plain → Option Note → Intake
 on_first c s m p first = option_map_or (λ note. on_note c s m p note (comes_in c note (without_first s c p))) first (intake (suc m) p)
 
-more : (c s n m : ℕ) (p : Plain) → n ≡ suc m → receives c s n p ≡ on_first c s m p (slice_get (lane_at p s c).queue 0)
+pub more : (c s n m : ℕ) (p : Plain) → n ≡ suc m → receives c s n p ≡ on_first c s m p (slice_get (lane_at p s c).queue 0)
 unfolding receives
 more c s n m p e = ap (λ k. receives c s k p) e
 
@@ -38,10 +38,10 @@ pub receives_next : (c s n m : ℕ) (p : Plain) (note : Note) (next : Plain) →
 receives_next c s n m p note next e first comes = more c s n m p e ∙ ap (on_first c s m p) first ∙ ap (on_note c s m p note) comes
 
 -- a note of a port that is cleared
-abbrev on_cleared : ℕ → ℕ → ℕ → Plain → Option Note → Intake
+abbrev pub on_cleared : ℕ → ℕ → ℕ → Plain → Option Note → Intake
 on_cleared c k m p first = option_map_or (λ note. clears_port c k m (handles c k None note p)) first (intake (suc m) p)
 
-cleared : (c k n m : ℕ) (p : Plain) → n ≡ suc m → clears_port c k n p ≡ on_cleared c k m p (first_note (port_at p c k))
+pub cleared : (c k n m : ℕ) (p : Plain) → n ≡ suc m → clears_port c k n p ≡ on_cleared c k m p (first_note (port_at p c k))
 unfolding clears_port
 cleared c k n m p e = ap (λ i. clears_port c k i p) e
 
@@ -84,15 +84,19 @@ port_without p c k note is =
     ap (λ (cpu : Processor). get_or cpu.ports k empty_port) (get_or_changed _ p.cpus c no_processor there) ∙ get_or_changed without_note (cpu_at p c).ports k empty_port port_there
 
 -- notes of a port that are served
-abbrev on_shown : ℕ → ℕ → ℕ → Plain → Note → Option Item → Looked
+abbrev pub on_shown : ℕ → ℕ → ℕ → Plain → Note → Option Item → Looked
 on_shown c k m p note item = option_map_or (λ i. looked (handles c k (Some k) note p) (Some i)) item (looks_within m c k (handles c k (Some k) note p))
 
-abbrev on_served : ℕ → ℕ → ℕ → Plain → Option Note → Looked
+abbrev pub on_served : ℕ → ℕ → ℕ → Plain → Option Note → Looked
 on_served c k m p first = option_map_or (λ note. on_shown c k m p note (shown_by c note p)) first (looked p None)
 
-within : (n m c k : ℕ) (p : Plain) → n ≡ suc m → looks_within n c k p ≡ on_served c k m p (first_note (port_at p c k))
+pub within : (n m c k : ℕ) (p : Plain) → n ≡ suc m → looks_within n c k p ≡ on_served c k m p (first_note (port_at p c k))
 unfolding looks_within
 within n m c k p e = ap (λ i. looks_within i c k p) e
+
+pub within_zero : (c k : ℕ) (p : Plain) → looks_within 0 c k p ≡ looked p None
+unfolding looks_within
+within_zero c k p = refl
 
 none_within : (n c k : ℕ) (p : Plain) → first_note (port_at p c k) ≡ None → looks_within n c k p ≡ looked p None
 unfolding looks_within

@@ -1,25 +1,36 @@
 -- What holds of each state that turns lead to.
-use Rattle.std.specs.Prelude.{◌≡◌, ℕ, ◌<◌, ◌≤◌, List, [], length, map, All, Option, None, IfSome, slice_get, slice_index_or}
+use Rattle.std.specs.Prelude.{◌≡◌, ◌≢◌, ℕ, ◌<◌, ◌≤◌, List, [], length, map, All, Option, None, IfSome, slice_get, slice_index_or}
 use Rattle.std.specs.Option.{option_map_or}
 use Rattle.lwkt_base.specs.declared.names.Ref.{Ref}
 use Rattle.lwkt_base.specs.declared.holdings.Held.TheVariants.{Nothing}
 use Rattle.lwkt_base.specs.declared.limits.TheConstants.{CPU_LIMIT, LAST_ROUND, LIST_LIMIT, MESSAGE_LIMIT, THREAD_LIMIT}
-use Rattle.lwkt_base.specs.Holding.{holding_of}
+use Rattle.lwkt_base.specs.Holding.{Holding, holding_of}
 use Rattle.lwkt_core.specs.declared.tokens.Token.{Token}
 use Rattle.lwkt_core.specs.Machine.{machine, IsSafe}
-use Rattle.lwkt_core.specs.Tokens.{held_by}
+use Rattle.lwkt_core.specs.Tokens.{held_by, IsShort}
 use Rattle.lwkt_plain.specs.declared.letters.Letter.{Letter}
 use Rattle.lwkt_plain.specs.declared.states.Plain.{Plain}
 use Rattle.lwkt_plain.specs.declared.states.Processor.{Processor}
 use Rattle.lwkt_plain.specs.declared.states.Thread.{Thread}
 
--- tokens of the model that are safe
-abbrev pub AreSoundTokens : List Token → Type 0
-AreSoundTokens tokens = IsSafe (machine CPU_LIMIT tokens [])
+-- tokens of the model that are safe, whose records at the beginning of a section are as short as a record has to be
+pub record AreSoundTokens (tokens : List Token) : Type 0 where
+  pub safe : IsSafe (machine CPU_LIMIT tokens [])
+  pub short : All (λ (tok : Token). IsShort tok.first_blob) tokens
+
+-- what a processor holds of each token
+abbrev pub holding_in : List Token → ℕ → Holding
+holding_in tokens c t = option_map_or (λ tok. held_by tok c) (slice_get tokens t) Nothing
 
 -- a processor holds exactly these references
 abbrev pub AreHeld : ℕ → List Ref → List Token → Type 0
-AreHeld c refs tokens = (t : ℕ) → option_map_or (λ tok. held_by tok c) (slice_get tokens t) Nothing ≡ holding_of refs t
+AreHeld c refs tokens = (t : ℕ) → holding_in tokens c t ≡ holding_of refs t
+
+-- what a processor does to tokens leaves them sound, as many as before, and held by others as before
+pub record KeepsTokens (c : ℕ) (old new : List Token) : Type 0 where
+  pub sound : AreSoundTokens new
+  pub same : length new ≡ length old
+  pub others : (other : ℕ) → other ≢ c → (t : ℕ) → holding_in new other t ≡ holding_in old other t
 
 -- the lists of a processor's threads, and which thread runs
 pub record Lists : Type 0 where

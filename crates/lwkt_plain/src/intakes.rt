@@ -233,9 +233,9 @@ impl Plain {
         ensures { looks c k self.old ≡ looked self.new result }
     {
         while let Some(note) = self.take_note(c, usize::from(k)) {
-            let item = self.serve(c, k, &note);
-            if item.is_some() {
-                return item;
+            match self.serve(c, k, &note) {
+                Some(item) => return Some(item),
+                None => {}
             }
         }
         None

@@ -17,5 +17,5 @@ pub mod states;
 
 pub use items::Items;
 pub use letters::{Hands, Lane, Letter, Note, NoteKind, Port};
-pub use nexts::{Miss, Next};
+pub use nexts::{Miss, Missed, Next};
 pub use states::{BusyAt, Phase, Plain, Processor, Thread};

@@ -10,6 +10,13 @@ pub enum Miss {
     Worn,
 }
 
+/// The reference of a list that isn't had, by its place, and why.
+#[derive(Clone, Copy, PartialEq, Eq)]
+pub struct Missed {
+    pub at: usize,
+    pub why: Miss,
+}
+
 /// What comes next for a thread whose ask was performed.
 #[derive(Clone, Copy, PartialEq, Eq)]
 pub enum Next {
