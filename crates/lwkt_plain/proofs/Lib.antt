@@ -1,4 +1,9 @@
 pub mod Changes
 pub mod Folds
 pub mod Frames
+pub mod Givings
+pub mod Holdings
+pub mod LawTests
 pub mod Receipts
+pub mod Takings
+pub mod TokenSteps

@@ -3,3 +3,4 @@ pub mod Letters
 pub mod Mailing
 pub mod Places
 pub mod Sound
+pub mod Tokens

@@ -14,6 +14,7 @@ use Rattle.lwkt_base.specs.declared.limits.TheConstants.{LAST_ROUND}
 use Rattle.lwkt_core.specs.Machine.{changed}
 use Rattle.lwkt_plain.specs.declared.letters.Letter.{Letter}
 use Rattle.lwkt_plain.specs.declared.letters.TheConstants.{PORTS}
+use Rattle.lwkt_plain.specs.declared.mailing.Sending.{Sending}
 use Rattle.lwkt_plain.specs.declared.nexts.Next.{Next}
 use Rattle.lwkt_plain.specs.declared.nexts.Next.TheVariants.{Runs, Leaves}
 use Rattle.lwkt_plain.specs.declared.states.Phase.TheVariants.{AwaitsItem, AwaitsReply}
@@ -33,17 +34,13 @@ mailed plain next = record { plain = plain; next = next }
 abbrev pub refused : Plain → Fault → Mailed
 refused p fault = mailed p (Runs (Refused fault))
 
--- what a thread wants to send, and to whom; whether it waits for the reply
-pub record Sending : Type 0 where
-  pub msg : MsgId
-  pub to : ThreadId
-  pub call : Call
-  pub flags : Flags
-  pub sync : Bool
-
 -- a send without leave to drop or to abort, and without priority
 abbrev pub plain_flags : Flags
 plain_flags = record { dropable = false; abortable = false; priority = false }
+
+-- whether a message is a thread's own, and at rest
+abbrev pub may_send : ℕ → ℕ → Plain → MsgId → Bool
+may_send c k p msg = option_map_or (λ l. is_of c k l && is_rest l.word.state) (slice_get p.letters msg.0) false
 
 -- why a send is refused before its lane is looked at: no such port, a synchronous send to itself, a message that isn't the thread's own or
 -- is away
@@ -51,7 +48,7 @@ abbrev pub send_refusal : ℕ → ℕ → Plain → Sending → Option Fault
 send_refusal c k p s =
     if not (nat_lt s.to.cpu.0 (length p.cpus) && nat_lt s.to.thread PORTS) then Some NoPort
     else (if s.sync && (s.to.cpu.0 == c && s.to.thread == k) then Some SelfDo
-    else (if option_map_or (λ l. is_of c k l && is_rest l.word.state) (slice_get p.letters s.msg.0) false then None
+    else (if may_send c k p s.msg then None
     else Some NotOwner))
 
 -- a message that goes out over a lane that has room
@@ -86,9 +83,12 @@ abbrev pub replies_over : ℕ → Plain → MsgId → ℕ → ℕ → Letter →
 replies_over c p msg error outcome l =
     if has_room (lane_at p c l.origin.cpu.0) then mailed (replies c msg error outcome l p) (Runs Done) else refused p LaneFull
 
+-- the message of a number that a thread was shown, and hasn't replied to
+abbrev pub shown_letter : ℕ → ℕ → Plain → MsgId → Option Letter
+shown_letter c k p msg = option_and_then (λ l. if is_shown_to c k l then Some l else None) (slice_get p.letters msg.0)
+
 abbrev pub reply : ℕ → ℕ → Plain → MsgId → ℕ → ℕ → Mailed
-reply c k p msg error outcome =
-    option_map_or (λ l. if is_shown_to c k l then replies_over c p msg error outcome l else refused p NotTaken) (slice_get p.letters msg.0) (refused p NotTaken)
+reply c k p msg error outcome = option_map_or (replies_over c p msg error outcome) (shown_letter c k p msg) (refused p NotTaken)
 
 -- lwkt_abortmsg (own: a request alone)
 abbrev pub abort_refusal : ℕ → ℕ → Letter → Option Fault
@@ -106,8 +106,7 @@ abort c k p msg =
 -- whether a message that the thread was shown is to be aborted (own)
 abbrev pub is_aborted : ℕ → ℕ → Plain → MsgId → Mailed
 is_aborted c k p msg =
-    option_map_or (λ l. if is_shown_to c k l then mailed p (Runs (Value (if l.word.aborted then 1 else 0))) else refused p NotTaken)
-    (slice_get p.letters msg.0) (refused p NotTaken)
+    option_map_or (λ l. mailed p (Runs (Value (if l.word.aborted then 1 else 0)))) (shown_letter c k p msg) (refused p NotTaken)
 
 -- lwkt_dropmsg (own: by the origin, before the message is taken)
 abbrev pub drop_refusal : ℕ → ℕ → Letter → Option Fault

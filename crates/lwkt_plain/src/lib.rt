@@ -13,6 +13,7 @@ mod letter_moves;
 pub mod letters;
 pub mod nexts;
 mod places;
+pub mod tokens;
 pub mod states;
 
 pub use items::Items;
