@@ -1,5 +1,5 @@
 -- A turn of a processor: what a script means (token(9), msgport(9); the search for a thread and its order own).
-use Rattle.std.specs.Prelude.{ℕ, ◌+◌, ◌-◌, ◌==◌, ◌&&◌, nat_lt, Bool, true, false, if◌then◌else◌, List, [], ◌∷◌, ◌++◌, length, take, fold, filter, Option, Some, None, option_and_then, is_some, slice_get}
+use Rattle.std.specs.Prelude.{◌≡◌, ◌≤◌, ℕ, ◌+◌, ◌-◌, ◌==◌, not, ◌&&◌, nat_lt, Bool, true, false, if◌then◌else◌, List, [], ◌∷◌, ◌++◌, length, take, fold, filter, Option, Some, None, option_and_then, is_some, slice_get}
 use Rattle.std.specs.List.{range_with_len}
 use Rattle.std.specs.Option.{option_map_or}
 use Rattle.lwkt_base.specs.declared.names.CpuId.{CpuId}
@@ -36,12 +36,17 @@ use Rattle.lwkt_plain.specs.declared.states.Phase.TheVariants.{Live, AwaitsItem,
 use Rattle.lwkt_plain.specs.declared.states.Plain.{Plain}
 use Rattle.lwkt_plain.specs.declared.states.Processor.{Processor}
 use Rattle.lwkt_plain.specs.declared.states.Thread.{Thread}
+use Rattle.lwkt_plain.specs.Sound.{AreHeld}
 use Rattle.lwkt_plain.specs.Tokens.{Tried, gives, resume}
 use Rattle.lwkt_plain.specs.TokenAsks.{Asked, get, try_get, rel, swapped, read, write, add, read_blob, write_blob}
 use Rattle.lwkt_plain.specs.Letters.{left_by}
 use Rattle.lwkt_plain.specs.Mailing.{Mailed, send, do_msg, reply, abort, is_aborted, drop_msg, get_port, wait_port}
 use Rattle.lwkt_plain.specs.Places.{cpu_at, thread_at, with_cpu, with_thread, with_letter, with_tokens}
 use Rattle.lwkt_plain.specs.Intakes.{below, has_ended, takes_mail}
+
+-- the list of the thread of a number
+abbrev pub list_at : Plain → ℕ → ℕ → List Ref
+list_at p c k = option_map_or (λ (t : Thread). t.list) (thread_at p c k) []
 
 -- a thread ends: it has no list any more, and what it was shown is owed a reply
 abbrev pub ended_by : Phase → Thread → Thread
@@ -77,13 +82,17 @@ missed_by c k p at Worn = ends c k (Faulted WornOut) p
 abbrev pub after_try : ℕ → ℕ → Plain → Tried → Found
 after_try c k p tried = option_map_or (λ (m : Missed). found (missed_by c k (with_tokens tried.tokens p) m.at m.why) None) tried.missed (found (with_tokens tried.tokens p) (Some k))
 
--- a thread is tried, if it is ready and isn't refused still
-abbrev pub tries_in : Phase → ℕ → ℕ → Plain → Thread → Found
-tries_in Live c k p t = if is_still_busy p.tokens t then found p None else after_try c k p (resume (record { 0 = c }) p.tokens t.list)
-tries_in _ c k p t = found p None
+-- whether the list of a thread is tried
+abbrev pub may_try_in : Phase → List Token → Thread → Bool
+may_try_in Live tokens t = not (is_still_busy tokens t)
+may_try_in _ tokens t = false
 
+abbrev pub may_try : Plain → ℕ → ℕ → Bool
+may_try p c k = option_map_or (λ t. may_try_in t.phase p.tokens t) (thread_at p c k) false
+
+-- a thread is tried, if it is ready and isn't refused still
 abbrev pub tries : ℕ → ℕ → Plain → Found
-tries c k p = option_map_or (λ t. tries_in t.phase c k p t) (thread_at p c k) (found p None)
+tries c k p = if may_try p c k then after_try c k p (resume (record { 0 = c }) p.tokens (list_at p c k)) else found p None
 
 -- the threads of these numbers are tried, up to the first whose list is held
 unfoldable pub finds : ℕ → Plain → List ℕ → Found
@@ -133,10 +142,6 @@ asks program t = record t { busy = None; local = (next_of program t).1; asked = 
 -- a thread is polled
 abbrev pub polled : Program → Thread → Thread
 polled program t = asks program (heard program t)
-
--- the list of the thread of a number
-abbrev pub list_at : Plain → ℕ → ℕ → List Ref
-list_at p c k = option_map_or (λ (t : Thread). t.list) (thread_at p c k) []
 
 -- the state after an ask was performed, and what comes next
 pub record Performed : Type 0 where
@@ -233,6 +238,18 @@ abbrev pub turn : Script → Plain → ℕ → Plain
 turn script p c =
     let x = chooses c (takes_mail c p) in
     option_map_or (polls_at script c x.plain) x.place x.plain
+
+-- no thread of a processor runs; and this one does
+abbrev pub IsIdle : Plain → ℕ → Type 0
+IsIdle p c = (cpu_at p c).running ≡ None
+
+abbrev pub IsRunning : Plain → ℕ → ℕ → Type 0
+IsRunning p c k = (cpu_at p c).running ≡ Some k
+
+-- what a thread gives up is what its processor holds
+abbrev pub MayGoOn : Plain → ℕ → ℕ → Next → Type 0
+MayGoOn p c k (Runs answer) = Unit {0}
+MayGoOn p c k (Leaves held phase) = (held ≤ length (list_at p c k)) × AreHeld c (take held (list_at p c k)) p.tokens
 
 -- the turns of an order
 abbrev pub run : Script → Plain → List ℕ → Plain

@@ -11,10 +11,15 @@ pub mod items;
 mod lanes;
 mod letter_moves;
 pub mod letters;
+mod mailing;
 pub mod nexts;
+mod openings;
 mod places;
-pub mod tokens;
+mod polls;
 pub mod states;
+mod token_asks;
+pub mod tokens;
+mod turns;
 
 pub use items::Items;
 pub use letters::{Hands, Lane, Letter, Note, NoteKind, Port};

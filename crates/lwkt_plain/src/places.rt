@@ -1,13 +1,14 @@
 //! The parts of a state by number.
-ghost use Rattle.std.specs.Prelude.{◌≡◌, ◌<◌, drop, length, IfOk, OnOk, Option, Some, None, option_map, slice_get, slice_index_or};
+ghost use Rattle.std.specs.Prelude.{◌≡◌, ◌<◌, ◌+◌, drop, length, IfOk, OnOk, Option, Some, None, option_map, slice_get, slice_index_or};
 ghost use Rattle.std.specs.Option.{option_copied, option_map_or};
 ghost use Rattle.lwkt_core.specs.Machine.{changed};
 ghost use Rattle.lwkt_plain.specs.Letters.{replied, come_home, handled, aborted, left_by};
-ghost use Rattle.lwkt_plain.specs.Places.{moved, has_room, pushed, with_lane, with_letter, with_port, with_thread, lane_at, port_at, thread_at, cpu_at, empty_lane, empty_port};
+ghost use Rattle.lwkt_plain.specs.Places.{moved, has_room, pushed, with_lane, with_letter, with_cpu, with_port, with_thread, lane_at, port_at, thread_at, cpu_at, empty_lane, empty_port};
 ghost use Rattle.lwkt_plain.specs.Intakes.{posts, has_space, queued, first_note, without_note, without_first, keeps, gets, hears_from};
+ghost use Rattle.lwkt_plain.specs.Turns.{ended_by, rests};
 
 use crate::letters::{Letter, Note};
-use crate::states::{Phase, Plain, Processor, Thread};
+use crate::states::{BusyAt, Phase, Plain, Processor, Thread};
 use lwkt_base::{Answer, Item, MsgId, OutOfMemory};
 
 impl Thread {
@@ -131,6 +132,43 @@ impl Processor {
         if k < self.threads.len() {
             let thread = self.threads.at(k);
             thread.hear_from(msg, letter);
+        }
+    }
+
+    fn end_thread(&mut self, k: usize, phase: Phase)
+        ensures { self.new ≡ record self.old { threads = changed (ended_by phase) self.old.threads k } }
+    {
+        if k < self.threads.len() {
+            let thread = self.threads.at(k);
+            thread.end(phase);
+        }
+    }
+
+    fn keep_busy(&mut self, k: usize, busy: BusyAt)
+        ensures { self.new ≡ record self.old { threads = changed (λ t. record t { busy = Some busy }) self.old.threads k } }
+    {
+        if k < self.threads.len() {
+            let thread = self.threads.at(k);
+            thread.busy = Some(busy);
+        }
+    }
+
+    fn put_phase(&mut self, k: usize, phase: Phase)
+        ensures { self.new ≡ record self.old { threads = changed (λ t. record t { phase = phase; last = Answer.Done }) self.old.threads k } }
+    {
+        if k < self.threads.len() {
+            let thread = self.threads.at(k);
+            thread.phase = phase;
+            thread.last = Answer::Done;
+        }
+    }
+
+    fn put_answer(&mut self, k: usize, answer: Answer)
+        ensures { self.new ≡ record self.old { threads = changed (λ t. record t { last = answer }) self.old.threads k } }
+    {
+        if k < self.threads.len() {
+            let thread = self.threads.at(k);
+            thread.last = answer;
         }
     }
 
@@ -267,6 +305,68 @@ impl Plain {
         }
     }
 
+    /// Ends a thread.
+    pub(crate) fn end_thread(&mut self, c: usize, k: usize, phase: Phase)
+        ensures { self.new ≡ with_thread (ended_by phase) c k self.old }
+    {
+        if c < self.cpus.len() {
+            let cpu = self.cpus.at(c);
+            cpu.end_thread(k, phase);
+        }
+    }
+
+    /// Keeps the word that refused a thread's list.
+    pub(crate) fn keep_busy(&mut self, c: usize, k: usize, busy: BusyAt)
+        ensures { self.new ≡ with_thread (λ t. record t { busy = Some busy }) c k self.old }
+    {
+        if c < self.cpus.len() {
+            let cpu = self.cpus.at(c);
+            cpu.keep_busy(k, busy);
+        }
+    }
+
+    /// Puts a thread into a phase.
+    pub(crate) fn put_phase(&mut self, c: usize, k: usize, phase: Phase)
+        ensures { self.new ≡ with_thread (λ t. record t { phase = phase; last = Answer.Done }) c k self.old }
+    {
+        if c < self.cpus.len() {
+            let cpu = self.cpus.at(c);
+            cpu.put_phase(k, phase);
+        }
+    }
+
+    /// Keeps an answer for a thread.
+    pub(crate) fn put_answer(&mut self, c: usize, k: usize, answer: Answer)
+        ensures { self.new ≡ with_thread (λ t. record t { last = answer }) c k self.old }
+    {
+        if c < self.cpus.len() {
+            let cpu = self.cpus.at(c);
+            cpu.put_answer(k, answer);
+        }
+    }
+
+    /// No thread of a processor runs.
+    pub(crate) fn rest(&mut self, c: usize)
+        ensures { self.new ≡ rests c self.old }
+    {
+        if c < self.cpus.len() {
+            let cpu = self.cpus.at(c);
+            cpu.running = None;
+        }
+    }
+
+    /// A thread of a processor runs, and the next search begins behind it.
+    pub(crate) fn run_on(&mut self, c: usize, k: usize)
+        requires { k < usize.MAX }
+        ensures { self.new ≡ with_cpu (λ cpu. record cpu { running = Some k; cursor = k + 1 }) c self.old }
+    {
+        if c < self.cpus.len() {
+            let cpu = self.cpus.at(c);
+            cpu.running = Some(k);
+            cpu.cursor = k + 1;
+        }
+    }
+
     /// What a thread is doing, if it is there.
     pub(crate) fn phase(&self, c: usize, k: usize) -> Option<Phase>
         ensures { result ≡ option_map (λ t. t.phase) (thread_at self.now c k) }
@@ -326,6 +426,16 @@ impl Plain {
         if m < self.letters.len() {
             let own = self.letters.at(m);
             *own = own.aborted();
+        }
+    }
+
+    /// What a message becomes as a thread ends.
+    pub(crate) fn leave_letter(&mut self, c: usize, k: usize, m: usize)
+        ensures { self.new ≡ with_letter (left_by c k) m self.old }
+    {
+        if m < self.letters.len() {
+            let own = self.letters.at(m);
+            *own = own.left_by(c, k);
         }
     }
 
