@@ -1,7 +1,8 @@
 -- Folds over the numbers below one.
-use Rattle.std.proofs.Common.{◌≡◌, ℕ, zero, suc, ◌+◌, ap, ◌∙◌, sym, refl, add-zero, arith, List, [], ◌∷◌}
+use Rattle.std.proofs.Common.{◌≡◌, ℕ, zero, suc, ◌+◌, ap, ◌∙◌, sym, refl, add-zero, arith, List, [], ◌∷◌, ◌++◌, map}
 use Rattle.std.specs.Prelude.{fold}
 use Rattle.std.specs.List.{range_with_len}
+use Rattle.std.proofs.lemmas.List.FromFn.{map-range_with_len_more}
 use Rattle.lwkt_plain.specs.Intakes.{below}
 
 fold_on : {B : Type 0} (f : B → ℕ → B) (z : B) (a n : ℕ) → fold f z (range_with_len a (suc n)) ≡ f (fold f z (range_with_len a n)) (a + n)
@@ -22,6 +23,15 @@ fold_more f z n =
     let e : n + 1 ≡ suc n = omega arith in
     let d : 0 + n ≡ n = omega arith in
     ap (λ m. fold f z (range_with_len 0 m)) e ∙ fold_on f z 0 n ∙ ap (f (fold f z (range_with_len 0 n))) d
+
+-- the same of a list by number
+pub map_none : {A : Type 0} (f : ℕ → A) → map f (below 0) ≡ []
+unfolding below
+map_none f = refl
+
+pub map_more : {A : Type 0} (f : ℕ → A) (n : ℕ) → map f (below (n + 1)) ≡ map f (below n) ++ f n ∷ []
+unfolding below
+map_more f n = map-range_with_len_more f 0 n n (omega arith)
 
 -- a fold keeps what each step keeps
 pub fold_keeps : {B C : Type 0} (g : B → C) (f : B → ℕ → B) → ((b : B) (n : ℕ) → g (f b n) ≡ g b) → (z : B) (xs : List ℕ) → g (fold f z xs) ≡ g z

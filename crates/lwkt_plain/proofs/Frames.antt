@@ -1,9 +1,9 @@
 -- The intake of mail leaves tokens, rounds and lists as they are.
-use Rattle.std.proofs.Common.{◌≡◌, ℕ, zero, suc, ◌<◌, ◌≤◌, List, [], ◌∷◌, length, get_or, map, ap, ◌∙◌, refl, sym, subst, arith, inl, inr, Option, Some, None, Bool, true, false, length-map}
+use Rattle.std.proofs.Common.{◌≡◌, ℕ, zero, suc, ◌<◌, ◌≤◌, List, [], ◌∷◌, length, get_or, map, ap, ◌∙◌, refl, sym, subst, arith, inl, inr, Option, Some, None, Bool, true, false}
 use Rattle.std.specs.Prelude.{slice_get, drop, IfSome, All, if◌then◌else◌, fold, ◌==◌}
 use Rattle.std.specs.Option.{option_map_or}
 use Rattle.lwkt_plain.specs.declared.letters.TheConstants.{PORTS}
-use Rattle.std.proofs.lemmas.List.{get_or_past, get_or-map}
+use Rattle.std.proofs.lemmas.List.{get_or_past, get_or-map, length-map}
 use Rattle.std.proofs.lemmas.Bool.{cases_lt}
 use Rattle.std.proofs.lemmas.Option.{slice_get_within, get_or_from_slice_get}
 use Rattle.lwkt_base.specs.declared.names.MsgId.{MsgId}
@@ -164,13 +164,14 @@ handles_frame c k th note p =
     frame_letter (handled c th note) note.msg.0 (with_port without_note c k p) (λ l. handled_round note.kind c th note l) ∙ frame_port without_note c k p
 
 -- ports that are cleared
+cleared_frame : (c k m : ℕ) (p : Plain) → ((q : Plain) → frame (clears_port c k m q).plain ≡ frame q) → (o : Option Note) → frame (on_cleared c k m p o).plain ≡ frame p
+cleared_frame c k m p ih None = refl
+cleared_frame c k m p ih (Some note) = ih (handles c k None note p) ∙ handles_frame c k None note p
+
 clears_port_frame : (n c k : ℕ) (p : Plain) → frame (clears_port c k n p).plain ≡ frame p
 clears_port_frame zero c k p = ap (λ (i : Intake). frame i.plain) (clears_zero c k p)
-clears_port_frame (suc m) c k p = ap (λ (i : Intake). frame i.plain) (cleared c k (suc m) m p refl) ∙ go (first_note (port_at p c k))
-  where
-    go : (o : Option Note) → frame (on_cleared c k m p o).plain ≡ frame p
-    go None = refl
-    go (Some note) = clears_port_frame m c k (handles c k None note p) ∙ handles_frame c k None note p
+clears_port_frame (suc m) c k p =
+    ap (λ (i : Intake). frame i.plain) (cleared c k (suc m) m p refl) ∙ cleared_frame c k m p (clears_port_frame m c k) (first_note (port_at p c k))
 
 clears_if : (b : Bool) (c k : ℕ) (i : Intake) → frame (if b then clears_port c k i.left i.plain else i).plain ≡ frame i.plain
 clears_if true c k i = clears_port_frame i.left c k i.plain
@@ -182,17 +183,18 @@ clears_all_frame c p =
     fold_keeps (λ (i : Intake). frame i.plain) (clears c) (λ i k. clears_if (is_closed c k i.plain) c k i) (intake CLEARED_AT_ONCE p) (below PORTS)
 
 -- a port that is looked at
+shown_frame : (c k m : ℕ) (p : Plain) (note : Note) → ((q : Plain) → frame (looks_within m c k q).plain ≡ frame q) → (o : Option Item) → frame (on_shown c k m p note o).plain ≡ frame p
+shown_frame c k m p note ih None = ih (handles c k (Some k) note p) ∙ handles_frame c k (Some k) note p
+shown_frame c k m p note ih (Some item) = handles_frame c k (Some k) note p
+
+served_frame : (c k m : ℕ) (p : Plain) → ((q : Plain) → frame (looks_within m c k q).plain ≡ frame q) → (o : Option Note) → frame (on_served c k m p o).plain ≡ frame p
+served_frame c k m p ih None = refl
+served_frame c k m p ih (Some note) = shown_frame c k m p note ih (shown_by c note p)
+
 looks_within_frame : (n c k : ℕ) (p : Plain) → frame (looks_within n c k p).plain ≡ frame p
 looks_within_frame zero c k p = ap (λ (x : Looked). frame x.plain) (within_zero c k p)
-looks_within_frame (suc m) c k p = ap (λ (x : Looked). frame x.plain) (within (suc m) m c k p refl) ∙ go (first_note (port_at p c k))
-  where
-    show : (note : Note) (o : Option Item) → frame (on_shown c k m p note o).plain ≡ frame p
-    show note None = looks_within_frame m c k (handles c k (Some k) note p) ∙ handles_frame c k (Some k) note p
-    show note (Some item) = handles_frame c k (Some k) note p
-
-    go : (o : Option Note) → frame (on_served c k m p o).plain ≡ frame p
-    go None = refl
-    go (Some note) = show note (shown_by c note p)
+looks_within_frame (suc m) c k p =
+    ap (λ (x : Looked). frame x.plain) (within (suc m) m c k p refl) ∙ served_frame c k m p (looks_within_frame m c k) (first_note (port_at p c k))
 
 pub looks_frame : (c k : ℕ) (p : Plain) → frame (looks c k p).plain ≡ frame p
 looks_frame c k p = looks_within_frame (notes_in (port_at p c k)) c k p

@@ -1,3 +1,4 @@
+pub mod AskMoves
 pub mod Changes
 pub mod Folds
 pub mod Frames
@@ -5,5 +6,6 @@ pub mod Givings
 pub mod Holdings
 pub mod LawTests
 pub mod Receipts
+pub mod Soundness
 pub mod Takings
 pub mod TokenSteps

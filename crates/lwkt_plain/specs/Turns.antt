@@ -227,7 +227,7 @@ goes_on cpu k p (Leaves held phase) = becomes cpu.0 k (if breaks cpu k held p th
 -- a thread is polled once, and its ask is performed
 abbrev pub polls_thread : CpuId → ℕ → Plain → Program → Thread → Plain
 polls_thread cpu k p program t =
-    let x = performs cpu k (with_thread (λ old. polled program t) cpu.0 k p) (next_of program t).0 in
+    let x = performs cpu k (with_thread (polled program) cpu.0 k p) (next_of program t).0 in
     goes_on cpu k x.plain x.next
 
 abbrev pub polls_at : Script → ℕ → Plain → ℕ → Plain

@@ -133,6 +133,7 @@ fn opened_cpu(alloc: Global, script: &Script, c: usize) -> Result<Processor, Out
     })
 }
 
+#[tactic(auto, using(crate::proofs::Folds::map_more, crate::proofs::Folds::map_none))]
 fn opened_cpus(alloc: Global, script: &Script) -> Result<Items<Processor>, OutOfMemory>
     ensures { IfOk result (λ cpus. cpus ≡ map (opened_cpu script.now) (below script.now.cpus)) }
 {
