@@ -1,9 +1,10 @@
 -- References given back, as events.
-use Rattle.std.proofs.Common.{◌≡◌, ◌≢◌, ◌<◌, ◌≤◌, ◌+◌, ℕ, zero, suc, List, [], ◌∷◌, ◌++◌, length, get_or, set, refl, ap, sym, ◌∙◌, subst, arith, Option, Some, None, Bool, true, false, length-set, append_assoc}
-use Rattle.std.specs.Prelude.{slice_get, All, IsSomeAnd, if◌then◌else◌, ◌==◌, ◌&&◌, not, bytes_eq, sum_by}
+use Rattle.std.proofs.Common.{◌≡◌, ◌≢◌, ◌<◌, ◌≤◌, ◌+◌, ℕ, zero, suc, List, [], ◌∷◌, ◌++◌, length, get_or, set, refl, ap, sym, ◌∙◌, subst, arith, Option, Some, None, true, false, length-set, append_assoc, take, drop, ◌-◌, Bool}
+use Rattle.std.specs.Prelude.{slice_get, All, IsSomeAnd, if◌then◌else◌, ◌==◌, ◌&&◌, ◌||◌, not, bytes_eq, sum_by}
 use Rattle.std.specs.Option.{option_map_or, option_eq}
 use Rattle.std.proofs.lemmas.Bool.{eqb-true, false≢true, and_parts}
-use Rattle.std.proofs.lemmas.List.{set-set, append-nil}
+use Rattle.std.proofs.lemmas.List.{set-set, append-nil, take-append-drop, take_more}
+use Rattle.std.proofs.Math.Seq.{drop-cons}
 use Rattle.std.proofs.lemmas.List.Elements.{All-set}
 use Rattle.std.proofs.lemmas.List.Sums.{sum_by-set}
 use Rattle.std.proofs.lemmas.Option.{slice_get_within, get_or_from_slice_get, none-some}
@@ -140,7 +141,7 @@ giving_cpu cpu t tok = giving_so (λ e. cpu_of e ≡ cpu.0) cpu t tok refl refl 
 pub giving_place : (cpu : CpuId) (t : TokId) (tok : Token) → place_of (giving_event cpu t tok) ≡ AtToken t.0
 giving_place cpu t tok = giving_so (λ e. place_of e ≡ AtToken t.0) cpu t tok refl refl refl
 
-giving_adds : (cpu : CpuId) (t : TokId) (tok : Token) → adds_reference (giving_event cpu t tok) ≡ false
+pub giving_adds : (cpu : CpuId) (t : TokId) (tok : Token) → adds_reference (giving_event cpu t tok) ≡ false
 giving_adds cpu t tok = giving_so (λ e. adds_reference e ≡ false) cpu t tok refl refl refl
 
 giving_next : (cpu : CpuId) (t : TokId) (tok : Token) (h : Held) → held_next (giving_event cpu t tok) h ≡ one_less h
@@ -260,3 +261,25 @@ gives_keeps tokens cpu front (r ∷ refs) here sound held =
     let mid = (gives cpu tokens refs).tokens in
     let last = give_keeps mid cpu front r here rest.0.sound rest.1 in
     subst S (sym (gives_more cpu tokens r refs)) (keeps_both cpu.0 tokens mid (changed (given cpu r.tok) mid r.tok.0) rest.0 last.0, last.1)
+
+-- as references are given back, from the last one on
+pub give_state : (cpu : CpuId) (old now : List Token) (refs : List Ref) (left : ℕ) (broken : Bool) → cpu.0 < CPU_LIMIT → AreSoundTokens old → AreHeld cpu.0 refs old → gave now broken ≡ gives cpu old (drop left refs) → KeepsTokens cpu.0 old now × AreHeld cpu.0 (take left refs) now
+give_state cpu old now refs left broken here sound held is =
+    let kept = gives_keeps old cpu (take left refs) (drop left refs) here sound (subst (λ (all : List Ref). AreHeld cpu.0 all old) (sym (take-append-drop left refs)) held) in
+    subst (λ (ts : List Token). KeepsTokens cpu.0 old ts × AreHeld cpu.0 (take left refs) ts) (sym (ap (λ (g : Gave). g.tokens) is)) kept
+
+pub give_holds : (c : ℕ) (now : List Token) (refs : List Ref) (left : ℕ) (d : Ref) → AreHeld c (take left refs) now → 0 < left → left ≤ length refs → is_held (holding_in now c (get_or refs (left - 1) d).tok.0) ≡ true
+give_holds c now refs left d held some within =
+    let e : left - 1 + 1 ≡ left = omega arith in
+    let split : take left refs ≡ take (left - 1) refs ++ get_or refs (left - 1) d ∷ [] =
+    ap (λ (n : ℕ). take n refs) (sym e) ∙ take_more refs (left - 1) d (omega arith) in
+    ap is_held (held (get_or refs (left - 1) d).tok.0)
+    ∙ ap (λ (all : List Ref). is_held (holding_of all (get_or refs (left - 1) d).tok.0)) split
+    ∙ last_held (take (left - 1) refs) (get_or refs (left - 1) d)
+
+pub give_step : (cpu : CpuId) (old now : List Token) (refs : List Ref) (left : ℕ) (broken : Bool) (d : Ref) → 0 < left → left ≤ length refs → gave now broken ≡ gives cpu old (drop left refs) → gives cpu old (drop (left - 1) refs) ≡ give cpu (gave now broken) (get_or refs (left - 1) d)
+give_step cpu old now refs left broken d some within is =
+    let e : suc (left - 1) ≡ left = omega arith in
+    let split : drop (left - 1) refs ≡ get_or refs (left - 1) d ∷ drop left refs =
+    drop-cons refs (left - 1) d (omega arith) ∙ ap (λ (n : ℕ). get_or refs (left - 1) d ∷ drop n refs) e in
+    ap (gives cpu old) split ∙ gives_more cpu old (get_or refs (left - 1) d) (drop left refs) ∙ ap (λ (g : Gave). give cpu g (get_or refs (left - 1) d)) (sym is)

@@ -15,16 +15,9 @@ use Rattle.lwkt_base.specs.Law.{Obeys, IsTallied}
 use Rattle.lwkt_plain.specs.Tokens.{obeys, do_not_fall}
 
 -- cells that don't fall
-falls_not : (low : ℕ) (cells : List ℕ) → do_not_fall low cells ≡ true → All (λ (x : ℕ). low ≤ x) cells × IsNonDecreasing cells
-falls_not low [] is = (λ k d inside. absurd (omega arith), λ i j d le inside. absurd (omega arith))
-falls_not low (x ∷ xs) is = (all, rise)
+falls_on : (low x : ℕ) (xs : List ℕ) → low ≤ x → All (λ (y : ℕ). x ≤ y) xs × IsNonDecreasing xs → All (λ (y : ℕ). low ≤ y) (x ∷ xs) × IsNonDecreasing (x ∷ xs)
+falls_on low x xs first rest = (all, rise)
   where
-    first : low ≤ x
-    first = leb-true low x (and_parts (nat_le low x) (do_not_fall x xs) is).0
-
-    rest : All (λ (y : ℕ). x ≤ y) xs × IsNonDecreasing xs
-    rest = falls_not x xs (and_parts (nat_le low x) (do_not_fall x xs) is).1
-
     all : All (λ (y : ℕ). low ≤ y) (x ∷ xs)
     all zero d inside = first
     all (suc k) d inside = (let more : x ≤ get_or xs k d = rest.0 k d (omega arith) in omega (arith, more, first))
@@ -34,6 +27,12 @@ falls_not low (x ∷ xs) is = (all, rise)
     rise zero (suc j) d le inside = rest.0 j d (omega arith)
     rise (suc i) zero d le inside = absurd (omega arith)
     rise (suc i) (suc j) d le inside = rest.1 i j d (omega arith) (omega arith)
+
+falls_not : (low : ℕ) (cells : List ℕ) → do_not_fall low cells ≡ true → All (λ (x : ℕ). low ≤ x) cells × IsNonDecreasing cells
+falls_not low [] is = (λ k d inside. absurd (omega arith), λ i j d le inside. absurd (omega arith))
+falls_not low (x ∷ xs) is =
+    let parts = and_parts (nat_le low x) (do_not_fall x xs) is in
+    falls_on low x xs (leb-true low x parts.0) (falls_not x xs parts.1)
 
 and_from : (a b : Bool) → a ≡ true → b ≡ true → (a && b) ≡ true
 and_from true true one other = refl

@@ -1,4 +1,6 @@
 pub mod AskMoves
+pub mod AskNeeds
+pub mod AskSound
 pub mod Changes
 pub mod Folds
 pub mod Frames

@@ -239,10 +239,13 @@ not_held : (h : Held) → is_held h ≡ false → h ≡ Nothing
 not_held Nothing is = refl
 not_held (Holds mode further) is = absurd (false≢true (sym is))
 
-missed_not : (tokens : List Token) (refs front : List Ref) (r : Ref) (tok : Token) → slice_get tokens r.tok.0 ≡ Some tok → names front r.tok.0 ≡ false → miss_of tokens refs front r ≡ None → refusal (picture_of tok) (decision (picture_of tok) r.mode (is_alone refs r.tok.0)) ≡ None
-missed_not tokens refs front r tok at unnamed none =
+pub miss_is : (tokens : List Token) (refs front : List Ref) (r : Ref) (tok : Token) → slice_get tokens r.tok.0 ≡ Some tok → names front r.tok.0 ≡ false → miss_of tokens refs front r ≡ refusal (picture_of tok) (decision (picture_of tok) r.mode (is_alone refs r.tok.0))
+miss_is tokens refs front r tok at unnamed =
     let F : Bool → Option Token → Option Miss = λ b o. if b then None else option_and_then (λ (t : Token). refusal (picture_of t) (decision (picture_of t) r.mode (is_alone refs r.tok.0))) o in
-    sym (ap (λ (b : Bool). F b (slice_get tokens r.tok.0)) unnamed ∙ ap (F false) at) ∙ none
+    ap (λ (b : Bool). F b (slice_get tokens r.tok.0)) unnamed ∙ ap (F false) at
+
+missed_not : (tokens : List Token) (refs front : List Ref) (r : Ref) (tok : Token) → slice_get tokens r.tok.0 ≡ Some tok → names front r.tok.0 ≡ false → miss_of tokens refs front r ≡ None → refusal (picture_of tok) (decision (picture_of tok) r.mode (is_alone refs r.tok.0)) ≡ None
+missed_not tokens refs front r tok at unnamed none = sym (miss_is tokens refs front r tok at unnamed) ∙ none
 
 taking_needs : (tok : Token) (cpu : CpuId) (t : TokId) (mode : Mode) (alone : Bool) → cpu.0 < CPU_LIMIT → IsSafeToken CPU_LIMIT tok → held_by tok cpu.0 ≡ Nothing → refusal (picture_of tok) (decision (picture_of tok) mode alone) ≡ None → TokenNeeds tok (taking cpu t mode)
 taking_needs tok cpu t Exclusive alone here safe nothing none =
@@ -317,3 +320,11 @@ take_keeps tokens cpu refs front r here sound held fits none =
     go : (o : Option Token) → slice_get tokens r.tok.0 ≡ o → r.tok.0 < length tokens → KeepsTokens cpu.0 tokens (stepped tokens (taking_event cpu front r)) × AreHeld cpu.0 (front ++ r ∷ []) (stepped tokens (taking_event cpu front r))
     go None at there = absurd (none_past tokens r.tok.0 at there)
     go (Some tok) at there = main tok at
+
+needs_at : (tokens : List Token) (cpu : CpuId) (refs front : List Ref) (r : Ref) (o : Option Token) → slice_get tokens r.tok.0 ≡ o → r.tok.0 < length tokens → cpu.0 < CPU_LIMIT → AreSoundTokens tokens → AreHeld cpu.0 front tokens → IsSoundList (length tokens) (front ++ r ∷ []) → miss_of tokens refs front r ≡ None → Needs (machine CPU_LIMIT tokens []) (taking_event cpu front r)
+needs_at tokens cpu refs front r None at there here sound held fits none = absurd (none_past tokens r.tok.0 at there)
+needs_at tokens cpu refs front r (Some tok) at there here sound held fits none = take_needs tokens cpu refs front r tok here sound at held fits none
+
+pub may_take : (tokens : List Token) (cpu : CpuId) (refs front : List Ref) (r : Ref) → cpu.0 < CPU_LIMIT → AreSoundTokens tokens → AreHeld cpu.0 front tokens → IsSoundList (length tokens) (front ++ r ∷ []) → miss_of tokens refs front r ≡ None → Needs (machine CPU_LIMIT tokens []) (taking_event cpu front r)
+may_take tokens cpu refs front r here sound held fits none =
+    needs_at tokens cpu refs front r (slice_get tokens r.tok.0) refl (front_fits (length tokens) front r fits).2 here sound held fits none

@@ -246,10 +246,19 @@ IsIdle p c = (cpu_at p c).running ≡ None
 abbrev pub IsRunning : Plain → ℕ → ℕ → Type 0
 IsRunning p c k = (cpu_at p c).running ≡ Some k
 
+-- the references of a list that are held before what comes next comes: all, or those that are given up
+abbrev pub still_held : Next → List Ref → List Ref
+still_held (Runs answer) refs = refs
+still_held (Leaves held phase) refs = take held refs
+
+abbrev pub GivesWithin : Next → ℕ → Type 0
+GivesWithin (Runs answer) count = Unit {0}
+GivesWithin (Leaves held phase) count = held ≤ count
+
 -- what a thread gives up is what its processor holds
-abbrev pub MayGoOn : Plain → ℕ → ℕ → Next → Type 0
-MayGoOn p c k (Runs answer) = Unit {0}
-MayGoOn p c k (Leaves held phase) = (held ≤ length (list_at p c k)) × AreHeld c (take held (list_at p c k)) p.tokens
+pub record MayGoOn (p : Plain) (c k : ℕ) (next : Next) : Type 0 where
+  pub held : AreHeld c (still_held next (list_at p c k)) p.tokens
+  pub within : GivesWithin next (length (list_at p c k))
 
 -- the turns of an order
 abbrev pub run : Script → Plain → List ℕ → Plain

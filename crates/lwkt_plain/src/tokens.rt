@@ -1,9 +1,10 @@
 //! The tokens of a state: references of lists, taken and given back.
-ghost use Rattle.std.specs.Prelude.{◌≡◌, ◌<◌, ◌≤◌, ◌++◌, ◌∷◌, [], ◌↔◌, IsTrue, false, Option, Some, None, List, length, true, slice_get};
+ghost use Rattle.std.specs.Prelude.{◌≡◌, ◌<◌, ◌≤◌, ◌++◌, ◌∷◌, [], ◌↔◌, IsTrue, false, Option, Some, None, List, length, true, slice_get, sum_by, ◌^◌};
+ghost use Rattle.std.specs.List.{list_any};
 ghost use Rattle.std.specs.Option.{option_map_or};
 ghost use Rattle.lwkt_base.specs.declared.limits.TheConstants.{CPU_LIMIT, CELL_LIMIT};
 ghost use Rattle.lwkt_base.specs.declared.names.Ref.{Ref};
-ghost use Rattle.lwkt_base.specs.Holding.{is_held};
+ghost use Rattle.lwkt_base.specs.Holding.{is_held, is_exclusive};
 ghost use Rattle.lwkt_base.specs.Refs.{names, is_alone};
 ghost use Rattle.lwkt_base.specs.TokenWord.{Fits, word_of, in_word};
 ghost use Rattle.lwkt_base.specs.declared.words.TokWord.{TokWord};
@@ -33,6 +34,21 @@ fn count_of(held: Held) -> u16
     }
 }
 
+// The count of a token's word.
+fn count_in(token: &Token) -> u16
+    requires { sum_by count_of_held token.now.holders < 2 ^ 16 }
+    ensures { result ≡ sum_by count_of_held token.now.holders }
+{
+    token.holders.iter().map(|held| count_of(*held)).sum()
+}
+
+// Whether somebody holds a token exclusively.
+fn is_taken(token: &Token) -> bool
+    ensures { result ≡ list_any is_exclusive token.now.holders }
+{
+    token.holders.iter().any(|held| held.is_exclusive())
+}
+
 // The parts of a token's word.
 fn parts_of(token: &Token) -> TokWord
     requires { Fits (picture_of token.now) }
@@ -40,8 +56,8 @@ fn parts_of(token: &Token) -> TokWord
 {
     TokWord {
         generation: token.generation,
-        count: token.holders.iter().map(|held| count_of(*held)).sum(),
-        exclusive: token.holders.iter().any(|held| held.is_exclusive()),
+        count: count_in(token),
+        exclusive: is_taken(token),
         mark: token.mark,
     }
 }
