@@ -1,3 +1,4 @@
+pub mod AskLists
 pub mod AskMoves
 pub mod AskNeeds
 pub mod AskSound
@@ -11,3 +12,4 @@ pub mod Receipts
 pub mod Soundness
 pub mod Takings
 pub mod TokenSteps
+pub mod TurnSound

@@ -167,7 +167,6 @@ impl Plain {
     // Tries the list of a ready thread that isn't refused still. Says whether it is held now.
     fn try_list(&mut self, c: usize, k: usize) -> bool
         requires here { c < length self.old.cpus }
-        requires there { k < length (cpu_at self.old c).threads }
         requires sound { IsSound self.old }
         requires idle { IsIdle self.old c }
         ensures { found self.new (if result then Some k else None) ≡ tries c k self.old }
@@ -187,7 +186,6 @@ impl Plain {
     // The first thread of these numbers whose list is held now.
     fn scan(&mut self, c: usize, from: usize, to: usize) -> Option<usize>
         requires here { c < length self.old.cpus }
-        requires there { to ≤ length (cpu_at self.old c).threads }
         requires sound { IsSound self.old }
         requires idle { IsIdle self.old c }
         ensures { found self.new result ≡ finds c self.old (range_with_len from (to - from)) }
@@ -203,8 +201,6 @@ impl Plain {
     // The first thread from the cursor on, round once, whose list can be held.
     fn search(&mut self, c: usize, cursor: usize, count: usize) -> Option<usize>
         requires here { c < length self.old.cpus }
-        requires there { count ≡ length (cpu_at self.old c).threads }
-        requires within { cursor ≤ count }
         requires sound { IsSound self.old }
         requires idle { IsIdle self.old c }
         ensures { found self.new result ≡ finds c self.old (round_from cursor count) }
