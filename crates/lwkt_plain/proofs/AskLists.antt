@@ -2,7 +2,7 @@
 use Rattle.std.proofs.Common.{◌≡◌, ◌≢◌, ◌<◌, ◌≤◌, ◌+◌, ◌-◌, ◌⊎◌, ◌↔◌, ℕ, zero, suc, List, [], ◌∷◌, ◌++◌, length, get_or, take, drop, reverse, refl, ap, sym, ◌∙◌, subst, arith, inl, inr, Option, Some, None, Bool, true, false}
 use Rattle.std.specs.Prelude.{slice_get, All, if◌then◌else◌, ◌==◌, not, nat_lt, Result, Ok, Err}
 use Rattle.std.specs.Option.{option_map_or}
-use Rattle.std.proofs.lemmas.Bool.{eqb-true, eq-eqb, ne_eqb, false≢true, cases_Bool}
+use Rattle.std.proofs.lemmas.Bool.{eqb-true, eq-eqb, ne_eqb, false≢true, cases_Bool, le-ltb, lt-ltb}
 use Rattle.std.proofs.lemmas.List.{length-append, take_at, drop_at, take_more, take_all}
 use Rattle.std.proofs.lemmas.List.Elements.{All-take}
 use Rattle.std.proofs.lemmas.Option.{slice_get_within, get_or_from_slice_get, none-some}
@@ -95,3 +95,66 @@ exchanged_is front a b =
     let e : length front ≡ n = omega (arith, long) in
     ap (λ (xs : List Ref). xs ++ reverse (drop n (front ++ (a ∷ b ∷ [])))) (take_at front (a ∷ b ∷ []) n e)
     ∙ ap (λ (xs : List Ref). front ++ reverse xs) (drop_at front (a ∷ b ∷ []) n e)
+
+-- the numbers of the two last references
+tok_last : (front : List Ref) (a b : Ref) → tok_at (front ++ (a ∷ b ∷ [])) (length front + 1) ≡ Some b.tok.0
+tok_last [] a b = refl
+tok_last (x ∷ xs) a b = ap (λ (n : ℕ). tok_at (x ∷ (xs ++ (a ∷ b ∷ []))) n) (more (length xs)) ∙ tok_last xs a b
+  where
+    more : (n : ℕ) → suc n + 1 ≡ suc (n + 1)
+    more n = omega arith
+
+tok_before : (front : List Ref) (a b : Ref) → tok_at (front ++ (a ∷ b ∷ [])) (length front) ≡ Some a.tok.0
+tok_before [] a b = refl
+tok_before (x ∷ xs) a b = tok_before xs a b
+
+abbrev on_places : List Token → List Ref → Option ℕ → Option ℕ → Asked
+on_places tokens refs last before = if are_same last before then refused tokens refs SwapSame else asked tokens (exchanged refs) (Runs Done)
+
+abbrev on_short : List Token → List Ref → Bool → Asked
+on_short tokens refs b = if b then refused tokens refs SwapShort else on_places tokens refs (tok_at refs (length refs - 1)) (tok_at refs (length refs - 2))
+
+pub not_short : (tokens : List Token) (front : List Ref) (a b : Ref) → swapped tokens (front ++ (a ∷ b ∷ [])) ≡ (if b.tok.0 == a.tok.0 then refused tokens (front ++ (a ∷ b ∷ [])) SwapSame else asked tokens (exchanged (front ++ (a ∷ b ∷ []))) (Runs Done))
+not_short tokens front a b =
+    let refs = front ++ (a ∷ b ∷ []) in
+    let long = two_places front a b in
+    let last : length refs - 1 ≡ length front + 1 = omega (arith, long) in
+    let before : length refs - 2 ≡ length front = omega (arith, long) in
+    let no : nat_lt (length refs) 2 ≡ false = le-ltb (length refs) 2 (omega (arith, long)) in
+    ap (on_short tokens refs) no
+    ∙ ap (λ (o : Option ℕ). on_places tokens refs o (tok_at refs (length refs - 2))) (ap (tok_at refs) last ∙ tok_last front a b)
+    ∙ ap (on_places tokens refs (Some b.tok.0)) (ap (tok_at refs) before ∙ tok_before front a b)
+
+pub swap_ok : (tokens : List Token) (old new : List Ref) → AreExchanged old new → ¬ EndsInOneToken old → swapped tokens old ≡ asked tokens new (Runs Done)
+swap_ok tokens old new is apart =
+    let front = is.0 in
+    let a = is.1.0 in
+    let b = is.1.1.0 in
+    let was = is.1.1.1.0 in
+    let now = is.1.1.1.1 in
+    let differ : b.tok.0 ≢ a.tok.0 = (λ same. apart (front, (a, (b, (was, sym same))))) in
+    ap (swapped tokens) was
+    ∙ not_short tokens front a b
+    ∙ ap (λ (c : Bool). if c then refused tokens (front ++ (a ∷ b ∷ [])) SwapSame else asked tokens (exchanged (front ++ (a ∷ b ∷ []))) (Runs Done)) (ne_eqb b.tok.0 a.tok.0 differ)
+    ∙ ap (λ (refs : List Ref). asked tokens refs (Runs Done)) (exchanged_is front a b ∙ sym now)
+
+swap_same : (tokens : List Token) (old : List Ref) → EndsInOneToken old → swapped tokens old ≡ refused tokens old SwapSame
+swap_same tokens old is =
+    let front = is.0 in
+    let a = is.1.0 in
+    let b = is.1.1.0 in
+    let was = is.1.1.1.0 in
+    let refs = front ++ (a ∷ b ∷ []) in
+    ap (swapped tokens) was
+    ∙ not_short tokens front a b
+    ∙ ap (λ (c : Bool). if c then refused tokens refs SwapSame else asked tokens (exchanged refs) (Runs Done)) (eq-eqb b.tok.0 a.tok.0 (sym is.1.1.1.1))
+    ∙ ap (λ (all : List Ref). refused tokens all SwapSame) (sym was)
+
+unit_fault : (fault other : Fault) → ◌≡◌ {A = Result (Unit {0}) Fault} (Err fault) (Err other) → fault ≡ other
+unit_fault fault other is = cc
+
+pub swap_refused : (tokens : List Token) (old : List Ref) (fault : Fault) → ◌≡◌ {A = Result (Unit {0}) Fault} (Err fault) (Err SwapShort) ↔ (length old < 2) → ◌≡◌ {A = Result (Unit {0}) Fault} (Err fault) (Err SwapSame) ↔ EndsInOneToken old → (◌≡◌ {A = Result (Unit {0}) Fault} (Err fault) (Err SwapShort)) ⊎ (◌≡◌ {A = Result (Unit {0}) Fault} (Err fault) (Err SwapSame)) → swapped tokens old ≡ refused tokens old fault
+swap_refused tokens old fault short same only = elim only [
+  | inl is ↦ ap (on_short tokens old) (lt-ltb (length old) 2 (short.0 is)) ∙ ap (refused tokens old) (sym (unit_fault fault SwapShort is))
+  | inr is ↦ swap_same tokens old (same.0 is) ∙ ap (refused tokens old) (sym (unit_fault fault SwapSame is))
+]

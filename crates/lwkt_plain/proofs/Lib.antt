@@ -8,6 +8,7 @@ pub mod Frames
 pub mod Givings
 pub mod Holdings
 pub mod LawTests
+pub mod PollSound
 pub mod Receipts
 pub mod Soundness
 pub mod Takings
