@@ -6,6 +6,7 @@ pub mod Changes
 pub mod Folds
 pub mod Frames
 pub mod Givings
+pub mod GoOnSound
 pub mod Holdings
 pub mod LawTests
 pub mod PollSound
