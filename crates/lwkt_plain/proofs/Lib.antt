@@ -9,6 +9,7 @@ pub mod Givings
 pub mod GoOnSound
 pub mod Holdings
 pub mod LawTests
+pub mod MailSound
 pub mod PollSound
 pub mod Receipts
 pub mod Soundness
