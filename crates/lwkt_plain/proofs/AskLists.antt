@@ -158,3 +158,6 @@ swap_refused tokens old fault short same only = elim only [
   | inl is ↦ ap (on_short tokens old) (lt-ltb (length old) 2 (short.0 is)) ∙ ap (refused tokens old) (sym (unit_fault fault SwapShort is))
   | inr is ↦ swap_same tokens old (same.0 is) ∙ ap (refused tokens old) (sym (unit_fault fault SwapSame is))
 ]
+
+pub ok_not_err : (u : Unit {0}) (fault : Fault) → ◌≡◌ {A = Result (Unit {0}) Fault} (Ok u) (Err fault) → ⊥
+ok_not_err u fault is = cc

@@ -156,3 +156,10 @@ record_needs tokens cpu refs tok bytes long here held none =
     let short : length bytes ≤ RECORD_LIMIT = ltb-false RECORD_LIMIT (length bytes) (not_if (nat_lt RECORD_LIMIT (length bytes)) long first.1) in
     let t = record_there (slice_get tokens tok.0) two.0 in
     plain_needs tokens (WriteBlob cpu tok bytes) tok.0 t.0 refl refl here t.1.0 (exclusive_holder tokens cpu.0 tok.0 refs t.0 held first.0 t.1.0, t.1.1, short)
+
+pub no_overflow : (tokens : List Token) (refs : List Ref) (tok : TokId) (n : ℕ) → add_refusal tokens refs tok n ≡ None → n < 2 ^ 64
+no_overflow tokens refs tok n none =
+    let one = two_not (nat_le (length tokens) tok.0) _ _ none in
+    let first = exclusive_of (first_mode refs tok.0) _ _ one.1 in
+    let law = not_not (has_tally tokens tok) _ _ first.1 in
+    leb-false (2 ^ 64) n (not_if (nat_le (2 ^ 64) n) _ law.1)

@@ -2,7 +2,7 @@
 use Rattle.std.proofs.Common.{◌≡◌, ◌≢◌, ◌<◌, ◌≤◌, ◌+◌, ℕ, zero, suc, List, [], ◌∷◌, ◌++◌, length, get_or, set, refl, ap, sym, ◌∙◌, subst, arith, Option, Some, None, true, false, length-set, append_assoc, take, drop, ◌-◌, Bool}
 use Rattle.std.specs.Prelude.{slice_get, All, IsSomeAnd, if◌then◌else◌, ◌==◌, ◌&&◌, ◌||◌, not, bytes_eq, sum_by}
 use Rattle.std.specs.Option.{option_map_or, option_eq}
-use Rattle.std.proofs.lemmas.Bool.{eqb-true, false≢true, and_parts}
+use Rattle.std.proofs.lemmas.Bool.{eqb-true, eqb-false, false≢true, and_parts}
 use Rattle.std.proofs.lemmas.List.{set-set, append-nil, take-append-drop, take_more}
 use Rattle.std.proofs.Math.Seq.{drop-cons}
 use Rattle.std.proofs.lemmas.List.Elements.{All-set}
@@ -80,9 +80,9 @@ mended_if cpu tok false is short safe =
     }
   where
     unbroken : (a b : Bool) → (a && not b) ≡ false → a ≡ true → b ≡ true
-    unbroken true true no yes = refl
-    unbroken true false no yes = absurd (false≢true (sym no))
-    unbroken false b no yes = absurd (false≢true yes)
+    unbroken true true isnt yes = refl
+    unbroken true false isnt yes = absurd (false≢true (sym isnt))
+    unbroken false b isnt yes = absurd (false≢true yes)
 
 pub mended_so : (cpu : CpuId) (tok : Token) → IsShort tok.first_blob → IsSafeToken CPU_LIMIT tok → IsMended cpu tok (mended cpu tok)
 mended_so cpu tok short safe = mended_if cpu tok (is_broken cpu tok) refl short safe
@@ -94,13 +94,13 @@ clean_is tok is =
     ((bytes_eq-Decides tok.row tok.first).0 parts.0, same_blobs tok.blob tok.first_blob parts.1)
 
 both_true : (a b : Bool) → (a && b) ≡ false → a ≡ true → b ≡ true → ⊥
-both_true true true no one other = false≢true (sym no)
-both_true true false no one other = false≢true other
-both_true false b no one other = false≢true one
+both_true true true isnt one other = false≢true (sym isnt)
+both_true true false isnt one other = false≢true other
+both_true false b isnt one other = false≢true one
 
 not_clean : (tok : Token) → is_clean tok ≡ false → ¬ IsClean tok
-not_clean tok no clean =
-    both_true (bytes_eq tok.row tok.first) (option_eq bytes_eq tok.blob tok.first_blob) no ((bytes_eq-Decides tok.row tok.first).1 clean.0)
+not_clean tok isnt clean =
+    both_true (bytes_eq tok.row tok.first) (option_eq bytes_eq tok.blob tok.first_blob) isnt ((bytes_eq-Decides tok.row tok.first).1 clean.0)
     (blobs_same (option_eq bytes_eq tok.blob tok.first_blob) (not_same_blobs tok.blob tok.first_blob) clean.1)
   where
     blobs_same : {P : Type 0} (b : Bool) → (b ≡ false → ¬ P) → P → b ≡ true
@@ -111,20 +111,25 @@ ending : (cpu : CpuId) (t : TokId) (tok : Token) (b : Bool) → is_clean tok ≡
 ending cpu t tok true is last lawful = (last, clean_is tok is)
 ending cpu t tok false is last lawful = (last, not_clean tok is, lawful, refl)
 
+ends_is : (h : Held) → ends_section h ≡ true → h ≡ Holds Exclusive 0
+ends_is Nothing is = absurd (false≢true is)
+ends_is (Holds Shared further) is = absurd (false≢true is)
+ends_is (Holds Exclusive further) is = ap (λ (n : ℕ). Holds Exclusive n) (eqb-true further 0 is)
+
+not_ending : (h : Held) → is_held h ≡ true → ends_section h ≡ false → IsNotLastExclusive h
+not_ending Nothing holds isnt = absurd (false≢true holds)
+not_ending (Holds Shared further) holds isnt = tt
+not_ending (Holds Exclusive further) holds isnt = (let some = eqb-false further 0 isnt in omega (arith, some))
+
+abbrev give_event : CpuId → TokId → Token → Bool → Event
+give_event cpu t tok b = if not b then GiveOne cpu t else (if is_clean tok then GiveClean cpu t else GiveWritten cpu t (section_at t tok))
+
+giving_if : (cpu : CpuId) (t : TokId) (tok : Token) (b : Bool) → ends_section (held_by tok cpu.0) ≡ b → is_held (held_by tok cpu.0) ≡ true → (ends_section (held_by tok cpu.0) ≡ true → IsLawful tok) → TokenNeeds tok (give_event cpu t tok b)
+giving_if cpu t tok true is holds lawful = ending cpu t tok (is_clean tok) refl (ends_is (held_by tok cpu.0) is) (lawful is)
+giving_if cpu t tok false is holds lawful = not_ending (held_by tok cpu.0) holds is
+
 pub giving_needs : (cpu : CpuId) (t : TokId) (tok : Token) → is_held (held_by tok cpu.0) ≡ true → (ends_section (held_by tok cpu.0) ≡ true → IsLawful tok) → TokenNeeds tok (giving_event cpu t tok)
-giving_needs cpu t tok holds lawful = go (held_by tok cpu.0) refl
-  where
-    go : (h : Held) → held_by tok cpu.0 ≡ h → TokenNeeds tok (giving_event cpu t tok)
-    go Nothing is = absurd (false≢true (sym (ap is_held is) ∙ holds))
-    go (Holds Shared further) is =
-        let E : Held → Type 0 = λ h. TokenNeeds tok (if not (ends_section h) then GiveOne cpu t else (if is_clean tok then GiveClean cpu t else GiveWritten cpu t (section_at t tok))) in
-        subst E (sym is) (subst IsNotLastExclusive (sym is) tt)
-    go (Holds Exclusive zero) is =
-        let E : Held → Type 0 = λ h. TokenNeeds tok (if not (ends_section h) then GiveOne cpu t else (if is_clean tok then GiveClean cpu t else GiveWritten cpu t (section_at t tok))) in
-        subst E (sym is) (ending cpu t tok (is_clean tok) refl is (lawful (ap ends_section is)))
-    go (Holds Exclusive (suc further)) is =
-        let E : Held → Type 0 = λ h. TokenNeeds tok (if not (ends_section h) then GiveOne cpu t else (if is_clean tok then GiveClean cpu t else GiveWritten cpu t (section_at t tok))) in
-        subst E (sym is) (subst IsNotLastExclusive (sym is) (omega arith))
+giving_needs cpu t tok holds lawful = giving_if cpu t tok (ends_section (held_by tok cpu.0)) refl holds lawful
 
 -- what that event is
 by_two : {A : Type 0} (P : A → Type 0) (a b : Bool) (x y z : A) → P x → P y → P z → P (if not a then x else (if b then y else z))

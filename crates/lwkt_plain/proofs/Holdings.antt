@@ -2,7 +2,8 @@
 use Rattle.std.proofs.Common.{◌≡◌, ◌<◌, ◌≤◌, ◌+◌, ℕ, zero, suc, List, [], ◌∷◌, ◌++◌, length, set, refl, ap, sym, ◌∙◌, subst, arith, inl, inr, Option, Some, None, Bool, true, false}
 use Rattle.std.specs.Prelude.{slice_get, fold, All, if◌then◌else◌, ◌==◌}
 use Rattle.std.specs.Option.{option_map_or}
-use Rattle.std.proofs.lemmas.Bool.{cases_lt, eq-eqb, false≢true}
+use Rattle.std.proofs.lemmas.Bool.{cases_lt, cases_eq, eq-eqb, ne_eqb, false≢true}
+use Rattle.std.proofs.lemmas.List.Sums.{sum_by-cons}
 use Rattle.std.proofs.lemmas.Option.{slice_get_past}
 use Rattle.lwkt_base.specs.declared.names.Mode.{Mode}
 use Rattle.lwkt_base.specs.declared.names.Ref.{Ref}
@@ -29,20 +30,39 @@ total_same g h (suc n) same =
 
 total_tokens : (tokens : List Token) (c : ℕ) → references_of tokens c ≡ total (holding_in tokens c) (length tokens)
 total_tokens [] c = refl
-total_tokens (x ∷ xs) c = ap (λ (k : ℕ). references_in (held_by x c) + k) (total_tokens xs c)
+total_tokens (x ∷ xs) c =
+    sum_by-cons (λ (tok : Token). references_in (held_by tok c)) x xs ∙ ap (λ (k : ℕ). references_in (held_by x c) + k) (total_tokens xs c)
 
 one_reference : (h : Held) (mode : Mode) → references_in (one_more h mode) ≡ references_in h + 1
 one_reference Nothing mode = refl
 one_reference (Holds first further) mode = refl
 
+-- tests of numbers that are one more
+pub eqb_suc : (a b : ℕ) → (suc a == suc b) ≡ (a == b)
+eqb_suc a b = elim (cases_eq a b) [
+  | inl same ↦ eq-eqb (suc a) (suc b) (ap suc same) ∙ sym (eq-eqb a b same)
+  | inr differ ↦ ne_eqb (suc a) (suc b) (λ same. differ (omega (arith, same))) ∙ sym (ne_eqb a b differ)
+]
+
+pub if_not : (b : Bool) (x y : Held) → b ≡ false → (if b then x else y) ≡ y
+if_not true x y is = absurd (false≢true (sym is))
+if_not false x y is = refl
+
 total_added : (h : Holding) (tok n : ℕ) (mode : Mode) → tok < n → total (added h tok mode) n ≡ total h n + 1
 total_added h tok zero mode there = absurd (omega arith)
 total_added h zero (suc n) mode there =
-    let one = one_reference (h 0) mode in
-    omega (arith, one)
+    let first : references_in (added h 0 mode 0) ≡ references_in (h 0) + 1 = one_reference (h 0) mode in
+    let rest : total (λ t. added h 0 mode (suc t)) n ≡ total (λ t. h (suc t)) n =
+    total_same (λ t. added h 0 mode (suc t)) (λ t. h (suc t)) n (λ t. if_not (suc t == 0) (one_more (h (suc t)) mode) (h (suc t)) (ne_eqb (suc t) 0 (λ same. omega (arith, same)))) in
+    omega (arith, first, rest)
 total_added h (suc tok) (suc n) mode there =
-    let rest = total_added (λ t. h (suc t)) tok n mode (omega arith) in
-    omega (arith, rest)
+    let g : Holding = λ t. h (suc t) in
+    let first : references_in (added h (suc tok) mode 0) ≡ references_in (h 0) =
+    ap references_in (if_not (0 == suc tok) (one_more (h 0) mode) (h 0) (ne_eqb 0 (suc tok) (λ same. omega (arith, same)))) in
+    let more : total (λ t. added h (suc tok) mode (suc t)) n ≡ total (added g tok mode) n =
+    total_same (λ t. added h (suc tok) mode (suc t)) (added g tok mode) n (λ t. ap (λ (b : Bool). if b then one_more (h (suc t)) mode else h (suc t)) (eqb_suc t tok)) in
+    let rest : total (added g tok mode) n ≡ total g n + 1 = total_added g tok n mode (omega arith) in
+    omega (arith, first, more, rest)
 
 total_nothing : (n : ℕ) → total holds_nothing n ≡ 0
 total_nothing zero = refl

@@ -30,7 +30,7 @@ lists_at p c = elim (cases_lt c (length p.cpus)) [
         let long = length-map q.cpus lists_of in
         get_or_past (map lists_of q.cpus) d no_lists (omega (arith, long, past)) ∙ sym (ap lists_of (get_or_past q.cpus d no_processor past))
 
-list_same : {A B : Type 0} (f : A → B) (xs : List A) (k : ℕ) (d : B) → get_or (map f xs) k d ≡ option_map_or f (slice_get xs k) d
+pub list_same : {A B : Type 0} (f : A → B) (xs : List A) (k : ℕ) (d : B) → get_or (map f xs) k d ≡ option_map_or f (slice_get xs k) d
 list_same f [] k d = get_or_past [] k d (omega arith)
 list_same f (x ∷ xs) zero d = refl
 list_same f (x ∷ xs) (suc k) d = list_same f xs k d

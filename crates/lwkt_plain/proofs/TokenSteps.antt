@@ -2,7 +2,7 @@
 use Rattle.std.proofs.Common.{◌≡◌, ◌≢◌, ◌<◌, ◌≤◌, ◌+◌, ℕ, zero, suc, List, [], ◌∷◌, ◌++◌, length, get_or, set, refl, ap, sym, ◌∙◌, subst, arith, Option, Some, None, Bool, true, false, length-set}
 use Rattle.std.specs.Prelude.{slice_get, All, IsSomeAnd, if◌then◌else◌, ◌==◌, ◌&&◌, option_and_then}
 use Rattle.std.specs.Option.{option_map_or}
-use Rattle.std.proofs.lemmas.Bool.{eqb-true, false≢true}
+use Rattle.std.proofs.lemmas.Bool.{eqb-true, ne_eqb, false≢true}
 use Rattle.std.proofs.lemmas.List.{get_or-set_same, get_or-set_other, length-append, get_or_append_left}
 use Rattle.std.proofs.Math.Seq.{get_or-append_seam}
 use Rattle.std.proofs.lemmas.List.Elements.{All-set}
@@ -37,7 +37,7 @@ use Rattle.lwkt_core.proofs.PictureLemmas.{decides}
 use Rattle.lwkt_plain.specs.declared.nexts.Miss.{Miss}
 use Rattle.lwkt_plain.specs.Sound.{AreSoundTokens, holding_in, AreHeld, KeepsTokens, IsSoundList}
 use Rattle.lwkt_plain.specs.Tokens.{stepped, refusal, miss_of}
-use Rattle.lwkt_plain.proofs.Holdings.{references_held}
+use Rattle.lwkt_plain.proofs.Holdings.{references_held, eqb_suc, if_not}
 
 -- one token of a list
 pub each_at : (P : Token → Type 0) (tokens : List Token) (i : ℕ) (tok : Token) → All P tokens → slice_get tokens i ≡ Some tok → P tok
@@ -54,9 +54,10 @@ none_past (x ∷ xs) (suc i) none inside = none_past xs i none (omega arith)
 pub holding_set : (tokens : List Token) (i : ℕ) (tok : Token) (c t : ℕ) → i < length tokens → holding_in (set tokens i tok) c t ≡ (if t == i then held_by tok c else holding_in tokens c t)
 holding_set [] i tok c t inside = absurd (omega arith)
 holding_set (x ∷ xs) zero tok c zero inside = refl
-holding_set (x ∷ xs) zero tok c (suc t) inside = refl
-holding_set (x ∷ xs) (suc i) tok c zero inside = refl
-holding_set (x ∷ xs) (suc i) tok c (suc t) inside = holding_set xs i tok c t (omega arith)
+holding_set (x ∷ xs) zero tok c (suc t) inside = sym (if_not (suc t == 0) (held_by tok c) (holding_in xs c t) (ne_eqb (suc t) 0 (λ same. omega (arith, same))))
+holding_set (x ∷ xs) (suc i) tok c zero inside = sym (if_not (0 == suc i) (held_by tok c) (held_by x c) (ne_eqb 0 (suc i) (λ same. omega (arith, same))))
+holding_set (x ∷ xs) (suc i) tok c (suc t) inside =
+    holding_set xs i tok c t (omega arith) ∙ ap (λ (b : Bool). if b then held_by tok c else holding_in xs c t) (sym (eqb_suc t i))
 
 -- one of two holdings
 pub if_same : (b : Bool) (x y : Held) → (b ≡ true → x ≡ y) → (if b then x else y) ≡ y

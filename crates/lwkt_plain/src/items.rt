@@ -45,6 +45,14 @@ impl<T> Items<T> {
         self.items.as_slice()
     }
 
+    /// The part of a number.
+    pub fn part(&self, i: usize) -> &T
+        requires { i < length self.now }
+        ensures { slice_get self.now i ≡ Some result.now }
+    {
+        &self.items[i]
+    }
+
     /// The part of a number, to be changed.
     pub fn at(&mut self, i: usize) -> &mut T
         requires { i < length self.old }

@@ -1,5 +1,5 @@
 //! The asks of a running thread about tokens.
-ghost use Rattle.std.specs.Prelude.{◌≡◌, ◌<◌, ◌≤◌, ◌++◌, ◌∷◌, [], Option, Some, None, List, All, length, ℕ, ◌^◌, nat_lt, false, true, if◌then◌else◌};
+ghost use Rattle.std.specs.Prelude.{◌≡◌, ◌<◌, ◌≤◌, ◌++◌, ◌∷◌, [], Option, Some, None, List, All, length, ℕ, ◌+◌, ◌^◌, nat_lt, false, true, if◌then◌else◌};
 ghost use Rattle.lwkt_base.specs.declared.limits.TheConstants.{CPU_LIMIT, LIST_LIMIT, RECORD_LIMIT};
 ghost use Rattle.lwkt_base.specs.declared.names.Ref.{Ref};
 ghost use Rattle.lwkt_base.specs.Refs.{names, first_mode};
@@ -344,6 +344,13 @@ fn add_refusal(
     unless_exclusive(list.mode(tok), Fault::SharedWrite, next)
 }
 
+// A sum, if it fits.
+fn sum_of(value: u64, more: u64) -> Option<u64>
+    ensures { IsSumOf result (value + more) }
+{
+    value.checked_add(more)
+}
+
 /// An addition to the cell of a Tally token.
 pub(crate) fn add(
     cpu: CpuId,
@@ -357,20 +364,26 @@ pub(crate) fn add(
     requires held { AreHeld cpu.0 list.now tokens.old }
     ensures { asked tokens.new list.now result ≡ add cpu tokens.old list.now tok more }
 {
-    let sum = value_of(tokens, tok, 0).unwrap_or(0).checked_add(more);
+    let value = value_of(tokens, tok, 0).unwrap_or(0);
+    let sum = sum_of(value, more);
     if let Some(fault) = add_refusal(tokens, list, tok, sum) {
         return refused(fault);
     }
-    step(
-        tokens,
-        &Event::Write {
-            cpu,
-            tok,
-            cell: 0,
-            value: sum.unwrap_or(0),
-        },
-    );
-    done()
+    match sum {
+        None => refused(Fault::Overflow),
+        Some(value) => {
+            step(
+                tokens,
+                &Event::Write {
+                    cpu,
+                    tok,
+                    cell: 0,
+                    value,
+                },
+            );
+            done()
+        }
+    }
 }
 
 // The record of a token, if it has one.

@@ -118,7 +118,11 @@ pub(crate) fn miss(tokens: &Items<Token>, front: &[Ref], r: Ref, alone: bool) ->
     if have(front, r.tok) {
         return None;
     }
-    let token = tokens.as_slice().get(usize::from(r.tok.0))?;
+    let at = usize::from(r.tok.0);
+    if at >= tokens.len() {
+        return None;
+    }
+    let token = tokens.part(at);
     let word = word_of(token);
     refusal(word, TokWord::decide(word, r.mode, alone))
 }

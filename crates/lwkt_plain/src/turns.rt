@@ -53,21 +53,36 @@ fn ask_tokens(
     ensures stays { result ≡ None → tokens.new ≡ tokens.old }
     ensures keeps { result ≡ None → list.new ≡ list.old }
 {
-    Some(match *ask {
-        Ask::Get(tok) => token_asks::get(cpu, tokens, list, reference(tok, Mode::Exclusive)),
-        Ask::GetShared(tok) => token_asks::get(cpu, tokens, list, reference(tok, Mode::Shared)),
-        Ask::TryGet(tok) => {
-            token_asks::try_get(cpu, tokens, list, reference(tok, Mode::Exclusive))
+    match *ask {
+        Ask::Get(tok) => Some(token_asks::get(
+            cpu,
+            tokens,
+            list,
+            reference(tok, Mode::Exclusive),
+        )),
+        Ask::GetShared(tok) => Some(token_asks::get(
+            cpu,
+            tokens,
+            list,
+            reference(tok, Mode::Shared),
+        )),
+        Ask::TryGet(tok) => Some(token_asks::try_get(
+            cpu,
+            tokens,
+            list,
+            reference(tok, Mode::Exclusive),
+        )),
+        Ask::Rel(tok) => Some(token_asks::rel(cpu, tokens, list, tok)),
+        Ask::Swap => Some(token_asks::swap(list)),
+        Ask::Read(tok, cell) => Some(token_asks::read(tokens, list, tok, cell)),
+        Ask::Write(tok, cell, value) => {
+            Some(token_asks::write(cpu, tokens, list, tok, cell, value))
         }
-        Ask::Rel(tok) => token_asks::rel(cpu, tokens, list, tok),
-        Ask::Swap => token_asks::swap(list),
-        Ask::Read(tok, cell) => token_asks::read(tokens, list, tok, cell),
-        Ask::Write(tok, cell, value) => token_asks::write(cpu, tokens, list, tok, cell, value),
-        Ask::Add(tok, more) => token_asks::add(cpu, tokens, list, tok, more),
-        Ask::ReadBlob(tok) => token_asks::read_blob(tokens, list, tok),
-        Ask::WriteBlob(tok, blob) => token_asks::write_blob(cpu, tokens, list, tok, blob),
-        _ => return None,
-    })
+        Ask::Add(tok, more) => Some(token_asks::add(cpu, tokens, list, tok, more)),
+        Ask::ReadBlob(tok) => Some(token_asks::read_blob(tokens, list, tok)),
+        Ask::WriteBlob(tok, blob) => Some(token_asks::write_blob(cpu, tokens, list, tok, blob)),
+        _ => None,
+    }
 }
 
 // The phase after an ask that gives everything up.
