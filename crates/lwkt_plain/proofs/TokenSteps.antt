@@ -18,7 +18,7 @@ use Rattle.lwkt_base.specs.declared.words.TokWord.{TokWord}
 use Rattle.lwkt_base.specs.declared.words.Decision.{Decision}
 use Rattle.lwkt_base.specs.declared.words.Decision.TheVariants.{Take as TakeTo, Held as IsHeld, Marked as IsMarked, Worn as IsWorn}
 use Rattle.lwkt_base.specs.declared.limits.TheConstants.{CPU_LIMIT, LIST_LIMIT}
-use Rattle.lwkt_base.specs.TokenWord.{word_of, decision}
+use Rattle.lwkt_base.specs.TokenWord.{word_of, decision, Fits}
 use Rattle.lwkt_base.specs.Holding.{Holding, one_more, one_less, is_held, holding_of}
 use Rattle.lwkt_base.specs.Refs.{names, is_alone}
 use Rattle.lwkt_base.proofs.HoldingLemmas.{holding_of-push, held_named}
@@ -33,7 +33,7 @@ use Rattle.lwkt_core.specs.Picture.{picture_of, DecidesByEvents}
 use Rattle.lwkt_core.specs.Takings.{taking_event, taking}
 use Rattle.lwkt_core.specs.Tokens.{held_by, IsSafeToken, IsShort, IsHolder, TokenNeeds, token_after}
 use Rattle.lwkt_core.proofs.MachineMoves.{changed_at, IsSafe-after}
-use Rattle.lwkt_core.proofs.PictureLemmas.{decides}
+use Rattle.lwkt_core.proofs.PictureLemmas.{decides, fit}
 use Rattle.lwkt_plain.specs.declared.nexts.Miss.{Miss}
 use Rattle.lwkt_plain.specs.Sound.{AreSoundTokens, holding_in, AreHeld, KeepsTokens, IsSoundList}
 use Rattle.lwkt_plain.specs.Tokens.{stepped, refusal, miss_of}
@@ -329,3 +329,7 @@ needs_at tokens cpu refs front r (Some tok) at there here sound held fits none =
 pub may_take : (tokens : List Token) (cpu : CpuId) (refs front : List Ref) (r : Ref) → cpu.0 < CPU_LIMIT → AreSoundTokens tokens → AreHeld cpu.0 front tokens → IsSoundList (length tokens) (front ++ r ∷ []) → miss_of tokens refs front r ≡ None → Needs (machine CPU_LIMIT tokens []) (taking_event cpu front r)
 may_take tokens cpu refs front r here sound held fits none =
     needs_at tokens cpu refs front r (slice_get tokens r.tok.0) refl (front_fits (length tokens) front r fits).2 here sound held fits none
+
+-- the word of a sound token has room for its parts
+pub word_fits : (tokens : List Token) (i : ℕ) (tok : Token) → AreSoundTokens tokens → slice_get tokens i ≡ Some tok → Fits (picture_of tok)
+word_fits tokens i tok sound at = (fit (machine CPU_LIMIT tokens []) i tok sound.safe at).0

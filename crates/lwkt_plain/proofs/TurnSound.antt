@@ -2,6 +2,7 @@
 use Rattle.std.proofs.Common.{◌≡◌, ◌≢◌, ◌<◌, ◌≤◌, ◌+◌, ◌-◌, ℕ, zero, suc, List, [], ◌∷◌, ◌++◌, length, get_or, set, map, refl, ap, sym, ◌∙◌, subst, arith, Option, Some, None, Bool, true, false, length-set}
 use Rattle.std.specs.Prelude.{slice_get, slice_set, All, IfSome, if◌then◌else◌, fold, is_some}
 use Rattle.std.specs.Option.{option_map_or}
+use Rattle.std.specs.List.{range_with_len}
 use Rattle.std.proofs.lemmas.Bool.{false≢true}
 use Rattle.std.proofs.lemmas.List.{length-map, get_or_past}
 use Rattle.std.proofs.lemmas.List.Elements.{All-nil}
@@ -242,3 +243,35 @@ finds_come c (k ∷ ks) p inside sound idle here =
     let x = tries c k p in
     subst (Comes c p) (sym (finds_more c p k ks)) (found_on c p ks x x.place refl (try_comes c k p inside sound idle here)
     (λ stays. (let cpus = stays.cpus in finds_come c ks x.plain (omega (arith, cpus, inside)) stays.sound stays.idle here)))
+
+-- the threads of some numbers, one after another
+pub scan_hit : (c : ℕ) (p q : Plain) (k n m : ℕ) → n ≡ suc m → found q (Some k) ≡ tries c k p → finds c p (range_with_len k n) ≡ found q (Some k)
+scan_hit c p q k n m e tried =
+    ap (λ (i : ℕ). finds c p (range_with_len k i)) e ∙ finds_more c p k (range_with_len (k + 1) m) ∙ ap (find_on c (range_with_len (k + 1) m)) (sym tried)
+
+pub scan_miss : (c : ℕ) (p q : Plain) (k n m : ℕ) → n ≡ suc m → found q None ≡ tries c k p → finds c p (range_with_len k n) ≡ finds c q (range_with_len (k + 1) m)
+scan_miss c p q k n m e tried =
+    ap (λ (i : ℕ). finds c p (range_with_len k i)) e ∙ finds_more c p k (range_with_len (k + 1) m) ∙ ap (find_on c (range_with_len (k + 1) m)) (sym tried)
+
+pub scan_end : (c : ℕ) (p : Plain) (k n : ℕ) → n ≡ 0 → finds c p (range_with_len k n) ≡ found p None
+scan_end c p k n e = ap (λ (i : ℕ). finds c p (range_with_len k i)) e ∙ finds_none c p
+
+find_twice : (c : ℕ) (xs ys : List ℕ) (x : Found) (o : Option ℕ) → x.place ≡ o → (finds c x.plain (xs ++ ys) ≡ find_on c ys (finds c x.plain xs)) → find_on c (xs ++ ys) x ≡ find_on c ys (find_on c xs x)
+find_twice c xs ys x None is ih =
+    let F : Bool → Found = λ b. if b then x else finds c x.plain (xs ++ ys) in
+    let G : Bool → Found = λ b. find_on c ys (if b then x else finds c x.plain xs) in
+    let no : is_some x.place ≡ false = ap is_some is in
+    ap F no ∙ ih ∙ sym (ap G no)
+find_twice c xs ys x (Some k) is ih =
+    let F : Bool → Found = λ b. if b then x else finds c x.plain (xs ++ ys) in
+    let G : Bool → Found = λ b. find_on c ys (if b then x else finds c x.plain xs) in
+    let H : Bool → Found = λ b. if b then x else finds c x.plain ys in
+    let yes : is_some x.place ≡ true = ap is_some is in
+    ap F yes ∙ sym (ap H yes) ∙ sym (ap G yes)
+
+pub finds_append : (c : ℕ) (xs ys : List ℕ) (p : Plain) → finds c p (xs ++ ys) ≡ find_on c ys (finds c p xs)
+finds_append c [] ys p = sym (ap (find_on c ys) (finds_none c p))
+finds_append c (k ∷ xs) ys p =
+    finds_more c p k (xs ++ ys)
+    ∙ find_twice c xs ys (tries c k p) (tries c k p).place refl (finds_append c xs ys (tries c k p).plain)
+    ∙ sym (ap (find_on c ys) (finds_more c p k xs))

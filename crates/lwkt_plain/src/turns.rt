@@ -98,6 +98,7 @@ fn phase_for(ask: &Ask) -> Phase
 
 impl Thread {
     // Whether the word that refused its list last is still its token's.
+    #[tactic(auto, using(crate::proofs::TokenSteps::word_fits))]
     fn is_still_busy(&self, tokens: &Items<Token>) -> bool
         requires { AreSoundTokens tokens.now }
         ensures { result ≡ is_still_busy tokens.now self.now }
@@ -108,10 +109,11 @@ impl Thread {
         let Some(r) = self.list.get(busy.at) else {
             return false;
         };
-        match tokens.as_slice().get(usize::from(r.tok.0)) {
-            Some(token) => word_of(token) == busy.word,
-            None => false,
+        let at = usize::from(r.tok.0);
+        if at >= tokens.len() {
+            return false;
         }
+        word_of(tokens.part(at)) == busy.word
     }
 }
 
@@ -149,6 +151,7 @@ impl Plain {
     }
 
     // Tries the list of a thread.
+    #[tactic(auto, using(crate::proofs::Soundness::few_cpus, crate::proofs::Soundness::held_idle, crate::proofs::Soundness::list_fits))]
     fn resume_list(&mut self, c: usize, k: usize) -> Option<Missed>
         requires here { c < length self.old.cpus }
         requires there { k < length (cpu_at self.old c).threads }
@@ -245,6 +248,7 @@ impl Plain {
     }
 
     // Performs an ask about tokens. None if it is about messages, or none of both.
+    #[tactic(auto, using(crate::proofs::Soundness::few_cpus, crate::proofs::Soundness::held_running, crate::proofs::Soundness::list_fits, crate::proofs::Changes::changed_in))]
     fn perform_tokens(&mut self, c: usize, k: usize, ask: &Ask) -> Option<Next>
         requires here { c < length self.old.cpus }
         requires there { k < length (cpu_at self.old c).threads }
@@ -310,6 +314,7 @@ impl Plain {
     }
 
     // Performs an ask of a running thread.
+    #[tactic(auto, using(crate::proofs::Frames::few_threads))]
     fn perform(&mut self, c: usize, k: usize, ask: &Ask) -> Result<Next, OutOfMemory>
         requires here { c < length self.old.cpus }
         requires there { k < length (cpu_at self.old c).threads }
@@ -389,6 +394,7 @@ impl Plain {
     }
 
     // Polls a thread once.
+    #[tactic(auto, using(crate::proofs::Changes::changed_in))]
     fn poll_thread(&mut self, c: usize, k: usize, code: &Code) -> Result<Ask, OutOfMemory>
         requires here { c < length self.old.cpus }
         requires there { k < length (cpu_at self.old c).threads }
