@@ -3,6 +3,7 @@ pub mod AskMoves
 pub mod AskNeeds
 pub mod AskSound
 pub mod Changes
+pub mod ChosenSound
 pub mod Folds
 pub mod Frames
 pub mod Givings
@@ -15,4 +16,5 @@ pub mod Receipts
 pub mod Soundness
 pub mod Takings
 pub mod TokenSteps
+pub mod TurnMoves
 pub mod TurnSound
