@@ -81,12 +81,12 @@ token_there None cell v is = absurd (none-some v is)
 token_there (Some t) cell v is = (t, (refl, is))
 
 may_write : (law : Law) (old value : ℕ) → is_tally law ≡ false → MayWrite law old value
-may_write Any old value no = tt
-may_write Sum old value no = tt
-may_write Order old value no = tt
-may_write Cap old value no = tt
-may_write Tally old value no = absurd (false≢true (sym no))
-may_write Len old value no = tt
+may_write Any old value isnt = tt
+may_write Sum old value isnt = tt
+may_write Order old value isnt = tt
+may_write Cap old value isnt = tt
+may_write Tally old value isnt = absurd (false≢true (sym isnt))
+may_write Len old value isnt = tt
 
 may_raise : (law : Law) (old value : ℕ) → old ≤ value → MayWrite law old value
 may_raise Any old value le = tt

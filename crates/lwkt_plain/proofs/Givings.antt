@@ -80,9 +80,9 @@ mended_if cpu tok false is short safe =
     }
   where
     unbroken : (a b : Bool) → (a && not b) ≡ false → a ≡ true → b ≡ true
-    unbroken true true isnt yes = refl
-    unbroken true false isnt yes = absurd (false≢true (sym isnt))
-    unbroken false b isnt yes = absurd (false≢true yes)
+    unbroken true true isnt so = refl
+    unbroken true false isnt so = absurd (false≢true (sym isnt))
+    unbroken false b isnt so = absurd (false≢true so)
 
 pub mended_so : (cpu : CpuId) (tok : Token) → IsShort tok.first_blob → IsSafeToken CPU_LIMIT tok → IsMended cpu tok (mended cpu tok)
 mended_so cpu tok short safe = mended_if cpu tok (is_broken cpu tok) refl short safe

@@ -133,8 +133,8 @@ wait_gives None count = refl
 wait_gives (Some item) count = tt
 
 pub mail_soundly : (c k : ℕ) (p : Plain) (count : ℕ) (ask : Ask) → IsSound p → IfSome (mail_ask c k p count ask) (MailsSoundly p count)
-mail_soundly c k p count (Send msg to call flags) sound = sends_soundly c k p _ (Runs Done) count sound tt
-mail_soundly c k p count (Do msg to call) sound = sends_soundly c k p _ (Leaves count (AwaitsReply msg)) count sound refl
+mail_soundly c k p count (Send msg to call flags) sound = sends_soundly c k p (record { msg = msg; to = to; call = call; flags = flags; sync = false }) (Runs Done) count sound tt
+mail_soundly c k p count (Do msg to call) sound = sends_soundly c k p (record { msg = msg; to = to; call = call; flags = plain_flags; sync = true }) (Leaves count (AwaitsReply msg)) count sound refl
 mail_soundly c k p count (Reply msg error outcome) sound = reply_soundly c k p msg error outcome count sound
 mail_soundly c k p count (Abort msg) sound = abort_soundly c k p msg count sound
 mail_soundly c k p count (IsAborted msg) sound = hears_soundly c k p msg count sound

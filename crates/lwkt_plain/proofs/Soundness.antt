@@ -5,7 +5,7 @@ use Rattle.std.specs.Option.{option_map_or}
 use Rattle.std.proofs.lemmas.Bool.{cases_lt, cases_eq}
 use Rattle.std.proofs.lemmas.List.{get_or_past, get_or-map, get_or-set_same, get_or-set_other, map-set, length-map}
 use Rattle.std.proofs.lemmas.List.Elements.{All-set, All-weaker}
-use Rattle.std.proofs.lemmas.Option.{slice_get_within, slice_get-get_or}
+use Rattle.std.proofs.lemmas.Option.{slice_get_within, slice_get-get_or, get_or_from_slice_get}
 use Rattle.lwkt_base.specs.declared.names.Ref.{Ref}
 use Rattle.lwkt_base.specs.declared.limits.TheConstants.{CPU_LIMIT}
 use Rattle.lwkt_core.specs.declared.tokens.Token.{Token}
@@ -15,7 +15,7 @@ use Rattle.lwkt_plain.specs.declared.states.Processor.{Processor}
 use Rattle.lwkt_plain.specs.declared.states.Thread.{Thread}
 use Rattle.lwkt_plain.specs.Places.{cpu_at, thread_at, no_processor, with_cpu, with_tokens}
 use Rattle.lwkt_plain.specs.Sound.{AreSoundTokens, holding_in, AreHeld, KeepsTokens, Lists, Frame, lists_of, round_of, frame, no_lists, running_refs, IsSoundList, AreSoundLists, IsSoundFrame, IsSound}
-use Rattle.lwkt_plain.specs.Turns.{list_at}
+use Rattle.lwkt_plain.specs.Turns.{list_at, with_list}
 use Rattle.lwkt_plain.proofs.Changes.{changed_in}
 
 -- the lists of a processor of a state
@@ -124,3 +124,18 @@ lists_with n l k refs sound fits = record {
   each = All-set (IsSoundList n) l.lists k refs fits sound.each;
   running = subst (λ (m : ℕ). IfSome l.running (λ j. j < m)) (sym (length-set l.lists k refs)) sound.running;
 }
+
+-- parts that were read
+pub cpu_got : (p : Plain) (c : ℕ) (cpu : Processor) → slice_get p.cpus c ≡ Some cpu → cpu_at p c ≡ cpu
+cpu_got p c cpu at = get_or_from_slice_get p.cpus c cpu no_processor at
+
+pub list_got : (p : Plain) (c k : ℕ) (cpu : Processor) (t : Thread) → slice_get p.cpus c ≡ Some cpu → slice_get cpu.threads k ≡ Some t → list_at p c k ≡ t.list
+list_got p c k cpu t at there =
+    ap (λ (x : Processor). option_map_or (λ (s : Thread). s.list) (slice_get x.threads k) []) (cpu_got p c cpu at) ∙ ap (λ (o : Option Thread). option_map_or (λ (s : Thread). s.list) o []) there
+
+pub put_is : (p : Plain) (c k : ℕ) (cpu : Processor) (t : Thread) (tokens : List Token) (refs : List Ref) → slice_get p.cpus c ≡ Some cpu → slice_get cpu.threads k ≡ Some t → with_list refs c k (with_tokens tokens p) ≡ record { tokens = tokens; letters = p.letters; cpus = set p.cpus c (record cpu { threads = set cpu.threads k (record t { list = refs }) }) }
+put_is p c k cpu t tokens refs at there =
+    let f : Thread → Thread = λ s. record s { list = refs } in
+    ap (λ (cpus : List Processor). record { tokens = tokens; letters = p.letters; cpus = cpus })
+    (changed_in (λ (x : Processor). record x { threads = changed f x.threads k }) p.cpus c cpu at
+    ∙ ap (λ (ts : List Thread). set p.cpus c (record cpu { threads = ts })) (changed_in f cpu.threads k t there))

@@ -16,7 +16,7 @@ use Rattle.lwkt_plain.specs.declared.states.Thread.{Thread}
 use Rattle.lwkt_plain.specs.Places.{cpu_at, thread_at, no_processor, with_thread}
 use Rattle.lwkt_plain.specs.Intakes.{takes_mail}
 use Rattle.lwkt_plain.specs.Sound.{Frame, lists_of, frame, AreSoundTokens, IsSound}
-use Rattle.lwkt_plain.specs.Turns.{Found, found, chooses, spec_at, next_of, polled, Performed, performed, performs, goes_on, polls_thread, polls_at, turn, IsRunning, MayGoOn}
+use Rattle.lwkt_plain.specs.Turns.{Found, found, chooses, spec_at, next_of, polled, Performed, performed, performs, goes_on, makes, polls_thread, polls_at, turn, IsRunning, MayGoOn}
 use Rattle.lwkt_plain.proofs.Changes.{get_or_changed}
 use Rattle.lwkt_plain.proofs.Frames.{frame_thread, takes_mail_frame, sound_by}
 use Rattle.lwkt_plain.proofs.Soundness.{few_cpus, on_thread}
@@ -70,12 +70,17 @@ goes_soundly c k x n next so here is = subst IsSound (sym is) (goes_on_sound (re
 pub tokens_soundly : (c k : ℕ) (x : Plain) (next : Next) → LeavesSoundly c k x next → AreSoundTokens x.tokens
 tokens_soundly c k x next so = subst AreSoundTokens (sym (ap (λ (p : Plain). p.tokens) so.is)) so.keeps.sound
 
--- a poll by its parts
-pub polls_is : (script : Script) (c k : ℕ) (p x n : Plain) (spec : ThreadSpec) (t : Thread) (next : Next) → spec_at script c k ≡ Some spec → thread_at p c k ≡ Some t → performed x next ≡ performs (record { 0 = c }) k (with_thread (polled spec.code) c k p) (next_of spec.code t).0 → n ≡ goes_on (record { 0 = c }) k x next → n ≡ polls_at script c p k
-polls_is script c k p x n spec t next plan at done goes =
+-- an ask that was made
+pub makes_is : (c k : ℕ) (p x n : Plain) (next : Next) (ask : Ask) → performed x next ≡ performs (record { 0 = c }) k p ask → n ≡ goes_on (record { 0 = c }) k x next → n ≡ makes (record { 0 = c }) k p ask
+makes_is c k p x n next ask done goes =
     let G : Performed → Plain = λ y. goes_on (record { 0 = c }) k y.plain y.next in
+    goes ∙ ap G done
+
+-- a poll by its parts
+pub polls_is : (script : Script) (c k : ℕ) (p n : Plain) (spec : ThreadSpec) (t : Thread) → spec_at script c k ≡ Some spec → thread_at p c k ≡ Some t → n ≡ makes (record { 0 = c }) k (with_thread (polled spec.code) c k p) (next_of spec.code t).0 → n ≡ polls_at script c p k
+polls_is script c k p n spec t plan at made =
     let F : Option ThreadSpec → Plain = λ o. option_map_or (λ (s : ThreadSpec). option_map_or (polls_thread (record { 0 = c }) k p s.code) (thread_at p c k) p) o p in
-    goes ∙ ap G done ∙ sym (ap F plan ∙ ap (λ (o : Option Thread). option_map_or (polls_thread (record { 0 = c }) k p spec.code) o p) at)
+    made ∙ sym (ap F plan ∙ ap (λ (o : Option Thread). option_map_or (polls_thread (record { 0 = c }) k p spec.code) o p) at)
 
 pub polls_not : (script : Script) (c k : ℕ) (p : Plain) → spec_at script c k ≡ None → p ≡ polls_at script c p k
 polls_not script c k p none =

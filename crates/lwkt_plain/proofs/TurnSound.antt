@@ -31,7 +31,7 @@ use Rattle.lwkt_plain.specs.Tokens.{Tried, resume}
 use Rattle.lwkt_plain.specs.Turns.{list_at, ended_by, leaves, ends, is_still_busy, may_try_in, may_try, Found, found, missed_by, after_try, tries, finds, IsIdle}
 use Rattle.lwkt_plain.proofs.Changes.{map_changed, get_or_changed}
 use Rattle.lwkt_plain.proofs.Folds.{fold_keeps}
-use Rattle.lwkt_plain.proofs.Frames.{frame_thread, frame_letter, sound_by}
+use Rattle.lwkt_plain.proofs.Frames.{frame_thread, frame_letter, sound_by, few_threads}
 use Rattle.lwkt_plain.proofs.TokenSteps.{keeps_same}
 use Rattle.lwkt_plain.proofs.Takings.{takes_keeps, held_of}
 use Rattle.lwkt_plain.proofs.Soundness.{lists_at, held_idle, lists_sound, list_fits, few_cpus, sound_cpu, on_thread, changed_list, lists_with}
@@ -275,3 +275,20 @@ finds_append c (k ∷ xs) ys p =
     finds_more c p k (xs ++ ys)
     ∙ find_twice c xs ys (tries c k p) (tries c k p).place refl (finds_append c xs ys (tries c k p).plain)
     ∙ sym (ap (find_on c ys) (finds_more c p k xs))
+
+-- a search that found none
+pub after_none : (c : ℕ) (p q : Plain) (ks : List ℕ) → c < length p.cpus → IsSound p → IsIdle p c → found q None ≡ finds c p ks → StaysIdle c p q
+after_none c p q ks inside sound idle is =
+    let few = few_cpus p sound in
+    let comes = finds_come c ks p inside sound idle (omega (arith, few, inside)) in
+    subst (StaysIdle c p) (ap (λ (x : Found). x.plain) (sym is)) (comes.0 (ap (λ (x : Found). x.place) (sym is)))
+
+-- the number of a thread that was found
+pub found_small : (c k : ℕ) (p q : Plain) (ks : List ℕ) → c < length p.cpus → IsSound p → IsIdle p c → found q (Some k) ≡ finds c p ks → k < 16
+found_small c k p q ks inside sound idle is =
+    let few = few_cpus p sound in
+    let comes = finds_come c ks p inside sound idle (omega (arith, few, inside)) in
+    let now = comes.1 k (ap (λ (x : Found). x.place) (sym is)) in
+    let there = now.there in
+    let most = few_threads now.before c now.stays.sound in
+    omega (arith, there, most)

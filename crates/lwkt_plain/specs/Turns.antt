@@ -224,11 +224,13 @@ abbrev pub goes_on : CpuId → ℕ → Plain → Next → Plain
 goes_on cpu k p (Runs answer) = with_thread (λ (t : Thread). record t { last = answer }) cpu.0 k p
 goes_on cpu k p (Leaves held phase) = becomes cpu.0 k (if breaks cpu k held p then Faulted Broken else phase) (gives_up cpu k held p)
 
+-- an ask is performed, and what comes next comes
+abbrev pub makes : CpuId → ℕ → Plain → Ask → Plain
+makes cpu k p ask = goes_on cpu k (performs cpu k p ask).plain (performs cpu k p ask).next
+
 -- a thread is polled once, and its ask is performed
 abbrev pub polls_thread : CpuId → ℕ → Plain → Program → Thread → Plain
-polls_thread cpu k p program t =
-    let x = performs cpu k (with_thread (polled program) cpu.0 k p) (next_of program t).0 in
-    goes_on cpu k x.plain x.next
+polls_thread cpu k p program t = makes cpu k (with_thread (polled program) cpu.0 k p) (next_of program t).0
 
 abbrev pub polls_at : Script → ℕ → Plain → ℕ → Plain
 polls_at script c p k = option_map_or (λ (spec : ThreadSpec). option_map_or (polls_thread (record { 0 = c }) k p spec.code) (thread_at p c k) p) (spec_at script c k) p

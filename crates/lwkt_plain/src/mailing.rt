@@ -203,7 +203,13 @@ impl Plain {
         ensures { mailed self.now result ≡ is_aborted who.cpu who.thread self.now msg }
     {
         match self.shown(who, msg) {
-            Some(letter) => Next::Runs(Answer::Value(u64::from(letter.word.aborted))),
+            Some(letter) => {
+                if letter.word.aborted {
+                    Next::Runs(Answer::Value(1))
+                } else {
+                    Next::Runs(Answer::Value(0))
+                }
+            }
             None => refused(Fault::NotTaken),
         }
     }

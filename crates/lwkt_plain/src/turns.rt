@@ -12,7 +12,7 @@ ghost use Rattle.lwkt_plain.specs.Mailing.{mailed};
 ghost use Rattle.lwkt_plain.specs.Sound.{AreSoundTokens, AreHeld, IsSoundList, IsSound};
 ghost use Rattle.lwkt_plain.specs.Tokens.{tried, resume, gave, gives};
 ghost use Rattle.lwkt_plain.specs.TokenAsks.{asked};
-ghost use Rattle.lwkt_plain.specs.Turns.{ended_by, leaves, ends, is_still, is_still_busy, found, missed_by, may_try, tries, finds, round_from, chooses, next_of, polled, list_at, performed, with_list, token_ask, mail_ask, of_mail, phase_for, performs, rests, becomes, gives_up, breaks, goes_on, polls_at, turn, IsRunning, IsIdle, MayGoOn, of_tokens};
+ghost use Rattle.lwkt_plain.specs.Turns.{ended_by, leaves, ends, is_still, is_still_busy, found, missed_by, may_try, tries, finds, round_from, chooses, next_of, polled, list_at, performed, with_list, token_ask, mail_ask, of_mail, phase_for, performs, rests, becomes, gives_up, breaks, goes_on, makes, polls_at, turn, IsRunning, IsIdle, MayGoOn, of_tokens};
 
 use crate::items::Items;
 use crate::mailing::{Asker, Sending};
@@ -160,8 +160,8 @@ impl Plain {
         ensures tokens { self.new ≡ with_tokens self.new.tokens self.old }
         ensures tried { tried self.new.tokens result ≡ resume (record { 0 = c }) self.old.tokens (list_at self.old c k) }
     {
-        let cpu = &self.cpus.as_slice()[c];
-        let thread = &cpu.threads.as_slice()[k];
+        let cpu = self.cpus.part(c);
+        let thread = cpu.threads.part(k);
         resume(CpuId(c as u8), &mut self.tokens, thread.list.refs())
     }
 
@@ -393,6 +393,24 @@ impl Plain {
         }
     }
 
+    // Performs an ask of a running thread, and goes on.
+    fn make(&mut self, c: usize, k: usize, ask: &Ask) -> Result<(), OutOfMemory>
+        requires here { c < length self.old.cpus }
+        requires there { k < length (cpu_at self.old c).threads }
+        requires sound { IsSound self.old }
+        requires running { IsRunning self.old c k }
+        ensures exact { OnOk result (self.new ≡ makes (record { 0 = c }) k self.old ask.now) }
+        ensures sound { OnOk result (IsSound self.new) }
+    {
+        match self.perform(c, k, ask) {
+            Err(refused) => Err(refused),
+            Ok(next) => {
+                self.go_on(c, k, next);
+                Ok(())
+            }
+        }
+    }
+
     // Polls a thread once.
     #[tactic(auto, using(crate::proofs::Changes::changed_in))]
     fn poll_thread(&mut self, c: usize, k: usize, code: &Code) -> Result<Ask, OutOfMemory>
@@ -419,9 +437,7 @@ impl Plain {
             return Ok(());
         };
         let ask = self.poll_thread(c, k, &spec.code)?;
-        let next = self.perform(c, k, &ask)?;
-        self.go_on(c, k, next);
-        Ok(())
+        self.make(c, k, &ask)
     }
 
     /// Makes a turn of the processor of a number.
