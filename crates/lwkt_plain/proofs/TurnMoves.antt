@@ -1,5 +1,5 @@
 -- A turn by its parts.
-use Rattle.std.proofs.Common.{◌≡◌, ◌<◌, ◌≤◌, ◌+◌, ℕ, List, [], ◌∷◌, length, map, refl, ap, sym, ◌∙◌, subst, arith, Option, Some, None}
+use Rattle.std.proofs.Common.{◌≡◌, ◌<◌, ◌≤◌, ◌+◌, ℕ, zero, suc, List, [], ◌∷◌, length, map, refl, ap, sym, ◌∙◌, subst, arith, Option, Some, None}
 use Rattle.std.specs.Prelude.{slice_get, Result, Ok, Err, OnOk}
 use Rattle.std.specs.Option.{option_map_or}
 use Rattle.std.proofs.lemmas.List.{length-map}
@@ -86,3 +86,25 @@ pub polls_not : (script : Script) (c k : ℕ) (p : Plain) → spec_at script c k
 polls_not script c k p none =
     let F : Option ThreadSpec → Plain = λ o. option_map_or (λ (s : ThreadSpec). option_map_or (polls_thread (record { 0 = c }) k p s.code) (thread_at p c k) p) o p in
     sym (ap F none)
+
+-- a thread that is there
+some_at : (xs : List Thread) (k : ℕ) → k < length xs → (t : Thread) × (slice_get xs k ≡ Some t)
+some_at [] k inside = absurd (omega arith)
+some_at (x ∷ xs) zero inside = (x, refl)
+some_at (x ∷ xs) (suc k) inside = some_at xs k (omega arith)
+
+pub thread_there : (p : Plain) (c k : ℕ) → k < length (cpu_at p c).threads → (t : Thread) × (thread_at p c k ≡ Some t)
+thread_there p c k there = some_at (cpu_at p c).threads k there
+
+-- a state after an ask has the same processors and threads
+pub still_inside : (c k : ℕ) (x : Plain) (next : Next) → LeavesSoundly c k x next → (c < length x.cpus) × (k < length (cpu_at x c).threads) × (length x.cpus ≤ CPU_LIMIT)
+still_inside c k x next so =
+    let b = so.before in
+    let f : Thread → Thread = λ t. record t { list = so.refs } in
+    let cpus : length x.cpus ≡ length b.cpus = ap (λ (p : Plain). length p.cpus) so.is ∙ length_changed (on_thread f k) b.cpus c in
+    let at : cpu_at x c ≡ on_thread f k (cpu_at b c) = ap (λ (p : Plain). cpu_at p c) so.is ∙ get_or_changed (on_thread f k) b.cpus c no_processor so.inside in
+    let threads : length (cpu_at x c).threads ≡ length (cpu_at b c).threads = ap (λ (y : Processor). length y.threads) at ∙ length_changed f (cpu_at b c).threads k in
+    let inside = so.inside in
+    let there = so.there in
+    let few = few_cpus b so.sound in
+    (omega (arith, cpus, inside), omega (arith, threads, there), omega (arith, cpus, few))
