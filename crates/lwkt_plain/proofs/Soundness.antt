@@ -16,7 +16,7 @@ use Rattle.lwkt_plain.specs.declared.states.Thread.{Thread}
 use Rattle.lwkt_plain.specs.Places.{cpu_at, thread_at, no_processor, with_cpu, with_tokens}
 use Rattle.lwkt_plain.specs.Sound.{AreSoundTokens, holding_in, AreHeld, KeepsTokens, Lists, Frame, lists_of, round_of, frame, no_lists, running_refs, IsSoundList, AreSoundLists, IsSoundFrame, IsSound}
 use Rattle.lwkt_plain.specs.Turns.{list_at, with_list}
-use Rattle.lwkt_plain.proofs.Changes.{changed_in}
+use Rattle.lwkt_plain.proofs.Changes.{changed_in, set_back}
 
 -- the lists of a processor of a state
 pub lists_at : (p : Plain) (c : ℕ) → get_or (map lists_of p.cpus) c no_lists ≡ lists_of (cpu_at p c)
@@ -139,3 +139,11 @@ put_is p c k cpu t tokens refs at there =
     ap (λ (cpus : List Processor). record { tokens = tokens; letters = p.letters; cpus = cpus })
     (changed_in (λ (x : Processor). record x { threads = changed f x.threads k }) p.cpus c cpu at
     ∙ ap (λ (ts : List Thread). set p.cpus c (record cpu { threads = ts })) (changed_in f cpu.threads k t there))
+
+-- tokens and a list that are put back where they were
+pub put_back : (p : Plain) (c k : ℕ) (cpu : Processor) (t : Thread) → slice_get p.cpus c ≡ Some cpu → slice_get cpu.threads k ≡ Some t → with_list t.list c k (with_tokens p.tokens p) ≡ p
+put_back p c k cpu t at there =
+    put_is p c k cpu t p.tokens t.list at there
+    ∙ ap (λ (cpus : List Processor). record p { cpus = cpus })
+    (ap (λ (ts : List Thread). set p.cpus c (record cpu { threads = ts })) (set_back cpu.threads k t there)
+    ∙ set_back p.cpus c cpu at)

@@ -12,7 +12,7 @@ ghost use Rattle.lwkt_plain.specs.Mailing.{mailed};
 ghost use Rattle.lwkt_plain.specs.Sound.{AreSoundTokens, AreHeld, IsSoundList, IsSound};
 ghost use Rattle.lwkt_plain.specs.Tokens.{tried, resume, gave, gives};
 ghost use Rattle.lwkt_plain.specs.TokenAsks.{asked};
-ghost use Rattle.lwkt_plain.specs.Turns.{ended_by, leaves, ends, is_still, is_still_busy, found, missed_by, may_try, tries, finds, round_from, chooses, next_of, polled, list_at, performed, with_list, token_ask, mail_ask, of_mail, phase_for, performs, rests, becomes, gives_up, breaks, goes_on, makes, polls_at, turn, IsRunning, IsIdle, MayGoOn, of_tokens};
+ghost use Rattle.lwkt_plain.specs.Turns.{ended_by, leaves, ends, is_still, is_still_busy, found, missed_by, may_try, tries, finds, round_from, runs_at, chooses, next_of, polled, list_at, performed, with_list, token_ask, mail_ask, of_mail, phase_for, performs, rests, becomes, gives_up, breaks, goes_on, makes, polls_at, turn, IsRunning, IsIdle, MayGoOn, of_tokens};
 
 use crate::items::Items;
 use crate::mailing::{Asker, Sending};
@@ -229,22 +229,32 @@ impl Plain {
         }
     }
 
+    // Searches for a thread where none runs, and runs it.
+    fn choose_new(&mut self, c: usize, cursor: usize, count: usize) -> Option<usize>
+        requires here { c < length self.old.cpus }
+        requires sound { IsSound self.old }
+        requires idle { IsIdle self.old c }
+        ensures { found self.new result ≡ runs_at c (finds c self.old (round_from cursor count)) }
+    {
+        let place = self.search(c, cursor, count);
+        if let Some(k) = place {
+            self.run_on(c, k);
+        }
+        place
+    }
+
     // The thread of this turn: the one that runs, or the one that a search finds.
     fn choose(&mut self, c: usize) -> Option<usize>
         requires here { c < length self.old.cpus }
         requires sound { IsSound self.old }
         ensures { found self.new result ≡ chooses c self.old }
     {
-        let cpu = &self.cpus.as_slice()[c];
-        let (running, cursor, count) = (cpu.running, cpu.cursor, cpu.threads.len());
-        if running.is_some() {
-            return running;
+        let cpu = self.cpus.part(c);
+        let (cursor, count) = (cpu.cursor, cpu.threads.len());
+        match cpu.running {
+            Some(k) => Some(k),
+            None => self.choose_new(c, cursor, count),
         }
-        let place = self.search(c, cursor, count);
-        if let Some(k) = place {
-            self.run_on(c, k);
-        }
-        place
     }
 
     // Performs an ask about tokens. None if it is about messages, or none of both.

@@ -1,10 +1,7 @@
-use Rattle.std.proofs.Common.{◌≡◌, ◌<◌, ℕ, arith, rules, Option, None}
-use Rattle.lwkt_plain.specs.Turns.{round_from, IsIdle}
-use Rattle.lwkt_plain.proofs.TurnSound.{found_small}
+use Rattle.std.proofs.Common.{◌≡◌, ap, ◌∙◌, Option, None}
+use Rattle.lwkt_plain.specs.declared.states.Processor.{Processor}
+use Rattle.lwkt_plain.proofs.Soundness.{cpu_got}
 use Rattle.lwkt_plain.proofs.states.Plain.choose.Goals as goal
 
-pub run_on-requires : goal.run_on-requires
-run_on-requires c =
-    let idle : IsIdle c.args.self.now c.args.c = search rules in
-    let small = found_small c.args.c c.in-Some.k c.args.self.now c.search-place.new.self (round_from c.index-as_slice-c.result.cursor c.len-count.result) c.requires.here c.requires.sound idle c.in-Some.ensures in
-    omega (arith, small)
+pub choose_new-requires-clause-idle : goal.choose_new-requires-clause-idle
+choose_new-requires-clause-idle c = ap (λ (x : Processor). x.running) (cpu_got c.args.self.now c.args.c c.part-cpu.result.now c.part-cpu.ensures) ∙ c.in-None.is

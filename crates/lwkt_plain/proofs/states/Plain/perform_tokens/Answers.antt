@@ -8,7 +8,7 @@ use Rattle.lwkt_plain.specs.Places.{with_tokens}
 use Rattle.lwkt_plain.specs.Sound.{AreHeld, IsSoundList}
 use Rattle.lwkt_plain.specs.TokenAsks.{Asked, asked}
 use Rattle.lwkt_plain.specs.Turns.{list_at, with_list, performed, of_tokens, token_ask}
-use Rattle.lwkt_plain.proofs.Soundness.{few_cpus, held_running, list_fits, list_got, put_is}
+use Rattle.lwkt_plain.proofs.Soundness.{few_cpus, held_running, list_fits, list_got, put_is, put_back}
 use Rattle.lwkt_plain.proofs.states.Plain.perform_tokens.Goals as goal
 
 pub ask_tokens-requires-clause-held : goal.ask_tokens-requires-clause-held
@@ -37,3 +37,13 @@ returns-clause-asks c =
     (put_is p c.args.c c.args.k c.at-cpu.result.now c.at-thread.result.now c.ask_tokens.new.tokens c.ask_tokens.new.list c.at-cpu.ensures.value c.at-thread.ensures.value)
     ∙ ap (option_map (of_tokens (record { 0 = c.args.c }) c.args.k p))
     (c.ask_tokens.ensures.asks ∙ ap (λ (refs : List Ref). token_ask (record { 0 = c.args.c }) p.tokens refs c.args.ask.now) (sym e))
+
+pub returns-clause-stays : goal.returns-clause-stays
+returns-clause-stays c = λ none.
+    let p = c.args.self.now in
+    let cpu = c.at-cpu.result.now in
+    let t = c.at-thread.result.now in
+    sym (put_is p c.args.c c.args.k cpu t c.ask_tokens.new.tokens c.ask_tokens.new.list c.at-cpu.ensures.value c.at-thread.ensures.value)
+    ∙ ap (λ (ts : List Token). with_list c.ask_tokens.new.list c.args.c c.args.k (with_tokens ts p)) (c.ask_tokens.ensures.stays none)
+    ∙ ap (λ (refs : List Ref). with_list refs c.args.c c.args.k (with_tokens p.tokens p)) (c.ask_tokens.ensures.keeps none)
+    ∙ put_back p c.args.c c.args.k cpu t c.at-cpu.ensures.value c.at-thread.ensures.value

@@ -16,3 +16,9 @@ poll-requires c =
     let now = chosen_runs c.args.c c.in-Some.k mid c.choose.new.self inside c.in_ok-take_mail.ensures.sound c.in-Some.ensures in
     let cpus = now.cpus in
     record { here = omega (arith, cpus, inside); there = now.there; sound = now.sound; running = now.running }
+
+pub returns-in-None-clause-sound : goal.returns-in-None-clause-sound
+returns-in-None-clause-sound c =
+    let mid = c.take_mail.new.self in
+    let inside = mail_inside c.args.self.now mid c.args.c c.in_ok-take_mail.ensures.exact c.requires.here in
+    chosen_none c.args.c mid c.choose.new.self inside c.in_ok-take_mail.ensures.sound c.in-None.ensures
