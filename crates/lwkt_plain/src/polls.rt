@@ -30,12 +30,16 @@ fn note(log: &mut Items<Entry>, entry: Option<Entry>) -> Result<(), OutOfMemory>
 pub(crate) fn spec_at<'a>(script: &'a Script, c: usize, k: usize) -> Option<&'a ThreadSpec>
     ensures { option_copied result ≡ spec_at script.now c k }
 {
-    script
-        .threads
-        .as_slice()
-        .iter()
-        .filter(|spec| usize::from(spec.cpu.0) == c)
-        .nth(k)
+    let mut left = k;
+    for spec in script.threads.as_slice() {
+        if usize::from(spec.cpu.0) == c {
+            if left == 0 {
+                return Some(spec);
+            }
+            left -= 1;
+        }
+    }
+    None
 }
 
 impl Thread {
