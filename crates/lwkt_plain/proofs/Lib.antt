@@ -11,6 +11,7 @@ pub mod GoOnSound
 pub mod Holdings
 pub mod LawTests
 pub mod MailSound
+pub mod OpenedSound
 pub mod PollSound
 pub mod Receipts
 pub mod Soundness

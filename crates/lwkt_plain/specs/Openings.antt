@@ -2,7 +2,8 @@
 use Rattle.std.specs.Prelude.{ℕ, ◌==◌, List, [], map, filter, replicate, None}
 use Rattle.lwkt_base.specs.declared.asks.Answer.TheVariants.{Begin}
 use Rattle.lwkt_code.specs.Programs.{start}
-use Rattle.lwkt_core.specs.Opening.{opened_token}
+use Rattle.lwkt_core.specs.Opening.{opened_token, AllOpenLawfully}
+use Rattle.lwkt_script.specs.Limits.{IsWithinLimits}
 use Rattle.lwkt_script.specs.declared.scripts.Script.{Script}
 use Rattle.lwkt_script.specs.declared.scripts.ThreadSpec.{ThreadSpec}
 use Rattle.lwkt_plain.specs.declared.letters.TheConstants.{PORTS}
@@ -13,6 +14,7 @@ use Rattle.lwkt_plain.specs.declared.states.Thread.{Thread}
 use Rattle.lwkt_plain.specs.Letters.{opened_letter}
 use Rattle.lwkt_plain.specs.Places.{empty_lane, empty_port}
 use Rattle.lwkt_plain.specs.Intakes.{below}
+use Rattle.lwkt_plain.specs.Sound.{IsSound}
 
 -- a thread that was never polled
 abbrev pub opened_thread : ThreadSpec → Thread
@@ -27,3 +29,7 @@ opened_cpu script c = record { lanes = replicate script.cpus empty_lane; ports =
 
 abbrev pub opened : Script → Plain
 opened script = record { tokens = map opened_token script.tokens; letters = map opened_letter script.messages; cpus = map (opened_cpu script) (below script.cpus) }
+
+-- a law: a script within its limits whose tokens obey their laws opens in a sound state
+abbrev pub OpenedScriptsAreSound : Type 0
+OpenedScriptsAreSound = (script : Script) → IsWithinLimits script → AllOpenLawfully script.tokens → IsSound (opened script)

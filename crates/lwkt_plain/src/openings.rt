@@ -4,7 +4,7 @@ ghost use Rattle.lwkt_core.specs.Opening.{opened_token};
 ghost use Rattle.lwkt_plain.specs.Intakes.{below};
 ghost use Rattle.lwkt_plain.specs.Letters.{opened_letter};
 ghost use Rattle.lwkt_plain.specs.Places.{empty_lane, empty_port};
-ghost use Rattle.lwkt_plain.specs.Openings.{opened_thread, threads_of, opened_cpu, opened};
+ghost use Rattle.lwkt_plain.specs.Openings.{opened_thread, threads_of, opened_cpu, opened, OpenedScriptsAreSound};
 
 use crate::items::Items;
 use crate::letters::{Lane, Letter, PORTS, Port};
@@ -158,3 +158,8 @@ impl Plain {
         })
     }
 }
+
+/// A script within its limits whose tokens obey their laws opens in a sound state.
+pub fn opened_scripts_are_sound()
+    ensures { OpenedScriptsAreSound }
+{}
