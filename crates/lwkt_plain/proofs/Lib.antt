@@ -5,6 +5,8 @@ pub mod AskSound
 pub mod Changes
 pub mod ChosenSound
 pub mod Folds
+pub mod FormLaws
+pub mod FormMail
 pub mod Frames
 pub mod Givings
 pub mod GoOnSound

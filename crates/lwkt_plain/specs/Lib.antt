@@ -1,3 +1,4 @@
+pub mod Forms
 pub mod Intakes
 pub mod Letters
 pub mod Mailing

@@ -6,6 +6,7 @@
 //! its list last; a *form* is a state in which only such words are kept as can refuse a list again.
 #![tactic(auto)]
 
+pub mod forms;
 mod intakes;
 pub mod items;
 mod lanes;
