@@ -28,10 +28,9 @@ use Rattle.lwkt_plain.specs.Intakes.{below, moves_on, replies, pays_at, pays, pa
 use Rattle.lwkt_plain.specs.Sound.{Frame}
 use Rattle.lwkt_plain.proofs.Frames.{takes_mail_frame}
 use Rattle.lwkt_plain.proofs.Receipts.{on_note, on_first, more, receives_zero, on_cleared, cleared, clears_zero, on_shown, on_served, within, within_zero}
-use Rattle.std.proofs.Math.ListN as lists
 
 -- other words for those of threads
-abbrev Words : Type 0
+abbrev pub Words : Type 0
 Words = List Ref → Option BusyAt → Option BusyAt
 
 -- what is done to a part, and to the part with other words
@@ -57,8 +56,13 @@ thread_with g f same c k p =
     (λ cpu. ap (λ (threads : List Thread). record cpu { threads = threads }) (sym (changed_map (thread_by g) f same cpu.threads k))) c p
 
 -- the parts of a state with other words
+get_or_map : {A : Type 0} (h : A → A) (d : A) → h d ≡ d → (xs : List A) (i : ℕ) → get_or (map h xs) i d ≡ h (get_or xs i d)
+get_or_map h d same [] i = sym same
+get_or_map h d same (x ∷ xs) zero = refl
+get_or_map h d same (x ∷ xs) (suc i) = get_or_map h d same xs i
+
 pub cpu_at_by : (g : Words) (p : Plain) (c : ℕ) → cpu_at (plain_by g p) c ≡ cpu_by g (cpu_at p c)
-cpu_at_by g p c = lists.get_or-map (cpu_by g) p.cpus c no_processor
+cpu_at_by g p c = get_or_map (cpu_by g) no_processor refl p.cpus c
 
 pub lane_at_by : (g : Words) (p : Plain) (s c : ℕ) → lane_at (plain_by g p) s c ≡ lane_at p s c
 lane_at_by g p s c = ap (λ (cpu : Processor). get_or cpu.lanes s empty_lane) (cpu_at_by g p c)
