@@ -79,9 +79,9 @@ pub rel_refused : (cpu : CpuId) (tokens : List Token) (refs : List Ref) (tok : T
 rel_refused cpu tokens refs tok fault not_held not_its only = elim only [
   | inl is ↦ ap (on_named cpu tokens refs tok) (unnamed refs tok.0 (not_held.0 is)) ∙ ap (refused tokens refs) (sym (same_fault fault NotHeld is))
   | inr is ↦
-  ap (on_named cpu tokens refs tok) (named refs tok.0 (not_its.0 is).0)
-  ∙ not_last cpu tokens refs tok (last_of refs) refl (not_its.0 is).1
-  ∙ ap (refused tokens refs) (sym (same_fault fault NotLast is))
+      ap (on_named cpu tokens refs tok) (named refs tok.0 (not_its.0 is).0)
+      ∙ not_last cpu tokens refs tok (last_of refs) refl (not_its.0 is).1
+      ∙ ap (refused tokens refs) (sym (same_fault fault NotLast is))
 ]
 
 -- an exchange

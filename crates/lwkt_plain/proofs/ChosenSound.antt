@@ -54,18 +54,20 @@ Chosen c p x = ((x.place ≡ None) → IsSound x.plain) × ((k : ℕ) → x.plac
 
 searched : (c : ℕ) (p : Plain) (x : Found) (o : Option ℕ) → c < length p.cpus → x.place ≡ o → Comes c p x → Chosen c p (option_map_or (λ k. found (with_cpu (run_on k) c x.plain) (Some k)) o x)
 searched c p x None inside is comes = (λ none. (comes.0 is).sound, λ k same. absurd (none-some k (sym is ∙ same)))
-searched c p x (Some j) inside is comes =
-    (λ none. absurd (none-some j (sym none)),
-    λ k same. subst (λ (n : ℕ). RunsNow c n p (with_cpu (run_on j) c x.plain)) (same_Some j k same) (held_runs c j p x.plain inside (comes.1 j is)))
+searched c p x (Some j) inside is comes = (
+  λ none. absurd (none-some j (sym none)),
+  λ k same. subst (λ (n : ℕ). RunsNow c n p (with_cpu (run_on j) c x.plain)) (same_Some j k same) (held_runs c j p x.plain inside (comes.1 j is)),
+)
 
 chosen_by : (c : ℕ) (p : Plain) (o : Option ℕ) → (cpu_at p c).running ≡ o → c < length p.cpus → IsSound p → Chosen c p (option_map_or (λ k. found p (Some k)) o (runs_at c (finds c p (round_from (cpu_at p c).cursor (length (cpu_at p c).threads)))))
 chosen_by c p None idle inside sound =
     let few = few_cpus p sound in
     let x = finds c p (round_from (cpu_at p c).cursor (length (cpu_at p c).threads)) in
     searched c p x x.place inside refl (finds_come c (round_from (cpu_at p c).cursor (length (cpu_at p c).threads)) p inside sound idle (omega (arith, few, inside)))
-chosen_by c p (Some j) running inside sound =
-    (λ none. absurd (none-some j (sym none)),
-    λ k same. subst (λ (n : ℕ). RunsNow c n p p) (same_Some j k same) (record { sound = sound; running = running; there = running_there p c j sound inside running; cpus = refl }))
+chosen_by c p (Some j) running inside sound = (
+  λ none. absurd (none-some j (sym none)),
+  λ k same. subst (λ (n : ℕ). RunsNow c n p p) (same_Some j k same) (record { sound = sound; running = running; there = running_there p c j sound inside running; cpus = refl }),
+)
 
 pub chosen : (c : ℕ) (p : Plain) → c < length p.cpus → IsSound p → Chosen c p (chooses c p)
 chosen c p inside sound = chosen_by c p (cpu_at p c).running refl inside sound

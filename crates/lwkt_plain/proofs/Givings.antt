@@ -160,27 +160,27 @@ mended_tokens tokens i tok now cpu sound at is =
     let held : (c : ℕ) → held_by now c ≡ held_by tok c = (λ c. ap (λ (holders : List Held). get_or holders c Nothing) is.same) in
     record {
       sound = record {
-      safe = record {
-      processors = safe.processors;
-      token_limit = (let same = length-set tokens i now in let few = safe.token_limit in omega (arith, same, few));
-      each_token = All-set (IsSafeToken CPU_LIMIT) tokens i now is.safe safe.each_token;
-      few = λ c.
-      (let f : Token → ℕ = λ t. references_in (held_by t c) in
-      let moved : sum_by f (set tokens i now) + f (get_or tokens i tok) ≡ sum_by f tokens + f now = sum_by-set f tokens i now tok inside in
-      let old : f (get_or tokens i tok) ≡ f tok = ap f (get_or_from_slice_get tokens i tok tok at) in
-      let new : f now ≡ f tok = ap references_in (held c) in
-      let few = safe.few c in
-      omega (arith, moved, old, new, few));
-      message_limit = safe.message_limit;
-      each_message = safe.each_message;
-      };
-      short = All-set (λ (t : Token). IsShort t.first_blob) tokens i now is.short sound.short;
+        safe = record {
+          processors = safe.processors;
+          token_limit = (let same = length-set tokens i now in let few = safe.token_limit in omega (arith, same, few));
+          each_token = All-set (IsSafeToken CPU_LIMIT) tokens i now is.safe safe.each_token;
+          few = λ c.
+              (let f : Token → ℕ = λ t. references_in (held_by t c) in
+              let moved : sum_by f (set tokens i now) + f (get_or tokens i tok) ≡ sum_by f tokens + f now = sum_by-set f tokens i now tok inside in
+              let old : f (get_or tokens i tok) ≡ f tok = ap f (get_or_from_slice_get tokens i tok tok at) in
+              let new : f now ≡ f tok = ap references_in (held c) in
+              let few = safe.few c in
+              omega (arith, moved, old, new, few));
+          message_limit = safe.message_limit;
+          each_message = safe.each_message;
+        };
+        short = All-set (λ (t : Token). IsShort t.first_blob) tokens i now is.short sound.short;
       };
       same = length-set tokens i now;
       others = λ other differ t.
-      holding_set tokens i now other t inside
-      ∙ if_same (t == i) (held_by now other) (holding_in tokens other t)
-      (λ same. held other ∙ sym (held_at tokens i tok other at) ∙ ap (holding_in tokens other) (sym (eqb-true t i same)));
+          holding_set tokens i now other t inside
+          ∙ if_same (t == i) (held_by now other) (holding_in tokens other t)
+          (λ same. held other ∙ sym (held_at tokens i tok other at) ∙ ap (holding_in tokens other) (sym (eqb-true t i same)));
     }
 
 mended_held : (tokens : List Token) (i : ℕ) (tok now : Token) (cpu : CpuId) → slice_get tokens i ≡ Some tok → IsMended cpu tok now → (t : ℕ) → holding_in (set tokens i now) cpu.0 t ≡ holding_in tokens cpu.0 t
@@ -235,13 +235,14 @@ give_keeps tokens cpu front r here sound held = go (slice_get tokens r.tok.0) re
         let eight = is.safe.eight_holders in
         let wide : cpu_of e < length now.holders = omega (arith, eq, here, eight) in
         let S : List Token → Type 0 = λ ts. KeepsTokens cpu.0 tokens ts × AreHeld cpu.0 front ts in
-        subst S (sym (given_is tokens cpu r.tok tok at))
-        (keeps_both cpu.0 tokens mid (stepped mid e) kept (subst (λ (c : ℕ). KeepsTokens c mid (stepped mid e)) eq (event_keeps mid e i now kept.sound all (giving_place cpu r.tok now) here_now)),
-        λ t.
-        subst (λ (c : ℕ). holding_in (stepped mid e) c t ≡ (if t == i then held_next e (holding_in mid c t) else holding_in mid c t)) eq (own_after mid e i now wide (giving_place cpu r.tok now) here_now t)
-        ∙ ap (λ (h : Held). if t == i then held_next e h else h) (mended_held tokens i tok now cpu at is t ∙ held t)
-        ∙ if_both (t == i) (held_next e (holding_of (front ++ r ∷ []) t)) (one_less (holding_of (front ++ r ∷ []) t)) (holding_of (front ++ r ∷ []) t) (λ same. giving_next cpu r.tok now (holding_of (front ++ r ∷ []) t))
-        ∙ sym (ap (λ (h : Holding). h t) (holding_of-front front r)))
+        subst S (sym (given_is tokens cpu r.tok tok at)) (
+          keeps_both cpu.0 tokens mid (stepped mid e) kept (subst (λ (c : ℕ). KeepsTokens c mid (stepped mid e)) eq (event_keeps mid e i now kept.sound all (giving_place cpu r.tok now) here_now)),
+          λ t.
+              subst (λ (c : ℕ). holding_in (stepped mid e) c t ≡ (if t == i then held_next e (holding_in mid c t) else holding_in mid c t)) eq (own_after mid e i now wide (giving_place cpu r.tok now) here_now t)
+              ∙ ap (λ (h : Held). if t == i then held_next e h else h) (mended_held tokens i tok now cpu at is t ∙ held t)
+              ∙ if_both (t == i) (held_next e (holding_of (front ++ r ∷ []) t)) (one_less (holding_of (front ++ r ∷ []) t)) (holding_of (front ++ r ∷ []) t) (λ same. giving_next cpu r.tok now (holding_of (front ++ r ∷ []) t))
+              ∙ sym (ap (λ (h : Holding). h t) (holding_of-front front r)),
+        )
 
     go : (o : Option Token) → slice_get tokens r.tok.0 ≡ o → KeepsTokens cpu.0 tokens (changed (given cpu r.tok) tokens r.tok.0) × AreHeld cpu.0 front (changed (given cpu r.tok) tokens r.tok.0)
     go None at = absurd (none_past tokens r.tok.0 at there)

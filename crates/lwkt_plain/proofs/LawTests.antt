@@ -49,9 +49,10 @@ decides_order : (cells : List ℕ) → Decides (do_not_fall 0 cells) (IsNonDecre
 decides_order cells = (λ is. (falls_not 0 cells is).1, λ rise. rises 0 cells (λ k d inside. omega arith) rise)
 
 decides_cap : (param : ℕ) (cells : List ℕ) → Decides (list_all (λ (cell : ℕ). nat_le cell param) cells) (All (λ (cell : ℕ). cell ≤ param) cells)
-decides_cap param cells =
-    (λ is k d inside. leb-true (get_or cells k d) param (AllPass-from_list_all (λ (cell : ℕ). nat_le cell param) cells is k d inside),
-    λ all. list_all-from_AllPass (λ (cell : ℕ). nat_le cell param) cells (λ k d inside. le-leb (get_or cells k d) param (all k d inside)))
+decides_cap param cells = (
+  λ is k d inside. leb-true (get_or cells k d) param (AllPass-from_list_all (λ (cell : ℕ). nat_le cell param) cells is k d inside),
+  λ all. list_all-from_AllPass (λ (cell : ℕ). nat_le cell param) cells (λ k d inside. le-leb (get_or cells k d) param (all k d inside)),
+)
 
 decides_length : (o : Option ℕ) (len : ℕ) → Decides (option_eq (λ (a b : ℕ). a == b) o (Some len)) (o ≡ Some len)
 decides_length None len = (λ is. absurd (false≢true is), λ is. absurd (none-some len is))

@@ -68,8 +68,8 @@ lists_opened : (script : Script) (n c : ℕ) → IsWithinLimits script → AreSo
 lists_opened script n c limits = record {
   few = few_lists script c limits;
   each =
-    All-map (IsSoundList n) (λ (t : Thread). t.list) (map opened_thread (threads_of script c))
-    (All-map (λ (t : Thread). IsSoundList n t.list) opened_thread (threads_of script c) (λ i d inside. empty_list n));
+      All-map (IsSoundList n) (λ (t : Thread). t.list) (map opened_thread (threads_of script c))
+      (All-map (λ (t : Thread). IsSoundList n t.list) opened_thread (threads_of script c) (λ i d inside. empty_list n));
   running = tt;
 }
 
@@ -96,17 +96,17 @@ pub opened_sound : OpenedScriptsAreSound
 opened_sound script limits lawful = record {
   tokens = tokens_sound script limits lawful;
   messages =
-    (let rounds = length-map (map opened_letter script.messages) round_of in
-    let letters = length-map script.messages opened_letter in
-    let few = limits.few_messages in
-    omega (arith, rounds, letters, few));
+      (let rounds = length-map (map opened_letter script.messages) round_of in
+      let letters = length-map script.messages opened_letter in
+      let few = limits.few_messages in
+      omega (arith, rounds, letters, few));
   rounds =
-    All-map (λ (round : ℕ). round ≤ LAST_ROUND) round_of (map opened_letter script.messages)
-    (All-map (λ (l : Letter). round_of l ≤ LAST_ROUND) opened_letter script.messages (λ i d inside. (limits.messages i d inside).round));
+      All-map (λ (round : ℕ). round ≤ LAST_ROUND) round_of (map opened_letter script.messages)
+      (All-map (λ (l : Letter). round_of l ≤ LAST_ROUND) opened_letter script.messages (λ i d inside. (limits.messages i d inside).round));
   processors = few_opened script limits;
   each =
-    All-map (AreSoundLists (length (map opened_token script.tokens))) lists_of (map (opened_cpu script) (below script.cpus))
-    (All-map (λ (cpu : Processor). AreSoundLists (length (map opened_token script.tokens)) (lists_of cpu)) (opened_cpu script) (below script.cpus)
-    (λ i d inside. lists_opened script (length (map opened_token script.tokens)) (get_or (below script.cpus) i d) limits));
+      All-map (AreSoundLists (length (map opened_token script.tokens))) lists_of (map (opened_cpu script) (below script.cpus))
+      (All-map (λ (cpu : Processor). AreSoundLists (length (map opened_token script.tokens)) (lists_of cpu)) (opened_cpu script) (below script.cpus)
+      (λ i d inside. lists_opened script (length (map opened_token script.tokens)) (get_or (below script.cpus) i d) limits));
   held = λ c here. subst (λ (refs : List Ref). AreHeld c refs (map opened_token script.tokens)) (sym (idle script (below script.cpus) c)) (nothing_held script.tokens c);
 }

@@ -81,10 +81,10 @@ sound_step f c tokens l inside sound keeps lists held = record {
   each = subst (λ (n : ℕ). All (AreSoundLists n) (set f.cpus c l)) (sym keeps.same) (All-set (AreSoundLists (length f.tokens)) f.cpus c l lists sound.each);
   held = λ d here. elim (cases_eq d c) [
     | inl same ↦
-    subst (λ (e : ℕ). AreHeld e (running_refs (get_or (set f.cpus c l) e no_lists)) tokens) (sym same)
-    (subst (λ (m : Lists). AreHeld c (running_refs m) tokens) (sym (get_or-set_same f.cpus c l no_lists inside)) held)
+        subst (λ (e : ℕ). AreHeld e (running_refs (get_or (set f.cpus c l) e no_lists)) tokens) (sym same)
+        (subst (λ (m : Lists). AreHeld c (running_refs m) tokens) (sym (get_or-set_same f.cpus c l no_lists inside)) held)
     | inr differ ↦
-    λ t. keeps.others d differ t ∙ subst (λ (m : Lists). AreHeld d (running_refs m) f.tokens) (sym (get_or-set_other f.cpus c d l no_lists differ)) (sound.held d here) t
+        λ t. keeps.others d differ t ∙ subst (λ (m : Lists). AreHeld d (running_refs m) f.tokens) (sym (get_or-set_other f.cpus c d l no_lists differ)) (sound.held d here) t
   ];
 }
 

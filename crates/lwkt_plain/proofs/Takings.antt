@@ -47,9 +47,10 @@ front_of n front r rest fits =
     let split : (front ++ r ∷ []) ++ rest ≡ front ++ (r ∷ rest) = append_assoc front (r ∷ []) rest in
     let long = length-append (front ++ r ∷ []) rest in
     let all : IsSoundList n ((front ++ r ∷ []) ++ rest) = subst (IsSoundList n) (sym split) fits in
-    let few = all.0 in
-    (omega (arith, long, few),
-    λ k d inside. subst (λ (q : Ref). q.tok.0 < n) (get_or_append_left (front ++ r ∷ []) rest d k inside) (all.1 k d (omega (arith, long, inside))))
+    let few = all.0 in (
+      omega (arith, long, few),
+      λ k d inside. subst (λ (q : Ref). q.tok.0 < n) (get_or_append_left (front ++ r ∷ []) rest d k inside) (all.1 k d (omega (arith, long, inside))),
+    )
 
 -- one reference more, or all given back
 take_on : (cpu : CpuId) (refs front : List Ref) (r : Ref) (rest : List Ref) (tokens : List Token) → cpu.0 < CPU_LIMIT → AreSoundTokens tokens → AreHeld cpu.0 front tokens → IsSoundList (length tokens) (front ++ (r ∷ rest)) → ((next : List Token) → AreSoundTokens next → AreHeld cpu.0 (front ++ r ∷ []) next → IsSoundList (length next) ((front ++ r ∷ []) ++ rest) → Resumes cpu.0 next ((front ++ r ∷ []) ++ rest) (takes cpu refs next (front ++ r ∷ []) rest)) → (why : Option Miss) → miss_of tokens refs front r ≡ why → Resumes cpu.0 tokens (front ++ (r ∷ rest)) (after_miss cpu refs tokens front r rest why)

@@ -155,14 +155,14 @@ event_keeps tokens e i tok sound needs place at =
     let short = each_at (λ (t : Token). IsShort t.first_blob) tokens i tok sound.short at in
     subst S (sym (step_is tokens e i tok place at)) (record {
       sound = record {
-      safe = subst IsSafe (machine_is tokens e i tok place at) (IsSafe-after (machine CPU_LIMIT tokens []) e sound.safe needs);
-      short = All-set (λ (t : Token). IsShort t.first_blob) tokens i (token_after tok e) (short_after tok e safe.short short) sound.short;
+        safe = subst IsSafe (machine_is tokens e i tok place at) (IsSafe-after (machine CPU_LIMIT tokens []) e sound.safe needs);
+        short = All-set (λ (t : Token). IsShort t.first_blob) tokens i (token_after tok e) (short_after tok e safe.short short) sound.short;
       };
       same = length-set tokens i (token_after tok e);
       others = λ other differ t.
-      holding_set tokens i (token_after tok e) other t inside
-      ∙ if_same (t == i) (held_by (token_after tok e) other) (holding_in tokens other t)
-      (λ is. held_other tok e other differ ∙ sym (held_at tokens i tok other at) ∙ ap (holding_in tokens other) (sym (eqb-true t i is)));
+          holding_set tokens i (token_after tok e) other t inside
+          ∙ if_same (t == i) (held_by (token_after tok e) other) (holding_in tokens other t)
+          (λ is. held_other tok e other differ ∙ sym (held_at tokens i tok other at) ∙ ap (holding_in tokens other) (sym (eqb-true t i is)));
     })
 
 -- and its processor with what it holds then
@@ -275,10 +275,11 @@ front_fits n front r fits =
     let long = length-append front (r ∷ []) in
     let few = fits.0 in
     let last : get_or (front ++ r ∷ []) (length front) r ≡ r = get_or-append_seam front r [] r in
-    let one = fits.1 (length front) r (omega (arith, long)) in
-    (omega (arith, long, few),
-    λ k d inside. subst (λ (q : Ref). q.tok.0 < n) (get_or_append_left front (r ∷ []) d k inside) (fits.1 k d (omega (arith, long, inside))),
-    subst (λ (q : Ref). q.tok.0 < n) last one)
+    let one = fits.1 (length front) r (omega (arith, long)) in (
+      omega (arith, long, few),
+      λ k d inside. subst (λ (q : Ref). q.tok.0 < n) (get_or_append_left front (r ∷ []) d k inside) (fits.1 k d (omega (arith, long, inside))),
+      subst (λ (q : Ref). q.tok.0 < n) last one,
+    )
 
 pub take_needs : (tokens : List Token) (cpu : CpuId) (refs front : List Ref) (r : Ref) (tok : Token) → cpu.0 < CPU_LIMIT → AreSoundTokens tokens → slice_get tokens r.tok.0 ≡ Some tok → AreHeld cpu.0 front tokens → IsSoundList (length tokens) (front ++ r ∷ []) → miss_of tokens refs front r ≡ None → Needs (machine CPU_LIMIT tokens []) (taking_event cpu front r)
 take_needs tokens cpu refs front r tok here sound at held fits none =
@@ -309,14 +310,15 @@ take_keeps tokens cpu refs front r here sound held fits none =
         let safe = each_at (IsSafeToken CPU_LIMIT) tokens r.tok.0 tok sound.safe.each_token at in
         let eight = safe.eight_holders in
         let is = event_cpu cpu front r in
-        let wide : cpu_of e < length tok.holders = omega (arith, is, here, eight) in
-        (subst (λ (c : ℕ). KeepsTokens c tokens (stepped tokens e)) is (event_keeps tokens e r.tok.0 tok sound needs (event_place cpu front r) at),
-        λ t.
-        subst (λ (c : ℕ). holding_in (stepped tokens e) c t ≡ (if t == r.tok.0 then held_next e (holding_in tokens c t) else holding_in tokens c t)) is (own_after tokens e r.tok.0 tok wide (event_place cpu front r) at t)
-        ∙ ap (λ (h : Held). if t == r.tok.0 then held_next e h else h) (held t)
-        ∙ if_both (t == r.tok.0) (held_next e (holding_of front t)) (one_more (holding_of front t) r.mode) (holding_of front t)
-        (λ same. event_next cpu front r (holding_of front t) (held_named front t ∙ ap (names front) (eqb-true t r.tok.0 same)))
-        ∙ sym (ap (λ (h : Holding). h t) (holding_of-push front r)))
+        let wide : cpu_of e < length tok.holders = omega (arith, is, here, eight) in (
+          subst (λ (c : ℕ). KeepsTokens c tokens (stepped tokens e)) is (event_keeps tokens e r.tok.0 tok sound needs (event_place cpu front r) at),
+          λ t.
+              subst (λ (c : ℕ). holding_in (stepped tokens e) c t ≡ (if t == r.tok.0 then held_next e (holding_in tokens c t) else holding_in tokens c t)) is (own_after tokens e r.tok.0 tok wide (event_place cpu front r) at t)
+              ∙ ap (λ (h : Held). if t == r.tok.0 then held_next e h else h) (held t)
+              ∙ if_both (t == r.tok.0) (held_next e (holding_of front t)) (one_more (holding_of front t) r.mode) (holding_of front t)
+              (λ same. event_next cpu front r (holding_of front t) (held_named front t ∙ ap (names front) (eqb-true t r.tok.0 same)))
+              ∙ sym (ap (λ (h : Holding). h t) (holding_of-push front r)),
+        )
 
     go : (o : Option Token) → slice_get tokens r.tok.0 ≡ o → r.tok.0 < length tokens → KeepsTokens cpu.0 tokens (stepped tokens (taking_event cpu front r)) × AreHeld cpu.0 (front ++ r ∷ []) (stepped tokens (taking_event cpu front r))
     go None at there = absurd (none_past tokens r.tok.0 at there)

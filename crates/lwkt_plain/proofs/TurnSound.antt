@@ -186,16 +186,19 @@ module _ (c k : ℕ) (p : Plain) (inside : c < length p.cpus) (sound : IsSound p
       go None is keeps held =
           let t = (resume (record { 0 = c }) p.tokens (list_at p c k)).tokens in
           let F : Option Missed → Type 0 = λ o. Comes c p (option_map_or (λ (m : Missed). found (missed_by c k (with_tokens t p) m.at m.why) None) o (found (with_tokens t p) (Some k))) in
-          subst F (sym is) (λ none. some_not k none, λ j same.
-          subst (λ (n : ℕ). HeldNow c n p (with_tokens t p)) (same_Some k j same) (record {
-          before = p;
-          stays = stays_here c p sound idle;
-          tokens = t;
-          is = refl;
-          there = there;
-          keeps = keeps;
-          held = subst (λ (o : Option Missed). AreHeld c (held_of (list_at p c k) o) t) is held;
-          }))
+          subst F (sym is) (
+            λ none. some_not k none,
+            λ j same.
+                subst (λ (n : ℕ). HeldNow c n p (with_tokens t p)) (same_Some k j same) (record {
+                  before = p;
+                  stays = stays_here c p sound idle;
+                  tokens = t;
+                  is = refl;
+                  there = there;
+                  keeps = keeps;
+                  held = subst (λ (o : Option Missed). AreHeld c (held_of (list_at p c k) o) t) is held;
+                }),
+          )
       go (Some m) is keeps held =
           let t = (resume (record { 0 = c }) p.tokens (list_at p c k)).tokens in
           let F : Option Missed → Type 0 = λ o. Comes c p (option_map_or (λ (m : Missed). found (missed_by c k (with_tokens t p) m.at m.why) None) o (found (with_tokens t p) (Some k))) in

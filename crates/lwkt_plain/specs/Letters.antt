@@ -56,7 +56,7 @@ come_home l = at_rest l.origin l.word.round
 abbrev pub sent : CpuId → Call → Flags → Bool → Letter → Letter
 sent target call flags sync l = record l {
   word = record { round = l.word.round + 1; state = Out; origin = l.origin.cpu; target = target; aborted = false; sync = sync; dropable = flags.dropable; abortable = flags.abortable; priority = flags.priority };
-  rec = record { arg = call.arg; result = 0; op = call.op; error = 0 }
+  rec = record { arg = call.arg; result = 0; op = call.op; error = 0 };
 }
 
 -- a message is taken by its target, into these hands

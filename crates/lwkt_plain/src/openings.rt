@@ -105,11 +105,7 @@ fn opened_thread(alloc: Global, spec: &ThreadSpec) -> Thread
     }
 }
 
-fn opened_threads(
-    alloc: Global,
-    script: &Script,
-    c: usize,
-) -> Result<Items<Thread>, OutOfMemory>
+fn opened_threads(alloc: Global, script: &Script, c: usize) -> Result<Items<Thread>, OutOfMemory>
     ensures { IfOk result (λ threads. threads ≡ map opened_thread (threads_of script.now c)) }
 {
     let mut threads = Vec::new(alloc);

@@ -95,13 +95,7 @@ fn mark_for(cpu: CpuId, tokens: &mut Items<Token>, r: Ref)
 }
 
 // A reference that is missed blocks its thread, or is refused at the last generation.
-fn must_switch(
-    cpu: CpuId,
-    tokens: &mut Items<Token>,
-    list: &mut TokList,
-    r: Ref,
-    why: Miss,
-) -> Next
+fn must_switch(cpu: CpuId, tokens: &mut Items<Token>, list: &mut TokList, r: Ref, why: Miss) -> Next
     requires here { cpu.0 < CPU_LIMIT }
     requires sound { AreSoundTokens tokens.old }
     requires fits { IsSoundList (length tokens.old) (list.old ++ r ∷ []) }
@@ -215,12 +209,7 @@ fn value_of(tokens: &Items<Token>, tok: TokId, cell: u8) -> Option<u64>
 }
 
 // The first refusal of use of a cell that there isn't, or what comes next.
-fn unless_cell(
-    tokens: &Items<Token>,
-    tok: TokId,
-    cell: u8,
-    next: Option<Fault>,
-) -> Option<Fault>
+fn unless_cell(tokens: &Items<Token>, tok: TokId, cell: u8, next: Option<Fault>) -> Option<Fault>
     ensures { result ≡ unless_cell tokens.now tok cell next }
 {
     if tokens.len() <= usize::from(tok.0) {
@@ -323,12 +312,7 @@ pub(crate) fn write(
 }
 
 // Why nothing is added, where this is the sum, if it fits.
-fn add_refusal(
-    tokens: &Items<Token>,
-    list: &TokList,
-    tok: TokId,
-    sum: Option<u64>,
-) -> Option<Fault>
+fn add_refusal(tokens: &Items<Token>, list: &TokList, tok: TokId, sum: Option<u64>) -> Option<Fault>
     ensures { (n : ℕ) → IsSumOf sum n → result ≡ add_refusal tokens.now list.now tok n }
 {
     if tokens.len() <= usize::from(tok.0) {

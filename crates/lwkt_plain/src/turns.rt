@@ -39,12 +39,7 @@ fn reference(tok: TokId, mode: Mode) -> Ref
 }
 
 // An ask about tokens, or none of these.
-fn ask_tokens(
-    cpu: CpuId,
-    tokens: &mut Items<Token>,
-    list: &mut TokList,
-    ask: &Ask,
-) -> Option<Next>
+fn ask_tokens(cpu: CpuId, tokens: &mut Items<Token>, list: &mut TokList, ask: &Ask) -> Option<Next>
     requires here { cpu.0 < CPU_LIMIT }
     requires sound { AreSoundTokens tokens.old }
     requires held { AreHeld cpu.0 list.old tokens.old }
@@ -54,12 +49,7 @@ fn ask_tokens(
     ensures keeps { result ≡ None → list.new ≡ list.old }
 {
     match *ask {
-        Ask::Get(tok) => Some(token_asks::get(
-            cpu,
-            tokens,
-            list,
-            reference(tok, Mode::Exclusive),
-        )),
+        Ask::Get(tok) => Some(token_asks::get(cpu, tokens, list, reference(tok, Mode::Exclusive))),
         Ask::GetShared(tok) => Some(token_asks::get(
             cpu,
             tokens,
@@ -366,7 +356,11 @@ impl Plain {
     {
         let cpu = &self.cpus.as_slice()[c];
         let thread = &cpu.threads.as_slice()[k];
-        give_all(CpuId(c as u8), &mut self.tokens, &thread.list.refs()[..held])
+        give_all(
+            CpuId(c as u8),
+            &mut self.tokens,
+            &thread.list.refs()[..held],
+        )
     }
 
     // A thread is in a phase; one that has ended has no list.

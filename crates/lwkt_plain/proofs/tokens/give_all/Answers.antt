@@ -33,9 +33,10 @@ loop-left-preserved-then-broken c =
     let r = get_or c.args.refs.now (c.loop-left.left - 1) d in
     let e = option_map_or (is_broken c.args.cpu) (slice_get now r.tok.0) false in
     let step = give_step c.args.cpu c.args.tokens.now now c.args.refs.now c.loop-left.left c.loop-left.broken d (omega arith) within c.loop-left.invariant.1 in
-    let yes : (c.loop-left.broken || e) ≡ c.loop-left.broken = ap (λ (b : Bool). b || e) c.if-broken.true ∙ sym c.if-broken.true in
-    (omega (arith, within),
-    ap (λ (ts : List Token). gave ts c.loop-left.broken) c.give-ended.ensures.tokens ∙ ap (gave (changed (given c.args.cpu r.tok) now r.tok.0)) (sym yes) ∙ sym step)
+    let yes : (c.loop-left.broken || e) ≡ c.loop-left.broken = ap (λ (b : Bool). b || e) c.if-broken.true ∙ sym c.if-broken.true in (
+      omega (arith, within),
+      ap (λ (ts : List Token). gave ts c.loop-left.broken) c.give-ended.ensures.tokens ∙ ap (gave (changed (given c.args.cpu r.tok) now r.tok.0)) (sym yes) ∙ sym step,
+    )
 
 pub loop-left-preserved : goal.loop-left-preserved
 loop-left-preserved c =
@@ -45,6 +46,7 @@ loop-left-preserved c =
     let r = get_or c.args.refs.now (c.loop-left.left - 1) d in
     let e = option_map_or (is_broken c.args.cpu) (slice_get now r.tok.0) false in
     let step = give_step c.args.cpu c.args.tokens.now now c.args.refs.now c.loop-left.left c.loop-left.broken d (omega arith) within c.loop-left.invariant.1 in
-    let yes : (c.loop-left.broken || e) ≡ c.give-ended.result = ap (λ (b : Bool). b || e) c.if-broken.false ∙ sym c.give-ended.ensures.broken in
-    (omega (arith, within),
-    ap (λ (ts : List Token). gave ts c.give-ended.result) c.give-ended.ensures.tokens ∙ ap (gave (changed (given c.args.cpu r.tok) now r.tok.0)) (sym yes) ∙ sym step)
+    let yes : (c.loop-left.broken || e) ≡ c.give-ended.result = ap (λ (b : Bool). b || e) c.if-broken.false ∙ sym c.give-ended.ensures.broken in (
+      omega (arith, within),
+      ap (λ (ts : List Token). gave ts c.give-ended.result) c.give-ended.ensures.tokens ∙ ap (gave (changed (given c.args.cpu r.tok) now r.tok.0)) (sym yes) ∙ sym step,
+    )

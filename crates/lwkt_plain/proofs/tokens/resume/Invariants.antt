@@ -7,5 +7,5 @@ abbrev pub invariant-loop-at : goal.invariant-loop-at
 invariant-loop-at l = record {
   goes : takes l.cpu l.refs l.tokens (take l.at l.refs) (drop l.at l.refs) ≡ takes l.cpu l.refs l.initial.tokens [] l.refs;
   keeps : KeepsTokens l.cpu.0 l.initial.tokens l.tokens;
-  held : AreHeld l.cpu.0 (take l.at l.refs) l.tokens
+  held : AreHeld l.cpu.0 (take l.at l.refs) l.tokens;
 }

@@ -19,7 +19,7 @@ returns-clause-exact c =
     let there = thread_there p c.args.c c.args.k c.requires.there in
     let r = with_thread (polled spec.code) c.args.c c.args.k p in
     on_ok c.make.result (λ made. polls_is c.args.script.now c.args.c c.args.k p c.make.new.self spec there.0 (sym c.in-Some.ensures) there.1
-      (made
-      ∙ ap (λ (q : Plain). makes (record { 0 = c.args.c }) c.args.k q c.in_ok-ask.ask) c.in_ok-ask.ensures.polled
-      ∙ ap (λ (a : Ask). makes (record { 0 = c.args.c }) c.args.k r a) (c.in_ok-ask.ensures.ask there.0 there.1)))
+    (made
+    ∙ ap (λ (q : Plain). makes (record { 0 = c.args.c }) c.args.k q c.in_ok-ask.ask) c.in_ok-ask.ensures.polled
+    ∙ ap (λ (a : Ask). makes (record { 0 = c.args.c }) c.args.k r a) (c.in_ok-ask.ensures.ask there.0 there.1)))
     c.make.ensures.exact
