@@ -7,8 +7,10 @@ use crate::places::{Place, part_of, place_from};
 use crate::proposals::{is_keyword, near_cell, proposal, token_before};
 use crate::sentence_forms::{NO_SUBJECT, begins_claim, claim_form, show_sentence};
 use crate::sentences::{NAME_LIMIT, sentence_at, word_at, word_from, word_in_sentence};
-use lwkt_base::memory::from_slice;
-use lwkt_text::{Flaw, Name, Names, Wanted, What, Wrong, names_of};
+use lwkt_base::OutOfMemory;
+use lwkt_base::memory::{from_slice, push};
+use lwkt_text::{Flaw, Located, Many, Name, Names, Round, Wanted, What, Wrong, locate, names_of};
+use std::alloc::Global;
 
 // Of how many places it is said what is wrong there.
 const FAULT_LIMIT: usize = 100;
@@ -227,9 +229,35 @@ fn near_name<'n>(page: &mut Page, source: Source<'_>, names: &'n Names, wrong: W
     if near == word { "" } else { near }
 }
 
+// The values of the names of `for`s in a round.
+fn add_values(page: &mut Page, rounds: &[Round]) {
+    let mut before = " (";
+    for round in rounds {
+        page.say((before, round.name.as_str(), " = ", round.value));
+        before = ", ";
+    }
+}
+
+// The first of the rounds in which this is wrong, if it stands in a `for`, and how many there are.
+fn add_rounds(page: &mut Page, located: &[Located], wrong: Wrong) {
+    let Some(first) = located.iter().find(|l| l.wrong == wrong) else {
+        return;
+    };
+    if first.rounds.len() == 0 {
+        return;
+    }
+    add_values(page, first.rounds.as_slice());
+    match located.iter().filter(|l| l.wrong == wrong).count() {
+        0 | 1 => page.say(")"),
+        2 => page.say(", and in one more round)"),
+        n => page.say((", and in ", n.saturating_sub(1), " more rounds)")),
+    }
+}
+
 // What is wrong at a place of a text, the line with a mark under the place, and a name that is nearly the word there: of a cell
 // without its token both, as `accounts.to`.
-fn add_wrong(page: &mut Page, source: Source<'_>, names: &Names, wrong: Wrong, place: Place) {
+fn add_wrong(page: &mut Page, source: Source<'_>, told: &Told<'_>, wrong: Wrong, place: Place) {
+    let names = told.names;
     let word = word_at(source.bytes, wrong.at);
     let token = token_with(names, wrong.what, word);
     let near = match token {
@@ -238,6 +266,7 @@ fn add_wrong(page: &mut Page, source: Source<'_>, names: &Names, wrong: Wrong, p
     };
     add_start(page, source.name, place);
     add_what(page, source.bytes, names, wrong);
+    add_rounds(page, told.located, wrong);
     add_end(page, source.bytes, place, near);
     if let Some(token) = token {
         page.say(("    did you mean `", token, ".", word, "`?\n"));
@@ -245,30 +274,76 @@ fn add_wrong(page: &mut Page, source: Source<'_>, names: &Names, wrong: Wrong, p
 }
 
 // What is wrong with a text, in the order of the places.
-fn add_sorted(page: &mut Page, source: Source<'_>, names: &Names, wrongs: &[Wrong]) {
+fn add_sorted(page: &mut Page, source: Source<'_>, told: &Told<'_>, wrongs: &[Wrong]) {
     let mut place = Place::FIRST;
     for wrong in wrongs.iter().take(FAULT_LIMIT) {
         place = place_from(source.bytes, place, wrong.at);
-        add_wrong(page, source, names, *wrong, place);
+        add_wrong(page, source, told, *wrong, place);
     }
     if wrongs.len() > FAULT_LIMIT {
         page.say(("and ", wrongs.len().saturating_sub(FAULT_LIMIT), " more\n"));
     }
 }
 
+// Whether this is among what comes last of a list, at the same place.
+fn is_said(list: &[Wrong], wrong: Wrong) -> bool {
+    list.iter()
+        .rev()
+        .take_while(|w| w.at == wrong.at)
+        .any(|w| *w == wrong)
+}
+
+// What is wrong with a text, in the order of the places, each once: in a `for` the same may be wrong in each round.
+fn once_each(alloc: Global, wrongs: &[Wrong]) -> Result<Vec<Wrong>, OutOfMemory> {
+    let mut sorted = from_slice(alloc, wrongs)?;
+    sorted.sort_unstable_by_key(|wrong| wrong.at);
+    let mut list = Vec::new(alloc);
+    for wrong in sorted.as_slice() {
+        if !is_said(list.as_slice(), *wrong) {
+            push(&mut list, *wrong)?;
+        }
+    }
+    Ok(list)
+}
+
+// What is told of a text beside what is wrong with it.
+#[derive(Clone, Copy)]
+struct Told<'a> {
+    names: &'a Names,
+    located: &'a [Located],
+}
+
+// What is wrong with a text of which this is told, in the order of the places.
+fn add_told(page: &mut Page, source: Source<'_>, told: &Told<'_>, wrongs: &[Wrong]) {
+    match once_each(source.alloc, wrongs) {
+        Ok(wrongs) => add_sorted(page, source, told, wrongs.as_slice()),
+        Err(refused) => page.lose(refused),
+    }
+}
+
+// The rounds in which these are wrong; none where what is wrong isn't that of the sentences, as of a text that is too long.
+fn located_as(source: Source<'_>, wrongs: &[Wrong]) -> Result<Many<Located>, OutOfMemory> {
+    let list = locate(source.alloc, source.bytes)?;
+    if list.len() == wrongs.len() {
+        Ok(list)
+    } else {
+        Ok(Many::new(source.alloc))
+    }
+}
+
 // What is wrong with a text that gives these names, in the order of the places.
 fn add_named(page: &mut Page, source: Source<'_>, names: &Names, wrongs: &[Wrong]) {
-    match from_slice(source.alloc, wrongs) {
-        Ok(mut wrongs) => {
-            wrongs.sort_unstable_by_key(|wrong| wrong.at);
-            add_sorted(page, source, names, wrongs.as_slice());
+    match located_as(source, wrongs) {
+        Ok(list) => {
+            let located = list.as_slice();
+            add_told(page, source, &Told { names, located }, wrongs);
         }
         Err(refused) => page.lose(refused),
     }
 }
 
-/// Appends what is wrong with a text, in the order of the places: of each a message `lwkt: FILE:LINE:COLUMN: WORDS`, the line with a mark
-/// under the place, and the near word if there is one. Of a line of more than 120 bytes what surrounds the place is shown, with `..`
+/// Appends what is wrong with a text, in the order of the places: of each a message `lwkt: FILE:LINE:COLUMN: WORDS`, behind it, in a `for`,
+/// the values of its names in the first round in which it is wrong, the line with a mark under the place, and the near word if there is one. Of a line of more than 120 bytes what surrounds the place is shown, with `..`
 /// where it is cut. Of more than 100 places the first 100, and `and N more` for the others.
 pub(crate) fn add_wrongs(page: &mut Page, source: Source<'_>, wrongs: &[Wrong]) {
     match names_of(source.alloc, source.bytes) {

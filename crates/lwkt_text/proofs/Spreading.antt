@@ -6,33 +6,33 @@ use Rattle.lwkt_text.specs.declared.expansions.FoundWord.{FoundWord}
 use Rattle.lwkt_text.specs.declared.expansions.Spread.{Spread}
 use Rattle.lwkt_text.specs.declared.words.Sentence.{Sentence}
 use Rattle.lwkt_text.specs.declared.words.Word.{Word}
-use Rattle.lwkt_text.specs.Expanding.{found_at, members_from, with_constant, with_first, is_full, inside, rounds, own, for_put, plain_put, spread, spread_rest, spread_for}
+use Rattle.lwkt_text.specs.Expanding.{found_at, members_from, with_round, with_first, is_full, inside, rounds, own, for_put, plain_put, spread, spread_rest, spread_for}
 use Rattle.lwkt_text.specs.Looking.{is_at}
 
 -- the next value of a name
-rounds_suc : (inner : Spread → Spread) (count : ℕ) (name : List ℕ) (n value : ℕ) (s : Spread) → is_full s ≡ false
-    → rounds inner count name (suc n) value s ≡ rounds inner count name n (value + 1) (with_first count (inner (with_constant name value s)))
-rounds_suc inner count name n value s room = rw room refl
+rounds_suc : (inner : Spread → Spread) (count depth : ℕ) (name : List ℕ) (n value : ℕ) (s : Spread) → is_full s ≡ false
+    → rounds inner count depth name (suc n) value s ≡ rounds inner count depth name n (value + 1) (with_first count depth (inner (with_round name value s)))
+rounds_suc inner count depth name n value s room = rw room refl
 
-pub rounds_on : (inner : Spread → Spread) (count : ℕ) (name : List ℕ) (to value : ℕ) (s : Spread) → value < to → is_full s ≡ false
-    → rounds inner count name (to - value) value s ≡ rounds inner count name (to - (value + 1)) (value + 1) (with_first count (inner (with_constant name value s)))
-rounds_on inner count name to value s within room =
+pub rounds_on : (inner : Spread → Spread) (count depth : ℕ) (name : List ℕ) (to value : ℕ) (s : Spread) → value < to → is_full s ≡ false
+    → rounds inner count depth name (to - value) value s ≡ rounds inner count depth name (to - (value + 1)) (value + 1) (with_first count depth (inner (with_round name value s)))
+rounds_on inner count depth name to value s within room =
     let e : suc (to - (value + 1)) ≡ to - value = omega arith in
-    subst (λ n. rounds inner count name n value s ≡ rounds inner count name (to - (value + 1)) (value + 1) (with_first count (inner (with_constant name value s)))) e (rounds_suc inner count name (to - (value + 1)) value s room)
+    subst (λ n. rounds inner count depth name n value s ≡ rounds inner count depth name (to - (value + 1)) (value + 1) (with_first count depth (inner (with_round name value s)))) e (rounds_suc inner count depth name (to - (value + 1)) value s room)
 
 -- no value is left
-pub rounds_done : (inner : Spread → Spread) (count : ℕ) (name : List ℕ) (to value : ℕ) (s : Spread) → to ≤ value → rounds inner count name (to - value) value s ≡ s
-rounds_done inner count name to value s none =
+pub rounds_done : (inner : Spread → Spread) (count depth : ℕ) (name : List ℕ) (to value : ℕ) (s : Spread) → to ≤ value → rounds inner count depth name (to - value) value s ≡ s
+rounds_done inner count depth name to value s none =
     let e : to - value ≡ 0 = omega arith in
-    ap (λ n. rounds inner count name n value s) e
+    ap (λ n. rounds inner count depth name n value s) e
 
-rounds_full_suc : (inner : Spread → Spread) (count : ℕ) (name : List ℕ) (n value : ℕ) (s : Spread) → is_full s ≡ true → rounds inner count name n value s ≡ s
-rounds_full_suc inner count name zero value s full = refl
-rounds_full_suc inner count name (suc n) value s full = rw full refl
+rounds_full_suc : (inner : Spread → Spread) (count depth : ℕ) (name : List ℕ) (n value : ℕ) (s : Spread) → is_full s ≡ true → rounds inner count depth name n value s ≡ s
+rounds_full_suc inner count depth name zero value s full = refl
+rounds_full_suc inner count depth name (suc n) value s full = rw full refl
 
 -- nothing more where there is no room
-pub rounds_full : (inner : Spread → Spread) (count : ℕ) (name : List ℕ) (n value : ℕ) (s : Spread) → is_full s ≡ true → rounds inner count name n value s ≡ s
-rounds_full inner count name n value s full = rounds_full_suc inner count name n value s full
+pub rounds_full : (inner : Spread → Spread) (count depth : ℕ) (name : List ℕ) (n value : ℕ) (s : Spread) → is_full s ≡ true → rounds inner count depth name n value s ≡ s
+rounds_full inner count depth name n value s full = rounds_full_suc inner count depth name n value s full
 
 -- a `for` that may hold others
 for_suc : (deep : ℕ) (ws : List Word) (ss : List Sentence) (s : Spread) → spread_for (suc deep) ws ss s ≡ for_put (suc deep) (spread deep) ws ss (inside 0 0 ss) s

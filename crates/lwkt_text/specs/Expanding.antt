@@ -111,19 +111,23 @@ inside at depth (s ∷ ss) = if depth == 0 && is_end s.words then Some at else i
 abbrev pub blamed : Wrong → Spread → Spread
 blamed wrong s = record s { faults = s.faults ++ wrong ∷ [] }
 
--- a name with a value, and the last of these left out again
+-- a name with a value
 abbrev pub with_constant : List ℕ → ℕ → Spread → Spread
 with_constant name value s = record s { names = s.names ++ name ∷ []; values = s.values ++ value ∷ [] }
 
-abbrev pub with_first : ℕ → Spread → Spread
-with_first count s = record s { names = take count s.names; values = take count s.values }
+-- a round of a `for` whose name has this value; and after it only so many names and rounds are left
+abbrev pub with_round : List ℕ → ℕ → Spread → Spread
+with_round name value s = record s { names = s.names ++ name ∷ []; values = s.values ++ value ∷ []; rounds = s.rounds ++ value ∷ [] }
+
+abbrev pub with_first : ℕ → ℕ → Spread → Spread
+with_first count depth s = record s { names = take count s.names; values = take count s.values; rounds = take depth s.rounds }
 
 -- whether so many sentences are said that no `for` goes on
 abbrev pub is_full : Spread → Bool
 is_full s = nat_le 65536 (length s.sentences)
 
 abbrev pub put_sentence : List Word → Spread → Spread
-put_sentence ws s = record s { sentences = s.sentences ++ (record { words = filled s ws }) ∷ [] }
+put_sentence ws s = record s { sentences = s.sentences ++ (record { words = filled s ws; rounds = s.rounds }) ∷ [] }
 
 abbrev pub const_put : Result ℕ Wrong → List Word → Spread → Spread
 const_put (Ok value) ws s = with_constant (text_at ws 1) value s
@@ -134,14 +138,14 @@ abbrev pub plain_put : List Word → Spread → Spread
 plain_put ws s = if is_at ws 0 (codes "const") then const_put (const_of s ws) ws s else put_sentence ws s
 
 -- what sentences say for so many values of a name, one after the other; nothing more where there is no room
-abbrev pub rounds : (Spread → Spread) → ℕ → List ℕ → ℕ → ℕ → Spread → Spread
-rounds inner count name zero value s = s
-rounds inner count name (suc n) value s = if is_full s then s else rounds inner count name n (value + 1) (with_first count (inner (with_constant name value s)))
+abbrev pub rounds : (Spread → Spread) → ℕ → ℕ → List ℕ → ℕ → ℕ → Spread → Spread
+rounds inner count depth name zero value s = s
+rounds inner count depth name (suc n) value s = if is_full s then s else rounds inner count depth name n (value + 1) (with_first count depth (inner (with_round name value s)))
 
 -- a `for` with these sentences in it; a full text is told at its `for`
 abbrev pub ranged : (Spread → Spread) → Result Range Wrong → List Word → Spread → Spread
 ranged inner (Err wrong) ws s = blamed wrong s
-ranged inner (Ok r) ws s = let t = rounds inner (length s.names) (text_at ws 1) (r.to - r.from) r.from s in if is_full t then blamed (wrong_at ws 0 whats.Crowd) t else t
+ranged inner (Ok r) ws s = let t = rounds inner (length s.names) (length s.rounds) (text_at ws 1) (r.to - r.from) r.from s in if is_full t then blamed (wrong_at ws 0 whats.Crowd) t else t
 
 -- how many sentences behind a `for` are its own, with its end
 abbrev pub own : Option ℕ → ℕ
@@ -167,7 +171,7 @@ spread zero ss s = spread_with zero (λ body t. t) 0 ss s
 spread (suc deep) ss s = spread_with (suc deep) (spread deep) 0 ss s
 
 abbrev pub no_spread : Spread
-no_spread = record { names = []; values = []; sentences = []; faults = [] }
+no_spread = record { names = []; values = []; rounds = []; sentences = []; faults = [] }
 
 -- what the sentences of a text stand for: a `for` stands in at most one other
 abbrev pub spread_of : List Sentence → Spread

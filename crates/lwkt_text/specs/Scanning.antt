@@ -51,7 +51,7 @@ word_ended end s =
 
 -- the sentence ends before a place; one without words is none
 abbrev pub gathered : Scan → Scan
-gathered s = if length s.words == 0 then s else record s { sentences = s.sentences ++ (record { words = s.words }) ∷ []; words = [] }
+gathered s = if length s.words == 0 then s else record s { sentences = s.sentences ++ (record { words = s.words; rounds = [] }) ∷ []; words = [] }
 
 abbrev pub sentence_ended : ℕ → Scan → Scan
 sentence_ended end s = gathered (word_ended end s)

@@ -1,7 +1,7 @@
 //! Constants, members of names, and sentences that stand for others: what sentences stand for, before anything else is read.
 ghost use Rattle.std.specs.Prelude.{◌≡◌, ◌≤◌, ◌<◌, ◌++◌, ◌+◌, ◌-◌, [], decimal, length, map, take, OnOk, IfOk, IfSome};
 ghost use Rattle.lwkt_text.specs.Outcome.{IsAsRead};
-ghost use Rattle.lwkt_text.specs.Expanding.{value_named, valued, constant_at, member_word, member_closed, member_at, found_at, members_from, with_members, filled, const_of, range_of, begins, is_end, level, inside, blamed, with_constant, with_first, is_full, put_sentence, plain_put, rounds, ranged, own, for_put, spread_for, spread, no_spread, spread_of};
+ghost use Rattle.lwkt_text.specs.Expanding.{value_named, valued, constant_at, member_word, member_closed, member_at, found_at, members_from, with_members, filled, const_of, range_of, begins, is_end, level, inside, blamed, with_constant, with_round, with_first, is_full, put_sentence, plain_put, rounds, ranged, own, for_put, spread_for, spread, no_spread, spread_of};
 
 use crate::listings::new_name;
 use crate::looks::{demand_at, ends_at, is_at, is_name, text_at, wrong_at};
@@ -45,6 +45,8 @@ pub struct Spread {
     pub names: Many<Name>,
     /// Their values.
     pub values: Many<u64>,
+    /// The values of the `for`s that go on, the outermost first.
+    pub rounds: Many<u64>,
     /// The sentences, with their numbers put in.
     pub sentences: Many<Sentence>,
     /// What is wrong with those that stand for others.
@@ -53,6 +55,17 @@ pub struct Spread {
 
 // So many sentences are said when no `for` goes on.
 const MOST_SENTENCES: usize = 65_536;
+
+// The same numbers.
+fn numbers_of(alloc: Global, numbers: &[u64]) -> Result<Many<u64>, OutOfMemory>
+    ensures { IfOk result (λ list. list ≡ numbers.now) }
+{
+    let mut list = Many::new(alloc);
+    for n in numbers {
+        list.push(*n)?;
+    }
+    Ok(list)
+}
 
 // A word with other characters.
 fn word_of(alloc: Global, word: &Word) -> Result<Word, OutOfMemory>
@@ -251,8 +264,8 @@ fn range_of(alloc: Global, s: &Spread, words: &[Word]) -> Result<Range, Slip>
     })
 }
 
-// Whether a sentence holds others.
-fn begins(words: &[Word]) -> bool
+/// Whether a sentence holds others.
+pub fn begins(words: &[Word]) -> bool
     ensures { result ≡ begins words.now }
 {
     is_at(words, 0, "for")
@@ -262,7 +275,8 @@ fn begins(words: &[Word]) -> bool
         || is_at(words, 0, "loop")
 }
 
-fn is_end(words: &[Word]) -> bool
+/// Whether a sentence ends one that holds it.
+pub fn is_end(words: &[Word]) -> bool
     ensures { result ≡ is_end words.now }
 {
     is_at(words, 0, "end")
@@ -307,6 +321,7 @@ impl Spread {
         Spread {
             names: Many::new(alloc),
             values: Many::new(alloc),
+            rounds: Many::new(alloc),
             sentences: Many::new(alloc),
             faults: Many::new(alloc),
         }
@@ -326,19 +341,29 @@ impl Spread {
         self.values.push(value)
     }
 
-    // Leaves out the constants behind so many.
-    fn keep_constants(&mut self, count: usize)
-        ensures { self.new ≡ with_first count self.old }
+    // Begins a round of a `for`, whose name has this value in it.
+    fn begin_round(&mut self, alloc: Global, name: &str, value: u64) -> Result<(), OutOfMemory>
+        ensures { OnOk result (self.new ≡ with_round name.now value self.old) }
+    {
+        self.add_constant(alloc, name, value)?;
+        self.rounds.push(value)
+    }
+
+    // Ends a round: leaves out the constants behind so many, and the rounds.
+    fn end_round(&mut self, count: usize, depth: usize)
+        ensures { self.new ≡ with_first count depth self.old }
     {
         self.names.keep(count);
         self.values.keep(count);
+        self.rounds.keep(depth);
     }
 
     fn put_sentence(&mut self, alloc: Global, words: &[Word]) -> Result<(), OutOfMemory>
         ensures { OnOk result (self.new ≡ put_sentence words.now self.old) }
     {
         let words = filled(alloc, self, words)?;
-        self.sentences.push(Sentence { words })
+        let rounds = numbers_of(alloc, self.rounds.as_slice())?;
+        self.sentences.push(Sentence { words, rounds })
     }
 
     // A sentence that is no `for`.
@@ -366,16 +391,16 @@ impl Spread {
         range: Range,
         body: &[Sentence],
     ) -> Result<(), OutOfMemory>
-        ensures { OnOk result (self.new ≡ rounds (spread deep body.now) (length self.old.names) name.now (range.to - range.from) range.from self.old) }
+        ensures { OnOk result (self.new ≡ rounds (spread deep body.now) (length self.old.names) (length self.old.rounds) name.now (range.to - range.from) range.from self.old) }
     {
-        let count = self.names.len();
+        let (count, depth) = (self.names.len(), self.rounds.len());
         for value in range.from..range.to {
             if self.is_full() {
                 return Ok(());
             }
-            self.add_constant(alloc, name, value)?;
+            self.begin_round(alloc, name, value)?;
             self.put_all(alloc, deep, body)?;
-            self.keep_constants(count);
+            self.end_round(count, depth);
         }
         Ok(())
     }

@@ -112,7 +112,7 @@ fn sealed(alloc: Global, names: Names, draft: Draft) -> Result<Reading, Refusal>
 }
 
 // Reads what the sentences of a text stand for.
-fn read_spread(alloc: Global, spread: Spread) -> Result<Reading, Refusal>
+pub(crate) fn read_spread(alloc: Global, spread: Spread) -> Result<Reading, Refusal>
     ensures ok { IfOk result (λ reading. reading_spread spread ≡ Ok reading) }
     ensures limits { IfOk result (λ reading. IsWithinLimits reading.script) }
     ensures there { IfOk result (λ reading. NamesWhatIsThere reading.script reading.expectations) }
@@ -121,6 +121,7 @@ fn read_spread(alloc: Global, spread: Spread) -> Result<Reading, Refusal>
     let Spread {
         names: _,
         values: _,
+        rounds: _,
         sentences,
         faults: before,
     } = spread;

@@ -109,7 +109,8 @@ impl Scan {
             return Ok(());
         }
         let words = self.words.take(alloc);
-        self.sentences.push(Sentence { words })
+        let rounds = Many::new(alloc);
+        self.sentences.push(Sentence { words, rounds })
     }
 
     // Puts a byte into the word, or into a new one.

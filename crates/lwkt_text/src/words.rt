@@ -17,4 +17,6 @@ pub struct Word {
 pub struct Sentence {
     /// The words, at least one.
     pub words: Many<Word>,
+    /// The values of the `for`s that it stands in, the outermost first; none before it is known what they stand for.
+    pub rounds: Many<u64>,
 }

@@ -16,7 +16,7 @@ decreases-put_rounds l = 4 * l.deep + 2
 
 abbrev pub invariant-put_rounds-loop-value : goal.invariant-put_rounds-loop-value
 invariant-put_rounds-loop-value l =
-    rounds (spread l.deep l.body) l.count l.name (l.fn.range.to - l.value) l.value l.self ≡ rounds (spread l.deep l.body) l.count l.name (l.fn.range.to - l.fn.range.from) l.fn.range.from l.initial.self
+    rounds (spread l.deep l.body) l.count l.depth l.name (l.fn.range.to - l.value) l.value l.self ≡ rounds (spread l.deep l.body) l.count l.depth l.name (l.fn.range.to - l.fn.range.from) l.fn.range.from l.initial.self
 
 abbrev pub invariant-put_all-loop-at : goal.invariant-put_all-loop-at
 invariant-put_all-loop-at l = spread_rest l.deep l.skip (drop l.at l.sentences) l.self ≡ spread l.deep l.sentences l.initial.self
