@@ -1,6 +1,6 @@
 -- Polls of a body, one after another.
 use Rattle.std.proofs.Common.{◌≡◌, ℕ, zero, suc, ◌<◌, ◌≤◌, Bool, true, false, List, [], ◌∷◌, ◌++◌, length, take, refl, ap, sym, ◌∙◌, subst, arith, Option, Some, None, append_assoc, length-append}
-use Rattle.std.specs.Prelude.{IfSome, map, option_map, option_to_list, replicate, slice_get, unwrap_or, nat_lt, if◌then◌else◌}
+use Rattle.std.specs.Prelude.{IfSome, IsSome, map, option_map, option_to_list, replicate, slice_get, unwrap_or, nat_lt, if◌then◌else◌}
 use Rattle.std.proofs.lemmas.Bool.{ltb-true, ltb-false, le-ltb}
 use Rattle.std.proofs.lemmas.List.{length-map}
 use Rattle.std.proofs.lemmas.Option.{slice_get_within}
@@ -23,13 +23,21 @@ use Rattle.lwkt_machine.specs.Laws.{ArePolls, entries_made, AsksAreTheScripts, A
 abbrev pub body_so : Program → Local → Option Ask → Option Answer → List Entry → Scripted
 body_so program local asked heard log = record { program = program; local = local; asked = asked; heard = heard; log = log }
 
--- a poll: the answer is heard, and then the next ask is made
-pub polled_so : (old mid new : Scripted) (last : Answer) (ask : Ask) → mid ≡ after_hearing last old → IfSome mid.heard (λ (l : Answer). ask ≡ (next_of mid l).0) → IfSome mid.heard (λ (l : Answer). new ≡ after_ask l mid) → IsPolled old last ask new
-polled_so old mid new last ask heard asks goes =
+-- a body that has heard an answer and goes on by it has asked something
+pub has_asked : (old mid new : Scripted) (last : Answer) → mid ≡ after_hearing last old → IfSome mid.heard (λ (l : Answer). new ≡ after_ask l mid) → IsSome new.asked
+has_asked old mid new last heard goes =
     let is : mid.heard ≡ Some last = ap (λ (m : Scripted). m.heard) heard in
-    let asks_so : ask ≡ (next_of mid last).0 = subst (λ (o : Option Answer). IfSome o (λ (l : Answer). ask ≡ (next_of mid l).0)) is asks in
     let goes_so : new ≡ after_ask last mid = subst (λ (o : Option Answer). IfSome o (λ (l : Answer). new ≡ after_ask l mid)) is goes in
-    (asks_so ∙ ap (λ (m : Scripted). (next_of m last).0) heard, goes_so ∙ ap (λ (m : Scripted). after_ask last m) heard)
+    subst (λ (m : Scripted). IsSome m.asked) (sym goes_so) refl
+
+-- a poll: the answer is heard, and then the next ask is made, and given
+pub polled_so : (old mid new : Scripted) (last : Answer) (ask : Ask) → mid ≡ after_hearing last old → IfSome mid.heard (λ (l : Answer). new ≡ after_ask l mid) → Some ask ≡ new.asked → IsPolled old last ask new
+polled_so old mid new last ask heard goes given =
+    let is : mid.heard ≡ Some last = ap (λ (m : Scripted). m.heard) heard in
+    let goes_so : new ≡ after_ask last mid = subst (λ (o : Option Answer). IfSome o (λ (l : Answer). new ≡ after_ask l mid)) is goes in
+    let asked_so : Some ask ≡ Some (next_of mid last).0 = given ∙ ap (λ (m : Scripted). m.asked) goes_so in
+    let ask_so : ask ≡ (next_of mid last).0 = ap (λ (o : Option Ask). unwrap_or o ask) asked_so in
+    (ask_so ∙ ap (λ (m : Scripted). (next_of m last).0) heard, goes_so ∙ ap (λ (m : Scripted). after_ask last m) heard)
 
 asks_from : (polls : List (Answer × Ask)) (old b : Scripted) → ArePolls old polls b → map (λ (q : Answer × Ask). q.1) polls ≡ asks_by old.program.steps old.local (map (λ (q : Answer × Ask). q.0) polls)
 asks_from [] old b are = refl

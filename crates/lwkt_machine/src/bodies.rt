@@ -1,5 +1,5 @@
 //! The bodies of a script's threads.
-ghost use Rattle.std.specs.Prelude.{◌≡◌, ◌<◌, ◌≤◌, List, length, vec_capacity, false, IfOk, IfSome, Option, None, option_and_then};
+ghost use Rattle.std.specs.Prelude.{◌≡◌, ◌<◌, ◌≤◌, List, length, vec_capacity, false, IfOk, IfSome, IsSome, Option, Some, None, option_and_then};
 ghost use Rattle.std.specs.Option.{option_copied};
 ghost use Rattle.lwkt_base.specs.declared.asks.Ask.{Ask};
 ghost use Rattle.lwkt_code.specs.declared.locals.Local.{Local};
@@ -213,38 +213,42 @@ impl ScriptBody {
 
     // Goes on to the next ask, whatever that is, by the answer that was heard.
     #[inline(never)]
-    fn ask_any(&mut self) -> Ask
-        ensures ask { IfSome self.old.heard (λ last. result ≡ (next_of self.old last).0) }
-        ensures goes { IfSome self.old.heard (λ last. self.new ≡ after_ask last self.old) }
+    fn ask_any(&mut self)
+        ensures { IfSome self.old.heard (λ last. self.new ≡ after_ask last self.old) }
     {
         let Some(last) = &self.heard else {
-            return Ask::Exit;
+            return;
         };
         let ask = self.code.next(&mut self.local, last);
         keep_failure(&mut self.log, &ask);
         self.standing = None;
         self.made = Some(ask);
-        ask
     }
 
-    // Goes on to the next ask, by the answer that was heard. One that stands where the body stands is copied from there once, and only its
-    // place is kept.
+    // Goes on to the next ask, by the answer that was heard. Of one that stands where the body stands only its place is kept.
     #[inline(always)]
-    fn ask_next(&mut self) -> Ask
-        ensures ask { IfSome self.old.heard (λ last. result ≡ (next_of self.old last).0) }
-        ensures goes { IfSome self.old.heard (λ last. self.new ≡ after_ask last self.old) }
+    fn go_on(&mut self)
+        ensures { IfSome self.old.heard (λ last. self.new ≡ after_ask last self.old) }
     {
         let Some(last) = &self.heard else {
-            return Ask::Exit;
+            return;
         };
         match self.code.pass(&mut self.local, last) {
             None => self.ask_any(),
             Some(ask) => {
                 self.standing = Some(self.local.at - 1);
                 keep_failure(&mut self.log, ask);
-                *ask
             }
         }
+    }
+
+    // The ask that the body asked last, which is there.
+    #[inline(always)]
+    fn last_ask(&self) -> &Ask
+        requires { IsSome self.now.asked }
+        ensures { Some result.now ≡ self.now.asked }
+    {
+        self.asked().unwrap()
     }
 }
 
@@ -253,11 +257,13 @@ impl Body for ScriptBody {
 
     ghost polled = { IsPolled };
 
+    // The ask is copied once, from where it stands.
     #[inline(always)]
-    #[tactic(auto, using(crate::proofs::BodyMoves::polled_so))]
+    #[tactic(auto, using(crate::proofs::BodyMoves::polled_so, crate::proofs::BodyMoves::has_asked))]
     fn poll(&mut self, last: Answer) -> Ask {
         self.hear(last);
-        self.ask_next()
+        self.go_on();
+        *self.last_ask()
     }
 }
 
