@@ -182,6 +182,7 @@ fn pass_here<'a>(steps: &'a [Step], local: &mut Local, answer: &Answer) -> Optio
 }
 
 // The same at the end of a repetition that isn't the last, of the ask that stands first.
+#[inline(always)]
 #[tactic(auto, using(crate::proofs::Passing::passed_again))]
 fn pass_again<'a>(steps: &'a [Step], local: &mut Local, answer: &Answer) -> Option<&'a Ask>
     requires accepted { IsAccepted steps.now }
