@@ -542,14 +542,19 @@ function leadTo(part) {
   at("script").setSelectionRange(part.from, part.to);
 }
 
-// The lines of the editor, each with its number, laid out as the editor lays them out. A long script has none.
+// The lines of the editor, each with its number and in colors, laid out as the editor lays them out. A long script has neither.
 let numbered = null;
 
+function coloredLine(line, isText) {
+  return make("div", {}, ...piecesOf(line || " ", isText).map(([kind, piece]) => (kind ? make("span", { class: kind }, piece) : piece)));
+}
+
 function numberLines() {
-  const script = at("script").value, isShort = script.length <= mostMarked;
+  const script = at("script").value, isShort = script.length <= mostMarked, isText = !/^\s*[{[]/.test(script);
   if (script === numbered) return;
   numbered = script;
-  at("lines").replaceChildren(...(isShort ? script.split("\n").map((line) => make("div", {}, line || " ")) : []));
+  at("lines").replaceChildren(...(isShort ? script.split("\n").map((line) => coloredLine(line, isText)) : []));
+  at("script").classList.toggle("colored", isShort);
   followScroll();
 }
 

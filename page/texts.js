@@ -25,6 +25,31 @@ const keptWords = ["turns", "idle", "cpus", "token", "message", "thread", "const
 const leftWords = ["var", "else", "end", "always", "sometimes", "never"];
 const openWords = ["for", "if", "while", "times", "loop"];
 
+// The words that begin a sentence or stand in its head, for their color.
+const knownWords = new Set([...keptWords, ...leftWords, ...openWords, ..."of on repeat service cells record sum any order cap tally len param gen law break assert get gets try rel swap read write add rrec wrec send do reply abort isab drop getport wait yield exit refused dropable abortable priority in rounds saw ended and or not".split(" ")]);
+
+// What a piece of a script is by how it looks, for its color: of JSON a name, a string or a number, of a text a comment, a number or a
+// word of the language; "" of all else.
+function kindOf(piece, isText, behind) {
+  if (/^-?\d/.test(piece)) return "number";
+  if (piece[0] === "#") return "comment";
+  if (piece[0] === '"') return /^\s*:/.test(behind) ? "word" : "string";
+  return isText && knownWords.has(piece) ? "word" : "";
+}
+
+// A line of a script in pieces, each with its kind.
+function piecesOf(line, isText) {
+  const pieces = [], pattern = isText ? /#.*|[A-Za-z_]\w*|\d\w*/g : /"(?:[^"\\]|\\.)*"?|-?\d[\d.eE+-]*/g;
+  let done = 0;
+  for (const { 0: piece, index } of line.matchAll(pattern)) {
+    const kind = kindOf(piece, isText, line.slice(index + piece.length));
+    if (!kind) continue;
+    pieces.push(["", line.slice(done, index)], [kind, piece]);
+    done = index + piece.length;
+  }
+  return [...pieces, ["", line.slice(done)]].filter(([, piece]) => piece);
+}
+
 // A copy of a text in which each step is one that writes the number of its sentence, and none stands in another. The library repeats
 // them as it does those of the text, so its JSON of the copy says of which sentence each step of a thread is.
 function numberSteps(sentences) {

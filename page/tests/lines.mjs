@@ -4,7 +4,7 @@ import { callProgram, check, exampleNames, examples, finish, namesIn, read, same
 import { load } from "./tools.mjs";
 
 const lines = load("lines.js", ["readRun", "readEvent", "readOpenings", "partsOf", "readWrongs", "readRefusal", "openState", "copyState", "tell", "tellFirstWords", "recordWords", "entryWords", "askPlace"]);
-const texts = load("texts.js", ["verdictsIn", "saidAt", "namesOf", "sentencesOf", "numberSteps", "textSteps"], "script.js");
+const texts = load("texts.js", ["verdictsIn", "saidAt", "namesOf", "sentencesOf", "numberSteps", "textSteps", "piecesOf", "knownWords"], "script.js");
 const scripts = load("script.js", ["jsonSteps", "cutScript", "longWords", "membersOf", "partAt", "placeOf", "skipValue"]);
 const orders = load("orders.js", ["readForm", "readSum", "readOrders", "differences"], "lines.js", "texts.js", "script.js");
 
@@ -179,6 +179,22 @@ function tryUnknown() {
   same(texts.sentencesOf(blanks).map(({ said }) => said), ["thread a on 0", "yield", "x"], "a million blanks");
 }
 
+// The pieces of a line are the line, each of its kind; and of each text of the examples the first word of a sentence is known, or is assigned to.
+function tryColors() {
+  const kinds = (line, isText) => texts.piecesOf(line, isText).filter(([kind]) => kind).map(([kind, piece]) => `${kind} ${piece}`);
+  same(kinds("token a: any, cells x=5 # of 2", true), ["word token", "word any", "word cells", "number 5", "comment # of 2"], "a sentence in colors");
+  same(kinds("write fork[i].x 2x", true), ["word write", "number 2x"], "names have no color");
+  same(kinds('"law":"any","cells":[-5, 1e3], "a\\"b" : null', false), ['word "law"', 'string "any"', 'word "cells"', "number -5", "number 1e3", 'word "a\\"b"'], "JSON in colors");
+  same(kinds('{"open', false), ['string "open'], "a string without an end");
+  for (const folder of ["litmus", "version3"]) for (const name of namesIn(folder, ".lwkt")) tryColorsOf(read(examples, folder, `${name}.lwkt`), name);
+}
+
+function tryColorsOf(text, name) {
+  check(text.split("\n").every((line) => texts.piecesOf(line, true).map(([, piece]) => piece).join("") === line), `${name}: its pieces are its lines`);
+  const unknown = texts.sentencesOf(text).filter(({ said, word }) => !texts.knownWords.has(word) && !/^[^=:]*=/.test(said) && !/^[\w.]+:$/.test(word));
+  same(unknown.map(({ said }) => said), [], `${name}: the words that begin its sentences are known`);
+}
+
 for (const name of exampleNames()) tryExample(name);
 for (const name of exampleNames()) if (statusOf(name) !== 1) tryPlaces(name, read(examples, `${name}.json`));
 for (const folder of ["litmus", "version3"]) for (const name of namesIn(folder, ".lwkt")) tryTextPlaces(folder, name);
@@ -212,6 +228,7 @@ same([computing.made, computing.step, computing.ask, computing.outcome, computin
 same([odd.made, odd.step], ["", "step 1"], "a thread that computed nothing");
 same(texts.verdictsIn(["4: holds", "4: doesn't hold, order 0 1", "5: not decided", "x"]).map((it) => [it.line, it.place, it.words, it.order]), [[4, 0, "holds", null], [4, 1, "doesn't hold", [0, 1]], [5, 0, "not decided", null]], "verdicts");
 tryUrgent();
+tryColors();
 same(["a".repeat(1048576), "\n".repeat(2999), "\r\n".repeat(2999), ""].map(scripts.longWords), [null, null, null, null], "texts that are short enough");
 same(["a".repeat(1048577), "\u00e4".repeat(524289)].map((it) => scripts.longWords(it).slice(0, 23)), Array(2).fill("more than 1048576 bytes"), "too many bytes");
 same(["\n", "\r", "\r\n"].map((it) => scripts.longWords(it.repeat(3000)).slice(0, 20)), Array(3).fill("more than 3000 lines"), "too many lines");
