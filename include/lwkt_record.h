@@ -12,7 +12,7 @@
 //     lwkt_record_close(&recorder);
 //
 // Processor. Who can hold a token: a processor of a kernel whose threads give up their tokens when they switch, or a thread of
-// a program. It is a number from 0. Each has a buffer of its own, so that its calls touch what it shares with the others once:
+// a program. It is a number from 0; `lwkt_record_enter` lends one, where there are more threads than numbers. Each has a buffer of its own, so that its calls touch what it shares with the others once:
 // at the count of all events, from which each event takes its stamp. The trace has the events in the order of their stamps.
 //
 // Where the calls stand. What takes is recorded after it succeeded, and what gives before it is done, so that each event is
@@ -27,8 +27,8 @@
 // should have been, leaves a gap in the stamps; the trace ends before the first gap. So a trace is always a front of what
 // happened, and what can't be recorded is never told as a fault of the recorded program.
 //
-// Who may call. `open`, `token`, `message`, `end*` and `close`: one thread, while nobody records. Events: any number of threads
-// at once. Two calls at once for one processor are no fault: the second is answered LWKT_RECORD_BUSY (an interrupt that comes
+// Who may call. `open`, `token`, `message`, `end*` and `close`: one thread, while nobody records. Events, `enter` and `leave`: any
+// number of threads at once. Two calls at once for one processor are no fault: the second is answered LWKT_RECORD_BUSY (an interrupt that comes
 // into a call of the processor that it interrupts is such a case). `to_*`: one thread at a time, also while others record; it
 // writes the events that are there when it begins. The recorder must stay where it is from `open` on, and not be copied.
 //
@@ -84,7 +84,10 @@ enum lwkt_record_error {
     LWKT_RECORD_BUSY = 11,        // another call for the same processor is under way; the event left a gap
     LWKT_RECORD_CUT = 12,         // the trace was written up to the first gap, or as long as a trace may be; it is a good one
     LWKT_RECORD_STREAM = 13,      // the trace couldn't be written
-    LWKT_RECORD_NO_ROOM = 14      // the bytes given have no room for the trace
+    LWKT_RECORD_NO_ROOM = 14,     // the bytes given have no room for the trace
+    LWKT_RECORD_ALL_LENT = 15,    // each processor's number is lent; nothing was done
+    LWKT_RECORD_HOLDS = 16,       // the processor has references by what was recorded; its number stays lent
+    LWKT_RECORD_NOT_LENT = 17     // the number isn't lent; nothing was done
 };
 
 // The law of a token's cells, asked at the end of each section that wrote (docs/MODEL.md, "Laws").
@@ -196,6 +199,7 @@ typedef struct lwkt_record {
     LWKT_RECORD_ATOMIC(uint64_t) next;
     char behind[64];
     LWKT_RECORD_ATOMIC(int) lost;
+    LWKT_RECORD_ATOMIC(unsigned) lent; // a bit for each processor
     lwkt_record_seat seats[LWKT_RECORD_PROCESSORS];
 } lwkt_record;
 
@@ -232,6 +236,18 @@ static inline int lwkt_record_token(lwkt_record *recorder, unsigned token, enum 
 // LATE after the first event, NO_MESSAGE, LIMIT.
 static inline int lwkt_record_message(lwkt_record *recorder, unsigned message, unsigned processor, unsigned thread,
                                       uint64_t round);
+
+// ---------------------------------------------------------------------------------------------------------------------------
+// Lent numbers
+
+// Lends the calling thread a processor's number that is free, the lowest, and stores it: for a program with more threads than a
+// trace has processors. Any number of threads may call at once; nobody waits for another. Numbers that are given out in another
+// way, and those that messages name, are not for such a recorder. ALL_LENT; LIMIT without a place for the number; CLOSED.
+static inline int lwkt_record_enter(lwkt_record *recorder, unsigned *number);
+
+// Takes the number back, from the thread that was lent it, once: others may be lent it then. HOLDS where it has recorded tokens,
+// NOT_LENT, BUSY where another call for this processor is under way, CLOSED: in each case nothing was done, and no gap left.
+static inline int lwkt_record_leave(lwkt_record *recorder, unsigned number);
 
 // ---------------------------------------------------------------------------------------------------------------------------
 // Events of tokens. Each is answered CLOSED, NO_PROCESSOR, NO_TOKEN, BUSY or FULL where that is so.
@@ -350,7 +366,7 @@ static inline bool lwkt_record_is_open(const lwkt_record *recorder)
 }
 
 // Makes a processor's buffer this call's own.
-static inline int lwkt_record_enter(lwkt_record *recorder, unsigned processor)
+static inline int lwkt_record_claim(lwkt_record *recorder, unsigned processor)
 {
     if (processor >= recorder->processors)
         return lwkt_record_lose(recorder, LWKT_RECORD_NO_PROCESSOR);
@@ -360,7 +376,7 @@ static inline int lwkt_record_enter(lwkt_record *recorder, unsigned processor)
     return LWKT_RECORD_OK;
 }
 
-static inline int lwkt_record_leave(lwkt_record_seat *seat, int error)
+static inline int lwkt_record_unclaim(lwkt_record_seat *seat, int error)
 {
     LWKT_RECORD_IN(atomic_store_explicit)(&seat->busy, false, LWKT_RECORD_IN(memory_order_release));
     return error;
@@ -392,12 +408,12 @@ static inline lwkt_record_event lwkt_record_made(int kind, unsigned place, unsig
 // Records an event of a processor.
 static inline int lwkt_record_note(lwkt_record *recorder, unsigned processor, lwkt_record_event event)
 {
-    int error = lwkt_record_enter(recorder, processor);
+    int error = lwkt_record_claim(recorder, processor);
     lwkt_record_seat *seat;
     if (error != LWKT_RECORD_OK)
         return error;
     seat = &recorder->seats[processor];
-    return lwkt_record_leave(seat, lwkt_record_append(recorder, seat, event));
+    return lwkt_record_unclaim(seat, lwkt_record_append(recorder, seat, event));
 }
 
 // Records that a processor has a reference more.
@@ -409,18 +425,18 @@ static inline int lwkt_record_note_more(lwkt_record *recorder, unsigned processo
         return LWKT_RECORD_CLOSED;
     if (token >= recorder->tokens)
         return LWKT_RECORD_NO_TOKEN;
-    error = lwkt_record_enter(recorder, processor);
+    error = lwkt_record_claim(recorder, processor);
     if (error != LWKT_RECORD_OK)
         return error;
     seat = &recorder->seats[processor];
     if (seat->references >= LWKT_RECORD_REFERENCES)
-        return lwkt_record_leave(seat, lwkt_record_lose(recorder, LWKT_RECORD_TOO_MANY));
+        return lwkt_record_unclaim(seat, lwkt_record_lose(recorder, LWKT_RECORD_TOO_MANY));
     error = lwkt_record_append(recorder, seat, lwkt_record_made(kind, token, 0, 0));
     if (error == LWKT_RECORD_OK) {
         seat->references += 1;
         seat->held[token] = (uint8_t)(seat->held[token] + 1);
     }
-    return lwkt_record_leave(seat, error);
+    return lwkt_record_unclaim(seat, error);
 }
 
 // Records that a processor has a reference less, if it has one.
@@ -432,7 +448,7 @@ static inline int lwkt_record_note_less(lwkt_record *recorder, unsigned processo
         return LWKT_RECORD_CLOSED;
     if (token >= recorder->tokens)
         return LWKT_RECORD_NO_TOKEN;
-    error = lwkt_record_enter(recorder, processor);
+    error = lwkt_record_claim(recorder, processor);
     if (error != LWKT_RECORD_OK)
         return error;
     seat = &recorder->seats[processor];
@@ -441,7 +457,7 @@ static inline int lwkt_record_note_less(lwkt_record *recorder, unsigned processo
         seat->references -= 1;
         seat->held[token] = (uint8_t)(seat->held[token] - 1);
     }
-    return lwkt_record_leave(seat, error);
+    return lwkt_record_unclaim(seat, error);
 }
 
 // Records an event of a processor at a token that changes no reference.
@@ -591,6 +607,53 @@ static inline int lwkt_record_abort(lwkt_record *recorder, unsigned processor, u
 }
 
 // ---------------------------------------------------------------------------------------------------------------------------
+// Lent numbers
+
+static inline int lwkt_record_enter(lwkt_record *recorder, unsigned *number)
+{
+    unsigned lent, each;
+    if (!lwkt_record_is_open(recorder))
+        return LWKT_RECORD_CLOSED;
+    if (number == NULL)
+        return LWKT_RECORD_LIMIT;
+    lent = LWKT_RECORD_IN(atomic_load_explicit)(&recorder->lent, LWKT_RECORD_IN(memory_order_relaxed));
+    do {
+        for (each = 0; each < recorder->processors && (lent >> each & 1) != 0;)
+            each += 1;
+        if (each == recorder->processors)
+            return LWKT_RECORD_ALL_LENT;
+    } while (!LWKT_RECORD_IN(atomic_compare_exchange_weak_explicit)(&recorder->lent, &lent, lent | 1U << each,
+                                                                    LWKT_RECORD_IN(memory_order_acquire),
+                                                                    LWKT_RECORD_IN(memory_order_relaxed)));
+    *number = each;
+    return LWKT_RECORD_OK;
+}
+
+// The number is free only when the seat is: whoever is lent it next doesn't find this call there.
+static inline int lwkt_record_leave(lwkt_record *recorder, unsigned number)
+{
+    lwkt_record_seat *seat;
+    bool holds;
+    if (!lwkt_record_is_open(recorder))
+        return LWKT_RECORD_CLOSED;
+    if (number >= recorder->processors ||
+        (LWKT_RECORD_IN(atomic_load_explicit)(&recorder->lent, LWKT_RECORD_IN(memory_order_relaxed)) >> number & 1) == 0)
+        return LWKT_RECORD_NOT_LENT;
+    seat = &recorder->seats[number];
+    if (LWKT_RECORD_IN(atomic_exchange_explicit)(&seat->busy, true, LWKT_RECORD_IN(memory_order_acquire)))
+        return LWKT_RECORD_BUSY;
+    holds = seat->references > 0;
+    (void)lwkt_record_unclaim(seat, LWKT_RECORD_OK);
+    if (holds)
+        return LWKT_RECORD_HOLDS;
+    if ((LWKT_RECORD_IN(atomic_fetch_and_explicit)(&recorder->lent, ~(1U << number), LWKT_RECORD_IN(memory_order_release)) >>
+             number &
+         1) == 0)
+        return LWKT_RECORD_NOT_LENT;
+    return LWKT_RECORD_OK;
+}
+
+// ---------------------------------------------------------------------------------------------------------------------------
 // Opening and end
 
 static inline void lwkt_record_clear_token(lwkt_record_token_spec *token)
@@ -665,6 +728,7 @@ static inline int lwkt_record_open_in(lwkt_record *recorder, unsigned processors
     recorder->in_lines = false;
     LWKT_RECORD_IN(atomic_store_explicit)(&recorder->next, 0, LWKT_RECORD_IN(memory_order_relaxed));
     LWKT_RECORD_IN(atomic_store_explicit)(&recorder->lost, 0, LWKT_RECORD_IN(memory_order_relaxed));
+    LWKT_RECORD_IN(atomic_store_explicit)(&recorder->lent, 0, LWKT_RECORD_IN(memory_order_relaxed));
     for (each = 0; each < LWKT_RECORD_TOKENS; each++)
         lwkt_record_clear_token(&recorder->token[each]);
     lwkt_record_clear_messages(recorder);
@@ -1279,8 +1343,11 @@ static inline const char *lwkt_record_words(int error)
                                         "another call for the processor is under way",
                                         "the trace ends before the last event",
                                         "the trace could not be written",
-                                        "the trace has more bytes than there is room for"};
-    return error >= LWKT_RECORD_OK && error <= LWKT_RECORD_NO_ROOM ? words[error] : "no such error";
+                                        "the trace has more bytes than there is room for",
+                                        "each processor's number is lent",
+                                        "the processor holds a recorded token",
+                                        "the number isn't lent"};
+    return error >= LWKT_RECORD_OK && error <= LWKT_RECORD_NOT_LENT ? words[error] : "no such error";
 }
 
 #endif

@@ -363,9 +363,9 @@ static void busy(void)
 {
     open_sum();
     WANT(OK, lwkt_record_share(&recorder, 0, 0));
-    WANT(OK, lwkt_record_enter(&recorder, 1));
+    WANT(OK, lwkt_record_claim(&recorder, 1));
     WANT(BUSY, lwkt_record_share(&recorder, 1, 0));
-    lwkt_record_leave(&recorder.seats[1], 0);
+    lwkt_record_unclaim(&recorder.seats[1], 0);
     WANT(OK, lwkt_record_give(&recorder, 1, 0));
     WANT(BUSY, lwkt_record_lost(&recorder));
     WANT(CUT, lwkt_record_to_file(&recorder, stdout));
@@ -492,6 +492,7 @@ static void opened_twice(void)
 static void closed_calls(lwkt_record *closed)
 {
     int count = 0;
+    unsigned number = 0;
     WANT(CLOSED, lwkt_record_token(closed, 0, LWKT_RECORD_ANY, 0, 0, NULL, 0));
     WANT(CLOSED, lwkt_record_message(closed, 0, 0, 0, 0));
     WANT(CLOSED, lwkt_record_take(closed, 0, 0));
@@ -511,6 +512,8 @@ static void closed_calls(lwkt_record *closed)
     WANT(CLOSED, lwkt_record_to_sink(closed, refuse, &count));
     WANT(CLOSED, lwkt_record_to_bytes(closed, NULL, 0, NULL));
     WANT(CLOSED, lwkt_record_lost(closed));
+    WANT(CLOSED, lwkt_record_enter(closed, &number));
+    WANT(CLOSED, lwkt_record_leave(closed, 0));
     want_at(__LINE__, count + (int)lwkt_record_held(closed, 0, 0), 0);
     lwkt_record_close(closed);
 }
@@ -614,6 +617,78 @@ static void two_on_one_processor(void)
             lwkt_record_lost(&recorder) == LWKT_RECORD_OK ? LWKT_RECORD_OK : LWKT_RECORD_CUT);
 }
 
+// Numbers are lent from the lowest, and taken back where nothing is held.
+static void lent_numbers(void)
+{
+    unsigned number = 9, other = 9;
+    open_scene(2, 1, 0, 100);
+    WANT(LIMIT, lwkt_record_enter(&recorder, NULL));
+    WANT(NOT_LENT, lwkt_record_leave(&recorder, 0));
+    WANT(NOT_LENT, lwkt_record_leave(&recorder, 2));
+    WANT(OK, lwkt_record_enter(&recorder, &number));
+    WANT(OK, lwkt_record_enter(&recorder, &other));
+    want_at(__LINE__, number == 0 && other == 1, 1);
+    WANT(ALL_LENT, lwkt_record_enter(&recorder, &other));
+    want_at(__LINE__, (int)other, 1);
+    WANT(OK, lwkt_record_share(&recorder, 0, 0));
+    WANT(OK, lwkt_record_again(&recorder, 0, 0));
+    WANT(OK, lwkt_record_give(&recorder, 0, 0));
+    WANT(HOLDS, lwkt_record_leave(&recorder, 0));
+    WANT(OK, lwkt_record_give(&recorder, 0, 0));
+    WANT(OK, lwkt_record_claim(&recorder, 0));
+    WANT(BUSY, lwkt_record_leave(&recorder, 0));
+    lwkt_record_unclaim(&recorder.seats[0], 0);
+    WANT(OK, lwkt_record_leave(&recorder, 0));
+    WANT(NOT_LENT, lwkt_record_leave(&recorder, 0));
+    WANT(OK, lwkt_record_enter(&recorder, &number));
+    want_at(__LINE__, (int)number, 0);
+    WANT(OK, lwkt_record_leave(&recorder, 1));
+    WANT(OK, lwkt_record_leave(&recorder, 0));
+    want_at(__LINE__, lwkt_record_lost(&recorder), 0);
+    WANT(OK, lwkt_record_end(&recorder));
+    WANT(OK, lwkt_record_to_file(&recorder, stdout));
+}
+
+#define BORROWERS 6
+static _Atomic(unsigned) lent_to[2];
+
+// Takes and gives back a number, again and again: nobody else has it meanwhile, and no event of another call is in its seat.
+static void *borrow(void *argument)
+{
+    unsigned done = 0, number;
+    (void)argument;
+    while (done < 200) {
+        int error = lwkt_record_enter(&recorder, &number);
+        if (error == LWKT_RECORD_ALL_LENT) {
+            sched_yield();
+            continue;
+        }
+        want_at(__LINE__, error, LWKT_RECORD_OK);
+        want_at(__LINE__, (int)atomic_fetch_add_explicit(&lent_to[number], 1, memory_order_relaxed), 0);
+        WANT(OK, lwkt_record_share(&recorder, number, 0));
+        WANT(HOLDS, lwkt_record_leave(&recorder, number));
+        WANT(OK, lwkt_record_give(&recorder, number, 0));
+        want_at(__LINE__, (int)atomic_fetch_sub_explicit(&lent_to[number], 1, memory_order_relaxed), 1);
+        WANT(OK, lwkt_record_leave(&recorder, number));
+        done += 1;
+    }
+    return NULL;
+}
+
+static void lent_to_many(void)
+{
+    pthread_t threads[BORROWERS];
+    unsigned each;
+    open_scene(2, 1, 0, (size_t)BORROWERS * 400);
+    WANT(OK, lwkt_record_in_lines(&recorder, true));
+    for (each = 0; each < BORROWERS; each++)
+        pthread_create(&threads[each], NULL, borrow, NULL);
+    for (each = 0; each < BORROWERS; each++)
+        pthread_join(threads[each], NULL);
+    WANT(OK, lwkt_record_end(&recorder));
+    WANT(OK, lwkt_record_to_file(&recorder, stdout));
+}
+
 static const struct scene {
     const char *name;
     void (*play)(void);
@@ -656,6 +731,8 @@ static const struct scene {
     {"streams", streams},
     {"while_others_record", while_others_record},
     {"two_on_one_processor", two_on_one_processor},
+    {"lent_numbers", lent_numbers},
+    {"lines_lent_to_many", lent_to_many},
 };
 
 int main(int count, char **arguments)
