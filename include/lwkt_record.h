@@ -12,8 +12,9 @@
 //     lwkt_record_close(&recorder);
 //
 // Processor. Who can hold a token: a processor of a kernel whose threads give up their tokens when they switch, or a thread of
-// a program. It is a number from 0; `lwkt_record_enter` lends one, where there are more threads than numbers. Each has a buffer of its own, so that its calls touch what it shares with the others once:
-// at the count of all events, from which each event takes its stamp. The trace has the events in the order of their stamps.
+// a program. It is a number from 0; `lwkt_record_enter` lends one, where there are more threads than numbers. Each has a buffer
+// of its own, so that its calls touch what it shares with the others once: at the count of all events, from which each event
+// takes its stamp. The trace has the events in the order of their stamps.
 //
 // Where the calls stand. What takes is recorded after it succeeded, and what gives before it is done, so that each event is
 // stamped inside the holding that it is of:
@@ -27,10 +28,11 @@
 // should have been, leaves a gap in the stamps; the trace ends before the first gap. So a trace is always a front of what
 // happened, and what can't be recorded is never told as a fault of the recorded program.
 //
-// Who may call. `open`, `token`, `message`, `end*` and `close`: one thread, while nobody records. Events, `enter` and `leave`: any
-// number of threads at once. Two calls at once for one processor are no fault: the second is answered LWKT_RECORD_BUSY (an interrupt that comes
-// into a call of the processor that it interrupts is such a case). `to_*`: one thread at a time, also while others record; it
-// writes the events that are there when it begins. The recorder must stay where it is from `open` on, and not be copied.
+// Who may call. `open`, `token`, `message`, `end*` and `close`: one thread, while nobody records or writes. Events, `enter` and
+// `leave`: any number of threads at once. Two calls at once for one processor are no fault: the second is answered
+// LWKT_RECORD_BUSY (an interrupt that comes into a call of the processor that it interrupts is such a case). `to_*` and
+// `drain*`: one thread at a time, while others record, and a second one is answered BUSY; they write the events that are there
+// when they begin. The recorder must stay where it is from `open` on, and not be copied.
 //
 // Before the include may be defined: LWKT_RECORD_FREESTANDING, for no stdio.h and stdlib.h (then `lwkt_record_open` and
 // `lwkt_record_to_file` aren't there); LWKT_RECORD_BYTES_MOST, for shorter traces. Atomic words of 64 bits are needed.
@@ -74,20 +76,21 @@ enum lwkt_record_error {
     LWKT_RECORD_CLOSED = 1,       // there is no recorder (NULL), or it isn't open; nothing was done
     LWKT_RECORD_LIMIT = 2,        // a limit of the trace format is passed, or a number names nothing
     LWKT_RECORD_MEMORY = 3,       // no memory; nothing was done
-    LWKT_RECORD_LATE = 4,         // tokens and messages are declared before the first event; nothing was done
+    LWKT_RECORD_LATE = 4,         // declared after the first event or drain, or told after the closing values; nothing was done
     LWKT_RECORD_NO_PROCESSOR = 5, // no such processor; the event left a gap
     LWKT_RECORD_NO_TOKEN = 6,     // no such token; nothing was recorded, and no gap left: other tokens don't need it
     LWKT_RECORD_NO_CELL = 7,      // the token has no such cell; nothing was recorded, and no gap left
     LWKT_RECORD_NO_MESSAGE = 8,   // no such message; nothing was recorded, and no gap left
     LWKT_RECORD_FULL = 9,         // the processor's buffer is full; the event left a gap
     LWKT_RECORD_TOO_MANY = 10,    // the processor has 32 references, the most that a trace can tell; the event left a gap
-    LWKT_RECORD_BUSY = 11,        // another call for the same processor is under way; the event left a gap
+    LWKT_RECORD_BUSY = 11,        // another call for the same processor, or another writing, is under way; an event left a gap
     LWKT_RECORD_CUT = 12,         // the trace was written up to the first gap, or as long as a trace may be; it is a good one
     LWKT_RECORD_STREAM = 13,      // the trace couldn't be written
     LWKT_RECORD_NO_ROOM = 14,     // the bytes given have no room for the trace
     LWKT_RECORD_ALL_LENT = 15,    // each processor's number is lent; nothing was done
     LWKT_RECORD_HOLDS = 16,       // the processor has references by what was recorded; its number stays lent
-    LWKT_RECORD_NOT_LENT = 17     // the number isn't lent; nothing was done
+    LWKT_RECORD_NOT_LENT = 17,    // the number isn't lent; nothing was done
+    LWKT_RECORD_MODE = 18         // the trace is written in another way, as drained; nothing was done
 };
 
 // The law of a token's cells, asked at the end of each section that wrote (docs/MODEL.md, "Laws").
@@ -140,7 +143,9 @@ typedef struct lwkt_record_event {
 // What a processor records into. Its members are the recorder's own, as are those of all types below.
 typedef struct lwkt_record_seat {
     LWKT_RECORD_ATOMIC(bool) busy;
-    LWKT_RECORD_ATOMIC(size_t) used;
+    LWKT_RECORD_ATOMIC(size_t) used; // how many events were recorded here
+    size_t gone;                     // how many of them aren't here any more, as far as was looked
+    size_t place;                    // where the next one goes
     lwkt_record_event *events;
     unsigned references;
     uint8_t held[LWKT_RECORD_TOKENS];
@@ -175,12 +180,38 @@ typedef struct lwkt_record_model {
     uint64_t tally[LWKT_RECORD_TOKENS][LWKT_RECORD_PROCESSORS];
     uint64_t generation[LWKT_RECORD_TOKENS];
     uint64_t round[LWKT_RECORD_MESSAGES];
-    size_t heads[LWKT_RECORD_PROCESSORS];
+    size_t heads[LWKT_RECORD_PROCESSORS];  // how many events of each processor are written,
+    size_t places[LWKT_RECORD_PROCESSORS]; // and where the next one is
     uint8_t references[LWKT_RECORD_PROCESSORS][LWKT_RECORD_TOKENS];
     bool is_exclusive[LWKT_RECORD_PROCESSORS][LWKT_RECORD_TOKENS];
     uint8_t state[LWKT_RECORD_MESSAGES];
     uint8_t target[LWKT_RECORD_MESSAGES];
 } lwkt_record_model;
+
+// Takes bytes of a trace; 0 if it has them all, else it has none of them.
+typedef int (*lwkt_record_sink)(void *context, const char *bytes, size_t count);
+
+// What is being written: the bytes that the sink hasn't yet, how many are to be left out, and how many were put.
+typedef struct lwkt_record_page {
+    lwkt_record_sink sink;
+    void *context;
+    uint64_t skip;
+    uint64_t length;
+    size_t count;
+    bool has_failed;
+    bool is_short; // a byte wasn't put, because the sink refused those before it
+    bool in_lines;
+    char bytes[512];
+} lwkt_record_page;
+
+// How far a trace is drained.
+enum lwkt_record_stage {
+    LWKT_RECORD_UNDRAINED,
+    LWKT_RECORD_IN_OPENING,
+    LWKT_RECORD_IN_EVENTS,
+    LWKT_RECORD_IN_CLOSING,
+    LWKT_RECORD_WRITTEN_OUT
+};
 
 // A recorder, some 20 KB. One that is all zeros, as a static one, isn't open, and neither is one whose opening was refused.
 typedef struct lwkt_record {
@@ -195,6 +226,12 @@ typedef struct lwkt_record {
     lwkt_record_token_spec token[LWKT_RECORD_TOKENS];
     lwkt_record_message_spec message[LWKT_RECORD_MESSAGES];
     lwkt_record_model model;
+    lwkt_record_page drain;
+    uint64_t drained;      // events
+    uint64_t drained_part; // bytes of the opening, or of the closing values
+    int stage;
+    LWKT_RECORD_ATOMIC(bool) writes;
+    LWKT_RECORD_ATOMIC(size_t) freed[LWKT_RECORD_PROCESSORS]; // how many events of each processor aren't here any more
     char before[64]; // the next stamp has a cache line for itself
     LWKT_RECORD_ATOMIC(uint64_t) next;
     char behind[64];
@@ -202,9 +239,6 @@ typedef struct lwkt_record {
     LWKT_RECORD_ATOMIC(unsigned) lent; // a bit for each processor
     lwkt_record_seat seats[LWKT_RECORD_PROCESSORS];
 } lwkt_record;
-
-// Takes bytes of a trace; 0 if it has them all.
-typedef int (*lwkt_record_sink)(void *context, const char *bytes, size_t count);
 
 // ---------------------------------------------------------------------------------------------------------------------------
 // Opening
@@ -308,11 +342,11 @@ static inline int lwkt_record_abort(lwkt_record *recorder, unsigned processor, u
 // The end, and the trace
 
 // Says that the recording is at its end: nobody holds a token. The trace then has closing values, those that the events lead
-// to, but for what the next two tell; else it has none, and its events alone are judged. CLOSED.
+// to, but for what the next two tell; else it has none, and its events alone are judged. LATE, CLOSED.
 static inline int lwkt_record_end(lwkt_record *recorder);
 
 // The same, and tells what a token's cells are now, in memory, as many as were declared; or its generation, where the recorded
-// program counts its sections. They are judged by what the events lead to. CLOSED, NO_TOKEN, NO_CELL, LIMIT.
+// program counts its sections. They are judged by what the events lead to. LATE, CLOSED, NO_TOKEN, NO_CELL, LIMIT.
 static inline int lwkt_record_end_cells(lwkt_record *recorder, unsigned token, const uint64_t *cells, unsigned count);
 static inline int lwkt_record_end_generation(lwkt_record *recorder, unsigned token, uint64_t generation);
 
@@ -321,17 +355,34 @@ static inline int lwkt_record_end_generation(lwkt_record *recorder, unsigned tok
 static inline int lwkt_record_in_lines(lwkt_record *recorder, bool in_lines);
 
 // Writes the trace to a sink, some bytes at a time. CUT where it ends before the last event; it has no closing values then.
-// STREAM where the sink didn't take it; it isn't called again then. CLOSED.
+// STREAM where the sink didn't take it; it isn't called again then. MODE after a drain; BUSY, CLOSED.
 static inline int lwkt_record_to_sink(lwkt_record *recorder, lwkt_record_sink sink, void *context);
 
 #ifndef LWKT_RECORD_FREESTANDING
-// Writes the trace to a stream, and flushes it. CUT, STREAM, CLOSED.
+// Writes the trace to a stream, and flushes it. CUT, STREAM, MODE, BUSY, CLOSED.
 static inline int lwkt_record_to_file(lwkt_record *recorder, FILE *file);
 #endif
 
 // Writes the trace into `room` bytes, without a 0 at its end, and says how many bytes it has. NO_ROOM where they are more than
-// `room`: then a front of them is there. CUT, CLOSED.
+// `room`: then a front of them is there. CUT, MODE, BUSY, CLOSED.
 static inline int lwkt_record_to_bytes(lwkt_record *recorder, char *bytes, size_t room, size_t *length);
+
+// Writes what is complete and wasn't drained before, and frees its room for new events: so a recording may be of any length. All
+// drains together write one trace in lines; the first writes the opening, the first after `end` the closing values. Of
+// events the sink is always given whole lines. CUT where an event isn't there: while others record it may be under way, after
+// `end` it was lost, and the trace is at its end. STREAM where the sink refuses: the next drain offers the same bytes again,
+// and the buffers fill meanwhile. MODE, BUSY, CLOSED.
+static inline int lwkt_record_drain(lwkt_record *recorder, lwkt_record_sink sink, void *context);
+
+#ifndef LWKT_RECORD_FREESTANDING
+// The same to a stream, which is flushed. What a stream has of bytes that it refused isn't known: after STREAM no more should go
+// there.
+static inline int lwkt_record_drain_to_file(lwkt_record *recorder, FILE *file);
+#endif
+
+// How many events a processor can record before its buffer is full, without a drain; 0 where there is no such thing. For a thread
+// that rather waits for a drain than loses an event. Called by the processor itself.
+static inline size_t lwkt_record_room(const lwkt_record *recorder, unsigned processor);
 
 // Why the first event that left a gap couldn't be recorded, or 0.
 static inline int lwkt_record_lost(const lwkt_record *recorder);
@@ -387,14 +438,32 @@ static inline size_t lwkt_record_used(const lwkt_record_seat *seat)
     return LWKT_RECORD_IN(atomic_load_explicit)(&seat->used, LWKT_RECORD_IN(memory_order_acquire));
 }
 
+static inline size_t lwkt_record_freed(const lwkt_record *recorder, size_t processor)
+{
+    return LWKT_RECORD_IN(atomic_load_explicit)(&recorder->freed[processor], LWKT_RECORD_IN(memory_order_acquire));
+}
+
+// Whether a buffer that is this call's own, and looked full, has room since.
+static inline bool lwkt_record_finds_room(const lwkt_record *recorder, lwkt_record_seat *seat, size_t used)
+{
+    seat->gone = lwkt_record_freed(recorder, (size_t)(seat - recorder->seats));
+    return used - seat->gone < recorder->room;
+}
+
+static inline size_t lwkt_record_behind(const lwkt_record *recorder, size_t place)
+{
+    return place + 1 == recorder->room ? 0 : place + 1;
+}
+
 // Stamps an event and appends it to a buffer that is this call's own.
 static inline int lwkt_record_append(lwkt_record *recorder, lwkt_record_seat *seat, lwkt_record_event event)
 {
     size_t used = lwkt_record_used(seat);
-    if (used >= recorder->room)
+    if (used - seat->gone >= recorder->room && !lwkt_record_finds_room(recorder, seat, used))
         return lwkt_record_lose(recorder, LWKT_RECORD_FULL);
     event.stamp = lwkt_record_stamp(recorder);
-    seat->events[used] = event;
+    seat->events[seat->place] = event;
+    seat->place = lwkt_record_behind(recorder, seat->place);
     LWKT_RECORD_IN(atomic_store_explicit)(&seat->used, used + 1, LWKT_RECORD_IN(memory_order_release));
     return LWKT_RECORD_OK;
 }
@@ -670,6 +739,8 @@ static inline void lwkt_record_clear_seat(lwkt_record_seat *seat, lwkt_record_ev
 {
     unsigned token;
     seat->events = events;
+    seat->gone = 0;
+    seat->place = 0;
     seat->references = 0;
     for (token = 0; token < LWKT_RECORD_TOKENS; token++)
         seat->held[token] = 0;
@@ -734,6 +805,10 @@ static inline int lwkt_record_open_in(lwkt_record *recorder, unsigned processors
     lwkt_record_clear_messages(recorder);
     for (each = 0; each < processors; each++)
         lwkt_record_clear_seat(&recorder->seats[each], room > 0 ? events + each * room : NULL);
+    for (each = 0; each < processors; each++)
+        LWKT_RECORD_IN(atomic_store_explicit)(&recorder->freed[each], 0, LWKT_RECORD_IN(memory_order_relaxed));
+    LWKT_RECORD_IN(atomic_store_explicit)(&recorder->writes, false, LWKT_RECORD_IN(memory_order_relaxed));
+    recorder->stage = LWKT_RECORD_UNDRAINED;
     recorder->processors = processors;
     recorder->mark = lwkt_record_mark_of(recorder);
     return LWKT_RECORD_OK;
@@ -774,7 +849,8 @@ static inline void lwkt_record_close(lwkt_record *recorder)
 
 static inline bool lwkt_record_has_begun(const lwkt_record *recorder)
 {
-    return LWKT_RECORD_IN(atomic_load_explicit)(&recorder->next, LWKT_RECORD_IN(memory_order_relaxed)) != 0;
+    return recorder->stage != LWKT_RECORD_UNDRAINED ||
+           LWKT_RECORD_IN(atomic_load_explicit)(&recorder->next, LWKT_RECORD_IN(memory_order_relaxed)) != 0;
 }
 
 static inline int lwkt_record_token(lwkt_record *recorder, unsigned token, enum lwkt_record_law law, uint64_t param,
@@ -823,6 +899,8 @@ static inline int lwkt_record_end(lwkt_record *recorder)
 {
     if (!lwkt_record_is_open(recorder))
         return LWKT_RECORD_CLOSED;
+    if (recorder->stage >= LWKT_RECORD_IN_CLOSING)
+        return LWKT_RECORD_LATE;
     recorder->has_ended = true;
     return LWKT_RECORD_OK;
 }
@@ -838,6 +916,8 @@ static inline int lwkt_record_end_cells(lwkt_record *recorder, unsigned token, c
     spec = &recorder->token[token];
     if (count != spec->count || (count > 0 && cells == NULL))
         return LWKT_RECORD_NO_CELL;
+    if (recorder->stage >= LWKT_RECORD_IN_CLOSING)
+        return LWKT_RECORD_LATE;
     for (cell = 0; cell < count; cell++)
         spec->end_cells[cell] = cells[cell];
     spec->has_end_cells = true;
@@ -852,6 +932,8 @@ static inline int lwkt_record_end_generation(lwkt_record *recorder, unsigned tok
         return LWKT_RECORD_NO_TOKEN;
     if (generation > LWKT_RECORD_LAST_GENERATION)
         return LWKT_RECORD_LIMIT;
+    if (recorder->stage >= LWKT_RECORD_IN_CLOSING)
+        return LWKT_RECORD_LATE;
     recorder->token[token].end_generation = generation;
     recorder->token[token].has_end_generation = true;
     return lwkt_record_end(recorder);
@@ -894,8 +976,10 @@ static inline void lwkt_record_begin(lwkt_record *recorder)
         model->state[each] = LWKT_RECORD_AT_REST;
         model->target[each] = 0;
     }
-    for (each = 0; each < LWKT_RECORD_PROCESSORS; each++)
+    for (each = 0; each < LWKT_RECORD_PROCESSORS; each++) {
         model->heads[each] = 0;
+        model->places[each] = 0;
+    }
 }
 
 static inline bool lwkt_record_is_written(const lwkt_record *recorder, unsigned token)
@@ -989,32 +1073,47 @@ static inline void lwkt_record_follow(lwkt_record_model *model, unsigned process
 // ---------------------------------------------------------------------------------------------------------------------------
 // The text
 
-// What is being written.
-typedef struct lwkt_record_page {
-    lwkt_record_sink sink;
-    void *context;
-    uint64_t length;
-    size_t count;
-    bool has_failed;
-    bool in_lines;
-    char bytes[512];
-} lwkt_record_page;
-
+// The sink that refused bytes isn't asked again: they stay, and nothing is put behind a page of them.
 static inline void lwkt_record_flush(lwkt_record_page *page)
 {
-    if (!page->has_failed && page->count > 0)
-        page->has_failed = page->sink(page->context, page->bytes, page->count) != 0;
-    page->count = 0;
+    if (page->has_failed || page->count == 0)
+        return;
+    page->has_failed = page->sink(page->context, page->bytes, page->count) != 0;
+    if (!page->has_failed)
+        page->count = 0;
+}
+
+static inline void lwkt_record_put_byte(lwkt_record_page *page, char byte)
+{
+    if (page->skip > 0) {
+        page->skip -= 1;
+        return;
+    }
+    if (page->count == sizeof page->bytes)
+        lwkt_record_flush(page);
+    if (page->count == sizeof page->bytes) {
+        page->is_short = true;
+        return;
+    }
+    page->bytes[page->count++] = byte;
+    page->length += 1;
 }
 
 static inline void lwkt_record_put(lwkt_record_page *page, const char *text)
 {
-    for (; *text != '\0'; text++) {
-        if (page->count == sizeof page->bytes)
-            lwkt_record_flush(page);
-        page->bytes[page->count++] = *text;
-        page->length += 1;
-    }
+    for (; *text != '\0'; text++)
+        lwkt_record_put_byte(page, *text);
+}
+
+// A page on which nothing stands.
+static inline void lwkt_record_begin_page(lwkt_record_page *page, bool in_lines)
+{
+    page->skip = 0;
+    page->length = 0;
+    page->count = 0;
+    page->has_failed = false;
+    page->is_short = false;
+    page->in_lines = in_lines;
 }
 
 // What a text has between two parts that each stand on a line of their own, and lines haven't. A text is laid out byte for byte as
@@ -1131,8 +1230,9 @@ static inline unsigned lwkt_record_whose(const lwkt_record *recorder, uint64_t s
 {
     unsigned processor;
     for (processor = 0; processor < recorder->processors; processor++) {
-        size_t head = recorder->model.heads[processor];
-        if (head < lwkt_record_used(&recorder->seats[processor]) && recorder->seats[processor].events[head].stamp == stamp)
+        const lwkt_record_seat *seat = &recorder->seats[processor];
+        if (recorder->model.heads[processor] != lwkt_record_used(seat) &&
+            seat->events[recorder->model.places[processor]].stamp == stamp)
             break;
     }
     return processor;
@@ -1146,7 +1246,7 @@ static inline bool lwkt_record_put_stamp(lwkt_record *recorder, lwkt_record_page
     int kind;
     if (processor == recorder->processors)
         return false;
-    event = &recorder->seats[processor].events[recorder->model.heads[processor]];
+    event = &recorder->seats[processor].events[recorder->model.places[processor]];
     kind = event->kind;
     if (kind == LWKT_RECORD_KIND_GIVE)
         kind = lwkt_record_found(recorder, processor, event->place);
@@ -1155,6 +1255,7 @@ static inline bool lwkt_record_put_stamp(lwkt_record *recorder, lwkt_record_page
     lwkt_record_put_event(page, processor, kind, event);
     lwkt_record_follow(&recorder->model, processor, kind, event);
     recorder->model.heads[processor] += 1;
+    recorder->model.places[processor] = lwkt_record_behind(recorder, recorder->model.places[processor]);
     return true;
 }
 
@@ -1170,7 +1271,7 @@ static inline bool lwkt_record_put_events(lwkt_record *recorder, lwkt_record_pag
     uint64_t count = LWKT_RECORD_IN(atomic_load_explicit)(&recorder->next, LWKT_RECORD_IN(memory_order_relaxed));
     uint64_t stamp;
     for (stamp = 0; stamp < count; stamp++)
-        if (!lwkt_record_has_room(page) || !lwkt_record_put_stamp(recorder, page, stamp))
+        if (page->is_short || !lwkt_record_has_room(page) || !lwkt_record_put_stamp(recorder, page, stamp))
             return false;
     return true;
 }
@@ -1255,20 +1356,34 @@ static inline int lwkt_record_in_lines(lwkt_record *recorder, bool in_lines)
     return LWKT_RECORD_OK;
 }
 
-static inline int lwkt_record_to_sink(lwkt_record *recorder, lwkt_record_sink sink, void *context)
+// Makes writing this call's own, to a sink.
+static inline int lwkt_record_claim_writing(lwkt_record *recorder, lwkt_record_sink sink)
 {
-    lwkt_record_page page;
-    bool is_whole;
     if (!lwkt_record_is_open(recorder))
         return LWKT_RECORD_CLOSED;
     if (sink == NULL)
         return LWKT_RECORD_STREAM;
+    if (LWKT_RECORD_IN(atomic_exchange_explicit)(&recorder->writes, true, LWKT_RECORD_IN(memory_order_acquire)))
+        return LWKT_RECORD_BUSY;
+    return LWKT_RECORD_OK;
+}
+
+static inline int lwkt_record_unclaim_writing(lwkt_record *recorder, int error)
+{
+    LWKT_RECORD_IN(atomic_store_explicit)(&recorder->writes, false, LWKT_RECORD_IN(memory_order_release));
+    return error;
+}
+
+// Writes all of a trace.
+static inline int lwkt_record_write_whole(lwkt_record *recorder, lwkt_record_sink sink, void *context)
+{
+    lwkt_record_page page;
+    bool is_whole;
+    if (recorder->stage != LWKT_RECORD_UNDRAINED)
+        return LWKT_RECORD_MODE;
     page.sink = sink;
     page.context = context;
-    page.length = 0;
-    page.count = 0;
-    page.has_failed = false;
-    page.in_lines = recorder->in_lines;
+    lwkt_record_begin_page(&page, recorder->in_lines);
     lwkt_record_begin(recorder);
     lwkt_record_put_opening(recorder, &page);
     is_whole = lwkt_record_put_events(recorder, &page);
@@ -1279,18 +1394,146 @@ static inline int lwkt_record_to_sink(lwkt_record *recorder, lwkt_record_sink si
     return is_whole ? LWKT_RECORD_OK : LWKT_RECORD_CUT;
 }
 
+static inline int lwkt_record_to_sink(lwkt_record *recorder, lwkt_record_sink sink, void *context)
+{
+    int error = lwkt_record_claim_writing(recorder, sink);
+    if (error != LWKT_RECORD_OK)
+        return error;
+    return lwkt_record_unclaim_writing(recorder, lwkt_record_write_whole(recorder, sink, context));
+}
+
+// Tells the processors which of their events aren't needed any more: their bytes are on the page.
+static inline void lwkt_record_free(lwkt_record *recorder)
+{
+    unsigned each;
+    for (each = 0; each < recorder->processors; each++)
+        LWKT_RECORD_IN(atomic_store_explicit)(&recorder->freed[each], recorder->model.heads[each],
+                                              LWKT_RECORD_IN(memory_order_release));
+}
+
+// Whether a page has room for the longest event, 38 bytes, so that no line is given to the sink in two parts.
+static inline bool lwkt_record_has_line(const lwkt_record_page *page)
+{
+    return sizeof page->bytes - page->count >= 64;
+}
+
+// Writes the events that follow those drained before. Whether these are all.
+static inline bool lwkt_record_drain_events(lwkt_record *recorder)
+{
+    lwkt_record_page *page = &recorder->drain;
+    uint64_t count = LWKT_RECORD_IN(atomic_load_explicit)(&recorder->next, LWKT_RECORD_IN(memory_order_relaxed));
+    while (recorder->drained < count) {
+        if (!lwkt_record_has_line(page)) {
+            lwkt_record_free(recorder);
+            lwkt_record_flush(page);
+        }
+        if (!lwkt_record_has_line(page) || !lwkt_record_put_stamp(recorder, page, recorder->drained))
+            break;
+        recorder->drained += 1;
+    }
+    lwkt_record_free(recorder);
+    return recorder->drained >= count;
+}
+
+// Writes what is missing of the opening, or of the closing values, and begins the next stage after it. They may be longer than a
+// page: what was put of them before is left out.
+static inline void lwkt_record_drain_part(lwkt_record *recorder)
+{
+    lwkt_record_page *page = &recorder->drain;
+    page->skip = recorder->drained_part;
+    page->length = 0;
+    page->is_short = false;
+    if (recorder->stage == LWKT_RECORD_IN_OPENING)
+        lwkt_record_put_opening(recorder, page);
+    else
+        lwkt_record_put_end(recorder, page, true);
+    recorder->drained_part += page->length;
+    if (page->is_short)
+        return;
+    recorder->drained_part = 0;
+    recorder->stage += 1;
+}
+
+static inline int lwkt_record_drain_more(lwkt_record *recorder)
+{
+    bool is_whole = false;
+    lwkt_record_flush(&recorder->drain);
+    if (recorder->stage == LWKT_RECORD_IN_OPENING)
+        lwkt_record_drain_part(recorder);
+    if (recorder->stage == LWKT_RECORD_IN_EVENTS) {
+        is_whole = lwkt_record_drain_events(recorder);
+        if (is_whole && recorder->has_ended)
+            recorder->stage = LWKT_RECORD_IN_CLOSING;
+    }
+    if (recorder->stage == LWKT_RECORD_IN_CLOSING)
+        lwkt_record_drain_part(recorder);
+    if (recorder->stage == LWKT_RECORD_WRITTEN_OUT)
+        is_whole =
+            LWKT_RECORD_IN(atomic_load_explicit)(&recorder->next, LWKT_RECORD_IN(memory_order_relaxed)) == recorder->drained;
+    lwkt_record_flush(&recorder->drain);
+    if (recorder->drain.has_failed)
+        return LWKT_RECORD_STREAM;
+    return is_whole ? LWKT_RECORD_OK : LWKT_RECORD_CUT;
+}
+
+static inline void lwkt_record_begin_drain(lwkt_record *recorder)
+{
+    lwkt_record_begin_page(&recorder->drain, true);
+    lwkt_record_begin(recorder);
+    recorder->drained = 0;
+    recorder->drained_part = 0;
+    recorder->stage = LWKT_RECORD_IN_OPENING;
+}
+
+static inline int lwkt_record_drain(lwkt_record *recorder, lwkt_record_sink sink, void *context)
+{
+    int error = lwkt_record_claim_writing(recorder, sink);
+    if (error != LWKT_RECORD_OK)
+        return error;
+    if (recorder->stage == LWKT_RECORD_UNDRAINED)
+        lwkt_record_begin_drain(recorder);
+    recorder->drain.sink = sink;
+    recorder->drain.context = context;
+    recorder->drain.has_failed = false;
+    return lwkt_record_unclaim_writing(recorder, lwkt_record_drain_more(recorder));
+}
+
+static inline size_t lwkt_record_room(const lwkt_record *recorder, unsigned processor)
+{
+    size_t used, taken;
+    if (!lwkt_record_is_open(recorder) || processor >= recorder->processors)
+        return 0;
+    used = lwkt_record_used(&recorder->seats[processor]);
+    taken = used - lwkt_record_freed(recorder, processor);
+    return taken < recorder->room ? recorder->room - taken : 0;
+}
+
 #ifndef LWKT_RECORD_FREESTANDING
 static inline int lwkt_record_into_file(void *context, const char *bytes, size_t count)
 {
     return fwrite(bytes, 1, count, (FILE *)context) == count ? 0 : 1;
 }
 
-static inline int lwkt_record_to_file(lwkt_record *recorder, FILE *file)
+// What was answered by a writing to a file, once it is flushed.
+static inline int lwkt_record_flush_file(FILE *file, int error)
 {
-    int error = file == NULL ? LWKT_RECORD_STREAM : lwkt_record_to_sink(recorder, lwkt_record_into_file, file);
     if ((error == LWKT_RECORD_OK || error == LWKT_RECORD_CUT) && fflush(file) != 0)
         return LWKT_RECORD_STREAM;
     return error;
+}
+
+static inline int lwkt_record_to_file(lwkt_record *recorder, FILE *file)
+{
+    if (file == NULL)
+        return LWKT_RECORD_STREAM;
+    return lwkt_record_flush_file(file, lwkt_record_to_sink(recorder, lwkt_record_into_file, file));
+}
+
+static inline int lwkt_record_drain_to_file(lwkt_record *recorder, FILE *file)
+{
+    if (file == NULL)
+        return LWKT_RECORD_STREAM;
+    return lwkt_record_flush_file(file, lwkt_record_drain(recorder, lwkt_record_into_file, file));
 }
 #endif
 
@@ -1346,8 +1589,9 @@ static inline const char *lwkt_record_words(int error)
                                         "the trace has more bytes than there is room for",
                                         "each processor's number is lent",
                                         "the processor holds a recorded token",
-                                        "the number isn't lent"};
-    return error >= LWKT_RECORD_OK && error <= LWKT_RECORD_NOT_LENT ? words[error] : "no such error";
+                                        "the number isn't lent",
+                                        "the recorder's trace is written in another way"};
+    return error >= LWKT_RECORD_OK && error <= LWKT_RECORD_MODE ? words[error] : "no such error";
 }
 
 #endif

@@ -514,6 +514,8 @@ static void closed_calls(lwkt_record *closed)
     WANT(CLOSED, lwkt_record_lost(closed));
     WANT(CLOSED, lwkt_record_enter(closed, &number));
     WANT(CLOSED, lwkt_record_leave(closed, 0));
+    WANT(CLOSED, lwkt_record_drain(closed, refuse, &count));
+    want_at(__LINE__, (int)lwkt_record_room(closed, 0), 0);
     want_at(__LINE__, count + (int)lwkt_record_held(closed, 0, 0), 0);
     lwkt_record_close(closed);
 }
@@ -655,7 +657,7 @@ static _Atomic(unsigned) lent_to[2];
 // Takes and gives back a number, again and again: nobody else has it meanwhile, and no event of another call is in its seat.
 static void *borrow(void *argument)
 {
-    unsigned done = 0, number;
+    unsigned done = 0, number = 0;
     (void)argument;
     while (done < 200) {
         int error = lwkt_record_enter(&recorder, &number);
@@ -687,6 +689,235 @@ static void lent_to_many(void)
         pthread_join(threads[each], NULL);
     WANT(OK, lwkt_record_end(&recorder));
     WANT(OK, lwkt_record_to_file(&recorder, stdout));
+}
+
+// A sink that keeps what it takes, which is all, or each so many-th time.
+struct choosy {
+    char bytes[60000];
+    size_t length;
+    unsigned calls;
+    unsigned each;
+};
+
+static int choose(void *context, const char *bytes, size_t count)
+{
+    struct choosy *sink = (struct choosy *)context;
+    sink->calls += 1;
+    if (sink->each > 0 && sink->calls % sink->each != 0)
+        return 1;
+    memcpy(sink->bytes + sink->length, bytes, count);
+    sink->length += count;
+    return 0;
+}
+
+// What may be recorded in a token's sections, of which the buffers have but a few.
+static void sections_at(unsigned processor, unsigned count)
+{
+    unsigned each;
+    for (each = 0; each < count; each++) {
+        WANT(OK, lwkt_record_take(&recorder, processor, 0));
+        WANT(OK, lwkt_record_write(&recorder, processor, 0, 0, 60 - each % 2));
+        WANT(OK, lwkt_record_write(&recorder, processor, 0, 1, 40 + each % 2));
+        WANT(OK, lwkt_record_give(&recorder, processor, 0));
+    }
+}
+
+static void open_drained(size_t room)
+{
+    static const uint64_t cells[2] = {60, 40};
+    open_scene(2, 1, 1, room);
+    WANT(OK, lwkt_record_token(&recorder, 0, LWKT_RECORD_SUM, 100, 5, cells, 2));
+}
+
+// The bytes of all drains are those of a recording that was written at once, whatever of them the sink refuses meanwhile.
+static void drained_as_whole(unsigned each, char *whole, size_t length)
+{
+    static struct choosy sink;
+    unsigned round;
+    int error = LWKT_RECORD_STREAM;
+    memset(&sink, 0, sizeof sink);
+    sink.each = each;
+    open_drained(80);
+    for (round = 0; round < 30; round++) {
+        want_at(__LINE__, lwkt_record_room(&recorder, round % 2) >= 12, 1);
+        sections_at(round % 2, 3);
+        error = lwkt_record_drain(&recorder, choose, &sink);
+        want_at(__LINE__, error == LWKT_RECORD_OK || error == LWKT_RECORD_STREAM, 1);
+    }
+    WANT(OK, lwkt_record_end(&recorder));
+    while (error != LWKT_RECORD_OK)
+        error = lwkt_record_drain(&recorder, choose, &sink);
+    WANT(OK, lwkt_record_drain(&recorder, choose, &sink));
+    want_at(__LINE__, sink.length == length && memcmp(sink.bytes, whole, length) == 0, 1);
+}
+
+static void drained(void)
+{
+    static char whole[60000];
+    size_t length = 0;
+    unsigned round;
+    open_drained(800);
+    WANT(OK, lwkt_record_in_lines(&recorder, true));
+    for (round = 0; round < 30; round++)
+        sections_at(round % 2, 3);
+    WANT(OK, lwkt_record_end(&recorder));
+    WANT(OK, lwkt_record_to_bytes(&recorder, whole, sizeof whole, &length));
+    for (round = 0; round < 4; round++)
+        drained_as_whole(round, whole, length);
+    fwrite(whole, 1, length, stdout);
+}
+
+// A sink that tries to write itself.
+static int drain_within(void *context, const char *bytes, size_t count)
+{
+    WANT(BUSY, lwkt_record_drain(&recorder, let_go, NULL));
+    WANT(BUSY, lwkt_record_to_sink(&recorder, let_go, NULL));
+    return fwrite(bytes, 1, count, (FILE *)context) == count ? 0 : 1;
+}
+
+// The answers of a drain, and of other calls after it.
+static void drained_calls(void)
+{
+    static const uint64_t cells[2] = {60, 40};
+    int refusals = 0;
+    char byte;
+    open_drained(4);
+    WANT(STREAM, lwkt_record_drain(&recorder, NULL, NULL));
+    WANT(STREAM, lwkt_record_drain_to_file(&recorder, NULL));
+    WANT(OK, lwkt_record_token(&recorder, 0, LWKT_RECORD_SUM, 100, 5, cells, 2));
+    WANT(STREAM, lwkt_record_drain(&recorder, refuse, &refusals));
+    want_at(__LINE__, refusals, 1);
+    WANT(LATE, lwkt_record_token(&recorder, 0, LWKT_RECORD_SUM, 100, 6, cells, 2));
+    WANT(LATE, lwkt_record_message(&recorder, 0, 0, 0, 0));
+    WANT(OK, lwkt_record_drain(&recorder, drain_within, stdout));
+    want_at(__LINE__, (int)lwkt_record_room(&recorder, 0), 4);
+    want_at(__LINE__, (int)lwkt_record_room(&recorder, 2), 0);
+    sections_at(0, 1);
+    want_at(__LINE__, (int)lwkt_record_room(&recorder, 0), 0);
+    WANT(OK, lwkt_record_drain(&recorder, drain_within, stdout));
+    sections_at(0, 1);
+    WANT(MODE, lwkt_record_to_file(&recorder, stdout));
+    WANT(MODE, lwkt_record_to_bytes(&recorder, &byte, 1, NULL));
+    WANT(OK, lwkt_record_end_cells(&recorder, 0, cells, 2));
+    WANT(OK, lwkt_record_drain_to_file(&recorder, stdout));
+    WANT(OK, lwkt_record_drain_to_file(&recorder, stdout));
+    WANT(LATE, lwkt_record_end(&recorder));
+    WANT(LATE, lwkt_record_end_cells(&recorder, 0, cells, 2));
+    WANT(LATE, lwkt_record_end_generation(&recorder, 0, 5));
+    WANT(OK, lwkt_record_mark(&recorder, 1, 0));
+    WANT(CUT, lwkt_record_drain_to_file(&recorder, stdout));
+}
+
+// While the sink refuses, the buffers fill. What is drained later ends before the first event that was lost.
+static void drained_full(void)
+{
+    int refusals = 0;
+    open_drained(4);
+    sections_at(0, 1);
+    WANT(OK, lwkt_record_drain_to_file(&recorder, stdout));
+    WANT(STREAM, lwkt_record_drain_to_file(&recorder, NULL));
+    sections_at(0, 1);
+    WANT(FULL, lwkt_record_take(&recorder, 0, 0));
+    WANT(STREAM, lwkt_record_drain(&recorder, refuse, &refusals));
+    WANT(OK, lwkt_record_take(&recorder, 1, 0));
+    WANT(FULL, lwkt_record_lost(&recorder));
+    WANT(CUT, lwkt_record_drain_to_file(&recorder, stdout));
+    WANT(OK, lwkt_record_end(&recorder));
+    WANT(CUT, lwkt_record_drain_to_file(&recorder, stdout));
+}
+
+// The longest opening and closing values, of which a page has a small part, to a sink that takes each fifth page.
+static void drained_largest(void)
+{
+    static const uint64_t cells[4] = {UINT64_MAX, UINT64_MAX, UINT64_MAX, UINT64_MAX};
+    static struct choosy sink;
+    unsigned each;
+    memset(&sink, 0, sizeof sink);
+    sink.each = 5;
+    open_scene(8, 64, 64, 10);
+    for (each = 0; each < 64; each++) {
+        WANT(OK, lwkt_record_token(&recorder, each, LWKT_RECORD_CAP, UINT64_MAX, LWKT_RECORD_LAST_GENERATION, cells, 4));
+        WANT(OK, lwkt_record_message(&recorder, each, each % 8, each % 16, LWKT_RECORD_LAST_ROUND));
+    }
+    WANT(OK, lwkt_record_load(&recorder, 7, 63));
+    WANT(OK, lwkt_record_end(&recorder));
+    for (each = 0; lwkt_record_drain(&recorder, choose, &sink) == LWKT_RECORD_STREAM;)
+        each += 1;
+    want_at(__LINE__, each > 100 && sink.calls > 4 * (sink.length / 512), 1);
+    fwrite(sink.bytes, 1, sink.length, stdout);
+}
+
+// Whole lines but for the opening and the closing values.
+static int take_lines(void *context, const char *bytes, size_t count)
+{
+    bool is_whole = bytes[0] == '{' || (bytes[0] == '\n' && (bytes[count - 1] == ']' || bytes[count - 1] == '\n'));
+    want_at(__LINE__, is_whole, 1);
+    return fwrite(bytes, 1, count, (FILE *)context) == count ? 0 : 1;
+}
+
+// Sections of a thread that waits until its buffer, of 12 events, has room for one.
+static void *record_drained(void *argument)
+{
+    unsigned processor = *(unsigned *)argument, each;
+    for (each = 0; each < 300; each++) {
+        while (lwkt_record_room(&recorder, processor) < 3)
+            sched_yield();
+        WANT(OK, lwkt_record_share(&recorder, processor, 0));
+        WANT(OK, lwkt_record_mark(&recorder, processor, 0));
+        WANT(OK, lwkt_record_give(&recorder, processor, 0));
+    }
+    atomic_fetch_sub(&at_work, 1);
+    return NULL;
+}
+
+// A recording that is drained while it runs has 150 times the events of its buffers, and loses none.
+static void drained_while_others_record(void)
+{
+    static unsigned numbers[2] = {0, 1};
+    pthread_t threads[2];
+    unsigned each;
+    open_drained(12);
+    atomic_store(&at_work, 2);
+    for (each = 0; each < 2; each++)
+        pthread_create(&threads[each], NULL, record_drained, &numbers[each]);
+    while (atomic_load(&at_work) > 0) {
+        int error = lwkt_record_drain(&recorder, take_lines, stdout);
+        want_at(__LINE__, error == LWKT_RECORD_OK || error == LWKT_RECORD_CUT, 1);
+    }
+    for (each = 0; each < 2; each++)
+        pthread_join(threads[each], NULL);
+    WANT(OK, lwkt_record_end(&recorder));
+    WANT(OK, lwkt_record_drain(&recorder, take_lines, stdout));
+}
+
+// Two threads that drain: one of them is answered BUSY where both are at it, and the lines come in their order.
+static void *drain_too(void *argument)
+{
+    while (atomic_load(&at_work) > 0) {
+        int error = lwkt_record_drain(&recorder, choose, argument);
+        want_at(__LINE__, error == LWKT_RECORD_OK || error == LWKT_RECORD_CUT || error == LWKT_RECORD_BUSY, 1);
+        sched_yield();
+    }
+    return NULL;
+}
+
+static void drained_by_two(void)
+{
+    static struct choosy sink;
+    static unsigned number = 0;
+    pthread_t threads[3];
+    unsigned each;
+    memset(&sink, 0, sizeof sink);
+    open_drained(12);
+    atomic_store(&at_work, 1);
+    pthread_create(&threads[2], NULL, record_drained, &number);
+    for (each = 0; each < 2; each++)
+        pthread_create(&threads[each], NULL, drain_too, &sink);
+    for (each = 0; each < 3; each++)
+        pthread_join(threads[each], NULL);
+    WANT(OK, lwkt_record_end(&recorder));
+    WANT(OK, lwkt_record_drain(&recorder, choose, &sink));
+    fwrite(sink.bytes, 1, sink.length, stdout);
 }
 
 static const struct scene {
@@ -733,6 +964,12 @@ static const struct scene {
     {"two_on_one_processor", two_on_one_processor},
     {"lent_numbers", lent_numbers},
     {"lines_lent_to_many", lent_to_many},
+    {"lines_drained", drained},
+    {"lines_drained_calls", drained_calls},
+    {"lines_drained_full", drained_full},
+    {"lines_drained_largest", drained_largest},
+    {"lines_drained_while_others_record", drained_while_others_record},
+    {"lines_drained_by_two", drained_by_two},
 };
 
 int main(int count, char **arguments)
