@@ -26,7 +26,8 @@
 // Errors. Each call answers 0 (LWKT_RECORD_OK) or a number of `lwkt_record_error`. No call waits, none takes memory but
 // `lwkt_record_open`, and none is undefined but for what is said under "Who may call". An event that couldn't be recorded, but
 // should have been, leaves a gap in the stamps; the trace ends before the first gap. So a trace is always a front of what
-// happened, and what can't be recorded is never told as a fault of the recorded program.
+// happened, and what can't be recorded is never told as a fault of the recorded program. A recorder that keeps the last events
+// (`lwkt_record_keep_last`) writes the back of this front.
 //
 // Who may call. `open`, `token`, `message`, `end*` and `close`: one thread, while nobody records or writes. Events, `enter` and
 // `leave`: any number of threads at once. Two calls at once for one processor are no fault: the second is answered
@@ -90,7 +91,7 @@ enum lwkt_record_error {
     LWKT_RECORD_ALL_LENT = 15,    // each processor's number is lent; nothing was done
     LWKT_RECORD_HOLDS = 16,       // the processor has references by what was recorded; its number stays lent
     LWKT_RECORD_NOT_LENT = 17,    // the number isn't lent; nothing was done
-    LWKT_RECORD_MODE = 18         // the trace is written in another way, as drained; nothing was done
+    LWKT_RECORD_MODE = 18         // a whole writing after a drain, or a drain where the last events are kept; nothing was done
 };
 
 // The law of a token's cells, asked at the end of each section that wrote (docs/MODEL.md, "Laws").
@@ -147,8 +148,11 @@ typedef struct lwkt_record_seat {
     size_t gone;                     // how many of them aren't here any more, as far as was looked
     size_t place;                    // where the next one goes
     lwkt_record_event *events;
+    lwkt_record_event *pasts; // what is left of the forgotten events (`lwkt_record_past_write`)
+    uint64_t forgotten;       // the stamp behind the last of them
     unsigned references;
     uint8_t held[LWKT_RECORD_TOKENS];
+    uint8_t past[LWKT_RECORD_TOKENS]; // the references after them, and whether they are exclusive
     char apart[64]; // no two seats in one cache line
 } lwkt_record_seat;
 
@@ -200,6 +204,8 @@ typedef struct lwkt_record_page {
     size_t count;
     bool has_failed;
     bool is_short; // a byte wasn't put, because the sink refused those before it
+    bool is_full;  // an event wasn't put, because the trace would be too long
+    bool has_event;
     bool in_lines;
     char bytes[512];
 } lwkt_record_page;
@@ -220,7 +226,9 @@ typedef struct lwkt_record {
     unsigned tokens;
     unsigned messages;
     size_t room;
-    bool owns_events;
+    lwkt_record_event *memory; // the recorder's own
+    uint64_t first;            // the stamp of the first event that is written
+    bool keeps_last;
     bool has_ended;
     bool in_lines;
     lwkt_record_token_spec token[LWKT_RECORD_TOKENS];
@@ -256,6 +264,14 @@ static inline int lwkt_record_open_in(lwkt_record *recorder, unsigned processors
 static inline int lwkt_record_open(lwkt_record *recorder, unsigned processors, unsigned tokens, unsigned messages,
                                    size_t room);
 #endif
+
+// Has each processor keep its last events only, and forget the oldest where its buffer is full, so that a recording has no end but
+// its last event. 8 events of each token's and one of each message's are taken from each processor's room: LIMIT where none is
+// left. The trace then begins behind the last event that was forgotten. Events that are told again lead there, from the values
+// declared: of a token with other cells a section that wrote them, of each holder its references and its writes, of a message
+// that is away its send, take and reply. An event that is lost ends the recording: from then on none is forgotten. So does
+// writing the trace while others record: their calls are then answered BUSY. LATE, CLOSED.
+static inline int lwkt_record_keep_last(lwkt_record *recorder);
 
 // Closes a recorder. Calls on it are then answered CLOSED. It may be opened again.
 static inline void lwkt_record_close(lwkt_record *recorder);
@@ -346,7 +362,7 @@ static inline int lwkt_record_abort(lwkt_record *recorder, unsigned processor, u
 static inline int lwkt_record_end(lwkt_record *recorder);
 
 // The same, and tells what a token's cells are now, in memory, as many as were declared; or its generation, where the recorded
-// program counts its sections. They are judged by what the events lead to. LATE, CLOSED, NO_TOKEN, NO_CELL, LIMIT.
+// program counts its sections: not judged where events were forgotten. They are judged by what the events lead to. LATE, CLOSED, NO_TOKEN, NO_CELL, LIMIT.
 static inline int lwkt_record_end_cells(lwkt_record *recorder, unsigned token, const uint64_t *cells, unsigned count);
 static inline int lwkt_record_end_generation(lwkt_record *recorder, unsigned token, uint64_t generation);
 
@@ -443,9 +459,94 @@ static inline size_t lwkt_record_freed(const lwkt_record *recorder, size_t proce
     return LWKT_RECORD_IN(atomic_load_explicit)(&recorder->freed[processor], LWKT_RECORD_IN(memory_order_acquire));
 }
 
-// Whether a buffer that is this call's own, and looked full, has room since.
-static inline bool lwkt_record_finds_room(const lwkt_record *recorder, lwkt_record_seat *seat, size_t used)
+// Where the oldest event is that is in a buffer.
+static inline size_t lwkt_record_oldest(const lwkt_record *recorder, const lwkt_record_seat *seat)
 {
+    size_t here = lwkt_record_used(seat) - seat->gone;
+    return seat->place >= here ? seat->place - here : seat->place + recorder->room - here;
+}
+
+// What is left of forgotten events: for each token and cell the last write, and the last before the last take; for each message
+// what the processor last did with it, with the round.
+static inline lwkt_record_event *lwkt_record_past_cells(const lwkt_record_seat *seat, unsigned token)
+{
+    return seat->pasts + (size_t)2 * LWKT_RECORD_CELLS * token;
+}
+
+static inline lwkt_record_event *lwkt_record_past_message(const lwkt_record *recorder, const lwkt_record_seat *seat,
+                                                          unsigned message)
+{
+    return lwkt_record_past_cells(seat, recorder->tokens) + message;
+}
+
+#define LWKT_RECORD_IS_EXCLUSIVE 0x80u
+#define LWKT_RECORD_COUNT 0x7fu
+
+static inline void lwkt_record_past_take(lwkt_record *recorder, lwkt_record_seat *seat, unsigned token)
+{
+    lwkt_record_event *cells = lwkt_record_past_cells(seat, token);
+    unsigned cell;
+    seat->past[token] = (uint8_t)((seat->past[token] + 1) | LWKT_RECORD_IS_EXCLUSIVE);
+    for (cell = 0; cell < recorder->token[token].count; cell++)
+        cells[LWKT_RECORD_CELLS + cell] = cells[cell];
+}
+
+static inline void lwkt_record_past_give(lwkt_record_seat *seat, unsigned token)
+{
+    unsigned past = seat->past[token];
+    seat->past[token] = (uint8_t)((past & LWKT_RECORD_COUNT) > 1 ? past - 1 : 0);
+}
+
+// Forgets the oldest event of a buffer that is this call's own, but for what it leads to.
+static inline void lwkt_record_forget(lwkt_record *recorder, lwkt_record_seat *seat)
+{
+    const lwkt_record_event *event = &seat->events[lwkt_record_oldest(recorder, seat)];
+    unsigned place = event->place;
+    lwkt_record_event *message;
+    switch (event->kind) {
+    case LWKT_RECORD_KIND_TAKE:
+        lwkt_record_past_take(recorder, seat, place);
+        break;
+    case LWKT_RECORD_KIND_SHARE:
+    case LWKT_RECORD_KIND_AGAIN:
+        seat->past[place] = (uint8_t)(seat->past[place] + 1);
+        break;
+    case LWKT_RECORD_KIND_GIVE:
+    case LWKT_RECORD_KIND_GIVE_ONE:
+    case LWKT_RECORD_KIND_GIVE_CLEAN:
+    case LWKT_RECORD_KIND_GIVE_WRITTEN:
+        lwkt_record_past_give(seat, place);
+        break;
+    case LWKT_RECORD_KIND_WRITE:
+        lwkt_record_past_cells(seat, place)[event->part] = *event;
+        break;
+    case LWKT_RECORD_KIND_SEND:
+    case LWKT_RECORD_KIND_TAKE_MESSAGE:
+        *lwkt_record_past_message(recorder, seat, place) = *event;
+        break;
+    case LWKT_RECORD_KIND_REPLY:
+    case LWKT_RECORD_KIND_DROP:
+    case LWKT_RECORD_KIND_REAP:
+        message = lwkt_record_past_message(recorder, seat, place);
+        message->kind = event->kind;
+        message->stamp = event->stamp;
+        break;
+    default:
+        break;
+    }
+    seat->forgotten = event->stamp + 1;
+    seat->gone += 1;
+}
+
+// Whether a buffer that is this call's own, and looked full, has room since, or can forget an event.
+static inline bool lwkt_record_finds_room(lwkt_record *recorder, lwkt_record_seat *seat, size_t used)
+{
+    if (recorder->keeps_last) {
+        if (LWKT_RECORD_IN(atomic_load_explicit)(&recorder->lost, LWKT_RECORD_IN(memory_order_relaxed)) != 0)
+            return false;
+        lwkt_record_forget(recorder, seat);
+        return true;
+    }
     seat->gone = lwkt_record_freed(recorder, (size_t)(seat - recorder->seats));
     return used - seat->gone < recorder->room;
 }
@@ -739,11 +840,15 @@ static inline void lwkt_record_clear_seat(lwkt_record_seat *seat, lwkt_record_ev
 {
     unsigned token;
     seat->events = events;
+    seat->pasts = NULL;
+    seat->forgotten = 0;
     seat->gone = 0;
     seat->place = 0;
     seat->references = 0;
-    for (token = 0; token < LWKT_RECORD_TOKENS; token++)
+    for (token = 0; token < LWKT_RECORD_TOKENS; token++) {
         seat->held[token] = 0;
+        seat->past[token] = 0;
+    }
     LWKT_RECORD_IN(atomic_store_explicit)(&seat->used, 0, LWKT_RECORD_IN(memory_order_relaxed));
     LWKT_RECORD_IN(atomic_store_explicit)(&seat->busy, false, LWKT_RECORD_IN(memory_order_relaxed));
 }
@@ -794,7 +899,9 @@ static inline int lwkt_record_open_in(lwkt_record *recorder, unsigned processors
     recorder->tokens = tokens;
     recorder->messages = messages;
     recorder->room = room;
-    recorder->owns_events = false;
+    recorder->memory = NULL;
+    recorder->first = 0;
+    recorder->keeps_last = false;
     recorder->has_ended = false;
     recorder->in_lines = false;
     LWKT_RECORD_IN(atomic_store_explicit)(&recorder->next, 0, LWKT_RECORD_IN(memory_order_relaxed));
@@ -829,8 +936,7 @@ static inline int lwkt_record_open(lwkt_record *recorder, unsigned processors, u
     if (events == NULL)
         return LWKT_RECORD_MEMORY;
     error = lwkt_record_open_in(recorder, processors, tokens, messages, events, room);
-    recorder->seats[0].events = events;
-    recorder->owns_events = true;
+    recorder->memory = events;
     return error;
 }
 #endif
@@ -840,8 +946,7 @@ static inline void lwkt_record_close(lwkt_record *recorder)
     if (!lwkt_record_is_open(recorder))
         return;
 #ifndef LWKT_RECORD_FREESTANDING
-    if (recorder->owns_events)
-        free(recorder->seats[0].events);
+    free(recorder->memory);
 #endif
     recorder->mark = 0;
     recorder->processors = 0;
@@ -851,6 +956,31 @@ static inline bool lwkt_record_has_begun(const lwkt_record *recorder)
 {
     return recorder->stage != LWKT_RECORD_UNDRAINED ||
            LWKT_RECORD_IN(atomic_load_explicit)(&recorder->next, LWKT_RECORD_IN(memory_order_relaxed)) != 0;
+}
+
+static inline int lwkt_record_keep_last(lwkt_record *recorder)
+{
+    size_t pasts, past;
+    unsigned each;
+    if (!lwkt_record_is_open(recorder))
+        return LWKT_RECORD_CLOSED;
+    if (lwkt_record_has_begun(recorder))
+        return LWKT_RECORD_LATE;
+    if (recorder->keeps_last)
+        return LWKT_RECORD_OK;
+    pasts = (size_t)2 * LWKT_RECORD_CELLS * recorder->tokens + recorder->messages;
+    if (recorder->room <= pasts)
+        return LWKT_RECORD_LIMIT;
+    for (each = 0; each < recorder->processors; each++) {
+        lwkt_record_seat *seat = &recorder->seats[each];
+        seat->pasts = seat->events;
+        seat->events += pasts;
+        for (past = 0; past < pasts; past++)
+            seat->pasts[past] = lwkt_record_made(LWKT_RECORD_KIND_LOAD, 0, 0, 0);
+    }
+    recorder->room -= pasts;
+    recorder->keeps_last = true;
+    return LWKT_RECORD_OK;
 }
 
 static inline int lwkt_record_token(lwkt_record *recorder, unsigned token, enum lwkt_record_law law, uint64_t param,
@@ -1113,6 +1243,8 @@ static inline void lwkt_record_begin_page(lwkt_record_page *page, bool in_lines)
     page->count = 0;
     page->has_failed = false;
     page->is_short = false;
+    page->is_full = false;
+    page->has_event = false;
     page->in_lines = in_lines;
 }
 
@@ -1192,7 +1324,7 @@ static inline void lwkt_record_put_messages(const lwkt_record *recorder, lwkt_re
         lwkt_record_put_break(page, "\n");
         lwkt_record_put_number(page, "{\"of\":[", message->processor);
         lwkt_record_put_number(page, ",", message->thread);
-        lwkt_record_put_number(page, "],\"round\":", message->round);
+        lwkt_record_put_number(page, "],\"round\":", recorder->model.round[each]);
         lwkt_record_put(page, "}");
     }
 }
@@ -1214,7 +1346,9 @@ static inline void lwkt_record_put_opening(const lwkt_record *recorder, lwkt_rec
 static inline void lwkt_record_put_event(lwkt_record_page *page, unsigned processor, int kind, const lwkt_record_event *event)
 {
     bool has_part = kind == LWKT_RECORD_KIND_READ || kind == LWKT_RECORD_KIND_WRITE || kind == LWKT_RECORD_KIND_SEND;
-    lwkt_record_put(page, "[\"");
+    lwkt_record_put_break(page, page->has_event ? "," : "");
+    lwkt_record_put(page, "\n[\"");
+    page->has_event = true;
     lwkt_record_put(page, lwkt_record_word(kind));
     lwkt_record_put_number(page, "\",", processor);
     lwkt_record_put_number(page, ",", event->place);
@@ -1250,8 +1384,6 @@ static inline bool lwkt_record_put_stamp(lwkt_record *recorder, lwkt_record_page
     kind = event->kind;
     if (kind == LWKT_RECORD_KIND_GIVE)
         kind = lwkt_record_found(recorder, processor, event->place);
-    lwkt_record_put_break(page, stamp == 0 ? "" : ",");
-    lwkt_record_put(page, "\n");
     lwkt_record_put_event(page, processor, kind, event);
     lwkt_record_follow(&recorder->model, processor, kind, event);
     recorder->model.heads[processor] += 1;
@@ -1270,7 +1402,7 @@ static inline bool lwkt_record_put_events(lwkt_record *recorder, lwkt_record_pag
 {
     uint64_t count = LWKT_RECORD_IN(atomic_load_explicit)(&recorder->next, LWKT_RECORD_IN(memory_order_relaxed));
     uint64_t stamp;
-    for (stamp = 0; stamp < count; stamp++)
+    for (stamp = recorder->first; stamp < count; stamp++)
         if (page->is_short || !lwkt_record_has_room(page) || !lwkt_record_put_stamp(recorder, page, stamp))
             return false;
     return true;
@@ -1292,7 +1424,8 @@ static inline void lwkt_record_put_end_generations(const lwkt_record *recorder, 
     for (each = 0; each < recorder->tokens; each++) {
         const lwkt_record_token_spec *token = &recorder->token[each];
         lwkt_record_put_number(page, lwkt_record_comma(each),
-                               token->has_end_generation ? token->end_generation : recorder->model.generation[each]);
+                               token->has_end_generation && recorder->first == 0 ? token->end_generation
+                                                                                 : recorder->model.generation[each]);
     }
 }
 
@@ -1374,6 +1507,220 @@ static inline int lwkt_record_unclaim_writing(lwkt_record *recorder, int error)
     return error;
 }
 
+// ---------------------------------------------------------------------------------------------------------------------------
+// The last events
+
+// Makes all buffers this call's own, or none.
+static inline bool lwkt_record_claim_all(lwkt_record *recorder)
+{
+    unsigned each;
+    for (each = 0; each < recorder->processors; each++)
+        if (LWKT_RECORD_IN(atomic_exchange_explicit)(&recorder->seats[each].busy, true, LWKT_RECORD_IN(memory_order_acquire)))
+            break;
+    if (each == recorder->processors)
+        return true;
+    while (each > 0)
+        (void)lwkt_record_unclaim(&recorder->seats[--each], LWKT_RECORD_OK);
+    return false;
+}
+
+static inline void lwkt_record_unclaim_all(lwkt_record *recorder)
+{
+    unsigned each;
+    for (each = 0; each < recorder->processors; each++)
+        (void)lwkt_record_unclaim(&recorder->seats[each], LWKT_RECORD_OK);
+}
+
+// Has each processor forget as much as the one that forgot most, so that what is left has no hole, and begins to write there.
+// Whether no event before was lost.
+static inline bool lwkt_record_begin_last(lwkt_record *recorder)
+{
+    size_t gone = 0;
+    unsigned each;
+    for (each = 0; each < recorder->processors; each++)
+        if (recorder->seats[each].forgotten > recorder->first)
+            recorder->first = recorder->seats[each].forgotten;
+    for (each = 0; each < recorder->processors; each++) {
+        lwkt_record_seat *seat = &recorder->seats[each];
+        while (seat->gone != lwkt_record_used(seat) &&
+               seat->events[lwkt_record_oldest(recorder, seat)].stamp < recorder->first)
+            lwkt_record_forget(recorder, seat);
+        recorder->model.heads[each] = seat->gone;
+        recorder->model.places[each] = lwkt_record_oldest(recorder, seat);
+        gone += seat->gone;
+    }
+    return gone == (size_t)recorder->first;
+}
+
+// Writes an event that is told again, while there is room.
+static inline void lwkt_record_retell(lwkt_record *recorder, lwkt_record_page *page, unsigned processor,
+                                      lwkt_record_event event)
+{
+    if (page->is_full || !lwkt_record_has_room(page)) {
+        page->is_full = true;
+        return;
+    }
+    lwkt_record_put_event(page, processor, event.kind, &event);
+    lwkt_record_follow(&recorder->model, processor, event.kind, &event);
+}
+
+// The last forgotten write of a cell, and whose it was; of the `holder` that before its section. NULL where there is none.
+static inline const lwkt_record_event *lwkt_record_past_write(const lwkt_record *recorder, unsigned token, unsigned cell,
+                                                              unsigned holder, unsigned *writer)
+{
+    const lwkt_record_event *last = NULL;
+    unsigned each;
+    for (each = 0; each < recorder->processors; each++) {
+        const lwkt_record_event *cells = lwkt_record_past_cells(&recorder->seats[each], token);
+        const lwkt_record_event *past = &cells[each == holder ? LWKT_RECORD_CELLS + cell : cell];
+        if (past->kind == LWKT_RECORD_KIND_WRITE && (last == NULL || past->stamp > last->stamp)) {
+            last = past;
+            *writer = each;
+        }
+    }
+    return last;
+}
+
+// Which processor held a token exclusively, or their number.
+static inline unsigned lwkt_record_past_holder(const lwkt_record *recorder, unsigned token)
+{
+    unsigned each;
+    for (each = 0; each < recorder->processors; each++)
+        if ((recorder->seats[each].past[token] & LWKT_RECORD_IS_EXCLUSIVE) != 0)
+            break;
+    return each;
+}
+
+// Writes the cells of a token that were other ones, as they were before the section of `holder`, by the processor `writer`. Without
+// a page it only says who wrote last, or `writer`.
+static inline unsigned lwkt_record_retell_cells(lwkt_record *recorder, lwkt_record_page *page, unsigned token, unsigned holder,
+                                                unsigned writer)
+{
+    const lwkt_record_event *last = NULL;
+    unsigned cell, whose = writer, latest = writer;
+    for (cell = 0; cell < recorder->token[token].count; cell++) {
+        const lwkt_record_event *past = lwkt_record_past_write(recorder, token, cell, holder, &whose);
+        if (past == NULL || past->value == recorder->model.row[token][cell])
+            continue;
+        if (page != NULL)
+            lwkt_record_retell(recorder, page, writer, lwkt_record_made(LWKT_RECORD_KIND_WRITE, token, cell, past->value));
+        if (last == NULL || past->stamp > last->stamp) {
+            last = past;
+            latest = whose;
+        }
+    }
+    return latest;
+}
+
+// Writes a section that leaves a token's cells as they were, where they aren't those declared.
+static inline void lwkt_record_retell_row(lwkt_record *recorder, lwkt_record_page *page, unsigned token)
+{
+    unsigned holder = lwkt_record_past_holder(recorder, token);
+    unsigned writer = lwkt_record_retell_cells(recorder, NULL, token, holder, recorder->processors);
+    if (writer == recorder->processors)
+        return;
+    lwkt_record_retell(recorder, page, writer, lwkt_record_made(LWKT_RECORD_KIND_TAKE, token, 0, 0));
+    (void)lwkt_record_retell_cells(recorder, page, token, holder, writer);
+    lwkt_record_retell(recorder, page, writer, lwkt_record_made(LWKT_RECORD_KIND_GIVE_WRITTEN, token, 0, 0));
+}
+
+// Writes what a processor held of a token, and what its section had written.
+static inline void lwkt_record_retell_holding(lwkt_record *recorder, lwkt_record_page *page, unsigned processor, unsigned token)
+{
+    unsigned past = recorder->seats[processor].past[token], each;
+    bool is_exclusive = (past & LWKT_RECORD_IS_EXCLUSIVE) != 0;
+    if (past == 0)
+        return;
+    lwkt_record_retell(recorder, page, processor,
+                       lwkt_record_made(is_exclusive ? LWKT_RECORD_KIND_TAKE : LWKT_RECORD_KIND_SHARE, token, 0, 0));
+    for (each = 1; each < (past & LWKT_RECORD_COUNT); each++)
+        lwkt_record_retell(recorder, page, processor, lwkt_record_made(LWKT_RECORD_KIND_AGAIN, token, 0, 0));
+    if (is_exclusive)
+        (void)lwkt_record_retell_cells(recorder, page, token, recorder->processors, processor);
+}
+
+// What was last done with a message, and by whom. NULL where nothing was.
+static inline const lwkt_record_event *lwkt_record_past_deed(const lwkt_record *recorder, unsigned message, unsigned *whose)
+{
+    const lwkt_record_event *last = NULL;
+    unsigned each;
+    for (each = 0; each < recorder->processors; each++) {
+        const lwkt_record_event *past = lwkt_record_past_message(recorder, &recorder->seats[each], message);
+        if (past->kind != LWKT_RECORD_KIND_LOAD && (last == NULL || past->stamp > last->stamp)) {
+            last = past;
+            *whose = each;
+        }
+    }
+    return last;
+}
+
+static inline bool lwkt_record_is_away(const lwkt_record_event *deed)
+{
+    return deed->kind != LWKT_RECORD_KIND_DROP && deed->kind != LWKT_RECORD_KIND_REAP;
+}
+
+// Sets the rounds that the messages begin with: those before the sends that are told again.
+static inline void lwkt_record_begin_rounds(lwkt_record *recorder)
+{
+    unsigned message, whose;
+    for (message = 0; message < recorder->messages; message++) {
+        const lwkt_record_event *deed = lwkt_record_past_deed(recorder, message, &whose);
+        uint64_t round = deed == NULL ? 0 : deed->value - (lwkt_record_is_away(deed) ? 1 : 0);
+        if (deed != NULL && round <= LWKT_RECORD_LAST_ROUND)
+            recorder->model.round[message] = round;
+    }
+}
+
+// Writes how a message that is away came there.
+static inline void lwkt_record_retell_message(lwkt_record *recorder, lwkt_record_page *page, unsigned message)
+{
+    unsigned whose = 0, origin = recorder->message[message].processor;
+    const lwkt_record_event *deed = lwkt_record_past_deed(recorder, message, &whose);
+    const lwkt_record_event *send = lwkt_record_past_message(recorder, &recorder->seats[origin], message);
+    if (deed == NULL || !lwkt_record_is_away(deed))
+        return;
+    if (deed->kind == LWKT_RECORD_KIND_SEND) {
+        lwkt_record_retell(recorder, page, whose, *deed);
+        return;
+    }
+    lwkt_record_retell(recorder, page, origin,
+                       send->kind == LWKT_RECORD_KIND_SEND
+                           ? *send
+                           : lwkt_record_made(LWKT_RECORD_KIND_SEND, message, whose, deed->value));
+    lwkt_record_retell(recorder, page, whose, lwkt_record_made(LWKT_RECORD_KIND_TAKE_MESSAGE, message, 0, deed->value));
+    if (deed->kind == LWKT_RECORD_KIND_REPLY)
+        lwkt_record_retell(recorder, page, whose, lwkt_record_made(LWKT_RECORD_KIND_REPLY, message, 0, 0));
+}
+
+// Writes the events that lead from what was declared to what was so behind the last forgotten event. All sections come before all
+// holdings, so that no processor has more references than it had.
+static inline void lwkt_record_retell_all(lwkt_record *recorder, lwkt_record_page *page)
+{
+    unsigned each, processor;
+    for (each = 0; each < recorder->tokens; each++)
+        lwkt_record_retell_row(recorder, page, each);
+    for (processor = 0; processor < recorder->processors; processor++)
+        for (each = 0; each < recorder->tokens; each++)
+            lwkt_record_retell_holding(recorder, page, processor, each);
+    for (each = 0; each < recorder->messages; each++)
+        lwkt_record_retell_message(recorder, page, each);
+}
+
+// Writes the opening, and what was so behind the last forgotten event. Whether all events behind it can follow.
+static inline bool lwkt_record_open_last(lwkt_record *recorder, lwkt_record_page *page)
+{
+    bool is_known = lwkt_record_begin_last(recorder);
+    if (is_known)
+        lwkt_record_begin_rounds(recorder);
+    lwkt_record_put_opening(recorder, page);
+    if (is_known)
+        lwkt_record_retell_all(recorder, page);
+    return is_known && !page->is_full;
+}
+
+// ---------------------------------------------------------------------------------------------------------------------------
+// Writing
+
 // Writes all of a trace.
 static inline int lwkt_record_write_whole(lwkt_record *recorder, lwkt_record_sink sink, void *context)
 {
@@ -1381,12 +1728,19 @@ static inline int lwkt_record_write_whole(lwkt_record *recorder, lwkt_record_sin
     bool is_whole;
     if (recorder->stage != LWKT_RECORD_UNDRAINED)
         return LWKT_RECORD_MODE;
+    if (recorder->keeps_last && !lwkt_record_claim_all(recorder))
+        return LWKT_RECORD_BUSY;
     page.sink = sink;
     page.context = context;
     lwkt_record_begin_page(&page, recorder->in_lines);
     lwkt_record_begin(recorder);
-    lwkt_record_put_opening(recorder, &page);
-    is_whole = lwkt_record_put_events(recorder, &page);
+    if (recorder->keeps_last) {
+        is_whole = lwkt_record_open_last(recorder, &page) && lwkt_record_put_events(recorder, &page);
+        lwkt_record_unclaim_all(recorder);
+    } else {
+        lwkt_record_put_opening(recorder, &page);
+        is_whole = lwkt_record_put_events(recorder, &page);
+    }
     lwkt_record_put_end(recorder, &page, recorder->has_ended && is_whole);
     lwkt_record_flush(&page);
     if (page.has_failed)
@@ -1490,6 +1844,8 @@ static inline int lwkt_record_drain(lwkt_record *recorder, lwkt_record_sink sink
     int error = lwkt_record_claim_writing(recorder, sink);
     if (error != LWKT_RECORD_OK)
         return error;
+    if (recorder->keeps_last)
+        return lwkt_record_unclaim_writing(recorder, LWKT_RECORD_MODE);
     if (recorder->stage == LWKT_RECORD_UNDRAINED)
         lwkt_record_begin_drain(recorder);
     recorder->drain.sink = sink;
@@ -1503,6 +1859,8 @@ static inline size_t lwkt_record_room(const lwkt_record *recorder, unsigned proc
     size_t used, taken;
     if (!lwkt_record_is_open(recorder) || processor >= recorder->processors)
         return 0;
+    if (recorder->keeps_last)
+        return recorder->room;
     used = lwkt_record_used(&recorder->seats[processor]);
     taken = used - lwkt_record_freed(recorder, processor);
     return taken < recorder->room ? recorder->room - taken : 0;
