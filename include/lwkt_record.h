@@ -265,12 +265,12 @@ static inline int lwkt_record_open(lwkt_record *recorder, unsigned processors, u
                                    size_t room);
 #endif
 
-// Has each processor keep its last events only, and forget the oldest where its buffer is full, so that a recording has no end but
-// its last event. 8 events of each token's and one of each message's are taken from each processor's room: LIMIT where none is
-// left. The trace then begins behind the last event that was forgotten. Events that are told again lead there, from the values
-// declared: of a token with other cells a section that wrote them, of each holder its references and its writes, of a message
-// that is away its send, take and reply. An event that is lost ends the recording: from then on none is forgotten. So does
-// writing the trace while others record: their calls are then answered BUSY. LATE, CLOSED.
+// Has each processor keep its last events only, and forget the oldest where its buffer is full. 8 events for each token and one
+// for each message are taken from each processor's room: LIMIT where none is left. The trace then begins behind the last event
+// that any processor forgot. Events that are told again lead there, from the values declared: of a token with other cells a
+// section that wrote them, of each holder its references and its writes, of a message that is away its send, take and reply.
+// An event that is lost ends the recording: from then on nothing is forgotten. So does writing the trace while others record:
+// their calls are answered BUSY meanwhile. LATE, CLOSED.
 static inline int lwkt_record_keep_last(lwkt_record *recorder);
 
 // Closes a recorder. Calls on it are then answered CLOSED. It may be opened again.
@@ -362,7 +362,8 @@ static inline int lwkt_record_abort(lwkt_record *recorder, unsigned processor, u
 static inline int lwkt_record_end(lwkt_record *recorder);
 
 // The same, and tells what a token's cells are now, in memory, as many as were declared; or its generation, where the recorded
-// program counts its sections: not judged where events were forgotten. They are judged by what the events lead to. LATE, CLOSED, NO_TOKEN, NO_CELL, LIMIT.
+// program counts its sections. They are judged by what the events lead to, but for a generation of which sections are forgotten.
+// LATE, CLOSED, NO_TOKEN, NO_CELL, LIMIT.
 static inline int lwkt_record_end_cells(lwkt_record *recorder, unsigned token, const uint64_t *cells, unsigned count);
 static inline int lwkt_record_end_generation(lwkt_record *recorder, unsigned token, uint64_t generation);
 
@@ -396,8 +397,9 @@ static inline int lwkt_record_drain(lwkt_record *recorder, lwkt_record_sink sink
 static inline int lwkt_record_drain_to_file(lwkt_record *recorder, FILE *file);
 #endif
 
-// How many events a processor can record before its buffer is full, without a drain; 0 where there is no such thing. For a thread
-// that rather waits for a drain than loses an event. Called by the processor itself.
+// How many events a processor can record before its buffer is full, without a drain; 0 where there is no such thing. For a
+// thread that rather waits for a drain than loses an event: until `lwkt_record_lost`, for after a loss no drain frees what comes
+// behind it. Called by the processor itself.
 static inline size_t lwkt_record_room(const lwkt_record *recorder, unsigned processor);
 
 // Why the first event that left a gap couldn't be recorded, or 0.
@@ -1692,8 +1694,8 @@ static inline void lwkt_record_retell_message(lwkt_record *recorder, lwkt_record
         lwkt_record_retell(recorder, page, whose, lwkt_record_made(LWKT_RECORD_KIND_REPLY, message, 0, 0));
 }
 
-// Writes the events that lead from what was declared to what was so behind the last forgotten event. All sections come before all
-// holdings, so that no processor has more references than it had.
+// Writes the events that lead from what was declared to what was so behind the last forgotten event. All sections come before
+// all holdings, so that no processor has more references than it had.
 static inline void lwkt_record_retell_all(lwkt_record *recorder, lwkt_record_page *page)
 {
     unsigned each, processor;
