@@ -2,7 +2,7 @@
 // a number, and leaves it after. The main thread drains what they record while they run, in lines for `lwkt_check`, so that
 // each number's buffer has 40 events only. A thread that has no room for a section there waits for the next drain.
 //
-//     ./many [SECTIONS]     so many sections of each thread; 100 without
+//     ./many [SECTIONS]     so many sections of each thread; 50 without
 //
 // Built as it stands, its traces are lawful. With -DBUG_SHARED_TAKE a shared take doesn't look at the exclusive bit (token.h).
 // That shows in every run: two threads meet before the others begin. One writes, the other tries to read meanwhile.
@@ -16,7 +16,7 @@
 
 static struct token accounts = {0, 0, {100, 100, 100, 0}};
 static struct token transfers = {0, 1, {0, 0, 0, 0}};
-static unsigned sections = 100;
+static unsigned sections = 50;
 static _Atomic(unsigned) at_work = THREADS;
 
 // How far the two threads have come that meet. It orders nothing but their steps.
