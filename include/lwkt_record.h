@@ -219,7 +219,7 @@ enum lwkt_record_stage {
     LWKT_RECORD_WRITTEN_OUT
 };
 
-// A recorder, some 20 KB. One that is all zeros, as a static one, isn't open, and neither is one whose opening was refused.
+// A recorder, some 21 KB. One that is all zeros, as a static one, isn't open, and neither is one whose opening was refused.
 typedef struct lwkt_record {
     uint64_t mark; // where it is, mixed, once it was opened there
     unsigned processors;
@@ -296,7 +296,8 @@ static inline int lwkt_record_message(lwkt_record *recorder, unsigned message, u
 static inline int lwkt_record_enter(lwkt_record *recorder, unsigned *number);
 
 // Takes the number back, from the thread that was lent it, once: others may be lent it then. HOLDS where it has recorded tokens,
-// NOT_LENT, BUSY where another call for this processor is under way, CLOSED: in each case nothing was done, and no gap left.
+// unless an event was lost, which may have been their give; NOT_LENT, BUSY where another call for this processor is under way,
+// CLOSED: in each case nothing was done, and no gap left.
 static inline int lwkt_record_leave(lwkt_record *recorder, unsigned number);
 
 // ---------------------------------------------------------------------------------------------------------------------------
@@ -398,8 +399,8 @@ static inline int lwkt_record_drain_to_file(lwkt_record *recorder, FILE *file);
 #endif
 
 // How many events a processor can record before its buffer is full, without a drain; 0 where there is no such thing. For a
-// thread that rather waits for a drain than loses an event: until `lwkt_record_lost`, for after a loss no drain frees what comes
-// behind it. Called by the processor itself.
+// thread that rather waits for a drain than loses an event. All of its room after a loss: waiting is of no use then, and where
+// the last events are kept. Called by the processor itself.
 static inline size_t lwkt_record_room(const lwkt_record *recorder, unsigned processor);
 
 // Why the first event that left a gap couldn't be recorded, or 0.
@@ -814,7 +815,7 @@ static inline int lwkt_record_leave(lwkt_record *recorder, unsigned number)
     seat = &recorder->seats[number];
     if (LWKT_RECORD_IN(atomic_exchange_explicit)(&seat->busy, true, LWKT_RECORD_IN(memory_order_acquire)))
         return LWKT_RECORD_BUSY;
-    holds = seat->references > 0;
+    holds = seat->references > 0 && lwkt_record_lost(recorder) == LWKT_RECORD_OK;
     (void)lwkt_record_unclaim(seat, LWKT_RECORD_OK);
     if (holds)
         return LWKT_RECORD_HOLDS;
@@ -1861,7 +1862,7 @@ static inline size_t lwkt_record_room(const lwkt_record *recorder, unsigned proc
     size_t used, taken;
     if (!lwkt_record_is_open(recorder) || processor >= recorder->processors)
         return 0;
-    if (recorder->keeps_last)
+    if (recorder->keeps_last || lwkt_record_lost(recorder) != LWKT_RECORD_OK)
         return recorder->room;
     used = lwkt_record_used(&recorder->seats[processor]);
     taken = used - lwkt_record_freed(recorder, processor);

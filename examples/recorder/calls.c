@@ -653,6 +653,22 @@ static void lent_numbers(void)
     WANT(OK, lwkt_record_to_file(&recorder, stdout));
 }
 
+// A give that is lost doesn't keep a number lent, nor a thread waiting for room.
+static void lent_and_lost(void)
+{
+    unsigned number = 9;
+    open_scene(1, 1, 0, 1);
+    WANT(OK, lwkt_record_enter(&recorder, &number));
+    WANT(OK, lwkt_record_take(&recorder, number, 0));
+    want_at(__LINE__, (int)lwkt_record_room(&recorder, number), 0);
+    WANT(HOLDS, lwkt_record_leave(&recorder, number));
+    WANT(FULL, lwkt_record_give(&recorder, number, 0));
+    want_at(__LINE__, (int)lwkt_record_room(&recorder, number), 1);
+    WANT(OK, lwkt_record_leave(&recorder, number));
+    WANT(OK, lwkt_record_enter(&recorder, &number));
+    WANT(CUT, lwkt_record_to_file(&recorder, stdout));
+}
+
 #define BORROWERS 6
 static _Atomic(unsigned) lent_to[2];
 
@@ -823,6 +839,7 @@ static void drained_full(void)
     WANT(STREAM, lwkt_record_drain(&recorder, refuse, &refusals));
     WANT(OK, lwkt_record_take(&recorder, 1, 0));
     WANT(FULL, lwkt_record_lost(&recorder));
+    want_at(__LINE__, (int)lwkt_record_room(&recorder, 0), 4);
     WANT(CUT, lwkt_record_drain_to_file(&recorder, stdout));
     WANT(OK, lwkt_record_end(&recorder));
     WANT(CUT, lwkt_record_drain_to_file(&recorder, stdout));
@@ -1344,6 +1361,7 @@ static const struct scene {
     {"while_others_record", while_others_record},
     {"two_on_one_processor", two_on_one_processor},
     {"lent_numbers", lent_numbers},
+    {"lent_and_lost", lent_and_lost},
     {"lines_lent_to_many", lent_to_many},
     {"lines_drained", drained},
     {"lines_drained_calls", drained_calls},
