@@ -58,6 +58,13 @@
 #define LWKT_RECORD_IN(NAME) NAME
 #endif
 
+// A function that isn't copied into each place where it is called, and so not to each where an event is recorded.
+#ifdef __GNUC__
+#define LWKT_RECORD_APART __attribute__((noinline, unused))
+#else
+#define LWKT_RECORD_APART inline
+#endif
+
 // The limits of a trace (docs/TRACES.md, "Trace, version 1"). That of its events, 50000000, is not reached: so many have more
 // bytes than a trace.
 #define LWKT_RECORD_PROCESSORS 8
@@ -420,7 +427,7 @@ static inline uint64_t lwkt_record_stamp(lwkt_record *recorder)
 }
 
 // An event that isn't recorded takes a stamp, which is then in no buffer.
-static inline int lwkt_record_lose(lwkt_record *recorder, int error)
+static LWKT_RECORD_APART int lwkt_record_lose(lwkt_record *recorder, int error)
 {
     int none = 0;
     (void)lwkt_record_stamp(recorder);
@@ -501,7 +508,7 @@ static inline void lwkt_record_past_give(lwkt_record_seat *seat, unsigned token)
 }
 
 // Forgets the oldest event of a buffer that is this call's own, but for what it leads to.
-static inline void lwkt_record_forget(lwkt_record *recorder, lwkt_record_seat *seat)
+static LWKT_RECORD_APART void lwkt_record_forget(lwkt_record *recorder, lwkt_record_seat *seat)
 {
     const lwkt_record_event *event = &seat->events[lwkt_record_oldest(recorder, seat)];
     unsigned place = event->place;
@@ -542,7 +549,7 @@ static inline void lwkt_record_forget(lwkt_record *recorder, lwkt_record_seat *s
 }
 
 // Whether a buffer that is this call's own, and looked full, has room since, or can forget an event.
-static inline bool lwkt_record_finds_room(lwkt_record *recorder, lwkt_record_seat *seat, size_t used)
+static LWKT_RECORD_APART bool lwkt_record_finds_room(lwkt_record *recorder, lwkt_record_seat *seat, size_t used)
 {
     if (recorder->keeps_last) {
         if (LWKT_RECORD_IN(atomic_load_explicit)(&recorder->lost, LWKT_RECORD_IN(memory_order_relaxed)) != 0)
@@ -1232,7 +1239,7 @@ static inline void lwkt_record_put_byte(lwkt_record_page *page, char byte)
     page->length += 1;
 }
 
-static inline void lwkt_record_put(lwkt_record_page *page, const char *text)
+static LWKT_RECORD_APART void lwkt_record_put(lwkt_record_page *page, const char *text)
 {
     for (; *text != '\0'; text++)
         lwkt_record_put_byte(page, *text);
@@ -1259,7 +1266,7 @@ static inline void lwkt_record_put_break(lwkt_record_page *page, const char *tex
         lwkt_record_put(page, text);
 }
 
-static inline void lwkt_record_put_number(lwkt_record_page *page, const char *before, uint64_t number)
+static LWKT_RECORD_APART void lwkt_record_put_number(lwkt_record_page *page, const char *before, uint64_t number)
 {
     char digits[21];
     size_t place = sizeof digits - 1;
@@ -1332,7 +1339,7 @@ static inline void lwkt_record_put_messages(const lwkt_record *recorder, lwkt_re
     }
 }
 
-static inline void lwkt_record_put_opening(const lwkt_record *recorder, lwkt_record_page *page)
+static LWKT_RECORD_APART void lwkt_record_put_opening(const lwkt_record *recorder, lwkt_record_page *page)
 {
     lwkt_record_put_number(page, "{\"version\":1,\"cpus\":", recorder->processors);
     lwkt_record_put(page, ",");
@@ -1346,7 +1353,8 @@ static inline void lwkt_record_put_opening(const lwkt_record *recorder, lwkt_rec
     lwkt_record_put(page, page->in_lines ? "]}" : "],\n\"events\":[");
 }
 
-static inline void lwkt_record_put_event(lwkt_record_page *page, unsigned processor, int kind, const lwkt_record_event *event)
+static LWKT_RECORD_APART void lwkt_record_put_event(lwkt_record_page *page, unsigned processor, int kind,
+                                                    const lwkt_record_event *event)
 {
     bool has_part = kind == LWKT_RECORD_KIND_READ || kind == LWKT_RECORD_KIND_WRITE || kind == LWKT_RECORD_KIND_SEND;
     lwkt_record_put_break(page, page->has_event ? "," : "");
@@ -1464,7 +1472,7 @@ static inline void lwkt_record_put_member(lwkt_record_page *page, const char *en
     lwkt_record_put(page, begin);
 }
 
-static inline void lwkt_record_put_end(const lwkt_record *recorder, lwkt_record_page *page, bool has_values)
+static LWKT_RECORD_APART void lwkt_record_put_end(const lwkt_record *recorder, lwkt_record_page *page, bool has_values)
 {
     lwkt_record_put_break(page, "],\n\"last\":");
     if (!has_values) {
@@ -1556,8 +1564,8 @@ static inline bool lwkt_record_begin_last(lwkt_record *recorder)
 }
 
 // Writes an event that is told again, while there is room.
-static inline void lwkt_record_retell(lwkt_record *recorder, lwkt_record_page *page, unsigned processor,
-                                      lwkt_record_event event)
+static LWKT_RECORD_APART void lwkt_record_retell(lwkt_record *recorder, lwkt_record_page *page, unsigned processor,
+                                                 lwkt_record_event event)
 {
     if (page->is_full || !lwkt_record_has_room(page)) {
         page->is_full = true;
@@ -1568,8 +1576,8 @@ static inline void lwkt_record_retell(lwkt_record *recorder, lwkt_record_page *p
 }
 
 // The last forgotten write of a cell, and whose it was; of the `holder` that before its section. NULL where there is none.
-static inline const lwkt_record_event *lwkt_record_past_write(const lwkt_record *recorder, unsigned token, unsigned cell,
-                                                              unsigned holder, unsigned *writer)
+static LWKT_RECORD_APART const lwkt_record_event *lwkt_record_past_write(const lwkt_record *recorder, unsigned token,
+                                                                         unsigned cell, unsigned holder, unsigned *writer)
 {
     const lwkt_record_event *last = NULL;
     unsigned each;
@@ -1596,8 +1604,8 @@ static inline unsigned lwkt_record_past_holder(const lwkt_record *recorder, unsi
 
 // Writes the cells of a token that were other ones, as they were before the section of `holder`, by the processor `writer`. Without
 // a page it only says who wrote last, or `writer`.
-static inline unsigned lwkt_record_retell_cells(lwkt_record *recorder, lwkt_record_page *page, unsigned token, unsigned holder,
-                                                unsigned writer)
+static LWKT_RECORD_APART unsigned lwkt_record_retell_cells(lwkt_record *recorder, lwkt_record_page *page, unsigned token,
+                                                           unsigned holder, unsigned writer)
 {
     const lwkt_record_event *last = NULL;
     unsigned cell, whose = writer, latest = writer;
