@@ -36,7 +36,7 @@
 // when they begin. The recorder must stay where it is from `open` on, and not be copied.
 //
 // Before the include may be defined: LWKT_RECORD_FREESTANDING, for no stdio.h and stdlib.h (then `lwkt_record_open` and
-// `lwkt_record_to_file` aren't there); LWKT_RECORD_BYTES_MOST, for shorter traces. Atomic words of 64 bits are needed.
+// `lwkt_record_*to_file` aren't there); LWKT_RECORD_BYTES_MOST, for shorter traces. Atomic words of 64 bits are needed.
 #ifndef LWKT_RECORD_H
 #define LWKT_RECORD_H
 
@@ -298,8 +298,8 @@ static inline int lwkt_record_message(lwkt_record *recorder, unsigned message, u
 // Lent numbers
 
 // Lends the calling thread a processor's number that is free, the lowest, and stores it: for a program with more threads than a
-// trace has processors. Any number of threads may call at once; nobody waits for another. Numbers that are given out in another
-// way, and those that messages name, are not for such a recorder. ALL_LENT; LIMIT without a place for the number; CLOSED.
+// trace has processors. Any number of threads may call at once; nobody waits for another. A recorder that lends numbers has no
+// thread with a number of its own, and no messages, which name processors. ALL_LENT; LIMIT without a place for the number; CLOSED.
 static inline int lwkt_record_enter(lwkt_record *recorder, unsigned *number);
 
 // Takes the number back, from the thread that was lent it, once: others may be lent it then. HOLDS where it has recorded tokens,
@@ -395,8 +395,8 @@ static inline int lwkt_record_to_bytes(lwkt_record *recorder, char *bytes, size_
 // Writes what is complete and wasn't drained before, and frees its room for new events: so a recording may be of any length. All
 // drains together write one trace in lines; the first writes the opening, the first after `end` the closing values. Of
 // events the sink is always given whole lines. CUT where an event isn't there: while others record it may be under way, after
-// `end` it was lost, and the trace is at its end. STREAM where the sink refuses: the next drain offers the same bytes again,
-// and the buffers fill meanwhile. MODE, BUSY, CLOSED.
+// `end` it was lost, and the trace is at its end, without closing values. STREAM where the sink refuses: the next drain offers
+// the same bytes again, and the buffers fill meanwhile. MODE, BUSY, CLOSED.
 static inline int lwkt_record_drain(lwkt_record *recorder, lwkt_record_sink sink, void *context);
 
 #ifndef LWKT_RECORD_FREESTANDING
