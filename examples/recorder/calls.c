@@ -1,6 +1,6 @@
 // Tries the calls of lwkt_record.h, with each error that they can answer. `./calls` prints the names of its scenes;
-// `./calls NAME` plays one and writes its trace, `./calls all` plays all of them. It ends with 1, and a line on standard error,
-// where a call answered something else than it has to. calls.out has what `lwkt_check` says of each trace.
+// `./calls NAME` plays one and writes its trace, `./calls all` plays all of them; a number behind it chooses what is played at
+// random. It ends with 1, and a line on standard error, where a call answered something else than it has to. calls.out has what `lwkt_check` says of each trace.
 #define LWKT_RECORD_BYTES_MOST UINT64_C(60000)
 #include "lwkt_record.h"
 #include <pthread.h>
@@ -11,6 +11,7 @@
 static lwkt_record recorder;
 static const char *scene_name;
 static _Atomic(bool) has_failed;
+static uint64_t seed = 1;
 
 static void want_at(int line, int error, int wanted)
 {
@@ -363,9 +364,9 @@ static void busy(void)
 {
     open_sum();
     WANT(OK, lwkt_record_share(&recorder, 0, 0));
-    WANT(OK, lwkt_record_enter(&recorder, 1));
+    WANT(OK, lwkt_record_claim(&recorder, 1));
     WANT(BUSY, lwkt_record_share(&recorder, 1, 0));
-    lwkt_record_leave(&recorder.seats[1], 0);
+    lwkt_record_unclaim(&recorder.seats[1], 0);
     WANT(OK, lwkt_record_give(&recorder, 1, 0));
     WANT(BUSY, lwkt_record_lost(&recorder));
     WANT(CUT, lwkt_record_to_file(&recorder, stdout));
@@ -492,6 +493,7 @@ static void opened_twice(void)
 static void closed_calls(lwkt_record *closed)
 {
     int count = 0;
+    unsigned number = 0;
     WANT(CLOSED, lwkt_record_token(closed, 0, LWKT_RECORD_ANY, 0, 0, NULL, 0));
     WANT(CLOSED, lwkt_record_message(closed, 0, 0, 0, 0));
     WANT(CLOSED, lwkt_record_take(closed, 0, 0));
@@ -511,6 +513,11 @@ static void closed_calls(lwkt_record *closed)
     WANT(CLOSED, lwkt_record_to_sink(closed, refuse, &count));
     WANT(CLOSED, lwkt_record_to_bytes(closed, NULL, 0, NULL));
     WANT(CLOSED, lwkt_record_lost(closed));
+    WANT(CLOSED, lwkt_record_enter(closed, &number));
+    WANT(CLOSED, lwkt_record_leave(closed, 0));
+    WANT(CLOSED, lwkt_record_drain(closed, refuse, &count));
+    WANT(CLOSED, lwkt_record_keep_last(closed));
+    want_at(__LINE__, (int)lwkt_record_room(closed, 0), 0);
     want_at(__LINE__, count + (int)lwkt_record_held(closed, 0, 0), 0);
     lwkt_record_close(closed);
 }
@@ -614,6 +621,703 @@ static void two_on_one_processor(void)
             lwkt_record_lost(&recorder) == LWKT_RECORD_OK ? LWKT_RECORD_OK : LWKT_RECORD_CUT);
 }
 
+// Numbers are lent from the lowest, and taken back where nothing is held.
+static void lent_numbers(void)
+{
+    unsigned number = 9, other = 9;
+    open_scene(2, 1, 0, 100);
+    WANT(LIMIT, lwkt_record_enter(&recorder, NULL));
+    WANT(NOT_LENT, lwkt_record_leave(&recorder, 0));
+    WANT(NOT_LENT, lwkt_record_leave(&recorder, 2));
+    WANT(OK, lwkt_record_enter(&recorder, &number));
+    WANT(OK, lwkt_record_enter(&recorder, &other));
+    want_at(__LINE__, number == 0 && other == 1, 1);
+    WANT(ALL_LENT, lwkt_record_enter(&recorder, &other));
+    want_at(__LINE__, (int)other, 1);
+    WANT(OK, lwkt_record_share(&recorder, 0, 0));
+    WANT(OK, lwkt_record_again(&recorder, 0, 0));
+    WANT(OK, lwkt_record_give(&recorder, 0, 0));
+    WANT(HOLDS, lwkt_record_leave(&recorder, 0));
+    WANT(OK, lwkt_record_give(&recorder, 0, 0));
+    WANT(OK, lwkt_record_claim(&recorder, 0));
+    WANT(BUSY, lwkt_record_leave(&recorder, 0));
+    lwkt_record_unclaim(&recorder.seats[0], 0);
+    WANT(OK, lwkt_record_leave(&recorder, 0));
+    WANT(NOT_LENT, lwkt_record_leave(&recorder, 0));
+    WANT(OK, lwkt_record_enter(&recorder, &number));
+    want_at(__LINE__, (int)number, 0);
+    WANT(OK, lwkt_record_leave(&recorder, 1));
+    WANT(OK, lwkt_record_leave(&recorder, 0));
+    want_at(__LINE__, lwkt_record_lost(&recorder), 0);
+    WANT(OK, lwkt_record_end(&recorder));
+    WANT(OK, lwkt_record_to_file(&recorder, stdout));
+}
+
+// A give that is lost doesn't keep a number lent, nor a thread waiting for room.
+static void lent_and_lost(void)
+{
+    unsigned number = 9;
+    open_scene(1, 1, 0, 1);
+    WANT(OK, lwkt_record_enter(&recorder, &number));
+    WANT(OK, lwkt_record_take(&recorder, number, 0));
+    want_at(__LINE__, (int)lwkt_record_room(&recorder, number), 0);
+    WANT(HOLDS, lwkt_record_leave(&recorder, number));
+    WANT(FULL, lwkt_record_give(&recorder, number, 0));
+    want_at(__LINE__, (int)lwkt_record_room(&recorder, number), 1);
+    WANT(OK, lwkt_record_leave(&recorder, number));
+    WANT(OK, lwkt_record_enter(&recorder, &number));
+    WANT(CUT, lwkt_record_to_file(&recorder, stdout));
+}
+
+#define BORROWERS 6
+static _Atomic(unsigned) lent_to[2];
+
+// Takes and gives back a number, again and again: nobody else has it meanwhile, and no event of another call is in its seat.
+static void *borrow(void *argument)
+{
+    unsigned done = 0, number = 0;
+    (void)argument;
+    while (done < 200) {
+        int error = lwkt_record_enter(&recorder, &number);
+        if (error == LWKT_RECORD_ALL_LENT) {
+            sched_yield();
+            continue;
+        }
+        want_at(__LINE__, error, LWKT_RECORD_OK);
+        want_at(__LINE__, (int)atomic_fetch_add_explicit(&lent_to[number], 1, memory_order_relaxed), 0);
+        WANT(OK, lwkt_record_share(&recorder, number, 0));
+        WANT(HOLDS, lwkt_record_leave(&recorder, number));
+        WANT(OK, lwkt_record_give(&recorder, number, 0));
+        want_at(__LINE__, (int)atomic_fetch_sub_explicit(&lent_to[number], 1, memory_order_relaxed), 1);
+        WANT(OK, lwkt_record_leave(&recorder, number));
+        done += 1;
+    }
+    return NULL;
+}
+
+static void lent_to_many(void)
+{
+    pthread_t threads[BORROWERS];
+    unsigned each;
+    open_scene(2, 1, 0, (size_t)BORROWERS * 400);
+    WANT(OK, lwkt_record_in_lines(&recorder, true));
+    for (each = 0; each < BORROWERS; each++)
+        pthread_create(&threads[each], NULL, borrow, NULL);
+    for (each = 0; each < BORROWERS; each++)
+        pthread_join(threads[each], NULL);
+    WANT(OK, lwkt_record_end(&recorder));
+    WANT(OK, lwkt_record_to_file(&recorder, stdout));
+}
+
+// A sink that keeps what it takes, which is all, or each so many-th time.
+struct choosy {
+    char bytes[60000];
+    size_t length;
+    unsigned calls;
+    unsigned each;
+};
+
+static int choose(void *context, const char *bytes, size_t count)
+{
+    struct choosy *sink = (struct choosy *)context;
+    sink->calls += 1;
+    if (sink->each > 0 && sink->calls % sink->each != 0)
+        return 1;
+    memcpy(sink->bytes + sink->length, bytes, count);
+    sink->length += count;
+    return 0;
+}
+
+// What may be recorded in a token's sections, of which the buffers have but a few.
+static void sections_at(unsigned processor, unsigned count)
+{
+    unsigned each;
+    for (each = 0; each < count; each++) {
+        WANT(OK, lwkt_record_take(&recorder, processor, 0));
+        WANT(OK, lwkt_record_write(&recorder, processor, 0, 0, 60 - each % 2));
+        WANT(OK, lwkt_record_write(&recorder, processor, 0, 1, 40 + each % 2));
+        WANT(OK, lwkt_record_give(&recorder, processor, 0));
+    }
+}
+
+static void open_drained(size_t room)
+{
+    static const uint64_t cells[2] = {60, 40};
+    open_scene(2, 1, 1, room);
+    WANT(OK, lwkt_record_token(&recorder, 0, LWKT_RECORD_SUM, 100, 5, cells, 2));
+}
+
+// The bytes of all drains are those of a recording that was written at once, whatever of them the sink refuses meanwhile.
+static void drained_as_whole(unsigned each, char *whole, size_t length)
+{
+    static struct choosy sink;
+    unsigned round;
+    int error = LWKT_RECORD_STREAM;
+    memset(&sink, 0, sizeof sink);
+    sink.each = each;
+    open_drained(80);
+    for (round = 0; round < 30; round++) {
+        want_at(__LINE__, lwkt_record_room(&recorder, round % 2) >= 12, 1);
+        sections_at(round % 2, 3);
+        error = lwkt_record_drain(&recorder, choose, &sink);
+        want_at(__LINE__, error == LWKT_RECORD_OK || error == LWKT_RECORD_STREAM, 1);
+    }
+    WANT(OK, lwkt_record_end(&recorder));
+    while (error != LWKT_RECORD_OK)
+        error = lwkt_record_drain(&recorder, choose, &sink);
+    WANT(OK, lwkt_record_drain(&recorder, choose, &sink));
+    want_at(__LINE__, sink.length == length && memcmp(sink.bytes, whole, length) == 0, 1);
+}
+
+static void drained(void)
+{
+    static char whole[60000];
+    size_t length = 0;
+    unsigned round;
+    open_drained(800);
+    WANT(OK, lwkt_record_in_lines(&recorder, true));
+    for (round = 0; round < 30; round++)
+        sections_at(round % 2, 3);
+    WANT(OK, lwkt_record_end(&recorder));
+    WANT(OK, lwkt_record_to_bytes(&recorder, whole, sizeof whole, &length));
+    for (round = 0; round < 4; round++)
+        drained_as_whole(round, whole, length);
+    fwrite(whole, 1, length, stdout);
+}
+
+// A sink that tries to write itself.
+static int drain_within(void *context, const char *bytes, size_t count)
+{
+    WANT(BUSY, lwkt_record_drain(&recorder, let_go, NULL));
+    WANT(BUSY, lwkt_record_to_sink(&recorder, let_go, NULL));
+    return fwrite(bytes, 1, count, (FILE *)context) == count ? 0 : 1;
+}
+
+// The answers of a drain, and of other calls after it.
+static void drained_calls(void)
+{
+    static const uint64_t cells[2] = {60, 40};
+    int refusals = 0;
+    char byte;
+    open_drained(4);
+    WANT(STREAM, lwkt_record_drain(&recorder, NULL, NULL));
+    WANT(STREAM, lwkt_record_drain_to_file(&recorder, NULL));
+    WANT(OK, lwkt_record_token(&recorder, 0, LWKT_RECORD_SUM, 100, 5, cells, 2));
+    WANT(STREAM, lwkt_record_drain(&recorder, refuse, &refusals));
+    want_at(__LINE__, refusals, 1);
+    WANT(LATE, lwkt_record_token(&recorder, 0, LWKT_RECORD_SUM, 100, 6, cells, 2));
+    WANT(LATE, lwkt_record_message(&recorder, 0, 0, 0, 0));
+    WANT(OK, lwkt_record_drain(&recorder, drain_within, stdout));
+    want_at(__LINE__, (int)lwkt_record_room(&recorder, 0), 4);
+    want_at(__LINE__, (int)lwkt_record_room(&recorder, 2), 0);
+    sections_at(0, 1);
+    want_at(__LINE__, (int)lwkt_record_room(&recorder, 0), 0);
+    WANT(OK, lwkt_record_drain(&recorder, drain_within, stdout));
+    sections_at(0, 1);
+    WANT(MODE, lwkt_record_to_file(&recorder, stdout));
+    WANT(MODE, lwkt_record_to_bytes(&recorder, &byte, 1, NULL));
+    WANT(OK, lwkt_record_end_cells(&recorder, 0, cells, 2));
+    WANT(OK, lwkt_record_drain_to_file(&recorder, stdout));
+    WANT(OK, lwkt_record_drain_to_file(&recorder, stdout));
+    WANT(LATE, lwkt_record_end(&recorder));
+    WANT(LATE, lwkt_record_end_cells(&recorder, 0, cells, 2));
+    WANT(LATE, lwkt_record_end_generation(&recorder, 0, 5));
+    WANT(OK, lwkt_record_mark(&recorder, 1, 0));
+    WANT(CUT, lwkt_record_drain_to_file(&recorder, stdout));
+}
+
+// While the sink refuses, the buffers fill. What is drained later ends before the first event that was lost.
+static void drained_full(void)
+{
+    int refusals = 0;
+    open_drained(4);
+    sections_at(0, 1);
+    WANT(OK, lwkt_record_drain_to_file(&recorder, stdout));
+    WANT(STREAM, lwkt_record_drain_to_file(&recorder, NULL));
+    sections_at(0, 1);
+    WANT(FULL, lwkt_record_take(&recorder, 0, 0));
+    WANT(STREAM, lwkt_record_drain(&recorder, refuse, &refusals));
+    WANT(OK, lwkt_record_take(&recorder, 1, 0));
+    WANT(FULL, lwkt_record_lost(&recorder));
+    want_at(__LINE__, (int)lwkt_record_room(&recorder, 0), 4);
+    WANT(CUT, lwkt_record_drain_to_file(&recorder, stdout));
+    WANT(OK, lwkt_record_end(&recorder));
+    WANT(CUT, lwkt_record_drain_to_file(&recorder, stdout));
+}
+
+// The longest opening and closing values, of which a page has a small part, to a sink that takes each fifth page.
+static void drained_largest(void)
+{
+    static const uint64_t cells[4] = {UINT64_MAX, UINT64_MAX, UINT64_MAX, UINT64_MAX};
+    static struct choosy sink;
+    unsigned each;
+    memset(&sink, 0, sizeof sink);
+    sink.each = 5;
+    open_scene(8, 64, 64, 10);
+    for (each = 0; each < 64; each++) {
+        WANT(OK, lwkt_record_token(&recorder, each, LWKT_RECORD_CAP, UINT64_MAX, LWKT_RECORD_LAST_GENERATION, cells, 4));
+        WANT(OK, lwkt_record_message(&recorder, each, each % 8, each % 16, LWKT_RECORD_LAST_ROUND));
+    }
+    WANT(OK, lwkt_record_load(&recorder, 7, 63));
+    WANT(OK, lwkt_record_end(&recorder));
+    for (each = 0; lwkt_record_drain(&recorder, choose, &sink) == LWKT_RECORD_STREAM;)
+        each += 1;
+    want_at(__LINE__, each > 100 && sink.calls > 4 * (sink.length / 512), 1);
+    fwrite(sink.bytes, 1, sink.length, stdout);
+}
+
+// Whole lines but for the opening and the closing values.
+static int take_lines(void *context, const char *bytes, size_t count)
+{
+    bool is_whole = bytes[0] == '{' || (bytes[0] == '\n' && (bytes[count - 1] == ']' || bytes[count - 1] == '\n'));
+    want_at(__LINE__, is_whole, 1);
+    return fwrite(bytes, 1, count, (FILE *)context) == count ? 0 : 1;
+}
+
+// Sections of a thread that waits until its buffer, of 12 events, has room for one.
+static void *record_drained(void *argument)
+{
+    unsigned processor = *(unsigned *)argument, each;
+    for (each = 0; each < 300; each++) {
+        while (lwkt_record_room(&recorder, processor) < 3)
+            sched_yield();
+        WANT(OK, lwkt_record_share(&recorder, processor, 0));
+        WANT(OK, lwkt_record_mark(&recorder, processor, 0));
+        WANT(OK, lwkt_record_give(&recorder, processor, 0));
+    }
+    atomic_fetch_sub(&at_work, 1);
+    return NULL;
+}
+
+// A recording that is drained while it runs has 150 times the events of its buffers, and loses none.
+static void drained_while_others_record(void)
+{
+    static unsigned numbers[2] = {0, 1};
+    pthread_t threads[2];
+    unsigned each;
+    open_drained(12);
+    atomic_store(&at_work, 2);
+    for (each = 0; each < 2; each++)
+        pthread_create(&threads[each], NULL, record_drained, &numbers[each]);
+    while (atomic_load(&at_work) > 0) {
+        int error = lwkt_record_drain(&recorder, take_lines, stdout);
+        want_at(__LINE__, error == LWKT_RECORD_OK || error == LWKT_RECORD_CUT, 1);
+    }
+    for (each = 0; each < 2; each++)
+        pthread_join(threads[each], NULL);
+    WANT(OK, lwkt_record_end(&recorder));
+    WANT(OK, lwkt_record_drain(&recorder, take_lines, stdout));
+}
+
+// Two threads that drain: one of them is answered BUSY where both are at it, and the lines come in their order.
+static void *drain_too(void *argument)
+{
+    while (atomic_load(&at_work) > 0) {
+        int error = lwkt_record_drain(&recorder, choose, argument);
+        want_at(__LINE__, error == LWKT_RECORD_OK || error == LWKT_RECORD_CUT || error == LWKT_RECORD_BUSY, 1);
+        sched_yield();
+    }
+    return NULL;
+}
+
+static void drained_by_two(void)
+{
+    static struct choosy sink;
+    static unsigned number = 0;
+    pthread_t threads[3];
+    unsigned each;
+    memset(&sink, 0, sizeof sink);
+    open_drained(12);
+    atomic_store(&at_work, 1);
+    pthread_create(&threads[2], NULL, record_drained, &number);
+    for (each = 0; each < 2; each++)
+        pthread_create(&threads[each], NULL, drain_too, &sink);
+    for (each = 0; each < 3; each++)
+        pthread_join(threads[each], NULL);
+    WANT(OK, lwkt_record_end(&recorder));
+    WANT(OK, lwkt_record_drain(&recorder, choose, &sink));
+    fwrite(sink.bytes, 1, sink.length, stdout);
+}
+
+// A recorder with two processors, a token under a sum and a message, of which each processor keeps so many events.
+static void open_last(size_t room)
+{
+    open_drained(room + 9);
+    WANT(OK, lwkt_record_keep_last(&recorder));
+}
+
+// How many events the trace has, in lines.
+static unsigned last_events(void)
+{
+    static char bytes[60000];
+    size_t length = 0, each;
+    unsigned lines = 0;
+    WANT(OK, lwkt_record_in_lines(&recorder, true));
+    WANT(OK, lwkt_record_to_bytes(&recorder, bytes, sizeof bytes, &length));
+    for (each = 0; each + 2 < length; each++)
+        lines += bytes[each] == '\n' && bytes[each + 1] == '[';
+    WANT(OK, lwkt_record_in_lines(&recorder, false));
+    return lines;
+}
+
+// The calls of a recorder that keeps its last events.
+static void last_calls(void)
+{
+    static const uint64_t cells[2] = {60, 40};
+    open_drained(9);
+    WANT(LIMIT, lwkt_record_keep_last(&recorder));
+    WANT(OK, lwkt_record_load(&recorder, 0, 0));
+    WANT(LATE, lwkt_record_keep_last(&recorder));
+    open_drained(10);
+    WANT(OK, lwkt_record_drain(&recorder, let_go, NULL));
+    WANT(LATE, lwkt_record_keep_last(&recorder));
+    open_drained(19);
+    WANT(OK, lwkt_record_keep_last(&recorder));
+    WANT(OK, lwkt_record_keep_last(&recorder));
+    WANT(OK, lwkt_record_token(&recorder, 0, LWKT_RECORD_SUM, 100, 5, cells, 2));
+    want_at(__LINE__, (int)lwkt_record_room(&recorder, 1), 10);
+    WANT(MODE, lwkt_record_drain(&recorder, let_go, NULL));
+    sections_at(0, 2);
+    want_at(__LINE__, (int)last_events(), 8);
+    sections_at(0, 1000);
+    sections_at(1, 1);
+    want_at(__LINE__, (int)lwkt_record_room(&recorder, 0), 10);
+    WANT(OK, lwkt_record_claim(&recorder, 1));
+    WANT(BUSY, lwkt_record_to_file(&recorder, stdout));
+    lwkt_record_unclaim(&recorder.seats[1], 0);
+    WANT(OK, lwkt_record_end_cells(&recorder, 0, cells, 2));
+    WANT(OK, lwkt_record_end_generation(&recorder, 0, 1234));
+    WANT(OK, lwkt_record_to_file(&recorder, stdout));
+}
+
+// What is left begins inside a section, which is told again with what it had written; the section before with its row.
+static void last_in_a_section(void)
+{
+    static const uint64_t cells[2] = {51, 49};
+    open_last(5);
+    WANT(OK, lwkt_record_take(&recorder, 1, 0));
+    WANT(OK, lwkt_record_write(&recorder, 1, 0, 0, 59));
+    WANT(OK, lwkt_record_write(&recorder, 1, 0, 1, 41));
+    WANT(OK, lwkt_record_give(&recorder, 1, 0));
+    WANT(OK, lwkt_record_take(&recorder, 0, 0));
+    WANT(OK, lwkt_record_again(&recorder, 0, 0));
+    WANT(OK, lwkt_record_write(&recorder, 0, 0, 0, 50));
+    WANT(OK, lwkt_record_read(&recorder, 0, 0, 1, 41));
+    WANT(OK, lwkt_record_read(&recorder, 0, 0, 0, 50));
+    WANT(OK, lwkt_record_give(&recorder, 0, 0));
+    WANT(OK, lwkt_record_write(&recorder, 0, 0, 1, 49));
+    WANT(OK, lwkt_record_write(&recorder, 0, 0, 0, 51));
+    WANT(OK, lwkt_record_give(&recorder, 0, 0));
+    WANT(OK, lwkt_record_end_cells(&recorder, 0, cells, 2));
+    WANT(OK, lwkt_record_end_generation(&recorder, 0, 7));
+    want_at(__LINE__, (int)last_events(), 12);
+    WANT(OK, lwkt_record_to_file(&recorder, stdout));
+}
+
+// A section that is forgotten broke the law; what came after kept to the wrong sum.
+static void last_law(void)
+{
+    open_last(4);
+    WANT(OK, lwkt_record_take(&recorder, 1, 0));
+    WANT(OK, lwkt_record_write(&recorder, 1, 0, 0, 61));
+    WANT(OK, lwkt_record_give(&recorder, 1, 0));
+    WANT(OK, lwkt_record_share(&recorder, 1, 0));
+    WANT(OK, lwkt_record_read(&recorder, 1, 0, 0, 61));
+    WANT(OK, lwkt_record_read(&recorder, 1, 0, 1, 40));
+    WANT(OK, lwkt_record_give(&recorder, 1, 0));
+    WANT(OK, lwkt_record_to_file(&recorder, stdout));
+}
+
+// A reference whose take is forgotten, and which isn't given back; and two that can't be.
+static void last_held(void)
+{
+    open_last(4);
+    WANT(OK, lwkt_record_share(&recorder, 1, 0));
+    WANT(OK, lwkt_record_share(&recorder, 0, 0));
+    WANT(OK, lwkt_record_give(&recorder, 0, 0));
+    WANT(OK, lwkt_record_mark(&recorder, 0, 0));
+    WANT(OK, lwkt_record_mark(&recorder, 0, 0));
+    WANT(OK, lwkt_record_mark(&recorder, 0, 0));
+    WANT(OK, lwkt_record_end(&recorder));
+    WANT(OK, lwkt_record_to_file(&recorder, stdout));
+}
+
+static void last_held_by_two(void)
+{
+    unsigned each;
+    open_last(4);
+    WANT(OK, lwkt_record_take(&recorder, 1, 0));
+    WANT(OK, lwkt_record_share(&recorder, 0, 0));
+    for (each = 0; each < 4; each++)
+        WANT(OK, lwkt_record_load(&recorder, 0, 0));
+    WANT(OK, lwkt_record_to_file(&recorder, stdout));
+}
+
+// Messages in each state when the last forgotten event was over, and how each goes on.
+static void last_messages(void)
+{
+    unsigned each;
+    open_scene(2, 1, 5, 8 + 5 + 7);
+    WANT(OK, lwkt_record_keep_last(&recorder));
+    for (each = 0; each < 5; each++)
+        WANT(OK, lwkt_record_message(&recorder, each, each % 2, 0, 7));
+    for (each = 0; each < 5; each++) {
+        WANT(OK, lwkt_record_send(&recorder, each % 2, each, 1, 0));
+        if (each > 0)
+            WANT(OK, lwkt_record_take_message(&recorder, 1, each, 0));
+        if (each > 1)
+            WANT(OK, lwkt_record_reply(&recorder, 1, each));
+        if (each > 2)
+            WANT(OK, lwkt_record_reap(&recorder, each % 2, each));
+    }
+    WANT(OK, lwkt_record_abort(&recorder, 0, 0));
+    for (each = 0; each < 7; each++)
+        WANT(OK, lwkt_record_load(&recorder, 0, 0));
+    WANT(OK, lwkt_record_drop(&recorder, 0, 0));
+    WANT(OK, lwkt_record_reply(&recorder, 1, 1));
+    WANT(OK, lwkt_record_reap(&recorder, 0, 2));
+    WANT(OK, lwkt_record_send(&recorder, 1, 3, 0, 9));
+    WANT(OK, lwkt_record_send(&recorder, 0, 4, 1, 9));
+    WANT(OK, lwkt_record_end(&recorder));
+    WANT(OK, lwkt_record_to_file(&recorder, stdout));
+}
+
+// An event that is lost ends what is kept: from then on nothing is forgotten.
+static void last_lost(void)
+{
+    open_last(8);
+    sections_at(0, 50);
+    WANT(OK, lwkt_record_share(&recorder, 1, 0));
+    WANT(NO_PROCESSOR, lwkt_record_take(&recorder, 2, 0));
+    WANT(FULL, lwkt_record_take(&recorder, 0, 0));
+    WANT(OK, lwkt_record_give(&recorder, 1, 0));
+    WANT(NO_PROCESSOR, lwkt_record_lost(&recorder));
+    WANT(OK, lwkt_record_end(&recorder));
+    WANT(CUT, lwkt_record_to_file(&recorder, stdout));
+}
+
+// Where the lost event is before all that is left, only the opening is written.
+static void last_unknown(void)
+{
+    open_last(1);
+    WANT(OK, lwkt_record_load(&recorder, 0, 0));
+    (void)lwkt_record_stamp(&recorder);
+    sections_at(0, 5);
+    WANT(OK, lwkt_record_end(&recorder));
+    WANT(CUT, lwkt_record_to_file(&recorder, stdout));
+}
+
+// The last events are written while others record: their calls are then answered BUSY, which ends the recording.
+static void *record_last(void *argument)
+{
+    unsigned processor = *(unsigned *)argument, each;
+    for (each = 0; each < 2000; each++) {
+        int error = lwkt_record_load(&recorder, processor, 0);
+        want_at(__LINE__, error == LWKT_RECORD_OK || error == LWKT_RECORD_BUSY || error == LWKT_RECORD_FULL, 1);
+    }
+    return NULL;
+}
+
+static void last_while_others_record(void)
+{
+    static unsigned numbers[2] = {0, 1};
+    pthread_t threads[2];
+    unsigned each;
+    int error;
+    open_last(100);
+    for (each = 0; each < 2; each++)
+        pthread_create(&threads[each], NULL, record_last, &numbers[each]);
+    for (each = 0; each < 10; each++) {
+        error = lwkt_record_to_sink(&recorder, let_go, NULL);
+        want_at(__LINE__, error == LWKT_RECORD_OK || error == LWKT_RECORD_CUT || error == LWKT_RECORD_BUSY, 1);
+        sched_yield();
+    }
+    for (each = 0; each < 2; each++)
+        pthread_join(threads[each], NULL);
+    error = lwkt_record_to_file(&recorder, stdout);
+    want_at(__LINE__, error, lwkt_record_lost(&recorder) == 0 ? LWKT_RECORD_OK : LWKT_RECORD_CUT);
+}
+
+// Three processors do at random what tokens and messages let them, for a long time; a few of the last events are kept.
+#define LAST_PROCESSORS 3
+#define LAST_TOKENS 3
+#define LAST_MESSAGES 2
+
+static struct {
+    unsigned references[LAST_PROCESSORS][LAST_TOKENS];
+    unsigned exclusive[LAST_TOKENS]; // who, and 1 more
+    uint64_t row[LAST_TOKENS][2];
+    uint64_t first[LAST_TOKENS][2]; // the row when the exclusive holder took the token
+    unsigned state[LAST_MESSAGES]; // 0 at rest, 1 out, 2 with the target, 3 back
+    unsigned target[LAST_MESSAGES];
+} world;
+
+static unsigned chance(unsigned below)
+{
+    seed = seed * UINT64_C(6364136223846793005) + UINT64_C(1442695040888963407);
+    return (unsigned)(seed >> 33) % below;
+}
+
+static unsigned world_references(unsigned token)
+{
+    unsigned each, all = 0;
+    for (each = 0; each < LAST_PROCESSORS; each++)
+        all += world.references[each][token];
+    return all;
+}
+
+static void world_take(unsigned processor, unsigned token)
+{
+    if (world.references[processor][token] > 0) {
+        if (world.references[processor][token] == 4)
+            return;
+        WANT(OK, lwkt_record_again(&recorder, processor, token));
+    } else if (world_references(token) == 0 && chance(2) == 0) {
+        WANT(OK, lwkt_record_take(&recorder, processor, token));
+        world.exclusive[token] = processor + 1;
+        memcpy(world.first[token], world.row[token], sizeof world.first[token]);
+    } else if (world.exclusive[token] == 0) {
+        WANT(OK, lwkt_record_share(&recorder, processor, token));
+    } else {
+        return;
+    }
+    world.references[processor][token] += 1;
+}
+
+static void world_write(unsigned processor, unsigned token, unsigned cell, uint64_t value)
+{
+    world.row[token][cell] = value;
+    WANT(OK, lwkt_record_write(&recorder, processor, token, cell, value));
+}
+
+// A token under a sum, one under a tally, and one with a cell that may have any value.
+static void world_change(unsigned processor, unsigned token)
+{
+    if (token == 1) {
+        world_write(processor, 1, 0, world.row[1][0] + chance(3));
+    } else if (token == 2) {
+        world_write(processor, 2, 0, chance(3));
+    } else {
+        uint64_t first = chance(101);
+        if (chance(2) == 0)
+            world_write(processor, 0, 0, chance(1000));
+        world_write(processor, 0, 0, first);
+        world_write(processor, 0, 1, 100 - first);
+    }
+}
+
+// How a reference is given back, as a program would say that looks at its row.
+static enum lwkt_record_give world_how(unsigned processor, unsigned token)
+{
+    if (world.exclusive[token] != processor + 1 || world.references[processor][token] > 1)
+        return LWKT_RECORD_ONE;
+    return memcmp(world.first[token], world.row[token], sizeof world.first[token]) == 0 ? LWKT_RECORD_CLEAN
+                                                                                        : LWKT_RECORD_WRITTEN;
+}
+
+static void world_give(unsigned processor, unsigned token)
+{
+    if (world.references[processor][token] == 0)
+        return;
+    if (chance(2) == 0)
+        WANT(OK, lwkt_record_give(&recorder, processor, token));
+    else
+        WANT(OK, lwkt_record_give_as(&recorder, processor, token, world_how(processor, token)));
+    world.references[processor][token] -= 1;
+    if (world.references[processor][token] == 0 && world.exclusive[token] == processor + 1)
+        world.exclusive[token] = 0;
+}
+
+static void world_use(unsigned processor, unsigned token)
+{
+    if (world.references[processor][token] == 0)
+        return;
+    WANT(OK, lwkt_record_read(&recorder, processor, token, 0, world.row[token][0]));
+    if (world.exclusive[token] == processor + 1 && chance(2) == 0)
+        world_change(processor, token);
+}
+
+static void world_message(unsigned message)
+{
+    unsigned origin = message % LAST_PROCESSORS, target = world.target[message];
+    switch (world.state[message]) {
+    case 0:
+        world.target[message] = chance(LAST_PROCESSORS);
+        WANT(OK, lwkt_record_send(&recorder, origin, message, world.target[message], 0));
+        world.state[message] = 1;
+        break;
+    case 1:
+        world.state[message] = chance(3) == 0 ? 0 : 2;
+        if (world.state[message] == 0)
+            WANT(OK, lwkt_record_drop(&recorder, origin, message));
+        else
+            WANT(OK, lwkt_record_take_message(&recorder, target, message, 0));
+        break;
+    case 2:
+        if (chance(2) == 0)
+            WANT(OK, lwkt_record_abort(&recorder, origin, message));
+        WANT(OK, lwkt_record_reply(&recorder, target, message));
+        world.state[message] = 3;
+        break;
+    default:
+        WANT(OK, lwkt_record_reap(&recorder, origin, message));
+        world.state[message] = 0;
+    }
+}
+
+static void world_step(unsigned processor)
+{
+    switch (chance(7)) {
+    case 0:
+        world_take(processor, chance(LAST_TOKENS));
+        break;
+    case 1:
+    case 2:
+        world_give(processor, chance(LAST_TOKENS));
+        break;
+    case 3:
+        world_message(chance(LAST_MESSAGES));
+        break;
+    case 4:
+        WANT(OK, lwkt_record_mark(&recorder, processor, chance(LAST_TOKENS)));
+        break;
+    default:
+        world_use(processor, chance(LAST_TOKENS));
+    }
+}
+
+// In half of the plays all is given back at the end, and the cells are told.
+static void world_end(void)
+{
+    static const unsigned counts[LAST_TOKENS] = {2, 1, 1};
+    unsigned processor, token;
+    for (processor = 0; processor < LAST_PROCESSORS; processor++)
+        for (token = 0; token < LAST_TOKENS; token++)
+            while (world.references[processor][token] > 0)
+                world_give(processor, token);
+    for (token = 0; token < LAST_TOKENS; token++)
+        WANT(OK, lwkt_record_end_cells(&recorder, token, world.row[token], counts[token]));
+}
+
+static void last_at_random(void)
+{
+    static const uint64_t rows[LAST_TOKENS][2] = {{60, 40}, {7, 0}, {1, 0}};
+    unsigned each, steps = 20 + chance(400), busiest = chance(LAST_PROCESSORS);
+    memset(&world, 0, sizeof world);
+    memcpy(world.row, rows, sizeof rows);
+    open_scene(LAST_PROCESSORS, LAST_TOKENS, LAST_MESSAGES, 8 * LAST_TOKENS + LAST_MESSAGES + 1 + chance(60));
+    WANT(OK, lwkt_record_token(&recorder, 0, LWKT_RECORD_SUM, 100, 5, rows[0], 2));
+    WANT(OK, lwkt_record_token(&recorder, 1, LWKT_RECORD_TALLY, 7, 0, rows[1], 1));
+    WANT(OK, lwkt_record_token(&recorder, 2, LWKT_RECORD_ANY, 0, 0, rows[2], 1));
+    WANT(OK, lwkt_record_message(&recorder, 1, 1, 3, 9));
+    WANT(OK, lwkt_record_keep_last(&recorder));
+    for (each = 0; each < steps; each++)
+        world_step(chance(3) == 0 ? chance(LAST_PROCESSORS) : busiest);
+    if (chance(2) == 0)
+        world_end();
+    WANT(OK, lwkt_record_to_file(&recorder, stdout));
+}
+
 static const struct scene {
     const char *name;
     void (*play)(void);
@@ -656,11 +1360,32 @@ static const struct scene {
     {"streams", streams},
     {"while_others_record", while_others_record},
     {"two_on_one_processor", two_on_one_processor},
+    {"lent_numbers", lent_numbers},
+    {"lent_and_lost", lent_and_lost},
+    {"lines_lent_to_many", lent_to_many},
+    {"lines_drained", drained},
+    {"lines_drained_calls", drained_calls},
+    {"lines_drained_full", drained_full},
+    {"lines_drained_largest", drained_largest},
+    {"lines_drained_while_others_record", drained_while_others_record},
+    {"lines_drained_by_two", drained_by_two},
+    {"last_calls", last_calls},
+    {"last_in_a_section", last_in_a_section},
+    {"last_law", last_law},
+    {"last_held", last_held},
+    {"last_held_by_two", last_held_by_two},
+    {"last_messages", last_messages},
+    {"last_lost", last_lost},
+    {"last_unknown", last_unknown},
+    {"last_while_others_record", last_while_others_record},
+    {"last_at_random", last_at_random},
 };
 
 int main(int count, char **arguments)
 {
     size_t each;
+    if (count > 2)
+        seed = strtoull(arguments[2], NULL, 10);
     for (each = 0; each < sizeof scenes / sizeof scenes[0]; each++) {
         scene_name = scenes[each].name;
         if (count < 2) {

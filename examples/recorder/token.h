@@ -99,7 +99,7 @@ static bool token_try_shared(struct thread *self, struct token *token)
 }
 
 // An exclusive reference, however long it takes. A thread that has to wait requests it.
-static void token_get(struct thread *self, struct token *token)
+static inline void token_get(struct thread *self, struct token *token)
 {
     while (!token_try(self, token)) {
         if ((atomic_fetch_or_explicit(&token->count, TOKEN_REQUEST, memory_order_relaxed) & TOKEN_REQUEST) == 0)

@@ -1,7 +1,8 @@
 // Four threads move amounts between three accounts, whose sum stays, and count how often; others read them meanwhile. What they
 // do with their tokens is recorded, and written to standard output as a trace for `lwkt_check`.
 //
-//     ./transfers [SECTIONS]     so many sections of each thread; 300 without
+//     ./transfers [SECTIONS [ROOM]]     so many sections of each thread; 300 without. With ROOM the last events are kept, so many
+//                                       of each thread less 16
 //
 // Built as it stands, its traces are lawful. Each of these plants one fault:
 //
@@ -188,7 +189,11 @@ int main(int count, char **arguments)
 {
     if (count > 1)
         sections = (unsigned)strtoul(arguments[1], NULL, 10);
-    want(lwkt_record_open(&recorder, THREADS, TOKENS, 0, (size_t)sections * 40 + 100), "open");
+    want(lwkt_record_open(&recorder, THREADS, TOKENS, 0,
+                          count > 2 ? (size_t)strtoul(arguments[2], NULL, 10) : (size_t)sections * 40 + 100),
+         "open");
+    if (count > 2)
+        want(lwkt_record_keep_last(&recorder), "the last events");
     want(lwkt_record_token(&recorder, accounts.number, LWKT_RECORD_SUM, 300, 0, accounts.cells, 3), "accounts");
     want(lwkt_record_token(&recorder, transfers.number, LWKT_RECORD_TALLY, 0, 0, transfers.cells, 1), "transfers");
     run_threads();
