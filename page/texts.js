@@ -30,7 +30,7 @@ const knownWords = new Set([...keptWords, ...leftWords, ...openWords, ..."of on 
 
 // What a piece of a script is by how it looks, for its color: of JSON a name, a string or a number, of a text a comment, a number or a
 // word of the language; "" of all else.
-function kindOf(piece, isText, behind) {
+function lookOf(piece, isText, behind) {
   if (/^-?\d/.test(piece)) return "number";
   if (piece[0] === "#") return "comment";
   if (piece[0] === '"') return /^\s*:/.test(behind) ? "word" : "string";
@@ -42,7 +42,7 @@ function piecesOf(line, isText) {
   const pieces = [], pattern = isText ? /#.*|[A-Za-z_]\w*|\d\w*/g : /"(?:[^"\\]|\\.)*"?|-?\d[\d.eE+-]*/g;
   let done = 0;
   for (const { 0: piece, index } of line.matchAll(pattern)) {
-    const kind = kindOf(piece, isText, line.slice(index + piece.length));
+    const kind = lookOf(piece, isText, line.slice(index + piece.length));
     if (!kind) continue;
     pieces.push(["", line.slice(done, index)], [kind, piece]);
     done = index + piece.length;
