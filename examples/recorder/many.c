@@ -19,20 +19,6 @@ static struct token transfers = {0, 1, {0, 0, 0, 0}};
 static unsigned sections = 50;
 static _Atomic(unsigned) at_work = THREADS;
 
-// How far the two threads have come that meet. It orders nothing but their steps.
-static _Atomic(unsigned) step;
-
-static void reach(unsigned place)
-{
-    atomic_store_explicit(&step, place, memory_order_relaxed);
-}
-
-static void await(unsigned place)
-{
-    while (atomic_load_explicit(&step, memory_order_relaxed) < place)
-        sched_yield();
-}
-
 // A failed call of the recorder or of the system ends the program.
 static void want(int error, const char *what)
 {

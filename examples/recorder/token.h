@@ -163,4 +163,18 @@ static void cell_write(struct thread *self, struct token *token, unsigned cell, 
     lwkt_record_write(&recorder, self->number, token->number, cell, value);
 }
 
+// How far the two threads have come that meet. It orders nothing but their steps: what the cells have rests on the tokens alone.
+static _Atomic(unsigned) step;
+
+static void reach(unsigned place)
+{
+    atomic_store_explicit(&step, place, memory_order_relaxed);
+}
+
+static void await(unsigned place)
+{
+    while (atomic_load_explicit(&step, memory_order_relaxed) < place)
+        sched_yield();
+}
+
 #endif

@@ -23,20 +23,6 @@ static struct token accounts = {0, 0, {100, 100, 100, 0}};
 static struct token transfers = {0, 1, {0, 0, 0, 0}};
 static unsigned sections = 300;
 
-// How far threads 0 and 1 have come. It orders nothing but their steps: what the cells have rests on the tokens alone.
-static _Atomic(unsigned) step;
-
-static void reach(unsigned place)
-{
-    atomic_store_explicit(&step, place, memory_order_relaxed);
-}
-
-static void await(unsigned place)
-{
-    while (atomic_load_explicit(&step, memory_order_relaxed) < place)
-        sched_yield();
-}
-
 #ifdef BUG_LATE_STAMP
 // Thread 1 takes the token in between, the first time.
 static void token_was_left(void)
