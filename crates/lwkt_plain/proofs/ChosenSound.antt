@@ -50,10 +50,10 @@ held_runs c k p q inside now =
 
 -- what a search comes to
 abbrev pub Chosen : ℕ → Plain → Found → Type 0
-Chosen c p x = ((x.place ≡ None) → IsSound x.plain) × ((k : ℕ) → x.place ≡ Some k → RunsNow c k p x.plain)
+Chosen c p x = ((x.place ≡ None) → StaysIdle c p x.plain) × ((k : ℕ) → x.place ≡ Some k → RunsNow c k p x.plain)
 
 searched : (c : ℕ) (p : Plain) (x : Found) (o : Option ℕ) → c < length p.cpus → x.place ≡ o → Comes c p x → Chosen c p (option_map_or (λ k. found (with_cpu (run_on k) c x.plain) (Some k)) o x)
-searched c p x None inside is comes = (λ none. (comes.0 is).sound, λ k same. absurd (none-some k (sym is ∙ same)))
+searched c p x None inside is comes = (λ none. comes.0 is, λ k same. absurd (none-some k (sym is ∙ same)))
 searched c p x (Some j) inside is comes = (
   λ none. absurd (none-some j (sym none)),
   λ k same. subst (λ (n : ℕ). RunsNow c n p (with_cpu (run_on j) c x.plain)) (same_Some j k same) (held_runs c j p x.plain inside (comes.1 j is)),
@@ -83,4 +83,4 @@ pub chosen_none : (c : ℕ) (p q : Plain) → c < length p.cpus → IsSound p �
 chosen_none c p q inside sound is =
     let x = chosen c p inside sound in
     let place : (chooses c p).place ≡ None = ap (λ (y : Found). y.place) (sym is) in
-    subst IsSound (ap (λ (y : Found). y.plain) (sym is)) (x.0 place)
+    subst IsSound (ap (λ (y : Found). y.plain) (sym is)) (x.0 place).sound

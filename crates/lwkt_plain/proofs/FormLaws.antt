@@ -39,16 +39,21 @@ pub own_form : FormsAreTheirOwn
 own_form p = ap (λ (cpus : List Processor). record p { cpus = cpus }) (map_again (cpu_by (kept_word p.tokens)) (cpu_again p.tokens) p.cpus)
 
 -- no thread of an opened state was refused
-threads_opened : (tokens : List Token) (specs : List ThreadSpec) → map (thread_by (kept_word tokens)) (map opened_thread specs) ≡ map opened_thread specs
-threads_opened tokens [] = refl
-threads_opened tokens (spec ∷ specs) = ap (λ ts. opened_thread spec ∷ ts) (threads_opened tokens specs)
+threads_opened : (g : List Ref → Option BusyAt → Option BusyAt) → ((refs : List Ref) → g refs None ≡ None) → (specs : List ThreadSpec) → map (thread_by g) (map opened_thread specs) ≡ map opened_thread specs
+threads_opened g none [] = refl
+threads_opened g none (spec ∷ specs) =
+    ap (λ t. t ∷ map (thread_by g) (map opened_thread specs)) (ap (λ (busy : Option BusyAt). record (opened_thread spec) { busy = busy }) (none []))
+    ∙ ap (λ ts. opened_thread spec ∷ ts) (threads_opened g none specs)
 
-cpus_opened : (tokens : List Token) (script : Script) (cs : List ℕ) → map (cpu_by (kept_word tokens)) (map (opened_cpu script) cs) ≡ map (opened_cpu script) cs
-cpus_opened tokens script [] = refl
-cpus_opened tokens script (c ∷ cs) =
-    let one : cpu_by (kept_word tokens) (opened_cpu script c) ≡ opened_cpu script c =
-    ap (λ (threads : List Thread). record (opened_cpu script c) { threads = threads }) (threads_opened tokens (threads_of script c)) in
-    ap (λ cpu. cpu ∷ map (cpu_by (kept_word tokens)) (map (opened_cpu script) cs)) one ∙ ap (λ cpus. opened_cpu script c ∷ cpus) (cpus_opened tokens script cs)
+cpus_opened : (g : List Ref → Option BusyAt → Option BusyAt) → ((refs : List Ref) → g refs None ≡ None) → (script : Script) (cs : List ℕ) → map (cpu_by g) (map (opened_cpu script) cs) ≡ map (opened_cpu script) cs
+cpus_opened g none script [] = refl
+cpus_opened g none script (c ∷ cs) =
+    let one : cpu_by g (opened_cpu script c) ≡ opened_cpu script c =
+    ap (λ (threads : List Thread). record (opened_cpu script c) { threads = threads }) (threads_opened g none (threads_of script c)) in
+    ap (λ cpu. cpu ∷ map (cpu_by g) (map (opened_cpu script) cs)) one ∙ ap (λ cpus. opened_cpu script c ∷ cpus) (cpus_opened g none script cs)
+
+pub opened_by : (g : List Ref → Option BusyAt → Option BusyAt) → ((refs : List Ref) → g refs None ≡ None) → (script : Script) → plain_by g (opened script) ≡ opened script
+opened_by g none script = ap (λ (cpus : List Processor). record (opened script) { cpus = cpus }) (cpus_opened g none script (below script.cpus))
 
 pub opened_form : OpenedStatesAreForms
-opened_form script = ap (λ (cpus : List Processor). record (opened script) { cpus = cpus }) (cpus_opened (map opened_token script.tokens) script (below script.cpus))
+opened_form script = opened_by (kept_word (map opened_token script.tokens)) (λ refs. refl) script

@@ -224,7 +224,7 @@ unfolding clears_all
 clears_all_by g c p = ap (λ (i : Intake). i.plain) (fold_by (intake_by g) (clears c) (clears_by g c) (intake CLEARED_AT_ONCE p) (below PORTS))
 
 -- a port that is looked at
-abbrev looked_by : Words → Looked → Looked
+abbrev pub looked_by : Words → Looked → Looked
 looked_by g x = looked (plain_by g x.plain) x.item
 
 show_by : (g : Words) (c k m : ℕ) (p : Plain) (note : Note) → ((q : Plain) → looks_within m c k (plain_by g q) ≡ looked_by g (looks_within m c k q)) → (o : Option Item) → on_shown c k m (plain_by g p) note o ≡ looked_by g (on_shown c k m p note o)

@@ -114,7 +114,7 @@ runs_sound cpu k x answer so =
     sound_by x (with_thread f cpu.0 k x) (frame_thread f cpu.0 k x (λ t. refl)) ok
 
 -- an element that was changed
-get_changed : {A : Type 0} (f : A → A) (xs : List A) (i : ℕ) → i < length xs → slice_get (changed f xs i) i ≡ option_map_or (λ x. Some (f x)) (slice_get xs i) None
+pub get_changed : {A : Type 0} (f : A → A) (xs : List A) (i : ℕ) → i < length xs → slice_get (changed f xs i) i ≡ option_map_or (λ x. Some (f x)) (slice_get xs i) None
 get_changed f [] i inside = absurd (omega arith)
 get_changed f (x ∷ xs) zero inside = refl
 get_changed {A} f (x ∷ xs) (suc i) inside = ap (λ (ys : List A). slice_get ys (suc i)) (changed_on (slice_get xs i)) ∙ get_changed f xs i (omega arith)

@@ -1,3 +1,5 @@
+pub mod Alikes
+pub mod AskForms
 pub mod AskLists
 pub mod AskMoves
 pub mod AskNeeds
@@ -13,11 +15,16 @@ pub mod GoOnSound
 pub mod Holdings
 pub mod LawTests
 pub mod MailSound
+pub mod OldWords
 pub mod OpenedSound
 pub mod PollSound
 pub mod Receipts
+pub mod Risings
 pub mod Soundness
 pub mod Takings
 pub mod TokenSteps
+pub mod TryForms
+pub mod TryWords
+pub mod TurnForms
 pub mod TurnMoves
 pub mod TurnSound

@@ -39,13 +39,14 @@ use Rattle.lwkt_plain.proofs.GoOnSound.{LeavesSoundly}
 -- a state that is sound, with tokens and lists as before
 pub record KeepsLists (p q : Plain) : Type 0 where
   pub sound : IsSound q
+  pub tokens : q.tokens ≡ p.tokens
   pub lists : map lists_of q.cpus ≡ map lists_of p.cpus
 
 lists_by : (p q : Plain) → IsSound p → frame q ≡ frame p → KeepsLists p q
-lists_by p q sound same = record { sound = subst IsSoundFrame (sym same) sound; lists = ap (λ (f : Frame). f.cpus) same }
+lists_by p q sound same = record { sound = subst IsSoundFrame (sym same) sound; tokens = ap (λ (f : Frame). f.tokens) same; lists = ap (λ (f : Frame). f.cpus) same }
 
 same_lists : (p : Plain) → IsSound p → KeepsLists p p
-same_lists p sound = record { sound = sound; lists = refl }
+same_lists p sound = record { sound = sound; tokens = refl; lists = refl }
 
 -- a message that goes out
 rounds_sound : (f : Frame) (m round : ℕ) → IsSoundFrame f → round ≤ LAST_ROUND → IsSoundFrame (record f { rounds = set f.rounds m round })
@@ -67,7 +68,7 @@ out_lists c p s l sound at within =
     let R : List ℕ → Type 0 = λ rs. IsSoundFrame (record { tokens = p.tokens; rounds = rs; cpus = map lists_of p.cpus }) in
     let ok : IsSound q = subst R (sym rounds) (rounds_sound (frame p) s.msg.0 (l.word.round + 1) sound (omega (arith, within))) in
     let posted = frame_lane (λ lane. pushed (request_note s.msg s.to.thread away) (moved lane)) c s.to.cpu.0 q in
-    record { sound = subst IsSoundFrame (sym posted) ok; lists = ap (λ (f : Frame). f.cpus) posted }
+    record { sound = subst IsSoundFrame (sym posted) ok; tokens = ap (λ (f : Frame). f.tokens) posted; lists = ap (λ (f : Frame). f.cpus) posted }
 
 -- what an ask about messages comes to: the thread goes on, or gives its whole list up
 abbrev pub GivesAll : Next → ℕ → Type 0

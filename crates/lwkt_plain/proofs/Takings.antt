@@ -39,10 +39,10 @@ pub record Resumes (c : ℕ) (tokens : List Token) (refs : List Ref) (x : Tried)
   pub keeps : KeepsTokens c tokens x.tokens
   pub held : AreHeld c (held_of refs x.missed) x.tokens
 
-fits_as : (n : ℕ) (m : ℕ) (refs : List Ref) → m ≡ n → IsSoundList n refs → IsSoundList m refs
+pub fits_as : (n : ℕ) (m : ℕ) (refs : List Ref) → m ≡ n → IsSoundList n refs → IsSoundList m refs
 fits_as n m refs same fits = subst (λ (k : ℕ). IsSoundList k refs) (sym same) fits
 
-front_of : (n : ℕ) (front : List Ref) (r : Ref) (rest : List Ref) → IsSoundList n (front ++ (r ∷ rest)) → IsSoundList n (front ++ r ∷ [])
+pub front_of : (n : ℕ) (front : List Ref) (r : Ref) (rest : List Ref) → IsSoundList n (front ++ (r ∷ rest)) → IsSoundList n (front ++ r ∷ [])
 front_of n front r rest fits =
     let split : (front ++ r ∷ []) ++ rest ≡ front ++ (r ∷ rest) = append_assoc front (r ∷ []) rest in
     let long = length-append (front ++ r ∷ []) rest in

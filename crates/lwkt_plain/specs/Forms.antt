@@ -55,7 +55,7 @@ OpenedStatesAreForms = (script : Script) → form (opened script) ≡ opened scr
 abbrev pub MailRespectsForms : Type 0
 MailRespectsForms = (p : Plain) (c : ℕ) → takes_mail c (form p) ≡ form (takes_mail c p)
 
--- turns don't tell apart the states of one form that a script comes to: forms are a bisimulation (stated, not yet proved)
+-- a law: turns don't tell apart the states of one form that a script comes to: forms are a bisimulation
 abbrev pub FormsRespectTurns : Type 0
 FormsRespectTurns = (script : Script) (order : List ℕ) (c : ℕ) → IsWithinLimits script → AllOpenLawfully script.tokens → All (λ cpu. cpu < script.cpus) order → c < script.cpus
     → form (turn script (form (run script (opened script) order)) c) ≡ form (turn script (run script (opened script) order) c)
