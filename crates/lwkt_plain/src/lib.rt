@@ -15,6 +15,7 @@ pub mod letters;
 mod mailing;
 pub mod nexts;
 mod openings;
+mod parts;
 mod places;
 mod polls;
 pub mod states;
