@@ -16,6 +16,7 @@ pub mod Holdings
 pub mod LawTests
 pub mod MailSound
 pub mod OldWords
+pub mod OneFault
 pub mod OpenedSound
 pub mod PollSound
 pub mod Receipts

@@ -1,10 +1,61 @@
 //! Whether two parts of states are the same.
 ghost use Rattle.std.specs.Prelude.{◌≡◌, ◌↔◌, IsTrue};
+ghost use Rattle.lwkt_plain.specs.Faults.{carried};
 
 use crate::items::Items;
 use crate::letters::{Lane, Note, Port};
-use lwkt_base::{Entry, TokList};
+use crate::states::Phase;
+use lwkt_base::blobs::are_same;
+use lwkt_base::{Answer, Entry, Fault, Held, TokList};
 use lwkt_code::Local;
+use lwkt_core::Token;
+
+// The number that a fault carries beside its own, or 0.
+fn carried(fault: &Fault) -> u64
+    ensures { result ≡ carried fault.now }
+{
+    match fault {
+        Fault::Script { place } => u64::from(*place),
+        Fault::Unlawful { index } => *index as u64,
+        _ => 0,
+    }
+}
+
+#[tactic(auto, using(crate::proofs::OneFault::one_fault))]
+fn same_fault(one: &Fault, other: &Fault) -> bool
+    ensures { IsTrue result ↔ (one.now ≡ other.now) }
+{
+    one.number() == other.number() && carried(one) == carried(other)
+}
+
+fn same_answer(one: &Answer, other: &Answer) -> bool
+    ensures { IsTrue result ↔ (one.now ≡ other.now) }
+{
+    match (one, other) {
+        (Answer::Begin, Answer::Begin) => true,
+        (Answer::Done, Answer::Done) => true,
+        (Answer::NoMsg, Answer::NoMsg) => true,
+        (Answer::Value(m), Answer::Value(n)) => *m == *n,
+        (Answer::Bytes(a), Answer::Bytes(b)) => a.is_same(b),
+        (Answer::Dropped(m, a), Answer::Dropped(n, b)) => *m == *n && *a == *b,
+        (Answer::Got(i), Answer::Got(j)) => *i == *j,
+        (Answer::Refused(f), Answer::Refused(g)) => same_fault(f, g),
+        _ => false,
+    }
+}
+
+fn same_phase(one: &Phase, other: &Phase) -> bool
+    ensures { IsTrue result ↔ (one.now ≡ other.now) }
+{
+    match (one, other) {
+        (Phase::Live, Phase::Live) => true,
+        (Phase::AwaitsItem, Phase::AwaitsItem) => true,
+        (Phase::AwaitsReply(m), Phase::AwaitsReply(n)) => *m == *n,
+        (Phase::Exited, Phase::Exited) => true,
+        (Phase::Faulted(f), Phase::Faulted(g)) => same_fault(f, g),
+        _ => false,
+    }
+}
 
 fn same_list(one: &TokList, other: &TokList) -> bool
     ensures { IsTrue result ↔ (one.now ≡ other.now) }
@@ -49,4 +100,43 @@ fn same_port(one: &Port, other: &Port) -> bool
     ensures { IsTrue result ↔ (one.now ≡ other.now) }
 {
     same_notes(&one.urgent, &other.urgent) && same_notes(&one.ordinary, &other.ordinary)
+}
+
+// What is declared of two tokens, their generations and their marks.
+fn same_heads(one: &Token, other: &Token) -> bool
+    ensures { IsTrue result ↔ ((one.now.law ≡ other.now.law) × (one.now.param ≡ other.now.param) × (one.now.generation ≡ other.now.generation) × (one.now.mark ≡ other.now.mark)) }
+{
+    one.law == other.law
+        && one.param == other.param
+        && one.generation == other.generation
+        && one.mark == other.mark
+}
+
+// Their rows and records.
+fn same_rows(one: &Token, other: &Token) -> bool
+    ensures { IsTrue result ↔ ((one.now.row ≡ other.now.row) × (one.now.first ≡ other.now.first) × (one.now.blob ≡ other.now.blob) × (one.now.first_blob ≡ other.now.first_blob)) }
+{
+    one.row.as_slice() == other.row.as_slice()
+        && one.first.as_slice() == other.first.as_slice()
+        && are_same(&one.blob, &other.blob)
+        && are_same(&one.first_blob, &other.first_blob)
+}
+
+fn same_holdings(one: &[Held; 8], other: &[Held; 8]) -> bool
+    ensures { IsTrue result ↔ (one.now ≡ other.now) }
+{
+    *one == *other
+}
+
+// What processors hold of them, and have added.
+fn same_holders(one: &Token, other: &Token) -> bool
+    ensures { IsTrue result ↔ ((one.now.holders ≡ other.now.holders) × (one.now.tallies ≡ other.now.tallies)) }
+{
+    same_holdings(&one.holders, &other.holders) && one.tallies == other.tallies
+}
+
+fn same_token(one: &Token, other: &Token) -> bool
+    ensures { IsTrue result ↔ (one.now ≡ other.now) }
+{
+    same_heads(one, other) && same_rows(one, other) && same_holders(one, other)
 }
