@@ -4,9 +4,9 @@ ghost use Rattle.lwkt_plain.specs.Faults.{carried};
 
 use crate::items::Items;
 use crate::letters::{Lane, Note, Port};
-use crate::states::Phase;
+use crate::states::{BusyAt, Phase};
 use lwkt_base::blobs::are_same;
-use lwkt_base::{Answer, Entry, Fault, Held, TokList};
+use lwkt_base::{Answer, Ask, Entry, Fault, Held, TokList};
 use lwkt_code::Local;
 use lwkt_core::Token;
 
@@ -40,6 +40,57 @@ fn same_answer(one: &Answer, other: &Answer) -> bool
         (Answer::Dropped(m, a), Answer::Dropped(n, b)) => *m == *n && *a == *b,
         (Answer::Got(i), Answer::Got(j)) => *i == *j,
         (Answer::Refused(f), Answer::Refused(g)) => same_fault(f, g),
+        _ => false,
+    }
+}
+
+fn same_ask(one: &Ask, other: &Ask) -> bool
+    ensures { IsTrue result ↔ (one.now ≡ other.now) }
+{
+    match (one, other) {
+        (Ask::Get(a), Ask::Get(b)) => *a == *b,
+        (Ask::GetShared(a), Ask::GetShared(b)) => *a == *b,
+        (Ask::TryGet(a), Ask::TryGet(b)) => *a == *b,
+        (Ask::Rel(a), Ask::Rel(b)) => *a == *b,
+        (Ask::Swap, Ask::Swap) => true,
+        (Ask::Read(a, m), Ask::Read(b, n)) => *a == *b && *m == *n,
+        (Ask::Write(a, m, v), Ask::Write(b, n, w)) => *a == *b && *m == *n && *v == *w,
+        (Ask::Add(a, v), Ask::Add(b, w)) => *a == *b && *v == *w,
+        (Ask::ReadBlob(a), Ask::ReadBlob(b)) => *a == *b,
+        (Ask::WriteBlob(a, m), Ask::WriteBlob(b, n)) => *a == *b && m.is_same(n),
+        (Ask::Send(m, s, c, f), Ask::Send(n, t, d, g)) => {
+            *m == *n && *s == *t && *c == *d && *f == *g
+        }
+        (Ask::Do(m, s, c), Ask::Do(n, t, d)) => *m == *n && *s == *t && *c == *d,
+        (Ask::Reply(m, e, r), Ask::Reply(n, f, s)) => *m == *n && *e == *f && *r == *s,
+        (Ask::Abort(m), Ask::Abort(n)) => *m == *n,
+        (Ask::IsAborted(m), Ask::IsAborted(n)) => *m == *n,
+        (Ask::DropMsg(m), Ask::DropMsg(n)) => *m == *n,
+        (Ask::GetPort, Ask::GetPort) => true,
+        (Ask::WaitPort, Ask::WaitPort) => true,
+        (Ask::Yield, Ask::Yield) => true,
+        (Ask::Exit, Ask::Exit) => true,
+        (Ask::Fail(m), Ask::Fail(n)) => *m == *n,
+        _ => false,
+    }
+}
+
+fn same_asked(one: &Option<Ask>, other: &Option<Ask>) -> bool
+    ensures { IsTrue result ↔ (one.now ≡ other.now) }
+{
+    match (one, other) {
+        (None, None) => true,
+        (Some(a), Some(b)) => same_ask(a, b),
+        _ => false,
+    }
+}
+
+fn same_busy(one: &Option<BusyAt>, other: &Option<BusyAt>) -> bool
+    ensures { IsTrue result ↔ (one.now ≡ other.now) }
+{
+    match (one, other) {
+        (None, None) => true,
+        (Some(a), Some(b)) => a.word == b.word && a.at == b.at,
         _ => false,
     }
 }
