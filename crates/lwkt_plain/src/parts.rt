@@ -3,10 +3,10 @@ ghost use Rattle.std.specs.Prelude.{◌≡◌, ◌↔◌, IsTrue};
 ghost use Rattle.lwkt_plain.specs.Faults.{carried};
 
 use crate::items::Items;
-use crate::letters::{Lane, Note, Port};
+use crate::letters::{Lane, Letter, Note, Port};
 use crate::states::{BusyAt, Phase};
 use lwkt_base::blobs::are_same;
-use lwkt_base::{Answer, Ask, Entry, Fault, Held, TokList};
+use lwkt_base::{Answer, Ask, Entry, Fault, Held, MsgWord, TokList};
 use lwkt_code::Local;
 use lwkt_core::Token;
 
@@ -93,6 +93,53 @@ fn same_busy(one: &Option<BusyAt>, other: &Option<BusyAt>) -> bool
         (Some(a), Some(b)) => a.word == b.word && a.at == b.at,
         _ => false,
     }
+}
+
+// Where messages with two words are.
+fn same_ways(one: &MsgWord, other: &MsgWord) -> bool
+    ensures { IsTrue result ↔ ((one.now.round ≡ other.now.round) × (one.now.state ≡ other.now.state) × (one.now.origin ≡ other.now.origin) × (one.now.target ≡ other.now.target)) }
+{
+    one.round == other.round
+        && one.state == other.state
+        && one.origin == other.origin
+        && one.target == other.target
+}
+
+// What was asked of them.
+fn same_flags(one: &MsgWord, other: &MsgWord) -> bool
+    ensures { IsTrue result ↔ ((one.now.aborted ≡ other.now.aborted) × (one.now.sync ≡ other.now.sync) × (one.now.dropable ≡ other.now.dropable) × (one.now.abortable ≡ other.now.abortable) × (one.now.priority ≡ other.now.priority)) }
+{
+    one.aborted == other.aborted
+        && one.sync == other.sync
+        && one.dropable == other.dropable
+        && one.abortable == other.abortable
+        && one.priority == other.priority
+}
+
+fn same_word(one: &MsgWord, other: &MsgWord) -> bool
+    ensures { IsTrue result ↔ (one.now ≡ other.now) }
+{
+    same_ways(one, other) && same_flags(one, other)
+}
+
+// Whose messages two are, and their words.
+fn same_covers(one: &Letter, other: &Letter) -> bool
+    ensures { IsTrue result ↔ ((one.now.origin ≡ other.now.origin) × (one.now.word ≡ other.now.word)) }
+{
+    one.origin == other.origin && same_word(&one.word, &other.word)
+}
+
+// Their records, and in whose hands they are.
+fn same_contents(one: &Letter, other: &Letter) -> bool
+    ensures { IsTrue result ↔ ((one.now.rec ≡ other.now.rec) × (one.now.hands ≡ other.now.hands)) }
+{
+    one.rec == other.rec && one.hands == other.hands
+}
+
+fn same_letter(one: &Letter, other: &Letter) -> bool
+    ensures { IsTrue result ↔ (one.now ≡ other.now) }
+{
+    same_covers(one, other) && same_contents(one, other)
 }
 
 fn same_phase(one: &Phase, other: &Phase) -> bool
