@@ -1,10 +1,10 @@
 //! Whether two parts of states are the same.
-ghost use Rattle.std.specs.Prelude.{◌≡◌, ◌↔◌, IsTrue};
+ghost use Rattle.std.specs.Prelude.{◌≡◌, ◌↔◌, IsTrue, length};
 ghost use Rattle.lwkt_plain.specs.Faults.{carried};
 
 use crate::items::Items;
 use crate::letters::{Lane, Letter, Note, Port};
-use crate::states::{BusyAt, Phase};
+use crate::states::{BusyAt, Phase, Thread};
 use lwkt_base::blobs::are_same;
 use lwkt_base::{Answer, Ask, Entry, Fault, Held, MsgWord, TokList};
 use lwkt_code::Local;
@@ -175,6 +175,50 @@ fn same_entry(one: &Entry, other: &Entry) -> bool
         (Entry::Bytes(_), _) | (_, Entry::Bytes(_)) => false,
         _ => *one == *other,
     }
+}
+
+// Whether two logs are one, where they are as long.
+fn same_log_below(log: &[Entry], other: &[Entry]) -> bool
+    requires long { length log.now ≡ length other.now }
+    ensures { IsTrue result ↔ (log.now ≡ other.now) }
+{
+    for at in 0..log.len() {
+        if !same_entry(&log[at], &other[at]) {
+            return false;
+        }
+    }
+    true
+}
+
+fn same_log(one: &[Entry], other: &[Entry]) -> bool
+    ensures { IsTrue result ↔ (one.now ≡ other.now) }
+{
+    one.len() == other.len() && same_log_below(one, other)
+}
+
+// What two threads do, and where they stand.
+fn same_stands(one: &Thread, other: &Thread) -> bool
+    ensures { IsTrue result ↔ ((one.now.phase ≡ other.now.phase) × (one.now.busy ≡ other.now.busy) × (one.now.local ≡ other.now.local)) }
+{
+    same_phase(&one.phase, &other.phase)
+        && same_busy(&one.busy, &other.busy)
+        && same_local(&one.local, &other.local)
+}
+
+// What they have of their asks.
+fn same_pasts(one: &Thread, other: &Thread) -> bool
+    ensures { IsTrue result ↔ ((one.now.list ≡ other.now.list) × (one.now.last ≡ other.now.last) × (one.now.asked ≡ other.now.asked) × (one.now.log ≡ other.now.log)) }
+{
+    same_list(&one.list, &other.list)
+        && same_answer(&one.last, &other.last)
+        && same_asked(&one.asked, &other.asked)
+        && same_log(one.log.as_slice(), other.log.as_slice())
+}
+
+fn same_thread(one: &Thread, other: &Thread) -> bool
+    ensures { IsTrue result ↔ (one.now ≡ other.now) }
+{
+    same_stands(one, other) && same_pasts(one, other)
 }
 
 fn same_local(one: &Local, other: &Local) -> bool
