@@ -1,9 +1,10 @@
 -- One element of a list changed.
-use Rattle.std.proofs.Common.{◌≡◌, ℕ, ◌<◌, ◌≤◌, List, length, get_or, set, ap, ◌∙◌, refl, sym, Option, Some, None, map}
+use Rattle.std.proofs.Common.{◌≡◌, ℕ, ◌<◌, ◌≤◌, ◌+◌, ◌++◌, take, drop, List, length, get_or, set, ap, ◌∙◌, refl, sym, Option, Some, None, map}
 use Rattle.std.specs.Prelude.{slice_get, slice_set}
 use Rattle.std.specs.Option.{option_map_or}
 use Rattle.std.proofs.lemmas.Option.{slice_get_past, slice_get_within, get_or_from_slice_get, slice_get-get_or}
 use Rattle.std.proofs.lemmas.List.{get_or-set_same, get_or-set_other, set-get_or, get_or_past, map-set}
+use Rattle.std.proofs.lemmas.List.Edits.{map_over_more}
 use Rattle.lwkt_core.specs.Machine.{changed}
 
 -- at an element that is there
@@ -17,6 +18,10 @@ changed_out f xs i past = ap (λ o. option_map_or (λ y. slice_set xs i (f y)) o
 -- an element put back
 pub set_back : {A : Type 0} (xs : List A) (i : ℕ) (x : A) → slice_get xs i ≡ Some x → set xs i x ≡ xs
 set_back xs i x at = ap (set xs i) (sym (get_or_from_slice_get xs i x x at)) ∙ set-get_or xs i x
+
+-- a loop that changes each element, one more
+pub mapped_more : {A : Type 0} (f : A → A) (xs ys : List A) (i : ℕ) (x : A) → i < length xs → ys ≡ map f (take i xs) ++ drop i xs → slice_get ys i ≡ Some x → slice_set ys i (f x) ≡ map f (take (i + 1) xs) ++ drop (i + 1) xs
+mapped_more f xs ys i x lt is at = map_over_more f xs ys i x lt is (sym (get_or_from_slice_get ys i x x at))
 
 -- what a function of the elements doesn't tell apart
 map_changed_by : {A B : Type 0} (g : A → B) (f : A → A) (xs : List A) (i : ℕ) (o : Option A) → slice_get xs i ≡ o → ((x : A) → g (f x) ≡ g x) → map g (option_map_or (λ y. slice_set xs i (f y)) o xs) ≡ map g xs
