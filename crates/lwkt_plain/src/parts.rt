@@ -282,3 +282,22 @@ fn same_token(one: &Token, other: &Token) -> bool
 {
     same_heads(one, other) && same_rows(one, other) && same_holders(one, other)
 }
+
+// Whether lanes are one, where there are as many.
+fn same_lanes_below(lanes: &[Lane], other: &[Lane]) -> bool
+    requires long { length lanes.now ≡ length other.now }
+    ensures { IsTrue result ↔ (lanes.now ≡ other.now) }
+{
+    for at in 0..lanes.len() {
+        if !same_lane(&lanes[at], &other[at]) {
+            return false;
+        }
+    }
+    true
+}
+
+fn same_lanes(one: &[Lane], other: &[Lane]) -> bool
+    ensures { IsTrue result ↔ (one.now ≡ other.now) }
+{
+    one.len() == other.len() && same_lanes_below(one, other)
+}
