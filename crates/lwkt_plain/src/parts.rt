@@ -4,11 +4,88 @@ ghost use Rattle.lwkt_plain.specs.Faults.{carried};
 
 use crate::items::Items;
 use crate::letters::{Lane, Letter, Note, Port};
-use crate::states::{BusyAt, Phase, Thread};
+use crate::states::{BusyAt, Phase, Plain, Processor, Thread};
 use lwkt_base::blobs::are_same;
 use lwkt_base::{Answer, Ask, Entry, Fault, Held, MsgWord, TokList};
 use lwkt_code::Local;
 use lwkt_core::Token;
+
+/// A part of a state, of which there may be any number.
+pub trait Part {
+    /// Whether two are the same.
+    fn is_same(&self, other: &Self) -> bool
+        ensures { IsTrue result ↔ (self.now ≡ other.now) };
+}
+
+// Whether parts are the same, where there are as many.
+fn same_below<T: Part>(parts: &[T], other: &[T]) -> bool
+    requires long { length parts.now ≡ length other.now }
+    ensures { IsTrue result ↔ (parts.now ≡ other.now) }
+{
+    for at in 0..parts.len() {
+        if !parts[at].is_same(&other[at]) {
+            return false;
+        }
+    }
+    true
+}
+
+// Whether parts are the same.
+fn same_all<T: Part>(parts: &[T], other: &[T]) -> bool
+    ensures { IsTrue result ↔ (parts.now ≡ other.now) }
+{
+    parts.len() == other.len() && same_below(parts, other)
+}
+
+impl Part for Entry {
+    fn is_same(&self, other: &Entry) -> bool {
+        same_entry(self, other)
+    }
+}
+
+impl Part for Lane {
+    fn is_same(&self, other: &Lane) -> bool {
+        same_lane(self, other)
+    }
+}
+
+impl Part for Port {
+    fn is_same(&self, other: &Port) -> bool {
+        same_port(self, other)
+    }
+}
+
+impl Part for Token {
+    fn is_same(&self, other: &Token) -> bool {
+        same_token(self, other)
+    }
+}
+
+impl Part for Letter {
+    fn is_same(&self, other: &Letter) -> bool {
+        same_letter(self, other)
+    }
+}
+
+impl Part for Processor {
+    fn is_same(&self, other: &Processor) -> bool {
+        same_mail(self, other) && same_runs(self, other)
+    }
+}
+
+impl Part for Plain {
+    fn is_same(&self, other: &Plain) -> bool {
+        same_all(self.tokens.as_slice(), other.tokens.as_slice())
+            && same_all(self.letters.as_slice(), other.letters.as_slice())
+            && same_all(self.cpus.as_slice(), other.cpus.as_slice())
+    }
+}
+
+impl Part for Thread {
+    fn is_same(&self, other: &Thread) -> bool {
+        same_thread(self, other)
+    }
+}
 
 // The number that a fault carries beside its own, or 0.
 fn carried(fault: &Fault) -> u64
@@ -177,25 +254,6 @@ fn same_entry(one: &Entry, other: &Entry) -> bool
     }
 }
 
-// Whether two logs are one, where they are as long.
-fn same_log_below(log: &[Entry], other: &[Entry]) -> bool
-    requires long { length log.now ≡ length other.now }
-    ensures { IsTrue result ↔ (log.now ≡ other.now) }
-{
-    for at in 0..log.len() {
-        if !same_entry(&log[at], &other[at]) {
-            return false;
-        }
-    }
-    true
-}
-
-fn same_log(one: &[Entry], other: &[Entry]) -> bool
-    ensures { IsTrue result ↔ (one.now ≡ other.now) }
-{
-    one.len() == other.len() && same_log_below(one, other)
-}
-
 // What two threads do, and where they stand.
 fn same_stands(one: &Thread, other: &Thread) -> bool
     ensures { IsTrue result ↔ ((one.now.phase ≡ other.now.phase) × (one.now.busy ≡ other.now.busy) × (one.now.local ≡ other.now.local)) }
@@ -212,7 +270,7 @@ fn same_pasts(one: &Thread, other: &Thread) -> bool
     same_list(&one.list, &other.list)
         && same_answer(&one.last, &other.last)
         && same_asked(&one.asked, &other.asked)
-        && same_log(one.log.as_slice(), other.log.as_slice())
+        && same_all(one.log.as_slice(), other.log.as_slice())
 }
 
 fn same_thread(one: &Thread, other: &Thread) -> bool
@@ -283,21 +341,19 @@ fn same_token(one: &Token, other: &Token) -> bool
     same_heads(one, other) && same_rows(one, other) && same_holders(one, other)
 }
 
-// Whether lanes are one, where there are as many.
-fn same_lanes_below(lanes: &[Lane], other: &[Lane]) -> bool
-    requires long { length lanes.now ≡ length other.now }
-    ensures { IsTrue result ↔ (lanes.now ≡ other.now) }
+// The lanes and the ports of two processors.
+fn same_mail(one: &Processor, other: &Processor) -> bool
+    ensures { IsTrue result ↔ ((one.now.lanes ≡ other.now.lanes) × (one.now.ports ≡ other.now.ports)) }
 {
-    for at in 0..lanes.len() {
-        if !same_lane(&lanes[at], &other[at]) {
-            return false;
-        }
-    }
-    true
+    same_all(one.lanes.as_slice(), other.lanes.as_slice())
+        && same_all(one.ports.as_slice(), other.ports.as_slice())
 }
 
-fn same_lanes(one: &[Lane], other: &[Lane]) -> bool
-    ensures { IsTrue result ↔ (one.now ≡ other.now) }
+// Their threads, and which of these runs and is looked at first.
+fn same_runs(one: &Processor, other: &Processor) -> bool
+    ensures { IsTrue result ↔ ((one.now.threads ≡ other.now.threads) × (one.now.running ≡ other.now.running) × (one.now.cursor ≡ other.now.cursor)) }
 {
-    one.len() == other.len() && same_lanes_below(one, other)
+    same_all(one.threads.as_slice(), other.threads.as_slice())
+        && one.running == other.running
+        && one.cursor == other.cursor
 }
