@@ -1,20 +1,40 @@
 //! Whether two parts of states are the same.
-ghost use Rattle.std.specs.Prelude.{◌≡◌, ◌↔◌, IsTrue, length};
+ghost use Rattle.std.specs.Prelude.{◌≡◌, ◌↔◌, IsTrue, IfOk, length};
 ghost use Rattle.lwkt_plain.specs.Faults.{carried};
 
 use crate::items::Items;
 use crate::letters::{Lane, Letter, Note, Port};
 use crate::states::{BusyAt, Phase, Plain, Processor, Thread};
 use lwkt_base::blobs::are_same;
-use lwkt_base::{Answer, Ask, Entry, Fault, Held, MsgWord, TokList};
+use lwkt_base::{Answer, Ask, Entry, Fault, Held, MsgWord, OutOfMemory, TokList};
 use lwkt_code::Local;
 use lwkt_core::Token;
+use std::alloc::Global;
 
 /// A part of a state, of which there may be any number.
 pub trait Part {
     /// Whether two are the same.
     fn is_same(&self, other: &Self) -> bool
         ensures { IsTrue result ↔ (self.now ≡ other.now) };
+}
+
+/// A part that can be had once more.
+pub trait Copied: Drop {
+    /// The same part, in memory of its own.
+    fn copied(&self, alloc: Global) -> Result<Self, OutOfMemory>
+        ensures { IfOk result (λ part. part ≡ self.now) };
+}
+
+// The same parts.
+fn copied_all<T: Copied>(alloc: Global, parts: &[T]) -> Result<Items<T>, OutOfMemory>
+    ensures { IfOk result (λ copies. copies ≡ parts.now) }
+{
+    let mut copies = Items::none(alloc);
+    for part in parts {
+        let copy = part.copied(alloc)?;
+        copies.push(copy)?;
+    }
+    Ok(copies)
 }
 
 // Whether parts are the same, where there are as many.
