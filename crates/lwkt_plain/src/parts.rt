@@ -377,3 +377,59 @@ fn same_runs(one: &Processor, other: &Processor) -> bool
         && one.running == other.running
         && one.cursor == other.cursor
 }
+
+impl Copied for Note {
+    fn copied(&self, _alloc: Global) -> Result<Note, OutOfMemory> {
+        Ok(*self)
+    }
+}
+
+impl Copied for Entry {
+    fn copied(&self, _alloc: Global) -> Result<Entry, OutOfMemory> {
+        Ok(*self)
+    }
+}
+
+impl Copied for Letter {
+    fn copied(&self, _alloc: Global) -> Result<Letter, OutOfMemory> {
+        Ok(*self)
+    }
+}
+
+impl Copied for Lane {
+    fn copied(&self, alloc: Global) -> Result<Lane, OutOfMemory> {
+        let queue = copied_all(alloc, self.queue.as_slice())?;
+        Ok(Lane {
+            kept: self.kept,
+            queue,
+            hand: self.hand,
+        })
+    }
+}
+
+impl Copied for Port {
+    fn copied(&self, alloc: Global) -> Result<Port, OutOfMemory> {
+        let urgent = copied_all(alloc, self.urgent.as_slice())?;
+        let ordinary = copied_all(alloc, self.ordinary.as_slice())?;
+        Ok(Port { urgent, ordinary })
+    }
+}
+
+impl Copied for Token {
+    fn copied(&self, alloc: Global) -> Result<Token, OutOfMemory> {
+        let row = self.row.try_clone(alloc)?;
+        let first = self.first.try_clone(alloc)?;
+        Ok(Token {
+            law: self.law,
+            param: self.param,
+            generation: self.generation,
+            mark: self.mark,
+            row,
+            first,
+            blob: self.blob,
+            first_blob: self.first_blob,
+            holders: self.holders,
+            tallies: self.tallies,
+        })
+    }
+}
