@@ -7,14 +7,16 @@ use crate::doings::Doings;
 use crate::part_stores::Written;
 use crate::states::{add_state, away};
 use lwkt_base::memory::{push, with_capacity};
-use lwkt_base::{Fault, MsgId, OutOfMemory, Owner};
+use lwkt_base::{Fault, MsgId, OutOfMemory, Owner, TokId};
 use lwkt_core::{Event, Message, State};
 use lwkt_machine::{Machine, ScriptBody, Sent, Turned};
 use lwkt_script::Script;
 use std::alloc::Global;
 
-// The most messages.
+// The most messages, and the most tokens.
 const MESSAGES: u8 = 64;
+
+const TOKENS: u8 = 64;
 
 // The numbers that a place is given room for at first.
 const ROOM: usize = 256;
@@ -56,6 +58,17 @@ fn all_sent(alloc: Global, state: &State) -> Result<Vec<Sent>, OutOfMemory> {
         }
     }
     Ok(sent)
+}
+
+fn all_generations(alloc: Global, state: &State) -> Result<Vec<u64>, OutOfMemory> {
+    let mut generations = Vec::new(alloc);
+    for number in 0..TOKENS {
+        match state.generation(TokId(number)) {
+            Some(generation) => push(&mut generations, generation)?,
+            None => return Ok(generations),
+        }
+    }
+    Ok(generations)
 }
 
 // Makes the events of a turn happen, up to the first that can't. Says whether each could.
@@ -148,9 +161,11 @@ impl Place {
             away: away(&state),
         };
         add_state(&mut written.words, &mut written.ends, &state)?;
+        let generations = all_generations(alloc, &state)?;
         let sent = all_sent(alloc, &state)?;
         machine.encode(
             alloc,
+            generations.as_slice(),
             sent.as_slice(),
             &mut written.words,
             &mut written.ends,

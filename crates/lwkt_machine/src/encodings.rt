@@ -108,10 +108,14 @@ impl ScriptBody {
 }
 
 // A processor with its bodies; its seat at the book is given back.
-fn add_cpu(words: &mut Vec<u64>, cpu: Cpu<ScriptBody>) -> Result<MsgSeat, OutOfMemory>
+fn add_cpu(
+    words: &mut Vec<u64>,
+    generations: &[u64],
+    cpu: Cpu<ScriptBody>,
+) -> Result<MsgSeat, OutOfMemory>
     ensures { IfOk result (λ seat. seat ≡ cpu.post.seat) }
 {
-    let (bodies, seat) = cpu.encode(words)?;
+    let (bodies, seat) = cpu.encode(generations, words)?;
     for body in bodies.as_slice() {
         body.encode(words)?;
     }
@@ -274,13 +278,14 @@ fn add_cpus(
     alloc: Global,
     words: &mut Vec<u64>,
     ends: &mut Vec<usize>,
+    generations: &[u64],
     cpus: Vec<Driven<ScriptBody>>,
 ) -> Result<Vec<MsgSeat>, OutOfMemory>
     ensures { IfOk result (λ seats. seats.items ≡ map (λ d. d.cpu.post.seat) cpus.items) }
 {
     let mut seats = Vec::new(alloc);
     for driven in cpus {
-        let seat = add_cpu(words, driven.cpu)?;
+        let seat = add_cpu(words, generations, driven.cpu)?;
         push(&mut seats, seat)?;
         end_part(words.as_slice(), ends)?;
     }
@@ -290,8 +295,8 @@ fn add_cpus(
 impl Machine<ScriptBody> {
     /// Appends to `words` what tells this machine apart from what it was or will be at another time, but for what its trace says of
     /// tokens and messages: its processors with their threads, ports, lanes and bodies, and the records of the messages that are
-    /// away. Much of it can't be seen without a step of a processor, so the machine is given up. `sent` has one for each message,
-    /// by its number.
+    /// away. Much of it can't be seen without a step of a processor, so the machine is given up. `generations` are those of its tokens
+    /// as the model has them, and `sent` has one for each message, both by number.
     ///
     /// Each processor has a part of the numbers, and after them each message. For each part the length of `words` at its end is
     /// appended to `ends`.
@@ -300,6 +305,7 @@ impl Machine<ScriptBody> {
     pub fn encode(
         self,
         alloc: Global,
+        generations: &[u64],
         sent: &[Sent],
         words: &mut Vec<u64>,
         ends: &mut Vec<usize>,
@@ -309,7 +315,7 @@ impl Machine<ScriptBody> {
             book,
             cpus,
         } = self;
-        let mut seats = add_cpus(alloc, words, ends, cpus)?;
+        let mut seats = add_cpus(alloc, words, ends, generations, cpus)?;
         add_messages(words, ends, &book, &mut seats, sent)
     }
 }
