@@ -19,7 +19,7 @@ CELL cell[TOKENS], first[TOKENS];           /* a token's cell, now and at the be
 byte running[CPUS] = NOBODY, cursor[CPUS];  /* the thread that runs, and where the next search for one begins */
 PLACE at[THREADS];                          /* how many steps a thread has asked for, its end too */
 byte length[THREADS];                       /* how many references its list has */
-WORD refused[THREADS];                      /* the word that refused its list, or 0 */
+WORD refused[THREADS];                      /* the word that refused its list, if it can do so again, or 0 */
 byte where[THREADS];                        /* which reference that word refused */
 byte living = THREADS;
 
@@ -55,20 +55,36 @@ inline give_before(place) {
     od
 }
 
-/* Takes the whole list of `thread`, or nothing. With LEAN no word that refused it is kept, so that each turn tries it again. */
+/* Takes the whole list of `thread`, or nothing. A word that refused it at its first place isn't kept: a try that is refused there again
+   changes nothing. */
 inline resume() {
-    spot = 0; missed = false;
+    spot = 0; missed = false; refused[thread] = 0; where[thread] = 0;
     do
     :: spot < length[thread] ->
         take(spot);
         if
         :: missed ->
-#ifndef LEAN
-            refused[thread] = word[token]; where[thread] = spot;
-#endif
+            if
+            :: spot > 0 -> refused[thread] = word[token]; where[thread] = spot
+            :: else -> skip
+            fi;
             give_before(spot); break
         :: else -> spot++
         fi
+    :: else -> break
+    od
+}
+
+/* Forgets the words whose token has another generation now: they never come again. */
+inline forget() {
+    thread = 0;
+    do
+    :: thread < THREADS ->
+        if
+        :: refused[thread] && refused[thread] / GENERATION != word[TOKEN(where[thread])] / GENERATION -> refused[thread] = 0; where[thread] = 0
+        :: else -> skip
+        fi;
+        thread++
     :: else -> break
     od
 }
@@ -86,7 +102,7 @@ inline choose() {
             resume();
             if
             :: missed -> skip
-            :: else -> running[_pid] = thread; cursor[_pid] = thread % OF_CPU + 1; refused[thread] = 0; where[thread] = 0
+            :: else -> running[_pid] = thread; cursor[_pid] = thread % OF_CPU + 1
             fi
         fi
     od
@@ -128,7 +144,8 @@ active [CPUS] proctype processor() {
             :: at[thread] > STEPS -> end()
             :: else -> step(at[thread])
             fi
-        fi
+        fi;
+        forget()
     }
     od
 }
