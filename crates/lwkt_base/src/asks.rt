@@ -1,3 +1,5 @@
+ghost use Rattle.std.specs.Prelude.{◌≡◌, ◌↔◌, IsTrue};
+
 use crate::blobs::Blob;
 use crate::faults::Fault;
 use crate::names::{MsgId, ThreadId, TokId};
@@ -48,6 +50,40 @@ pub enum Ask {
     Exit,
     /// To end with fault 42, since this assertion of the thread's program doesn't hold.
     Fail(u32),
+}
+
+impl Ask {
+    /// Whether the other is the same ask.
+    pub fn is_same(&self, other: &Ask) -> bool
+        ensures { IsTrue result ↔ (self.now ≡ other.now) }
+    {
+        match (self, other) {
+            (Ask::Get(a), Ask::Get(b)) => *a == *b,
+            (Ask::GetShared(a), Ask::GetShared(b)) => *a == *b,
+            (Ask::TryGet(a), Ask::TryGet(b)) => *a == *b,
+            (Ask::Rel(a), Ask::Rel(b)) => *a == *b,
+            (Ask::Swap, Ask::Swap) => true,
+            (Ask::Read(a, m), Ask::Read(b, n)) => *a == *b && *m == *n,
+            (Ask::Write(a, m, v), Ask::Write(b, n, w)) => *a == *b && *m == *n && *v == *w,
+            (Ask::Add(a, v), Ask::Add(b, w)) => *a == *b && *v == *w,
+            (Ask::ReadBlob(a), Ask::ReadBlob(b)) => *a == *b,
+            (Ask::WriteBlob(a, m), Ask::WriteBlob(b, n)) => *a == *b && m.is_same(n),
+            (Ask::Send(m, s, c, f), Ask::Send(n, t, d, g)) => {
+                *m == *n && *s == *t && *c == *d && *f == *g
+            }
+            (Ask::Do(m, s, c), Ask::Do(n, t, d)) => *m == *n && *s == *t && *c == *d,
+            (Ask::Reply(m, e, r), Ask::Reply(n, f, s)) => *m == *n && *e == *f && *r == *s,
+            (Ask::Abort(m), Ask::Abort(n)) => *m == *n,
+            (Ask::IsAborted(m), Ask::IsAborted(n)) => *m == *n,
+            (Ask::DropMsg(m), Ask::DropMsg(n)) => *m == *n,
+            (Ask::GetPort, Ask::GetPort) => true,
+            (Ask::WaitPort, Ask::WaitPort) => true,
+            (Ask::Yield, Ask::Yield) => true,
+            (Ask::Exit, Ask::Exit) => true,
+            (Ask::Fail(m), Ask::Fail(n)) => *m == *n,
+            _ => false,
+        }
+    }
 }
 
 /// An item of a message port.

@@ -1,3 +1,5 @@
+ghost use Rattle.std.specs.Prelude.{◌≡◌, ◌↔◌, IsTrue};
+
 use crate::blobs::Blob;
 use crate::names::MsgId;
 use crate::records::Call;
@@ -23,4 +25,17 @@ pub enum Entry {
     Refused(u8),
     /// An assertion of its program that didn't hold: its number among the thread's assertions.
     Failed(u32),
+}
+
+impl Entry {
+    /// Whether the other is the same entry.
+    pub fn is_same(&self, other: &Entry) -> bool
+        ensures { IsTrue result ↔ (self.now ≡ other.now) }
+    {
+        match (self, other) {
+            (Entry::Bytes(a), Entry::Bytes(b)) => a.is_same(b),
+            (Entry::Bytes(_), _) | (_, Entry::Bytes(_)) => false,
+            _ => *self == *other,
+        }
+    }
 }

@@ -45,6 +45,16 @@ impl TokList {
         }
     }
 
+    /// The same list once more.
+    pub fn copied(&self) -> TokList
+        ensures { result ≡ self.now }
+    {
+        TokList {
+            items: self.items,
+            count: self.count,
+        }
+    }
+
     /// The references, the first acquired first.
     pub fn refs(&self) -> &[Ref]
         ensures value { result.now ≡ self.now }

@@ -1,32 +1,10 @@
 // Whether two steps are the same.
 ghost use Rattle.std.specs.Prelude.{◌≡◌, IsTrue};
-ghost use Rattle.lwkt_base.specs.declared.asks.Ask.TheVariants.{WriteBlob};
 ghost use Rattle.lwkt_code.specs.Trees.{term_of, formula_of};
 
-use lwkt_base::{Ask, Blob, TokId};
 use lwkt_code::{
     Comparison, Cond, CondTree, Expr, ExprTree, Operand, Operator, Places, Step, Wish,
 };
-
-// Whether an ask stores this record in this token.
-fn is_storing(ask: &Ask, tok: TokId, blob: &Blob) -> bool
-    ensures { IsTrue result → ask.now ≡ WriteBlob tok blob.now }
-{
-    match ask {
-        Ask::WriteBlob(other, stored) => *other == tok && stored.is_same(blob),
-        _ => false,
-    }
-}
-
-// Whether two asks are the same.
-fn same_ask(one: &Ask, other: &Ask) -> bool
-    ensures { IsTrue result → one.now ≡ other.now }
-{
-    match one {
-        Ask::WriteBlob(tok, blob) => is_storing(other, *tok, blob),
-        _ => *one == *other,
-    }
-}
 
 fn same_operator(one: Operator, other: Operator) -> bool
     ensures { IsTrue result → one ≡ other }
@@ -165,7 +143,7 @@ fn same_step(one: &Step, other: &Step) -> bool
     ensures { IsTrue result → one.now ≡ other.now }
 {
     match (one, other) {
-        (Step::Fixed(a), Step::Fixed(b)) => same_ask(a, b),
+        (Step::Fixed(a), Step::Fixed(b)) => a.is_same(b),
         (Step::Make(a, p), Step::Make(b, q)) => same_wish(a, b) && same_places(*p, *q),
         (Step::Set(v, e), Step::Set(w, f)) => *v == *w && same_expr(e, f),
         (Step::Fault(v), Step::Fault(w)) => *v == *w,

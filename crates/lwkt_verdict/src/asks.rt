@@ -1,8 +1,7 @@
-ghost use Rattle.std.specs.Prelude.{◌≡◌, ◌==◌, ◌↔◌, IsTrue};
-ghost use Rattle.lwkt_base.specs.declared.asks.Ask.TheVariants.{WriteBlob, Fail};
+ghost use Rattle.std.specs.Prelude.{◌≡◌, ◌==◌};
 ghost use Rattle.lwkt_verdict.specs.Asks.{refusals, may_refuse, may_be_done, may_give_value, may_give_bytes, may_drop, is_reply_to, may_give_item, may_find_nothing, may_answer, makes_event, is_do, is_exit, is_fail, is_end, may_wait, may_block};
 
-use lwkt_base::{Answer, Ask, Blob, Item, TokId};
+use lwkt_base::{Answer, Ask, Item};
 
 // The numbers of the faults with which an ask can be refused.
 fn refusals(ask: &Ask) -> &'static [u8]
@@ -189,44 +188,4 @@ pub fn may_block(ask: &Ask) -> bool
         ask,
         Ask::Get(_) | Ask::GetShared(_) | Ask::Do(..) | Ask::WaitPort | Ask::Yield
     )
-}
-
-// Whether an ask stores this record in this token.
-fn is_storing(ask: &Ask, tok: TokId, blob: &Blob) -> bool
-    ensures { IsTrue result ↔ (ask.now ≡ WriteBlob tok blob.now) }
-{
-    match ask {
-        Ask::WriteBlob(other, stored) => *other == tok && stored.is_same(blob),
-        _ => false,
-    }
-}
-
-// Whether an ask is that to end by the assertion of this number.
-fn is_failing(ask: &Ask, number: u32) -> bool
-    ensures { IsTrue result ↔ (ask.now ≡ Fail number) }
-{
-    match ask {
-        Ask::Fail(other) => *other == number,
-        _ => false,
-    }
-}
-
-/// Whether two asks are one.
-pub fn is_same(one: &Ask, other: &Ask) -> bool
-    ensures { IsTrue result ↔ (one.now ≡ other.now) }
-{
-    match one {
-        Ask::WriteBlob(tok, blob) => is_storing(other, *tok, blob),
-        Ask::Fail(number) => is_failing(other, *number),
-        Ask::Get(_)
-        | Ask::GetShared(_)
-        | Ask::TryGet(_)
-        | Ask::Rel(_)
-        | Ask::Swap
-        | Ask::Read(..)
-        | Ask::Write(..)
-        | Ask::Add(..)
-        | Ask::ReadBlob(_) => *one == *other,
-        _ => *one == *other,
-    }
 }

@@ -11,10 +11,10 @@ ghost use Rattle.lwkt_base.specs.declared.asks.Ask.{Ask};
 ghost use Rattle.lwkt_verdict.specs.Followed.{unpolled, log_with, Hears, Moves, Asks, MayHear, MayAskNext, IsKept, MayRest, AllowsRest, MayNotRest, IsEnded, MayEnd};
 ghost use Rattle.lwkt_verdict.specs.TurnParts.{after_all, IsPartOf};
 
-use crate::asks::{is_same as is_same_ask, may_answer};
+use crate::asks::may_answer;
 use crate::expected::Expected;
 use crate::owns::has_blocked;
-use crate::progress::{is_same, may_end_after};
+use crate::progress::may_end_after;
 use crate::turn_parts::goes_by_ask;
 use lwkt_base::limits::LOG_LIMIT;
 use lwkt_base::memory::push;
@@ -157,7 +157,7 @@ fn are_same_below(log: &[Entry], other: &[Entry]) -> bool
     ensures { IsTrue result ↔ (log.now ≡ other.now) }
 {
     for at in 0..log.len() {
-        if !is_same(&log[at], &other[at]) {
+        if !log[at].is_same(&other[at]) {
             return false;
         }
     }
@@ -178,7 +178,7 @@ fn ends_with(log: &[Entry], entry: &Entry, whole: &[Entry]) -> bool
 {
     match whole {
         [] => false,
-        [front @ .., last] => are_same(log, front) && is_same(entry, last),
+        [front @ .., last] => are_same(log, front) && entry.is_same(last),
     }
 }
 
@@ -230,7 +230,7 @@ fn is_next_any(code: &Code, local: &mut Local, told: &Answer, asked: &Ask) -> bo
     ensures moves { IsTrue result → local.new ≡ (next code.now.steps local.old told.now).1 }
     ensures declines { result ≡ false → asked.now ≢ (next code.now.steps local.old told.now).0 }
 {
-    is_same_ask(&code.next(local, told), asked)
+    code.next(local, told).is_same(asked)
 }
 
 // The same. An ask that stands where the thread stands is compared there.
@@ -242,7 +242,7 @@ fn is_next(code: &Code, local: &mut Local, told: &Answer, asked: &Ask) -> bool
 {
     match code.pass(local, told) {
         None => is_next_any(code, local, told, asked),
-        Some(ask) => is_same_ask(ask, asked),
+        Some(ask) => ask.is_same(asked),
     }
 }
 

@@ -1,11 +1,10 @@
-ghost use Rattle.std.specs.Prelude.{◌≡◌, ◌↔◌, IsTrue, None};
-ghost use Rattle.lwkt_base.specs.declared.entries.Entry.TheVariants.{Bytes};
+ghost use Rattle.std.specs.Prelude.{◌≡◌, None};
 ghost use Rattle.lwkt_verdict.specs.Threads.{may_fault, may_end_after};
 
 use crate::asks::{is_end, is_exit, is_fail, may_block, may_wait};
 use crate::turns::Poll;
 use lwkt_base::limits::LOG_LIMIT;
-use lwkt_base::{Answer, Ask, Blob, Entry, ThreadState};
+use lwkt_base::{Answer, Ask, ThreadState};
 use lwkt_code::Local;
 
 /// An ask of a thread, its answer, if it has one, and whether its part of the trace shows that it blocked the thread. Only proofs have
@@ -38,26 +37,6 @@ pub struct Piece {
     pub poll: Option<Poll>,
     /// Whether its part of the trace shows that the thread blocked.
     pub blocked: bool,
-}
-
-// Whether an entry is that of this record.
-fn is_of_record(entry: &Entry, blob: &Blob) -> bool
-    ensures { IsTrue result ↔ (entry.now ≡ Bytes blob.now) }
-{
-    match entry {
-        Entry::Bytes(kept) => kept.is_same(blob),
-        _ => false,
-    }
-}
-
-/// Whether two entries are one.
-pub fn is_same(one: &Entry, other: &Entry) -> bool
-    ensures { IsTrue result ↔ (one.now ≡ other.now) }
-{
-    match one {
-        Entry::Bytes(blob) => is_of_record(other, blob),
-        _ => *one == *other,
-    }
 }
 
 // Whether a fault can have ended a thread that was blocked by this ask.
