@@ -232,7 +232,7 @@ tryColors();
 same(["a".repeat(1048576), "\n".repeat(2999), "\r\n".repeat(2999), ""].map(scripts.longWords), [null, null, null, null], "texts that are short enough");
 same(["a".repeat(1048577), "\u00e4".repeat(524289)].map((it) => scripts.longWords(it).slice(0, 23)), Array(2).fill("more than 1048576 bytes"), "too many bytes");
 same(["\n", "\r", "\r\n"].map((it) => scripts.longWords(it.repeat(3000)).slice(0, 20)), Array(3).fill("more than 3000 lines"), "too many lines");
-same(["3 outcomes; 90 states, 133 turns; complete", "1 outcome; 1 state, 0 turns; a part (states)", "1 outcome; 2 states, 3 turns; a part"].map(orders.readSum).map((it) => [it.isComplete, it.bound]), [[true, null], [false, "states"], [false, null]], "how a search ended");
+same(["3 outcomes; 64 states, 89 turns; complete", "1 outcome; 1 state, 0 turns; a part (states)", "1 outcome; 2 states, 3 turns; a part"].map(orders.readSum).map((it) => [it.isComplete, it.bound]), [[true, null], [false, "states"], [false, null]], "how a search ended");
 // The table of what outcomes differ in: of any two outcomes some column differs, and each column has its values.
 function tryDifferences(script) {
   const { outcomes } = orders.readOrders(callProgram("lwkt_explore_orders", script, "64000 100000").text);
