@@ -145,7 +145,8 @@ active [CPUS] proctype processor() {
             :: else -> step(at[thread])
             fi
         fi;
-        forget()
+        forget();
+        skip /* (a d_step may not end with a loop) */
     }
     od
 }
