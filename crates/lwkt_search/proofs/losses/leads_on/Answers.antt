@@ -1,0 +1,11 @@
+use Rattle.std.proofs.Common.{ℕ, false, refl, below_more}
+use Rattle.lwkt_search.specs.Losses.{IsNext}
+use Rattle.lwkt_search.proofs.losses.leads_on.Goals as goal
+
+pub loop-cpu-preserved : goal.loop-cpu-preserved
+loop-cpu-preserved g c =
+    let P : ℕ → Type 0 = λ cpu. IsNext g.S.State.turn_of c.args.task.now.start c.args.growth.now.nodes.items c.args.reaches.now c.args.at cpu false in
+    record {
+      end = refl;
+      none = below_more P c.loop-cpu.cpu c.loop-cpu.invariant.none (record { place = c.next_of-next.result; there = c.next_of-next.ensures.there; leads = c.next_of-next.ensures.leads; is = c.if-reaches-next.false });
+    }
