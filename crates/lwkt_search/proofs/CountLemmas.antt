@@ -1,7 +1,6 @@
 use Rattle.std.proofs.Common.{◌≡◌, ◌≢◌, ℕ, ◌<◌, ◌≤◌, ◌⊎◌, inl, inr, zero, suc, length, arith, subst, sym, refl, ◌∙◌}
-use Rattle.lwkt_search.specs.declared.searches.Node.{Node}
 use Rattle.lwkt_search.specs.Runs.{run, CanReach, HasStates}
-use Rattle.lwkt_search.specs.Graphs.{IsSearch}
+use Rattle.lwkt_search.specs.Graphs.{Node, IsSearch}
 use Rattle.lwkt_search.proofs.RunLemmas.{IsReached, reached_from_start}
 
 same_or_not : (i j : ℕ) → (i ≡ j) ⊎ (i ≢ j)

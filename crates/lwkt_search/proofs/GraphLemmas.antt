@@ -1,10 +1,9 @@
-use Rattle.std.proofs.Common.{◌≡◌, ℕ, ◌+◌, ◌<◌, ◌≤◌, List, [], ◌∷◌, ◌++◌, ◌⊎◌, inl, inr, zero, suc, length, arith, ap, subst, sym, refl, ◌∙◌, below_more, length-append, All}
+use Rattle.std.proofs.Common.{◌≡◌, ℕ, ◌+◌, ◌<◌, ◌≤◌, List, [], ◌∷◌, ◌++◌, ◌⊎◌, inl, inr, zero, suc, length, arith, ap, subst, sym, refl, ◌∙◌, below_more, length-append}
 use Rattle.std.proofs.lemmas.List.{get_or_append_left}
 use Rattle.std.proofs.Math.Seq.{get_or-append_seam}
-use Rattle.lwkt_search.specs.declared.searches.Node.{Node}
 use Rattle.std.proofs.lemmas.List.Elements.{All-push}
 use Rattle.lwkt_search.specs.Runs.{run, CanReach, HasStates}
-use Rattle.lwkt_search.specs.Graphs.{node_at, IsLink, IsGraph, IsTried, IsSearch, IsSearchOf, IsLed, IsTurnAt, Grows, Differs}
+use Rattle.lwkt_search.specs.Graphs.{Node, node_at, IsLink, IsGraph, IsTried, IsSearch, IsSearchOf, IsTurnAt, Grows}
 
 -- what was tried stays so where more states are found
 pub tried_same : {S : Type 0} (turn : S → ℕ → S) (len more : ℕ) (node node' : ℕ → Node S) (i cpu : ℕ) → len ≤ more → ((k : ℕ) → k < len → node' k ≡ node k) → i < len → IsTried turn len node (node i) cpu → IsTried turn more node' (node' i) cpu
@@ -141,26 +140,21 @@ begin_search {S} turn start cpus =
       done = λ i h. absurd (omega arith);
     }
 
--- the node that a turn leads to, where its state is new
-pub kept_search : {S : Type 0} (turn : S → ℕ → S) (start : S) (cpus : ℕ) (nodes : List (Node S)) (node : Node S) (at cpu : ℕ) → IsSearchOf turn start cpus nodes at → at < length nodes → cpu < cpus → IsLed turn start nodes at cpu node → All (Differs node.state) nodes → IsSearchOf turn start cpus (nodes ++ node ∷ []) at
-kept_search {S} turn start cpus nodes node at cpu is there below led fresh =
-    let root : Node S = record { state = start; parent = 0; cpu = 0; depth = 0 } in
-    push_search turn start cpus nodes node at cpu is there below led.state led.parent led.by led.depth (λ k less eq. fresh k root less eq)
-
-pub kept_turn : {S : Type 0} (turn : S → ℕ → S) (start : S) (nodes : List (Node S)) (node : Node S) (at cpu : ℕ) → at < length nodes → IsLed turn start nodes at cpu node → IsTurnAt turn start (nodes ++ node ∷ []) at cpu (length nodes)
-kept_turn {S} turn start nodes node at cpu there led =
-    let list : List (Node S) = nodes ++ node ∷ [] in
-    let last : node_at start list (length nodes) ≡ node = pushed_at start nodes node in
-    let old : node_at start list at ≡ node_at start nodes at = (grows_push start nodes node).same at there in
+-- where the turn leads that led to the last node
+pub last_turn : {S : Type 0} (turn : S → ℕ → S) (start : S) (nodes : List (Node S)) (x : Node S) (at cpu : ℕ) → at < length nodes → x.state ≡ turn (node_at start nodes at).state cpu → x.depth ≡ (node_at start nodes at).depth + 1 → IsTurnAt turn start (nodes ++ x ∷ []) at cpu (length nodes)
+last_turn {S} turn start nodes x at cpu there state depth =
+    let list : List (Node S) = nodes ++ x ∷ [] in
+    let last : node_at start list (length nodes) ≡ x = pushed_at start nodes x in
+    let old : node_at start list at ≡ node_at start nodes at = (grows_push start nodes x).same at there in
     let L : Node S → Type 0 = λ y. (node_at start list (length nodes)).state ≡ turn y.state cpu in
     let M : Node S → Type 0 = λ y. y.state ≡ turn (node_at start nodes at).state cpu in
     let D : Node S → Type 0 = λ y. (node_at start list (length nodes)).depth ≤ y.depth + 1 in
     let E : Node S → Type 0 = λ y. y.depth ≤ (node_at start nodes at).depth + 1 in
-    let deep : node.depth ≤ (node_at start nodes at).depth + 1 = omega (arith, led.depth) in
-    let long : length list ≡ length nodes + 1 = length-append nodes (node ∷ []) in
+    let deep : x.depth ≤ (node_at start nodes at).depth + 1 = omega (arith, depth) in
+    let long : length list ≡ length nodes + 1 = length-append nodes (x ∷ []) in
     record {
       there = omega (arith, long);
-      leads = subst L (sym old) (subst M (sym last) led.state);
+      leads = subst L (sym old) (subst M (sym last) state);
       depth = subst D (sym old) (subst E (sym last) deep);
     }
 
@@ -202,12 +196,3 @@ has_states {S} turn start cpus len node count g few = record {
   reached = λ k h. let h2 : k < len = omega arith in let low : k ≤ k = omega arith in reaches_node turn start cpus len node k k g low h2;
   distinct = λ i j less h. let h2 : j < len = omega arith in g.distinct i j less h2;
 }
-
--- where a turn leads to a new state that isn't kept, there are more states than are kept
-pub crowded : {S : Type 0} (turn : S → ℕ → S) (start : S) (cpus : ℕ) (nodes : List (Node S)) (node : Node S) (at cpu bound : ℕ) → IsSearchOf turn start cpus nodes at → at < length nodes → cpu < cpus → IsLed turn start nodes at cpu node → All (Differs node.state) nodes → bound ≤ length nodes → HasStates turn cpus start (bound + 1)
-crowded {S} turn start cpus nodes node at cpu bound is there below led fresh full =
-    let list : List (Node S) = nodes ++ node ∷ [] in
-    let long : length list ≡ length nodes + 1 = length-append nodes (node ∷ []) in
-    let s : IsSearchOf turn start cpus list at = kept_search turn start cpus nodes node at cpu is there below led fresh in
-    let few : bound + 1 ≤ length list = omega arith in
-    has_states turn start cpus (length list) (node_at start list) (bound + 1) s.graph few

@@ -1,11 +1,11 @@
-use Rattle.std.proofs.Common.{◌≡◌, ◌≢◌, ℕ, ◌+◌, ◌*◌, ◌<◌, ◌≤◌, List, [], ◌∷◌, ◌++◌, length, arith, subst, sym, refl, ◌∙◌, below_more, length-append, Option, None, Some, true, All, HoldsAt, MatchOption, slice_index_or}
+use Rattle.std.proofs.Common.{◌≡◌, ◌≢◌, ℕ, ◌+◌, ◌*◌, ◌<◌, ◌≤◌, List, [], ◌∷◌, ◌++◌, length, arith, subst, sym, refl, ◌∙◌, below_more, length-append, ap, slice_index_or, inl, inr}
 use Rattle.std.proofs.lemmas.List.{get_or_append_left, get_or_push}
 use Rattle.std.proofs.Math.Nat.{add-mul}
-use Rattle.std.specs.Option.{is_some, unwrap_or}
-use Rattle.lwkt_search.specs.declared.searches.Node.{Node}
 use Rattle.lwkt_search.specs.Runs.{IsQuiet}
-use Rattle.lwkt_search.specs.Graphs.{node_at, IsGraphOf, IsSearchOf, IsTriedOf, IsLed, IsTurnAt, IsInRow, IsGrownTo, Grows, Differs}
-use Rattle.lwkt_search.proofs.GraphLemmas.{begin_search, grows_push, kept_search, kept_turn, next_search}
+use Rattle.lwkt_search.specs.Graphs.{Node, node_at, nodes_of, IsSeen, IsNew, IsTurned, IsGraphOf, IsSearchOf, IsTriedOf, IsTurnAt, IsInRow, IsGrownTo, Grows}
+use Rattle.lwkt_search.proofs.GraphLemmas.{begin_search, grows_push, push_search, last_turn, next_search}
+use Rattle.lwkt_search.proofs.NodeLemmas.{node_by, nodes_long, nodes_push, node_state, node_depth}
+use Rattle.lwkt_search.specs.declared.searches.Link.{Link}
 use Rattle.lwkt_search.proofs.RunLemmas.{same_place}
 
 -- where a turn leads stays so where more states are found
@@ -82,42 +82,73 @@ row_done {S} turn start cpus nodes next at below all there was =
     }
 
 -- a list of the start alone
-pub begin_grown : {S : Type 0} (turn : S → ℕ → S) (start : S) (cpus : ℕ) (nodes : List (Node S)) (next : List ℕ) → nodes ≡ node_at start [] 0 ∷ [] → next ≡ [] → IsGrownTo turn start cpus nodes next 0 0
-begin_grown {S} turn start cpus nodes next first none =
-    let root : Node S = record { state = start; parent = 0; cpu = 0; depth = 0 } in
-    let F : List (Node S) → Type 0 = λ xs. IsSearchOf turn start cpus xs 0 in
+pub begin_grown : {S : Type 0} (turn : S → ℕ → S) (start : S) (cpus : ℕ) (kept : List S) (links : List Link) (next : List ℕ) → kept ≡ start ∷ [] → links ≡ (record { parent = 0; cpu = 0; depth = 0 }) ∷ [] → next ≡ [] → IsGrownTo turn start cpus (nodes_of kept links) next 0 0
+begin_grown {S} turn start cpus kept links next first one none =
+    let F : List S → Type 0 = λ xs. IsSearchOf turn start cpus (nodes_of xs links) 0 in
+    let G : List Link → Type 0 = λ ls. IsSearchOf turn start cpus (nodes_of (start ∷ []) ls) 0 in
     let L : List ℕ → Type 0 = λ xs. length xs ≡ 0 * cpus + 0 in
     let zero_long : 0 ≡ 0 * cpus + 0 = omega arith in
     record {
       grown = record {
-        search = subst F (sym first) (begin_search turn start cpus);
+        search = subst F (sym first) (subst G (sym one) (begin_search turn start cpus));
         rows = λ i h cpu below. absurd (omega arith);
       };
       long = subst L (sym none) zero_long;
       row = λ cpu h. absurd (omega arith);
     }
 
--- a turn that leads to a state that was found before
-pub seen_row : {S : Type 0} (turn : S → ℕ → S) (start : S) (cpus : ℕ) (nodes seen : List (Node S)) (next next' : List ℕ) (at cpu place : ℕ) (node : Node S) (found : Option ℕ) → IsGrownTo turn start cpus nodes next at cpu → at < length nodes → seen ≡ nodes → IsLed turn start seen at cpu node → true ≡ is_some found → MatchOption found (All (Differs node.state) seen) (λ k. (k < length seen) × HoldsAt (λ (x : Node S). x.state ≡ node.state) seen k) → place ≡ unwrap_or found 0 → next' ≡ next ++ place ∷ [] → IsGrownTo turn start cpus nodes next' at (cpu + 1)
-seen_row {S} turn start cpus nodes seen next next' at cpu place node None was there same led is_found m found_at pushed = cc
-seen_row {S} turn start cpus nodes seen next next' at cpu place node (Some k) was there same led is_found m found_at pushed =
-    let root : Node S = record { state = start; parent = 0; cpu = 0; depth = 0 } in
+-- a turn leads to a state that was kept before exactly if that one's number is below their number
+pub turned_low : {S : Type 0} (turn : S → ℕ → S) (old new : List S) (at cpu place : ℕ) → IsTurned turn old new at cpu place → place < length old → IsSeen turn old new at cpu place
+turned_low turn old new at cpu place (inl seen) low = seen
+turned_low turn old new at cpu place (inr fresh) low = let last = fresh.last in absurd (omega arith)
+
+pub turned_last : {S : Type 0} (turn : S → ℕ → S) (old new : List S) (at cpu place : ℕ) → IsTurned turn old new at cpu place → length old ≤ place → IsNew turn old new at cpu place
+turned_last turn old new at cpu place (inl seen) high = let there = seen.there in absurd (omega arith)
+turned_last turn old new at cpu place (inr fresh) high = fresh
+
+-- a turn that leads to a state that was kept before
+pub seen_row : {S : Type 0} (turn : S → ℕ → S) (start : S) (cpus : ℕ) (old new : List S) (links : List Link) (next next' : List ℕ) (at cpu place : ℕ) → IsGrownTo turn start cpus (nodes_of old links) next at cpu → length links ≡ length old → at < length links → IsSeen turn old new at cpu place → next' ≡ next ++ place ∷ [] → IsGrownTo turn start cpus (nodes_of new links) next' at (cpu + 1)
+seen_row {S} turn start cpus old new links next next' at cpu place was long there seen pushed =
+    let nodes : List (Node S) = nodes_of old links in
+    let count : length nodes ≡ length old = nodes_long old links long in
     let stay : Grows start nodes nodes = record { longer = omega arith; same = λ j h. refl } in
-    let T : List (Node S) → Type 0 = λ xs. (k < length xs) × ((node_at start xs k).state ≡ turn (node_at start xs at).state cpu) in
-    let there_seen : (k < length seen) × ((node_at start seen k).state ≡ turn (node_at start seen at).state cpu) = (m.0, m.1 root ∙ led.state) in
-    let t : (k < length nodes) × ((node_at start nodes k).state ≡ turn (node_at start nodes at).state cpu) = subst T same there_seen in
-    let is : IsTurnAt turn start nodes at cpu k = record { there = t.0; leads = t.1; depth = was.grown.search.near k t.0 there } in
-    let P : ℕ → Type 0 = λ n. IsTurnAt turn start nodes at cpu n in
-    row_more turn start cpus nodes nodes next next' at cpu place stay there was.grown.search was (subst P (sym found_at) is) pushed
+    let inside : place < length nodes = omega (arith, count, seen.there) in
+    let here : at < length nodes = omega (arith, count, long) in
+    let low : at < length old = omega arith in
+    let one : (node_at start nodes place).state ≡ slice_index_or old place start = node_state start old links place long seen.there in
+    let other : (node_at start nodes at).state ≡ slice_index_or old at start = node_state start old links at long low in
+    let is : IsTurnAt turn start nodes at cpu place = record {
+      there = inside;
+      leads = one ∙ (seen.leads start ∙ ap (λ (s : S). turn s cpu) (sym other));
+      depth = was.grown.search.near place inside here;
+    }
+    in
+    let F : List S → Type 0 = λ xs. IsGrownTo turn start cpus (nodes_of xs links) next' at (cpu + 1) in
+    subst F (sym seen.same) (row_more turn start cpus nodes nodes next next' at cpu place stay here was.grown.search was is pushed)
 
 -- a turn that leads to a new state
-pub kept_row : {S : Type 0} (turn : S → ℕ → S) (start : S) (cpus : ℕ) (nodes new : List (Node S)) (next next' : List ℕ) (at cpu place : ℕ) (node : Node S) → IsGrownTo turn start cpus nodes next at cpu → at < length nodes → cpu < cpus → IsLed turn start nodes at cpu node → All (Differs node.state) nodes → new ≡ nodes ++ node ∷ [] → place ≡ length nodes → next' ≡ next ++ place ∷ [] → IsGrownTo turn start cpus new next' at (cpu + 1)
-kept_row {S} turn start cpus nodes new next next' at cpu place node was there below led fresh grown last pushed =
-    let list : List (Node S) = nodes ++ node ∷ [] in
+pub new_row : {S : Type 0} (turn : S → ℕ → S) (start : S) (cpus : ℕ) (old new : List S) (links links' : List Link) (next next' : List ℕ) (at cpu place : ℕ) (link : Link) → IsGrownTo turn start cpus (nodes_of old links) next at cpu → length links ≡ length old → at < length links → cpu < cpus → IsNew turn old new at cpu place → link.parent ≡ at → link.cpu ≡ cpu → ((d : Link) → link.depth ≡ (slice_index_or links at d).depth + 1) → links' ≡ links ++ link ∷ [] → next' ≡ next ++ place ∷ [] → IsGrownTo turn start cpus (nodes_of new links') next' at (cpu + 1)
+new_row {S} turn start cpus old new links links' next next' at cpu place link was long there below is parent by deep grown pushed =
+    let nodes : List (Node S) = nodes_of old links in
+    let x : Node S = node_by is.state link in
+    let list : List (Node S) = nodes ++ x ∷ [] in
+    let count : length nodes ≡ length old = nodes_long old links long in
+    let here : at < length nodes = omega (arith, count, long) in
+    let low : at < length old = omega arith in
+    let last : place ≡ length nodes = omega (arith, count, is.last) in
+    let at_state : (node_at start nodes at).state ≡ slice_index_or old at start = node_state start old links at long low in
+    let at_depth : (node_at start nodes at).depth ≡ (slice_index_or links at link).depth = node_depth start old links at link long low in
+    let state : x.state ≡ turn (node_at start nodes at).state cpu = is.leads start ∙ ap (λ (s : S). turn s cpu) (sym at_state) in
+    let depth : x.depth ≡ (node_at start nodes at).depth + 1 = deep link ∙ ap (λ n. n + 1) (sym at_depth) in
+    let search : IsSearchOf turn start cpus list at = push_search turn start cpus nodes x at cpu was.grown.search here below state parent by depth (λ k h e.
+    let under : k < length old = omega (arith, count, h) in
+    is.fresh k under start (sym (node_state start old links k long under) ∙ e))
+    in
     let P : ℕ → Type 0 = λ n. IsTurnAt turn start list at cpu n in
     let F : List (Node S) → Type 0 = λ xs. IsGrownTo turn start cpus xs next' at (cpu + 1) in
-    let search : IsSearchOf turn start cpus list at = kept_search turn start cpus nodes node at cpu was.grown.search there below led fresh in
-    subst F (sym grown) (row_more turn start cpus nodes list next next' at cpu place (grows_push start nodes node) there search was (subst P (sym last) (kept_turn turn start nodes node at cpu there led)) pushed)
+    let G : List S → Type 0 = λ xs. IsGrownTo turn start cpus (nodes_of xs links') next' at (cpu + 1) in
+    let H : List Link → Type 0 = λ ls. IsGrownTo turn start cpus (nodes_of (old ++ is.state ∷ []) ls) next' at (cpu + 1) in
+    subst G (sym is.grown) (subst H (sym grown) (subst F (sym (nodes_push old links is.state link long)) (row_more turn start cpus nodes list next next' at cpu place (grows_push start nodes x) here search was (subst P (sym last) (last_turn turn start nodes x at cpu here state depth)) pushed)))
 
 -- a turn that leads back to its state doesn't change it
 pub stays : {S : Type 0} (turn : S → ℕ → S) (start : S) (nodes : List (Node S)) (at cpu next : ℕ) → IsTurnAt turn start nodes at cpu next → next ≡ at → turn (node_at start nodes at).state cpu ≡ (node_at start nodes at).state

@@ -1,11 +1,9 @@
-use Rattle.std.proofs.Common.{◌≡◌, ℕ, ◌+◌, ◌<◌, ◌≤◌, List, [], ◌∷◌, ◌++◌, ◌⊎◌, inl, inr, length, arith, ap, subst, sym, refl, ◌∙◌, slice_index_or, Bool, IsTrue, below_more}
-use Rattle.std.proofs.lemmas.List.Elements.{All-head, All-tail, All-push}
-use Rattle.std.proofs.lemmas.List.{get_or_append_left, get_or_read, length-append}
+use Rattle.std.proofs.Common.{◌≡◌, ℕ, ◌+◌, ◌<◌, ◌≤◌, List, [], ◌∷◌, ◌++◌, ◌⊎◌, inl, inr, length, arith, ap, subst, sym, refl, ◌∙◌, slice_index_or, Bool, IsTrue, below_more, reverse}
+use Rattle.std.proofs.lemmas.List.Elements.{All-head, All-tail, All-push, All-cons}
+use Rattle.std.proofs.lemmas.List.{get_or_append_left, length-append, reverse-append}
 use Rattle.std.proofs.Math.Seq.{get_or-append_seam}
-use Rattle.lwkt_search.specs.declared.searches.Node.{Node}
-use Rattle.lwkt_search.specs.declared.searches.Outcome.{Outcome}
-use Rattle.lwkt_search.specs.Runs.{run, IsOrder, IsQuiet, IsOutcome, IsShortest, HasOutcome}
-use Rattle.lwkt_search.specs.Graphs.{node_at, IsGraph, IsGraphOf, IsTried, IsSearch, IsSearchOf, IsTold, IsCollected, IsFrom, IsSpread}
+use Rattle.lwkt_search.specs.Runs.{Told, run, IsOrder, IsQuiet, IsOutcome, IsShortest, HasOutcome}
+use Rattle.lwkt_search.specs.Graphs.{Node, node_at, IsGraph, IsGraphOf, IsTried, IsSearch, IsSearchOf, IsTold, IsCollected, IsFrom, IsSpread}
 
 -- a state that was found, at most so deep
 pub record IsReached {S : Type 0} (len : ℕ) (node : ℕ → Node S) (state : S) (most : ℕ) : Type 0 where
@@ -51,17 +49,17 @@ no_shorter {S} turn start cpus len node k order is h below e =
     subst F at r.depth
 
 -- an outcome stays one where another comes to the list
-pub has_push : {S : Type 0} (state : S) (outcomes : List (Outcome S)) (last : Outcome S) → HasOutcome state outcomes → HasOutcome state (outcomes ++ last ∷ [])
+pub has_push : {S : Type 0} (state : S) (outcomes : List (Told S)) (last : Told S) → HasOutcome state outcomes → HasOutcome state (outcomes ++ last ∷ [])
 has_push {S} state outcomes last has =
-    let P : Outcome S → Type 0 = λ o. o.state ≡ state in
+    let P : Told S → Type 0 = λ o. o.state ≡ state in
     let long : length (outcomes ++ last ∷ []) ≡ length outcomes + 1 = length-append outcomes (last ∷ []) in
     let h : has.0 < length outcomes = has.1 in
     (has.0, omega (arith, long, h), λ d. subst P (sym (get_or_append_left outcomes (last ∷ []) d has.0 h)) (has.2 d))
 
 -- and so is the last
-pub has_last : {S : Type 0} (state : S) (outcomes : List (Outcome S)) (last : Outcome S) → last.state ≡ state → HasOutcome state (outcomes ++ last ∷ [])
+pub has_last : {S : Type 0} (state : S) (outcomes : List (Told S)) (last : Told S) → last.state ≡ state → HasOutcome state (outcomes ++ last ∷ [])
 has_last {S} state outcomes last is =
-    let P : Outcome S → Type 0 = λ o. o.state ≡ state in
+    let P : Told S → Type 0 = λ o. o.state ≡ state in
     let long : length (outcomes ++ last ∷ []) ≡ length outcomes + 1 = length-append outcomes (last ∷ []) in
     (length outcomes, omega (arith, long), λ d. subst P (sym (get_or-append_seam outcomes last [] d)) is)
 
@@ -72,13 +70,13 @@ is_whole turn start cpus nodes gone_on is all =
     subst F all is
 
 -- one more state, at the next place
-pub spread_more : {S : Type 0} (turn : S → ℕ → S) (start : S) (cpus : ℕ) (nodes : List (Node S)) (outcomes : List (Outcome S)) (at : ℕ) (last : Outcome S) → IsGraphOf turn start cpus nodes → at < length nodes → IsSpread start nodes outcomes at → last.state ≡ (node_at start nodes at).state → IsSpread start nodes (outcomes ++ last ∷ []) (at + 1)
+pub spread_more : {S : Type 0} (turn : S → ℕ → S) (start : S) (cpus : ℕ) (nodes : List (Node S)) (outcomes : List (Told S)) (at : ℕ) (last : Told S) → IsGraphOf turn start cpus nodes → at < length nodes → IsSpread start nodes outcomes at → last.state ≡ (node_at start nodes at).state → IsSpread start nodes (outcomes ++ last ∷ []) (at + 1)
 spread_more {S} turn start cpus nodes outcomes at last graph there was state =
-    let new : List (Outcome S) = outcomes ++ last ∷ [] in
+    let new : List (Told S) = outcomes ++ last ∷ [] in
     let long : length new ≡ length outcomes + 1 = length-append outcomes (last ∷ []) in
-    let left : (k : ℕ) → k < length outcomes → (d : Outcome S) → (slice_index_or new k d).state ≡ (slice_index_or outcomes k d).state = λ k h d. ap (λ (o : Outcome S). o.state) (get_or_append_left outcomes (last ∷ []) d k h) in
-    let seam : (d : Outcome S) → (slice_index_or new (length outcomes) d).state ≡ last.state = λ d. ap (λ (o : Outcome S). o.state) (get_or-append_seam outcomes last [] d) in
-    let A : ℕ → Type 0 = λ j. (i : ℕ) → i < j → (d : Outcome S) → (slice_index_or new i d).state ≡ (slice_index_or new j d).state → ⊥ in
+    let left : (k : ℕ) → k < length outcomes → (d : Told S) → (slice_index_or new k d).state ≡ (slice_index_or outcomes k d).state = λ k h d. ap (λ (o : Told S). o.state) (get_or_append_left outcomes (last ∷ []) d k h) in
+    let seam : (d : Told S) → (slice_index_or new (length outcomes) d).state ≡ last.state = λ d. ap (λ (o : Told S). o.state) (get_or-append_seam outcomes last [] d) in
+    let A : ℕ → Type 0 = λ j. (i : ℕ) → i < j → (d : Told S) → (slice_index_or new i d).state ≡ (slice_index_or new j d).state → ⊥ in
     let old : (j : ℕ) → j < length outcomes → A j = λ j h i less d e.
     let h2 : i < length outcomes = omega arith in
     was.apart i j less h d (sym (left i h2 d) ∙ (e ∙ left j h d))
@@ -99,20 +97,20 @@ spread_more {S} turn start cpus nodes outcomes at last graph there was state =
     }
 
 -- no more states, at the next place
-pub spread_less : {S : Type 0} (start : S) (nodes : List (Node S)) (outcomes : List (Outcome S)) (at : ℕ) → IsSpread start nodes outcomes at → IsSpread start nodes outcomes (at + 1)
+pub spread_less : {S : Type 0} (start : S) (nodes : List (Node S)) (outcomes : List (Told S)) (at : ℕ) → IsSpread start nodes outcomes at → IsSpread start nodes outcomes (at + 1)
 spread_less {S} start nodes outcomes at was = record {
   apart = was.apart;
   from = λ k h. let f : IsFrom start nodes outcomes at k = was.from k h in record { place = f.place; before = omega (arith, f.before); is = f.is };
 }
 
 -- one more outcome
-pub collect_more : {S : Type 0} (turn : S → ℕ → S) (start : S) (cpus : ℕ) (nodes : List (Node S)) (is_complete : Bool) (outcomes new : List (Outcome S)) (at : ℕ) (last : Outcome S) → IsCollected turn start cpus nodes is_complete outcomes at → at < length nodes → IsGraphOf turn start cpus nodes → (IsTrue is_complete → IsSearchOf turn start cpus nodes (length nodes)) → IsTold turn start cpus nodes at last → IsQuiet turn cpus (node_at start nodes at).state → new ≡ outcomes ++ last ∷ [] → IsCollected turn start cpus nodes is_complete new (at + 1)
+pub collect_more : {S : Type 0} (turn : S → ℕ → S) (start : S) (cpus : ℕ) (nodes : List (Node S)) (is_complete : Bool) (outcomes new : List (Told S)) (at : ℕ) (last : Told S) → IsCollected turn start cpus nodes is_complete outcomes at → at < length nodes → IsGraphOf turn start cpus nodes → (IsTrue is_complete → IsSearchOf turn start cpus nodes (length nodes)) → IsTold turn start cpus nodes at last → IsQuiet turn cpus (node_at start nodes at).state → new ≡ outcomes ++ last ∷ [] → IsCollected turn start cpus nodes is_complete new (at + 1)
 collect_more {S} turn start cpus nodes is_complete outcomes new at last was there graph search told quiet pushed =
-    let O : Outcome S → Type 0 = λ outcome. IsOutcome turn cpus start outcome in
-    let H : Outcome S → Type 0 = λ outcome. IsShortest turn cpus start outcome in
+    let O : Told S → Type 0 = λ outcome. IsOutcome turn cpus start outcome in
+    let H : Told S → Type 0 = λ outcome. IsShortest turn cpus start outcome in
     let Q : S → Type 0 = λ s. IsQuiet turn cpus s in
     let E : ℕ → Type 0 = λ k. IsQuiet turn cpus (node_at start nodes k).state → HasOutcome (node_at start nodes k).state (outcomes ++ last ∷ []) in
-    let F : List (Outcome S) → Type 0 = λ xs. IsCollected turn start cpus nodes is_complete xs (at + 1) in
+    let F : List (Told S) → Type 0 = λ xs. IsCollected turn start cpus nodes is_complete xs (at + 1) in
     let one : IsOutcome turn cpus start last = record { order = told.order; leads = told.leads ∙ sym told.state; quiet = subst Q (sym told.state) quiet } in
     subst F (sym pushed) (record {
       sound = All-push O outcomes last was.sound one;
@@ -123,17 +121,11 @@ collect_more {S} turn start cpus nodes is_complete outcomes new at last was ther
       spread = spread_more turn start cpus nodes outcomes at last graph there was.spread told.state;
     })
 
--- the same, by the list that the outcome was read from
-pub collect_seen : {S : Type 0} (turn : S → ℕ → S) (start : S) (cpus : ℕ) (nodes seen : List (Node S)) (is_complete : Bool) (outcomes new : List (Outcome S)) (at : ℕ) (last : Outcome S) → IsCollected turn start cpus nodes is_complete outcomes at → at < length nodes → IsGraphOf turn start cpus nodes → (IsTrue is_complete → IsSearchOf turn start cpus nodes (length nodes)) → seen ≡ nodes → IsTold turn start cpus seen at last → IsQuiet turn cpus (node_at start nodes at).state → new ≡ outcomes ++ last ∷ [] → IsCollected turn start cpus nodes is_complete new (at + 1)
-collect_seen {S} turn start cpus nodes seen is_complete outcomes new at last was there graph search same told quiet pushed =
-    let T : List (Node S) → Type 0 = λ xs. IsTold turn start cpus xs at last in
-    collect_more turn start cpus nodes is_complete outcomes new at last was there graph search (subst T same told) quiet pushed
-
 -- a state that is no outcome
-pub collect_less : {S : Type 0} (turn : S → ℕ → S) (start : S) (cpus : ℕ) (nodes : List (Node S)) (is_complete : Bool) (outcomes new : List (Outcome S)) (at : ℕ) → IsCollected turn start cpus nodes is_complete outcomes at → (IsQuiet turn cpus (node_at start nodes at).state → ⊥) → new ≡ outcomes → IsCollected turn start cpus nodes is_complete new (at + 1)
+pub collect_less : {S : Type 0} (turn : S → ℕ → S) (start : S) (cpus : ℕ) (nodes : List (Node S)) (is_complete : Bool) (outcomes new : List (Told S)) (at : ℕ) → IsCollected turn start cpus nodes is_complete outcomes at → (IsQuiet turn cpus (node_at start nodes at).state → ⊥) → new ≡ outcomes → IsCollected turn start cpus nodes is_complete new (at + 1)
 collect_less {S} turn start cpus nodes is_complete outcomes new at was loud kept =
     let E : ℕ → Type 0 = λ k. IsQuiet turn cpus (node_at start nodes k).state → HasOutcome (node_at start nodes k).state outcomes in
-    let F : List (Outcome S) → Type 0 = λ xs. IsCollected turn start cpus nodes is_complete xs (at + 1) in
+    let F : List (Told S) → Type 0 = λ xs. IsCollected turn start cpus nodes is_complete xs (at + 1) in
     subst F (sym kept) (record {
       sound = was.sound;
       each = below_more E at was.each (λ q. absurd (loud q));
@@ -142,7 +134,7 @@ collect_less {S} turn start cpus nodes is_complete outcomes new at was loud kept
     })
 
 -- each order that leads to a quiet state leads to an outcome
-pub all_collected : {S : Type 0} (turn : S → ℕ → S) (start : S) (cpus : ℕ) (nodes : List (Node S)) (is_complete : Bool) (outcomes : List (Outcome S)) (at : ℕ) → IsSearchOf turn start cpus nodes (length nodes) → IsCollected turn start cpus nodes is_complete outcomes at → length nodes ≤ at → (order : List ℕ) → IsOrder cpus order → IsQuiet turn cpus (run turn start order) → HasOutcome (run turn start order) outcomes
+pub all_collected : {S : Type 0} (turn : S → ℕ → S) (start : S) (cpus : ℕ) (nodes : List (Node S)) (is_complete : Bool) (outcomes : List (Told S)) (at : ℕ) → IsSearchOf turn start cpus nodes (length nodes) → IsCollected turn start cpus nodes is_complete outcomes at → length nodes ≤ at → (order : List ℕ) → IsOrder cpus order → IsQuiet turn cpus (run turn start order) → HasOutcome (run turn start order) outcomes
 all_collected {S} turn start cpus nodes is_complete outcomes at is collected end order below quiet =
     let r : IsReached (length nodes) (node_at start nodes) (run turn start order) (length order) = reached_from_start turn start cpus (length nodes) (node_at start nodes) order is below in
     let Q : S → Type 0 = λ s. IsQuiet turn cpus s in
@@ -150,5 +142,11 @@ all_collected {S} turn start cpus nodes is_complete outcomes at is collected end
     let less : r.place < at = omega (arith, r.there, end) in
     subst H r.is (collected.each r.place less (subst Q (sym r.is) quiet))
 
-pub read_state : {S : Type 0} (start : S) (nodes : List (Node S)) (at : ℕ) (x : Node S) → at < length nodes → x ≡ slice_index_or nodes at x → x.state ≡ (node_at start nodes at).state
-read_state {S} start nodes at x there read = ap (λ (y : Node S). y.state) (get_or_read nodes at x there read (record { state = start; parent = 0; cpu = 0; depth = 0 }))
+-- the turn before an order's first one
+pub back : {S : Type 0} (turn : S → ℕ → S) (cpus : ℕ) (state next end : S) (order new : List ℕ) (cpu : ℕ) → new ≡ order ++ cpu ∷ [] → cpu < cpus → next ≡ turn state cpu → run turn next (reverse order) ≡ end → IsOrder cpus (reverse order) → (run turn state (reverse new) ≡ end) × IsOrder cpus (reverse new)
+back {S} turn cpus state next end order new cpu pushed below is leads all =
+    let C : ℕ → Type 0 = λ k. k < cpus in
+    let F : List ℕ → Type 0 = λ xs. (run turn state xs ≡ end) × IsOrder cpus xs in
+    let E : S → Type 0 = λ s. run turn s (reverse order) ≡ end in
+    let first : reverse new ≡ cpu ∷ reverse order = ap (λ (xs : List ℕ). reverse xs) pushed ∙ reverse-append order (cpu ∷ []) in
+    subst F (sym first) (subst E is leads, All-cons C cpu (reverse order) below all)

@@ -1,16 +1,42 @@
 -- The states that a search found, as a graph.
-use Rattle.std.specs.Prelude.{◌≡◌, ℕ, ◌+◌, ◌*◌, ◌<◌, ◌≤◌, List, length, slice_index_or, All, Bool, IsTrue}
-use Rattle.lwkt_search.specs.declared.searches.Node.{Node}
-use Rattle.lwkt_search.specs.declared.searches.Outcome.{Outcome}
-use Rattle.lwkt_search.specs.Runs.{run, IsOrder, IsOutcome, IsQuiet, IsShortest, HasOutcome, AreApart}
+use Rattle.std.specs.Prelude.{◌≡◌, ℕ, ◌+◌, ◌*◌, ◌<◌, ◌≤◌, ◌⊎◌, List, [], ◌∷◌, ◌++◌, length, slice_index_or, All, Bool, IsTrue}
+use Rattle.lwkt_search.specs.declared.searches.Link.{Link}
+use Rattle.lwkt_search.specs.Runs.{Told, run, IsOrder, IsOutcome, IsQuiet, IsShortest, HasOutcome, AreApart}
+
+-- a turn leads to a state that was kept before
+pub record IsSeen {S : Type 0} (turn : S → ℕ → S) (old new : List S) (at cpu next : ℕ) : Type 0 where
+  pub same : new ≡ old
+  pub there : next < length old
+  pub leads : (d : S) → slice_index_or old next d ≡ turn (slice_index_or old at d) cpu
+
+-- a turn leads to a new state, which comes last
+pub record IsNew {S : Type 0} (turn : S → ℕ → S) (old new : List S) (at cpu next : ℕ) : Type 0 where
+  pub state : S
+  pub grown : new ≡ old ++ state ∷ []
+  pub last : next ≡ length old
+  pub leads : (d : S) → state ≡ turn (slice_index_or old at d) cpu
+  pub fresh : (k : ℕ) → k < length old → (d : S) → slice_index_or old k d ≡ state → ⊥
+
+-- where a turn leads from the state of a number, and what is kept then
+abbrev pub IsTurned : {S : Type 0} → (S → ℕ → S) → List S → List S → ℕ → ℕ → ℕ → Type 0
+IsTurned turn old new at cpu next = IsSeen turn old new at cpu next ⊎ IsNew turn old new at cpu next
+
+-- a state that was found, the turn that led to it, and how many turns lead to it
+pub record Node (S : Type 0) : Type 0 where
+  pub state : S
+  pub parent : ℕ
+  pub cpu : ℕ
+  pub depth : ℕ
+
+-- the states that are kept, with what is noted of them
+abbrev pub nodes_of : {S : Type 0} → List S → List Link → List (Node S)
+nodes_of [] links = []
+nodes_of (state ∷ states) [] = []
+nodes_of (state ∷ states) (link ∷ links) = (record { state = state; parent = link.parent; cpu = link.cpu; depth = link.depth }) ∷ nodes_of states links
 
 -- the state at a place, and the start past the end
 abbrev pub node_at : {S : Type 0} → S → List (Node S) → ℕ → Node S
 node_at start nodes k = slice_index_or nodes k (record { state = start; parent = 0; cpu = 0; depth = 0 })
-
--- another state than this
-abbrev pub Differs : {S : Type 0} → S → Node S → Type 0
-Differs state node = node.state ≡ state → ⊥
 
 -- the state at this place comes from one before it, by a turn of its processor
 pub record IsLink {S : Type 0} (turn : S → ℕ → S) (cpus k : ℕ) (node parent : Node S) : Type 0 where
@@ -53,13 +79,6 @@ IsSearchOf turn start cpus nodes at = IsSearch turn start cpus (length nodes) (n
 abbrev pub IsTriedOf : {S : Type 0} → (S → ℕ → S) → S → List (Node S) → ℕ → ℕ → Type 0
 IsTriedOf turn start nodes at cpu = IsTried turn (length nodes) (node_at start nodes) (node_at start nodes at) cpu
 
--- the node that the turn of a processor leads to from the one at a place
-pub record IsLed {S : Type 0} (turn : S → ℕ → S) (start : S) (nodes : List (Node S)) (at cpu : ℕ) (node : Node S) : Type 0 where
-  pub state : node.state ≡ turn (node_at start nodes at).state cpu
-  pub parent : node.parent ≡ at
-  pub by : node.cpu ≡ cpu
-  pub depth : node.depth ≡ (node_at start nodes at).depth + 1
-
 -- the turn of a processor leads from the state at a place to that at the next one, at most one turn deeper
 pub record IsTurnAt {S : Type 0} (turn : S → ℕ → S) (start : S) (nodes : List (Node S)) (at cpu next : ℕ) : Type 0 where
   pub there : next < length nodes
@@ -83,11 +102,11 @@ pub record IsGrownTo {S : Type 0} (turn : S → ℕ → S) (start : S) (cpus : �
   pub row : (cpu : ℕ) → cpu < below → IsInRow turn start cpus nodes next at cpu
 
 -- a state that was found, and an order that leads to it, as long as it is deep
-pub record IsTold {S : Type 0} (turn : S → ℕ → S) (start : S) (cpus : ℕ) (nodes : List (Node S)) (at : ℕ) (outcome : Outcome S) : Type 0 where
+pub record IsTold {S : Type 0} (turn : S → ℕ → S) (start : S) (cpus : ℕ) (nodes : List (Node S)) (at : ℕ) (outcome : Told S) : Type 0 where
   pub state : outcome.state ≡ (node_at start nodes at).state
-  pub order : IsOrder cpus outcome.order.items
-  pub leads : run turn start outcome.order.items ≡ (node_at start nodes at).state
-  pub long : length outcome.order.items ≡ (node_at start nodes at).depth
+  pub order : IsOrder cpus outcome.order
+  pub leads : run turn start outcome.order ≡ (node_at start nodes at).state
+  pub long : length outcome.order ≡ (node_at start nodes at).depth
 
 -- the new list has each node of the old one at its place
 pub record Grows {S : Type 0} (start : S) (old new : List (Node S)) : Type 0 where
@@ -95,18 +114,18 @@ pub record Grows {S : Type 0} (start : S) (old new : List (Node S)) : Type 0 whe
   pub same : (k : ℕ) → k < length old → node_at start new k ≡ node_at start old k
 
 -- this outcome's state was found before this place
-pub record IsFrom {S : Type 0} (start : S) (nodes : List (Node S)) (outcomes : List (Outcome S)) (at k : ℕ) : Type 0 where
+pub record IsFrom {S : Type 0} (start : S) (nodes : List (Node S)) (outcomes : List (Told S)) (at k : ℕ) : Type 0 where
   pub place : ℕ
   pub before : place < at
-  pub is : (d : Outcome S) → (slice_index_or outcomes k d).state ≡ (node_at start nodes place).state
+  pub is : (d : Told S) → (slice_index_or outcomes k d).state ≡ (node_at start nodes place).state
 
 -- no two outcomes have the same state, and each was found before this place
-pub record IsSpread {S : Type 0} (start : S) (nodes : List (Node S)) (outcomes : List (Outcome S)) (at : ℕ) : Type 0 where
+pub record IsSpread {S : Type 0} (start : S) (nodes : List (Node S)) (outcomes : List (Told S)) (at : ℕ) : Type 0 where
   pub apart : AreApart outcomes
   pub from : (k : ℕ) → k < length outcomes → IsFrom start nodes outcomes at k
 
 -- the quiet states before this place are outcomes
-pub record IsCollected {S : Type 0} (turn : S → ℕ → S) (start : S) (cpus : ℕ) (nodes : List (Node S)) (is_complete : Bool) (outcomes : List (Outcome S)) (at : ℕ) : Type 0 where
+pub record IsCollected {S : Type 0} (turn : S → ℕ → S) (start : S) (cpus : ℕ) (nodes : List (Node S)) (is_complete : Bool) (outcomes : List (Told S)) (at : ℕ) : Type 0 where
   pub sound : All (λ outcome. IsOutcome turn cpus start outcome) outcomes
   pub each : (k : ℕ) → k < at → IsQuiet turn cpus (node_at start nodes k).state → HasOutcome (node_at start nodes k).state outcomes
   pub shortest : IsTrue is_complete → All (λ outcome. IsShortest turn cpus start outcome) outcomes

@@ -6,15 +6,8 @@
 //! to an end; states of one *form* are taken for one; a state's *row* has where the turn of each processor leads from it.
 #![tactic(auto)]
 
-mod forms;
-mod indexes;
-mod losses;
+mod machines;
 mod searches;
-mod states;
-#[cfg(test)]
-mod tests;
 
-pub use forms::{Canon, Machine, search_forms};
-pub use losses::{Ending, lost_states};
+pub use machines::{Ending, Machine};
 pub use searches::{Found, Outcome, Task};
-pub use states::State;

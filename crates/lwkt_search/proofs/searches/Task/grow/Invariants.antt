@@ -1,13 +1,12 @@
-use Rattle.std.proofs.Common.{◌≤◌, ◌-◌, length}
-use Rattle.lwkt_search.specs.Graphs.{IsGrownTo}
-use Rattle.lwkt_search.specs.Indexes.{IsIndexOf}
+use Rattle.std.proofs.Common.{◌≡◌, ◌≤◌, ◌-◌, length}
+use Rattle.lwkt_search.specs.Graphs.{nodes_of, IsGrownTo}
 use Rattle.lwkt_search.proofs.searches.Task.grow.Given as goal
 
 abbrev pub invariant-loop-at : goal.invariant-loop-at
 invariant-loop-at g l = record {
-  grown : IsGrownTo g.S.State.turn_of l.self.start l.self.cpus l.nodes.items l.next.items l.at 0;
-  index : IsIndexOf g.S.State.hash_of l.self.start l.nodes.items l.index.heads.items l.index.links.items;
-  few : length l.nodes.items ≤ l.self.bound;
+  long : length l.links.items ≡ length (g.M.Machine.kept l.store);
+  grown : IsGrownTo (g.M.Machine.turn_of l.self.machine) (g.M.Machine.start_of l.self.machine) l.self.cpus (nodes_of (g.M.Machine.kept l.store) l.links.items) l.next.items l.at 0;
+  few : length l.links.items ≤ l.self.bound;
 }
 
 abbrev pub decreases-loop-at : goal.decreases-loop-at

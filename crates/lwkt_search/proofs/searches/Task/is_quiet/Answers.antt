@@ -1,14 +1,14 @@
 use Rattle.std.proofs.Common.{◌≡◌, ◌≢◌, ℕ, ◌<◌, ◌≤◌, length, arith, refl, true, false, below_more}
 use Rattle.lwkt_search.specs.Runs.{IsQuiet}
-use Rattle.lwkt_search.specs.Graphs.{node_at}
+use Rattle.lwkt_search.specs.Graphs.{node_at, nodes_of}
 use Rattle.lwkt_search.proofs.RowLemmas.{stays, moves}
 use Rattle.lwkt_search.proofs.searches.Task.is_quiet.Goals as goal
 
 pub loop-cpu-preserved : goal.loop-cpu-preserved
 loop-cpu-preserved g c =
-    let turn = g.S.State.turn_of in
-    let start = c.args.self.now.start in
-    let nodes = c.args.growth.now.nodes.items in
+    let turn = (g.M.Machine.turn_of c.args.self.now.machine) in
+    let start = (g.M.Machine.start_of c.args.self.now.machine) in
+    let nodes = (nodes_of (g.M.Machine.kept c.args.growth.now.store) c.args.growth.now.links.items) in
     let at = c.args.at in
     let same : c.next_of-next.result ≡ at = omega arith in
     let P : ℕ → Type 0 = λ cpu. turn (node_at start nodes at).state cpu ≡ (node_at start nodes at).state in
@@ -19,10 +19,10 @@ loop-cpu-preserved g c =
 
 pub returns-then-next-at : goal.returns-then-next-at
 returns-then-next-at g c =
-    let turn = g.S.State.turn_of in
-    let start = c.args.self.now.start in
+    let turn = (g.M.Machine.turn_of c.args.self.now.machine) in
+    let start = (g.M.Machine.start_of c.args.self.now.machine) in
     let cpus = c.args.self.now.cpus in
-    let nodes = c.args.growth.now.nodes.items in
+    let nodes = (nodes_of (g.M.Machine.kept c.args.growth.now.store) c.args.growth.now.links.items) in
     let at = c.args.at in
     let within : c.args.growth.now.gone_on ≤ length nodes = c.requires.grown.search.within in
     let here : at < c.args.growth.now.gone_on = c.requires.there in

@@ -1,6 +1,6 @@
 use Rattle.std.proofs.Common.{ℕ, ◌+◌, ◌*◌, ◌<◌, length, arith, subst, sym}
 use Rattle.std.proofs.lemmas.List.{get_or_read}
-use Rattle.lwkt_search.specs.Graphs.{IsInRow, IsTurnAt}
+use Rattle.lwkt_search.specs.Graphs.{nodes_of, IsInRow, IsTurnAt}
 use Rattle.lwkt_search.proofs.searches.Task.next_of.Goals as goal
 
 pub overflow_mul-at : goal.overflow_mul-at
@@ -28,10 +28,10 @@ index-requires g c =
 
 pub returns : goal.returns
 returns g c =
-    let turn = g.S.State.turn_of in
-    let start = c.args.self.now.start in
+    let turn = (g.M.Machine.turn_of c.args.self.now.machine) in
+    let start = (g.M.Machine.start_of c.args.self.now.machine) in
     let cpus = c.args.self.now.cpus in
-    let nodes = c.args.growth.now.nodes.items in
+    let nodes = (nodes_of (g.M.Machine.kept c.args.growth.now.store) c.args.growth.now.links.items) in
     let next = c.args.growth.now.next.items in
     let at = c.args.at in
     let cpu = c.args.cpu in

@@ -1,9 +1,0 @@
-use Rattle.std.proofs.Common.{◌≡◌, ℕ, ◌<◌, false}
-use Rattle.lwkt_search.specs.Losses.{IsNext}
-use Rattle.lwkt_search.proofs.losses.leads_on.Given as goal
-
-abbrev pub invariant-loop-cpu : goal.invariant-loop-cpu
-invariant-loop-cpu g l = record {
-  end : l.cpu-end ≡ l.task.cpus;
-  none : (cpu : ℕ) → cpu < l.cpu → IsNext g.S.State.turn_of l.task.start l.growth.nodes.items l.reaches l.at cpu false;
-}
