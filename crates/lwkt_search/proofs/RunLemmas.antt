@@ -1,8 +1,9 @@
 use Rattle.std.proofs.Common.{◌≡◌, ℕ, ◌+◌, ◌<◌, ◌≤◌, List, [], ◌∷◌, ◌++◌, ◌⊎◌, inl, inr, length, arith, ap, subst, sym, refl, ◌∙◌, slice_index_or, Bool, IsTrue, below_more, reverse}
 use Rattle.std.proofs.lemmas.List.Elements.{All-head, All-tail, All-push, All-cons}
-use Rattle.std.proofs.lemmas.List.{get_or_append_left, length-append, reverse-append}
+use Rattle.std.proofs.lemmas.List.{get_or_append_left, length-append, map-append, reverse-append}
 use Rattle.std.proofs.Math.Seq.{get_or-append_seam}
-use Rattle.lwkt_search.specs.Runs.{Told, run, IsOrder, IsQuiet, IsOutcome, IsShortest, HasOutcome}
+use Rattle.lwkt_search.specs.declared.searches.Outcome.{Outcome}
+use Rattle.lwkt_search.specs.Runs.{Told, told_of, all_told, run, IsOrder, IsQuiet, IsOutcome, IsShortest, HasOutcome}
 use Rattle.lwkt_search.specs.Graphs.{Node, node_at, IsGraph, IsGraphOf, IsTried, IsSearch, IsSearchOf, IsTold, IsCollected, IsFrom, IsSpread}
 
 -- a state that was found, at most so deep
@@ -150,3 +151,7 @@ back {S} turn cpus state next end order new cpu pushed below is leads all =
     let E : S → Type 0 = λ s. run turn s (reverse order) ≡ end in
     let first : reverse new ≡ cpu ∷ reverse order = ap (λ (xs : List ℕ). reverse xs) pushed ∙ reverse-append order (cpu ∷ []) in
     subst F (sym first) (subst E is leads, All-cons C cpu (reverse order) below all)
+
+-- one more outcome, as it is told
+pub told_push : {S : Type 0} (start : S) (kept : List S) (outcomes : List Outcome) (last : Outcome) (new : List Outcome) → new ≡ outcomes ++ last ∷ [] → all_told start kept new ≡ all_told start kept outcomes ++ told_of start kept last ∷ []
+told_push {S} start kept outcomes last new pushed = ap (λ (xs : List Outcome). all_told start kept xs) pushed ∙ map-append (told_of start kept) outcomes (last ∷ [])
