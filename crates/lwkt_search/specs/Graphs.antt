@@ -101,6 +101,11 @@ pub record IsGrownTo {S : Type 0} (turn : S → ℕ → S) (start : S) (cpus : �
   pub long : length next ≡ at * cpus + below
   pub row : (cpu : ℕ) → cpu < below → IsInRow turn start cpus nodes next at cpu
 
+-- what was found, with a row of each state
+pub record IsWhole {S : Type 0} (turn : S → ℕ → S) (start : S) (cpus : ℕ) (nodes : List (Node S)) (next : List ℕ) (gone_on : ℕ) : Type 0 where
+  pub grown : IsGrown turn start cpus nodes next gone_on
+  pub each : gone_on ≡ length nodes
+
 -- a state that was found, and an order that leads to it, as long as it is deep
 pub record IsTold {S : Type 0} (turn : S → ℕ → S) (start : S) (cpus : ℕ) (nodes : List (Node S)) (at : ℕ) (outcome : Told S) : Type 0 where
   pub state : outcome.state ≡ (node_at start nodes at).state

@@ -6,8 +6,10 @@
 //! to an end; states of one *form* are taken for one; a state's *row* has where the turn of each processor leads from it.
 #![tactic(auto)]
 
+mod losses;
 mod machines;
 mod searches;
 
+pub use losses::lost_states;
 pub use machines::{Ending, Machine};
-pub use searches::{Found, Outcome, Task};
+pub use searches::{Found, Growth, Link, Outcome, Task};

@@ -1,7 +1,7 @@
 //! The search: it goes on from each state that is found, in the order in which they are found.
 ghost use Rattle.std.specs.Prelude.{◌≡◌, ◌↔◌, ℕ, ◌+◌, ◌<◌, ◌≤◌, List, [], ◌∷◌, length, All, IsTrue, IsFalse, IfOk};
 ghost use Rattle.lwkt_search.specs.Runs.{run, all_told, told_of, IsOrder, IsQuiet, IsOutcome, IsShortest, HasOutcome, AreApart, HasStates, HasAtMost};
-ghost use Rattle.lwkt_search.specs.Graphs.{Node, node_at, nodes_of, IsGraphOf, IsTurnAt, IsGrown, IsGrownTo, IsTold};
+ghost use Rattle.lwkt_search.specs.Graphs.{Node, node_at, nodes_of, IsGraphOf, IsTurnAt, IsGrown, IsGrownTo, IsTold, IsWhole};
 
 use crate::machines::Machine;
 use lwkt_base::OutOfMemory;
@@ -28,17 +28,6 @@ pub struct Outcome {
     pub order: Vec<u8>,
 }
 
-/// What a search found.
-#[derive(Drop)]
-pub struct Found<K> {
-    /// The states.
-    pub store: K,
-    /// Whether each state that can be reached was gone on from.
-    pub is_complete: bool,
-    /// The quiet states among those that were gone on from.
-    pub outcomes: Vec<Outcome>,
-}
-
 /// What is searched: which machine, with how many processors, and how many states may be kept.
 #[derive(Drop)]
 pub struct Task<M> {
@@ -63,6 +52,15 @@ pub struct Growth<K> {
     pub gone_on: usize,
     /// Whether these are all.
     pub is_complete: bool,
+}
+
+/// What a search found.
+#[derive(Drop)]
+pub struct Found<K> {
+    /// The states, and where turns lead.
+    pub growth: Growth<K>,
+    /// The quiet states among those that were gone on from.
+    pub outcomes: Vec<Outcome>,
 }
 
 impl<M: Machine> Task<M> {
@@ -223,18 +221,20 @@ impl<M: Machine> Task<M> {
     pub fn search(&self, alloc: Global, store: M::Store) -> Result<Found<M::Store>, OutOfMemory>
         requires some { 0 < self.now.bound }
         requires first { M.kept store ≡ M.start_of self.now.machine ∷ [] }
+        ensures long { IfOk result (λ found. length found.growth.links.items ≡ length (M.kept found.growth.store)) }
+        ensures whole { IfOk result (λ found. IsTrue found.growth.is_complete → IsWhole (M.turn_of self.now.machine) (M.start_of self.now.machine) self.now.cpus (nodes_of (M.kept found.growth.store) found.growth.links.items) found.growth.next.items found.growth.gone_on) }
         // Each outcome is a quiet state that its order leads to.
-        ensures sound { IfOk result (λ found. All (λ outcome. IsOutcome (M.turn_of self.now.machine) self.now.cpus (M.start_of self.now.machine) outcome) (all_told (M.start_of self.now.machine) (M.kept found.store) found.outcomes.items)) }
+        ensures sound { IfOk result (λ found. All (λ outcome. IsOutcome (M.turn_of self.now.machine) self.now.cpus (M.start_of self.now.machine) outcome) (all_told (M.start_of self.now.machine) (M.kept found.growth.store) found.outcomes.items)) }
         // Each quiet state that an order leads to is an outcome.
-        ensures complete { IfOk result (λ found. IsTrue found.is_complete → (order : List ℕ) → IsOrder self.now.cpus order → IsQuiet (M.turn_of self.now.machine) self.now.cpus (run (M.turn_of self.now.machine) (M.start_of self.now.machine) order) → HasOutcome (run (M.turn_of self.now.machine) (M.start_of self.now.machine) order) (all_told (M.start_of self.now.machine) (M.kept found.store) found.outcomes.items)) }
+        ensures complete { IfOk result (λ found. IsTrue found.growth.is_complete → (order : List ℕ) → IsOrder self.now.cpus order → IsQuiet (M.turn_of self.now.machine) self.now.cpus (run (M.turn_of self.now.machine) (M.start_of self.now.machine) order) → HasOutcome (run (M.turn_of self.now.machine) (M.start_of self.now.machine) order) (all_told (M.start_of self.now.machine) (M.kept found.growth.store) found.outcomes.items)) }
         // No order that leads to an outcome is shorter than its order.
-        ensures shortest { IfOk result (λ found. IsTrue found.is_complete → All (λ outcome. IsShortest (M.turn_of self.now.machine) self.now.cpus (M.start_of self.now.machine) outcome) (all_told (M.start_of self.now.machine) (M.kept found.store) found.outcomes.items)) }
+        ensures shortest { IfOk result (λ found. IsTrue found.growth.is_complete → All (λ outcome. IsShortest (M.turn_of self.now.machine) self.now.cpus (M.start_of self.now.machine) outcome) (all_told (M.start_of self.now.machine) (M.kept found.growth.store) found.outcomes.items)) }
         // No state is told twice.
-        ensures once { IfOk result (λ found. AreApart (all_told (M.start_of self.now.machine) (M.kept found.store) found.outcomes.items)) }
+        ensures once { IfOk result (λ found. AreApart (all_told (M.start_of self.now.machine) (M.kept found.growth.store) found.outcomes.items)) }
         // The search is cut off only where orders lead to more states than may be kept.
-        ensures full { IfOk result (λ found. IsFalse found.is_complete → HasStates (M.turn_of self.now.machine) self.now.cpus (M.start_of self.now.machine) (self.now.bound + 1)) }
+        ensures full { IfOk result (λ found. IsFalse found.growth.is_complete → HasStates (M.turn_of self.now.machine) self.now.cpus (M.start_of self.now.machine) (self.now.bound + 1)) }
         // Else they lead to no more.
-        ensures few { IfOk result (λ found. IsTrue found.is_complete → HasAtMost (M.turn_of self.now.machine) self.now.cpus (M.start_of self.now.machine) self.now.bound) }
+        ensures few { IfOk result (λ found. IsTrue found.growth.is_complete → HasAtMost (M.turn_of self.now.machine) self.now.cpus (M.start_of self.now.machine) self.now.bound) }
     {
         let growth = self.grow(alloc, store)?;
         let mut outcomes = Vec::new(alloc);
@@ -244,10 +244,6 @@ impl<M: Machine> Task<M> {
                 push(&mut outcomes, Outcome { place: at, order })?;
             }
         }
-        Ok(Found {
-            store: growth.store,
-            is_complete: growth.is_complete,
-            outcomes,
-        })
+        Ok(Found { growth, outcomes })
     }
 }

@@ -91,3 +91,12 @@ order-requires-clause-there g c =
     let count : length (nodes_of kept links) ≡ length kept = nodes_long kept links long in
     let within : c.in_ok-growth.growth.gone_on ≤ length (nodes_of kept links) = c.in_ok-growth.ensures.grown.search.within in
     omega (arith, c.loop-at.invariant.end)
+
+pub returns-clause-whole : goal.returns-clause-whole
+returns-clause-whole g c = λ complete.
+    let kept = g.M.Machine.kept c.in_ok-growth.growth.store in
+    let links = c.in_ok-growth.growth.links.items in
+    let long : length links ≡ length kept = c.in_ok-growth.ensures.long in
+    let count : length (nodes_of kept links) ≡ length kept = nodes_long kept links long in
+    let all : c.in_ok-growth.growth.gone_on ≡ length links = c.in_ok-growth.ensures.complete complete in
+    record { grown = c.in_ok-growth.ensures.grown; each = omega arith }
