@@ -6,10 +6,17 @@
 //! to an end; states of one *form* are taken for one; a state's *row* has where the turn of each processor leads from it.
 #![tactic(auto)]
 
+pub mod indexes;
 mod losses;
 mod machines;
+pub mod parts;
+mod refusals;
 mod searches;
+pub mod tables;
 
 pub use losses::lost_states;
 pub use machines::{Ending, Machine};
+pub use parts::Part;
+pub use refusals::Refusal;
 pub use searches::{Found, Growth, Link, Outcome, Task};
+pub use tables::Table;

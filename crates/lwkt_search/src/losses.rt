@@ -6,7 +6,7 @@ ghost use Rattle.lwkt_search.specs.Losses.{IsEnd, IsLost, IsLostOutcome, LeadsOn
 
 use crate::searches::{Growth, Outcome, Task};
 use crate::machines::{Ending, Machine};
-use lwkt_base::OutOfMemory;
+use crate::refusals::Refusal;
 use lwkt_base::memory::push;
 use std::alloc::Global;
 
@@ -89,7 +89,7 @@ fn reaching<M: Ending>(
     task: &Task<M>,
     alloc: Global,
     growth: &Growth<M::Store>,
-) -> Result<Vec<bool>, OutOfMemory>
+) -> Result<Vec<bool>, Refusal>
     requires whole { IsWhole (M.turn_of task.now.machine) (M.start_of task.now.machine) task.now.cpus (nodes_of (M.kept growth.now.store) growth.now.links.items) growth.now.next.items growth.now.gone_on }
     requires long { length growth.now.links.items ≡ length (M.kept growth.now.store) }
     ensures same { IfOk result (λ reaches. length reaches.items ≡ length (nodes_of (M.kept growth.now.store) growth.now.links.items)) }
@@ -111,7 +111,7 @@ fn lost_of<M: Ending>(
     alloc: Global,
     growth: &Growth<M::Store>,
     reaches: &[bool],
-) -> Result<Vec<Outcome>, OutOfMemory>
+) -> Result<Vec<Outcome>, Refusal>
     requires whole { IsWhole (M.turn_of task.now.machine) (M.start_of task.now.machine) task.now.cpus (nodes_of (M.kept growth.now.store) growth.now.links.items) growth.now.next.items growth.now.gone_on }
     requires long { length growth.now.links.items ≡ length (M.kept growth.now.store) }
     requires same { length reaches.now ≡ length (nodes_of (M.kept growth.now.store) growth.now.links.items) }
@@ -136,7 +136,7 @@ pub fn lost_states<M: Ending>(
     task: &Task<M>,
     alloc: Global,
     growth: &Growth<M::Store>,
-) -> Result<Vec<Outcome>, OutOfMemory>
+) -> Result<Vec<Outcome>, Refusal>
     requires whole { IsWhole (M.turn_of task.now.machine) (M.start_of task.now.machine) task.now.cpus (nodes_of (M.kept growth.now.store) growth.now.links.items) growth.now.next.items growth.now.gone_on }
     requires long { length growth.now.links.items ≡ length (M.kept growth.now.store) }
     // Each is a state that its order leads to, and from which no order leads to an end.

@@ -2,7 +2,7 @@
 ghost use Rattle.std.specs.Prelude.{◌≡◌, ℕ, ◌<◌, List, length, Bool, slice_index_or, IfOk};
 ghost use Rattle.lwkt_search.specs.Graphs.{IsTurned};
 
-use lwkt_base::OutOfMemory;
+use crate::refusals::Refusal;
 
 /// A machine of which states are kept, each once, by the numbers 0, 1, .. in the order in which they came.
 pub trait Machine: Drop {
@@ -20,8 +20,8 @@ pub trait Machine: Drop {
 
     /// The number of the state that the turn of a processor leads to from the one of a number; a new state gets the next number.
     ///
-    /// `OutOfMemory` if memory is refused, or if 4,294,967,295 states are kept.
-    fn turn(&self, store: &mut Self::Store, at: usize, cpu: u8) -> Result<usize, OutOfMemory>
+    /// Refused if memory is, or if there is no number left.
+    fn turn(&self, store: &mut Self::Store, at: usize, cpu: u8) -> Result<usize, Refusal>
         requires there { at < length (kept store.old) }
         ensures turned { IfOk result (λ next. IsTurned (turn_of self.now) (kept store.old) (kept store.new) at cpu next) }
         ensures few { IfOk result (λ next. next < 4294967296) };

@@ -4,7 +4,7 @@ ghost use Rattle.lwkt_search.specs.Runs.{run, all_told, told_of, IsOrder, IsQuie
 ghost use Rattle.lwkt_search.specs.Graphs.{Node, node_at, nodes_of, IsGraphOf, IsTurnAt, IsGrown, IsGrownTo, IsTold, IsWhole};
 
 use crate::machines::Machine;
-use lwkt_base::OutOfMemory;
+use crate::refusals::Refusal;
 use lwkt_base::memory::push;
 use std::alloc::Global;
 
@@ -97,7 +97,7 @@ impl<M: Machine> Task<M> {
         next: &mut Vec<u32>,
         at: usize,
         cpu: u8,
-    ) -> Result<bool, OutOfMemory>
+    ) -> Result<bool, Refusal>
         requires long { length links.old.items ≡ length (M.kept store.old) }
         requires grown { IsGrownTo (M.turn_of self.now.machine) (M.start_of self.now.machine) self.now.cpus (nodes_of (M.kept store.old) links.old.items) next.old.items at cpu }
         requires there { at < length links.old.items }
@@ -134,7 +134,7 @@ impl<M: Machine> Task<M> {
         links: &mut Vec<Link>,
         next: &mut Vec<u32>,
         at: usize,
-    ) -> Result<bool, OutOfMemory>
+    ) -> Result<bool, Refusal>
         requires long { length links.old.items ≡ length (M.kept store.old) }
         requires grown { IsGrownTo (M.turn_of self.now.machine) (M.start_of self.now.machine) self.now.cpus (nodes_of (M.kept store.old) links.old.items) next.old.items at 0 }
         requires there { at < length links.old.items }
@@ -153,7 +153,7 @@ impl<M: Machine> Task<M> {
     }
 
     // Goes on from each state that is found.
-    pub(crate) fn grow(&self, alloc: Global, store: M::Store) -> Result<Growth<M::Store>, OutOfMemory>
+    pub(crate) fn grow(&self, alloc: Global, store: M::Store) -> Result<Growth<M::Store>, Refusal>
         requires some { 0 < self.now.bound }
         requires first { M.kept store ≡ M.start_of self.now.machine ∷ [] }
         ensures long { IfOk result (λ growth. length growth.links.items ≡ length (M.kept growth.store)) }
@@ -201,7 +201,7 @@ impl<M: Machine> Task<M> {
         alloc: Global,
         growth: &Growth<M::Store>,
         at: usize,
-    ) -> Result<Vec<u8>, OutOfMemory>
+    ) -> Result<Vec<u8>, Refusal>
         requires long { length growth.now.links.items ≡ length (M.kept growth.now.store) }
         requires graph { IsGraphOf (M.turn_of self.now.machine) (M.start_of self.now.machine) self.now.cpus (nodes_of (M.kept growth.now.store) growth.now.links.items) }
         requires there { at < length growth.now.links.items }
@@ -218,7 +218,7 @@ impl<M: Machine> Task<M> {
     }
 
     /// Which quiet states orders of turns lead to, from the first state, the one that the store has.
-    pub fn search(&self, alloc: Global, store: M::Store) -> Result<Found<M::Store>, OutOfMemory>
+    pub fn search(&self, alloc: Global, store: M::Store) -> Result<Found<M::Store>, Refusal>
         requires some { 0 < self.now.bound }
         requires first { M.kept store ≡ M.start_of self.now.machine ∷ [] }
         ensures long { IfOk result (λ found. length found.growth.links.items ≡ length (M.kept found.growth.store)) }
