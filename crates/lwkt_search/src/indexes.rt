@@ -1,5 +1,5 @@
 //! An index of items by their keys.
-ghost use Rattle.std.specs.Prelude.{◌≡◌, ℕ, ◌<◌, ◌≤◌, length, IfOk, replicate};
+ghost use Rattle.std.specs.Prelude.{◌≡◌, ℕ, ◌<◌, ◌≤◌, [], length, IfOk, replicate};
 ghost use Rattle.lwkt_search.specs.Indexes.{bucket_of, IsAdded, IsIndex};
 
 use lwkt_base::OutOfMemory;
@@ -62,7 +62,8 @@ impl Index {
 
     // An index of no keys, with room for so many.
     pub(crate) fn empty(alloc: Global, count: usize) -> Result<Index, OutOfMemory>
-        ensures { IfOk result (λ index. (key : ℕ → ℕ) → IsIndex key index.heads.items index.links.items 0) }
+        ensures index { IfOk result (λ index. (key : ℕ → ℕ) → IsIndex key index.heads.items index.links.items 0) }
+        ensures empty { IfOk result (λ index. index.links.items ≡ []) }
     {
         let heads = empty_buckets(alloc, buckets_for(count))?;
         Ok(Index {

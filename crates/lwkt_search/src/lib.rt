@@ -6,6 +6,7 @@
 //! to an end; states of one *form* are taken for one; a state's *row* has where the turn of each processor leads from it.
 #![tactic(auto)]
 
+pub mod codes;
 pub mod indexes;
 mod losses;
 mod machines;
@@ -14,6 +15,7 @@ mod refusals;
 mod searches;
 pub mod tables;
 
+pub use codes::Codes;
 pub use losses::lost_states;
 pub use machines::{Ending, Machine};
 pub use parts::Part;
