@@ -1,8 +1,10 @@
-use Rattle.std.proofs.Common.{◌≡◌, ℕ, ◌+◌, ◌<◌, ◌≤◌, List, [], ◌∷◌, ◌++◌, zero, suc, length, length-append, arith, ap, subst, sym, refl, ◌∙◌, below_more, slice_index_or, All, HoldsAt}
+use Rattle.std.proofs.Common.{◌≡◌, ℕ, ◌+◌, ◌<◌, ◌≤◌, List, [], ◌∷◌, ◌++◌, zero, suc, length, length-append, arith, ap, subst, sym, refl, ◌∙◌, below_more, slice_index_or, slice_get, drop, All, HoldsAt, Option, Some, ◌⊎◌, inl, inr}
 use Rattle.std.proofs.lemmas.List.{append-nil, get_or_append_left}
 use Rattle.std.proofs.Math.Seq.{get_or-append_seam}
+use Rattle.std.proofs.lemmas.List.Elements.{All-head, All-tail}
+use Rattle.std.specs.Option.{option_map_or}
 use Rattle.lwkt_search.specs.Indexes.{IsIndex, IsAdded}
-use Rattle.lwkt_search.specs.Tables.{key_at, IsTable, IsNamed, Extends}
+use Rattle.lwkt_search.specs.Tables.{key_at, named, IsTable, IsNamed, AreNamed, Extends}
 use Rattle.lwkt_search.proofs.IndexLemmas.{index_same}
 
 pub key_is : {P : Type 0} (hash : P → ℕ) (parts : List P) (k : ℕ) (d : P) → k < length parts → key_at hash parts k ≡ hash (slice_index_or parts k d)
@@ -57,3 +59,83 @@ table_again hash parts heads links heads' links' is index = record { index = ind
 
 pub extends_self : {P : Type 0} (parts : List P) → Extends parts parts
 extends_self parts = record { more = []; is = sym (append-nil parts) }
+
+get_some : {P : Type 0} (table : List P) (n : ℕ) (p : P) → n < length table → slice_index_or table n p ≡ p → slice_get table n ≡ Some p
+get_some [] n p there is = absurd (omega arith)
+get_some (q ∷ table) zero p there is = ap Some is
+get_some (q ∷ table) (suc n) p there is = let less : n < length table = omega arith in get_some table n p less is
+
+pub named_one : {P : Type 0} (table : List P) (n : ℕ) (numbers : List ℕ) (p : P) → IsNamed table n p → named table (n ∷ numbers) ≡ p ∷ named table numbers
+named_one {P} table n numbers p is =
+    let get : slice_get table n ≡ Some p = get_some table n p is.there (is.is p) in
+    let F : Option P → List P = λ o. option_map_or (λ q. q ∷ named table numbers) o (named table numbers) in
+    ap F get
+
+-- the parts of numbers, told one by one, are those of the numbers
+pub named_by : {P : Type 0} (table parts : List P) (numbers : List ℕ) → AreNamed table parts numbers → parts ≡ named table numbers
+named_by table [] [] are = refl
+named_by table [] (n ∷ numbers) are = let long = are.long in absurd (omega arith)
+named_by table (p ∷ parts) [] are = let long = are.long in absurd (omega arith)
+named_by {P} table (p ∷ parts) (n ∷ numbers) are =
+    let first : IsNamed table n p = are.each 0 (omega arith) p in
+    let long : length (p ∷ parts) ≡ length (n ∷ numbers) = are.long in
+    let rest : AreNamed table parts numbers = record {
+      long = omega arith;
+      each = λ k h d. let up : suc k < length (n ∷ numbers) = omega arith in are.each (suc k) up d;
+    }
+    in
+    let F : List P → List P = λ ps. p ∷ ps in
+    ap F (named_by table parts numbers rest) ∙ sym (named_one table n numbers p first)
+
+-- each number has a part
+pub part_below : {P : Type 0} (table : List P) (n : ℕ) → n < length table → (p : P) × IsNamed table n p
+part_below [] n there = absurd (omega arith)
+part_below {P} (p ∷ table) zero there = (p, record { there = there; is = λ d. refl })
+part_below {P} (p ∷ table) (suc n) there =
+    let less : n < length table = omega arith in
+    let one : (q : P) × IsNamed table n q = part_below table n less in
+    (one.0, record { there = there; is = one.1.is })
+
+pub named_more : {P : Type 0} (table more : List P) (n : ℕ) (p : P) → IsNamed table n p → IsNamed (table ++ more) n p
+named_more table more n p is = record {
+  there = omega (arith, is.there, length-append table more);
+  is = λ d. get_or_append_left table more d n is.there ∙ is.is d;
+}
+
+-- the parts of numbers stay where the table has more behind
+pub named_left : {P : Type 0} (table more : List P) (numbers : List ℕ) → All (λ n. n < length table) numbers → named (table ++ more) numbers ≡ named table numbers
+named_left table more [] below = refl
+named_left {P} table more (n ∷ numbers) below =
+    let B : ℕ → Type 0 = λ n. n < length table in
+    let one : (p : P) × IsNamed table n p = part_below table n (All-head B n numbers below) in
+    let F : List P → List P = λ ps. one.0 ∷ ps in
+    named_one (table ++ more) n numbers one.0 (named_more table more n one.0 one.1) ∙ (ap F (named_left table more numbers (All-tail B n numbers below)) ∙ sym (named_one table n numbers one.0 one.1))
+
+number_cases : (i j : ℕ) → (i < j) ⊎ ((j < i) ⊎ (i ≡ j))
+number_cases i j = grind arith
+
+-- a part has one number
+pub number_same : {P : Type 0} (table : List P) (i j : ℕ) (p : P) → ((i j : ℕ) → i < j → j < length table → (d : P) → slice_index_or table i d ≡ slice_index_or table j d → ⊥) → IsNamed table i p → IsNamed table j p → i ≡ j
+number_same table i j p distinct one other =
+    elim (number_cases i j) [
+      | inl less ↦ absurd (distinct i j less other.there p (one.is p ∙ sym (other.is p)))
+      | inr more ↦ elim more [ inl less ↦ absurd (distinct j i less one.there p (other.is p ∙ sym (one.is p))) | inr is ↦ is ]
+    ]
+
+-- and so have parts
+pub numbers_same : {P : Type 0} (table : List P) (one other : List ℕ) → ((i j : ℕ) → i < j → j < length table → (d : P) → slice_index_or table i d ≡ slice_index_or table j d → ⊥) → All (λ n. n < length table) one → All (λ n. n < length table) other → named table one ≡ named table other → length one ≡ length other → one ≡ other
+numbers_same table [] [] distinct low high same long = refl
+numbers_same table [] (n ∷ other) distinct low high same long = absurd (omega arith)
+numbers_same table (m ∷ one) [] distinct low high same long = absurd (omega arith)
+numbers_same {P} table (m ∷ one) (n ∷ other) distinct low high same long =
+    let B : ℕ → Type 0 = λ n. n < length table in
+    let p : (p : P) × IsNamed table m p = part_below table m (All-head B m one low) in
+    let q : (p : P) × IsNamed table n p = part_below table n (All-head B n other high) in
+    let both : p.0 ∷ named table one ≡ q.0 ∷ named table other = sym (named_one table m one p.0 p.1) ∙ (same ∙ named_one table n other q.0 q.1) in
+    let heads : p.0 ≡ q.0 = ap (λ (ps : List P). slice_index_or ps 0 p.0) both in
+    let tails : named table one ≡ named table other = ap (λ (ps : List P). drop 1 ps) both in
+    let N : P → Type 0 = λ x. IsNamed table n x in
+    let first : m ≡ n = number_same table m n p.0 distinct p.1 (subst N (sym heads) q.1) in
+    let less : length one ≡ length other = omega arith in
+    let rest : one ≡ other = numbers_same table one other distinct (All-tail B m one low) (All-tail B n other high) tails less in
+    ap (λ (k : ℕ). k ∷ one) first ∙ ap (λ (ks : List ℕ). n ∷ ks) rest

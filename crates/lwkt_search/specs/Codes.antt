@@ -30,3 +30,20 @@ pub record IsCoded (width : ℕ) (flat : List ℕ) (count : ℕ) (code : List �
 -- it is nowhere
 abbrev pub IsUncoded : ℕ → List ℕ → ℕ → List ℕ → Type 0
 IsUncoded width flat count code = (k : ℕ) → k < count → code_at width flat k ≡ code → ⊥
+
+-- a code that was there before: nothing changes
+pub record WasCoded (width : ℕ) (flat : List ℕ) (count : ℕ) (new : List ℕ) (count' : ℕ) (code : List ℕ) (number : ℕ) : Type 0 where
+  pub same : new ≡ flat
+  pub still : count' ≡ count
+  pub at : IsCoded width flat count code number
+
+-- a new one, which comes last
+pub record IsAppended (width : ℕ) (flat : List ℕ) (count : ℕ) (new : List ℕ) (count' : ℕ) (code : List ℕ) (number : ℕ) : Type 0 where
+  pub more : new ≡ flat ++ code
+  pub one : count' ≡ count + 1
+  pub last : number ≡ count
+  pub fresh : IsUncoded width flat count code
+
+-- the number of a code, and what is kept then
+abbrev pub IsNumbered : ℕ → List ℕ → ℕ → List ℕ → ℕ → List ℕ → ℕ → Type 0
+IsNumbered width flat count new count' code number = WasCoded width flat count new count' code number ⊎ IsAppended width flat count new count' code number

@@ -27,3 +27,8 @@ pub record IsNamed {P : Type 0} (parts : List P) (number : ℕ) (part : P) : Typ
 abbrev pub named : {P : Type 0} → List P → List ℕ → List P
 named parts [] = []
 named parts (n ∷ numbers) = option_map_or (λ p. p ∷ named parts numbers) (slice_get parts n) (named parts numbers)
+
+-- the parts are those of these numbers, one by one
+pub record AreNamed {P : Type 0} (table parts : List P) (numbers : List ℕ) : Type 0 where
+  pub long : length parts ≡ length numbers
+  pub each : (k : ℕ) → k < length numbers → (d : P) → IsNamed table (slice_index_or numbers k 0) (slice_index_or parts k d)

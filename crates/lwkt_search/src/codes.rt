@@ -1,7 +1,7 @@
 //! Codes: lists of numbers of one length, each kept once.
 ghost use Rattle.std.specs.Prelude.{◌≡◌, ◌↔◌, ℕ, ◌+◌, ◌<◌, ◌≤◌, ◌++◌, [], length, IsTrue, IfOk, MatchOption};
 ghost use Rattle.lwkt_search.specs.Indexes.{IsIndex};
-ghost use Rattle.lwkt_search.specs.Codes.{mixed, key_behind, code_at, AreCodes, IsCoded, IsUncoded};
+ghost use Rattle.lwkt_search.specs.Codes.{mixed, key_behind, code_at, AreCodes, IsCoded, IsNumbered, IsUncoded};
 
 use crate::indexes::{Index, bucket_of};
 use crate::refusals::{MOST_NUMBERS, Refusal};
@@ -133,5 +133,23 @@ impl Codes {
         self.index.add(key)?;
         extend_from_slice(&mut self.flat, code)?;
         Ok(place)
+    }
+
+    /// The number of a code, which is added if it isn't there.
+    ///
+    /// Refused if memory is, or if there is no number left.
+    pub fn number(&mut self, alloc: Global, code: &[u32]) -> Result<usize, Refusal>
+        requires codes { AreCodes self.old.width self.old.flat.items (length self.old.index.links.items) self.old.index.heads.items self.old.index.links.items }
+        requires long { length code.now ≡ self.old.width }
+        ensures codes { IfOk result (λ number. AreCodes self.new.width self.new.flat.items (length self.new.index.links.items) self.new.index.heads.items self.new.index.links.items) }
+        ensures width { IfOk result (λ number. self.new.width ≡ self.old.width) }
+        ensures numbered { IfOk result (λ number. IsNumbered self.old.width self.old.flat.items (length self.old.index.links.items) self.new.flat.items (length self.new.index.links.items) code.now number) }
+        ensures few { IfOk result (λ number. number < 4294967296) }
+    {
+        let key = key_of(code);
+        match self.find(code, key) {
+            Some(at) => Ok(at),
+            None => self.add(alloc, code, key),
+        }
     }
 }

@@ -1,5 +1,5 @@
 //! Parts of one kind, each kept once.
-ghost use Rattle.std.specs.Prelude.{◌≡◌, ◌<◌, ◌≤◌, ◌++◌, ◌∷◌, [], length, All, HoldsAt, IfOk, MatchOption};
+ghost use Rattle.std.specs.Prelude.{◌≡◌, ◌↔◌, ◌<◌, ◌≤◌, ◌++◌, ◌∷◌, [], length, All, HoldsAt, IsTrue, IfOk, MatchOption};
 ghost use Rattle.lwkt_search.specs.Indexes.{IsIndex};
 ghost use Rattle.lwkt_search.specs.Tables.{key_at, IsTable, Extends, IsNamed};
 
@@ -35,6 +35,14 @@ impl<P: Part> Table<P> {
         ensures { IsNamed self.now.parts.items number result.now }
     {
         &self.parts[number as usize]
+    }
+
+    /// Whether the part of a number is this one.
+    pub fn is_at(&self, number: u32, part: &P) -> bool
+        requires { number < length self.now.parts.items }
+        ensures { IsTrue result ↔ IsNamed self.now.parts.items number part.now }
+    {
+        self.part(number).is_same(part)
     }
 
     // The number of a part with this key, if it is there.

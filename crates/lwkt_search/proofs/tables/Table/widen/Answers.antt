@@ -23,3 +23,8 @@ loop-at-preserved g c =
       same = refl;
       index = c.in_ok-add.ensures (key_at g.P.Part.hash_of parts) at c.loop-at.invariant.index key;
     }
+
+pub loop-at-init : goal.loop-at-init
+loop-at-init g c =
+    let end : c.len-count.result ≡ length c.args.self.now.parts.items = omega arith in
+    record { end = end; same = refl; index = c.in_ok-index.ensures.index (key_at g.P.Part.hash_of c.args.self.now.parts.items) }
