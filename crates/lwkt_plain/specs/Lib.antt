@@ -1,5 +1,6 @@
 pub mod Faults
 pub mod Forms
+pub mod Hashes
 pub mod Intakes
 pub mod Letters
 pub mod Mailing

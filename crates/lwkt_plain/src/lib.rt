@@ -7,6 +7,7 @@
 #![tactic(auto)]
 
 pub mod forms;
+mod hashes;
 mod intakes;
 pub mod items;
 mod lanes;

@@ -11,8 +11,8 @@ use lwkt_code::Local;
 use lwkt_core::Token;
 use std::alloc::Global;
 
-/// A part of a state, of which there may be any number.
-pub trait Part {
+/// Parts of states that can be compared.
+pub trait Same {
     /// Whether two are the same.
     fn is_same(&self, other: &Self) -> bool
         ensures { IsTrue result ↔ (self.now ≡ other.now) };
@@ -38,7 +38,7 @@ fn copied_all<T: Copied>(alloc: Global, parts: &[T]) -> Result<Items<T>, OutOfMe
 }
 
 // Whether parts are the same, where there are as many.
-fn same_below<T: Part>(parts: &[T], other: &[T]) -> bool
+fn same_below<T: Same>(parts: &[T], other: &[T]) -> bool
     requires long { length parts.now ≡ length other.now }
     ensures { IsTrue result ↔ (parts.now ≡ other.now) }
 {
@@ -51,49 +51,49 @@ fn same_below<T: Part>(parts: &[T], other: &[T]) -> bool
 }
 
 // Whether parts are the same.
-fn same_all<T: Part>(parts: &[T], other: &[T]) -> bool
+fn same_all<T: Same>(parts: &[T], other: &[T]) -> bool
     ensures { IsTrue result ↔ (parts.now ≡ other.now) }
 {
     parts.len() == other.len() && same_below(parts, other)
 }
 
-impl Part for Entry {
+impl Same for Entry {
     fn is_same(&self, other: &Entry) -> bool {
-        same_entry(self, other)
+        Entry::is_same(self, other)
     }
 }
 
-impl Part for Lane {
+impl Same for Lane {
     fn is_same(&self, other: &Lane) -> bool {
         same_lane(self, other)
     }
 }
 
-impl Part for Port {
+impl Same for Port {
     fn is_same(&self, other: &Port) -> bool {
         same_port(self, other)
     }
 }
 
-impl Part for Token {
+impl Same for Token {
     fn is_same(&self, other: &Token) -> bool {
         same_token(self, other)
     }
 }
 
-impl Part for Letter {
+impl Same for Letter {
     fn is_same(&self, other: &Letter) -> bool {
         same_letter(self, other)
     }
 }
 
-impl Part for Processor {
+impl Same for Processor {
     fn is_same(&self, other: &Processor) -> bool {
         same_mail(self, other) && same_runs(self, other)
     }
 }
 
-impl Part for Plain {
+impl Same for Plain {
     fn is_same(&self, other: &Plain) -> bool {
         same_all(self.tokens.as_slice(), other.tokens.as_slice())
             && same_all(self.letters.as_slice(), other.letters.as_slice())
@@ -101,7 +101,7 @@ impl Part for Plain {
     }
 }
 
-impl Part for Thread {
+impl Same for Thread {
     fn is_same(&self, other: &Thread) -> bool {
         same_thread(self, other)
     }
@@ -141,43 +141,12 @@ fn same_answer(one: &Answer, other: &Answer) -> bool
     }
 }
 
-fn same_ask(one: &Ask, other: &Ask) -> bool
-    ensures { IsTrue result ↔ (one.now ≡ other.now) }
-{
-    match (one, other) {
-        (Ask::Get(a), Ask::Get(b)) => *a == *b,
-        (Ask::GetShared(a), Ask::GetShared(b)) => *a == *b,
-        (Ask::TryGet(a), Ask::TryGet(b)) => *a == *b,
-        (Ask::Rel(a), Ask::Rel(b)) => *a == *b,
-        (Ask::Swap, Ask::Swap) => true,
-        (Ask::Read(a, m), Ask::Read(b, n)) => *a == *b && *m == *n,
-        (Ask::Write(a, m, v), Ask::Write(b, n, w)) => *a == *b && *m == *n && *v == *w,
-        (Ask::Add(a, v), Ask::Add(b, w)) => *a == *b && *v == *w,
-        (Ask::ReadBlob(a), Ask::ReadBlob(b)) => *a == *b,
-        (Ask::WriteBlob(a, m), Ask::WriteBlob(b, n)) => *a == *b && m.is_same(n),
-        (Ask::Send(m, s, c, f), Ask::Send(n, t, d, g)) => {
-            *m == *n && *s == *t && *c == *d && *f == *g
-        }
-        (Ask::Do(m, s, c), Ask::Do(n, t, d)) => *m == *n && *s == *t && *c == *d,
-        (Ask::Reply(m, e, r), Ask::Reply(n, f, s)) => *m == *n && *e == *f && *r == *s,
-        (Ask::Abort(m), Ask::Abort(n)) => *m == *n,
-        (Ask::IsAborted(m), Ask::IsAborted(n)) => *m == *n,
-        (Ask::DropMsg(m), Ask::DropMsg(n)) => *m == *n,
-        (Ask::GetPort, Ask::GetPort) => true,
-        (Ask::WaitPort, Ask::WaitPort) => true,
-        (Ask::Yield, Ask::Yield) => true,
-        (Ask::Exit, Ask::Exit) => true,
-        (Ask::Fail(m), Ask::Fail(n)) => *m == *n,
-        _ => false,
-    }
-}
-
 fn same_asked(one: &Option<Ask>, other: &Option<Ask>) -> bool
     ensures { IsTrue result ↔ (one.now ≡ other.now) }
 {
     match (one, other) {
         (None, None) => true,
-        (Some(a), Some(b)) => same_ask(a, b),
+        (Some(a), Some(b)) => a.is_same(b),
         _ => false,
     }
 }
@@ -262,16 +231,6 @@ fn same_notes(one: &Items<Note>, other: &Items<Note>) -> bool
     ensures { IsTrue result ↔ (one.now ≡ other.now) }
 {
     one.as_slice() == other.as_slice()
-}
-
-fn same_entry(one: &Entry, other: &Entry) -> bool
-    ensures { IsTrue result ↔ (one.now ≡ other.now) }
-{
-    match (one, other) {
-        (Entry::Bytes(a), Entry::Bytes(b)) => a.is_same(b),
-        (Entry::Bytes(_), _) | (_, Entry::Bytes(_)) => false,
-        _ => *one == *other,
-    }
 }
 
 // What two threads do, and where they stand.
@@ -430,6 +389,49 @@ impl Copied for Token {
             first_blob: self.first_blob,
             holders: self.holders,
             tallies: self.tallies,
+        })
+    }
+}
+
+impl Copied for Thread {
+    fn copied(&self, alloc: Global) -> Result<Thread, OutOfMemory> {
+        let log = copied_all(alloc, self.log.as_slice())?;
+        Ok(Thread {
+            phase: self.phase,
+            list: self.list.copied(),
+            last: self.last,
+            busy: self.busy,
+            local: self.local,
+            asked: self.asked,
+            log,
+        })
+    }
+}
+
+impl Copied for Processor {
+    fn copied(&self, alloc: Global) -> Result<Processor, OutOfMemory> {
+        let lanes = copied_all(alloc, self.lanes.as_slice())?;
+        let ports = copied_all(alloc, self.ports.as_slice())?;
+        let threads = copied_all(alloc, self.threads.as_slice())?;
+        Ok(Processor {
+            lanes,
+            ports,
+            threads,
+            running: self.running,
+            cursor: self.cursor,
+        })
+    }
+}
+
+impl Copied for Plain {
+    fn copied(&self, alloc: Global) -> Result<Plain, OutOfMemory> {
+        let tokens = copied_all(alloc, self.tokens.as_slice())?;
+        let letters = copied_all(alloc, self.letters.as_slice())?;
+        let cpus = copied_all(alloc, self.cpus.as_slice())?;
+        Ok(Plain {
+            tokens,
+            letters,
+            cpus,
         })
     }
 }

@@ -1,4 +1,4 @@
-use Rattle.std.proofs.Common.{◌≡◌, ℕ, ◌+◌, ◌<◌, List, [], ◌∷◌, ◌++◌, zero, suc, length, arith, ap, refl, slice_index_or}
+use Rattle.std.proofs.Common.{◌≡◌, ℕ, ◌<◌, List, [], ◌∷◌, ◌++◌, zero, suc, length, arith, ap, refl, slice_index_or}
 use Rattle.lwkt_search.specs.declared.searches.Link.{Link}
 use Rattle.lwkt_search.specs.Graphs.{Node, node_at, nodes_of}
 

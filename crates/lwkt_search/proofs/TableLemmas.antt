@@ -1,4 +1,4 @@
-use Rattle.std.proofs.Common.{◌≡◌, ℕ, ◌+◌, ◌<◌, ◌≤◌, List, [], ◌∷◌, ◌++◌, zero, suc, length, length-append, arith, ap, subst, sym, refl, ◌∙◌, below_more, slice_index_or, slice_get, drop, All, HoldsAt, Option, Some, ◌⊎◌, inl, inr}
+use Rattle.std.proofs.Common.{◌≡◌, ℕ, ◌+◌, ◌<◌, List, [], ◌∷◌, ◌++◌, zero, suc, length, length-append, arith, ap, subst, sym, refl, ◌∙◌, below_more, slice_index_or, slice_get, drop, All, HoldsAt, Option, Some, ◌⊎◌, inl, inr}
 use Rattle.std.proofs.lemmas.List.{append-nil, get_or_append_left}
 use Rattle.std.proofs.Math.Seq.{get_or-append_seam}
 use Rattle.std.proofs.lemmas.List.Elements.{All-head, All-tail}

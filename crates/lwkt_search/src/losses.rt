@@ -4,9 +4,9 @@ ghost use Rattle.lwkt_search.specs.Runs.{run, all_told, IsOrder, HasOutcome, Are
 ghost use Rattle.lwkt_search.specs.Graphs.{node_at, nodes_of, IsWhole};
 ghost use Rattle.lwkt_search.specs.Losses.{IsEnd, IsLost, IsLostOutcome, LeadsOn, IsNext, IsReaching, IsStable, IsSettled, missing};
 
-use crate::searches::{Growth, Outcome, Task};
 use crate::machines::{Ending, Machine};
 use crate::refusals::Refusal;
+use crate::searches::{Growth, Outcome, Task};
 use lwkt_base::memory::push;
 use std::alloc::Global;
 
@@ -24,7 +24,12 @@ fn is_end<M: Ending>(task: &Task<M>, growth: &Growth<M::Store>, at: usize) -> bo
 }
 
 // Whether a turn leads from a state to one from which an end can be reached.
-fn leads_on<M: Machine>(task: &Task<M>, growth: &Growth<M::Store>, reaches: &[bool], at: usize) -> bool
+fn leads_on<M: Machine>(
+    task: &Task<M>,
+    growth: &Growth<M::Store>,
+    reaches: &[bool],
+    at: usize,
+) -> bool
     requires whole { IsWhole (M.turn_of task.now.machine) (M.start_of task.now.machine) task.now.cpus (nodes_of (M.kept growth.now.store) growth.now.links.items) growth.now.next.items growth.now.gone_on }
     requires long { length growth.now.links.items ≡ length (M.kept growth.now.store) }
     requires there { at < length (nodes_of (M.kept growth.now.store) growth.now.links.items) }
@@ -42,7 +47,12 @@ fn leads_on<M: Machine>(task: &Task<M>, growth: &Growth<M::Store>, reaches: &[bo
 }
 
 // Notes that an end can be reached from a state, if a turn leads to one from which it can. Says whether that is new.
-fn step_back<M: Ending>(task: &Task<M>, growth: &Growth<M::Store>, reaches: &mut [bool], at: usize) -> bool
+fn step_back<M: Ending>(
+    task: &Task<M>,
+    growth: &Growth<M::Store>,
+    reaches: &mut [bool],
+    at: usize,
+) -> bool
     requires whole { IsWhole (M.turn_of task.now.machine) (M.start_of task.now.machine) task.now.cpus (nodes_of (M.kept growth.now.store) growth.now.links.items) growth.now.next.items growth.now.gone_on }
     requires long { length growth.now.links.items ≡ length (M.kept growth.now.store) }
     requires there { at < length (nodes_of (M.kept growth.now.store) growth.now.links.items) }

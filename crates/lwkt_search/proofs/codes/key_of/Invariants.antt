@@ -1,4 +1,4 @@
-use Rattle.std.proofs.Common.{◌≡◌, ◌≤◌, length, take}
+use Rattle.std.proofs.Common.{◌≡◌, length, take}
 use Rattle.lwkt_search.specs.Codes.{key_behind}
 use Rattle.lwkt_search.proofs.codes.key_of.Given as goal
 

@@ -1,4 +1,4 @@
-use Rattle.std.proofs.Common.{◌≡◌, ℕ, ◌+◌, ◌-◌, ◌<◌, ◌≤◌, length, arith, ap, subst, sym, ◌∙◌, true, slice_index_or}
+use Rattle.std.proofs.Common.{◌≡◌, ℕ, ◌+◌, ◌-◌, ◌<◌, ◌≤◌, length, arith, ap, subst, sym, ◌∙◌, true}
 use Rattle.std.proofs.lemmas.List.{get_or_read}
 use Rattle.lwkt_search.specs.Indexes.{bucket_of, IsSought}
 use Rattle.lwkt_search.specs.Codes.{key_behind, code_at}

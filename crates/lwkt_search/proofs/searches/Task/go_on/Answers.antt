@@ -1,4 +1,4 @@
-use Rattle.std.proofs.Common.{◌≡◌, ◌<◌, ◌≤◌, length, arith, refl, ◌∙◌, IsTrue, rules}
+use Rattle.std.proofs.Common.{◌≡◌, ◌<◌, ◌≤◌, length, arith, refl, IsTrue, rules}
 use Rattle.lwkt_search.specs.Graphs.{nodes_of}
 use Rattle.lwkt_search.proofs.NodeLemmas.{nodes_long}
 use Rattle.lwkt_search.proofs.RowLemmas.{row_done}

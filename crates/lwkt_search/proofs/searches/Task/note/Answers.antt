@@ -1,8 +1,8 @@
-use Rattle.std.proofs.Common.{◌≡◌, ℕ, ◌+◌, ◌<◌, ◌≤◌, List, [], ◌∷◌, length, arith, ap, refl, ◌∙◌, slice_index_or}
+use Rattle.std.proofs.Common.{◌≡◌, ◌+◌, ◌<◌, ◌≤◌, [], ◌∷◌, length, arith, ap, refl, ◌∙◌, slice_index_or}
 use Rattle.std.proofs.lemmas.List.{get_or_default, length-append}
 use Rattle.std.proofs.lemmas.Bool.{ltb-false}
 use Rattle.lwkt_search.specs.declared.searches.Link.{Link}
-use Rattle.lwkt_search.specs.Graphs.{Node, node_at, nodes_of, IsNew, IsGrownTo}
+use Rattle.lwkt_search.specs.Graphs.{node_at, nodes_of, IsNew, IsGrownTo}
 use Rattle.lwkt_search.proofs.GraphLemmas.{has_states}
 use Rattle.lwkt_search.proofs.NodeLemmas.{node_depth, nodes_long}
 use Rattle.lwkt_search.proofs.RowLemmas.{new_row, seen_row, turned_last, turned_low}
@@ -66,6 +66,7 @@ returns-clause-next g c = λ yes.
     let deep : (d : Link) → link.depth ≡ (slice_index_or links at d).depth + 1 = λ d. ap (λ (l : Link). l.depth + 1) (c.index.ensures ∙ get_or_default links at c.index.result.now d c.requires.there) in
     let row : IsGrownTo turn start cpus (nodes_of new links') c.push.new.list.items at (cpu + 1) = new_row turn start cpus old new links links' next c.push.new.list.items at cpu place link c.requires.grown c.requires.long c.requires.there c.requires.cpu fresh refl refl deep c.in_ok-push-2.ensures.items c.in_ok-push.ensures.items in
     row
+
 pub returns-clause-grown : goal.returns-clause-grown
 returns-clause-grown g c =
     let turn = g.M.Machine.turn_of c.args.self.now.machine in
@@ -86,6 +87,7 @@ returns-clause-grown g c =
     let deep : (d : Link) → link.depth ≡ (slice_index_or links at d).depth + 1 = λ d. ap (λ (l : Link). l.depth + 1) (c.index.ensures ∙ get_or_default links at c.index.result.now d c.requires.there) in
     let row : IsGrownTo turn start cpus (nodes_of new links') c.push.new.list.items at (cpu + 1) = new_row turn start cpus old new links links' next c.push.new.list.items at cpu place link c.requires.grown c.requires.long c.requires.there c.requires.cpu fresh refl refl deep c.in_ok-push-2.ensures.items c.in_ok-push.ensures.items in
     row.grown
+
 pub returns-clause-full : goal.returns-clause-full
 returns-clause-full g c = λ no.
     let turn = g.M.Machine.turn_of c.args.self.now.machine in

@@ -1,8 +1,8 @@
-use Rattle.std.proofs.Common.{◌≡◌, ℕ, ◌+◌, ◌<◌, List, [], ◌∷◌, ◌++◌, length, arith, ap, sym, subst, ◌∙◌, reverse, slice_index_or}
+use Rattle.std.proofs.Common.{◌≡◌, ℕ, ◌+◌, ◌<◌, List, [], ◌∷◌, ◌++◌, length, arith, ap, sym, subst, ◌∙◌, reverse}
 use Rattle.std.proofs.lemmas.List.{length-append, length-reverse}
 use Rattle.lwkt_search.specs.declared.searches.Link.{Link}
 use Rattle.lwkt_search.specs.Runs.{run, IsOrder}
-use Rattle.lwkt_search.specs.Graphs.{Node, node_at, nodes_of, IsLink}
+use Rattle.lwkt_search.specs.Graphs.{node_at, nodes_of, IsLink}
 use Rattle.lwkt_search.proofs.NodeLemmas.{node_cpu, node_parent, node_state, nodes_long}
 use Rattle.lwkt_search.proofs.RunLemmas.{back}
 use Rattle.lwkt_search.proofs.searches.Task.order.Goals as goal

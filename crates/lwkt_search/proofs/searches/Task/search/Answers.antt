@@ -1,8 +1,8 @@
-use Rattle.std.proofs.Common.{◌≡◌, ◌+◌, ◌<◌, ◌≤◌, length, arith, ap, ◌∙◌, true, Vec, IsTrue}
+use Rattle.std.proofs.Common.{◌≡◌, ◌+◌, ◌<◌, ◌≤◌, length, arith, ap, ◌∙◌, true, Vec}
 use Rattle.std.specs.declared.alloc.Global.{Global}
 use Rattle.lwkt_search.specs.declared.searches.Outcome.{Outcome}
 use Rattle.lwkt_search.specs.Runs.{all_told, told_of, IsQuiet}
-use Rattle.lwkt_search.specs.Graphs.{node_at, nodes_of, IsCollected, IsSearchOf}
+use Rattle.lwkt_search.specs.Graphs.{node_at, nodes_of, IsCollected}
 use Rattle.lwkt_search.proofs.CountLemmas.{no_more}
 use Rattle.lwkt_search.proofs.NodeLemmas.{nodes_long}
 use Rattle.lwkt_search.proofs.RunLemmas.{is_whole, collect_more, collect_less, all_collected, told_push}

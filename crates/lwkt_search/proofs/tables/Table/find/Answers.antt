@@ -1,4 +1,4 @@
-use Rattle.std.proofs.Common.{◌≡◌, ℕ, ◌+◌, ◌-◌, ◌<◌, ◌≤◌, length, arith, subst, sym, ◌∙◌, true, HoldsAt, slice_index_or}
+use Rattle.std.proofs.Common.{◌≡◌, ℕ, ◌+◌, ◌-◌, ◌<◌, ◌≤◌, length, arith, subst, sym, ◌∙◌, true, HoldsAt}
 use Rattle.std.proofs.lemmas.List.{get_or_default, get_or_read}
 use Rattle.lwkt_search.specs.Indexes.{bucket_of, IsSought}
 use Rattle.lwkt_search.specs.Tables.{key_at}

@@ -1,4 +1,4 @@
-use Rattle.std.proofs.Common.{◌≡◌, subst, sym, ◌∙◌}
+use Rattle.std.proofs.Common.{subst, sym, ◌∙◌}
 use Rattle.lwkt_search.specs.Tables.{IsNamed}
 use Rattle.lwkt_search.proofs.tables.Table.is_at.Goals as goal
 

@@ -1,7 +1,6 @@
-use Rattle.std.proofs.Common.{◌≡◌, ◌<◌, ◌≤◌, ◌+◌, length, arith, ap, subst, sym, refl, ◌∙◌, slice_index_or}
-use Rattle.lwkt_search.specs.Indexes.{IsIndex}
+use Rattle.std.proofs.Common.{◌≡◌, ◌<◌, length, arith, ap, sym, refl, ◌∙◌}
 use Rattle.lwkt_search.specs.Tables.{key_at}
-use Rattle.lwkt_search.proofs.TableLemmas.{key_is, table_again}
+use Rattle.lwkt_search.proofs.TableLemmas.{key_is}
 use Rattle.lwkt_search.proofs.tables.Table.widen.Goals as goal
 
 pub add-requires-clause-room : goal.add-requires-clause-room
