@@ -13,6 +13,7 @@ pub mod Frames
 pub mod Givings
 pub mod GoOnSound
 pub mod Holdings
+pub mod Keys
 pub mod LawTests
 pub mod MailSound
 pub mod OldWords
@@ -22,6 +23,7 @@ pub mod PollSound
 pub mod Receipts
 pub mod Risings
 pub mod Soundness
+pub mod TableLemmas
 pub mod Takings
 pub mod TokenSteps
 pub mod TryForms

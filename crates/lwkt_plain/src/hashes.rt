@@ -1,6 +1,6 @@
 //! Keys by which parts of states are found again.
 ghost use Rattle.std.specs.Prelude.{◌≡◌, ℕ, List};
-ghost use Rattle.lwkt_search.specs.Codes.{mixed, key_behind};
+ghost use Rattle.lwkt_search.specs.Codes.{mixed};
 ghost use Rattle.lwkt_plain.specs.Hashes.{key_of_all, held_key, token_key, letter_key, phase_number, entry_number, entry_key, ref_key, thread_key, lane_key, port_key, processor_key};
 
 use crate::letters::{Lane, Letter, Port};
@@ -132,7 +132,7 @@ pub(crate) fn token_key(token: &Token) -> u64
     ensures { result ≡ token_key token.now }
 {
     let key = mixed(0, token.generation);
-    let key = mixed(key, if token.mark { 1 } else { 0 });
+    let key = mixed(key, u64::from(token.mark));
     let key = key_of_all(key, token.row.as_slice());
     key_of_all(key, &token.holders)
 }
@@ -153,7 +153,7 @@ pub(crate) fn processor_key(cpu: &Processor) -> u64
 {
     let running = match cpu.running {
         None => 0,
-        Some(k) => k as u64 + 1,
+        Some(k) => mixed(1, k as u64),
     };
     let key = mixed(mixed(0, cpu.cursor as u64), running);
     let key = key_of_all(key, cpu.lanes.as_slice());

@@ -1,7 +1,9 @@
 //! Whether two parts of states are the same.
-ghost use Rattle.std.specs.Prelude.{◌≡◌, ◌↔◌, IsTrue, IfOk, length};
+ghost use Rattle.std.specs.Prelude.{◌≡◌, ◌↔◌, ℕ, IsTrue, IfOk, length};
 ghost use Rattle.lwkt_plain.specs.Faults.{carried};
+ghost use Rattle.lwkt_plain.specs.Hashes.{letter_key, processor_key, token_key};
 
+use crate::hashes::{letter_key, processor_key, token_key};
 use crate::items::Items;
 use crate::letters::{Lane, Letter, Note, Port};
 use crate::states::{BusyAt, Phase, Plain, Processor, Thread};
@@ -16,6 +18,23 @@ pub trait Same {
     /// Whether two are the same.
     fn is_same(&self, other: &Self) -> bool
         ensures { IsTrue result ↔ (self.now ≡ other.now) };
+}
+
+/// A part of a state that is kept once.
+pub trait Part: Drop {
+    ghost hash_of: { Self → ℕ };
+
+    /// A number by which it is found again: the fewer parts share one, the faster.
+    fn hash(&self) -> u64
+        ensures { result ≡ hash_of self.now };
+
+    /// Whether the other is the same part.
+    fn is_same(&self, other: &Self) -> bool
+        ensures { IsTrue result ↔ (self.now ≡ other.now) };
+
+    /// The same part, in memory of its own.
+    fn copied(&self, alloc: Global) -> Result<Self, OutOfMemory>
+        ensures { IfOk result (λ part. part ≡ self.now) };
 }
 
 /// A part that can be had once more.
@@ -433,5 +452,53 @@ impl Copied for Plain {
             letters,
             cpus,
         })
+    }
+}
+
+impl Part for Token {
+    ghost hash_of = { token_key };
+
+    fn hash(&self) -> u64 {
+        token_key(self)
+    }
+
+    fn is_same(&self, other: &Token) -> bool {
+        Same::is_same(self, other)
+    }
+
+    fn copied(&self, alloc: Global) -> Result<Token, OutOfMemory> {
+        Copied::copied(self, alloc)
+    }
+}
+
+impl Part for Letter {
+    ghost hash_of = { letter_key };
+
+    fn hash(&self) -> u64 {
+        letter_key(self)
+    }
+
+    fn is_same(&self, other: &Letter) -> bool {
+        Same::is_same(self, other)
+    }
+
+    fn copied(&self, alloc: Global) -> Result<Letter, OutOfMemory> {
+        Copied::copied(self, alloc)
+    }
+}
+
+impl Part for Processor {
+    ghost hash_of = { processor_key };
+
+    fn hash(&self) -> u64 {
+        processor_key(self)
+    }
+
+    fn is_same(&self, other: &Processor) -> bool {
+        Same::is_same(self, other)
+    }
+
+    fn copied(&self, alloc: Global) -> Result<Processor, OutOfMemory> {
+        Copied::copied(self, alloc)
     }
 }

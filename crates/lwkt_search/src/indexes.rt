@@ -6,16 +6,18 @@ use lwkt_base::OutOfMemory;
 use lwkt_base::memory::{MOST_ROOM, push, resize};
 use std::alloc::Global;
 
-// Where items are, by their keys: of each bucket 1 more than the last place in it, and of each place 1 more than the one before it in
-// its bucket; 0 stands for none.
+/// Where items are, by their keys: of each bucket 1 more than the last place in it, and of each place 1 more than the one before it in
+/// its bucket; 0 stands for none.
 #[derive(Drop)]
 pub struct Index {
+    /// Of each bucket.
     pub heads: Vec<u32>,
+    /// Of each place.
     pub links: Vec<u32>,
 }
 
-// The bucket of a key.
-pub(crate) fn bucket_of(key: u64, count: usize) -> usize
+/// The bucket of a key.
+pub fn bucket_of(key: u64, count: usize) -> usize
     requires { 0 < count }
     ensures is { result ≡ bucket_of count key }
     ensures there { result < count }
@@ -46,8 +48,8 @@ fn empty_buckets(alloc: Global, count: usize) -> Result<Vec<u32>, OutOfMemory>
 }
 
 impl Index {
-    // Adds a key, as the one of the next place.
-    pub(crate) fn add(&mut self, key: u64) -> Result<(), OutOfMemory>
+    /// Adds a key, as the one of the next place.
+    pub fn add(&mut self, key: u64) -> Result<(), OutOfMemory>
         requires some { 0 < length self.old.heads.items }
         requires room { length self.old.links.items < 4294967295 }
         ensures { IfOk result (λ done. IsAdded key self.old.heads.items self.old.links.items self.new.heads.items self.new.links.items) }
@@ -60,8 +62,8 @@ impl Index {
         Ok(())
     }
 
-    // An index of no keys, with room for so many.
-    pub(crate) fn empty(alloc: Global, count: usize) -> Result<Index, OutOfMemory>
+    /// An index of no keys, with room for so many.
+    pub fn empty(alloc: Global, count: usize) -> Result<Index, OutOfMemory>
         ensures index { IfOk result (λ index. (key : ℕ → ℕ) → IsIndex key index.heads.items index.links.items 0) }
         ensures empty { IfOk result (λ index. index.links.items ≡ []) }
     {

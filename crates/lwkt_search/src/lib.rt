@@ -10,15 +10,11 @@ pub mod codes;
 pub mod indexes;
 mod losses;
 mod machines;
-pub mod parts;
 mod refusals;
 mod searches;
-pub mod tables;
 
 pub use codes::Codes;
 pub use losses::lost_states;
 pub use machines::{Ending, Machine};
-pub use parts::Part;
-pub use refusals::Refusal;
+pub use refusals::{MOST_NUMBERS, Refusal};
 pub use searches::{Found, Growth, Link, Outcome, Task};
-pub use tables::Table;

@@ -17,4 +17,4 @@ impl From<OutOfMemory> for Refusal {
 }
 
 /// The most items that are kept of one kind.
-pub(crate) const MOST_NUMBERS: usize = 4_294_967_295;
+pub const MOST_NUMBERS: usize = 4_294_967_295;

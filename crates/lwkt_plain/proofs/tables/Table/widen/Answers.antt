@@ -1,7 +1,7 @@
 use Rattle.std.proofs.Common.{◌≡◌, ◌<◌, length, arith, ap, sym, refl, ◌∙◌}
-use Rattle.lwkt_search.specs.Tables.{key_at}
-use Rattle.lwkt_search.proofs.TableLemmas.{key_is}
-use Rattle.lwkt_search.proofs.tables.Table.widen.Goals as goal
+use Rattle.lwkt_plain.specs.Tables.{key_at}
+use Rattle.lwkt_plain.proofs.TableLemmas.{key_is}
+use Rattle.lwkt_plain.proofs.tables.Table.widen.Goals as goal
 
 pub add-requires-clause-room : goal.add-requires-clause-room
 add-requires-clause-room g c =

@@ -1,7 +1,7 @@
 use Rattle.std.proofs.Common.{◌≡◌, length, HoldsAt}
 use Rattle.lwkt_search.specs.Indexes.{IsSought}
-use Rattle.lwkt_search.specs.Tables.{key_at}
-use Rattle.lwkt_search.proofs.tables.Table.find.Given as goal
+use Rattle.lwkt_plain.specs.Tables.{key_at}
+use Rattle.lwkt_plain.proofs.tables.Table.find.Given as goal
 
 abbrev pub invariant-loop-up : goal.invariant-loop-up
 invariant-loop-up g l = record {

@@ -1,12 +1,12 @@
 //! Parts of one kind, each kept once.
 ghost use Rattle.std.specs.Prelude.{◌≡◌, ◌↔◌, ◌<◌, ◌≤◌, ◌++◌, ◌∷◌, [], length, All, HoldsAt, IsTrue, IfOk, MatchOption};
 ghost use Rattle.lwkt_search.specs.Indexes.{IsIndex};
-ghost use Rattle.lwkt_search.specs.Tables.{key_at, IsTable, Extends, IsNamed};
+ghost use Rattle.lwkt_plain.specs.Tables.{key_at, IsTable, Extends, IsNamed};
 
-use crate::indexes::{Index, bucket_of};
 use crate::parts::Part;
-use crate::refusals::{MOST_NUMBERS, Refusal};
 use lwkt_base::memory::push;
+use lwkt_search::indexes::{Index, bucket_of};
+use lwkt_search::{MOST_NUMBERS, Refusal};
 use std::alloc::Global;
 
 /// Parts of one kind, each once, by the numbers 0, 1, .. in the order in which they came.

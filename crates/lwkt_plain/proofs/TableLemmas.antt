@@ -4,7 +4,7 @@ use Rattle.std.proofs.Math.Seq.{get_or-append_seam}
 use Rattle.std.proofs.lemmas.List.Elements.{All-head, All-tail}
 use Rattle.std.specs.Option.{option_map_or}
 use Rattle.lwkt_search.specs.Indexes.{IsIndex, IsAdded}
-use Rattle.lwkt_search.specs.Tables.{key_at, named, IsTable, IsNamed, AreNamed, Extends}
+use Rattle.lwkt_plain.specs.Tables.{key_at, named, IsTable, IsNamed, AreNamed, Extends}
 use Rattle.lwkt_search.proofs.IndexLemmas.{index_same}
 
 pub key_is : {P : Type 0} (hash : P → ℕ) (parts : List P) (k : ℕ) (d : P) → k < length parts → key_at hash parts k ≡ hash (slice_index_or parts k d)

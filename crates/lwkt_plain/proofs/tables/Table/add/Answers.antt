@@ -1,9 +1,9 @@
 use Rattle.std.proofs.Common.{◌≡◌, ℕ, ◌<◌, ◌++◌, ◌∷◌, [], List, length, arith, ap, subst, ◌∙◌, Vec}
 use Rattle.std.specs.declared.alloc.Global.{Global}
 use Rattle.lwkt_search.specs.Indexes.{IsAdded}
-use Rattle.lwkt_search.specs.Tables.{IsTable}
-use Rattle.lwkt_search.proofs.TableLemmas.{table_push}
-use Rattle.lwkt_search.proofs.tables.Table.add.Goals as goal
+use Rattle.lwkt_plain.specs.Tables.{IsTable}
+use Rattle.lwkt_plain.proofs.TableLemmas.{table_push}
+use Rattle.lwkt_plain.proofs.tables.Table.add.Goals as goal
 
 pub returns-clause-table : goal.returns-clause-table
 returns-clause-table g c =

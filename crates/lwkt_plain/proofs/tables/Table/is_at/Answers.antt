@@ -1,6 +1,6 @@
 use Rattle.std.proofs.Common.{subst, sym, ◌∙◌}
-use Rattle.lwkt_search.specs.Tables.{IsNamed}
-use Rattle.lwkt_search.proofs.tables.Table.is_at.Goals as goal
+use Rattle.lwkt_plain.specs.Tables.{IsNamed}
+use Rattle.lwkt_plain.proofs.tables.Table.is_at.Goals as goal
 
 pub returns : goal.returns
 returns g c =

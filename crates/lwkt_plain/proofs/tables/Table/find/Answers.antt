@@ -1,10 +1,10 @@
 use Rattle.std.proofs.Common.{◌≡◌, ℕ, ◌+◌, ◌-◌, ◌<◌, ◌≤◌, length, arith, subst, sym, ◌∙◌, true, HoldsAt}
 use Rattle.std.proofs.lemmas.List.{get_or_default, get_or_read}
 use Rattle.lwkt_search.specs.Indexes.{bucket_of, IsSought}
-use Rattle.lwkt_search.specs.Tables.{key_at}
+use Rattle.lwkt_plain.specs.Tables.{key_at}
 use Rattle.lwkt_search.proofs.IndexLemmas.{sought_next, sought_first}
-use Rattle.lwkt_search.proofs.TableLemmas.{key_found}
-use Rattle.lwkt_search.proofs.tables.Table.find.Goals as goal
+use Rattle.lwkt_plain.proofs.TableLemmas.{key_found}
+use Rattle.lwkt_plain.proofs.tables.Table.find.Goals as goal
 
 pub loop-up-init : goal.loop-up-init
 loop-up-init g c =

@@ -1,7 +1,7 @@
 use Rattle.std.proofs.Common.{◌≡◌, length}
 use Rattle.lwkt_search.specs.Indexes.{IsIndex}
-use Rattle.lwkt_search.specs.Tables.{key_at}
-use Rattle.lwkt_search.proofs.tables.Table.widen.Given as goal
+use Rattle.lwkt_plain.specs.Tables.{key_at}
+use Rattle.lwkt_plain.proofs.tables.Table.widen.Given as goal
 
 abbrev pub invariant-loop-at : goal.invariant-loop-at
 invariant-loop-at g l = record {
