@@ -13,6 +13,7 @@ use std::alloc::Global;
 // Whether a state is an end: quiet, and everything has ended.
 fn is_end<M: Ending>(task: &Task<M>, growth: &Growth<M::Store>, at: usize) -> bool
     requires whole { IsWhole (M.turn_of task.now.machine) (M.start_of task.now.machine) task.now.cpus (nodes_of (M.kept growth.now.store) growth.now.links.items) growth.now.next.items growth.now.gone_on }
+    requires sound { M.is_sound task.now.machine growth.now.store }
     requires long { length growth.now.links.items ≡ length (M.kept growth.now.store) }
     requires there { at < length (nodes_of (M.kept growth.now.store) growth.now.links.items) }
     ensures { IsTrue result ↔ IsEnd (M.turn_of task.now.machine) (M.ended_of task.now.machine) task.now.cpus (node_at (M.start_of task.now.machine) (nodes_of (M.kept growth.now.store) growth.now.links.items) at).state }
@@ -31,6 +32,7 @@ fn leads_on<M: Machine>(
     at: usize,
 ) -> bool
     requires whole { IsWhole (M.turn_of task.now.machine) (M.start_of task.now.machine) task.now.cpus (nodes_of (M.kept growth.now.store) growth.now.links.items) growth.now.next.items growth.now.gone_on }
+    requires sound { M.is_sound task.now.machine growth.now.store }
     requires long { length growth.now.links.items ≡ length (M.kept growth.now.store) }
     requires there { at < length (nodes_of (M.kept growth.now.store) growth.now.links.items) }
     requires same { length reaches.now ≡ length (nodes_of (M.kept growth.now.store) growth.now.links.items) }
@@ -54,6 +56,7 @@ fn step_back<M: Ending>(
     at: usize,
 ) -> bool
     requires whole { IsWhole (M.turn_of task.now.machine) (M.start_of task.now.machine) task.now.cpus (nodes_of (M.kept growth.now.store) growth.now.links.items) growth.now.next.items growth.now.gone_on }
+    requires sound { M.is_sound task.now.machine growth.now.store }
     requires long { length growth.now.links.items ≡ length (M.kept growth.now.store) }
     requires there { at < length (nodes_of (M.kept growth.now.store) growth.now.links.items) }
     requires same { length reaches.old ≡ length (nodes_of (M.kept growth.now.store) growth.now.links.items) }
@@ -76,6 +79,7 @@ fn step_back<M: Ending>(
 // Goes back over all states once, the last one first. Says whether an end can be reached from one more.
 fn go_back<M: Ending>(task: &Task<M>, growth: &Growth<M::Store>, reaches: &mut [bool]) -> bool
     requires whole { IsWhole (M.turn_of task.now.machine) (M.start_of task.now.machine) task.now.cpus (nodes_of (M.kept growth.now.store) growth.now.links.items) growth.now.next.items growth.now.gone_on }
+    requires sound { M.is_sound task.now.machine growth.now.store }
     requires long { length growth.now.links.items ≡ length (M.kept growth.now.store) }
     requires same { length reaches.old ≡ length (nodes_of (M.kept growth.now.store) growth.now.links.items) }
     requires reaching { IsReaching (M.turn_of task.now.machine) (M.ended_of task.now.machine) (M.start_of task.now.machine) task.now.cpus (nodes_of (M.kept growth.now.store) growth.now.links.items) reaches.old }
@@ -101,6 +105,7 @@ fn reaching<M: Ending>(
     growth: &Growth<M::Store>,
 ) -> Result<Vec<bool>, Refusal>
     requires whole { IsWhole (M.turn_of task.now.machine) (M.start_of task.now.machine) task.now.cpus (nodes_of (M.kept growth.now.store) growth.now.links.items) growth.now.next.items growth.now.gone_on }
+    requires sound { M.is_sound task.now.machine growth.now.store }
     requires long { length growth.now.links.items ≡ length (M.kept growth.now.store) }
     ensures same { IfOk result (λ reaches. length reaches.items ≡ length (nodes_of (M.kept growth.now.store) growth.now.links.items)) }
     ensures reaching { IfOk result (λ reaches. IsReaching (M.turn_of task.now.machine) (M.ended_of task.now.machine) (M.start_of task.now.machine) task.now.cpus (nodes_of (M.kept growth.now.store) growth.now.links.items) reaches.items) }
@@ -123,6 +128,7 @@ fn lost_of<M: Ending>(
     reaches: &[bool],
 ) -> Result<Vec<Outcome>, Refusal>
     requires whole { IsWhole (M.turn_of task.now.machine) (M.start_of task.now.machine) task.now.cpus (nodes_of (M.kept growth.now.store) growth.now.links.items) growth.now.next.items growth.now.gone_on }
+    requires sound { M.is_sound task.now.machine growth.now.store }
     requires long { length growth.now.links.items ≡ length (M.kept growth.now.store) }
     requires same { length reaches.now ≡ length (nodes_of (M.kept growth.now.store) growth.now.links.items) }
     requires reaching { IsReaching (M.turn_of task.now.machine) (M.ended_of task.now.machine) (M.start_of task.now.machine) task.now.cpus (nodes_of (M.kept growth.now.store) growth.now.links.items) reaches.now }
@@ -148,6 +154,7 @@ pub fn lost_states<M: Ending>(
     growth: &Growth<M::Store>,
 ) -> Result<Vec<Outcome>, Refusal>
     requires whole { IsWhole (M.turn_of task.now.machine) (M.start_of task.now.machine) task.now.cpus (nodes_of (M.kept growth.now.store) growth.now.links.items) growth.now.next.items growth.now.gone_on }
+    requires sound { M.is_sound task.now.machine growth.now.store }
     requires long { length growth.now.links.items ≡ length (M.kept growth.now.store) }
     // Each is a state that its order leads to, and from which no order leads to an end.
     ensures sound { IfOk result (λ lost. All (λ one. IsLostOutcome (M.turn_of task.now.machine) (M.ended_of task.now.machine) task.now.cpus (M.start_of task.now.machine) one) (all_told (M.start_of task.now.machine) (M.kept growth.now.store) lost.items)) }

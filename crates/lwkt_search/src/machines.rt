@@ -18,11 +18,15 @@ pub trait Machine: Drop {
 
     ghost kept: { Self.Store → List Self.State };
 
+    ghost is_sound: { Self → Self.Store → Type 0 };
+
     /// The number of the state that the turn of a processor leads to from the one of a number; a new state gets the next number.
     ///
     /// Refused if memory is, or if there is no number left.
     fn turn(&self, store: &mut Self::Store, at: usize, cpu: u8) -> Result<usize, Refusal>
+        requires sound { is_sound self.now store.old }
         requires there { at < length (kept store.old) }
+        ensures sound { IfOk result (λ next. is_sound self.now store.new) }
         ensures turned { IfOk result (λ next. IsTurned (turn_of self.now) (kept store.old) (kept store.new) at cpu next) }
         ensures few { IfOk result (λ next. next < 4294967296) };
 }
@@ -33,6 +37,7 @@ pub trait Ending: Machine {
 
     /// Whether everything has ended in the state of a number.
     fn has_ended(&self, store: &Self::Store, at: usize) -> bool
+        requires sound { Self.is_sound self.now store.now }
         requires there { at < length (Self.kept store.now) }
         ensures { result ≡ ended_of self.now (slice_index_or (Self.kept store.now) at (Self.start_of self.now)) };
 }

@@ -98,11 +98,13 @@ impl<M: Machine> Task<M> {
         at: usize,
         cpu: u8,
     ) -> Result<bool, Refusal>
+        requires sound { M.is_sound self.now.machine store.old }
         requires long { length links.old.items ≡ length (M.kept store.old) }
         requires grown { IsGrownTo (M.turn_of self.now.machine) (M.start_of self.now.machine) self.now.cpus (nodes_of (M.kept store.old) links.old.items) next.old.items at cpu }
         requires there { at < length links.old.items }
         requires cpu { cpu < self.now.cpus }
         ensures longer { IfOk result (λ kept. length links.old.items ≤ length links.new.items) }
+        ensures sound { IfOk result (λ kept. M.is_sound self.now.machine store.new) }
         ensures long { IfOk result (λ kept. length links.new.items ≡ length (M.kept store.new)) }
         ensures grown { IfOk result (λ kept. IsGrown (M.turn_of self.now.machine) (M.start_of self.now.machine) self.now.cpus (nodes_of (M.kept store.new) links.new.items) next.new.items at) }
         ensures full { IfOk result (λ kept. IsFalse kept → HasStates (M.turn_of self.now.machine) self.now.cpus (M.start_of self.now.machine) (self.now.bound + 1)) }
@@ -135,9 +137,11 @@ impl<M: Machine> Task<M> {
         next: &mut Vec<u32>,
         at: usize,
     ) -> Result<bool, Refusal>
+        requires sound { M.is_sound self.now.machine store.old }
         requires long { length links.old.items ≡ length (M.kept store.old) }
         requires grown { IsGrownTo (M.turn_of self.now.machine) (M.start_of self.now.machine) self.now.cpus (nodes_of (M.kept store.old) links.old.items) next.old.items at 0 }
         requires there { at < length links.old.items }
+        ensures sound { IfOk result (λ kept. M.is_sound self.now.machine store.new) }
         ensures long { IfOk result (λ kept. length links.new.items ≡ length (M.kept store.new)) }
         ensures grown { IfOk result (λ kept. IsGrown (M.turn_of self.now.machine) (M.start_of self.now.machine) self.now.cpus (nodes_of (M.kept store.new) links.new.items) next.new.items at) }
         ensures full { IfOk result (λ kept. IsFalse kept → HasStates (M.turn_of self.now.machine) self.now.cpus (M.start_of self.now.machine) (self.now.bound + 1)) }
@@ -155,7 +159,9 @@ impl<M: Machine> Task<M> {
     // Goes on from each state that is found.
     pub(crate) fn grow(&self, alloc: Global, store: M::Store) -> Result<Growth<M::Store>, Refusal>
         requires some { 0 < self.now.bound }
+        requires sound { M.is_sound self.now.machine store }
         requires first { M.kept store ≡ M.start_of self.now.machine ∷ [] }
+        ensures sound { IfOk result (λ growth. M.is_sound self.now.machine growth.store) }
         ensures long { IfOk result (λ growth. length growth.links.items ≡ length (M.kept growth.store)) }
         ensures grown { IfOk result (λ growth. IsGrown (M.turn_of self.now.machine) (M.start_of self.now.machine) self.now.cpus (nodes_of (M.kept growth.store) growth.links.items) growth.next.items growth.gone_on) }
         ensures full { IfOk result (λ growth. IsFalse growth.is_complete → HasStates (M.turn_of self.now.machine) self.now.cpus (M.start_of self.now.machine) (self.now.bound + 1)) }
@@ -220,7 +226,9 @@ impl<M: Machine> Task<M> {
     /// Which quiet states orders of turns lead to, from the first state, the one that the store has.
     pub fn search(&self, alloc: Global, store: M::Store) -> Result<Found<M::Store>, Refusal>
         requires some { 0 < self.now.bound }
+        requires sound { M.is_sound self.now.machine store }
         requires first { M.kept store ≡ M.start_of self.now.machine ∷ [] }
+        ensures store { IfOk result (λ found. M.is_sound self.now.machine found.growth.store) }
         ensures long { IfOk result (λ found. length found.growth.links.items ≡ length (M.kept found.growth.store)) }
         ensures whole { IfOk result (λ found. IsTrue found.growth.is_complete → IsWhole (M.turn_of self.now.machine) (M.start_of self.now.machine) self.now.cpus (nodes_of (M.kept found.growth.store) found.growth.links.items) found.growth.next.items found.growth.gone_on) }
         // Each outcome is a quiet state that its order leads to.

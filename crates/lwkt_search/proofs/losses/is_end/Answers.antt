@@ -31,4 +31,4 @@ has_ended-requires g c =
     let links = c.args.growth.now.links.items in
     let long : length links ≡ length kept = c.requires.long in
     let count : length (nodes_of kept links) ≡ length kept = nodes_long kept links long in
-    record { there = omega (arith, c.requires.there) }
+    record { sound = c.requires.sound; there = omega (arith, c.requires.there) }

@@ -12,6 +12,7 @@ loop-cpu-preserved g c =
     record {
       end = refl;
       under = omega (arith, c.loop-cpu.invariant.end);
+      sound = c.in_ok-note.ensures.sound;
       long = c.in_ok-note.ensures.long;
       grown = c.in_ok-note.ensures.next yes;
       there = omega arith;

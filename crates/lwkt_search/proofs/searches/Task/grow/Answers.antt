@@ -16,6 +16,7 @@ loop-at-init g c =
     let single : length kept ≡ 1 = ap length c.requires.first in
     let some : 0 < c.args.self.now.bound = c.requires.some in
     record {
+      sound = c.requires.sound;
       long = omega arith;
       grown = begin_grown (g.M.Machine.turn_of c.args.self.now.machine) start c.args.self.now.cpus kept links c.new-next.result.items c.requires.first one c.new-next.ensures.items;
       few = omega arith;
