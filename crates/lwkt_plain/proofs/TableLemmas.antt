@@ -1,5 +1,5 @@
-use Rattle.std.proofs.Common.{◌≡◌, ℕ, ◌+◌, ◌<◌, List, [], ◌∷◌, ◌++◌, zero, suc, length, length-append, arith, ap, subst, sym, refl, ◌∙◌, below_more, slice_index_or, slice_get, drop, All, HoldsAt, Option, Some, ◌⊎◌, inl, inr}
-use Rattle.std.proofs.lemmas.List.{append-nil, get_or_append_left}
+use Rattle.std.proofs.Common.{◌≡◌, ◌≢◌, ℕ, ◌+◌, ◌<◌, ◌≤◌, List, [], ◌∷◌, ◌++◌, zero, suc, length, length-append, arith, ap, subst, sym, refl, ◌∙◌, below_more, slice_index_or, slice_get, slice_set, drop, get_or-set_other, get_or-set_same, All, HoldsAt, Option, Some, ◌⊎◌, inl, inr}
+use Rattle.std.proofs.lemmas.List.{append-nil, append_assoc, get_or_append_left, length-set, set-get_or}
 use Rattle.std.proofs.Math.Seq.{get_or-append_seam}
 use Rattle.std.proofs.lemmas.List.Elements.{All-head, All-tail}
 use Rattle.std.specs.Option.{option_map_or}
@@ -139,3 +139,89 @@ numbers_same {P} table (m ∷ one) (n ∷ other) distinct low high same long =
     let less : length one ≡ length other = omega arith in
     let rest : one ≡ other = numbers_same table one other distinct (All-tail B m one low) (All-tail B n other high) tails less in
     ap (λ (k : ℕ). k ∷ one) first ∙ ap (λ (ks : List ℕ). n ∷ ks) rest
+
+same_or_not : (i j : ℕ) → (i ≡ j) ⊎ (i ≢ j)
+same_or_not i j = grind arith
+
+-- one number and its part more
+pub set_named : {P : Type 0} (table parts : List P) (numbers : List ℕ) (k n : ℕ) (p : P) → AreNamed table parts numbers → k < length numbers → IsNamed table n p → AreNamed table (slice_set parts k p) (slice_set numbers k n)
+set_named {P} table parts numbers k n p are there is =
+    let long : length parts ≡ length numbers = are.long in
+    let same : length (slice_set numbers k n) ≡ length numbers = length-set numbers k n in
+    let still : length (slice_set parts k p) ≡ length parts = length-set parts k p in
+    let in_parts : k < length parts = omega arith in
+    record {
+      long = still ∙ (long ∙ sym same);
+      each = λ j h d. elim (same_or_not j k) [
+        | inl here ↦
+            let J : ℕ → Type 0 = λ i. IsNamed table (slice_index_or (slice_set numbers k n) i 0) (slice_index_or (slice_set parts k p) i d) in
+            let N : ℕ → Type 0 = λ m. IsNamed table m (slice_index_or (slice_set parts k p) k d) in
+            let Q : P → Type 0 = λ q. IsNamed table n q in
+            subst J (sym here) (subst N (sym (get_or-set_same numbers k n 0 there)) (subst Q (sym (get_or-set_same parts k p d in_parts)) is))
+        | inr other ↦
+            let low : j < length numbers = omega (arith, h, same) in
+            let N : ℕ → Type 0 = λ m. IsNamed table m (slice_index_or (slice_set parts k p) j d) in
+            let Q : P → Type 0 = λ q. IsNamed table (slice_index_or numbers j 0) q in
+            subst N (sym (get_or-set_other numbers k j n 0 other)) (subst Q (sym (get_or-set_other parts k j p d other)) (are.each j low d))
+      ];
+    }
+
+-- the same number again
+pub set_again : {P : Type 0} (table parts : List P) (numbers : List ℕ) (k n : ℕ) → AreNamed table parts numbers → k < length numbers → slice_index_or numbers k 0 ≡ n → AreNamed table parts (slice_set numbers k n)
+set_again {P} table parts numbers k n are there is =
+    let F : List ℕ → Type 0 = λ ns. AreNamed table parts ns in
+    subst F (sym (ap (λ (m : ℕ). slice_set numbers k m) (sym is) ∙ set-get_or numbers k 0)) are
+
+-- parts keep their numbers where the table has more behind
+pub named_still : {P : Type 0} (table new : List P) (n : ℕ) (p : P) → Extends table new → IsNamed table n p → IsNamed new n p
+named_still {P} table new n p more is =
+    let F : List P → Type 0 = λ ps. IsNamed ps n p in
+    subst F (sym more.is) (named_more table more.more n p is)
+
+pub extends_long : {P : Type 0} (table new : List P) → Extends table new → length table ≤ length new
+extends_long {P} table new more =
+    let long : length new ≡ length table + length more.more = ap length more.is ∙ length-append table more.more in
+    omega arith
+
+pub extends_more : {P : Type 0} (a b c : List P) → Extends a b → Extends b c → Extends a c
+extends_more {P} a b c one other = record {
+  more = one.more ++ other.more;
+  is = other.is ∙ (ap (λ (ps : List P). ps ++ other.more) one.is ∙ append_assoc a one.more other.more);
+}
+
+-- one number more is told
+pub numbered_more : {P : Type 0} (table new parts : List P) (numbers : List ℕ) (k n : ℕ) (p : P) → Extends table new → k < length numbers → ((d : P) → slice_index_or parts k d ≡ p) → IsNamed new n p → ((j : ℕ) → j < k → (d : P) → IsNamed table (slice_index_or numbers j 0) (slice_index_or parts j d)) → (j : ℕ) → j < k + 1 → (d : P) → IsNamed new (slice_index_or (slice_set numbers k n) j 0) (slice_index_or parts j d)
+numbered_more {P} table new parts numbers k n p more there at is was j below d =
+    below_more (λ j. (d : P) → IsNamed new (slice_index_or (slice_set numbers k n) j 0) (slice_index_or parts j d)) k
+    (λ j h d.
+    let other : j ≢ k = omega arith in
+    let N : ℕ → Type 0 = λ m. IsNamed new m (slice_index_or parts j d) in
+    subst N (sym (get_or-set_other numbers k j n 0 other)) (named_still table new (slice_index_or numbers j 0) (slice_index_or parts j d) more (was j h d)))
+    (λ d.
+    let N : ℕ → Type 0 = λ m. IsNamed new m (slice_index_or parts k d) in
+    let Q : P → Type 0 = λ q. IsNamed new n q in
+    subst N (sym (get_or-set_same numbers k n 0 there)) (subst Q (sym (at d)) is))
+    j below d
+
+-- numbers stay below the length of a table that has more
+pub known_more : {P : Type 0} (table new : List P) (numbers : List ℕ) (k n : ℕ) → Extends table new → n < length new → All (λ m. m < length table) numbers → All (λ m. m < length new) (slice_set numbers k n)
+known_more {P} table new numbers k n more there was = λ j d h.
+    let long : length (slice_set numbers k n) ≡ length numbers = length-set numbers k n in
+    let low : j < length numbers = omega (arith, long, h) in
+    let up : length table ≤ length new = extends_long table new more in
+    elim (same_or_not j k) [
+      | inl here ↦
+          let in_it : k < length numbers = omega arith in
+          let J : ℕ → Type 0 = λ i. slice_index_or (slice_set numbers k n) i d < length new in
+          let B : ℕ → Type 0 = λ m. m < length new in
+          subst J (sym here) (subst B (sym (get_or-set_same numbers k n d in_it)) there)
+      | inr other ↦
+          let B : ℕ → Type 0 = λ m. m < length new in
+          let w : slice_index_or numbers j d < length table = was j d low in
+          subst B (sym (get_or-set_other numbers k j n d other)) (omega arith)
+    ]
+
+pub index_some : {P : Type 0} (parts : List P) (k : ℕ) (p d : P) → slice_get parts k ≡ Some p → slice_index_or parts k d ≡ p
+index_some [] k p d is = cc
+index_some {P} (q ∷ parts) zero p d is = ap (λ (o : Option P). option_map_or (λ x. x) o q) is
+index_some (q ∷ parts) (suc k) p d is = index_some parts k p d is

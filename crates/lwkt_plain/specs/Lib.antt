@@ -7,6 +7,7 @@ pub mod Mailing
 pub mod Openings
 pub mod Places
 pub mod Sound
+pub mod Stores
 pub mod Tables
 pub mod TokenAsks
 pub mod Tokens

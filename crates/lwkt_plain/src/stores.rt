@@ -1,0 +1,46 @@
+//! States of a script's plain machine, kept by the numbers of their parts.
+ghost use Rattle.std.specs.Prelude.{◌≡◌, ℕ, ◌<◌, length, IfOk};
+ghost use Rattle.lwkt_plain.specs.Forms.{form};
+ghost use Rattle.lwkt_plain.specs.Openings.{opened};
+ghost use Rattle.lwkt_plain.specs.Sound.{IsSound};
+ghost use Rattle.lwkt_plain.specs.Stores.{state_of, kept, IsStore, form_turn};
+
+use crate::letters::Letter;
+use crate::loads::{load, renumber};
+use crate::states::{Plain, Processor};
+use crate::tables::Table;
+use lwkt_core::Token;
+use lwkt_search::{Codes, Refusal};
+use std::alloc::Global;
+
+/// States, each once, by the numbers 0, 1, .. in the order in which they came, and the one that is worked on.
+#[derive(Drop)]
+pub struct Store {
+    pub(crate) alloc: Global,
+    pub(crate) tokens: Table<Token>,
+    pub(crate) letters: Table<Letter>,
+    pub(crate) cpus: Table<Processor>,
+    pub(crate) codes: Codes,
+    pub(crate) work: Plain,
+    pub(crate) token_numbers: Vec<u32>,
+    pub(crate) letter_numbers: Vec<u32>,
+    pub(crate) cpu_numbers: Vec<u32>,
+}
+
+impl Store {
+    // Makes the state that is worked on the one of a number.
+    fn go_to(&mut self, at: usize) -> Result<(), Refusal>
+        requires store { IsStore self.old }
+        requires there { at < length self.old.codes.index.links.items }
+        ensures store { IfOk result (λ done. IsStore self.new) }
+        ensures kept { IfOk result (λ done. kept self.new ≡ kept self.old) }
+        ensures work { IfOk result (λ done. self.new.work ≡ state_of self.old at) }
+    {
+        let code = self.codes.code(at);
+        let (tokens, rest) = code.split_at(self.token_numbers.len());
+        let (letters, cpus) = rest.split_at(self.letter_numbers.len());
+        load(self.alloc, &self.tokens, &mut self.work.tokens, &mut self.token_numbers, tokens)?;
+        load(self.alloc, &self.letters, &mut self.work.letters, &mut self.letter_numbers, letters)?;
+        load(self.alloc, &self.cpus, &mut self.work.cpus, &mut self.cpu_numbers, cpus)
+    }
+}
