@@ -23,6 +23,7 @@ pub mod PollSound
 pub mod Receipts
 pub mod Risings
 pub mod Soundness
+pub mod StoreLemmas
 pub mod TableLemmas
 pub mod Takings
 pub mod TokenSteps

@@ -41,6 +41,7 @@ impl Store {
         let (letters, cpus) = rest.split_at(self.letter_numbers.len());
         load(self.alloc, &self.tokens, &mut self.work.tokens, &mut self.token_numbers, tokens)?;
         load(self.alloc, &self.letters, &mut self.work.letters, &mut self.letter_numbers, letters)?;
-        load(self.alloc, &self.cpus, &mut self.work.cpus, &mut self.cpu_numbers, cpus)
+        load(self.alloc, &self.cpus, &mut self.work.cpus, &mut self.cpu_numbers, cpus)?;
+        Ok(())
     }
 }
