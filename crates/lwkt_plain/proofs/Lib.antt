@@ -24,6 +24,7 @@ pub mod Receipts
 pub mod Risings
 pub mod Soundness
 pub mod StoreLemmas
+pub mod StoreMoves
 pub mod TableLemmas
 pub mod Takings
 pub mod TokenSteps

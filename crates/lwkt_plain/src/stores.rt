@@ -1,14 +1,13 @@
 //! States of a script's plain machine, kept by the numbers of their parts.
-ghost use Rattle.std.specs.Prelude.{◌≡◌, ℕ, ◌<◌, length, IfOk};
-ghost use Rattle.lwkt_plain.specs.Forms.{form};
-ghost use Rattle.lwkt_plain.specs.Openings.{opened};
+ghost use Rattle.std.specs.Prelude.{◌≡◌, ◌<◌, ◌++◌, length, IfOk};
 ghost use Rattle.lwkt_plain.specs.Sound.{IsSound};
-ghost use Rattle.lwkt_plain.specs.Stores.{state_of, kept, IsStore, form_turn};
+ghost use Rattle.lwkt_plain.specs.Stores.{state_of, kept, IsStore, IsBase, IsKept};
 
 use crate::letters::Letter;
 use crate::loads::{load, renumber};
 use crate::states::{Plain, Processor};
 use crate::tables::Table;
+use lwkt_base::memory::extend_from_slice;
 use lwkt_core::Token;
 use lwkt_search::{Codes, Refusal};
 use std::alloc::Global;
@@ -43,5 +42,42 @@ impl Store {
         load(self.alloc, &self.letters, &mut self.work.letters, &mut self.letter_numbers, letters)?;
         load(self.alloc, &self.cpus, &mut self.work.cpus, &mut self.cpu_numbers, cpus)?;
         Ok(())
+    }
+
+    // The code of the numbers.
+    fn code_now(&self) -> Result<Vec<u32>, Refusal>
+        ensures { IfOk result (λ code. code.items ≡ self.now.token_numbers.items ++ (self.now.letter_numbers.items ++ self.now.cpu_numbers.items)) }
+    {
+        let mut code = Vec::new(self.alloc);
+        extend_from_slice(&mut code, self.token_numbers.as_slice())?;
+        extend_from_slice(&mut code, self.letter_numbers.as_slice())?;
+        extend_from_slice(&mut code, self.cpu_numbers.as_slice())?;
+        Ok(code)
+    }
+
+    // Numbers the parts of the state that is worked on.
+    fn renumber(&mut self) -> Result<(), Refusal>
+        requires base { IsBase self.old }
+        ensures store { IfOk result (λ done. IsStore self.new) }
+        ensures kept { IfOk result (λ done. kept self.new ≡ kept self.old) }
+        ensures work { IfOk result (λ done. self.new.work ≡ self.old.work) }
+    {
+        renumber(self.alloc, &mut self.tokens, &self.work.tokens, &mut self.token_numbers)?;
+        renumber(self.alloc, &mut self.letters, &self.work.letters, &mut self.letter_numbers)?;
+        renumber(self.alloc, &mut self.cpus, &self.work.cpus, &mut self.cpu_numbers)?;
+        Ok(())
+    }
+
+    // Keeps the state that is worked on. Says which number it has.
+    fn keep(&mut self) -> Result<usize, Refusal>
+        requires store { IsStore self.old }
+        requires sound { IsSound self.old.work }
+        ensures store { IfOk result (λ n. IsStore self.new) }
+        ensures kept { IfOk result (λ n. IsKept self.old.work (kept self.old) (kept self.new) n) }
+        ensures few { IfOk result (λ n. n < 4294967296) }
+    {
+        let code = self.code_now()?;
+        let number = self.codes.number(self.alloc, code.as_slice())?;
+        Ok(number)
     }
 }
