@@ -1,11 +1,17 @@
-use Rattle.std.proofs.Common.{◌≡◌, ℕ, ◌+◌, ◌-◌, ◌*◌, ◌<◌, ◌≤◌, ◌⊎◌, inl, inr, List, [], ◌∷◌, ◌++◌, zero, suc, length, take, drop, arith, ap, subst, sym, refl, ◌∙◌, Vec, All, below_more, slice_index_or, length-append}
+use Rattle.std.proofs.Common.{◌≡◌, ℕ, ◌+◌, ◌-◌, ◌*◌, ◌<◌, ◌≤◌, ◌⊎◌, inl, inr, List, [], ◌∷◌, ◌++◌, zero, suc, length, take, drop, arith, ap, subst, sym, refl, ◌∙◌, Vec, All, below_more, slice_index_or, length-append, Bool}
+use Rattle.std.specs.Bool.{if◌then◌else◌}
 use Rattle.std.specs.declared.alloc.Global.{Global}
+use Rattle.std.proofs.lemmas.Bool.{le-ltb, lt-ltb}
 use Rattle.std.proofs.lemmas.List.{length-drop, length-take-le, take-append-drop}
 use Rattle.std.proofs.Math.Seq.{drop-append_seam, take-append_seam}
 use Rattle.lwkt_core.specs.declared.tokens.Token.{Token}
 use Rattle.lwkt_search.specs.declared.codes.Codes.{Codes}
 use Rattle.lwkt_search.specs.Codes.{code_at, AreCodes, WasCoded, IsAppended, IsNumbered}
 use Rattle.lwkt_search.proofs.CodeLemmas.{code_last, code_left}
+use Rattle.lwkt_script.specs.declared.scripts.Script.{Script}
+use Rattle.lwkt_search.specs.Graphs.{IsTurned}
+use Rattle.lwkt_plain.specs.Forms.{form}
+use Rattle.lwkt_plain.specs.Turns.{turn}
 use Rattle.lwkt_plain.specs.declared.letters.Letter.{Letter}
 use Rattle.lwkt_plain.specs.declared.states.Plain.{Plain}
 use Rattle.lwkt_plain.specs.declared.states.Processor.{Processor}
@@ -13,7 +19,7 @@ use Rattle.lwkt_plain.specs.declared.stores.Store.{Store}
 use Rattle.lwkt_plain.specs.declared.tables.Table.{Table}
 use Rattle.lwkt_plain.specs.Hashes.{token_key, letter_key, processor_key}
 use Rattle.lwkt_plain.specs.Sound.{IsSound}
-use Rattle.lwkt_plain.specs.Stores.{first, decoded, state_of, kept, IsKnown, IsStore, IsBase, IsKept, WasKept, IsKeptNow}
+use Rattle.lwkt_plain.specs.Stores.{form_turn, first, decoded, state_of, kept, IsKnown, IsStore, IsBase, IsKept, WasKept, IsKeptNow}
 use Rattle.lwkt_plain.specs.Tables.{named, AreNamed, Extends, IsTable}
 use Rattle.lwkt_plain.proofs.StoreLemmas.{code_long, decoded_is, decoded_left, first_at, first_long, first_same, known_up, named_known}
 use Rattle.lwkt_plain.proofs.TableLemmas.{extends_long, named_by, numbers_same}
@@ -196,3 +202,42 @@ store_kept s codes code n is sound made are width (inl was) =
 store_kept s codes code n is sound made are width (inr new) =
     let r = store_new s codes code n is sound made are width new in
     (r.0, inr r.1)
+
+-- another state is worked on, with as many parts of each kind
+pub store_working : (s : Store) (w : Plain) → IsStore s → IsSound w → length w.tokens ≡ length s.token_numbers.items → length w.letters ≡ length s.letter_numbers.items → length w.cpus ≡ length s.cpu_numbers.items → IsBase (record s { work = w })
+store_working s w is sound nt nl nc = record {
+  tokens = is.tokens;
+  letters = is.letters;
+  cpus = is.cpus;
+  codes = is.codes;
+  width = is.width;
+  known = is.known;
+  sound = is.sound;
+  token_count = nt;
+  letter_count = nl;
+  cpu_count = nc;
+  token_numbers = named_known s.tokens.parts.items s.work.tokens s.token_numbers.items is.token_names;
+  letter_numbers = named_known s.letters.parts.items s.work.letters s.letter_numbers.items is.letter_names;
+  cpu_numbers = named_known s.cpus.parts.items s.work.cpus s.cpu_numbers.items is.cpu_names;
+  work = sound;
+}
+
+-- a turn leads to the state that is kept
+pub turned_by : (script : Script) (old mid new : List Plain) (work : Plain) (at cpu n : ℕ) → mid ≡ old → ((d : Plain) → work ≡ form_turn script (slice_index_or old at d) cpu) → IsKept work mid new n → IsTurned (form_turn script) old new at cpu n
+turned_by script old mid new work at cpu n same leads kept_it = go (subst (λ (xs : List Plain). IsKept work xs new n) same kept_it)
+  where
+    go : IsKept work old new n → IsTurned (form_turn script) old new at cpu n
+    go (inl was) = inl (record { same = was.same; there = was.there; leads = λ d. was.is d ∙ leads d })
+    go (inr now) = inr (record { state = work; grown = now.grown; last = now.last; leads = leads; fresh = now.fresh })
+
+-- a processor that isn't there makes no turn
+pub no_turn : (script : Script) (old new : List Plain) (at cpu : ℕ) → new ≡ old → at < length old → ((d : Plain) → length (slice_index_or old at d).cpus ≤ cpu) → IsTurned (form_turn script) old new at cpu at
+no_turn script old new at cpu same there none = inl (record {
+  same = same;
+  there = there;
+  leads = λ d. sym (ap (λ (b : Bool). if b then form (turn script (slice_index_or old at d) cpu) else slice_index_or old at d) (le-ltb cpu (length (slice_index_or old at d).cpus) (none d)));
+})
+
+-- one that is there makes one, by forms
+pub some_turn : (script : Script) (p : Plain) (cpu : ℕ) → cpu < length p.cpus → form_turn script p cpu ≡ form (turn script p cpu)
+some_turn script p cpu here = ap (λ (b : Bool). if b then form (turn script p cpu) else p) (lt-ltb cpu (length p.cpus) here)

@@ -1,7 +1,10 @@
 //! States of a script's plain machine, kept by the numbers of their parts.
-ghost use Rattle.std.specs.Prelude.{◌≡◌, ◌<◌, ◌++◌, length, IfOk};
+ghost use Rattle.std.specs.Prelude.{◌≡◌, ◌<◌, ◌++◌, length, IsTrue, IfOk};
+ghost use Rattle.lwkt_plain.specs.Forms.{form};
+ghost use Rattle.lwkt_plain.specs.Openings.{opened};
 ghost use Rattle.lwkt_plain.specs.Sound.{IsSound};
-ghost use Rattle.lwkt_plain.specs.Stores.{state_of, kept, IsStore, IsBase, IsKept};
+ghost use Rattle.lwkt_plain.specs.Turns.{turn};
+ghost use Rattle.lwkt_plain.specs.Stores.{state_of, kept, IsStore, IsBase, IsKept, form_turn};
 
 use crate::letters::Letter;
 use crate::loads::{load, renumber};
@@ -9,7 +12,8 @@ use crate::states::{Plain, Processor};
 use crate::tables::Table;
 use lwkt_base::memory::extend_from_slice;
 use lwkt_core::Token;
-use lwkt_search::{Codes, Refusal};
+use lwkt_script::Script;
+use lwkt_search::{Codes, Machine, Refusal};
 use std::alloc::Global;
 
 /// States, each once, by the numbers 0, 1, .. in the order in which they came, and the one that is worked on.
@@ -78,6 +82,65 @@ impl Store {
     {
         let code = self.code_now()?;
         let number = self.codes.number(self.alloc, code.as_slice())?;
+        Ok(number)
+    }
+
+    // Whether the state that is worked on has as many parts of each kind as there are numbers.
+    fn has_counts(&self) -> bool
+        ensures tokens { IsTrue result → length self.now.work.tokens ≡ length self.now.token_numbers.items }
+        ensures letters { IsTrue result → length self.now.work.letters ≡ length self.now.letter_numbers.items }
+        ensures cpus { IsTrue result → length self.now.work.cpus ≡ length self.now.cpu_numbers.items }
+    {
+        self.work.tokens.len() == self.token_numbers.len()
+            && self.work.letters.len() == self.letter_numbers.len()
+            && self.work.cpus.len() == self.cpu_numbers.len()
+    }
+
+    // Makes a turn in the state that is worked on, by forms.
+    fn make_turn(&mut self, script: &Script, cpu: usize) -> Result<(), Refusal>
+        requires store { IsStore self.old }
+        requires sound { IsSound self.old.work }
+        requires here { cpu < length self.old.work.cpus }
+        ensures base { IfOk result (λ done. IsBase self.new) }
+        ensures work { IfOk result (λ done. self.new.work ≡ form (turn script.now self.old.work cpu)) }
+        ensures kept { IfOk result (λ done. kept self.new ≡ kept self.old) }
+    {
+        self.work.turn(script, cpu)?;
+        self.work.become_form();
+        if !self.has_counts() {
+            return Err(Refusal::Numbers);
+        }
+        Ok(())
+    }
+}
+
+/// The machine of a script, by forms of its states.
+#[derive(Drop)]
+pub struct ScriptMachine<'s> {
+    script: &'s Script,
+}
+
+impl<'s> Machine for ScriptMachine<'s> {
+    type State = Plain;
+
+    type Store = Store;
+
+    ghost start_of = { λ m. opened m.script.now };
+
+    ghost turn_of = { λ m. form_turn m.script.now };
+
+    ghost kept = { kept };
+
+    ghost is_sound = { λ m s. IsStore s };
+
+    fn turn(&self, store: &mut Store, at: usize, cpu: u8) -> Result<usize, Refusal> {
+        store.go_to(at)?;
+        if usize::from(cpu) >= store.work.cpus.len() {
+            return Ok(at);
+        }
+        store.make_turn(self.script, usize::from(cpu))?;
+        store.renumber()?;
+        let number = store.keep()?;
         Ok(number)
     }
 }
