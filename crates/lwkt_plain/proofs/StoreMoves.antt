@@ -241,3 +241,34 @@ no_turn script old new at cpu same there none = inl (record {
 -- one that is there makes one, by forms
 pub some_turn : (script : Script) (p : Plain) (cpu : ℕ) → cpu < length p.cpus → form_turn script p cpu ≡ form (turn script p cpu)
 some_turn script p cpu here = ap (λ (b : Bool). if b then form (turn script p cpu) else p) (lt-ltb cpu (length p.cpus) here)
+
+-- the first state that is kept
+pub first_kept : (work : Plain) (old new : List Plain) (n : ℕ) → old ≡ [] → IsKept work old new n → new ≡ work ∷ []
+first_kept work old new n none kept_it = go (subst (λ (xs : List Plain). IsKept work xs new n) none kept_it)
+  where
+    go : IsKept work [] new n → new ≡ work ∷ []
+    go (inl was) = let there : n < length {A = Plain} [] = was.there in absurd (omega arith)
+    go (inr now) = now.grown
+
+pub kept_none : (s : Store) → s.codes.index.links.items ≡ [] → kept s ≡ []
+kept_none s none = ap (λ (ls : List ℕ). first (length ls) (state_of s)) none
+
+-- a store of no states
+pub store_none : (s : Store) → s.codes.index.links.items ≡ []
+    → IsTable token_key s.tokens.parts.items s.tokens.index.heads.items s.tokens.index.links.items → IsTable letter_key s.letters.parts.items s.letters.index.heads.items s.letters.index.links.items → IsTable processor_key s.cpus.parts.items s.cpus.index.heads.items s.cpus.index.links.items
+    → AreCodes s.codes.width s.codes.flat.items (length s.codes.index.links.items) s.codes.index.heads.items s.codes.index.links.items → s.codes.width ≡ length s.token_numbers.items + (length s.letter_numbers.items + length s.cpu_numbers.items)
+    → AreNamed s.tokens.parts.items s.work.tokens s.token_numbers.items → AreNamed s.letters.parts.items s.work.letters s.letter_numbers.items → AreNamed s.cpus.parts.items s.work.cpus s.cpu_numbers.items → IsStore s
+store_none s none tt tl tc are width nt nl nc =
+    let count : length s.codes.index.links.items ≡ 0 = ap (λ (ls : List ℕ). length ls) none in
+    record {
+      tokens = tt;
+      letters = tl;
+      cpus = tc;
+      codes = are;
+      width = width;
+      known = λ k h. absurd (omega (arith, count, h));
+      sound = λ k h. absurd (omega (arith, count, h));
+      token_names = nt;
+      letter_names = nl;
+      cpu_names = nc;
+    }

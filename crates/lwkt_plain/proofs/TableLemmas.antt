@@ -1,5 +1,5 @@
 use Rattle.std.proofs.Common.{◌≡◌, ◌≢◌, ℕ, ◌+◌, ◌<◌, ◌≤◌, List, [], ◌∷◌, ◌++◌, zero, suc, length, length-append, arith, ap, subst, sym, refl, ◌∙◌, below_more, slice_index_or, slice_get, slice_set, drop, get_or-set_other, get_or-set_same, All, HoldsAt, Option, Some, ◌⊎◌, inl, inr}
-use Rattle.std.proofs.lemmas.List.{append-nil, append_assoc, get_or_append_left, length-set, set-get_or}
+use Rattle.std.proofs.lemmas.List.{append-nil, append_assoc, get_or_append_left, get_or_push, length-set, set-get_or}
 use Rattle.std.proofs.Math.Seq.{get_or-append_seam}
 use Rattle.std.proofs.lemmas.List.Elements.{All-head, All-tail}
 use Rattle.std.specs.Option.{option_map_or}
@@ -225,3 +225,18 @@ pub index_some : {P : Type 0} (parts : List P) (k : ℕ) (p d : P) → slice_get
 index_some [] k p d is = cc
 index_some {P} (q ∷ parts) zero p d is = ap (λ (o : Option P). option_map_or (λ x. x) o q) is
 index_some (q ∷ parts) (suc k) p d is = index_some parts k p d is
+
+-- one part more has a number
+pub named_push : {P : Type 0} (table new parts : List P) (numbers numbers' : List ℕ) (k n : ℕ) (p : P) → Extends table new → length numbers ≡ k → numbers' ≡ numbers ++ n ∷ [] → ((d : P) → slice_index_or parts k d ≡ p) → IsNamed new n p → ((j : ℕ) → j < k → (d : P) → IsNamed table (slice_index_or numbers j 0) (slice_index_or parts j d)) → (j : ℕ) → j < k + 1 → (d : P) → IsNamed new (slice_index_or numbers' j 0) (slice_index_or parts j d)
+named_push {P} table new parts numbers numbers' k n p more long pushed at is was =
+    let list : List ℕ = numbers ++ n ∷ [] in
+    let F : List ℕ → Type 0 = λ ns. (j : ℕ) → j < k + 1 → (d : P) → IsNamed new (slice_index_or ns j 0) (slice_index_or parts j d) in
+    subst F (sym pushed) (below_more (λ j. (d : P) → IsNamed new (slice_index_or list j 0) (slice_index_or parts j d)) k
+    (λ j h d.
+    let less : j < length numbers = omega (arith, h, long) in
+    let N : ℕ → Type 0 = λ m. IsNamed new m (slice_index_or parts j d) in
+    subst N (sym (get_or_append_left numbers (n ∷ []) 0 j less)) (named_still table new (slice_index_or numbers j 0) (slice_index_or parts j d) more (was j h d)))
+    (λ d.
+    let N : ℕ → Type 0 = λ m. IsNamed new m (slice_index_or parts k d) in
+    let Q : P → Type 0 = λ q. IsNamed new n q in
+    subst N (sym (get_or_push numbers n 0 k long)) (subst Q (sym (at d)) is)))

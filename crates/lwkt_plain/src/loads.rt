@@ -5,6 +5,7 @@ ghost use Rattle.lwkt_plain.specs.Tables.{IsTable, Extends, IsNamed, AreNamed};
 use crate::items::Items;
 use crate::parts::Part;
 use crate::tables::Table;
+use lwkt_base::memory::push;
 use lwkt_search::Refusal;
 use std::alloc::Global;
 
@@ -89,4 +90,22 @@ pub(crate) fn renumber<P: Part>(
         numbers[k] = number;
     }
     Ok(())
+}
+
+/// The numbers of parts, in a table that gets them.
+pub(crate) fn numbered<P: Part>(
+    alloc: Global,
+    table: &mut Table<P>,
+    parts: &Items<P>,
+) -> Result<Vec<u32>, Refusal>
+    requires { IsTable P.hash_of table.old.parts.items table.old.index.heads.items table.old.index.links.items }
+    ensures table { IfOk result (λ numbers. IsTable P.hash_of table.new.parts.items table.new.index.heads.items table.new.index.links.items) }
+    ensures named { IfOk result (λ numbers. AreNamed table.new.parts.items parts.now numbers.items) }
+{
+    let mut numbers = Vec::new(alloc);
+    for k in 0..parts.len() {
+        let number = table.number(alloc, parts.part(k))?;
+        push(&mut numbers, number)?;
+    }
+    Ok(numbers)
 }

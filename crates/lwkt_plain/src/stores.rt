@@ -1,5 +1,5 @@
 //! States of a script's plain machine, kept by the numbers of their parts.
-ghost use Rattle.std.specs.Prelude.{◌≡◌, ◌<◌, ◌++◌, length, IsTrue, IfOk};
+ghost use Rattle.std.specs.Prelude.{◌≡◌, ◌<◌, [], ◌∷◌, ◌++◌, length, IsTrue, IfOk};
 ghost use Rattle.lwkt_plain.specs.Forms.{form};
 ghost use Rattle.lwkt_plain.specs.Openings.{opened};
 ghost use Rattle.lwkt_plain.specs.Sound.{IsSound};
@@ -7,7 +7,7 @@ ghost use Rattle.lwkt_plain.specs.Turns.{turn};
 ghost use Rattle.lwkt_plain.specs.Stores.{state_of, kept, IsStore, IsBase, IsKept, form_turn};
 
 use crate::letters::Letter;
-use crate::loads::{load, renumber};
+use crate::loads::{load, numbered, renumber};
 use crate::states::{Plain, Processor};
 use crate::tables::Table;
 use lwkt_base::memory::extend_from_slice;
@@ -31,6 +31,40 @@ pub struct Store {
 }
 
 impl Store {
+    /// The first state of a script, alone.
+    ///
+    /// Refused if memory is.
+    pub fn open(alloc: Global, script: &Script) -> Result<Store, Refusal>
+        requires sound { IsSound (opened script.now) }
+        ensures store { IfOk result (λ store. IsStore store) }
+        ensures first { IfOk result (λ store. kept store ≡ opened script.now ∷ []) }
+    {
+        let work = Plain::open(alloc, script)?;
+        let mut tokens = Table::new(alloc)?;
+        let mut letters = Table::new(alloc)?;
+        let mut cpus = Table::new(alloc)?;
+        let token_numbers = numbered(alloc, &mut tokens, &work.tokens)?;
+        let letter_numbers = numbered(alloc, &mut letters, &work.letters)?;
+        let cpu_numbers = numbered(alloc, &mut cpus, &work.cpus)?;
+        let codes = Codes::new(
+            alloc,
+            token_numbers.len() + letter_numbers.len() + cpu_numbers.len(),
+        )?;
+        let mut store = Store {
+            alloc,
+            tokens,
+            letters,
+            cpus,
+            codes,
+            work,
+            token_numbers,
+            letter_numbers,
+            cpu_numbers,
+        };
+        store.keep()?;
+        Ok(store)
+    }
+
     // Makes the state that is worked on the one of a number.
     fn go_to(&mut self, at: usize) -> Result<(), Refusal>
         requires store { IsStore self.old }
@@ -118,6 +152,13 @@ impl Store {
 #[derive(Drop)]
 pub struct ScriptMachine<'s> {
     script: &'s Script,
+}
+
+impl<'s> ScriptMachine<'s> {
+    /// The machine of this script.
+    pub fn new(script: &'s Script) -> Self {
+        ScriptMachine { script }
+    }
 }
 
 impl<'s> Machine for ScriptMachine<'s> {
