@@ -40,19 +40,21 @@ store_at s w tn ln cn is et el ec are_tokens are_letters are_cpus =
     let K2 : ℕ → Type 0 = λ n. K (length s.token_numbers.items) n in
     let D1 : ℕ → Type 0 = λ n. D n b in
     let D2 : ℕ → Type 0 = λ n. D (length s.token_numbers.items) n in
-    let width : s.codes.width ≡ length s.token_numbers.items + (length s.letter_numbers.items + length s.cpu_numbers.items) = is.width in
-    (record {
-      tokens = is.tokens;
-      letters = is.letters;
-      cpus = is.cpus;
-      codes = is.codes;
-      width = omega arith;
-      known = subst K1 (sym et) (subst K2 (sym el) is.known);
-      sound = subst D1 (sym et) (subst D2 (sym el) is.sound);
-      token_names = are_tokens;
-      letter_names = are_letters;
-      cpu_names = are_cpus;
-    }, ap (λ (n : ℕ). F n b) et ∙ ap (λ (n : ℕ). F (length s.token_numbers.items) n) el)
+    let width : s.codes.width ≡ length s.token_numbers.items + (length s.letter_numbers.items + length s.cpu_numbers.items) = is.width in (
+      record {
+        tokens = is.tokens;
+        letters = is.letters;
+        cpus = is.cpus;
+        codes = is.codes;
+        width = omega arith;
+        known = subst K1 (sym et) (subst K2 (sym el) is.known);
+        sound = subst D1 (sym et) (subst D2 (sym el) is.sound);
+        token_names = are_tokens;
+        letter_names = are_letters;
+        cpu_names = are_cpus;
+      },
+      ap (λ (n : ℕ). F n b) et ∙ ap (λ (n : ℕ). F (length s.token_numbers.items) n) el,
+    )
 
 -- a code is as long as it is wide
 pub code_long : (width count k : ℕ) (flat : List ℕ) → length flat ≡ count * width → k < count → length (code_at width flat k) ≡ width

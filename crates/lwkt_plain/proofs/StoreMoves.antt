@@ -46,27 +46,30 @@ store_renumbered s T L C tn ln cn is tt tl tc mt ml mc nt nl nc =
     let K1 : ℕ → Type 0 = λ m. K m b in
     let K2 : ℕ → Type 0 = λ n. K a' n in
     let known : K a' b' = λ k h. known_up (length s.tokens.parts.items) (length T.parts.items) (length s.letters.parts.items) (length L.parts.items) (length s.cpus.parts.items) (length C.parts.items) a' b' (code k) (extends_long s.tokens.parts.items T.parts.items mt) (extends_long s.letters.parts.items L.parts.items ml) (extends_long s.cpus.parts.items C.parts.items mc) (is.known k h) in
-    let width : s.codes.width ≡ a' + (b' + length s.cpu_numbers.items) = is.width in
-    (record {
-      tokens = tt;
-      letters = tl;
-      cpus = tc;
-      codes = is.codes;
-      width = omega (arith, width, et, el, ec);
-      known = subst K1 (sym et) (subst K2 (sym el) known);
-      sound = λ k h. subst IsSound (sym (same k h)) (is.sound k h);
-      token_names = nt;
-      letter_names = nl;
-      cpu_names = nc;
-    }, first_same count (new a b) (state_of s) same)
+    let width : s.codes.width ≡ a' + (b' + length s.cpu_numbers.items) = is.width in (
+      record {
+        tokens = tt;
+        letters = tl;
+        cpus = tc;
+        codes = is.codes;
+        width = omega (arith, width, et, el, ec);
+        known = subst K1 (sym et) (subst K2 (sym el) known);
+        sound = λ k h. subst IsSound (sym (same k h)) (is.sound k h);
+        token_names = nt;
+        letter_names = nl;
+        cpu_names = nc;
+      },
+      first_same count (new a b) (state_of s) same,
+    )
 
 -- the three parts of a code
 pub code_parts : (tn ln cn code : List ℕ) → code ≡ tn ++ (ln ++ cn) → (tn ≡ take (length tn) code) × (ln ≡ take (length ln) (drop (length tn) code)) × (cn ≡ drop (length ln) (drop (length tn) code))
 code_parts tn ln cn code is =
-    let rest : drop (length tn) code ≡ ln ++ cn = ap (λ (xs : List ℕ). drop (length tn) xs) is ∙ drop-append_seam tn (ln ++ cn) in
-    (sym (ap (λ (xs : List ℕ). take (length tn) xs) is ∙ take-append_seam tn (ln ++ cn)),
-     sym (ap (λ (xs : List ℕ). take (length ln) xs) rest ∙ take-append_seam ln cn),
-     sym (ap (λ (xs : List ℕ). drop (length ln) xs) rest ∙ drop-append_seam ln cn))
+    let rest : drop (length tn) code ≡ ln ++ cn = ap (λ (xs : List ℕ). drop (length tn) xs) is ∙ drop-append_seam tn (ln ++ cn) in (
+      sym (ap (λ (xs : List ℕ). take (length tn) xs) is ∙ take-append_seam tn (ln ++ cn)),
+      sym (ap (λ (xs : List ℕ). take (length ln) xs) rest ∙ take-append_seam ln cn),
+      sym (ap (λ (xs : List ℕ). drop (length ln) xs) rest ∙ drop-append_seam ln cn),
+    )
 
 -- only the code of its numbers stands for the state that is worked on
 pub code_same : (s : Store) (k : ℕ) → IsStore s → k < length s.codes.index.links.items → state_of s k ≡ s.work → code_at s.codes.width s.codes.flat.items k ≡ s.token_numbers.items ++ (s.letter_numbers.items ++ s.cpu_numbers.items)
@@ -142,12 +145,14 @@ store_seen s codes code n is made are width was =
     let flat : List ℕ = s.codes.flat.items in
     let count : ℕ = length s.codes.index.links.items in
     let good : AreGood s codes.width codes.flat.items (length codes.index.links.items) = good_by s w codes.width flat codes.flat.items count (length codes.index.links.items) width was.same was.still (store_good s is) in
-    let here : s.work ≡ state_of s n = work_decoded s (code_at w flat n) is (was.at.is ∙ made) in
-    (store_with s codes is are width good, record {
-      same = states_same s w codes.width flat codes.flat.items count (length codes.index.links.items) width was.same was.still;
-      there = omega (arith, was.at.there, first_long count (state_of s));
-      is = λ d. first_at count (state_of s) n d was.at.there ∙ sym here;
-    })
+    let here : s.work ≡ state_of s n = work_decoded s (code_at w flat n) is (was.at.is ∙ made) in (
+      store_with s codes is are width good,
+      record {
+        same = states_same s w codes.width flat codes.flat.items count (length codes.index.links.items) width was.same was.still;
+        there = omega (arith, was.at.there, first_long count (state_of s));
+        is = λ d. first_at count (state_of s) n d was.at.there ∙ sym here;
+      },
+    )
 
 -- a new code
 pub store_new : (s : Store) (codes : Codes) (code : List ℕ) (n : ℕ) → IsStore s → IsSound s.work → code ≡ s.token_numbers.items ++ (s.letter_numbers.items ++ s.cpu_numbers.items) → AreCodes codes.width codes.flat.items (length codes.index.links.items) codes.index.heads.items codes.index.links.items → codes.width ≡ s.codes.width → IsAppended s.codes.width s.codes.flat.items (length s.codes.index.links.items) codes.flat.items (length codes.index.links.items) code n → IsStore (record s { codes = codes }) × IsKeptNow s.work (kept s) (kept (record s { codes = codes })) n
@@ -186,14 +191,16 @@ store_new s codes code n is sound made are width new =
     let one : count + 1 ≡ suc count = omega arith in
     let grown : states_by s w list (count + 1) ≡ kept s ++ s.work ∷ [] =
     ap (λ (m : ℕ). states_by s w list m) one ∙ (ap (λ (xs : List Plain). xs ++ state count ∷ []) (first_same count state (state_of s) before) ∙ ap (λ (x : Plain). kept s ++ x ∷ []) here)
-    in
-    (store_with s codes is are width (good_by s w codes.width list codes.flat.items (count + 1) (length codes.index.links.items) width new.more new.one good), record {
-      grown = states_same s w codes.width list codes.flat.items (count + 1) (length codes.index.links.items) width new.more new.one ∙ grown;
-      last = new.last ∙ sym (first_long count (state_of s));
-      fresh = λ k h d e.
-          let low : k < count = omega (arith, h, first_long count (state_of s)) in
-          new.fresh k low (code_same s k is low (sym (first_at count (state_of s) k d low) ∙ e) ∙ sym made);
-    })
+    in (
+      store_with s codes is are width (good_by s w codes.width list codes.flat.items (count + 1) (length codes.index.links.items) width new.more new.one good),
+      record {
+        grown = states_same s w codes.width list codes.flat.items (count + 1) (length codes.index.links.items) width new.more new.one ∙ grown;
+        last = new.last ∙ sym (first_long count (state_of s));
+        fresh = λ k h d e.
+            let low : k < count = omega (arith, h, first_long count (state_of s)) in
+            new.fresh k low (code_same s k is low (sym (first_at count (state_of s) k d low) ∙ e) ∙ sym made);
+      },
+    )
 
 pub store_kept : (s : Store) (codes : Codes) (code : List ℕ) (n : ℕ) → IsStore s → IsSound s.work → code ≡ s.token_numbers.items ++ (s.letter_numbers.items ++ s.cpu_numbers.items) → AreCodes codes.width codes.flat.items (length codes.index.links.items) codes.index.heads.items codes.index.links.items → codes.width ≡ s.codes.width → IsNumbered s.codes.width s.codes.flat.items (length s.codes.index.links.items) codes.flat.items (length codes.index.links.items) code n → IsStore (record s { codes = codes }) × IsKept s.work (kept s) (kept (record s { codes = codes })) n
 store_kept s codes code n is sound made are width (inl was) =

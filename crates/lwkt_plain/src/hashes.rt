@@ -60,13 +60,7 @@ fn entry_number(entry: &Entry) -> u64
     match entry {
         Entry::Value(n) => *n,
         Entry::Bytes(blob) => u64::from(blob.len()),
-        Entry::Aborted(yes) => {
-            if *yes {
-                1
-            } else {
-                2
-            }
-        }
+        Entry::Aborted(yes) => { if *yes { 1 } else { 2 } }
         Entry::Request(msg, _) => u64::from(msg.0),
         Entry::Reply(_, _, result) => *result,
         Entry::NoMessage => 3,

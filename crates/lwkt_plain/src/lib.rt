@@ -30,5 +30,5 @@ mod turns;
 pub use items::Items;
 pub use letters::{Hands, Lane, Letter, Note, NoteKind, Port};
 pub use nexts::{Miss, Missed, Next};
-pub use stores::{ScriptMachine, Store};
 pub use states::{BusyAt, Phase, Plain, Processor, Thread};
+pub use stores::{ScriptMachine, Store};

@@ -76,9 +76,27 @@ impl Store {
         let code = self.codes.code(at);
         let (tokens, rest) = code.split_at(self.token_numbers.len());
         let (letters, cpus) = rest.split_at(self.letter_numbers.len());
-        load(self.alloc, &self.tokens, &mut self.work.tokens, &mut self.token_numbers, tokens)?;
-        load(self.alloc, &self.letters, &mut self.work.letters, &mut self.letter_numbers, letters)?;
-        load(self.alloc, &self.cpus, &mut self.work.cpus, &mut self.cpu_numbers, cpus)?;
+        load(
+            self.alloc,
+            &self.tokens,
+            &mut self.work.tokens,
+            &mut self.token_numbers,
+            tokens,
+        )?;
+        load(
+            self.alloc,
+            &self.letters,
+            &mut self.work.letters,
+            &mut self.letter_numbers,
+            letters,
+        )?;
+        load(
+            self.alloc,
+            &self.cpus,
+            &mut self.work.cpus,
+            &mut self.cpu_numbers,
+            cpus,
+        )?;
         Ok(())
     }
 
@@ -100,9 +118,24 @@ impl Store {
         ensures kept { IfOk result (λ done. kept self.new ≡ kept self.old) }
         ensures work { IfOk result (λ done. self.new.work ≡ self.old.work) }
     {
-        renumber(self.alloc, &mut self.tokens, &self.work.tokens, &mut self.token_numbers)?;
-        renumber(self.alloc, &mut self.letters, &self.work.letters, &mut self.letter_numbers)?;
-        renumber(self.alloc, &mut self.cpus, &self.work.cpus, &mut self.cpu_numbers)?;
+        renumber(
+            self.alloc,
+            &mut self.tokens,
+            &self.work.tokens,
+            &mut self.token_numbers,
+        )?;
+        renumber(
+            self.alloc,
+            &mut self.letters,
+            &self.work.letters,
+            &mut self.letter_numbers,
+        )?;
+        renumber(
+            self.alloc,
+            &mut self.cpus,
+            &self.work.cpus,
+            &mut self.cpu_numbers,
+        )?;
         Ok(())
     }
 
