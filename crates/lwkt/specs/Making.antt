@@ -16,6 +16,8 @@ use Rattle.lwkt_request.specs.declared.requests.Form.TheVariants as form
 use Rattle.lwkt_request.specs.declared.requests.Search.{Search}
 use Rattle.lwkt_request.specs.declared.requests.Task.{Task}
 use Rattle.lwkt_request.specs.declared.requests.Task.TheVariants.{Run, Show, Check, Text, Explore}
+use Rattle.lwkt_request.specs.declared.requests.Wording.{Wording}
+use Rattle.lwkt_request.specs.declared.requests.Wording.TheVariants as wordings
 use Rattle.lwkt_run.specs.declared.modes.Mode.{Mode}
 use Rattle.lwkt_run.specs.declared.modes.Mode.TheVariants.{Turns, Threads}
 use Rattle.lwkt_run.specs.declared.runs.End.{End}
@@ -27,18 +29,30 @@ use Rattle.lwkt_show.specs.declared.options.Options.{Options}
 use Rattle.lwkt_show.specs.Showing.{IsShown, IsShownOnThreads}
 use Rattle.lwkt_text.specs.declared.inputs.Input.{Input}
 use Rattle.lwkt_text.specs.declared.inputs.Unread.{Unread}
+use Rattle.lwkt_text.specs.declared.tables.Names.{Names}
 use Rattle.lwkt_text.specs.Reading.{IsTextOf}
+use Rattle.lwkt_told.specs.Told.{told_text}
 
 -- how processors are driven
 abbrev pub mode_of : Bool → Mode
 mode_of false = Turns
 mode_of true = Threads
 
+-- the report of a text in its names, if it has some
+abbrev pub named_report : Option Names → Script → Closing → List ℕ
+named_report None script closing = report_text closing
+named_report (Some names) script closing = told_text names script closing
+
+-- the report in the words that are asked for
+abbrev pub report_in : Wording → Input → Closing → List ℕ
+report_in wordings.Names input closing = named_report input.names input.script closing
+report_in _ input closing = report_text closing
+
 -- a run of the script, driven so, may end with this report; the status is that of what the run came to, by what is expected of it
-pub record IsReport (mode : Mode) (input : Input) (text : List ℕ) (status : ℕ) : Type 0 where
+pub record IsReport (mode : Mode) (wording : Wording) (input : Input) (text : List ℕ) (status : ℕ) : Type 0 where
   pub closing : Closing
   pub closes : MayCloseBy mode input.script closing
-  pub is_text : text ≡ report_text closing
+  pub is_text : text ≡ report_in wording input closing
   pub is_status : status ≡ status_of_judgement (judgement_of input.expectations closing)
 
 -- a run of the script, on threads or not, is shown so; the status is that of how it ended
@@ -54,7 +68,7 @@ IsShort text = length text ≤ SCRIPT_BYTES
 abbrev pub IsForm : Form → Input → List ℕ → ℕ → Type 0
 IsForm form.Json input text status = (script_of text ≡ Ok input.script) × (IsShort text × (status ≡ 0))
 IsForm form.Text input text status = IsTextOf input.script text × (IsShort text × (status ≡ 0))
-IsForm form.Run input text status = IsReport Turns input text status
+IsForm form.Run input text status = IsReport Turns wordings.Numbers input text status
 
 -- what a search of the script finds, within these bounds on states and turns
 pub record IsSearched (states turns : ℕ) (script : Script) (found : Found) : Type 0 where
@@ -90,7 +104,7 @@ pub record IsFinding (search : Search) (input : Input) (text : List ℕ) (status
 
 -- what a task makes of an input, with this order, if one is named; a check takes none
 abbrev pub IsMade : Task → Option (List ℕ) → Input → List ℕ → ℕ → Type 0
-IsMade (Run on_threads by_old_name) order input text status = IsReport (mode_of on_threads) input text status
+IsMade (Run on_threads wording) order input text status = IsReport (mode_of on_threads) wording input text status
 IsMade (Show on_threads options) order input text status = IsShow on_threads options order input.script text status
 IsMade (Check by_lines) order input text status = ⊥
 IsMade (Text form) order input text status = IsForm form input text status

@@ -24,7 +24,7 @@ use lwkt_report::{
     Complaint, NotedReader, NotedWriter, Program, ReaderSource, RunFault, Sink, Source, WriterSink,
     complain, read_capped,
 };
-use lwkt_request::{Request, Task};
+use lwkt_request::{Request, Task, Wording};
 use lwkt_text::Input;
 use std::alloc::Global;
 use std::io::{Read, Write};
@@ -47,9 +47,10 @@ fn made_of<R: Threads + Sync + Clock, E: Sink>(
 {
     let path = origin.shown_path();
     match origin.task {
-        Task::Run { on_threads, .. } => {
-            report_of(rt, alloc, mode_of(on_threads), path, bytes, input)
-        }
+        Task::Run {
+            on_threads,
+            wording,
+        } => report_of(rt, alloc, mode_of(on_threads), wording, path, bytes, input),
         Task::Show {
             on_threads,
             options,
@@ -127,7 +128,7 @@ fn complain_of<K: Sink>(task: Task, sink: &mut K, answer: &Result<u8, Failure>)
     ensures flushed { OnOk answer.now (K.is_flushed sink.old → K.is_flushed sink.new) }
 {
     let Task::Run {
-        by_old_name: true,
+        wording: Wording::OldName,
         ..
     } = task
     else {

@@ -2,11 +2,15 @@
 ghost use Rattle.std.specs.Prelude.{◌≡◌, IfErr, IfOk, string_bytes};
 ghost use Rattle.lwkt_run.specs.Run.{DeclinesRun};
 ghost use Rattle.lwkt.specs.Failing.{IsFault};
-ghost use Rattle.lwkt.specs.Making.{IsReport, mode_of};
+ghost use Rattle.lwkt_explore.specs.Judgements.{judgement_of};
+ghost use Rattle.lwkt.specs.Making.{IsReport, mode_of, report_in};
 
 use crate::failures::Failure;
 use crate::written::Made;
-use lwkt_explore::{Account, account_of};
+use lwkt_base::OutOfMemory;
+use lwkt_explore::{Account, account_of, told_account_of};
+use lwkt_report::Closing;
+use lwkt_request::Wording;
 use lwkt_run::{Mode, close_by};
 use lwkt_text::Input;
 use std::alloc::Global;
@@ -23,20 +27,43 @@ pub fn mode_of(on_threads: bool) -> Mode
     }
 }
 
-/// Runs a script, driven so, to its report. In the verdicts on what is expected the file is called by the path, if there is one.
+// What is said of a run in the words that are asked for.
+fn account_in(
+    alloc: Global,
+    wording: Wording,
+    path: Option<&str>,
+    bytes: &[u8],
+    input: &Input,
+    closing: &Closing,
+) -> Result<Account, OutOfMemory>
+    ensures report { IfOk result (λ account. string_bytes account.report ≡ report_in wording input.now closing.now) }
+    ensures judgement { IfOk result (λ account. account.judgement ≡ judgement_of input.now.expectations closing.now) }
+{
+    let expectations = input.expectations.as_slice();
+    match (wording, &input.names) {
+        (Wording::Names, Some(names)) => {
+            told_account_of(alloc, names, &input.script, bytes, expectations, closing)
+        }
+        _ => account_of(alloc, path, bytes, expectations, closing),
+    }
+}
+
+/// Runs a script, driven so, to its report in the words that are asked for. In the verdicts on what is expected, which are in numbers where
+/// the report is, the file is called by the path, if there is one.
 pub fn report_of<R: Threads + Sync>(
     rt: &R,
     alloc: Global,
     mode: Mode,
+    wording: Wording,
     path: Option<&str>,
     bytes: &[u8],
     input: &Input,
 ) -> Result<Made, Failure>
-    ensures made { IfOk result (λ made. IsReport mode input.now (string_bytes made.text) made.status) }
+    ensures made { IfOk result (λ made. IsReport mode wording input.now (string_bytes made.text) made.status) }
     ensures declined { IfErr result (IsFault (DeclinesRun input.now.script)) }
 {
     let closing = close_by(rt, alloc, mode, &input.script)?;
-    let account = account_of(alloc, path, bytes, input.expectations.as_slice(), &closing)?;
+    let account = account_in(alloc, wording, path, bytes, input, &closing)?;
     let Account {
         report,
         verdicts,

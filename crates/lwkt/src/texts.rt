@@ -7,7 +7,7 @@ use crate::failures::Failure;
 use crate::runs::report_of;
 use crate::written::Made;
 use lwkt_base::limits::SCRIPT_BYTES;
-use lwkt_request::Form;
+use lwkt_request::{Form, Wording};
 use lwkt_run::Mode;
 use lwkt_text::{Input, Unsaid, json_of, text_of};
 use std::alloc::Global;
@@ -46,6 +46,6 @@ pub fn form_of<R: Threads + Sync>(
     match form {
         Form::Json => made_of(alloc, json_of(alloc, &input.script)),
         Form::Text => made_of(alloc, text_of(alloc, &input.script)),
-        Form::Run => report_of(rt, alloc, Mode::Turns, path, bytes, input),
+        Form::Run => report_of(rt, alloc, Mode::Turns, Wording::Numbers, path, bytes, input),
     }
 }

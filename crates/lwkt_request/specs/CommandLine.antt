@@ -20,7 +20,7 @@ abbrev pub file : Rule
 file = new_rule (codes "FILE")
 
 abbrev pub run : App
-run = with_rule (with_rule (new_app (codes "run")) (flag (codes "threads"))) file
+run = with_rule (with_rule (with_rule (new_app (codes "run")) (flag (codes "threads"))) (flag (codes "numbers"))) file
 
 abbrev pub show : App
 show =

@@ -14,6 +14,8 @@ use Rattle.lwkt_request.specs.declared.requests.Form.{Form}
 use Rattle.lwkt_request.specs.declared.requests.Form.TheVariants as form
 use Rattle.lwkt_request.specs.declared.requests.Task.{Task}
 use Rattle.lwkt_request.specs.declared.requests.Task.TheVariants.{Run, Show, Check, Text as Translate, Explore}
+use Rattle.lwkt_request.specs.declared.requests.Wording.{Wording}
+use Rattle.lwkt_request.specs.declared.requests.Wording.TheVariants.{Names, Numbers}
 use Rattle.lwkt_request.specs.Texts.{no_end, number_named, number_or, path_of, is_part, range_named}
 
 -- what a parse found for the arguments
@@ -112,12 +114,19 @@ explore_in rows =
     (first_of (codes "seed") rows) (first_of (codes "seconds") rows) (is_on (codes "progress") rows) (is_on (codes "all") rows)
     (is_some (path_of (first_of (codes "FILE") rows)))
 
+-- ---- run
+
+-- the words in which a run is reported, by whether `--numbers` is named
+abbrev pub wording_of : Bool → Wording
+wording_of true = Numbers
+wording_of false = Names
+
 -- ---- all
 
 -- what the subcommand of this name asks for
 abbrev pub task_in : Text → List Row → Option Task
 task_in name rows =
-    if bytes_eq name (codes "run") then Some (Run (is_on (codes "threads") rows) false)
+    if bytes_eq name (codes "run") then Some (Run (is_on (codes "threads") rows) (wording_of (is_on (codes "numbers") rows)))
     else (if bytes_eq name (codes "show") then show_in rows
     else (if bytes_eq name (codes "check") then Some (Check (is_on (codes "lines") rows))
     else (if bytes_eq name (codes "text") then text_in rows

@@ -131,6 +131,12 @@ fn run_command<'a>(alloc: Global) -> Built<'a>
         "threads",
         "Run each processor on an OS thread of its own",
     );
+    let command = with_flag(
+        alloc,
+        command,
+        "numbers",
+        "Report a text in numbers, as JSON is reported",
+    );
     with_file(alloc, command, SCRIPT_FILE)
 }
 

@@ -32,6 +32,17 @@ pub enum Form {
     Run,
 }
 
+/// In which words a run is reported.
+#[derive(Clone, Copy, PartialEq, Eq)]
+pub enum Wording {
+    /// A text in its names; JSON, which has none, in numbers.
+    Names,
+    /// `--numbers`: in numbers.
+    Numbers,
+    /// As `lwkt_run` reports: in numbers, with the line of a fault in place of a missing report.
+    OldName,
+}
+
 /// What is to be done with what is read.
 #[derive(Clone, Copy)]
 pub enum Task {
@@ -39,9 +50,9 @@ pub enum Task {
     Run {
         /// `--threads`: whether each processor runs on an OS thread of its own, and not in rounds on one.
         on_threads: bool,
-        /// Whether the words were those of `lwkt_run`. If the path is `turns` or `threads` and no such file is there, these words are
-        /// misuse, as those of `OldUsage` are.
-        by_old_name: bool,
+        /// In which words it is reported. By those of `lwkt_run`, if the path is `turns` or `threads` and no such file is there, the words
+        /// of the command line are misuse, as those of `OldUsage` are.
+        wording: Wording,
     },
     /// A run is shown.
     Show {

@@ -2,11 +2,11 @@
 ghost use Rattle.std.specs.Prelude.{◌≡◌, is_ok};
 ghost use Rattle.std.specs.Option.{option_copied};
 ghost use Rattle.std.specs.Result.{result_ok};
-ghost use Rattle.lwkt_request.specs.Tasks.{explore_in, explored, fits, fits_order, fits_threads, form_of, has_range, is_chains, is_whole, options_of, rows_in, show_in, shown, task_in, text_in, rendering_of};
+ghost use Rattle.lwkt_request.specs.Tasks.{explore_in, explored, fits, fits_order, fits_threads, form_of, has_range, is_chains, is_whole, options_of, rows_in, show_in, shown, task_in, text_in, rendering_of, wording_of};
 
 use crate::matched::{is_on, value_in};
 use crate::ranges::{Range, are_parts, number_named, number_or, path_of, range_named, size_or};
-use crate::requests::{Form, Search, Task};
+use crate::requests::{Form, Search, Task, Wording};
 use crate::wrongs::Wrong;
 use clap::ArgMatches;
 use lwkt_explore::{Bounds, Method};
@@ -246,6 +246,17 @@ fn explore_in<'a>(matches: &ArgMatches<'a>) -> Result<Task, Wrong<'a>>
     })
 }
 
+// The words in which a run is reported, by whether `--numbers` is named.
+fn wording_of(in_numbers: bool) -> Wording
+    ensures { result ≡ wording_of in_numbers }
+{
+    if in_numbers {
+        Wording::Numbers
+    } else {
+        Wording::Names
+    }
+}
+
 /// What the subcommand `name` asks for, by what a parse found for its arguments.
 pub(crate) fn task_in<'a>(name: &str, matches: &ArgMatches<'a>) -> Result<Task, Wrong<'a>>
     ensures { result_ok result ≡ task_in name.now (rows_in matches.now) }
@@ -253,7 +264,7 @@ pub(crate) fn task_in<'a>(name: &str, matches: &ArgMatches<'a>) -> Result<Task, 
     match name {
         "run" => Ok(Task::Run {
             on_threads: is_on(matches, "threads"),
-            by_old_name: false,
+            wording: wording_of(is_on(matches, "numbers")),
         }),
         "show" => show_in(matches),
         "check" => Ok(Task::Check {

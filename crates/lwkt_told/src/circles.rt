@@ -1,0 +1,179 @@
+//! Threads that wait for each other's replies.
+ghost use Rattle.std.specs.Prelude.{◌≡◌, ◌++◌, length, OnOk, string_bytes};
+ghost use Rattle.std.specs.Option.{option_copied};
+ghost use Rattle.lwkt_told.specs.Circles.{is_waiting, step_awaited, call_of, call_awaited, line_of, next_call, comes_back, wait_told, calls_told, first_in_circle, deadlock_line};
+
+use crate::called::{is_thread, program_of, show_called, show_thread_called};
+use crate::labels::{is_known, step_of_entry};
+use lwkt_base::limits::LOG_LIMIT;
+use lwkt_base::memory::push_str;
+use lwkt_base::{Ask, Entry, MsgId, OutOfMemory, ThreadId, ThreadLine, ThreadState};
+use lwkt_code::Step;
+use lwkt_script::Script;
+use lwkt_text::Names;
+
+/// A call of a thread: a message that is sent, and waited for.
+#[derive(Clone, Copy)]
+pub(crate) struct Call {
+    /// The message.
+    pub(crate) message: MsgId,
+    /// The thread that it goes to.
+    pub(crate) target: ThreadId,
+}
+
+// Whether a thread waits.
+fn is_waiting(state: ThreadState) -> bool
+    ensures { result ≡ is_waiting state }
+{
+    matches!(state, ThreadState::Waiting)
+}
+
+// The step whose answer a thread waits for.
+fn step_awaited<'a>(program: &'a [Step], log: &[Entry]) -> Option<&'a Step>
+    ensures { option_copied result ≡ step_awaited program.entry.now log.now }
+{
+    let count = log.len();
+    if count < LOG_LIMIT && is_known(program, log, count) {
+        step_of_entry(program, count)
+    } else {
+        None
+    }
+}
+
+// The call that a step makes.
+fn call_of(step: Option<&Step>) -> Option<Call>
+    ensures { result ≡ call_of (option_copied step.entry) }
+{
+    match step {
+        Some(Step::Fixed(Ask::Do(message, target, _))) => Some(Call {
+            message: *message,
+            target: *target,
+        }),
+        _ => None,
+    }
+}
+
+// The call whose reply a thread waits for.
+fn call_awaited(names: &Names, script: &Script, line: &ThreadLine) -> Option<Call>
+    ensures { result ≡ call_awaited names.now script.now line.now }
+{
+    if !is_waiting(line.state) {
+        return None;
+    }
+    let program = program_of(names, script, line.id);
+    call_of(step_awaited(program, line.log.as_slice()))
+}
+
+// The line of a thread.
+fn line_of(lines: &[ThreadLine], id: ThreadId) -> Option<&ThreadLine>
+    ensures { option_copied result ≡ line_of lines.now id }
+{
+    lines.iter().find(|line| is_thread(line.id, id))
+}
+
+// The call whose reply the thread of a number waits for.
+fn next_call(
+    names: &Names,
+    script: &Script,
+    lines: &[ThreadLine],
+    id: ThreadId,
+) -> Option<Call>
+    ensures { result ≡ next_call names.now script.now lines.now id }
+{
+    match line_of(lines, id) {
+        Some(line) => call_awaited(names, script, line),
+        None => None,
+    }
+}
+
+// Whether a thread waits, by calls, for itself.
+fn is_in_circle(
+    names: &Names,
+    script: &Script,
+    lines: &[ThreadLine],
+    first: ThreadId,
+) -> bool
+    ensures { result ≡ comes_back (next_call names.now script.now lines.now) first (length lines.now) first }
+{
+    let mut now = first;
+    for _call in 0..lines.len() {
+        match next_call(names, script, lines, now) {
+            None => return false,
+            Some(call) if is_thread(call.target, first) => return true,
+            Some(call) => now = call.target,
+        }
+    }
+    false
+}
+
+// Appends a call that a thread waits for.
+fn show_wait(
+    names: &Names,
+    id: ThreadId,
+    call: Call,
+    out: &mut String,
+) -> Result<(), OutOfMemory>
+    ensures { OnOk result (string_bytes out.new ≡ string_bytes out.old ++ wait_told names.now id call) }
+{
+    show_thread_called(names, id, out)?;
+    push_str(out, " waits for ")?;
+    show_thread_called(names, call.target, out)?;
+    push_str(out, " (call ")?;
+    show_called(names.messages.as_slice(), call.message.0 as usize, out)?;
+    push_str(out, ")")
+}
+
+// Appends the calls that lead from a thread back to it.
+fn show_calls(
+    names: &Names,
+    script: &Script,
+    lines: &[ThreadLine],
+    first: ThreadId,
+    out: &mut String,
+) -> Result<(), OutOfMemory>
+    ensures { OnOk result (string_bytes out.new ≡ string_bytes out.old ++ calls_told names.now (next_call names.now script.now lines.now) first (length lines.now) first) }
+{
+    let mut now = first;
+    for _call in 0..lines.len() {
+        let Some(call) = next_call(names, script, lines, now) else {
+            return Ok(());
+        };
+        show_wait(names, now, call, out)?;
+        if is_thread(call.target, first) {
+            return Ok(());
+        }
+        push_str(out, ", ")?;
+        now = call.target;
+    }
+    Ok(())
+}
+
+// The first thread that waits, by calls, for itself.
+fn first_in_circle<'a>(
+    names: &Names,
+    script: &Script,
+    lines: &'a [ThreadLine],
+) -> Option<&'a ThreadLine>
+    ensures { option_copied result ≡ first_in_circle names.now script.now lines.entry.now }
+{
+    lines
+        .iter()
+        .find(|line| is_in_circle(names, script, lines, line.id))
+}
+
+/// Appends who waits for whom in a circle of calls, if there is one.
+pub(crate) fn show_deadlock(
+    names: &Names,
+    script: &Script,
+    lines: &[ThreadLine],
+    out: &mut String,
+) -> Result<(), OutOfMemory>
+    ensures { OnOk result (string_bytes out.new ≡ string_bytes out.old ++ deadlock_line names.now script.now lines.now) }
+{
+    let Some(line) = first_in_circle(names, script, lines) else {
+        return Ok(());
+    };
+    push_str(out, "deadlock: ")?;
+    show_calls(names, script, lines, line.id, out)?;
+    push_str(out, "\n")
+}
