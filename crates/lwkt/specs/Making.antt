@@ -7,7 +7,8 @@ use Rattle.lwkt_explore.specs.Expectations.{status_of_text}
 use Rattle.lwkt_explore.specs.Extents.{is_complete}
 use Rattle.lwkt_explore.specs.Judgements.{judgement_of, status_of_judgement}
 use Rattle.lwkt_explore.specs.Outcomes.{AreOutcomes, AreShort, AreWhole, HasEnded}
-use Rattle.lwkt_explore.specs.Texts.{text_of_found}
+use Rattle.lwkt_explore.specs.declared.forms.Telling.{Telling}
+use Rattle.lwkt_explore.specs.Texts.{text_of_found, told_of_found}
 use Rattle.lwkt_explore.specs.Tries.{HasTriedOrders, HasTriedStates}
 use Rattle.lwkt_report.specs.declared.closings.Closing.{Closing}
 use Rattle.lwkt_report.specs.Report.{report_text}
@@ -95,11 +96,16 @@ IsFoundBy (Some most) search script found = IsSampled most search.bounds.turns s
 abbrev pub IsFound : Search → Script → Found → Type 0
 IsFound search script found = IsFoundBy search.random search script found
 
+-- what is found, in numbers if that is asked for, else in the names of a text
+abbrev pub finding_in : Bool → Option Names → Script → Found → List ℕ → Type 0
+finding_in false (Some names) script found text = (telling : Telling) × ((telling.names.now ≡ names) × ((telling.script.now ≡ script) × (text ≡ told_of_found telling found)))
+finding_in _ _ script found text = text ≡ text_of_found found
+
 -- the text of what is found; the status is by what is expected
 pub record IsFinding (search : Search) (input : Input) (text : List ℕ) (status : ℕ) : Type 0 where
   pub found : Found
   pub is_found : IsFound search input.script found
-  pub is_text : text ≡ text_of_found found
+  pub is_text : finding_in search.in_numbers input.names input.script found text
   pub is_status : status ≡ status_of_text input.expectations found
 
 -- what a task makes of an input, with this order, if one is named; a check takes none

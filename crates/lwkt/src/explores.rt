@@ -2,13 +2,16 @@
 ghost use Rattle.std.specs.Prelude.{◌≡◌, IfErr, IfOk, string_bytes};
 ghost use Rattle.lwkt_explore.specs.Outcomes.{RefusesSearch};
 ghost use Rattle.lwkt.specs.Failing.{IsFault};
-ghost use Rattle.lwkt.specs.Making.{IsFinding, IsFound};
+ghost use Rattle.lwkt.specs.Making.{IsFinding, IsFound, finding_in};
 
 use crate::failures::Failure;
 use crate::tickers::Ticker;
 use crate::written::Made;
-use lwkt_base::Fault;
-use lwkt_explore::{Found, explore, sample, status_of_text, text_of, verdicts_of};
+use lwkt_base::{Fault, OutOfMemory};
+use lwkt_explore::{
+    Found, Telling, explore, quoted_verdicts_of, sample, status_of_text, text_of, told_text_of,
+    verdicts_of,
+};
 use lwkt_report::Sink;
 use lwkt_request::Search;
 use lwkt_script::Script;
@@ -41,6 +44,27 @@ fn found_of<R: Clock, E: Sink>(
     }
 }
 
+// The text of what is found, in numbers if that is asked for, else in the names of a text.
+fn text_in(
+    alloc: Global,
+    in_numbers: bool,
+    input: &Input,
+    found: &Found,
+) -> Result<String, OutOfMemory>
+    ensures { IfOk result (λ text. finding_in in_numbers input.now.names input.now.script found.now (string_bytes text)) }
+{
+    match &input.names {
+        Some(names) if !in_numbers => {
+            let telling = Telling {
+                names,
+                script: &input.script,
+            };
+            told_text_of(alloc, &telling, found)
+        }
+        _ => text_of(alloc, found),
+    }
+}
+
 /// Tries orders of a script's turns, to the text of what is found. `errors` gets how far the search is, if that is asked for.
 pub fn finding_of<R: Clock, E: Sink>(
     rt: &R,
@@ -55,8 +79,12 @@ pub fn finding_of<R: Clock, E: Sink>(
 {
     let found = found_of(rt, alloc, search, &input.script, errors)?;
     let expectations = input.expectations.as_slice();
-    let text = text_of(alloc, &found)?;
-    let verdicts = verdicts_of(alloc, bytes, expectations, &found)?;
+    let text = text_in(alloc, search.in_numbers, input, &found)?;
+    let verdicts = if search.in_numbers {
+        verdicts_of(alloc, bytes, expectations, &found)?
+    } else {
+        quoted_verdicts_of(alloc, bytes, expectations, &found)?
+    };
     let status = status_of_text(expectations, &found);
     Ok(Made {
         text,

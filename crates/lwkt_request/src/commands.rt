@@ -266,6 +266,12 @@ fn explore_command<'a>(alloc: Global) -> Built<'a>
         "progress",
         "Report each second how far the search is",
     );
+    let command = with_flag(
+        alloc,
+        command,
+        "numbers",
+        "Write outcomes of a text in numbers, as those of JSON",
+    );
     let command = with_flag(alloc, command, "all", "Try each script of the folder FILE");
     with_file(alloc, command, EXPLORE_FILE)
 }

@@ -53,15 +53,16 @@ pub(crate) const RUN: Page = Page {
     about: "Run a script and print its report",
     long_about: "\
 Run a script and print its report: the final values of the tokens, how each
-thread ended, its log, and whether the run is lawful. The older names for it are
-`lwkt_run turns`, and `lwkt_run threads` for lwkt run --threads.
+thread ended, its log, and whether the run is lawful. A text is reported in its
+names, JSON in numbers. `lwkt_run turns` and `lwkt_run threads` are older names
+for lwkt run --numbers, without and with --threads.
 
 The processors take their turns in rounds, so a script's report is the same each
-time. With --threads the last line is `closed`, and reports may differ.
+time. With --threads the run is closed, not lawful, and reports may differ.
 
-If a text has expectations, standard error says which of them hold. One is
-`not decided` if a full log leaves it open; a log has a thread's first 32
-entries. If a script is rejected, standard error says where and why.",
+If a text has expectations, standard error quotes each, and says whether it
+holds. One is `not decided` if a full log leaves it open; a log has a thread's
+first 32 entries. If a script is rejected, standard error says where and why.",
     after: "More: lwkt run --help, and lwkt(7).",
     long_after: "\
 Examples:
@@ -132,7 +133,7 @@ pub(crate) const TEXT: Page = Page {
     long_about: "\
 Translate a script: --json writes it as JSON, --text as a text, without the
 comments and expectations that it had. With --run it is run in rounds and
-reported as by lwkt run. Name exactly one of the three.",
+reported as by lwkt run --numbers. Name exactly one of the three.",
     after: "More: lwkt text --help, and lwkt(7).",
     long_after: "\
 Examples:

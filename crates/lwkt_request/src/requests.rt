@@ -17,6 +17,8 @@ pub struct Search {
     pub seconds: Option<u64>,
     /// `--progress`: whether a line on standard error reports each second how far the search is.
     pub progress: bool,
+    /// `--numbers`: whether outcomes of a text are written in numbers, and not in its names.
+    pub in_numbers: bool,
     /// `--all`: whether the path is that of a folder, each script of which is tried.
     pub all: bool,
 }

@@ -200,12 +200,13 @@ struct ExploreWords<'a> {
     seed: Option<&'a str>,
     seconds: Option<&'a str>,
     progress: bool,
+    in_numbers: bool,
     all: bool,
     has_path: bool,
 }
 
 fn explored<'a>(words: ExploreWords<'a>) -> Result<Task, Wrong<'a>>
-    ensures { result_ok result ≡ explored words.entry.plain (option_copied words.entry.states) (option_copied words.entry.turns) (option_copied words.entry.random) (option_copied words.entry.seed) (option_copied words.entry.seconds) words.entry.progress words.entry.all words.entry.has_path }
+    ensures { result_ok result ≡ explored words.entry.plain (option_copied words.entry.states) (option_copied words.entry.turns) (option_copied words.entry.random) (option_copied words.entry.seed) (option_copied words.entry.seconds) words.entry.progress words.entry.in_numbers words.entry.all words.entry.has_path }
 {
     let states = size_or("--states", words.states, 1_000_000)?;
     let turns = size_or("--turns", words.turns, 100_000)?;
@@ -226,6 +227,7 @@ fn explored<'a>(words: ExploreWords<'a>) -> Result<Task, Wrong<'a>>
         seed,
         seconds,
         progress: words.progress,
+        in_numbers: words.in_numbers,
         all: words.all,
     }))
 }
@@ -241,6 +243,7 @@ fn explore_in<'a>(matches: &ArgMatches<'a>) -> Result<Task, Wrong<'a>>
         seed: value_in(matches, "seed"),
         seconds: value_in(matches, "seconds"),
         progress: is_on(matches, "progress"),
+        in_numbers: is_on(matches, "numbers"),
         all: is_on(matches, "all"),
         has_path: path_of(value_in(matches, "FILE")).is_some(),
     })

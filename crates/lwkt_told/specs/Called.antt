@@ -1,8 +1,9 @@
 -- What things are called by a text: their names there, or their numbers where they have none (own).
 use Rattle.std.specs.Prelude.{ℕ, ◌+◌, ◌-◌, ◌==◌, ◌&&◌, Bool, if◌then◌else◌, List, [], ◌∷◌, ◌++◌, length, max, replicate, slice_get, codes, Option, Some, None, unwrap_or, option_and_then}
 use Rattle.std.specs.Fmt.{decimal}
-use Rattle.lwkt_base.specs.declared.names.CpuId.{CpuId}
-use Rattle.lwkt_base.specs.declared.names.MsgId.{MsgId}
+use Rattle.lwkt_base.specs.declared.names.Mode.{Mode}
+use Rattle.lwkt_base.specs.declared.names.Mode.TheVariants.{Exclusive, Shared}
+use Rattle.lwkt_base.specs.declared.names.Ref.{Ref}
 use Rattle.lwkt_base.specs.declared.names.ThreadId.{ThreadId}
 use Rattle.lwkt_base.specs.declared.names.TokId.{TokId}
 use Rattle.lwkt_code.specs.declared.steps.Step.{Step}
@@ -46,6 +47,18 @@ thread_name names id = option_and_then (λ i. slice_get names.threads i) (place_
 
 abbrev pub thread_called : Names → ThreadId → List ℕ
 thread_called names id = unwrap_or (thread_name names id) (thread_number id)
+
+-- what stands before item i of a list
+abbrev pub comma : ℕ → List ℕ
+comma i = if i == 0 then codes " " else codes ", "
+
+abbrev pub mode_told : Mode → List ℕ
+mode_told Exclusive = []
+mode_told Shared = codes " shared"
+
+-- ` TOKEN` or `, TOKEN shared`
+abbrev pub ref_part : Names → ℕ → Ref → List ℕ
+ref_part names i r = comma i ++ called names.tokens r.tok.0 ++ mode_told r.mode
 
 -- the length of the longest of some names
 abbrev pub longest : List (List ℕ) → ℕ

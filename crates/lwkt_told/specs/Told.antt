@@ -1,16 +1,13 @@
 -- The report of a run in the names of its text: the values are those of the report in numbers, line by line (own).
 use Rattle.std.specs.Prelude.{ℕ, ◌-◌, ◌==◌, if◌then◌else◌, Bool, true, false, List, [], ◌∷◌, ◌++◌, slice_get, codes, Option, Some, None, find}
 use Rattle.std.specs.Fmt.{decimal}
-use Rattle.std.specs.List.{flat_map, list_all}
+use Rattle.std.specs.List.{flat_map}
 use Rattle.std.specs.Option.{option_map_or}
 use Rattle.lwkt_base.specs.declared.entries.Entry.{Entry}
 use Rattle.lwkt_base.specs.declared.entries.Entry.TheVariants.{Value, Bytes, Aborted, Request, Reply, NoMessage, Dropped, Refused, Failed}
 use Rattle.lwkt_base.specs.declared.faults.Fault.{Fault}
-use Rattle.lwkt_base.specs.declared.names.Mode.{Mode}
-use Rattle.lwkt_base.specs.declared.names.Mode.TheVariants.{Exclusive, Shared}
 use Rattle.lwkt_base.specs.declared.names.MsgId.{MsgId}
 use Rattle.lwkt_base.specs.declared.names.Ref.{Ref}
-use Rattle.lwkt_base.specs.declared.names.ThreadId.{ThreadId}
 use Rattle.lwkt_base.specs.declared.names.TokId.{TokId}
 use Rattle.lwkt_base.specs.declared.owners.MsgEnd.{MsgEnd}
 use Rattle.lwkt_base.specs.declared.owners.Owner.{Owner}
@@ -20,7 +17,6 @@ use Rattle.lwkt_base.specs.declared.threads.ThreadLine.{ThreadLine}
 use Rattle.lwkt_base.specs.declared.threads.ThreadState.{ThreadState}
 use Rattle.lwkt_base.specs.declared.threads.ThreadState.TheVariants.{Ready, Waiting, Running, Exited, Faulted}
 use Rattle.lwkt_base.specs.Fault.{fault_message, number_of}
-use Rattle.lwkt_base.specs.Threads.{is_done}
 use Rattle.lwkt_code.specs.declared.steps.Step.{Step}
 use Rattle.lwkt_report.specs.declared.closings.Closing.{Closing}
 use Rattle.lwkt_report.specs.declared.closings.TokenLine.{TokenLine}
@@ -32,8 +28,8 @@ use Rattle.lwkt_text.specs.declared.tables.Names.{Names}
 use Rattle.lwkt_text.specs.Naming.{cells_of}
 use Rattle.lwkt_told.specs.declared.labels.Cell.{Cell}
 use Rattle.lwkt_told.specs.declared.logs.TheConstants.{REFUSALS}
-use Rattle.lwkt_told.specs.Called.{called, cell_called, in_column, program_of, thread_called, width_of}
-use Rattle.lwkt_told.specs.Circles.{deadlock_line}
+use Rattle.lwkt_told.specs.Called.{called, cell_called, in_column, program_of, ref_part, thread_called, width_of}
+use Rattle.lwkt_told.specs.Circles.{stuck_lines}
 use Rattle.lwkt_told.specs.Labels.{label_of}
 
 -- what parts the columns of a line
@@ -98,18 +94,6 @@ state_told (Faulted fault) = codes "faulted " ++ decimal (number_of fault) ++ co
 abbrev pub service_told : Bool → List ℕ
 service_told false = []
 service_told true = codes " (a service)"
-
--- what stands before item i of a list
-abbrev pub comma : ℕ → List ℕ
-comma i = if i == 0 then codes " " else codes ", "
-
-abbrev pub mode_told : Mode → List ℕ
-mode_told Exclusive = []
-mode_told Shared = codes " shared"
-
--- ` TOKEN` or `, TOKEN shared`
-abbrev pub ref_part : Names → ℕ → Ref → List ℕ
-ref_part names i r = comma i ++ called names.tokens r.tok.0 ++ mode_told r.mode
 
 -- the list of a thread
 abbrev pub list_part : Names → List Ref → List ℕ
@@ -183,19 +167,11 @@ verdict_told Closed = codes "the run is closed: the sections of each token make 
 verdict_told Lawful = codes "the run is lawful: checked against the model" ++ line_feed
 verdict_told (Unlawful index) = codes "the run is unlawful at " ++ decimal index ++ codes ": not a run of the model" ++ line_feed
 
--- ` THREAD`, unless the run needn't go on for it
-abbrev pub undone_part : Names → ThreadLine → List ℕ
-undone_part names line = if is_done line then [] else codes " " ++ thread_called names line.id
-
--- that a run is stuck, and the threads that haven't ended; nothing where none is left
-abbrev pub stuck_line : Names → List ThreadLine → List ℕ
-stuck_line names lines = if list_all is_done lines then [] else codes "stuck; not ended:" ++ flat_map (undone_part names) lines ++ line_feed
-
 -- the tokens, the messages, the threads
 unfoldable pub told_front : Names → Script → Closing → List ℕ
 told_front names script closing =
     numbered_lines (token_told (width_of names) names) 0 closing.tokens.items ++ numbered_lines (message_told (width_of names) names) 0 closing.messages.items ++ flat_map (thread_told (width_of names) names script) closing.threads.items
 
--- the same, what the check of the run came to, a deadlock of calls, and whether the run is stuck
+-- the same, what the check of the run came to, and, if the run is stuck, why
 unfoldable pub told_text : Names → Script → Closing → List ℕ
-told_text names script closing = told_front names script closing ++ verdict_told closing.verdict ++ deadlock_line names script closing.threads.items ++ stuck_line names closing.threads.items
+told_text names script closing = told_front names script closing ++ verdict_told closing.verdict ++ stuck_lines names script closing.threads.items

@@ -1,16 +1,17 @@
 ghost use Rattle.std.specs.Prelude.{◌≡◌, ◌++◌, OnOk, replicate, string_bytes};
 ghost use Rattle.std.specs.Option.{option_copied};
-ghost use Rattle.lwkt_told.specs.Called.{called, cell_called, is_thread, place_of, program_of, thread_number, thread_name, thread_called, longest, width_of};
+ghost use Rattle.lwkt_report.specs.Report.{numbered_lines};
+ghost use Rattle.lwkt_told.specs.Called.{called, cell_called, is_thread, place_of, program_of, thread_number, thread_name, thread_called, comma, mode_told, ref_part, longest, width_of};
 ghost use Rattle.lwkt_text.specs.Naming.{cells_of};
 
 use lwkt_base::memory::{push_str, put};
-use lwkt_base::{OutOfMemory, ThreadId, TokId};
+use lwkt_base::{Mode, OutOfMemory, Ref, ThreadId, TokId};
 use lwkt_code::Step;
 use lwkt_script::Script;
 use lwkt_text::{Name, Names};
 
 /// Appends what the thing of a number is called in a list of names.
-pub(crate) fn show_called(names: &[Name], n: usize, out: &mut String) -> Result<(), OutOfMemory>
+pub fn show_called(names: &[Name], n: usize, out: &mut String) -> Result<(), OutOfMemory>
     ensures { OnOk result (string_bytes out.new ≡ string_bytes out.old ++ called names.now n) }
 {
     match names.get(n) {
@@ -95,6 +96,41 @@ pub(crate) fn show_thread_called(
         Some(name) => push_str(out, name.as_str()),
         None => put(out, (id.cpu.0, ".", id.thread)),
     }
+}
+
+// What stands before an item of a list.
+fn comma(i: usize) -> &'static str
+    ensures { result.now ≡ comma i }
+{
+    if i == 0 { " " } else { ", " }
+}
+
+fn mode_words(mode: Mode) -> &'static str
+    ensures { result.now ≡ mode_told mode }
+{
+    match mode {
+        Mode::Exclusive => "",
+        Mode::Shared => " shared",
+    }
+}
+
+// Appends a reference, and what stands before it.
+fn show_ref(names: &Names, i: usize, r: Ref, out: &mut String) -> Result<(), OutOfMemory>
+    ensures { OnOk result (string_bytes out.new ≡ string_bytes out.old ++ ref_part names.now i r) }
+{
+    push_str(out, comma(i))?;
+    show_called(names.tokens.as_slice(), r.tok.0 as usize, out)?;
+    push_str(out, mode_words(r.mode))
+}
+
+/// Appends references, each behind a blank or a comma.
+pub(crate) fn show_refs(names: &Names, refs: &[Ref], out: &mut String) -> Result<(), OutOfMemory>
+    ensures { OnOk result (string_bytes out.new ≡ string_bytes out.old ++ numbered_lines (ref_part names.now) 0 refs.now) }
+{
+    for (i, r) in refs.iter().enumerate() {
+        show_ref(names, i, *r, out)?;
+    }
+    Ok(())
 }
 
 // The length of the longest of some names.

@@ -1,13 +1,13 @@
-//! Threads that wait for each other's replies.
+//! Why a run is stuck: threads that wait for each other's replies, and what else threads wait for.
 ghost use Rattle.std.specs.Prelude.{◌≡◌, ◌++◌, length, OnOk, string_bytes};
 ghost use Rattle.std.specs.Option.{option_copied};
-ghost use Rattle.lwkt_told.specs.Circles.{is_waiting, step_awaited, call_of, call_awaited, line_of, next_call, comes_back, wait_told, calls_told, first_in_circle, deadlock_line};
+ghost use Rattle.lwkt_told.specs.Circles.{is_waiting, step_awaited, call_of, call_awaited, line_of, next_call, comes_back, wait_told, calls_told, first_in_circle, waiting_told, ready_told, why_told, undone_line, undone_lines, deadlock_line, stuck_lines};
 
-use crate::called::{is_thread, program_of, show_called, show_thread_called};
+use crate::called::{is_thread, program_of, show_called, show_refs, show_thread_called};
 use crate::labels::{is_known, step_of_entry};
 use lwkt_base::limits::LOG_LIMIT;
 use lwkt_base::memory::push_str;
-use lwkt_base::{Ask, Entry, MsgId, OutOfMemory, ThreadId, ThreadLine, ThreadState};
+use lwkt_base::{Ask, Entry, MsgId, OutOfMemory, Ref, ThreadId, ThreadLine, ThreadState};
 use lwkt_code::Step;
 use lwkt_script::Script;
 use lwkt_text::Names;
@@ -161,19 +161,135 @@ fn first_in_circle<'a>(
         .find(|line| is_in_circle(names, script, lines, line.id))
 }
 
-/// Appends who waits for whom in a circle of calls, if there is one.
-pub(crate) fn show_deadlock(
+// Appends what a waiting thread waits for, as far as the step is known.
+fn show_waiting(
+    names: &Names,
+    id: ThreadId,
+    step: Option<&Step>,
+    out: &mut String,
+) -> Result<(), OutOfMemory>
+    ensures { OnOk result (string_bytes out.new ≡ string_bytes out.old ++ waiting_told names.now id (option_copied step.entry)) }
+{
+    match step {
+        Some(Step::Fixed(Ask::Do(message, target, _))) => {
+            let call = Call {
+                message: *message,
+                target: *target,
+            };
+            show_wait(names, id, call, out)
+        }
+        Some(Step::Fixed(Ask::WaitPort)) => {
+            show_thread_called(names, id, out)?;
+            push_str(out, " waits for its port")
+        }
+        _ => {
+            show_thread_called(names, id, out)?;
+            push_str(out, " waits")
+        }
+    }
+}
+
+// Appends what a thread that could run wants.
+fn show_ready(
+    names: &Names,
+    id: ThreadId,
+    refs: &[Ref],
+    out: &mut String,
+) -> Result<(), OutOfMemory>
+    ensures { OnOk result (string_bytes out.new ≡ string_bytes out.old ++ ready_told names.now id refs.now) }
+{
+    show_thread_called(names, id, out)?;
+    if refs.is_empty() {
+        return push_str(out, " is ready");
+    }
+    push_str(out, " wants")?;
+    show_refs(names, refs, out)
+}
+
+// Appends why a thread hasn't ended.
+fn show_why(
+    names: &Names,
+    script: &Script,
+    line: &ThreadLine,
+    out: &mut String,
+) -> Result<(), OutOfMemory>
+    ensures { OnOk result (string_bytes out.new ≡ string_bytes out.old ++ why_told names.now script.now line.now line.now.state) }
+{
+    match line.state {
+        ThreadState::Waiting => {
+            let program = program_of(names, script, line.id);
+            show_waiting(names, line.id, step_awaited(program, line.log.as_slice()), out)
+        }
+        ThreadState::Ready => show_ready(names, line.id, line.list.refs(), out),
+        _ => {
+            show_thread_called(names, line.id, out)?;
+            push_str(out, " runs")
+        }
+    }
+}
+
+// Appends a line that says so, unless the run needn't go on for the thread.
+fn show_undone(
+    names: &Names,
+    script: &Script,
+    line: &ThreadLine,
+    out: &mut String,
+) -> Result<(), OutOfMemory>
+    ensures { OnOk result (string_bytes out.new ≡ string_bytes out.old ++ undone_line names.now script.now line.now) }
+{
+    if line.is_done() {
+        return Ok(());
+    }
+    push_str(out, "  ")?;
+    show_why(names, script, line, out)?;
+    push_str(out, "\n")
+}
+
+// Appends the threads that haven't ended.
+fn show_all_undone(
     names: &Names,
     script: &Script,
     lines: &[ThreadLine],
     out: &mut String,
 ) -> Result<(), OutOfMemory>
-    ensures { OnOk result (string_bytes out.new ≡ string_bytes out.old ++ deadlock_line names.now script.now lines.now) }
+    ensures { OnOk result (string_bytes out.new ≡ string_bytes out.old ++ undone_lines names.now script.now lines.now) }
 {
-    let Some(line) = first_in_circle(names, script, lines) else {
-        return Ok(());
-    };
-    push_str(out, "deadlock: ")?;
+    push_str(out, "stuck:\n")?;
+    for line in lines {
+        show_undone(names, script, line, out)?;
+    }
+    Ok(())
+}
+
+// Appends who waits for whom in a circle of calls.
+fn show_deadlock(
+    names: &Names,
+    script: &Script,
+    lines: &[ThreadLine],
+    line: &ThreadLine,
+    out: &mut String,
+) -> Result<(), OutOfMemory>
+    ensures { OnOk result (string_bytes out.new ≡ string_bytes out.old ++ deadlock_line names.now script.now lines.now line.now) }
+{
+    push_str(out, "stuck in a deadlock: ")?;
     show_calls(names, script, lines, line.id, out)?;
     push_str(out, "\n")
+}
+
+/// Appends why a run is stuck: a circle of calls, or else of each thread that hasn't ended why; nothing if none is left.
+pub fn show_stuck(
+    names: &Names,
+    script: &Script,
+    lines: &[ThreadLine],
+    out: &mut String,
+) -> Result<(), OutOfMemory>
+    ensures { OnOk result (string_bytes out.new ≡ string_bytes out.old ++ stuck_lines names.now script.now lines.now) }
+{
+    if lines.iter().all(|line| line.is_done()) {
+        return Ok(());
+    }
+    match first_in_circle(names, script, lines) {
+        Some(line) => show_deadlock(names, script, lines, line, out),
+        None => show_all_undone(names, script, lines, out),
+    }
 }

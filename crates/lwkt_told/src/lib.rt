@@ -11,4 +11,6 @@ mod logs;
 mod told;
 mod verdicts;
 
-pub use told::told;
+pub use called::show_called;
+pub use circles::show_stuck;
+pub use told::{show_front, told};

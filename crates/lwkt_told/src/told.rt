@@ -4,17 +4,17 @@ ghost use Rattle.std.specs.List.{flat_map};
 ghost use Rattle.std.specs.Option.{option_copied};
 ghost use Rattle.lwkt_report.specs.Report.{numbered_lines};
 ghost use Rattle.lwkt_told.specs.Called.{called, in_column, thread_called, width_of};
-ghost use Rattle.lwkt_told.specs.Told.{cell_part, cells_part, sum_part, tallies_part, record_part, token_told, owner_told, message_told, state_told, service_told, comma, mode_told, ref_part, list_part, thread_told, told_front, told_text};
+ghost use Rattle.lwkt_told.specs.Told.{cell_part, cells_part, sum_part, tallies_part, record_part, token_told, owner_told, message_told, state_told, service_told, ref_part, list_part, thread_told, told_front, told_text};
 
 use crate::called::{
-    cells_of, program_of, show_blanks, show_called, show_thread_called, width_of,
+    cells_of, program_of, show_blanks, show_called, show_refs, show_thread_called, width_of,
 };
-use crate::circles::show_deadlock;
+use crate::circles::show_stuck;
 use crate::logs::{show_log, show_record};
-use crate::verdicts::{show_stuck, show_verdict};
+use crate::verdicts::show_verdict;
 use lwkt_base::memory::{push_str, put};
 use lwkt_base::{
-    Blob, Cells, Mode, MsgEnd, OutOfMemory, Owner, Ref, ThreadId, ThreadLine, ThreadState,
+    Blob, Cells, MsgEnd, OutOfMemory, Owner, Ref, ThreadId, ThreadLine, ThreadState,
 };
 use lwkt_report::{Closing, TokenLine};
 use lwkt_script::Script;
@@ -170,41 +170,6 @@ fn service_words(service: bool) -> &'static str
     if service { " (a service)" } else { "" }
 }
 
-// What stands before an item of a list.
-fn comma(i: usize) -> &'static str
-    ensures { result.now ≡ comma i }
-{
-    if i == 0 { " " } else { ", " }
-}
-
-fn mode_words(mode: Mode) -> &'static str
-    ensures { result.now ≡ mode_told mode }
-{
-    match mode {
-        Mode::Exclusive => "",
-        Mode::Shared => " shared",
-    }
-}
-
-// Appends a reference, and what stands before it.
-fn show_ref(names: &Names, i: usize, r: Ref, out: &mut String) -> Result<(), OutOfMemory>
-    ensures { OnOk result (string_bytes out.new ≡ string_bytes out.old ++ ref_part names.now i r) }
-{
-    push_str(out, comma(i))?;
-    show_called(names.tokens.as_slice(), r.tok.0 as usize, out)?;
-    push_str(out, mode_words(r.mode))
-}
-
-// Appends references.
-fn show_refs(names: &Names, refs: &[Ref], out: &mut String) -> Result<(), OutOfMemory>
-    ensures { OnOk result (string_bytes out.new ≡ string_bytes out.old ++ numbered_lines (ref_part names.now) 0 refs.now) }
-{
-    for (i, r) in refs.iter().enumerate() {
-        show_ref(names, i, *r, out)?;
-    }
-    Ok(())
-}
-
 // Appends the list of a thread.
 fn show_list(names: &Names, refs: &[Ref], out: &mut String) -> Result<(), OutOfMemory>
     ensures { OnOk result (string_bytes out.new ≡ string_bytes out.old ++ list_part names.now refs.now) }
@@ -293,9 +258,9 @@ fn show_threads(
     Ok(())
 }
 
-/// Appends the tokens, the messages and the threads of a run in the names of its text.
+/// Appends the tokens, the messages and the threads of a run in the names of its text: the front of its report.
 #[tactic(auto, unfolding(crate::specs::Told::told_front))]
-fn show_front(
+pub fn show_front(
     names: &Names,
     script: &Script,
     closing: &Closing,
@@ -310,8 +275,8 @@ fn show_front(
 }
 
 /// The report of a run of a text's script in the names of the text: each value that the report in numbers has (`report` of
-/// lwkt_report), what the check of the run came to, a circle of threads that wait for each other's replies, if one is seen, and at the
-/// end that it is stuck, if some thread hasn't ended.
+/// lwkt_report), what the check of the run came to, and at the end, if some thread hasn't ended, that the run is stuck and what is
+/// known of why.
 ///
 /// Refused if memory is.
 #[tactic(auto, unfolding(crate::specs::Told::told_text))]
@@ -326,7 +291,6 @@ pub fn told(
     let mut out = String::new(alloc);
     show_front(names, script, closing, &mut out)?;
     show_verdict(closing.verdict, &mut out)?;
-    show_deadlock(names, script, closing.threads.as_slice(), &mut out)?;
-    show_stuck(names, closing.threads.as_slice(), &mut out)?;
+    show_stuck(names, script, closing.threads.as_slice(), &mut out)?;
     Ok(out)
 }

@@ -1,7 +1,7 @@
 use Rattle.std.proofs.Common.{◌≡◌, ◌++◌, string_bytes, drop}
 use Rattle.lwkt_report.specs.Report.{numbered_lines}
-use Rattle.lwkt_told.specs.Told.{ref_part}
-use Rattle.lwkt_told.proofs.told.show_refs.Given as goal
+use Rattle.lwkt_told.specs.Called.{ref_part}
+use Rattle.lwkt_told.proofs.called.show_refs.Given as goal
 
 -- what is written, with what comes, is the whole text
 abbrev pub invariant-loop-i : goal.invariant-loop-i

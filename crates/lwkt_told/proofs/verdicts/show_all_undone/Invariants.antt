@@ -1,8 +1,0 @@
-use Rattle.std.proofs.Common.{◌≡◌, ◌++◌, string_bytes, drop}
-use Rattle.std.specs.List.{flat_map}
-use Rattle.lwkt_told.specs.Told.{undone_part}
-use Rattle.lwkt_told.proofs.verdicts.show_all_undone.Given as goal
-
--- what is written, with the threads to come, is the whole text
-abbrev pub invariant-loop-line : goal.invariant-loop-line
-invariant-loop-line l = string_bytes l.out ++ flat_map (undone_part l.names) (drop l.line-index l.lines) ≡ string_bytes l.initial.out ++ flat_map (undone_part l.names) l.lines
