@@ -152,7 +152,8 @@ pub(crate) const EXPLORE: Page = Page {
     about: "Try every order of a script's turns",
     long_about: "\
 Try every order in which the processors can take their turns, and print each
-outcome once, with a shortest order that leads to it. Outcomes that end come
+outcome once, with a shortest order that leads to it. Those of a text are in its
+names, unless --numbers is given. Outcomes that end come
 first, then deadlocks with what each thread waits for, then those that a bound
 cut off. The last lines say from how many states no end can be reached, and how
 much was tried.
@@ -166,8 +167,8 @@ The last line ends with `complete` if every order was tried. Else it ends with
 --states or --turns sets, (memory) for a failed allocation, and (stopped) for
 --seconds.
 
-If a text has expectations, standard error says of each whether it holds in all
-orders, with a shortest order that breaks it or shows it. An expectation is
+If a text has expectations, standard error quotes each, and says whether it
+holds in all orders, with a shortest order that breaks it or shows it. An expectation is
 `not decided` if no outcome decides it and not every order was tried, or if a
 full log leaves it open. A log has a thread's first 32 entries.
 
