@@ -21,6 +21,8 @@ pub struct Origin<'o> {
     pub task: Task,
     /// The path of its file, if there is one.
     pub path: Option<&'o str>,
+    /// Whether verdicts are painted.
+    pub paints: bool,
 }
 
 impl<'o> Origin<'o> {

@@ -70,6 +70,7 @@ pub fn finding_of<R: Clock, E: Sink>(
     rt: &R,
     alloc: Global,
     search: Search,
+    paints: bool,
     bytes: &[u8],
     input: &Input,
     errors: &mut E,
@@ -83,7 +84,7 @@ pub fn finding_of<R: Clock, E: Sink>(
     let verdicts = if search.in_numbers {
         verdicts_of(alloc, bytes, expectations, &found)?
     } else {
-        quoted_verdicts_of(alloc, bytes, expectations, &found)?
+        quoted_verdicts_of(alloc, paints, bytes, expectations, &found)?
     };
     let status = status_of_text(expectations, &found);
     Ok(Made {

@@ -8,7 +8,7 @@ ghost use Rattle.lwkt.specs.Making.{IsReport, mode_of, report_in};
 use crate::failures::Failure;
 use crate::written::Made;
 use lwkt_base::OutOfMemory;
-use lwkt_explore::{Account, account_of, told_account_of};
+use lwkt_explore::{Account, Telling, account_of, told_account_of};
 use lwkt_report::Closing;
 use lwkt_request::Wording;
 use lwkt_run::{Mode, close_by};
@@ -27,22 +27,33 @@ pub fn mode_of(on_threads: bool) -> Mode
     }
 }
 
+/// In which words a run is reported, and whether verdicts in names are painted.
+#[derive(Clone, Copy)]
+pub struct Words {
+    pub wording: Wording,
+    pub paints: bool,
+}
+
 // What is said of a run in the words that are asked for.
 fn account_in(
     alloc: Global,
-    wording: Wording,
+    words: Words,
     path: Option<&str>,
     bytes: &[u8],
     input: &Input,
     closing: &Closing,
 ) -> Result<Account, OutOfMemory>
-    ensures report { IfOk result (λ account. string_bytes account.report ≡ report_in wording input.now closing.now) }
+    ensures report { IfOk result (λ account. string_bytes account.report ≡ report_in words.wording input.now closing.now) }
     ensures judgement { IfOk result (λ account. account.judgement ≡ judgement_of input.now.expectations closing.now) }
 {
     let expectations = input.expectations.as_slice();
-    match (wording, &input.names) {
+    match (words.wording, &input.names) {
         (Wording::Names, Some(names)) => {
-            told_account_of(alloc, names, &input.script, bytes, expectations, closing)
+            let telling = Telling {
+                names,
+                script: &input.script,
+            };
+            told_account_of(alloc, &telling, words.paints, bytes, expectations, closing)
         }
         _ => account_of(alloc, path, bytes, expectations, closing),
     }
@@ -54,16 +65,16 @@ pub fn report_of<R: Threads + Sync>(
     rt: &R,
     alloc: Global,
     mode: Mode,
-    wording: Wording,
+    words: Words,
     path: Option<&str>,
     bytes: &[u8],
     input: &Input,
 ) -> Result<Made, Failure>
-    ensures made { IfOk result (λ made. IsReport mode wording input.now (string_bytes made.text) made.status) }
+    ensures made { IfOk result (λ made. IsReport mode words.wording input.now (string_bytes made.text) made.status) }
     ensures declined { IfErr result (IsFault (DeclinesRun input.now.script)) }
 {
     let closing = close_by(rt, alloc, mode, &input.script)?;
-    let account = account_in(alloc, wording, path, bytes, input, &closing)?;
+    let account = account_in(alloc, words, path, bytes, input, &closing)?;
     let Account {
         report,
         verdicts,

@@ -26,6 +26,26 @@ fn words_of(truth: Truth) -> &'static str
     }
 }
 
+// What a terminal is told before words, by whether an expectation holds: green, red or yellow.
+fn paint_of(truth: Truth) -> &'static str {
+    match truth {
+        Truth::Yes => "\u{1b}[32m",
+        Truth::No => "\u{1b}[31m",
+        Truth::Open => "\u{1b}[33m",
+    }
+}
+
+// Appends whether an expectation holds, painted or not.
+fn add_words(page: &mut Page, paints: bool, truth: Truth) {
+    if paints {
+        page.add(paint_of(truth));
+        page.add(words_of(truth));
+        page.add("\u{1b}[0m");
+    } else {
+        page.add(words_of(truth));
+    }
+}
+
 /// Of each thing that a text says of the outcome of its script a line that says whether it is so: `FILE:LINE: holds`,
 /// `FILE:LINE: doesn't hold`, or `FILE:LINE: not decided` where the report doesn't tell; without the file where none is named.
 ///
@@ -103,11 +123,12 @@ fn counts_over_orders(expectations: &[Expectation], found: &Found) -> Counts {
 }
 
 /// Each thing that a text says of the outcome of its script as it stands there, with its line and whether it is so of a run; before
-/// them whether all of them are. Nothing where nothing is said.
+/// them whether all of them are. Verdicts are painted if that is asked for. Nothing where nothing is said.
 ///
 /// Refused if memory is.
 pub(crate) fn verdicts_quoted(
     alloc: Global,
+    paints: bool,
     bytes: &[u8],
     expectations: &[Expectation],
     outcome: &Closing,
@@ -122,7 +143,7 @@ pub(crate) fn verdicts_quoted(
     for expectation in expectations {
         place = place_from(bytes, place, expectation.at);
         add_quote(&mut page, bytes, widths, place, expectation);
-        page.add(words_of(truth_in_run(expectation, outcome)));
+        add_words(&mut page, paints, truth_in_run(expectation, outcome));
         page.add("\n");
     }
     page.whole()
@@ -140,10 +161,11 @@ fn add_witness(alloc: Global, page: &mut Page, outcome: &Outcome) -> Result<(), 
 fn add_truth(
     alloc: Global,
     page: &mut Page,
+    paints: bool,
     expectation: &Expectation,
     found: &Found,
 ) -> Result<(), OutOfMemory> {
-    page.add(words_of(truth_over_orders(expectation, found)));
+    add_words(page, paints, truth_over_orders(expectation, found));
     if let Some(outcome) = deciding(expectation, found.outcomes.all.as_slice()) {
         add_witness(alloc, page, outcome)?;
     }
@@ -161,7 +183,7 @@ fn add_verdict(
 ) -> Result<(), OutOfMemory> {
     add_head(page, None, place);
     page.add(": ");
-    add_truth(alloc, page, expectation, found)
+    add_truth(alloc, page, false, expectation, found)
 }
 
 /// A line for each expectation of a text, by its line there, counted from 1: `LINE: holds` or `LINE: doesn't hold`, and the order
@@ -189,6 +211,7 @@ pub fn verdicts_of(
 /// Refused if memory is.
 pub fn quoted_verdicts_of(
     alloc: Global,
+    paints: bool,
     bytes: &[u8],
     expectations: &[Expectation],
     found: &Found,
@@ -203,7 +226,7 @@ pub fn quoted_verdicts_of(
     for expectation in expectations {
         place = place_from(bytes, place, expectation.at);
         add_quote(&mut page, bytes, widths, place, expectation);
-        add_truth(alloc, &mut page, expectation, found)?;
+        add_truth(alloc, &mut page, paints, expectation, found)?;
     }
     page.whole()
 }
