@@ -47,7 +47,8 @@ named_report (Some names) script closing = told_text names script closing
 -- the report in the words that are asked for
 abbrev pub report_in : Wording → Input → Closing → List ℕ
 report_in wordings.Names input closing = named_report input.names input.script closing
-report_in _ input closing = report_text closing
+report_in wordings.Numbers input closing = report_text closing
+report_in wordings.OldName input closing = report_text closing
 
 -- a run of the script, driven so, may end with this report; the status is that of what the run came to, by what is expected of it
 pub record IsReport (mode : Mode) (wording : Wording) (input : Input) (text : List ℕ) (status : ℕ) : Type 0 where
@@ -96,16 +97,28 @@ IsFoundBy (Some most) search script found = IsSampled most search.bounds.turns s
 abbrev pub IsFound : Search → Script → Found → Type 0
 IsFound search script found = IsFoundBy search.random search script found
 
--- what is found, in numbers if that is asked for, else in the names of a text
-abbrev pub finding_in : Bool → Option Names → Script → Found → List ℕ → Type 0
-finding_in false (Some names) script found text = (telling : Telling) × ((telling.names.now ≡ names) × ((telling.script.now ≡ script) × (text ≡ told_of_found telling found)))
-finding_in _ _ script found text = text ≡ text_of_found found
+-- the text of what is found, in these names
+pub record IsToldFinding (names : Names) (script : Script) (found : Found) (text : List ℕ) : Type 0 where
+  pub telling : Telling
+  pub are_names : telling.names.now ≡ names
+  pub is_script : telling.script.now ≡ script
+  pub is_text : text ≡ told_of_found telling found
+
+-- the same in the names of a text, if it has some
+abbrev pub IsNamedFinding : Option Names → Script → Found → List ℕ → Type 0
+IsNamedFinding None script found text = text ≡ text_of_found found
+IsNamedFinding (Some names) script found text = IsToldFinding names script found text
+
+-- the same in numbers, if that is asked for, or else in names
+abbrev pub IsFindingIn : Bool → Input → Found → List ℕ → Type 0
+IsFindingIn true input found text = text ≡ text_of_found found
+IsFindingIn false input found text = IsNamedFinding input.names input.script found text
 
 -- the text of what is found; the status is by what is expected
 pub record IsFinding (search : Search) (input : Input) (text : List ℕ) (status : ℕ) : Type 0 where
   pub found : Found
   pub is_found : IsFound search input.script found
-  pub is_text : finding_in search.in_numbers input.names input.script found text
+  pub is_text : IsFindingIn search.in_numbers input found text
   pub is_status : status ≡ status_of_text input.expectations found
 
 -- what a task makes of an input, with this order, if one is named; a check takes none

@@ -3,7 +3,7 @@ ghost use Rattle.std.specs.Prelude.{◌≡◌, IfErr, IfOk, string_bytes};
 ghost use Rattle.lwkt_run.specs.Run.{DeclinesRun};
 ghost use Rattle.lwkt.specs.Failing.{IsFault};
 ghost use Rattle.lwkt_explore.specs.Judgements.{judgement_of};
-ghost use Rattle.lwkt.specs.Making.{IsReport, mode_of, report_in};
+ghost use Rattle.lwkt.specs.Making.{IsReport, mode_of, named_report, report_in};
 
 use crate::failures::Failure;
 use crate::written::Made;
@@ -34,6 +34,31 @@ pub struct Words {
     pub paints: bool,
 }
 
+// What is said of a run of a text in its names; of JSON, which has none, in numbers.
+fn named_account(
+    alloc: Global,
+    words: Words,
+    path: Option<&str>,
+    bytes: &[u8],
+    input: &Input,
+    closing: &Closing,
+) -> Result<Account, OutOfMemory>
+    ensures report { IfOk result (λ account. string_bytes account.report ≡ named_report input.now.names input.now.script closing.now) }
+    ensures judgement { IfOk result (λ account. account.judgement ≡ judgement_of input.now.expectations closing.now) }
+{
+    let expectations = input.expectations.as_slice();
+    match &input.names {
+        Some(names) => {
+            let telling = Telling {
+                names,
+                script: &input.script,
+            };
+            told_account_of(alloc, &telling, words.paints, bytes, expectations, closing)
+        }
+        None => account_of(alloc, path, bytes, expectations, closing),
+    }
+}
+
 // What is said of a run in the words that are asked for.
 fn account_in(
     alloc: Global,
@@ -46,16 +71,11 @@ fn account_in(
     ensures report { IfOk result (λ account. string_bytes account.report ≡ report_in words.wording input.now closing.now) }
     ensures judgement { IfOk result (λ account. account.judgement ≡ judgement_of input.now.expectations closing.now) }
 {
-    let expectations = input.expectations.as_slice();
-    match (words.wording, &input.names) {
-        (Wording::Names, Some(names)) => {
-            let telling = Telling {
-                names,
-                script: &input.script,
-            };
-            told_account_of(alloc, &telling, words.paints, bytes, expectations, closing)
+    match words.wording {
+        Wording::Names => named_account(alloc, words, path, bytes, input, closing),
+        Wording::Numbers | Wording::OldName => {
+            account_of(alloc, path, bytes, input.expectations.as_slice(), closing)
         }
-        _ => account_of(alloc, path, bytes, expectations, closing),
     }
 }
 

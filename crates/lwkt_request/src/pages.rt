@@ -43,7 +43,7 @@ Examples:
 Options stand after the command, before or after FILE. After -- a word is a FILE
 even if it begins with a dash.
 
-Environment: NO_COLOR, in lwkt run and lwkt explore.
+Environment: with NO_COLOR verdicts on a terminal have no colour.
 Limits: a script has at most 1048576 bytes.
 Exit status: 1 for wrong arguments, 3 for a file or stream that fails; lwkt(7)
 lists them all.",
@@ -71,7 +71,7 @@ Examples:
   lwkt run --threads examples/four_processors_tally.json
       prints a line for each token and thread, and `closed`
 
-Environment: NO_COLOR. On a terminal verdicts are green, red or yellow without it.
+Environment: with NO_COLOR verdicts on a terminal have no colour.
 Limits: a script has at most 1048576 bytes.
 Exit status: 0 if every thread ended and every expectation holds; lwkt(7) lists
 the others.",
@@ -187,7 +187,7 @@ Examples:
   lwkt explore --random 1000 --seed 7 examples/dining_philosophers.json
       prints the one outcome that 1000 random orders have
 
-Environment: NO_COLOR. On a terminal verdicts are green, red or yellow without it.
+Environment: with NO_COLOR verdicts on a terminal have no colour.
 Limits: a script has at most 1048576 bytes; --states and --turns bound a search.
 Exit status: 0 if every order was tried and all of it is well, 5 if some orders
 weren't tried, or an expectation doesn't hold or isn't decided; lwkt(7) lists

@@ -72,12 +72,7 @@ fn line_of(lines: &[ThreadLine], id: ThreadId) -> Option<&ThreadLine>
 }
 
 // The call whose reply the thread of a number waits for.
-fn next_call(
-    names: &Names,
-    script: &Script,
-    lines: &[ThreadLine],
-    id: ThreadId,
-) -> Option<Call>
+fn next_call(names: &Names, script: &Script, lines: &[ThreadLine], id: ThreadId) -> Option<Call>
     ensures { result ≡ next_call names.now script.now lines.now id }
 {
     match line_of(lines, id) {
@@ -87,12 +82,7 @@ fn next_call(
 }
 
 // Whether a thread waits, by calls, for itself.
-fn is_in_circle(
-    names: &Names,
-    script: &Script,
-    lines: &[ThreadLine],
-    first: ThreadId,
-) -> bool
+fn is_in_circle(names: &Names, script: &Script, lines: &[ThreadLine], first: ThreadId) -> bool
     ensures { result ≡ comes_back (next_call names.now script.now lines.now) first (length lines.now) first }
 {
     let mut now = first;
@@ -107,12 +97,7 @@ fn is_in_circle(
 }
 
 // Appends a call that a thread waits for.
-fn show_wait(
-    names: &Names,
-    id: ThreadId,
-    call: Call,
-    out: &mut String,
-) -> Result<(), OutOfMemory>
+fn show_wait(names: &Names, id: ThreadId, call: Call, out: &mut String) -> Result<(), OutOfMemory>
     ensures { OnOk result (string_bytes out.new ≡ string_bytes out.old ++ wait_told names.now id call) }
 {
     show_thread_called(names, id, out)?;
@@ -218,7 +203,12 @@ fn show_why(
     match line.state {
         ThreadState::Waiting => {
             let program = program_of(names, script, line.id);
-            show_waiting(names, line.id, step_awaited(program, line.log.as_slice()), out)
+            show_waiting(
+                names,
+                line.id,
+                step_awaited(program, line.log.as_slice()),
+                out,
+            )
         }
         ThreadState::Ready => show_ready(names, line.id, line.list.refs(), out),
         _ => {

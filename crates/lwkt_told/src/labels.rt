@@ -92,8 +92,7 @@ fn logged_step(program: &[Step], n: usize) -> Option<&Step>
 pub(crate) fn is_known(program: &[Step], log: &[Entry], i: usize) -> bool
     ensures { result ≡ is_known program.now log.now i }
 {
-    program.iter().all(|step| is_fixed(step))
-        && !log.iter().take(i).any(|entry| is_refusal(entry))
+    program.iter().all(|step| is_fixed(step)) && !log.iter().take(i).any(|entry| is_refusal(entry))
 }
 
 /// The step of an entry.

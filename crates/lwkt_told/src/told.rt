@@ -13,9 +13,7 @@ use crate::circles::show_stuck;
 use crate::logs::{show_log, show_record};
 use crate::verdicts::show_verdict;
 use lwkt_base::memory::{push_str, put};
-use lwkt_base::{
-    Blob, Cells, MsgEnd, OutOfMemory, Owner, Ref, ThreadId, ThreadLine, ThreadState,
-};
+use lwkt_base::{Blob, Cells, MsgEnd, OutOfMemory, Owner, Ref, ThreadId, ThreadLine, ThreadState};
 use lwkt_report::{Closing, TokenLine};
 use lwkt_script::Script;
 use lwkt_text::{Name, Names};
@@ -147,7 +145,10 @@ fn show_message(
     ensures { OnOk result (string_bytes out.new ≡ string_bytes out.old ++ message_told width names.now message end.now) }
 {
     show_in_column(width, names.messages.as_slice(), message, out)?;
-    put(out, ("   round ", end.round, "   ", owner_words(end.state), "\n"))
+    put(
+        out,
+        ("   round ", end.round, "   ", owner_words(end.state), "\n"),
+    )
 }
 
 // Appends how a thread stands.

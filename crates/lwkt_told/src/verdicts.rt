@@ -2,8 +2,8 @@
 ghost use Rattle.std.specs.Prelude.{◌≡◌, ◌++◌, OnOk, string_bytes};
 ghost use Rattle.lwkt_told.specs.Told.{verdict_told};
 
-use lwkt_base::memory::{push_str, put};
 use lwkt_base::OutOfMemory;
+use lwkt_base::memory::{push_str, put};
 use lwkt_report::Verdict;
 
 /// Appends what the check of a run came to.
