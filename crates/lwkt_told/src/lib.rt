@@ -8,9 +8,9 @@ mod called;
 mod circles;
 mod labels;
 mod logs;
-mod told;
+mod tellings;
 mod verdicts;
 
 pub use called::show_called;
 pub use circles::show_stuck;
-pub use told::{show_front, told};
+pub use tellings::{show_front, told};

@@ -1,7 +1,7 @@
 use Rattle.std.proofs.Common.{◌≡◌, ◌++◌, string_bytes, drop}
 use Rattle.std.specs.List.{flat_map}
 use Rattle.lwkt_told.specs.Told.{thread_told}
-use Rattle.lwkt_told.proofs.told.show_threads.Given as goal
+use Rattle.lwkt_told.proofs.tellings.show_threads.Given as goal
 
 -- what is written, with the threads to come, is the whole text
 abbrev pub invariant-loop-line : goal.invariant-loop-line

@@ -1,7 +1,7 @@
 use Rattle.std.proofs.Common.{◌≡◌, ◌++◌, string_bytes, drop}
 use Rattle.lwkt_report.specs.Report.{numbered_lines}
 use Rattle.lwkt_told.specs.Told.{sum_part}
-use Rattle.lwkt_told.proofs.told.show_sums.Given as goal
+use Rattle.lwkt_told.proofs.tellings.show_sums.Given as goal
 
 -- what is written, with what comes, is the whole text
 abbrev pub invariant-loop-cpu : goal.invariant-loop-cpu

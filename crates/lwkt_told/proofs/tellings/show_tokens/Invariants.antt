@@ -1,7 +1,7 @@
 use Rattle.std.proofs.Common.{◌≡◌, ◌++◌, string_bytes, drop}
 use Rattle.lwkt_report.specs.Report.{numbered_lines}
 use Rattle.lwkt_told.specs.Told.{token_told}
-use Rattle.lwkt_told.proofs.told.show_tokens.Given as goal
+use Rattle.lwkt_told.proofs.tellings.show_tokens.Given as goal
 
 -- what is written, with what comes, is the whole text
 abbrev pub invariant-loop-tok : goal.invariant-loop-tok
