@@ -1,5 +1,5 @@
 -- Threads that wait for each other's replies, as far as their programs and logs tell (own).
-use Rattle.std.specs.Prelude.{ℕ, suc, ◌&&◌, ◌||◌, nat_lt, Bool, true, false, if◌then◌else◌, List, [], ◌∷◌, ◌++◌, length, codes, Option, Some, None, find, option_and_then}
+use Rattle.std.specs.Prelude.{ℕ, zero, suc, ◌&&◌, ◌||◌, nat_lt, Bool, true, false, if◌then◌else◌, List, [], ◌∷◌, ◌++◌, length, codes, Option, Some, None, find, option_and_then}
 use Rattle.std.specs.List.{flat_map, list_all}
 use Rattle.std.specs.Option.{option_map_or}
 use Rattle.lwkt_base.specs.declared.asks.Ask.TheVariants as asks
@@ -46,7 +46,7 @@ next_call names script lines id = option_and_then (call_awaited names script) (l
 
 -- whether at most so many calls lead from a thread to the first one
 abbrev pub comes_back : (ThreadId → Option Call) → ThreadId → ℕ → ThreadId → Bool
-comes_back next first 0 now = false
+comes_back next first zero now = false
 comes_back next first (suc n) now = option_map_or (λ call. is_thread call.target first || comes_back next first n call.target) (next now) false
 
 -- `A waits for B (call M)`
@@ -55,7 +55,7 @@ wait_told names id call = thread_called names id ++ codes " waits for " ++ threa
 
 -- the calls from a thread to the first one, at most so many: `A waits for B (call M), B waits for ..`
 abbrev pub calls_told : Names → (ThreadId → Option Call) → ThreadId → ℕ → ThreadId → List ℕ
-calls_told names next first 0 now = []
+calls_told names next first zero now = []
 calls_told names next first (suc n) now =
     option_map_or (λ call. wait_told names now call ++ (if is_thread call.target first then [] else codes ", " ++ calls_told names next first n call.target)) (next now) []
 

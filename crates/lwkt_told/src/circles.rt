@@ -1,5 +1,6 @@
 //! Why a run is stuck: threads that wait for each other's replies, and what else threads wait for.
 ghost use Rattle.std.specs.Prelude.{◌≡◌, ◌++◌, length, OnOk, string_bytes};
+ghost use Rattle.std.specs.List.{flat_map};
 ghost use Rattle.std.specs.Option.{option_copied};
 ghost use Rattle.lwkt_told.specs.Circles.{is_waiting, step_awaited, call_of, call_awaited, line_of, next_call, comes_back, wait_told, calls_told, first_in_circle, waiting_told, ready_told, why_told, undone_line, undone_lines, deadlock_line, stuck_lines};
 
@@ -235,6 +236,21 @@ fn show_undone(
     push_str(out, "\n")
 }
 
+// Appends a line for each thread that hasn't ended.
+fn show_undone_lines(
+    names: &Names,
+    script: &Script,
+    lines: &[ThreadLine],
+    out: &mut String,
+) -> Result<(), OutOfMemory>
+    ensures { OnOk result (string_bytes out.new ≡ string_bytes out.old ++ flat_map (undone_line names.now script.now) lines.now) }
+{
+    for line in lines {
+        show_undone(names, script, line, out)?;
+    }
+    Ok(())
+}
+
 // Appends the threads that haven't ended.
 fn show_all_undone(
     names: &Names,
@@ -245,10 +261,7 @@ fn show_all_undone(
     ensures { OnOk result (string_bytes out.new ≡ string_bytes out.old ++ undone_lines names.now script.now lines.now) }
 {
     push_str(out, "stuck:\n")?;
-    for line in lines {
-        show_undone(names, script, line, out)?;
-    }
-    Ok(())
+    show_undone_lines(names, script, lines, out)
 }
 
 // Appends who waits for whom in a circle of calls.

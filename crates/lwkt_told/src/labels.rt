@@ -1,5 +1,6 @@
 //! Which cell an entry of a log was read from.
-ghost use Rattle.std.specs.Prelude.{◌≡◌, count_by, slice_get};
+ghost use Rattle.std.specs.Prelude.{◌≡◌, count_by, slice_get, take};
+ghost use Rattle.std.specs.List.{list_all, list_any};
 ghost use Rattle.std.specs.Option.{option_copied};
 ghost use Rattle.lwkt_told.specs.Labels.{is_logged, is_fixed, is_step_logged, is_refusal, cell_read, logged_steps, is_known, step_of_entry, label_of};
 
@@ -69,7 +70,13 @@ fn cell_read(step: Option<&Step>) -> Option<Cell>
 fn logged_count(program: &[Step]) -> usize
     ensures { result ≡ count_by is_step_logged program.now }
 {
-    program.iter().filter(|step| is_step_logged(step)).count()
+    let mut count = 0usize;
+    for step in program {
+        if is_step_logged(step) {
+            count += 1;
+        }
+    }
+    count
 }
 
 // The n-th of them.
@@ -88,11 +95,33 @@ fn logged_step(program: &[Step], n: usize) -> Option<&Step>
     None
 }
 
+// The entries before one.
+#[tactic(auto, using(crate::proofs::ColumnLemmas::all_taken))]
+fn entries_before(log: &[Entry], i: usize) -> &[Entry]
+    ensures { result.now ≡ take i log.now }
+{
+    if i < log.len() { &log[..i] } else { log }
+}
+
+// Whether an entry before one is a refusal.
+fn has_refusal(log: &[Entry], i: usize) -> bool
+    ensures { result ≡ list_any is_refusal (take i log.now) }
+{
+    entries_before(log, i).iter().any(|entry| is_refusal(entry))
+}
+
+// Whether a program has asks alone.
+fn has_asks_alone(program: &[Step]) -> bool
+    ensures { result ≡ list_all is_fixed program.now }
+{
+    program.iter().all(|step| is_fixed(step))
+}
+
 /// Whether an entry of a log is known to be that of a step.
 pub(crate) fn is_known(program: &[Step], log: &[Entry], i: usize) -> bool
     ensures { result ≡ is_known program.now log.now i }
 {
-    program.iter().all(|step| is_fixed(step)) && !log.iter().take(i).any(|entry| is_refusal(entry))
+    has_asks_alone(program) && !has_refusal(log, i)
 }
 
 /// The step of an entry.

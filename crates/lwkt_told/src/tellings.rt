@@ -3,8 +3,8 @@ ghost use Rattle.std.specs.Prelude.{◌≡◌, ◌++◌, IfOk, OnOk, string_byte
 ghost use Rattle.std.specs.List.{flat_map};
 ghost use Rattle.std.specs.Option.{option_copied};
 ghost use Rattle.lwkt_report.specs.Report.{numbered_lines};
-ghost use Rattle.lwkt_told.specs.Called.{called, in_column, thread_called, width_of};
-ghost use Rattle.lwkt_told.specs.Told.{cell_part, cells_part, sum_part, tallies_part, record_part, token_told, owner_told, message_told, state_told, service_told, ref_part, list_part, thread_told, told_front, told_text};
+ghost use Rattle.lwkt_told.specs.Called.{called, in_column, ref_part, thread_called, width_of};
+ghost use Rattle.lwkt_told.specs.Told.{cell_part, cells_part, sum_part, tallies_part, record_part, token_told, owner_told, message_told, state_told, service_told, list_part, thread_told, told_front, told_text};
 
 use crate::called::{
     cells_of, program_of, show_blanks, show_called, show_refs, show_thread_called, width_of,
@@ -20,6 +20,7 @@ use lwkt_text::{Name, Names};
 use std::alloc::Global;
 
 // Appends a name in its column.
+#[tactic(auto, using(crate::proofs::ColumnLemmas::columned))]
 fn show_in_column(
     width: usize,
     names: &[Name],
@@ -30,7 +31,7 @@ fn show_in_column(
 {
     let before = out.len();
     show_called(names, n, out)?;
-    show_blanks(width.saturating_sub(out.len() - before), out)
+    show_blanks(width.saturating_sub(out.len().saturating_sub(before)), out)
 }
 
 // Appends a cell and its value.
@@ -183,6 +184,7 @@ fn show_list(names: &Names, refs: &[Ref], out: &mut String) -> Result<(), OutOfM
 }
 
 // Appends the name of a thread in its column.
+#[tactic(auto, using(crate::proofs::ColumnLemmas::columned))]
 fn show_thread_in_column(
     width: usize,
     names: &Names,
@@ -193,7 +195,7 @@ fn show_thread_in_column(
 {
     let before = out.len();
     show_thread_called(names, id, out)?;
-    show_blanks(width.saturating_sub(out.len() - before), out)
+    show_blanks(width.saturating_sub(out.len().saturating_sub(before)), out)
 }
 
 // Appends the line of a thread.
