@@ -118,6 +118,18 @@ fn show_record_part(blob: &Option<Blob>, out: &mut String) -> Result<(), OutOfMe
     }
 }
 
+// Appends the name of a token in its column.
+fn show_token_in_column(
+    width: usize,
+    names: &Names,
+    tok: usize,
+    out: &mut String,
+) -> Result<(), OutOfMemory>
+    ensures { OnOk result (string_bytes out.new ≡ string_bytes out.old ++ in_column width (called names.now.tokens tok)) }
+{
+    show_in_column(width, names.tokens.as_slice(), tok, out)
+}
+
 // Appends the line of a token.
 fn show_token(
     width: usize,
@@ -128,7 +140,7 @@ fn show_token(
 ) -> Result<(), OutOfMemory>
     ensures { OnOk result (string_bytes out.new ≡ string_bytes out.old ++ token_told width names.now tok line.now) }
 {
-    show_in_column(width, names.tokens.as_slice(), tok, out)?;
+    show_token_in_column(width, names, tok, out)?;
     put(out, ("   gen ", line.generation))?;
     show_cells_of(names, tok, &line.cells, out)?;
     show_tallies(&line.tallies, out)?;
@@ -178,11 +190,15 @@ fn show_state(state: ThreadState, out: &mut String) -> Result<(), OutOfMemory>
     }
 }
 
-// That a thread is a service.
-fn service_words(service: bool) -> &'static str
-    ensures { result.now ≡ service_told service }
+// Appends that a thread is a service, if it is one.
+fn show_service(service: bool, out: &mut String) -> Result<(), OutOfMemory>
+    ensures { OnOk result (string_bytes out.new ≡ string_bytes out.old ++ service_told service) }
 {
-    if service { " (a service)" } else { "" }
+    if service {
+        push_str(out, " (a service)")
+    } else {
+        Ok(())
+    }
 }
 
 // Appends the list of a thread.
@@ -244,7 +260,7 @@ fn show_thread(
     show_thread_in_column(width, names, line.id, out)?;
     push_str(out, "   ")?;
     show_state(line.state, out)?;
-    push_str(out, service_words(line.service))?;
+    show_service(line.service, out)?;
     show_list_of(names, line, out)?;
     show_log_of(names, script, line, out)?;
     push_str(out, "\n")

@@ -28,4 +28,4 @@ loop-call-preserved c =
     let other : is_thread call.target c.args.first ≡ false = cc in
     written_on (string_bytes c.loop-call.out) (string_bytes c.show_wait.new.out) (string_bytes c.push_str.new.out) (wait_told names c.loop-call.now call) (codes ", ") (calls_told names next c.args.first (n - (k + 1)) call.target)
     (calls_told names next c.args.first (n - k) c.loop-call.now) (string_bytes c.args.out.now ++ calls_told names next c.args.first n c.args.first)
-    c.in_ok-show_wait.ensures c.in_ok-push_str.ensures (calls_on names next c.args.first c.loop-call.now call k n below is other) c.loop-call.invariant
+    c.in_ok-show_wait-in-Some.ensures c.in_ok-push_str-in-Some.ensures (calls_on names next c.args.first c.loop-call.now call k n below is other) c.loop-call.invariant
