@@ -19,9 +19,6 @@ columned old name mid new width before after more count one two three four five 
 pub all_taken : {A : Type 0} (n : ℕ) (l : List A) → length l ≤ n → take n l ≡ l
 all_taken n l few = take_all n l few
 
--- a text that was written in six pieces, and one in seven
-pub six_pieces : (old a b c d e f o p q r s new : List ℕ) → o ≡ old ++ a → p ≡ o ++ b → q ≡ p ++ c → r ≡ q ++ d → s ≡ r ++ e → new ≡ s ++ f → new ≡ old ++ (a ++ b ++ c ++ d ++ e ++ f)
-six_pieces old a b c d e f o p q r s new one two three four five six = rw (six, five, four, three, two, one) (simp append_assoc)
-
+-- a text that was written in seven pieces
 pub seven_pieces : (old a b c d e f g o p q r s t new : List ℕ) → o ≡ old ++ a → p ≡ o ++ b → q ≡ p ++ c → r ≡ q ++ d → s ≡ r ++ e → t ≡ s ++ f → new ≡ t ++ g → new ≡ old ++ (a ++ b ++ c ++ d ++ e ++ f ++ g)
 seven_pieces old a b c d e f g o p q r s t new one two three four five six seven = rw (seven, six, five, four, three, two, one) (simp append_assoc)

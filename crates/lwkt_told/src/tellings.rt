@@ -141,7 +141,8 @@ fn show_token(
     ensures { OnOk result (string_bytes out.new ≡ string_bytes out.old ++ token_told width names.now tok line.now) }
 {
     show_token_in_column(width, names, tok, out)?;
-    put(out, ("   gen ", line.generation))?;
+    push_str(out, "   gen ")?;
+    put(out, line.generation)?;
     show_cells_of(names, tok, &line.cells, out)?;
     show_tallies(&line.tallies, out)?;
     show_record_part(&line.blob, out)?;
