@@ -18,3 +18,7 @@ columned old name mid new width before after more count one two three four five 
 -- all of a list
 pub all_taken : {A : Type 0} (n : ℕ) (l : List A) → length l ≤ n → take n l ≡ l
 all_taken n l few = take_all n l few
+
+-- a text that was written in seven pieces
+pub seven_pieces : (old a b c d e f g o p q r s t new : List ℕ) → o ≡ old ++ a → p ≡ o ++ b → q ≡ p ++ c → r ≡ q ++ d → s ≡ r ++ e → t ≡ s ++ f → new ≡ t ++ g → new ≡ old ++ (a ++ b ++ c ++ d ++ e ++ f ++ g)
+seven_pieces old a b c d e f g o p q r s t new one two three four five six seven = rw (seven, six, five, four, three, two, one) (simp append_assoc)

@@ -1,1 +1,2 @@
+pub mod CallLemmas
 pub mod ColumnLemmas

@@ -64,7 +64,7 @@ record_part (Some blob) = gap ++ codes "record " ++ record_text blob
 -- `TOKEN   gen G   CELL=VALUE ..`, and its tallies and its record
 abbrev pub token_told : ℕ → Names → ℕ → TokenLine → List ℕ
 token_told width names tok line =
-    in_column width (called names.tokens tok) ++ gap ++ codes "gen " ++ decimal line.generation ++ cells_part (cells_of names (record { 0 = tok })) line.cells ++ tallies_part line.tallies ++ record_part line.blob ++ line_feed
+    in_column width (called names.tokens tok) ++ codes "   gen " ++ decimal line.generation ++ cells_part (cells_of names (record { 0 = tok })) line.cells ++ tallies_part line.tallies ++ record_part line.blob ++ line_feed
 
 -- ---- messages
 

@@ -1,7 +1,8 @@
 //! Why a run is stuck: threads that wait for each other's replies, and what else threads wait for.
 ghost use Rattle.std.specs.Prelude.{◌≡◌, ◌++◌, length, OnOk, string_bytes};
-ghost use Rattle.std.specs.List.{flat_map};
+ghost use Rattle.std.specs.List.{flat_map, list_all};
 ghost use Rattle.std.specs.Option.{option_copied};
+ghost use Rattle.lwkt_base.specs.Threads.{is_done};
 ghost use Rattle.lwkt_told.specs.Circles.{is_waiting, step_awaited, call_of, call_awaited, line_of, next_call, comes_back, wait_told, calls_told, first_in_circle, waiting_told, ready_told, why_told, undone_line, undone_lines, deadlock_line, stuck_lines};
 
 use crate::called::{is_thread, program_of, show_called, show_refs, show_thread_called};
@@ -121,15 +122,17 @@ fn show_calls(
 {
     let mut now = first;
     for _call in 0..lines.len() {
-        let Some(call) = next_call(names, script, lines, now) else {
-            return Ok(());
-        };
-        show_wait(names, now, call, out)?;
-        if is_thread(call.target, first) {
-            return Ok(());
+        match next_call(names, script, lines, now) {
+            None => return Ok(()),
+            Some(call) => {
+                show_wait(names, now, call, out)?;
+                if is_thread(call.target, first) {
+                    return Ok(());
+                }
+                push_str(out, ", ")?;
+                now = call.target;
+            }
         }
-        push_str(out, ", ")?;
-        now = call.target;
     }
     Ok(())
 }
@@ -279,6 +282,13 @@ fn show_deadlock(
     push_str(out, "\n")
 }
 
+// Whether a run needn't go on for any thread.
+fn are_done(lines: &[ThreadLine]) -> bool
+    ensures { result ≡ list_all is_done lines.now }
+{
+    lines.iter().all(|line| line.is_done())
+}
+
 /// Appends why a run is stuck: a circle of calls, or else of each thread that hasn't ended why; nothing if none is left.
 pub fn show_stuck(
     names: &Names,
@@ -288,7 +298,7 @@ pub fn show_stuck(
 ) -> Result<(), OutOfMemory>
     ensures { OnOk result (string_bytes out.new ≡ string_bytes out.old ++ stuck_lines names.now script.now lines.now) }
 {
-    if lines.iter().all(|line| line.is_done()) {
+    if are_done(lines) {
         return Ok(());
     }
     match first_in_circle(names, script, lines) {

@@ -3,8 +3,9 @@ ghost use Rattle.std.specs.Prelude.{◌≡◌, ◌++◌, IfOk, OnOk, string_byte
 ghost use Rattle.std.specs.List.{flat_map};
 ghost use Rattle.std.specs.Option.{option_copied};
 ghost use Rattle.lwkt_report.specs.Report.{numbered_lines};
-ghost use Rattle.lwkt_told.specs.Called.{called, in_column, ref_part, thread_called, width_of};
-ghost use Rattle.lwkt_told.specs.Told.{cell_part, cells_part, sum_part, tallies_part, record_part, token_told, owner_told, message_told, state_told, service_told, list_part, thread_told, told_front, told_text};
+ghost use Rattle.lwkt_text.specs.Naming.{cells_of};
+ghost use Rattle.lwkt_told.specs.Called.{called, in_column, program_of, ref_part, thread_called, width_of};
+ghost use Rattle.lwkt_told.specs.Told.{cell_part, cells_part, sum_part, tallies_part, record_part, token_told, owner_told, message_told, state_told, service_told, list_part, log_part, thread_told, told_front, told_text};
 
 use crate::called::{
     cells_of, program_of, show_blanks, show_called, show_refs, show_thread_called, width_of,
@@ -69,6 +70,18 @@ fn show_cells_part(cells: &[Name], values: &[u64], out: &mut String) -> Result<(
     show_cells(cells, values, out)
 }
 
+// The cells of the token of a number.
+fn show_cells_of(
+    names: &Names,
+    tok: usize,
+    values: &Cells,
+    out: &mut String,
+) -> Result<(), OutOfMemory>
+    ensures { OnOk result (string_bytes out.new ≡ string_bytes out.old ++ cells_part (cells_of names.now (record { 0 = tok })) values.now) }
+{
+    show_cells_part(cells_of(names, tok), values.as_slice(), out)
+}
+
 // Appends what each processor has added.
 fn show_sums(sums: &[u64], out: &mut String) -> Result<(), OutOfMemory>
     ensures { OnOk result (string_bytes out.new ≡ string_bytes out.old ++ numbered_lines sum_part 0 sums.now) }
@@ -105,6 +118,18 @@ fn show_record_part(blob: &Option<Blob>, out: &mut String) -> Result<(), OutOfMe
     }
 }
 
+// Appends the name of a token in its column.
+fn show_token_in_column(
+    width: usize,
+    names: &Names,
+    tok: usize,
+    out: &mut String,
+) -> Result<(), OutOfMemory>
+    ensures { OnOk result (string_bytes out.new ≡ string_bytes out.old ++ in_column width (called names.now.tokens tok)) }
+{
+    show_in_column(width, names.tokens.as_slice(), tok, out)
+}
+
 // Appends the line of a token.
 fn show_token(
     width: usize,
@@ -115,9 +140,10 @@ fn show_token(
 ) -> Result<(), OutOfMemory>
     ensures { OnOk result (string_bytes out.new ≡ string_bytes out.old ++ token_told width names.now tok line.now) }
 {
-    show_in_column(width, names.tokens.as_slice(), tok, out)?;
-    put(out, ("   gen ", line.generation))?;
-    show_cells_part(cells_of(names, tok), line.cells.as_slice(), out)?;
+    show_token_in_column(width, names, tok, out)?;
+    push_str(out, "   gen ")?;
+    put(out, line.generation)?;
+    show_cells_of(names, tok, &line.cells, out)?;
     show_tallies(&line.tallies, out)?;
     show_record_part(&line.blob, out)?;
     push_str(out, "\n")
@@ -165,11 +191,15 @@ fn show_state(state: ThreadState, out: &mut String) -> Result<(), OutOfMemory>
     }
 }
 
-// That a thread is a service.
-fn service_words(service: bool) -> &'static str
-    ensures { result.now ≡ service_told service }
+// Appends that a thread is a service, if it is one.
+fn show_service(service: bool, out: &mut String) -> Result<(), OutOfMemory>
+    ensures { OnOk result (string_bytes out.new ≡ string_bytes out.old ++ service_told service) }
 {
-    if service { " (a service)" } else { "" }
+    if service {
+        push_str(out, " (a service)")
+    } else {
+        Ok(())
+    }
 }
 
 // Appends the list of a thread.
@@ -198,6 +228,26 @@ fn show_thread_in_column(
     show_blanks(width.saturating_sub(out.len().saturating_sub(before)), out)
 }
 
+// Appends the list of the thread of a line.
+fn show_list_of(names: &Names, line: &ThreadLine, out: &mut String) -> Result<(), OutOfMemory>
+    ensures { OnOk result (string_bytes out.new ≡ string_bytes out.old ++ list_part names.now line.now.list) }
+{
+    show_list(names, line.list.refs(), out)
+}
+
+// Appends the log of the thread of a line.
+fn show_log_of(
+    names: &Names,
+    script: &Script,
+    line: &ThreadLine,
+    out: &mut String,
+) -> Result<(), OutOfMemory>
+    ensures { OnOk result (string_bytes out.new ≡ string_bytes out.old ++ log_part names.now (program_of names.now script.now line.now.id) line.now.log) }
+{
+    let program = program_of(names, script, line.id);
+    show_log(names, program, line.log.as_slice(), out)
+}
+
 // Appends the line of a thread.
 fn show_thread(
     width: usize,
@@ -211,10 +261,9 @@ fn show_thread(
     show_thread_in_column(width, names, line.id, out)?;
     push_str(out, "   ")?;
     show_state(line.state, out)?;
-    push_str(out, service_words(line.service))?;
-    show_list(names, line.list.refs(), out)?;
-    let program = program_of(names, script, line.id);
-    show_log(names, program, line.log.as_slice(), out)?;
+    show_service(line.service, out)?;
+    show_list_of(names, line, out)?;
+    show_log_of(names, script, line, out)?;
     push_str(out, "\n")
 }
 
