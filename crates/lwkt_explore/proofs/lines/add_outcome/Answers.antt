@@ -22,9 +22,9 @@ returns c =
     let five : string_bytes c.push_str-2.new.out ≡ string_bytes c.add_order.new.out ++ line_feed = c.in_ok-push_str-2.ensures in
     let six : string_bytes c.add_report.new.out ≡ string_bytes c.push_str-2.new.out ++ report_lines (option_copied c.args.telling) outcome = c.in_ok-add_report.ensures in
     let seven : string_bytes c.add_forms.new.out ≡ string_bytes c.add_report.new.out ++ flat_map (λ (form : Form). or_line (option_copied c.args.telling) outcome form.0) (later_forms outcome (c.args.place + 1) c.args.found.now.outcomes) = c.in_ok-add_forms.ensures in
-    let last : OnOk c.add_why.result (string_bytes c.add_why.new.out ≡ string_bytes c.add_forms.new.out ++ why_lines (option_copied c.args.telling) outcome) = c.add_why.ensures in
-    on_ok_weaker c.add_why.result
-    (λ is. outlined (string_bytes c.args.out.now) (string_bytes c.put.new.out) (string_bytes c.add_count.new.out) (string_bytes c.push_str.new.out) (string_bytes c.add_order.new.out) (string_bytes c.push_str-2.new.out) (string_bytes c.add_report.new.out) (string_bytes c.add_forms.new.out) (string_bytes c.add_why.new.out)
+    let last : OnOk c.add_whys.result (string_bytes c.add_whys.new.out ≡ string_bytes c.add_forms.new.out ++ why_lines (option_copied c.args.telling) outcome) = c.add_whys.ensures in
+    on_ok_weaker c.add_whys.result
+    (λ is. outlined (string_bytes c.args.out.now) (string_bytes c.put.new.out) (string_bytes c.add_count.new.out) (string_bytes c.push_str.new.out) (string_bytes c.add_order.new.out) (string_bytes c.push_str-2.new.out) (string_bytes c.add_report.new.out) (string_bytes c.add_forms.new.out) (string_bytes c.add_whys.new.out)
     (codes "outcome ") (decimal c.args.number) (codes " ") (kind_text outcome.kind) (count_text tried (group_count t)) (codes ", order") (order_bytes outcome.order.items) line_feed (report_lines (option_copied c.args.telling) outcome) (flat_map (λ (form : Form). or_line (option_copied c.args.telling) outcome form.0) (later_forms outcome (c.args.place + 1) c.args.found.now.outcomes)) (why_lines (option_copied c.args.telling) outcome)
     (rw word at one) (rw count at two) three four five six seven is)
     last
