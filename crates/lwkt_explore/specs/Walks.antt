@@ -1,5 +1,5 @@
 -- A walk over the states of a script, and a search that is under way (own).
-use Rattle.std.specs.Prelude.{◌≡◌, ℕ, ◌<◌, ◌≤◌, Bool, true, false, Option, None, Some, max, length, Contains}
+use Rattle.std.specs.Prelude.{◌≡◌, ◌≤◌, Bool, true, false, Option, None, Some, max, length, Contains}
 use Rattle.lwkt_base.specs.declared.limits.TheConstants.{CPU_LIMIT}
 use Rattle.lwkt_script.specs.declared.scripts.Script.{Script}
 use Rattle.lwkt_explore.specs.declared.outcomes.Outcomes.{Outcomes}

@@ -1,8 +1,7 @@
-use Rattle.std.proofs.Common.{rules, ◌≡◌, ◌<◌, ◌+◌, ◌++◌, true, false, get_or, length, string_bytes, refl}
-use Rattle.std.specs.List.{flat_map}
+use Rattle.std.proofs.Common.{rules, ◌≡◌, ◌<◌, ◌+◌, ◌++◌, true, false, get_or, length, string_bytes}
 use Rattle.std.specs.Option.{option_copied}
 use Rattle.lwkt_explore.specs.Texts.{Form, grouped_with, later_forms, or_line}
-use Rattle.lwkt_explore.proofs.KindLemmas.{flat_on, later_here, later_passed, later_end}
+use Rattle.lwkt_explore.proofs.KindLemmas.{flat_on, later_here, later_passed}
 use Rattle.lwkt_explore.proofs.forms.add_forms.Goals as goal
 use Rattle.lwkt_explore.proofs.forms.add_forms.Goals.{then-grouped_with+in_ok-add_form, else-grouped_with}
 

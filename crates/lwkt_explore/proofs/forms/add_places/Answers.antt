@@ -1,4 +1,4 @@
-use Rattle.std.proofs.Common.{◌≡◌, ◌≤◌, append-nil, drop, length, string_bytes, sym, ◌∙◌}
+use Rattle.std.proofs.Common.{◌≤◌, append-nil, drop, length, string_bytes, sym, ◌∙◌}
 use Rattle.std.proofs.lemmas.List.{drop_all}
 use Rattle.std.specs.Option.{option_copied}
 use Rattle.lwkt_explore.proofs.KindLemmas.{places_end}

@@ -1,5 +1,5 @@
-use Rattle.std.proofs.Common.{rules, ◌≡◌, ◌<◌, ◌≤◌, ◌+◌, ◌∙◌, true, false, get_or, length, min, sum, map, ℕ, refl, arith}
-use Rattle.lwkt_explore.specs.Texts.{Form, grouped_with, group_count, later_forms}
+use Rattle.std.proofs.Common.{rules, ◌≡◌, ◌<◌, ◌≤◌, ◌+◌, ◌∙◌, true, false, get_or, length, min, arith}
+use Rattle.lwkt_explore.specs.Texts.{grouped_with, group_count, later_forms}
 use Rattle.lwkt_explore.proofs.KindLemmas.{count_on, later_here, later_passed, later_end}
 use Rattle.lwkt_explore.proofs.forms.group_count.Goals as goal
 use Rattle.lwkt_explore.proofs.forms.group_count.Goals.{then-grouped_with, else-grouped_with}

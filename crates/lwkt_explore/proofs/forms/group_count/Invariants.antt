@@ -1,4 +1,4 @@
-use Rattle.std.proofs.Common.{◌≡◌, ◌≤◌, ◌+◌, get_or, map, min, sum, ℕ}
+use Rattle.std.proofs.Common.{◌≡◌, ◌≤◌, ◌+◌, get_or, map, min, sum}
 use Rattle.lwkt_explore.specs.Texts.{Form, later_forms, group_count}
 use Rattle.lwkt_explore.proofs.forms.group_count.Given as goal
 

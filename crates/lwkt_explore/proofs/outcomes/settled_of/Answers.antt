@@ -1,4 +1,4 @@
-use Rattle.std.proofs.Common.{◌≡◌, refl, ◌∙◌}
+use Rattle.std.proofs.Common.{refl, ◌∙◌}
 use Rattle.lwkt_report.specs.declared.closings.Closing.{Closing}
 use Rattle.lwkt_explore.proofs.SettledLemmas.{settled_is}
 use Rattle.lwkt_explore.proofs.outcomes.settled_of.Goals as goal

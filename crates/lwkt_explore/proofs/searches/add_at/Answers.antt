@@ -1,9 +1,8 @@
-use Rattle.std.proofs.Common.{◌≡◌, ◌≤◌, ℕ, true, false, List, None, length, subst, sym, rules}
+use Rattle.std.proofs.Common.{◌≡◌, true, List, subst, sym, rules}
 use Rattle.std.specs.Prelude.{◌≢◌, All}
 use Rattle.lwkt_explore.specs.declared.outcomes.Kind.TheVariants.{Cut}
 use Rattle.lwkt_explore.specs.declared.outcomes.Outcome.{Outcome}
 use Rattle.lwkt_explore.specs.Graphs.{IsOrder}
-use Rattle.lwkt_explore.specs.Outcomes.{AreWhole}
 use Rattle.lwkt_explore.proofs.SearchLemmas.{search_finds, search_meets}
 use Rattle.lwkt_explore.proofs.searches.add_at.Goals as goal
 

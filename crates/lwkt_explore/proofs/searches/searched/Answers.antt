@@ -1,4 +1,4 @@
-use Rattle.std.proofs.Common.{◌≡◌, ◌<◌, true, false, Option, None, Some, length, subst, sym, ap, refl, ◌∙◌}
+use Rattle.std.proofs.Common.{◌≡◌, ◌<◌, true, Option, None, Some, length, subst, sym, ap, refl, ◌∙◌}
 use Rattle.std.specs.Prelude.{Contains}
 use Rattle.lwkt_explore.specs.declared.extents.Bound.{Bound}
 use Rattle.lwkt_explore.specs.declared.extents.Extent.{Extent}

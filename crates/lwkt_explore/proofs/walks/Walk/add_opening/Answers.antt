@@ -1,6 +1,4 @@
 use Rattle.std.proofs.Common.{◌≡◌, ℕ, ◌+◌, ◌≤◌, List, [], length, inl, arith, ap}
-use Rattle.lwkt_core.specs.Opening.{AreWithin}
-use Rattle.lwkt_script.specs.declared.scripts.Script.{Script}
 use Rattle.lwkt_explore.specs.declared.graphs.Graph.{Graph}
 use Rattle.lwkt_explore.specs.declared.graphs.Node.{Node}
 use Rattle.lwkt_explore.proofs.WalkLemmas.{none_kept}
