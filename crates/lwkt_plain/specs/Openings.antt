@@ -1,0 +1,35 @@
+-- The state in which a script's machine is opened.
+use Rattle.std.specs.Prelude.{ℕ, ◌==◌, List, [], map, filter, replicate, None}
+use Rattle.lwkt_base.specs.declared.asks.Answer.TheVariants.{Begin}
+use Rattle.lwkt_code.specs.Programs.{start}
+use Rattle.lwkt_core.specs.Opening.{opened_token, AllOpenLawfully}
+use Rattle.lwkt_script.specs.Limits.{IsWithinLimits}
+use Rattle.lwkt_script.specs.declared.scripts.Script.{Script}
+use Rattle.lwkt_script.specs.declared.scripts.ThreadSpec.{ThreadSpec}
+use Rattle.lwkt_plain.specs.declared.letters.TheConstants.{PORTS}
+use Rattle.lwkt_plain.specs.declared.states.Phase.TheVariants.{Live}
+use Rattle.lwkt_plain.specs.declared.states.Plain.{Plain}
+use Rattle.lwkt_plain.specs.declared.states.Processor.{Processor}
+use Rattle.lwkt_plain.specs.declared.states.Thread.{Thread}
+use Rattle.lwkt_plain.specs.Letters.{opened_letter}
+use Rattle.lwkt_plain.specs.Places.{empty_lane, empty_port}
+use Rattle.lwkt_plain.specs.Intakes.{below}
+use Rattle.lwkt_plain.specs.Sound.{IsSound}
+
+-- a thread that was never polled
+abbrev pub opened_thread : ThreadSpec → Thread
+opened_thread spec = record { phase = Live; list = []; last = Begin; busy = None; local = start spec.code; asked = None; log = [] }
+
+-- the threads of a processor
+abbrev pub threads_of : Script → ℕ → List ThreadSpec
+threads_of script c = filter (λ (spec : ThreadSpec). spec.cpu.0 == c) script.threads
+
+abbrev pub opened_cpu : Script → ℕ → Processor
+opened_cpu script c = record { lanes = replicate script.cpus empty_lane; ports = replicate PORTS empty_port; threads = map opened_thread (threads_of script c); running = None; cursor = 0 }
+
+abbrev pub opened : Script → Plain
+opened script = record { tokens = map opened_token script.tokens; letters = map opened_letter script.messages; cpus = map (opened_cpu script) (below script.cpus) }
+
+-- a law: a script within its limits whose tokens obey their laws opens in a sound state
+abbrev pub OpenedScriptsAreSound : Type 0
+OpenedScriptsAreSound = (script : Script) → IsWithinLimits script → AllOpenLawfully script.tokens → IsSound (opened script)

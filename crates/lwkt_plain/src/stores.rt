@@ -1,0 +1,220 @@
+//! States of a script's plain machine, kept by the numbers of their parts.
+ghost use Rattle.std.specs.Prelude.{◌≡◌, ◌<◌, [], ◌∷◌, ◌++◌, length, IsTrue, IfOk};
+ghost use Rattle.lwkt_plain.specs.Forms.{form};
+ghost use Rattle.lwkt_plain.specs.Openings.{opened};
+ghost use Rattle.lwkt_plain.specs.Sound.{IsSound};
+ghost use Rattle.lwkt_plain.specs.Turns.{turn};
+ghost use Rattle.lwkt_plain.specs.Stores.{state_of, kept, IsStore, IsBase, IsKept, form_turn};
+
+use crate::letters::Letter;
+use crate::loads::{load, numbered, renumber};
+use crate::states::{Plain, Processor};
+use crate::tables::Table;
+use lwkt_base::memory::extend_from_slice;
+use lwkt_core::Token;
+use lwkt_script::Script;
+use lwkt_search::{Codes, Machine, Refusal};
+use std::alloc::Global;
+
+/// States, each once, by the numbers 0, 1, .. in the order in which they came, and the one that is worked on.
+#[derive(Drop)]
+pub struct Store {
+    pub(crate) alloc: Global,
+    pub(crate) tokens: Table<Token>,
+    pub(crate) letters: Table<Letter>,
+    pub(crate) cpus: Table<Processor>,
+    pub(crate) codes: Codes,
+    pub(crate) work: Plain,
+    pub(crate) token_numbers: Vec<u32>,
+    pub(crate) letter_numbers: Vec<u32>,
+    pub(crate) cpu_numbers: Vec<u32>,
+}
+
+impl Store {
+    /// The first state of a script, alone.
+    ///
+    /// Refused if memory is.
+    pub fn open(alloc: Global, script: &Script) -> Result<Store, Refusal>
+        requires sound { IsSound (opened script.now) }
+        ensures store { IfOk result (λ store. IsStore store) }
+        ensures first { IfOk result (λ store. kept store ≡ opened script.now ∷ []) }
+    {
+        let work = Plain::open(alloc, script)?;
+        let mut tokens = Table::new(alloc)?;
+        let mut letters = Table::new(alloc)?;
+        let mut cpus = Table::new(alloc)?;
+        let token_numbers = numbered(alloc, &mut tokens, &work.tokens)?;
+        let letter_numbers = numbered(alloc, &mut letters, &work.letters)?;
+        let cpu_numbers = numbered(alloc, &mut cpus, &work.cpus)?;
+        let codes = Codes::new(
+            alloc,
+            token_numbers.len() + letter_numbers.len() + cpu_numbers.len(),
+        )?;
+        let mut store = Store {
+            alloc,
+            tokens,
+            letters,
+            cpus,
+            codes,
+            work,
+            token_numbers,
+            letter_numbers,
+            cpu_numbers,
+        };
+        store.keep()?;
+        Ok(store)
+    }
+
+    // Makes the state that is worked on the one of a number.
+    fn go_to(&mut self, at: usize) -> Result<(), Refusal>
+        requires store { IsStore self.old }
+        requires there { at < length self.old.codes.index.links.items }
+        ensures store { IfOk result (λ done. IsStore self.new) }
+        ensures kept { IfOk result (λ done. kept self.new ≡ kept self.old) }
+        ensures work { IfOk result (λ done. self.new.work ≡ state_of self.old at) }
+    {
+        let code = self.codes.code(at);
+        let (tokens, rest) = code.split_at(self.token_numbers.len());
+        let (letters, cpus) = rest.split_at(self.letter_numbers.len());
+        load(
+            self.alloc,
+            &self.tokens,
+            &mut self.work.tokens,
+            &mut self.token_numbers,
+            tokens,
+        )?;
+        load(
+            self.alloc,
+            &self.letters,
+            &mut self.work.letters,
+            &mut self.letter_numbers,
+            letters,
+        )?;
+        load(
+            self.alloc,
+            &self.cpus,
+            &mut self.work.cpus,
+            &mut self.cpu_numbers,
+            cpus,
+        )?;
+        Ok(())
+    }
+
+    // The code of the numbers.
+    fn code_now(&self) -> Result<Vec<u32>, Refusal>
+        ensures { IfOk result (λ code. code.items ≡ self.now.token_numbers.items ++ (self.now.letter_numbers.items ++ self.now.cpu_numbers.items)) }
+    {
+        let mut code = Vec::new(self.alloc);
+        extend_from_slice(&mut code, self.token_numbers.as_slice())?;
+        extend_from_slice(&mut code, self.letter_numbers.as_slice())?;
+        extend_from_slice(&mut code, self.cpu_numbers.as_slice())?;
+        Ok(code)
+    }
+
+    // Numbers the parts of the state that is worked on.
+    fn renumber(&mut self) -> Result<(), Refusal>
+        requires base { IsBase self.old }
+        ensures store { IfOk result (λ done. IsStore self.new) }
+        ensures kept { IfOk result (λ done. kept self.new ≡ kept self.old) }
+        ensures work { IfOk result (λ done. self.new.work ≡ self.old.work) }
+    {
+        renumber(
+            self.alloc,
+            &mut self.tokens,
+            &self.work.tokens,
+            &mut self.token_numbers,
+        )?;
+        renumber(
+            self.alloc,
+            &mut self.letters,
+            &self.work.letters,
+            &mut self.letter_numbers,
+        )?;
+        renumber(
+            self.alloc,
+            &mut self.cpus,
+            &self.work.cpus,
+            &mut self.cpu_numbers,
+        )?;
+        Ok(())
+    }
+
+    // Keeps the state that is worked on. Says which number it has.
+    fn keep(&mut self) -> Result<usize, Refusal>
+        requires store { IsStore self.old }
+        requires sound { IsSound self.old.work }
+        ensures store { IfOk result (λ n. IsStore self.new) }
+        ensures kept { IfOk result (λ n. IsKept self.old.work (kept self.old) (kept self.new) n) }
+        ensures few { IfOk result (λ n. n < 4294967296) }
+    {
+        let code = self.code_now()?;
+        let number = self.codes.number(self.alloc, code.as_slice())?;
+        Ok(number)
+    }
+
+    // Whether the state that is worked on has as many parts of each kind as there are numbers.
+    fn has_counts(&self) -> bool
+        ensures tokens { IsTrue result → length self.now.work.tokens ≡ length self.now.token_numbers.items }
+        ensures letters { IsTrue result → length self.now.work.letters ≡ length self.now.letter_numbers.items }
+        ensures cpus { IsTrue result → length self.now.work.cpus ≡ length self.now.cpu_numbers.items }
+    {
+        self.work.tokens.len() == self.token_numbers.len()
+            && self.work.letters.len() == self.letter_numbers.len()
+            && self.work.cpus.len() == self.cpu_numbers.len()
+    }
+
+    // Makes a turn in the state that is worked on, by forms.
+    fn make_turn(&mut self, script: &Script, cpu: usize) -> Result<(), Refusal>
+        requires store { IsStore self.old }
+        requires sound { IsSound self.old.work }
+        requires here { cpu < length self.old.work.cpus }
+        ensures base { IfOk result (λ done. IsBase self.new) }
+        ensures work { IfOk result (λ done. self.new.work ≡ form (turn script.now self.old.work cpu)) }
+        ensures kept { IfOk result (λ done. kept self.new ≡ kept self.old) }
+    {
+        self.work.turn(script, cpu)?;
+        self.work.become_form();
+        if !self.has_counts() {
+            return Err(Refusal::Numbers);
+        }
+        Ok(())
+    }
+}
+
+/// The machine of a script, by forms of its states.
+#[derive(Drop)]
+pub struct ScriptMachine<'s> {
+    script: &'s Script,
+}
+
+impl<'s> ScriptMachine<'s> {
+    /// The machine of this script.
+    pub fn new(script: &'s Script) -> Self {
+        ScriptMachine { script }
+    }
+}
+
+impl<'s> Machine for ScriptMachine<'s> {
+    type State = Plain;
+
+    type Store = Store;
+
+    ghost start_of = { λ m. opened m.script.now };
+
+    ghost turn_of = { λ m. form_turn m.script.now };
+
+    ghost kept = { kept };
+
+    ghost is_sound = { λ m s. IsStore s };
+
+    fn turn(&self, store: &mut Store, at: usize, cpu: u8) -> Result<usize, Refusal> {
+        store.go_to(at)?;
+        if usize::from(cpu) >= store.work.cpus.len() {
+            return Ok(at);
+        }
+        store.make_turn(self.script, usize::from(cpu))?;
+        store.renumber()?;
+        let number = store.keep()?;
+        Ok(number)
+    }
+}
