@@ -1,6 +1,6 @@
 use Rattle.std.proofs.Common.{◌≡◌, ◌≢◌, ℕ, ◌<◌, ◌≤◌, ◌⊎◌, inl, inr, zero, suc, length, arith, subst, sym, refl, ◌∙◌}
 use Rattle.lwkt_search.specs.Runs.{run, CanReach, HasStates}
-use Rattle.lwkt_search.specs.Graphs.{Node, IsSearch}
+use Rattle.lwkt_search.specs.Graphs.{Node, IsFull}
 use Rattle.lwkt_search.proofs.RunLemmas.{IsReached, reached_from_start}
 
 same_or_not : (i j : ℕ) → (i ≡ j) ⊎ (i ≢ j)
@@ -86,7 +86,7 @@ pub record IsFoundOf {S : Type 0} (len : ℕ) (node : ℕ → Node S) (state : S
   pub is : (node place).state ≡ state
 
 -- once the search has gone on from each state, orders lead to no other states
-pub no_more : {S : Type 0} (turn : S → ℕ → S) (start : S) (cpus len : ℕ) (node : ℕ → Node S) (count : ℕ) → IsSearch turn start cpus len node len → HasStates turn cpus start count → count ≤ len
+pub no_more : {S : Type 0} (turn : S → ℕ → S) (start : S) (cpus len : ℕ) (node : ℕ → Node S) (count : ℕ) → IsFull turn start cpus len node → HasStates turn cpus start count → count ≤ len
 no_more {S} turn start cpus len node count is has =
     let P : ℕ → ℕ → Type 0 = λ k p. IsFoundOf len node (has.state k) p in
     let each : (k : ℕ) → k < count → (p : ℕ) × P k p = λ k h.

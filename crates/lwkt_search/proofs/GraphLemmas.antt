@@ -3,21 +3,7 @@ use Rattle.std.proofs.lemmas.List.{get_or_append_left}
 use Rattle.std.proofs.Math.Seq.{get_or-append_seam}
 use Rattle.std.proofs.lemmas.List.Elements.{All-push}
 use Rattle.lwkt_search.specs.Runs.{run, CanReach, HasStates}
-use Rattle.lwkt_search.specs.Graphs.{Node, node_at, IsLink, IsGraph, IsTried, IsSearch, IsSearchOf, IsTurnAt, Grows}
-
--- what was tried stays so where more states are found
-pub tried_same : {S : Type 0} (turn : S → ℕ → S) (len more : ℕ) (node node' : ℕ → Node S) (i cpu : ℕ) → len ≤ more → ((k : ℕ) → k < len → node' k ≡ node k) → i < len → IsTried turn len node (node i) cpu → IsTried turn more node' (node' i) cpu
-tried_same {S} turn len more node node' i cpu longer same below t =
-    let P : Node S → Type 0 = λ x. IsTried turn more node' x cpu in
-    let L : Node S → Type 0 = λ x. x.state ≡ turn (node i).state cpu in
-    let D : Node S → Type 0 = λ x. x.depth ≤ (node i).depth + 1 in
-    let in_more : t.place < more = omega (arith, t.there) in
-    subst P (sym (same i below)) (record {
-      place = t.place;
-      there = in_more;
-      leads = subst L (sym (same t.place t.there)) t.leads;
-      depth = subst D (sym (same t.place t.there)) t.depth;
-    })
+use Rattle.lwkt_search.specs.Graphs.{Node, node_at, IsLink, IsGraph, IsSearch, IsSearchOf, IsTurnAt, Grows}
 
 -- a new state at the end, which the turn of a processor leads to from the state that the search goes on from
 pub grown : {S : Type 0} (turn : S → ℕ → S) (start : S) (cpus len : ℕ) (node node' : ℕ → Node S) (at cpu : ℕ) → IsSearch turn start cpus len node at → at < len → cpu < cpus → ((k : ℕ) → k < len → node' k ≡ node k) → (node' len).state ≡ turn (node at).state cpu → (node' len).parent ≡ at → (node' len).cpu ≡ cpu → (node' len).depth ≡ (node at).depth + 1 → ((k : ℕ) → k < len → (node k).state ≡ (node' len).state → ⊥) → IsSearch turn start cpus (len + 1) node' at
@@ -81,22 +67,17 @@ grown {S} turn start cpus len node node' at cpu is there below same state parent
           (λ k h. omega (arith, depths k h, is.near k h there, at_depth))
           (omega (arith, depth, at_depth))
           k h;
-      done = λ i h c c_below.
-          let h2 : i < len = omega arith in
-          let longer : len ≤ len + 1 = omega arith in
-          tried_same turn len (len + 1) node node' i c longer same h2 (is.done i h c c_below);
     }
 
--- the search goes on from the next state, once each turn was tried from this one
-pub next_search : {S : Type 0} (turn : S → ℕ → S) (start : S) (cpus len : ℕ) (node : ℕ → Node S) (at : ℕ) → IsSearch turn start cpus len node at → at < len → ((cpu : ℕ) → cpu < cpus → IsTried turn len node (node at) cpu) → IsSearch turn start cpus len node (at + 1)
-next_search {S} turn start cpus len node at is there tried = record {
+-- the search goes on from the next state
+pub next_search : {S : Type 0} (turn : S → ℕ → S) (start : S) (cpus len : ℕ) (node : ℕ → Node S) (at : ℕ) → IsSearch turn start cpus len node at → at < len → IsSearch turn start cpus len node (at + 1)
+next_search {S} turn start cpus len node at is there = record {
   graph = is.graph;
   within = omega arith;
   rising = is.rising;
   near = λ k h more.
       let up : at ≤ at + 1 = omega arith in
       omega (arith, is.near k h there, is.rising at (at + 1) up more);
-  done = below_more (λ i. (cpu : ℕ) → cpu < cpus → IsTried turn len node (node i) cpu) at is.done tried;
 }
 
 -- a list that grows by one node
@@ -137,7 +118,6 @@ begin_search {S} turn start cpus =
       within = omega arith;
       rising = λ i j less h. let h2 : i < 1 = omega arith in omega (arith, depths i h2, depths j h);
       near = λ k h more. omega (arith, depths k h);
-      done = λ i h. absurd (omega arith);
     }
 
 -- where the turn leads that led to the last node

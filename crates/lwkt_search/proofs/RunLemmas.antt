@@ -3,8 +3,8 @@ use Rattle.std.proofs.lemmas.List.Elements.{All-head, All-tail, All-push, All-co
 use Rattle.std.proofs.lemmas.List.{get_or_append_left, length-append, map-append, reverse-append}
 use Rattle.std.proofs.Math.Seq.{get_or-append_seam}
 use Rattle.lwkt_search.specs.declared.searches.Outcome.{Outcome}
-use Rattle.lwkt_search.specs.Runs.{Told, told_of, all_told, run, IsOrder, IsQuiet, IsOutcome, IsShortest, HasOutcome}
-use Rattle.lwkt_search.specs.Graphs.{Node, node_at, IsGraph, IsGraphOf, IsTried, IsSearch, IsSearchOf, IsTold, IsCollected, IsFrom, IsSpread}
+use Rattle.lwkt_search.specs.Runs.{Told, told_of, all_told, run, IsOrder, IsLast, IsOutcome, IsShortest, HasOutcome}
+use Rattle.lwkt_search.specs.Graphs.{Node, node_at, IsGraph, IsGraphOf, IsTried, IsFull, IsFullOf, IsTold, IsCollected, IsFrom, IsSpread}
 
 -- a state that was found, at most so deep
 pub record IsReached {S : Type 0} (len : ℕ) (node : ℕ → Node S) (state : S) (most : ℕ) : Type 0 where
@@ -14,7 +14,7 @@ pub record IsReached {S : Type 0} (len : ℕ) (node : ℕ → Node S) (state : S
   pub depth : (node place).depth ≤ most
 
 -- once the search has gone on from each state, each order leads from a found state to a found state
-pub reached : {S : Type 0} (turn : S → ℕ → S) (start : S) (cpus len : ℕ) (node : ℕ → Node S) (order : List ℕ) (i : ℕ) → IsSearch turn start cpus len node len → i < len → IsOrder cpus order → IsReached len node (run turn (node i).state order) ((node i).depth + length order)
+pub reached : {S : Type 0} (turn : S → ℕ → S) (start : S) (cpus len : ℕ) (node : ℕ → Node S) (order : List ℕ) (i : ℕ) → IsFull turn start cpus len node → i < len → IsOrder cpus order → IsReached len node (run turn (node i).state order) ((node i).depth + length order)
 reached {S} turn start cpus len node [] i is below order = record { place = i; there = below; is = refl; depth = omega arith }
 reached {S} turn start cpus len node (cpu ∷ rest) i is below order =
     let C : ℕ → Type 0 = λ c. c < cpus in
@@ -24,7 +24,7 @@ reached {S} turn start cpus len node (cpu ∷ rest) i is below order =
     let long : length (cpu ∷ rest) ≡ length rest + 1 = omega arith in
     record { place = r.place; there = r.there; is = subst F t.leads r.is; depth = omega (arith, r.depth, t.depth, long) }
 
-pub reached_from_start : {S : Type 0} (turn : S → ℕ → S) (start : S) (cpus len : ℕ) (node : ℕ → Node S) (order : List ℕ) → IsSearch turn start cpus len node len → IsOrder cpus order → IsReached len node (run turn start order) (length order)
+pub reached_from_start : {S : Type 0} (turn : S → ℕ → S) (start : S) (cpus len : ℕ) (node : ℕ → Node S) (order : List ℕ) → IsFull turn start cpus len node → IsOrder cpus order → IsReached len node (run turn start order) (length order)
 reached_from_start {S} turn start cpus len node order is below =
     let r : IsReached len node (run turn (node 0).state order) ((node 0).depth + length order) = reached turn start cpus len node order 0 is is.graph.some below in
     let F : S → Type 0 = λ s. (node r.place).state ≡ run turn s order in
@@ -42,7 +42,7 @@ same_place turn start cpus len node i j g hi hj e =
     ]
 
 -- no order that leads to a found state is shorter than its depth
-pub no_shorter : {S : Type 0} (turn : S → ℕ → S) (start : S) (cpus len : ℕ) (node : ℕ → Node S) (k : ℕ) (order : List ℕ) → IsSearch turn start cpus len node len → k < len → IsOrder cpus order → run turn start order ≡ (node k).state → (node k).depth ≤ length order
+pub no_shorter : {S : Type 0} (turn : S → ℕ → S) (start : S) (cpus len : ℕ) (node : ℕ → Node S) (k : ℕ) (order : List ℕ) → IsFull turn start cpus len node → k < len → IsOrder cpus order → run turn start order ≡ (node k).state → (node k).depth ≤ length order
 no_shorter {S} turn start cpus len node k order is h below e =
     let r : IsReached len node (run turn start order) (length order) = reached_from_start turn start cpus len node order is below in
     let at : r.place ≡ k = same_place turn start cpus len node r.place k is.graph r.there h (r.is ∙ e) in
@@ -63,12 +63,6 @@ has_last {S} state outcomes last is =
     let P : Told S → Type 0 = λ o. o.state ≡ state in
     let long : length (outcomes ++ last ∷ []) ≡ length outcomes + 1 = length-append outcomes (last ∷ []) in
     (length outcomes, omega (arith, long), λ d. subst P (sym (get_or-append_seam outcomes last [] d)) is)
-
--- a search that has gone on from each state
-pub is_whole : {S : Type 0} (turn : S → ℕ → S) (start : S) (cpus : ℕ) (nodes : List (Node S)) (gone_on : ℕ) → IsSearchOf turn start cpus nodes gone_on → gone_on ≡ length nodes → IsSearchOf turn start cpus nodes (length nodes)
-is_whole turn start cpus nodes gone_on is all =
-    let F : ℕ → Type 0 = λ n. IsSearchOf turn start cpus nodes n in
-    subst F all is
 
 -- one more state, at the next place
 pub spread_more : {S : Type 0} (turn : S → ℕ → S) (start : S) (cpus : ℕ) (nodes : List (Node S)) (outcomes : List (Told S)) (at : ℕ) (last : Told S) → IsGraphOf turn start cpus nodes → at < length nodes → IsSpread start nodes outcomes at → last.state ≡ (node_at start nodes at).state → IsSpread start nodes (outcomes ++ last ∷ []) (at + 1)
@@ -105,43 +99,43 @@ spread_less {S} start nodes outcomes at was = record {
 }
 
 -- one more outcome
-pub collect_more : {S : Type 0} (turn : S → ℕ → S) (start : S) (cpus : ℕ) (nodes : List (Node S)) (is_complete : Bool) (outcomes new : List (Told S)) (at : ℕ) (last : Told S) → IsCollected turn start cpus nodes is_complete outcomes at → at < length nodes → IsGraphOf turn start cpus nodes → (IsTrue is_complete → IsSearchOf turn start cpus nodes (length nodes)) → IsTold turn start cpus nodes at last → IsQuiet turn cpus (node_at start nodes at).state → new ≡ outcomes ++ last ∷ [] → IsCollected turn start cpus nodes is_complete new (at + 1)
-collect_more {S} turn start cpus nodes is_complete outcomes new at last was there graph search told quiet pushed =
-    let O : Told S → Type 0 = λ outcome. IsOutcome turn cpus start outcome in
+pub collect_more : {S : Type 0} (turn : S → ℕ → S) (ended : S → Bool) (start : S) (cpus : ℕ) (nodes : List (Node S)) (is_whole : Bool) (outcomes new : List (Told S)) (at : ℕ) (last : Told S) → IsCollected turn ended start cpus nodes is_whole outcomes at → at < length nodes → IsGraphOf turn start cpus nodes → (IsTrue is_whole → IsFullOf turn start cpus nodes) → IsTold turn start cpus nodes at last → IsLast turn ended cpus (node_at start nodes at).state → new ≡ outcomes ++ last ∷ [] → IsCollected turn ended start cpus nodes is_whole new (at + 1)
+collect_more {S} turn ended start cpus nodes is_whole outcomes new at last was there graph full told ends pushed =
+    let O : Told S → Type 0 = λ outcome. IsOutcome turn ended cpus start outcome in
     let H : Told S → Type 0 = λ outcome. IsShortest turn cpus start outcome in
-    let Q : S → Type 0 = λ s. IsQuiet turn cpus s in
-    let E : ℕ → Type 0 = λ k. IsQuiet turn cpus (node_at start nodes k).state → HasOutcome (node_at start nodes k).state (outcomes ++ last ∷ []) in
-    let F : List (Told S) → Type 0 = λ xs. IsCollected turn start cpus nodes is_complete xs (at + 1) in
-    let one : IsOutcome turn cpus start last = record { order = told.order; leads = told.leads ∙ sym told.state; quiet = subst Q (sym told.state) quiet } in
+    let Q : S → Type 0 = λ s. IsLast turn ended cpus s in
+    let E : ℕ → Type 0 = λ k. IsLast turn ended cpus (node_at start nodes k).state → HasOutcome (node_at start nodes k).state (outcomes ++ last ∷ []) in
+    let F : List (Told S) → Type 0 = λ xs. IsCollected turn ended start cpus nodes is_whole xs (at + 1) in
+    let one : IsOutcome turn ended cpus start last = record { order = told.order; leads = told.leads ∙ sym told.state; last = subst Q (sym told.state) ends } in
     subst F (sym pushed) (record {
       sound = All-push O outcomes last was.sound one;
-      each = below_more E at (λ k h q. has_push (node_at start nodes k).state outcomes last (was.each k h q)) (λ q. has_last (node_at start nodes at).state outcomes last told.state);
+      each = λ yes. below_more E at (λ k h q. has_push (node_at start nodes k).state outcomes last (was.each yes k h q)) (λ q. has_last (node_at start nodes at).state outcomes last told.state);
       shortest = λ yes. All-push H outcomes last (was.shortest yes) (λ other below e.
-          let least : (node_at start nodes at).depth ≤ length other = no_shorter turn start cpus (length nodes) (node_at start nodes) at other (search yes) there below (e ∙ told.state) in
+          let least : (node_at start nodes at).depth ≤ length other = no_shorter turn start cpus (length nodes) (node_at start nodes) at other (full yes) there below (e ∙ told.state) in
           omega (arith, least, told.long));
       spread = spread_more turn start cpus nodes outcomes at last graph there was.spread told.state;
     })
 
 -- a state that is no outcome
-pub collect_less : {S : Type 0} (turn : S → ℕ → S) (start : S) (cpus : ℕ) (nodes : List (Node S)) (is_complete : Bool) (outcomes new : List (Told S)) (at : ℕ) → IsCollected turn start cpus nodes is_complete outcomes at → (IsQuiet turn cpus (node_at start nodes at).state → ⊥) → new ≡ outcomes → IsCollected turn start cpus nodes is_complete new (at + 1)
-collect_less {S} turn start cpus nodes is_complete outcomes new at was loud kept =
-    let E : ℕ → Type 0 = λ k. IsQuiet turn cpus (node_at start nodes k).state → HasOutcome (node_at start nodes k).state outcomes in
-    let F : List (Told S) → Type 0 = λ xs. IsCollected turn start cpus nodes is_complete xs (at + 1) in
+pub collect_less : {S : Type 0} (turn : S → ℕ → S) (ended : S → Bool) (start : S) (cpus : ℕ) (nodes : List (Node S)) (is_whole : Bool) (outcomes new : List (Told S)) (at : ℕ) → IsCollected turn ended start cpus nodes is_whole outcomes at → (IsTrue is_whole → IsLast turn ended cpus (node_at start nodes at).state → ⊥) → new ≡ outcomes → IsCollected turn ended start cpus nodes is_whole new (at + 1)
+collect_less {S} turn ended start cpus nodes is_whole outcomes new at was other kept =
+    let E : ℕ → Type 0 = λ k. IsLast turn ended cpus (node_at start nodes k).state → HasOutcome (node_at start nodes k).state outcomes in
+    let F : List (Told S) → Type 0 = λ xs. IsCollected turn ended start cpus nodes is_whole xs (at + 1) in
     subst F (sym kept) (record {
       sound = was.sound;
-      each = below_more E at was.each (λ q. absurd (loud q));
+      each = λ yes. below_more E at (was.each yes) (λ q. absurd (other yes q));
       shortest = was.shortest;
       spread = spread_less start nodes outcomes at was.spread;
     })
 
--- each order that leads to a quiet state leads to an outcome
-pub all_collected : {S : Type 0} (turn : S → ℕ → S) (start : S) (cpus : ℕ) (nodes : List (Node S)) (is_complete : Bool) (outcomes : List (Told S)) (at : ℕ) → IsSearchOf turn start cpus nodes (length nodes) → IsCollected turn start cpus nodes is_complete outcomes at → length nodes ≤ at → (order : List ℕ) → IsOrder cpus order → IsQuiet turn cpus (run turn start order) → HasOutcome (run turn start order) outcomes
-all_collected {S} turn start cpus nodes is_complete outcomes at is collected end order below quiet =
-    let r : IsReached (length nodes) (node_at start nodes) (run turn start order) (length order) = reached_from_start turn start cpus (length nodes) (node_at start nodes) order is below in
-    let Q : S → Type 0 = λ s. IsQuiet turn cpus s in
+-- each order that leads to a last state leads to an outcome
+pub all_collected : {S : Type 0} (turn : S → ℕ → S) (ended : S → Bool) (start : S) (cpus : ℕ) (nodes : List (Node S)) (is_whole : Bool) (outcomes : List (Told S)) (at : ℕ) → IsTrue is_whole → IsFullOf turn start cpus nodes → IsCollected turn ended start cpus nodes is_whole outcomes at → length nodes ≤ at → (order : List ℕ) → IsOrder cpus order → IsLast turn ended cpus (run turn start order) → HasOutcome (run turn start order) outcomes
+all_collected {S} turn ended start cpus nodes is_whole outcomes at so full collected end order below last =
+    let r : IsReached (length nodes) (node_at start nodes) (run turn start order) (length order) = reached_from_start turn start cpus (length nodes) (node_at start nodes) order full below in
+    let Q : S → Type 0 = λ s. IsLast turn ended cpus s in
     let H : S → Type 0 = λ s. HasOutcome s outcomes in
     let less : r.place < at = omega (arith, r.there, end) in
-    subst H r.is (collected.each r.place less (subst Q (sym r.is) quiet))
+    subst H r.is (collected.each so r.place less (subst Q (sym r.is) last))
 
 -- the turn before an order's first one
 pub back : {S : Type 0} (turn : S → ℕ → S) (cpus : ℕ) (state next end : S) (order new : List ℕ) (cpu : ℕ) → new ≡ order ++ cpu ∷ [] → cpu < cpus → next ≡ turn state cpu → run turn next (reverse order) ≡ end → IsOrder cpus (reverse order) → (run turn state (reverse new) ≡ end) × IsOrder cpus (reverse new)

@@ -1,7 +1,8 @@
 -- The states that a search found, as a graph.
-use Rattle.std.specs.Prelude.{◌≡◌, ℕ, ◌+◌, ◌*◌, ◌<◌, ◌≤◌, ◌⊎◌, List, [], ◌∷◌, ◌++◌, length, slice_index_or, All, Bool, IsTrue}
+use Rattle.std.specs.Prelude.{◌≡◌, ◌≢◌, ℕ, ◌+◌, ◌*◌, ◌<◌, ◌≤◌, ◌⊎◌, List, [], ◌∷◌, ◌++◌, length, slice_index_or, All, Bool, IsTrue}
 use Rattle.lwkt_search.specs.declared.searches.Link.{Link}
-use Rattle.lwkt_search.specs.Runs.{Told, run, IsOrder, IsOutcome, IsQuiet, IsShortest, HasOutcome, AreApart}
+use Rattle.lwkt_search.specs.declared.searches.TheConstants.{UNTRIED}
+use Rattle.lwkt_search.specs.Runs.{Told, run, IsOrder, IsOutcome, IsLast, IsShortest, HasOutcome, AreApart}
 
 -- a turn leads to a state that was kept before
 pub record IsSeen {S : Type 0} (turn : S → ℕ → S) (old new : List S) (at cpu next : ℕ) : Type 0 where
@@ -67,7 +68,11 @@ pub record IsSearch {S : Type 0} (turn : S → ℕ → S) (start : S) (cpus len 
   pub within : at ≤ len
   pub rising : (i j : ℕ) → i ≤ j → j < len → (node i).depth ≤ (node j).depth
   pub near : (k : ℕ) → k < len → at < len → (node k).depth ≤ (node at).depth + 1
-  pub done : (i : ℕ) → i < at → (cpu : ℕ) → cpu < cpus → IsTried turn len node (node i) cpu
+
+-- each turn from each state was tried
+pub record IsFull {S : Type 0} (turn : S → ℕ → S) (start : S) (cpus len : ℕ) (node : ℕ → Node S) : Type 0 where
+  pub graph : IsGraph turn start cpus len node
+  pub done : (i : ℕ) → i < len → (cpu : ℕ) → cpu < cpus → IsTried turn len node (node i) cpu
 
 -- the same of a list
 abbrev pub IsGraphOf : {S : Type 0} → (S → ℕ → S) → S → ℕ → List (Node S) → Type 0
@@ -76,8 +81,8 @@ IsGraphOf turn start cpus nodes = IsGraph turn start cpus (length nodes) (node_a
 abbrev pub IsSearchOf : {S : Type 0} → (S → ℕ → S) → S → ℕ → List (Node S) → ℕ → Type 0
 IsSearchOf turn start cpus nodes at = IsSearch turn start cpus (length nodes) (node_at start nodes) at
 
-abbrev pub IsTriedOf : {S : Type 0} → (S → ℕ → S) → S → List (Node S) → ℕ → ℕ → Type 0
-IsTriedOf turn start nodes at cpu = IsTried turn (length nodes) (node_at start nodes) (node_at start nodes at) cpu
+abbrev pub IsFullOf : {S : Type 0} → (S → ℕ → S) → S → ℕ → List (Node S) → Type 0
+IsFullOf turn start cpus nodes = IsFull turn start cpus (length nodes) (node_at start nodes)
 
 -- the turn of a processor leads from the state at a place to that at the next one, at most one turn deeper
 pub record IsTurnAt {S : Type 0} (turn : S → ℕ → S) (start : S) (nodes : List (Node S)) (at cpu next : ℕ) : Type 0 where
@@ -85,24 +90,38 @@ pub record IsTurnAt {S : Type 0} (turn : S → ℕ → S) (start : S) (nodes : L
   pub leads : (node_at start nodes next).state ≡ turn (node_at start nodes at).state cpu
   pub depth : (node_at start nodes next).depth ≤ (node_at start nodes at).depth + 1
 
--- the row of a state has where the turn of a processor leads
+-- what the row of a state has of a processor
+abbrev pub in_row : ℕ → List ℕ → ℕ → ℕ → ℕ
+in_row cpus next at cpu = slice_index_or next (at * cpus + cpu) 0
+
+-- the row of a state has where the turn of a processor leads, if it was tried
 pub record IsInRow {S : Type 0} (turn : S → ℕ → S) (start : S) (cpus : ℕ) (nodes : List (Node S)) (next : List ℕ) (at cpu : ℕ) : Type 0 where
   pub inside : at * cpus + cpu < length next
-  pub leads : IsTurnAt turn start nodes at cpu (slice_index_or next (at * cpus + cpu) 0)
+  pub leads : in_row cpus next at cpu ≢ UNTRIED → IsTurnAt turn start nodes at cpu (in_row cpus next at cpu)
 
 -- the search has gone on from each state before a place, and these have rows
 pub record IsGrown {S : Type 0} (turn : S → ℕ → S) (start : S) (cpus : ℕ) (nodes : List (Node S)) (next : List ℕ) (at : ℕ) : Type 0 where
   pub search : IsSearchOf turn start cpus nodes at
+  pub small : length nodes ≤ UNTRIED
   pub rows : (i : ℕ) → i < at → (cpu : ℕ) → cpu < cpus → IsInRow turn start cpus nodes next i cpu
 
--- the same, and the row at the place has where the turns of the processors below a number lead
-pub record IsGrownTo {S : Type 0} (turn : S → ℕ → S) (start : S) (cpus : ℕ) (nodes : List (Node S)) (next : List ℕ) (at below : ℕ) : Type 0 where
+-- the same, and there are no further rows
+pub record IsBefore {S : Type 0} (turn : S → ℕ → S) (start : S) (cpus : ℕ) (nodes : List (Node S)) (next : List ℕ) (at : ℕ) : Type 0 where
   pub grown : IsGrown turn start cpus nodes next at
-  pub long : length next ≡ at * cpus + below
-  pub row : (cpu : ℕ) → cpu < below → IsInRow turn start cpus nodes next at cpu
+  pub long : length next ≡ at * cpus
 
--- what was found, with a row of each state
-pub record IsWhole {S : Type 0} (turn : S → ℕ → S) (start : S) (cpus : ℕ) (nodes : List (Node S)) (next : List ℕ) (gone_on : ℕ) : Type 0 where
+-- the same, and the state at the place has a row
+pub record IsWithin {S : Type 0} (turn : S → ℕ → S) (start : S) (cpus : ℕ) (nodes : List (Node S)) (next : List ℕ) (at : ℕ) : Type 0 where
+  pub grown : IsGrown turn start cpus nodes next at
+  pub long : length next ≡ at * cpus + cpus
+  pub row : (cpu : ℕ) → cpu < cpus → IsInRow turn start cpus nodes next at cpu
+
+-- each turn from so many states was tried
+abbrev pub AllTried : ℕ → List ℕ → ℕ → Type 0
+AllTried cpus next count = (i : ℕ) → i < count → (cpu : ℕ) → cpu < cpus → in_row cpus next i cpu ≢ UNTRIED
+
+-- the search has gone on from each state
+pub record IsFinished {S : Type 0} (turn : S → ℕ → S) (start : S) (cpus : ℕ) (nodes : List (Node S)) (next : List ℕ) (gone_on : ℕ) : Type 0 where
   pub grown : IsGrown turn start cpus nodes next gone_on
   pub each : gone_on ≡ length nodes
 
@@ -129,9 +148,9 @@ pub record IsSpread {S : Type 0} (start : S) (nodes : List (Node S)) (outcomes :
   pub apart : AreApart outcomes
   pub from : (k : ℕ) → k < length outcomes → IsFrom start nodes outcomes at k
 
--- the quiet states before this place are outcomes
-pub record IsCollected {S : Type 0} (turn : S → ℕ → S) (start : S) (cpus : ℕ) (nodes : List (Node S)) (is_complete : Bool) (outcomes : List (Told S)) (at : ℕ) : Type 0 where
-  pub sound : All (λ outcome. IsOutcome turn cpus start outcome) outcomes
-  pub each : (k : ℕ) → k < at → IsQuiet turn cpus (node_at start nodes k).state → HasOutcome (node_at start nodes k).state outcomes
-  pub shortest : IsTrue is_complete → All (λ outcome. IsShortest turn cpus start outcome) outcomes
+-- the last states before this place are outcomes
+pub record IsCollected {S : Type 0} (turn : S → ℕ → S) (ended : S → Bool) (start : S) (cpus : ℕ) (nodes : List (Node S)) (is_whole : Bool) (outcomes : List (Told S)) (at : ℕ) : Type 0 where
+  pub sound : All (λ outcome. IsOutcome turn ended cpus start outcome) outcomes
+  pub each : IsTrue is_whole → (k : ℕ) → k < at → IsLast turn ended cpus (node_at start nodes k).state → HasOutcome (node_at start nodes k).state outcomes
+  pub shortest : IsTrue is_whole → All (λ outcome. IsShortest turn cpus start outcome) outcomes
   pub spread : IsSpread start nodes outcomes at

@@ -1,22 +1,18 @@
 -- States from which no end can be reached.
-use Rattle.std.specs.Prelude.{◌≡◌, ℕ, ◌<◌, List, length, slice_index_or, All, Bool, true, false, IsTrue, cond}
-use Rattle.lwkt_search.specs.Runs.{Told, run, IsOrder, IsQuiet}
-use Rattle.lwkt_search.specs.Graphs.{Node, node_at, IsSpread}
+use Rattle.std.specs.Prelude.{◌≡◌, ◌≢◌, ℕ, ◌<◌, List, length, slice_index_or, All, Bool, true, false, IsTrue, cond}
+use Rattle.lwkt_search.specs.declared.searches.TheConstants.{UNTRIED}
+use Rattle.lwkt_search.specs.Runs.{Told, run, IsOrder}
+use Rattle.lwkt_search.specs.Graphs.{Node, node_at, in_row, AllTried, IsSpread}
 
--- a quiet state where everything has ended
-pub record IsEnd {S : Type 0} (turn : S → ℕ → S) (ended : S → Bool) (cpus : ℕ) (state : S) : Type 0 where
-  pub quiet : IsQuiet turn cpus state
-  pub over : IsTrue (ended state)
-
--- no order leads from the state to an end
+-- no order leads from the state to one where everything has ended
 abbrev pub IsLost : {S : Type 0} → (S → ℕ → S) → (S → Bool) → ℕ → S → Type 0
-IsLost turn ended cpus state = (order : List ℕ) → IsOrder cpus order → IsEnd turn ended cpus (run turn state order) → ⊥
+IsLost turn ended cpus state = (order : List ℕ) → IsOrder cpus order → IsTrue (ended (run turn state order)) → ⊥
 
--- an order leads from the state to an end
+-- an order leads from the state to one where everything has ended
 pub record CanEnd {S : Type 0} (turn : S → ℕ → S) (ended : S → Bool) (cpus : ℕ) (state : S) : Type 0 where
   pub order : List ℕ
   pub below : IsOrder cpus order
-  pub end : IsEnd turn ended cpus (run turn state order)
+  pub end : IsTrue (ended (run turn state order))
 
 -- a state that its order leads to, and from which no order leads to an end
 pub record IsLostOutcome {S : Type 0} (turn : S → ℕ → S) (ended : S → Bool) (cpus : ℕ) (start : S) (one : Told S) : Type 0 where
@@ -40,22 +36,22 @@ pub record LeadsOn {S : Type 0} (turn : S → ℕ → S) (start : S) (cpus : ℕ
 -- what is noted holds, and each end is noted
 pub record IsReaching {S : Type 0} (turn : S → ℕ → S) (ended : S → Bool) (start : S) (cpus : ℕ) (nodes : List (Node S)) (reaches : List Bool) : Type 0 where
   pub sound : (k : ℕ) → k < length nodes → slice_index_or reaches k false ≡ true → CanEnd turn ended cpus (node_at start nodes k).state
-  pub ends : (k : ℕ) → k < length nodes → IsEnd turn ended cpus (node_at start nodes k).state → slice_index_or reaches k false ≡ true
+  pub ends : (k : ℕ) → k < length nodes → IsTrue (ended (node_at start nodes k).state) → slice_index_or reaches k false ≡ true
 
--- if nothing is noted at a state, nothing is noted where its turns lead
-abbrev pub IsStable : {S : Type 0} → (S → ℕ → S) → S → ℕ → List (Node S) → List Bool → ℕ → Type 0
-IsStable turn start cpus nodes reaches k = slice_index_or reaches k false ≡ false → (cpu : ℕ) → cpu < cpus → IsNext turn start nodes reaches k cpu false
+-- if nothing is noted at a state, nothing is noted where its turns lead that were tried
+abbrev pub IsStable : {S : Type 0} → (S → ℕ → S) → S → ℕ → List (Node S) → List ℕ → List Bool → ℕ → Type 0
+IsStable turn start cpus nodes next reaches k = slice_index_or reaches k false ≡ false → (cpu : ℕ) → cpu < cpus → in_row cpus next k cpu ≢ UNTRIED → IsNext turn start nodes reaches k cpu false
 
 -- that holds at each state
-pub record IsSettled {S : Type 0} (turn : S → ℕ → S) (start : S) (cpus : ℕ) (nodes : List (Node S)) (reaches : List Bool) : Type 0 where
-  pub stable : (k : ℕ) → k < length nodes → IsStable turn start cpus nodes reaches k
+pub record IsSettled {S : Type 0} (turn : S → ℕ → S) (start : S) (cpus : ℕ) (nodes : List (Node S)) (next : List ℕ) (reaches : List Bool) : Type 0 where
+  pub stable : (k : ℕ) → k < length nodes → IsStable turn start cpus nodes next reaches k
 
 -- 1 where nothing is noted
 abbrev pub missing : Bool → ℕ
 missing noted = cond noted 0 1
 
 -- the lost states before this place are in the list
-pub record IsLostList {S : Type 0} (turn : S → ℕ → S) (ended : S → Bool) (start : S) (cpus : ℕ) (nodes : List (Node S)) (lost : List (Told S)) (at : ℕ) : Type 0 where
-  pub sound : All (λ one. IsLostOutcome turn ended cpus start one) lost
+pub record IsLostList {S : Type 0} (turn : S → ℕ → S) (ended : S → Bool) (start : S) (cpus : ℕ) (nodes : List (Node S)) (next : List ℕ) (lost : List (Told S)) (at : ℕ) : Type 0 where
+  pub sound : AllTried cpus next (length nodes) → All (λ one. IsLostOutcome turn ended cpus start one) lost
   pub each : (k : ℕ) → k < at → IsLost turn ended cpus (node_at start nodes k).state → (j : ℕ) × (j < length lost) × ((d : Told S) → (slice_index_or lost j d).state ≡ (node_at start nodes k).state)
   pub spread : IsSpread start nodes lost at

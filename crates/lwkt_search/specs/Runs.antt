@@ -1,5 +1,5 @@
 -- Orders of turns, and what a search says of them.
-use Rattle.std.specs.Prelude.{◌≡◌, ℕ, ◌<◌, ◌≤◌, List, [], ◌∷◌, All, length, map, slice_index_or}
+use Rattle.std.specs.Prelude.{◌≡◌, ℕ, ◌<◌, ◌≤◌, ◌⊎◌, List, [], ◌∷◌, All, length, map, slice_index_or, Bool, IsTrue}
 use Rattle.lwkt_search.specs.declared.searches.Outcome.{Outcome}
 
 -- a state, with an order that leads to it
@@ -27,11 +27,15 @@ IsOrder cpus order = All (λ cpu. cpu < cpus) order
 abbrev pub IsQuiet : {S : Type 0} → (S → ℕ → S) → ℕ → S → Type 0
 IsQuiet turn cpus state = (cpu : ℕ) → cpu < cpus → turn state cpu ≡ state
 
--- a quiet state that its order leads to
-pub record IsOutcome {S : Type 0} (turn : S → ℕ → S) (cpus : ℕ) (start : S) (outcome : Told S) : Type 0 where
+-- a state to stop at: everything has ended there, or no turn changes it
+abbrev pub IsLast : {S : Type 0} → (S → ℕ → S) → (S → Bool) → ℕ → S → Type 0
+IsLast turn ended cpus state = IsTrue (ended state) ⊎ IsQuiet turn cpus state
+
+-- a last state that its order leads to
+pub record IsOutcome {S : Type 0} (turn : S → ℕ → S) (ended : S → Bool) (cpus : ℕ) (start : S) (outcome : Told S) : Type 0 where
   pub order : IsOrder cpus outcome.order
   pub leads : run turn start outcome.order ≡ outcome.state
-  pub quiet : IsQuiet turn cpus outcome.state
+  pub last : IsLast turn ended cpus outcome.state
 
 -- no order that leads to the outcome is shorter
 abbrev pub IsShortest : {S : Type 0} → (S → ℕ → S) → ℕ → S → Told S → Type 0

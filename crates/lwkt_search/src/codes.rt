@@ -144,7 +144,7 @@ impl Codes {
         ensures codes { IfOk result (λ number. AreCodes self.new.width self.new.flat.items (length self.new.index.links.items) self.new.index.heads.items self.new.index.links.items) }
         ensures width { IfOk result (λ number. self.new.width ≡ self.old.width) }
         ensures numbered { IfOk result (λ number. IsNumbered self.old.width self.old.flat.items (length self.old.index.links.items) self.new.flat.items (length self.new.index.links.items) code.now number) }
-        ensures few { IfOk result (λ number. number < 4294967296) }
+        ensures few { IfOk result (λ number. number < 4294967295) }
     {
         let key = key_of(code);
         match self.find(code, key) {

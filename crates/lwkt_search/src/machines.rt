@@ -1,4 +1,4 @@
-//! Machines: states that are kept by number, and where turns lead from them.
+//! Machines: states that are kept by number, where turns lead from them, and which of them are tried; and who looks on at a search.
 ghost use Rattle.std.specs.Prelude.{◌≡◌, ℕ, ◌<◌, List, length, Bool, slice_index_or, IfOk};
 ghost use Rattle.lwkt_search.specs.Graphs.{IsTurned};
 
@@ -16,6 +16,8 @@ pub trait Machine: Drop {
 
     ghost turn_of: { Self → Self.State → ℕ → Self.State };
 
+    ghost ended_of: { Self → Self.State → Bool };
+
     ghost kept: { Self.Store → List Self.State };
 
     ghost is_sound: { Self → Self.Store → Type 0 };
@@ -28,16 +30,36 @@ pub trait Machine: Drop {
         requires there { at < length (kept store.old) }
         ensures sound { IfOk result (λ next. is_sound self.now store.new) }
         ensures turned { IfOk result (λ next. IsTurned (turn_of self.now) (kept store.old) (kept store.new) at cpu next) }
-        ensures few { IfOk result (λ next. next < 4294967296) };
-}
-
-/// A machine whose states may be ends.
-pub trait Ending: Machine {
-    ghost ended_of: { Self → Self.State → Bool };
+        ensures few { IfOk result (λ next. next < 4294967295) };
 
     /// Whether everything has ended in the state of a number.
     fn has_ended(&self, store: &Self::Store, at: usize) -> bool
-        requires sound { Self.is_sound self.now store.now }
-        requires there { at < length (Self.kept store.now) }
-        ensures { result ≡ ended_of self.now (slice_index_or (Self.kept store.now) at (Self.start_of self.now)) };
+        requires sound { is_sound self.now store.now }
+        requires there { at < length (kept store.now) }
+        ensures { result ≡ ended_of self.now (slice_index_or (kept store.now) at (start_of self.now)) };
+
+    /// Which turns are tried from the state of a number: those of the first set of processors, and those of the next one only if none
+    /// of these leads to a state that the search has still to go on from. A set has a bit for each processor, 1 for the first one.
+    ///
+    /// Whatever the sets are, what the search tells of all orders it tells only where each turn was tried.
+    fn sets(&self, store: &Self::Store, at: usize) -> [u8; 8]
+        requires sound { is_sound self.now store.now }
+        requires there { at < length (kept store.now) };
+}
+
+/// How far a search is.
+#[derive(Clone, Copy, PartialEq, Eq)]
+pub struct Seen {
+    /// How many states were kept so far.
+    pub states: usize,
+    /// How many of the states weren't gone on from yet.
+    pub frontier: usize,
+    /// How many turns there are from those that it went on from.
+    pub turns: u64,
+}
+
+/// Who looks on at a search.
+pub trait Watch {
+    /// Whether the search goes on. It asks before it goes on from a state, and ends at the first no.
+    fn goes_on(&mut self, seen: Seen) -> bool;
 }

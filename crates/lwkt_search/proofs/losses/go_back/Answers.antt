@@ -15,13 +15,13 @@ loop-up-init g c =
     let end : length nodes ≤ c.len-up.result = omega arith in
     record {
       within = omega arith;
-      passed = pass_begun (g.M.Machine.turn_of c.args.task.now.machine) (g.M.Ending.ended_of c.args.task.now.machine) (g.M.Machine.start_of c.args.task.now.machine) c.args.task.now.cpus nodes c.args.reaches.now false c.len-up.result c.requires.same c.requires.reaching refl end;
+      passed = pass_begun (g.M.Machine.turn_of c.args.task.now.machine) (g.M.Machine.ended_of c.args.task.now.machine) (g.M.Machine.start_of c.args.task.now.machine) c.args.task.now.cpus nodes c.args.growth.now.next.items c.args.reaches.now false c.len-up.result c.requires.same c.requires.reaching refl end;
     }
 
 pub loop-up-preserved-then-step_back : goal.loop-up-preserved-then-step_back
 loop-up-preserved-then-step_back g c =
     let turn = (g.M.Machine.turn_of c.args.task.now.machine) in
-    let ended = (g.M.Ending.ended_of c.args.task.now.machine) in
+    let ended = (g.M.Machine.ended_of c.args.task.now.machine) in
     let start = (g.M.Machine.start_of c.args.task.now.machine) in
     let cpus = c.args.task.now.cpus in
     let nodes = (nodes_of (g.M.Machine.kept c.args.growth.now.store) c.args.growth.now.links.items) in
@@ -32,13 +32,13 @@ loop-up-preserved-then-step_back g c =
     let long : length c.step_back.new.reaches ≡ length c.loop-up.reaches = omega arith in
     record {
       within = omega (arith, c.loop-up.invariant.within);
-      passed = pass_new turn ended start cpus nodes c.args.reaches.now c.loop-up.reaches c.step_back.new.reaches c.loop-up.is_new true up at p long c.step_back.ensures.reaching less refl;
+      passed = pass_new turn ended start cpus nodes c.args.growth.now.next.items c.args.reaches.now c.loop-up.reaches c.step_back.new.reaches c.loop-up.is_new true up at p long c.step_back.ensures.reaching less refl;
     }
 
 pub loop-up-preserved : goal.loop-up-preserved
 loop-up-preserved g c =
     let turn = (g.M.Machine.turn_of c.args.task.now.machine) in
-    let ended = (g.M.Ending.ended_of c.args.task.now.machine) in
+    let ended = (g.M.Machine.ended_of c.args.task.now.machine) in
     let start = (g.M.Machine.start_of c.args.task.now.machine) in
     let cpus = c.args.task.now.cpus in
     let nodes = (nodes_of (g.M.Machine.kept c.args.growth.now.store) c.args.growth.now.links.items) in
@@ -48,10 +48,10 @@ loop-up-preserved g c =
     let next : up ≡ at + 1 = omega arith in
     record {
       within = omega (arith, c.loop-up.invariant.within);
-      passed = pass_same turn ended start cpus nodes c.args.reaches.now c.loop-up.reaches c.step_back.new.reaches c.loop-up.is_new c.loop-up.is_new up at p next (c.step_back.ensures.same c.if-step_back.false) (c.step_back.ensures.stable c.if-step_back.false) refl;
+      passed = pass_same turn ended start cpus nodes c.args.growth.now.next.items c.args.reaches.now c.loop-up.reaches c.step_back.new.reaches c.loop-up.is_new c.loop-up.is_new up at p next (c.step_back.ensures.same c.if-step_back.false) (c.step_back.ensures.stable c.if-step_back.false) refl;
     }
 
 pub returns-clause-settled : goal.returns-clause-settled
 returns-clause-settled g c = λ no.
     let down : c.loop-up.up ≤ 0 = omega arith in
-    pass_done (g.M.Machine.turn_of c.args.task.now.machine) (g.M.Ending.ended_of c.args.task.now.machine) (g.M.Machine.start_of c.args.task.now.machine) c.args.task.now.cpus (nodes_of (g.M.Machine.kept c.args.growth.now.store) c.args.growth.now.links.items) c.args.reaches.now c.loop-up.reaches c.loop-up.is_new c.loop-up.up c.loop-up.invariant.passed down no
+    pass_done (g.M.Machine.turn_of c.args.task.now.machine) (g.M.Machine.ended_of c.args.task.now.machine) (g.M.Machine.start_of c.args.task.now.machine) c.args.task.now.cpus (nodes_of (g.M.Machine.kept c.args.growth.now.store) c.args.growth.now.links.items) c.args.growth.now.next.items c.args.reaches.now c.loop-up.reaches c.loop-up.is_new c.loop-up.up c.loop-up.invariant.passed down no

@@ -1,31 +1,22 @@
-use Rattle.std.proofs.Common.{◌≡◌, ◌<◌, ◌≤◌, length, arith, refl, IsTrue, rules}
+use Rattle.std.proofs.Common.{◌≡◌, ◌<◌, ◌≤◌, length, arith}
 use Rattle.lwkt_search.specs.Graphs.{nodes_of}
 use Rattle.lwkt_search.proofs.NodeLemmas.{nodes_long}
-use Rattle.lwkt_search.proofs.RowLemmas.{row_done}
+use Rattle.lwkt_search.proofs.RowLemmas.{row_begun, row_done}
 use Rattle.lwkt_search.proofs.searches.Task.go_on.Goals as goal
 
-pub loop-cpu-preserved : goal.loop-cpu-preserved
-loop-cpu-preserved g c =
-    let longer : length c.loop-cpu.links.items ≤ length c.note.new.links.items = c.in_ok-note.ensures.longer in
-    let there : c.args.at < length c.loop-cpu.links.items = c.loop-cpu.invariant.there in
-    let yes : IsTrue c.in_ok-note.field-0 = search rules in
-    record {
-      end = refl;
-      under = omega (arith, c.loop-cpu.invariant.end);
-      sound = c.in_ok-note.ensures.sound;
-      long = c.in_ok-note.ensures.long;
-      grown = c.in_ok-note.ensures.next yes;
-      there = omega arith;
-      few = λ h. c.in_ok-note.ensures.few yes (c.loop-cpu.invariant.few h);
-    }
+pub go_on_by-requires-clause-within : goal.go_on_by-requires-clause-within
+go_on_by-requires-clause-within g c =
+    row_begun (g.M.Machine.turn_of c.args.self.now.machine) (g.M.Machine.start_of c.args.self.now.machine) c.args.self.now.cpus (nodes_of (g.M.Machine.kept c.args.store.now) c.args.links.now.items) c.args.next.now.items c.begin_row.new.next.items c.args.at c.requires.before c.in_ok-begin_row.ensures
 
-pub returns-clause-next : goal.returns-clause-next
-returns-clause-next g c = λ yes.
-    let kept = g.M.Machine.kept c.loop-cpu.store in
-    let links = c.loop-cpu.links.items in
-    let under : c.loop-cpu.cpu ≤ c.args.self.now.cpus = c.loop-cpu.invariant.under in
-    let all : c.loop-cpu.cpu ≡ c.args.self.now.cpus = omega (arith, c.loop-cpu.invariant.end) in
-    let there : c.args.at < length links = c.loop-cpu.invariant.there in
-    let long : length links ≡ length kept = c.loop-cpu.invariant.long in
+pub returns-clause-grown : goal.returns-clause-grown
+returns-clause-grown g c = c.in_ok-has_room.ensures.within.grown
+
+pub returns-clause-before : goal.returns-clause-before
+returns-clause-before g c = λ yes.
+    let kept = g.M.Machine.kept c.go_on_by.new.store in
+    let links = c.go_on_by.new.links.items in
+    let longer : length c.args.links.now.items ≤ length links = c.in_ok-has_room.ensures.longer in
+    let there : c.args.at < length c.args.links.now.items = c.requires.there in
+    let long : length links ≡ length kept = c.in_ok-has_room.ensures.long in
     let here : c.args.at < length (nodes_of kept links) = omega (arith, nodes_long kept links long) in
-    row_done (g.M.Machine.turn_of c.args.self.now.machine) (g.M.Machine.start_of c.args.self.now.machine) c.args.self.now.cpus (nodes_of kept links) c.loop-cpu.next.items c.args.at c.loop-cpu.cpu all here c.loop-cpu.invariant.grown
+    row_done (g.M.Machine.turn_of c.args.self.now.machine) (g.M.Machine.start_of c.args.self.now.machine) c.args.self.now.cpus (nodes_of kept links) c.go_on_by.new.next.items c.args.at here c.in_ok-has_room.ensures.within

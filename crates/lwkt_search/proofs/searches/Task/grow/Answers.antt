@@ -1,5 +1,6 @@
-use Rattle.std.proofs.Common.{◌≡◌, ◌<◌, ◌≤◌, ◌∷◌, [], ◌++◌, List, length, arith, ap, ◌∙◌}
+use Rattle.std.proofs.Common.{◌≡◌, ◌≢◌, ℕ, ◌+◌, ◌*◌, ◌<◌, ◌≤◌, ◌∷◌, [], ◌++◌, List, length, arith, ap, subst, All, ◌∙◌}
 use Rattle.lwkt_search.specs.declared.searches.Link.{Link}
+use Rattle.lwkt_search.specs.declared.searches.TheConstants.{UNTRIED}
 use Rattle.lwkt_search.specs.Graphs.{nodes_of}
 use Rattle.lwkt_search.proofs.NodeLemmas.{nodes_long}
 use Rattle.lwkt_search.proofs.RowLemmas.{begin_grown}
@@ -18,15 +19,23 @@ loop-at-init g c =
     record {
       sound = c.requires.sound;
       long = omega arith;
-      grown = begin_grown (g.M.Machine.turn_of c.args.self.now.machine) start c.args.self.now.cpus kept links c.new-next.result.items c.requires.first one c.new-next.ensures.items;
+      before = begin_grown (g.M.Machine.turn_of c.args.self.now.machine) start c.args.self.now.cpus kept links c.new-next.result.items c.requires.first one c.new-next.ensures.items;
       few = omega arith;
     }
 
 pub returns-clause-complete : goal.returns-clause-complete
-returns-clause-complete g c = λ yes.
+returns-clause-complete g c = λ none.
     let kept = g.M.Machine.kept c.loop-at.store in
     let links = c.loop-at.links.items in
     let long : length links ≡ length kept = c.loop-at.invariant.long in
-    let within : c.loop-at.at ≤ length (nodes_of kept links) = c.loop-at.invariant.grown.grown.search.within in
+    let within : c.loop-at.at ≤ length (nodes_of kept links) = c.loop-at.invariant.before.grown.search.within in
     let count : length (nodes_of kept links) ≡ length kept = nodes_long kept links long in
     omega arith
+
+pub returns-clause-tried : goal.returns-clause-tried
+returns-clause-tried g c = λ yes i less cpu below.
+    let N : ℕ → Type 0 = λ n. n ≢ UNTRIED in
+    let cpus = c.args.self.now.cpus in
+    let A : List ℕ → Type 0 = λ xs. All N xs in
+    let all : All N c.loop-at.next.items = subst A c.as_slice.ensures.value (c.all_tried-is_whole.ensures.0 yes) in
+    all (i * cpus + cpu) 0 (c.loop-at.invariant.before.grown.rows i less cpu below).inside
