@@ -1,6 +1,7 @@
-use Rattle.std.proofs.Common.{◌≡◌, ℕ, ◌+◌, ◌-◌, ◌*◌, ◌<◌, ◌≤◌, List, [], ◌∷◌, ◌++◌, zero, suc, length, take, drop, arith, ap, subst, sym, refl, ◌∙◌, Vec, All, below_more, slice_index_or, length-append}
+use Rattle.std.proofs.Common.{◌≡◌, ℕ, ◌+◌, ◌-◌, ◌*◌, ◌<◌, ◌≤◌, List, [], ◌∷◌, ◌++◌, zero, suc, length, take, drop, arith, ap, subst, sym, refl, ◌∙◌, Vec, All, below_more, slice_index_or, slice_get, Some, length-append}
 use Rattle.std.specs.declared.alloc.Global.{Global}
 use Rattle.std.proofs.lemmas.List.{length-drop, length-take-le, get_or_append_left, get_or_default}
+use Rattle.std.proofs.lemmas.List.Elements.{All-head, All-tail}
 use Rattle.std.proofs.Math.Seq.{get_or-append_seam}
 use Rattle.lwkt_search.proofs.CodeLemmas.{code_within}
 use Rattle.lwkt_core.specs.declared.tokens.Token.{Token}
@@ -11,8 +12,8 @@ use Rattle.lwkt_plain.specs.declared.states.Processor.{Processor}
 use Rattle.lwkt_plain.specs.declared.stores.Store.{Store}
 use Rattle.lwkt_plain.specs.Sound.{IsSound}
 use Rattle.lwkt_plain.specs.Stores.{first, decoded, state_of, kept, IsKnown, IsStore}
-use Rattle.lwkt_plain.specs.Tables.{named, AreNamed, Extends}
-use Rattle.lwkt_plain.proofs.TableLemmas.{named_by, named_left}
+use Rattle.lwkt_plain.specs.Tables.{named, IsNamed, AreNamed, Extends}
+use Rattle.lwkt_plain.proofs.TableLemmas.{named_by, named_left, named_one, part_below}
 
 -- the state whose parts have the numbers of a code
 pub decoded_is : (tokens : List Token) (letters : List Letter) (cpus : List Processor) (w : Plain) (tn ln cn code : List ℕ) (tokens_in letters_in : ℕ) → AreNamed tokens w.tokens tn → AreNamed letters w.letters ln → AreNamed cpus w.cpus cn → tn ≡ take tokens_in code → ln ≡ take letters_in (drop tokens_in code) → cn ≡ drop letters_in (drop tokens_in code) → w ≡ decoded tokens letters cpus tokens_in letters_in code
@@ -120,3 +121,36 @@ known_up a a' b b' c c' tokens_in letters_in code ua ub uc known = record {
   of_letters = all_up b b' (take letters_in (drop tokens_in code)) ub known.of_letters;
   of_cpus = all_up c c' (drop letters_in (drop tokens_in code)) uc known.of_cpus;
 }
+
+-- one of the parts of numbers
+pub named_get : {P : Type 0} (table : List P) (numbers : List ℕ) (k : ℕ) (p : P) → All (λ n. n < length table) numbers → k < length numbers → IsNamed table (slice_index_or numbers k 0) p → slice_get (named table numbers) k ≡ Some p
+named_get table [] k p known there is = absurd (omega arith)
+named_get {P} table (n ∷ numbers) zero p known there is =
+    let F : List P → Type 0 = λ ps. slice_get ps 0 ≡ Some p in
+    subst F (sym (named_one table n numbers p is)) refl
+named_get {P} table (n ∷ numbers) (suc k) p known there is =
+    let B : ℕ → Type 0 = λ n. n < length table in
+    let one : (q : P) × IsNamed table n q = part_below table n (All-head B n numbers known) in
+    let less : k < length numbers = omega arith in
+    let F : List P → Type 0 = λ ps. slice_get ps (suc k) ≡ Some p in
+    subst F (sym (named_one table n numbers one.0 one.1)) (named_get table numbers k p (All-tail B n numbers known) less is)
+
+pub named_count : {P : Type 0} (table : List P) (numbers : List ℕ) → All (λ n. n < length table) numbers → length (named table numbers) ≡ length numbers
+named_count table [] known = refl
+named_count {P} table (n ∷ numbers) known =
+    let B : ℕ → Type 0 = λ n. n < length table in
+    let one : (q : P) × IsNamed table n q = part_below table n (All-head B n numbers known) in
+    ap length (named_one table n numbers one.0 one.1) ∙ ap suc (named_count table numbers (All-tail B n numbers known))
+
+-- how many processors a state that is kept has
+pub cpus_kept : (s : Store) (at : ℕ) → IsStore s → at < length s.codes.index.links.items → length (state_of s at).cpus ≡ length s.cpu_numbers.items
+cpus_kept s at is there =
+    let code : List ℕ = code_at s.codes.width s.codes.flat.items at in
+    let nt : ℕ = length s.token_numbers.items in
+    let nl : ℕ = length s.letter_numbers.items in
+    let known : IsKnown (length s.tokens.parts.items) (length s.letters.parts.items) (length s.cpus.parts.items) nt nl code = is.known at there in
+    let long : length code ≡ s.codes.width = code_long s.codes.width (length s.codes.index.links.items) at s.codes.flat.items is.codes.long there in
+    let less : length (drop nt code) ≡ length code - nt = length-drop nt code in
+    let last : length (drop nl (drop nt code)) ≡ length (drop nt code) - nl = length-drop nl (drop nt code) in
+    let count : length (state_of s at).cpus ≡ length (drop nl (drop nt code)) = named_count s.cpus.parts.items (drop nl (drop nt code)) known.of_cpus in
+    omega (arith, is.width)

@@ -42,7 +42,7 @@ use Rattle.lwkt_plain.proofs.GoOnSound.{LeavesSoundly, goes_on_sound, get_change
 use Rattle.lwkt_plain.proofs.MailSound.{MailsSoundly, mail_soundly}
 use Rattle.lwkt_plain.proofs.PollSound.{performs_soundly}
 use Rattle.lwkt_plain.proofs.TurnMoves.{mail_inside, same_cpus, polled_runs, thread_there}
-use Rattle.lwkt_plain.proofs.OpenedSound.{opened_sound}
+use Rattle.lwkt_plain.proofs.OpenedSound.{opened_sound, openable}
 use Rattle.lwkt_plain.proofs.FormLaws.{opened_by}
 use Rattle.lwkt_plain.proofs.OldWords.{sift, may_be, AreOld}
 use Rattle.lwkt_plain.proofs.Alikes.{Alike, alike_self, alike_sym, alike_form, same_thread, alike_thread, alike_mail, HasNoWord, form_sound}
@@ -204,7 +204,7 @@ pub record Reached (script : Script) (p : Plain) : Type 0 where
 opened_reached : (script : Script) → IsWithinLimits script → AllOpenLawfully script.tokens → Reached script (opened script)
 unfolding below
 opened_reached script limits lawful = record {
-  sound = opened_sound script limits lawful;
+  sound = opened_sound script (openable script limits lawful);
   old = opened_by (sift (may_be (map opened_token script.tokens))) (λ refs. refl) script;
   cpus = length-map (below script.cpus) (opened_cpu script) ∙ length-range_with_len 0 script.cpus;
 }

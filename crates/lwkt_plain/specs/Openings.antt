@@ -1,9 +1,10 @@
 -- The state in which a script's machine is opened.
-use Rattle.std.specs.Prelude.{ℕ, ◌==◌, List, [], map, filter, replicate, None}
+use Rattle.std.specs.Prelude.{ℕ, ◌==◌, ◌<◌, ◌≤◌, List, [], map, filter, replicate, None}
 use Rattle.lwkt_base.specs.declared.asks.Answer.TheVariants.{Begin}
 use Rattle.lwkt_code.specs.Programs.{start}
-use Rattle.lwkt_core.specs.Opening.{opened_token, AllOpenLawfully}
-use Rattle.lwkt_script.specs.Limits.{IsWithinLimits}
+use Rattle.lwkt_base.specs.declared.limits.TheConstants.{THREAD_LIMIT}
+use Rattle.lwkt_core.specs.Opening.{opened_token, AllOpenLawfully, AreWithin}
+use Rattle.lwkt_script.specs.Format.{threads_on}
 use Rattle.lwkt_script.specs.declared.scripts.Script.{Script}
 use Rattle.lwkt_script.specs.declared.scripts.ThreadSpec.{ThreadSpec}
 use Rattle.lwkt_plain.specs.declared.letters.TheConstants.{PORTS}
@@ -30,6 +31,13 @@ opened_cpu script c = record { lanes = replicate script.cpus empty_lane; ports =
 abbrev pub opened : Script → Plain
 opened script = record { tokens = map opened_token script.tokens; letters = map opened_letter script.messages; cpus = map (opened_cpu script) (below script.cpus) }
 
--- a law: a script within its limits whose tokens obey their laws opens in a sound state
+-- a script whose machine is opened: it is within the limits of the model, no processor has too many threads, and each opening row obeys
+-- its law
+pub record IsOpenable (script : Script) : Type 0 where
+  pub within : AreWithin script.cpus script.tokens script.messages
+  pub few : (cpu : ℕ) → cpu < script.cpus → threads_on cpu script.threads ≤ THREAD_LIMIT
+  pub lawful : AllOpenLawfully script.tokens
+
+-- a law: such a script opens in a sound state
 abbrev pub OpenedScriptsAreSound : Type 0
-OpenedScriptsAreSound = (script : Script) → IsWithinLimits script → AllOpenLawfully script.tokens → IsSound (opened script)
+OpenedScriptsAreSound = (script : Script) → IsOpenable script → IsSound (opened script)

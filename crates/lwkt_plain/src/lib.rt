@@ -6,6 +6,7 @@
 //! its list last; a *form* is a state in which only such words are kept as can refuse a list again.
 #![tactic(auto)]
 
+mod endings;
 pub mod forms;
 mod hashes;
 mod intakes;
@@ -30,5 +31,6 @@ mod turns;
 pub use items::Items;
 pub use letters::{Hands, Lane, Letter, Note, NoteKind, Port};
 pub use nexts::{Miss, Missed, Next};
+pub use openings::opened_scripts_are_sound;
 pub use states::{BusyAt, Phase, Plain, Processor, Thread};
-pub use stores::{ScriptMachine, Store};
+pub use stores::Store;

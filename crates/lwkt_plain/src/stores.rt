@@ -1,11 +1,15 @@
 //! States of a script's plain machine, kept by the numbers of their parts.
-ghost use Rattle.std.specs.Prelude.{◌≡◌, ◌<◌, [], ◌∷◌, ◌++◌, length, IsTrue, IfOk};
+ghost use Rattle.std.specs.Prelude.{◌≡◌, ◌↔◌, ◌<◌, [], ◌∷◌, ◌++◌, length, Some, IsTrue, All, IfOk, drop, slice_get, slice_index_or};
+ghost use Rattle.lwkt_search.specs.Codes.{code_at};
+ghost use Rattle.lwkt_search.specs.Graphs.{IsTurned};
+ghost use Rattle.lwkt_plain.specs.Endings.{HasEnded};
 ghost use Rattle.lwkt_plain.specs.Forms.{form};
 ghost use Rattle.lwkt_plain.specs.Openings.{opened};
 ghost use Rattle.lwkt_plain.specs.Sound.{IsSound};
 ghost use Rattle.lwkt_plain.specs.Turns.{turn};
 ghost use Rattle.lwkt_plain.specs.Stores.{state_of, kept, IsStore, IsBase, IsKept, form_turn};
 
+use crate::endings::are_over;
 use crate::letters::Letter;
 use crate::loads::{load, numbered, renumber};
 use crate::states::{Plain, Processor};
@@ -13,7 +17,7 @@ use crate::tables::Table;
 use lwkt_base::memory::extend_from_slice;
 use lwkt_core::Token;
 use lwkt_script::Script;
-use lwkt_search::{Codes, Machine, Refusal};
+use lwkt_search::{Codes, Refusal};
 use std::alloc::Global;
 
 /// States, each once, by the numbers 0, 1, .. in the order in which they came, and the one that is worked on.
@@ -31,6 +35,13 @@ pub struct Store {
 }
 
 impl Store {
+    /// How many processors there are.
+    pub fn cpus(&self) -> usize
+        ensures { result ≡ length self.now.cpu_numbers.items }
+    {
+        self.cpu_numbers.len()
+    }
+
     /// The first state of a script, alone.
     ///
     /// Refused if memory is.
@@ -145,7 +156,7 @@ impl Store {
         requires sound { IsSound self.old.work }
         ensures store { IfOk result (λ n. IsStore self.new) }
         ensures kept { IfOk result (λ n. IsKept self.old.work (kept self.old) (kept self.new) n) }
-        ensures few { IfOk result (λ n. n < 4294967296) }
+        ensures few { IfOk result (λ n. n < 4294967295) }
     {
         let code = self.code_now()?;
         let number = self.codes.number(self.alloc, code.as_slice())?;
@@ -179,42 +190,77 @@ impl Store {
         }
         Ok(())
     }
-}
 
-/// The machine of a script, by forms of its states.
-#[derive(Drop)]
-pub struct ScriptMachine<'s> {
-    script: &'s Script,
-}
-
-impl<'s> ScriptMachine<'s> {
-    /// The machine of this script.
-    pub fn new(script: &'s Script) -> Self {
-        ScriptMachine { script }
-    }
-}
-
-impl<'s> Machine for ScriptMachine<'s> {
-    type State = Plain;
-
-    type Store = Store;
-
-    ghost start_of = { λ m. opened m.script.now };
-
-    ghost turn_of = { λ m. form_turn m.script.now };
-
-    ghost kept = { kept };
-
-    ghost is_sound = { λ m s. IsStore s };
-
-    fn turn(&self, store: &mut Store, at: usize, cpu: u8) -> Result<usize, Refusal> {
-        store.go_to(at)?;
-        if usize::from(cpu) >= store.work.cpus.len() {
+    /// The number of the state that the turn of a processor leads to from the one of a number, by forms; a new state gets the next
+    /// number.
+    ///
+    /// Refused if memory is, or if there is no number left.
+    pub fn turn(&mut self, script: &Script, at: usize, cpu: u8) -> Result<usize, Refusal>
+        requires store { IsStore self.old }
+        requires there { at < length (kept self.old) }
+        ensures store { IfOk result (λ next. IsStore self.new) }
+        ensures turned { IfOk result (λ next. IsTurned (form_turn script.now) (kept self.old) (kept self.new) at cpu next) }
+        ensures few { IfOk result (λ next. next < 4294967295) }
+    {
+        self.go_to(at)?;
+        if usize::from(cpu) >= self.work.cpus.len() {
             return Ok(at);
         }
-        store.make_turn(self.script, usize::from(cpu))?;
-        store.renumber()?;
-        let number = store.keep()?;
+        self.make_turn(script, usize::from(cpu))?;
+        self.renumber()?;
+        let number = self.keep()?;
         Ok(number)
+    }
+
+    // The numbers of the processors of the state of a number.
+    fn cpus_at(&self, at: usize) -> &[u32]
+        requires store { IsStore self.now }
+        requires there { at < length (kept self.now) }
+        ensures are { result.now ≡ drop (length self.now.letter_numbers.items) (drop (length self.now.token_numbers.items) (code_at self.now.codes.width self.now.codes.flat.items at)) }
+        ensures long { length result.now ≡ length self.now.cpu_numbers.items }
+        ensures known { All (λ n. n < length self.now.cpus.parts.items) result.now }
+    {
+        let code = self.codes.code(at);
+        let (_, rest) = code.split_at(self.token_numbers.len());
+        let (_, cpus) = rest.split_at(self.letter_numbers.len());
+        cpus
+    }
+
+    /// The processor of a number in the state of a number.
+    pub fn processor(&self, at: usize, c: usize) -> &Processor
+        requires store { IsStore self.now }
+        requires there { at < length (kept self.now) }
+        requires here { c < length self.now.cpu_numbers.items }
+        ensures { slice_get (state_of self.now at).cpus c ≡ Some result.now }
+    {
+        self.cpus.part(self.cpus_at(at)[c])
+    }
+
+    /// The message of a number in the state of a number, if it is there.
+    pub fn letter(&self, at: usize, m: usize) -> Option<&Letter>
+        requires store { IsStore self.now }
+        requires there { at < length (kept self.now) }
+    {
+        if m >= self.letter_numbers.len() {
+            return None;
+        }
+        let code = self.codes.code(at);
+        let number = code.get(self.token_numbers.len() + m)?;
+        self.letters.get(*number)
+    }
+
+    /// Whether all threads of a script have ended in the state of a number that are no services.
+    pub fn has_ended(&self, script: &Script, at: usize) -> bool
+        requires store { IsStore self.now }
+        requires there { at < length (kept self.now) }
+        ensures { IsTrue result ↔ HasEnded script.now (slice_index_or (kept self.now) at (opened script.now)) }
+    {
+        for c in 0..self.cpu_numbers.len() {
+            let cpu = self.processor(at, c);
+            if !are_over(script.threads.as_slice(), c, cpu.threads.as_slice()) {
+                return false;
+            }
+        }
+        true
     }
 }

@@ -99,7 +99,7 @@ spread_less {S} start nodes outcomes at was = record {
 }
 
 -- one more outcome
-pub collect_more : {S : Type 0} (turn : S → ℕ → S) (ended : S → Bool) (start : S) (cpus : ℕ) (nodes : List (Node S)) (is_whole : Bool) (outcomes new : List (Told S)) (at : ℕ) (last : Told S) → IsCollected turn ended start cpus nodes is_whole outcomes at → at < length nodes → IsGraphOf turn start cpus nodes → (IsTrue is_whole → IsFullOf turn start cpus nodes) → IsTold turn start cpus nodes at last → IsLast turn ended cpus (node_at start nodes at).state → new ≡ outcomes ++ last ∷ [] → IsCollected turn ended start cpus nodes is_whole new (at + 1)
+pub collect_more : {S : Type 0} (turn : S → ℕ → S) (ended : S → Type 0) (start : S) (cpus : ℕ) (nodes : List (Node S)) (is_whole : Bool) (outcomes new : List (Told S)) (at : ℕ) (last : Told S) → IsCollected turn ended start cpus nodes is_whole outcomes at → at < length nodes → IsGraphOf turn start cpus nodes → (IsTrue is_whole → IsFullOf turn start cpus nodes) → IsTold turn start cpus nodes at last → IsLast turn ended cpus (node_at start nodes at).state → new ≡ outcomes ++ last ∷ [] → IsCollected turn ended start cpus nodes is_whole new (at + 1)
 collect_more {S} turn ended start cpus nodes is_whole outcomes new at last was there graph full told ends pushed =
     let O : Told S → Type 0 = λ outcome. IsOutcome turn ended cpus start outcome in
     let H : Told S → Type 0 = λ outcome. IsShortest turn cpus start outcome in
@@ -117,7 +117,7 @@ collect_more {S} turn ended start cpus nodes is_whole outcomes new at last was t
     })
 
 -- a state that is no outcome
-pub collect_less : {S : Type 0} (turn : S → ℕ → S) (ended : S → Bool) (start : S) (cpus : ℕ) (nodes : List (Node S)) (is_whole : Bool) (outcomes new : List (Told S)) (at : ℕ) → IsCollected turn ended start cpus nodes is_whole outcomes at → (IsTrue is_whole → IsLast turn ended cpus (node_at start nodes at).state → ⊥) → new ≡ outcomes → IsCollected turn ended start cpus nodes is_whole new (at + 1)
+pub collect_less : {S : Type 0} (turn : S → ℕ → S) (ended : S → Type 0) (start : S) (cpus : ℕ) (nodes : List (Node S)) (is_whole : Bool) (outcomes new : List (Told S)) (at : ℕ) → IsCollected turn ended start cpus nodes is_whole outcomes at → (IsTrue is_whole → IsLast turn ended cpus (node_at start nodes at).state → ⊥) → new ≡ outcomes → IsCollected turn ended start cpus nodes is_whole new (at + 1)
 collect_less {S} turn ended start cpus nodes is_whole outcomes new at was other kept =
     let E : ℕ → Type 0 = λ k. IsLast turn ended cpus (node_at start nodes k).state → HasOutcome (node_at start nodes k).state outcomes in
     let F : List (Told S) → Type 0 = λ xs. IsCollected turn ended start cpus nodes is_whole xs (at + 1) in
@@ -129,7 +129,7 @@ collect_less {S} turn ended start cpus nodes is_whole outcomes new at was other 
     })
 
 -- each order that leads to a last state leads to an outcome
-pub all_collected : {S : Type 0} (turn : S → ℕ → S) (ended : S → Bool) (start : S) (cpus : ℕ) (nodes : List (Node S)) (is_whole : Bool) (outcomes : List (Told S)) (at : ℕ) → IsTrue is_whole → IsFullOf turn start cpus nodes → IsCollected turn ended start cpus nodes is_whole outcomes at → length nodes ≤ at → (order : List ℕ) → IsOrder cpus order → IsLast turn ended cpus (run turn start order) → HasOutcome (run turn start order) outcomes
+pub all_collected : {S : Type 0} (turn : S → ℕ → S) (ended : S → Type 0) (start : S) (cpus : ℕ) (nodes : List (Node S)) (is_whole : Bool) (outcomes : List (Told S)) (at : ℕ) → IsTrue is_whole → IsFullOf turn start cpus nodes → IsCollected turn ended start cpus nodes is_whole outcomes at → length nodes ≤ at → (order : List ℕ) → IsOrder cpus order → IsLast turn ended cpus (run turn start order) → HasOutcome (run turn start order) outcomes
 all_collected {S} turn ended start cpus nodes is_whole outcomes at so full collected end order below last =
     let r : IsReached (length nodes) (node_at start nodes) (run turn start order) (length order) = reached_from_start turn start cpus (length nodes) (node_at start nodes) order full below in
     let Q : S → Type 0 = λ s. IsLast turn ended cpus s in

@@ -149,7 +149,7 @@ pub record IsSpread {S : Type 0} (start : S) (nodes : List (Node S)) (outcomes :
   pub from : (k : ℕ) → k < length outcomes → IsFrom start nodes outcomes at k
 
 -- the last states before this place are outcomes
-pub record IsCollected {S : Type 0} (turn : S → ℕ → S) (ended : S → Bool) (start : S) (cpus : ℕ) (nodes : List (Node S)) (is_whole : Bool) (outcomes : List (Told S)) (at : ℕ) : Type 0 where
+pub record IsCollected {S : Type 0} (turn : S → ℕ → S) (ended : S → Type 0) (start : S) (cpus : ℕ) (nodes : List (Node S)) (is_whole : Bool) (outcomes : List (Told S)) (at : ℕ) : Type 0 where
   pub sound : All (λ outcome. IsOutcome turn ended cpus start outcome) outcomes
   pub each : IsTrue is_whole → (k : ℕ) → k < at → IsLast turn ended cpus (node_at start nodes k).state → HasOutcome (node_at start nodes k).state outcomes
   pub shortest : IsTrue is_whole → All (λ outcome. IsShortest turn cpus start outcome) outcomes

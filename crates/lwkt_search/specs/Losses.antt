@@ -5,17 +5,17 @@ use Rattle.lwkt_search.specs.Runs.{Told, run, IsOrder}
 use Rattle.lwkt_search.specs.Graphs.{Node, node_at, in_row, AllTried, IsSpread}
 
 -- no order leads from the state to one where everything has ended
-abbrev pub IsLost : {S : Type 0} → (S → ℕ → S) → (S → Bool) → ℕ → S → Type 0
-IsLost turn ended cpus state = (order : List ℕ) → IsOrder cpus order → IsTrue (ended (run turn state order)) → ⊥
+abbrev pub IsLost : {S : Type 0} → (S → ℕ → S) → (S → Type 0) → ℕ → S → Type 0
+IsLost turn ended cpus state = (order : List ℕ) → IsOrder cpus order → ended (run turn state order) → ⊥
 
 -- an order leads from the state to one where everything has ended
-pub record CanEnd {S : Type 0} (turn : S → ℕ → S) (ended : S → Bool) (cpus : ℕ) (state : S) : Type 0 where
+pub record CanEnd {S : Type 0} (turn : S → ℕ → S) (ended : S → Type 0) (cpus : ℕ) (state : S) : Type 0 where
   pub order : List ℕ
   pub below : IsOrder cpus order
-  pub end : IsTrue (ended (run turn state order))
+  pub end : ended (run turn state order)
 
 -- a state that its order leads to, and from which no order leads to an end
-pub record IsLostOutcome {S : Type 0} (turn : S → ℕ → S) (ended : S → Bool) (cpus : ℕ) (start : S) (one : Told S) : Type 0 where
+pub record IsLostOutcome {S : Type 0} (turn : S → ℕ → S) (ended : S → Type 0) (cpus : ℕ) (start : S) (one : Told S) : Type 0 where
   pub order : IsOrder cpus one.order
   pub leads : run turn start one.order ≡ one.state
   pub lost : IsLost turn ended cpus one.state
@@ -34,9 +34,9 @@ pub record LeadsOn {S : Type 0} (turn : S → ℕ → S) (start : S) (cpus : ℕ
   pub next : IsNext turn start nodes reaches at cpu true
 
 -- what is noted holds, and each end is noted
-pub record IsReaching {S : Type 0} (turn : S → ℕ → S) (ended : S → Bool) (start : S) (cpus : ℕ) (nodes : List (Node S)) (reaches : List Bool) : Type 0 where
+pub record IsReaching {S : Type 0} (turn : S → ℕ → S) (ended : S → Type 0) (start : S) (cpus : ℕ) (nodes : List (Node S)) (reaches : List Bool) : Type 0 where
   pub sound : (k : ℕ) → k < length nodes → slice_index_or reaches k false ≡ true → CanEnd turn ended cpus (node_at start nodes k).state
-  pub ends : (k : ℕ) → k < length nodes → IsTrue (ended (node_at start nodes k).state) → slice_index_or reaches k false ≡ true
+  pub ends : (k : ℕ) → k < length nodes → ended (node_at start nodes k).state → slice_index_or reaches k false ≡ true
 
 -- if nothing is noted at a state, nothing is noted where its turns lead that were tried
 abbrev pub IsStable : {S : Type 0} → (S → ℕ → S) → S → ℕ → List (Node S) → List ℕ → List Bool → ℕ → Type 0
@@ -51,7 +51,7 @@ abbrev pub missing : Bool → ℕ
 missing noted = cond noted 0 1
 
 -- the lost states before this place are in the list
-pub record IsLostList {S : Type 0} (turn : S → ℕ → S) (ended : S → Bool) (start : S) (cpus : ℕ) (nodes : List (Node S)) (next : List ℕ) (lost : List (Told S)) (at : ℕ) : Type 0 where
+pub record IsLostList {S : Type 0} (turn : S → ℕ → S) (ended : S → Type 0) (start : S) (cpus : ℕ) (nodes : List (Node S)) (next : List ℕ) (lost : List (Told S)) (at : ℕ) : Type 0 where
   pub sound : AllTried cpus next (length nodes) → All (λ one. IsLostOutcome turn ended cpus start one) lost
   pub each : (k : ℕ) → k < at → IsLost turn ended cpus (node_at start nodes k).state → (j : ℕ) × (j < length lost) × ((d : Told S) → (slice_index_or lost j d).state ≡ (node_at start nodes k).state)
   pub spread : IsSpread start nodes lost at

@@ -28,11 +28,11 @@ abbrev pub IsQuiet : {S : Type 0} → (S → ℕ → S) → ℕ → S → Type 0
 IsQuiet turn cpus state = (cpu : ℕ) → cpu < cpus → turn state cpu ≡ state
 
 -- a state to stop at: everything has ended there, or no turn changes it
-abbrev pub IsLast : {S : Type 0} → (S → ℕ → S) → (S → Bool) → ℕ → S → Type 0
-IsLast turn ended cpus state = IsTrue (ended state) ⊎ IsQuiet turn cpus state
+abbrev pub IsLast : {S : Type 0} → (S → ℕ → S) → (S → Type 0) → ℕ → S → Type 0
+IsLast turn ended cpus state = ended state ⊎ IsQuiet turn cpus state
 
 -- a last state that its order leads to
-pub record IsOutcome {S : Type 0} (turn : S → ℕ → S) (ended : S → Bool) (cpus : ℕ) (start : S) (outcome : Told S) : Type 0 where
+pub record IsOutcome {S : Type 0} (turn : S → ℕ → S) (ended : S → Type 0) (cpus : ℕ) (start : S) (outcome : Told S) : Type 0 where
   pub order : IsOrder cpus outcome.order
   pub leads : run turn start outcome.order ≡ outcome.state
   pub last : IsLast turn ended cpus outcome.state

@@ -1,5 +1,5 @@
 //! Machines: states that are kept by number, where turns lead from them, and which of them are tried; and who looks on at a search.
-ghost use Rattle.std.specs.Prelude.{◌≡◌, ℕ, ◌<◌, List, length, Bool, slice_index_or, IfOk};
+ghost use Rattle.std.specs.Prelude.{◌↔◌, ℕ, ◌<◌, List, length, slice_index_or, IsTrue, IfOk};
 ghost use Rattle.lwkt_search.specs.Graphs.{IsTurned};
 
 use crate::refusals::Refusal;
@@ -16,7 +16,7 @@ pub trait Machine: Drop {
 
     ghost turn_of: { Self → Self.State → ℕ → Self.State };
 
-    ghost ended_of: { Self → Self.State → Bool };
+    ghost ended_of: { Self → Self.State → Type 0 };
 
     ghost kept: { Self.Store → List Self.State };
 
@@ -36,7 +36,7 @@ pub trait Machine: Drop {
     fn has_ended(&self, store: &Self::Store, at: usize) -> bool
         requires sound { is_sound self.now store.now }
         requires there { at < length (kept store.now) }
-        ensures { result ≡ ended_of self.now (slice_index_or (kept store.now) at (start_of self.now)) };
+        ensures { IsTrue result ↔ ended_of self.now (slice_index_or (kept store.now) at (start_of self.now)) };
 
     /// Which turns are tried from the state of a number: those of the first set of processors, and those of the next one only if none
     /// of these leads to a state that the search has still to go on from. A set has a bit for each processor, 1 for the first one.

@@ -1,4 +1,4 @@
-use Rattle.std.proofs.Common.{◌≡◌, ◌↔◌, ◌+◌, ◌<◌, length, IsTrue, sym, arith, refl, ap, length-append, ◌∙◌, ◌∷◌, []}
+use Rattle.std.proofs.Common.{◌≡◌, ◌↔◌, ◌+◌, ◌<◌, length, IsTrue, sym, subst, slice_index_or, arith, refl, ap, length-append, ◌∙◌, ◌∷◌, []}
 use Rattle.lwkt_search.specs.Graphs.{nodes_of, node_at}
 use Rattle.lwkt_search.proofs.NodeLemmas.{nodes_long, node_state}
 use Rattle.lwkt_search.proofs.LossLemmas.{ends_more, ends_all}
@@ -14,8 +14,8 @@ loop-at-preserved g c =
     let links = c.args.growth.now.links.items in
     let long : length links ≡ length kept = c.requires.long in
     let there : at < length kept = omega (arith, c.loop-at.invariant.end) in
-    let is : c.has_ended-ends.result ≡ ended (node_at start nodes at).state = c.has_ended-ends.ensures ∙ ap ended (sym (node_state start kept links at long there)) in
-    let said : IsTrue c.has_ended-ends.result ↔ IsTrue (ended (node_at start nodes at).state) = ((λ (yes' : IsTrue c.has_ended-ends.result). sym is ∙ yes'), (λ (yes' : IsTrue (ended (node_at start nodes at).state)). is ∙ yes')) in
+    let same : (node_at start nodes at).state ≡ slice_index_or kept at start = node_state start kept links at long there in
+    let said : IsTrue c.has_ended-ends.result ↔ ended (node_at start nodes at).state = ((λ (so : IsTrue c.has_ended-ends.result). subst ended (sym same) (c.has_ended-ends.ensures.0 so)), (λ (over : ended (node_at start nodes at).state). c.has_ended-ends.ensures.1 (subst ended same over))) in
     record {
       end = c.loop-at.invariant.end;
       same = ap length c.in_ok-push.ensures.items ∙ (length-append c.loop-at.reaches.items (c.has_ended-ends.result ∷ []) ∙ ap (λ n. n + 1) c.loop-at.invariant.same);

@@ -7,7 +7,7 @@ abbrev pub invariant-loop-at : goal.invariant-loop-at
 invariant-loop-at g l = record {
   end : l.at-end ≡ length l.growth.links.items;
   same : length l.reaches.items ≡ l.at;
-  exact : (k : ℕ) → k < l.at → (slice_index_or l.reaches.items k false ≡ true) ↔ IsTrue (g.M.Machine.ended_of l.task.machine (node_at (g.M.Machine.start_of l.task.machine) (nodes_of (g.M.Machine.kept l.growth.store) l.growth.links.items) k).state);
+  exact : (k : ℕ) → k < l.at → (slice_index_or l.reaches.items k false ≡ true) ↔ g.M.Machine.ended_of l.task.machine (node_at (g.M.Machine.start_of l.task.machine) (nodes_of (g.M.Machine.kept l.growth.store) l.growth.links.items) k).state;
 }
 
 abbrev pub invariant-loop : goal.invariant-loop

@@ -1,4 +1,4 @@
-use Rattle.std.proofs.Common.{◌≡◌, ◌<◌, ◌≤◌, inl, inr, length, arith, ap, sym, ◌∙◌, true}
+use Rattle.std.proofs.Common.{◌≡◌, ◌<◌, ◌≤◌, inl, inr, length, arith, subst, sym, ◌∙◌, true}
 use Rattle.lwkt_search.specs.Graphs.{nodes_of}
 use Rattle.lwkt_search.proofs.NodeLemmas.{node_state, nodes_long}
 use Rattle.lwkt_search.proofs.searches.Task.is_last.Goals as goal
@@ -22,7 +22,7 @@ returns-then-has_ended-clause-last g c = λ yes.
     let count : length (nodes_of kept links) ≡ length kept = nodes_long kept links long in
     let within : c.args.growth.now.gone_on ≤ length (nodes_of kept links) = c.requires.grown.search.within in
     let there : c.args.at < length kept = omega (arith, c.requires.there) in
-    inl (ap ended (node_state start kept links c.args.at long there) ∙ (sym c.has_ended.ensures ∙ c.if-has_ended.true))
+    inl (subst ended (sym (node_state start kept links c.args.at long there)) (c.has_ended.ensures.0 c.if-has_ended.true))
 
 pub returns-clause-last : goal.returns-clause-last
 returns-clause-last g c = λ yes. inr (c.is_quiet.ensures.quiet yes)
@@ -39,7 +39,7 @@ returns-clause-other g c = λ no all last.
     let there : c.args.at < length kept = omega (arith, c.requires.there) in
     elim last [
       | inl over ↦
-          let so : c.has_ended.result ≡ true = c.has_ended.ensures ∙ (ap ended (sym (node_state start kept links c.args.at long there)) ∙ over) in
+          let so : c.has_ended.result ≡ true = c.has_ended.ensures.1 (subst ended (node_state start kept links c.args.at long there) over) in
           cc
       | inr quiet ↦ c.is_quiet.ensures.loud no all quiet
     ]

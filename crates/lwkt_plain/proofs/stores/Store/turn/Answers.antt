@@ -6,18 +6,18 @@ use Rattle.lwkt_plain.specs.Stores.{state_of, kept, form_turn, IsKept}
 use Rattle.lwkt_plain.specs.Turns.{turn}
 use Rattle.lwkt_plain.proofs.StoreLemmas.{first_at, first_long}
 use Rattle.lwkt_plain.proofs.StoreMoves.{no_turn, some_turn, turned_by}
-use Rattle.lwkt_plain.proofs.stores.ScriptMachineMachine.turn.Goals as goal
+use Rattle.lwkt_plain.proofs.stores.Store.turn.Goals as goal
 
 pub go_to-requires-clause-there : goal.go_to-requires-clause-there
 go_to-requires-clause-there c =
-    let s = c.args.store.now in
+    let s = c.args.self.now in
     let count : ℕ = length s.codes.index.links.items in
     omega (arith, c.requires.there, first_long count (state_of s))
 
 pub returns-then-from-len-clause-turned : goal.returns-then-from-len-clause-turned
 returns-then-from-len-clause-turned c =
-    let s = c.args.store.now in
-    let script = c.args.self.now.script.now in
+    let s = c.args.self.now in
+    let script = c.args.script.now in
     let at = c.args.at in
     let count : ℕ = length s.codes.index.links.items in
     let there : at < count = omega (arith, c.requires.there, first_long count (state_of s)) in
@@ -28,29 +28,29 @@ returns-then-from-len-clause-turned c =
 
 pub returns-then-from-len-clause-few : goal.returns-then-from-len-clause-few
 returns-then-from-len-clause-few c =
-    let s = c.args.store.now in
-    let script = c.args.self.now.script.now in
+    let s = c.args.self.now in
+    let script = c.args.script.now in
     let at = c.args.at in
     let count : ℕ = length s.codes.index.links.items in
     let there : at < count = omega (arith, c.requires.there, first_long count (state_of s)) in
     let state : (d : Plain) → slice_index_or (kept s) at d ≡ state_of s at = λ d. first_at count (state_of s) at d there in
-    let few = c.requires.sound.codes.few in
+    let few = c.requires.store.codes.few in
     omega arith
 
 pub make_turn-requires-clause-sound : goal.make_turn-requires-clause-sound
 make_turn-requires-clause-sound c =
-    let s = c.args.store.now in
-    let script = c.args.self.now.script.now in
+    let s = c.args.self.now in
+    let script = c.args.script.now in
     let at = c.args.at in
     let count : ℕ = length s.codes.index.links.items in
     let there : at < count = omega (arith, c.requires.there, first_long count (state_of s)) in
     let state : (d : Plain) → slice_index_or (kept s) at d ≡ state_of s at = λ d. first_at count (state_of s) at d there in
-    subst IsSound (sym c.in_ok-go_to.ensures.work) (c.requires.sound.sound at there)
+    subst IsSound (sym c.in_ok-go_to.ensures.work) (c.requires.store.sound at there)
 
 pub returns-clause-turned : goal.returns-clause-turned
 returns-clause-turned c =
-    let s = c.args.store.now in
-    let script = c.args.self.now.script.now in
+    let s = c.args.self.now in
+    let script = c.args.script.now in
     let at = c.args.at in
     let count : ℕ = length s.codes.index.links.items in
     let there : at < count = omega (arith, c.requires.there, first_long count (state_of s)) in
