@@ -13,6 +13,7 @@ use Rattle.lwkt_report.specs.declared.sources.TheConstants.{READ_LIMIT}
 use Rattle.lwkt_report.specs.declared.streams.RunFault.{RunFault}
 use Rattle.lwkt_report.specs.declared.streams.RunFault.TheVariants.{Fault as FaultOfRun, Stream as StreamOfRun}
 use Rattle.lwkt_request.specs.declared.requests.Task.TheVariants.{Run}
+use Rattle.lwkt_request.specs.declared.requests.Wording.TheVariants.{OldName}
 use Rattle.lwkt_run.proofs.ReadMoves.{front_gives, has_run_by, runs_json}
 use Rattle.lwkt_run.specs.declared.modes.Mode.{Mode}
 use Rattle.lwkt_run.specs.declared.runs.End.{End}
@@ -88,12 +89,12 @@ abbrev front : List ℕ → List ℕ
 front bytes = take READ_LIMIT bytes
 
 -- a report is that of a run of the JSON
-has_run : (mode : Mode) (bytes text : List ℕ) (input : Input) (status : ℕ) (report : IsReport mode input text status) → json_input (script_of bytes) ≡ Ok input → HasRunBy mode (front bytes) (end_of_closing report.closing) text
+has_run : (mode : Mode) (bytes text : List ℕ) (input : Input) (status : ℕ) (report : IsReport mode OldName input text status) → json_input (script_of bytes) ≡ Ok input → HasRunBy mode (front bytes) (end_of_closing report.closing) text
 has_run mode bytes text input status report is =
     let Runs : List ℕ → Type 0 = λ t. HasRunBy mode (front bytes) (end_of_closing report.closing) t in
     subst Runs (sym report.is_text) (has_run_by mode (front bytes) input.script report.closing (front_gives bytes (Ok input.script) (json_read (script_of bytes) input is).0) report.closes)
 
-status_run : (mode : Mode) (bytes text : List ℕ) (input : Input) (status : ℕ) (report : IsReport mode input text status) → json_input (script_of bytes) ≡ Ok input → status ≡ exit_status (Ok (end_of_closing report.closing))
+status_run : (mode : Mode) (bytes text : List ℕ) (input : Input) (status : ℕ) (report : IsReport mode OldName input text status) → json_input (script_of bytes) ≡ Ok input → status ≡ exit_status (Ok (end_of_closing report.closing))
 status_run mode bytes text input status report is =
     report.is_status ∙ ap (λ (said : List Expectation). status_of_judgement (judgement_of said report.closing)) (json_read (script_of bytes) input is).1 ∙ status_unasked report.closing
 
@@ -103,7 +104,7 @@ refused bytes fault refuses = fault_refuses (front bytes) fault (front_gives byt
 
 -- what is answered of JSON
 json_answered : (on_threads : Bool) (order : Option (List ℕ)) (bytes : List ℕ) (source sink : Bool) (old mid new : Option (List ℕ)) (status : ℕ) (answer : Result ℕ Failure)
-    → Answers (Run on_threads true) order (json_input (script_of bytes)) old mid answer → SaysAfter true sink mid new answer → (answer ≡ Err Stream → IsTrue source ⊎ IsTrue sink) → status ≡ status_at (ending_of answer)
+    → Answers (Run on_threads OldName) order (json_input (script_of bytes)) old mid answer → SaysAfter true sink mid new answer → (answer ≡ Err Stream → IsTrue source ⊎ IsTrue sink) → status ≡ status_at (ending_of answer)
     → RunsJsonAs (mode_of on_threads) source sink (Some bytes) old new status
 json_answered on_threads order bytes source sink old mid new status (Ok made) (text, (of, wrote)) says blames is =
     runs_json (mode_of on_threads) source sink (Some bytes) old mid new (Ok (end_of_closing of.1.1.closing)) status
@@ -132,14 +133,14 @@ form_read bytes text = if text then text_input (reading_within bytes) else json_
 
 -- by the name `lwkt_run`
 pub runs_by_old_name : (on_threads : Bool) (order name : Option (List ℕ)) (source sink : Bool) (flushed : Type 0) (left old new : Option (List ℕ)) (ending : Ending)
-    → Performs (Run on_threads true) order name source sink flushed left old new ending → RunsByOldName on_threads name source sink left old new (status_at ending)
+    → Performs (Run on_threads OldName) order name source sink flushed left old new ending → RunsByOldName on_threads name source sink left old new (status_at ending)
 runs_by_old_name on_threads order name source sink flushed left old new ending performs =
     let bytes = performs.answers.0 in (
       bytes,
       (
         performs.answers.1.0,
         λ json.
-            let Of : Result Input Unread → Type 0 = λ read. Answers (Run on_threads true) order read old performs.mid performs.answer in
+            let Of : Result Input Unread → Type 0 = λ read. Answers (Run on_threads OldName) order read old performs.mid performs.answer in
             let read : input_of name bytes ≡ json_input (script_of bytes) = ap (form_read bytes) json in
             json_answered on_threads order bytes source sink old performs.mid new (status_at ending) performs.answer (subst Of read performs.answers.1.1) performs.says performs.blames (ap status_at performs.is_ending),
       ),

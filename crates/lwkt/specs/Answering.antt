@@ -17,6 +17,7 @@ use Rattle.lwkt_request.specs.declared.requests.Asked.{Asked}
 use Rattle.lwkt_request.specs.declared.requests.Asked.TheVariants.{Do, Print, Misuse, OldUsage}
 use Rattle.lwkt_request.specs.declared.requests.Task.{Task}
 use Rattle.lwkt_request.specs.declared.requests.Task.TheVariants.{Run, Check, Explore}
+use Rattle.lwkt_request.specs.declared.requests.Wording.TheVariants.{OldName}
 use Rattle.lwkt_request.specs.Wishes.{wish_by, wish_of}
 use Rattle.lwkt.specs.declared.endings.Ending.{Ending}
 use Rattle.lwkt.specs.declared.endings.Ending.TheVariants.{Done, Stream}
@@ -43,7 +44,7 @@ pub record Streams : Type 0 where
 -- line of a trace that is refused
 pub record Serves (task : Task) (order name : Option (List ℕ)) (by_old_name source_failed : Bool) (left : Option (List ℕ)) (s : Streams) (ending : Ending) : Type 0 where
   pub performs : TakesScript task → Performs task order name source_failed s.failed (IsTrue s.flushed) left s.old s.new ending
-  pub as_format : (on_threads : Bool) → task ≡ Run on_threads true → RunsByOldName on_threads name source_failed s.failed left s.old s.new (status_at ending)
+  pub as_format : (on_threads : Bool) → task ≡ Run on_threads OldName → RunsByOldName on_threads name source_failed s.failed left s.old s.new (status_at ending)
   pub checks : task ≡ Check false → ChecksAloud by_old_name ReportsFinding source_failed s.failed left s.old s.new (IsUnread s.failed s.error) s.lost s.before s.after ending
   pub lines : task ≡ Check true → ChecksAloud by_old_name ReportsLines source_failed s.failed left s.old s.new (IsUnread s.failed s.error) s.lost s.before s.after ending
 
@@ -53,7 +54,7 @@ PrintsUsage s ending = IsSaid s.failed s.old s.new (fault_line RunProgram Usage)
 
 -- words for `lwkt_run`
 abbrev pub IsByOldName : Task → Type 0
-IsByOldName task = (on_threads : Bool) × (task ≡ Run on_threads true)
+IsByOldName task = (on_threads : Bool) × (task ≡ Run on_threads OldName)
 
 -- what is done with a file of this name: it can't be opened, and nothing is written; or `lwkt_run` is misused, since no such file is there;
 -- or what is in it is read

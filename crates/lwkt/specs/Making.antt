@@ -7,7 +7,8 @@ use Rattle.lwkt_explore.specs.Expectations.{status_of_text}
 use Rattle.lwkt_explore.specs.Extents.{is_complete}
 use Rattle.lwkt_explore.specs.Judgements.{judgement_of, status_of_judgement}
 use Rattle.lwkt_explore.specs.Outcomes.{AreOutcomes, AreShort, AreWhole, HasEnded}
-use Rattle.lwkt_explore.specs.Texts.{text_of_found}
+use Rattle.lwkt_explore.specs.declared.forms.Telling.{Telling}
+use Rattle.lwkt_explore.specs.Texts.{text_of_found, told_of_found}
 use Rattle.lwkt_explore.specs.Tries.{HasTriedOrders, HasTriedStates}
 use Rattle.lwkt_report.specs.declared.closings.Closing.{Closing}
 use Rattle.lwkt_report.specs.Report.{report_text}
@@ -16,6 +17,8 @@ use Rattle.lwkt_request.specs.declared.requests.Form.TheVariants as form
 use Rattle.lwkt_request.specs.declared.requests.Search.{Search}
 use Rattle.lwkt_request.specs.declared.requests.Task.{Task}
 use Rattle.lwkt_request.specs.declared.requests.Task.TheVariants.{Run, Show, Check, Text, Explore}
+use Rattle.lwkt_request.specs.declared.requests.Wording.{Wording}
+use Rattle.lwkt_request.specs.declared.requests.Wording.TheVariants as wordings
 use Rattle.lwkt_run.specs.declared.modes.Mode.{Mode}
 use Rattle.lwkt_run.specs.declared.modes.Mode.TheVariants.{Turns, Threads}
 use Rattle.lwkt_run.specs.declared.runs.End.{End}
@@ -27,18 +30,31 @@ use Rattle.lwkt_show.specs.declared.options.Options.{Options}
 use Rattle.lwkt_show.specs.Showing.{IsShown, IsShownOnThreads}
 use Rattle.lwkt_text.specs.declared.inputs.Input.{Input}
 use Rattle.lwkt_text.specs.declared.inputs.Unread.{Unread}
+use Rattle.lwkt_text.specs.declared.tables.Names.{Names}
 use Rattle.lwkt_text.specs.Reading.{IsTextOf}
+use Rattle.lwkt_told.specs.Told.{told_text}
 
 -- how processors are driven
 abbrev pub mode_of : Bool → Mode
 mode_of false = Turns
 mode_of true = Threads
 
+-- the report of a text in its names, if it has some
+abbrev pub named_report : Option Names → Script → Closing → List ℕ
+named_report None script closing = report_text closing
+named_report (Some names) script closing = told_text names script closing
+
+-- the report in the words that are asked for
+abbrev pub report_in : Wording → Input → Closing → List ℕ
+report_in wordings.Names input closing = named_report input.names input.script closing
+report_in wordings.Numbers input closing = report_text closing
+report_in wordings.OldName input closing = report_text closing
+
 -- a run of the script, driven so, may end with this report; the status is that of what the run came to, by what is expected of it
-pub record IsReport (mode : Mode) (input : Input) (text : List ℕ) (status : ℕ) : Type 0 where
+pub record IsReport (mode : Mode) (wording : Wording) (input : Input) (text : List ℕ) (status : ℕ) : Type 0 where
   pub closing : Closing
   pub closes : MayCloseBy mode input.script closing
-  pub is_text : text ≡ report_text closing
+  pub is_text : text ≡ report_in wording input closing
   pub is_status : status ≡ status_of_judgement (judgement_of input.expectations closing)
 
 -- a run of the script, on threads or not, is shown so; the status is that of how it ended
@@ -54,7 +70,7 @@ IsShort text = length text ≤ SCRIPT_BYTES
 abbrev pub IsForm : Form → Input → List ℕ → ℕ → Type 0
 IsForm form.Json input text status = (script_of text ≡ Ok input.script) × (IsShort text × (status ≡ 0))
 IsForm form.Text input text status = IsTextOf input.script text × (IsShort text × (status ≡ 0))
-IsForm form.Run input text status = IsReport Turns input text status
+IsForm form.Run input text status = IsReport Turns wordings.Numbers input text status
 
 -- what a search of the script finds, within these bounds on states and turns
 pub record IsSearched (states turns : ℕ) (script : Script) (found : Found) : Type 0 where
@@ -81,16 +97,33 @@ IsFoundBy (Some most) search script found = IsSampled most search.bounds.turns s
 abbrev pub IsFound : Search → Script → Found → Type 0
 IsFound search script found = IsFoundBy search.random search script found
 
+-- the text of what is found, in these names
+pub record IsToldFinding (names : Names) (script : Script) (found : Found) (text : List ℕ) : Type 0 where
+  pub telling : Telling
+  pub are_names : telling.names.now ≡ names
+  pub is_script : telling.script.now ≡ script
+  pub is_text : text ≡ told_of_found telling found
+
+-- the same in the names of a text, if it has some
+abbrev pub IsNamedFinding : Option Names → Script → Found → List ℕ → Type 0
+IsNamedFinding None script found text = text ≡ text_of_found found
+IsNamedFinding (Some names) script found text = IsToldFinding names script found text
+
+-- the same in numbers, if that is asked for, or else in names
+abbrev pub IsFindingIn : Bool → Input → Found → List ℕ → Type 0
+IsFindingIn true input found text = text ≡ text_of_found found
+IsFindingIn false input found text = IsNamedFinding input.names input.script found text
+
 -- the text of what is found; the status is by what is expected
 pub record IsFinding (search : Search) (input : Input) (text : List ℕ) (status : ℕ) : Type 0 where
   pub found : Found
   pub is_found : IsFound search input.script found
-  pub is_text : text ≡ text_of_found found
+  pub is_text : IsFindingIn search.in_numbers input found text
   pub is_status : status ≡ status_of_text input.expectations found
 
 -- what a task makes of an input, with this order, if one is named; a check takes none
 abbrev pub IsMade : Task → Option (List ℕ) → Input → List ℕ → ℕ → Type 0
-IsMade (Run on_threads by_old_name) order input text status = IsReport (mode_of on_threads) input text status
+IsMade (Run on_threads wording) order input text status = IsReport (mode_of on_threads) wording input text status
 IsMade (Show on_threads options) order input text status = IsShow on_threads options order input.script text status
 IsMade (Check by_lines) order input text status = ⊥
 IsMade (Text form) order input text status = IsForm form input text status

@@ -9,6 +9,7 @@ use Rattle.lwkt_report.specs.Stream.{AppendsFront}
 use Rattle.lwkt_request.specs.declared.requests.Request.{Request}
 use Rattle.lwkt_request.specs.declared.requests.Task.{Task}
 use Rattle.lwkt_request.specs.declared.requests.Task.TheVariants.{Run, Show, Check, Text, Explore}
+use Rattle.lwkt_request.specs.declared.requests.Wording.TheVariants.{OldName}
 use Rattle.lwkt_run.specs.Modes.{RunsJsonAs}
 use Rattle.lwkt_run.specs.Run.{AreBytesRead}
 use Rattle.lwkt_text.specs.declared.inputs.Input.{Input}
@@ -45,7 +46,8 @@ order_of request = option_map (λ order. order.items) request.order
 
 -- whether the line of a fault stands in place of a report: only by the name `lwkt_run`
 abbrev pub complains : Task → Bool
-complains (Run on_threads by_old_name) = by_old_name
+complains (Run on_threads OldName) = true
+complains (Run on_threads _) = false
 complains _ = false
 
 -- what is written after that: by the name `lwkt_run` the line of the fault, else nothing

@@ -60,6 +60,7 @@ fn perform_on_file<R: Threads + Sync + Clock + Files, O: Write, E: Sink>(
     alloc: Global,
     request: &Request,
     by_old_name: bool,
+    paints: bool,
     path: &str,
     sink: &mut WriterSink<NotedWriter<O>>,
     errors: &mut E,
@@ -74,6 +75,7 @@ fn perform_on_file<R: Threads + Sync + Clock + Files, O: Write, E: Sink>(
                 alloc,
                 request,
                 by_old_name,
+                paints,
                 Some(path),
                 &mut source,
                 sink,
@@ -87,6 +89,7 @@ fn perform_on_file<R: Threads + Sync + Clock + Files, O: Write, E: Sink>(
             let origin = Origin {
                 task: request.task,
                 path: Some(path),
+                paints,
             };
             say_unread(alloc, errors, origin, &Some(error));
             Ending::Stream
@@ -110,6 +113,7 @@ fn done<R: Threads + Sync + Clock + Files, I: Read, O: Write, E: Sink>(
     alloc: Global,
     request: &Request,
     by_old_name: bool,
+    paints: bool,
     source: &mut ReaderSource<NotedReader<I>>,
     sink: &mut WriterSink<NotedWriter<O>>,
     errors: &mut E,
@@ -117,12 +121,31 @@ fn done<R: Threads + Sync + Clock + Files, I: Read, O: Write, E: Sink>(
     ensures { ServesBy (wish_by request.now).path request.now.task (order_of request.now) by_old_name source.new.failed (I.remaining source.old.reader.reader) (source.new ≡ source.old) (record { old = O.contents sink.old.writer.writer; new = O.contents sink.new.writer.writer; failed = sink.new.failed; error = sink.new.writer.error; flushed = sink.new.flushed; before = E.contents errors.old; after = E.contents errors.new; lost = E.has_failed errors.new }) result }
 {
     let Some(path) = &request.path else {
-        return perform(rt, alloc, request, by_old_name, None, source, sink, errors);
+        return perform(
+            rt,
+            alloc,
+            request,
+            by_old_name,
+            paints,
+            None,
+            source,
+            sink,
+            errors,
+        );
     };
     if takes_folder(request.task) {
         perform_all(rt, alloc, request, path.as_str(), sink, errors)
     } else {
-        perform_on_file(rt, alloc, request, by_old_name, path.as_str(), sink, errors)
+        perform_on_file(
+            rt,
+            alloc,
+            request,
+            by_old_name,
+            paints,
+            path.as_str(),
+            sink,
+            errors,
+        )
     }
 }
 
@@ -172,6 +195,7 @@ fn answer_to<R: Threads + Sync + Clock + Files, I: Read, O: Write, E: Sink>(
     rt: &R,
     alloc: Global,
     words: &[String],
+    paints: bool,
     source: &mut ReaderSource<NotedReader<I>>,
     sink: &mut WriterSink<NotedWriter<O>>,
     errors: &mut E,
@@ -181,7 +205,16 @@ fn answer_to<R: Threads + Sync + Clock + Files, I: Read, O: Write, E: Sink>(
     match request_of(alloc, words) {
         Ok(Asked::Do(request)) => {
             let by_old_name = names_old_check(words);
-            done(rt, alloc, &request, by_old_name, source, sink, errors)
+            done(
+                rt,
+                alloc,
+                &request,
+                by_old_name,
+                paints,
+                source,
+                sink,
+                errors,
+            )
         }
         Ok(Asked::Print(text)) => print_page(alloc, sink, errors, text.as_str()),
         Ok(Asked::Misuse(text)) => refused(alloc, errors, text.as_str()),
@@ -227,12 +260,14 @@ fn unworded<R: Env, E: Sink>(rt: &R, alloc: Global, errors: &mut E, fault: Words
 
 /// Does what the words of the command line ask for, and answers how that ended.
 ///
-/// The source is standard input, the sink standard output, and `errors` standard error. Of standard input nothing is read unless the words
+/// The source is standard input, the sink standard output, and `errors` standard error, on which verdicts in names are painted if that
+/// is asked for. Of standard input nothing is read unless the words
 /// ask for it. If they ask for nothing, standard error gets why, and standard output nothing, but for the usage line of `lwkt_run`.
 pub fn answer<R: Threads + Sync + Clock + Files + Env, I: Read, O: Write, E: Sink>(
     rt: &R,
     alloc: Global,
     words: Result<Vec<String>, WordsFault>,
+    paints: bool,
     source: &mut ReaderSource<NotedReader<I>>,
     sink: &mut WriterSink<NotedWriter<O>>,
     errors: &mut E,
@@ -244,7 +279,7 @@ pub fn answer<R: Threads + Sync + Clock + Files + Env, I: Read, O: Write, E: Sin
     ensures three { OwnsThree result }
 {
     match words {
-        Ok(words) => answer_to(rt, alloc, words.as_slice(), source, sink, errors),
+        Ok(words) => answer_to(rt, alloc, words.as_slice(), paints, source, sink, errors),
         Err(fault) => unworded(rt, alloc, errors, fault),
     }
 }

@@ -9,7 +9,7 @@ use lwkt_base::memory::{from_str, push_str};
 use lwkt_base::{Fault, OutOfMemory, memory};
 use lwkt_refusals::{has_no_reader, say_of_file, say_opening};
 use lwkt_report::{Sink, push_escaped, write_whole};
-use lwkt_request::{Form, Task};
+use lwkt_request::{Form, Task, Wording};
 use lwkt_text::Input;
 use std::alloc::Global;
 use std::io;
@@ -21,6 +21,8 @@ pub struct Origin<'o> {
     pub task: Task,
     /// The path of its file, if there is one.
     pub path: Option<&'o str>,
+    /// Whether verdicts are painted.
+    pub paints: bool,
 }
 
 impl<'o> Origin<'o> {
@@ -187,7 +189,7 @@ pub fn is_by_old_name(task: Task) -> bool
     matches!(
         task,
         Task::Run {
-            by_old_name: true,
+            wording: Wording::OldName,
             ..
         }
     )

@@ -139,6 +139,7 @@ fn tried<R: Threads + Sync + Clock + Files>(
                 alloc,
                 request,
                 false,
+                false,
                 Some(path),
                 &mut source,
                 &mut sink,

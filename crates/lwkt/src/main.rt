@@ -25,7 +25,20 @@ use crate::answering::answer;
 use crate::files::source_of;
 use lwkt_report::{NotedWriter, WriterSink, words_of};
 use std::alloc::Global;
+use std::env::FillError;
+use std::io::IsTerminal;
 use std::process::ExitCode;
+use std::rt::Env;
+
+// Whether the variable `NO_COLOR` is set, and isn't empty.
+fn asks_for_no_colour<R: Env>(rt: &R) -> bool {
+    let mut front = [0u8; 1];
+    match rt.var("NO_COLOR", &mut front) {
+        Ok(length) => length > 0,
+        Err(FillError::TooLong) => true,
+        Err(FillError::NotPresent) => false,
+    }
+}
 
 fn main(rt: HostRuntime) -> ExitCode {
     let alloc: Global = rt.alloc();
@@ -33,6 +46,15 @@ fn main(rt: HostRuntime) -> ExitCode {
     let mut source = source_of(rt.stdin());
     let mut sink = WriterSink::new(NotedWriter::new(rt.stdout()));
     let mut errors = WriterSink::new(rt.stderr());
-    let ending = answer(&rt, alloc, words, &mut source, &mut sink, &mut errors);
+    let paints = rt.stderr().is_terminal() && !asks_for_no_colour(&rt);
+    let ending = answer(
+        &rt,
+        alloc,
+        words,
+        paints,
+        &mut source,
+        &mut sink,
+        &mut errors,
+    );
     ExitCode::from(ending.status())
 }

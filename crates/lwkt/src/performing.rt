@@ -15,7 +15,7 @@ use crate::errors::{
 use crate::explores::finding_of;
 use crate::failures::Failure;
 use crate::reads::read_said;
-use crate::runs::{mode_of, report_of};
+use crate::runs::{Words, mode_of, report_of};
 use crate::shows::shown_of;
 use crate::texts::form_of;
 use crate::written::{Made, written};
@@ -24,7 +24,7 @@ use lwkt_report::{
     Complaint, NotedReader, NotedWriter, Program, ReaderSource, RunFault, Sink, Source, WriterSink,
     complain, read_capped,
 };
-use lwkt_request::{Request, Task};
+use lwkt_request::{Request, Task, Wording};
 use lwkt_text::Input;
 use std::alloc::Global;
 use std::io::{Read, Write};
@@ -47,8 +47,15 @@ fn made_of<R: Threads + Sync + Clock, E: Sink>(
 {
     let path = origin.shown_path();
     match origin.task {
-        Task::Run { on_threads, .. } => {
-            report_of(rt, alloc, mode_of(on_threads), path, bytes, input)
+        Task::Run {
+            on_threads,
+            wording,
+        } => {
+            let words = Words {
+                wording,
+                paints: origin.paints,
+            };
+            report_of(rt, alloc, mode_of(on_threads), words, path, bytes, input)
         }
         Task::Show {
             on_threads,
@@ -56,7 +63,9 @@ fn made_of<R: Threads + Sync + Clock, E: Sink>(
         } => shown_of(rt, alloc, on_threads, options, order, &input.script),
         Task::Check { .. } => unreachable!(),
         Task::Text(form) => form_of(rt, alloc, form, path, bytes, input),
-        Task::Explore(search) => finding_of(rt, alloc, search, bytes, input, errors),
+        Task::Explore(search) => {
+            finding_of(rt, alloc, search, origin.paints, bytes, input, errors)
+        }
     }
 }
 
@@ -127,7 +136,7 @@ fn complain_of<K: Sink>(task: Task, sink: &mut K, answer: &Result<u8, Failure>)
     ensures flushed { OnOk answer.now (K.is_flushed sink.old → K.is_flushed sink.new) }
 {
     let Task::Run {
-        by_old_name: true,
+        wording: Wording::OldName,
         ..
     } = task
     else {
@@ -247,12 +256,14 @@ fn order_of(request: &Request) -> Option<&[u8]>
 /// or its order is refused, if the run ended before the range that is shown, or if a form of the script is too long, and 4 if a run along an
 /// order isn't lawful. By the name `lwkt_run` the line of the fault stands on the sink then.
 ///
-/// `errors` gets why nothing is written, and of each thing that a text expects whether it holds.
+/// `errors` gets why nothing is written, and of each thing that a text expects whether it holds; these verdicts are painted if that is
+/// asked for.
 pub fn perform<R: Threads + Sync + Clock, I: Read, O: Write, E: Sink>(
     rt: &R,
     alloc: Global,
     request: &Request,
     by_old_name: bool,
+    paints: bool,
     name: Option<&str>,
     source: &mut ReaderSource<NotedReader<I>>,
     sink: &mut WriterSink<NotedWriter<O>>,
@@ -268,6 +279,7 @@ pub fn perform<R: Threads + Sync + Clock, I: Read, O: Write, E: Sink>(
     let origin = Origin {
         task: request.task,
         path: name,
+        paints,
     };
     let order = order_of(request);
     match request.task {

@@ -4,10 +4,10 @@ ghost use Rattle.lwkt.specs.Failing.{DeclinesForm, DeclinesWritten};
 ghost use Rattle.lwkt.specs.Making.{IsForm, IsShort};
 
 use crate::failures::Failure;
-use crate::runs::report_of;
+use crate::runs::{Words, report_of};
 use crate::written::Made;
 use lwkt_base::limits::SCRIPT_BYTES;
-use lwkt_request::Form;
+use lwkt_request::{Form, Wording};
 use lwkt_run::Mode;
 use lwkt_text::{Input, Unsaid, json_of, text_of};
 use std::alloc::Global;
@@ -46,6 +46,12 @@ pub fn form_of<R: Threads + Sync>(
     match form {
         Form::Json => made_of(alloc, json_of(alloc, &input.script)),
         Form::Text => made_of(alloc, text_of(alloc, &input.script)),
-        Form::Run => report_of(rt, alloc, Mode::Turns, path, bytes, input),
+        Form::Run => {
+            let words = Words {
+                wording: Wording::Numbers,
+                paints: false,
+            };
+            report_of(rt, alloc, Mode::Turns, words, path, bytes, input)
+        }
     }
 }

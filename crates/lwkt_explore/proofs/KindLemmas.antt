@@ -1,6 +1,6 @@
 use Rattle.std.proofs.Common.{◌≡◌, ◌&&◌, ◌||◌, not, map, ◌≤◌, cond, subst, add-one, ◌+◌, ◌<◌, ℕ, zero, suc, Bool, true, false, List, [], ◌∷◌, ◌++◌, length, min, sum, filter, drop, take, get_or, append_assoc, refl, sym, ap, ◌∙◌, arith}
 use Rattle.std.proofs.Math.Seq.{drop-nil}
-use Rattle.std.specs.Prelude.{IsPermutation}
+use Rattle.std.specs.Prelude.{IsPermutation, Option}
 use Rattle.std.specs.List.{list_any, flat_map}
 use Rattle.std.proofs.lemmas.Grind.{flat_map-append}
 use Rattle.std.proofs.lemmas.List.{drop_all, length-map, length-append}
@@ -8,6 +8,7 @@ use Rattle.std.proofs.lemmas.List.Sums.{sum-map, sum_by-cons}
 use Rattle.std.proofs.lemmas.List.Sorted.{IsPermutation-refl, IsPermutation-trans, IsPermutation-append_left, IsPermutation-append_right, IsPermutation-append_comm, IsPermutation-map, length_permutation}
 use Rattle.lwkt_base.specs.declared.owners.MsgEnd.{MsgEnd}
 use Rattle.lwkt_report.specs.Report.{numbered_lines}
+use Rattle.lwkt_explore.specs.declared.forms.Telling.{Telling}
 use Rattle.lwkt_explore.specs.declared.outcomes.Kind.{Kind}
 use Rattle.lwkt_explore.specs.declared.outcomes.Kind.TheVariants.{Ended, Stuck, Cut}
 use Rattle.lwkt_explore.specs.declared.outcomes.Outcome.{Outcome}
@@ -105,9 +106,9 @@ count_on total next count one all rest more is after =
     rw so (omega arith)
 
 -- no message is left behind the last place
-pub places_end : (is_first : Bool) (n : ℕ) (owns ends : List MsgEnd) → ends ≡ [] → places_text is_first n owns ends ≡ []
-places_end is_first n [] ends none = refl
-places_end is_first n (own ∷ owns) ends none = rw none refl
+pub places_end : (telling : Option Telling) (is_first : Bool) (n : ℕ) (owns ends : List MsgEnd) → ends ≡ [] → places_text telling is_first n owns ends ≡ []
+places_end telling is_first n [] ends none = refl
+places_end telling is_first n (own ∷ owns) ends none = rw none refl
 
 -- one more is written, under the next number
 pub written_on : (line : ℕ → Group → List ℕ) (old new whole : List ℕ) (n next : ℕ) (one : Group) (all rest : List Group)

@@ -1,5 +1,5 @@
 -- Laws of what is written of a search (own).
-use Rattle.std.specs.Prelude.{◌≡◌, ℕ, ◌+◌, List, ◌∷◌, ◌++◌, Some, map, slice_get, IsPermutation}
+use Rattle.std.specs.Prelude.{◌≡◌, ℕ, ◌+◌, List, ◌∷◌, ◌++◌, None, Some, map, slice_get, IsPermutation}
 use Rattle.std.specs.List.{flat_map}
 use Rattle.lwkt_explore.specs.declared.outcomes.Outcomes.{Outcomes}
 use Rattle.lwkt_explore.specs.declared.searches.Found.{Found}
@@ -22,4 +22,4 @@ pub record StandIn (text lines : List ℕ) : Type 0 where
 -- the lines of each of them, those of its other forms among them, stand in the text, under the number of its place, counted from 1
 abbrev pub OutcomesAreNumbered : Type 0
 OutcomesAreNumbered =
-    (found : Found) (place : ℕ) (t : Group) → slice_get (by_kind found.outcomes) place ≡ Some t → StandIn (text_of_found found) (outcome_lines found.tried (place + 1) t)
+    (found : Found) (place : ℕ) (t : Group) → slice_get (by_kind found.outcomes) place ≡ Some t → StandIn (text_of_found found) (outcome_lines None found.tried (place + 1) t)

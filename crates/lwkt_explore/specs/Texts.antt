@@ -6,9 +6,13 @@ use Rattle.std.specs.Option.{option_map_or}
 use Rattle.std.specs.declared.alloc.Global.{Global}
 use Rattle.lwkt_base.specs.declared.owners.MsgEnd.{MsgEnd}
 use Rattle.lwkt_report.specs.Report.{line_feed, spaced_or_dash, numbered_lines, owner_text}
+use Rattle.lwkt_told.specs.Called.{called}
+use Rattle.lwkt_told.specs.Circles.{stuck_lines}
+use Rattle.lwkt_told.specs.Told.{told_front}
 use Rattle.lwkt_explore.specs.declared.extents.Bound.TheVariants.{States, Turns, Memory, Stopped}
 use Rattle.lwkt_explore.specs.declared.extents.Extent.{Extent}
 use Rattle.lwkt_explore.specs.declared.extents.Extent.TheVariants.{Complete, Part, Sampled}
+use Rattle.lwkt_explore.specs.declared.forms.Telling.{Telling}
 use Rattle.lwkt_explore.specs.declared.losses.Lost.{Lost}
 use Rattle.lwkt_explore.specs.declared.outcomes.Kind.{Kind}
 use Rattle.lwkt_explore.specs.declared.outcomes.Kind.TheVariants.{Ended, Stuck, Cut}
@@ -86,9 +90,14 @@ group_count (one, forms) = min 18446744073709551615 (one.1 + sum (map (λ (form 
 abbrev pub looks_same : MsgEnd → MsgEnd → Bool
 looks_same one other = one.round == other.round && bytes_eq (owner_text one.state) (owner_text other.state)
 
+-- what a message is called: its number, or its name in a text
+abbrev pub message_called : Option Telling → ℕ → List ℕ
+message_called None message = codes "message " ++ decimal message
+message_called (Some telling) message = called telling.names.now.messages message
+
 -- the line of a message, without its end
-abbrev pub place_text : ℕ → MsgEnd → List ℕ
-place_text message end = codes "message " ++ decimal message ++ codes " round " ++ decimal end.round ++ codes " " ++ owner_text end.state
+abbrev pub place_text : Option Telling → ℕ → MsgEnd → List ℕ
+place_text telling message end = message_called telling message ++ codes " round " ++ decimal end.round ++ codes " " ++ owner_text end.state
 
 -- what stands before a message, by whether it is the first
 abbrev pub between_text : Bool → List ℕ
@@ -96,22 +105,32 @@ between_text true = codes " "
 between_text false = codes "; "
 
 -- the lines of those messages, numbered from n, that have other ones
-abbrev pub places_text : Bool → ℕ → List MsgEnd → List MsgEnd → List ℕ
-places_text is_first n [] ends = []
-places_text is_first n (own ∷ owns) [] = []
-places_text is_first n (own ∷ owns) (end ∷ ends) =
-    if looks_same own end then places_text is_first (n + 1) owns ends else between_text is_first ++ place_text n end ++ places_text false (n + 1) owns ends
+abbrev pub places_text : Option Telling → Bool → ℕ → List MsgEnd → List MsgEnd → List ℕ
+places_text telling is_first n [] ends = []
+places_text telling is_first n (own ∷ owns) [] = []
+places_text telling is_first n (own ∷ owns) (end ∷ ends) =
+    if looks_same own end then places_text telling is_first (n + 1) owns ends else between_text is_first ++ place_text telling n end ++ places_text telling false (n + 1) owns ends
 
 -- `or MESSAGE; MESSAGE, order O`: the message lines of another form that differ from those of the first, and an order to it
-abbrev pub or_line : Outcome → Outcome → List ℕ
-or_line first form =
-    codes "or" ++ places_text true 0 first.closing.messages.items form.closing.messages.items ++ codes ", order" ++ order_bytes form.order.items ++ line_feed
+abbrev pub or_line : Option Telling → Outcome → Outcome → List ℕ
+or_line telling first form =
+    codes "or" ++ places_text telling true 0 first.closing.messages.items form.closing.messages.items ++ codes ", order" ++ order_bytes form.order.items ++ line_feed
+
+-- the lines of an outcome's report, in numbers or in the names of a text
+abbrev pub report_lines : Option Telling → Outcome → List ℕ
+report_lines None outcome = string_bytes outcome.text
+report_lines (Some telling) outcome = told_front telling.names.now telling.script.now outcome.closing
+
+-- why an outcome is stuck, in numbers or in the names of a text
+abbrev pub why_lines : Option Telling → Outcome → List ℕ
+why_lines None outcome = why_line outcome.why
+why_lines (Some telling) outcome = if is_kind Stuck outcome.kind then stuck_lines telling.names.now telling.script.now outcome.closing.threads.items else []
 
 -- `outcome N KIND, order O`, then the lines of its report, a line for each other form, and its why
-abbrev pub outcome_lines : Tried → ℕ → Group → List ℕ
-outcome_lines tried number t =
-    codes "outcome " ++ decimal number ++ codes " " ++ kind_text t.0.0.kind ++ count_text tried (group_count t) ++ codes ", order" ++ order_bytes t.0.0.order.items ++ line_feed ++ string_bytes t.0.0.text
-    ++ flat_map (λ form. or_line t.0.0 form.0) t.1 ++ why_line t.0.0.why
+abbrev pub outcome_lines : Option Telling → Tried → ℕ → Group → List ℕ
+outcome_lines telling tried number t =
+    codes "outcome " ++ decimal number ++ codes " " ++ kind_text t.0.0.kind ++ count_text tried (group_count t) ++ codes ", order" ++ order_bytes t.0.0.order.items ++ line_feed ++ report_lines telling t.0.0
+    ++ flat_map (λ form. or_line telling t.0.0 form.0) t.1 ++ why_lines telling t.0.0
 
 -- the outcomes of a kind, those that are grouped under the first of them
 abbrev pub of_kind : Kind → Outcomes → List Group
@@ -146,6 +165,14 @@ sum_line found =
     amount_text (length (by_kind found.outcomes)) (codes "outcome") (codes "outcomes") ++ codes "; " ++ tried_text found.tried ++ codes ", " ++ amount_text found.turns (codes "turn") (codes "turns") ++ codes "; " ++ extent_text found.extent ++ line_feed
 
 -- the outcomes, numbered from 1, then the lost states, then the sum
-unfoldable pub text_of_found : Found → List ℕ
-text_of_found found =
-    numbered_lines (outcome_lines found.tried) 1 (by_kind found.outcomes) ++ option_map_or lost_line found.lost [] ++ sum_line found
+unfoldable pub text_in : Option Telling → Found → List ℕ
+text_in telling found =
+    numbered_lines (outcome_lines telling found.tried) 1 (by_kind found.outcomes) ++ option_map_or lost_line found.lost [] ++ sum_line found
+
+-- the same in numbers
+abbrev pub text_of_found : Found → List ℕ
+text_of_found found = text_in None found
+
+-- the same in the names of a text
+abbrev pub told_of_found : Telling → Found → List ℕ
+told_of_found telling found = text_in (Some telling) found

@@ -1,13 +1,26 @@
 //! Outcomes that are grouped: they differ in where their messages are, and in nothing else that a report shows.
 ghost use Rattle.std.specs.Prelude.{◌≡◌, ◌&&◌, ◌+◌, ◌<◌, ◌++◌, true, not, OnOk, string_bytes, get_or, length};
 ghost use Rattle.std.specs.List.{list_any, flat_map};
+ghost use Rattle.std.specs.Option.{option_copied};
 ghost use Rattle.lwkt_report.specs.Report.{owner_text};
-ghost use Rattle.lwkt_explore.specs.Texts.{is_kind, grouped_with, later_forms, group_count, place_text, looks_same, between_text, places_text, or_line};
+ghost use Rattle.lwkt_explore.specs.Texts.{is_kind, grouped_with, later_forms, group_count, message_called, place_text, looks_same, between_text, places_text, or_line};
 
 use crate::lines::add_order;
 use crate::outcomes::{Kind, Outcome, Outcomes};
 use lwkt_base::memory::{push_str, put};
 use lwkt_base::{MsgEnd, OutOfMemory, Owner};
+use lwkt_script::Script;
+use lwkt_text::Names;
+use lwkt_told::show_called;
+
+/// A text and its script, in whose names outcomes are written.
+#[derive(Clone, Copy)]
+pub struct Telling<'a> {
+    /// The names of the text.
+    pub names: &'a Names,
+    /// The script that the text means.
+    pub script: &'a Script,
+}
 
 // Whether two outcomes are grouped.
 fn grouped_with(one: &Outcome, other: &Outcome) -> bool
@@ -72,12 +85,32 @@ fn looks_same(one: &MsgEnd, other: &MsgEnd) -> bool
     one.round == other.round && owner_word(one.state) == owner_word(other.state)
 }
 
-// The line of a message, without its end.
-fn add_place(out: &mut String, message: usize, end: &MsgEnd) -> Result<(), OutOfMemory>
-    ensures { OnOk result (string_bytes out.new ≡ string_bytes out.old ++ place_text message end.now) }
+// What a message is called.
+fn add_message_called(
+    out: &mut String,
+    telling: Option<&Telling<'_>>,
+    message: usize,
+) -> Result<(), OutOfMemory>
+    ensures { OnOk result (string_bytes out.new ≡ string_bytes out.old ++ message_called (option_copied telling.entry) message) }
 {
+    match telling {
+        None => put(out, ("message ", message)),
+        Some(telling) => show_called(telling.names.messages.as_slice(), message, out),
+    }
+}
+
+// The line of a message, without its end.
+fn add_place(
+    out: &mut String,
+    telling: Option<&Telling<'_>>,
+    message: usize,
+    end: &MsgEnd,
+) -> Result<(), OutOfMemory>
+    ensures { OnOk result (string_bytes out.new ≡ string_bytes out.old ++ place_text (option_copied telling.entry) message end.now) }
+{
+    add_message_called(out, telling, message)?;
     let (round, word) = (end.round, owner_word(end.state));
-    put(out, ("message ", message, " round ", round, (" ", word)))
+    put(out, (" round ", round, " ", word))
 }
 
 // What stands before a message: a blank before the first, and else a semicolon and a blank.
@@ -92,15 +125,20 @@ fn add_between(out: &mut String, is_first: bool) -> Result<(), OutOfMemory>
 }
 
 // The messages of a form whose lines aren't those of the outcome that it is grouped with.
-fn add_places(out: &mut String, first: &[MsgEnd], form: &[MsgEnd]) -> Result<(), OutOfMemory>
-    ensures { OnOk result (string_bytes out.new ≡ string_bytes out.old ++ places_text true 0 first.now form.now) }
+fn add_places(
+    out: &mut String,
+    telling: Option<&Telling<'_>>,
+    first: &[MsgEnd],
+    form: &[MsgEnd],
+) -> Result<(), OutOfMemory>
+    ensures { OnOk result (string_bytes out.new ≡ string_bytes out.old ++ places_text (option_copied telling.entry) true 0 first.now form.now) }
 {
     let mut is_first = true;
     for (message, end) in form.iter().enumerate() {
         if let Some(own) = first.get(message) {
             if !looks_same(own, end) {
                 add_between(out, is_first)?;
-                add_place(out, message, end)?;
+                add_place(out, telling, message, end)?;
                 is_first = false;
             }
         }
@@ -109,12 +147,18 @@ fn add_places(out: &mut String, first: &[MsgEnd], form: &[MsgEnd]) -> Result<(),
 }
 
 // How else the messages of an outcome may stand.
-fn add_form(out: &mut String, outcome: &Outcome, form: &Outcome) -> Result<(), OutOfMemory>
-    ensures { OnOk result (string_bytes out.new ≡ string_bytes out.old ++ or_line outcome.now form.now) }
+fn add_form(
+    out: &mut String,
+    telling: Option<&Telling<'_>>,
+    outcome: &Outcome,
+    form: &Outcome,
+) -> Result<(), OutOfMemory>
+    ensures { OnOk result (string_bytes out.new ≡ string_bytes out.old ++ or_line (option_copied telling.entry) outcome.now form.now) }
 {
     push_str(out, "or")?;
     add_places(
         out,
+        telling,
         outcome.closing.messages.as_slice(),
         form.closing.messages.as_slice(),
     )?;
@@ -126,18 +170,19 @@ fn add_form(out: &mut String, outcome: &Outcome, form: &Outcome) -> Result<(), O
 /// A line for each other form of the outcome of a place.
 pub(crate) fn add_forms(
     out: &mut String,
+    telling: Option<&Telling<'_>>,
     outcomes: &Outcomes,
     place: usize,
     outcome: &Outcome,
 ) -> Result<(), OutOfMemory>
     requires { place < length outcomes.now.all.items }
-    ensures { OnOk result (string_bytes out.new ≡ string_bytes out.old ++ flat_map (λ form. or_line outcome.now form.0) (later_forms outcome.now (place + 1) outcomes.now)) }
+    ensures { OnOk result (string_bytes out.new ≡ string_bytes out.old ++ flat_map (λ form. or_line (option_copied telling.entry) outcome.now form.0) (later_forms outcome.now (place + 1) outcomes.now)) }
 {
     let all = outcomes.all.as_slice();
     for at in place + 1..all.len() {
         let form = &all[at];
         if grouped_with(outcome, form) {
-            add_form(out, outcome, form)?;
+            add_form(out, telling, outcome, form)?;
         }
     }
     Ok(())

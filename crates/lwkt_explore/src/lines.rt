@@ -1,15 +1,17 @@
 //! What is written of a search.
 ghost use Rattle.std.specs.Prelude.{◌≡◌, ◌+◌, ◌<◌, ◌≤◌, ◌++◌, OnOk, IfOk, length, string_bytes};
+ghost use Rattle.std.specs.Option.{option_copied};
 ghost use Rattle.lwkt_report.specs.Report.{numbered_lines};
-ghost use Rattle.lwkt_explore.specs.Texts.{order_bytes, kind_text, count_text, why_line, group_at, outcome_lines, of_kind, by_kind, lost_line, tried_text, extent_text, sum_line, text_of_found};
+ghost use Rattle.lwkt_explore.specs.Texts.{order_bytes, kind_text, count_text, why_line, group_at, outcome_lines, of_kind, by_kind, lost_line, tried_text, extent_text, sum_line, report_lines, why_lines, text_in, text_of_found, told_of_found};
 
 use crate::extents::{Bound, Extent};
-use crate::forms::{add_forms, group_count, is_first};
+use crate::forms::{Telling, add_forms, group_count, is_first};
 use crate::losses::Lost;
 use crate::outcomes::{Kind, Outcome};
 use crate::searches::{Found, Tried};
 use lwkt_base::OutOfMemory;
 use lwkt_base::memory::{push_str, put};
+use lwkt_told::{show_front, show_stuck};
 use std::alloc::Global;
 
 fn kind_word(kind: Kind) -> &'static str
@@ -60,13 +62,14 @@ fn add_count(out: &mut String, tried: Tried, count: u64) -> Result<(), OutOfMemo
 // The outcome of a place, with its other forms.
 fn add_outcome(
     out: &mut String,
+    telling: Option<&Telling<'_>>,
     number: usize,
     found: &Found,
     place: usize,
     outcome: &Outcome,
 ) -> Result<(), OutOfMemory>
     requires { place < length found.now.outcomes.all.items }
-    ensures { OnOk result (string_bytes out.new ≡ string_bytes out.old ++ outcome_lines found.now.tried number (group_at outcome.now place found.now.outcomes)) }
+    ensures { OnOk result (string_bytes out.new ≡ string_bytes out.old ++ outcome_lines (option_copied telling.entry) found.now.tried number (group_at outcome.now place found.now.outcomes)) }
 {
     let word = kind_word(outcome.kind);
     let count = group_count(&found.outcomes, place, outcome);
@@ -75,9 +78,43 @@ fn add_outcome(
     push_str(out, ", order")?;
     add_order(out, outcome.order.as_slice())?;
     push_str(out, "\n")?;
-    push_str(out, outcome.text.as_str())?;
-    add_forms(out, &found.outcomes, place, outcome)?;
-    add_why(out, &outcome.why)
+    add_report(out, telling, outcome)?;
+    add_forms(out, telling, &found.outcomes, place, outcome)?;
+    add_whys(out, telling, outcome)
+}
+
+// The lines of an outcome's report.
+fn add_report(
+    out: &mut String,
+    telling: Option<&Telling<'_>>,
+    outcome: &Outcome,
+) -> Result<(), OutOfMemory>
+    ensures { OnOk result (string_bytes out.new ≡ string_bytes out.old ++ report_lines (option_copied telling.entry) outcome.now) }
+{
+    match telling {
+        None => push_str(out, outcome.text.as_str()),
+        Some(telling) => show_front(telling.names, telling.script, &outcome.closing, out),
+    }
+}
+
+// Why an outcome is stuck, in the words that are asked for.
+fn add_whys(
+    out: &mut String,
+    telling: Option<&Telling<'_>>,
+    outcome: &Outcome,
+) -> Result<(), OutOfMemory>
+    ensures { OnOk result (string_bytes out.new ≡ string_bytes out.old ++ why_lines (option_copied telling.entry) outcome.now) }
+{
+    match telling {
+        None => add_why(out, &outcome.why),
+        Some(telling) => {
+            if outcome.kind != Kind::Stuck {
+                return Ok(());
+            }
+            let lines = outcome.closing.threads.as_slice();
+            show_stuck(telling.names, telling.script, lines, out)
+        }
+    }
 }
 
 // Why an outcome is stuck.
@@ -93,12 +130,13 @@ fn add_why(out: &mut String, why: &Option<String>) -> Result<(), OutOfMemory>
 // The outcomes of a kind, those that are grouped under the first of them, behind so many others; says how many there are then.
 fn add_kind(
     out: &mut String,
+    telling: Option<&Telling<'_>>,
     found: &Found,
     kind: Kind,
     before: usize,
 ) -> Result<usize, OutOfMemory>
     requires { before + length (of_kind kind found.now.outcomes) ≤ 18446744073709551615 }
-    ensures text { OnOk result (string_bytes out.new ≡ string_bytes out.old ++ numbered_lines (outcome_lines found.now.tried) (before + 1) (of_kind kind found.now.outcomes)) }
+    ensures text { OnOk result (string_bytes out.new ≡ string_bytes out.old ++ numbered_lines (outcome_lines (option_copied telling.entry) found.now.tried) (before + 1) (of_kind kind found.now.outcomes)) }
     ensures number { IfOk result (λ number. number ≡ before + length (of_kind kind found.now.outcomes)) }
 {
     let all = found.outcomes.all.as_slice();
@@ -107,7 +145,7 @@ fn add_kind(
         let outcome = &all[place];
         if is_first(&all[..place], outcome, kind) {
             number = number.saturating_add(1);
-            add_outcome(out, number, found, place, outcome)?;
+            add_outcome(out, telling, number, found, place, outcome)?;
         }
     }
     Ok(number)
@@ -169,6 +207,25 @@ fn add_sum(out: &mut String, found: &Found, count: usize) -> Result<(), OutOfMem
     put(out, (", ", turns, " ", made, ("; ", whole, "\n")))
 }
 
+// The text of what was found, in the words that are asked for.
+fn text_in(
+    alloc: Global,
+    telling: Option<&Telling<'_>>,
+    found: &Found,
+) -> Result<String, OutOfMemory>
+    ensures { IfOk result (λ text. string_bytes text ≡ text_in (option_copied telling.entry) found.now) }
+{
+    let mut out = String::new(alloc);
+    let ended = add_kind(&mut out, telling, found, Kind::Ended, 0)?;
+    let stuck = add_kind(&mut out, telling, found, Kind::Stuck, ended)?;
+    let count = add_kind(&mut out, telling, found, Kind::Cut, stuck)?;
+    if let Some(lost) = &found.lost {
+        add_lost(&mut out, lost)?;
+    }
+    add_sum(&mut out, found, count)?;
+    Ok(out)
+}
+
 /// The text of what was found: the outcomes, numbered from 1, the ended ones first, then the stuck ones, then those that were cut; then
 /// the lost states, if there are any, and what was searched (docs/EXPLORE.md). Outcomes of one kind that differ in message lines alone
 /// are grouped under one number: the first of them, and of each other one the message lines that differ.
@@ -177,13 +234,19 @@ fn add_sum(out: &mut String, found: &Found, count: usize) -> Result<(), OutOfMem
 pub fn text_of(alloc: Global, found: &Found) -> Result<String, OutOfMemory>
     ensures { IfOk result (λ text. string_bytes text ≡ text_of_found found.now) }
 {
-    let mut out = String::new(alloc);
-    let ended = add_kind(&mut out, found, Kind::Ended, 0)?;
-    let stuck = add_kind(&mut out, found, Kind::Stuck, ended)?;
-    let count = add_kind(&mut out, found, Kind::Cut, stuck)?;
-    if let Some(lost) = &found.lost {
-        add_lost(&mut out, lost)?;
-    }
-    add_sum(&mut out, found, count)?;
-    Ok(out)
+    text_in(alloc, None, found)
+}
+
+/// The same in the names of a text: its reports as `show_front` of lwkt_told makes them, and of a stuck outcome why, as `show_stuck`
+/// does.
+///
+/// Refused if memory is.
+pub fn told_text_of(
+    alloc: Global,
+    telling: &Telling<'_>,
+    found: &Found,
+) -> Result<String, OutOfMemory>
+    ensures { IfOk result (λ text. string_bytes text ≡ told_of_found telling.now found.now) }
+{
+    text_in(alloc, Some(telling), found)
 }

@@ -7,6 +7,7 @@ use crate::expectations::{deciding, truth_over_orders};
 use crate::judging::truth_in_run;
 use crate::lines::order_text;
 use crate::outcomes::Outcome;
+use crate::quotes::{add_quote, widths_of};
 use crate::searches::Found;
 use lwkt_base::OutOfMemory;
 use lwkt_refusals::{Page, Place, add_head, place_from};
@@ -22,6 +23,26 @@ fn words_of(truth: Truth) -> &'static str
         Truth::Yes => "holds",
         Truth::No => "doesn't hold",
         Truth::Open => "not decided",
+    }
+}
+
+// What a terminal is told before words, by whether an expectation holds: green, red or yellow.
+fn paint_of(truth: Truth) -> &'static str {
+    match truth {
+        Truth::Yes => "\u{1b}[32m",
+        Truth::No => "\u{1b}[31m",
+        Truth::Open => "\u{1b}[33m",
+    }
+}
+
+// Appends whether an expectation holds, painted or not.
+fn add_words(page: &mut Page, paints: bool, truth: Truth) {
+    if paints {
+        page.add(paint_of(truth));
+        page.add(words_of(truth));
+        page.add("\u{1b}[0m");
+    } else {
+        page.add(words_of(truth));
     }
 }
 
@@ -48,11 +69,107 @@ pub(crate) fn verdicts_said(
     page.whole()
 }
 
+// What is said before the expectations of a text, by whether each holds, or none fails.
+fn add_summary(page: &mut Page, counts: Counts) {
+    if counts.unmet > 0 {
+        page.add("not every expectation holds:\n");
+    } else if counts.open > 0 {
+        page.add("not every expectation is decided:\n");
+    } else {
+        page.add("every expectation holds:\n");
+    }
+}
+
+// What is so of expectations, counted: how many don't hold, and how many aren't decided.
+#[derive(Clone, Copy)]
+struct Counts {
+    unmet: usize,
+    open: usize,
+}
+
+impl Counts {
+    const NONE: Counts = Counts { unmet: 0, open: 0 };
+
+    // The same with one expectation more.
+    fn with(self, truth: Truth) -> Counts {
+        match truth {
+            Truth::Yes => self,
+            Truth::No => Counts {
+                unmet: self.unmet.saturating_add(1),
+                ..self
+            },
+            Truth::Open => Counts {
+                open: self.open.saturating_add(1),
+                ..self
+            },
+        }
+    }
+}
+
+fn counts_in_run(expectations: &[Expectation], outcome: &Closing) -> Counts {
+    let mut counts = Counts::NONE;
+    for expectation in expectations {
+        counts = counts.with(truth_in_run(expectation, outcome));
+    }
+    counts
+}
+
+fn counts_over_orders(expectations: &[Expectation], found: &Found) -> Counts {
+    let mut counts = Counts::NONE;
+    for expectation in expectations {
+        counts = counts.with(truth_over_orders(expectation, found));
+    }
+    counts
+}
+
+/// Each thing that a text says of the outcome of its script as it stands there, with its line and whether it is so of a run; before
+/// them whether all of them are. Verdicts are painted if that is asked for. Nothing where nothing is said.
+///
+/// Refused if memory is.
+pub(crate) fn verdicts_quoted(
+    alloc: Global,
+    paints: bool,
+    bytes: &[u8],
+    expectations: &[Expectation],
+    outcome: &Closing,
+) -> Result<String, OutOfMemory> {
+    let mut page = Page::new(alloc);
+    let mut place = Place::FIRST;
+    if expectations.is_empty() {
+        return page.whole();
+    }
+    add_summary(&mut page, counts_in_run(expectations, outcome));
+    let widths = widths_of(bytes, expectations);
+    for expectation in expectations {
+        place = place_from(bytes, place, expectation.at);
+        add_quote(&mut page, bytes, widths, place, expectation);
+        add_words(&mut page, paints, truth_in_run(expectation, outcome));
+        page.add("\n");
+    }
+    page.whole()
+}
+
 // The order of an outcome that decides an expectation.
 fn add_witness(alloc: Global, page: &mut Page, outcome: &Outcome) -> Result<(), OutOfMemory> {
     let order = order_text(alloc, outcome.order.as_slice())?;
     page.add(", order");
     page.add(order.as_str());
+    Ok(())
+}
+
+// What is so of an expectation over all orders, and the order of the outcome that decides it.
+fn add_truth(
+    alloc: Global,
+    page: &mut Page,
+    paints: bool,
+    expectation: &Expectation,
+    found: &Found,
+) -> Result<(), OutOfMemory> {
+    add_words(page, paints, truth_over_orders(expectation, found));
+    if let Some(outcome) = deciding(expectation, found.outcomes.all.as_slice()) {
+        add_witness(alloc, page, outcome)?;
+    }
+    page.add("\n");
     Ok(())
 }
 
@@ -64,15 +181,9 @@ fn add_verdict(
     expectation: &Expectation,
     found: &Found,
 ) -> Result<(), OutOfMemory> {
-    let outcomes = found.outcomes.all.as_slice();
     add_head(page, None, place);
     page.add(": ");
-    page.add(words_of(truth_over_orders(expectation, found)));
-    if let Some(outcome) = deciding(expectation, outcomes) {
-        add_witness(alloc, page, outcome)?;
-    }
-    page.add("\n");
-    Ok(())
+    add_truth(alloc, page, false, expectation, found)
 }
 
 /// A line for each expectation of a text, by its line there, counted from 1: `LINE: holds` or `LINE: doesn't hold`, and the order
@@ -91,6 +202,31 @@ pub fn verdicts_of(
     for expectation in expectations {
         place = place_from(bytes, place, expectation.at);
         add_verdict(alloc, &mut page, place, expectation, found)?;
+    }
+    page.whole()
+}
+
+/// The same, with each expectation as it stands in the text; before them whether all of them hold. Nothing where nothing is expected.
+///
+/// Refused if memory is.
+pub fn quoted_verdicts_of(
+    alloc: Global,
+    paints: bool,
+    bytes: &[u8],
+    expectations: &[Expectation],
+    found: &Found,
+) -> Result<String, OutOfMemory> {
+    let mut page = Page::new(alloc);
+    let mut place = Place::FIRST;
+    if expectations.is_empty() {
+        return page.whole();
+    }
+    add_summary(&mut page, counts_over_orders(expectations, found));
+    let widths = widths_of(bytes, expectations);
+    for expectation in expectations {
+        place = place_from(bytes, place, expectation.at);
+        add_quote(&mut page, bytes, widths, place, expectation);
+        add_truth(alloc, &mut page, paints, expectation, found)?;
     }
     page.whole()
 }

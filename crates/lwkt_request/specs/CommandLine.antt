@@ -20,7 +20,7 @@ abbrev pub file : Rule
 file = new_rule (codes "FILE")
 
 abbrev pub run : App
-run = with_rule (with_rule (new_app (codes "run")) (flag (codes "threads"))) file
+run = with_rule (with_rule (with_rule (new_app (codes "run")) (flag (codes "threads"))) (flag (codes "numbers"))) file
 
 abbrev pub show : App
 show =
@@ -36,9 +36,9 @@ text = with_rule (with_rule (with_rule (with_rule (new_app (codes "text")) (flag
 
 abbrev pub explore : App
 explore =
-    with_rule (with_rule (with_rule (with_rule (with_rule (with_rule (with_rule (with_rule (with_rule (new_app (codes "explore"))
+    with_rule (with_rule (with_rule (with_rule (with_rule (with_rule (with_rule (with_rule (with_rule (with_rule (new_app (codes "explore"))
     (flag (codes "plain"))) (valued (codes "states"))) (valued (codes "turns"))) (valued (codes "random")))
-    (valued (codes "seed"))) (valued (codes "seconds"))) (flag (codes "progress"))) (flag (codes "all"))) file
+    (valued (codes "seed"))) (valued (codes "seconds"))) (flag (codes "progress"))) (flag (codes "numbers"))) (flag (codes "all"))) file
 
 -- the program's name isn't among the words, a subcommand is wanted, `help` is no subcommand, and there is a version
 abbrev pub with_settings : Shape → Shape

@@ -23,6 +23,13 @@ abbrev pub old_check : List Text → List Text
 old_check [] = named (codes "check") []
 old_check (word ∷ words) = if bytes_eq word (codes "lines") then codes "check" ∷ codes "--lines" ∷ words else named (codes "check") (word ∷ words)
 
+-- a search in numbers
+abbrev pub old_explore : List Text → List Text
+old_explore [] = codes "explore" ∷ codes "--numbers" ∷ []
+old_explore (word ∷ words) =
+    if bytes_eq word (codes "help") || bytes_eq word (codes "--version") then named (codes "explore") (word ∷ words)
+    else codes "explore" ∷ codes "--numbers" ∷ word ∷ words
+
 -- `help` and `help SUBCOMMAND`
 abbrev pub help_of : List Text → List Text
 help_of [] = codes "--help" ∷ []
@@ -34,7 +41,7 @@ new_words name words =
     if bytes_eq name (codes "lwkt_show") then old_show words
     else (if bytes_eq name (codes "lwkt_check") then old_check words
     else (if bytes_eq name (codes "lwkt_text") then named (codes "text") words
-    else (if bytes_eq name (codes "lwkt_explore") then named (codes "explore") words
+    else (if bytes_eq name (codes "lwkt_explore") then old_explore words
     else (if bytes_eq name (codes "help") then help_of words else name ∷ words))))
 
 -- words are a run that `lwkt_run` is asked for, with or without a file; no run, which is its misuse; or words for a parse

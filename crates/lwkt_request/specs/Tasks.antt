@@ -14,6 +14,8 @@ use Rattle.lwkt_request.specs.declared.requests.Form.{Form}
 use Rattle.lwkt_request.specs.declared.requests.Form.TheVariants as form
 use Rattle.lwkt_request.specs.declared.requests.Task.{Task}
 use Rattle.lwkt_request.specs.declared.requests.Task.TheVariants.{Run, Show, Check, Text as Translate, Explore}
+use Rattle.lwkt_request.specs.declared.requests.Wording.{Wording}
+use Rattle.lwkt_request.specs.declared.requests.Wording.TheVariants.{Names, Numbers}
 use Rattle.lwkt_request.specs.Texts.{no_end, number_named, number_or, path_of, is_part, range_named}
 
 -- what a parse found for the arguments
@@ -92,8 +94,8 @@ text_in rows = option_and_then (λ form. Some (Translate form)) (form_of (is_on 
 -- ---- explore
 
 -- a search; none if a value is no number, or `--all` is named without a folder
-abbrev pub explored : Bool → Option Text → Option Text → Option Text → Option Text → Option Text → Bool → Bool → Bool → Option Task
-explored plain states turns random seed seconds progress all has_path =
+abbrev pub explored : Bool → Option Text → Option Text → Option Text → Option Text → Option Text → Bool → Bool → Bool → Bool → Option Task
+explored plain states turns random seed seconds progress in_numbers all has_path =
     option_and_then (λ states. option_and_then (λ turns. option_and_then (λ random. option_and_then (λ seed. option_and_then (λ seconds.
     if all && not has_path then None
     else Some (Explore (record {
@@ -103,21 +105,29 @@ explored plain states turns random seed seconds progress all has_path =
       seed = seed;
       seconds = seconds;
       progress = progress;
+      in_numbers = in_numbers;
       all = all;
     }))) (number_named seconds)) (number_or 0 seed)) (number_named random)) (number_or 100000 turns)) (number_or 1000000 states)
 
 abbrev pub explore_in : List Row → Option Task
 explore_in rows =
     explored (is_on (codes "plain") rows) (first_of (codes "states") rows) (first_of (codes "turns") rows) (first_of (codes "random") rows)
-    (first_of (codes "seed") rows) (first_of (codes "seconds") rows) (is_on (codes "progress") rows) (is_on (codes "all") rows)
+    (first_of (codes "seed") rows) (first_of (codes "seconds") rows) (is_on (codes "progress") rows) (is_on (codes "numbers") rows) (is_on (codes "all") rows)
     (is_some (path_of (first_of (codes "FILE") rows)))
+
+-- ---- run
+
+-- the words in which a run is reported, by whether `--numbers` is named
+abbrev pub wording_of : Bool → Wording
+wording_of true = Numbers
+wording_of false = Names
 
 -- ---- all
 
 -- what the subcommand of this name asks for
 abbrev pub task_in : Text → List Row → Option Task
 task_in name rows =
-    if bytes_eq name (codes "run") then Some (Run (is_on (codes "threads") rows) false)
+    if bytes_eq name (codes "run") then Some (Run (is_on (codes "threads") rows) (wording_of (is_on (codes "numbers") rows)))
     else (if bytes_eq name (codes "show") then show_in rows
     else (if bytes_eq name (codes "check") then Some (Check (is_on (codes "lines") rows))
     else (if bytes_eq name (codes "text") then text_in rows

@@ -7,6 +7,7 @@ use Rattle.lwkt_request.specs.declared.requests.Asked.TheVariants.{Do}
 use Rattle.lwkt_request.specs.declared.requests.Request.{Request}
 use Rattle.lwkt_request.specs.declared.requests.Task.{Task}
 use Rattle.lwkt_request.specs.declared.requests.Task.TheVariants.{Run}
+use Rattle.lwkt_request.specs.declared.requests.Wording.TheVariants.{OldName}
 use Rattle.lwkt_request.specs.Tasks.{task_in}
 use Rattle.lwkt_request.specs.Texts.{path_of, turns_of}
 
@@ -28,7 +29,7 @@ wish_in found = option_and_then (λ (sub : Text × List Row). option_map (wish_f
 
 -- a run that `lwkt_run` is asked for
 abbrev pub run_wish : Bool → Option Text → Wish
-run_wish on_threads file = record { task = Run on_threads true; order = None; path = path_of file }
+run_wish on_threads file = record { task = Run on_threads OldName; order = None; path = path_of file }
 
 -- the request that an answer is, if it is one
 abbrev pub wish_of : Asked → Option Wish

@@ -14,7 +14,7 @@ use crate::commands::command_line;
 use crate::matched::value_in;
 use crate::old::{OldRun, new_words, old_run};
 use crate::ranges::{path_of, turns_of};
-use crate::requests::{Asked, Request, Task};
+use crate::requests::{Asked, Request, Task, Wording};
 use crate::tasks::task_in;
 use crate::wrongs::{Wrong, failure_of, misuse_of};
 use clap::error::ErrorKind;
@@ -96,7 +96,7 @@ fn run_request(alloc: Global, on_threads: bool, file: Option<&str>) -> Result<Re
     Ok(Request {
         task: Task::Run {
             on_threads,
-            by_old_name: true,
+            wording: Wording::OldName,
         },
         order: None,
         path: path_in(alloc, file)?,

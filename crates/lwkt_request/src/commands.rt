@@ -131,6 +131,12 @@ fn run_command<'a>(alloc: Global) -> Built<'a>
         "threads",
         "Run each processor on an OS thread of its own",
     );
+    let command = with_flag(
+        alloc,
+        command,
+        "numbers",
+        "Report a text in numbers, as JSON is reported",
+    );
     with_file(alloc, command, SCRIPT_FILE)
 }
 
@@ -259,6 +265,12 @@ fn explore_command<'a>(alloc: Global) -> Built<'a>
         command,
         "progress",
         "Report each second how far the search is",
+    );
+    let command = with_flag(
+        alloc,
+        command,
+        "numbers",
+        "Write outcomes of a text in numbers, as those of JSON",
     );
     let command = with_flag(alloc, command, "all", "Try each script of the folder FILE");
     with_file(alloc, command, EXPLORE_FILE)

@@ -13,4 +13,4 @@ mod wrongs;
 
 pub use asking::request_of;
 pub use pages::VERSION;
-pub use requests::{Asked, Form, Request, Search, Task};
+pub use requests::{Asked, Form, Request, Search, Task, Wording};

@@ -2,7 +2,7 @@
 ghost use Rattle.std.specs.Prelude.{◌≡◌, ◌++◌, IfOk, map, string_bytes};
 ghost use Rattle.std.specs.Option.{option_copied, option_to_list};
 ghost use Rattle.clap.specs.Walk.{texts};
-ghost use Rattle.lwkt_request.specs.OldNames.{call_by, help_of, is_dashed, is_mode, is_question, named, new_words, old_check, old_file, old_pair, old_run, old_show, old_three, old_word};
+ghost use Rattle.lwkt_request.specs.OldNames.{call_by, help_of, is_dashed, is_mode, is_question, named, new_words, old_check, old_explore, old_file, old_pair, old_run, old_show, old_three, old_word};
 
 use lwkt_base::OutOfMemory;
 use lwkt_base::memory::push;
@@ -79,6 +79,18 @@ fn old_check<'a>(alloc: Global, words: &'a [String]) -> Result<Vec<&'a str>, Out
     }
 }
 
+// The words of a search in numbers.
+fn old_explore<'a>(alloc: Global, words: &'a [String]) -> Result<Vec<&'a str>, OutOfMemory>
+    ensures { IfOk result (λ new. texts new.items ≡ old_explore (map string_bytes words.entry.now)) }
+{
+    match words.first() {
+        Some(word) if word.as_str() == "help" || word.as_str() == "--version" => {
+            named(alloc, "explore", words)
+        }
+        _ => behind(alloc, Some("explore"), Some("--numbers"), words),
+    }
+}
+
 // `help` and `help SUBCOMMAND`.
 fn help_of<'a>(alloc: Global, words: &'a [String]) -> Result<Vec<&'a str>, OutOfMemory>
     ensures { IfOk result (λ new. texts new.items ≡ help_of (map string_bytes words.entry.now)) }
@@ -101,7 +113,7 @@ pub(crate) fn new_words<'a>(
         "lwkt_show" => old_show(alloc, words),
         "lwkt_check" => old_check(alloc, words),
         "lwkt_text" => named(alloc, "text", words),
-        "lwkt_explore" => named(alloc, "explore", words),
+        "lwkt_explore" => old_explore(alloc, words),
         "help" => help_of(alloc, words),
         _ => behind(alloc, Some(name), None, words),
     }

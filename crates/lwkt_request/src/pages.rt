@@ -43,7 +43,7 @@ Examples:
 Options stand after the command, before or after FILE. After -- a word is a FILE
 even if it begins with a dash.
 
-Environment: no variable is read.
+Environment: with NO_COLOR verdicts on a terminal have no colour.
 Limits: a script has at most 1048576 bytes.
 Exit status: 1 for wrong arguments, 3 for a file or stream that fails; lwkt(7)
 lists them all.",
@@ -53,15 +53,16 @@ pub(crate) const RUN: Page = Page {
     about: "Run a script and print its report",
     long_about: "\
 Run a script and print its report: the final values of the tokens, how each
-thread ended, its log, and whether the run is lawful. The older names for it are
-`lwkt_run turns`, and `lwkt_run threads` for lwkt run --threads.
+thread ended, its log, and whether the run is lawful. A text is reported in its
+names, JSON in numbers. `lwkt_run turns` and `lwkt_run threads` are older names
+for lwkt run --numbers, without and with --threads.
 
 The processors take their turns in rounds, so a script's report is the same each
-time. With --threads the last line is `closed`, and reports may differ.
+time. With --threads the run is closed, not lawful, and reports may differ.
 
-If a text has expectations, standard error says which of them hold. One is
-`not decided` if a full log leaves it open; a log has a thread's first 32
-entries. If a script is rejected, standard error says where and why.",
+If a text has expectations, standard error quotes each, and says whether it
+holds. One is `not decided` if a full log leaves it open; a log has a thread's
+first 32 entries. If a script is rejected, standard error says where and why.",
     after: "More: lwkt run --help, and lwkt(7).",
     long_after: "\
 Examples:
@@ -70,7 +71,7 @@ Examples:
   lwkt run --threads examples/four_processors_tally.json
       prints a line for each token and thread, and `closed`
 
-Environment: no variable is read.
+Environment: with NO_COLOR verdicts on a terminal have no colour.
 Limits: a script has at most 1048576 bytes.
 Exit status: 0 if every thread ended and every expectation holds; lwkt(7) lists
 the others.",
@@ -132,7 +133,7 @@ pub(crate) const TEXT: Page = Page {
     long_about: "\
 Translate a script: --json writes it as JSON, --text as a text, without the
 comments and expectations that it had. With --run it is run in rounds and
-reported as by lwkt run. Name exactly one of the three.",
+reported as by lwkt run --numbers. Name exactly one of the three.",
     after: "More: lwkt text --help, and lwkt(7).",
     long_after: "\
 Examples:
@@ -151,7 +152,8 @@ pub(crate) const EXPLORE: Page = Page {
     about: "Try every order of a script's turns",
     long_about: "\
 Try every order in which the processors can take their turns, and print each
-outcome once, with a shortest order that leads to it. Outcomes that end come
+outcome once, with a shortest order that leads to it. Those of a text are in its
+names, unless --numbers is given. Outcomes that end come
 first, then deadlocks with what each thread waits for, then those that a bound
 cut off. The last lines say from how many states no end can be reached, and how
 much was tried.
@@ -165,8 +167,8 @@ The last line ends with `complete` if every order was tried. Else it ends with
 --states or --turns sets, (memory) for a failed allocation, and (stopped) for
 --seconds.
 
-If a text has expectations, standard error says of each whether it holds in all
-orders, with a shortest order that breaks it or shows it. An expectation is
+If a text has expectations, standard error quotes each, and says whether it
+holds in all orders, with a shortest order that breaks it or shows it. An expectation is
 `not decided` if no outcome decides it and not every order was tried, or if a
 full log leaves it open. A log has a thread's first 32 entries.
 
@@ -185,7 +187,7 @@ Examples:
   lwkt explore --random 1000 --seed 7 examples/dining_philosophers.json
       prints the one outcome that 1000 random orders have
 
-Environment: no variable is read.
+Environment: with NO_COLOR verdicts on a terminal have no colour.
 Limits: a script has at most 1048576 bytes; --states and --turns bound a search.
 Exit status: 0 if every order was tried and all of it is well, 5 if some orders
 weren't tried, or an expectation doesn't hold or isn't decided; lwkt(7) lists

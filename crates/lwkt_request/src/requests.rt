@@ -17,6 +17,8 @@ pub struct Search {
     pub seconds: Option<u64>,
     /// `--progress`: whether a line on standard error reports each second how far the search is.
     pub progress: bool,
+    /// `--numbers`: whether outcomes of a text are written in numbers, and not in its names.
+    pub in_numbers: bool,
     /// `--all`: whether the path is that of a folder, each script of which is tried.
     pub all: bool,
 }
@@ -32,6 +34,17 @@ pub enum Form {
     Run,
 }
 
+/// In which words a run is reported.
+#[derive(Clone, Copy, PartialEq, Eq)]
+pub enum Wording {
+    /// A text in its names; JSON, which has none, in numbers.
+    Names,
+    /// `--numbers`: in numbers.
+    Numbers,
+    /// As `lwkt_run` reports: in numbers, with the line of a fault in place of a missing report.
+    OldName,
+}
+
 /// What is to be done with what is read.
 #[derive(Clone, Copy)]
 pub enum Task {
@@ -39,9 +52,9 @@ pub enum Task {
     Run {
         /// `--threads`: whether each processor runs on an OS thread of its own, and not in rounds on one.
         on_threads: bool,
-        /// Whether the words were those of `lwkt_run`. If the path is `turns` or `threads` and no such file is there, these words are
-        /// misuse, as those of `OldUsage` are.
-        by_old_name: bool,
+        /// In which words it is reported. By those of `lwkt_run`, if the path is `turns` or `threads` and no such file is there, the words
+        /// of the command line are misuse, as those of `OldUsage` are.
+        wording: Wording,
     },
     /// A run is shown.
     Show {

@@ -2,11 +2,11 @@
 ghost use Rattle.std.specs.Prelude.{◌≡◌, is_ok};
 ghost use Rattle.std.specs.Option.{option_copied};
 ghost use Rattle.std.specs.Result.{result_ok};
-ghost use Rattle.lwkt_request.specs.Tasks.{explore_in, explored, fits, fits_order, fits_threads, form_of, has_range, is_chains, is_whole, options_of, rows_in, show_in, shown, task_in, text_in, rendering_of};
+ghost use Rattle.lwkt_request.specs.Tasks.{explore_in, explored, fits, fits_order, fits_threads, form_of, has_range, is_chains, is_whole, options_of, rows_in, show_in, shown, task_in, text_in, rendering_of, wording_of};
 
 use crate::matched::{is_on, value_in};
 use crate::ranges::{Range, are_parts, number_named, number_or, path_of, range_named, size_or};
-use crate::requests::{Form, Search, Task};
+use crate::requests::{Form, Search, Task, Wording};
 use crate::wrongs::Wrong;
 use clap::ArgMatches;
 use lwkt_explore::{Bounds, Method};
@@ -200,12 +200,13 @@ struct ExploreWords<'a> {
     seed: Option<&'a str>,
     seconds: Option<&'a str>,
     progress: bool,
+    in_numbers: bool,
     all: bool,
     has_path: bool,
 }
 
 fn explored<'a>(words: ExploreWords<'a>) -> Result<Task, Wrong<'a>>
-    ensures { result_ok result ≡ explored words.entry.plain (option_copied words.entry.states) (option_copied words.entry.turns) (option_copied words.entry.random) (option_copied words.entry.seed) (option_copied words.entry.seconds) words.entry.progress words.entry.all words.entry.has_path }
+    ensures { result_ok result ≡ explored words.entry.plain (option_copied words.entry.states) (option_copied words.entry.turns) (option_copied words.entry.random) (option_copied words.entry.seed) (option_copied words.entry.seconds) words.entry.progress words.entry.in_numbers words.entry.all words.entry.has_path }
 {
     let states = size_or("--states", words.states, 1_000_000)?;
     let turns = size_or("--turns", words.turns, 100_000)?;
@@ -226,6 +227,7 @@ fn explored<'a>(words: ExploreWords<'a>) -> Result<Task, Wrong<'a>>
         seed,
         seconds,
         progress: words.progress,
+        in_numbers: words.in_numbers,
         all: words.all,
     }))
 }
@@ -241,9 +243,21 @@ fn explore_in<'a>(matches: &ArgMatches<'a>) -> Result<Task, Wrong<'a>>
         seed: value_in(matches, "seed"),
         seconds: value_in(matches, "seconds"),
         progress: is_on(matches, "progress"),
+        in_numbers: is_on(matches, "numbers"),
         all: is_on(matches, "all"),
         has_path: path_of(value_in(matches, "FILE")).is_some(),
     })
+}
+
+// The words in which a run is reported, by whether `--numbers` is named.
+fn wording_of(in_numbers: bool) -> Wording
+    ensures { result ≡ wording_of in_numbers }
+{
+    if in_numbers {
+        Wording::Numbers
+    } else {
+        Wording::Names
+    }
 }
 
 /// What the subcommand `name` asks for, by what a parse found for its arguments.
@@ -253,7 +267,7 @@ pub(crate) fn task_in<'a>(name: &str, matches: &ArgMatches<'a>) -> Result<Task, 
     match name {
         "run" => Ok(Task::Run {
             on_threads: is_on(matches, "threads"),
-            by_old_name: false,
+            wording: wording_of(is_on(matches, "numbers")),
         }),
         "show" => show_in(matches),
         "check" => Ok(Task::Check {

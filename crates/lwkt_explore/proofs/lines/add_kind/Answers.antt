@@ -1,5 +1,6 @@
 use Rattle.std.proofs.Common.{rules, ◌≡◌, ◌+◌, ◌<◌, ◌≤◌, ◌&&◌, not, append-nil, ◌++◌, ◌∙◌, get_or, length, take, string_bytes, ap, sym, add-one, refl, arith, true, false}
 use Rattle.std.specs.List.{list_any}
+use Rattle.std.specs.Option.{option_copied}
 use Rattle.lwkt_report.specs.Report.{numbered_lines}
 use Rattle.lwkt_explore.specs.Texts.{is_kind, of_kind, outcome_lines, group_at, grouped_with}
 use Rattle.lwkt_explore.proofs.KindLemmas.{kind_from, kind_here, kind_passed, kind_end, written_on}
@@ -16,7 +17,7 @@ loop-place-preserved c =
     let counts = outcomes.counts.items in
     let place = c.loop-place.place in
     let outcome = c.index-all-place.result in
-    let line = outcome_lines c.args.found.now.tried in
+    let line = outcome_lines (option_copied c.args.telling) c.args.found.now.tried in
     let below : place < length all = (let end = c.loop-place-test.true in rw c.as_slice-all.ensures.value at end) in
     let is : outcome ≡ get_or all place outcome = (let there = c.index-all-place.is in rw c.as_slice-all.ensures.value at there) in
     elim c.if-is_first.branch [

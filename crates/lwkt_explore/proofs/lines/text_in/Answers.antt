@@ -1,11 +1,11 @@
 use Rattle.std.proofs.Common.{arith, ◌≡◌, ◌+◌, ◌++◌, [], length, string_bytes}
 use Rattle.std.proofs.lemmas.Grind.{common_steps}
-use Rattle.std.specs.Option.{option_map_or}
+use Rattle.std.specs.Option.{option_copied, option_map_or}
 use Rattle.lwkt_report.specs.Report.{numbered_lines}
 use Rattle.lwkt_explore.specs.declared.outcomes.Kind.TheVariants.{Ended, Stuck, Cut}
-use Rattle.lwkt_explore.specs.Texts.{outcome_lines, of_kind, by_kind, lost_line, sum_line, text_of_found}
+use Rattle.lwkt_explore.specs.Texts.{outcome_lines, of_kind, by_kind, lost_line, sum_line, text_in}
 use Rattle.lwkt_explore.proofs.KindLemmas.{kinds, numbered_kinds, written_all}
-use Rattle.lwkt_explore.proofs.lines.text_of.Goals as goal
+use Rattle.lwkt_explore.proofs.lines.text_in.Goals as goal
 
 pub add_kind-requires : goal.add_kind-requires
 add_kind-requires c =
@@ -35,10 +35,10 @@ add_kind-requires-3 c =
     omega arith
 
 pub returns : goal.returns
-unfolding text_of_found
+unfolding text_in
 returns c =
     let found = c.args.found.now in
-    let line = outcome_lines found.tried in
+    let line = outcome_lines (option_copied c.args.telling) found.tried in
     let e = of_kind Ended found.outcomes in
     let s = of_kind Stuck found.outcomes in
     let cut = of_kind Cut found.outcomes in

@@ -1,0 +1,4 @@
+pub mod Called
+pub mod Circles
+pub mod Labels
+pub mod Told
