@@ -13,6 +13,8 @@ pub enum Bound {
     Memory,
     /// Who looks on ended it.
     Stopped,
+    /// The machine didn't end as its plain machine did.
+    Differs,
 }
 
 /// Whether every order was tried, and if not, what ended the search.

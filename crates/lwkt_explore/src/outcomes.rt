@@ -7,7 +7,7 @@ ghost use Rattle.lwkt_script.specs.declared.scripts.Script.{Script};
 ghost use Rattle.lwkt_explore.specs.Outcomes.{settled_text, IsKind, IsOutcome, AreOutcomes, AreShort, AreWhole, HasEnded, HasRoom, RefusesSearch};
 ghost use Rattle.lwkt_explore.specs.Verdicts.{IsOfVerdict};
 
-use crate::walks::number_in_order;
+
 use crate::watches::Watch;
 use lwkt_base::limits::CPU_LIMIT;
 use lwkt_base::memory::{from_slice, push, reserve};
@@ -158,25 +158,6 @@ fn outcome_of<W: Watch>(
     })
 }
 
-/// Makes the run along an order and the turn of a processor behind it, and refuses if the verdict on it isn't `lawful`.
-pub(crate) fn judge(
-    alloc: Global,
-    script: &Script,
-    order: &[u8],
-    cpu: Option<usize>,
-) -> Result<(), Fault>
-    requires order { AreThere script.now (order.now ++ option_to_list cpu) }
-    requires cpu { IfSome cpu (λ cpu. cpu < CPU_LIMIT) }
-    ensures { IfErr result (λ fault. RefusesSearch script.now fault) }
-{
-    let mut whole = from_slice(alloc, order)?;
-    if let Some(cpu) = cpu {
-        push(&mut whole, number_in_order(cpu))?;
-    }
-    lawful_run(alloc, script, whole.as_slice(), LastState::Cut)?;
-    Ok(())
-}
-
 impl Outcomes {
     /// None so far.
     pub(crate) fn new(alloc: Global) -> Self
@@ -209,6 +190,13 @@ impl Outcomes {
         if let Some(count) = self.counts.get_mut(place) {
             *count = count.saturating_add(1);
         }
+    }
+
+    /// Whether one of them is ended.
+    pub(crate) fn have_ended(&self) -> bool
+        ensures { result ≡ true → HasEnded self.now }
+    {
+        self.all.iter().any(|outcome| outcome.kind == Kind::Ended)
     }
 
     /// How many of the orders that were tried led to an outcome.

@@ -1,19 +1,29 @@
-//! The search: over states, breadth first, so that orders are shortest.
+//! The search: over states of the plain machine, breadth first, so that orders are shortest.
 ghost use Rattle.std.specs.Prelude.{◌≡◌, ◌≢◌, ◌+◌, ◌≤◌, ◌<◌, true, false, None, length, Contains, IfOk, IfErr, OnOk};
 ghost use Rattle.lwkt_explore.specs.Extents.{is_complete};
 ghost use Rattle.lwkt_explore.specs.Outcomes.{AreOutcomes, AreShort, AreWhole, HasEnded, RefusesSearch};
 ghost use Rattle.lwkt_explore.specs.Tries.{HasTriedStates};
-ghost use Rattle.lwkt_explore.specs.Walks.{IsSearching};
+ghost use Rattle.lwkt_plain.specs.Openings.{opened};
+ghost use Rattle.lwkt_plain.specs.Sound.{IsSound};
 
 use crate::dives::dive;
+use crate::explorers::Explorer;
 use crate::extents::{Bound, Extent, extent_of};
 use crate::losses::Lost;
+use crate::mails::Mails;
 use crate::outcomes::{Kind, LastState, Outcomes};
-use crate::walks::Walk;
 use crate::watches::Watch;
-use lwkt_base::Fault;
+use lwkt_base::limits::CPU_LIMIT;
+use lwkt_base::memory::from_slice;
+use lwkt_base::{Fault, OutOfMemory};
+use lwkt_machine::Machine;
+use lwkt_plain::{Store, opened_scripts_are_sound};
 use lwkt_script::Script;
+use lwkt_search::{Refusal, Seen, Task, UNTRIED, lost_states};
 use std::alloc::Global;
+
+// What a search of the plain machine finds.
+type Growing = lwkt_search::Found<Store>;
 
 /// What a search may take. If a bound is met, not every order is tried.
 #[derive(Clone, Copy, PartialEq, Eq)]
@@ -54,6 +64,8 @@ pub struct Found {
     pub turns: u64,
     /// Whether every order was tried, and if not, what ended the search.
     pub extent: Extent,
+    /// Whether each turn was made from each state that was found.
+    pub is_whole: bool,
     /// The states from which no end can be reached, if every order was tried and there are any.
     pub lost: Option<Lost>,
 }
@@ -67,100 +79,205 @@ impl Found {
     }
 }
 
-// Adds the outcome of a state, which stands so. Says which kind it is of.
-fn add_at<W: Watch>(
-    alloc: Global,
-    script: &Script,
-    walk: &mut Walk,
-    outcomes: &mut Outcomes,
-    at: usize,
-    last_state: LastState,
-) -> Result<Kind, Fault>
-    requires { IsSearching script.now walk.old outcomes.old }
-    ensures search { IsSearching script.now walk.new outcomes.new }
-    ensures bounds { walk.new.bounds ≡ walk.old.bounds }
-    ensures ends { walk.new.ends ≡ walk.old.ends }
-    ensures kind { IfOk result (λ kind. kind ≡ Kind.Ended → HasEnded outcomes.new) }
-    ensures refused { IfErr result (λ fault. RefusesSearch script.now fault) }
-{
-    let order = walk.graph.order(alloc, at)?;
-    let kind = outcomes.add::<W>(alloc, script, order, last_state)?;
-    if kind == Kind::Cut {
-        walk.meet(Bound::Turns);
-    }
-    Ok(kind)
-}
-
-// Goes on from a state; where all threads have ended, nothing changes any more, or a bound is met, there is an outcome.
-fn expand<W: Watch>(
-    alloc: Global,
-    script: &Script,
-    walk: &mut Walk,
-    outcomes: &mut Outcomes,
-    at: usize,
-) -> Result<(), Fault>
-    requires { IsSearching script.now walk.old outcomes.old }
-    ensures search { IsSearching script.now walk.new outcomes.new }
-    ensures bounds { walk.new.bounds ≡ walk.old.bounds }
-    ensures ends { OnOk result (length walk.new.ends.items ≡ length walk.old.ends.items + 1) }
-    ensures refused { IfErr result (λ fault. RefusesSearch script.now fault) }
-{
-    let leads = walk.go_on(alloc, script, at)?;
-    let Some(last_state) = walk.last_state(at, leads) else {
-        return Ok(walk.note_end(false)?);
-    };
-    let kind = add_at::<W>(alloc, script, walk, outcomes, at, last_state)?;
-    Ok(walk.note_end(kind == Kind::Ended)?)
-}
-
-// Goes on from each state, in the order in which they are found, if it goes on at all.
-fn search<W: Watch>(
-    alloc: Global,
-    script: &Script,
-    walk: &mut Walk,
-    outcomes: &mut Outcomes,
-    states: usize,
+// Who looks on at the search, unless it doesn't go on at all.
+#[derive(Drop)]
+struct Looking<'w, W> {
+    watch: &'w mut W,
     goes_on: bool,
-    watch: &mut W,
-) -> Result<(), Fault>
-    requires { IsSearching script.now walk.old outcomes.old }
-    ensures search { IsSearching script.now walk.new outcomes.new }
-    ensures bounds { walk.new.bounds ≡ walk.old.bounds }
-    ensures ends { OnOk result (walk.new.met ≡ None → 0 < length walk.new.ends.items) }
+}
+
+impl<'w, W: Watch> lwkt_search::Watch for Looking<'w, W> {
+    fn goes_on(&mut self, seen: Seen) -> bool {
+        self.goes_on && self.watch.goes_on(seen)
+    }
+}
+
+/// Refuses a script whose machine isn't opened.
+pub(crate) fn opens(alloc: Global, script: &Script) -> Result<(), Fault>
+    ensures sound { OnOk result (IsSound (opened script.now)) }
+    ensures cpus { OnOk result ((0 < script.now.cpus) × (script.now.cpus ≤ CPU_LIMIT)) }
     ensures refused { IfErr result (λ fault. RefusesSearch script.now fault) }
 {
-    for at in 0..states {
-        if at >= walk.graph.len() {
-            return Ok(());
+    let _machine = Machine::open_script(alloc, script)?;
+    opened_scripts_are_sound();
+    Ok(())
+}
+
+// What the search of the plain machine finds.
+fn attempt<'s, L: lwkt_search::Watch>(
+    alloc: Global,
+    task: &Task<Explorer<'s>>,
+    looking: &mut L,
+) -> Result<Growing, Refusal>
+    requires some { 0 < task.now.bound }
+    requires sound { IsSound (opened task.now.machine.script.now) }
+{
+    let store = Store::open(alloc, task.machine.script)?;
+    let found = task.search(alloc, store, looking)?;
+    Ok(found)
+}
+
+// What the search of the plain machine finds with as much memory as there is: where that is refused, it begins anew with half as many
+// states.
+fn found_in<'s, L: lwkt_search::Watch>(
+    alloc: Global,
+    task: &mut Task<Explorer<'s>>,
+    looking: &mut L,
+) -> Option<(Growing, bool)>
+    requires sound { IsSound (opened task.old.machine.script.now) }
+{
+    let mut was_refused = false;
+    while task.bound > 0 {
+        if let Ok(found) = attempt(alloc, task, looking) {
+            return Some((found, was_refused));
         }
-        if !goes_on || !watch.goes_on(walk.seen(at)) {
-            walk.met = Some(Bound::Stopped);
-            return Ok(());
-        }
-        expand::<W>(alloc, script, walk, outcomes, at)?;
+        was_refused = true;
+        task.bound /= 2;
     }
-    // (no state may be kept, and the opening is one)
-    if walk.graph.len() > states {
-        walk.meet(Bound::States);
+    None
+}
+
+// How many turns were made.
+fn turns_in(next: &[u32]) -> u64 {
+    next.iter().filter(|n| **n != UNTRIED).count() as u64
+}
+
+// What ended a search.
+fn bound_of(met: Option<lwkt_search::Bound>, was_refused: bool) -> Option<Bound> {
+    if was_refused {
+        return Some(Bound::Memory);
+    }
+    match met {
+        None => None,
+        Some(lwkt_search::Bound::States) => Some(Bound::States),
+        Some(lwkt_search::Bound::Turns) => Some(Bound::Turns),
+        Some(lwkt_search::Bound::Stopped) => Some(Bound::Stopped),
+    }
+}
+
+// Makes the run along the order of each last state that was found, and keeps its outcome. Says whether each ended as the state says.
+fn tell<W: Watch>(
+    alloc: Global,
+    script: &Script,
+    found: &Growing,
+    turns: usize,
+    outcomes: &mut Outcomes,
+) -> Result<bool, Fault>
+    requires outcomes { AreOutcomes script.now outcomes.old }
+    requires short { AreShort turns outcomes.old }
+    ensures found { AreOutcomes script.now outcomes.new }
+    ensures short { AreShort turns outcomes.new }
+    ensures refused { IfErr result (λ fault. RefusesSearch script.now fault) }
+{
+    let mut is_same = true;
+    for one in found.outcomes.as_slice() {
+        let last_state = if found.growth.store.has_ended(script, one.place) {
+            LastState::AllEnded
+        } else {
+            LastState::Quiet
+        };
+        let order = from_slice(alloc, one.order.as_slice())?;
+        let kind = outcomes.add::<W>(alloc, script, order, last_state)?;
+        is_same = is_same && kind != Kind::Cut;
+    }
+    Ok(is_same)
+}
+
+// Whether the order to a state has as many turns as it may have, and a further one leads on.
+fn is_cut(task: &Task<Explorer<'_>>, found: &Growing, at: usize) -> bool {
+    let growth = &found.growth;
+    if (growth.links[at].depth as usize) < task.turns || growth.store.has_ended(task.machine.script, at) {
+        return false;
+    }
+    let cpus = usize::from(task.cpus);
+    growth.next[at * cpus..(at + 1) * cpus]
+        .iter()
+        .any(|next| *next != UNTRIED && *next as usize >= growth.gone_on)
+}
+
+// Keeps the outcomes of the orders that have as many turns as they may have, where a further one leads on.
+fn tell_cut<W: Watch>(
+    alloc: Global,
+    script: &Script,
+    task: &Task<Explorer<'_>>,
+    found: &Growing,
+    outcomes: &mut Outcomes,
+) -> Result<(), Fault>
+    requires outcomes { AreOutcomes script.now outcomes.old }
+    requires short { AreShort task.now.turns outcomes.old }
+    ensures found { AreOutcomes script.now outcomes.new }
+    ensures short { AreShort task.now.turns outcomes.new }
+    ensures refused { IfErr result (λ fault. RefusesSearch script.now fault) }
+{
+    if !matches!(found.growth.met, Some(lwkt_search::Bound::Turns)) {
+        return Ok(());
+    }
+    for at in 0..found.growth.gone_on {
+        if is_cut(task, found, at) {
+            let order = task.order(alloc, &found.growth, at)?;
+            outcomes.add::<W>(alloc, script, order, LastState::Cut)?;
+        }
     }
     Ok(())
 }
 
-// The lost states of a walk that met no bound. Where memory for them is refused, that is the bound that it met, and none are shown.
-fn lost_in(alloc: Global, walk: &mut Walk) -> Option<Lost>
-    ensures met { walk.new.met ≡ None → walk.old.met ≡ None }
-    ensures part { walk.new.met ≢ None → result ≡ None }
-    ensures none { walk.new.met ≡ None → result ≡ None → 0 < length walk.old.ends.items → Contains walk.old.ends.items true }
-    ensures graph { walk.new.graph ≡ walk.old.graph }
-    ensures bounds { walk.new.bounds ≡ walk.old.bounds }
-{
-    match walk.lost(alloc) {
-        Ok(lost) => lost,
-        Err(_) => {
-            walk.meet(Bound::Memory);
-            None
+// The lost states of a search that was cut off for nothing.
+fn lost_in(
+    alloc: Global,
+    task: &Task<Explorer<'_>>,
+    found: &Growing,
+) -> Result<Option<Lost>, OutOfMemory> {
+    let lost = lost_states(task, alloc, &found.growth)?;
+    let count = lost.len();
+    match lost.as_slice().first() {
+        None => Ok(None),
+        Some(first) => Ok(Some(Lost {
+            count,
+            order: from_slice(alloc, first.order.as_slice())?,
+        })),
+    }
+}
+
+// The end of a search.
+fn ended<W: Watch>(
+    alloc: Global,
+    script: &Script,
+    task: &Task<Explorer<'_>>,
+    found: &Growing,
+    was_refused: bool,
+) -> Result<Found, Fault> {
+    let mut outcomes = Outcomes::new(alloc);
+    let mut met = bound_of(found.growth.met, was_refused);
+    match tell::<W>(alloc, script, found, task.turns, &mut outcomes) {
+        Ok(true) => {}
+        Ok(false) => met = Some(Bound::Differs),
+        Err(Fault::Memory(_)) => met = Some(Bound::Memory),
+        Err(fault) => return Err(fault),
+    }
+    match tell_cut::<W>(alloc, script, task, found, &mut outcomes) {
+        Ok(()) => {}
+        Err(Fault::Memory(_)) => met = Some(Bound::Memory),
+        Err(fault) => return Err(fault),
+    }
+    let mut lost = None;
+    if met.is_none() {
+        match lost_in(alloc, task, found) {
+            Ok(those) => lost = those,
+            Err(_) => met = Some(Bound::Memory),
         }
     }
+    if met.is_none() && lost.is_none() && !outcomes.have_ended() {
+        met = Some(Bound::Differs);
+    }
+    let states = found.growth.links.len();
+    Ok(Found {
+        outcomes,
+        tried: Tried::States(states.min(task.bound)),
+        turns: turns_in(found.growth.next.as_slice()),
+        extent: extent_of(met),
+        is_whole: met.is_none() && found.growth.is_whole,
+        lost,
+    })
 }
 
 // Tries every order of turns of a script, within bounds, and nothing else; none if it doesn't go on.
@@ -172,6 +289,7 @@ fn searched<W: Watch>(
     goes_on: bool,
     watch: &mut W,
 ) -> Result<Found, Fault>
+    requires { IsSound (opened script.now) }
     ensures found { IfOk result (λ found. AreOutcomes script.now found.outcomes) }
     ensures short { IfOk result (λ found. AreShort bounds.turns found.outcomes) }
     ensures ended { IfOk result (λ found. is_complete found ≡ true → found.lost ≡ None → HasEnded found.outcomes) }
@@ -180,29 +298,28 @@ fn searched<W: Watch>(
     ensures tried { IfOk result (λ found. HasTriedStates bounds.states found.tried) }
     ensures refused { IfErr result (λ fault. RefusesSearch script.now fault) }
 {
-    let mut walk = Walk::begin(alloc, script, bounds, method)?;
-    let mut outcomes = Outcomes::new(alloc);
-    match search(
-        alloc,
-        script,
-        &mut walk,
-        &mut outcomes,
-        bounds.states,
-        goes_on,
-        watch,
-    ) {
-        Ok(()) => {}
-        Err(Fault::Memory(_)) => walk.met = Some(Bound::Memory),
-        Err(fault) => return Err(fault),
+    let mut task = Task {
+        machine: Explorer {
+            script,
+            method,
+            mails: Mails::of(alloc, script)?,
+        },
+        cpus: script.cpus,
+        bound: bounds.states.max(1),
+        turns: bounds.turns,
+    };
+    let mut looking = Looking { watch, goes_on };
+    match found_in(alloc, &mut task, &mut looking) {
+        Some((found, was_refused)) => ended::<W>(alloc, script, &task, &found, was_refused),
+        None => Ok(Found {
+            outcomes: Outcomes::new(alloc),
+            tried: Tried::States(1),
+            turns: 0,
+            extent: Extent::Part(Bound::Memory),
+            is_whole: false,
+            lost: None,
+        }),
     }
-    let lost = lost_in(alloc, &mut walk);
-    Ok(Found {
-        outcomes,
-        tried: Tried::States(walk.graph.len()),
-        turns: walk.turns,
-        extent: extent_of(walk.met),
-        lost,
-    })
 }
 
 /// Tries every order of turns of a script, within bounds. There is an outcome at every state in which all threads have ended, and at
@@ -238,6 +355,7 @@ pub fn explore<W: Watch>(
     ensures tried { IfOk result (λ found. HasTriedStates bounds.states found.tried) }
     ensures refused { IfErr result (λ fault. RefusesSearch script.now fault) }
 {
+    opens(alloc, script)?;
     let mut first = Outcomes::new(alloc);
     let goes_on = match dive(alloc, script, bounds, &mut first, watch) {
         Ok(goes_on) => goes_on,

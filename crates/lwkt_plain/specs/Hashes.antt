@@ -11,6 +11,7 @@ use Rattle.lwkt_core.specs.declared.tokens.Token.{Token}
 use Rattle.lwkt_search.specs.Codes.{mixed}
 use Rattle.lwkt_plain.specs.declared.letters.Lane.{Lane}
 use Rattle.lwkt_plain.specs.declared.letters.Letter.{Letter}
+use Rattle.lwkt_plain.specs.declared.letters.Note.{Note}
 use Rattle.lwkt_plain.specs.declared.letters.Port.{Port}
 use Rattle.lwkt_plain.specs.declared.states.Phase.{Phase}
 use Rattle.lwkt_plain.specs.declared.states.Phase.TheVariants.{Live, AwaitsItem, AwaitsReply, Exited, Faulted}
@@ -60,11 +61,14 @@ ref_key key r = mixed key r.tok.0
 abbrev pub thread_key : ℕ → Thread → ℕ
 thread_key key t = key_of_all entry_key (key_of_all ref_key (key_of_all mixed (mixed (mixed (mixed key (phase_number t.phase)) t.local.at) t.local.left) t.local.vars) t.list) t.log
 
+abbrev pub note_key : ℕ → Note → ℕ
+note_key key note = mixed key note.msg.0
+
 abbrev pub lane_key : ℕ → Lane → ℕ
-lane_key key lane = mixed key (length lane.queue)
+lane_key key lane = key_of_all note_key (mixed key (length lane.queue)) lane.queue
 
 abbrev pub port_key : ℕ → Port → ℕ
-port_key key port = mixed (mixed key (length port.urgent)) (length port.ordinary)
+port_key key port = key_of_all note_key (mixed (key_of_all note_key (mixed key (length port.urgent)) port.urgent) (length port.ordinary)) port.ordinary
 
 abbrev pub processor_key : Processor → ℕ
 processor_key cpu = key_of_all thread_key (key_of_all port_key (key_of_all lane_key (mixed (mixed 0 cpu.cursor) (option_map_or (mixed 1) cpu.running 0)) cpu.lanes) cpu.ports) cpu.threads

@@ -1,9 +1,9 @@
 //! Keys by which parts of states are found again.
 ghost use Rattle.std.specs.Prelude.{◌≡◌, ℕ, List};
 ghost use Rattle.lwkt_search.specs.Codes.{mixed};
-ghost use Rattle.lwkt_plain.specs.Hashes.{key_of_all, held_key, token_key, letter_key, phase_number, entry_number, entry_key, ref_key, thread_key, lane_key, port_key, processor_key};
+ghost use Rattle.lwkt_plain.specs.Hashes.{key_of_all, held_key, token_key, letter_key, phase_number, entry_number, entry_key, ref_key, thread_key, note_key, lane_key, port_key, processor_key};
 
-use crate::letters::{Lane, Letter, Port};
+use crate::letters::{Lane, Letter, Note, Port};
 use crate::states::{Phase, Processor, Thread};
 use lwkt_base::{Entry, Held, Ref};
 use lwkt_core::Token;
@@ -78,11 +78,20 @@ impl Keyed for Entry {
     }
 }
 
+impl Keyed for Note {
+    ghost key_of = { note_key };
+
+    fn key(&self, key: u64) -> u64 {
+        mixed(key, u64::from(self.msg.0))
+    }
+}
+
 impl Keyed for Lane {
     ghost key_of = { lane_key };
 
     fn key(&self, key: u64) -> u64 {
-        mixed(key, self.queue.len() as u64)
+        let key = mixed(key, self.queue.len() as u64);
+        key_of_all(key, self.queue.as_slice())
     }
 }
 
@@ -91,7 +100,9 @@ impl Keyed for Port {
 
     fn key(&self, key: u64) -> u64 {
         let key = mixed(key, self.urgent.len() as u64);
-        mixed(key, self.ordinary.len() as u64)
+        let key = key_of_all(key, self.urgent.as_slice());
+        let key = mixed(key, self.ordinary.len() as u64);
+        key_of_all(key, self.ordinary.as_slice())
     }
 }
 

@@ -5,8 +5,8 @@ ghost use Rattle.lwkt_search.specs.Graphs.{node_at, nodes_of, in_row, IsFinished
 ghost use Rattle.lwkt_search.specs.Losses.{IsLost, IsLostOutcome, LeadsOn, IsNext, IsReaching, IsStable, IsSettled, missing};
 
 use crate::machines::Machine;
-use crate::refusals::Refusal;
 use crate::searches::{Growth, Outcome, Task, UNTRIED};
+use lwkt_base::OutOfMemory;
 use lwkt_base::memory::push;
 use std::alloc::Global;
 
@@ -101,7 +101,7 @@ fn reaching<M: Machine>(
     task: &Task<M>,
     alloc: Global,
     growth: &Growth<M::Store>,
-) -> Result<Vec<bool>, Refusal>
+) -> Result<Vec<bool>, OutOfMemory>
     requires finished { IsFinished (M.turn_of task.now.machine) (M.start_of task.now.machine) task.now.cpus (nodes_of (M.kept growth.now.store) growth.now.links.items) growth.now.next.items growth.now.gone_on }
     requires sound { M.is_sound task.now.machine growth.now.store }
     requires long { length growth.now.links.items ≡ length (M.kept growth.now.store) }
@@ -124,7 +124,7 @@ fn lost_of<M: Machine>(
     alloc: Global,
     growth: &Growth<M::Store>,
     reaches: &[bool],
-) -> Result<Vec<Outcome>, Refusal>
+) -> Result<Vec<Outcome>, OutOfMemory>
     requires finished { IsFinished (M.turn_of task.now.machine) (M.start_of task.now.machine) task.now.cpus (nodes_of (M.kept growth.now.store) growth.now.links.items) growth.now.next.items growth.now.gone_on }
     requires sound { M.is_sound task.now.machine growth.now.store }
     requires long { length growth.now.links.items ≡ length (M.kept growth.now.store) }
@@ -152,7 +152,7 @@ pub fn lost_states<M: Machine>(
     task: &Task<M>,
     alloc: Global,
     growth: &Growth<M::Store>,
-) -> Result<Vec<Outcome>, Refusal>
+) -> Result<Vec<Outcome>, OutOfMemory>
     requires finished { IsFinished (M.turn_of task.now.machine) (M.start_of task.now.machine) task.now.cpus (nodes_of (M.kept growth.now.store) growth.now.links.items) growth.now.next.items growth.now.gone_on }
     requires sound { M.is_sound task.now.machine growth.now.store }
     requires long { length growth.now.links.items ≡ length (M.kept growth.now.store) }

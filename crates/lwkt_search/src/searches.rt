@@ -5,6 +5,7 @@ ghost use Rattle.lwkt_search.specs.Graphs.{Node, node_at, nodes_of, in_row, IsGr
 
 use crate::machines::{Machine, Seen, Watch};
 use crate::refusals::Refusal;
+use lwkt_base::OutOfMemory;
 use lwkt_base::memory::push;
 use std::alloc::Global;
 
@@ -421,13 +422,13 @@ impl<M: Machine> Task<M> {
         })
     }
 
-    // The order that leads to a state.
-    pub(crate) fn order(
+    /// The order that leads to a state.
+    pub fn order(
         &self,
         alloc: Global,
         growth: &Growth<M::Store>,
         at: usize,
-    ) -> Result<Vec<u8>, Refusal>
+    ) -> Result<Vec<u8>, OutOfMemory>
         requires long { length growth.now.links.items ≡ length (M.kept growth.now.store) }
         requires graph { IsGraphOf (M.turn_of self.now.machine) (M.start_of self.now.machine) self.now.cpus (nodes_of (M.kept growth.now.store) growth.now.links.items) }
         requires there { at < length growth.now.links.items }
