@@ -132,6 +132,14 @@ pub record IsTold {S : Type 0} (turn : S → ℕ → S) (start : S) (cpus : ℕ)
   pub leads : run turn start outcome.order ≡ (node_at start nodes at).state
   pub long : length outcome.order ≡ (node_at start nodes at).depth
 
+-- what was noted stays
+abbrev pub Keeps : List Link → List Link → Type 0
+Keeps old new = (k : ℕ) → k < length old → (d : Link) → slice_index_or new k d ≡ slice_index_or old k d
+
+-- at most so many turns lead to each state before a place
+abbrev pub AreWithin : ℕ → List Link → ℕ → Type 0
+AreWithin turns links at = (k : ℕ) → k < at → (d : Link) → (slice_index_or links k d).depth ≤ turns
+
 -- the new list has each node of the old one at its place
 pub record Grows {S : Type 0} (start : S) (old new : List (Node S)) : Type 0 where
   pub longer : length old ≤ length new

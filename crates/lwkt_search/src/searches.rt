@@ -1,7 +1,7 @@
 //! The search: it goes on from each state that is found, in the order in which they are found.
-ghost use Rattle.std.specs.Prelude.{◌≡◌, ◌≢◌, ◌↔◌, ℕ, ◌+◌, ◌*◌, ◌<◌, ◌≤◌, List, [], ◌∷◌, ◌++◌, length, All, Option, None, Some, IsTrue, IsFalse, IfOk, replicate, slice_set};
+ghost use Rattle.std.specs.Prelude.{◌≡◌, ◌≢◌, ◌↔◌, ℕ, ◌+◌, ◌*◌, ◌<◌, ◌≤◌, List, [], ◌∷◌, ◌++◌, length, All, Option, None, Some, IsTrue, IsFalse, IfOk, replicate, slice_set, slice_index_or};
 ghost use Rattle.lwkt_search.specs.Runs.{run, all_told, told_of, IsOrder, IsQuiet, IsLast, IsOutcome, IsShortest, HasOutcome, AreApart, HasStates, HasAtMost};
-ghost use Rattle.lwkt_search.specs.Graphs.{Node, node_at, nodes_of, in_row, IsGraphOf, IsTurnAt, IsGrown, IsBefore, IsWithin, AllTried, IsTold};
+ghost use Rattle.lwkt_search.specs.Graphs.{Node, node_at, nodes_of, in_row, IsGraphOf, IsTurnAt, IsGrown, IsBefore, IsWithin, AllTried, IsTold, Keeps, AreWithin};
 
 use crate::machines::{Machine, Seen, Watch};
 use crate::refusals::Refusal;
@@ -178,6 +178,7 @@ impl<M: Machine> Task<M> {
         requires there { at < length links.old.items }
         requires cpu { cpu < self.now.cpus }
         ensures longer { IfOk result (λ kept. length links.old.items ≤ length links.new.items) }
+        ensures keeps { IfOk result (λ kept. Keeps links.old.items links.new.items) }
         ensures sound { IfOk result (λ kept. M.is_sound self.now.machine store.new) }
         ensures long { IfOk result (λ kept. length links.new.items ≡ length (M.kept store.new)) }
         ensures full { IfOk result (λ kept. IsFalse kept → HasStates (M.turn_of self.now.machine) self.now.cpus (M.start_of self.now.machine) (self.now.bound + 1)) }
@@ -220,6 +221,7 @@ impl<M: Machine> Task<M> {
         requires there { at < length links.old.items }
         requires cpu { cpu < self.now.cpus }
         ensures longer { IfOk result (λ kept. length links.old.items ≤ length links.new.items) }
+        ensures keeps { IfOk result (λ kept. Keeps links.old.items links.new.items) }
         ensures sound { IfOk result (λ kept. M.is_sound self.now.machine store.new) }
         ensures long { IfOk result (λ kept. length links.new.items ≡ length (M.kept store.new)) }
         ensures full { IfOk result (λ kept. IsFalse kept → HasStates (M.turn_of self.now.machine) self.now.cpus (M.start_of self.now.machine) (self.now.bound + 1)) }
@@ -247,6 +249,7 @@ impl<M: Machine> Task<M> {
         requires within { IsWithin (M.turn_of self.now.machine) (M.start_of self.now.machine) self.now.cpus (nodes_of (M.kept store.old) links.old.items) next.old.items at }
         requires there { at < length links.old.items }
         ensures longer { IfOk result (λ kept. length links.old.items ≤ length links.new.items) }
+        ensures keeps { IfOk result (λ kept. Keeps links.old.items links.new.items) }
         ensures sound { IfOk result (λ kept. M.is_sound self.now.machine store.new) }
         ensures long { IfOk result (λ kept. length links.new.items ≡ length (M.kept store.new)) }
         ensures full { IfOk result (λ kept. IsFalse kept → HasStates (M.turn_of self.now.machine) self.now.cpus (M.start_of self.now.machine) (self.now.bound + 1)) }
@@ -288,6 +291,7 @@ impl<M: Machine> Task<M> {
         requires within { IsWithin (M.turn_of self.now.machine) (M.start_of self.now.machine) self.now.cpus (nodes_of (M.kept store.old) links.old.items) next.old.items at }
         requires there { at < length links.old.items }
         ensures longer { IfOk result (λ kept. length links.old.items ≤ length links.new.items) }
+        ensures keeps { IfOk result (λ kept. Keeps links.old.items links.new.items) }
         ensures sound { IfOk result (λ kept. M.is_sound self.now.machine store.new) }
         ensures long { IfOk result (λ kept. length links.new.items ≡ length (M.kept store.new)) }
         ensures full { IfOk result (λ kept. IsFalse kept → HasStates (M.turn_of self.now.machine) self.now.cpus (M.start_of self.now.machine) (self.now.bound + 1)) }
@@ -317,6 +321,7 @@ impl<M: Machine> Task<M> {
         requires long { length links.old.items ≡ length (M.kept store.old) }
         requires before { IsBefore (M.turn_of self.now.machine) (M.start_of self.now.machine) self.now.cpus (nodes_of (M.kept store.old) links.old.items) next.old.items at }
         requires there { at < length links.old.items }
+        ensures keeps { IfOk result (λ kept. Keeps links.old.items links.new.items) }
         ensures sound { IfOk result (λ kept. M.is_sound self.now.machine store.new) }
         ensures long { IfOk result (λ kept. length links.new.items ≡ length (M.kept store.new)) }
         ensures grown { IfOk result (λ kept. IsGrown (M.turn_of self.now.machine) (M.start_of self.now.machine) self.now.cpus (nodes_of (M.kept store.new) links.new.items) next.new.items at) }
@@ -343,6 +348,8 @@ impl<M: Machine> Task<M> {
         requires long { length links.old.items ≡ length (M.kept store.old) }
         requires before { IsBefore (M.turn_of self.now.machine) (M.start_of self.now.machine) self.now.cpus (nodes_of (M.kept store.old) links.old.items) next.old.items at }
         requires there { at < length links.old.items }
+        ensures keeps { IfOk result (λ met. Keeps links.old.items links.new.items) }
+        ensures deep { IfOk result (λ met. met ≡ None → (d : Link) → (slice_index_or links.old.items at d).depth ≤ self.now.turns) }
         ensures sound { IfOk result (λ met. M.is_sound self.now.machine store.new) }
         ensures long { IfOk result (λ met. length links.new.items ≡ length (M.kept store.new)) }
         ensures grown { IfOk result (λ met. IsGrown (M.turn_of self.now.machine) (M.start_of self.now.machine) self.now.cpus (nodes_of (M.kept store.new) links.new.items) next.new.items at) }
@@ -378,6 +385,7 @@ impl<M: Machine> Task<M> {
         requires sound { M.is_sound self.now.machine store }
         requires first { M.kept store ≡ M.start_of self.now.machine ∷ [] }
         ensures sound { IfOk result (λ growth. M.is_sound self.now.machine growth.store) }
+        ensures deep { IfOk result (λ growth. AreWithin self.now.turns growth.links.items growth.gone_on) }
         ensures long { IfOk result (λ growth. length growth.links.items ≡ length (M.kept growth.store)) }
         ensures grown { IfOk result (λ growth. IsGrown (M.turn_of self.now.machine) (M.start_of self.now.machine) self.now.cpus (nodes_of (M.kept growth.store) growth.links.items) growth.next.items growth.gone_on) }
         ensures full { IfOk result (λ growth. growth.met ≡ Some Bound.States → HasStates (M.turn_of self.now.machine) self.now.cpus (M.start_of self.now.machine) (self.now.bound + 1)) }
@@ -461,6 +469,8 @@ impl<M: Machine> Task<M> {
         ensures whole { IfOk result (λ found. IsTrue found.growth.is_whole → found.growth.met ≡ None) }
         ensures tried { IfOk result (λ found. IsTrue found.growth.is_whole → AllTried self.now.cpus found.growth.next.items found.growth.gone_on) }
         ensures places { IfOk result (λ found. All (λ outcome. outcome.place < length (M.kept found.growth.store)) found.outcomes.items) }
+        ensures short { IfOk result (λ found. All (λ outcome. length outcome.order.items ≤ self.now.turns) found.outcomes.items) }
+        ensures orders { IfOk result (λ found. All (λ outcome. IsOrder self.now.cpus outcome.order.items) found.outcomes.items) }
         // Each outcome is a last state that its order leads to.
         ensures sound { IfOk result (λ found. All (λ outcome. IsOutcome (M.turn_of self.now.machine) (M.ended_of self.now.machine) self.now.cpus (M.start_of self.now.machine) outcome) (all_told (M.start_of self.now.machine) (M.kept found.growth.store) found.outcomes.items)) }
         // Each last state that an order leads to is an outcome, if each turn was tried.

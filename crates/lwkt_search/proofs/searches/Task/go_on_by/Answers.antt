@@ -1,4 +1,4 @@
-use Rattle.std.proofs.Common.{◌<◌, ◌≤◌, length, arith, IsTrue, rules}
+use Rattle.std.proofs.Common.{◌<◌, ◌≤◌, length, arith, ◌∙◌, IsTrue, rules}
 use Rattle.lwkt_search.proofs.searches.Task.go_on_by.Goals as goal
 
 pub loop-set-preserved : goal.loop-set-preserved
@@ -13,5 +13,11 @@ loop-set-preserved g c =
       within = c.in_ok-try_set.ensures.within;
       there = omega arith;
       longer = omega arith;
+      keeps = λ k h d. let here : k < length c.loop-set.links.items = omega arith in c.in_ok-try_set.ensures.keeps k here d ∙ c.loop-set.invariant.keeps k h d;
       few = λ h. c.in_ok-try_set.ensures.few yes (c.loop-set.invariant.few h);
     }
+
+pub returns-then-not-branch-clause-keeps : goal.returns-then-not-branch-clause-keeps
+returns-then-not-branch-clause-keeps g c = λ k h d.
+    let here : k < length c.loop-set.links.items = omega (arith, c.loop-set.invariant.longer) in
+    c.in_ok-try_set.ensures.keeps k here d ∙ c.loop-set.invariant.keeps k h d

@@ -1,4 +1,4 @@
-use Rattle.std.proofs.Common.{◌≡◌, ◌≢◌, ℕ, ◌+◌, ◌*◌, ◌<◌, ◌≤◌, ◌∷◌, [], ◌++◌, List, length, arith, ap, subst, All, ◌∙◌}
+use Rattle.std.proofs.Common.{◌≡◌, ◌≢◌, ℕ, ◌+◌, ◌*◌, ◌<◌, ◌≤◌, ◌∷◌, [], ◌++◌, List, length, arith, ap, subst, All, ◌∙◌, None, below_more, slice_index_or, rules}
 use Rattle.lwkt_search.specs.declared.searches.Link.{Link}
 use Rattle.lwkt_search.specs.declared.searches.TheConstants.{UNTRIED}
 use Rattle.lwkt_search.specs.Graphs.{nodes_of}
@@ -20,7 +20,24 @@ loop-at-init g c =
       sound = c.requires.sound;
       long = omega arith;
       before = begin_grown (g.M.Machine.turn_of c.args.self.now.machine) start c.args.self.now.cpus kept links c.new-next.result.items c.requires.first one c.new-next.ensures.items;
+      deep = λ k h. absurd (omega arith);
       few = omega arith;
+    }
+
+pub loop-at-preserved : goal.loop-at-preserved
+loop-at-preserved g c =
+    let none : c.in_ok-bound.field-0 ≡ None = search rules in
+    let there : c.loop-at.at < length c.loop-at.links.items = omega arith in
+    let turns : ℕ = c.args.self.now.turns in
+    let new : List Link = c.step.new.links.items in
+    let P : ℕ → Type 0 = λ k. (d : Link) → (slice_index_or new k d).depth ≤ turns in
+    let same : (k : ℕ) → k < length c.loop-at.links.items → (d : Link) → (slice_index_or new k d).depth ≡ (slice_index_or c.loop-at.links.items k d).depth = λ k h d. ap (λ (l : Link). l.depth) (c.in_ok-bound.ensures.keeps k h d) in
+    record {
+      sound = c.in_ok-bound.ensures.sound;
+      long = c.in_ok-bound.ensures.long;
+      before = c.in_ok-bound.ensures.before none;
+      deep = below_more P c.loop-at.at (λ k h d. let here : k < length c.loop-at.links.items = omega arith in omega (arith, same k here d, c.loop-at.invariant.deep k h d)) (λ d. omega (arith, same c.loop-at.at there d, c.in_ok-bound.ensures.deep none d));
+      few = c.in_ok-bound.ensures.few none c.loop-at.invariant.few;
     }
 
 pub returns-clause-complete : goal.returns-clause-complete

@@ -1,11 +1,12 @@
 use Rattle.std.proofs.Common.{◌≡◌, ℕ, ◌+◌, ◌<◌, ◌≤◌, List, length, arith, ap, subst, sym, ◌∙◌, IsTrue, Vec, All, slice_index_or}
 use Rattle.std.proofs.lemmas.List.Elements.{All-push}
 use Rattle.std.specs.declared.alloc.Global.{Global}
+use Rattle.lwkt_search.specs.declared.searches.Link.{Link}
 use Rattle.lwkt_search.specs.declared.searches.Outcome.{Outcome}
-use Rattle.lwkt_search.specs.Runs.{all_told, told_of, IsLast}
+use Rattle.lwkt_search.specs.Runs.{all_told, told_of, IsLast, IsOrder}
 use Rattle.lwkt_search.specs.Graphs.{node_at, nodes_of, IsCollected}
 use Rattle.lwkt_search.proofs.CountLemmas.{no_more}
-use Rattle.lwkt_search.proofs.NodeLemmas.{nodes_long}
+use Rattle.lwkt_search.proofs.NodeLemmas.{nodes_long, node_depth}
 use Rattle.lwkt_search.proofs.RowLemmas.{is_full}
 use Rattle.lwkt_search.proofs.RunLemmas.{collect_more, collect_less, all_collected, told_push}
 use Rattle.lwkt_search.proofs.searches.Task.search.Goals as goal
@@ -59,7 +60,40 @@ loop-at-preserved g c =
           subst L (sym w.outcomes-is) before
     ]
     in
-    record { end = c.loop-at.invariant.end; collected = collected; places = places }
+    let turns : ℕ = c.args.self.now.turns in
+    let S : Outcome → Type 0 = λ o. length o.order.items ≤ turns in
+    let short : All S c.if-is_last.outcomes.items =
+    elim c.if-is_last.branch [
+      | then-is_last+in_ok-order+in_ok-push w ↦
+          let last : Outcome = record { place = at; order = w.in_ok-order.order } in
+          let pushed = ap (λ (v : Vec Outcome Global). v.items) w.outcomes-is ∙ w.in_ok-push.ensures.items in
+          let L : List Outcome → Type 0 = λ xs. All S xs in
+          let in_kept : at < length kept = omega arith in
+          let first : Link = record { parent = 0; cpu = 0; depth = 0 } in
+          let below : at < gone_on = omega (arith, c.loop-at.invariant.end) in
+          let deep : (slice_index_or links at first).depth ≤ turns = c.in_ok-growth.ensures.deep at below first in
+          let size : length w.in_ok-order.order.items ≡ (node_at start nodes at).depth = w.in_ok-order.ensures.long in
+          let same : (node_at start nodes at).depth ≡ (slice_index_or links at first).depth = node_depth start kept links at first long in_kept in
+          subst L (sym pushed) (All-push S c.loop-at.outcomes.items last c.loop-at.invariant.short (omega (arith, size, same, deep)))
+      | else-is_last w ↦
+          let L : Vec Outcome Global → Type 0 = λ v. All S v.items in
+          subst L (sym w.outcomes-is) c.loop-at.invariant.short
+    ]
+    in
+    let O : Outcome → Type 0 = λ o. IsOrder cpus o.order.items in
+    let orders : All O c.if-is_last.outcomes.items =
+    elim c.if-is_last.branch [
+      | then-is_last+in_ok-order+in_ok-push w ↦
+          let last : Outcome = record { place = at; order = w.in_ok-order.order } in
+          let pushed = ap (λ (v : Vec Outcome Global). v.items) w.outcomes-is ∙ w.in_ok-push.ensures.items in
+          let L : List Outcome → Type 0 = λ xs. All O xs in
+          subst L (sym pushed) (All-push O c.loop-at.outcomes.items last c.loop-at.invariant.orders w.in_ok-order.ensures.order)
+      | else-is_last w ↦
+          let L : Vec Outcome Global → Type 0 = λ v. All O v.items in
+          subst L (sym w.outcomes-is) c.loop-at.invariant.orders
+    ]
+    in
+    record { end = c.loop-at.invariant.end; collected = collected; short = short; orders = orders; places = places }
 
 pub returns-clause-complete : goal.returns-clause-complete
 returns-clause-complete g c = λ yes order below last.
@@ -126,3 +160,9 @@ returns-clause-places g c =
     let count : length (nodes_of kept links) ≡ length kept = nodes_long kept links long in
     let within : c.in_ok-growth.growth.gone_on ≤ length (nodes_of kept links) = c.in_ok-growth.ensures.grown.search.within in
     λ i d h. omega (arith, c.loop-at.invariant.places i d h, c.loop-at.invariant.end)
+
+pub returns-clause-short : goal.returns-clause-short
+returns-clause-short g c = c.loop-at.invariant.short
+
+pub returns-clause-orders : goal.returns-clause-orders
+returns-clause-orders g c = c.loop-at.invariant.orders

@@ -1,4 +1,4 @@
-use Rattle.std.proofs.Common.{◌<◌, ◌≤◌, length, arith, refl, IsTrue, rules}
+use Rattle.std.proofs.Common.{◌<◌, ◌≤◌, length, arith, ◌∙◌, refl, IsTrue, rules}
 use Rattle.lwkt_search.proofs.searches.Task.try_set.Goals as goal
 
 pub loop-cpu-preserved : goal.loop-cpu-preserved
@@ -14,5 +14,11 @@ loop-cpu-preserved g c =
       within = c.in_ok-try_one.ensures.within;
       there = omega arith;
       longer = omega arith;
+      keeps = λ k h d. let here : k < length c.loop-cpu.links.items = omega arith in c.in_ok-try_one.ensures.keeps k here d ∙ c.loop-cpu.invariant.keeps k h d;
       few = λ h. c.in_ok-try_one.ensures.few yes (c.loop-cpu.invariant.few h);
     }
+
+pub returns-then-not-branch-clause-keeps : goal.returns-then-not-branch-clause-keeps
+returns-then-not-branch-clause-keeps g c = λ k h d.
+    let here : k < length c.loop-cpu.links.items = omega (arith, c.loop-cpu.invariant.longer) in
+    c.in_ok-try_one.ensures.keeps k here d ∙ c.loop-cpu.invariant.keeps k h d
