@@ -10,7 +10,12 @@ use Rattle.lwkt_run.specs.declared.runs.End.{End}
 use Rattle.lwkt_run.specs.declared.runs.End.TheVariants.{Ended as EndedRun, TurnsOut}
 use Rattle.lwkt_run.specs.declared.runs.TurnsRun.{TurnsRun}
 use Rattle.lwkt_run.specs.Run.{DeclinesRun, IsOrderRun, end_of_closing}
+use Rattle.lwkt_plain.specs.declared.states.Plain.{Plain}
+use Rattle.lwkt_plain.specs.Endings.{HasEnded as HasEndedAll}
+use Rattle.lwkt_plain.specs.Openings.{opened}
+use Rattle.lwkt_plain.specs.Stores.{form_turn}
 use Rattle.lwkt_script.specs.declared.scripts.Script.{Script}
+use Rattle.lwkt_search.specs.Runs.{run, IsLast}
 use Rattle.lwkt_explore.specs.declared.outcomes.Kind.{Kind}
 use Rattle.lwkt_explore.specs.declared.outcomes.Kind.TheVariants.{Ended, Stuck, Cut}
 use Rattle.lwkt_explore.specs.declared.outcomes.Outcome.{Outcome}
@@ -67,3 +72,23 @@ pub record HasUnlawfulRun (script : Script) (index : ℕ) : Type 0 where
 abbrev pub RefusesSearch : Script → Fault → Type 0
 RefusesSearch script (Unlawful index) = HasUnlawfulRun script index
 RefusesSearch script fault = DeclinesRun script fault
+
+-- an outcome has the text of the report of the run along an order
+pub record IsReportAlong (script : Script) (order : List ℕ) (outcome : Outcome) : Type 0 where
+  pub run : TurnsRun
+  pub is_run : IsOrderRun script order run
+  pub shows : string_bytes outcome.text ≡ front_text run.closing
+
+-- the report of the run along an order is among these
+abbrev pub HasReport : Script → List ℕ → Outcomes → Type 0
+HasReport script order outcomes = Any (IsReportAlong script order) outcomes.all.items
+
+-- each last state that an order of turns of the plain machine leads to is told: by the report of the run along an order that leads there
+pub record IsToldAt (script : Script) (outcomes : Outcomes) (state : Plain) : Type 0 where
+  pub order : List ℕ
+  pub leads : run (form_turn script) (opened script) order ≡ state
+  pub told : HasReport script order outcomes
+
+abbrev pub TellsAll : Script → Outcomes → Type 0
+TellsAll script outcomes =
+    (order : List ℕ) → All (λ cpu. cpu < script.cpus) order → IsLast (form_turn script) (HasEndedAll script) script.cpus (run (form_turn script) (opened script) order) → IsToldAt script outcomes (run (form_turn script) (opened script) order)

@@ -28,6 +28,8 @@ fn add_one<W: Watch>(
     course: &mut Course,
     most: usize,
 ) -> Result<usize, Fault>
+    requires some { 0 < script.now.cpus }
+    requires few { script.now.cpus ≤ 8 }
     requires sound { IsSound (opened script.now) }
     requires most { most ≤ bounds.turns }
     requires outcomes { AreOutcomes script.now outcomes.old }
@@ -54,6 +56,8 @@ fn go_round<W: Watch>(
     bounds: Bounds,
     outcomes: &mut Outcomes,
 ) -> Result<(), Fault>
+    requires some { 0 < script.now.cpus }
+    requires few { script.now.cpus ≤ 8 }
     requires sound { IsSound (opened script.now) }
     requires outcomes { AreOutcomes script.now outcomes.old }
     requires short { AreShort bounds.turns outcomes.old }
@@ -76,6 +80,8 @@ fn go_about<W: Watch>(
     outcomes: &mut Outcomes,
     watch: &mut W,
 ) -> Result<bool, Fault>
+    requires some { 0 < script.now.cpus }
+    requires few { script.now.cpus ≤ 8 }
     requires sound { IsSound (opened script.now) }
     requires outcomes { AreOutcomes script.now outcomes.old }
     requires short { AreShort bounds.turns outcomes.old }
@@ -110,6 +116,8 @@ pub(crate) fn dive<W: Watch>(
     outcomes: &mut Outcomes,
     watch: &mut W,
 ) -> Result<bool, Fault>
+    requires some { 0 < script.now.cpus }
+    requires few { script.now.cpus ≤ 8 }
     requires sound { IsSound (opened script.now) }
     requires outcomes { AreOutcomes script.now outcomes.old }
     requires short { AreShort bounds.turns outcomes.old }

@@ -1,16 +1,14 @@
 //! Outcomes: reports of runs along orders, each once.
-ghost use Rattle.std.specs.Prelude.{◌≡◌, ◌≢◌, ℕ, ◌+◌, ◌<◌, ◌≤◌, [], ◌∷◌, ◌++◌, length, sum, string_bytes, Err, IfOk, IfErr, OnOk, OnErr, IfSome, OnSome};
+ghost use Rattle.std.specs.Prelude.{◌≡◌, ◌≢◌, ℕ, ◌+◌, ◌<◌, ◌≤◌, List, [], ◌∷◌, ◌++◌, length, sum, string_bytes, Err, IfOk, IfErr, OnOk, OnErr, IfSome, OnSome};
 ghost use Rattle.std.specs.List.{Any};
-ghost use Rattle.std.specs.Option.{option_to_list};
 ghost use Rattle.lwkt_run.specs.Run.{AreThere, IsOrderRun, end_of_closing};
 ghost use Rattle.lwkt_script.specs.declared.scripts.Script.{Script};
-ghost use Rattle.lwkt_explore.specs.Outcomes.{settled_text, IsKind, IsOutcome, AreOutcomes, AreShort, AreWhole, HasEnded, HasRoom, RefusesSearch};
+ghost use Rattle.lwkt_explore.specs.Outcomes.{settled_text, IsKind, IsOutcome, AreOutcomes, AreShort, AreWhole, HasEnded, HasReport, HasRoom, RefusesSearch};
 ghost use Rattle.lwkt_explore.specs.Verdicts.{IsOfVerdict};
 
 
 use crate::watches::Watch;
-use lwkt_base::limits::CPU_LIMIT;
-use lwkt_base::memory::{from_slice, push, reserve};
+use lwkt_base::memory::{push, reserve};
 use lwkt_base::{Fault, OutOfMemory};
 use lwkt_report::{Closing, Verdict, report_front};
 use lwkt_run::{End, TurnsRun, end_of_closing, order_run_of};
@@ -172,7 +170,7 @@ impl Outcomes {
 
     // Which outcome this is, if it was found before.
     fn place_of(&self, outcome: &Outcome) -> Option<usize>
-        ensures { OnSome result (Any (λ one. one.kind ≡ outcome.now.kind) self.now.all.items) }
+        ensures { OnSome result (Any (λ one. (one.kind ≡ outcome.now.kind) × (string_bytes one.text ≡ string_bytes outcome.now.text)) self.now.all.items) }
     {
         for (place, one) in self.all.iter().enumerate() {
             if one.kind == outcome.kind && one.text.as_str() == outcome.text.as_str() {
@@ -261,6 +259,8 @@ impl Outcomes {
         ensures whole { IfOk result (λ kind. kind ≢ Kind.Cut → AreWhole self.old → AreWhole self.new) }
         ensures err { OnErr result (self.new.all.items ≡ self.old.all.items) }
         ensures kind { IfOk result (λ kind. kind ≡ Kind.Ended → HasEnded self.new) }
+        ensures told { IfOk result (λ kind. HasReport script.now order.items self.new) }
+        ensures stays { (one : List ℕ) → HasReport script.now one self.old → HasReport script.now one self.new }
         ensures counts { sum self.new.counts.items ≤ sum self.old.counts.items + 1 }
         ensures refused { IfErr result (λ fault. RefusesSearch script.now fault) }
     {

@@ -85,6 +85,8 @@ fn add_one<W: Watch>(
     course: &mut Course,
     most: usize,
 ) -> Result<usize, Fault>
+    requires some { 0 < script.now.cpus }
+    requires few { script.now.cpus ≤ 8 }
     requires sound { IsSound (opened script.now) }
     requires outcomes { AreOutcomes script.now outcomes.old }
     requires short { AreShort most outcomes.old }
@@ -110,6 +112,8 @@ fn add_all<W: Watch>(
     turns: &mut u64,
     watch: &mut W,
 ) -> Result<(), Fault>
+    requires some { 0 < script.now.cpus }
+    requires few { script.now.cpus ≤ 8 }
     requires sound { IsSound (opened script.now) }
     requires outcomes { AreOutcomes script.now outcomes.old }
     requires short { AreShort most outcomes.old }

@@ -13,7 +13,6 @@ use crate::losses::Lost;
 use crate::mails::Mails;
 use crate::outcomes::{Kind, LastState, Outcomes};
 use crate::watches::Watch;
-use lwkt_base::limits::CPU_LIMIT;
 use lwkt_base::memory::from_slice;
 use lwkt_base::{Fault, OutOfMemory};
 use lwkt_machine::Machine;
@@ -95,7 +94,8 @@ impl<'w, W: Watch> lwkt_search::Watch for Looking<'w, W> {
 /// Refuses a script whose machine isn't opened.
 pub(crate) fn opens(alloc: Global, script: &Script) -> Result<(), Fault>
     ensures sound { OnOk result (IsSound (opened script.now)) }
-    ensures cpus { OnOk result ((0 < script.now.cpus) × (script.now.cpus ≤ CPU_LIMIT)) }
+    ensures some { OnOk result (0 < script.now.cpus) }
+    ensures few { OnOk result (script.now.cpus ≤ 8) }
     ensures refused { IfErr result (λ fault. RefusesSearch script.now fault) }
 {
     let _machine = Machine::open_script(alloc, script)?;
@@ -155,32 +155,49 @@ fn bound_of(met: Option<lwkt_search::Bound>, was_refused: bool) -> Option<Bound>
     }
 }
 
+// How the state of an outcome stands.
+fn last_state_of(script: &Script, store: &Store, place: usize) -> LastState
+    requires store { IsStore store.now }
+    requires there { place < length (kept store.now) }
+{
+    if store.has_ended(script, place) {
+        LastState::AllEnded
+    } else {
+        LastState::Quiet
+    }
+}
+
 // Makes the run along the order of each last state that was found, and keeps its outcome. Says whether each ended as the state says.
 fn tell<W: Watch>(
     alloc: Global,
     script: &Script,
-    found: &Growing,
+    store: &Store,
+    told: &[lwkt_search::Outcome],
     turns: usize,
     outcomes: &mut Outcomes,
 ) -> Result<bool, Fault>
+    requires store { IsStore store.now }
+    requires places { All (λ one. one.place < length (kept store.now)) told.now }
+    requires orders { All (λ one. AreThere script.now one.order.items) told.now }
+    requires few { All (λ one. length one.order.items ≤ turns) told.now }
     requires outcomes { AreOutcomes script.now outcomes.old }
     requires short { AreShort turns outcomes.old }
+    requires whole { AreWhole outcomes.old }
     ensures found { AreOutcomes script.now outcomes.new }
     ensures short { AreShort turns outcomes.new }
+    ensures whole { IfOk result (λ is_same. IsTrue is_same → AreWhole outcomes.new) }
+    ensures told { IfOk result (λ is_same. All (λ one. HasReport script.now one.order.items outcomes.new) told.now) }
     ensures refused { IfErr result (λ fault. RefusesSearch script.now fault) }
 {
-    let mut is_same = true;
-    for one in found.outcomes.as_slice() {
-        let last_state = if found.growth.store.has_ended(script, one.place) {
-            LastState::AllEnded
-        } else {
-            LastState::Quiet
-        };
+    for one in told {
+        let last_state = last_state_of(script, store, one.place);
         let order = from_slice(alloc, one.order.as_slice())?;
         let kind = outcomes.add::<W>(alloc, script, order, last_state)?;
-        is_same = is_same && kind != Kind::Cut;
+        if kind == Kind::Cut {
+            return Ok(false);
+        }
     }
-    Ok(is_same)
+    Ok(true)
 }
 
 // Whether the order to a state has as many turns as it may have, and a further one leads on.
@@ -248,7 +265,14 @@ fn ended<W: Watch>(
 ) -> Result<Found, Fault> {
     let mut outcomes = Outcomes::new(alloc);
     let mut met = bound_of(found.growth.met, was_refused);
-    match tell::<W>(alloc, script, found, task.turns, &mut outcomes) {
+    match tell::<W>(
+        alloc,
+        script,
+        &found.growth.store,
+        found.outcomes.as_slice(),
+        task.turns,
+        &mut outcomes,
+    ) {
         Ok(true) => {}
         Ok(false) => met = Some(Bound::Differs),
         Err(Fault::Memory(_)) => met = Some(Bound::Memory),
@@ -289,7 +313,9 @@ fn searched<W: Watch>(
     goes_on: bool,
     watch: &mut W,
 ) -> Result<Found, Fault>
-    requires { IsSound (opened script.now) }
+    requires some { 0 < script.now.cpus }
+    requires few { script.now.cpus ≤ 8 }
+    requires sound { IsSound (opened script.now) }
     ensures found { IfOk result (λ found. AreOutcomes script.now found.outcomes) }
     ensures short { IfOk result (λ found. AreShort bounds.turns found.outcomes) }
     ensures ended { IfOk result (λ found. is_complete found ≡ true → found.lost ≡ None → HasEnded found.outcomes) }

@@ -26,14 +26,30 @@ fn is_quiet(script: &Script, store: &mut Store, at: usize) -> Result<bool, Refus
     requires store { IsStore store.old }
     requires there { at < length (kept store.old) }
     ensures store { IfOk result (λ quiet. IsStore store.new) }
-    ensures there { IfOk result (λ quiet. length (kept store.old) ≤ length (kept store.new)) }
+    ensures longer { IfOk result (λ quiet. length (kept store.old) ≤ length (kept store.new)) }
 {
     for cpu in 0..script.cpus {
-        if store.turn(script, at, cpu)? != at {
+        let next = store.turn(script, at, cpu)?;
+        if next != at {
             return Ok(false);
         }
     }
     Ok(true)
+}
+
+// Whether no turn changes a state, which is looked at now and then where turns change nothing.
+fn rests(script: &Script, store: &mut Store, at: usize, idle: usize) -> Result<bool, Refusal>
+    requires some { 0 < script.now.cpus }
+    requires store { IsStore store.old }
+    requires there { at < length (kept store.old) }
+    ensures store { IfOk result (λ quiet. IsStore store.new) }
+    ensures longer { IfOk result (λ quiet. length (kept store.old) ≤ length (kept store.new)) }
+{
+    if idle == 0 || idle % (4 * usize::from(script.cpus)) != 0 {
+        return Ok(false);
+    }
+    let quiet = is_quiet(script, store, at)?;
+    Ok(quiet)
 }
 
 // How the state of a number stands, if the order that leads there isn't made longer.
@@ -65,7 +81,9 @@ fn strayed(
     course: &mut Course,
     most: usize,
 ) -> Result<(Vec<u8>, LastState), Refusal>
-    requires { IsSound (opened script.now) }
+    requires some { 0 < script.now.cpus }
+    requires few { script.now.cpus ≤ 8 }
+    requires sound { IsSound (opened script.now) }
     ensures order { IfOk result (λ made. IsOrder script.now.cpus most made.0.items) }
 {
     let cpus = usize::from(script.cpus);
@@ -77,11 +95,8 @@ fn strayed(
         if store.has_ended(script, at) && course.stops(turn, cpus) {
             return Ok((order, LastState::AllEnded));
         }
-        if idle >= 4 * cpus {
-            if is_quiet(script, &mut store, at)? {
-                return Ok((order, LastState::Quiet));
-            }
-            idle = 0;
+        if rests(script, &mut store, at, idle)? {
+            return Ok((order, LastState::Quiet));
         }
         let cpu = number_in_order(course.next(turn, cpus));
         let next = store.turn(script, at, cpu)?;
@@ -89,7 +104,8 @@ fn strayed(
         at = next;
         push(&mut order, cpu)?;
     }
-    Ok((order, last_state_of(script, &store, at)))
+    let last_state = last_state_of(script, &store, at);
+    Ok((order, last_state))
 }
 
 /// An order of at most so many turns that keeps to a course, up to where no turn changes anything, or all threads have ended that are no
@@ -100,7 +116,9 @@ pub(crate) fn stray(
     course: &mut Course,
     most: usize,
 ) -> Result<(Vec<u8>, LastState), OutOfMemory>
-    requires { IsSound (opened script.now) }
+    requires some { 0 < script.now.cpus }
+    requires few { script.now.cpus ≤ 8 }
+    requires sound { IsSound (opened script.now) }
     ensures order { IfOk result (λ made. IsOrder script.now.cpus most made.0.items) }
 {
     match strayed(alloc, script, course, most) {
