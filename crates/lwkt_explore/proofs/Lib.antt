@@ -3,7 +3,6 @@ pub mod FormLemmas
 pub mod KindLemmas
 pub mod LawLemmas
 pub mod RefusalLemmas
-pub mod SearchLemmas
 pub mod SettledLemmas
 pub mod StrayLemmas
 pub mod TextLemmas
