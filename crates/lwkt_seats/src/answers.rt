@@ -1,5 +1,6 @@
 //! What the calls on a seat answer. Each answer has a number: 0, or that of its fault.
-ghost use Rattle.std.specs.Prelude.{◌≡◌};
+ghost use Rattle.std.specs.Prelude.{◌≡◌, ◌^◌, ◌<◌};
+ghost use Rattle.lwkt_seats.specs.Counts.{count_asked, count_furthered, count_gave};
 ghost use Rattle.lwkt_seats.specs.Numbers.{asked_number, furthered_number, marked_number, gave_number, loaded_number, stored_number, added_number, judged_number, restored_number, record_read_number, record_written_number};
 
 use lwkt_base::Blob;
@@ -34,6 +35,18 @@ impl Asked {
             Asked::Worn => 20,
         }
     }
+
+    /// How many references a seat has after it, that had so many.
+    #[inline(always)]
+    pub fn counted(self, count: usize) -> usize
+        requires { count_asked self count < 2 ^ 64 }
+        ensures { result ≡ count_asked self count }
+    {
+        match self {
+            Asked::Taken | Asked::Further => count + 1,
+            _ => count,
+        }
+    }
 }
 
 /// What asking for a further reference answers.
@@ -55,6 +68,17 @@ impl Furthered {
             Furthered::NoToken => 16,
             Furthered::NotHeld => 13,
             Furthered::ListFull => 10,
+        }
+    }
+
+    /// How many references a seat has after it, that had so many.
+    pub fn counted(self, count: usize) -> usize
+        requires { count_furthered self count < 2 ^ 64 }
+        ensures { result ≡ count_furthered self count }
+    {
+        match self {
+            Furthered::Further => count + 1,
+            _ => count,
         }
     }
 }
@@ -97,6 +121,18 @@ impl GaveBack {
             GaveBack::NoToken => 16,
             GaveBack::NotHeld => 13,
             GaveBack::Broken => 19,
+        }
+    }
+
+    /// How many references a seat has after it, that had so many.
+    #[inline(always)]
+    pub fn counted(self, count: usize) -> usize
+        requires { self ≡ GaveBack.Given → 0 < count }
+        ensures { result ≡ count_gave self count }
+    {
+        match self {
+            GaveBack::Given => count - 1,
+            _ => count,
         }
     }
 }

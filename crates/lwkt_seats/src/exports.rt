@@ -5,10 +5,10 @@ ghost use Rattle.lwkt_seats.specs.Desks.{IsDeskAnswer};
 ghost use Rattle.lwkt_seats.specs.Calls.{TakesAt, GainsOne, SetsMark, GivesOneBack, LoadsCell, StoresValue, AddsTo, JudgesRow, RestoresFirst, PutsLoaded, PutsAdded};
 ghost use Rattle.lwkt_seats.specs.Numbers.{loaded_number, added_number};
 
-use crate::answers::{Added, Loaded};
-use crate::desks::put_back;
+use crate::answers::{
+    Added, Asked, Furthered, GaveBack, Judged, Loaded, Marked, RowRestored, Stored,
+};
 use crate::handles::LwktBank;
-use crate::{asks, cells};
 use lwkt_base::Mode;
 
 // Puts the value of a cell in its place, and answers.
@@ -43,13 +43,16 @@ fn put_added(added: Added, value: &mut u64) -> u32
 pub extern "C" fn lwkt_take(bank: LwktBank, seat: u32, token: u32) -> u32
     ensures { IsDeskAnswer bank.desk seat (TakesAt Exclusive token) result }
 {
-    let (place, mut sitter) = match bank.seat(seat) {
+    let (desk, mut hand) = match bank.seat(seat) {
         Ok(found) => found,
         Err(answer) => return answer,
     };
-    let held = &mut *sitter;
-    let answer = asks::ask(&mut held.seat, &held.bank, token, Mode::Exclusive);
-    put_back(place, sitter);
+    let answer = match hand.slot_mut(&desk.places.shared, seat as usize) {
+        Some(sitter) => sitter.ask(token, Mode::Exclusive),
+        // It doesn't come: the seat is there.
+        None => Asked::NoToken,
+    };
+    desk.put_back(seat, hand);
     answer.number()
 }
 
@@ -60,13 +63,16 @@ pub extern "C" fn lwkt_take(bank: LwktBank, seat: u32, token: u32) -> u32
 pub extern "C" fn lwkt_share(bank: LwktBank, seat: u32, token: u32) -> u32
     ensures { IsDeskAnswer bank.desk seat (TakesAt Shared token) result }
 {
-    let (place, mut sitter) = match bank.seat(seat) {
+    let (desk, mut hand) = match bank.seat(seat) {
         Ok(found) => found,
         Err(answer) => return answer,
     };
-    let held = &mut *sitter;
-    let answer = asks::ask(&mut held.seat, &held.bank, token, Mode::Shared);
-    put_back(place, sitter);
+    let answer = match hand.slot_mut(&desk.places.shared, seat as usize) {
+        Some(sitter) => sitter.ask(token, Mode::Shared),
+        // It doesn't come: the seat is there.
+        None => Asked::NoToken,
+    };
+    desk.put_back(seat, hand);
     answer.number()
 }
 
@@ -77,13 +83,16 @@ pub extern "C" fn lwkt_share(bank: LwktBank, seat: u32, token: u32) -> u32
 pub extern "C" fn lwkt_again(bank: LwktBank, seat: u32, token: u32) -> u32
     ensures { IsDeskAnswer bank.desk seat (GainsOne token) result }
 {
-    let (place, mut sitter) = match bank.seat(seat) {
+    let (desk, mut hand) = match bank.seat(seat) {
         Ok(found) => found,
         Err(answer) => return answer,
     };
-    let held = &mut *sitter;
-    let answer = asks::further(&mut held.seat, &held.bank, token);
-    put_back(place, sitter);
+    let answer = match hand.slot_mut(&desk.places.shared, seat as usize) {
+        Some(sitter) => sitter.further(token),
+        // It doesn't come: the seat is there.
+        None => Furthered::NoToken,
+    };
+    desk.put_back(seat, hand);
     answer.number()
 }
 
@@ -94,13 +103,16 @@ pub extern "C" fn lwkt_again(bank: LwktBank, seat: u32, token: u32) -> u32
 pub extern "C" fn lwkt_mark(bank: LwktBank, seat: u32, token: u32) -> u32
     ensures { IsDeskAnswer bank.desk seat (SetsMark token) result }
 {
-    let (place, mut sitter) = match bank.seat(seat) {
+    let (desk, mut hand) = match bank.seat(seat) {
         Ok(found) => found,
         Err(answer) => return answer,
     };
-    let held = &mut *sitter;
-    let answer = asks::mark(&mut held.seat, &held.bank, token);
-    put_back(place, sitter);
+    let answer = match hand.slot_mut(&desk.places.shared, seat as usize) {
+        Some(sitter) => sitter.mark(token),
+        // It doesn't come: the seat is there.
+        None => Marked::NoToken,
+    };
+    desk.put_back(seat, hand);
     answer.number()
 }
 
@@ -112,13 +124,16 @@ pub extern "C" fn lwkt_mark(bank: LwktBank, seat: u32, token: u32) -> u32
 pub extern "C" fn lwkt_give(bank: LwktBank, seat: u32, token: u32) -> u32
     ensures { IsDeskAnswer bank.desk seat (GivesOneBack token) result }
 {
-    let (place, mut sitter) = match bank.seat(seat) {
+    let (desk, mut hand) = match bank.seat(seat) {
         Ok(found) => found,
         Err(answer) => return answer,
     };
-    let held = &mut *sitter;
-    let answer = asks::give(&mut held.seat, &held.bank, token);
-    put_back(place, sitter);
+    let answer = match hand.slot_mut(&desk.places.shared, seat as usize) {
+        Some(sitter) => sitter.give(token),
+        // It doesn't come: the seat is there.
+        None => GaveBack::NoToken,
+    };
+    desk.put_back(seat, hand);
     answer.number()
 }
 
@@ -130,13 +145,16 @@ pub extern "C" fn lwkt_give(bank: LwktBank, seat: u32, token: u32) -> u32
 pub extern "C" fn lwkt_store(bank: LwktBank, seat: u32, token: u32, cell: u32, value: u64) -> u32
     ensures { IsDeskAnswer bank.desk seat (StoresValue token cell value) result }
 {
-    let (place, mut sitter) = match bank.seat(seat) {
+    let (desk, mut hand) = match bank.seat(seat) {
         Ok(found) => found,
         Err(answer) => return answer,
     };
-    let held = &mut *sitter;
-    let answer = cells::store(&mut held.seat, &held.bank, token, cell, value);
-    put_back(place, sitter);
+    let answer = match hand.slot_mut(&desk.places.shared, seat as usize) {
+        Some(sitter) => sitter.store(token, cell, value),
+        // It doesn't come: the seat is there.
+        None => Stored::NoToken,
+    };
+    desk.put_back(seat, hand);
     answer.number()
 }
 
@@ -148,13 +166,16 @@ pub extern "C" fn lwkt_store(bank: LwktBank, seat: u32, token: u32, cell: u32, v
 pub extern "C" fn lwkt_lawful(bank: LwktBank, seat: u32, token: u32) -> u32
     ensures { IsDeskAnswer bank.desk seat (JudgesRow token) result }
 {
-    let (place, mut sitter) = match bank.seat(seat) {
+    let (desk, mut hand) = match bank.seat(seat) {
         Ok(found) => found,
         Err(answer) => return answer,
     };
-    let held = &mut *sitter;
-    let answer = cells::judge(&mut held.seat, &held.bank, token);
-    put_back(place, sitter);
+    let answer = match hand.slot_mut(&desk.places.shared, seat as usize) {
+        Some(sitter) => sitter.judge(token),
+        // It doesn't come: the seat is there.
+        None => Judged::NoToken,
+    };
+    desk.put_back(seat, hand);
     answer.number()
 }
 
@@ -166,13 +187,16 @@ pub extern "C" fn lwkt_lawful(bank: LwktBank, seat: u32, token: u32) -> u32
 pub extern "C" fn lwkt_restore(bank: LwktBank, seat: u32, token: u32) -> u32
     ensures { IsDeskAnswer bank.desk seat (RestoresFirst token) result }
 {
-    let (place, mut sitter) = match bank.seat(seat) {
+    let (desk, mut hand) = match bank.seat(seat) {
         Ok(found) => found,
         Err(answer) => return answer,
     };
-    let held = &mut *sitter;
-    let answer = cells::restore(&mut held.seat, &held.bank, token);
-    put_back(place, sitter);
+    let answer = match hand.slot_mut(&desk.places.shared, seat as usize) {
+        Some(sitter) => sitter.restore(token),
+        // It doesn't come: the seat is there.
+        None => RowRestored::NoToken,
+    };
+    desk.put_back(seat, hand);
     answer.number()
 }
 
@@ -190,13 +214,16 @@ pub extern "C" fn lwkt_load(
     ensures does { IsDeskAnswer bank.desk seat (LoadsCell token cell value.old value.new) result }
     ensures kept { result ≢ 0 → value.new ≡ value.old }
 {
-    let (place, mut sitter) = match bank.seat(seat) {
+    let (desk, mut hand) = match bank.seat(seat) {
         Ok(found) => found,
         Err(answer) => return answer,
     };
-    let held = &mut *sitter;
-    let answer = cells::load(&mut held.seat, &held.bank, token, cell);
-    put_back(place, sitter);
+    let answer = match hand.slot_mut(&desk.places.shared, seat as usize) {
+        Some(sitter) => sitter.load(token, cell),
+        // It doesn't come: the seat is there.
+        None => Loaded::NoToken,
+    };
+    desk.put_back(seat, hand);
     put_loaded(answer, value)
 }
 
@@ -215,12 +242,15 @@ pub extern "C" fn lwkt_add(
     ensures does { IsDeskAnswer bank.desk seat (AddsTo token amount value.old value.new) result }
     ensures kept { result ≢ 0 → value.new ≡ value.old }
 {
-    let (place, mut sitter) = match bank.seat(seat) {
+    let (desk, mut hand) = match bank.seat(seat) {
         Ok(found) => found,
         Err(answer) => return answer,
     };
-    let held = &mut *sitter;
-    let answer = cells::add(&mut held.seat, &held.bank, token, amount);
-    put_back(place, sitter);
+    let answer = match hand.slot_mut(&desk.places.shared, seat as usize) {
+        Some(sitter) => sitter.add(token, amount),
+        // It doesn't come: the seat is there.
+        None => Added::NoToken,
+    };
+    desk.put_back(seat, hand);
     put_added(answer, value)
 }
