@@ -192,6 +192,11 @@ uint32_t lwkt_word_give_written(uint64_t word, uint64_t *next);
 //     status = lwkt_bank_close(bank, &closing, 1);
 //     lwkt_bank_free(&bank);
 //
+// Order. What a thread wrote, in memory of its own program too, before it gave a reference to a token back, a thread sees that takes the
+// token later, as behind a mutex: the words of tokens are sequentially consistent, and a call orders what stands before and behind it for
+// the compiler. So a token may guard any data of the program's own: its exclusive holder is alone with them, and shared holders may read
+// them. Nothing is ordered by a call that is refused.
+//
 // Status. 0 where the call did what it says; else a number, as docs/tables/faults.md has the faults, but for 50 to 56:
 //
 //     10 the seat has 32 references              19 row or record break the law of the token
@@ -390,6 +395,15 @@ uint32_t lwkt_block(lwkt_bank bank, uint32_t seat, uint32_t *restored);
 
 #ifdef __cplusplus
 }
+#endif
+
+// Under ThreadSanitizer the calls that take and give tell it what they order.
+#if defined(__SANITIZE_THREAD__)
+#include "lwkt_sanitized.h"
+#elif defined(__has_feature)
+#if __has_feature(thread_sanitizer)
+#include "lwkt_sanitized.h"
+#endif
 #endif
 
 #endif
