@@ -41,15 +41,13 @@ use Rattle.lwkt_seats.specs.declared.list_answers.Missed.{Missed}
 use Rattle.lwkt_seats.specs.declared.list_answers.Missed.TheVariants as missed
 use Rattle.lwkt_seats.specs.declared.list_answers.Resumed.{Resumed}
 use Rattle.lwkt_seats.specs.declared.list_answers.Resumed.TheVariants as resumed
-use Rattle.lwkt_seats.specs.declared.spots.Spot.{Spot}
-use Rattle.lwkt_seats.specs.declared.spots.Sitter.{Sitter}
 use Rattle.lwkt_seats.specs.Asks.{AsksFor, MarksToken, GivesToken, GivesReference}
 use Rattle.lwkt_seats.specs.Cells.{Loads, StoresInCell, AddsToCell, JudgesToken, RestoresRow, Restores}
 use Rattle.lwkt_seats.specs.Records.{ReadsBytes, WritesBytes}
 use Rattle.lwkt_seats.specs.Lists.{DoneInTurn, TakesOne, MissesOne, GivesUnwritten, ResumesSeat, EndsRestored, EndsOne, EndsPair, BlocksSeat, refs_of}
 use Rattle.lwkt_seats.specs.Calls.{PutsRecord}
 use Rattle.lwkt_seats.specs.Numbers.{record_read_number}
-use Rattle.lwkt_seats.specs.Seated.{IsBrief, AreBrief, IsSeated, KeepsBankAndCpu}
+use Rattle.lwkt_seats.specs.Brief.{IsBrief, AreBrief}
 
 -- what a call leaves short, if it was
 abbrev pub Keeps : CpuSeat → CpuSeat → Type 0
@@ -232,9 +230,3 @@ read_short tok s s' read.NoToken before now before_length now_length number brie
 read_short tok s s' read.NoRecord before now before_length now_length number brief does puts_it is none = absurd (omega (arith, is, none))
 read_short tok s s' read.NotHeld before now before_length now_length number brief does puts_it is none = absurd (omega (arith, is, none))
 read_short tok s s' read.SharedRecord before now before_length now_length number brief does puts_it is none = absurd (omega (arith, is, none))
-
--- a seat that is taken from its place, and stays the same with short records, may be put back there
-pub seated-at : (spot : Spot) (sitter held : Sitter) (new : CpuSeat) → held ≡ sitter → IsSeated spot sitter → KeepsBankAndCpu held.seat new → Keeps held.seat new → IsSeated spot (record { seat = new; bank = held.bank })
-seated-at spot sitter held new is seated kept keeps =
-    let there = subst (IsSeated spot) (sym is) seated in
-    record { bank = there.bank; of = kept.0 ∙ there.of; cpu = kept.1 ∙ there.cpu; brief = keeps there.brief }

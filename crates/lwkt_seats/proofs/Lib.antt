@@ -1,7 +1,7 @@
 mod DeskBox
 mod HeldSteps
 mod Answering
-mod Placing
+pub mod PlaceMoves
 mod ListMoves
 mod BlockMoves
 mod BriefMoves

@@ -5,7 +5,6 @@ use Rattle.atomic_table.specs.declared.shared.Seat.{Seat}
 use Rattle.lwkt_bank.specs.declared.banks.Bank.{Bank}
 use Rattle.lwkt_bank.specs.declared.seats.CpuSeat.{CpuSeat}
 use Rattle.lwkt_bank.specs.Seats.{id_of, bank_of}
-use Rattle.lwkt_seats.specs.declared.sitters.Sitter.{Sitter}
 use Rattle.lwkt_seats.specs.declared.desks.Desk.{Desk}
 use Rattle.lwkt_seats.specs.Places.{Share, Slot, HasTaken}
 
@@ -30,15 +29,12 @@ IsAbsent desk number answer =
     ((answer ≡ 30) × (seats_of desk ≤ number))
     ⊎ (((answer ≡ 50) ⊎ ((answer ≡ 52) ⊎ (answer ≡ 54))) × (number < seats_of desk))
 
--- what a call does to the seat of a number, and says of it, between when the call came and when it is over
-abbrev pub IsDone : Desk → ℕ → (Sitter → Sitter → ℕ → Type 0) → ℕ → Type 0
-IsDone desk number Does answer = (old : Sitter) × ((new : Sitter) × (IsSeatAt desk number old.seat × IsSeatAt desk number new.seat × Does old new answer))
-
 -- a bank of zeros, 52; else the seat wasn't there; or it was so when the call came, and is so when it is over, and the answer says
 -- what came of it
 abbrev pub IsDeskAnswer : Option Desk → ℕ → (CpuSeat → CpuSeat → ℕ → Type 0) → ℕ → Type 0
 IsDeskAnswer bank number Does answer = MatchOption bank (answer ≡ 52) (λ desk.
-    IsAbsent desk number answer ⊎ IsDone desk number (λ old new said. (new.lent ≡ old.lent) × Does old.seat new.seat said) answer)
+    IsAbsent desk number answer
+    ⊎ ((old : CpuSeat) × ((new : CpuSeat) × (IsSeatAt desk number old × IsSeatAt desk number new × Does old new answer))))
 
 -- a seat that is given up: there is none, 30; else 0, or why not
 abbrev pub IsAbandonAnswer : Desk → ℕ → ℕ → Type 0

@@ -8,8 +8,7 @@ use Rattle.lwkt_seats.specs.Brief.{KeepsBankAndCpu}
 abbrev pub IsSeated : Bank → ℕ → Sitter → Type 0
 IsSeated bank number s = (arc_value s.bank ≡ bank) × (s.seat.cpu.0 ≡ number)
 
--- a call leaves it so, and lent as it was
+-- a call leaves it so
 pub record StaysSeated (old new : Sitter) : Type 0 where
   pub bank : arc_value new.bank ≡ arc_value old.bank
   pub seat : KeepsBankAndCpu old.seat new.seat
-  pub lent : new.lent ≡ old.lent

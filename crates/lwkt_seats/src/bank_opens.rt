@@ -102,12 +102,7 @@ fn slot_for(
         return Ok(None);
     };
     let count = count(&seat, &bank);
-    let sitter = Sitter {
-        seat,
-        bank,
-        count,
-        lent: false,
-    };
+    let sitter = Sitter { seat, bank, count };
     Ok(Some(boxed(alloc, sitter)?))
 }
 

@@ -1,13 +1,13 @@
 //! The close of a bank: its seats are taken from their places, and the bank is closed with them. All memory for it was taken at the
 //! opening.
-ghost use Rattle.std.specs.Prelude.{◌≡◌, ◌≢◌, ◌⊎◌, ◌↔◌, ◌<◌, ◌≤◌, [], ◌∷◌, ◌++◌, length, map, All, IfOk, IfErr, IfSome, IsSomeAnd, OnOk, MatchOption, Ok, Err, vec_capacity};
+ghost use Rattle.std.specs.Prelude.{◌≡◌, ◌≢◌, ◌⊎◌, ◌↔◌, ◌<◌, ◌≤◌, [], ◌∷◌, ◌++◌, length, map, All, IfOk, IfErr, IfSome, OnOk, MatchOption, Ok, Err, vec_capacity};
 ghost use Rattle.std.specs.Arc.{arc_value};
 ghost use Rattle.lwkt_bank.specs.declared.closed.Closed.{Closed};
 ghost use Rattle.lwkt_bank.specs.Seats.{id_of, cpus_of, tokens_of};
 ghost use Rattle.lwkt_bank.specs.Closing.{IsReady, IsRoomFor};
 ghost use Rattle.lwkt_bank.specs.Gathered.{IsClosed};
 
-use crate::desks::{Desk, IN_USE, SHUT, close_drawer, open_drawer, shut_drawer, word_of_place};
+use crate::desks::{Desk, SHUT, close_drawer, open_drawer, shut_drawer, word_of_place};
 use crate::endings::Ending;
 use crate::places::{Hand, Leave, Look};
 use crate::resumes::is_idle;
@@ -52,7 +52,6 @@ fn seat_of(taken: Taken) -> CpuSeat
         seat,
         bank,
         count: _,
-        lent: _,
     } = Box::into_inner(sitter);
     drop(bank);
     seat
@@ -108,18 +107,18 @@ impl Desk {
     ghost use Rattle.lwkt_seats.specs.Closes.{HasOut, IsFreeAt, AreFree, IsEndingWith, SomeHolds, ClosesDesk, IsWide};
 
     // Takes a seat out of its slot.
-    fn lift(&self, number: u32, mut hand: Hand) -> Option<Taken>
+    fn lift(&self, number: u32, mut hand: Hand) -> Taken
         requires { HasSeat self.now number hand }
-        ensures { IsSomeAnd result (λ taken. HasOut self.now number taken) }
+        ensures { HasOut self.now number result }
     {
         let Some(sitter) = self
             .places
             .shared
             .exchange(&mut hand, number as usize, None)
         else {
-            return None;
+            unreachable!()
         };
-        Some(Taken { sitter, hand })
+        Taken { sitter, hand }
     }
 
     // Puts a seat that is out of its slot back in its place.
@@ -145,9 +144,7 @@ impl Desk {
             Ok(hand) => hand,
             Err(answer) => return Err(close_number(answer)),
         };
-        let Some(taken) = self.lift(number, hand) else {
-            return Err(IN_USE);
-        };
+        let taken = self.lift(number, hand);
         if is_idle(&taken.sitter.seat, taken.sitter.count) {
             return Ok(taken);
         }

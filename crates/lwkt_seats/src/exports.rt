@@ -5,9 +5,7 @@ ghost use Rattle.lwkt_seats.specs.Desks.{IsDeskAnswer};
 ghost use Rattle.lwkt_seats.specs.Calls.{TakesAt, GainsOne, SetsMark, GivesOneBack, LoadsCell, StoresValue, AddsTo, JudgesRow, RestoresFirst, PutsLoaded, PutsAdded};
 ghost use Rattle.lwkt_seats.specs.Numbers.{loaded_number, added_number};
 
-use crate::answers::{
-    Added, Asked, Furthered, GaveBack, Judged, Loaded, Marked, RowRestored, Stored,
-};
+use crate::answers::{Added, Loaded};
 use crate::handles::LwktBank;
 use lwkt_base::Mode;
 
@@ -47,11 +45,10 @@ pub extern "C" fn lwkt_take(bank: LwktBank, seat: u32, token: u32) -> u32
         Ok(found) => found,
         Err(answer) => return answer,
     };
-    let answer = match hand.slot_mut(&desk.places.shared, seat as usize) {
-        Some(sitter) => sitter.ask(token, Mode::Exclusive),
-        // It doesn't come: the seat is there.
-        None => Asked::NoToken,
+    let Some(sitter) = hand.slot_mut(&desk.places.shared, seat as usize) else {
+        unreachable!()
     };
+    let answer = sitter.ask(token, Mode::Exclusive);
     desk.put_back(seat, hand);
     answer.number()
 }
@@ -67,11 +64,10 @@ pub extern "C" fn lwkt_share(bank: LwktBank, seat: u32, token: u32) -> u32
         Ok(found) => found,
         Err(answer) => return answer,
     };
-    let answer = match hand.slot_mut(&desk.places.shared, seat as usize) {
-        Some(sitter) => sitter.ask(token, Mode::Shared),
-        // It doesn't come: the seat is there.
-        None => Asked::NoToken,
+    let Some(sitter) = hand.slot_mut(&desk.places.shared, seat as usize) else {
+        unreachable!()
     };
+    let answer = sitter.ask(token, Mode::Shared);
     desk.put_back(seat, hand);
     answer.number()
 }
@@ -87,11 +83,10 @@ pub extern "C" fn lwkt_again(bank: LwktBank, seat: u32, token: u32) -> u32
         Ok(found) => found,
         Err(answer) => return answer,
     };
-    let answer = match hand.slot_mut(&desk.places.shared, seat as usize) {
-        Some(sitter) => sitter.further(token),
-        // It doesn't come: the seat is there.
-        None => Furthered::NoToken,
+    let Some(sitter) = hand.slot_mut(&desk.places.shared, seat as usize) else {
+        unreachable!()
     };
+    let answer = sitter.further(token);
     desk.put_back(seat, hand);
     answer.number()
 }
@@ -107,11 +102,10 @@ pub extern "C" fn lwkt_mark(bank: LwktBank, seat: u32, token: u32) -> u32
         Ok(found) => found,
         Err(answer) => return answer,
     };
-    let answer = match hand.slot_mut(&desk.places.shared, seat as usize) {
-        Some(sitter) => sitter.mark(token),
-        // It doesn't come: the seat is there.
-        None => Marked::NoToken,
+    let Some(sitter) = hand.slot_mut(&desk.places.shared, seat as usize) else {
+        unreachable!()
     };
+    let answer = sitter.mark(token);
     desk.put_back(seat, hand);
     answer.number()
 }
@@ -128,11 +122,10 @@ pub extern "C" fn lwkt_give(bank: LwktBank, seat: u32, token: u32) -> u32
         Ok(found) => found,
         Err(answer) => return answer,
     };
-    let answer = match hand.slot_mut(&desk.places.shared, seat as usize) {
-        Some(sitter) => sitter.give(token),
-        // It doesn't come: the seat is there.
-        None => GaveBack::NoToken,
+    let Some(sitter) = hand.slot_mut(&desk.places.shared, seat as usize) else {
+        unreachable!()
     };
+    let answer = sitter.give(token);
     desk.put_back(seat, hand);
     answer.number()
 }
@@ -149,11 +142,10 @@ pub extern "C" fn lwkt_store(bank: LwktBank, seat: u32, token: u32, cell: u32, v
         Ok(found) => found,
         Err(answer) => return answer,
     };
-    let answer = match hand.slot_mut(&desk.places.shared, seat as usize) {
-        Some(sitter) => sitter.store(token, cell, value),
-        // It doesn't come: the seat is there.
-        None => Stored::NoToken,
+    let Some(sitter) = hand.slot_mut(&desk.places.shared, seat as usize) else {
+        unreachable!()
     };
+    let answer = sitter.store(token, cell, value);
     desk.put_back(seat, hand);
     answer.number()
 }
@@ -170,11 +162,10 @@ pub extern "C" fn lwkt_lawful(bank: LwktBank, seat: u32, token: u32) -> u32
         Ok(found) => found,
         Err(answer) => return answer,
     };
-    let answer = match hand.slot_mut(&desk.places.shared, seat as usize) {
-        Some(sitter) => sitter.judge(token),
-        // It doesn't come: the seat is there.
-        None => Judged::NoToken,
+    let Some(sitter) = hand.slot_mut(&desk.places.shared, seat as usize) else {
+        unreachable!()
     };
+    let answer = sitter.judge(token);
     desk.put_back(seat, hand);
     answer.number()
 }
@@ -191,11 +182,10 @@ pub extern "C" fn lwkt_restore(bank: LwktBank, seat: u32, token: u32) -> u32
         Ok(found) => found,
         Err(answer) => return answer,
     };
-    let answer = match hand.slot_mut(&desk.places.shared, seat as usize) {
-        Some(sitter) => sitter.restore(token),
-        // It doesn't come: the seat is there.
-        None => RowRestored::NoToken,
+    let Some(sitter) = hand.slot_mut(&desk.places.shared, seat as usize) else {
+        unreachable!()
     };
+    let answer = sitter.restore(token);
     desk.put_back(seat, hand);
     answer.number()
 }
@@ -218,11 +208,10 @@ pub extern "C" fn lwkt_load(
         Ok(found) => found,
         Err(answer) => return answer,
     };
-    let answer = match hand.slot_mut(&desk.places.shared, seat as usize) {
-        Some(sitter) => sitter.load(token, cell),
-        // It doesn't come: the seat is there.
-        None => Loaded::NoToken,
+    let Some(sitter) = hand.slot_mut(&desk.places.shared, seat as usize) else {
+        unreachable!()
     };
+    let answer = sitter.load(token, cell);
     desk.put_back(seat, hand);
     put_loaded(answer, value)
 }
@@ -246,11 +235,10 @@ pub extern "C" fn lwkt_add(
         Ok(found) => found,
         Err(answer) => return answer,
     };
-    let answer = match hand.slot_mut(&desk.places.shared, seat as usize) {
-        Some(sitter) => sitter.add(token, amount),
-        // It doesn't come: the seat is there.
-        None => Added::NoToken,
+    let Some(sitter) = hand.slot_mut(&desk.places.shared, seat as usize) else {
+        unreachable!()
     };
+    let answer = sitter.add(token, amount);
     desk.put_back(seat, hand);
     put_added(answer, value)
 }

@@ -57,11 +57,10 @@ pub extern "C" fn lwkt_resume(
         Ok(found) => found,
         Err(answer) => return answer,
     };
-    let came = match hand.slot_mut(&desk.places.shared, seat as usize) {
-        Some(sitter) => sitter.resume(list),
-        // It doesn't come: the seat is there.
-        None => Resumed::All,
+    let Some(sitter) = hand.slot_mut(&desk.places.shared, seat as usize) else {
+        unreachable!()
     };
+    let came = sitter.resume(list);
     desk.put_back(seat, hand);
     put_place(came, missed)
 }
@@ -80,11 +79,10 @@ pub extern "C" fn lwkt_block(bank: LwktBank, seat: u32, restored: &mut u32) -> u
         Ok(found) => found,
         Err(answer) => return answer,
     };
-    let first = match hand.slot_mut(&desk.places.shared, seat as usize) {
-        Some(sitter) => sitter.block(),
-        // It doesn't come: the seat is there.
-        None => None,
+    let Some(sitter) = hand.slot_mut(&desk.places.shared, seat as usize) else {
+        unreachable!()
     };
+    let first = sitter.block();
     desk.put_back(seat, hand);
     put_first(first, restored)
 }

@@ -52,11 +52,10 @@ pub extern "C" fn lwkt_read_record(
         Ok(found) => found,
         Err(answer) => return answer,
     };
-    let answer = match hand.slot_mut(&desk.places.shared, seat as usize) {
-        Some(sitter) => sitter.read(token),
-        // It doesn't come: the seat is there.
-        None => RecordRead::NoToken,
+    let Some(sitter) = hand.slot_mut(&desk.places.shared, seat as usize) else {
+        unreachable!()
     };
+    let answer = sitter.read(token);
     desk.put_back(seat, hand);
     put_record(answer, buffer, length)
 }
@@ -74,11 +73,10 @@ pub extern "C" fn lwkt_write_record(bank: LwktBank, seat: u32, token: u32, bytes
         Ok(found) => found,
         Err(answer) => return answer,
     };
-    let answer = match hand.slot_mut(&desk.places.shared, seat as usize) {
-        Some(sitter) => sitter.write(token, bytes),
-        // It doesn't come: the seat is there.
-        None => RecordWritten::NoToken,
+    let Some(sitter) = hand.slot_mut(&desk.places.shared, seat as usize) else {
+        unreachable!()
     };
+    let answer = sitter.write(token, bytes);
     desk.put_back(seat, hand);
     answer.number()
 }

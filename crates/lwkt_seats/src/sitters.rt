@@ -1,6 +1,7 @@
 //! A seat with its bank, as it rests between calls, and what the calls do to it.
 ghost use Rattle.std.specs.Prelude.{◌≡◌};
 ghost use Rattle.std.specs.Arc.{arc_value};
+ghost use Rattle.std.proofs.Props.{props};
 ghost use Rattle.lwkt_bank.specs.Seats.{id_of, bank_of, references};
 ghost use Rattle.lwkt_seats.specs.Brief.{AreBrief};
 
@@ -24,11 +25,9 @@ pub struct Sitter {
     pub bank: Arc<Bank>,
     /// How many references the seat has.
     pub count: usize,
-    /// Whether the seat is lent.
-    pub lent: bool,
     ghost of: { bank_of seat ≡ id_of (arc_value bank) },
     ghost counted: { count ≡ references seat },
-    ghost brief: { AreBrief seat },
+    ghost brief: { AreBrief seat } by { Prim.hlevel props },
 }
 
 impl Sitter {
