@@ -18,6 +18,8 @@ use Rattle.lwkt_bank.specs.Views.{generation_in, looked}
 use Rattle.lwkt_bank.specs.Seats.{plan_of, bank_of, entry, Changes, Looked, Took, Lost, Stepped, Gave, Knowing, IsUnchanged}
 use Rattle.lwkt_seats.specs.declared.answers.Asked.{Asked}
 use Rattle.lwkt_seats.specs.declared.answers.Asked.TheVariants as asked
+use Rattle.lwkt_seats.specs.declared.answers.Furthered.{Furthered}
+use Rattle.lwkt_seats.specs.declared.answers.Furthered.TheVariants as furthered
 use Rattle.lwkt_seats.specs.declared.answers.Marked.{Marked}
 use Rattle.lwkt_seats.specs.declared.answers.Marked.TheVariants as marked
 use Rattle.lwkt_seats.specs.declared.answers.GaveBack.{GaveBack}
@@ -41,7 +43,7 @@ use Rattle.lwkt_seats.specs.declared.list_answers.Missed.{Missed}
 use Rattle.lwkt_seats.specs.declared.list_answers.Missed.TheVariants as missed
 use Rattle.lwkt_seats.specs.declared.list_answers.Resumed.{Resumed}
 use Rattle.lwkt_seats.specs.declared.list_answers.Resumed.TheVariants as resumed
-use Rattle.lwkt_seats.specs.Asks.{AsksFor, MarksToken, GivesToken, GivesReference}
+use Rattle.lwkt_seats.specs.Asks.{AsksFor, Furthers, MarksToken, GivesToken, GivesReference}
 use Rattle.lwkt_seats.specs.Cells.{Loads, StoresInCell, AddsToCell, JudgesToken, RestoresRow, Restores}
 use Rattle.lwkt_seats.specs.Records.{ReadsBytes, WritesBytes}
 use Rattle.lwkt_seats.specs.Lists.{DoneInTurn, TakesOne, MissesOne, GivesUnwritten, ResumesSeat, EndsRestored, EndsOne, EndsPair, BlocksSeat, refs_of}
@@ -101,6 +103,12 @@ asks mode tok s s' asked.Upgrade does = same s s' does.3
 asks mode tok s s' asked.Busy does = looks s s' tok does.1.0 does.1.1.1
 asks mode tok s s' asked.Again does = loses s s' tok mode _ does.1
 asks mode tok s s' asked.Worn does = looks s s' tok does.1.0 does.1.1.1
+
+pub furthers : (tok : ℕ) (s s' : CpuSeat) (answer : Furthered) → Furthers tok s s' answer → Keeps s s'
+furthers tok s s' furthered.Further does = changed s s' tok _ _ does.3.changes (λ brief. brief)
+furthers tok s s' furthered.NoToken does = same s s' does.1
+furthers tok s s' furthered.NotHeld does = same s s' does.2
+furthers tok s s' furthered.ListFull does = same s s' does.3
 
 pub marks : (tok : ℕ) (s s' : CpuSeat) (answer : Marked) → MarksToken tok s s' answer → Keeps s s'
 marks tok s s' marked.Set does = changed s s' tok _ _ does.1.changes (λ brief. brief)

@@ -106,7 +106,7 @@ module _ (desk : Desk) (xs : List Taken) (free : AreFree desk xs) where
   ready_at k s at =
       let found = seat_from xs k s at in
       let there = free k found.0 found.1.0 in
-      let ready : IsReady (id_of (bank_at desk)) (seat_in found.0) = record { of = (seat_there desk k found.0 there.0).1.0; empty = λ tok below. ap (λ (h : Holding). h tok) there.1 } in
+      let ready : IsReady (id_of (bank_at desk)) (seat_in found.0) = record { of = (seat_there desk k found.0 there.0).1; empty = λ tok below. ap (λ (h : Holding). h tok) there.1 } in
       subst (IsReady (id_of (bank_at desk))) found.1.1 ready
 
   pub all_ready : (seats : List CpuSeat) → seats ≡ map seat_in xs → All (IsReady (id_of (bank_at desk))) seats

@@ -1,7 +1,9 @@
 mod DeskBox
 mod HeldSteps
 mod Answering
-pub mod PlaceMoves
+mod PlaceMoves
+mod CountMoves
+mod SlotMoves
 mod ListMoves
 mod BlockMoves
 mod BriefMoves

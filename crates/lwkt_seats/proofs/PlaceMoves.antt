@@ -8,7 +8,7 @@ use Rattle.std.proofs.lemmas.List.{get_or-append-add}
 use prog.Atomic.{either}
 use mathlib.Core.Option.{some, none}
 use lib.ListN.{get_elem?}
-use Rattle.atomic_table.specs.Table.{State, Me, Step, Act, keeps, takes, gives, stepped, Allows, Enters, Valid, carried_after, opening}
+use Rattle.atomic_table.specs.Table.{State, Me, Step, step, Act, keeps, takes, gives, stepped, Allows, Enters, Valid, carried_after, opening}
 use Rattle.lwkt_bank.specs.declared.banks.Bank.{Bank}
 use Rattle.lwkt_seats.specs.declared.sitters.Sitter.{Sitter}
 use Rattle.lwkt_seats.specs.Seated.{IsSeated}
@@ -157,3 +157,26 @@ rest_first bank slots words view are seated =
         let inside : k < length slots = omega arith in
         at_home bank slots k (slice_index_or slots k None) inside refl (seated k inside) (sym (word_at slots k inside) ∙ ap (λ (ws : List ℕ). slice_index ws (word_of_place k)) (sym are) ∙ zero_word);
     }
+
+-- each step asks for no more
+module _ (key : Share) (slots words number word : ℕ) (there : number < slots) (wide : words ≡ 16 * slots) (at : word ≡ word_of_place number) where
+  pub inside : word < words
+  inside = omega (arith, there, wide, at)
+
+  pub looks_at : Enters (AreAtRest (arc_value key)) slots word (λ n w. looks (step slots word 0 0 none) (key, []) n (w, []))
+  looks_at = looks_allowed key slots word (step slots word 0 0 none)
+
+  pub claims_at : (id : ℕ) (me : Me Slot Share) → me.0 ≡ key → me.1 ≡ [] → Allows (AreAtRest (arc_value key)) slots id me word (λ n. either (eqb n 0) 1 n) (claims (step slots word 0 1 none) me)
+  claims_at id me view empty =
+      let F : ℕ → Type 0 = λ w. Allows (AreAtRest (arc_value key)) slots id me w (λ n. either (eqb n 0) 1 n) (claims (step slots word 0 1 none) me) in
+      subst F (sym at) (claims_allowed key slots number id me (step slots word 0 1 none) there at view empty)
+
+  pub leaves_at : (id : ℕ) (me : Me Slot Share) → HasTaken key number me → Allows (AreAtRest (arc_value key)) slots id me word (λ _. 0) (λ _. leaves (step slots word 0 0 none) me 0)
+  leaves_at id me out =
+      let F : ℕ → Type 0 = λ w. Allows (AreAtRest (arc_value key)) slots id me w (λ _. 0) (λ _. leaves (step slots word 0 0 none) me 0) in
+      subst F (sym at) (leaves_allowed key slots number id me (step slots word 0 0 none) there out)
+
+  pub shuts_at : (id : ℕ) (me : Me Slot Share) → Allows (AreAtRest (arc_value key)) slots id me word (λ _. 2) (λ _. leaves (step slots word 2 0 none) me 2)
+  shuts_at id me =
+      let F : ℕ → Type 0 = λ w. Allows (AreAtRest (arc_value key)) slots id me w (λ _. 2) (λ _. leaves (step slots word 2 0 none) me 2) in
+      subst F (sym at) (shuts_allowed key slots number id me (step slots word 2 0 none) there)
