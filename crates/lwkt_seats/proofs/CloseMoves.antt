@@ -4,7 +4,6 @@ use Rattle.std.specs.Prelude.{Option, Some, None, IfSome, MatchOption, Result, O
 use Rattle.std.proofs.lemmas.Bool.{cases_lt}
 use Rattle.std.proofs.lemmas.List.{get_or_past}
 use Rattle.std.proofs.lemmas.Option.{slice_get-get_or}
-use Rattle.std.specs.Arc.{arc_value}
 use Rattle.lwkt_base.specs.Holding.{Holding, holds_nothing}
 use Rattle.lwkt_bank.specs.declared.banks.Bank.{Bank}
 use Rattle.lwkt_bank.specs.declared.seats.CpuSeat.{CpuSeat}

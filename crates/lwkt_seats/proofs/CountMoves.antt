@@ -1,10 +1,9 @@
 -- How many references a seat has after each call.
-use Rattle.std.proofs.Common.{◌≡◌, ◌≢◌, ℕ, ◌+◌, ◌-◌, ◌<◌, Bool, true, false, cond, eqb, inl, inr, List, refl, ap, sym, ◌∙◌, subst, arith}
+use Rattle.std.proofs.Common.{◌≡◌, ℕ, ◌+◌, ◌-◌, ◌<◌, Bool, true, false, cond, eqb, inl, inr, List, refl, ap, sym, ◌∙◌, subst, arith}
 use Rattle.std.proofs.lemmas.Bool.{eqb-true, eqb-false}
 use Rattle.std.proofs.Math.Path.{fun_ext}
 use Rattle.lwkt_base.specs.declared.names.Mode.{Mode}
 use Rattle.lwkt_base.specs.declared.names.Mode.TheVariants.{Exclusive, Shared}
-use Rattle.lwkt_base.specs.declared.names.TokId.{TokId}
 use Rattle.lwkt_base.specs.declared.holdings.Held.{Held}
 use Rattle.lwkt_base.specs.declared.holdings.Held.TheVariants.{Nothing, Holds}
 use Rattle.lwkt_base.specs.Holding.{Holding, is_held, one_more, one_less, added, removed}
@@ -75,9 +74,9 @@ less_counted : (s s' : CpuSeat) (tok : ℕ) → holding s' ≡ removed (holding 
 less_counted s s' tok holds bank there held =
     let tokens = tokens_of (bank_of s) in
     let before : references s ≡ count_from 0 tokens (removed (holding s) tok) + 1 =
-      ap (λ (h : Holding). count_from 0 tokens h) (added_back (holding s) tok held) ∙ added_counts tokens tok (removed (holding s) tok) (mode_in (holding s tok)) there in
+    ap (λ (h : Holding). count_from 0 tokens h) (added_back (holding s) tok held) ∙ added_counts tokens tok (removed (holding s) tok) (mode_in (holding s tok)) there in
     let after : references s' ≡ count_from 0 tokens (removed (holding s) tok) =
-      ap (λ (b : BankId). count_from 0 (tokens_of b) (holding s')) bank ∙ ap (λ (h : Holding). count_from 0 tokens h) holds in
+    ap (λ (b : BankId). count_from 0 (tokens_of b) (holding s')) bank ∙ ap (λ (h : Holding). count_from 0 tokens h) holds in
     before ∙ ap (λ (n : ℕ). n + 1) (sym after)
 
 -- calls that keep what is held

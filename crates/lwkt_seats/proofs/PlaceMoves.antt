@@ -1,7 +1,6 @@
 -- Steps on the places of a bank's seats.
-use Rattle.std.proofs.Common.{eqb, ◌≡◌, ◌≢◌, ℕ, zero, suc, ◌+◌, ◌*◌, ◌<◌, Bool, true, false, List, [], ◌∷◌, ◌++◌, map, length, set, get_or, Some, refl, ap, sym, ◌∙◌, subst, arith, ⊎_elim, length-set, get_or-set_same, get_or-set_other}
-use Rattle.std.specs.Prelude.{Option, None, IfSome, flat_map, slice_index, slice_index_or, slice_set}
-use Rattle.std.specs.Global.{Box}
+use Rattle.std.proofs.Common.{eqb, ◌≡◌, ◌≢◌, ℕ, zero, suc, ◌+◌, ◌*◌, ◌<◌, Bool, true, false, List, [], ◌∷◌, map, length, set, Some, refl, ap, sym, ◌∙◌, subst, arith, ⊎_elim, length-set, get_or-set_same, get_or-set_other}
+use Rattle.std.specs.Prelude.{None, IfSome, slice_index, slice_index_or, slice_set}
 use Rattle.std.specs.Arc.{arc_value}
 use Rattle.std.proofs.lemmas.Bool.{eqb-true, eqb-false, cases_eq}
 use Rattle.std.proofs.lemmas.List.{get_or-append-add}
@@ -10,7 +9,6 @@ use mathlib.Core.Option.{some, none}
 use lib.ListN.{get_elem?}
 use Rattle.atomic_table.specs.Table.{State, Me, Step, step, Act, keeps, takes, gives, stepped, Allows, Enters, Valid, carried_after, opening}
 use Rattle.lwkt_bank.specs.declared.banks.Bank.{Bank}
-use Rattle.lwkt_seats.specs.declared.sitters.Sitter.{Sitter}
 use Rattle.lwkt_seats.specs.Seated.{IsSeated}
 use Rattle.lwkt_seats.specs.Places.{Share, Slot, word_of_place, IsHome, AreAtRest, HasTaken, looks, claims, leaves}
 use Rattle.lwkt_seats.specs.FirstPlaces.{AreSlotsOf, state_of_place, words_of_place, words_of_places}
@@ -42,16 +40,16 @@ module _ (bank : Bank) (s : State Slot Share) (rests : AreAtRest bank s) (i : �
   still here = record {
     wide = length-set s.words (word_of_place i) n ∙ rests.wide ∙ ap (λ (m : ℕ). 16 * m) (sym (length_homes s.homes i x));
     home = λ k within zero_word. ⊎_elim
-      (λ same. let F : ℕ → Type 0 = λ j. IsHome bank (set s.homes i x) j in
+        (λ same. let F : ℕ → Type 0 = λ j. IsHome bank (set s.homes i x) j in
         let wide = rests.wide in
         let found : slice_index (slice_set s.words (word_of_place i) n) (word_of_place i) ≡ n = get_or-set_same s.words (word_of_place i) n 0 (omega arith) in
         let G : ℕ → Type 0 = λ j. slice_index (slice_set s.words (word_of_place i) n) (word_of_place j) ≡ 0 in
         subst F (sym same) (here (sym found ∙ subst G same zero_word)))
-      (λ apart.
+        (λ apart.
         let away : slice_index (slice_set s.words (word_of_place i) n) (word_of_place k) ≡ slice_index s.words (word_of_place k) = get_or-set_other s.words (word_of_place i) (word_of_place k) n 0 (λ e. apart (omega arith)) in
         let was = rests.home k (let e = length_homes s.homes i x in omega arith) (sym away ∙ zero_word) in
         (was.0, (at_other s.homes i k x apart ∙ was.1.0, was.1.1)))
-      (cases_eq k i);
+        (cases_eq k i);
   }
 
 -- and once only a word has, which doesn't say that its seat rests
@@ -60,15 +58,15 @@ module _ (bank : Bank) (s : State Slot Share) (rests : AreAtRest bank s) (i : �
   unmoved away = record {
     wide = length-set s.words (word_of_place i) n ∙ rests.wide;
     home = λ k within zero_word. ⊎_elim
-      (λ same.
+        (λ same.
         let wide = rests.wide in
         let found : slice_index (slice_set s.words (word_of_place i) n) (word_of_place i) ≡ n = get_or-set_same s.words (word_of_place i) n 0 (omega arith) in
         let G : ℕ → Type 0 = λ j. slice_index (slice_set s.words (word_of_place i) n) (word_of_place j) ≡ 0 in
         absurd (away (sym found ∙ subst G same zero_word)))
-      (λ apart.
+        (λ apart.
         let still_there : slice_index (slice_set s.words (word_of_place i) n) (word_of_place k) ≡ slice_index s.words (word_of_place k) = get_or-set_other s.words (word_of_place i) (word_of_place k) n 0 (λ e. apart (omega arith)) in
         rests.home k within (sym still_there ∙ zero_word))
-      (cases_eq k i);
+        (cases_eq k i);
   }
 
 only : (k i : ℕ) → word_of_place i ≡ word_of_place k → i ≡ k
@@ -101,9 +99,13 @@ claims_allowed key slots number id me st there at view empty s rests homes here 
         let zero_word = eqb-true word 0 equals in
         let found = rests.home number inside zero_word in
         let F : Bool → Type 0 = λ b. AreAtRest (arc_value key) (stepped s (word_of_place number) (either b 1 word) id me.1 me.0 (takes number (Some found.0))) in
-        let Out : ℕ → Type 0 = λ k. HasTaken me.0 k (me.0, (number, Some found.0) ∷ me.1) in
-        (me.0, takes number (Some found.0), found.1.0, subst F (sym equals) (still (arc_value key) s rests number inside 1 none (slice_set s.views id me.0) (λ e. absurd (let f : 1 ≡ 0 = e in omega arith))),
-         λ _ k at_k. subst Out (only k number (sym at ∙ at_k)) (found.0, (ap (λ (xs : List (ℕ × Slot)). (me.0, (number, Some found.0) ∷ xs)) empty, subst (λ (y : Share). IsSeated (arc_value y) number found.0.value) (sym view) found.1.1)))
+        let Out : ℕ → Type 0 = λ k. HasTaken me.0 k (me.0, (number, Some found.0) ∷ me.1) in (
+          me.0,
+          takes number (Some found.0),
+          found.1.0,
+          subst F (sym equals) (still (arc_value key) s rests number inside 1 none (slice_set s.views id me.0) (λ e. absurd (let f : 1 ≡ 0 = e in omega arith))),
+          λ _ k at_k. subst Out (only k number (sym at ∙ at_k)) (found.0, (ap (λ (xs : List (ℕ × Slot)). (me.0, (number, Some found.0) ∷ xs)) empty, subst (λ (y : Share). IsSeated (arc_value y) number found.0.value) (sym view) found.1.1)),
+        )
 
 -- a store that puts the seat back
 pub leaves_allowed : (key : Share) (slots number id : ℕ) (me : Me Slot Share) (st : Step Slot) → number < slots → HasTaken key number me
@@ -154,8 +156,8 @@ rest_first bank slots words view are seated =
     record {
       wide = ap length are ∙ words_wide slots ∙ ap (λ (m : ℕ). 16 * m) (sym homes);
       home = λ k within zero_word.
-        let inside : k < length slots = omega arith in
-        at_home bank slots k (slice_index_or slots k None) inside refl (seated k inside) (sym (word_at slots k inside) ∙ ap (λ (ws : List ℕ). slice_index ws (word_of_place k)) (sym are) ∙ zero_word);
+          let inside : k < length slots = omega arith in
+          at_home bank slots k (slice_index_or slots k None) inside refl (seated k inside) (sym (word_at slots k inside) ∙ ap (λ (ws : List ℕ). slice_index ws (word_of_place k)) (sym are) ∙ zero_word);
     }
 
 -- each step asks for no more

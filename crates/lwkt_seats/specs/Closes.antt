@@ -11,12 +11,10 @@ use Rattle.lwkt_bank.specs.declared.closed.Closed.{Closed}
 use Rattle.lwkt_bank.specs.Seats.{id_of, cpus_of, tokens_of, plan_of, holding}
 use Rattle.lwkt_bank.specs.Closing.{IsReady, IsRoomFor}
 use Rattle.lwkt_bank.specs.Gathered.{IsClosed}
-use Rattle.atomic_table.specs.Table.{Me}
 use Rattle.lwkt_seats.specs.declared.taken.Taken.{Taken}
 use Rattle.lwkt_seats.specs.declared.desks.Desk.{Desk}
 use Rattle.lwkt_seats.specs.declared.endings.Ending.{Ending}
 use Rattle.lwkt_seats.specs.Seated.{IsSeated}
-use Rattle.lwkt_seats.specs.Places.{Share, Slot}
 use Rattle.lwkt_seats.specs.Desks.{seats_of, bank_at, IsSeatAt}
 
 -- this is the seat of a number, out of its slot

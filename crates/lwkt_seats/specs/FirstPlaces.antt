@@ -1,5 +1,5 @@
 -- The places of a bank's seats at the opening (own).
-use Rattle.std.specs.Prelude.{◌≡◌, ℕ, ◌<◌, List, [], ◌∷◌, length, flat_map, slice_index_or, Option, Some, None, IfSome}
+use Rattle.std.specs.Prelude.{ℕ, ◌<◌, List, [], ◌∷◌, length, flat_map, slice_index_or, Some, None, IfSome}
 use Rattle.lwkt_bank.specs.declared.banks.Bank.{Bank}
 use Rattle.lwkt_seats.specs.Seated.{IsSeated}
 use Rattle.lwkt_seats.specs.Places.{Slot}

@@ -1,6 +1,5 @@
 use Rattle.std.proofs.Common.{◌≤◌, ap, sym, ◌∙◌, subst}
 use Rattle.std.specs.Prelude.{IfOk, All}
-use Rattle.std.specs.Arc.{arc_value}
 use Rattle.lwkt_bank.specs.declared.banks.Bank.{Bank}
 use Rattle.lwkt_bank.specs.Seats.{id_of, cpus_of, tokens_of}
 use Rattle.lwkt_bank.specs.Closing.{IsReady}

@@ -1,4 +1,4 @@
-use Rattle.std.proofs.Common.{ap, sym, ◌∙◌}
+use Rattle.std.proofs.Common.{ap, ◌∙◌}
 use Rattle.lwkt_bank.specs.Seats.{holding}
 use Rattle.lwkt_seats.specs.declared.sitters.Sitter.{Sitter}
 use Rattle.lwkt_seats.proofs.CloseMoves.{holds_there}
