@@ -1,16 +1,15 @@
 -- Steps on the places of a bank's seats.
-use Rattle.std.proofs.Common.{eqb, ◌≡◌, ◌≢◌, ℕ, zero, suc, ◌+◌, ◌*◌, ◌<◌, Bool, true, false, List, [], ◌∷◌, map, length, set, Some, refl, ap, sym, ◌∙◌, subst, arith, ⊎_elim, length-set, get_or-set_same, get_or-set_other}
+use Rattle.std.proofs.Common.{eqb, ◌≡◌, ◌≢◌, ℕ, zero, suc, ◌+◌, ◌*◌, ◌<◌, Bool, true, false, List, [], ◌∷◌, ◌++◌, map, length, set, Some, refl, ap, sym, ◌∙◌, subst, arith, ⊎_elim, length-set, get_or-set_same, get_or-set_other}
 use Rattle.std.specs.Prelude.{None, IfSome, slice_index, slice_index_or, slice_set}
 use Rattle.std.specs.Arc.{arc_value}
 use Rattle.std.proofs.lemmas.Bool.{eqb-true, eqb-false, cases_eq}
 use Rattle.std.proofs.lemmas.List.{get_or-append-add}
-use prog.Atomic.{either}
 use mathlib.Core.Option.{some, none}
 use lib.ListN.{get_elem?}
-use Rattle.atomic_table.specs.Table.{State, Me, Step, step, Act, keeps, takes, gives, stepped, Allows, Enters, Valid, carried_after, opening}
+use Rattle.atomic_table.specs.Table.{State, Me, Step, step, Act, keeps, takes, gives, stepped, Allows, Arrives, Valid, carried_after, homes_after, opening}
 use Rattle.lwkt_bank.specs.declared.banks.Bank.{Bank}
 use Rattle.lwkt_seats.specs.Seated.{IsSeated}
-use Rattle.lwkt_seats.specs.Places.{Share, Slot, word_of_place, IsHome, AreAtRest, HasTaken, looks, claims, leaves}
+use Rattle.lwkt_seats.specs.Places.{Share, Slot, word_of_place, IsHome, AreAtRest, HasTaken, claims, leaves}
 use Rattle.lwkt_seats.specs.FirstPlaces.{AreSlotsOf, state_of_place, words_of_place, words_of_places}
 
 abbrev Homes : Type 0
@@ -72,40 +71,30 @@ module _ (bank : Bank) (s : State Slot Share) (rests : AreAtRest bank s) (i : �
 only : (k i : ℕ) → word_of_place i ≡ word_of_place k → i ≡ k
 only k i e = omega arith
 
--- a load
-pub looks_allowed : (key : Share) (slots word : ℕ) (st : Step Slot) → Enters (AreAtRest (arc_value key)) slots word (λ n w. looks st (key, []) n (w, []))
-looks_allowed key slots word st s rests homes fits = (key, record { wide = rests.wide; home = rests.home }, refl)
-
--- an exchange that takes a seat that rests
-pub claims_allowed : (key : Share) (slots number id : ℕ) (me : Me Slot Share) (st : Step Slot) → number < slots → st.word ≡ word_of_place number → me.0 ≡ key → me.1 ≡ []
-    → Allows (AreAtRest (arc_value key)) slots id me (word_of_place number) (λ n. either (eqb n 0) 1 n) (claims st me)
-claims_allowed key slots number id me st there at view empty s rests homes here fits = go (slice_index s.words (word_of_place number)) refl (eqb (slice_index s.words (word_of_place number)) 0) refl
+-- a swap that takes a seat that rests
+pub claims_allowed : (key : Share) (slots number : ℕ) (st : Step Slot) → number < slots → st.word ≡ word_of_place number
+    → Arrives (AreAtRest (arc_value key)) slots (word_of_place number) (λ _. 1) (claims st (key, []))
+claims_allowed key slots number st there at s rests homes fits = go (eqb word 0) refl
   where
     word : ℕ
     word = slice_index s.words (word_of_place number)
 
+    views : List Share
+    views = s.views ++ key ∷ []
+
     Result : Type 0
-    Result = (w : Share) × (a : Act Slot) × Valid s.homes me.1 a × AreAtRest (arc_value key) (stepped s (word_of_place number) (either (eqb word 0) 1 word) id me.1 w a) × claims st me word (w, carried_after me.1 a)
+    Result = (w : Share) × (a : Act Slot) × Valid s.homes [] a × AreAtRest (arc_value key) (record { words = slice_set s.words (word_of_place number) 1; homes = homes_after s.homes [] a; views = s.views ++ w ∷ [] }) × claims st (key, []) word (w, carried_after [] a)
 
     inside : number < length s.homes
     inside = omega arith
 
-    go : (n : ℕ) → n ≡ word → (b : Bool) → eqb word 0 ≡ b → Result
-    go n is false differs =
-        let apart = eqb-false word 0 differs in
-        let F : Bool → Type 0 = λ b. AreAtRest (arc_value key) (stepped s (word_of_place number) (either b 1 word) id me.1 me.0 keeps) in
-        (me.0, keeps, tt, subst F (sym differs) (unmoved (arc_value key) s rests number inside word (slice_set s.views id me.0) apart), λ zero_word. absurd (apart zero_word))
-    go n is true equals =
-        let zero_word = eqb-true word 0 equals in
-        let found = rests.home number inside zero_word in
-        let F : Bool → Type 0 = λ b. AreAtRest (arc_value key) (stepped s (word_of_place number) (either b 1 word) id me.1 me.0 (takes number (Some found.0))) in
-        let Out : ℕ → Type 0 = λ k. HasTaken me.0 k (me.0, (number, Some found.0) ∷ me.1) in (
-          me.0,
-          takes number (Some found.0),
-          found.1.0,
-          subst F (sym equals) (still (arc_value key) s rests number inside 1 none (slice_set s.views id me.0) (λ e. absurd (let f : 1 ≡ 0 = e in omega arith))),
-          λ _ k at_k. subst Out (only k number (sym at ∙ at_k)) (found.0, (ap (λ (xs : List (ℕ × Slot)). (me.0, (number, Some found.0) ∷ xs)) empty, subst (λ (y : Share). IsSeated (arc_value y) number found.0.value) (sym view) found.1.1)),
-        )
+    go : (b : Bool) → eqb word 0 ≡ b → Result
+    go false differs = (key, keeps, tt, unmoved (arc_value key) s rests number inside 1 views (λ e. let f : 1 ≡ 0 = e in omega arith), λ zero_word. absurd (eqb-false word 0 differs zero_word))
+    go true equals =
+        let found = rests.home number inside (eqb-true word 0 equals) in
+        let Out : ℕ → Type 0 = λ k. HasTaken key k (key, (number, Some found.0) ∷ []) in
+        (key, takes number (Some found.0), found.1.0, still (arc_value key) s rests number inside 1 none views (λ e. absurd (let f : 1 ≡ 0 = e in omega arith)),
+         λ _ k at_k. subst Out (only k number (sym at ∙ at_k)) (found.0, (refl, found.1.1)))
 
 -- a store that puts the seat back
 pub leaves_allowed : (key : Share) (slots number id : ℕ) (me : Me Slot Share) (st : Step Slot) → number < slots → HasTaken key number me
@@ -117,12 +106,6 @@ leaves_allowed key slots number id me st there out s rests homes here fits =
     let F : Me Slot Share → Type 0 = λ m. AreAtRest (arc_value key) (stepped s (word_of_place number) 0 id m.1 key gives) in
     let is_key : me.0 ≡ key = ap (λ (m : Me Slot Share). m.0) out.1.0 in
     (key, gives, tt, subst F (sym out.1.0) (still (arc_value key) s rests number inside 0 (some (Some b)) (slice_set s.views id key) (λ _. home)), sym is_key)
-
--- a store that shuts a place
-pub shuts_allowed : (key : Share) (slots number id : ℕ) (me : Me Slot Share) (st : Step Slot) → number < slots
-    → Allows (AreAtRest (arc_value key)) slots id me (word_of_place number) (λ _. 2) (λ _. leaves st me 2)
-shuts_allowed key slots number id me st there s rests homes here fits =
-    (me.0, keeps, tt, unmoved (arc_value key) s rests number (omega arith) 2 (slice_set s.views id me.0) (λ e. let f : 2 ≡ 0 = e in omega arith), refl)
 
 -- the words of places at the opening
 pub words_wide : (slots : List Slot) → length (words_of_places slots) ≡ 16 * length slots
@@ -165,20 +148,12 @@ module _ (key : Share) (slots words number word : ℕ) (there : number < slots) 
   pub inside : word < words
   inside = omega (arith, there, wide, at)
 
-  pub looks_at : Enters (AreAtRest (arc_value key)) slots word (λ n w. looks (step slots word 0 0 none) (key, []) n (w, []))
-  looks_at = looks_allowed key slots word (step slots word 0 0 none)
-
-  pub claims_at : (id : ℕ) (me : Me Slot Share) → me.0 ≡ key → me.1 ≡ [] → Allows (AreAtRest (arc_value key)) slots id me word (λ n. either (eqb n 0) 1 n) (claims (step slots word 0 1 none) me)
-  claims_at id me view empty =
-      let F : ℕ → Type 0 = λ w. Allows (AreAtRest (arc_value key)) slots id me w (λ n. either (eqb n 0) 1 n) (claims (step slots word 0 1 none) me) in
-      subst F (sym at) (claims_allowed key slots number id me (step slots word 0 1 none) there at view empty)
+  pub claims_at : Arrives (AreAtRest (arc_value key)) slots word (λ _. 1) (claims (step slots word 1 0 none) (key, []))
+  claims_at =
+      let F : ℕ → Type 0 = λ w. Arrives (AreAtRest (arc_value key)) slots w (λ _. 1) (claims (step slots word 1 0 none) (key, [])) in
+      subst F (sym at) (claims_allowed key slots number (step slots word 1 0 none) there at)
 
   pub leaves_at : (id : ℕ) (me : Me Slot Share) → HasTaken key number me → Allows (AreAtRest (arc_value key)) slots id me word (λ _. 0) (λ _. leaves (step slots word 0 0 none) me 0)
   leaves_at id me out =
       let F : ℕ → Type 0 = λ w. Allows (AreAtRest (arc_value key)) slots id me w (λ _. 0) (λ _. leaves (step slots word 0 0 none) me 0) in
       subst F (sym at) (leaves_allowed key slots number id me (step slots word 0 0 none) there out)
-
-  pub shuts_at : (id : ℕ) (me : Me Slot Share) → Allows (AreAtRest (arc_value key)) slots id me word (λ _. 2) (λ _. leaves (step slots word 2 0 none) me 2)
-  shuts_at id me =
-      let F : ℕ → Type 0 = λ w. Allows (AreAtRest (arc_value key)) slots id me w (λ _. 2) (λ _. leaves (step slots word 2 0 none) me 2) in
-      subst F (sym at) (shuts_allowed key slots number id me (step slots word 2 0 none) there)

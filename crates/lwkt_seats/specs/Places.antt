@@ -34,11 +34,7 @@ pub record AreAtRest (bank : Bank) (s : State Slot (Share)) : Type 0 where
 abbrev pub HasTaken : Share → ℕ → Me Slot (Share) → Type 0
 HasTaken bank number me = (b : Box Sitter) × ((me ≡ (bank, (number, Some b) ∷ [])) × IsSeated (arc_value bank) number b.value)
 
--- a load shows for which bank the table is
-abbrev pub looks : Step Slot → Me Slot (Share) → ℕ → Me Slot (Share) → Type 0
-looks step me found new = new.0 ≡ me.0
-
--- an exchange that found 0 takes the seat
+-- a swap that found 0 takes the seat
 abbrev pub claims : Step Slot → Me Slot (Share) → ℕ → Me Slot (Share) → Type 0
 claims step me found new = found ≡ 0 → (number : ℕ) → step.word ≡ word_of_place number → HasTaken me.0 number new
 

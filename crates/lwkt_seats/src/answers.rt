@@ -36,15 +36,14 @@ impl Asked {
         }
     }
 
-    /// How many references a seat has after it, that had so many.
+    /// Counts the references of the seat after it.
     #[inline(always)]
-    pub fn counted(self, count: usize) -> usize
-        requires { count_asked self count < 2 ^ 64 }
-        ensures { result ≡ count_asked self count }
+    pub fn count_in(self, count: &mut usize)
+        requires { count_asked self count.old < 2 ^ 64 }
+        ensures { count.new ≡ count_asked self count.old }
     {
-        match self {
-            Asked::Taken | Asked::Further => count + 1,
-            _ => count,
+        if let Asked::Taken | Asked::Further = self {
+            *count += 1;
         }
     }
 }
@@ -71,14 +70,14 @@ impl Furthered {
         }
     }
 
-    /// How many references a seat has after it, that had so many.
-    pub fn counted(self, count: usize) -> usize
-        requires { count_furthered self count < 2 ^ 64 }
-        ensures { result ≡ count_furthered self count }
+    /// Counts the references of the seat after it.
+    #[inline(always)]
+    pub fn count_in(self, count: &mut usize)
+        requires { count_furthered self count.old < 2 ^ 64 }
+        ensures { count.new ≡ count_furthered self count.old }
     {
-        match self {
-            Furthered::Further => count + 1,
-            _ => count,
+        if let Furthered::Further = self {
+            *count += 1;
         }
     }
 }
@@ -124,15 +123,14 @@ impl GaveBack {
         }
     }
 
-    /// How many references a seat has after it, that had so many.
+    /// Counts the references of the seat after it.
     #[inline(always)]
-    pub fn counted(self, count: usize) -> usize
-        requires { self ≡ GaveBack.Given → 0 < count }
-        ensures { result ≡ count_gave self count }
+    pub fn count_in(self, count: &mut usize)
+        requires { self ≡ GaveBack.Given → 0 < count.old }
+        ensures { count.new ≡ count_gave self count.old }
     {
-        match self {
-            GaveBack::Given => count - 1,
-            _ => count,
+        if let GaveBack::Given = self {
+            *count -= 1;
         }
     }
 }

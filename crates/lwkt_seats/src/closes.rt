@@ -7,9 +7,9 @@ ghost use Rattle.lwkt_bank.specs.Seats.{id_of, cpus_of, tokens_of};
 ghost use Rattle.lwkt_bank.specs.Closing.{IsReady, IsRoomFor};
 ghost use Rattle.lwkt_bank.specs.Gathered.{IsClosed};
 
-use crate::desks::{Desk, SHUT, close_drawer, open_drawer, shut_drawer, word_of_place};
+use crate::desks::{Desk, close_drawer, open_drawer, shut_drawer};
 use crate::endings::Ending;
-use crate::places::{Hand, Leave, Look};
+use crate::places::Hand;
 use crate::resumes::is_idle;
 use crate::sitters::Sitter;
 use crate::taken::Taken;
@@ -185,23 +185,6 @@ impl Desk {
         Ok(())
     }
 
-    // Shuts the place of a number, whose seat is gone.
-    fn shut_place(&self, number: usize)
-        requires { number < seats_in self.now }
-    {
-        let word = word_of_place(number);
-        let (_, mut hand) = self.places.shared.load_new_seat::<Look>(word);
-        self.places.shared.store::<Leave>(&mut hand, word, SHUT);
-    }
-
-    // Shuts all places.
-    fn shut(&self) {
-        for number in 0..self.seats() {
-            self.shut_place(number);
-        }
-        shut_drawer(&self.drawer);
-    }
-
     // Closes the bank with the seats that were taken.
     fn end(&self, ending: Box<Ending>, places: usize) -> Result<Closed, u32>
         requires ending { IsEndingWith self.now ending.value }
@@ -216,7 +199,7 @@ impl Desk {
             room,
         } = Box::into_inner(ending);
         let closed = finish(bank, room, seats_of(sitters, seats));
-        self.shut();
+        shut_drawer(&self.drawer);
         closed
     }
 

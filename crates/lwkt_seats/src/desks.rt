@@ -1,5 +1,5 @@
 //! The desk of a bank: a place for the seat of each processor, where it rests between calls, and what a close needs.
-ghost use Rattle.std.specs.Prelude.{◌≡◌, ◌⊎◌, ◌↔◌, ◌*◌, ◌<◌, ◌≤◌, true, is_none, IsTrue, IfOk, IfErr};
+ghost use Rattle.std.specs.Prelude.{◌≡◌, ◌⊎◌, ◌↔◌, ◌*◌, ◌<◌, ◌≤◌, true, is_none, IsTrue, IfOk, IfErr, IfSome};
 ghost use Rattle.std.specs.Arc.{arc_value};
 ghost use Rattle.lwkt_base.specs.declared.limits.TheConstants.{CPU_LIMIT};
 ghost use Rattle.lwkt_bank.specs.Seats.{cpus_of};
@@ -8,7 +8,7 @@ ghost use Rattle.lwkt_seats.specs.Places.{word_of_place};
 ghost use Rattle.lwkt_seats.specs.SeatStates.{seat_state, away_number, abandon_number, MayFree};
 
 use crate::endings::{Chest, Ending};
-use crate::places::{Claim, Hand, Leave, Look, PlaceRule};
+use crate::places::{Claim, Hand, Leave, PlaceRule};
 use crate::sitters::Sitter;
 use atomic_table::Table;
 use counted_slot::{Counted, FREE, MARKED, PRESENT, TAKEN};
@@ -29,16 +29,13 @@ pub const CLOSED: u32 = 52;
 /// The word of a place whose seat rests in it.
 pub const AT_REST: u64 = 0;
 
-/// The word of a place whose seat a call has.
+/// The word of a place whose seat a call has, or the close.
 pub const AWAY: u64 = 1;
-
-/// The word of a place once the bank is closed.
-pub const SHUT: u64 = 2;
 
 /// The place of what a close needs. While its word is `PRESENT`, a close is at work; once it is `MARKED`, the bank is closed.
 pub type Drawer = Counted<Option<Chest>>;
 
-/// Where a seat is, by the word of its place.
+/// Where a seat is.
 #[derive(Clone, Copy)]
 pub enum SeatState {
     /// It rests in its place.
@@ -100,12 +97,13 @@ pub(crate) fn shut_drawer(drawer: &Drawer) {
     let _ = claim.put(None, MARKED);
 }
 
-fn seat_state(word: u64) -> SeatState
-    ensures { result ≡ seat_state word }
+// By the word of its place, and whether the bank is closed.
+fn seat_state(word: u64, closed: bool) -> SeatState
+    ensures { result ≡ seat_state word closed }
 {
     match word {
         AT_REST => SeatState::Rests,
-        SHUT => SeatState::Shut,
+        _ if closed => SeatState::Shut,
         _ => SeatState::Away,
     }
 }
@@ -159,25 +157,23 @@ impl Desk {
         self.places.slot_count()
     }
 
-    // Takes the seat of a number, if it rests in its place: else the word of that.
+    // Takes the seat of a number, if it rests in its place.
     #[inline(always)]
-    fn take_out(&self, number: usize) -> Result<Hand, u64>
+    fn take_out(&self, number: usize) -> Option<Hand>
         requires { number < seats_of self.now }
-        ensures { IfOk result (λ hand. HasSeat self.now number hand) }
+        ensures { IfSome result (λ hand. HasSeat self.now number hand) }
     {
         let word = word_of_place(number);
-        let (found, mut hand) = self.places.shared.load_new_seat::<Look>(word);
+        let (found, hand) = self.places.shared.swap_new_seat::<Claim>(word, AWAY);
         if found != AT_REST {
-            return Err(found);
+            return None;
         }
-        let found = self
-            .places
-            .shared
-            .compare_exchange::<Claim>(&mut hand, word, AT_REST, AWAY);
-        if found != AT_REST {
-            return Err(found);
-        }
-        Ok(hand)
+        Some(hand)
+    }
+
+    // Whether the bank is closed.
+    fn is_closed(&self) -> bool {
+        self.drawer.load() == MARKED
     }
 
     // Whether the seat of this number was given up as lost.
@@ -187,12 +183,13 @@ impl Desk {
         self.lost.load(Ordering::SeqCst) >> number & 1 == 1
     }
 
-    // What is answered where the seat doesn't rest, by the word of its place.
-    fn absent(&self, number: usize, word: u64) -> u32
+    // What is answered where the seat doesn't rest.
+    #[inline(never)]
+    fn absent(&self, number: usize) -> u32
         requires { number < seats_of self.now }
         ensures { (result ≡ 50) ⊎ ((result ≡ 52) ⊎ (result ≡ 54)) }
     {
-        if word == SHUT {
+        if self.is_closed() {
             return CLOSED;
         }
         away_number(self.is_lost(number))
@@ -209,8 +206,8 @@ impl Desk {
             return Err(NO_SEAT);
         }
         match self.take_out(number) {
-            Ok(hand) => Ok(hand),
-            Err(word) => Err(self.absent(number, word)),
+            Some(hand) => Ok(hand),
+            None => Err(self.absent(number)),
         }
     }
 
@@ -224,9 +221,9 @@ impl Desk {
     }
 
     // Notes that the seat is given up. Whether it was before.
-    fn lose(&self, number: u32, word: u64) -> bool
+    fn lose(&self, number: u32, state: SeatState) -> bool
         requires place { number < 64 }
-        requires away { seat_state word ≡ SeatState.Away }
+        requires away { state ≡ SeatState.Away }
     {
         self.lost.fetch_or(1 << number, Ordering::SeqCst) >> number & 1 == 1
     }
@@ -239,8 +236,8 @@ impl Desk {
             return NO_SEAT;
         }
         let word = self.places.shared.peek(word_of_place(number as usize));
-        match seat_state(word) {
-            SeatState::Away => abandon_number(SeatState::Away, self.lose(number, word)),
+        match seat_state(word, self.is_closed()) {
+            SeatState::Away => abandon_number(SeatState::Away, self.lose(number, SeatState::Away)),
             state => abandon_number(state, false),
         }
     }

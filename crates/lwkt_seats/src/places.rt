@@ -1,8 +1,8 @@
-//! The places of a bank's seats: a table of the kit's, with a word and a slot for each. The word says where the seat is, and whoever
-//! finds in it that the seat rests, and writes that it is away, has the seat.
+//! The places of a bank's seats: a table of the kit's, with a word and a slot for each. The word says whether the seat rests, and whoever
+//! finds in it that it does, and writes that it is away, has the seat.
 ghost use Rattle.std.specs.Prelude.{◌≡◌};
 ghost use Rattle.std.specs.Arc.{arc_value};
-ghost use Rattle.lwkt_seats.specs.Places.{AreAtRest, looks, claims, leaves};
+ghost use Rattle.lwkt_seats.specs.Places.{AreAtRest, claims, leaves};
 
 use crate::sitters::Sitter;
 use atomic_table::{Play, Seat, TableRule};
@@ -21,21 +21,14 @@ impl TableRule<Option<Box<Sitter>>, Arc<Bank>, Arc<Bank>> for PlaceRule {
     ghost first = { λ bank. bank };
 }
 
-/// A load of a place's word.
-pub(crate) struct Look;
-
-impl Play<Option<Box<Sitter>>, Arc<Bank>> for Look {
-    ghost then = { looks };
-}
-
-/// An exchange that takes a seat that rests.
+/// A swap that takes a seat that rests.
 pub(crate) struct Claim;
 
 impl Play<Option<Box<Sitter>>, Arc<Bank>> for Claim {
     ghost then = { claims };
 }
 
-/// A store that puts it back, or shuts its place.
+/// A store that puts it back.
 pub(crate) struct Leave;
 
 impl Play<Option<Box<Sitter>>, Arc<Bank>> for Leave {

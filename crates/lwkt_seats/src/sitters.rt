@@ -45,7 +45,7 @@ impl Sitter {
         ensures same { StaysSeated self.old self.new }
     {
         let asked = asks::ask(&mut self.seat, &self.bank, self.count, token, mode);
-        self.count = asked.counted(self.count);
+        asked.count_in(&mut self.count);
         asked
     }
 
@@ -55,7 +55,7 @@ impl Sitter {
         ensures same { StaysSeated self.old self.new }
     {
         let furthered = asks::further(&mut self.seat, &self.bank, self.count, token);
-        self.count = furthered.counted(self.count);
+        furthered.count_in(&mut self.count);
         furthered
     }
 
@@ -74,7 +74,7 @@ impl Sitter {
         ensures same { StaysSeated self.old self.new }
     {
         let gave = asks::give(&mut self.seat, &self.bank, token);
-        self.count = gave.counted(self.count);
+        gave.count_in(&mut self.count);
         gave
     }
 

@@ -9,6 +9,6 @@ invariant_of-self c =
     let old = c.args.self.now in
     record {
       of = c.ask-asked.ensures.same.0 ∙ old.of;
-      counted = c.counted-self.ensures ∙ ap (λ (n : ℕ). count_asked c.ask-asked.result n) old.counted ∙ sym (count.asks c.args.mode c.args.token old.seat c.ask-asked.new.seat c.ask-asked.result c.ask-asked.ensures.does);
+      counted = c.count_in.ensures ∙ ap (λ (n : ℕ). count_asked c.ask-asked.result n) old.counted ∙ sym (count.asks c.args.mode c.args.token old.seat c.ask-asked.new.seat c.ask-asked.result c.ask-asked.ensures.does);
       brief = brief.asks c.args.mode c.args.token old.seat c.ask-asked.new.seat c.ask-asked.result c.ask-asked.ensures.does old.brief;
     }

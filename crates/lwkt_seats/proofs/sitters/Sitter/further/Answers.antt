@@ -9,6 +9,6 @@ invariant_of-self c =
     let old = c.args.self.now in
     record {
       of = c.further-furthered.ensures.same.0 ∙ old.of;
-      counted = c.counted-self.ensures ∙ ap (λ (n : ℕ). count_furthered c.further-furthered.result n) old.counted ∙ sym (count.furthers c.args.token old.seat c.further-furthered.new.seat c.further-furthered.result c.further-furthered.ensures.does);
+      counted = c.count_in.ensures ∙ ap (λ (n : ℕ). count_furthered c.further-furthered.result n) old.counted ∙ sym (count.furthers c.args.token old.seat c.further-furthered.new.seat c.further-furthered.result c.further-furthered.ensures.does);
       brief = brief.furthers c.args.token old.seat c.further-furthered.new.seat c.further-furthered.result c.further-furthered.ensures.does old.brief;
     }

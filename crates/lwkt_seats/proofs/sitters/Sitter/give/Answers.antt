@@ -4,8 +4,8 @@ use Rattle.lwkt_seats.proofs.BriefMoves as brief
 use Rattle.lwkt_seats.proofs.CountMoves as count
 use Rattle.lwkt_seats.proofs.sitters.Sitter.give.Goals as goal
 
-pub counted-self-requires : goal.counted-self-requires
-counted-self-requires c = λ given.
+pub count_in-requires : goal.count_in-requires
+count_in-requires c = λ given.
     let old = c.args.self.now in
     let some = count.gives_some c.args.token old.seat c.give-gave.new.seat c.give-gave.result c.give-gave.ensures.does given in
     let counted = old.counted in
@@ -16,6 +16,6 @@ invariant_of-self c =
     let old = c.args.self.now in
     record {
       of = c.give-gave.ensures.same.0 ∙ old.of;
-      counted = c.counted-self.ensures ∙ ap (λ (n : ℕ). count_gave c.give-gave.result n) old.counted ∙ sym (count.gives c.args.token old.seat c.give-gave.new.seat c.give-gave.result c.give-gave.ensures.does);
+      counted = c.count_in.ensures ∙ ap (λ (n : ℕ). count_gave c.give-gave.result n) old.counted ∙ sym (count.gives c.args.token old.seat c.give-gave.new.seat c.give-gave.result c.give-gave.ensures.does);
       brief = brief.gives c.args.token old.seat c.give-gave.new.seat c.give-gave.result c.give-gave.ensures.does old.brief;
     }
