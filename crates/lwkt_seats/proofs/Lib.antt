@@ -4,6 +4,7 @@ mod Answering
 mod PlaceMoves
 mod CountMoves
 mod SlotMoves
+mod QuietMoves
 mod ListMoves
 mod BlockMoves
 mod BriefMoves

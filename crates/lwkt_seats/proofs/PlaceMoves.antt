@@ -92,9 +92,13 @@ claims_allowed key slots number st there at s rests homes fits = go (eqb word 0)
     go false differs = (key, keeps, tt, unmoved (arc_value key) s rests number inside 1 views (λ e. let f : 1 ≡ 0 = e in omega arith), λ zero_word. absurd (eqb-false word 0 differs zero_word))
     go true equals =
         let found = rests.home number inside (eqb-true word 0 equals) in
-        let Out : ℕ → Type 0 = λ k. HasTaken key k (key, (number, Some found.0) ∷ []) in
-        (key, takes number (Some found.0), found.1.0, still (arc_value key) s rests number inside 1 none views (λ e. absurd (let f : 1 ≡ 0 = e in omega arith)),
-         λ _ k at_k. subst Out (only k number (sym at ∙ at_k)) (found.0, (refl, found.1.1)))
+        let Out : ℕ → Type 0 = λ k. HasTaken key k (key, (number, Some found.0) ∷ []) in (
+          key,
+          takes number (Some found.0),
+          found.1.0,
+          still (arc_value key) s rests number inside 1 none views (λ e. absurd (let f : 1 ≡ 0 = e in omega arith)),
+          λ _ k at_k. subst Out (only k number (sym at ∙ at_k)) (found.0, (refl, found.1.1)),
+        )
 
 -- a store that puts the seat back
 pub leaves_allowed : (key : Share) (slots number id : ℕ) (me : Me Slot Share) (st : Step Slot) → number < slots → HasTaken key number me

@@ -170,3 +170,18 @@ pub(crate) fn give(seat: &mut CpuSeat, bank: &Bank, token: u32) -> GaveBack
     seat.give(bank, tok);
     GaveBack::Given
 }
+
+/// Gives back the one reference of an exclusive holder who has written nothing, to a token whose law asks nothing. Whether it is so:
+/// else all stays as it is.
+#[inline(always)]
+pub(crate) fn give_quietly(seat: &mut CpuSeat, bank: &Bank, token: u32) -> bool
+    requires of { bank_of seat.old ≡ id_of bank.now }
+    ensures gives { result ≡ true → GivesToken token seat.old seat.new GaveBack.Given }
+    ensures kept { result ≡ false → seat.new ≡ seat.old }
+    ensures same { KeepsBankAndCpu seat.old seat.new }
+{
+    if token as usize >= bank.tokens() {
+        return false;
+    }
+    seat.give_quietly(bank, TokId(token as u8))
+}

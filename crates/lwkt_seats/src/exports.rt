@@ -1,12 +1,14 @@
 //! The calls on a seat, for C; include/lwkt.h declares them.
-ghost use Rattle.std.specs.Prelude.{◌≡◌, ◌≢◌, ℕ};
+ghost use Rattle.std.specs.Prelude.{◌≡◌, ◌≢◌, ℕ, Some};
 ghost use Rattle.lwkt_base.specs.declared.names.Mode.TheVariants.{Exclusive, Shared};
-ghost use Rattle.lwkt_seats.specs.Desks.{IsDeskAnswer};
+ghost use Rattle.lwkt_seats.specs.Desks.{HasSeat, IsDeskAnswer};
 ghost use Rattle.lwkt_seats.specs.Calls.{TakesAt, GainsOne, SetsMark, GivesOneBack, LoadsCell, StoresValue, AddsTo, JudgesRow, RestoresFirst, PutsLoaded, PutsAdded};
 ghost use Rattle.lwkt_seats.specs.Numbers.{loaded_number, added_number};
 
 use crate::answers::{Added, Loaded};
+use crate::desks::Desk;
 use crate::handles::LwktBank;
+use crate::places::Hand;
 use lwkt_base::Mode;
 
 // Puts the value of a cell in its place, and answers.
@@ -110,6 +112,20 @@ pub extern "C" fn lwkt_mark(bank: LwktBank, seat: u32, token: u32) -> u32
     answer.number()
 }
 
+// Gives a reference back, of a seat that was taken from its place.
+#[inline(never)]
+fn give(desk: &Desk, mut hand: Hand, seat: u32, token: u32) -> u32
+    requires { HasSeat desk.now seat hand }
+    ensures { IsDeskAnswer (Some desk.now) seat (GivesOneBack token) result }
+{
+    let Some(sitter) = hand.slot_mut(&desk.places.shared, seat as usize) else {
+        unreachable!()
+    };
+    let answer = sitter.give(token);
+    desk.put_back(seat, hand);
+    answer.number()
+}
+
 /// Gives a reference back.
 ///
 /// 0; or 16 where there is no such token, else 13 where the seat doesn't hold it, else 19 where it is the last reference of an
@@ -125,9 +141,11 @@ pub extern "C" fn lwkt_give(bank: LwktBank, seat: u32, token: u32) -> u32
     let Some(sitter) = hand.slot_mut(&desk.places.shared, seat as usize) else {
         unreachable!()
     };
-    let answer = sitter.give(token);
+    if !sitter.give_quietly(token) {
+        return give(desk, hand, seat, token);
+    }
     desk.put_back(seat, hand);
-    answer.number()
+    0
 }
 
 /// Stores a value in a cell.

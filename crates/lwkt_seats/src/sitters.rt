@@ -1,5 +1,5 @@
 //! A seat with its bank, as it rests between calls, and what the calls do to it.
-ghost use Rattle.std.specs.Prelude.{◌≡◌};
+ghost use Rattle.std.specs.Prelude.{◌≡◌, true, false};
 ghost use Rattle.std.specs.Arc.{arc_value};
 ghost use Rattle.std.proofs.Props.{props};
 ghost use Rattle.lwkt_bank.specs.Seats.{id_of, bank_of, references};
@@ -76,6 +76,21 @@ impl Sitter {
         let gave = asks::give(&mut self.seat, &self.bank, token);
         gave.count_in(&mut self.count);
         gave
+    }
+
+    /// Gives back the one reference of an exclusive holder who has written nothing, to a token whose law asks nothing. Whether it is so:
+    /// else all stays as it is.
+    #[inline(always)]
+    pub(crate) fn give_quietly(&mut self, token: u32) -> bool
+        ensures gives { result ≡ true → GivesToken token self.old.seat self.new.seat GaveBack.Given }
+        ensures kept { result ≡ false → self.new.seat ≡ self.old.seat }
+        ensures same { StaysSeated self.old self.new }
+    {
+        if !asks::give_quietly(&mut self.seat, &self.bank, token) {
+            return false;
+        }
+        self.count -= 1;
+        true
     }
 
     /// The value of a cell.
