@@ -105,7 +105,6 @@ impl CpuSeat {
     }
 
     // The same as `lawful`, each cell loaded.
-    #[inline(never)]
     fn row_is_lawful(&mut self, bank: &Bank, tok: TokId) -> bool
         requires of { bank_of self.old ≡ id_of bank.now }
         requires there { tok.0 < tokens_of (bank_of self.old) }
@@ -121,7 +120,6 @@ impl CpuSeat {
     }
 
     /// Whether row and record obey the law; under Tally always. That the seat holds the token exclusively is the caller's condition.
-    #[inline(always)]
     pub fn lawful(&mut self, bank: &Bank, tok: TokId) -> bool
         requires of { bank_of self.old ≡ id_of bank.now }
         requires there { tok.0 < tokens_of (bank_of self.old) }
