@@ -231,7 +231,7 @@ uint32_t lwkt_word_give_written(uint64_t word, uint64_t *next);
 //   stays held by its seat, from which any thread may go on.
 //
 // A bank takes about 30 KB for each seat and 800 bytes for each token, with all that its close needs. `lwkt_bank_close` gives that back
-// but for less than 300 bytes, so that the handle can be used on: those go by `lwkt_bank_free`. What a lost call had, its seat and a share
+// but for less than 1,300 bytes, so that the handle can be used on: those go by `lwkt_bank_free`. What a lost call had, its seat and a share
 // of the bank, stays.
 #define LWKT_BUSY 23u
 #define LWKT_RACE 34u

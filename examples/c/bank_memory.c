@@ -41,12 +41,13 @@ static void count(int good, const char *what) {
 
 static const lwkt_token tokens[2] = {{.cells = {5}, .param = 5, .cell_count = 1, .law = LWKT_LAW_TALLY}, {.law = LWKT_LAW_ANY, .record = "abc", .record_length = 3, .record_count = 1}};
 
-// Whether a bank closes without a call for memory, and then is freed, so that as many blocks are out as before it was opened.
+// Whether a bank closes without a call for memory, which leaves its desk and the words and slots of the places of its seats, and then is
+// freed, so that as many blocks are out as before it was opened.
 static int closes_and_goes(lwkt_bank *bank, long out) {
     lwkt_closing closings[2];
     long before = calls;
     int good = lwkt_bank_close(*bank, closings, 2) == 0 && calls == before && closings[0].cells[0] == 5 && closings[1].record_length == 3;
-    return good && blocks == out + 2 && lwkt_bank_free(bank) == 0 && calls == before && blocks == out;
+    return good && blocks == out + 3 && lwkt_bank_free(bank) == 0 && calls == before && blocks == out;
 }
 
 // Each call for memory of an opening is refused in turn. Some are tried in another way then, and the bank is opened.

@@ -17,7 +17,7 @@ use lwkt_base::limits::CELL_LIMIT;
 use lwkt_base::{Blob, Law, Row, TokId};
 
 // Whether the law asks nothing of a row.
-fn asks_nothing(law: Law) -> bool
+pub(crate) fn asks_nothing(law: Law) -> bool
     ensures meets { result ≡ true → (param : ℕ) → (row : List ℕ) → (len : Option ℕ) → Obeys law param row len }
     ensures nothing { result ≡ true → (deeds : List Deed) → lawful_loads law deeds ≡ [] }
     ensures all { result ≡ false → (deeds : List Deed) → lawful_loads law deeds ≡ deeds }

@@ -18,6 +18,8 @@ use Rattle.lwkt_bank.specs.Views.{generation_in, looked}
 use Rattle.lwkt_bank.specs.Seats.{plan_of, bank_of, entry, Changes, Looked, Took, Lost, Stepped, Gave, Knowing, IsUnchanged}
 use Rattle.lwkt_seats.specs.declared.answers.Asked.{Asked}
 use Rattle.lwkt_seats.specs.declared.answers.Asked.TheVariants as asked
+use Rattle.lwkt_seats.specs.declared.answers.Furthered.{Furthered}
+use Rattle.lwkt_seats.specs.declared.answers.Furthered.TheVariants as furthered
 use Rattle.lwkt_seats.specs.declared.answers.Marked.{Marked}
 use Rattle.lwkt_seats.specs.declared.answers.Marked.TheVariants as marked
 use Rattle.lwkt_seats.specs.declared.answers.GaveBack.{GaveBack}
@@ -41,15 +43,13 @@ use Rattle.lwkt_seats.specs.declared.list_answers.Missed.{Missed}
 use Rattle.lwkt_seats.specs.declared.list_answers.Missed.TheVariants as missed
 use Rattle.lwkt_seats.specs.declared.list_answers.Resumed.{Resumed}
 use Rattle.lwkt_seats.specs.declared.list_answers.Resumed.TheVariants as resumed
-use Rattle.lwkt_seats.specs.declared.spots.Spot.{Spot}
-use Rattle.lwkt_seats.specs.declared.spots.Sitter.{Sitter}
-use Rattle.lwkt_seats.specs.Asks.{AsksFor, MarksToken, GivesToken, GivesReference}
+use Rattle.lwkt_seats.specs.Asks.{AsksFor, Furthers, MarksToken, GivesToken, GivesReference}
 use Rattle.lwkt_seats.specs.Cells.{Loads, StoresInCell, AddsToCell, JudgesToken, RestoresRow, Restores}
 use Rattle.lwkt_seats.specs.Records.{ReadsBytes, WritesBytes}
 use Rattle.lwkt_seats.specs.Lists.{DoneInTurn, TakesOne, MissesOne, GivesUnwritten, ResumesSeat, EndsRestored, EndsOne, EndsPair, BlocksSeat, refs_of}
 use Rattle.lwkt_seats.specs.Calls.{PutsRecord}
 use Rattle.lwkt_seats.specs.Numbers.{record_read_number}
-use Rattle.lwkt_seats.specs.Seated.{IsBrief, AreBrief, IsSeated, KeepsBankAndCpu}
+use Rattle.lwkt_seats.specs.Brief.{IsBrief, AreBrief}
 
 -- what a call leaves short, if it was
 abbrev pub Keeps : CpuSeat → CpuSeat → Type 0
@@ -103,6 +103,12 @@ asks mode tok s s' asked.Upgrade does = same s s' does.3
 asks mode tok s s' asked.Busy does = looks s s' tok does.1.0 does.1.1.1
 asks mode tok s s' asked.Again does = loses s s' tok mode _ does.1
 asks mode tok s s' asked.Worn does = looks s s' tok does.1.0 does.1.1.1
+
+pub furthers : (tok : ℕ) (s s' : CpuSeat) (answer : Furthered) → Furthers tok s s' answer → Keeps s s'
+furthers tok s s' furthered.Further does = changed s s' tok _ _ does.3.changes (λ brief. brief)
+furthers tok s s' furthered.NoToken does = same s s' does.1
+furthers tok s s' furthered.NotHeld does = same s s' does.2
+furthers tok s s' furthered.ListFull does = same s s' does.3
 
 pub marks : (tok : ℕ) (s s' : CpuSeat) (answer : Marked) → MarksToken tok s s' answer → Keeps s s'
 marks tok s s' marked.Set does = changed s s' tok _ _ does.1.changes (λ brief. brief)
@@ -232,9 +238,3 @@ read_short tok s s' read.NoToken before now before_length now_length number brie
 read_short tok s s' read.NoRecord before now before_length now_length number brief does puts_it is none = absurd (omega (arith, is, none))
 read_short tok s s' read.NotHeld before now before_length now_length number brief does puts_it is none = absurd (omega (arith, is, none))
 read_short tok s s' read.SharedRecord before now before_length now_length number brief does puts_it is none = absurd (omega (arith, is, none))
-
--- a seat that is taken from its place, and stays the same with short records, may be put back there
-pub seated-at : (spot : Spot) (sitter held : Sitter) (new : CpuSeat) → held ≡ sitter → IsSeated spot sitter → KeepsBankAndCpu held.seat new → Keeps held.seat new → IsSeated spot (record { seat = new; bank = held.bank })
-seated-at spot sitter held new is seated kept keeps =
-    let there = subst (IsSeated spot) (sym is) seated in
-    record { bank = there.bank; of = kept.0 ∙ there.of; cpu = kept.1 ∙ there.cpu; brief = keeps there.brief }

@@ -4,75 +4,67 @@ use Rattle.std.specs.Prelude.{Option, Some, None, IfSome, MatchOption, Result, O
 use Rattle.std.proofs.lemmas.Bool.{cases_lt}
 use Rattle.std.proofs.lemmas.List.{get_or_past}
 use Rattle.std.proofs.lemmas.Option.{slice_get-get_or}
-use Rattle.std.specs.Global.{Box}
-use Rattle.std.specs.Arc.{arc_value}
-use Rattle.lwkt_base.specs.declared.names.CpuId.{CpuId}
 use Rattle.lwkt_base.specs.Holding.{Holding, holds_nothing}
 use Rattle.lwkt_bank.specs.declared.banks.Bank.{Bank}
 use Rattle.lwkt_bank.specs.declared.seats.CpuSeat.{CpuSeat}
 use Rattle.lwkt_core.specs.Tokens.{IsShort}
 use Rattle.lwkt_bank.specs.declared.closed.Closed.{Closed}
 use Rattle.lwkt_bank.specs.Gathered.{IsClosed}
-use Rattle.lwkt_bank.specs.Seats.{id_of, bank_of, cpus_of, tokens_of, plan_of, holding}
+use Rattle.lwkt_bank.specs.Seats.{id_of, cpus_of, tokens_of, plan_of, holding}
 use Rattle.lwkt_bank.specs.Closing.{IsReady}
-use Rattle.lwkt_seats.specs.declared.spots.Spot.{Spot}
-use Rattle.lwkt_seats.specs.declared.spots.Sitter.{Sitter}
+use Rattle.lwkt_seats.specs.declared.taken.Taken.{Taken}
 use Rattle.lwkt_seats.specs.declared.desks.Desk.{Desk}
-use Rattle.lwkt_seats.specs.Seated.{IsSeated}
-use Rattle.lwkt_seats.specs.Desks.{IsPlaced, IsSeatAt}
-use Rattle.lwkt_seats.specs.Closes.{IsBankOf, IsFreeAt, AreFree, SomeHolds, IsSized, ClosesDesk}
+use Rattle.lwkt_seats.specs.Desks.{seats_of, bank_at, IsSeatAt}
+use Rattle.lwkt_seats.specs.Closes.{HasOut, IsFreeAt, AreFree, SomeHolds, IsSized, ClosesDesk}
+use Rattle.lwkt_seats.proofs.Answering.{seat_at}
 use Rattle.lwkt_seats.proofs.BriefMoves.{tally_or_not}
 
-abbrev pub seat_in : Box Sitter → CpuSeat
-seat_in x = x.value.seat
+abbrev pub seat_in : Taken → CpuSeat
+seat_in x = x.sitter.value.seat
 
-pub fewer : (xs : List (Box Sitter)) (x : Box Sitter) (ys : List (Box Sitter)) → length xs < length (xs ++ x ∷ ys)
+pub fewer : (xs : List Taken) (x : Taken) (ys : List Taken) → length xs < length (xs ++ x ∷ ys)
 fewer [] x ys = omega arith
 fewer (y ∷ xs) x ys = let r = fewer xs x ys in omega arith
 
-pub seats_in : (xs : List (Box Sitter)) → length (map seat_in xs) ≡ length xs
+pub seats_in : (xs : List Taken) → length (map seat_in xs) ≡ length xs
 seats_in [] = refl
 seats_in (x ∷ xs) = ap suc (seats_in xs)
 
-pub whole_more : (xs : List (Box Sitter)) (x : Box Sitter) (ys : List (Box Sitter)) → (xs ++ x ∷ []) ++ ys ≡ xs ++ x ∷ ys
+pub whole_more : (xs : List Taken) (x : Taken) (ys : List Taken) → (xs ++ x ∷ []) ++ ys ≡ xs ++ x ∷ ys
 whole_more [] x ys = refl
-whole_more (y ∷ xs) x ys = ap (λ (zs : List (Box Sitter)). y ∷ zs) (whole_more xs x ys)
+whole_more (y ∷ xs) x ys = ap (λ (zs : List Taken). y ∷ zs) (whole_more xs x ys)
 
-map_more : (xs : List (Box Sitter)) (x : Box Sitter) → map seat_in (xs ++ x ∷ []) ≡ map seat_in xs ++ seat_in x ∷ []
+map_more : (xs : List Taken) (x : Taken) → map seat_in (xs ++ x ∷ []) ≡ map seat_in xs ++ seat_in x ∷ []
 map_more [] x = refl
 map_more (y ∷ xs) x = ap (λ (zs : List CpuSeat). seat_in y ∷ zs) (map_more xs x)
 
-pub seats_more : (xs : List (Box Sitter)) (x : Box Sitter) (seats : List CpuSeat) (seat : CpuSeat) → seats ≡ map seat_in xs → seat ≡ seat_in x → seats ++ seat ∷ [] ≡ map seat_in (xs ++ x ∷ [])
+pub seats_more : (xs : List Taken) (x : Taken) (seats : List CpuSeat) (seat : CpuSeat) → seats ≡ map seat_in xs → seat ≡ seat_in x → seats ++ seat ∷ [] ≡ map seat_in (xs ++ x ∷ [])
 seats_more xs x seats seat is same = ap (λ (s : CpuSeat). seats ++ s ∷ []) same ∙ ap (λ (zs : List CpuSeat). zs ++ seat_in x ∷ []) is ∙ sym (map_more xs x)
 
 -- the last of a list, and those in front of it
-last_at : (xs : List (Box Sitter)) (x : Box Sitter) → slice_get (xs ++ x ∷ []) (length xs) ≡ Some x
+last_at : (xs : List Taken) (x : Taken) → slice_get (xs ++ x ∷ []) (length xs) ≡ Some x
 last_at [] x = refl
 last_at (y ∷ xs) x = last_at xs x
 
-front_at : (xs : List (Box Sitter)) (x y : Box Sitter) (k : ℕ) → slice_get xs k ≡ Some y → slice_get (xs ++ x ∷ []) k ≡ Some y
+front_at : (xs : List Taken) (x y : Taken) (k : ℕ) → slice_get xs k ≡ Some y → slice_get (xs ++ x ∷ []) k ≡ Some y
 front_at [] x y k is = absurd cc
 front_at (z ∷ xs) x y zero is = is
 front_at (z ∷ xs) x y (suc k) is = front_at xs x y k is
 
-pub front_free : (desk : Desk) (all xs : List (Box Sitter)) (x : Box Sitter) → all ≡ xs ++ x ∷ [] → AreFree desk all → AreFree desk xs
-front_free desk all xs x is free k y at = free k y (ap (λ (zs : List (Box Sitter)). slice_get zs k) is ∙ front_at xs x y k at)
+pub front_free : (desk : Desk) (all xs : List Taken) (x : Taken) → all ≡ xs ++ x ∷ [] → AreFree desk all → AreFree desk xs
+front_free desk all xs x is free k y at = free k y (ap (λ (zs : List Taken). slice_get zs k) is ∙ front_at xs x y k at)
 
-one_spot : (a b : Spot) (x : Option Spot) → x ≡ Some a → x ≡ Some b → a ≡ b
-one_spot a b x p q = cc
-
-pub last_seated : (desk : Desk) (all xs : List (Box Sitter)) (x : Box Sitter) (spot : Spot) (k : ℕ) → all ≡ xs ++ x ∷ [] → AreFree desk all → k ≡ length xs → slice_get desk.places.items k ≡ Some spot → IsSeated spot x.value
-last_seated desk all xs x spot k is free number at =
-    let there = free (length xs) x (ap (λ (zs : List (Box Sitter)). slice_get zs (length xs)) is ∙ last_at xs x) in
-    let same : slice_get desk.places.items (length xs) ≡ Some spot = ap (λ (n : ℕ). slice_get desk.places.items n) (sym number) ∙ at in
-    subst (λ (s : Spot). IsSeated s x.value) (one_spot there.0 spot (slice_get desk.places.items (length xs)) there.1.0 same) there.1.1
+pub last_out : (desk : Desk) (all xs : List Taken) (x : Taken) (k : ℕ) → all ≡ xs ++ x ∷ [] → AreFree desk all → k ≡ length xs → HasOut desk k x
+last_out desk all xs x k is free number =
+    let there = free (length xs) x (ap (λ (zs : List Taken). slice_get zs (length xs)) is ∙ last_at xs x) in
+    subst (λ (n : ℕ). HasOut desk n x) (sym number) there.0
 
 -- a seat that was taken from its place is that of the place's number
-pub seat_there : (desk : Desk) (number : ℕ) (spot : Spot) (s : Sitter) → IsPlaced desk number spot → IsSeated spot s → IsSeatAt desk number s.seat
-seat_there desk number spot s at seated = (spot, (at, seated.of, ap (λ (c : CpuId). c.0) seated.cpu ∙ (desk.spots number number spot spot at at).1))
+pub seat_there : (desk : Desk) (number : ℕ) (x : Taken) → HasOut desk number x → IsSeatAt desk number (seat_in x)
+seat_there desk number x out = seat_at desk number x.sitter.value out.there out.seated
 
-pub holds_there : (desk : Desk) (number : ℕ) (spot : Spot) (s : Sitter) → IsPlaced desk number spot → IsSeated spot s → (holding s.seat ≢ holds_nothing) → SomeHolds desk
-holds_there desk number spot s at seated holds = (number, (s.seat, (seat_there desk number spot s at seated, holds)))
+pub holds_there : (desk : Desk) (number : ℕ) (x : Taken) → HasOut desk number x → (holding (seat_in x) ≢ holds_nothing) → SomeHolds desk
+holds_there desk number x out holds = (number, (seat_in x, (seat_there desk number x out, holds)))
 
 -- one seat more is taken from its place
 some_is : {A : Type 0} (x y : A) → Some x ≡ Some y → x ≡ y
@@ -84,59 +76,45 @@ at_end {A} [] x y (suc k) is = absurd cc
 at_end {A} (z ∷ xs) x y zero is = inl is
 at_end {A} (z ∷ xs) x y (suc k) is = elim (at_end xs x y k is) [ inl front ↦ inl front | inr last ↦ inr (ap suc last.0, last.1) ]
 
-pub free_more : (desk : Desk) (xs : List (Box Sitter)) (x : Box Sitter) (number : ℕ) → AreFree desk xs → number ≡ length xs → IsFreeAt desk number x.value → AreFree desk (xs ++ x ∷ [])
+pub free_more : (desk : Desk) (xs : List Taken) (x : Taken) (number : ℕ) → AreFree desk xs → number ≡ length xs → IsFreeAt desk number x → AreFree desk (xs ++ x ∷ [])
 free_more desk xs x number free count here = λ k y at. elim (at_end xs x y k at) [
   | inl front ↦ free k y front
   | inr last ↦
-      let F : ℕ → Type 0 = λ n. IsFreeAt desk n y.value in
-      subst F (count ∙ sym last.0) (subst (λ (z : Box Sitter). IsFreeAt desk number z.value) last.1 here)
+      let F : ℕ → Type 0 = λ n. IsFreeAt desk n y in
+      subst F (count ∙ sym last.0) (subst (λ (z : Taken). IsFreeAt desk number z) last.1 here)
 ]
 
-pub longer : (xs : List (Box Sitter)) (x : Box Sitter) → length (xs ++ x ∷ []) ≡ length xs + 1
+pub longer : (xs : List Taken) (x : Taken) → length (xs ++ x ∷ []) ≡ length xs + 1
 longer [] x = refl
 longer (y ∷ xs) x = let r = longer xs x in omega arith
 
-seat_from : (xs : List (Box Sitter)) (k : ℕ) (s : CpuSeat) → slice_get (map seat_in xs) k ≡ Some s → (x : Box Sitter) × ((slice_get xs k ≡ Some x) × (seat_in x ≡ s))
+seat_from : (xs : List Taken) (k : ℕ) (s : CpuSeat) → slice_get (map seat_in xs) k ≡ Some s → (x : Taken) × ((slice_get xs k ≡ Some x) × (seat_in x ≡ s))
 seat_from [] k s is = absurd cc
 seat_from (x ∷ xs) zero s is = (x, (refl, some_is (seat_in x) s is))
 seat_from (x ∷ xs) (suc k) s is = seat_from xs k s is
 
--- a desk has a first place, and its bank is that of each place
-first_of : (spots : List Spot) → 0 < length spots → (spot : Spot) × (slice_get spots 0 ≡ Some spot)
-first_of [] some = absurd (omega (arith, some))
-first_of (x ∷ xs) some = (x, refl)
-
-pub bank_of_desk : (desk : Desk) → IsBankOf desk (arc_value desk.drawer)
-bank_of_desk desk number spot at = desk.one number spot at
-
-pub cpus_is : (desk : Desk) → cpus_of (arc_value desk.drawer) ≡ length desk.places.items
-cpus_is desk =
-    let first = first_of desk.places.items desk.some in
-    ap (λ (b : Bank). cpus_of b) (sym (desk.one 0 first.0 first.1)) ∙ (desk.spots 0 0 first.0 first.0 first.1 first.1).2
-
 -- the seats of a desk that were taken from their places are of one bank, hold nothing, and are as many as it has processors
-module _ (desk : Desk) (xs : List (Box Sitter)) (free : AreFree desk xs) where
+module _ (desk : Desk) (xs : List Taken) (free : AreFree desk xs) where
   pub seated_at : (k : ℕ) (s : CpuSeat) → slice_get (map seat_in xs) k ≡ Some s → IsSeatAt desk k s
   seated_at k s at =
       let found = seat_from xs k s at in
       let there = free k found.0 found.1.0 in
-      subst (IsSeatAt desk k) found.1.1 (seat_there desk k there.0 found.0.value there.1.0 there.1.1)
+      subst (IsSeatAt desk k) found.1.1 (seat_there desk k found.0 there.0)
 
-  ready_at : (bank : Bank) (k : ℕ) (s : CpuSeat) → IsBankOf desk bank → slice_get (map seat_in xs) k ≡ Some s → IsReady (id_of bank) s
-  ready_at bank k s of at =
+  ready_at : (k : ℕ) (s : CpuSeat) → slice_get (map seat_in xs) k ≡ Some s → IsReady (id_of (bank_at desk)) s
+  ready_at k s at =
       let found = seat_from xs k s at in
       let there = free k found.0 found.1.0 in
-      let F : Bank → Type 0 = λ b. bank_of found.0.value.seat ≡ id_of b in
-      let ready : IsReady (id_of bank) (seat_in found.0) = record { of = subst F (of k there.0 there.1.0) there.1.1.of; empty = λ tok below. ap (λ (h : Holding). h tok) there.1.2 } in
-      subst (IsReady (id_of bank)) found.1.1 ready
+      let ready : IsReady (id_of (bank_at desk)) (seat_in found.0) = record { of = (seat_there desk k found.0 there.0).1; empty = λ tok below. ap (λ (h : Holding). h tok) there.1 } in
+      subst (IsReady (id_of (bank_at desk))) found.1.1 ready
 
-  pub all_ready : (bank : Bank) (seats : List CpuSeat) → seats ≡ map seat_in xs → IsBankOf desk bank → All (IsReady (id_of bank)) seats
-  all_ready bank seats are of = λ k d within.
+  pub all_ready : (seats : List CpuSeat) → seats ≡ map seat_in xs → All (IsReady (id_of (bank_at desk))) seats
+  all_ready seats are = λ k d within.
       let F : List CpuSeat → Type 0 = λ ss. slice_get ss k ≡ Some (slice_index_or seats k d) in
-      ready_at bank k (slice_index_or seats k d) of (subst F are (slice_get-get_or seats k d within))
+      ready_at k (slice_index_or seats k d) (subst F are (slice_get-get_or seats k d within))
 
-  pub as_many : (seats : List CpuSeat) → seats ≡ map seat_in xs → length xs ≡ length desk.places.items → length seats ≡ cpus_of (arc_value desk.drawer)
-  as_many seats are all = ap length are ∙ seats_in xs ∙ all ∙ sym (cpus_is desk)
+  pub as_many : (seats : List CpuSeat) → seats ≡ map seat_in xs → length xs ≡ seats_of desk → length seats ≡ cpus_of (bank_at desk)
+  as_many seats are all = ap length are ∙ seats_in xs ∙ all ∙ sym desk.all
 
 -- the closing values fit what C gets of them
 pub sized : (bank : Bank) (seats : List CpuSeat) (closed : Closed) → cpus_of bank ≤ 8 → IsClosed (id_of bank) (cpus_of bank) seats closed → IsSized closed
@@ -160,29 +138,27 @@ sized bank seats closed few is tok = elim (cases_lt tok (tokens_of (id_of bank))
 ]
 
 -- and so the desk ends
-module _ (desk : Desk) (xs : List (Box Sitter)) (free : AreFree desk xs) (seats : List CpuSeat) (room : ℕ) where
+module _ (desk : Desk) (xs : List Taken) (free : AreFree desk xs) (seats : List CpuSeat) (room : ℕ) where
   abbrev B : Bank
-  B = arc_value desk.drawer
+  B = bank_at desk
 
-  pub ends : (closed : Closed) → seats ≡ map seat_in xs → length xs ≡ length desk.places.items → tokens_of (id_of B) ≤ room → IsClosed (id_of B) (cpus_of B) seats closed → ClosesDesk desk room closed
+  pub ends : (closed : Closed) → seats ≡ map seat_in xs → length xs ≡ seats_of desk → tokens_of (id_of B) ≤ room → IsClosed (id_of B) (cpus_of B) seats closed → ClosesDesk desk room closed
   ends closed are all fits is =
       let places = ap length are ∙ seats_in xs ∙ all in
       let few = desk.few in
-      let many = cpus_is desk in
+      let many = desk.all in
       record {
-        bank = B;
         seats = seats;
-        is_bank = bank_of_desk desk;
         as_many = places;
         seated = λ k s here. seated_at desk xs free k s (subst (λ (ss : List CpuSeat). slice_get ss k ≡ Some s) are here);
-        ready = all_ready desk xs free B seats are (bank_of_desk desk);
+        ready = all_ready desk xs free seats are;
         is_closed = is;
         lawful = λ tok below. (is.each tok below).lawful;
         sized = sized B seats closed (omega (arith, few, many)) is;
         fits = fits;
       }
 
-  pub ended : (came : Result Closed ℕ) → seats ≡ map seat_in xs → length xs ≡ length desk.places.items → tokens_of (id_of B) ≤ room
+  pub ended : (came : Result Closed ℕ) → seats ≡ map seat_in xs → length xs ≡ seats_of desk → tokens_of (id_of B) ≤ room
       → IfOk came (λ closed. IsClosed (id_of B) (cpus_of B) seats closed) → IfOk came (λ closed. ClosesDesk desk room closed)
   ended (Ok closed) are all fits is = ends closed are all fits is
   ended (Err answer) are all fits is = tt

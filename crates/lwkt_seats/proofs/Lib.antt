@@ -1,7 +1,10 @@
 mod DeskBox
 mod HeldSteps
 mod Answering
-mod Placing
+mod PlaceMoves
+mod CountMoves
+mod SlotMoves
+mod QuietMoves
 mod ListMoves
 mod BlockMoves
 mod BriefMoves

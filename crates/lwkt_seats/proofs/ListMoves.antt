@@ -88,7 +88,7 @@ seen_held : (b : Bool) (e : TokenEntry) (g : ℕ) → (cond b e (record e { gene
 seen_held true e g = refl
 seen_held false e g = refl
 
-looked_held : (e : TokenEntry) (word : ℕ) → (looked e word).held ≡ e.held
+pub looked_held : (e : TokenEntry) (word : ℕ) → (looked e word).held ≡ e.held
 looked_held e word = seen_held (eqb e.generation (generation_in word)) e (generation_in word)
 
 -- a missed reference changes nothing that is held

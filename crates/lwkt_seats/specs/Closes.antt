@@ -1,7 +1,6 @@
 -- The close of a bank (own).
-use Rattle.std.specs.Prelude.{◌≡◌, ◌≢◌, ℕ, ◌<◌, ◌≤◌, List, [], length, All, None, Some, slice_get, slice_index_or, vec_capacity}
+use Rattle.std.specs.Prelude.{◌≡◌, ◌≢◌, ℕ, ◌<◌, ◌≤◌, List, [], ◌∷◌, length, All, None, Some, slice_get, slice_index_or, vec_capacity}
 use Rattle.std.specs.Arc.{arc_value}
-use Rattle.std.specs.Global.{Box}
 use Rattle.lwkt_base.specs.declared.limits.TheConstants.{CELL_LIMIT, CPU_LIMIT}
 use Rattle.lwkt_base.specs.Holding.{holds_nothing}
 use Rattle.lwkt_base.specs.Law.{Obeys}
@@ -12,32 +11,34 @@ use Rattle.lwkt_bank.specs.declared.closed.Closed.{Closed}
 use Rattle.lwkt_bank.specs.Seats.{id_of, cpus_of, tokens_of, plan_of, holding}
 use Rattle.lwkt_bank.specs.Closing.{IsReady, IsRoomFor}
 use Rattle.lwkt_bank.specs.Gathered.{IsClosed}
-use Rattle.lwkt_seats.specs.declared.spots.Spot.{Spot}
-use Rattle.lwkt_seats.specs.declared.spots.Sitter.{Sitter}
+use Rattle.lwkt_seats.specs.declared.taken.Taken.{Taken}
 use Rattle.lwkt_seats.specs.declared.desks.Desk.{Desk}
 use Rattle.lwkt_seats.specs.declared.endings.Ending.{Ending}
 use Rattle.lwkt_seats.specs.Seated.{IsSeated}
-use Rattle.lwkt_seats.specs.Desks.{IsPlaced, IsSeatAt}
+use Rattle.lwkt_seats.specs.Desks.{seats_of, bank_at, IsSeatAt}
 
--- the bank of a desk
-abbrev pub IsBankOf : Desk → Bank → Type 0
-IsBankOf desk bank = (number : ℕ) (spot : Spot) → IsPlaced desk number spot → arc_value spot.bank ≡ bank
+-- this is the seat of a number, out of its slot
+pub record HasOut (desk : Desk) (number : ℕ) (x : Taken) : Type 0 where
+  pub there : number < seats_of desk
+  pub table : x.hand.table_id ≡ desk.places.shared.table_id
+  pub right : x.hand.me ≡ (desk.places.shared.key, (number, None) ∷ [])
+  pub seated : IsSeated (bank_at desk) number x.sitter.value
 
--- this seat of the place of a number holds nothing; so do these, from the first place on
-abbrev pub IsFreeAt : Desk → ℕ → Sitter → Type 0
-IsFreeAt desk number s = (spot : Spot) × (IsPlaced desk number spot × IsSeated spot s × (holding s.seat ≡ holds_nothing))
+-- and it holds nothing; so do these, from the first place on
+abbrev pub IsFreeAt : Desk → ℕ → Taken → Type 0
+IsFreeAt desk number x = HasOut desk number x × (holding x.sitter.value.seat ≡ holds_nothing)
 
-abbrev pub AreFree : Desk → List (Box Sitter) → Type 0
-AreFree desk sitters = (number : ℕ) (x : Box Sitter) → slice_get sitters number ≡ Some x → IsFreeAt desk number x.value
+abbrev pub AreFree : Desk → List Taken → Type 0
+AreFree desk sitters = (number : ℕ) (x : Taken) → slice_get sitters number ≡ Some x → IsFreeAt desk number x
 
 -- a share of the desk's bank, all its seats as they were taken from their places, and room for them and for the close
 pub record IsEndingWith (desk : Desk) (e : Ending) : Type 0 where
-  pub is_bank : arc_value e.bank ≡ arc_value desk.drawer
+  pub is_bank : arc_value e.bank ≡ bank_at desk
   pub free : AreFree desk e.sitters.items
-  pub all : length e.sitters.items ≡ length desk.places.items
+  pub all : length e.sitters.items ≡ seats_of desk
   pub no_seats : e.seats.items ≡ []
-  pub seats : length desk.places.items ≤ vec_capacity e.seats
-  pub room : IsRoomFor (id_of (arc_value desk.drawer)) (cpus_of (arc_value desk.drawer)) e.room
+  pub seats : seats_of desk ≤ vec_capacity e.seats
+  pub room : IsRoomFor (id_of (bank_at desk)) (cpus_of (bank_at desk)) e.room
 
 -- a seat of the desk holds a token
 abbrev pub SomeHolds : Desk → Type 0
@@ -45,7 +46,7 @@ SomeHolds desk = (number : ℕ) × ((s : CpuSeat) × (IsSeatAt desk number s × 
 
 -- the bank has more tokens than there is room for
 abbrev pub IsWide : Desk → ℕ → Type 0
-IsWide desk room = (bank : Bank) × (IsBankOf desk bank × (room < tokens_of (id_of bank)))
+IsWide desk room = room < tokens_of (id_of (bank_at desk))
 
 -- the closing values of a token fit what C gets of it
 abbrev pub IsSized : Closed → Type 0
@@ -57,13 +58,11 @@ RowsObeyLaws bank closed = (tok : ℕ) → tok < tokens_of (id_of bank) → Obey
 
 -- the closing values of the desk's bank with its seats, one of each place, which held nothing; there is room for them
 pub record ClosesDesk (desk : Desk) (room : ℕ) (closed : Closed) : Type 0 where
-  pub bank : Bank
   pub seats : List CpuSeat
-  pub is_bank : IsBankOf desk bank
-  pub as_many : length seats ≡ length desk.places.items
+  pub as_many : length seats ≡ seats_of desk
   pub seated : (number : ℕ) (s : CpuSeat) → slice_get seats number ≡ Some s → IsSeatAt desk number s
-  pub ready : All (IsReady (id_of bank)) seats
-  pub is_closed : IsClosed (id_of bank) (cpus_of bank) seats closed
-  pub lawful : RowsObeyLaws bank closed
+  pub ready : All (IsReady (id_of (bank_at desk))) seats
+  pub is_closed : IsClosed (id_of (bank_at desk)) (cpus_of (bank_at desk)) seats closed
+  pub lawful : RowsObeyLaws (bank_at desk) closed
   pub sized : IsSized closed
-  pub fits : tokens_of (id_of bank) ≤ room
+  pub fits : tokens_of (id_of (bank_at desk)) ≤ room

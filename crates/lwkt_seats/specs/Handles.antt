@@ -1,5 +1,5 @@
 -- What C has of a bank: its desk is there for the call, or all of it is C's; or there is none (own).
-use Rattle.std.specs.Prelude.{◌≡◌, ℕ, [], Option, Some, None, MatchOption, IsSomeAnd}
+use Rattle.std.specs.Prelude.{◌≡◌, ℕ, [], Option, Some, None, MatchOption}
 use Rattle.std.specs.Coded.{coded_option}
 use Rattle.std.specs.Box.Ownership.{box_owns}
 use Rattle.std.specs.declared.alloc.Global.{Global}
@@ -9,8 +9,7 @@ use base.Stored.{Coded}
 use denote.RawPtr.{Ptr, null_ptr, Testable}
 use denote.Struct.Lending.{lent_at}
 use Rattle.lwkt_seats.specs.declared.desks.Desk.{Desk}
-use Rattle.lwkt_seats.specs.declared.spots.Spot.{Spot}
-use Rattle.lwkt_seats.specs.Desks.{IsPlaced, IsAbsent}
+use Rattle.lwkt_seats.specs.Desks.{IsAbsent}
 use Rattle.lwkt_seats.specs.contracts.desks.Desk.{the_row}
 
 -- the desk lies there, to be read; a bank of zeros has none
@@ -26,9 +25,6 @@ is_held place (Some desk) = fex Global (λ alloc. box_owns (ghosts.dealloc_token
 abbrev pub desk_coded : Coded (Option the_row.Denot)
 desk_coded = coded_option the_row.coded
 
--- the place of the seat of a number of this bank; and why the seat wasn't there
-abbrev pub IsPlacedIn : Option Desk → ℕ → Spot → Type 0
-IsPlacedIn bank number spot = IsSomeAnd bank (λ desk. IsPlaced desk number spot)
-
+-- why the seat wasn't there
 abbrev pub IsAbsentIn : Option Desk → ℕ → ℕ → Type 0
 IsAbsentIn bank number answer = MatchOption bank (answer ≡ 52) (λ desk. IsAbsent desk number answer)

@@ -1,11 +1,14 @@
 pub mod Numbers
+pub mod Counts
 pub mod Asks
 pub mod Cells
 pub mod Records
 pub mod Lists
 pub mod ListNumbers
+pub mod Brief
 pub mod Seated
-pub mod Spots
+pub mod Places
+pub mod FirstPlaces
 pub mod Endings
 pub mod SeatStates
 pub mod Calls

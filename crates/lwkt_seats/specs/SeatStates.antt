@@ -1,11 +1,11 @@
--- Where a seat is, by the word of its place, and what is answered where it isn't there (own).
+-- Where a seat is, by the word of its place and whether the bank is closed, and what is answered where it isn't there (own).
 use Rattle.std.specs.Prelude.{◌≡◌, ◌≢◌, ◌⊎◌, ℕ, ◌==◌, Bool, true, false, if◌then◌else◌}
 use Rattle.lwkt_seats.specs.declared.desks.SeatState.{SeatState}
 use Rattle.lwkt_seats.specs.declared.desks.SeatState.TheVariants.{Rests, Away, Shut}
 
--- 0 where it rests in its place, 2 where the bank is closed; else a call has it, or had it and never came back
-abbrev pub seat_state : ℕ → SeatState
-seat_state word = if word == 0 then Rests else if word == 2 then Shut else Away
+-- 0 where it rests in its place; else, unless the bank is closed, a call has it, or had it and never came back
+abbrev pub seat_state : ℕ → Bool → SeatState
+seat_state word closed = if word == 0 then Rests else if closed then Shut else Away
 
 -- another call has the seat, 50; or it was given up as lost, 54
 abbrev pub away_number : Bool → ℕ

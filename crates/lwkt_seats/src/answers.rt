@@ -1,5 +1,6 @@
 //! What the calls on a seat answer. Each answer has a number: 0, or that of its fault.
-ghost use Rattle.std.specs.Prelude.{◌≡◌};
+ghost use Rattle.std.specs.Prelude.{◌≡◌, ◌^◌, ◌<◌};
+ghost use Rattle.lwkt_seats.specs.Counts.{count_asked, count_furthered, count_gave};
 ghost use Rattle.lwkt_seats.specs.Numbers.{asked_number, furthered_number, marked_number, gave_number, loaded_number, stored_number, added_number, judged_number, restored_number, record_read_number, record_written_number};
 
 use lwkt_base::Blob;
@@ -34,6 +35,17 @@ impl Asked {
             Asked::Worn => 20,
         }
     }
+
+    /// Counts the references of the seat after it.
+    #[inline(always)]
+    pub fn count_in(self, count: &mut usize)
+        requires { count_asked self count.old < 2 ^ 64 }
+        ensures { count.new ≡ count_asked self count.old }
+    {
+        if let Asked::Taken | Asked::Further = self {
+            *count += 1;
+        }
+    }
 }
 
 /// What asking for a further reference answers.
@@ -55,6 +67,17 @@ impl Furthered {
             Furthered::NoToken => 16,
             Furthered::NotHeld => 13,
             Furthered::ListFull => 10,
+        }
+    }
+
+    /// Counts the references of the seat after it.
+    #[inline(always)]
+    pub fn count_in(self, count: &mut usize)
+        requires { count_furthered self count.old < 2 ^ 64 }
+        ensures { count.new ≡ count_furthered self count.old }
+    {
+        if let Furthered::Further = self {
+            *count += 1;
         }
     }
 }
@@ -97,6 +120,17 @@ impl GaveBack {
             GaveBack::NoToken => 16,
             GaveBack::NotHeld => 13,
             GaveBack::Broken => 19,
+        }
+    }
+
+    /// Counts the references of the seat after it.
+    #[inline(always)]
+    pub fn count_in(self, count: &mut usize)
+        requires { self ≡ GaveBack.Given → 0 < count.old }
+        ensures { count.new ≡ count_gave self count.old }
+    {
+        if let GaveBack::Given = self {
+            *count -= 1;
         }
     }
 }

@@ -3,7 +3,7 @@ ghost use Rattle.std.specs.Prelude.{◌≡◌, ℕ, ◌+◌, ◌-◌, ◌*◌, �
 ghost use Rattle.lwkt_base.specs.Holding.{references_in};
 ghost use Rattle.lwkt_bank.specs.Seats.{id_of, bank_of, tokens_of, holding, references};
 ghost use Rattle.lwkt_seats.specs.Asks.{is_upgrade, has_no_reference, AsksFor, Furthers, MarksToken, GivesToken};
-ghost use Rattle.lwkt_seats.specs.Seated.{KeepsBankAndCpu};
+ghost use Rattle.lwkt_seats.specs.Brief.{KeepsBankAndCpu};
 
 use crate::answers::{Asked, Furthered, GaveBack, Marked};
 use lwkt_bank::{Bank, CpuSeat, Try};
@@ -47,6 +47,7 @@ fn is_upgrade(mode: Mode, held: Held) -> bool
 }
 
 // Asks for a first reference.
+#[inline(always)]
 fn take_first(seat: &mut CpuSeat, bank: &Bank, tok: TokId, mode: Mode, alone: bool) -> Asked
     requires of { bank_of seat.old ≡ id_of bank.now }
     requires there { tok.0 < tokens_of (bank_of seat.old) }
@@ -65,8 +66,10 @@ fn take_first(seat: &mut CpuSeat, bank: &Bank, tok: TokId, mode: Mode, alone: bo
 }
 
 /// Asks for a reference in this mode: a first one, or a further one where the seat holds the token.
-pub(crate) fn ask(seat: &mut CpuSeat, bank: &Bank, token: u32, mode: Mode) -> Asked
+#[inline(always)]
+pub(crate) fn ask(seat: &mut CpuSeat, bank: &Bank, count: usize, token: u32, mode: Mode) -> Asked
     requires of { bank_of seat.old ≡ id_of bank.now }
+    requires count { count ≡ references seat.old }
     ensures does { AsksFor mode token seat.old seat.new result }
     ensures same { KeepsBankAndCpu seat.old seat.new }
 {
@@ -74,13 +77,12 @@ pub(crate) fn ask(seat: &mut CpuSeat, bank: &Bank, token: u32, mode: Mode) -> As
         return Asked::NoToken;
     }
     let tok = TokId(token as u8);
-    let references = count(seat, bank);
-    if references >= 32 {
+    if count >= 32 {
         return Asked::ListFull;
     }
     let held = seat.held(bank, tok);
     if !held.is_held() {
-        return take_first(seat, bank, tok, mode, references == 0);
+        return take_first(seat, bank, tok, mode, count == 0);
     }
     if is_upgrade(mode, held) {
         return Asked::Upgrade;
@@ -90,8 +92,9 @@ pub(crate) fn ask(seat: &mut CpuSeat, bank: &Bank, token: u32, mode: Mode) -> As
 }
 
 /// One reference more of a token that the seat holds.
-pub(crate) fn further(seat: &mut CpuSeat, bank: &Bank, token: u32) -> Furthered
+pub(crate) fn further(seat: &mut CpuSeat, bank: &Bank, count: usize, token: u32) -> Furthered
     requires of { bank_of seat.old ≡ id_of bank.now }
+    requires count { count ≡ references seat.old }
     ensures does { Furthers token seat.old seat.new result }
     ensures same { KeepsBankAndCpu seat.old seat.new }
 {
@@ -102,7 +105,7 @@ pub(crate) fn further(seat: &mut CpuSeat, bank: &Bank, token: u32) -> Furthered
     if !seat.held(bank, tok).is_held() {
         return Furthered::NotHeld;
     }
-    if count(seat, bank) >= 32 {
+    if count >= 32 {
         return Furthered::ListFull;
     }
     seat.again(bank, tok);
@@ -131,6 +134,7 @@ fn ends_section(held: Held) -> bool
 }
 
 // Ends a section that obeys its law.
+#[inline(always)]
 fn end(seat: &mut CpuSeat, bank: &Bank, tok: TokId) -> GaveBack
     requires of { bank_of seat.old ≡ id_of bank.now }
     requires there { tok.0 < tokens_of (bank_of seat.old) }
@@ -146,6 +150,7 @@ fn end(seat: &mut CpuSeat, bank: &Bank, tok: TokId) -> GaveBack
 }
 
 /// Gives a reference back. A section that would end and has broken its law goes on.
+#[inline(always)]
 pub(crate) fn give(seat: &mut CpuSeat, bank: &Bank, token: u32) -> GaveBack
     requires of { bank_of seat.old ≡ id_of bank.now }
     ensures does { GivesToken token seat.old seat.new result }
@@ -164,4 +169,19 @@ pub(crate) fn give(seat: &mut CpuSeat, bank: &Bank, token: u32) -> GaveBack
     }
     seat.give(bank, tok);
     GaveBack::Given
+}
+
+/// Gives back the one reference of an exclusive holder who has written nothing, to a token whose law asks nothing. Whether it is so:
+/// else all stays as it is.
+#[inline(always)]
+pub(crate) fn give_quietly(seat: &mut CpuSeat, bank: &Bank, token: u32) -> bool
+    requires of { bank_of seat.old ≡ id_of bank.now }
+    ensures gives { result ≡ true → GivesToken token seat.old seat.new GaveBack.Given }
+    ensures kept { result ≡ false → seat.new ≡ seat.old }
+    ensures same { KeepsBankAndCpu seat.old seat.new }
+{
+    if token as usize >= bank.tokens() {
+        return false;
+    }
+    seat.give_quietly(bank, TokId(token as u8))
 }

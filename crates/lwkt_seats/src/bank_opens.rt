@@ -4,24 +4,28 @@ ghost use Rattle.std.specs.Arc.{arc_value};
 ghost use Rattle.lwkt_base.specs.Law.{OpensLawfully};
 ghost use Rattle.lwkt_core.specs.Opening.{AreWithin, AllOpenLawfully, IsTokenWithin};
 ghost use Rattle.lwkt_bank.specs.Seats.{id_of, bank_of, cpus_of};
-ghost use Rattle.lwkt_bank.specs.Gathered.{AreHandedOut};
-ghost use Rattle.lwkt_seats.specs.Seated.{AreBrief, IsSeated};
+ghost use Rattle.lwkt_bank.specs.Gathered.{IsNew, AreHandedOut};
+ghost use Rattle.lwkt_seats.specs.Seated.{IsSeated};
+ghost use Rattle.lwkt_seats.specs.Desks.{seats_of};
 ghost use Rattle.lwkt_seats.specs.Endings.{IsEndingOf};
-ghost use Rattle.lwkt_seats.specs.Spots.{AreSpotsOf};
+ghost use Rattle.lwkt_seats.specs.FirstPlaces.{AreSlotsOf, words_of_place, words_of_places};
 ghost use Rattle.lwkt_seats.specs.BankOpens.{AreTokens, spec_of, specs_of};
 ghost use Rattle.lwkt_base.specs.Fault.{no_memory};
 
-use crate::desks::{Desk, Place};
+use crate::asks::count;
+use crate::desks::{AT_REST, AWAY, Desk};
 use crate::endings::{Chest, Ending};
 use crate::handles::hand_out;
 use crate::raw_boxes::RawBox;
-use crate::spots::{Sitter, Spot, Stall};
+use crate::sitters::Sitter;
 use crate::tokens::LwktToken;
 use counted_slot::Counted;
 use lwkt_bank::{Bank, CpuSeat};
 use lwkt_base::limits::{CPU_LIMIT, TOKEN_LIMIT};
-use lwkt_base::memory::{boxed, push, shared, with_capacity, with_capacity_for};
-use lwkt_base::{CpuId, Fault, OutOfMemory, TokSpec};
+use lwkt_base::memory::{
+    boxed, extend_from_slice, push, shared, table, with_capacity, with_capacity_for,
+};
+use lwkt_base::{Fault, OutOfMemory, TokSpec};
 use std::alloc::Global;
 use std::sync::Arc;
 use std::sync::atomic::AtomicU64;
@@ -85,50 +89,58 @@ fn specs_of(alloc: Global, tokens: &[LwktToken]) -> Result<Vec<TokSpec>, OutOfMe
 
 // A seat with its bank, as it rests in its place. Where no further share of the bank is to be had, which has as many as can be counted,
 // there is none: the seat is away, as if a call had it that never came back.
-fn stall_for(alloc: Global, spot: &Spot, seat: CpuSeat) -> Result<Option<Stall>, OutOfMemory>
-    requires of { bank_of seat ≡ id_of (arc_value spot.now.bank) }
-    requires cpu { seat.cpu ≡ spot.now.cpu }
-    requires brief { AreBrief seat }
-    ensures { IfOk result (λ stall. IfSome stall (λ x. IsSeated spot.now x.parts.value)) }
+fn slot_for(
+    alloc: Global,
+    bank: &Arc<Bank>,
+    seat: CpuSeat,
+) -> Result<Option<Box<Sitter>>, OutOfMemory>
+    requires of { bank_of seat ≡ id_of (arc_value bank.now) }
+    requires new { IsNew seat }
+    ensures { IfOk result (λ slot. IfSome slot (λ x. IsSeated (arc_value bank.now) seat.cpu.0 x.value)) }
 {
-    let Ok(bank) = Arc::try_clone(&spot.bank) else {
+    let Ok(bank) = Arc::try_clone(bank) else {
         return Ok(None);
     };
-    let sitter = boxed(alloc, Sitter { seat, bank })?;
-    Ok(Some(Stall::of(sitter)))
+    let count = count(&seat, &bank);
+    let sitter = Sitter { seat, bank, count };
+    Ok(Some(boxed(alloc, sitter)?))
 }
 
-// A place for a seat.
-fn place_for(alloc: Global, spot: &Spot, seat: CpuSeat) -> Result<Place, OutOfMemory>
-    requires of { bank_of seat ≡ id_of (arc_value spot.now.bank) }
-    requires cpu { seat.cpu ≡ spot.now.cpu }
-    requires brief { AreBrief seat }
-    ensures { IfOk result (λ place. place ≡ spot.now) }
-{
-    let stall = stall_for(alloc, spot, seat)?;
-    Ok(Counted::new(stall, spot))
-}
-
-// A place for each seat.
-fn places_for(
+// The slots of all seats.
+fn slots_for(
     alloc: Global,
-    bank: Arc<Bank>,
+    bank: &Arc<Bank>,
     seats: Vec<CpuSeat>,
-) -> Result<Vec<Place>, OutOfMemory>
-    requires { AreHandedOut (id_of (arc_value bank)) seats.items }
-    ensures spots { IfOk result (λ places. AreSpotsOf (arc_value bank) places.items) }
-    ensures many { IfOk result (λ places. length places.items ≡ length seats.items) }
+) -> Result<Vec<Option<Box<Sitter>>>, OutOfMemory>
+    requires { AreHandedOut (id_of (arc_value bank.now)) seats.items }
+    ensures seated { IfOk result (λ slots. AreSlotsOf (arc_value bank.now) slots.items) }
+    ensures many { IfOk result (λ slots. length slots.items ≡ length seats.items) }
 {
-    let mut places = with_capacity_for(alloc, &seats)?;
-    let mut spot = Spot {
-        bank,
-        cpu: CpuId(0),
-    };
+    let mut slots = with_capacity_for(alloc, &seats)?;
     for seat in seats {
-        spot.cpu = seat.cpu();
-        push(&mut places, place_for(alloc, &spot, seat)?)?;
+        push(&mut slots, slot_for(alloc, bank, seat)?)?;
     }
-    Ok(places)
+    Ok(slots)
+}
+
+// The words of a place, so many that no other place's are near it: the one in the middle says where the seat is.
+fn words_of(slot: &Option<Box<Sitter>>) -> [u64; 16]
+    ensures { result ≡ words_of_place slot.now }
+{
+    let mut words = [0; 16];
+    words[8] = if slot.is_some() { AT_REST } else { AWAY };
+    words
+}
+
+// The words of all places.
+fn all_words(alloc: Global, slots: &[Option<Box<Sitter>>]) -> Result<Vec<u64>, OutOfMemory>
+    ensures { IfOk result (λ words. words.items ≡ words_of_places slots.now) }
+{
+    let mut words = Vec::new(alloc);
+    for slot in slots {
+        extend_from_slice(&mut words, &words_of(slot))?;
+    }
+    Ok(words)
 }
 
 // What the close of a bank of so many processors needs. Where no further share of the bank is to be had there is none, as if a close
@@ -154,14 +166,15 @@ fn chest_for(alloc: Global, bank: &Arc<Bank>, cpus: usize) -> Result<Option<Ches
 fn desk_of(alloc: Global, bank: Bank, seats: Vec<CpuSeat>) -> Result<Box<Desk>, OutOfMemory>
     requires out { AreHandedOut (id_of bank) seats.items }
     requires all { length seats.items ≡ cpus_of bank }
-    requires some { 0 < length seats.items }
     requires few { length seats.items ≤ CPU_LIMIT }
-    ensures { IfOk result (λ desk. length desk.value.places.items ≡ length seats.items) }
+    ensures { IfOk result (λ desk. seats_of desk.value ≡ length seats.items) }
 {
     let bank = shared(alloc, bank)?;
     let chest = chest_for(alloc, &bank, seats.len())?;
     let drawer = Counted::new(chest, &bank);
-    let places = places_for(alloc, bank, seats)?;
+    let slots = slots_for(alloc, &bank, seats)?;
+    let words = all_words(alloc, &slots)?;
+    let (places, _) = table(alloc, &words, slots, &bank)?;
     let desk = Desk {
         places,
         drawer,
@@ -172,7 +185,7 @@ fn desk_of(alloc: Global, bank: Bank, seats: Vec<CpuSeat>) -> Result<Box<Desk>, 
 
 // Opens a bank with its desk.
 fn open(alloc: Global, tokens: &[LwktToken], seats: usize) -> Result<Box<Desk>, Fault>
-    ensures opened { IfOk result (λ desk. AreTokens tokens.now × AreWithin seats (specs_of tokens.now) [] × AllOpenLawfully (specs_of tokens.now) × (length desk.value.places.items ≡ seats)) }
+    ensures opened { IfOk result (λ desk. AreTokens tokens.now × AreWithin seats (specs_of tokens.now) [] × AllOpenLawfully (specs_of tokens.now) × (seats_of desk.value ≡ seats)) }
     ensures limits { result ≡ Err Fault.Limits → ¬ (AreTokens tokens.now × AreWithin seats (specs_of tokens.now) []) }
     ensures each_limit { (¬ (AreTokens tokens.now × AreWithin seats (specs_of tokens.now) [])) → result ≡ Err Fault.Limits }
     ensures broken { result ≡ Err Fault.LawBroken → AreTokens tokens.now × AreWithin seats (specs_of tokens.now) [] × ¬ AllOpenLawfully (specs_of tokens.now) }

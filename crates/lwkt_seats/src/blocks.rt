@@ -6,7 +6,7 @@ ghost use Rattle.lwkt_bank.specs.Seats.{id_of, bank_of, tokens_of, plan_of, entr
 ghost use Rattle.lwkt_seats.specs.Asks.{ObeysItsLaw};
 ghost use Rattle.lwkt_seats.specs.Cells.{IsMine};
 ghost use Rattle.lwkt_seats.specs.Lists.{EndsRestored, EndsOne, EndsEach, BreaksLaw, BlocksSeat, first_restored};
-ghost use Rattle.lwkt_seats.specs.Seated.{KeepsBankAndCpu};
+ghost use Rattle.lwkt_seats.specs.Brief.{KeepsBankAndCpu};
 
 use crate::answers::GaveBack;
 use crate::asks::{give, references_of};

@@ -2,7 +2,7 @@
 ghost use Rattle.std.specs.Prelude.{◌≡◌, ◌<◌};
 ghost use Rattle.lwkt_bank.specs.Seats.{id_of, bank_of};
 ghost use Rattle.lwkt_seats.specs.Cells.{Loads, StoresInCell, AddsToCell, JudgesToken, Restores};
-ghost use Rattle.lwkt_seats.specs.Seated.{KeepsBankAndCpu};
+ghost use Rattle.lwkt_seats.specs.Brief.{KeepsBankAndCpu};
 
 use crate::answers::{Added, Judged, Loaded, RowRestored, Stored};
 use lwkt_bank::{Bank, CpuSeat};

@@ -7,10 +7,12 @@ ghost use Rattle.lwkt_bank.specs.Seats.{id_of, cpus_of, tokens_of};
 ghost use Rattle.lwkt_bank.specs.Closing.{IsReady, IsRoomFor};
 ghost use Rattle.lwkt_bank.specs.Gathered.{IsClosed};
 
-use crate::desks::{Desk, close_drawer, open_drawer, put_back, shut, shut_drawer};
+use crate::desks::{Desk, close_drawer, open_drawer, shut_drawer};
 use crate::endings::Ending;
+use crate::places::Hand;
 use crate::resumes::is_idle;
-use crate::spots::Sitter;
+use crate::sitters::Sitter;
+use crate::taken::Taken;
 use lwkt_bank::{Bank, CloseRoom, Closed, CpuSeat};
 use std::sync::Arc;
 
@@ -23,13 +25,13 @@ pub const HOLDS: u32 = 51;
 /// What is answered where a share of the bank is out for good: with a seat that was given up as lost.
 pub const BANK_IN_USE: u32 = 53;
 
-// Appends a seat with its bank to a list that has room.
-fn put_sitter(list: &mut Vec<Box<Sitter>>, sitter: Box<Sitter>)
+// Appends a seat that is out of its slot to a list that has room.
+fn put_taken(list: &mut Vec<Taken>, taken: Taken)
     requires { length list.old.items < vec_capacity list.old }
-    ensures items { list.new.items ≡ list.old.items ++ sitter ∷ [] }
+    ensures items { list.new.items ≡ list.old.items ++ taken ∷ [] }
     ensures room { vec_capacity list.old ≤ vec_capacity list.new }
 {
-    let _ = list.push(sitter);
+    let _ = list.push(taken);
 }
 
 // Appends a seat to a list that has room.
@@ -42,22 +44,27 @@ fn put_seat(list: &mut Vec<CpuSeat>, seat: CpuSeat)
 }
 
 // A seat without its bank.
-fn seat_of(sitter: Box<Sitter>) -> CpuSeat
-    ensures { result ≡ sitter.value.seat }
+fn seat_of(taken: Taken) -> CpuSeat
+    ensures { result ≡ taken.sitter.value.seat }
 {
-    let Sitter { seat, bank } = Box::into_inner(sitter);
+    let Taken { sitter, hand: _ } = taken;
+    let Sitter {
+        seat,
+        bank,
+        count: _,
+    } = Box::into_inner(sitter);
     drop(bank);
     seat
 }
 
 // The seats of all, without their bank.
-fn seats_of(sitters: Vec<Box<Sitter>>, mut seats: Vec<CpuSeat>) -> Vec<CpuSeat>
+fn seats_of(sitters: Vec<Taken>, mut seats: Vec<CpuSeat>) -> Vec<CpuSeat>
     requires none { seats.items ≡ [] }
     requires room { length sitters.items ≤ vec_capacity seats }
-    ensures { result.items ≡ map (λ x. x.value.seat) sitters.items }
+    ensures { result.items ≡ map (λ x. x.sitter.value.seat) sitters.items }
 {
-    for sitter in sitters {
-        put_seat(&mut seats, seat_of(sitter));
+    for taken in sitters {
+        put_seat(&mut seats, seat_of(taken));
     }
     seats
 }
@@ -96,52 +103,79 @@ fn close_number(answer: u32) -> u32
 }
 
 impl Desk {
-    ghost use Rattle.lwkt_seats.specs.Closes.{IsFreeAt, AreFree, IsEndingWith, SomeHolds, ClosesDesk, IsWide};
+    ghost use Rattle.lwkt_seats.specs.Desks.{seats_of as seats_in, HasSeat};
+    ghost use Rattle.lwkt_seats.specs.Closes.{HasOut, IsFreeAt, AreFree, IsEndingWith, SomeHolds, ClosesDesk, IsWide};
 
-    // The seat of a number, which holds nothing, taken from its place.
-    fn free_seat(&self, number: u32) -> Result<Box<Sitter>, u32>
-        requires { number < length self.now.places.items }
-        ensures ok { IfOk result (λ sitter. IsFreeAt self.now number sitter.value) }
+    // Takes a seat out of its slot.
+    fn lift(&self, number: u32, mut hand: Hand) -> Taken
+        requires { HasSeat self.now number hand }
+        ensures { HasOut self.now number result }
+    {
+        let Some(sitter) = self
+            .places
+            .shared
+            .exchange(&mut hand, number as usize, None)
+        else {
+            unreachable!()
+        };
+        Taken { sitter, hand }
+    }
+
+    // Puts a seat that is out of its slot back in its place.
+    fn set_down(&self, number: u32, taken: Taken)
+        requires { HasOut self.now number taken }
+    {
+        let Taken { sitter, mut hand } = taken;
+        let _ = self
+            .places
+            .shared
+            .exchange(&mut hand, number as usize, Some(sitter));
+        self.put_back(number, hand);
+    }
+
+    // The seat of a number, which holds nothing, out of its slot.
+    fn free_seat(&self, number: u32) -> Result<Taken, u32>
+        requires { number < seats_in self.now }
+        ensures ok { IfOk result (λ taken. IsFreeAt self.now number taken) }
         ensures holds { result ≡ Err 51 → SomeHolds self.now }
         ensures only { IfErr result (λ answer. (answer ≡ 50) ⊎ ((answer ≡ 51) ⊎ ((answer ≡ 52) ⊎ (answer ≡ 53)))) }
     {
-        let (place, sitter) = match self.seat(number) {
-            Ok(found) => found,
+        let hand = match self.seat(number) {
+            Ok(hand) => hand,
             Err(answer) => return Err(close_number(answer)),
         };
-        if is_idle(&sitter.seat, &sitter.bank) {
-            return Ok(sitter);
+        let taken = self.lift(number, hand);
+        if is_idle(&taken.sitter.seat, taken.sitter.count) {
+            return Ok(taken);
         }
-        put_back(place, sitter);
+        self.set_down(number, taken);
         Err(HOLDS)
     }
 
     // Puts the seats back in their places.
-    fn put_all_back(&self, sitters: &mut Vec<Box<Sitter>>)
+    fn put_all_back(&self, sitters: &mut Vec<Taken>)
         requires { AreFree self.now sitters.old.items }
         ensures none { sitters.new.items ≡ [] }
         ensures room { vec_capacity sitters.new ≡ vec_capacity sitters.old }
     {
-        while let Some(sitter) = sitters.pop() {
-            if let Some(place) = self.place(sitters.len()) {
-                put_back(place, sitter);
-            }
+        while let Some(taken) = sitters.pop() {
+            self.set_down(sitters.len() as u32, taken);
         }
     }
 
-    // All seats, which hold nothing, taken from their places.
-    fn free_seats(&self, sitters: &mut Vec<Box<Sitter>>) -> Result<(), u32>
+    // All seats, which hold nothing, out of their slots.
+    fn free_seats(&self, sitters: &mut Vec<Taken>) -> Result<(), u32>
         requires none { sitters.old.items ≡ [] }
-        requires room { length self.now.places.items ≤ vec_capacity sitters.old }
-        ensures ok { OnOk result (AreFree self.now sitters.new.items × (length sitters.new.items ≡ length self.now.places.items)) }
+        requires room { seats_in self.now ≤ vec_capacity sitters.old }
+        ensures ok { OnOk result (AreFree self.now sitters.new.items × (length sitters.new.items ≡ seats_in self.now)) }
         ensures back { IfErr result (λ answer. sitters.new.items ≡ []) }
         ensures room { vec_capacity sitters.old ≤ vec_capacity sitters.new }
         ensures holds { result ≡ Err 51 → SomeHolds self.now }
         ensures only { IfErr result (λ answer. (answer ≡ 50) ⊎ ((answer ≡ 51) ⊎ ((answer ≡ 52) ⊎ (answer ≡ 53)))) }
     {
-        for number in 0..self.places.len() {
+        for number in 0..self.seats() {
             match self.free_seat(number as u32) {
-                Ok(sitter) => put_sitter(sitters, sitter),
+                Ok(taken) => put_taken(sitters, taken),
                 Err(answer) => {
                     self.put_all_back(sitters);
                     return Err(answer);
@@ -149,14 +183,6 @@ impl Desk {
             }
         }
         Ok(())
-    }
-
-    // Shuts all places.
-    fn shut(&self) {
-        for place in &self.places {
-            shut(place);
-        }
-        shut_drawer(&self.drawer);
     }
 
     // Closes the bank with the seats that were taken.
@@ -173,7 +199,7 @@ impl Desk {
             room,
         } = Box::into_inner(ending);
         let closed = finish(bank, room, seats_of(sitters, seats));
-        self.shut();
+        shut_drawer(&self.drawer);
         closed
     }
 

@@ -4,7 +4,7 @@ ghost use Rattle.std.specs.Arc.{arc_value};
 ghost use Rattle.lwkt_seats.specs.Endings.{IsEndingOf};
 
 use crate::raw_boxes::RawBox;
-use crate::spots::Sitter;
+use crate::taken::Taken;
 use counted_slot::Fits;
 use lwkt_bank::{Bank, CloseRoom, CpuSeat};
 use std::alloc::Global;
@@ -15,8 +15,8 @@ use std::sync::Arc;
 pub struct Ending {
     /// The bank.
     pub bank: Arc<Bank>,
-    /// Room for the seats as they rest in their places.
-    pub sitters: Vec<Box<Sitter>>,
+    /// Room for the seats as they are taken out of their slots.
+    pub sitters: Vec<Taken>,
     /// Room for the seats without their bank.
     pub seats: Vec<CpuSeat>,
     /// Room for the close.

@@ -1,14 +1,14 @@
 //! The calls on a seat, for C; include/lwkt.h declares them.
-ghost use Rattle.std.specs.Prelude.{◌≡◌, ◌≢◌, ℕ};
+ghost use Rattle.std.specs.Prelude.{◌≡◌, ◌≢◌, ℕ, Some};
 ghost use Rattle.lwkt_base.specs.declared.names.Mode.TheVariants.{Exclusive, Shared};
-ghost use Rattle.lwkt_seats.specs.Desks.{IsDeskAnswer};
+ghost use Rattle.lwkt_seats.specs.Desks.{HasSeat, IsDeskAnswer};
 ghost use Rattle.lwkt_seats.specs.Calls.{TakesAt, GainsOne, SetsMark, GivesOneBack, LoadsCell, StoresValue, AddsTo, JudgesRow, RestoresFirst, PutsLoaded, PutsAdded};
 ghost use Rattle.lwkt_seats.specs.Numbers.{loaded_number, added_number};
 
 use crate::answers::{Added, Loaded};
-use crate::desks::put_back;
+use crate::desks::Desk;
 use crate::handles::LwktBank;
-use crate::{asks, cells};
+use crate::places::Hand;
 use lwkt_base::Mode;
 
 // Puts the value of a cell in its place, and answers.
@@ -43,13 +43,15 @@ fn put_added(added: Added, value: &mut u64) -> u32
 pub extern "C" fn lwkt_take(bank: LwktBank, seat: u32, token: u32) -> u32
     ensures { IsDeskAnswer bank.desk seat (TakesAt Exclusive token) result }
 {
-    let (place, mut sitter) = match bank.seat(seat) {
+    let (desk, mut hand) = match bank.seat(seat) {
         Ok(found) => found,
         Err(answer) => return answer,
     };
-    let held = &mut *sitter;
-    let answer = asks::ask(&mut held.seat, &held.bank, token, Mode::Exclusive);
-    put_back(place, sitter);
+    let Some(sitter) = hand.slot_mut(&desk.places.shared, seat as usize) else {
+        unreachable!()
+    };
+    let answer = sitter.ask(token, Mode::Exclusive);
+    desk.put_back(seat, hand);
     answer.number()
 }
 
@@ -60,13 +62,15 @@ pub extern "C" fn lwkt_take(bank: LwktBank, seat: u32, token: u32) -> u32
 pub extern "C" fn lwkt_share(bank: LwktBank, seat: u32, token: u32) -> u32
     ensures { IsDeskAnswer bank.desk seat (TakesAt Shared token) result }
 {
-    let (place, mut sitter) = match bank.seat(seat) {
+    let (desk, mut hand) = match bank.seat(seat) {
         Ok(found) => found,
         Err(answer) => return answer,
     };
-    let held = &mut *sitter;
-    let answer = asks::ask(&mut held.seat, &held.bank, token, Mode::Shared);
-    put_back(place, sitter);
+    let Some(sitter) = hand.slot_mut(&desk.places.shared, seat as usize) else {
+        unreachable!()
+    };
+    let answer = sitter.ask(token, Mode::Shared);
+    desk.put_back(seat, hand);
     answer.number()
 }
 
@@ -77,13 +81,15 @@ pub extern "C" fn lwkt_share(bank: LwktBank, seat: u32, token: u32) -> u32
 pub extern "C" fn lwkt_again(bank: LwktBank, seat: u32, token: u32) -> u32
     ensures { IsDeskAnswer bank.desk seat (GainsOne token) result }
 {
-    let (place, mut sitter) = match bank.seat(seat) {
+    let (desk, mut hand) = match bank.seat(seat) {
         Ok(found) => found,
         Err(answer) => return answer,
     };
-    let held = &mut *sitter;
-    let answer = asks::further(&mut held.seat, &held.bank, token);
-    put_back(place, sitter);
+    let Some(sitter) = hand.slot_mut(&desk.places.shared, seat as usize) else {
+        unreachable!()
+    };
+    let answer = sitter.further(token);
+    desk.put_back(seat, hand);
     answer.number()
 }
 
@@ -94,13 +100,29 @@ pub extern "C" fn lwkt_again(bank: LwktBank, seat: u32, token: u32) -> u32
 pub extern "C" fn lwkt_mark(bank: LwktBank, seat: u32, token: u32) -> u32
     ensures { IsDeskAnswer bank.desk seat (SetsMark token) result }
 {
-    let (place, mut sitter) = match bank.seat(seat) {
+    let (desk, mut hand) = match bank.seat(seat) {
         Ok(found) => found,
         Err(answer) => return answer,
     };
-    let held = &mut *sitter;
-    let answer = asks::mark(&mut held.seat, &held.bank, token);
-    put_back(place, sitter);
+    let Some(sitter) = hand.slot_mut(&desk.places.shared, seat as usize) else {
+        unreachable!()
+    };
+    let answer = sitter.mark(token);
+    desk.put_back(seat, hand);
+    answer.number()
+}
+
+// Gives a reference back, of a seat that was taken from its place.
+#[inline(never)]
+fn give(desk: &Desk, mut hand: Hand, seat: u32, token: u32) -> u32
+    requires { HasSeat desk.now seat hand }
+    ensures { IsDeskAnswer (Some desk.now) seat (GivesOneBack token) result }
+{
+    let Some(sitter) = hand.slot_mut(&desk.places.shared, seat as usize) else {
+        unreachable!()
+    };
+    let answer = sitter.give(token);
+    desk.put_back(seat, hand);
     answer.number()
 }
 
@@ -112,14 +134,18 @@ pub extern "C" fn lwkt_mark(bank: LwktBank, seat: u32, token: u32) -> u32
 pub extern "C" fn lwkt_give(bank: LwktBank, seat: u32, token: u32) -> u32
     ensures { IsDeskAnswer bank.desk seat (GivesOneBack token) result }
 {
-    let (place, mut sitter) = match bank.seat(seat) {
+    let (desk, mut hand) = match bank.seat(seat) {
         Ok(found) => found,
         Err(answer) => return answer,
     };
-    let held = &mut *sitter;
-    let answer = asks::give(&mut held.seat, &held.bank, token);
-    put_back(place, sitter);
-    answer.number()
+    let Some(sitter) = hand.slot_mut(&desk.places.shared, seat as usize) else {
+        unreachable!()
+    };
+    if !sitter.give_quietly(token) {
+        return give(desk, hand, seat, token);
+    }
+    desk.put_back(seat, hand);
+    0
 }
 
 /// Stores a value in a cell.
@@ -130,13 +156,15 @@ pub extern "C" fn lwkt_give(bank: LwktBank, seat: u32, token: u32) -> u32
 pub extern "C" fn lwkt_store(bank: LwktBank, seat: u32, token: u32, cell: u32, value: u64) -> u32
     ensures { IsDeskAnswer bank.desk seat (StoresValue token cell value) result }
 {
-    let (place, mut sitter) = match bank.seat(seat) {
+    let (desk, mut hand) = match bank.seat(seat) {
         Ok(found) => found,
         Err(answer) => return answer,
     };
-    let held = &mut *sitter;
-    let answer = cells::store(&mut held.seat, &held.bank, token, cell, value);
-    put_back(place, sitter);
+    let Some(sitter) = hand.slot_mut(&desk.places.shared, seat as usize) else {
+        unreachable!()
+    };
+    let answer = sitter.store(token, cell, value);
+    desk.put_back(seat, hand);
     answer.number()
 }
 
@@ -148,13 +176,15 @@ pub extern "C" fn lwkt_store(bank: LwktBank, seat: u32, token: u32, cell: u32, v
 pub extern "C" fn lwkt_lawful(bank: LwktBank, seat: u32, token: u32) -> u32
     ensures { IsDeskAnswer bank.desk seat (JudgesRow token) result }
 {
-    let (place, mut sitter) = match bank.seat(seat) {
+    let (desk, mut hand) = match bank.seat(seat) {
         Ok(found) => found,
         Err(answer) => return answer,
     };
-    let held = &mut *sitter;
-    let answer = cells::judge(&mut held.seat, &held.bank, token);
-    put_back(place, sitter);
+    let Some(sitter) = hand.slot_mut(&desk.places.shared, seat as usize) else {
+        unreachable!()
+    };
+    let answer = sitter.judge(token);
+    desk.put_back(seat, hand);
     answer.number()
 }
 
@@ -166,13 +196,15 @@ pub extern "C" fn lwkt_lawful(bank: LwktBank, seat: u32, token: u32) -> u32
 pub extern "C" fn lwkt_restore(bank: LwktBank, seat: u32, token: u32) -> u32
     ensures { IsDeskAnswer bank.desk seat (RestoresFirst token) result }
 {
-    let (place, mut sitter) = match bank.seat(seat) {
+    let (desk, mut hand) = match bank.seat(seat) {
         Ok(found) => found,
         Err(answer) => return answer,
     };
-    let held = &mut *sitter;
-    let answer = cells::restore(&mut held.seat, &held.bank, token);
-    put_back(place, sitter);
+    let Some(sitter) = hand.slot_mut(&desk.places.shared, seat as usize) else {
+        unreachable!()
+    };
+    let answer = sitter.restore(token);
+    desk.put_back(seat, hand);
     answer.number()
 }
 
@@ -190,13 +222,15 @@ pub extern "C" fn lwkt_load(
     ensures does { IsDeskAnswer bank.desk seat (LoadsCell token cell value.old value.new) result }
     ensures kept { result ≢ 0 → value.new ≡ value.old }
 {
-    let (place, mut sitter) = match bank.seat(seat) {
+    let (desk, mut hand) = match bank.seat(seat) {
         Ok(found) => found,
         Err(answer) => return answer,
     };
-    let held = &mut *sitter;
-    let answer = cells::load(&mut held.seat, &held.bank, token, cell);
-    put_back(place, sitter);
+    let Some(sitter) = hand.slot_mut(&desk.places.shared, seat as usize) else {
+        unreachable!()
+    };
+    let answer = sitter.load(token, cell);
+    desk.put_back(seat, hand);
     put_loaded(answer, value)
 }
 
@@ -215,12 +249,14 @@ pub extern "C" fn lwkt_add(
     ensures does { IsDeskAnswer bank.desk seat (AddsTo token amount value.old value.new) result }
     ensures kept { result ≢ 0 → value.new ≡ value.old }
 {
-    let (place, mut sitter) = match bank.seat(seat) {
+    let (desk, mut hand) = match bank.seat(seat) {
         Ok(found) => found,
         Err(answer) => return answer,
     };
-    let held = &mut *sitter;
-    let answer = cells::add(&mut held.seat, &held.bank, token, amount);
-    put_back(place, sitter);
+    let Some(sitter) = hand.slot_mut(&desk.places.shared, seat as usize) else {
+        unreachable!()
+    };
+    let answer = sitter.add(token, amount);
+    desk.put_back(seat, hand);
     put_added(answer, value)
 }

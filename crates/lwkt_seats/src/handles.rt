@@ -1,12 +1,12 @@
 //! What C has of a bank: a pointer to its desk, or null.
 ghost use Rattle.std.specs.Prelude.{◌≡◌, MatchOption, Option, Some, None, IfOk, IfErr};
 ghost use Rattle.lwkt_seats.specs.declared.desks.Desk.{Desk};
-ghost use Rattle.lwkt_seats.specs.Handles.{desk_coded, is_lent, is_held, IsPlacedIn, IsAbsentIn};
-ghost use Rattle.lwkt_seats.specs.Seated.{IsSeated};
+ghost use Rattle.lwkt_seats.specs.Desks.{HasSeat};
+ghost use Rattle.lwkt_seats.specs.Handles.{desk_coded, is_lent, is_held, IsAbsentIn};
 
-use crate::desks::{CLOSED, Desk, Place};
+use crate::desks::{CLOSED, Desk};
+use crate::places::Hand;
 use crate::raw_boxes::RawBox;
-use crate::spots::Sitter;
 use std::alloc::Global;
 use std::marker::Model;
 
@@ -35,13 +35,17 @@ impl LwktBank {
     }
 
     /// The seat of this number, taken from its place; a bank of zeros counts as one that is closed.
-    pub(crate) fn seat(self, number: u32) -> Result<(&'static Place, Box<Sitter>), u32>
-        ensures ok { IfOk result (λ found. IsPlacedIn self.desk number found.0.now) }
-        ensures seated { IfOk result (λ found. IsSeated found.0.now found.1.value) }
+    #[inline(always)]
+    pub(crate) fn seat(self, number: u32) -> Result<(&'static Desk, Hand), u32>
+        ensures ok { IfOk result (λ found. self.desk ≡ Some found.0.now) }
+        ensures seat { IfOk result (λ found. HasSeat found.0.now number found.1) }
         ensures err { IfErr result (λ answer. IsAbsentIn self.desk number answer) }
     {
         match self.desk() {
-            Some(desk) => desk.seat(number),
+            Some(desk) => match desk.seat(number) {
+                Ok(hand) => Ok((desk, hand)),
+                Err(answer) => Err(answer),
+            },
             None => Err(CLOSED),
         }
     }

@@ -17,12 +17,14 @@ mod free_calls;
 mod handles;
 mod list_answers;
 mod list_calls;
+mod places;
 mod raw_boxes;
 mod record_calls;
 mod records;
 mod references;
 mod resumes;
-mod spots;
+mod sitters;
+mod taken;
 mod tokens;
 mod word_calls;
 

@@ -4,11 +4,9 @@ ghost use Rattle.lwkt_seats.specs.Desks.{IsDeskAnswer};
 ghost use Rattle.lwkt_seats.specs.Calls.{ResumesList, GivesUpAll, PutsPlace, PutsFirst};
 ghost use Rattle.lwkt_seats.specs.ListNumbers.{resumed_number, blocked_number, NamesNoPlace};
 
-use crate::desks::put_back;
 use crate::handles::LwktBank;
 use crate::list_answers::Resumed;
 use crate::references::LwktReference;
-use crate::{blocks, resumes};
 use lwkt_base::TokId;
 
 // Puts the place of a reference that was refused where the caller wants it, and answers.
@@ -55,13 +53,15 @@ pub extern "C" fn lwkt_resume(
     ensures does { IsDeskAnswer bank.desk seat (ResumesList list.now missed.old missed.new) result }
     ensures kept { NamesNoPlace result → missed.new ≡ missed.old }
 {
-    let (place, mut sitter) = match bank.seat(seat) {
+    let (desk, mut hand) = match bank.seat(seat) {
         Ok(found) => found,
         Err(answer) => return answer,
     };
-    let held = &mut *sitter;
-    let came = resumes::resume(&mut held.seat, &held.bank, list);
-    put_back(place, sitter);
+    let Some(sitter) = hand.slot_mut(&desk.places.shared, seat as usize) else {
+        unreachable!()
+    };
+    let came = sitter.resume(list);
+    desk.put_back(seat, hand);
     put_place(came, missed)
 }
 
@@ -75,12 +75,14 @@ pub extern "C" fn lwkt_block(bank: LwktBank, seat: u32, restored: &mut u32) -> u
     ensures does { IsDeskAnswer bank.desk seat (GivesUpAll restored.old restored.new) result }
     ensures kept { result ≢ 19 → restored.new ≡ restored.old }
 {
-    let (place, mut sitter) = match bank.seat(seat) {
+    let (desk, mut hand) = match bank.seat(seat) {
         Ok(found) => found,
         Err(answer) => return answer,
     };
-    let held = &mut *sitter;
-    let first = blocks::block(&mut held.seat, &held.bank);
-    put_back(place, sitter);
+    let Some(sitter) = hand.slot_mut(&desk.places.shared, seat as usize) else {
+        unreachable!()
+    };
+    let first = sitter.block();
+    desk.put_back(seat, hand);
     put_first(first, restored)
 }

@@ -5,10 +5,8 @@ ghost use Rattle.lwkt_seats.specs.Calls.{ReadsTheRecord, WritesRecord, PutsRecor
 ghost use Rattle.lwkt_seats.specs.Numbers.{record_read_number};
 ghost use Rattle.lwkt_seats.specs.Records.{buffer_with_bytes};
 
-use crate::answers::RecordRead;
-use crate::desks::put_back;
+use crate::answers::{RecordRead, RecordWritten};
 use crate::handles::LwktBank;
-use crate::records;
 use lwkt_base::limits::RECORD_LIMIT;
 
 // Puts bytes into a buffer, as far as this has room.
@@ -50,13 +48,15 @@ pub extern "C" fn lwkt_read_record(
     ensures short { result ≡ 0 → length.new ≤ RECORD_LIMIT }
     ensures kept { result ≢ 0 → (buffer.new ≡ buffer.old) × (length.new ≡ length.old) }
 {
-    let (place, mut sitter) = match bank.seat(seat) {
+    let (desk, mut hand) = match bank.seat(seat) {
         Ok(found) => found,
         Err(answer) => return answer,
     };
-    let held = &mut *sitter;
-    let answer = records::read(&mut held.seat, &held.bank, token);
-    put_back(place, sitter);
+    let Some(sitter) = hand.slot_mut(&desk.places.shared, seat as usize) else {
+        unreachable!()
+    };
+    let answer = sitter.read(token);
+    desk.put_back(seat, hand);
     put_record(answer, buffer, length)
 }
 
@@ -69,12 +69,14 @@ pub extern "C" fn lwkt_read_record(
 pub extern "C" fn lwkt_write_record(bank: LwktBank, seat: u32, token: u32, bytes: &[u8]) -> u32
     ensures { IsDeskAnswer bank.desk seat (WritesRecord token bytes.now) result }
 {
-    let (place, mut sitter) = match bank.seat(seat) {
+    let (desk, mut hand) = match bank.seat(seat) {
         Ok(found) => found,
         Err(answer) => return answer,
     };
-    let held = &mut *sitter;
-    let answer = records::write(&mut held.seat, &held.bank, token, bytes);
-    put_back(place, sitter);
+    let Some(sitter) = hand.slot_mut(&desk.places.shared, seat as usize) else {
+        unreachable!()
+    };
+    let answer = sitter.write(token, bytes);
+    desk.put_back(seat, hand);
     answer.number()
 }

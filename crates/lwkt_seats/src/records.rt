@@ -2,7 +2,7 @@
 ghost use Rattle.std.specs.Prelude.{◌≡◌, ◌<◌};
 ghost use Rattle.lwkt_bank.specs.Seats.{id_of, bank_of};
 ghost use Rattle.lwkt_seats.specs.Records.{ReadsBytes, WritesBytes};
-ghost use Rattle.lwkt_seats.specs.Seated.{KeepsBankAndCpu};
+ghost use Rattle.lwkt_seats.specs.Brief.{KeepsBankAndCpu};
 
 use crate::answers::{RecordRead, RecordWritten};
 use lwkt_bank::{Bank, CpuSeat};

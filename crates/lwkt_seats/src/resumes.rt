@@ -3,9 +3,8 @@ ghost use Rattle.std.specs.Prelude.{◌≡◌, ◌≢◌, ◌<◌, ◌≤◌, tr
 ghost use Rattle.lwkt_base.specs.Holding.{is_held, holding_of, holds_nothing};
 ghost use Rattle.lwkt_bank.specs.Seats.{id_of, bank_of, tokens_of, holding, references};
 ghost use Rattle.lwkt_seats.specs.Lists.{has_only, TakesOne, MissesOne, HoldsClean, GivesUnwritten, TakesAll, TakesUpTo, GivesBackAll, TakesNone, ResumesSeat};
-ghost use Rattle.lwkt_seats.specs.Seated.{KeepsBankAndCpu};
+ghost use Rattle.lwkt_seats.specs.Brief.{KeepsBankAndCpu};
 
-use crate::asks::count;
 use crate::list_answers::{Missed, Resumed};
 use crate::references::{LwktReference, list_of};
 use lwkt_bank::{Bank, CpuSeat, Try};
@@ -107,24 +106,30 @@ fn take_all(seat: &mut CpuSeat, bank: &Bank, refs: &[Ref]) -> Result<(), (usize,
     }
 }
 
-/// Whether the seat holds nothing.
-pub(crate) fn is_idle(seat: &CpuSeat, bank: &Bank) -> bool
-    requires of { bank_of seat.now ≡ id_of bank.now }
+/// Whether a seat with so many references holds nothing.
+pub(crate) fn is_idle(seat: &CpuSeat, count: usize) -> bool
+    requires { count ≡ references seat.now }
     ensures yes { result ≡ true → holding seat.now ≡ holds_nothing }
     ensures no { result ≡ false → holding seat.now ≢ holds_nothing }
 {
     // What is said of it: a seat holds no token that its bank doesn't have.
     let _ = seat.cpu();
-    count(seat, bank) == 0
+    count == 0
 }
 
 /// Takes a list of references for a seat that holds nothing.
-pub(crate) fn resume(seat: &mut CpuSeat, bank: &Bank, refs: &[LwktReference]) -> Resumed
+pub(crate) fn resume(
+    seat: &mut CpuSeat,
+    bank: &Bank,
+    count: usize,
+    refs: &[LwktReference],
+) -> Resumed
     requires of { bank_of seat.old ≡ id_of bank.now }
+    requires count { count ≡ references seat.old }
     ensures does { ResumesSeat refs.now seat.old seat.new result }
     ensures same { KeepsBankAndCpu seat.old seat.new }
 {
-    if !is_idle(seat, bank) {
+    if !is_idle(seat, count) {
         return Resumed::Holds;
     }
     let list = match list_of(bank, refs) {

@@ -2,7 +2,7 @@ use Rattle.std.proofs.Common.{◌≡◌, ◌⊎◌, ℕ, ◌<◌, ◌≤◌}
 use Rattle.lwkt_base.specs.declared.holdings.Held.TheVariants.{Nothing}
 use Rattle.lwkt_bank.specs.Seats.{bank_of, tokens_of, entry, holding}
 use Rattle.lwkt_seats.specs.Lists.{EndsEach, IsFirstToBreak}
-use Rattle.lwkt_seats.specs.Seated.{KeepsBankAndCpu}
+use Rattle.lwkt_seats.specs.Brief.{KeepsBankAndCpu}
 use Rattle.lwkt_seats.proofs.blocks.block.Given as goal
 
 abbrev pub invariant-loop-tok : goal.invariant-loop-tok

@@ -4,7 +4,7 @@ use Rattle.lwkt_bank.specs.Seats.{entry, holding}
 use Rattle.lwkt_seats.specs.Asks.{ObeysItsLaw}
 use Rattle.lwkt_seats.specs.Cells.{IsMine}
 use Rattle.lwkt_seats.specs.Lists.{EndsEach, BreaksLaw}
-use Rattle.lwkt_seats.specs.Seated.{KeepsBankAndCpu}
+use Rattle.lwkt_seats.specs.Brief.{KeepsBankAndCpu}
 use Rattle.lwkt_seats.proofs.BlockMoves.{IsSameSection}
 use Rattle.lwkt_seats.proofs.blocks.give_up.Given as goal
 

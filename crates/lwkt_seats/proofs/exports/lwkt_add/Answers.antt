@@ -1,14 +1,16 @@
 use Rattle.lwkt_seats.specs.Calls.{AddsTo}
-use Rattle.lwkt_seats.proofs.Answering.{answered-in}
-use Rattle.lwkt_seats.proofs.BriefMoves.{adds, seated-at}
+use Rattle.lwkt_seats.proofs.Answering.{holds_slot, goes_back, answers}
 use Rattle.lwkt_seats.proofs.exports.lwkt_add.Goals as goal
+
+pub slot_mut-requires : goal.slot_mut-requires
+slot_mut-requires c = (c.in-Ok.ensures.seat.1, holds_slot c.in-Ok.found.0.now.places.shared.key c.args.seat c.in-Ok.found.1.me c.in-Ok.ensures.seat.2)
 
 pub put_back-requires : goal.put_back-requires
 put_back-requires c =
-    seated-at c.in-Ok.found.0.now c.in-Ok.found.1.value c.deref_mut-held.result.now c.add-answer.new.seat c.deref_mut-held.ensures.value c.in-Ok.ensures.seated c.add-answer.ensures.same
-    (adds c.args.token c.args.amount c.deref_mut-held.result.now.seat c.add-answer.new.seat c.add-answer.result c.add-answer.ensures.does)
+    goes_back c.in-Ok.found.0.now c.args.seat c.in-Ok.found.1 c.in-Ok.ensures.seat c.slot_mut.result.now c.slot_mut.ensures.value c.in-Some.sitter c.in-Some.is
+    c.deref_mut.result.now c.deref_mut.ensures.value c.add-answer.new.self c.add-answer.ensures.same
 
 pub returns-clause-does : goal.returns-clause-does
 returns-clause-does c =
-    answered-in c.args.bank.desk c.args.seat c.in-Ok.found.0.now c.in-Ok.found.1.value c.deref_mut-held.result.now c.add-answer.new.seat (AddsTo c.args.token c.args.amount c.args.value.now c.put_added.new.value) c.put_added.result c.deref_mut-held.ensures.value
-    c.in-Ok.ensures.ok c.in-Ok.ensures.seated c.add-answer.ensures.same (c.add-answer.result, (c.put_added.ensures.is, c.add-answer.ensures.does, c.put_added.ensures.put))
+    answers c.in-Ok.found.0.now c.args.seat c.in-Ok.found.1 c.in-Ok.ensures.seat c.slot_mut.result.now c.slot_mut.ensures.value c.in-Some.sitter c.in-Some.is
+    c.deref_mut.result.now c.deref_mut.ensures.value c.add-answer.new.self c.add-answer.ensures.same c.args.bank.desk (AddsTo c.args.token c.args.amount c.args.value.now c.put_added.new.value) c.put_added.result c.in-Ok.ensures.ok (c.add-answer.result, (c.put_added.ensures.is, c.add-answer.ensures.does, c.put_added.ensures.put))

@@ -1,8 +1,16 @@
 use Rattle.lwkt_seats.specs.Calls.{JudgesRow}
-use Rattle.lwkt_seats.proofs.Answering.{answered-in}
+use Rattle.lwkt_seats.proofs.Answering.{holds_slot, goes_back, answers}
 use Rattle.lwkt_seats.proofs.exports.lwkt_lawful.Goals as goal
+
+pub slot_mut-requires : goal.slot_mut-requires
+slot_mut-requires c = (c.in-Ok.ensures.seat.1, holds_slot c.in-Ok.found.0.now.places.shared.key c.args.seat c.in-Ok.found.1.me c.in-Ok.ensures.seat.2)
+
+pub put_back-requires : goal.put_back-requires
+put_back-requires c =
+    goes_back c.in-Ok.found.0.now c.args.seat c.in-Ok.found.1 c.in-Ok.ensures.seat c.slot_mut.result.now c.slot_mut.ensures.value c.in-Some.sitter c.in-Some.is
+    c.deref_mut.result.now c.deref_mut.ensures.value c.judge-answer.new.self c.judge-answer.ensures.same
 
 pub returns : goal.returns
 returns c =
-    answered-in c.args.bank.desk c.args.seat c.in-Ok.found.0.now c.in-Ok.found.1.value c.deref_mut-held.result.now c.judge-answer.new.seat (JudgesRow c.args.token) c.number.result c.deref_mut-held.ensures.value
-    c.in-Ok.ensures.ok c.in-Ok.ensures.seated c.judge-answer.ensures.same (c.judge-answer.result, (c.number.ensures, c.judge-answer.ensures.does))
+    answers c.in-Ok.found.0.now c.args.seat c.in-Ok.found.1 c.in-Ok.ensures.seat c.slot_mut.result.now c.slot_mut.ensures.value c.in-Some.sitter c.in-Some.is
+    c.deref_mut.result.now c.deref_mut.ensures.value c.judge-answer.new.self c.judge-answer.ensures.same c.args.bank.desk (JudgesRow c.args.token) c.number.result c.in-Ok.ensures.ok (c.judge-answer.result, (c.number.ensures, c.judge-answer.ensures.does))

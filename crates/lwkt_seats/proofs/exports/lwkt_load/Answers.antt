@@ -1,8 +1,16 @@
 use Rattle.lwkt_seats.specs.Calls.{LoadsCell}
-use Rattle.lwkt_seats.proofs.Answering.{answered-in}
+use Rattle.lwkt_seats.proofs.Answering.{holds_slot, goes_back, answers}
 use Rattle.lwkt_seats.proofs.exports.lwkt_load.Goals as goal
+
+pub slot_mut-requires : goal.slot_mut-requires
+slot_mut-requires c = (c.in-Ok.ensures.seat.1, holds_slot c.in-Ok.found.0.now.places.shared.key c.args.seat c.in-Ok.found.1.me c.in-Ok.ensures.seat.2)
+
+pub put_back-requires : goal.put_back-requires
+put_back-requires c =
+    goes_back c.in-Ok.found.0.now c.args.seat c.in-Ok.found.1 c.in-Ok.ensures.seat c.slot_mut.result.now c.slot_mut.ensures.value c.in-Some.sitter c.in-Some.is
+    c.deref_mut.result.now c.deref_mut.ensures.value c.load-answer.new.self c.load-answer.ensures.same
 
 pub returns-clause-does : goal.returns-clause-does
 returns-clause-does c =
-    answered-in c.args.bank.desk c.args.seat c.in-Ok.found.0.now c.in-Ok.found.1.value c.deref_mut-held.result.now c.load-answer.new.seat (LoadsCell c.args.token c.args.cell c.args.value.now c.put_loaded.new.value) c.put_loaded.result c.deref_mut-held.ensures.value
-    c.in-Ok.ensures.ok c.in-Ok.ensures.seated c.load-answer.ensures.same (c.load-answer.result, (c.put_loaded.ensures.is, c.load-answer.ensures.does, c.put_loaded.ensures.put))
+    answers c.in-Ok.found.0.now c.args.seat c.in-Ok.found.1 c.in-Ok.ensures.seat c.slot_mut.result.now c.slot_mut.ensures.value c.in-Some.sitter c.in-Some.is
+    c.deref_mut.result.now c.deref_mut.ensures.value c.load-answer.new.self c.load-answer.ensures.same c.args.bank.desk (LoadsCell c.args.token c.args.cell c.args.value.now c.put_loaded.new.value) c.put_loaded.result c.in-Ok.ensures.ok (c.load-answer.result, (c.put_loaded.ensures.is, c.load-answer.ensures.does, c.put_loaded.ensures.put))

@@ -1,14 +1,16 @@
 use Rattle.lwkt_seats.specs.Calls.{StoresValue}
-use Rattle.lwkt_seats.proofs.Answering.{answered-in}
-use Rattle.lwkt_seats.proofs.BriefMoves.{stores, seated-at}
+use Rattle.lwkt_seats.proofs.Answering.{holds_slot, goes_back, answers}
 use Rattle.lwkt_seats.proofs.exports.lwkt_store.Goals as goal
+
+pub slot_mut-requires : goal.slot_mut-requires
+slot_mut-requires c = (c.in-Ok.ensures.seat.1, holds_slot c.in-Ok.found.0.now.places.shared.key c.args.seat c.in-Ok.found.1.me c.in-Ok.ensures.seat.2)
 
 pub put_back-requires : goal.put_back-requires
 put_back-requires c =
-    seated-at c.in-Ok.found.0.now c.in-Ok.found.1.value c.deref_mut-held.result.now c.store-answer.new.seat c.deref_mut-held.ensures.value c.in-Ok.ensures.seated c.store-answer.ensures.same
-    (stores c.args.token c.args.cell c.args.value c.deref_mut-held.result.now.seat c.store-answer.new.seat c.store-answer.result c.store-answer.ensures.does)
+    goes_back c.in-Ok.found.0.now c.args.seat c.in-Ok.found.1 c.in-Ok.ensures.seat c.slot_mut.result.now c.slot_mut.ensures.value c.in-Some.sitter c.in-Some.is
+    c.deref_mut.result.now c.deref_mut.ensures.value c.store-answer.new.self c.store-answer.ensures.same
 
 pub returns : goal.returns
 returns c =
-    answered-in c.args.bank.desk c.args.seat c.in-Ok.found.0.now c.in-Ok.found.1.value c.deref_mut-held.result.now c.store-answer.new.seat (StoresValue c.args.token c.args.cell c.args.value) c.number.result c.deref_mut-held.ensures.value
-    c.in-Ok.ensures.ok c.in-Ok.ensures.seated c.store-answer.ensures.same (c.store-answer.result, (c.number.ensures, c.store-answer.ensures.does))
+    answers c.in-Ok.found.0.now c.args.seat c.in-Ok.found.1 c.in-Ok.ensures.seat c.slot_mut.result.now c.slot_mut.ensures.value c.in-Some.sitter c.in-Some.is
+    c.deref_mut.result.now c.deref_mut.ensures.value c.store-answer.new.self c.store-answer.ensures.same c.args.bank.desk (StoresValue c.args.token c.args.cell c.args.value) c.number.result c.in-Ok.ensures.ok (c.store-answer.result, (c.number.ensures, c.store-answer.ensures.does))

@@ -4,7 +4,7 @@ use Rattle.lwkt_seats.proofs.ListMoves.{counts_idle, idle_counts}
 use Rattle.lwkt_seats.proofs.resumes.is_idle.Goals as goal
 
 pub returns-clause-yes : goal.returns-clause-yes
-returns-clause-yes c = λ yes. counts_idle c.args.seat.now c.cpu.ensures.within (sym c.count.ensures ∙ eqb-true c.count.result 0 yes)
+returns-clause-yes c = λ yes. counts_idle c.args.seat.now c.cpu.ensures.within (sym c.requires ∙ eqb-true c.args.count 0 yes)
 
 pub returns-clause-no : goal.returns-clause-no
-returns-clause-no c = λ no idle. eqb-false c.count.result 0 no (c.count.ensures ∙ idle_counts c.args.seat.now idle)
+returns-clause-no c = λ no idle. eqb-false c.args.count 0 no (c.requires ∙ idle_counts c.args.seat.now idle)

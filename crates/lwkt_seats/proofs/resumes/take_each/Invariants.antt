@@ -2,7 +2,7 @@ use Rattle.std.proofs.Common.{◌≡◌, take}
 use Rattle.lwkt_base.specs.Holding.{holding_of}
 use Rattle.lwkt_bank.specs.Seats.{holding, references}
 use Rattle.lwkt_seats.specs.Lists.{DoneInTurn, TakesOne, HoldsClean}
-use Rattle.lwkt_seats.specs.Seated.{KeepsBankAndCpu}
+use Rattle.lwkt_seats.specs.Brief.{KeepsBankAndCpu}
 use Rattle.lwkt_seats.proofs.resumes.take_each.Given as goal
 
 abbrev pub invariant-loop-at : goal.invariant-loop-at

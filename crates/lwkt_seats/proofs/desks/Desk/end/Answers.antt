@@ -1,11 +1,11 @@
 use Rattle.std.proofs.Common.{◌≤◌, ap, sym, ◌∙◌, subst}
-use Rattle.std.specs.Prelude.{IfOk}
-use Rattle.std.specs.Arc.{arc_value}
+use Rattle.std.specs.Prelude.{IfOk, All}
 use Rattle.lwkt_bank.specs.declared.banks.Bank.{Bank}
 use Rattle.lwkt_bank.specs.Seats.{id_of, cpus_of, tokens_of}
+use Rattle.lwkt_bank.specs.Closing.{IsReady}
 use Rattle.lwkt_bank.specs.Gathered.{IsClosed}
-use Rattle.lwkt_seats.specs.Closes.{IsBankOf, IsEndingWith}
-use Rattle.lwkt_seats.proofs.CloseMoves.{bank_of_desk, all_ready, as_many, ended}
+use Rattle.lwkt_seats.specs.Closes.{IsEndingWith}
+use Rattle.lwkt_seats.proofs.CloseMoves.{all_ready, as_many, ended}
 use Rattle.lwkt_seats.proofs.desks.Desk.end.Goals as goal
 
 pub finish-closed-requires-clause-ready : goal.finish-closed-requires-clause-ready
@@ -13,7 +13,8 @@ finish-closed-requires-clause-ready c =
     let desk = c.args.self.now in
     let e = c.into_inner-bank.result in
     let whole : IsEndingWith desk e = subst (IsEndingWith desk) (sym c.into_inner-bank.ensures) c.requires.ending in
-    all_ready desk e.sitters.items whole.free (arc_value e.bank) c.seats_of.result.items c.seats_of.ensures (subst (IsBankOf desk) (sym whole.is_bank) (bank_of_desk desk))
+    let F : Bank → Type 0 = λ b. All (IsReady (id_of b)) c.seats_of.result.items in
+    subst F (sym whole.is_bank) (all_ready desk e.sitters.items whole.free c.seats_of.result.items c.seats_of.ensures)
 
 pub finish-closed-requires-clause-all : goal.finish-closed-requires-clause-all
 finish-closed-requires-clause-all c =
