@@ -2,9 +2,8 @@ pub mod EndLemmas
 pub mod FormLemmas
 pub mod KindLemmas
 pub mod LawLemmas
-pub mod OrderLemmas
 pub mod RefusalLemmas
-pub mod SearchLemmas
 pub mod SettledLemmas
+pub mod StrayLemmas
 pub mod TextLemmas
-pub mod WalkLemmas
+pub mod ToldLemmas

@@ -1,14 +1,9 @@
 -- Whether every order was tried (own).
-use Rattle.std.specs.Prelude.{Bool, true, false, Option, None, Some}
+use Rattle.std.specs.Prelude.{Bool, true, false}
 use Rattle.lwkt_explore.specs.declared.extents.Bound.{Bound}
 use Rattle.lwkt_explore.specs.declared.extents.Extent.{Extent}
 use Rattle.lwkt_explore.specs.declared.extents.Extent.TheVariants.{Complete, Part, Sampled}
 use Rattle.lwkt_explore.specs.declared.searches.Found.{Found}
-
--- how much a search tried that met this bound, if it met one
-abbrev pub extent_of : Option Bound → Extent
-extent_of None = Complete
-extent_of (Some bound) = Part bound
 
 abbrev pub is_whole : Extent → Bool
 is_whole Complete = true

@@ -1,14 +1,14 @@
 pub mod Claims
 pub mod Expectations
 pub mod Extents
-pub mod Graphs
 pub mod Judgements
 pub mod Judging
 pub mod Laws
+pub mod Orders
 pub mod Outcomes
 pub mod Readings
+pub mod Searches
 pub mod Statuses
 pub mod Texts
 pub mod Tries
 pub mod Verdicts
-pub mod Walks

@@ -67,3 +67,13 @@ pub record HasUnlawfulRun (script : Script) (index : ℕ) : Type 0 where
 abbrev pub RefusesSearch : Script → Fault → Type 0
 RefusesSearch script (Unlawful index) = HasUnlawfulRun script index
 RefusesSearch script fault = DeclinesRun script fault
+
+-- an outcome has the text of the report of the run along an order
+pub record IsReportAlong (script : Script) (order : List ℕ) (outcome : Outcome) : Type 0 where
+  pub run : TurnsRun
+  pub is_run : IsOrderRun script order run
+  pub shows : string_bytes outcome.text ≡ front_text run.closing
+
+-- the report of the run along an order is among these
+abbrev pub HasReport : Script → List ℕ → Outcomes → Type 0
+HasReport script order outcomes = Any (IsReportAlong script order) outcomes.all.items

@@ -9,7 +9,7 @@ use Rattle.lwkt_report.specs.Report.{line_feed, spaced_or_dash, numbered_lines, 
 use Rattle.lwkt_told.specs.Called.{called}
 use Rattle.lwkt_told.specs.Circles.{stuck_lines}
 use Rattle.lwkt_told.specs.Told.{told_front}
-use Rattle.lwkt_explore.specs.declared.extents.Bound.TheVariants.{States, Turns, Memory, Stopped}
+use Rattle.lwkt_explore.specs.declared.extents.Bound.TheVariants.{States, Turns, Memory, Stopped, Differs}
 use Rattle.lwkt_explore.specs.declared.extents.Extent.{Extent}
 use Rattle.lwkt_explore.specs.declared.extents.Extent.TheVariants.{Complete, Part, Sampled}
 use Rattle.lwkt_explore.specs.declared.forms.Telling.{Telling}
@@ -157,6 +157,7 @@ extent_text (Part States) = codes "a part (states)"
 extent_text (Part Turns) = codes "a part (turns)"
 extent_text (Part Memory) = codes "a part (memory)"
 extent_text (Part Stopped) = codes "a part (stopped)"
+extent_text (Part Differs) = codes "a part (the machine ended otherwise than its model)"
 extent_text Sampled = codes "a part"
 
 -- how many outcomes there are, those that are grouped as one, what was tried, and whether that is all

@@ -2,25 +2,6 @@
 use crate::doings::Doings;
 use crate::touches::{cpu_bit, has};
 
-/// Sets of processors, the smallest first, then the empty ones; each is such that no turn of another processor, whenever it is made,
-/// disturbs the next turn of one in it. Together they have every processor but those whose turn changes nothing.
-#[derive(Clone, Copy, PartialEq, Eq)]
-pub(crate) struct Choice {
-    /// The sets, each processor as a bit.
-    pub sets: [u8; 8],
-    /// Of each processor those whose next turn can be exchanged with its own.
-    pub commuting: [u8; 8],
-    /// Those whose turn changes nothing.
-    pub over: u8,
-}
-
-/// No processor.
-pub(crate) const NO_CHOICE: Choice = Choice {
-    sets: [0; 8],
-    commuting: [0; 8],
-    over: 0,
-};
-
 // How many processors a set has.
 fn size_of(set: u8) -> usize {
     let mut size = 0usize;
@@ -37,17 +18,6 @@ fn disturbing(doings: &Doings, cpus: usize, cpu: usize) -> u8 {
     let mut set = 0u8;
     for other in 0..cpus {
         if doings.is_disturbed(cpu, other) {
-            set |= cpu_bit(other);
-        }
-    }
-    set
-}
-
-// The processors whose next turns can be exchanged with that of this one.
-fn commuting(doings: &Doings, cpus: usize, cpu: usize) -> u8 {
-    let mut set = 0u8;
-    for other in 0..cpus {
-        if doings.commute(cpu, other) {
             set |= cpu_bit(other);
         }
     }
@@ -108,44 +78,29 @@ fn by_size(given: &[u8; 8]) -> [u8; 8] {
     sets
 }
 
-impl Choice {
-    /// The choice at a place at which the processors may touch this. Where all threads have ended that are no services, each
-    /// processor's turn is tried: what it does to messages a report shows.
-    pub(crate) fn of(doings: &Doings, cpus: usize) -> Choice {
-        let mut choice = NO_CHOICE;
-        let mut disturbed = [0u8; 8];
-        for cpu in 0..cpus.min(8) {
-            disturbed[cpu] = disturbing(doings, cpus, cpu);
-            choice.commuting[cpu] = commuting(doings, cpus, cpu);
-            if doings.is_over(cpu) {
-                choice.over |= cpu_bit(cpu);
-            }
-        }
-        choice.sets = if doings.all_done() {
-            Choice::all(cpus).sets
-        } else {
-            by_size(&choice.sets_of(cpus, &disturbed))
-        };
-        choice
+/// One set, of all processors.
+pub(crate) fn all_of(cpus: usize) -> [u8; 8] {
+    let mut sets = [0u8; 8];
+    for cpu in 0..cpus.min(8) {
+        sets[0] |= cpu_bit(cpu);
     }
+    sets
+}
 
-    // Of each processor whose turn may change something its set.
-    fn sets_of(&self, cpus: usize, disturbing: &[u8; 8]) -> [u8; 8] {
-        let mut sets = [0u8; 8];
-        for cpu in 0..cpus.min(8) {
-            if !has(self.over, cpu) {
-                sets[cpu] = closed(cpu, disturbing);
-            }
-        }
-        sets
+/// Sets of processors, the smallest first, then empty ones; each is such that no turn of another processor, whenever it is made,
+/// disturbs the next turn of one in it. Together they have every processor. Where all threads have ended that are no services, it is one
+/// set of all: what turns do to messages then a report shows.
+pub(crate) fn sets_of(doings: &Doings, cpus: usize) -> [u8; 8] {
+    if doings.all_done() {
+        return all_of(cpus);
     }
-
-    /// The choice by which each processor's turn is tried.
-    pub(crate) fn all(cpus: usize) -> Choice {
-        let mut choice = NO_CHOICE;
-        for cpu in 0..cpus {
-            choice.sets[0] |= cpu_bit(cpu);
-        }
-        choice
+    let mut disturbed = [0u8; 8];
+    for cpu in 0..cpus.min(8) {
+        disturbed[cpu] = disturbing(doings, cpus, cpu);
     }
+    let mut sets = [0u8; 8];
+    for cpu in 0..cpus.min(8) {
+        sets[cpu] = closed(cpu, &disturbed);
+    }
+    by_size(&sets)
 }

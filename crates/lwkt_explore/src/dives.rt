@@ -1,12 +1,13 @@
 //! Runs that are made before a search, which may not be able to try every order: the run in rounds, and random orders.
-ghost use Rattle.std.specs.Prelude.{◌≡◌, ◌≤◌, IfErr};
+ghost use Rattle.std.specs.Prelude.{◌<◌, ◌≤◌, IfErr};
 ghost use Rattle.lwkt_explore.specs.Outcomes.{AreOutcomes, AreShort, RefusesSearch};
-ghost use Rattle.lwkt_explore.specs.Walks.{IsWalk};
+ghost use Rattle.lwkt_plain.specs.Openings.{opened};
+ghost use Rattle.lwkt_plain.specs.Sound.{IsSound};
 
 use crate::outcomes::{LastState, Outcomes};
 use crate::samples::{Course, Dice};
-use crate::searches::{Bounds, Method};
-use crate::walks::Walk;
+use crate::searches::Bounds;
+use crate::strays::{seen_of, stray};
 use crate::watches::Watch;
 use lwkt_base::Fault;
 use lwkt_script::Script;
@@ -22,22 +23,22 @@ const TURNS: usize = 40000;
 fn add_one<W: Watch>(
     alloc: Global,
     script: &Script,
-    walk: &mut Walk,
+    bounds: Bounds,
     outcomes: &mut Outcomes,
     course: &mut Course,
     most: usize,
 ) -> Result<usize, Fault>
-    requires walk { IsWalk script.now walk.old }
-    requires most { most ≤ walk.old.bounds.turns }
+    requires some { 0 < script.now.cpus }
+    requires few { script.now.cpus ≤ 8 }
+    requires sound { IsSound (opened script.now) }
+    requires most { most ≤ bounds.turns }
     requires outcomes { AreOutcomes script.now outcomes.old }
-    requires short { AreShort walk.old.bounds.turns outcomes.old }
-    ensures walk { IsWalk script.now walk.new }
-    ensures bounds { walk.new.bounds ≡ walk.old.bounds }
+    requires short { AreShort bounds.turns outcomes.old }
     ensures found { AreOutcomes script.now outcomes.new }
-    ensures short { AreShort walk.old.bounds.turns outcomes.new }
+    ensures short { AreShort bounds.turns outcomes.new }
     ensures refused { IfErr result (λ fault. RefusesSearch script.now fault) }
 {
-    let (order, last_state) = walk.stray(alloc, script, course, most)?;
+    let (order, last_state) = stray(alloc, script, course, most)?;
     let turns = order.len();
     if last_state == LastState::Cut {
         return Ok(turns);
@@ -52,22 +53,22 @@ fn add_one<W: Watch>(
 fn go_round<W: Watch>(
     alloc: Global,
     script: &Script,
-    walk: &mut Walk,
+    bounds: Bounds,
     outcomes: &mut Outcomes,
 ) -> Result<(), Fault>
-    requires walk { IsWalk script.now walk.old }
+    requires some { 0 < script.now.cpus }
+    requires few { script.now.cpus ≤ 8 }
+    requires sound { IsSound (opened script.now) }
     requires outcomes { AreOutcomes script.now outcomes.old }
-    requires short { AreShort walk.old.bounds.turns outcomes.old }
-    ensures walk { IsWalk script.now walk.new }
-    ensures bounds { walk.new.bounds ≡ walk.old.bounds }
+    requires short { AreShort bounds.turns outcomes.old }
     ensures found { AreOutcomes script.now outcomes.new }
-    ensures short { AreShort walk.old.bounds.turns outcomes.new }
+    ensures short { AreShort bounds.turns outcomes.new }
     ensures refused { IfErr result (λ fault. RefusesSearch script.now fault) }
 {
     let rounds = (script.turns as usize).saturating_mul(usize::from(script.cpus));
-    let most = walk.bounds.turns.min(TURNS).min(rounds);
+    let most = bounds.turns.min(TURNS).min(rounds);
     let mut course = Course::Rounds;
-    add_one::<W>(alloc, script, walk, outcomes, &mut course, most)?;
+    add_one::<W>(alloc, script, bounds, outcomes, &mut course, most)?;
     Ok(())
 }
 
@@ -75,15 +76,17 @@ fn go_round<W: Watch>(
 fn go_about<W: Watch>(
     alloc: Global,
     script: &Script,
-    walk: &mut Walk,
+    bounds: Bounds,
     outcomes: &mut Outcomes,
     watch: &mut W,
 ) -> Result<bool, Fault>
-    requires walk { IsWalk script.now walk.old }
+    requires some { 0 < script.now.cpus }
+    requires few { script.now.cpus ≤ 8 }
+    requires sound { IsSound (opened script.now) }
     requires outcomes { AreOutcomes script.now outcomes.old }
-    requires short { AreShort walk.old.bounds.turns outcomes.old }
+    requires short { AreShort bounds.turns outcomes.old }
     ensures found { AreOutcomes script.now outcomes.new }
-    ensures short { AreShort walk.old.bounds.turns outcomes.new }
+    ensures short { AreShort bounds.turns outcomes.new }
     ensures refused { IfErr result (λ fault. RefusesSearch script.now fault) }
 {
     let mut course = Course::Random(Dice::new(0));
@@ -92,11 +95,11 @@ fn go_about<W: Watch>(
         if left == 0 {
             return Ok(true);
         }
-        if !watch.goes_on(walk.strayed(made)) {
+        if !watch.goes_on(seen_of(made, (TURNS - left) as u64)) {
             return Ok(false);
         }
-        let most = walk.bounds.turns.min(left);
-        let turns = add_one::<W>(alloc, script, walk, outcomes, &mut course, most)?;
+        let most = bounds.turns.min(left);
+        let turns = add_one::<W>(alloc, script, bounds, outcomes, &mut course, most)?;
         left = left.saturating_sub(turns);
     }
     Ok(true)
@@ -113,13 +116,15 @@ pub(crate) fn dive<W: Watch>(
     outcomes: &mut Outcomes,
     watch: &mut W,
 ) -> Result<bool, Fault>
+    requires some { 0 < script.now.cpus }
+    requires few { script.now.cpus ≤ 8 }
+    requires sound { IsSound (opened script.now) }
     requires outcomes { AreOutcomes script.now outcomes.old }
     requires short { AreShort bounds.turns outcomes.old }
     ensures found { AreOutcomes script.now outcomes.new }
     ensures short { AreShort bounds.turns outcomes.new }
     ensures refused { IfErr result (λ fault. RefusesSearch script.now fault) }
 {
-    let mut walk = Walk::begin(alloc, script, bounds, Method::Plain)?;
-    go_round::<W>(alloc, script, &mut walk, outcomes)?;
-    go_about(alloc, script, &mut walk, outcomes, watch)
+    go_round::<W>(alloc, script, bounds, outcomes)?;
+    go_about(alloc, script, bounds, outcomes, watch)
 }

@@ -1,9 +1,12 @@
 //! What each processor may touch at a place of a run: in its next turn, and in all turns from there on.
+ghost use Rattle.std.specs.Prelude.{◌<◌, length};
+ghost use Rattle.lwkt_plain.specs.Stores.{kept, IsStore};
+
 use crate::mails::Mails;
-use crate::touches::{NOTHING, Touch, disturb, has, listed, touched_by, touched_by_all};
-use lwkt_base::{Ask, ThreadState};
+use crate::touches::{NOTHING, Touch, bit, disturb, listed, touched_by, touched_by_all};
+use lwkt_base::{Ask, MsgState};
 use lwkt_code::{Code, Local, Step};
-use lwkt_machine::{Machine, ScriptBody};
+use lwkt_plain::{Processor, Store};
 use lwkt_script::{Script, ThreadSpec};
 
 /// What a processor may touch.
@@ -129,27 +132,18 @@ impl Doing {
         }
     }
 
-    // Notes a thread, by where it stands in its program.
-    fn note_thread(
-        &mut self,
-        machine: &Machine<ScriptBody>,
-        cpu: usize,
-        place: usize,
-        spec: &ThreadSpec,
-    ) {
-        let (Some(status), Some(body)) = (machine.thread(cpu, place), machine.body(cpu, place))
-        else {
+    // Notes a thread of a processor, by where it stands in its program.
+    fn note_thread(&mut self, cpu: &Processor, place: usize, spec: &ThreadSpec) {
+        let Some(thread) = cpu.threads.as_slice().get(place) else {
             return;
         };
-        let runs = match status.state {
-            ThreadState::Exited | ThreadState::Faulted(_) => return,
-            ThreadState::Running => true,
-            ThreadState::Ready | ThreadState::Waiting => false,
-        };
-        let list = listed(status.list);
-        let (step, leaves) = step_of(body.code(), body.local());
-        let later = list.and(touched_by_all(steps_left(body.code(), body.local())));
-        self.note(runs, leaves, list.and(step), later);
+        if thread.phase.has_ended() {
+            return;
+        }
+        let list = listed(thread.list.refs());
+        let (step, leaves) = step_of(&spec.code, &thread.local);
+        let later = list.and(touched_by_all(steps_left(&spec.code, &thread.local)));
+        self.note(cpu.running == Some(place), leaves, list.and(step), later);
         if !spec.service {
             self.pending = self.pending.saturating_add(1);
         }
@@ -162,11 +156,6 @@ impl Doing {
             may_end: self.may_end && ends_all,
             ..self
         }
-    }
-
-    // Whether all its threads have ended.
-    fn has_ended(&self) -> bool {
-        self.live == 0
     }
 
     // Whether all its threads have ended that are no services.
@@ -196,51 +185,48 @@ impl Doing {
     }
 }
 
+// What a processor may touch, mail aside.
+fn doing_of(script: &Script, c: usize, cpu: &Processor) -> Doing {
+    let mut doing = IDLE;
+    let mut count = 0usize;
+    for spec in script.threads.as_slice() {
+        if usize::from(spec.cpu.0) == c {
+            doing.note_thread(cpu, count, spec);
+            count = count.saturating_add(1);
+        }
+    }
+    doing
+}
+
+// The messages that aren't at rest at a state.
+fn unrested(script: &Script, store: &Store, at: usize) -> u64
+    requires store { IsStore store.now }
+    requires there { at < length (kept store.now) }
+{
+    let mut away = 0u64;
+    for m in 0..script.messages.as_slice().len() {
+        if let Some(letter) = store.letter(at, m) {
+            if !matches!(letter.word.state, MsgState::Rest) {
+                away |= bit(m);
+            }
+        }
+    }
+    away
+}
+
 impl Doings {
-    /// Of processors that do nothing.
-    pub(crate) fn none() -> Doings {
-        Doings { all: [IDLE; 8] }
-    }
-
-    /// What the threads of a machine's processors may touch, their messages that are away left out.
-    pub(crate) fn of_threads(script: &Script, machine: &Machine<ScriptBody>) -> Doings {
-        let mut doings = Doings::none();
-        let mut counts = [0usize; 8];
-        for spec in script.threads.as_slice() {
-            doings.note_thread(machine, spec, &mut counts);
+    /// What each processor may touch at a state.
+    pub(crate) fn at(script: &Script, mails: &Mails, store: &Store, at: usize) -> Doings
+        requires store { IsStore store.now }
+        requires there { at < length (kept store.now) }
+    {
+        let wears = may_wear(script);
+        let mut doings = Doings { all: [IDLE; 8] };
+        for c in 0..store.cpus().min(8) {
+            doings.all[c] = doing_of(script, c, store.processor(at, c)).bounded(wears);
         }
-        doings.bounded(may_wear(script))
-    }
-
-    // Of each whether its next turn may end all its threads.
-    fn bounded(self, wears: bool) -> Doings {
-        let mut doings = self;
-        for doing in &mut doings.all {
-            *doing = doing.bounded(wears);
-        }
+        doings.add_mail(mails, mails.away(unrested(script, store, at)));
         doings
-    }
-
-    /// Puts what a processor may touch.
-    pub(crate) fn put(&mut self, cpu: usize, doing: Doing) {
-        if let Some(own) = self.all.get_mut(cpu) {
-            *own = doing;
-        }
-    }
-
-    // Notes the next thread of a script.
-    fn note_thread(
-        &mut self,
-        machine: &Machine<ScriptBody>,
-        spec: &ThreadSpec,
-        counts: &mut [usize; 8],
-    ) {
-        let cpu = usize::from(spec.cpu.0);
-        let (Some(doing), Some(count)) = (self.all.get_mut(cpu), counts.get_mut(cpu)) else {
-            return;
-        };
-        doing.note_thread(machine, cpu, *count, spec);
-        *count = count.saturating_add(1);
     }
 
     // The messages that a thread may still name.
@@ -252,8 +238,8 @@ impl Doings {
         named
     }
 
-    /// Adds the messages that are away, or may still be named.
-    pub(crate) fn add_mail(&mut self, mails: &Mails, away: u64) {
+    // Adds the messages that are away, or may still be named.
+    fn add_mail(&mut self, mails: &Mails, away: u64) {
         let named = self.named();
         for cpu in 0..8usize {
             self.all[cpu] = self.all[cpu].with_mail(mails, cpu, away, named);
@@ -265,25 +251,9 @@ impl Doings {
         self.all.get(cpu).copied().unwrap_or(IDLE)
     }
 
-    /// What the next turn of a processor may touch.
-    pub(crate) fn next(&self, cpu: usize) -> Touch {
-        self.of(cpu).next
-    }
-
     /// Whether the threads of all processors have ended that are no services.
     pub(crate) fn all_done(&self) -> bool {
         self.all.iter().all(|doing| doing.is_done())
-    }
-
-    /// Whether the turn of a processor changes nothing, since all its threads have ended and no message can be with it.
-    pub(crate) fn is_over(&self, cpu: usize) -> bool {
-        let doing = self.of(cpu);
-        doing.has_ended() && doing.next.messages == 0
-    }
-
-    /// Whether the next turns of two processors come to the same in either order.
-    pub(crate) fn commute(&self, a: usize, b: usize) -> bool {
-        a != b && !disturb(a, self.of(a).next, b, self.of(b).next)
     }
 
     // Whether the next turn of a processor may come to stand on the other side of the end of all threads, services aside, if another

@@ -1,6 +1,4 @@
 //! Whether every order was tried.
-ghost use Rattle.std.specs.Prelude.{◌≡◌};
-ghost use Rattle.lwkt_explore.specs.Extents.{extent_of};
 
 /// What ends a search before every order is tried.
 #[derive(Clone, Copy, PartialEq, Eq)]
@@ -13,6 +11,8 @@ pub enum Bound {
     Memory,
     /// Who looks on ended it.
     Stopped,
+    /// The machine didn't end as its plain machine did.
+    Differs,
 }
 
 /// Whether every order was tried, and if not, what ended the search.
@@ -24,14 +24,4 @@ pub enum Extent {
     Part(Bound),
     /// Random orders were tried, which are never all.
     Sampled,
-}
-
-/// How much a search tried that met this bound, if it met one.
-pub(crate) fn extent_of(met: Option<Bound>) -> Extent
-    ensures { result ≡ extent_of met }
-{
-    match met {
-        None => Extent::Complete,
-        Some(bound) => Extent::Part(bound),
-    }
 }

@@ -1,16 +1,13 @@
 //! Outcomes: reports of runs along orders, each once.
-ghost use Rattle.std.specs.Prelude.{◌≡◌, ◌≢◌, ℕ, ◌+◌, ◌<◌, ◌≤◌, [], ◌∷◌, ◌++◌, length, sum, string_bytes, Err, IfOk, IfErr, OnOk, OnErr, IfSome, OnSome};
+ghost use Rattle.std.specs.Prelude.{◌≡◌, ◌≢◌, ℕ, ◌+◌, ◌<◌, ◌≤◌, true, List, [], ◌∷◌, ◌++◌, length, sum, string_bytes, Err, IfOk, IfErr, OnOk, OnErr, OnSome};
 ghost use Rattle.std.specs.List.{Any};
-ghost use Rattle.std.specs.Option.{option_to_list};
 ghost use Rattle.lwkt_run.specs.Run.{AreThere, IsOrderRun, end_of_closing};
 ghost use Rattle.lwkt_script.specs.declared.scripts.Script.{Script};
-ghost use Rattle.lwkt_explore.specs.Outcomes.{settled_text, IsKind, IsOutcome, AreOutcomes, AreShort, AreWhole, HasEnded, HasRoom, RefusesSearch};
+ghost use Rattle.lwkt_explore.specs.Outcomes.{settled_text, IsKind, IsOutcome, AreOutcomes, AreShort, AreWhole, HasEnded, HasReport, HasRoom, RefusesSearch};
 ghost use Rattle.lwkt_explore.specs.Verdicts.{IsOfVerdict};
 
-use crate::walks::number_in_order;
 use crate::watches::Watch;
-use lwkt_base::limits::CPU_LIMIT;
-use lwkt_base::memory::{from_slice, push, reserve};
+use lwkt_base::memory::{push, reserve};
 use lwkt_base::{Fault, OutOfMemory};
 use lwkt_report::{Closing, Verdict, report_front};
 use lwkt_run::{End, TurnsRun, end_of_closing, order_run_of};
@@ -158,25 +155,6 @@ fn outcome_of<W: Watch>(
     })
 }
 
-/// Makes the run along an order and the turn of a processor behind it, and refuses if the verdict on it isn't `lawful`.
-pub(crate) fn judge(
-    alloc: Global,
-    script: &Script,
-    order: &[u8],
-    cpu: Option<usize>,
-) -> Result<(), Fault>
-    requires order { AreThere script.now (order.now ++ option_to_list cpu) }
-    requires cpu { IfSome cpu (λ cpu. cpu < CPU_LIMIT) }
-    ensures { IfErr result (λ fault. RefusesSearch script.now fault) }
-{
-    let mut whole = from_slice(alloc, order)?;
-    if let Some(cpu) = cpu {
-        push(&mut whole, number_in_order(cpu))?;
-    }
-    lawful_run(alloc, script, whole.as_slice(), LastState::Cut)?;
-    Ok(())
-}
-
 impl Outcomes {
     /// None so far.
     pub(crate) fn new(alloc: Global) -> Self
@@ -191,7 +169,7 @@ impl Outcomes {
 
     // Which outcome this is, if it was found before.
     fn place_of(&self, outcome: &Outcome) -> Option<usize>
-        ensures { OnSome result (Any (λ one. one.kind ≡ outcome.now.kind) self.now.all.items) }
+        ensures { OnSome result (Any (λ one. (one.kind ≡ outcome.now.kind) × (string_bytes one.text ≡ string_bytes outcome.now.text)) self.now.all.items) }
     {
         for (place, one) in self.all.iter().enumerate() {
             if one.kind == outcome.kind && one.text.as_str() == outcome.text.as_str() {
@@ -209,6 +187,18 @@ impl Outcomes {
         if let Some(count) = self.counts.get_mut(place) {
             *count = count.saturating_add(1);
         }
+    }
+
+    /// Whether one of them is ended.
+    pub(crate) fn have_ended(&self) -> bool
+        ensures { result ≡ true → HasEnded self.now }
+    {
+        for outcome in &self.all {
+            if outcome.kind == Kind::Ended {
+                return true;
+            }
+        }
+        false
     }
 
     /// How many of the orders that were tried led to an outcome.
@@ -273,6 +263,8 @@ impl Outcomes {
         ensures whole { IfOk result (λ kind. kind ≢ Kind.Cut → AreWhole self.old → AreWhole self.new) }
         ensures err { OnErr result (self.new.all.items ≡ self.old.all.items) }
         ensures kind { IfOk result (λ kind. kind ≡ Kind.Ended → HasEnded self.new) }
+        ensures told { IfOk result (λ kind. HasReport script.now order.items self.new) }
+        ensures stays { (one : List ℕ) → HasReport script.now one self.old → HasReport script.now one self.new }
         ensures counts { sum self.new.counts.items ≤ sum self.old.counts.items + 1 }
         ensures refused { IfErr result (λ fault. RefusesSearch script.now fault) }
     {

@@ -2,12 +2,13 @@
 ghost use Rattle.std.specs.Prelude.{◌≡◌, ◌+◌, ◌≤◌, ◌<◌, None, sum, IfOk, IfErr};
 ghost use Rattle.lwkt_explore.specs.Outcomes.{AreOutcomes, AreShort, RefusesSearch};
 ghost use Rattle.lwkt_explore.specs.Tries.{HasTriedOrders};
-ghost use Rattle.lwkt_explore.specs.Walks.{IsWalk};
+ghost use Rattle.lwkt_plain.specs.Openings.{opened};
+ghost use Rattle.lwkt_plain.specs.Sound.{IsSound};
 
 use crate::extents::Extent;
 use crate::outcomes::Outcomes;
-use crate::searches::{Bounds, Found, Method, Tried};
-use crate::walks::Walk;
+use crate::searches::{Bounds, Found, Tried, opens};
+use crate::strays::{seen_of, stray};
 use crate::watches::Watch;
 use lwkt_base::Fault;
 use lwkt_script::Script;
@@ -76,56 +77,59 @@ impl Course {
     }
 }
 
-// Makes one random order, and keeps its outcome.
+// Makes one random order of at most so many turns, and keeps its outcome. Says how many turns it has.
 fn add_one<W: Watch>(
     alloc: Global,
     script: &Script,
-    walk: &mut Walk,
     outcomes: &mut Outcomes,
     course: &mut Course,
-) -> Result<(), Fault>
-    requires walk { IsWalk script.now walk.old }
+    most: usize,
+) -> Result<usize, Fault>
+    requires some { 0 < script.now.cpus }
+    requires few { script.now.cpus ≤ 8 }
+    requires sound { IsSound (opened script.now) }
     requires outcomes { AreOutcomes script.now outcomes.old }
-    requires short { AreShort walk.old.bounds.turns outcomes.old }
-    ensures walk { IsWalk script.now walk.new }
-    ensures bounds { walk.new.bounds ≡ walk.old.bounds }
+    requires short { AreShort most outcomes.old }
     ensures found { AreOutcomes script.now outcomes.new }
-    ensures short { AreShort walk.old.bounds.turns outcomes.new }
+    ensures short { AreShort most outcomes.new }
     ensures counts { sum outcomes.new.counts.items ≤ sum outcomes.old.counts.items + 1 }
     ensures refused { IfErr result (λ fault. RefusesSearch script.now fault) }
 {
-    let most = walk.bounds.turns;
-    let (order, last_state) = walk.stray(alloc, script, course, most)?;
-    match outcomes.add::<W>(alloc, script, order, last_state) {
-        Ok(_) => Ok(()),
-        Err(fault) => Err(fault),
-    }
+    let (order, last_state) = stray(alloc, script, course, most)?;
+    let turns = order.len();
+    outcomes.add::<W>(alloc, script, order, last_state)?;
+    Ok(turns)
 }
 
-// Makes so many random orders.
+// Makes so many random orders, and counts their turns.
 fn add_all<W: Watch>(
     alloc: Global,
     script: &Script,
-    walk: &mut Walk,
     outcomes: &mut Outcomes,
-    course: &mut Course,
+    most: usize,
     count: u64,
+    seed: u64,
+    turns: &mut u64,
     watch: &mut W,
 ) -> Result<(), Fault>
-    requires walk { IsWalk script.now walk.old }
+    requires some { 0 < script.now.cpus }
+    requires few { script.now.cpus ≤ 8 }
+    requires sound { IsSound (opened script.now) }
     requires outcomes { AreOutcomes script.now outcomes.old }
-    requires short { AreShort walk.old.bounds.turns outcomes.old }
+    requires short { AreShort most outcomes.old }
     requires none { sum outcomes.old.counts.items ≡ 0 }
     ensures found { AreOutcomes script.now outcomes.new }
-    ensures short { AreShort walk.old.bounds.turns outcomes.new }
+    ensures short { AreShort most outcomes.new }
     ensures counts { sum outcomes.new.counts.items ≤ count }
     ensures refused { IfErr result (λ fault. RefusesSearch script.now fault) }
 {
+    let mut course = Course::Random(Dice::new(seed));
     for made in 0..count {
-        if !watch.goes_on(walk.strayed(made)) {
+        if !watch.goes_on(seen_of(made, *turns)) {
             return Ok(());
         }
-        add_one::<W>(alloc, script, walk, outcomes, course)?;
+        let more = add_one::<W>(alloc, script, outcomes, &mut course, most)?;
+        *turns = turns.saturating_add(more as u64);
     }
     Ok(())
 }
@@ -155,29 +159,29 @@ pub fn sample<W: Watch>(
     ensures tried { IfOk result (λ found. HasTriedOrders count found.tried) }
     ensures refused { IfErr result (λ fault. RefusesSearch script.now fault) }
 {
-    let mut walk = Walk::begin(alloc, script, bounds, Method::Plain)?;
+    opens(alloc, script)?;
     let mut outcomes = Outcomes::new(alloc);
-    let mut course = Course::Random(Dice::new(seed));
-    let made = add_all(
+    let mut turns = 0u64;
+    match add_all(
         alloc,
         script,
-        &mut walk,
         &mut outcomes,
-        &mut course,
+        bounds.turns,
         count,
+        seed,
+        &mut turns,
         watch,
-    );
-    match made {
-        Ok(()) => {}
-        Err(Fault::Memory(_)) => {}
+    ) {
+        Ok(()) | Err(Fault::Memory(_)) => {}
         Err(fault) => return Err(fault),
     }
     let tried = Tried::Orders(outcomes.total());
     Ok(Found {
         outcomes,
         tried,
-        turns: walk.turns,
+        turns,
         extent: Extent::Sampled,
+        is_whole: false,
         lost: None,
     })
 }

@@ -1,19 +1,31 @@
-//! The search: over states, breadth first, so that orders are shortest.
-ghost use Rattle.std.specs.Prelude.{◌≡◌, ◌≢◌, ◌+◌, ◌≤◌, ◌<◌, true, false, None, length, Contains, IfOk, IfErr, OnOk};
+//! The search: over states of the plain machine, breadth first, so that orders are shortest.
+ghost use Rattle.std.specs.Prelude.{◌≡◌, ◌≤◌, ◌<◌, true, false, None, [], length, slice_index_or, All, IsTrue, IsFalse, IfOk, IfErr, IfSome, OnOk};
 ghost use Rattle.lwkt_explore.specs.Extents.{is_complete};
-ghost use Rattle.lwkt_explore.specs.Outcomes.{AreOutcomes, AreShort, AreWhole, HasEnded, RefusesSearch};
+ghost use Rattle.lwkt_explore.specs.Outcomes.{AreOutcomes, AreShort, AreWhole, HasEnded, HasReport, RefusesSearch};
+ghost use Rattle.lwkt_explore.specs.Searches.{IsSearched, IsLostAlong, NoneIsLost, TellsWhole};
 ghost use Rattle.lwkt_explore.specs.Tries.{HasTriedStates};
-ghost use Rattle.lwkt_explore.specs.Walks.{IsSearching};
+ghost use Rattle.lwkt_plain.specs.Openings.{opened};
+ghost use Rattle.lwkt_plain.specs.Sound.{IsSound};
+ghost use Rattle.lwkt_plain.specs.Stores.{kept, IsStore};
+ghost use Rattle.lwkt_run.specs.Run.{AreThere};
 
 use crate::dives::dive;
-use crate::extents::{Bound, Extent, extent_of};
+use crate::explorers::Explorer;
+use crate::extents::{Bound, Extent};
 use crate::losses::Lost;
+use crate::mails::Mails;
 use crate::outcomes::{Kind, LastState, Outcomes};
-use crate::walks::Walk;
 use crate::watches::Watch;
-use lwkt_base::Fault;
+use lwkt_base::memory::from_slice;
+use lwkt_base::{Fault, OutOfMemory};
+use lwkt_machine::Machine;
+use lwkt_plain::{Store, opened_scripts_are_sound};
 use lwkt_script::Script;
+use lwkt_search::{Growth, Refusal, Seen, Task, UNTRIED, lost_states};
 use std::alloc::Global;
+
+// What a search of the plain machine finds.
+type Growing = lwkt_search::Found<Store>;
 
 /// What a search may take. If a bound is met, not every order is tried.
 #[derive(Clone, Copy, PartialEq, Eq)]
@@ -29,7 +41,7 @@ pub struct Bounds {
 pub enum Method {
     /// By the turn of each processor.
     Plain,
-    /// By the turns of some processors, if those of the others can be exchanged with theirs (docs/EXPLORE.md). The outcomes are the
+    /// By the turns of some processors, if those of the others can be exchanged with theirs (docs/SEARCH.md). The outcomes are the
     /// same.
     Reduced,
 }
@@ -54,6 +66,8 @@ pub struct Found {
     pub turns: u64,
     /// Whether every order was tried, and if not, what ended the search.
     pub extent: Extent,
+    /// Whether each turn was made from each state that was found.
+    pub is_whole: bool,
     /// The states from which no end can be reached, if every order was tried and there are any.
     pub lost: Option<Lost>,
 }
@@ -67,99 +81,350 @@ impl Found {
     }
 }
 
-// Adds the outcome of a state, which stands so. Says which kind it is of.
-fn add_at<W: Watch>(
-    alloc: Global,
-    script: &Script,
-    walk: &mut Walk,
-    outcomes: &mut Outcomes,
-    at: usize,
-    last_state: LastState,
-) -> Result<Kind, Fault>
-    requires { IsSearching script.now walk.old outcomes.old }
-    ensures search { IsSearching script.now walk.new outcomes.new }
-    ensures bounds { walk.new.bounds ≡ walk.old.bounds }
-    ensures ends { walk.new.ends ≡ walk.old.ends }
-    ensures kind { IfOk result (λ kind. kind ≡ Kind.Ended → HasEnded outcomes.new) }
-    ensures refused { IfErr result (λ fault. RefusesSearch script.now fault) }
-{
-    let order = walk.graph.order(alloc, at)?;
-    let kind = outcomes.add::<W>(alloc, script, order, last_state)?;
-    if kind == Kind::Cut {
-        walk.meet(Bound::Turns);
-    }
-    Ok(kind)
-}
-
-// Goes on from a state; where all threads have ended, nothing changes any more, or a bound is met, there is an outcome.
-fn expand<W: Watch>(
-    alloc: Global,
-    script: &Script,
-    walk: &mut Walk,
-    outcomes: &mut Outcomes,
-    at: usize,
-) -> Result<(), Fault>
-    requires { IsSearching script.now walk.old outcomes.old }
-    ensures search { IsSearching script.now walk.new outcomes.new }
-    ensures bounds { walk.new.bounds ≡ walk.old.bounds }
-    ensures ends { OnOk result (length walk.new.ends.items ≡ length walk.old.ends.items + 1) }
-    ensures refused { IfErr result (λ fault. RefusesSearch script.now fault) }
-{
-    let leads = walk.go_on(alloc, script, at)?;
-    let Some(last_state) = walk.last_state(at, leads) else {
-        return Ok(walk.note_end(false)?);
-    };
-    let kind = add_at::<W>(alloc, script, walk, outcomes, at, last_state)?;
-    Ok(walk.note_end(kind == Kind::Ended)?)
-}
-
-// Goes on from each state, in the order in which they are found, if it goes on at all.
-fn search<W: Watch>(
-    alloc: Global,
-    script: &Script,
-    walk: &mut Walk,
-    outcomes: &mut Outcomes,
-    states: usize,
+// Who looks on at the search, unless it doesn't go on at all.
+#[derive(Drop)]
+struct Looking<'w, W> {
+    watch: &'w mut W,
     goes_on: bool,
-    watch: &mut W,
-) -> Result<(), Fault>
-    requires { IsSearching script.now walk.old outcomes.old }
-    ensures search { IsSearching script.now walk.new outcomes.new }
-    ensures bounds { walk.new.bounds ≡ walk.old.bounds }
-    ensures ends { OnOk result (walk.new.met ≡ None → 0 < length walk.new.ends.items) }
+}
+
+impl<'w, W: Watch> lwkt_search::Watch for Looking<'w, W> {
+    fn goes_on(&mut self, seen: Seen) -> bool {
+        self.goes_on && self.watch.goes_on(seen)
+    }
+}
+
+/// Refuses a script whose machine isn't opened.
+pub(crate) fn opens(alloc: Global, script: &Script) -> Result<(), Fault>
+    ensures sound { OnOk result (IsSound (opened script.now)) }
+    ensures some { OnOk result (0 < script.now.cpus) }
+    ensures few { OnOk result (script.now.cpus ≤ 8) }
     ensures refused { IfErr result (λ fault. RefusesSearch script.now fault) }
 {
-    for at in 0..states {
-        if at >= walk.graph.len() {
-            return Ok(());
+    let _machine = Machine::open_script(alloc, script)?;
+    opened_scripts_are_sound();
+    Ok(())
+}
+
+// What the search of the plain machine finds.
+fn attempt<'s, L: lwkt_search::Watch>(
+    alloc: Global,
+    task: &Task<Explorer<'s>>,
+    looking: &mut L,
+) -> Result<Growing, Refusal>
+    requires some { 0 < task.now.bound }
+    requires sound { IsSound (opened task.now.machine.script.now) }
+    ensures { IfOk result (λ found. IsSearched task.now.machine.script.now task.now.cpus task.now.turns task.now.bound found) }
+{
+    let store = Store::open(alloc, task.machine.script)?;
+    let found = task.search(alloc, store, looking)?;
+    Ok(found)
+}
+
+// What the search of the plain machine finds with as much memory as there is: where that is refused, it begins anew with half as many
+// states. Says whether it was.
+fn found_in<'s, L: lwkt_search::Watch>(
+    alloc: Global,
+    task: &mut Task<Explorer<'s>>,
+    looking: &mut L,
+) -> Option<(Growing, bool)>
+    requires sound { IsSound (opened task.old.machine.script.now) }
+    ensures machine { task.new.machine ≡ task.old.machine }
+    ensures cpus { task.new.cpus ≡ task.old.cpus }
+    ensures turns { task.new.turns ≡ task.old.turns }
+    ensures fewer { task.new.bound ≤ task.old.bound }
+    ensures some { IfSome result (λ made. 0 < task.new.bound) }
+    ensures found { IfSome result (λ made. IsSearched task.new.machine.script.now task.new.cpus task.new.turns task.new.bound made.0) }
+{
+    let mut was_refused = false;
+    while task.bound > 0 {
+        if let Ok(found) = attempt(alloc, task, looking) {
+            return Some((found, was_refused));
         }
-        if !goes_on || !watch.goes_on(walk.seen(at)) {
-            walk.met = Some(Bound::Stopped);
-            return Ok(());
-        }
-        expand::<W>(alloc, script, walk, outcomes, at)?;
+        was_refused = true;
+        task.bound /= 2;
     }
-    // (no state may be kept, and the opening is one)
-    if walk.graph.len() > states {
-        walk.meet(Bound::States);
+    None
+}
+
+// How many turns were made.
+fn turns_in(next: &[u32]) -> u64 {
+    next.iter().filter(|n| **n != UNTRIED).count() as u64
+}
+
+// What ended a search.
+fn bound_of(met: Option<lwkt_search::Bound>, was_refused: bool) -> Option<Bound>
+    ensures { result ≡ None → met ≡ None }
+{
+    if was_refused {
+        return Some(Bound::Memory);
+    }
+    match met {
+        None => None,
+        Some(lwkt_search::Bound::States) => Some(Bound::States),
+        Some(lwkt_search::Bound::Turns) => Some(Bound::Turns),
+        Some(lwkt_search::Bound::Stopped) => Some(Bound::Stopped),
+    }
+}
+
+// How the state of an outcome stands.
+fn last_state_of(script: &Script, store: &Store, place: usize) -> LastState
+    requires store { IsStore store.now }
+    requires there { place < length (kept store.now) }
+{
+    if store.has_ended(script, place) {
+        LastState::AllEnded
+    } else {
+        LastState::Quiet
+    }
+}
+
+// Makes the run along the order of each last state that was found, and keeps its outcome. Says whether each ended as the state says.
+fn tell<W: Watch>(
+    alloc: Global,
+    script: &Script,
+    store: &Store,
+    told: &[lwkt_search::Outcome],
+    turns: usize,
+    outcomes: &mut Outcomes,
+) -> Result<bool, Fault>
+    requires store { IsStore store.now }
+    requires places { All (λ one. one.place < length (kept store.now)) told.now }
+    requires orders { All (λ one. AreThere script.now one.order.items) told.now }
+    requires few { All (λ one. length one.order.items ≤ turns) told.now }
+    requires outcomes { AreOutcomes script.now outcomes.old }
+    requires short { AreShort turns outcomes.old }
+    requires whole { AreWhole outcomes.old }
+    ensures found { AreOutcomes script.now outcomes.new }
+    ensures short { AreShort turns outcomes.new }
+    ensures whole { IfOk result (λ is_same. IsTrue is_same → AreWhole outcomes.new) }
+    ensures told { IfOk result (λ is_same. IsTrue is_same → All (λ one. HasReport script.now one.order.items outcomes.new) told.now) }
+    ensures refused { IfErr result (λ fault. RefusesSearch script.now fault) }
+{
+    for at in 0..told.len() {
+        let one = &told[at];
+        let last_state = last_state_of(script, store, one.place);
+        let order = from_slice(alloc, one.order.as_slice())?;
+        let kind = outcomes.add::<W>(alloc, script, order, last_state)?;
+        if kind == Kind::Cut {
+            return Ok(false);
+        }
+    }
+    Ok(true)
+}
+
+// Whether a turn that was tried leads from a state to one that the search didn't go on from.
+fn leads_further(growth: &Growth<Store>, at: usize, cpus: usize) -> bool {
+    let begin = at.saturating_mul(cpus);
+    for cpu in 0..cpus {
+        let next = growth.next.as_slice().get(begin.saturating_add(cpu));
+        if next.is_some_and(|next| *next != UNTRIED && *next as usize >= growth.gone_on) {
+            return true;
+        }
+    }
+    false
+}
+
+// Whether the order to a state has as many turns as it may have, and a further one leads on.
+fn is_cut(task: &Task<Explorer<'_>>, growth: &Growth<Store>, at: usize) -> bool
+    requires store { IsStore growth.now.store }
+    requires there { at < length (kept growth.now.store) }
+    requires noted { at < length growth.now.links.items }
+    ensures { IsTrue result → (slice_index_or growth.now.links.items at (record { parent = 0; cpu = 0; depth = 0 })).depth ≡ task.now.turns }
+{
+    if growth.links[at].depth as usize != task.turns
+        || growth.store.has_ended(task.machine.script, at)
+    {
+        return false;
+    }
+    leads_further(growth, at, usize::from(task.cpus))
+}
+
+// Keeps the outcomes of the orders that have as many turns as they may have, where a further one leads on.
+fn tell_cut<W: Watch>(
+    alloc: Global,
+    script: &Script,
+    task: &Task<Explorer<'_>>,
+    found: &Growing,
+    outcomes: &mut Outcomes,
+) -> Result<(), Fault>
+    requires script { task.now.machine.script.now ≡ script.now }
+    requires cpus { task.now.cpus ≡ script.now.cpus }
+    requires searched { IsSearched script.now task.now.cpus task.now.turns task.now.bound found.now }
+    requires outcomes { AreOutcomes script.now outcomes.old }
+    requires short { AreShort task.now.turns outcomes.old }
+    ensures found { AreOutcomes script.now outcomes.new }
+    ensures short { AreShort task.now.turns outcomes.new }
+    ensures same { found.now.growth.met ≡ None → outcomes.new ≡ outcomes.old }
+    ensures refused { IfErr result (λ fault. RefusesSearch script.now fault) }
+{
+    if !matches!(found.growth.met, Some(lwkt_search::Bound::Turns)) {
+        return Ok(());
+    }
+    for at in 0..found.growth.gone_on {
+        if !is_cut(task, &found.growth, at) {
+            continue;
+        }
+        let order = task.order(alloc, &found.growth, at)?;
+        outcomes.add::<W>(alloc, script, order, LastState::Cut)?;
     }
     Ok(())
 }
 
-// The lost states of a walk that met no bound. Where memory for them is refused, that is the bound that it met, and none are shown.
-fn lost_in(alloc: Global, walk: &mut Walk) -> Option<Lost>
-    ensures met { walk.new.met ≡ None → walk.old.met ≡ None }
-    ensures part { walk.new.met ≢ None → result ≡ None }
-    ensures none { walk.new.met ≡ None → result ≡ None → 0 < length walk.old.ends.items → Contains walk.old.ends.items true }
-    ensures graph { walk.new.graph ≡ walk.old.graph }
-    ensures bounds { walk.new.bounds ≡ walk.old.bounds }
+// Keeps the outcomes of what was found. Says what stood in the way of telling each.
+fn told_of<W: Watch>(
+    alloc: Global,
+    script: &Script,
+    task: &Task<Explorer<'_>>,
+    found: &Growing,
+    outcomes: &mut Outcomes,
+) -> Result<Option<Bound>, Fault>
+    requires script { task.now.machine.script.now ≡ script.now }
+    requires cpus { task.now.cpus ≡ script.now.cpus }
+    requires searched { IsSearched script.now task.now.cpus task.now.turns task.now.bound found.now }
+    requires none { outcomes.old.all.items ≡ [] }
+    ensures found { AreOutcomes script.now outcomes.new }
+    ensures short { AreShort task.now.turns outcomes.new }
+    ensures whole { IfOk result (λ met. met ≡ None → found.now.growth.met ≡ None → AreWhole outcomes.new) }
+    ensures told { IfOk result (λ met. met ≡ None → found.now.growth.met ≡ None → All (λ one. HasReport script.now one.order.items outcomes.new) found.now.outcomes.items) }
+    ensures refused { IfErr result (λ fault. RefusesSearch script.now fault) }
 {
-    match walk.lost(alloc) {
-        Ok(lost) => lost,
-        Err(_) => {
-            walk.meet(Bound::Memory);
-            None
+    match tell::<W>(
+        alloc,
+        script,
+        &found.growth.store,
+        found.outcomes.as_slice(),
+        task.turns,
+        outcomes,
+    ) {
+        Ok(true) => {}
+        Ok(false) => return Ok(Some(Bound::Differs)),
+        Err(Fault::Memory(_)) => return Ok(Some(Bound::Memory)),
+        Err(fault) => return Err(fault),
+    }
+    match tell_cut::<W>(alloc, script, task, found, outcomes) {
+        Ok(()) => Ok(None),
+        Err(Fault::Memory(_)) => Ok(Some(Bound::Memory)),
+        Err(fault) => Err(fault),
+    }
+}
+
+// The lost states of a search that was cut off for nothing.
+fn lost_in(
+    alloc: Global,
+    task: &Task<Explorer<'_>>,
+    found: &Growing,
+) -> Result<Option<Lost>, OutOfMemory>
+    requires searched { IsSearched task.now.machine.script.now task.now.cpus task.now.turns task.now.bound found.now }
+    requires all { found.now.growth.met ≡ None }
+    ensures none { IfOk result (λ lost. IsTrue found.now.growth.is_whole → lost ≡ None → NoneIsLost task.now.machine.script.now task.now.cpus) }
+    ensures some { IfOk result (λ lost. IsTrue found.now.growth.is_whole → IfSome lost (λ one. IsLostAlong task.now.machine.script.now task.now.cpus one.order.items)) }
+{
+    let lost = lost_states(task, alloc, &found.growth)?;
+    let count = lost.len();
+    match lost.as_slice().first() {
+        None => Ok(None),
+        Some(first) => {
+            let order = from_slice(alloc, first.order.as_slice())?;
+            Ok(Some(Lost { count, order }))
         }
+    }
+}
+
+// How many states were kept, of at most so many.
+fn states_in(growth: &Growth<Store>, bound: usize) -> Tried
+    requires some { 0 < length growth.now.links.items }
+    requires bound { 0 < bound }
+    ensures { HasTriedStates bound result }
+{
+    Tried::States(growth.links.len().min(bound))
+}
+
+// The end of a search that a bound ended.
+fn part_of(task: &Task<Explorer<'_>>, found: &Growing, outcomes: Outcomes, bound: Bound) -> Found
+    requires some { 0 < length found.now.growth.links.items }
+    requires bound { 0 < task.now.bound }
+    ensures outcomes { result.outcomes ≡ outcomes }
+    ensures part { is_complete result ≡ false }
+    ensures lost { result.lost ≡ None }
+    ensures open { IsFalse result.is_whole }
+    ensures tried { HasTriedStates task.now.bound result.tried }
+{
+    Found {
+        outcomes,
+        tried: states_in(&found.growth, task.bound),
+        turns: turns_in(found.growth.next.as_slice()),
+        extent: Extent::Part(bound),
+        is_whole: false,
+        lost: None,
+    }
+}
+
+// The end of a search that no bound ended, with the outcomes of all that it found.
+fn whole_of(alloc: Global, task: &Task<Explorer<'_>>, found: &Growing, outcomes: Outcomes) -> Found
+    requires bound { 0 < task.now.bound }
+    requires searched { IsSearched task.now.machine.script.now task.now.cpus task.now.turns task.now.bound found.now }
+    requires all { found.now.growth.met ≡ None }
+    ensures outcomes { result.outcomes ≡ outcomes }
+    ensures ended { is_complete result ≡ true → result.lost ≡ None → HasEnded outcomes }
+    ensures lost { is_complete result ≡ false → result.lost ≡ None }
+    ensures whole { IsTrue result.is_whole → (IsTrue found.now.growth.is_whole) × (is_complete result ≡ true) }
+    ensures none_lost { IsTrue result.is_whole → result.lost ≡ None → NoneIsLost task.now.machine.script.now task.now.cpus }
+    ensures one_lost { IsTrue result.is_whole → IfSome result.lost (λ one. IsLostAlong task.now.machine.script.now task.now.cpus one.order.items) }
+    ensures plain { task.now.machine.method ≡ Method.Plain → is_complete result ≡ true → IsTrue result.is_whole }
+    ensures tried { HasTriedStates task.now.bound result.tried }
+{
+    // (without reduction each turn was tried, so this can't be)
+    if task.machine.method == Method::Plain && !found.growth.is_whole {
+        return part_of(task, found, outcomes, Bound::Stopped);
+    }
+    let lost = match lost_in(alloc, task, found) {
+        Ok(lost) => lost,
+        Err(_) => return part_of(task, found, outcomes, Bound::Memory),
+    };
+    if lost.is_none() && !outcomes.have_ended() {
+        return part_of(task, found, outcomes, Bound::Differs);
+    }
+    Found {
+        outcomes,
+        tried: states_in(&found.growth, task.bound),
+        turns: turns_in(found.growth.next.as_slice()),
+        extent: Extent::Complete,
+        is_whole: found.growth.is_whole,
+        lost,
+    }
+}
+
+// The end of a search.
+fn ended<W: Watch>(
+    alloc: Global,
+    script: &Script,
+    task: &Task<Explorer<'_>>,
+    found: &Growing,
+    was_refused: bool,
+) -> Result<Found, Fault>
+    requires script { task.now.machine.script.now ≡ script.now }
+    requires cpus { task.now.cpus ≡ script.now.cpus }
+    requires bound { 0 < task.now.bound }
+    requires searched { IsSearched script.now task.now.cpus task.now.turns task.now.bound found.now }
+    ensures found { IfOk result (λ found. AreOutcomes script.now found.outcomes) }
+    ensures short { IfOk result (λ found. AreShort task.now.turns found.outcomes) }
+    ensures ended { IfOk result (λ found. is_complete found ≡ true → found.lost ≡ None → HasEnded found.outcomes) }
+    ensures whole { IfOk result (λ found. is_complete found ≡ true → AreWhole found.outcomes) }
+    ensures lost { IfOk result (λ found. is_complete found ≡ false → found.lost ≡ None) }
+    ensures all { IfOk result (λ found. IsTrue found.is_whole → TellsWhole script.now found) }
+    ensures plain { IfOk result (λ found. task.now.machine.method ≡ Method.Plain → is_complete found ≡ true → IsTrue found.is_whole) }
+    ensures tried { IfOk result (λ found. HasTriedStates task.now.bound found.tried) }
+    ensures refused { IfErr result (λ fault. RefusesSearch script.now fault) }
+{
+    let mut outcomes = Outcomes::new(alloc);
+    let told = told_of::<W>(alloc, script, task, found, &mut outcomes)?;
+    if let Some(bound) = bound_of(found.growth.met, was_refused) {
+        return Ok(part_of(task, found, outcomes, bound));
+    }
+    match told {
+        Some(bound) => Ok(part_of(task, found, outcomes, bound)),
+        None => Ok(whole_of(alloc, task, found, outcomes)),
     }
 }
 
@@ -172,37 +437,39 @@ fn searched<W: Watch>(
     goes_on: bool,
     watch: &mut W,
 ) -> Result<Found, Fault>
+    requires sound { IsSound (opened script.now) }
     ensures found { IfOk result (λ found. AreOutcomes script.now found.outcomes) }
     ensures short { IfOk result (λ found. AreShort bounds.turns found.outcomes) }
     ensures ended { IfOk result (λ found. is_complete found ≡ true → found.lost ≡ None → HasEnded found.outcomes) }
     ensures whole { IfOk result (λ found. is_complete found ≡ true → AreWhole found.outcomes) }
     ensures lost { IfOk result (λ found. is_complete found ≡ false → found.lost ≡ None) }
+    ensures all { IfOk result (λ found. IsTrue found.is_whole → TellsWhole script.now found) }
+    ensures plain { IfOk result (λ found. method ≡ Method.Plain → is_complete found ≡ true → IsTrue found.is_whole) }
     ensures tried { IfOk result (λ found. HasTriedStates bounds.states found.tried) }
     ensures refused { IfErr result (λ fault. RefusesSearch script.now fault) }
 {
-    let mut walk = Walk::begin(alloc, script, bounds, method)?;
-    let mut outcomes = Outcomes::new(alloc);
-    match search(
-        alloc,
-        script,
-        &mut walk,
-        &mut outcomes,
-        bounds.states,
-        goes_on,
-        watch,
-    ) {
-        Ok(()) => {}
-        Err(Fault::Memory(_)) => walk.met = Some(Bound::Memory),
-        Err(fault) => return Err(fault),
+    let mut task = Task {
+        machine: Explorer {
+            script,
+            method,
+            mails: Mails::of(alloc, script)?,
+        },
+        cpus: script.cpus,
+        bound: bounds.states.max(1),
+        turns: bounds.turns,
+    };
+    let mut looking = Looking { watch, goes_on };
+    match found_in(alloc, &mut task, &mut looking) {
+        Some((found, was_refused)) => ended::<W>(alloc, script, &task, &found, was_refused),
+        None => Ok(Found {
+            outcomes: Outcomes::new(alloc),
+            tried: Tried::States(1),
+            turns: 0,
+            extent: Extent::Part(Bound::Memory),
+            is_whole: false,
+            lost: None,
+        }),
     }
-    let lost = lost_in(alloc, &mut walk);
-    Ok(Found {
-        outcomes,
-        tried: Tried::States(walk.graph.len()),
-        turns: walk.turns,
-        extent: extent_of(walk.met),
-        lost,
-    })
 }
 
 /// Tries every order of turns of a script, within bounds. There is an outcome at every state in which all threads have ended, and at
@@ -235,9 +502,16 @@ pub fn explore<W: Watch>(
 
     // Lost states are shown only if every order was tried.
     ensures lost { IfOk result (λ found. is_complete found ≡ false → found.lost ≡ None) }
+
+    // If each turn was made from each state that was found, each end of the plain machine is told, and whether a state is lost.
+    ensures all { IfOk result (λ found. IsTrue found.is_whole → TellsWhole script.now found) }
+
+    // So it is where the search is complete and leaves out no turn.
+    ensures plain { IfOk result (λ found. method ≡ Method.Plain → is_complete found ≡ true → IsTrue found.is_whole) }
     ensures tried { IfOk result (λ found. HasTriedStates bounds.states found.tried) }
     ensures refused { IfErr result (λ fault. RefusesSearch script.now fault) }
 {
+    opens(alloc, script)?;
     let mut first = Outcomes::new(alloc);
     let goes_on = match dive(alloc, script, bounds, &mut first, watch) {
         Ok(goes_on) => goes_on,

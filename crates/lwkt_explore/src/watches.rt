@@ -2,18 +2,8 @@
 use lwkt_base::OutOfMemory;
 use lwkt_run::TurnsRun;
 use lwkt_script::Script;
+use lwkt_search::Seen;
 use std::alloc::Global;
-
-/// How far a search is.
-#[derive(Clone, Copy, PartialEq, Eq)]
-pub struct Seen {
-    /// How many states were kept so far, or how many random orders were made.
-    pub states: usize,
-    /// How many of the states weren't gone on from yet; 0 with random orders.
-    pub frontier: usize,
-    /// How many turns were tried.
-    pub turns: u64,
-}
 
 /// Who looks on at a search, and knows the words for why a run is stuck.
 pub trait Watch {

@@ -1,13 +1,10 @@
-use Rattle.std.proofs.Common.{◌≡◌, ◌≤◌, sum}
+use Rattle.std.proofs.Common.{◌≤◌, sum}
 use Rattle.lwkt_explore.specs.Outcomes.{AreOutcomes, AreShort}
-use Rattle.lwkt_explore.specs.Walks.{IsWalk}
 use Rattle.lwkt_explore.proofs.samples.add_all.Given as goal
 
 abbrev pub invariant-loop-made : goal.invariant-loop-made
 invariant-loop-made g l = record {
-  walk : IsWalk l.script l.walk;
-  bounds : l.walk.bounds ≡ l.fn.walk.bounds;
   found : AreOutcomes l.script l.outcomes;
-  short : AreShort l.fn.walk.bounds.turns l.outcomes;
+  short : AreShort l.most l.outcomes;
   counts : sum l.outcomes.counts.items ≤ l.made;
 }

@@ -1,4 +1,4 @@
-use Rattle.std.proofs.Common.{◌≡◌, ◌≤◌, ℕ, length, sym, subst, List, [], ◌∷◌, ◌++◌, ◌∙◌, ap}
+use Rattle.std.proofs.Common.{◌≡◌, ◌≤◌, ℕ, length, string_bytes, refl, sym, subst, List, [], ◌∷◌, ◌++◌, ◌∙◌, ap}
 use Rattle.std.proofs.lemmas.List.Elements.{All-push}
 use Rattle.std.proofs.lemmas.List.Quantifiers.{Any-push}
 use Rattle.std.specs.Prelude.{◌≢◌, All, Vec}
@@ -6,7 +6,9 @@ use Rattle.std.specs.List.{Any}
 use Rattle.std.specs.declared.alloc.Global.{Global}
 use Rattle.lwkt_explore.specs.declared.outcomes.Kind.TheVariants.{Ended, Cut}
 use Rattle.lwkt_explore.specs.declared.outcomes.Outcome.{Outcome}
-use Rattle.lwkt_explore.specs.Outcomes.{IsOutcome}
+use Rattle.lwkt_explore.specs.Outcomes.{IsOutcome, IsReportAlong}
+use Rattle.lwkt_run.specs.Run.{IsOrderRun}
+use Rattle.lwkt_script.specs.declared.scripts.Script.{Script}
 use Rattle.lwkt_explore.proofs.EndLemmas.{Any-append, Any-weaker}
 use Rattle.lwkt_explore.proofs.outcomes.Outcomes.add.Goals as goal
 
@@ -20,6 +22,12 @@ same new room old is was = ap (λ (v : Vec Outcome Global). v.items) is ∙ was
 -- one more is behind those of before
 more : (new room old : List Outcome) (one : Outcome) → new ≡ room ++ one ∷ [] → room ≡ old → new ≡ old ++ one ∷ []
 more new room old one is was = is ∙ ap (λ (xs : List Outcome). xs ++ one ∷ []) was
+
+-- an outcome along an order has the text of the report of the run along it, and so has one with the same text
+reports : (script : Script) (order : List ℕ) (outcome one : Outcome) → IsOutcome script outcome → outcome.order.items ≡ order → string_bytes one.text ≡ string_bytes outcome.text → IsReportAlong script order one
+reports script order outcome one is along same =
+    let F : List ℕ → Type 0 = λ xs. IsOrderRun script xs is.run in
+    record { run = is.run; is_run = subst F along is.is_run; shows = same ∙ is.shows }
 
 pub returns-in_err-outcome-clause-found : goal.returns-in_err-outcome-clause-found
 returns-in_err-outcome-clause-found g c =
@@ -64,8 +72,23 @@ returns-in-Some-clause-ended g c =
 pub returns-in-Some-clause-kind : goal.returns-in-Some-clause-kind
 returns-in-Some-clause-kind g c =
     let F : Vec Outcome Global → Type 0 = λ v. Any is_end v.items in
-    let P : Outcome → Type 0 = λ one. one.kind ≡ c.in_ok-outcome.outcome.kind in
-    λ is. subst F (sym c.count.ensures.all) (Any-weaker P is_end c.make_room.new.self.all.items (λ x same. same ∙ is) c.in-Some.ensures)
+    let P : Outcome → Type 0 = λ one. (one.kind ≡ c.in_ok-outcome.outcome.kind) × (string_bytes one.text ≡ string_bytes c.in_ok-outcome.outcome.text) in
+    λ is. subst F (sym c.count.ensures.all) (Any-weaker P is_end c.make_room.new.self.all.items (λ x same. same.0 ∙ is) c.in-Some.ensures)
+
+pub returns-in-Some-clause-told : goal.returns-in-Some-clause-told
+returns-in-Some-clause-told g c =
+    let script = c.args.script.now in
+    let order = c.args.order.items in
+    let made = c.in_ok-outcome.outcome in
+    let Q : Outcome → Type 0 = IsReportAlong script order in
+    let F : Vec Outcome Global → Type 0 = λ v. Any Q v.items in
+    let P : Outcome → Type 0 = λ one. (one.kind ≡ made.kind) × (string_bytes one.text ≡ string_bytes made.text) in
+    subst F (sym c.count.ensures.all) (Any-weaker P Q c.make_room.new.self.all.items (λ x same. reports script order made x c.in_ok-outcome.ensures.ok c.in_ok-outcome.ensures.order same.1) c.in-Some.ensures)
+
+pub returns-in-Some-clause-stays : goal.returns-in-Some-clause-stays
+returns-in-Some-clause-stays g c = λ one has.
+    let F : List Outcome → Type 0 = λ xs. Any (IsReportAlong c.args.script.now one) xs in
+    subst F (sym (same c.count.new.self.all c.make_room.new.self.all c.args.self.now.all.items c.count.ensures.all c.make_room.ensures.all)) has
 
 pub returns-in-None-clause-found : goal.returns-in-None-clause-found
 returns-in-None-clause-found g c =
@@ -105,3 +128,31 @@ returns-in-None-clause-kind g c =
     let old = c.args.self.now.all.items in
     let one = c.in_ok-outcome.outcome in
     λ is. subst F (sym (more c.keep.new.self.all.items c.make_room.new.self.all.items old one c.keep.ensures.all c.make_room.ensures.all)) (Any-push is_end old one is)
+
+pub returns-in-None-clause-told : goal.returns-in-None-clause-told
+returns-in-None-clause-told g c =
+    let script = c.args.script.now in
+    let order = c.args.order.items in
+    let old = c.args.self.now.all.items in
+    let one = c.in_ok-outcome.outcome in
+    let Q : Outcome → Type 0 = IsReportAlong script order in
+    let F : List Outcome → Type 0 = λ xs. Any Q xs in
+    subst F (sym (more c.keep.new.self.all.items c.make_room.new.self.all.items old one c.keep.ensures.all c.make_room.ensures.all)) (Any-push Q old one (reports script order one one c.in_ok-outcome.ensures.ok c.in_ok-outcome.ensures.order refl))
+
+pub returns-in-None-clause-stays : goal.returns-in-None-clause-stays
+returns-in-None-clause-stays g c = λ along has.
+    let Q : Outcome → Type 0 = IsReportAlong c.args.script.now along in
+    let F : List Outcome → Type 0 = λ xs. Any Q xs in
+    let old = c.args.self.now.all.items in
+    let one = c.in_ok-outcome.outcome in
+    subst F (sym (more c.keep.new.self.all.items c.make_room.new.self.all.items old one c.keep.ensures.all c.make_room.ensures.all)) (Any-append Q old (one ∷ []) has)
+
+pub returns-in_err-outcome-clause-stays : goal.returns-in_err-outcome-clause-stays
+returns-in_err-outcome-clause-stays g c = λ along has.
+    let F : List Outcome → Type 0 = λ xs. Any (IsReportAlong c.args.script.now along) xs in
+    subst F (sym c.make_room.ensures.all) has
+
+pub returns-in_err-make_room-clause-stays : goal.returns-in_err-make_room-clause-stays
+returns-in_err-make_room-clause-stays g c = λ along has.
+    let F : List Outcome → Type 0 = λ xs. Any (IsReportAlong c.args.script.now along) xs in
+    subst F (sym c.make_room.ensures.all) has

@@ -1,0 +1,66 @@
+-- What the search of a script's plain machine finds, and what of it is told (own).
+use Rattle.std.specs.Prelude.{◌≡◌, ℕ, ◌<◌, ◌≤◌, List, All, length, None, IsTrue, IfSome}
+use Rattle.lwkt_plain.specs.declared.states.Plain.{Plain}
+use Rattle.lwkt_plain.specs.declared.stores.Store.{Store}
+use Rattle.lwkt_plain.specs.Endings.{HasEnded}
+use Rattle.lwkt_plain.specs.Openings.{opened}
+use Rattle.lwkt_plain.specs.Stores.{form_turn, kept, IsStore}
+use Rattle.lwkt_script.specs.declared.scripts.Script.{Script}
+use Rattle.lwkt_search.specs.declared.searches.Found.{Found as Searched}
+use Rattle.lwkt_search.specs.declared.searches.Outcome.{Outcome as Last}
+use Rattle.lwkt_search.specs.Graphs.{nodes_of, AllTried, IsGrown}
+use Rattle.lwkt_search.specs.Losses.{IsLost}
+use Rattle.lwkt_search.specs.Runs.{run, all_told, HasOutcome, IsLast, IsOrder, IsOutcome}
+use Rattle.lwkt_explore.specs.declared.outcomes.Outcomes.{Outcomes}
+use Rattle.lwkt_explore.specs.declared.searches.Found.{Found}
+use Rattle.lwkt_explore.specs.Extents.{is_complete}
+use Rattle.lwkt_explore.specs.Outcomes.{HasReport}
+use Rattle.std.specs.Prelude.{true}
+
+-- the state of the plain machine that an order of turns leads to
+abbrev pub state_after : Script → List ℕ → Plain
+state_after script order = run (form_turn script) (opened script) order
+
+-- a state to stop at: all threads have ended there that are no services, or no turn changes it
+abbrev pub IsLastState : Script → ℕ → Plain → Type 0
+IsLastState script cpus state = IsLast (form_turn script) (HasEnded script) cpus state
+
+-- what a search of a script's plain machine found, by orders of so many turns and with so many states at the most
+pub record IsSearched (script : Script) (cpus turns bound : ℕ) (found : Searched Store) : Type 0 where
+  pub store : IsStore found.growth.store
+  pub noted : length found.growth.links.items ≡ length (kept found.growth.store)
+  pub grown : IsGrown (form_turn script) (opened script) cpus (nodes_of (kept found.growth.store) found.growth.links.items) found.growth.next.items found.growth.gone_on
+  pub each : found.growth.met ≡ None → found.growth.gone_on ≡ length found.growth.links.items
+  pub whole : IsTrue found.growth.is_whole → found.growth.met ≡ None
+  pub tried : IsTrue found.growth.is_whole → AllTried cpus found.growth.next.items found.growth.gone_on
+  pub places : All (λ (one : Last). one.place < length (kept found.growth.store)) found.outcomes.items
+  pub short : All (λ (one : Last). length one.order.items ≤ turns) found.outcomes.items
+  pub orders : All (λ (one : Last). IsOrder cpus one.order.items) found.outcomes.items
+  pub sound : All (λ one. IsOutcome (form_turn script) (HasEnded script) cpus (opened script) one) (all_told (opened script) (kept found.growth.store) found.outcomes.items)
+  pub complete : IsTrue found.growth.is_whole → (order : List ℕ) → IsOrder cpus order → IsLastState script cpus (state_after script order) → HasOutcome (state_after script order) (all_told (opened script) (kept found.growth.store) found.outcomes.items)
+
+-- a state is told by the report of the run along an order that leads there
+pub record IsToldAt (script : Script) (outcomes : Outcomes) (state : Plain) : Type 0 where
+  pub order : List ℕ
+  pub leads : state_after script order ≡ state
+  pub told : HasReport script order outcomes
+
+-- each state to stop at that an order leads to is told
+abbrev pub TellsAll : Script → Outcomes → Type 0
+TellsAll script outcomes = (order : List ℕ) → IsOrder script.cpus order → IsLastState script script.cpus (state_after script order) → IsToldAt script outcomes (state_after script order)
+
+-- an order leads to a state from which no order leads to an end of all threads that are no services
+pub record IsLostAlong (script : Script) (cpus : ℕ) (order : List ℕ) : Type 0 where
+  pub there : IsOrder cpus order
+  pub lost : IsLost (form_turn script) (HasEnded script) cpus (state_after script order)
+
+-- there is no such order
+abbrev pub NoneIsLost : Script → ℕ → Type 0
+NoneIsLost script cpus = (order : List ℕ) → IsLostAlong script cpus order → ⊥
+
+-- the search says of the plain machine all that it is asked for: each state to stop at, and whether a state is lost
+pub record TellsWhole (script : Script) (found : Found) : Type 0 where
+  pub complete : is_complete found ≡ true
+  pub all : TellsAll script found.outcomes
+  pub none_lost : found.lost ≡ None → NoneIsLost script script.cpus
+  pub one_lost : IfSome found.lost (λ one. IsLostAlong script script.cpus one.order.items)

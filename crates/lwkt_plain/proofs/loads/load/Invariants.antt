@@ -1,0 +1,11 @@
+use Rattle.std.proofs.Common.{◌≡◌, length, take}
+use Rattle.lwkt_plain.specs.Tables.{AreNamed}
+use Rattle.lwkt_plain.proofs.loads.load.Given as goal
+
+abbrev pub invariant-loop-k : goal.invariant-loop-k
+invariant-loop-k g l = record {
+  end : l.k-end ≡ length l.wanted;
+  long : length l.wanted ≡ length l.numbers.items;
+  named : AreNamed l.table.parts.items l.parts l.numbers.items;
+  so_far : take l.k l.numbers.items ≡ take l.k l.wanted;
+}

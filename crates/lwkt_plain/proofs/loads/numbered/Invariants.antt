@@ -1,0 +1,11 @@
+use Rattle.std.proofs.Common.{◌≡◌, ℕ, ◌<◌, length, slice_index_or}
+use Rattle.lwkt_plain.specs.Tables.{IsTable, IsNamed}
+use Rattle.lwkt_plain.proofs.loads.numbered.Given as goal
+
+abbrev pub invariant-loop-k : goal.invariant-loop-k
+invariant-loop-k g l = record {
+  end : l.k-end ≡ length l.parts;
+  long : length l.numbers.items ≡ l.k;
+  table : IsTable g.P.Part.hash_of l.table.parts.items l.table.index.heads.items l.table.index.links.items;
+  named : (j : ℕ) → j < l.k → (d : g.row.P.Denot) → IsNamed l.table.parts.items (slice_index_or l.numbers.items j 0) (slice_index_or l.parts j d);
+}

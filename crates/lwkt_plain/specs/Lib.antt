@@ -1,0 +1,15 @@
+pub mod Faults
+pub mod Endings
+pub mod Forms
+pub mod Hashes
+pub mod Intakes
+pub mod Letters
+pub mod Mailing
+pub mod Openings
+pub mod Places
+pub mod Sound
+pub mod Stores
+pub mod Tables
+pub mod TokenAsks
+pub mod Tokens
+pub mod Turns
