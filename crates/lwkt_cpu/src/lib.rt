@@ -10,7 +10,6 @@ mod calls;
 pub mod counts;
 pub mod cpus;
 pub mod drives;
-mod encodings;
 mod ends;
 pub mod laws;
 pub mod leaves;

@@ -45,13 +45,6 @@ impl LaneOut {
         hand.is_none()
     }
 
-    /// The note in hand.
-    pub fn hand(&self) -> Option<Note>
-        ensures { result ≡ in_hand self.now }
-    {
-        self.hand
-    }
-
     /// Sends a note, after the one in hand. It goes into the queue at once if that has room, and else stays in hand.
     ///
     /// Refused with `LaneFull` exactly if a note is in hand and finds no room in the queue.

@@ -1,7 +1,6 @@
 pub mod BodyMoves
 pub mod DriveMoves
 pub mod DrivenMoves
-pub mod EncodeMoves
 pub mod KeptMoves
 pub mod ListMoves
 pub mod OpenMoves

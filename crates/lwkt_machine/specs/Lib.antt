@@ -1,6 +1,5 @@
 pub mod Bodies
 pub mod Drives
-pub mod Encoded
 pub mod Ended
 pub mod Laws
 pub mod Machines

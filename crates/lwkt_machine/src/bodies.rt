@@ -138,13 +138,6 @@ impl ScriptBody {
         })
     }
 
-    /// The program that the body makes.
-    pub fn code(&self) -> &Code
-        ensures { result.now ≡ self.now.program }
-    {
-        &self.code
-    }
-
     /// Where the body stands in its program.
     pub fn local(&self) -> &Local
         ensures { result.now ≡ self.now.local }

@@ -11,7 +11,6 @@
 pub mod bodies;
 pub mod closings;
 pub mod drives;
-mod encodings;
 pub mod lasting;
 pub mod laws;
 pub mod machine_opens;
@@ -31,7 +30,6 @@ mod turns;
 pub use bodies::ScriptBody;
 pub use closings::{CloseRoom, Closed};
 pub use drives::LIMITS;
-pub use encodings::Sent;
 pub use lasting::Lasting;
 pub use lwkt_cpu::{Body, Cpu, Status, Turned};
 pub use lwkt_drive::{Ending, Gate, Limits, OpenGate};

@@ -12,7 +12,6 @@ mod closings;
 mod counters;
 pub mod counts;
 pub mod deeds;
-mod encodings;
 pub mod gets;
 pub mod handlings;
 mod intakes;

@@ -73,9 +73,4 @@ impl NoteQueue {
         prove!(few);
         self.ring.try_push_back(note).is_ok()
     }
-
-    /// The notes, the oldest first, in two slices one after the other.
-    pub(crate) fn as_slices(&self) -> (&[Note], &[Note]) {
-        self.ring.as_slices()
-    }
 }
