@@ -21,7 +21,7 @@ function readForm(line) {
   return found && { said: found[1], order: orderOf(found[2]) };
 }
 
-// The last line: `3 outcomes; 100 states, 153 turns; complete`, or `a part (states)` by the bound that ended it.
+// The last line: `3 outcomes; 95 states, 165 turns; complete`, or `a part (states)` by the bound that ended it.
 function readSum(line) {
   const found = /^(\d+) outcomes?; (\d+) states?, (\d+) turns; (complete|a part)(?: \((\w+)\))?$/.exec(line);
   return found && { outcomes: Number(found[1]), states: Number(found[2]), turns: Number(found[3]), isComplete: found[4] === "complete", bound: found[5] ?? null };

@@ -183,7 +183,7 @@ line says how many passed.",
     long_after: "\
 Examples:
   lwkt explore examples/crossed_lists.json
-      prints three outcomes, and `3 outcomes; 100 states, 153 turns; complete`
+      prints three outcomes, and `3 outcomes; 95 states, 165 turns; complete`
   lwkt explore --random 1000 --seed 7 examples/dining_philosophers.json
       prints the one outcome that 1000 random orders have
 
