@@ -5,7 +5,7 @@ use Rattle.std.specs.List.{list_all, list_any}
 use Rattle.lwkt_base.specs.declared.faults.Fault.{Fault as Refusal}
 use Rattle.lwkt_base.specs.declared.faults.Fault.TheVariants as refusals
 use Rattle.lwkt_explore.specs.Expectations.{holds, status_of_text}
-use Rattle.lwkt_explore.specs.Extents.{is_complete}
+use Rattle.lwkt_explore.specs.Extents.{differs, is_complete}
 use Rattle.lwkt_explore.specs.Judgements.{judgement_of, status_of_judgement}
 use Rattle.lwkt_explore.specs.Statuses.{is_stuck, status_of_found}
 use Rattle.lwkt_explore.specs.declared.judgements.Judgement.{Judgement}
@@ -66,21 +66,23 @@ judged_status Unlawful is = no_4 is
 judged_status Unmet is = no_5 is
 judged_status NotDecided is = no_5 is
 
-status_by_found : (whole lost stuck : Bool) → ◌≡◌ {A = ℕ} (if whole then (if lost then 2 else (if stuck then 2 else 0)) else 5) 3 → ⊥
-status_by_found true true stuck is = no_2 is
-status_by_found true false true is = no_2 is
-status_by_found true false false is = no_0 is
-status_by_found false lost stuck is = no_5 is
+status_by_found : (other whole lost stuck : Bool) → ◌≡◌ {A = ℕ} (if other then 4 else if whole then (if lost then 2 else (if stuck then 2 else 0)) else 5) 3 → ⊥
+status_by_found true whole lost stuck is = no_4 is
+status_by_found false true true stuck is = no_2 is
+status_by_found false true false true is = no_2 is
+status_by_found false true false false is = no_0 is
+status_by_found false false lost stuck is = no_5 is
 
-status_by_text : (unasked met : Bool) (status : ℕ) → (status ≡ 3 → ⊥) → (if unasked then status else (if met then 0 else 5)) ≡ 3 → ⊥
-status_by_text true met status other is = other is
-status_by_text false true status other is = no_0 is
-status_by_text false false status other is = no_5 is
+status_by_text : (unasked differ met : Bool) (status : ℕ) → (status ≡ 3 → ⊥) → (if unasked then status else (if differ then 4 else if met then 0 else 5)) ≡ 3 → ⊥
+status_by_text true differ met status other is = other is
+status_by_text false true met status other is = no_4 is
+status_by_text false false true status other is = no_0 is
+status_by_text false false false status other is = no_5 is
 
 text_status : (expectations : List Expectation) (found : Found) → status_of_text expectations found ≡ 3 → ⊥
 text_status expectations found is =
-    status_by_text (length expectations == 0) (is_complete found && list_all (holds found) expectations) (status_of_found found)
-    (status_by_found (is_complete found) (is_some found.lost) (list_any is_stuck found.outcomes.all.items)) is
+    status_by_text (length expectations == 0) (differs found) (is_complete found && list_all (holds found) expectations) (status_of_found found)
+    (status_by_found (differs found) (is_complete found) (is_some found.lost) (list_any is_stuck found.outcomes.all.items)) is
 
 made_status : (task : Task) (order : Option (List ℕ)) (input : Input) (text : List ℕ) (status : ℕ) → IsMade task order input text status → status ≡ 3 → ⊥
 made_status (Run on_threads wording) order input text status made is = judged_status (judgement_of input.expectations made.closing) (sym made.is_status ∙ is)

@@ -11,7 +11,7 @@ use Rattle.lwkt_explore.specs.declared.outcomes.Kind.TheVariants.{Ended, Stuck, 
 use Rattle.lwkt_explore.specs.declared.outcomes.Outcome.{Outcome}
 use Rattle.lwkt_explore.specs.declared.searches.Found.{Found}
 use Rattle.lwkt_explore.specs.Claims.{truth_of}
-use Rattle.lwkt_explore.specs.Extents.{is_complete}
+use Rattle.lwkt_explore.specs.Extents.{differs, is_complete}
 use Rattle.lwkt_explore.specs.Judgements.{is_no, is_left_open}
 use Rattle.lwkt_explore.specs.Judging.{opposite}
 use Rattle.lwkt_explore.specs.Statuses.{status_of_found}
@@ -57,8 +57,8 @@ truth_over_orders found e =
 abbrev pub holds : Found → Expectation → Bool
 holds found e = is_yes (truth_over_orders found e)
 
--- the status of what was found of a text: of one without expectations that of a script; else 0 where every order was tried and each
--- expectation holds, and 5 where not
+-- the status of what was found of a text: of one without expectations that of a script; else 4 where the real machine differs from its
+-- plain machine, 0 where every order was tried and each expectation holds, and 5 where not
 abbrev pub status_of_text : List Expectation → Found → ℕ
 status_of_text expectations found =
-    if length expectations == 0 then status_of_found found else (if is_complete found && list_all (holds found) expectations then 0 else 5)
+    if length expectations == 0 then status_of_found found else (if differs found then 4 else if is_complete found && list_all (holds found) expectations then 0 else 5)

@@ -118,13 +118,16 @@ fn all_hold(expectations: &[Expectation], found: &Found) -> bool
         .all(|expectation| holds(expectation, found))
 }
 
-/// The exit status of what was found of a text: of one that expects nothing that of a script, by `status_of_found`; else 0 if every order
-/// was tried and all that it expects holds, and 5 if not.
+/// The exit status of what was found of a text: of one that expects nothing that of a script, by `status_of_found`; else 4 if the
+/// real machine differs from its plain machine, 0 if every order was tried and all that it expects holds, and 5 if not.
 pub fn status_of_text(expectations: &[Expectation], found: &Found) -> u8
     ensures { result ≡ status_of_text expectations.now found.now }
 {
     if expectations.is_empty() {
         return status_of_found(found);
+    }
+    if found.differs() {
+        return 4;
     }
     if found.is_complete() && all_hold(expectations, found) {
         0

@@ -26,6 +26,7 @@ mod laws;
 mod lines;
 mod losses;
 mod mails;
+mod mirrors;
 mod outcomes;
 mod quotes;
 mod readings;

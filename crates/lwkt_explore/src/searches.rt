@@ -1,6 +1,6 @@
 //! The search: over states of the plain machine, breadth first, so that orders are shortest.
 ghost use Rattle.std.specs.Prelude.{◌≡◌, ◌≤◌, ◌<◌, true, false, None, [], length, slice_index_or, All, IsTrue, IsFalse, IfOk, IfErr, IfSome, OnOk};
-ghost use Rattle.lwkt_explore.specs.Extents.{is_complete};
+ghost use Rattle.lwkt_explore.specs.Extents.{differs, is_complete};
 ghost use Rattle.lwkt_explore.specs.Outcomes.{AreOutcomes, AreShort, AreWhole, HasEnded, HasReport, RefusesSearch};
 ghost use Rattle.lwkt_explore.specs.Searches.{IsSearched, IsLostAlong, NoneIsLost, TellsWhole};
 ghost use Rattle.lwkt_explore.specs.Tries.{HasTriedStates};
@@ -14,6 +14,7 @@ use crate::explorers::Explorer;
 use crate::extents::{Bound, Extent};
 use crate::losses::Lost;
 use crate::mails::Mails;
+use crate::mirrors::stands_as;
 use crate::outcomes::{Kind, LastState, Outcomes};
 use crate::watches::Watch;
 use lwkt_base::memory::from_slice;
@@ -34,6 +35,8 @@ pub struct Bounds {
     pub states: usize,
     /// The most turns of an order, a random one too.
     pub turns: usize,
+    /// Each how many-th state that a search went on from is compared with the real machine's: 1 for all, 0 for none.
+    pub compared: usize,
 }
 
 /// How a search goes on from a state.
@@ -78,6 +81,13 @@ impl Found {
         ensures { result ≡ is_complete self.now }
     {
         matches!(self.extent, Extent::Complete)
+    }
+
+    /// Whether the real machine was seen to be otherwise than its plain machine.
+    pub fn differs(&self) -> bool
+        ensures { result ≡ differs self.now }
+    {
+        matches!(self.extent, Extent::Part(Bound::Differs))
     }
 }
 
@@ -309,6 +319,93 @@ fn told_of<W: Watch>(
     }
 }
 
+// Whether a state is one of those that are compared.
+fn is_compared(at: usize, each: usize) -> bool {
+    each > 0 && at % each == 0
+}
+
+// Whether the real machine stands as a state that was found, if that is compared. The order to one that it doesn't is kept as if it was cut.
+fn stands_at<W: Watch>(
+    alloc: Global,
+    script: &Script,
+    task: &Task<Explorer<'_>>,
+    found: &Growing,
+    at: usize,
+    outcomes: &mut Outcomes,
+) -> Result<bool, Fault>
+    requires script { task.now.machine.script.now ≡ script.now }
+    requires cpus { task.now.cpus ≡ script.now.cpus }
+    requires searched { IsSearched script.now task.now.cpus task.now.turns task.now.bound found.now }
+    requires there { at < found.now.growth.gone_on }
+    requires outcomes { AreOutcomes script.now outcomes.old }
+    requires short { AreShort task.now.turns outcomes.old }
+    ensures found { AreOutcomes script.now outcomes.new }
+    ensures short { AreShort task.now.turns outcomes.new }
+    ensures same { IfOk result (λ stands. IsTrue stands → outcomes.new ≡ outcomes.old) }
+    ensures refused { IfErr result (λ fault. RefusesSearch script.now fault) }
+{
+    let order = task.order(alloc, &found.growth, at)?;
+    if stands_as(alloc, script, order.as_slice(), &found.growth.store, at)? {
+        return Ok(true);
+    }
+    outcomes.add::<W>(alloc, script, order, LastState::Cut)?;
+    Ok(false)
+}
+
+// Whether the real machine stands as each state that is compared. The order to the first one that it doesn't is kept as if it was cut.
+fn stands_everywhere<W: Watch>(
+    alloc: Global,
+    script: &Script,
+    task: &Task<Explorer<'_>>,
+    found: &Growing,
+    each: usize,
+    outcomes: &mut Outcomes,
+) -> Result<bool, Fault>
+    requires script { task.now.machine.script.now ≡ script.now }
+    requires cpus { task.now.cpus ≡ script.now.cpus }
+    requires searched { IsSearched script.now task.now.cpus task.now.turns task.now.bound found.now }
+    requires outcomes { AreOutcomes script.now outcomes.old }
+    requires short { AreShort task.now.turns outcomes.old }
+    ensures found { AreOutcomes script.now outcomes.new }
+    ensures short { AreShort task.now.turns outcomes.new }
+    ensures same { IfOk result (λ stands. IsTrue stands → outcomes.new ≡ outcomes.old) }
+    ensures refused { IfErr result (λ fault. RefusesSearch script.now fault) }
+{
+    for at in 0..found.growth.gone_on {
+        if is_compared(at, each) && !stands_at::<W>(alloc, script, task, found, at, outcomes)? {
+            return Ok(false);
+        }
+    }
+    Ok(true)
+}
+
+// What a comparison with the real machine's states came to, if it stands in the way of a whole search.
+fn compared<W: Watch>(
+    alloc: Global,
+    script: &Script,
+    task: &Task<Explorer<'_>>,
+    found: &Growing,
+    each: usize,
+    outcomes: &mut Outcomes,
+) -> Result<Option<Bound>, Fault>
+    requires script { task.now.machine.script.now ≡ script.now }
+    requires cpus { task.now.cpus ≡ script.now.cpus }
+    requires searched { IsSearched script.now task.now.cpus task.now.turns task.now.bound found.now }
+    requires outcomes { AreOutcomes script.now outcomes.old }
+    requires short { AreShort task.now.turns outcomes.old }
+    ensures found { AreOutcomes script.now outcomes.new }
+    ensures short { AreShort task.now.turns outcomes.new }
+    ensures same { IfOk result (λ met. met ≡ None → outcomes.new ≡ outcomes.old) }
+    ensures refused { IfErr result (λ fault. RefusesSearch script.now fault) }
+{
+    match stands_everywhere::<W>(alloc, script, task, found, each, outcomes) {
+        Ok(true) => Ok(None),
+        Ok(false) => Ok(Some(Bound::Differs)),
+        Err(Fault::Memory(_)) => Ok(Some(Bound::Memory)),
+        Err(fault) => Err(fault),
+    }
+}
+
 // The lost states of a search that was cut off for nothing.
 fn lost_in(
     alloc: Global,
@@ -402,6 +499,7 @@ fn ended<W: Watch>(
     task: &Task<Explorer<'_>>,
     found: &Growing,
     was_refused: bool,
+    each: usize,
 ) -> Result<Found, Fault>
     requires script { task.now.machine.script.now ≡ script.now }
     requires cpus { task.now.cpus ≡ script.now.cpus }
@@ -419,6 +517,9 @@ fn ended<W: Watch>(
 {
     let mut outcomes = Outcomes::new(alloc);
     let told = told_of::<W>(alloc, script, task, found, &mut outcomes)?;
+    if let Some(bound) = compared::<W>(alloc, script, task, found, each, &mut outcomes)? {
+        return Ok(part_of(task, found, outcomes, bound));
+    }
     if let Some(bound) = bound_of(found.growth.met, was_refused) {
         return Ok(part_of(task, found, outcomes, bound));
     }
@@ -460,7 +561,9 @@ fn searched<W: Watch>(
     };
     let mut looking = Looking { watch, goes_on };
     match found_in(alloc, &mut task, &mut looking) {
-        Some((found, was_refused)) => ended::<W>(alloc, script, &task, &found, was_refused),
+        Some((found, was_refused)) => {
+            ended::<W>(alloc, script, &task, &found, was_refused, bounds.compared)
+        }
         None => Ok(Found {
             outcomes: Outcomes::new(alloc),
             tried: Tried::States(1),

@@ -20,11 +20,14 @@ fn has_stuck(outcomes: &Outcomes) -> bool
     outcomes.all.iter().any(|outcome| is_stuck(outcome))
 }
 
-/// The exit status of what was found in a script: 5 if not every order was tried; else 2 if an outcome is stuck, or there is a
+/// The exit status of what was found in a script: 4 if the real machine differs from its plain machine; 5 if not every order was tried; else 2 if an outcome is stuck, or there is a
 /// state from which no end can be reached; else 0.
 pub fn status_of_found(found: &Found) -> u8
     ensures { result ≡ status_of_found found.now }
 {
+    if found.differs() {
+        return 4;
+    }
     if !found.is_complete() {
         return 5;
     }

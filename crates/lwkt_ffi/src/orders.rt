@@ -163,7 +163,12 @@ pub extern "C" fn lwkt_explore_orders(
     let mut page = blank(alloc);
     // A search without a state would say that it tried every order.
     let states = states.max(1);
-    let outcome = search_onto(alloc, script, Bounds { states, turns }, &mut page);
+    let bounds = Bounds {
+        states,
+        turns,
+        compared: 1000,
+    };
+    let outcome = search_onto(alloc, script, bounds, &mut page);
     fill(buffer, &page.text);
     let (status, fault) = status_of(&outcome);
     *answer = LwktAnswer::new(page.text.len(), fault);

@@ -266,6 +266,19 @@ impl Store {
         self.cpus.part(self.cpus_at(at)[c])
     }
 
+    /// The token of a number in the state of a number, if it is there.
+    pub fn token(&self, at: usize, t: usize) -> Option<&Token>
+        requires store { IsStore self.now }
+        requires there { at < length (kept self.now) }
+    {
+        if t >= self.token_numbers.len() {
+            return None;
+        }
+        let code = self.codes.code(at);
+        let number = code.get(t)?;
+        self.tokens.get(*number)
+    }
+
     /// The message of a number in the state of a number, if it is there.
     pub fn letter(&self, at: usize, m: usize) -> Option<&Letter>
         requires store { IsStore self.now }

@@ -36,8 +36,8 @@ text = with_rule (with_rule (with_rule (with_rule (new_app (codes "text")) (flag
 
 abbrev pub explore : App
 explore =
-    with_rule (with_rule (with_rule (with_rule (with_rule (with_rule (with_rule (with_rule (with_rule (with_rule (new_app (codes "explore"))
-    (flag (codes "plain"))) (valued (codes "states"))) (valued (codes "turns"))) (valued (codes "random")))
+    with_rule (with_rule (with_rule (with_rule (with_rule (with_rule (with_rule (with_rule (with_rule (with_rule (with_rule (new_app (codes "explore"))
+    (flag (codes "plain"))) (flag (codes "careful"))) (valued (codes "states"))) (valued (codes "turns"))) (valued (codes "random")))
     (valued (codes "seed"))) (valued (codes "seconds"))) (flag (codes "progress"))) (flag (codes "numbers"))) (flag (codes "all"))) file
 
 -- the program's name isn't among the words, a subcommand is wanted, `help` is no subcommand, and there is a version

@@ -94,12 +94,12 @@ text_in rows = option_and_then (λ form. Some (Translate form)) (form_of (is_on 
 -- ---- explore
 
 -- a search; none if a value is no number, or `--all` is named without a folder
-abbrev pub explored : Bool → Option Text → Option Text → Option Text → Option Text → Option Text → Bool → Bool → Bool → Bool → Option Task
-explored plain states turns random seed seconds progress in_numbers all has_path =
+abbrev pub explored : Bool → Bool → Option Text → Option Text → Option Text → Option Text → Option Text → Bool → Bool → Bool → Bool → Option Task
+explored plain careful states turns random seed seconds progress in_numbers all has_path =
     option_and_then (λ states. option_and_then (λ turns. option_and_then (λ random. option_and_then (λ seed. option_and_then (λ seconds.
     if all && not has_path then None
     else Some (Explore (record {
-      bounds = record { states = states; turns = turns };
+      bounds = record { states = states; turns = turns; compared = if careful then 1 else 1000 };
       method = if plain then Plain else Reduced;
       random = random;
       seed = seed;
@@ -111,7 +111,7 @@ explored plain states turns random seed seconds progress in_numbers all has_path
 
 abbrev pub explore_in : List Row → Option Task
 explore_in rows =
-    explored (is_on (codes "plain") rows) (first_of (codes "states") rows) (first_of (codes "turns") rows) (first_of (codes "random") rows)
+    explored (is_on (codes "plain") rows) (is_on (codes "careful") rows) (first_of (codes "states") rows) (first_of (codes "turns") rows) (first_of (codes "random") rows)
     (first_of (codes "seed") rows) (first_of (codes "seconds") rows) (is_on (codes "progress") rows) (is_on (codes "numbers") rows) (is_on (codes "all") rows)
     (is_some (path_of (first_of (codes "FILE") rows)))
 

@@ -225,6 +225,12 @@ fn explore_command<'a>(alloc: Global) -> Built<'a>
         "plain",
         "Try the turns of every processor from each state",
     );
+    let command = with_flag(
+        alloc,
+        command,
+        "careful",
+        "Compare each state with the real machine's",
+    );
     let command = with_value(
         alloc,
         command,

@@ -194,6 +194,7 @@ fn text_in<'a>(matches: &ArgMatches<'a>) -> Result<Task, Wrong<'a>>
 #[derive(Clone, Copy)]
 struct ExploreWords<'a> {
     plain: bool,
+    careful: bool,
     states: Option<&'a str>,
     turns: Option<&'a str>,
     random: Option<&'a str>,
@@ -206,7 +207,7 @@ struct ExploreWords<'a> {
 }
 
 fn explored<'a>(words: ExploreWords<'a>) -> Result<Task, Wrong<'a>>
-    ensures { result_ok result ≡ explored words.entry.plain (option_copied words.entry.states) (option_copied words.entry.turns) (option_copied words.entry.random) (option_copied words.entry.seed) (option_copied words.entry.seconds) words.entry.progress words.entry.in_numbers words.entry.all words.entry.has_path }
+    ensures { result_ok result ≡ explored words.entry.plain words.entry.careful (option_copied words.entry.states) (option_copied words.entry.turns) (option_copied words.entry.random) (option_copied words.entry.seed) (option_copied words.entry.seconds) words.entry.progress words.entry.in_numbers words.entry.all words.entry.has_path }
 {
     let states = size_or("--states", words.states, 1_000_000)?;
     let turns = size_or("--turns", words.turns, 100_000)?;
@@ -217,7 +218,11 @@ fn explored<'a>(words: ExploreWords<'a>) -> Result<Task, Wrong<'a>>
         return Err(Wrong::Beside("--all", "a folder"));
     }
     Ok(Task::Explore(Search {
-        bounds: Bounds { states, turns },
+        bounds: Bounds {
+            states,
+            turns,
+            compared: if words.careful { 1 } else { 1000 },
+        },
         method: if words.plain {
             Method::Plain
         } else {
@@ -237,6 +242,7 @@ fn explore_in<'a>(matches: &ArgMatches<'a>) -> Result<Task, Wrong<'a>>
 {
     explored(ExploreWords {
         plain: is_on(matches, "plain"),
+        careful: is_on(matches, "careful"),
         states: value_in(matches, "states"),
         turns: value_in(matches, "turns"),
         random: value_in(matches, "random"),
