@@ -157,7 +157,7 @@ extent_text (Part States) = codes "a part (states)"
 extent_text (Part Turns) = codes "a part (turns)"
 extent_text (Part Memory) = codes "a part (memory)"
 extent_text (Part Stopped) = codes "a part (stopped)"
-extent_text (Part Differs) = codes "a part (the machine ended otherwise than its model)"
+extent_text (Part Differs) = codes "a part (differs)"
 extent_text Sampled = codes "a part"
 
 -- how many outcomes there are, those that are grouped as one, what was tried, and whether that is all

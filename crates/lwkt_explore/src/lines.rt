@@ -190,7 +190,7 @@ fn extent_word(extent: Extent) -> &'static str
         Extent::Part(Bound::Turns) => "a part (turns)",
         Extent::Part(Bound::Memory) => "a part (memory)",
         Extent::Part(Bound::Stopped) => "a part (stopped)",
-        Extent::Part(Bound::Differs) => "a part (the machine ended otherwise than its model)",
+        Extent::Part(Bound::Differs) => "a part (differs)",
         Extent::Sampled => "a part",
     }
 }
