@@ -1,6 +1,6 @@
 -- Outcomes of a script (own).
 use Rattle.std.specs.Prelude.{◌≡◌, ◌≢◌, ℕ, ◌<◌, ◌≤◌, List, ◌++◌, All, length, string_bytes, vec_len, vec_capacity}
-use Rattle.std.specs.List.{Any, flat_map}
+use Rattle.std.specs.List.{AllPairs, Any, flat_map}
 use Rattle.lwkt_base.specs.declared.faults.Fault.{Fault}
 use Rattle.lwkt_base.specs.declared.faults.Fault.TheVariants.{Unlawful}
 use Rattle.lwkt_report.specs.declared.closings.Closing.{Closing}
@@ -39,6 +39,15 @@ pub record IsOutcome (script : Script) (outcome : Outcome) : Type 0 where
 -- each of these is one
 abbrev pub AreOutcomes : Script → Outcomes → Type 0
 AreOutcomes script outcomes = All (IsOutcome script) outcomes.all.items
+
+-- two are of one kind, and have one text
+pub record AreAlike (one other : Outcome) : Type 0 where
+  pub kind : one.kind ≡ other.kind
+  pub text : string_bytes one.text ≡ string_bytes other.text
+
+-- each of these is there once
+abbrev pub AreOnce : Outcomes → Type 0
+AreOnce outcomes = AllPairs (λ one other. AreAlike one other → ⊥) outcomes.all.items
 
 -- there is room for one more
 abbrev pub HasRoom : Outcomes → Type 0

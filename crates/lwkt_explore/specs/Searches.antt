@@ -10,7 +10,7 @@ use Rattle.lwkt_search.specs.declared.searches.Found.{Found as Searched}
 use Rattle.lwkt_search.specs.declared.searches.Outcome.{Outcome as Last}
 use Rattle.lwkt_search.specs.Graphs.{nodes_of, AllTried, IsGrown}
 use Rattle.lwkt_search.specs.Losses.{IsLost}
-use Rattle.lwkt_search.specs.Runs.{run, all_told, HasOutcome, IsLast, IsOrder, IsOutcome}
+use Rattle.lwkt_search.specs.Runs.{run, all_told, HasOutcome, IsLast, IsOrder, IsOutcome, IsShortest}
 use Rattle.lwkt_explore.specs.declared.outcomes.Outcomes.{Outcomes}
 use Rattle.lwkt_explore.specs.declared.searches.Found.{Found}
 use Rattle.lwkt_explore.specs.Extents.{is_complete}
@@ -20,6 +20,14 @@ use Rattle.std.specs.Prelude.{true}
 -- the state of the plain machine that an order of turns leads to
 abbrev pub state_after : Script → List ℕ → Plain
 state_after script order = run (form_turn script) (opened script) order
+
+-- no shorter order leads to the state that this order leads to
+abbrev pub IsShortestOrder : Script → List ℕ → Type 0
+IsShortestOrder script order = (other : List ℕ) → IsOrder script.cpus other → state_after script other ≡ state_after script order → length order ≤ length other
+
+-- so it is of the order of each of these
+abbrev pub AreShortest : Script → Outcomes → Type 0
+AreShortest script outcomes = All (λ outcome. IsShortestOrder script outcome.order.items) outcomes.all.items
 
 -- a state to stop at: all threads have ended there that are no services, or no turn changes it
 abbrev pub IsLastState : Script → ℕ → Plain → Type 0
@@ -38,6 +46,7 @@ pub record IsSearched (script : Script) (cpus turns bound : ℕ) (found : Search
   pub orders : All (λ (one : Last). IsOrder cpus one.order.items) found.outcomes.items
   pub sound : All (λ one. IsOutcome (form_turn script) (HasEnded script) cpus (opened script) one) (all_told (opened script) (kept found.growth.store) found.outcomes.items)
   pub complete : IsTrue found.growth.is_whole → (order : List ℕ) → IsOrder cpus order → IsLastState script cpus (state_after script order) → HasOutcome (state_after script order) (all_told (opened script) (kept found.growth.store) found.outcomes.items)
+  pub shortest : IsTrue found.growth.is_whole → All (λ one. IsShortest (form_turn script) cpus (opened script) one) (all_told (opened script) (kept found.growth.store) found.outcomes.items)
 
 -- a state is told by the report of the run along an order that leads there
 pub record IsToldAt (script : Script) (outcomes : Outcomes) (state : Plain) : Type 0 where
@@ -62,5 +71,6 @@ NoneIsLost script cpus = (order : List ℕ) → IsLostAlong script cpus order �
 pub record TellsWhole (script : Script) (found : Found) : Type 0 where
   pub complete : is_complete found ≡ true
   pub all : TellsAll script found.outcomes
+  pub shortest : AreShortest script found.outcomes
   pub none_lost : found.lost ≡ None → NoneIsLost script script.cpus
   pub one_lost : IfSome found.lost (λ one. IsLostAlong script script.cpus one.order.items)

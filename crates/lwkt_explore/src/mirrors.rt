@@ -1,11 +1,9 @@
 //! Whether the real machine stands as its plain machine does, after the turns of an order.
-ghost use Rattle.std.specs.Prelude.{◌≡◌, ◌↔◌, ◌<◌, ◌×◌, All, IsTrue, IfOk, IfErr, length};
-ghost use Rattle.lwkt_core.specs.declared.tokens.Token.{Token};
+ghost use Rattle.std.specs.Prelude.{◌≡◌, ◌<◌, All, IfOk, IfErr, length};
 ghost use Rattle.lwkt_plain.specs.Stores.{kept, IsStore};
 ghost use Rattle.lwkt_run.specs.Run.{AreThere};
 ghost use Rattle.lwkt_explore.specs.Outcomes.{RefusesSearch};
 
-use lwkt_base::memory::push;
 use lwkt_base::{Entry, Fault, MsgId, MsgState, MsgWord, OutOfMemory, Owner, ThreadState, TokId};
 use lwkt_code::Local;
 use lwkt_core::{Event, Message, State};

@@ -1,9 +1,10 @@
 //! Outcomes: reports of runs along orders, each once.
-ghost use Rattle.std.specs.Prelude.{◌≡◌, ◌≢◌, ℕ, ◌+◌, ◌<◌, ◌≤◌, true, List, [], ◌∷◌, ◌++◌, length, sum, string_bytes, Err, IfOk, IfErr, OnOk, OnErr, OnSome};
+ghost use Rattle.std.specs.Prelude.{◌≡◌, ◌≢◌, ℕ, ◌+◌, ◌<◌, ◌≤◌, true, List, [], ◌∷◌, ◌++◌, length, sum, string_bytes, get_or, Err, IfOk, IfErr, IfNone, IsTrue, OnOk, OnErr, OnSome};
 ghost use Rattle.std.specs.List.{Any};
 ghost use Rattle.lwkt_run.specs.Run.{AreThere, IsOrderRun, end_of_closing};
 ghost use Rattle.lwkt_script.specs.declared.scripts.Script.{Script};
-ghost use Rattle.lwkt_explore.specs.Outcomes.{settled_text, IsKind, IsOutcome, AreOutcomes, AreShort, AreWhole, HasEnded, HasReport, HasRoom, RefusesSearch};
+ghost use Rattle.lwkt_explore.specs.Outcomes.{settled_text, IsKind, IsOutcome, AreAlike, AreOnce, AreOutcomes, AreShort, AreWhole, HasEnded, HasReport, HasRoom, RefusesSearch};
+ghost use Rattle.lwkt_explore.specs.Searches.{IsShortestOrder, AreShortest};
 ghost use Rattle.lwkt_explore.specs.Verdicts.{IsOfVerdict};
 
 use crate::watches::Watch;
@@ -155,6 +156,14 @@ fn outcome_of<W: Watch>(
     })
 }
 
+// Whether two outcomes are of one kind, and have one text.
+fn is_alike(one: &Outcome, other: &Outcome) -> bool
+    ensures yes { IsTrue result → AreAlike one.now other.now }
+    ensures no { AreAlike one.now other.now → IsTrue result }
+{
+    one.kind == other.kind && one.text.as_str() == other.text.as_str()
+}
+
 impl Outcomes {
     /// None so far.
     pub(crate) fn new(alloc: Global) -> Self
@@ -169,10 +178,11 @@ impl Outcomes {
 
     // Which outcome this is, if it was found before.
     fn place_of(&self, outcome: &Outcome) -> Option<usize>
-        ensures { OnSome result (Any (λ one. (one.kind ≡ outcome.now.kind) × (string_bytes one.text ≡ string_bytes outcome.now.text)) self.now.all.items) }
+        ensures found { OnSome result (Any (λ one. AreAlike one outcome.now) self.now.all.items) }
+        ensures fresh { IfNone result ((k : ℕ) (d : Outcome) → k < length self.now.all.items → AreAlike (get_or self.now.all.items k d) outcome.now → ⊥) }
     {
-        for (place, one) in self.all.iter().enumerate() {
-            if one.kind == outcome.kind && one.text.as_str() == outcome.text.as_str() {
+        for place in 0..self.all.len() {
+            if is_alike(&self.all[place], outcome) {
                 return Some(place);
             }
         }
@@ -236,6 +246,7 @@ impl Outcomes {
     pub(crate) fn take_in(&mut self, others: Outcomes) -> Result<(), OutOfMemory>
         ensures found { (script : Script) → AreOutcomes script self.old → AreOutcomes script others → AreOutcomes script self.new }
         ensures short { (turns : ℕ) → AreShort turns self.old → AreShort turns others → AreShort turns self.new }
+        ensures once { AreOnce self.old → AreOnce self.new }
     {
         for outcome in others.all {
             if self.place_of(&outcome).is_none() {
@@ -259,6 +270,8 @@ impl Outcomes {
         requires outcomes { AreOutcomes script.now self.old }
         ensures found { AreOutcomes script.now self.new }
         ensures short { (turns : ℕ) → length order.items ≤ turns → AreShort turns self.old → AreShort turns self.new }
+        ensures once { AreOnce self.old → AreOnce self.new }
+        ensures shortest { IsShortestOrder script.now order.items → AreShortest script.now self.old → AreShortest script.now self.new }
         ensures ended { HasEnded self.old → HasEnded self.new }
         ensures whole { IfOk result (λ kind. kind ≢ Kind.Cut → AreWhole self.old → AreWhole self.new) }
         ensures err { OnErr result (self.new.all.items ≡ self.old.all.items) }

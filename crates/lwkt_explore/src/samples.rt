@@ -1,6 +1,6 @@
 //! Random orders, for scripts that are too large for a search.
 ghost use Rattle.std.specs.Prelude.{◌≡◌, ◌+◌, ◌≤◌, ◌<◌, None, sum, IfOk, IfErr};
-ghost use Rattle.lwkt_explore.specs.Outcomes.{AreOutcomes, AreShort, RefusesSearch};
+ghost use Rattle.lwkt_explore.specs.Outcomes.{AreOnce, AreOutcomes, AreShort, RefusesSearch};
 ghost use Rattle.lwkt_explore.specs.Tries.{HasTriedOrders};
 ghost use Rattle.lwkt_plain.specs.Openings.{opened};
 ghost use Rattle.lwkt_plain.specs.Sound.{IsSound};
@@ -91,6 +91,7 @@ fn add_one<W: Watch>(
     requires outcomes { AreOutcomes script.now outcomes.old }
     requires short { AreShort most outcomes.old }
     ensures found { AreOutcomes script.now outcomes.new }
+    ensures once { AreOnce outcomes.old → AreOnce outcomes.new }
     ensures short { AreShort most outcomes.new }
     ensures counts { sum outcomes.new.counts.items ≤ sum outcomes.old.counts.items + 1 }
     ensures refused { IfErr result (λ fault. RefusesSearch script.now fault) }
@@ -119,6 +120,7 @@ fn add_all<W: Watch>(
     requires short { AreShort most outcomes.old }
     requires none { sum outcomes.old.counts.items ≡ 0 }
     ensures found { AreOutcomes script.now outcomes.new }
+    ensures once { AreOnce outcomes.old → AreOnce outcomes.new }
     ensures short { AreShort most outcomes.new }
     ensures counts { sum outcomes.new.counts.items ≤ count }
     ensures refused { IfErr result (λ fault. RefusesSearch script.now fault) }
@@ -151,6 +153,9 @@ pub fn sample<W: Watch>(
 ) -> Result<Found, Fault>
     // Each outcome is one of the script.
     ensures found { IfOk result (λ found. AreOutcomes script.now found.outcomes) }
+
+    // Each is there once.
+    ensures once { IfOk result (λ found. AreOnce found.outcomes) }
 
     // Its order has no more turns than the bound allows.
     ensures short { IfOk result (λ found. AreShort bounds.turns found.outcomes) }

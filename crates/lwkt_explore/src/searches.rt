@@ -1,8 +1,8 @@
 //! The search: over states of the plain machine, breadth first, so that orders are shortest.
 ghost use Rattle.std.specs.Prelude.{◌≡◌, ◌≤◌, ◌<◌, true, false, None, [], length, slice_index_or, All, IsTrue, IsFalse, IfOk, IfErr, IfSome, OnOk};
 ghost use Rattle.lwkt_explore.specs.Extents.{differs, is_complete};
-ghost use Rattle.lwkt_explore.specs.Outcomes.{AreOutcomes, AreShort, AreWhole, HasEnded, HasReport, RefusesSearch};
-ghost use Rattle.lwkt_explore.specs.Searches.{IsSearched, IsLostAlong, NoneIsLost, TellsWhole};
+ghost use Rattle.lwkt_explore.specs.Outcomes.{AreOnce, AreOutcomes, AreShort, AreWhole, HasEnded, HasReport, RefusesSearch};
+ghost use Rattle.lwkt_explore.specs.Searches.{AreShortest, IsSearched, IsLostAlong, IsShortestOrder, NoneIsLost, TellsWhole};
 ghost use Rattle.lwkt_explore.specs.Tries.{HasTriedStates};
 ghost use Rattle.lwkt_plain.specs.Openings.{opened};
 ghost use Rattle.lwkt_plain.specs.Sound.{IsSound};
@@ -207,6 +207,8 @@ fn tell<W: Watch>(
     requires whole { AreWhole outcomes.old }
     ensures found { AreOutcomes script.now outcomes.new }
     ensures short { AreShort turns outcomes.new }
+    ensures once { AreOnce outcomes.old → AreOnce outcomes.new }
+    ensures shortest { All (λ one. IsShortestOrder script.now one.order.items) told.now → AreShortest script.now outcomes.old → AreShortest script.now outcomes.new }
     ensures whole { IfOk result (λ is_same. IsTrue is_same → AreWhole outcomes.new) }
     ensures told { IfOk result (λ is_same. IsTrue is_same → All (λ one. HasReport script.now one.order.items outcomes.new) told.now) }
     ensures refused { IfErr result (λ fault. RefusesSearch script.now fault) }
@@ -265,6 +267,7 @@ fn tell_cut<W: Watch>(
     requires short { AreShort task.now.turns outcomes.old }
     ensures found { AreOutcomes script.now outcomes.new }
     ensures short { AreShort task.now.turns outcomes.new }
+    ensures once { AreOnce outcomes.old → AreOnce outcomes.new }
     ensures same { found.now.growth.met ≡ None → outcomes.new ≡ outcomes.old }
     ensures refused { IfErr result (λ fault. RefusesSearch script.now fault) }
 {
@@ -295,6 +298,8 @@ fn told_of<W: Watch>(
     requires none { outcomes.old.all.items ≡ [] }
     ensures found { AreOutcomes script.now outcomes.new }
     ensures short { AreShort task.now.turns outcomes.new }
+    ensures once { AreOnce outcomes.old → AreOnce outcomes.new }
+    ensures shortest { IfOk result (λ met. met ≡ None → IsTrue found.now.growth.is_whole → AreShortest script.now outcomes.new) }
     ensures whole { IfOk result (λ met. met ≡ None → found.now.growth.met ≡ None → AreWhole outcomes.new) }
     ensures told { IfOk result (λ met. met ≡ None → found.now.growth.met ≡ None → All (λ one. HasReport script.now one.order.items outcomes.new) found.now.outcomes.items) }
     ensures refused { IfErr result (λ fault. RefusesSearch script.now fault) }
@@ -341,6 +346,7 @@ fn stands_at<W: Watch>(
     requires short { AreShort task.now.turns outcomes.old }
     ensures found { AreOutcomes script.now outcomes.new }
     ensures short { AreShort task.now.turns outcomes.new }
+    ensures once { AreOnce outcomes.old → AreOnce outcomes.new }
     ensures same { IfOk result (λ stands. IsTrue stands → outcomes.new ≡ outcomes.old) }
     ensures refused { IfErr result (λ fault. RefusesSearch script.now fault) }
 {
@@ -368,6 +374,7 @@ fn stands_everywhere<W: Watch>(
     requires short { AreShort task.now.turns outcomes.old }
     ensures found { AreOutcomes script.now outcomes.new }
     ensures short { AreShort task.now.turns outcomes.new }
+    ensures once { AreOnce outcomes.old → AreOnce outcomes.new }
     ensures same { IfOk result (λ stands. IsTrue stands → outcomes.new ≡ outcomes.old) }
     ensures refused { IfErr result (λ fault. RefusesSearch script.now fault) }
 {
@@ -395,6 +402,7 @@ fn compared<W: Watch>(
     requires short { AreShort task.now.turns outcomes.old }
     ensures found { AreOutcomes script.now outcomes.new }
     ensures short { AreShort task.now.turns outcomes.new }
+    ensures once { AreOnce outcomes.old → AreOnce outcomes.new }
     ensures same { IfOk result (λ met. met ≡ None → outcomes.new ≡ outcomes.old) }
     ensures refused { IfErr result (λ fault. RefusesSearch script.now fault) }
 {
@@ -506,6 +514,7 @@ fn ended<W: Watch>(
     requires bound { 0 < task.now.bound }
     requires searched { IsSearched script.now task.now.cpus task.now.turns task.now.bound found.now }
     ensures found { IfOk result (λ found. AreOutcomes script.now found.outcomes) }
+    ensures once { IfOk result (λ found. AreOnce found.outcomes) }
     ensures short { IfOk result (λ found. AreShort task.now.turns found.outcomes) }
     ensures ended { IfOk result (λ found. is_complete found ≡ true → found.lost ≡ None → HasEnded found.outcomes) }
     ensures whole { IfOk result (λ found. is_complete found ≡ true → AreWhole found.outcomes) }
@@ -540,6 +549,7 @@ fn searched<W: Watch>(
 ) -> Result<Found, Fault>
     requires sound { IsSound (opened script.now) }
     ensures found { IfOk result (λ found. AreOutcomes script.now found.outcomes) }
+    ensures once { IfOk result (λ found. AreOnce found.outcomes) }
     ensures short { IfOk result (λ found. AreShort bounds.turns found.outcomes) }
     ensures ended { IfOk result (λ found. is_complete found ≡ true → found.lost ≡ None → HasEnded found.outcomes) }
     ensures whole { IfOk result (λ found. is_complete found ≡ true → AreWhole found.outcomes) }
@@ -593,6 +603,9 @@ pub fn explore<W: Watch>(
 ) -> Result<Found, Fault>
     // Each outcome is one of the script.
     ensures found { IfOk result (λ found. AreOutcomes script.now found.outcomes) }
+
+    // Each is there once.
+    ensures once { IfOk result (λ found. AreOnce found.outcomes) }
 
     // Its order has no more turns than the bound allows.
     ensures short { IfOk result (λ found. AreShort bounds.turns found.outcomes) }
