@@ -12,10 +12,10 @@ use Rattle.lwkt_script.specs.declared.scripts.Script.{Script}
 use Rattle.lwkt_search.specs.declared.searches.Found.{Found as Searched}
 use Rattle.lwkt_search.specs.declared.searches.Outcome.{Outcome as Last}
 use Rattle.lwkt_search.specs.Losses.{IsLost, IsLostOutcome}
-use Rattle.lwkt_search.specs.Runs.{Told, told_of, all_told, run, HasOutcome, IsLast, IsOrder, IsOutcome}
+use Rattle.lwkt_search.specs.Runs.{Told, told_of, all_told, run, HasOutcome, IsLast, IsOrder, IsOutcome, IsShortest}
 use Rattle.lwkt_explore.specs.declared.outcomes.Outcomes.{Outcomes}
 use Rattle.lwkt_explore.specs.Outcomes.{HasReport}
-use Rattle.lwkt_explore.specs.Searches.{state_after, IsLastState, IsLostAlong, IsSearched, IsToldAt, NoneIsLost, TellsAll}
+use Rattle.lwkt_explore.specs.Searches.{state_after, IsLastState, IsLostAlong, IsSearched, IsShortestOrder, IsToldAt, NoneIsLost, TellsAll}
 
 -- a list without a first element has none
 pub none_first : {X : Type 0} (xs : List X) → slice_get xs 0 ≡ None → length xs ≡ 0
@@ -82,3 +82,21 @@ first_lost script cpus states lost one first all =
     let is : Q (told_of (opened script) states one) = all_first Q (told_of (opened script) states) lost one first all in
     let F : Plain → Type 0 = λ state. IsLost (form_turn script) (HasEnded script) cpus state in
     record { there = is.order; lost = subst F (sym is.leads) is.lost }
+
+-- if each turn was tried, each order that was found is a shortest one to the state that it leads to
+pub all_are_shortest : (script : Script) (cpus turns bound : ℕ) (found : Searched Store) → IsSearched script cpus turns bound found → cpus ≡ script.cpus → IsTrue found.growth.is_whole → All (λ (one : Last). IsShortestOrder script one.order.items) found.outcomes.items
+all_are_shortest script cpus turns bound found is same whole = λ k one less.
+    let start = opened script in
+    let states = kept found.growth.store in
+    let ones = found.outcomes.items in
+    let tell : Last → Told Plain = told_of start states in
+    let long : length (map tell ones) ≡ length ones = length-map ones tell in
+    let below : k < length (map tell ones) = omega (arith, less, long) in
+    let at : get_or (map tell ones) k (tell one) ≡ tell (get_or ones k one) = get_or-map tell ones k one (tell one) less in
+    let O : Told Plain → Type 0 = λ t. IsOutcome (form_turn script) (HasEnded script) cpus start t in
+    let B : Told Plain → Type 0 = λ t. IsShortest (form_turn script) cpus start t in
+    let outcome : O (tell (get_or ones k one)) = subst O at (is.sound k (tell one) below) in
+    let best : B (tell (get_or ones k one)) = subst B at (is.shortest whole k (tell one) below) in
+    λ other order leads.
+        let C : ℕ → Type 0 = λ n. IsOrder n other in
+        best other (subst C (sym same) order) (leads ∙ outcome.leads)

@@ -354,7 +354,9 @@ fn stands_at<W: Watch>(
     if stands_as(alloc, script, order.as_slice(), &found.growth.store, at)? {
         return Ok(true);
     }
-    outcomes.add::<W>(alloc, script, order, LastState::Cut)?;
+    if order.len() <= task.turns {
+        outcomes.add::<W>(alloc, script, order, LastState::Cut)?;
+    }
     Ok(false)
 }
 

@@ -1,20 +1,53 @@
-use Rattle.std.proofs.Common.{◌≡◌, ◌∙◌, ℕ, List, None, All, IfSome, subst, sym, ap}
+use Rattle.std.proofs.Common.{◌≡◌, ◌∙◌, ℕ, ◌<◌, List, [], None, All, IfSome, arith, length, rules, subst, sym, ap}
+use Rattle.std.specs.List.{AllPairs}
+use Rattle.lwkt_explore.specs.declared.outcomes.Outcome.{Outcome}
 use Rattle.lwkt_script.specs.declared.scripts.Script.{Script}
 use Rattle.lwkt_search.specs.declared.searches.Outcome.{Outcome as Last}
 use Rattle.lwkt_explore.specs.declared.outcomes.Outcomes.{Outcomes}
-use Rattle.lwkt_explore.specs.Outcomes.{AreOutcomes, HasEnded, HasReport}
-use Rattle.lwkt_explore.specs.Searches.{IsLostAlong, NoneIsLost}
+use Rattle.lwkt_explore.specs.Outcomes.{AreAlike, AreOnce, AreOutcomes, HasEnded, HasReport}
+use Rattle.lwkt_explore.specs.Searches.{AreShortest, IsLostAlong, NoneIsLost}
 use Rattle.lwkt_explore.proofs.ToldLemmas.{all_are_told}
 use Rattle.lwkt_explore.proofs.searches.ended.Goals as goal
 
+-- nothing is there more than once
+none_twice : AllPairs (λ (one other : Outcome). AreAlike one other → ⊥) []
+none_twice = λ i j d before below. absurd (omega (arith, below))
+
 pub returns-in-Some-clause-found : goal.returns-in-Some-clause-found
-returns-in-Some-clause-found g c = let F : Outcomes → Type 0 = AreOutcomes c.args.script.now in subst F (sym c.part_of.ensures.outcomes) c.told_of.ensures.found
+returns-in-Some-clause-found g c = let F : Outcomes → Type 0 = AreOutcomes c.args.script.now in subst F (sym c.part_of.ensures.outcomes) c.compared.ensures.found
+
+pub returns-in-Some-clause-once : goal.returns-in-Some-clause-once
+returns-in-Some-clause-once g c =
+    let N : List Outcome → Type 0 = λ xs. AllPairs (λ one other. AreAlike one other → ⊥) xs in
+    let F : Outcomes → Type 0 = AreOnce in
+    subst F (sym c.part_of.ensures.outcomes) (c.compared.ensures.once (c.told_of.ensures.once (subst N (sym c.new.ensures.none) none_twice)))
+
+pub returns-in-Some-bound_of-clause-found : goal.returns-in-Some-bound_of-clause-found
+returns-in-Some-bound_of-clause-found g c = let F : Outcomes → Type 0 = AreOutcomes c.args.script.now in subst F (sym c.part_of-in-Some-bound_of.ensures.outcomes) c.compared.ensures.found
+
+pub returns-in-Some-bound_of-clause-once : goal.returns-in-Some-bound_of-clause-once
+returns-in-Some-bound_of-clause-once g c =
+    let N : List Outcome → Type 0 = λ xs. AllPairs (λ one other. AreAlike one other → ⊥) xs in
+    let F : Outcomes → Type 0 = AreOnce in
+    subst F (sym c.part_of-in-Some-bound_of.ensures.outcomes) (c.compared.ensures.once (c.told_of.ensures.once (subst N (sym c.new.ensures.none) none_twice)))
 
 pub returns-in-Some-told-clause-found : goal.returns-in-Some-told-clause-found
-returns-in-Some-told-clause-found g c = let F : Outcomes → Type 0 = AreOutcomes c.args.script.now in subst F (sym c.part_of-in-Some-told.ensures.outcomes) c.told_of.ensures.found
+returns-in-Some-told-clause-found g c = let F : Outcomes → Type 0 = AreOutcomes c.args.script.now in subst F (sym c.part_of-in-Some-told.ensures.outcomes) c.compared.ensures.found
+
+pub returns-in-Some-told-clause-once : goal.returns-in-Some-told-clause-once
+returns-in-Some-told-clause-once g c =
+    let N : List Outcome → Type 0 = λ xs. AllPairs (λ one other. AreAlike one other → ⊥) xs in
+    let F : Outcomes → Type 0 = AreOnce in
+    subst F (sym c.part_of-in-Some-told.ensures.outcomes) (c.compared.ensures.once (c.told_of.ensures.once (subst N (sym c.new.ensures.none) none_twice)))
 
 pub returns-in-None-clause-found : goal.returns-in-None-clause-found
-returns-in-None-clause-found g c = let F : Outcomes → Type 0 = AreOutcomes c.args.script.now in subst F (sym c.whole_of.ensures.outcomes) c.told_of.ensures.found
+returns-in-None-clause-found g c = let F : Outcomes → Type 0 = AreOutcomes c.args.script.now in subst F (sym c.whole_of.ensures.outcomes) c.compared.ensures.found
+
+pub returns-in-None-clause-once : goal.returns-in-None-clause-once
+returns-in-None-clause-once g c =
+    let N : List Outcome → Type 0 = λ xs. AllPairs (λ one other. AreAlike one other → ⊥) xs in
+    let F : Outcomes → Type 0 = AreOnce in
+    subst F (sym c.whole_of.ensures.outcomes) (c.compared.ensures.once (c.told_of.ensures.once (subst N (sym c.new.ensures.none) none_twice)))
 
 pub returns-in-None-clause-ended : goal.returns-in-None-clause-ended
 returns-in-None-clause-ended g c = λ complete none. let F : Outcomes → Type 0 = HasEnded in subst F (sym c.whole_of.ensures.outcomes) (c.whole_of.ensures.ended complete none)
@@ -25,16 +58,20 @@ returns-in-None-clause-all g c = λ yes.
     let script = c.args.script.now in
     let found = c.args.found.now in
     let whole = c.whole_of.ensures.whole yes in
-    let met : found.growth.met ≡ None = c.bound_of.ensures c.in_default.is in
+    let unmet : c.bound_of.result ≡ None = search rules in
+    let met : found.growth.met ≡ None = c.bound_of.ensures unmet in
+    let same : c.compared.new.outcomes ≡ c.told_of.new.outcomes = c.in_ok-bound.ensures.same (search rules) in
     let reports : All (λ (one : Last). HasReport script one.order.items c.told_of.new.outcomes) found.outcomes.items = c.in_ok-told.ensures.told c.in-None.is met in
     let R : Outcomes → Type 0 = λ outcomes. All (λ (one : Last). HasReport script one.order.items outcomes) found.outcomes.items in
+    let G : Outcomes → Type 0 = AreShortest script in
     let N : ℕ → Type 0 = λ cpus. NoneIsLost script cpus in
     let M : Script → Type 0 = λ s. NoneIsLost s task.cpus in
     let A : ℕ → Type 0 = λ cpus. IfSome c.whole_of.result.lost (λ one. IsLostAlong script cpus one.order.items) in
     let B : Script → Type 0 = λ s. IfSome c.whole_of.result.lost (λ one. IsLostAlong s task.cpus one.order.items) in
     record {
       complete = whole.1;
-      all = all_are_told script task.cpus task.turns task.bound found c.whole_of.result.outcomes c.requires.searched c.requires.cpus whole.0 (subst R (sym c.whole_of.ensures.outcomes) reports);
+      all = all_are_told script task.cpus task.turns task.bound found c.whole_of.result.outcomes c.requires.searched c.requires.cpus whole.0 (subst R (sym (c.whole_of.ensures.outcomes ∙ same)) reports);
+      shortest = subst G (sym (c.whole_of.ensures.outcomes ∙ same)) (c.in_ok-told.ensures.shortest c.in-None.is whole.0);
       none_lost = λ none. subst N c.requires.cpus (subst M c.requires.script (c.whole_of.ensures.none_lost yes none));
       one_lost = subst A c.requires.cpus (subst B c.requires.script (c.whole_of.ensures.one_lost yes));
     }

@@ -2,7 +2,9 @@ use Rattle.std.proofs.Common.{◌≡◌, ◌≢◌, ◌∙◌, ℕ, ◌<◌, ◌
 use Rattle.std.proofs.lemmas.List.{get_or_default}
 use Rattle.lwkt_search.specs.declared.searches.Outcome.{Outcome as Last}
 use Rattle.lwkt_explore.specs.declared.outcomes.Kind.TheVariants.{Cut}
+use Rattle.std.specs.Prelude.{All}
 use Rattle.lwkt_explore.specs.Outcomes.{HasReport}
+use Rattle.lwkt_explore.specs.Searches.{IsShortestOrder}
 use Rattle.lwkt_explore.proofs.searches.tell.Goals as goal
 
 pub returns-then-eq-clause-short : goal.returns-then-eq-clause-short
@@ -39,5 +41,24 @@ loop-at-preserved g c =
       found = c.in_ok-kind.ensures.found;
       short = c.in_ok-kind.ensures.short turns (subst G (sym order) few) c.loop-at.invariant.short;
       whole = c.in_ok-kind.ensures.whole uncut c.loop-at.invariant.whole;
+      once = λ once. c.in_ok-kind.ensures.once (c.loop-at.invariant.once once);
+      shortest = λ all mine.
+          let S : Last → Type 0 = λ o. IsShortestOrder script o.order.items in
+          let T : List ℕ → Type 0 = IsShortestOrder script in
+          c.in_ok-kind.ensures.shortest (subst T (sym order) (subst S (sym c.index-told-at.is) (all at one below))) (c.loop-at.invariant.shortest all mine);
       told = λ k d less. below_more P at all here k less d;
     }
+
+pub returns-then-eq-clause-shortest : goal.returns-then-eq-clause-shortest
+returns-then-eq-clause-shortest g c = λ all mine.
+    let one : Last = c.index-told-at.result in
+    let told = c.args.told.now in
+    let script = c.args.script.now in
+    let below : c.loop-at.at < length told = omega arith in
+    let order : c.in_ok-order.order.items ≡ one.order.items = c.in_ok-order.ensures.items ∙ c.as_slice.ensures.value in
+    let S : Last → Type 0 = λ o. IsShortestOrder script o.order.items in
+    let T : List ℕ → Type 0 = IsShortestOrder script in
+    c.add.ensures.shortest (subst T (sym order) (subst S (sym c.index-told-at.is) (all c.loop-at.at one below))) (c.loop-at.invariant.shortest all mine)
+
+pub returns-then-eq-clause-once : goal.returns-then-eq-clause-once
+returns-then-eq-clause-once g c = λ once. c.add.ensures.once (c.loop-at.invariant.once once)

@@ -56,4 +56,5 @@ loop-at-preserved g c =
     record {
       found = c.in_ok-add.ensures.found;
       short = c.in_ok-add.ensures.short turns (omega (arith, long, same, deep)) c.loop-at.invariant.short;
+      once = λ once. c.in_ok-add.ensures.once (c.loop-at.invariant.once once);
     }

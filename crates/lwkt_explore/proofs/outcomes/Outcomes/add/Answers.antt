@@ -2,11 +2,13 @@ use Rattle.std.proofs.Common.{◌≡◌, ◌≤◌, ℕ, length, string_bytes, r
 use Rattle.std.proofs.lemmas.List.Elements.{All-push}
 use Rattle.std.proofs.lemmas.List.Quantifiers.{Any-push}
 use Rattle.std.specs.Prelude.{◌≢◌, All, Vec}
-use Rattle.std.specs.List.{Any}
+use Rattle.std.proofs.lemmas.List.Quantifiers.{all_pairs_push}
+use Rattle.std.specs.List.{AllPairs, Any}
 use Rattle.std.specs.declared.alloc.Global.{Global}
 use Rattle.lwkt_explore.specs.declared.outcomes.Kind.TheVariants.{Ended, Cut}
 use Rattle.lwkt_explore.specs.declared.outcomes.Outcome.{Outcome}
-use Rattle.lwkt_explore.specs.Outcomes.{IsOutcome, IsReportAlong}
+use Rattle.lwkt_explore.specs.Outcomes.{AreAlike, IsOutcome, IsReportAlong}
+use Rattle.lwkt_explore.specs.Searches.{IsShortestOrder}
 use Rattle.lwkt_run.specs.Run.{IsOrderRun}
 use Rattle.lwkt_script.specs.declared.scripts.Script.{Script}
 use Rattle.lwkt_explore.proofs.EndLemmas.{Any-append, Any-weaker}
@@ -72,8 +74,8 @@ returns-in-Some-clause-ended g c =
 pub returns-in-Some-clause-kind : goal.returns-in-Some-clause-kind
 returns-in-Some-clause-kind g c =
     let F : Vec Outcome Global → Type 0 = λ v. Any is_end v.items in
-    let P : Outcome → Type 0 = λ one. (one.kind ≡ c.in_ok-outcome.outcome.kind) × (string_bytes one.text ≡ string_bytes c.in_ok-outcome.outcome.text) in
-    λ is. subst F (sym c.count.ensures.all) (Any-weaker P is_end c.make_room.new.self.all.items (λ x same. same.0 ∙ is) c.in-Some.ensures)
+    let P : Outcome → Type 0 = λ one. AreAlike one c.in_ok-outcome.outcome in
+    λ is. subst F (sym c.count.ensures.all) (Any-weaker P is_end c.make_room.new.self.all.items (λ x same. same.kind ∙ is) c.in-Some.ensures.found)
 
 pub returns-in-Some-clause-told : goal.returns-in-Some-clause-told
 returns-in-Some-clause-told g c =
@@ -82,8 +84,8 @@ returns-in-Some-clause-told g c =
     let made = c.in_ok-outcome.outcome in
     let Q : Outcome → Type 0 = IsReportAlong script order in
     let F : Vec Outcome Global → Type 0 = λ v. Any Q v.items in
-    let P : Outcome → Type 0 = λ one. (one.kind ≡ made.kind) × (string_bytes one.text ≡ string_bytes made.text) in
-    subst F (sym c.count.ensures.all) (Any-weaker P Q c.make_room.new.self.all.items (λ x same. reports script order made x c.in_ok-outcome.ensures.ok c.in_ok-outcome.ensures.order same.1) c.in-Some.ensures)
+    let P : Outcome → Type 0 = λ one. AreAlike one made in
+    subst F (sym c.count.ensures.all) (Any-weaker P Q c.make_room.new.self.all.items (λ x same. reports script order made x c.in_ok-outcome.ensures.ok c.in_ok-outcome.ensures.order same.text) c.in-Some.ensures.found)
 
 pub returns-in-Some-clause-stays : goal.returns-in-Some-clause-stays
 returns-in-Some-clause-stays g c = λ one has.
@@ -156,3 +158,49 @@ pub returns-in_err-make_room-clause-stays : goal.returns-in_err-make_room-clause
 returns-in_err-make_room-clause-stays g c = λ along has.
     let F : List Outcome → Type 0 = λ xs. Any (IsReportAlong c.args.script.now along) xs in
     subst F (sym c.make_room.ensures.all) has
+
+pub returns-in_err-outcome-clause-once : goal.returns-in_err-outcome-clause-once
+returns-in_err-outcome-clause-once g c = λ once.
+    let F : List Outcome → Type 0 = λ xs. AllPairs (λ one other. AreAlike one other → ⊥) xs in
+    subst F (sym c.make_room.ensures.all) once
+
+pub returns-in_err-make_room-clause-once : goal.returns-in_err-make_room-clause-once
+returns-in_err-make_room-clause-once g c = λ once.
+    let F : List Outcome → Type 0 = λ xs. AllPairs (λ one other. AreAlike one other → ⊥) xs in
+    subst F (sym c.make_room.ensures.all) once
+
+pub returns-in-Some-clause-once : goal.returns-in-Some-clause-once
+returns-in-Some-clause-once g c = λ once.
+    let F : List Outcome → Type 0 = λ xs. AllPairs (λ one other. AreAlike one other → ⊥) xs in
+    subst F (sym (same c.count.new.self.all c.make_room.new.self.all c.args.self.now.all.items c.count.ensures.all c.make_room.ensures.all)) once
+
+pub returns-in-None-clause-once : goal.returns-in-None-clause-once
+returns-in-None-clause-once g c = λ once.
+    let R : Outcome → Outcome → Type 0 = λ one other. AreAlike one other → ⊥ in
+    let F : List Outcome → Type 0 = λ xs. AllPairs R xs in
+    let room = c.make_room.new.self.all.items in
+    subst F (sym c.keep.ensures.all) (all_pairs_push R room c.in_ok-outcome.outcome (subst F (sym c.make_room.ensures.all) once) (λ k d less. c.in-None.ensures.fresh k d less))
+
+pub returns-in_err-outcome-clause-shortest : goal.returns-in_err-outcome-clause-shortest
+returns-in_err-outcome-clause-shortest g c = λ is all.
+    let F : List Outcome → Type 0 = λ xs. All (λ (one : Outcome). IsShortestOrder c.args.script.now one.order.items) xs in
+    subst F (sym c.make_room.ensures.all) all
+
+pub returns-in_err-make_room-clause-shortest : goal.returns-in_err-make_room-clause-shortest
+returns-in_err-make_room-clause-shortest g c = λ is all.
+    let F : List Outcome → Type 0 = λ xs. All (λ (one : Outcome). IsShortestOrder c.args.script.now one.order.items) xs in
+    subst F (sym c.make_room.ensures.all) all
+
+pub returns-in-Some-clause-shortest : goal.returns-in-Some-clause-shortest
+returns-in-Some-clause-shortest g c = λ is all.
+    let F : List Outcome → Type 0 = λ xs. All (λ (one : Outcome). IsShortestOrder c.args.script.now one.order.items) xs in
+    subst F (sym (same c.count.new.self.all c.make_room.new.self.all c.args.self.now.all.items c.count.ensures.all c.make_room.ensures.all)) all
+
+pub returns-in-None-clause-shortest : goal.returns-in-None-clause-shortest
+returns-in-None-clause-shortest g c = λ is all.
+    let G : List ℕ → Type 0 = IsShortestOrder c.args.script.now in
+    let P : Outcome → Type 0 = λ one. G one.order.items in
+    let F : List Outcome → Type 0 = λ xs. All P xs in
+    let old = c.args.self.now.all.items in
+    let one = c.in_ok-outcome.outcome in
+    subst F (sym (more c.keep.new.self.all.items c.make_room.new.self.all.items old one c.keep.ensures.all c.make_room.ensures.all)) (All-push P old one all (subst G (sym c.in_ok-outcome.ensures.order) is))

@@ -1,10 +1,13 @@
-use Rattle.std.proofs.Common.{◌≡◌, ℕ, ◌≤◌, [], ◌∷◌, ◌++◌, List, length, sym, subst}
+use Rattle.std.proofs.Common.{◌≡◌, ℕ, ◌<◌, ◌≤◌, [], ◌∷◌, ◌++◌, List, length, get_or, rules, sym, subst}
 use Rattle.std.proofs.lemmas.List.Elements.{All-head, All-push, All-rest, All-same}
+use Rattle.std.proofs.lemmas.List.Quantifiers.{all_pairs_push}
+use Rattle.std.specs.List.{AllPairs}
 use Rattle.std.specs.Prelude.{All}
 use Rattle.std.specs.Vec.Iter.{into_iter_items}
 use Rattle.lwkt_script.specs.declared.scripts.Script.{Script}
 use Rattle.lwkt_explore.specs.declared.outcomes.Outcome.{Outcome}
-use Rattle.lwkt_explore.specs.Outcomes.{IsOutcome}
+use Rattle.lwkt_explore.specs.Outcomes.{AreAlike, AreOnce, IsOutcome}
+use Rattle.lwkt_explore.proofs.EndLemmas.{none_gives}
 use Rattle.lwkt_explore.proofs.outcomes.Outcomes.take_in.Goals as goal
 
 -- a property of all that were there, and of one more behind them, holds of all that are there now
@@ -22,6 +25,7 @@ loop-outcome-init c =
     let S : ℕ → Outcome → Type 0 = λ turns outcome. length outcome.order.items ≤ turns in
     record {
       found = λ script mine theirs. mine;
+      once = λ mine. mine;
       rest = λ script theirs. All-same (IsOutcome script) given c.args.others.all.items gives theirs;
       short = λ turns mine theirs. mine;
       few = λ turns theirs. All-same (S turns) given c.args.others.all.items gives theirs;
@@ -37,7 +41,16 @@ loop-outcome-preserved-then-is_none c =
     let news = c.keep.new.self.all.items in
     let same : news ≡ l.self.all.items ++ one ∷ [] = subst (λ xs. news ≡ xs ++ one ∷ []) c.make_room.ensures.all c.keep.ensures.all in
     let S : ℕ → Outcome → Type 0 = λ turns outcome. length outcome.order.items ≤ turns in
+    let fresh : (k : ℕ) (d : Outcome) → k < length l.self.all.items → AreAlike (get_or l.self.all.items k d) one → ⊥ = none_gives c.place_of.result (search rules) c.place_of.ensures.fresh in
     record {
+      once = λ mine.
+          let R : Outcome → Outcome → Type 0 = λ a b. AreAlike a b → ⊥ in
+          let F : List Outcome → Type 0 = λ xs. AllPairs R xs in
+          let room = c.make_room.new.self.all.items in
+          subst F (sym c.keep.ensures.all) (all_pairs_push R room one (subst F (sym c.make_room.ensures.all) (l.invariant.once mine))
+            (λ k d less.
+              let A : List Outcome → Type 0 = λ xs. (j : ℕ) (e : Outcome) → j < length xs → AreAlike (get_or xs j e) one → ⊥ in
+              subst A (sym c.make_room.ensures.all) fresh k d less));
       found = λ script mine theirs. all_with (IsOutcome script) l.self.all.items news one same (l.invariant.found script mine theirs) (of_next (IsOutcome script) left rest one steps (l.invariant.rest script theirs));
       rest = λ script theirs. All-rest (IsOutcome script) one rest left steps (l.invariant.rest script theirs);
       short = λ turns mine theirs. all_with (S turns) l.self.all.items news one same (l.invariant.short turns mine theirs) (of_next (S turns) left rest one steps (l.invariant.few turns theirs));
@@ -59,6 +72,7 @@ loop-outcome-preserved c =
     let S : ℕ → Outcome → Type 0 = λ turns outcome. length outcome.order.items ≤ turns in
     record {
       found = l.invariant.found;
+      once = l.invariant.once;
       rest = λ script theirs. All-rest (IsOutcome script) one rest left steps (l.invariant.rest script theirs);
       short = l.invariant.short;
       few = λ turns theirs. All-rest (S turns) one rest left steps (l.invariant.few turns theirs);
@@ -74,7 +88,13 @@ loop-outcome-preserved-else-is_none c =
     let S : ℕ → Outcome → Type 0 = λ turns outcome. length outcome.order.items ≤ turns in
     record {
       found = l.invariant.found;
+      once = l.invariant.once;
       rest = λ script theirs. All-rest (IsOutcome script) one rest left steps (l.invariant.rest script theirs);
       short = l.invariant.short;
       few = λ turns theirs. All-rest (S turns) one rest left steps (l.invariant.few turns theirs);
     }
+
+pub returns-in_err-make_room-clause-once : goal.returns-in_err-make_room-clause-once
+returns-in_err-make_room-clause-once c = λ mine.
+    let F : List Outcome → Type 0 = λ xs. AllPairs (λ one other. AreAlike one other → ⊥) xs in
+    subst F (sym c.make_room.ensures.all) (c.loop-outcome.invariant.once mine)

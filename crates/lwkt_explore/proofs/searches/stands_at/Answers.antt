@@ -1,0 +1,18 @@
+use Rattle.std.proofs.Common.{◌≡◌, ◌<◌, ◌≤◌, length, arith}
+use Rattle.lwkt_plain.specs.Stores.{kept}
+use Rattle.lwkt_search.specs.Graphs.{nodes_of}
+use Rattle.lwkt_search.proofs.NodeLemmas.{nodes_long}
+use Rattle.lwkt_explore.proofs.searches.stands_at.Goals as goal
+
+pub order-requires-clause-there : goal.order-requires-clause-there
+order-requires-clause-there g c =
+    let is = c.requires.searched in
+    let states = kept c.args.found.now.growth.store in
+    let links = c.args.found.now.growth.links.items in
+    let count : length (nodes_of states links) ≡ length states = nodes_long states links is.noted in
+    let noted : length links ≡ length states = is.noted in
+    let within : c.args.found.now.growth.gone_on ≤ length (nodes_of states links) = is.grown.search.within in
+    omega (arith, count, within, c.requires.there, noted)
+
+pub returns-in_ok-add-clause-short : goal.returns-in_ok-add-clause-short
+returns-in_ok-add-clause-short g c = c.add.ensures.short c.args.task.now.turns (omega arith) c.requires.short
