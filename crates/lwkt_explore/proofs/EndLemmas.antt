@@ -1,4 +1,5 @@
 use Rattle.std.proofs.Common.{List, ◌++◌}
+use Rattle.std.specs.Prelude.{◌≡◌, Option, None, Some, true, is_none, IfNone}
 use Rattle.std.specs.List.{Any}
 use Rattle.std.proofs.lemmas.List.Elements.{Contains-append_left}
 
@@ -15,4 +16,4 @@ Any-weaker P Q xs more any = (any.0, any.1, any.2, any.3, more any.1 any.4)
 -- what holds where there is nothing holds of a value that is nothing
 pub none_gives : {A : Type 0} {P : Type 0} (o : Option A) → is_none o ≡ true → IfNone o P → P
 none_gives None is holds = holds
-none_gives (Some x) is holds = absurd is
+none_gives (Some x) is holds = absurd cc
