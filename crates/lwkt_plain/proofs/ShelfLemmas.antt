@@ -1,4 +1,4 @@
-use Rattle.std.proofs.Common.{◌≡◌, ℕ, ◌+◌, ◌-◌, ◌*◌, ◌<◌, ◌≤◌, ◌⊎◌, inl, inr, List, ◌++◌, length, drop, arith, ap, subst, sym, refl, ◌∙◌, Vec, All}
+use Rattle.std.proofs.Common.{◌≡◌, ℕ, ◌+◌, ◌-◌, ◌*◌, ◌<◌, ◌≤◌, ◌⊎◌, inl, inr, List, [], ◌++◌, length, drop, arith, ap, subst, sym, refl, ◌∙◌, Vec, All}
 use Rattle.std.specs.declared.alloc.Global.{Global}
 use Rattle.std.proofs.lemmas.List.{length-drop, length-take-le}
 use Rattle.lwkt_search.specs.declared.codes.Codes.{Codes}
@@ -67,20 +67,20 @@ pub list_long : {P : Type 0} (hash : P → ℕ) (s : Shelf P) (k : ℕ) → AreL
 list_long hash s k are there = named_count s.table.parts.items (numbers_of s k) (are.known k there) ∙ numbers_long hash s k are there
 
 pub shelf_wide : {P : Type 0} (hash : P → ℕ) (s : Shelf P) (parts : List P) → IsShelf hash s parts → length s.numbers.items ≡ s.codes.width
-shelf_wide hash s parts is = ap (λ (ns : List ℕ). length ns) is.numbers ∙ numbers_long hash s s.now is.lists is.lists.there
+shelf_wide hash s parts is = ap (λ (ns : List ℕ). length ns) is.numbers ∙ numbers_long hash s s.list is.lists is.lists.there
 
 -- the parts of the list that is worked on
-pub shelf_parts : {P : Type 0} (hash : P → ℕ) (s : Shelf P) (parts : List P) → IsShelf hash s parts → parts ≡ list_of s s.now
+pub shelf_parts : {P : Type 0} (hash : P → ℕ) (s : Shelf P) (parts : List P) → IsShelf hash s parts → parts ≡ list_of s s.list
 shelf_parts hash s parts is = named_by s.table.parts.items parts s.numbers.items is.names ∙ ap (λ (ns : List ℕ). named s.table.parts.items ns) is.numbers
 
 -- no other list has them
-pub list_same : {P : Type 0} (hash : P → ℕ) (s : Shelf P) (parts : List P) (k : ℕ) → IsShelf hash s parts → k < lists_in s → list_of s k ≡ parts → k ≡ s.now
+pub list_same : {P : Type 0} (hash : P → ℕ) (s : Shelf P) (parts : List P) (k : ℕ) → IsShelf hash s parts → k < lists_in s → list_of s k ≡ parts → k ≡ s.list
 list_same hash s parts k is there e =
-    let long : length (numbers_of s k) ≡ length (numbers_of s s.now) = numbers_long hash s k is.lists there ∙ sym (numbers_long hash s s.now is.lists is.lists.there) in
-    let same : numbers_of s k ≡ numbers_of s s.now = numbers_same s.table.parts.items (numbers_of s k) (numbers_of s s.now) is.lists.table.distinct (is.lists.known k there) (is.lists.known s.now is.lists.there) (e ∙ shelf_parts hash s parts is) long in
-    elim (number_cases k s.now) [
-      | inl less ↦ absurd (is.lists.codes.distinct k s.now less is.lists.there same)
-      | inr more ↦ elim more [ inl less ↦ absurd (is.lists.codes.distinct s.now k less there (sym same)) | inr at ↦ at ]
+    let long : length (numbers_of s k) ≡ length (numbers_of s s.list) = numbers_long hash s k is.lists there ∙ sym (numbers_long hash s s.list is.lists is.lists.there) in
+    let same : numbers_of s k ≡ numbers_of s s.list = numbers_same s.table.parts.items (numbers_of s k) (numbers_of s s.list) is.lists.table.distinct (is.lists.known k there) (is.lists.known s.list is.lists.there) (e ∙ shelf_parts hash s parts is) long in
+    elim (number_cases k s.list) [
+      | inl less ↦ absurd (is.lists.codes.distinct k s.list less is.lists.there same)
+      | inr more ↦ elim more [ inl less ↦ absurd (is.lists.codes.distinct s.list k less there (sym same)) | inr at ↦ at ]
     ]
 
 pub lists_still : {P : Type 0} (s : Shelf P) → HasLists s s
@@ -96,14 +96,14 @@ lists_more a b c one other =
     }
 
 -- other parts are worked on: those of the list of a number
-pub shelf_went : {P : Type 0} (hash : P → ℕ) (s : Shelf P) (parts : List P) (numbers : Vec ℕ Global) (number : ℕ) → AreLists hash s → number < lists_in s → numbers.items ≡ numbers_of s number → AreNamed s.table.parts.items parts numbers.items → IsShelf hash (record s { numbers = numbers; now = number }) parts
+pub shelf_went : {P : Type 0} (hash : P → ℕ) (s : Shelf P) (parts : List P) (numbers : Vec ℕ Global) (number : ℕ) → AreLists hash s → number < lists_in s → numbers.items ≡ numbers_of s number → AreNamed s.table.parts.items parts numbers.items → IsShelf hash (record s { numbers = numbers; list = number }) parts
 shelf_went hash s parts numbers number are there is names = record {
   lists = record { table = are.table; codes = are.codes; known = are.known; there = there };
   numbers = is;
   names = names;
 }
 
-pub went_lists : {P : Type 0} (s : Shelf P) (numbers : Vec ℕ Global) (number : ℕ) → HasLists s (record s { numbers = numbers; now = number })
+pub went_lists : {P : Type 0} (s : Shelf P) (numbers : Vec ℕ Global) (number : ℕ) → HasLists s (record s { numbers = numbers; list = number })
 went_lists s numbers number = record { longer = omega arith; same = λ k h. refl }
 
 -- a table with more parts
@@ -122,7 +122,7 @@ grown_lists {P} hash s table numbers are more = record {
 }
 
 -- the numbers got one
-pub lists_kept : {P : Type 0} (hash : P → ℕ) (s : Shelf P) (codes : Codes) (n : ℕ) → AreLists hash s → All (λ m. m < length s.table.parts.items) s.numbers.items → AreCodes codes.width codes.flat.items (length codes.index.links.items) codes.index.heads.items codes.index.links.items → HasCoded s.codes codes s.numbers.items n → AreLists hash (record s { codes = codes; now = n })
+pub lists_kept : {P : Type 0} (hash : P → ℕ) (s : Shelf P) (codes : Codes) (n : ℕ) → AreLists hash s → All (λ m. m < length s.table.parts.items) s.numbers.items → AreCodes codes.width codes.flat.items (length codes.index.links.items) codes.index.heads.items codes.index.links.items → HasCoded s.codes codes s.numbers.items n → AreLists hash (record s { codes = codes; list = n })
 lists_kept {P} hash s codes n are known coded has =
     let K : List ℕ → Type 0 = λ ns. All (λ m. m < length s.table.parts.items) ns in
     let C : ℕ → List ℕ = λ k. code_at codes.width codes.flat.items k in
@@ -136,8 +136,33 @@ lists_kept {P} hash s codes n are known coded has =
       there = has.there;
     }
 
-pub kept_lists : {P : Type 0} (s : Shelf P) (codes : Codes) (n : ℕ) → HasCoded s.codes codes s.numbers.items n → HasLists s (record s { codes = codes; now = n })
+pub kept_lists : {P : Type 0} (s : Shelf P) (codes : Codes) (n : ℕ) → HasCoded s.codes codes s.numbers.items n → HasLists s (record s { codes = codes; list = n })
 kept_lists {P} s codes n has = record {
   longer = has.longer;
   same = λ k h. ap (λ (ns : List ℕ). named s.table.parts.items ns) (has.same k h);
 }
+
+-- the first list
+pub shelf_none : {P : Type 0} (hash : P → ℕ) (table : Table P) (old codes : Codes) (numbers : Vec ℕ Global) (n : ℕ) (parts : List P) → IsTable hash table.parts.items table.index.heads.items table.index.links.items → AreNamed table.parts.items parts numbers.items
+    → AreCodes old.width old.flat.items (length old.index.links.items) old.index.heads.items old.index.links.items → old.index.links.items ≡ [] → old.width ≡ length numbers.items
+    → AreCodes codes.width codes.flat.items (length codes.index.links.items) codes.index.heads.items codes.index.links.items → codes.width ≡ old.width → IsNumbered old.width old.flat.items (length old.index.links.items) codes.flat.items (length codes.index.links.items) numbers.items n
+    → IsShelf hash (record { table = table; codes = codes; numbers = numbers; list = n }) parts
+shelf_none {P} hash table old codes numbers n parts is names were none wide are width numbered =
+    let has : HasCoded old codes numbers.items n = coded_by old codes numbers.items n were (sym wide) width numbered in
+    let count : length old.index.links.items ≡ 0 = ap (λ (ls : List ℕ). length ls) none in
+    let K : List ℕ → Type 0 = λ ns. All (λ m. m < length table.parts.items) ns in
+    let C : ℕ → List ℕ = λ k. code_at codes.width codes.flat.items k in
+    let known : K numbers.items = named_known table.parts.items parts numbers.items names in
+    record {
+      lists = record {
+        table = is;
+        codes = are;
+        known = λ k h. elim (has.each k h) [
+          | inl low ↦ absurd (omega (arith, low, count))
+          | inr last ↦ subst K (sym (ap C last ∙ has.is)) known
+        ];
+        there = has.there;
+      };
+      numbers = sym has.is;
+      names = names;
+    }

@@ -50,7 +50,7 @@ plain_of p q et el em ec =
 
 -- the numbers of the lists that are worked on
 abbrev pub code_now : Store → List ℕ
-code_now s = s.tokens.now ∷ s.letters.now ∷ s.mails.now ∷ s.cpus.now ∷ []
+code_now s = s.tokens.list ∷ s.letters.list ∷ s.mails.list ∷ s.cpus.list ∷ []
 
 pub work_decoded : (s : Store) → IsStore s → s.work ≡ decoded s (code_now s)
 work_decoded s is =
@@ -73,7 +73,7 @@ pub code_same : (s : Store) (k : ℕ) → IsStore s → k < length s.codes.index
 code_same s k is there e =
     let code : List ℕ = code_at s.codes.width s.codes.flat.items k in
     let known : IsKnown s code = is.states.known k there in
-    four_numbers code s.tokens.now s.letters.now s.mails.now s.cpus.now (code_kept s k is there)
+    four_numbers code s.tokens.list s.letters.list s.mails.list s.cpus.list (code_kept s k is there)
     (list_same token_key s.tokens s.work.tokens (slice_index_or code 0 0) is.tokens known.tokens (ap (λ (p : Plain). p.tokens) e))
     (list_same letter_key s.letters s.work.letters (slice_index_or code 1 0) is.letters known.letters (ap (λ (p : Plain). p.letters) e))
     (list_same mail_key s.mails s.work.mails (slice_index_or code 2 0) is.mails known.mails (ap (λ (p : Plain). p.mails) e))

@@ -21,18 +21,18 @@ pub record AreLists {P : Type 0} (hash : P → ℕ) (s : Shelf P) : Type 0 where
   pub table : IsTable hash s.table.parts.items s.table.index.heads.items s.table.index.links.items
   pub codes : AreCodes s.codes.width s.codes.flat.items (lists_in s) s.codes.index.heads.items s.codes.index.links.items
   pub known : (k : ℕ) → k < lists_in s → All (λ n. n < length s.table.parts.items) (numbers_of s k)
-  pub there : s.now < lists_in s
+  pub there : s.list < lists_in s
 
 -- the list that is worked on has these parts
 pub record IsShelf {P : Type 0} (hash : P → ℕ) (s : Shelf P) (parts : List P) : Type 0 where
   pub lists : AreLists hash s
-  pub numbers : s.numbers.items ≡ numbers_of s s.now
+  pub numbers : s.numbers.items ≡ numbers_of s s.list
   pub names : AreNamed s.table.parts.items parts s.numbers.items
 
 -- it may have other parts: as many
 pub record IsBaseShelf {P : Type 0} (hash : P → ℕ) (s : Shelf P) (parts : List P) : Type 0 where
   pub lists : AreLists hash s
-  pub numbers : s.numbers.items ≡ numbers_of s s.now
+  pub numbers : s.numbers.items ≡ numbers_of s s.list
   pub count : length parts ≡ length s.numbers.items
 
 -- each list of the old shelf is the one of its number in the new one

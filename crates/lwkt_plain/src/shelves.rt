@@ -20,7 +20,7 @@ pub struct Shelf<P> {
     /// The numbers of the parts of the list that is worked on.
     pub(crate) numbers: Vec<u32>,
     /// The number of that list.
-    pub(crate) now: u32,
+    pub(crate) list: u32,
 }
 
 // Makes the part of a place that of a number.
@@ -139,7 +139,7 @@ impl<P: Part> Shelf<P> {
             table,
             codes,
             numbers,
-            now: number as u32,
+            list: number as u32,
         })
     }
 
@@ -165,7 +165,7 @@ impl<P: Part> Shelf<P> {
         ensures lists { IfOk result (λ done. HasLists self.old self.new) }
         ensures parts { IfOk result (λ done. parts.new ≡ list_of self.old number) }
     {
-        if number == self.now {
+        if number == self.list {
             return Ok(());
         }
         load(
@@ -175,7 +175,7 @@ impl<P: Part> Shelf<P> {
             &mut self.numbers,
             self.codes.code(number as usize),
         )?;
-        self.now = number;
+        self.list = number;
         Ok(())
     }
 
@@ -185,16 +185,16 @@ impl<P: Part> Shelf<P> {
         requires long { length self.old.numbers.items ≡ self.old.codes.width }
         requires known { All (λ n. n < length self.old.table.parts.items) self.old.numbers.items }
         ensures lists { IfOk result (λ done. AreLists P.hash_of self.new) }
-        ensures numbers { IfOk result (λ done. self.new.numbers.items ≡ numbers_of self.new self.new.now) }
+        ensures numbers { IfOk result (λ done. self.new.numbers.items ≡ numbers_of self.new self.new.list) }
         ensures more { IfOk result (λ done. HasLists self.old self.new) }
         ensures table { IfOk result (λ done. self.new.table ≡ self.old.table) }
         ensures same { IfOk result (λ done. self.new.numbers ≡ self.old.numbers) }
     {
-        if self.codes.code(self.now as usize) == self.numbers.as_slice() {
+        if self.codes.code(self.list as usize) == self.numbers.as_slice() {
             return Ok(());
         }
         let number = self.codes.number(alloc, self.numbers.as_slice())?;
-        self.now = number as u32;
+        self.list = number as u32;
         Ok(())
     }
 
@@ -207,7 +207,8 @@ impl<P: Part> Shelf<P> {
         ensures lists { IfOk result (λ done. HasLists self.old self.new) }
     {
         renumber(alloc, &mut self.table, parts, &mut self.numbers)?;
-        self.keep(alloc)
+        self.keep(alloc)?;
+        Ok(())
     }
 
     /// A part of the list of a number.

@@ -79,7 +79,9 @@ impl Store {
         self.letters
             .go_to(self.alloc, &mut self.work.letters, code[1])?;
         self.mails.go_to(self.alloc, &mut self.work.mails, code[2])?;
-        self.cpus.go_to(self.alloc, &mut self.work.cpus, code[3])
+        self.cpus
+            .go_to(self.alloc, &mut self.work.cpus, code[3])?;
+        Ok(())
     }
 
     // Numbers the parts of the state that is worked on.
@@ -92,7 +94,8 @@ impl Store {
         self.tokens.renumber(self.alloc, &self.work.tokens)?;
         self.letters.renumber(self.alloc, &self.work.letters)?;
         self.mails.renumber(self.alloc, &self.work.mails)?;
-        self.cpus.renumber(self.alloc, &self.work.cpus)
+        self.cpus.renumber(self.alloc, &self.work.cpus)?;
+        Ok(())
     }
 
     // Keeps the state that is worked on. Says which number it has.
@@ -104,10 +107,10 @@ impl Store {
         ensures few { IfOk result (λ n. n < 4294967295) }
     {
         let code = [
-            self.tokens.now,
-            self.letters.now,
-            self.mails.now,
-            self.cpus.now,
+            self.tokens.list,
+            self.letters.list,
+            self.mails.list,
+            self.cpus.list,
         ];
         let number = self.codes.number(self.alloc, &code)?;
         Ok(number)
