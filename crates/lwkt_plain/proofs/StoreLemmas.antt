@@ -11,7 +11,7 @@ use Rattle.lwkt_plain.specs.declared.states.Processor.{Processor}
 use Rattle.lwkt_plain.specs.declared.stores.Store.{Store}
 use Rattle.lwkt_plain.specs.Hashes.{token_key, letter_key, mail_key, processor_key}
 use Rattle.lwkt_plain.specs.Shelves.{list_of, lists_in, HasLists}
-use Rattle.lwkt_plain.specs.Stores.{first, decoded, state_of, IsKnown, IsStore}
+use Rattle.lwkt_plain.specs.Stores.{first, decoded, state_of, kept, IsKnown, IsStore}
 use Rattle.lwkt_plain.proofs.ShelfLemmas.{code_long, list_long, list_same, shelf_parts, shelf_wide}
 
 pub first_same : {S : Type 0} (n : ℕ) (f g : ℕ → S) → ((k : ℕ) → k < n → f k ≡ g k) → first n f ≡ first n g
@@ -67,6 +67,19 @@ four_numbers (k ∷ l ∷ m ∷ n ∷ o ∷ code) a b c d long ea eb ec ed = abs
 -- a code has four numbers
 pub code_kept : (s : Store) (at : ℕ) → IsStore s → at < length s.codes.index.links.items → length (code_at s.codes.width s.codes.flat.items at) ≡ 4
 code_kept s at is there = code_long s.codes.width (length s.codes.index.links.items) at s.codes.flat.items is.states.codes.long there ∙ is.states.width
+
+-- a code's numbers, read
+pub record IsCode (s : Store) (code : List ℕ) : Type 0 where
+  pub long : length code ≡ 4
+  pub known : IsKnown s code
+
+pub code_of : (s : Store) (at : ℕ) (code : List ℕ) → IsStore s → at < length s.codes.index.links.items → code ≡ code_at s.codes.width s.codes.flat.items at → IsCode s code
+code_of s at code is there e =
+    let C : List ℕ → Type 0 = λ ns. IsCode s ns in
+    subst C (sym e) (record { long = code_kept s at is there; known = is.states.known at there })
+
+pub kept_there : (s : Store) (at : ℕ) → at < length (kept s) → at < length s.codes.index.links.items
+kept_there s at there = omega (arith, there, first_long (length s.codes.index.links.items) (state_of s))
 
 -- only the code of its lists stands for the state that is worked on
 pub code_same : (s : Store) (k : ℕ) → IsStore s → k < length s.codes.index.links.items → state_of s k ≡ s.work → code_at s.codes.width s.codes.flat.items k ≡ code_now s

@@ -77,7 +77,6 @@ pub record AreShelves (T : Shelf Token) (L : Shelf Letter) (M : Shelf Mail) (C :
   pub mails : IsShelf mail_key M w.mails
   pub cpus : IsShelf processor_key C w.cpus
 
--- what a store with such shelves is
 pub store_moved : (s : Store) (w : Plain) (T : Shelf Token) (L : Shelf Letter) (M : Shelf Mail) (C : Shelf Processor) → AreMoved s T L M C → AreShelves T L M C w → AreStates s → IsStore (moved s w T L M C) × (kept (moved s w T L M C) ≡ kept s)
 store_moved s w T L M C are shelves is =
     let now = states_moved s w T L M C are is in
@@ -174,26 +173,3 @@ no_turn script old new at cpu same there none = inl (record {
 -- one that is there makes one, by forms
 pub some_turn : (script : Script) (p : Plain) (cpu : ℕ) → cpu < length p.cpus → form_turn script p cpu ≡ form (turn script p cpu)
 some_turn script p cpu here = ap (λ (b : Bool). if b then form (turn script p cpu) else p) (lt-ltb cpu (length p.cpus) here)
-
--- the first state that is kept
-pub first_kept : (work : Plain) (old new : List Plain) (n : ℕ) → old ≡ [] → IsKept work old new n → new ≡ work ∷ []
-first_kept work old new n none kept_it = go (subst (λ (xs : List Plain). IsKept work xs new n) none kept_it)
-  where
-    go : IsKept work [] new n → new ≡ work ∷ []
-    go (inl was) = let there : n < length {A = Plain} [] = was.there in absurd (omega arith)
-    go (inr now) = now.grown
-
-pub kept_none : (s : Store) → s.codes.index.links.items ≡ [] → kept s ≡ []
-kept_none s none = ap (λ (ls : List ℕ). first (length ls) (state_of s)) none
-
--- a store of no states
-pub store_none : (s : Store) → s.codes.index.links.items ≡ [] → AreShelves s.tokens s.letters s.mails s.cpus s.work → AreCodes s.codes.width s.codes.flat.items (length s.codes.index.links.items) s.codes.index.heads.items s.codes.index.links.items → s.codes.width ≡ 4 → IsStore s
-store_none s none shelves are width =
-    let count : length s.codes.index.links.items ≡ 0 = ap (λ (ls : List ℕ). length ls) none in
-    record {
-      tokens = shelves.tokens;
-      letters = shelves.letters;
-      mails = shelves.mails;
-      cpus = shelves.cpus;
-      states = record { codes = are; width = width; known = λ k h. absurd (omega (arith, count, h)); sound = λ k h. absurd (omega (arith, count, h)) };
-    }
