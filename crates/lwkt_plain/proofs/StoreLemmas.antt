@@ -96,3 +96,8 @@ code_same s k is there e =
 pub cpus_kept : (s : Store) (at : ℕ) → IsStore s → at < length s.codes.index.links.items → length (state_of s at).cpus ≡ length s.cpus.numbers.items
 cpus_kept s at is there =
     list_long processor_key s.cpus (slice_index_or (code_at s.codes.width s.codes.flat.items at) 3 0) is.cpus.lists (is.states.known at there).cpus ∙ sym (shelf_wide processor_key s.cpus s.work.cpus is.cpus)
+
+-- how many messages
+pub letters_kept : (s : Store) (at : ℕ) → IsStore s → at < length s.codes.index.links.items → length (state_of s at).letters ≡ length s.letters.numbers.items
+letters_kept s at is there =
+    list_long letter_key s.letters (slice_index_or (code_at s.codes.width s.codes.flat.items at) 1 0) is.letters.lists (is.states.known at there).letters ∙ sym (shelf_wide letter_key s.letters s.work.letters is.letters)

@@ -1,5 +1,5 @@
 //! States of a script's plain machine, kept by the numbers of their parts.
-ghost use Rattle.std.specs.Prelude.{◌≡◌, ◌↔◌, ◌<◌, [], ◌∷◌, length, Some, IsTrue, IfOk, MatchOption, slice_get, slice_index_or};
+ghost use Rattle.std.specs.Prelude.{◌≡◌, ◌↔◌, ◌<◌, ◌≤◌, [], ◌∷◌, length, Some, IsTrue, IfOk, MatchOption, slice_get, slice_index_or};
 ghost use Rattle.lwkt_search.specs.Graphs.{IsTurned};
 ghost use Rattle.lwkt_plain.specs.Endings.{HasEnded};
 ghost use Rattle.lwkt_plain.specs.Forms.{form};
@@ -181,6 +181,7 @@ impl Store {
     pub fn letter(&self, at: usize, m: usize) -> Option<&Letter>
         requires store { IsStore self.now }
         requires there { at < length (kept self.now) }
+        ensures { MatchOption result (length (state_of self.now at).letters ≤ m) (λ letter. slice_get (state_of self.now at).letters m ≡ Some letter.now) }
     {
         if m >= self.letters.width() {
             return None;

@@ -1,5 +1,6 @@
-use Rattle.std.proofs.Common.{◌<◌, ◌≡◌, length, arith}
-use Rattle.lwkt_plain.proofs.StoreLemmas.{code_of, kept_there}
+use Rattle.std.proofs.Common.{◌<◌, ◌≤◌, ◌≡◌, length, arith}
+use Rattle.lwkt_plain.specs.Stores.{state_of}
+use Rattle.lwkt_plain.proofs.StoreLemmas.{code_of, kept_there, letters_kept}
 use Rattle.lwkt_plain.proofs.stores.Store.letter.Goals as goal
 
 pub code-requires-clause-there : goal.code-requires-clause-there
@@ -13,3 +14,9 @@ bounds-code-1 c =
 
 pub part-requires-clause-there : goal.part-requires-clause-there
 part-requires-clause-there c = let s = c.args.self.now in (code_of s c.args.at c.code.result.now c.requires.store (kept_there s c.args.at c.requires.there) c.code.ensures).known.letters
+
+pub returns-then-m-width : goal.returns-then-m-width
+returns-then-m-width c =
+    let s = c.args.self.now in
+    let count : length (state_of s c.args.at).letters ≡ length s.letters.numbers.items = letters_kept s c.args.at c.requires.store (kept_there s c.args.at c.requires.there) in
+    omega (arith, count)
