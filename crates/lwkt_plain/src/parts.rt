@@ -8,6 +8,7 @@ use crate::items::Items;
 use crate::letters::{Lane, Letter, Note, Port};
 use crate::states::{BusyAt, Mail, Phase, Plain, Processor, Thread};
 use lwkt_base::blobs::are_same;
+use lwkt_base::memory::with_capacity_for;
 use lwkt_base::{Answer, Ask, Entry, Fault, Held, MsgWord, OutOfMemory, TokList};
 use lwkt_code::Local;
 use lwkt_core::Token;
@@ -48,7 +49,8 @@ pub trait Copied: Drop {
 fn copied_all<T: Copied>(alloc: Global, parts: &[T]) -> Result<Items<T>, OutOfMemory>
     ensures { IfOk result (λ copies. copies ≡ parts.now) }
 {
-    let mut copies = Items::none(alloc);
+    let room = with_capacity_for(alloc, parts)?;
+    let mut copies = Items::from_vec(room);
     for part in parts {
         let copy = part.copied(alloc)?;
         copies.push(copy)?;

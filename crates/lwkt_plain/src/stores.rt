@@ -79,8 +79,7 @@ impl Store {
         self.letters
             .go_to(self.alloc, &mut self.work.letters, code[1])?;
         self.mails.go_to(self.alloc, &mut self.work.mails, code[2])?;
-        self.cpus
-            .go_to(self.alloc, &mut self.work.cpus, code[3])?;
+        self.cpus.go_to(self.alloc, &mut self.work.cpus, code[3])?;
         Ok(())
     }
 
