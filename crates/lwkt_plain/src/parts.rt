@@ -92,7 +92,7 @@ impl Same for Lane {
 
 impl Same for Port {
     fn is_same(&self, other: &Port) -> bool {
-        same_port(self, other)
+        are_bare(self, other) || same_port(self, other)
     }
 }
 
@@ -311,6 +311,16 @@ fn same_lane(one: &Lane, other: &Lane) -> bool
     ensures { IsTrue result ↔ (one.now ≡ other.now) }
 {
     one.kept == other.kept && one.hand == other.hand && same_notes(&one.queue, &other.queue)
+}
+
+// Whether two have no notes: most often so.
+fn are_bare(one: &Port, other: &Port) -> bool
+    ensures { IsTrue result → one.now ≡ other.now }
+{
+    one.urgent.len() == 0
+        && one.ordinary.len() == 0
+        && other.urgent.len() == 0
+        && other.ordinary.len() == 0
 }
 
 fn same_port(one: &Port, other: &Port) -> bool
