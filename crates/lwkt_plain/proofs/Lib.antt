@@ -22,6 +22,7 @@ pub mod OpenedSound
 pub mod PollSound
 pub mod Receipts
 pub mod Risings
+pub mod ShelfLemmas
 pub mod Soundness
 pub mod StoreLemmas
 pub mod StoreMoves

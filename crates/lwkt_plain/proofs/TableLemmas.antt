@@ -1,5 +1,5 @@
 use Rattle.std.proofs.Common.{◌≡◌, ◌≢◌, ℕ, ◌+◌, ◌<◌, ◌≤◌, List, [], ◌∷◌, ◌++◌, zero, suc, length, length-append, arith, ap, subst, sym, refl, ◌∙◌, below_more, slice_index_or, slice_get, slice_set, drop, get_or-set_other, get_or-set_same, All, HoldsAt, Option, Some, ◌⊎◌, inl, inr}
-use Rattle.std.proofs.lemmas.List.{append-nil, append_assoc, get_or_append_left, get_or_push, length-set, set-get_or}
+use Rattle.std.proofs.lemmas.List.{append-nil, append_assoc, get_or_append_left, get_or_default, get_or_push, length-set, set-get_or}
 use Rattle.std.proofs.Math.Seq.{get_or-append_seam}
 use Rattle.std.proofs.lemmas.List.Elements.{All-head, All-tail}
 use Rattle.std.specs.Option.{option_map_or}
@@ -111,7 +111,7 @@ named_left {P} table more (n ∷ numbers) below =
     let F : List P → List P = λ ps. one.0 ∷ ps in
     named_one (table ++ more) n numbers one.0 (named_more table more n one.0 one.1) ∙ (ap F (named_left table more numbers (All-tail B n numbers below)) ∙ sym (named_one table n numbers one.0 one.1))
 
-number_cases : (i j : ℕ) → (i < j) ⊎ ((j < i) ⊎ (i ≡ j))
+pub number_cases : (i j : ℕ) → (i < j) ⊎ ((j < i) ⊎ (i ≡ j))
 number_cases i j = grind arith
 
 -- a part has one number
@@ -240,3 +240,37 @@ named_push {P} table new parts numbers numbers' k n p more long pushed at is was
     let N : ℕ → Type 0 = λ m. IsNamed new m (slice_index_or parts k d) in
     let Q : P → Type 0 = λ q. IsNamed new n q in
     subst N (sym (get_or_push numbers n 0 k long)) (subst Q (sym (at d)) is)))
+
+at_least : {P : Type 0} (table parts : List P) (numbers : List ℕ) (k : ℕ) → AreNamed table parts numbers → k < length numbers → slice_index_or numbers k 0 < length table
+at_least table [] numbers k are h = let long = are.long in absurd (omega arith)
+at_least table (p ∷ parts) numbers k are h = (are.each k h p).there
+
+-- parts have numbers that are there
+pub named_known : {P : Type 0} (table parts : List P) (numbers : List ℕ) → AreNamed table parts numbers → All (λ n. n < length table) numbers
+named_known {P} table parts numbers are = λ k d h.
+    let none : ℕ = 0 in
+    let B : ℕ → Type 0 = λ n. n < length table in
+    subst B (get_or_default numbers k none d h) (at_least table parts numbers k are h)
+
+pub all_up : (m n : ℕ) (numbers : List ℕ) → m ≤ n → All (λ k. k < m) numbers → All (λ k. k < n) numbers
+all_up m n numbers up all = λ k d h. let low : slice_index_or numbers k d < m = all k d h in omega arith
+
+-- one of the parts of numbers
+pub named_get : {P : Type 0} (table : List P) (numbers : List ℕ) (k : ℕ) (p : P) → All (λ n. n < length table) numbers → k < length numbers → IsNamed table (slice_index_or numbers k 0) p → slice_get (named table numbers) k ≡ Some p
+named_get table [] k p known there is = absurd (omega arith)
+named_get {P} table (n ∷ numbers) zero p known there is =
+    let F : List P → Type 0 = λ ps. slice_get ps 0 ≡ Some p in
+    subst F (sym (named_one table n numbers p is)) refl
+named_get {P} table (n ∷ numbers) (suc k) p known there is =
+    let B : ℕ → Type 0 = λ n. n < length table in
+    let one : (q : P) × IsNamed table n q = part_below table n (All-head B n numbers known) in
+    let less : k < length numbers = omega arith in
+    let F : List P → Type 0 = λ ps. slice_get ps (suc k) ≡ Some p in
+    subst F (sym (named_one table n numbers one.0 one.1)) (named_get table numbers k p (All-tail B n numbers known) less is)
+
+pub named_count : {P : Type 0} (table : List P) (numbers : List ℕ) → All (λ n. n < length table) numbers → length (named table numbers) ≡ length numbers
+named_count table [] known = refl
+named_count {P} table (n ∷ numbers) known =
+    let B : ℕ → Type 0 = λ n. n < length table in
+    let one : (q : P) × IsNamed table n q = part_below table n (All-head B n numbers known) in
+    ap length (named_one table n numbers one.0 one.1) ∙ ap suc (named_count table numbers (All-tail B n numbers known))

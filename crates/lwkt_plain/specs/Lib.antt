@@ -7,6 +7,7 @@ pub mod Letters
 pub mod Mailing
 pub mod Openings
 pub mod Places
+pub mod Shelves
 pub mod Sound
 pub mod Stores
 pub mod Tables

@@ -8,6 +8,7 @@ use crate::items::Items;
 use crate::letters::{Lane, Letter, Note, Port};
 use crate::states::{BusyAt, Mail, Phase, Plain, Processor, Thread};
 use lwkt_base::blobs::are_same;
+use lwkt_base::memory::with_capacity_for;
 use lwkt_base::{Answer, Ask, Entry, Fault, Held, MsgWord, OutOfMemory, TokList};
 use lwkt_code::Local;
 use lwkt_core::Token;
@@ -48,7 +49,8 @@ pub trait Copied: Drop {
 fn copied_all<T: Copied>(alloc: Global, parts: &[T]) -> Result<Items<T>, OutOfMemory>
     ensures { IfOk result (λ copies. copies ≡ parts.now) }
 {
-    let mut copies = Items::none(alloc);
+    let room = with_capacity_for(alloc, parts)?;
+    let mut copies = Items::from_vec(room);
     for part in parts {
         let copy = part.copied(alloc)?;
         copies.push(copy)?;
@@ -90,7 +92,7 @@ impl Same for Lane {
 
 impl Same for Port {
     fn is_same(&self, other: &Port) -> bool {
-        same_port(self, other)
+        are_bare(self, other) || same_port(self, other)
     }
 }
 
@@ -309,6 +311,16 @@ fn same_lane(one: &Lane, other: &Lane) -> bool
     ensures { IsTrue result ↔ (one.now ≡ other.now) }
 {
     one.kept == other.kept && one.hand == other.hand && same_notes(&one.queue, &other.queue)
+}
+
+// Whether two have no notes: most often so.
+fn are_bare(one: &Port, other: &Port) -> bool
+    ensures { IsTrue result → one.now ≡ other.now }
+{
+    one.urgent.len() == 0
+        && one.ordinary.len() == 0
+        && other.urgent.len() == 0
+        && other.ordinary.len() == 0
 }
 
 fn same_port(one: &Port, other: &Port) -> bool

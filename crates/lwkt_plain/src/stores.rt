@@ -1,6 +1,5 @@
 //! States of a script's plain machine, kept by the numbers of their parts.
-ghost use Rattle.std.specs.Prelude.{◌≡◌, ◌↔◌, ◌<◌, [], ◌∷◌, ◌++◌, length, Some, IsTrue, All, IfOk, drop, slice_get, slice_index_or};
-ghost use Rattle.lwkt_search.specs.Codes.{code_at};
+ghost use Rattle.std.specs.Prelude.{◌≡◌, ◌↔◌, ◌<◌, ◌≤◌, [], ◌∷◌, length, Some, IsTrue, IfOk, MatchOption, slice_get, slice_index_or};
 ghost use Rattle.lwkt_search.specs.Graphs.{IsTurned};
 ghost use Rattle.lwkt_plain.specs.Endings.{HasEnded};
 ghost use Rattle.lwkt_plain.specs.Forms.{form};
@@ -11,10 +10,8 @@ ghost use Rattle.lwkt_plain.specs.Stores.{state_of, kept, IsStore, IsBase, IsKep
 
 use crate::endings::are_over;
 use crate::letters::Letter;
-use crate::loads::{load, numbered, renumber, split};
+use crate::shelves::Shelf;
 use crate::states::{Mail, Plain, Processor};
-use crate::tables::Table;
-use lwkt_base::memory::extend_from_slice;
 use lwkt_core::Token;
 use lwkt_script::Script;
 use lwkt_search::{Codes, Refusal};
@@ -24,24 +21,21 @@ use std::alloc::Global;
 #[derive(Drop)]
 pub struct Store {
     pub(crate) alloc: Global,
-    pub(crate) tokens: Table<Token>,
-    pub(crate) letters: Table<Letter>,
-    pub(crate) mails: Table<Mail>,
-    pub(crate) cpus: Table<Processor>,
+    pub(crate) tokens: Shelf<Token>,
+    pub(crate) letters: Shelf<Letter>,
+    pub(crate) mails: Shelf<Mail>,
+    pub(crate) cpus: Shelf<Processor>,
+    /// Of each state the numbers of its lists, one of each kind.
     pub(crate) codes: Codes,
     pub(crate) work: Plain,
-    pub(crate) token_numbers: Vec<u32>,
-    pub(crate) letter_numbers: Vec<u32>,
-    pub(crate) mail_numbers: Vec<u32>,
-    pub(crate) cpu_numbers: Vec<u32>,
 }
 
 impl Store {
     /// How many processors there are.
     pub fn cpus(&self) -> usize
-        ensures { result ≡ length self.now.cpu_numbers.items }
+        ensures { result ≡ length self.now.cpus.numbers.items }
     {
-        self.cpu_numbers.len()
+        self.cpus.width()
     }
 
     /// The first state of a script, alone.
@@ -53,18 +47,11 @@ impl Store {
         ensures first { IfOk result (λ store. kept store ≡ opened script.now ∷ []) }
     {
         let work = Plain::open(alloc, script)?;
-        let mut tokens = Table::new(alloc)?;
-        let mut letters = Table::new(alloc)?;
-        let mut mails = Table::new(alloc)?;
-        let mut cpus = Table::new(alloc)?;
-        let token_numbers = numbered(alloc, &mut tokens, &work.tokens)?;
-        let letter_numbers = numbered(alloc, &mut letters, &work.letters)?;
-        let mail_numbers = numbered(alloc, &mut mails, &work.mails)?;
-        let cpu_numbers = numbered(alloc, &mut cpus, &work.cpus)?;
-        let codes = Codes::new(
-            alloc,
-            token_numbers.len() + letter_numbers.len() + mail_numbers.len() + cpu_numbers.len(),
-        )?;
+        let tokens = Shelf::of(alloc, &work.tokens)?;
+        let letters = Shelf::of(alloc, &work.letters)?;
+        let mails = Shelf::of(alloc, &work.mails)?;
+        let cpus = Shelf::of(alloc, &work.cpus)?;
+        let codes = Codes::new(alloc, 4)?;
         let mut store = Store {
             alloc,
             tokens,
@@ -73,10 +60,6 @@ impl Store {
             cpus,
             codes,
             work,
-            token_numbers,
-            letter_numbers,
-            mail_numbers,
-            cpu_numbers,
         };
         store.keep()?;
         Ok(store)
@@ -91,53 +74,13 @@ impl Store {
         ensures work { IfOk result (λ done. self.new.work ≡ state_of self.old at) }
     {
         let code = self.codes.code(at);
-        let (tokens, letters, mails, cpus) = split(
-            code,
-            self.token_numbers.len(),
-            self.letter_numbers.len(),
-            self.mail_numbers.len(),
-        );
-        load(
-            self.alloc,
-            &self.tokens,
-            &mut self.work.tokens,
-            &mut self.token_numbers,
-            tokens,
-        )?;
-        load(
-            self.alloc,
-            &self.letters,
-            &mut self.work.letters,
-            &mut self.letter_numbers,
-            letters,
-        )?;
-        load(
-            self.alloc,
-            &self.mails,
-            &mut self.work.mails,
-            &mut self.mail_numbers,
-            mails,
-        )?;
-        load(
-            self.alloc,
-            &self.cpus,
-            &mut self.work.cpus,
-            &mut self.cpu_numbers,
-            cpus,
-        )?;
+        self.tokens
+            .go_to(self.alloc, &mut self.work.tokens, code[0])?;
+        self.letters
+            .go_to(self.alloc, &mut self.work.letters, code[1])?;
+        self.mails.go_to(self.alloc, &mut self.work.mails, code[2])?;
+        self.cpus.go_to(self.alloc, &mut self.work.cpus, code[3])?;
         Ok(())
-    }
-
-    // The code of the numbers.
-    fn code_now(&self) -> Result<Vec<u32>, Refusal>
-        ensures { IfOk result (λ code. code.items ≡ self.now.token_numbers.items ++ (self.now.letter_numbers.items ++ (self.now.mail_numbers.items ++ self.now.cpu_numbers.items))) }
-    {
-        let mut code = Vec::new(self.alloc);
-        extend_from_slice(&mut code, self.token_numbers.as_slice())?;
-        extend_from_slice(&mut code, self.letter_numbers.as_slice())?;
-        extend_from_slice(&mut code, self.mail_numbers.as_slice())?;
-        extend_from_slice(&mut code, self.cpu_numbers.as_slice())?;
-        Ok(code)
     }
 
     // Numbers the parts of the state that is worked on.
@@ -147,30 +90,10 @@ impl Store {
         ensures kept { IfOk result (λ done. kept self.new ≡ kept self.old) }
         ensures work { IfOk result (λ done. self.new.work ≡ self.old.work) }
     {
-        renumber(
-            self.alloc,
-            &mut self.tokens,
-            &self.work.tokens,
-            &mut self.token_numbers,
-        )?;
-        renumber(
-            self.alloc,
-            &mut self.letters,
-            &self.work.letters,
-            &mut self.letter_numbers,
-        )?;
-        renumber(
-            self.alloc,
-            &mut self.mails,
-            &self.work.mails,
-            &mut self.mail_numbers,
-        )?;
-        renumber(
-            self.alloc,
-            &mut self.cpus,
-            &self.work.cpus,
-            &mut self.cpu_numbers,
-        )?;
+        self.tokens.renumber(self.alloc, &self.work.tokens)?;
+        self.letters.renumber(self.alloc, &self.work.letters)?;
+        self.mails.renumber(self.alloc, &self.work.mails)?;
+        self.cpus.renumber(self.alloc, &self.work.cpus)?;
         Ok(())
     }
 
@@ -182,22 +105,27 @@ impl Store {
         ensures kept { IfOk result (λ n. IsKept self.old.work (kept self.old) (kept self.new) n) }
         ensures few { IfOk result (λ n. n < 4294967295) }
     {
-        let code = self.code_now()?;
-        let number = self.codes.number(self.alloc, code.as_slice())?;
+        let code = [
+            self.tokens.list,
+            self.letters.list,
+            self.mails.list,
+            self.cpus.list,
+        ];
+        let number = self.codes.number(self.alloc, &code)?;
         Ok(number)
     }
 
     // Whether the state that is worked on has as many parts of each kind as there are numbers.
     fn has_counts(&self) -> bool
-        ensures tokens { IsTrue result → length self.now.work.tokens ≡ length self.now.token_numbers.items }
-        ensures letters { IsTrue result → length self.now.work.letters ≡ length self.now.letter_numbers.items }
-        ensures mails { IsTrue result → length self.now.work.mails ≡ length self.now.mail_numbers.items }
-        ensures cpus { IsTrue result → length self.now.work.cpus ≡ length self.now.cpu_numbers.items }
+        ensures tokens { IsTrue result → length self.now.work.tokens ≡ length self.now.tokens.numbers.items }
+        ensures letters { IsTrue result → length self.now.work.letters ≡ length self.now.letters.numbers.items }
+        ensures mails { IsTrue result → length self.now.work.mails ≡ length self.now.mails.numbers.items }
+        ensures cpus { IsTrue result → length self.now.work.cpus ≡ length self.now.cpus.numbers.items }
     {
-        self.work.tokens.len() == self.token_numbers.len()
-            && self.work.letters.len() == self.letter_numbers.len()
-            && self.work.mails.len() == self.mail_numbers.len()
-            && self.work.cpus.len() == self.cpu_numbers.len()
+        self.work.tokens.len() == self.tokens.width()
+            && self.work.letters.len() == self.letters.width()
+            && self.work.mails.len() == self.mails.width()
+            && self.work.cpus.len() == self.cpus.width()
     }
 
     // Makes a turn in the state that is worked on, by forms.
@@ -238,32 +166,14 @@ impl Store {
         Ok(number)
     }
 
-    // The numbers of the processors of the state of a number.
-    fn cpus_at(&self, at: usize) -> &[u32]
-        requires store { IsStore self.now }
-        requires there { at < length (kept self.now) }
-        ensures are { result.now ≡ drop (length self.now.mail_numbers.items) (drop (length self.now.letter_numbers.items) (drop (length self.now.token_numbers.items) (code_at self.now.codes.width self.now.codes.flat.items at))) }
-        ensures long { length result.now ≡ length self.now.cpu_numbers.items }
-        ensures known { All (λ n. n < length self.now.cpus.parts.items) result.now }
-    {
-        let code = self.codes.code(at);
-        let (_, _, _, cpus) = split(
-            code,
-            self.token_numbers.len(),
-            self.letter_numbers.len(),
-            self.mail_numbers.len(),
-        );
-        cpus
-    }
-
     /// The processor of a number in the state of a number.
     pub fn processor(&self, at: usize, c: usize) -> &Processor
         requires store { IsStore self.now }
         requires there { at < length (kept self.now) }
-        requires here { c < length self.now.cpu_numbers.items }
+        requires here { c < length self.now.cpus.numbers.items }
         ensures { slice_get (state_of self.now at).cpus c ≡ Some result.now }
     {
-        self.cpus.part(self.cpus_at(at)[c])
+        self.cpus.part(self.codes.code(at)[3], c)
     }
 
     /// The token of a number in the state of a number, if it is there.
@@ -283,13 +193,12 @@ impl Store {
     pub fn letter(&self, at: usize, m: usize) -> Option<&Letter>
         requires store { IsStore self.now }
         requires there { at < length (kept self.now) }
+        ensures { MatchOption result (length (state_of self.now at).letters ≤ m) (λ letter. slice_get (state_of self.now at).letters m ≡ Some letter.now) }
     {
-        if m >= self.letter_numbers.len() {
+        if m >= self.letters.width() {
             return None;
         }
-        let code = self.codes.code(at);
-        let number = code.get(self.token_numbers.len() + m)?;
-        self.letters.get(*number)
+        Some(self.letters.part(self.codes.code(at)[1], m))
     }
 
     /// Whether all threads of a script have ended in the state of a number that are no services.
@@ -298,7 +207,7 @@ impl Store {
         requires there { at < length (kept self.now) }
         ensures { IsTrue result ↔ HasEnded script.now (slice_index_or (kept self.now) at (opened script.now)) }
     {
-        for c in 0..self.cpu_numbers.len() {
+        for c in 0..self.cpus() {
             let cpu = self.processor(at, c);
             if !are_over(script.threads.as_slice(), c, cpu.threads.as_slice()) {
                 return false;

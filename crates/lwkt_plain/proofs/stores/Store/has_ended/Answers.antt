@@ -16,7 +16,7 @@ returns-then-not-are_over c =
     let count : ℕ = length s.codes.index.links.items in
     let there : c.args.at < count = omega (arith, c.requires.there, first_long count (state_of s)) in
     let state : slice_index_or (kept s) c.args.at (opened script) ≡ state_of s c.args.at = first_at count (state_of s) c.args.at (opened script) there in
-    let few : length (state_of s c.args.at).cpus ≡ length s.cpu_numbers.items = cpus_kept s c.args.at c.requires.store there in
+    let few : length (state_of s c.args.at).cpus ≡ length s.cpus.numbers.items = cpus_kept s c.args.at c.requires.store there in
     let here : c.loop-c.c < length (state_of s c.args.at).cpus = omega (arith, c.loop-c.invariant.end) in
     let at : threads_at (state_of s c.args.at) c.loop-c.c ≡ c.processor-cpu.result.now.threads = ap (λ o. option_map_or (λ (cpu : Processor). cpu.threads) o []) c.processor-cpu.ensures in
     let not_over : IsTrue (are_over (threads_of script c.loop-c.c) c.processor-cpu.result.now.threads) → false ≡ true = search rules in (
@@ -34,7 +34,7 @@ returns c =
     let count : ℕ = length s.codes.index.links.items in
     let there : c.args.at < count = omega (arith, c.requires.there, first_long count (state_of s)) in
     let state : slice_index_or (kept s) c.args.at (opened script) ≡ state_of s c.args.at = first_at count (state_of s) c.args.at (opened script) there in
-    let few : length (state_of s c.args.at).cpus ≡ length s.cpu_numbers.items = cpus_kept s c.args.at c.requires.store there in
+    let few : length (state_of s c.args.at).cpus ≡ length s.cpus.numbers.items = cpus_kept s c.args.at c.requires.store there in
     let E : Plain → Type 0 = λ p. HasEnded script p in
     let all : HasEnded script (state_of s c.args.at) = λ k here. let low : k < c.loop-c.c = omega (arith, c.loop-c.invariant.end) in c.loop-c.invariant.over k low in
     ((λ (so : true ≡ true). subst E (sym state) all), (λ (ended : HasEnded script (slice_index_or (kept s) c.args.at (opened script))). refl))

@@ -6,6 +6,6 @@ use Rattle.lwkt_plain.proofs.stores.Store.has_ended.Given as goal
 
 abbrev pub invariant-loop-c : goal.invariant-loop-c
 invariant-loop-c l = record {
-  end : l.c-end ≡ length l.self.cpu_numbers.items;
+  end : l.c-end ≡ length l.self.cpus.numbers.items;
   over : (c : ℕ) → c < l.c → IsTrue (are_over (threads_of l.script c) (threads_at (state_of l.self l.at) c));
 }

@@ -1,14 +1,15 @@
-use Rattle.std.proofs.Common.{◌≡◌, ℕ, ◌<◌, List, length, arith, subst, Some, slice_get, slice_index_or, drop, ◌∙◌, sym}
-use Rattle.std.proofs.lemmas.List.{get_or_read}
-use Rattle.lwkt_search.specs.Codes.{code_at}
-use Rattle.lwkt_plain.specs.Tables.{named, IsNamed}
-use Rattle.lwkt_plain.proofs.StoreLemmas.{named_get}
+use Rattle.std.proofs.Common.{◌<◌, ◌≡◌, length, arith}
+use Rattle.lwkt_plain.proofs.StoreLemmas.{code_of, kept_there}
 use Rattle.lwkt_plain.proofs.stores.Store.processor.Goals as goal
 
-pub returns : goal.returns
-returns c =
+pub code-requires-clause-there : goal.code-requires-clause-there
+code-requires-clause-there c = kept_there c.args.self.now c.args.at c.requires.there
+
+pub bounds-code-3 : goal.bounds-code-3
+bounds-code-3 c =
     let s = c.args.self.now in
-    let numbers : List ℕ = c.cpus_at.result.now in
-    let there : c.args.c < length numbers = omega (arith, c.requires.here, c.cpus_at.ensures.long) in
-    let F : List ℕ → Type 0 = λ ns. slice_get (named s.cpus.parts.items ns) c.args.c ≡ Some c.part.result.now in
-    subst F c.cpus_at.ensures.are (named_get s.cpus.parts.items numbers c.args.c c.part.result.now c.cpus_at.ensures.known there c.part.ensures)
+    let long : length c.code.result.now ≡ 4 = (code_of s c.args.at c.code.result.now c.requires.store (kept_there s c.args.at c.requires.there) c.code.ensures).long in
+    omega (arith, long)
+
+pub part-requires-clause-there : goal.part-requires-clause-there
+part-requires-clause-there c = let s = c.args.self.now in (code_of s c.args.at c.code.result.now c.requires.store (kept_there s c.args.at c.requires.there) c.code.ensures).known.cpus

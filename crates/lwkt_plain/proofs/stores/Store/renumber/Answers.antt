@@ -1,8 +1,40 @@
-use Rattle.lwkt_plain.proofs.StoreMoves.{store_renumbered}
+use Rattle.std.proofs.Common.{◌≡◌}
+use Rattle.lwkt_plain.specs.declared.states.Plain.{Plain}
+use Rattle.lwkt_plain.proofs.StoreMoves.{AreMoved, AreShelves, store_moved}
 use Rattle.lwkt_plain.proofs.stores.Store.renumber.Goals as goal
 
 pub returns-clause-store : goal.returns-clause-store
-returns-clause-store c = (store_renumbered c.args.self.now c.renumber.new.table c.renumber-2.new.table c.renumber-3.new.table c.renumber-4.new.table c.renumber.new.numbers c.renumber-2.new.numbers c.renumber-3.new.numbers c.renumber-4.new.numbers c.requires.base c.in_ok-renumber.ensures.table c.in_ok-renumber-2.ensures.table c.in_ok-renumber-3.ensures.table c.in_ok-renumber-4.ensures.table c.in_ok-renumber.ensures.more c.in_ok-renumber-2.ensures.more c.in_ok-renumber-3.ensures.more c.in_ok-renumber-4.ensures.more c.in_ok-renumber.ensures.named c.in_ok-renumber-2.ensures.named c.in_ok-renumber-3.ensures.named c.in_ok-renumber-4.ensures.named).0
+returns-clause-store c =
+    let s = c.args.self.now in
+    let work : Plain = s.work in
+    let moved : AreMoved s c.renumber.new.self c.renumber-2.new.self c.renumber-3.new.self c.renumber-4.new.self = record {
+      of_tokens = c.in_ok-renumber.ensures.lists;
+      of_letters = c.in_ok-renumber-2.ensures.lists;
+      of_mails = c.in_ok-renumber-3.ensures.lists;
+      of_cpus = c.in_ok-renumber-4.ensures.lists;
+    } in
+    let shelves : AreShelves c.renumber.new.self c.renumber-2.new.self c.renumber-3.new.self c.renumber-4.new.self work = record {
+      tokens = c.in_ok-renumber.ensures.shelf;
+      letters = c.in_ok-renumber-2.ensures.shelf;
+      mails = c.in_ok-renumber-3.ensures.shelf;
+      cpus = c.in_ok-renumber-4.ensures.shelf;
+    } in
+    (store_moved s work c.renumber.new.self c.renumber-2.new.self c.renumber-3.new.self c.renumber-4.new.self moved shelves c.requires.base.states).0
 
 pub returns-clause-kept : goal.returns-clause-kept
-returns-clause-kept c = (store_renumbered c.args.self.now c.renumber.new.table c.renumber-2.new.table c.renumber-3.new.table c.renumber-4.new.table c.renumber.new.numbers c.renumber-2.new.numbers c.renumber-3.new.numbers c.renumber-4.new.numbers c.requires.base c.in_ok-renumber.ensures.table c.in_ok-renumber-2.ensures.table c.in_ok-renumber-3.ensures.table c.in_ok-renumber-4.ensures.table c.in_ok-renumber.ensures.more c.in_ok-renumber-2.ensures.more c.in_ok-renumber-3.ensures.more c.in_ok-renumber-4.ensures.more c.in_ok-renumber.ensures.named c.in_ok-renumber-2.ensures.named c.in_ok-renumber-3.ensures.named c.in_ok-renumber-4.ensures.named).1
+returns-clause-kept c =
+    let s = c.args.self.now in
+    let work : Plain = s.work in
+    let moved : AreMoved s c.renumber.new.self c.renumber-2.new.self c.renumber-3.new.self c.renumber-4.new.self = record {
+      of_tokens = c.in_ok-renumber.ensures.lists;
+      of_letters = c.in_ok-renumber-2.ensures.lists;
+      of_mails = c.in_ok-renumber-3.ensures.lists;
+      of_cpus = c.in_ok-renumber-4.ensures.lists;
+    } in
+    let shelves : AreShelves c.renumber.new.self c.renumber-2.new.self c.renumber-3.new.self c.renumber-4.new.self work = record {
+      tokens = c.in_ok-renumber.ensures.shelf;
+      letters = c.in_ok-renumber-2.ensures.shelf;
+      mails = c.in_ok-renumber-3.ensures.shelf;
+      cpus = c.in_ok-renumber-4.ensures.shelf;
+    } in
+    (store_moved s work c.renumber.new.self c.renumber-2.new.self c.renumber-3.new.self c.renumber-4.new.self moved shelves c.requires.base.states).1

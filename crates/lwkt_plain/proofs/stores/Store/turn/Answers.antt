@@ -34,7 +34,7 @@ returns-then-from-len-clause-few c =
     let count : ℕ = length s.codes.index.links.items in
     let there : at < count = omega (arith, c.requires.there, first_long count (state_of s)) in
     let state : (d : Plain) → slice_index_or (kept s) at d ≡ state_of s at = λ d. first_at count (state_of s) at d there in
-    let few = c.requires.store.codes.few in
+    let few = c.requires.store.states.codes.few in
     omega arith
 
 pub make_turn-requires-clause-sound : goal.make_turn-requires-clause-sound
@@ -45,7 +45,7 @@ make_turn-requires-clause-sound c =
     let count : ℕ = length s.codes.index.links.items in
     let there : at < count = omega (arith, c.requires.there, first_long count (state_of s)) in
     let state : (d : Plain) → slice_index_or (kept s) at d ≡ state_of s at = λ d. first_at count (state_of s) at d there in
-    subst IsSound (sym c.in_ok-go_to.ensures.work) (c.requires.store.sound at there)
+    subst IsSound (sym c.in_ok-go_to.ensures.work) (c.requires.store.states.sound at there)
 
 pub returns-clause-turned : goal.returns-clause-turned
 returns-clause-turned c =

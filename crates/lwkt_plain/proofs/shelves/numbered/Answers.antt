@@ -1,6 +1,6 @@
 use Rattle.std.proofs.Common.{◌≡◌, ℕ, ◌<◌, ◌+◌, length, length-append, arith, ap, refl, ◌∙◌, ◌∷◌, [], slice_index_or}
 use Rattle.lwkt_plain.proofs.TableLemmas.{index_some, named_push}
-use Rattle.lwkt_plain.proofs.loads.numbered.Goals as goal
+use Rattle.lwkt_plain.proofs.shelves.numbered.Goals as goal
 
 pub loop-k-preserved : goal.loop-k-preserved
 loop-k-preserved g c =

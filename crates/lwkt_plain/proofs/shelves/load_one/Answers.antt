@@ -2,8 +2,8 @@ use Rattle.std.proofs.Common.{◌≡◌, ℕ, ◌<◌, List, length, ap, subst, 
 use Rattle.std.proofs.lemmas.List.{get_or_read}
 use Rattle.lwkt_plain.specs.Tables.{IsNamed, AreNamed}
 use Rattle.lwkt_plain.proofs.TableLemmas.{set_again, set_named}
-use Rattle.lwkt_plain.proofs.loads.load_one.Goals as goal
-use Rattle.lwkt_plain.proofs.loads.load_one.Goals.{then-index-number+in_ok-copy, else-index-number}
+use Rattle.lwkt_plain.proofs.shelves.load_one.Goals as goal
+use Rattle.lwkt_plain.proofs.shelves.load_one.Goals.{then-index-number+in_ok-copy, else-index-number}
 
 pub returns-clause-named : goal.returns-clause-named
 returns-clause-named g c =

@@ -1,7 +1,7 @@
 use Rattle.std.proofs.Common.{◌≡◌, ℕ, ◌<◌, ◌≤◌, length, arith, ap, subst, sym, ◌∙◌, slice_index_or}
 use Rattle.std.proofs.lemmas.List.{get_or_default, length-set}
 use Rattle.lwkt_plain.proofs.TableLemmas.{extends_more, index_some, known_more, numbered_more}
-use Rattle.lwkt_plain.proofs.loads.renumber.Goals as goal
+use Rattle.lwkt_plain.proofs.shelves.renumber.Goals as goal
 
 pub loop-k-preserved : goal.loop-k-preserved
 loop-k-preserved g c =

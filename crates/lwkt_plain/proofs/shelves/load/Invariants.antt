@@ -1,6 +1,6 @@
 use Rattle.std.proofs.Common.{◌≡◌, length, take}
 use Rattle.lwkt_plain.specs.Tables.{AreNamed}
-use Rattle.lwkt_plain.proofs.loads.load.Given as goal
+use Rattle.lwkt_plain.proofs.shelves.load.Given as goal
 
 abbrev pub invariant-loop-k : goal.invariant-loop-k
 invariant-loop-k g l = record {

@@ -1,6 +1,6 @@
 use Rattle.std.proofs.Common.{◌≡◌, ℕ, ◌<◌, length, All, slice_index_or}
 use Rattle.lwkt_plain.specs.Tables.{IsTable, Extends, IsNamed}
-use Rattle.lwkt_plain.proofs.loads.renumber.Given as goal
+use Rattle.lwkt_plain.proofs.shelves.renumber.Given as goal
 
 abbrev pub invariant-loop-k : goal.invariant-loop-k
 invariant-loop-k g l = record {

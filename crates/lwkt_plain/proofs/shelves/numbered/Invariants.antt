@@ -1,6 +1,6 @@
 use Rattle.std.proofs.Common.{◌≡◌, ℕ, ◌<◌, length, slice_index_or}
 use Rattle.lwkt_plain.specs.Tables.{IsTable, IsNamed}
-use Rattle.lwkt_plain.proofs.loads.numbered.Given as goal
+use Rattle.lwkt_plain.proofs.shelves.numbered.Given as goal
 
 abbrev pub invariant-loop-k : goal.invariant-loop-k
 invariant-loop-k g l = record {
