@@ -101,3 +101,8 @@ cpus_kept s at is there =
 pub letters_kept : (s : Store) (at : ℕ) → IsStore s → at < length s.codes.index.links.items → length (state_of s at).letters ≡ length s.letters.numbers.items
 letters_kept s at is there =
     list_long letter_key s.letters (slice_index_or (code_at s.codes.width s.codes.flat.items at) 1 0) is.letters.lists (is.states.known at there).letters ∙ sym (shelf_wide letter_key s.letters s.work.letters is.letters)
+
+-- how many tokens
+pub tokens_kept : (s : Store) (at : ℕ) → IsStore s → at < length s.codes.index.links.items → length (state_of s at).tokens ≡ length s.tokens.numbers.items
+tokens_kept s at is there =
+    list_long token_key s.tokens (slice_index_or (code_at s.codes.width s.codes.flat.items at) 0 0) is.tokens.lists (is.states.known at there).tokens ∙ sym (shelf_wide token_key s.tokens s.work.tokens is.tokens)

@@ -180,13 +180,12 @@ impl Store {
     pub fn token(&self, at: usize, t: usize) -> Option<&Token>
         requires store { IsStore self.now }
         requires there { at < length (kept self.now) }
+        ensures { MatchOption result (length (state_of self.now at).tokens ≤ t) (λ token. slice_get (state_of self.now at).tokens t ≡ Some token.now) }
     {
-        if t >= self.token_numbers.len() {
+        if t >= self.tokens.width() {
             return None;
         }
-        let code = self.codes.code(at);
-        let number = code.get(t)?;
-        self.tokens.get(*number)
+        Some(self.tokens.part(self.codes.code(at)[0], t))
     }
 
     /// The message of a number in the state of a number, if it is there.
