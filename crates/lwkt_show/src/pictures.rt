@@ -16,6 +16,7 @@ use crate::turns::{pass_turn, show_turn};
 use lwkt_base::memory::push;
 use lwkt_base::{Answer, Fault, OutOfMemory, ThreadState};
 use lwkt_refusals::Page;
+use lwkt_text::Names;
 use std::alloc::Global;
 
 // The most turns that a picture shows.
@@ -102,12 +103,13 @@ fn fault_of(replay: &Replay, scene: &Scene) -> Option<(Fault, bool)> {
 // Makes a turn happen, and notes its box.
 fn play_turn(
     alloc: Global,
+    names: Option<&Names>,
     sketch: &mut Sketch,
     replay: &mut Replay,
     scene: &Scene,
 ) -> Result<(), OutOfMemory> {
     let mut line = Page::new(alloc);
-    show_turn(alloc, replay, &mut line, scene);
+    show_turn(alloc, names, replay, &mut line, scene);
     let cpu = usize::from(scene.cpu);
     let mut crossed = false;
     if let Some((fault, ends)) = fault_of(replay, scene) {
@@ -127,15 +129,16 @@ fn play_turn(
 // Notes a turn, which is before the first that is shown, or is shown.
 fn note_turn(
     alloc: Global,
+    names: Option<&Names>,
     sketch: &mut Sketch,
     replay: &mut Replay,
     scene: &Scene,
     is_shown: bool,
 ) -> Result<(), OutOfMemory> {
     if is_shown {
-        play_turn(alloc, sketch, replay, scene)?;
+        play_turn(alloc, names, sketch, replay, scene)?;
     } else {
-        pass_turn(alloc, replay, scene);
+        pass_turn(alloc, names, replay, scene);
     }
     for event in scene.part {
         sketch.note(replay, event, scene.round)?;
@@ -146,6 +149,7 @@ fn note_turn(
 // Notes the turns up to the last that is shown.
 fn note_turns(
     alloc: Global,
+    names: Option<&Names>,
     run: &Reel,
     sketch: &mut Sketch,
     replay: &mut Replay,
@@ -157,7 +161,7 @@ fn note_turns(
             break;
         }
         let scene = scene_of(run, number, turn, from);
-        note_turn(alloc, sketch, replay, &scene, number >= shown.first)?;
+        note_turn(alloc, names, sketch, replay, &scene, number >= shown.first)?;
         from = from.saturating_add(turn.events);
     }
     sketch.finish()
@@ -206,6 +210,7 @@ fn draw_picture(out: &mut Page, layout: &Layout, sketch: &Sketch, cpus: usize) {
 // The picture of a run that is made again.
 fn picture(
     alloc: Global,
+    names: Option<&Names>,
     run: &Reel,
     replay: &mut Replay,
     chosen: Options,
@@ -214,7 +219,7 @@ fn picture(
     let shown = shown_of(run, chosen);
     let grid = grid_of(run, shown, cpus);
     let mut sketch = Sketch::new(alloc, grid)?;
-    note_turns(alloc, run, &mut sketch, replay, shown)?;
+    note_turns(alloc, names, run, &mut sketch, replay, shown)?;
     let layout = Layout::new(alloc, cpus, grid, run.trace, &sketch.labels.lines)?;
     let (legend, end) = legend_of(alloc, &sketch, layout.height, grid.width());
     let mut out = Page::new(alloc);
@@ -226,13 +231,18 @@ fn picture(
     out.whole()
 }
 
-/// A picture of a run, in SVG: of the turns that are chosen, but of at most the first 2000 of them. If not all turns of the run are
+/// A picture of a run, in SVG, in names if some are given: of the turns that are chosen, but of at most the first 2000 of them. If not all turns of the run are
 /// shown, a line below says which are.
 ///
 /// Refused with `Memory` if memory is refused, and with `Limits` or `LawBroken` as `State::open` is for the script's opening.
-pub(crate) fn picture_of(alloc: Global, run: &Reel, chosen: Options) -> Result<String, Fault>
+pub(crate) fn picture_of(
+    alloc: Global,
+    names: Option<&Names>,
+    run: &Reel,
+    chosen: Options,
+) -> Result<String, Fault>
     ensures refused { IfErr result (MayBeRefused run.now.script.now) }
 {
     let mut replay = Replay::open(alloc, run.script, &run.closing.threads, false)?;
-    Ok(picture(alloc, run, &mut replay, chosen)?)
+    Ok(picture(alloc, names, run, &mut replay, chosen)?)
 }

@@ -15,7 +15,7 @@ fn pass_all(alloc: Global, run: &Reel, replay: &mut Replay) {
     let mut from = 0usize;
     for (number, turn) in run.turns.iter().enumerate() {
         let scene = scene_of(run, number, turn, from);
-        pass_turn(alloc, replay, &scene);
+        pass_turn(alloc, None, replay, &scene);
         from = from.saturating_add(turn.events);
     }
 }
@@ -26,8 +26,8 @@ fn show_whys(out: &mut Page, replay: &Replay) {
     for story in &replay.stories {
         if story.doing != Doing::Ended {
             out.add(if some { "; thread " } else { "thread " });
-            story.show_why(out, &replay.state, &replay.runners);
-            show_left_mark(out, replay, story);
+            story.show_why(out, None, &replay.state, &replay.runners);
+            show_left_mark(out, None, replay, story);
             some = true;
         }
     }

@@ -2,7 +2,7 @@ use Rattle.std.proofs.Common.{◌∙◌, ◌≡◌, ap, sym, subst}
 use Rattle.std.specs.Prelude.{IfSome, None, Some, map, string_bytes}
 use Rattle.std.specs.Str.{IsUtf8}
 use Rattle.std.specs.declared.alloc.Global.{Global}
-use Rattle.lwkt_ffi.specs.Answers.{words_in, AskNothing}
+use Rattle.lwkt_ffi.specs.Answers.{in_names, words_in, AskNothing}
 use Rattle.lwkt_ffi.proofs.ShowLemmas.{unread_displays}
 use Rattle.lwkt_ffi.proofs.shows.show_onto.Goals as goal
 
@@ -15,8 +15,8 @@ returns-in-Ok-Some-clause-misused c = λ misused.
 
 pub returns-in-Err-clause-shows : goal.returns-in-Err-clause-shows
 returns-in-Err-clause-shows c = λ valid options are.
-    unread_displays options None c.args.script.now c.unread.new.page.text.items c.unread.result c.unread.ensures
+    unread_displays (in_names c.args.arguments.now) options None c.args.script.now c.unread.new.page.text.items c.unread.result c.unread.ensures
 
 pub returns-in-Err-clause-along : goal.returns-in-Err-clause-along
 returns-in-Err-clause-along c = λ valid options order are.
-    unread_displays options (Some order) c.args.script.now c.unread.new.page.text.items c.unread.result c.unread.ensures
+    unread_displays (in_names c.args.arguments.now) options (Some order) c.args.script.now c.unread.new.page.text.items c.unread.result c.unread.ensures
