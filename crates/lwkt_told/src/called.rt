@@ -74,7 +74,7 @@ pub fn show_called(names: &[Name], n: usize, out: &mut String) -> Result<(), Out
 }
 
 /// The names of a token's cells.
-pub(crate) fn cells_of(names: &Names, tok: usize) -> &[Name]
+pub fn cells_of(names: &Names, tok: usize) -> &[Name]
     ensures { result.now ≡ cells_of names.now (record { 0 = tok }) }
 {
     match names.cells.as_slice().get(tok) {
@@ -198,7 +198,7 @@ fn longest(names: &[Name]) -> usize
 }
 
 /// How wide the column of names is.
-pub(crate) fn width_of(names: &Names) -> usize
+pub fn width_of(names: &Names) -> usize
     ensures { result ≡ width_of names.now }
 {
     let tokens = longest(names.tokens.as_slice());
