@@ -74,9 +74,19 @@ pub(crate) struct Grid {
 }
 
 impl Grid {
+    ghost use Rattle.std.specs.Prelude.{◌<◌};
+
     // How many rounds stand beside each other at most.
-    fn across(&self) -> usize {
-        (BAND * COLUMN / self.widths.column.max(1)).max(1)
+    fn across(&self) -> usize
+        ensures { 0 < result }
+    {
+        let column = self.widths.column;
+        let fit = if column == 0 {
+            0
+        } else {
+            BAND * COLUMN / column
+        };
+        if fit == 0 { 1 } else { fit }
     }
 
     // Which one of those shown a round is, from 0. One before them counts as the first, one behind them as the last.
