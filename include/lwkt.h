@@ -79,7 +79,8 @@ uint32_t lwkt_check_trace(const uint8_t *trace, size_t trace_length, uint8_t *te
 
 // Runs a script in either form, in rounds or along an order, and shows the run, as `lwkt_show` with these arguments does. The arguments
 // are words with one blank between each two, as `turns`, `turns --svg`, `turns --rounds 0..9 --svg` or `turns --order 0110 --svg`, in
-// UTF-8; an order is one word here, without blanks; `threads --chains` isn't one of them. The text is what that program writes.
+// UTF-8; an order is one word here, without blanks; `threads --chains` isn't one of them. If `--names` stands behind `turns`, a text is
+// shown in its names, as `lwkt show` shows it. The text is what that program writes.
 //
 // The status: as of `lwkt_run_turns`, 2 along an order where not every thread had ended; 1 with the fault 30 where the order names a
 // processor that the script doesn't have; and 1, with no fault, for other arguments, and for a run that ended before the first turn

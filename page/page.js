@@ -55,6 +55,9 @@ function stopWorker(why, of = machine) {
 
 const show = (script, words) => ask("lwkt_show_turns", script, words);
 
+// The same words, for what the reader sees: in the names of a text.
+const inNames = (words) => words.replace(/^turns/, "turns --names");
+
 // ---- A run: its script, its lines as far as they were asked for, and the runs that are cut off after some rounds.
 
 let run = null;
@@ -320,7 +323,7 @@ function pictureRange(it, round) {
 async function drawPicture(it, round) {
   const [from, to] = pictureRange(it, round);
   if (it.picture === from) return;
-  const drawn = await show(it.text, `${it.words} --${it.order ? "turns" : "rounds"} ${from}..${to} --svg`);
+  const drawn = await show(it.text, `${inNames(it.words)} --${it.order ? "turns" : "rounds"} ${from}..${to} --svg`);
   if (it !== run) return;
   it.picture = from;
   it.drawn = textOf(drawn);
@@ -442,7 +445,7 @@ async function fillPart(name, words, put) {
   at(`${name}-note`).textContent = "..";
   put("");
   try {
-    const answer = await askOf(machine, { name: "lwkt_show_turns", script: it.text, words: `${it.words} ${words}`, isLongFile: true });
+    const answer = await askOf(machine, { name: "lwkt_show_turns", script: it.text, words: `${inNames(it.words)} ${words}`, isLongFile: true });
     if (it !== run) return;
     const isLong = Boolean(answer.file);
     it.parts.set(name, answer.file || textOf(answer));

@@ -116,6 +116,9 @@ int main(void) {
     try_arguments("turns", 0, "turns");
     try_arguments("turns --svg", 0, "turns --svg");
     try_arguments("turns --turns 0..1 --svg", 0, "turns --turns 0..1 --svg");
+    try_arguments("turns --names", 0, "names, of JSON");
+    try_arguments("turns --names --order 0000 --svg", 0, "names along an order, of JSON");
+    try_arguments("turns --svg --names", 1, "names behind a view");
     try_arguments("turns  --svg", 1, "two blanks between words");
     try_arguments("", 1, "no arguments");
     try_arguments("threads --chains", 1, "threads --chains");

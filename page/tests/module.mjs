@@ -67,6 +67,7 @@ function tryCourse(name) {
   check(told.text.startsWith(callProgram("lwkt_run_turns", json).text), `${name}: its report`);
   const wanted = callProgram("lwkt_run_text", text);
   same([told.status, told.text], [wanted.status, wanted.text], `${name}: its report and its expectations`);
+  for (const words of ["turns", "turns --names", "turns --names --svg", "turns --names --order 0 --chains"]) compare("lwkt_show_turns", text, words, name);
   for (const script of [text, json]) compareOrders(script, name);
 }
 

@@ -79,6 +79,12 @@ function argumentsOf(name, words) {
   return words ? words.split(" ") : [];
 }
 
+// The name of the program and its arguments. By its older name it shows a run in numbers, and by the newer one in the names of a text.
+function wordsOf(name, words) {
+  const [, named, ...rest] = argumentsOf(name, words);
+  return named === "--names" ? ["show", ...rest] : [names[name], ...argumentsOf(name, words)];
+}
+
 // The fault that a refusal names, and its place. What is wrong with a text names none, and is refused as bytes that are no JSON.
 function faultIn(said) {
   const found = /(?:^lwkt_\w+: |\()fault (\d+)(?: at (\d+))?\)?$/m.exec(said);
@@ -89,7 +95,7 @@ function faultIn(said) {
 // What the program answers, as a call of the library would.
 export function callProgram(name, script, words = name.startsWith("lwkt_run") ? "turns" : "") {
   if (name === "lwkt_is_text") return { status: isText(Buffer.from(script)), fault: 0, place: 0, text: "" };
-  const ran = spawnSync(program, [names[name], ...argumentsOf(name, words)], { input: script, maxBuffer: 1 << 30 });
+  const ran = spawnSync(program, wordsOf(name, words), { input: script, maxBuffer: 1 << 30 });
   const [out, told] = [ran.stdout.toString(), ran.stderr.toString()];
   const isRefused = ran.status === 1 || ran.status === 3, [fault, place] = isRefused ? faultIn(out + told) : [0, 0];
   const isAll = name === "lwkt_run_text" || name === "lwkt_explore_orders";

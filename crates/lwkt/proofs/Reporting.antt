@@ -35,7 +35,7 @@ some_read (Some all) = (take READ_LIMIT all, refl)
 -- a task that is no check takes a script
 pub takes_script : (task : Task) → ((by_lines : Bool) → task ≡ Check by_lines → ⊥) → TakesScript task
 takes_script (Run on_threads wording) none = tt
-takes_script (Show on_threads options) none = tt
+takes_script (Show on_threads in_numbers options) none = tt
 takes_script (Check by_lines) none = absurd (none by_lines refl)
 takes_script (Text as_form) none = tt
 takes_script (Explore asked) none = tt
@@ -43,8 +43,8 @@ takes_script (Explore asked) none = tt
 -- no task declines a script for a stream
 declines_no_stream : (task : Task) (order : Option (List ℕ)) (script : Script) → Declines task order script Stream → ⊥
 declines_no_stream (Run on_threads wording) order script never = never
-declines_no_stream (Show true options) order script never = never
-declines_no_stream (Show false options) order script never = never
+declines_no_stream (Show true in_numbers options) order script never = never
+declines_no_stream (Show false in_numbers options) order script never = never
 declines_no_stream (Check by_lines) order script never = never
 declines_no_stream (Text form.Json) order script never = never
 declines_no_stream (Text form.Text) order script never = never

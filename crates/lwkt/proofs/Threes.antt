@@ -86,8 +86,8 @@ text_status expectations found is =
 
 made_status : (task : Task) (order : Option (List ℕ)) (input : Input) (text : List ℕ) (status : ℕ) → IsMade task order input text status → status ≡ 3 → ⊥
 made_status (Run on_threads wording) order input text status made is = judged_status (judgement_of input.expectations made.closing) (sym made.is_status ∙ is)
-made_status (Show false options) order input text status (end, (shown, same)) is = end_status end (sym same ∙ is)
-made_status (Show true options) order input text status (end, (shown, same)) is = end_status end (sym same ∙ is)
+made_status (Show false in_numbers options) order input text status (end, (shown, same)) is = end_status end (sym same ∙ is)
+made_status (Show true in_numbers options) order input text status (end, (shown, same)) is = end_status end (sym same ∙ is)
 made_status (Check by_lines) order input text status made is = absurd made
 made_status (Text form.Json) order input text status (exact, (short, same)) is = no_0 (sym same ∙ is)
 made_status (Text form.Text) order input text status (exact, (short, same)) is = no_0 (sym same ∙ is)
@@ -136,7 +136,7 @@ by_check (Err run.Stream) = λ three. tt
 
 by_serves : (task : Task) (order name : Option (List ℕ)) (old source : Bool) (left : Option (List ℕ)) (s : Streams) (ending : Ending) → Serves task order name old source left s ending → OwnsThree ending
 by_serves (Run on_threads wording) order name old source left s ending serves = by_performs (Run on_threads wording) order name source s.failed (IsTrue s.flushed) left s.old s.new ending (serves.performs tt)
-by_serves (Show on_threads options) order name old source left s ending serves = by_performs (Show on_threads options) order name source s.failed (IsTrue s.flushed) left s.old s.new ending (serves.performs tt)
+by_serves (Show on_threads in_numbers options) order name old source left s ending serves = by_performs (Show on_threads in_numbers options) order name source s.failed (IsTrue s.flushed) left s.old s.new ending (serves.performs tt)
 by_serves (Check true) order name old source left s ending serves = subst OwnsThree (sym (serves.lines refl).is_ending) (by_check (serves.lines refl).outcome)
 by_serves (Check false) order name old source left s ending serves = subst OwnsThree (sym (serves.checks refl).is_ending) (by_check (serves.checks refl).outcome)
 by_serves (Text as_form) order name old source left s ending serves = by_performs (Text as_form) order name source s.failed (IsTrue s.flushed) left s.old s.new ending (serves.performs tt)

@@ -52,7 +52,7 @@ DeclinesForm form.Run script failure = IsFault (DeclinesRun script) failure
 -- why a task makes nothing of a script
 abbrev pub Declines : Task → Option (List ℕ) → Script → Failure → Type 0
 Declines (Run on_threads wording) order script failure = IsFault (DeclinesRun script) failure
-Declines (Show on_threads options) order script failure = DeclinesShown on_threads options order script failure
+Declines (Show on_threads in_numbers options) order script failure = DeclinesShown on_threads options order script failure
 Declines (Check by_lines) order script failure = ⊥
 Declines (Text form) order script failure = DeclinesForm form script failure
 Declines (Explore search) order script failure = IsFault (RefusesSearch script) failure

@@ -32,17 +32,12 @@ use Rattle.lwkt_text.specs.declared.inputs.Input.{Input}
 use Rattle.lwkt_text.specs.declared.inputs.Unread.{Unread}
 use Rattle.lwkt_text.specs.declared.tables.Names.{Names}
 use Rattle.lwkt_text.specs.Reading.{IsTextOf}
-use Rattle.lwkt_told.specs.Told.{told_text}
+use Rattle.lwkt_told.specs.Told.{named_report}
 
 -- how processors are driven
 abbrev pub mode_of : Bool → Mode
 mode_of false = Turns
 mode_of true = Threads
-
--- the report of a text in its names, if it has some
-abbrev pub named_report : Option Names → Script → Closing → List ℕ
-named_report None script closing = report_text closing
-named_report (Some names) script closing = told_text names script closing
 
 -- the report in the words that are asked for
 abbrev pub report_in : Wording → Input → Closing → List ℕ
@@ -57,10 +52,15 @@ pub record IsReport (mode : Mode) (wording : Wording) (input : Input) (text : Li
   pub is_text : text ≡ report_in wording input closing
   pub is_status : status ≡ status_of_judgement (judgement_of input.expectations closing)
 
--- a run of the script, on threads or not, is shown so; the status is that of how it ended
-abbrev pub IsShow : Bool → Options → Option (List ℕ) → Script → List ℕ → ℕ → Type 0
-IsShow false options order script text status = (end : End) × (IsShown options order script end text × (status ≡ exit_status (Ok end)))
-IsShow true options order script text status = (end : End) × (IsShownOnThreads script end text × (status ≡ exit_status (Ok end)))
+-- the names in which a run is shown: those of a text, unless numbers are asked for
+abbrev pub names_in : Bool → Input → Option Names
+names_in true input = None
+names_in false input = input.names
+
+-- a run of the script, on threads or not, is shown so, in these names or in numbers; the status is that of how it ended
+abbrev pub IsShow : Bool → Option Names → Options → Option (List ℕ) → Script → List ℕ → ℕ → Type 0
+IsShow false names options order script text status = (end : End) × (IsShown names options order script end text × (status ≡ exit_status (Ok end)))
+IsShow true names options order script text status = (end : End) × (IsShownOnThreads script end text × (status ≡ exit_status (Ok end)))
 
 -- a text has no more bytes than a script may have
 abbrev pub IsShort : List ℕ → Type 0
@@ -124,7 +124,7 @@ pub record IsFinding (search : Search) (input : Input) (text : List ℕ) (status
 -- what a task makes of an input, with this order, if one is named; a check takes none
 abbrev pub IsMade : Task → Option (List ℕ) → Input → List ℕ → ℕ → Type 0
 IsMade (Run on_threads wording) order input text status = IsReport (mode_of on_threads) wording input text status
-IsMade (Show on_threads options) order input text status = IsShow on_threads options order input.script text status
+IsMade (Show on_threads in_numbers options) order input text status = IsShow on_threads (names_in in_numbers input) options order input.script text status
 IsMade (Check by_lines) order input text status = ⊥
 IsMade (Text form) order input text status = IsForm form input text status
 IsMade (Explore search) order input text status = IsFinding search input text status

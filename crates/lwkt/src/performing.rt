@@ -16,7 +16,7 @@ use crate::explores::finding_of;
 use crate::failures::Failure;
 use crate::reads::read_said;
 use crate::runs::{Words, mode_of, report_of};
-use crate::shows::shown_of;
+use crate::shows::{names_in, shown_of};
 use crate::texts::form_of;
 use crate::written::{Made, written};
 use lwkt_base::Fault;
@@ -59,8 +59,12 @@ fn made_of<R: Threads + Sync + Clock, E: Sink>(
         }
         Task::Show {
             on_threads,
+            in_numbers,
             options,
-        } => shown_of(rt, alloc, on_threads, options, order, &input.script),
+        } => {
+            let names = names_in(in_numbers, input);
+            shown_of(rt, alloc, on_threads, names, options, order, &input.script)
+        }
         Task::Check { .. } => unreachable!(),
         Task::Text(form) => form_of(rt, alloc, form, path, bytes, input),
         Task::Explore(search) => {

@@ -3,7 +3,8 @@ ghost use Rattle.std.specs.Prelude.{◌≡◌, IfErr, IfOk, string_bytes};
 ghost use Rattle.lwkt_run.specs.Run.{DeclinesRun};
 ghost use Rattle.lwkt.specs.Failing.{IsFault};
 ghost use Rattle.lwkt_explore.specs.Judgements.{judgement_of};
-ghost use Rattle.lwkt.specs.Making.{IsReport, mode_of, named_report, report_in};
+ghost use Rattle.lwkt.specs.Making.{IsReport, mode_of, report_in};
+ghost use Rattle.lwkt_told.specs.Told.{named_report};
 
 use crate::failures::Failure;
 use crate::written::Made;

@@ -1,4 +1,4 @@
-use Rattle.std.proofs.Common.{◌≡◌, ◌⊎◌, ℕ, List, [], ◌∷◌, codes, Option, Result, Ok, Err, inl, refl, ap, sym, subst, ◌∙◌, ⊎_elim, get_or, arith}
+use Rattle.std.proofs.Common.{Bool, ◌≡◌, ◌⊎◌, ℕ, List, [], ◌∷◌, codes, Option, Result, Ok, Err, inl, refl, ap, sym, subst, ◌∙◌, ⊎_elim, get_or, arith}
 use Rattle.lwkt_base.specs.declared.faults.Fault.{Fault}
 use Rattle.lwkt_base.specs.Fault.{no_memory}
 use Rattle.lwkt_show.specs.declared.options.Counted.{Counted}
@@ -13,9 +13,9 @@ use Rattle.lwkt_ffi.specs.Answers.{Displays}
 use Rattle.lwkt_ffi.specs.Arguments.{AreOptions, IsRendering, Say, range_word}
 
 -- a call that is refused for want of memory shows nothing
-pub unread_displays : (options : Options) (order : Option (List ℕ)) (script whole : List ℕ) (result : Result Showing Fault) → result ≡ Err no_memory → Displays options order script result whole
-unread_displays options order script whole result is =
-    let F : Result Showing Fault → Type 0 = λ r. Displays options order script r whole in
+pub unread_displays : (named : Bool) (options : Options) (order : Option (List ℕ)) (script whole : List ℕ) (result : Result Showing Fault) → result ≡ Err no_memory → Displays named options order script result whole
+unread_displays named options order script whole result is =
+    let F : Result Showing Fault → Type 0 = λ r. Displays named options order script r whole in
     subst F (sym is) (inl (Memory (record { made = tt }), (tt, refl)))
 
 -- the word before an order is another one by its third letter

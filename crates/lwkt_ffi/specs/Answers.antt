@@ -1,5 +1,5 @@
 -- What the calls of the library answer to C (own).
-use Rattle.std.specs.Prelude.{◌≡◌, ◌⊎◌, ℕ, ◌++◌, ◌==◌, Bool, true, false, List, length, take, drop, Option, None, Some, Result, Ok, Err}
+use Rattle.std.specs.Prelude.{◌≡◌, ◌⊎◌, ℕ, ◌++◌, ◌==◌, if◌then◌else◌, bytes_eq, codes, remove, Bool, true, false, List, [], ◌∷◌, length, take, drop, Option, None, Some, Result, Ok, Err}
 use Rattle.std.specs.List.{slice_split}
 use Rattle.std.specs.Result.{result_err}
 use Rattle.std.specs.Str.{IsUtf8}
@@ -16,6 +16,7 @@ use Rattle.lwkt_show.specs.Showing.{DeclinesShow, EndsBeforeChosen, IsShown}
 use Rattle.lwkt_show.specs.declared.options.Options.{Options}
 use Rattle.lwkt_text.specs.declared.inputs.Input.{Input}
 use Rattle.lwkt_text.specs.declared.inputs.Unread.{Unread}
+use Rattle.lwkt_text.specs.declared.tables.Names.{Names}
 use Rattle.lwkt_text.specs.declared.inputs.Unread.TheVariants.{Memory as MemoryOfInput, Json, Wrongs}
 use Rattle.lwkt_text.specs.Inputs.{IsUnread, input_of}
 use Rattle.lwkt_ffi.specs.Alongs.{AreAlong}
@@ -113,17 +114,41 @@ pub record AnswersCheck (trace old new : List ℕ) (answer : LwktAnswer) (status
 abbrev pub words_in : List ℕ → List (List ℕ)
 words_in arguments = slice_split (λ b. b == 32) arguments
 
+-- whether the word behind the first asks for the names of a text
+abbrev pub asks_names : List (List ℕ) → Bool
+asks_names [] = false
+asks_names (mode ∷ []) = false
+asks_names (mode ∷ word ∷ words) = bytes_eq word (codes "--names")
+
+-- the words without that word
+abbrev pub without_names : List (List ℕ) → List (List ℕ)
+without_names words = if asks_names words then remove words 1 else words
+
+-- the words of arguments, without that word
+abbrev pub words_asked : List ℕ → List (List ℕ)
+words_asked arguments = without_names (words_in arguments)
+
+-- whether the arguments ask for the names of a text
+abbrev pub in_names : List ℕ → Bool
+in_names arguments = asks_names (words_in arguments)
+
+-- the names in which a run is shown: those of a text, if they are asked for
+abbrev pub names_shown : Bool → Input → Option Names
+names_shown true input = input.names
+names_shown false input = None
+
 -- these words ask for no run in rounds, and for none along an order
 abbrev pub AskNothing : List (List ℕ) → Type 0
 AskNothing words = ((options : Options) → ¬ AreOptions words options) × ((options : Options) (order : List ℕ) → ¬ AreAlong words options order)
 
 -- the arguments do neither
 abbrev pub AskForNoRun : List ℕ → Type 0
-AskForNoRun arguments = IsUtf8 arguments → AskNothing (words_in arguments)
+AskForNoRun arguments = IsUtf8 arguments → AskNothing (words_asked arguments)
 
--- a run of this script in either form, in rounds or along this order, ended so, and the text shows it as the options say
-abbrev pub ShowsIn : Options → Option (List ℕ) → List ℕ → End → List ℕ → Type 0
-ShowsIn options order script end text = (input : Input) × ((input_of None script ≡ Ok input) × IsShown options order input.script end text)
+-- a run of this script in either form, in rounds or along this order, ended so, and the text shows it as the options say, in the names
+-- of a text, if that is asked for
+abbrev pub ShowsIn : Bool → Options → Option (List ℕ) → List ℕ → End → List ℕ → Type 0
+ShowsIn named options order script end text = (input : Input) × ((input_of None script ≡ Ok input) × IsShown (names_shown named input) options order input.script end text)
 
 -- such a run ended before the first turn that was chosen
 abbrev pub EndsBeforeIn : Options → Option (List ℕ) → List ℕ → Type 0
@@ -136,11 +161,11 @@ RefusesShow script order fault = RefusesInput script fault ⊎ ((input : Input) 
 
 -- what came of a script that was to be shown with these options, in rounds or along this order: a run of it ended so, and the text
 -- shows it; or it ended before the first turn that was chosen; or it is refused for this fault
-abbrev pub Displays : Options → Option (List ℕ) → List ℕ → Result Showing Fault → List ℕ → Type 0
-Displays options order script (Ok (Shown end)) whole = ShowsIn options order script end whole
-Displays options order script (Ok Past) whole = EndsBeforeIn options order script
-Displays options order script (Ok Misused) whole = ⊥
-Displays options order script (Err fault) whole = RefusesShow script order fault
+abbrev pub Displays : Bool → Options → Option (List ℕ) → List ℕ → Result Showing Fault → List ℕ → Type 0
+Displays named options order script (Ok (Shown end)) whole = ShowsIn named options order script end whole
+Displays named options order script (Ok Past) whole = EndsBeforeIn options order script
+Displays named options order script (Ok Misused) whole = ⊥
+Displays named options order script (Err fault) whole = RefusesShow script order fault
 
 abbrev pub status_of_show : Result Showing Fault → ℕ
 status_of_show (Ok (Shown end)) = status_of_end end
@@ -153,8 +178,8 @@ status_of_show (Err fault) = status_of_fault fault
 pub record AnswersShow (script arguments old new : List ℕ) (answer : LwktAnswer) (status : ℕ) : Type 0 where
   pub outcome : Result Showing Fault
   pub whole : List ℕ
-  pub shows : IsUtf8 arguments → (options : Options) → AreOptions (words_in arguments) options → Displays options None script outcome whole
-  pub along : IsUtf8 arguments → (options : Options) (order : List ℕ) → AreAlong (words_in arguments) options order → Displays options (Some order) script outcome whole
+  pub shows : IsUtf8 arguments → (options : Options) → AreOptions (words_asked arguments) options → Displays (in_names arguments) options None script outcome whole
+  pub along : IsUtf8 arguments → (options : Options) (order : List ℕ) → AreAlong (words_asked arguments) options order → Displays (in_names arguments) options (Some order) script outcome whole
   pub misused : AskForNoRun arguments → (outcome ≡ Ok Misused) ⊎ (outcome ≡ Err no_memory)
   pub fills : Fills old new answer whole (result_err outcome)
   pub is_status : status ≡ status_of_show outcome

@@ -7,8 +7,8 @@ use lwkt_report::{Page, push_escaped, write_whole};
 use std::alloc::Global;
 
 // What may stand behind `turns`, but for the values of options.
-const OPTIONS: [&str; 6] = [
-    "--order", "--turns", "--rounds", "--svg", "--trace", "--chains",
+const OPTIONS: [&str; 7] = [
+    "--names", "--order", "--turns", "--rounds", "--svg", "--trace", "--chains",
 ];
 
 // The most bytes of a word for which an option is proposed.
@@ -19,7 +19,7 @@ const APART: &str = "these arguments don't go together, or a value isn't as its 
 
 // What to try.
 const FORM: &str =
-    "try: turns, and behind it --order ORDER, then --turns A..B or --rounds A..B, and --svg, --trace or --chains\n";
+    "try: turns, and behind it --names, then --order ORDER, then --turns A..B or --rounds A..B, and --svg, --trace or --chains\n";
 
 // Whether an option has a value behind it.
 fn has_value(word: &str) -> bool {

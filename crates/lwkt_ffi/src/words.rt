@@ -1,5 +1,5 @@
 ghost use Rattle.std.specs.Prelude.{◌≡◌, IfOk, map, string_bytes};
-ghost use Rattle.lwkt_ffi.specs.Answers.{words_in};
+ghost use Rattle.lwkt_ffi.specs.Answers.{words_in, asks_names, without_names};
 
 use lwkt_base::OutOfMemory;
 use lwkt_base::memory::{collect, from_str, push};
@@ -24,4 +24,25 @@ pub fn words_of(alloc: Global, arguments: &str) -> Result<Vec<String>, OutOfMemo
         push(&mut words, from_str(alloc, part)?)?;
     }
     Ok(words)
+}
+
+/// Whether the word behind the first asks for the names of a text.
+pub fn asks_names(words: &[String]) -> bool
+    ensures { result ≡ asks_names (map string_bytes words.now) }
+{
+    match words {
+        [_, word, ..] => word.as_str() == "--names",
+        _ => false,
+    }
+}
+
+/// The words without that word.
+pub fn without_names(words: Vec<String>) -> Vec<String>
+    ensures { map string_bytes result.items ≡ without_names (map string_bytes words.items) }
+{
+    let mut words = words;
+    if asks_names(&words) {
+        let _asked = words.remove(1);
+    }
+    words
 }

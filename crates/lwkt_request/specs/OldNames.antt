@@ -13,11 +13,14 @@ named sub (word ∷ words) =
     if bytes_eq word (codes "help") then sub ∷ codes "--help" ∷ []
     else (if bytes_eq word (codes "--version") then codes "--version" ∷ [] else sub ∷ word ∷ words)
 
+-- a run that is shown in numbers
 abbrev pub old_show : List Text → List Text
-old_show [] = named (codes "show") []
+old_show [] = codes "show" ∷ codes "--numbers" ∷ []
 old_show (word ∷ words) =
-    if bytes_eq word (codes "turns") then codes "show" ∷ words
-    else (if bytes_eq word (codes "threads") then codes "show" ∷ codes "--threads" ∷ words else named (codes "show") (word ∷ words))
+    if bytes_eq word (codes "turns") then codes "show" ∷ codes "--numbers" ∷ words
+    else (if bytes_eq word (codes "threads") then codes "show" ∷ codes "--numbers" ∷ codes "--threads" ∷ words
+    else (if bytes_eq word (codes "help") || bytes_eq word (codes "--version") then named (codes "show") (word ∷ words)
+    else codes "show" ∷ codes "--numbers" ∷ word ∷ words))
 
 abbrev pub old_check : List Text → List Text
 old_check [] = named (codes "check") []

@@ -68,16 +68,16 @@ fits_order order rounds = option_map_or (λ text. list_all is_part text && not (
 abbrev pub fits : Bool → Rendering → Option Text → Option Text → Option Text → Bool
 fits on_threads rendering order turns rounds = if on_threads then fits_threads rendering order turns rounds else fits_order order rounds
 
-abbrev pub shown : Bool → Option Text → Option Text → Option Text → Bool → Bool → Bool → Option Task
-shown on_threads order turns rounds svg trace chains =
+abbrev pub shown : Bool → Option Text → Option Text → Option Text → Bool → Bool → Bool → Bool → Option Task
+shown on_threads order turns rounds svg trace chains in_numbers =
     option_and_then (λ rendering. option_and_then (λ range. option_and_then (λ options.
-    if fits on_threads rendering order turns rounds then Some (Show on_threads options) else None)
+    if fits on_threads rendering order turns rounds then Some (Show on_threads in_numbers options) else None)
     (options_of rendering range)) (range_named turns rounds)) (rendering_of trace svg chains)
 
 abbrev pub show_in : List Row → Option Task
 show_in rows =
     shown (is_on (codes "threads") rows) (first_of (codes "order") rows) (first_of (codes "turns") rows) (first_of (codes "rounds") rows)
-    (is_on (codes "svg") rows) (is_on (codes "trace") rows) (is_on (codes "chains") rows)
+    (is_on (codes "svg") rows) (is_on (codes "trace") rows) (is_on (codes "chains") rows) (is_on (codes "numbers") rows)
 
 -- ---- text
 

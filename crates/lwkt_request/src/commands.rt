@@ -184,6 +184,12 @@ fn show_command<'a>(alloc: Global) -> Built<'a>
         "chains",
         "List the written sections of each token",
     );
+    let command = with_flag(
+        alloc,
+        command,
+        "numbers",
+        "Show a text in numbers, as JSON is shown",
+    );
     with_file(alloc, command, SCRIPT_FILE)
 }
 

@@ -21,20 +21,24 @@ pub(crate) enum OldRun<'a> {
     Misused,
 }
 
-// The words that `rest` are behind one word or two.
+// The words that `rest` are behind up to three words.
 fn behind<'a>(
     alloc: Global,
     first: Option<&'a str>,
     second: Option<&'a str>,
+    third: Option<&'a str>,
     rest: &'a [String],
 ) -> Result<Vec<&'a str>, OutOfMemory>
-    ensures { IfOk result (λ words. texts words.items ≡ (option_to_list (option_copied first.entry) ++ option_to_list (option_copied second.entry)) ++ map string_bytes rest.entry.now) }
+    ensures { IfOk result (λ words. texts words.items ≡ (option_to_list (option_copied first.entry) ++ option_to_list (option_copied second.entry) ++ option_to_list (option_copied third.entry)) ++ map string_bytes rest.entry.now) }
 {
     let mut words = Vec::new(alloc);
     if let Some(word) = first {
         push(&mut words, word)?;
     }
     if let Some(word) = second {
+        push(&mut words, word)?;
+    }
+    if let Some(word) = third {
         push(&mut words, word)?;
     }
     for word in rest {
@@ -48,23 +52,30 @@ fn named<'a>(alloc: Global, sub: &'a str, words: &'a [String]) -> Result<Vec<&'a
     ensures { IfOk result (λ new. texts new.items ≡ named sub.entry.now (map string_bytes words.entry.now)) }
 {
     match words.first() {
-        Some(word) if word.as_str() == "help" => behind(alloc, Some(sub), Some("--help"), &[]),
+        Some(word) if word.as_str() == "help" => behind(alloc, Some(sub), Some("--help"), None, &[]),
         Some(word) if word.as_str() == "--version" => {
-            behind(alloc, Some("--version"), None, &[])
+            behind(alloc, Some("--version"), None, None, &[])
         }
-        _ => behind(alloc, Some(sub), None, words),
+        _ => behind(alloc, Some(sub), None, None, words),
     }
 }
 
+// The words of a run that is shown in numbers.
 fn old_show<'a>(alloc: Global, words: &'a [String]) -> Result<Vec<&'a str>, OutOfMemory>
     ensures { IfOk result (λ new. texts new.items ≡ old_show (map string_bytes words.entry.now)) }
 {
     match words.split_first() {
-        Some((word, rest)) if word.as_str() == "turns" => behind(alloc, Some("show"), None, rest),
-        Some((word, rest)) if word.as_str() == "threads" => {
-            behind(alloc, Some("show"), Some("--threads"), rest)
+        Some((word, rest)) if word.as_str() == "turns" => {
+            behind(alloc, Some("show"), Some("--numbers"), None, rest)
         }
-        _ => named(alloc, "show", words),
+        Some((word, rest)) if word.as_str() == "threads" => {
+            let threads = Some("--threads");
+            behind(alloc, Some("show"), Some("--numbers"), threads, rest)
+        }
+        Some((word, _)) if word.as_str() == "help" || word.as_str() == "--version" => {
+            named(alloc, "show", words)
+        }
+        _ => behind(alloc, Some("show"), Some("--numbers"), None, words),
     }
 }
 
@@ -73,7 +84,7 @@ fn old_check<'a>(alloc: Global, words: &'a [String]) -> Result<Vec<&'a str>, Out
 {
     match words.split_first() {
         Some((word, rest)) if word.as_str() == "lines" => {
-            behind(alloc, Some("check"), Some("--lines"), rest)
+            behind(alloc, Some("check"), Some("--lines"), None, rest)
         }
         _ => named(alloc, "check", words),
     }
@@ -87,7 +98,7 @@ fn old_explore<'a>(alloc: Global, words: &'a [String]) -> Result<Vec<&'a str>, O
         Some(word) if word.as_str() == "help" || word.as_str() == "--version" => {
             named(alloc, "explore", words)
         }
-        _ => behind(alloc, Some("explore"), Some("--numbers"), words),
+        _ => behind(alloc, Some("explore"), Some("--numbers"), None, words),
     }
 }
 
@@ -96,8 +107,8 @@ fn help_of<'a>(alloc: Global, words: &'a [String]) -> Result<Vec<&'a str>, OutOf
     ensures { IfOk result (λ new. texts new.items ≡ help_of (map string_bytes words.entry.now)) }
 {
     match words.first() {
-        Some(sub) => behind(alloc, Some(sub.as_str()), Some("--help"), &[]),
-        None => behind(alloc, Some("--help"), None, &[]),
+        Some(sub) => behind(alloc, Some(sub.as_str()), Some("--help"), None, &[]),
+        None => behind(alloc, Some("--help"), None, None, &[]),
     }
 }
 
@@ -115,7 +126,7 @@ pub(crate) fn new_words<'a>(
         "lwkt_text" => named(alloc, "text", words),
         "lwkt_explore" => old_explore(alloc, words),
         "help" => help_of(alloc, words),
-        _ => behind(alloc, Some(name), None, words),
+        _ => behind(alloc, Some(name), None, None, words),
     }
 }
 

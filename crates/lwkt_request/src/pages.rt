@@ -81,7 +81,8 @@ pub(crate) const SHOW: Page = Page {
     about: "Show a run turn by turn",
     long_about: "\
 Run a script and show the run: a line for each turn, why threads haven't ended,
-each log beside its steps, and the report.
+each log beside its steps, and the report. A text is shown in its names, unless
+--numbers is given.
 
 In place of this, --svg draws the turns, --trace writes the run as a trace, and
 --chains lists the written sections of each token. Name at most one of the three.

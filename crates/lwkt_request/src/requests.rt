@@ -60,6 +60,8 @@ pub enum Task {
     Show {
         /// `--threads`, as for `Run`. Only chains are shown of such a run.
         on_threads: bool,
+        /// `--numbers`: whether the run of a text is shown in numbers, and not in its names.
+        in_numbers: bool,
         /// How the run is shown.
         options: Options,
     },

@@ -22,6 +22,7 @@ struct ShowWords<'a> {
     svg: bool,
     trace: bool,
     chains: bool,
+    in_numbers: bool,
 }
 
 // The view that three flags ask for.
@@ -138,7 +139,7 @@ fn fits<'a>(words: ShowWords<'a>, rendering: Rendering) -> Result<(), Wrong<'a>>
 }
 
 fn shown<'a>(words: ShowWords<'a>) -> Result<Task, Wrong<'a>>
-    ensures { result_ok result ≡ shown words.entry.on_threads (option_copied words.entry.order) (option_copied words.entry.turns) (option_copied words.entry.rounds) words.entry.svg words.entry.trace words.entry.chains }
+    ensures { result_ok result ≡ shown words.entry.on_threads (option_copied words.entry.order) (option_copied words.entry.turns) (option_copied words.entry.rounds) words.entry.svg words.entry.trace words.entry.chains words.entry.in_numbers }
 {
     let rendering = rendering_of(words.trace, words.svg, words.chains)?;
     let range = range_named(words.turns, words.rounds)?;
@@ -146,6 +147,7 @@ fn shown<'a>(words: ShowWords<'a>) -> Result<Task, Wrong<'a>>
     fits(words, rendering)?;
     Ok(Task::Show {
         on_threads: words.on_threads,
+        in_numbers: words.in_numbers,
         options,
     })
 }
@@ -161,6 +163,7 @@ fn show_in<'a>(matches: &ArgMatches<'a>) -> Result<Task, Wrong<'a>>
         svg: is_on(matches, "svg"),
         trace: is_on(matches, "trace"),
         chains: is_on(matches, "chains"),
+        in_numbers: is_on(matches, "numbers"),
     })
 }
 

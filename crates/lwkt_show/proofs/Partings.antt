@@ -26,7 +26,7 @@ head_is number round cpu doing events = grouped (codes "turn ") (decimal number)
 
 -- a poll, from its front on
 poll_is : (poll : Poll) (way : Way) (step : Step) (came : Came) (rest : List ℕ)
-    → poll_text poll way step came ++ rest ≡ codes ", thread " ++ (decimal poll.thread.cpu.0 ++ (codes "." ++ (decimal poll.thread.thread ++ (codes ", " ++ (ask_before way step ++ (codes ": " ++ (ask_front poll.ask ++ (codes "]" ++ (codes ": " ++ (came_text came poll.answer ++ rest))))))))))
+    → poll_text None poll way step came ++ rest ≡ codes ", thread " ++ (decimal poll.thread.cpu.0 ++ (codes "." ++ (decimal poll.thread.thread ++ (codes ", " ++ (ask_before way step ++ (codes ": " ++ (ask_front poll.ask ++ (codes "]" ++ (codes ": " ++ (came_text None came poll.answer ++ rest))))))))))
 poll_is poll way step came rest = simp append_assoc
 
 -- the front of an ask, from its front on
@@ -53,7 +53,7 @@ same_word a b e =
 -- polls that have the same text ask alike
 polls_alike : (a b : Poll) (way way' : Way) (step step' : Step) (came came' : Came) (rest rest' : List ℕ)
     → (a.thread.cpu.0 < 2 ^ 64) × (a.thread.thread < 2 ^ 64) → (b.thread.cpu.0 < 2 ^ 64) × (b.thread.thread < 2 ^ 64)
-    → poll_text a way step came ++ rest ≡ poll_text b way' step' came' ++ rest' → AskAlike a b
+    → poll_text None a way step came ++ rest ≡ poll_text None b way' step' came' ++ rest' → AskAlike a b
 polls_alike a b way way' step step' came came' rest rest' small small' e =
     let whole = append_cancel_left (codes ", thread ") _ _ (sym (poll_is a way step came rest) ∙ e ∙ poll_is b way' step' came' rest') in
     let stop : IsDigit 46 → ⊥ = no_digit 46 (omega arith) in
@@ -81,16 +81,16 @@ idle_opens : (words : List ℕ) → IsIdle words → Opens words
 idle_opens words (inl is) = record { first = 58; behind = codes " no thread is left"; never = no_colon; is = is }
 idle_opens words (inr why) = record { first = 58; behind = codes " no thread runs: " ++ why.0; never = no_colon; is = why.1 }
 
-opens : (poll : Option Poll) (words : List ℕ) → IsDoing poll words → Opens words
+opens : (poll : Option Poll) (words : List ℕ) → IsDoing None poll words → Opens words
 opens None words idle = idle_opens words idle
-opens (Some poll) words doing_is = record { first = 44; behind = drop 1 (poll_text poll doing_is.0 doing_is.1 doing_is.2); never = no_digit 44 (omega arith); is = doing_is.3 }
+opens (Some poll) words doing_is = record { first = 44; behind = drop 1 (poll_text None poll doing_is.0 doing_is.1 doing_is.2); never = no_digit 44 (omega arith); is = doing_is.3 }
 
 -- and with this one where there is no poll, and with that one where there is one
 idle_first : (words rest : List ℕ) → IsIdle words → get_or (words ++ rest) 0 0 ≡ 58
 idle_first words rest (inl is) = ap (λ (ws : List ℕ). get_or (ws ++ rest) 0 0) is
 idle_first words rest (inr why) = ap (λ (ws : List ℕ). get_or (ws ++ rest) 0 0) why.1
 
-poll_first : (poll : Poll) (words rest : List ℕ) → IsDoing (Some poll) words → get_or (words ++ rest) 0 0 ≡ 44
+poll_first : (poll : Poll) (words rest : List ℕ) → IsDoing None (Some poll) words → get_or (words ++ rest) 0 0 ≡ 44
 poll_first poll words rest doing_is = ap (λ (ws : List ℕ). get_or (ws ++ rest) 0 0) doing_is.3
 
 first_same : (xs ys : List ℕ) → xs ≡ ys → get_or xs 0 0 ≡ get_or ys 0 0
@@ -99,7 +99,7 @@ first_same xs ys e = ap (λ (l : List ℕ). get_or l 0 0) e
 abbrev FitsPoll : Option Poll → Type 0
 FitsPoll poll = IfSome poll (λ p. (p.thread.cpu.0 < 2 ^ 64) × (p.thread.thread < 2 ^ 64))
 
-doing_alike : (p q : Option Poll) (words words' rest rest' : List ℕ) → FitsPoll p → FitsPoll q → IsDoing p words → IsDoing q words' → words ++ rest ≡ words' ++ rest' → PollAlike p q
+doing_alike : (p q : Option Poll) (words words' rest rest' : List ℕ) → FitsPoll p → FitsPoll q → IsDoing None p words → IsDoing None q words' → words ++ rest ≡ words' ++ rest' → PollAlike p q
 doing_alike None None words words' rest rest' small small' a b e = tt
 doing_alike None (Some q) words words' rest rest' small small' a b e =
     let is = idle_first words rest a in

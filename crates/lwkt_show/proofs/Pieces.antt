@@ -1,5 +1,5 @@
 -- Pieces of a text, and bytes that are shown as they are.
-use Rattle.std.proofs.Common.{◌≡◌, ℕ, suc, zero, List, [], ◌∷◌, ◌++◌, Bool, true, false, ◌&&◌, take, refl}
+use Rattle.std.proofs.Common.{◌≡◌, ℕ, suc, zero, List, [], ◌∷◌, ◌++◌, append_assoc, Bool, true, false, ◌&&◌, take, refl}
 use Rattle.std.specs.List.{list_all}
 use Rattle.lwkt_refusals.specs.declared.pages.Page.{Page}
 use Rattle.lwkt_refusals.specs.Pages.{GrowsBy}
@@ -18,3 +18,7 @@ pub all_of_front : (p : ℕ → Bool) (n : ℕ) (xs : List ℕ) → list_all p x
 all_of_front p zero xs all = refl
 all_of_front p (suc n) [] all = refl
 all_of_front p (suc n) (x ∷ xs) all = and_kept (p x) (list_all p xs) (list_all p (take n xs)) all (all_of_front p n xs)
+
+-- two texts before four
+pub two_and_four : (a b c d e f : List ℕ) → (a ++ b) ++ (c ++ d ++ e ++ f) ≡ a ++ b ++ c ++ d ++ e ++ f
+two_and_four a b c d e f = simp append_assoc

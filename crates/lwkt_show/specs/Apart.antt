@@ -24,9 +24,9 @@ pub record AreWords (turn : TurnOfLine) : Type 0 where
   pub cpu : turn.cpu < 2 ^ 64
   pub poll : IfSome turn.poll (λ poll. (poll.thread.cpu.0 < 2 ^ 64) × (poll.thread.thread < 2 ^ 64))
 
--- a line is that of a turn
+-- a line is that of a turn, in numbers
 abbrev pub IsLineOf : TurnOfLine → List ℕ → Type 0
-IsLineOf turn line = IsLine turn.number turn.round turn.cpu turn.poll line
+IsLineOf turn line = IsLine None turn.number turn.round turn.cpu turn.poll line
 
 -- two polls are of one thread, and their asks have one word, and are the same step of a script
 pub record AskAlike (one other : Poll) : Type 0 where

@@ -7,6 +7,7 @@ use Rattle.lwkt_run.specs.declared.runs.End.{End}
 use Rattle.lwkt_run.specs.declared.runs.TurnsRun.{TurnsRun}
 use Rattle.lwkt_run.specs.declared.threaded.ThreadRecord.{ThreadRecord}
 use Rattle.lwkt_script.specs.declared.scripts.Script.{Script}
+use Rattle.lwkt_text.specs.declared.tables.Names.{Names}
 use Rattle.lwkt_show.specs.Lines.{AreLinesOf}
 use Rattle.lwkt_show.specs.Shown.{first_turn}
 use Rattle.lwkt_trace.specs.Written.{trace_text}
@@ -14,22 +15,22 @@ use Rattle.lwkt_show.specs.declared.options.Options.{Options}
 use Rattle.lwkt_show.specs.declared.options.Rendering.{Rendering}
 use Rattle.lwkt_show.specs.declared.options.Rendering.TheVariants.{Lines, Trace, Picture, Chains}
 
--- the lines of a run in rounds, or along an order: of each turn that the options choose its line, one behind another, then some words,
+-- the lines of a run in rounds, or along an order, in the names of a text or in numbers: of each turn that the options choose its line, one behind another, then some words,
 -- and then the run's report
-abbrev pub ShowsLines : Options → Option (List ℕ) → Script → TurnsRun → List ℕ → Type 0
-ShowsLines options order script run text = AreLinesOf options order script.cpus run.polls.items run.turns.items run.closing text
+abbrev pub ShowsLines : Option Names → Options → Option (List ℕ) → Script → TurnsRun → List ℕ → Type 0
+ShowsLines names options order script run text = AreLinesOf names options order script run.polls.items run.turns.items run.closing text
 
 -- what is said of a text that shows what was kept: it has the lines of the chosen turns, and ends with the report; a trace is the text of
 -- the script's opening, of all events and of what the report closes with; of the other views nothing is said
-abbrev pub ShowsBy : Rendering → Options → Option (List ℕ) → Script → TurnsRun → List ℕ → Type 0
-ShowsBy Lines options order script run text = ShowsLines options order script run text
-ShowsBy Trace options order script run text = text ≡ trace_text script run.trace.items run.closing
-ShowsBy Picture options order script run text = Unit {0}
-ShowsBy Chains options order script run text = Unit {0}
+abbrev pub ShowsBy : Option Names → Rendering → Options → Option (List ℕ) → Script → TurnsRun → List ℕ → Type 0
+ShowsBy names Lines options order script run text = ShowsLines names options order script run text
+ShowsBy names Trace options order script run text = text ≡ trace_text script run.trace.items run.closing
+ShowsBy names Picture options order script run text = Unit {0}
+ShowsBy names Chains options order script run text = Unit {0}
 
 -- the same of the view that the options name
-abbrev pub ShowsAs : Options → Option (List ℕ) → Script → TurnsRun → List ℕ → Type 0
-ShowsAs options order script run text = ShowsBy options.rendering options order script run text
+abbrev pub ShowsAs : Option Names → Options → Option (List ℕ) → Script → TurnsRun → List ℕ → Type 0
+ShowsAs names options order script run text = ShowsBy names options.rendering options order script run text
 
 -- all that was kept of a run of the script, in rounds or along this order
 abbrev pub IsRunOf : Script → Option (List ℕ) → TurnsRun → Type 0
@@ -52,12 +53,12 @@ EndsBefore options (Some order) script run = (0 < options.first) × IsPast optio
 
 -- there is a run of the script, in rounds or along this order, with all that was kept of it, that ends so, and the text shows it as the
 -- options say; it hadn't ended before the first turn that was chosen
-pub record IsShown (options : Options) (order : Option (List ℕ)) (script : Script) (end : End) (text : List ℕ) : Type 0 where
+pub record IsShown (names : Option Names) (options : Options) (order : Option (List ℕ)) (script : Script) (end : End) (text : List ℕ) : Type 0 where
   pub run : TurnsRun
   pub is_run : IsRunOf script order run
   pub not_before : ¬ EndsBefore options order script run
   pub is_end : end ≡ end_of_closing run.closing
-  pub shows : ShowsAs options order script run text
+  pub shows : ShowsAs names options order script run text
 
 -- there is a run of the script, in rounds or along this order, that ended before the first turn that was chosen
 pub record EndsBeforeChosen (options : Options) (order : Option (List ℕ)) (script : Script) : Type 0 where

@@ -1,5 +1,5 @@
 -- The words of asks and answers (own).
-use Rattle.std.specs.Prelude.{ℕ, ◌+◌, ◌==◌, ◌&&◌, ◌||◌, nat_le, nat_lt, Bool, not, List, [], ◌++◌, length, take, codes, if◌then◌else◌}
+use Rattle.std.specs.Prelude.{ℕ, ◌+◌, ◌==◌, ◌&&◌, ◌||◌, nat_le, nat_lt, Bool, not, List, [], ◌++◌, length, take, codes, if◌then◌else◌, Option, None, Some}
 use Rattle.std.specs.Fmt.{decimal}
 use Rattle.std.specs.List.{list_all, flat_map}
 use Rattle.lwkt_base.specs.Fault.{number_of, fault_message}
@@ -18,6 +18,9 @@ use Rattle.lwkt_base.specs.declared.records.Rec.{Rec}
 use Rattle.lwkt_base.specs.declared.steps.Part.{Part}
 use Rattle.lwkt_base.specs.declared.steps.Part.TheVariants as parts
 use Rattle.lwkt_base.specs.declared.limits.TheConstants.{RECORD_LIMIT}
+use Rattle.lwkt_report.specs.Report.{record_text}
+use Rattle.lwkt_text.specs.declared.tables.Names.{Names}
+use Rattle.lwkt_told.specs.Called.{called, cell_called, thread_called}
 use Rattle.lwkt_trace.specs.Written.{comma, blob_text}
 
 -- a thread by its processor and its number: `1.0`
@@ -61,10 +64,61 @@ ask_parts ask = parts_text (step_of ask).1
 abbrev pub ask_text : Ask → List ℕ
 ask_text ask = codes "[\"" ++ ask_word ask ++ codes "\"" ++ ask_parts ask ++ codes "]"
 
+-- ---- in the names of a text, if some are given, or else in numbers
+
+-- a token: its name, or its number
+abbrev pub token_said : Option Names → ℕ → List ℕ
+token_said None tok = decimal tok
+token_said (Some names) tok = called names.tokens tok
+
+-- a message: its name, or its number
+abbrev pub message_said : Option Names → ℕ → List ℕ
+message_said None message = decimal message
+message_said (Some names) message = called names.messages message
+
+-- a thread: its name, or its processor and its number
+abbrev pub thread_said : Option Names → ThreadId → List ℕ
+thread_said None id = thread_text id
+thread_said (Some names) id = thread_called names id
+
+-- a number behind a word, or nothing for 0
+abbrev pub keyed_text : List ℕ → ℕ → List ℕ
+keyed_text key n = if n == 0 then [] else key ++ decimal n
+
+-- a word if it is so
+abbrev pub word_if : Bool → List ℕ → List ℕ
+word_if is word = if is then word else []
+
+-- what a message's origin may do with it
+abbrev pub flags_told : Flags → List ℕ
+flags_told flags = word_if flags.dropable (codes ", dropable") ++ word_if flags.abortable (codes ", abortable") ++ word_if flags.priority (codes ", priority")
+
+-- a part of a step, as it stands in a text
+abbrev pub part_told : Names → Part → List ℕ
+part_told names (parts.Token tok) = codes " " ++ called names.tokens tok.0
+part_told names (parts.Cell tok cell) = codes " " ++ cell_called names tok cell
+part_told names (parts.Value value) = codes " " ++ decimal value
+part_told names (parts.Record blob) = codes " " ++ record_text blob
+part_told names (parts.Message message) = codes " " ++ called names.messages message.0
+part_told names (parts.Target to) = codes " -> " ++ thread_called names to
+part_told names (parts.Call call) = keyed_text (codes ", op ") call.op ++ keyed_text (codes ", arg ") call.arg
+part_told names (parts.Flags flags) = flags_told flags
+part_told names (parts.Code error) = codes " " ++ decimal error
+part_told names (parts.Outcome outcome) = codes " " ++ decimal outcome
+
+-- an ask as the step of a text that stands for it: `write accounts.from 2`
+abbrev pub ask_told : Names → Ask → List ℕ
+ask_told names ask = ask_word ask ++ flat_map (part_told names) (step_of ask).1
+
+-- an ask, as the step of a text or of a script
+abbrev pub ask_said : Option Names → Ask → List ℕ
+ask_said None ask = ask_text ask
+ask_said (Some names) ask = ask_told names ask
+
 -- what came to a port
-abbrev pub item_text : Item → List ℕ
-item_text (Request message call) = codes "the request message " ++ decimal message.0 ++ codes ", op " ++ decimal call.op ++ codes ", arg " ++ decimal call.arg
-item_text (Answered message error outcome) = codes "the reply to message " ++ decimal message.0 ++ codes ", error " ++ decimal error ++ codes ", result " ++ decimal outcome
+abbrev pub item_text : Option Names → Item → List ℕ
+item_text names (Request message call) = codes "the request message " ++ message_said names message.0 ++ codes ", op " ++ decimal call.op ++ codes ", arg " ++ decimal call.arg
+item_text names (Answered message error outcome) = codes "the reply to message " ++ message_said names message.0 ++ codes ", error " ++ decimal error ++ codes ", result " ++ decimal outcome
 
 -- whether a byte is a character that is shown as it is, and has no meaning of its own in a line or a picture
 abbrev pub is_shown : ℕ → Bool
@@ -87,20 +141,20 @@ abbrev pub record_words : List ℕ → List ℕ
 record_words blob = if length blob == 0 then codes "an empty record" else full_words blob
 
 -- a message that was taken back
-abbrev pub dropped_text : MsgId → Rec → List ℕ
-dropped_text message rec = codes "message " ++ decimal message.0 ++ codes " taken back, op " ++ decimal rec.op ++ codes ", arg " ++ decimal rec.arg
+abbrev pub dropped_text : Option Names → MsgId → Rec → List ℕ
+dropped_text names message rec = codes "message " ++ message_said names message.0 ++ codes " taken back, op " ++ decimal rec.op ++ codes ", arg " ++ decimal rec.arg
 
 -- a refusal
 abbrev pub refused_text : Fault → List ℕ
 refused_text fault = codes "refused " ++ fault_text fault
 
 -- an answer: `done`, `value 15`, `refused 23, token busy`
-abbrev pub answer_text : Answer → List ℕ
-answer_text Begin = codes "not asked before"
-answer_text Done = codes "done"
-answer_text (Value value) = codes "value " ++ decimal value
-answer_text (Bytes blob) = record_words blob
-answer_text (Dropped message rec) = dropped_text message rec
-answer_text (Got item) = item_text item
-answer_text NoMsg = codes "nothing at the port"
-answer_text (Refused fault) = refused_text fault
+abbrev pub answer_text : Option Names → Answer → List ℕ
+answer_text names Begin = codes "not asked before"
+answer_text names Done = codes "done"
+answer_text names (Value value) = codes "value " ++ decimal value
+answer_text names (Bytes blob) = record_words blob
+answer_text names (Dropped message rec) = dropped_text names message rec
+answer_text names (Got item) = item_text names item
+answer_text names NoMsg = codes "nothing at the port"
+answer_text names (Refused fault) = refused_text fault

@@ -1,11 +1,15 @@
 //! What stands in the box of a turn: the thread that ran, or for what one waits where none did.
-use crate::layouts::{COLUMN, ROW};
+use crate::layouts::{NAME_LETTERS, ROW};
 use crate::reels::Scene;
 use crate::replays::Replay;
-use crate::shapes::{Point, show_path, show_rect, show_text_at};
+use crate::shapes::{Point, show_cut, show_path, show_rect, show_text_at};
 use crate::stories::{Doing, Story};
+use crate::words::{show_message, show_thread, show_token};
+use lwkt_base::{CpuId, MsgId, OutOfMemory, ThreadId, TokId};
 use lwkt_core::State;
 use lwkt_refusals::Page;
+use lwkt_text::Names;
+use std::alloc::Global;
 
 /// What a box shows. Of what threads wait for it shows what stands first here.
 #[derive(Clone, Copy, PartialEq, Eq)]
@@ -29,8 +33,8 @@ pub(crate) enum Kind {
 pub(crate) struct Content {
     /// What it shows.
     pub kind: Kind,
-    /// Which thread, token or message it names; 0 where it names none.
-    pub number: usize,
+    /// Which thread of the processor, which token or which message it names; 0 where it names none.
+    pub number: u8,
     /// Whether further threads wait for something else.
     pub more: bool,
 }
@@ -39,7 +43,7 @@ pub(crate) struct Content {
 fn alone(kind: Kind, number: u8) -> Content {
     Content {
         kind,
-        number: usize::from(number),
+        number,
         more: false,
     }
 }
@@ -122,55 +126,94 @@ fn is_numbered(kind: Kind) -> bool {
     matches!(kind, Kind::Thread | Kind::Token | Kind::Reply)
 }
 
-// How many letters a box has, of numbers with at most two digits.
-fn letters(content: Content) -> usize {
-    let number = if !is_numbered(content.kind) {
-        0
-    } else if content.number > 9 {
-        2
-    } else {
-        1
+// Appends what a box names by its number.
+fn show_number(out: &mut Page, content: Content) {
+    out.add(word(content.kind));
+    if is_numbered(content.kind) {
+        out.number("", u64::from(content.number));
+    }
+}
+
+// Appends what a box of a processor names by its name.
+fn show_name(out: &mut Page, names: &Names, cpu: u8, content: Content) {
+    let id = ThreadId {
+        cpu: CpuId(cpu),
+        thread: content.number,
     };
-    let more = if content.more { 1 } else { 0 };
-    word(content.kind)
-        .len()
-        .saturating_add(number)
-        .saturating_add(more)
+    match content.kind {
+        Kind::Thread => show_thread(out, Some(names), id),
+        Kind::Token => show_token(out, Some(names), TokId(content.number)),
+        Kind::Reply => show_message(out, Some(names), MsgId(content.number)),
+        _ => out.add(word(content.kind)),
+    }
+}
+
+/// What a box of a processor says, but for a plus; of a long name the front.
+pub(crate) fn label_of(
+    alloc: Global,
+    names: Option<&Names>,
+    cpu: u8,
+    content: Content,
+) -> Result<String, OutOfMemory> {
+    let mut page = Page::new(alloc);
+    match names {
+        Some(names) => show_name(&mut page, names, cpu, content),
+        None => show_number(&mut page, content),
+    }
+    let label = page.whole()?;
+    let mut front = Page::new(alloc);
+    show_cut(&mut front, label.as_str(), NAME_LETTERS);
+    front.whole()
+}
+
+/// A box, and what stands in it.
+#[derive(Clone, Copy)]
+pub(crate) struct Labelled<'a> {
+    /// What it shows.
+    pub content: Content,
+    /// What it says, but for a plus.
+    pub label: &'a str,
+    /// How wide it is with what is around it.
+    pub width: usize,
 }
 
 // Appends what a box says.
-fn show_content(out: &mut Page, content: Content) {
-    out.add(word(content.kind));
-    if is_numbered(content.kind) {
-        out.size("", content.number);
-    }
-    if content.more {
+fn show_label(out: &mut Page, shown: Labelled<'_>) {
+    out.add(shown.label);
+    if shown.content.more {
         out.add("+");
     }
 }
 
 /// Appends a box with what it says, crossed at its right if a thread ended faulted in it.
-pub(crate) fn show_box(out: &mut Page, at: Point, content: Content, crossed: bool) {
-    let class = if content.kind == Kind::Thread {
+pub(crate) fn show_box(out: &mut Page, at: Point, shown: Labelled<'_>, crossed: bool) {
+    let class = if shown.content.kind == Kind::Thread {
         "turn"
     } else {
         "idle"
     };
-    show_rect(out, at.by(2, 0), COLUMN - 4, ROW, class);
+    let column = shown.width;
+    show_rect(out, at.by(2, 0), column.saturating_sub(4), ROW, class);
     out.add("/>");
-    let width = letters(content).saturating_mul(6);
+    let more = if shown.content.more { 1 } else { 0 };
+    let width = shown.label.len().saturating_add(more).saturating_mul(6);
     let inset = if crossed {
         5
     } else {
-        COLUMN.saturating_sub(width) / 2
+        column.saturating_sub(width) / 2
     };
-    if !crossed || width < 13 {
+    if !crossed || width < column.saturating_sub(19) {
         show_text_at(out, at.by(inset, ROW - 4), "");
-        show_content(out, content);
+        show_label(out, shown);
         out.add("</text>");
     }
     if crossed {
-        show_path(out, at.by(19, 3), "l8 8m0 -8l-8 8", "cross");
+        show_path(
+            out,
+            at.by(column.saturating_sub(13), 3),
+            "l8 8m0 -8l-8 8",
+            "cross",
+        );
         out.add("/>");
     }
 }

@@ -1,14 +1,16 @@
 //! How the parts of a picture are drawn.
-use crate::boxes::show_box;
+use crate::boxes::{Labelled, show_box};
 use crate::labels::{Label, Tag};
-use crate::layouts::{COLUMN, Layout, ROW, Spot};
+use crate::layouts::{Layout, ROW, Spot};
 use crate::shapes::{
     BOLD, Point, VALUE, digits, draw, show_flag, show_line, show_rect, show_ring, show_text_at,
 };
 use crate::sketches::{Bar, Sketch, Stored, TurnBox, Way};
-use crate::words::{mode_word, show_fault};
+use crate::words::{mode_word, show_cell, show_fault, show_message, show_token_at};
 use lwkt_base::{Fault, Mode};
 use lwkt_refusals::Page;
+use lwkt_text::Names;
+use lwkt_told::{Called, cells_of};
 
 // How far right of a round's beginning messages leave and arrive.
 const STALK: usize = 24;
@@ -22,8 +24,10 @@ pub(crate) fn bar_class(mode: Mode) -> &'static str {
 }
 
 // Appends what a bar says, and its end.
-fn show_bar_title(out: &mut Page, bar: &Bar) {
-    draw(out, "><title>token @ held ", &[bar.spot.tok]);
+fn show_bar_title(out: &mut Page, names: Option<&Names>, bar: &Bar) {
+    out.add("><title>token ");
+    show_token_at(out, names, bar.spot.tok);
+    out.add(" held ");
     out.add(mode_word(bar.mode));
     let numbers = [bar.spot.cpu, bar.spot.round, bar.until];
     draw(
@@ -47,18 +51,19 @@ fn bar_end(layout: &Layout, bar: &Bar, band: usize) -> usize {
     if bar.until > layout.grid.end(band) {
         return layout.grid.right(band);
     }
-    layout.grid.x(bar.until).saturating_add(COLUMN - 2)
+    let inside = layout.grid.widths.column.saturating_sub(2);
+    layout.grid.x(bar.until).saturating_add(inside)
 }
 
 // Appends a bar in each band in which it stands.
-fn draw_bar(out: &mut Page, layout: &Layout, bar: &Bar) {
+fn draw_bar(out: &mut Page, names: Option<&Names>, layout: &Layout, bar: &Bar) {
     let last = layout.grid.band(bar.until);
     for band in layout.grid.band(bar.spot.round)..last.saturating_add(1) {
         if let Some(y) = layout.row(band, bar.spot.cpu, bar.spot.tok) {
             let x = bar_begin(layout, bar, band);
             let width = bar_end(layout, bar, band).saturating_sub(x);
             show_rect(out, Point { x, y }, width, ROW - 4, bar_class(bar.mode));
-            show_bar_title(out, bar);
+            show_bar_title(out, names, bar);
         }
     }
 }
@@ -72,16 +77,11 @@ fn front_of(number: u64, count: usize) -> u64 {
     rest
 }
 
-// Appends a value in so many letters: the cell and its value, or its first digits where it is longer.
-fn show_value(out: &mut Page, stored: &Stored, room: usize) {
-    let before = digits(u64::from(stored.cell)).saturating_add(1);
+// Appends a value in so many letters: all of it, or its first digits where it is longer.
+fn show_digits(out: &mut Page, stored: &Stored, room: usize) {
     let behind = if stored.more { 2 } else { 0 };
-    let all = before
-        .saturating_add(digits(stored.value))
-        .saturating_add(behind);
-    out.number("", u64::from(stored.cell));
-    out.add(":");
-    let left = room.saturating_sub(before.saturating_add(2));
+    let all = digits(stored.value).saturating_add(behind);
+    let left = room.saturating_sub(2);
     if all <= room {
         out.number("", stored.value);
     } else if left > 0 {
@@ -92,46 +92,87 @@ fn show_value(out: &mut Page, stored: &Stored, room: usize) {
     }
 }
 
-/// Appends a value in so many letters.
-pub(crate) fn show_stored(out: &mut Page, at: Point, stored: &Stored, room: usize) {
+// Appends a value in so many letters behind the number of its cell.
+fn show_numbered(out: &mut Page, stored: &Stored, room: usize) {
+    let before = digits(u64::from(stored.cell)).saturating_add(1);
+    out.number("", u64::from(stored.cell));
+    out.add(":");
+    show_digits(out, stored, room.saturating_sub(before))
+}
+
+// How many letters the name of a cell has; of one without a name its number.
+fn name_letters(names: &Names, stored: &Stored) -> usize {
+    match cells_of(names, stored.spot.tok).get(usize::from(stored.cell)) {
+        Some(name) if !name.as_str().is_empty() => name.as_str().len(),
+        _ => digits(u64::from(stored.cell)),
+    }
+}
+
+// Appends a value in so many letters behind the name of its cell, if there is room for that.
+fn show_named(out: &mut Page, names: &Names, stored: &Stored, room: usize) {
+    let behind = if stored.more { 2 } else { 0 };
+    let value = digits(stored.value).saturating_add(behind);
+    let before = name_letters(names, stored).saturating_add(1);
+    let fits = before.saturating_add(value) <= room;
+    if fits {
+        out.say(Called {
+            names: cells_of(names, stored.spot.tok),
+            number: usize::from(stored.cell),
+        });
+    }
+    out.add("=");
+    let taken = if fits { before } else { 1 };
+    show_digits(out, stored, room.saturating_sub(taken))
+}
+
+/// Appends a value in so many letters, behind what its cell is called.
+pub(crate) fn show_stored(
+    out: &mut Page,
+    names: Option<&Names>,
+    at: Point,
+    stored: &Stored,
+    room: usize,
+) {
     show_text_at(out, at, VALUE);
-    let numbers = [stored.spot.tok, usize::from(stored.cell)];
-    draw(out, "<title>token @: cell @ is now ", &numbers);
-    out.number("", stored.value);
+    out.add("<title>");
+    show_cell(out, names, stored.tok, stored.cell);
+    out.number(" is now ", stored.value);
     if stored.more {
         out.add("; further cells are stored in the same turn");
     }
     out.add("</title>");
-    show_value(out, stored, room);
+    match names {
+        Some(names) => show_named(out, names, stored, room),
+        None => show_numbered(out, stored, room),
+    }
     out.add("</text>\n");
 }
 
 // Appends a value on its token's bar.
-fn draw_value(out: &mut Page, layout: &Layout, stored: &Stored) {
+fn draw_value(out: &mut Page, names: Option<&Names>, layout: &Layout, stored: &Stored) {
     let Some(at) = layout.spot(stored.spot) else {
         return;
     };
     let round = stored.spot.round;
     let behind = layout.grid.end(layout.grid.band(round)).saturating_add(1);
     let rounds = stored.until.min(behind).saturating_sub(round).max(1);
-    let room = rounds.saturating_mul(COLUMN).saturating_sub(1) / 6;
-    show_stored(out, at.by(2, 9), stored, room);
+    let width = rounds.saturating_mul(layout.grid.widths.column);
+    let room = width.saturating_sub(1) / 6;
+    show_stored(out, names, at.by(2, 9), stored, room);
 }
 
 // Appends a mark in the row of the processor that set it.
-fn draw_mark(out: &mut Page, layout: &Layout, mark: Spot) {
+fn draw_mark(out: &mut Page, names: Option<&Names>, layout: &Layout, mark: Spot) {
     let Some(at) = layout.spot(mark) else {
         return;
     };
-    let x = at.x.saturating_add(COLUMN / 2);
+    let x = at.x.saturating_add(layout.grid.widths.column / 2);
     let y = at.y.saturating_sub(2);
     show_flag(out, Point { x, y });
-    let numbers = [mark.tok, mark.cpu, mark.round];
-    draw(
-        out,
-        "><title>token @ marked by processor @ in round @</title></path>\n",
-        &numbers,
-    );
+    out.add("><title>token ");
+    show_token_at(out, names, mark.tok);
+    let behind = " marked by processor @ in round @</title></path>\n";
+    draw(out, behind, &[mark.cpu, mark.round]);
 }
 
 // How far below two processors' turns a line from the one to the other begins and ends.
@@ -177,11 +218,12 @@ fn draw_arrow(out: &mut Page, layout: &Layout, way: &Way, cpu: usize, until: usi
 }
 
 // Appends the title of a message on its way.
-fn show_way(out: &mut Page, way: &Way) {
+fn show_way(out: &mut Page, names: Option<&Names>, way: &Way) {
     out.add("<g><title>");
     out.add(if way.look.is_urgent { "urgent " } else { "" });
     out.add(if way.look.is_reply { "reply to " } else { "" });
-    out.number("message ", u64::from(way.msg.0));
+    out.add("message ");
+    show_message(out, names, way.msg);
     out.number(", round ", way.round);
     draw(out, ": from processor @ in round @", &[way.cpu, way.since]);
     match way.end {
@@ -192,8 +234,8 @@ fn show_way(out: &mut Page, way: &Way) {
 }
 
 // Appends a message on its way.
-fn draw_way(out: &mut Page, layout: &Layout, way: &Way) {
-    show_way(out, way);
+fn draw_way(out: &mut Page, names: Option<&Names>, layout: &Layout, way: &Way) {
+    show_way(out, names, way);
     match way.end {
         Some((cpu, until)) => draw_arrow(out, layout, way, cpu, until),
         None => show_ring(out, layout.turn(way.since, way.cpu).by(STALK, ROW)),
@@ -207,7 +249,12 @@ fn draw_box(out: &mut Page, layout: &Layout, turn: &TurnBox) {
     out.add("<g><title>");
     out.add_line(&turn.line);
     out.add("</title>");
-    show_box(out, at, turn.content, turn.crossed);
+    let shown = Labelled {
+        content: turn.content,
+        label: turn.label.as_str(),
+        width: layout.grid.widths.column,
+    };
+    show_box(out, at, shown, turn.crossed);
     out.add("</g>\n");
 }
 
@@ -222,7 +269,6 @@ fn show_fault_label(out: &mut Page, at: Point, fault: Fault, ends: bool) {
     });
     show_fault(out, fault);
     out.add("</title>");
-    out.number(if ends { "x" } else { "!" }, u64::from(fault.number()));
 }
 
 // Appends a label above a turn.
@@ -233,46 +279,45 @@ fn draw_label(out: &mut Page, layout: &Layout, label: &Label) {
     };
     match label.tag {
         Tag::Fault(fault, ends) => show_fault_label(out, at, fault, ends),
-        Tag::Mail(msg, round) => {
-            show_text_at(out, at, "");
-            out.number("m", u64::from(msg.0));
-            out.number(" r", round);
-        }
-        Tag::Abort(msg) => {
-            show_text_at(out, at, "");
-            out.number("abort m", u64::from(msg.0));
-        }
+        Tag::Mail(_, _) | Tag::Abort(_) => show_text_at(out, at, ""),
     }
+    out.add(label.text.as_str());
     out.add("</text>\n");
 }
 
 // Appends messages, replies, and the bars of tokens: what lies behind.
-fn draw_behind(out: &mut Page, layout: &Layout, ways: &[Way], bars: &[Bar]) {
+fn draw_behind(out: &mut Page, names: Option<&Names>, layout: &Layout, ways: &[Way], bars: &[Bar]) {
     for way in ways {
-        draw_way(out, layout, way);
+        draw_way(out, names, layout, way);
     }
     for bar in bars {
-        draw_bar(out, layout, bar);
+        draw_bar(out, names, layout, bar);
     }
 }
 
 // Appends marks and values, which lie over the boxes of turns.
-fn draw_over(out: &mut Page, layout: &Layout, marks: &[Spot], values: &[Stored]) {
+fn draw_over(
+    out: &mut Page,
+    names: Option<&Names>,
+    layout: &Layout,
+    marks: &[Spot],
+    values: &[Stored],
+) {
     for mark in marks {
-        draw_mark(out, layout, *mark);
+        draw_mark(out, names, layout, *mark);
     }
     for stored in values {
-        draw_value(out, layout, stored);
+        draw_value(out, names, layout, stored);
     }
 }
 
-/// Appends what a picture has: what lies behind first.
-pub(crate) fn draw_sketch(out: &mut Page, layout: &Layout, sketch: &Sketch) {
-    draw_behind(out, layout, &sketch.ways, &sketch.bars);
+/// Appends what a picture has, in names if some are given: what lies behind first.
+pub(crate) fn draw_sketch(out: &mut Page, names: Option<&Names>, layout: &Layout, sketch: &Sketch) {
+    draw_behind(out, names, layout, &sketch.ways, &sketch.bars);
     for turn in &sketch.boxes {
         draw_box(out, layout, turn);
     }
-    draw_over(out, layout, &sketch.marks, &sketch.values);
+    draw_over(out, names, layout, &sketch.marks, &sketch.values);
     for label in &sketch.labels.list {
         draw_label(out, layout, label);
     }

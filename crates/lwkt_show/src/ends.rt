@@ -3,12 +3,14 @@ use crate::records::show_hex;
 use crate::replays::Replay;
 use crate::stories::{Logged, Story};
 use crate::turns::show_step;
-use crate::words::{fill, show_ask, show_fault, show_thread};
+use crate::words::{fill, show_ask, show_fault, show_thread, show_token};
 use lwkt_base::{Blob, Entry, Fault, ThreadLine, ThreadState};
 use lwkt_refusals::Page;
+use lwkt_text::Names;
+use lwkt_told::EntryTold;
 
 // Appends the rule by which a thread ended faulted, with its values.
-fn show_rule(out: &mut Page, replay: &Replay, story: &Story, fault: Fault) {
+fn show_rule(out: &mut Page, names: Option<&Names>, replay: &Replay, story: &Story, fault: Fault) {
     if let Some(why) = &story.why {
         out.add(": ");
         out.add_page(why);
@@ -21,31 +23,29 @@ fn show_rule(out: &mut Page, replay: &Replay, story: &Story, fault: Fault) {
         return;
     };
     if let Some(token) = replay.state.token(tok) {
-        let numbers = [u64::from(tok.0), token.generation];
-        fill(
-            out,
-            ": token @ is at generation @, the last, and is wanted exclusively",
-            &numbers,
-        );
+        out.add(": token ");
+        show_token(out, names, tok);
+        let behind = " is at generation @, the last, and is wanted exclusively";
+        fill(out, behind, &[token.generation]);
     }
 }
 
 // Appends why a thread hasn't ended, or ended faulted.
-fn show_end(out: &mut Page, replay: &Replay, story: &Story) {
+fn show_end(out: &mut Page, names: Option<&Names>, replay: &Replay, story: &Story) {
     match story.end {
         ThreadState::Exited => {}
         ThreadState::Faulted(fault) => {
             out.add("thread ");
-            show_thread(out, story.id);
+            show_thread(out, names, story.id);
             out.add(" ended faulted ");
             show_fault(out, fault);
-            show_rule(out, replay, story, fault);
+            show_rule(out, names, replay, story, fault);
             out.add("\n");
         }
         ThreadState::Ready | ThreadState::Waiting | ThreadState::Running => {
             out.add("the turns are used up, and thread ");
-            story.show_why(out, &replay.state, &replay.runners);
-            show_marker(out, replay, story);
+            story.show_why(out, names, &replay.state, &replay.runners);
+            show_marker(out, names, replay, story);
             out.add("\n");
         }
     }
@@ -60,8 +60,8 @@ fn show_bytes(out: &mut Page, blob: &Blob) {
     show_hex(out, blob.as_slice())
 }
 
-// Appends an entry of a log, as in a report.
-fn show_entry(out: &mut Page, entry: Entry) {
+// Appends an entry of a log, as in a report in numbers.
+fn show_numbers(out: &mut Page, entry: Entry) {
     match entry {
         Entry::Value(value) => out.number("v=", value),
         Entry::Bytes(blob) => show_bytes(out, &blob),
@@ -93,19 +93,35 @@ fn show_entry(out: &mut Page, entry: Entry) {
     }
 }
 
+// Appends an entry of a log in the names of a text.
+fn tell_entry(out: &mut Page, names: &Names, entry: &Entry) {
+    if let Entry::Value(_) = entry {
+        out.add("saw ");
+    }
+    out.say(EntryTold { names, entry })
+}
+
+// Appends an entry of a log, as in a report.
+fn show_entry(out: &mut Page, names: Option<&Names>, entry: Entry) {
+    match names {
+        Some(names) => tell_entry(out, names, &entry),
+        None => show_numbers(out, entry),
+    }
+}
+
 // Appends an entry of a log beside the step that made it.
-fn show_logged(out: &mut Page, story: &Story, entry: Entry, logged: Logged) {
+fn show_logged(out: &mut Page, names: Option<&Names>, story: &Story, entry: Entry, logged: Logged) {
     out.add("  ");
-    show_entry(out, entry);
+    show_entry(out, names, entry);
     out.add(" of ");
     show_step(out, story.step_at(logged.number));
     out.add(": ");
-    show_ask(out, &logged.ask);
+    show_ask(out, names, &logged.ask);
     out.add("\n");
 }
 
 // Appends the log of a thread, each entry beside its step, and how many entries it has no room for.
-fn show_log(out: &mut Page, story: &Story, line: &ThreadLine) {
+fn show_log(out: &mut Page, names: Option<&Names>, story: &Story, line: &ThreadLine) {
     if let Some(refused) = story.lost() {
         out.lose(refused);
     }
@@ -114,10 +130,10 @@ fn show_log(out: &mut Page, story: &Story, line: &ThreadLine) {
         return;
     }
     out.add("log of thread ");
-    show_thread(out, story.id);
+    show_thread(out, names, story.id);
     out.add("\n");
     for (entry, logged) in entries.iter().zip(story.logged.iter()) {
-        show_logged(out, story, *entry, *logged);
+        show_logged(out, names, story, *entry, *logged);
     }
     let kept = entries.len() as u64;
     if story.entries > kept {
@@ -126,12 +142,17 @@ fn show_log(out: &mut Page, story: &Story, line: &ThreadLine) {
     }
 }
 
-/// Appends why each thread that didn't end by itself hasn't, or how it faulted, and then the logs.
-pub(crate) fn show_ends(out: &mut Page, replay: &Replay, lines: &[ThreadLine]) {
+/// Appends why each thread that didn't end by itself hasn't, or how it faulted, and then the logs; in names if some are given.
+pub(crate) fn show_ends(
+    out: &mut Page,
+    names: Option<&Names>,
+    replay: &Replay,
+    lines: &[ThreadLine],
+) {
     for story in &replay.stories {
-        show_end(out, replay, story);
+        show_end(out, names, replay, story);
     }
     for (story, line) in replay.stories.iter().zip(lines.iter()) {
-        show_log(out, story, line);
+        show_log(out, names, story, line);
     }
 }

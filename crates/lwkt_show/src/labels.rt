@@ -1,9 +1,12 @@
 //! Labels above turns: what was refused, whose thread ended, which message was sent. No two of them overlap.
 use crate::layouts::{Grid, seat_of, zeros};
-use crate::shapes::{digits, text_width};
+use crate::shapes::text_width;
+use crate::words::show_message;
 use lwkt_base::limits::CPU_LIMIT;
 use lwkt_base::memory::push;
 use lwkt_base::{Fault, MsgId, OutOfMemory};
+use lwkt_refusals::Page;
+use lwkt_text::Names;
 use std::alloc::Global;
 
 // The most lines of labels above a processor.
@@ -21,7 +24,7 @@ pub(crate) enum Tag {
 }
 
 /// A label and where it stands: above the turns of a processor in a round, on which line from below, and how far from the left.
-#[derive(Clone, Copy)]
+#[derive(Drop)]
 pub(crate) struct Label {
     /// The round of its turn, counted from 0.
     pub round: usize,
@@ -31,8 +34,10 @@ pub(crate) struct Label {
     pub line: usize,
     /// How far from the picture's left side it begins, in pixels.
     pub x: usize,
-    /// What it says.
+    /// What it is of.
     pub tag: Tag,
+    /// What it says.
+    pub text: String,
 }
 
 /// The labels of a picture, which come by rising round.
@@ -48,15 +53,31 @@ pub(crate) struct Labels {
     pub lines: Vec<usize>,
 }
 
-// How many letters a label has.
-fn letters(tag: Tag) -> usize {
-    match tag {
-        Tag::Fault(..) => 3,
-        Tag::Mail(msg, round) => digits(u64::from(msg.0))
-            .saturating_add(digits(round))
-            .saturating_add(3),
-        Tag::Abort(msg) => digits(u64::from(msg.0)).saturating_add(7),
+// Appends a message, behind a letter if it is named by its number.
+fn show_mail(out: &mut Page, names: Option<&Names>, msg: MsgId) {
+    if names.is_none() {
+        out.add("m");
     }
+    show_message(out, names, msg)
+}
+
+// What a label says, in names if some are given.
+fn text_of(alloc: Global, names: Option<&Names>, tag: Tag) -> Result<String, OutOfMemory> {
+    let mut out = Page::new(alloc);
+    match tag {
+        Tag::Fault(fault, ends) => {
+            out.number(if ends { "x" } else { "!" }, u64::from(fault.number()))
+        }
+        Tag::Mail(msg, round) => {
+            show_mail(&mut out, names, msg);
+            out.number(" r", round)
+        }
+        Tag::Abort(msg) => {
+            out.add("abort ");
+            show_mail(&mut out, names, msg)
+        }
+    }
+    out.whole()
 }
 
 impl Labels {
@@ -93,13 +114,21 @@ impl Labels {
         }
     }
 
-    /// Adds a label above a turn, on the lowest line where nothing is in its way. One that finds none is left out.
-    pub(crate) fn add(&mut self, round: usize, cpu: usize, tag: Tag) -> Result<(), OutOfMemory> {
+    /// Adds a label above a turn, in names if some are given, on the lowest line where nothing is in its way. One that finds none is left out.
+    pub(crate) fn add(
+        &mut self,
+        alloc: Global,
+        names: Option<&Names>,
+        round: usize,
+        cpu: usize,
+        tag: Tag,
+    ) -> Result<(), OutOfMemory> {
         let band = self.grid.band(round);
         if band != self.band {
             self.begin_band(band);
         }
-        let width = text_width(letters(tag));
+        let text = text_of(alloc, names, tag)?;
+        let width = text_width(text.len().max(3));
         let right = self.grid.width().saturating_sub(2);
         let x = self.grid.x(round).saturating_add(2);
         let x = x.min(right.saturating_sub(width));
@@ -115,6 +144,7 @@ impl Labels {
             line,
             x,
             tag,
+            text,
         };
         push(&mut self.list, label)
     }

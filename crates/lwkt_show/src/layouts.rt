@@ -1,13 +1,18 @@
 //! Where the parts of a picture stand.
-use crate::shapes::Point;
+use crate::shapes::{Point, text_width};
 use lwkt_base::OutOfMemory;
 use lwkt_base::limits::{CPU_LIMIT, TOKEN_LIMIT};
 use lwkt_base::memory::push;
 use lwkt_core::Event;
+use lwkt_text::Names;
+use lwkt_told::width_of;
 use std::alloc::Global;
 
-/// The width of a round, in pixels.
-pub(crate) const COLUMN: usize = 32;
+// The width of a round in which numbers stand, in pixels.
+const COLUMN: usize = 32;
+
+/// The most letters of a name that a box shows.
+pub(crate) const NAME_LETTERS: usize = 12;
 
 /// The height of a row, in pixels.
 pub(crate) const ROW: usize = 14;
@@ -17,10 +22,10 @@ const LINE: usize = 11;
 // How far above a box its lowest label stands: an arrow's head fits between them.
 const LIFT: usize = 8;
 
-// The most rounds beside each other.
+// How many rounds stand beside each other at most, if numbers stand in them.
 const BAND: usize = 40;
 
-// What stands left of a band's first round and right of its last, how wide a picture is at least, and what stands above all
+// What stands left of a band's first round at least and right of its last, how wide a picture is at least, and what stands above all
 // bands and between two processors.
 const LEFT: usize = 76;
 
@@ -32,16 +37,58 @@ const HEAD: usize = 14;
 
 const GAP: usize = 8;
 
-/// The rounds that a picture shows, in bands of at most 40 below each other.
+/// How wide the parts of a picture are, in pixels.
+#[derive(Clone, Copy)]
+pub(crate) struct Widths {
+    /// What stands left of a band's first round.
+    pub left: usize,
+    /// A round.
+    pub column: usize,
+}
+
+/// How wide the parts of a picture have to be for some names, or else for numbers.
+pub(crate) fn widths_for(names: Option<&Names>) -> Widths {
+    let Some(names) = names else {
+        return Widths {
+            left: LEFT,
+            column: COLUMN,
+        };
+    };
+    let letters = width_of(names);
+    let inside = text_width(letters.min(NAME_LETTERS));
+    Widths {
+        left: text_width(letters).saturating_add(24).max(LEFT),
+        column: inside.saturating_add(14).max(COLUMN),
+    }
+}
+
+/// The rounds that a picture shows, in bands below each other.
 #[derive(Clone, Copy)]
 pub(crate) struct Grid {
     /// The first round that is shown, counted from 0.
     pub first: usize,
     /// The last one.
     pub last: usize,
+    /// How wide its parts are.
+    pub widths: Widths,
 }
 
 impl Grid {
+    ghost use Rattle.std.specs.Prelude.{◌<◌};
+
+    // How many rounds stand beside each other at most.
+    fn across(&self) -> usize
+        ensures { 0 < result }
+    {
+        let column = self.widths.column;
+        let fit = if column == 0 {
+            0
+        } else {
+            BAND * COLUMN / column
+        };
+        if fit == 0 { 1 } else { fit }
+    }
+
     // Which one of those shown a round is, from 0. One before them counts as the first, one behind them as the last.
     fn place(&self, round: usize) -> usize {
         round.min(self.last).saturating_sub(self.first)
@@ -49,7 +96,7 @@ impl Grid {
 
     /// The band in which a round stands.
     pub(crate) fn band(&self, round: usize) -> usize {
-        self.place(round) / BAND
+        self.place(round) / self.across()
     }
 
     /// How many bands there are.
@@ -59,22 +106,28 @@ impl Grid {
 
     /// The first round of a band.
     pub(crate) fn begin(&self, band: usize) -> usize {
-        self.first.saturating_add(band.saturating_mul(BAND))
+        self.first
+            .saturating_add(band.saturating_mul(self.across()))
     }
 
     /// The last round of a band.
     pub(crate) fn end(&self, band: usize) -> usize {
-        self.begin(band).saturating_add(BAND - 1).min(self.last)
+        self.begin(band)
+            .saturating_add(self.across() - 1)
+            .min(self.last)
     }
 
     /// Where a round begins.
     pub(crate) fn x(&self, round: usize) -> usize {
-        LEFT.saturating_add((self.place(round) % BAND).saturating_mul(COLUMN))
+        let place = self.place(round) % self.across();
+        self.widths
+            .left
+            .saturating_add(place.saturating_mul(self.widths.column))
     }
 
     /// Where a band ends.
     pub(crate) fn right(&self, band: usize) -> usize {
-        self.x(self.end(band)).saturating_add(COLUMN)
+        self.x(self.end(band)).saturating_add(self.widths.column)
     }
 
     /// How wide the picture is.

@@ -1,8 +1,7 @@
 //! What the parts of a picture mean, of those that it has.
-use crate::boxes::{Content, Kind, show_box};
+use crate::boxes::{Content, Kind, Labelled, show_box};
 use crate::drawings::{bar_class, show_stored};
 use crate::labels::{Label, Tag};
-use crate::layouts::COLUMN;
 use crate::shapes::{
     BOLD, Look, Point, show_flag, show_label, show_line, show_rect, show_ring, show_text_at,
     show_word, text_width,
@@ -10,6 +9,7 @@ use crate::shapes::{
 use crate::sketches::{Bar, Sketch, Stored, TurnBox, Way};
 use lwkt_base::{Fault, Mode};
 use lwkt_refusals::Page;
+use lwkt_text::Names;
 use std::alloc::Global;
 
 // How high a line of the legend is, and what stands between two of its parts.
@@ -56,10 +56,10 @@ impl Legend {
     }
 
     // Appends a box and its meaning.
-    fn add_box(&mut self, content: Content, meaning: &str) {
-        let at = self.next(COLUMN, meaning.len());
-        show_box(&mut self.page, at, content, false);
-        self.mean(at, COLUMN, meaning);
+    fn add_box(&mut self, shown: Labelled<'_>, meaning: &str) {
+        let at = self.next(shown.width, meaning.len());
+        show_box(&mut self.page, at, shown, false);
+        self.mean(at, shown.width, meaning);
     }
 
     // Appends the sign of a bar and its meaning.
@@ -71,12 +71,12 @@ impl Legend {
     }
 
     // Appends a value on a bar, and the meaning of values.
-    fn add_value(&mut self, stored: &Stored) {
+    fn add_value(&mut self, names: Option<&Names>, stored: &Stored) {
         let meaning = "a cell and what it is now";
         let at = self.next(2 * SIGN, meaning.len());
         show_rect(&mut self.page, at.by(0, 2), 2 * SIGN, 10, "full");
         self.page.add("/>");
-        show_stored(&mut self.page, at.by(3, 11), stored, 7);
+        show_stored(&mut self.page, names, at.by(3, 11), stored, 7);
         self.mean(at, 2 * SIGN, meaning);
     }
 
@@ -128,47 +128,55 @@ impl Legend {
 }
 
 // The first box that shows this; without a kind the first that shows further threads.
-fn first_box(boxes: &[TurnBox], kind: Option<Kind>) -> Option<Content> {
+fn first_box(boxes: &[TurnBox], kind: Option<Kind>) -> Option<&TurnBox> {
     for turn in boxes {
         let is_it = match kind {
             Some(kind) => turn.content.kind == kind,
             None => turn.content.more,
         };
         if is_it {
-            return Some(turn.content);
+            return Some(turn);
         }
     }
     None
 }
 
 // Appends what a kind of boxes means, where there is one.
-fn add_kind(legend: &mut Legend, boxes: &[TurnBox], kind: Option<Kind>, meaning: &str) {
-    if let Some(content) = first_box(boxes, kind) {
-        let more = kind.is_none();
-        legend.add_box(Content { more, ..content }, meaning);
+fn add_kind(legend: &mut Legend, sketch: &Sketch, kind: Option<Kind>, meaning: &str) {
+    if let Some(turn) = first_box(&sketch.boxes, kind) {
+        let content = Content {
+            more: kind.is_none(),
+            ..turn.content
+        };
+        let shown = Labelled {
+            content,
+            label: turn.label.as_str(),
+            width: sketch.grid.widths.column,
+        };
+        legend.add_box(shown, meaning);
     }
 }
 
 // Appends what boxes mean.
-fn add_boxes(legend: &mut Legend, boxes: &[TurnBox]) {
+fn add_boxes(legend: &mut Legend, sketch: &Sketch) {
     let reply = "none runs: one waits for the reply to this message";
-    add_kind(legend, boxes, Some(Kind::Thread), "this thread runs");
+    add_kind(legend, sketch, Some(Kind::Thread), "this thread runs");
     add_kind(
         legend,
-        boxes,
+        sketch,
         Some(Kind::Token),
         "none runs: one waits for this token",
     );
-    add_kind(legend, boxes, Some(Kind::Reply), reply);
+    add_kind(legend, sketch, Some(Kind::Reply), reply);
     add_kind(
         legend,
-        boxes,
+        sketch,
         Some(Kind::Port),
         "none runs: one waits for its port",
     );
-    add_kind(legend, boxes, Some(Kind::Ready), "none runs: one is ready");
-    add_kind(legend, boxes, None, "and others wait for something else");
-    add_kind(legend, boxes, Some(Kind::Empty), "no thread is left");
+    add_kind(legend, sketch, Some(Kind::Ready), "none runs: one is ready");
+    add_kind(legend, sketch, None, "and others wait for something else");
+    add_kind(legend, sketch, Some(Kind::Empty), "no thread is left");
 }
 
 // Appends what the bars of a mode mean, where there is one.
@@ -181,11 +189,11 @@ fn add_bars(legend: &mut Legend, bars: &[Bar], mode: Mode, meaning: &str) {
 }
 
 // Appends what stands in the rows of tokens.
-fn add_rows(legend: &mut Legend, sketch: &Sketch) {
+fn add_rows(legend: &mut Legend, names: Option<&Names>, sketch: &Sketch) {
     add_bars(legend, &sketch.bars, Mode::Exclusive, "held exclusively");
     add_bars(legend, &sketch.bars, Mode::Shared, "held shared");
     if let Some(stored) = sketch.values.first() {
-        legend.add_value(stored);
+        legend.add_value(names, stored);
     }
     if !sketch.marks.is_empty() {
         legend.add_flag();
@@ -222,9 +230,11 @@ fn seen_ways(ways: &[Way]) -> Seen {
 }
 
 // Appends what the lines of messages mean.
-fn add_ways(legend: &mut Legend, ways: &[Way]) {
+fn add_ways(legend: &mut Legend, names: Option<&Names>, ways: &[Way]) {
     let seen = seen_ways(ways);
-    if !ways.is_empty() {
+    if !ways.is_empty() && names.is_some() {
+        legend.add_word("m r1", "message m, in its round 1");
+    } else if !ways.is_empty() {
         legend.add_word("m0 r1", "message 0, in its round 1");
     }
     if seen.sent {
@@ -282,17 +292,23 @@ fn add_faults(legend: &mut Legend, labels: &[Label], ends: bool, sign: &str, mea
     }
 }
 
-/// What the parts of a picture mean that it has, from this height on, so wide; and where it ends.
-pub(crate) fn legend_of(alloc: Global, sketch: &Sketch, y: usize, width: usize) -> (Page, usize) {
+/// What the parts of a picture mean that it has, in names if some are given, from this height on, so wide; and where it ends.
+pub(crate) fn legend_of(
+    alloc: Global,
+    names: Option<&Names>,
+    sketch: &Sketch,
+    y: usize,
+    width: usize,
+) -> (Page, usize) {
     let mut legend = Legend {
         page: Page::new(alloc),
         at: Point { x: 4, y },
         width,
     };
     let labels = sketch.labels.list.as_slice();
-    add_boxes(&mut legend, &sketch.boxes);
-    add_rows(&mut legend, sketch);
-    add_ways(&mut legend, &sketch.ways);
+    add_boxes(&mut legend, sketch);
+    add_rows(&mut legend, names, sketch);
+    add_ways(&mut legend, names, &sketch.ways);
     add_faults(
         &mut legend,
         labels,

@@ -4,6 +4,7 @@ use crate::stories::{Doing, Story};
 use crate::words::show_thread;
 use lwkt_base::{ThreadId, TokId};
 use lwkt_refusals::Page;
+use lwkt_text::Names;
 
 // Whether a thread has ended.
 fn has_ended(replay: &Replay, id: ThreadId) -> bool {
@@ -25,7 +26,7 @@ fn is_wanted_exclusively(replay: &Replay, tok: TokId) -> bool {
 
 /// If a mark alone keeps a thread from a token, and the thread that left the mark has ended, appends that:
 /// `, but marked by 1.0, which has ended`.
-pub(crate) fn show_marker(out: &mut Page, replay: &Replay, story: &Story) {
+pub(crate) fn show_marker(out: &mut Page, names: Option<&Names>, replay: &Replay, story: &Story) {
     let Some(tok) = story.stopped_by_mark(&replay.state) else {
         return;
     };
@@ -34,14 +35,19 @@ pub(crate) fn show_marker(out: &mut Page, replay: &Replay, story: &Story) {
     };
     if has_ended(replay, marker) {
         out.add(", but marked by ");
-        show_thread(out, marker);
+        show_thread(out, names, marker);
         out.add(", which has ended");
     }
 }
 
 /// The same, where no turn changes anything any more: and that nobody is left who clears the mark, if so.
-pub(crate) fn show_left_mark(out: &mut Page, replay: &Replay, story: &Story) {
-    show_marker(out, replay, story);
+pub(crate) fn show_left_mark(
+    out: &mut Page,
+    names: Option<&Names>,
+    replay: &Replay,
+    story: &Story,
+) {
+    show_marker(out, names, replay, story);
     if let Some(tok) = story.stopped_by_mark(&replay.state) {
         if !is_wanted_exclusively(replay, tok) {
             out.add(", and nobody is left who takes it exclusively");

@@ -5,7 +5,7 @@ use crate::stories::{Doing, Outcome, Story, doing_after};
 use crate::tokens::Runners;
 use crate::tries::{held_after, taker};
 use crate::walks::Walk;
-use crate::words::fill;
+use crate::words::{fill, show_token};
 use lwkt_base::limits::{MESSAGE_LIMIT, TOKEN_LIMIT};
 use lwkt_base::memory::push;
 use lwkt_base::{
@@ -14,6 +14,7 @@ use lwkt_base::{
 use lwkt_core::{Event, State};
 use lwkt_refusals::{Page, show_breach};
 use lwkt_script::{Script, ThreadSpec};
+use lwkt_text::Names;
 use lwkt_verdict::Poll;
 use std::alloc::Global;
 
@@ -227,11 +228,13 @@ impl Replay {
     }
 
     // Appends how the row of a token breaks its law, and what is done about it.
-    fn show_broken(&self, out: &mut Page, tok: TokId) {
+    fn show_broken(&self, out: &mut Page, names: Option<&Names>, tok: TokId) {
         let Some(token) = self.state.token(tok) else {
             return;
         };
-        fill(out, "token @: ", &[u64::from(tok.0)]);
+        out.add("token ");
+        show_token(out, names, tok);
+        out.add(": ");
         show_breach(out, token.law, token.param, token.row.as_slice());
         show_length(out, token.law, &token.blob);
         if token.row.as_slice() != token.first.as_slice() {
@@ -255,6 +258,7 @@ impl Replay {
     // If an event stores again a cell or the record of a section that broke its law, notes that and says it.
     fn note_broken(
         &self,
+        names: Option<&Names>,
         why: &mut Page,
         event: &Event,
         stores: bool,
@@ -268,7 +272,7 @@ impl Replay {
             return broken;
         }
         why.clear();
-        self.show_broken(why, tok);
+        self.show_broken(why, names, tok);
         Some(tok)
     }
 
@@ -276,6 +280,7 @@ impl Replay {
     /// that broke its law goes into `why` too.
     pub(crate) fn play(
         &mut self,
+        names: Option<&Names>,
         out: &mut Page,
         why: &mut Page,
         part: &[Event],
@@ -289,7 +294,7 @@ impl Replay {
             None => true,
         };
         for (place, event) in part.iter().enumerate() {
-            let noted = self.note_broken(why, event, stores, broken);
+            let noted = self.note_broken(names, why, event, stores, broken);
             if noted != broken {
                 broken = noted;
                 out.add("; ");
@@ -300,29 +305,29 @@ impl Replay {
                 _ => {}
             }
             out.add("; ");
-            self.play_one(out, event);
+            self.play_one(names, out, event);
         }
         broken.is_some()
     }
 
     /// Makes the events of a turn happen, which isn't shown. What is said of a section that broke its law goes into `why`.
-    pub(crate) fn pass(&mut self, why: &mut Page, scene: &Scene) -> bool {
+    pub(crate) fn pass(&mut self, names: Option<&Names>, why: &mut Page, scene: &Scene) -> bool {
         let mut broken = None;
         let stores = stores(Some(scene));
         for event in scene.part {
-            broken = self.note_broken(why, event, stores, broken);
+            broken = self.note_broken(names, why, event, stores, broken);
             let _ = self.state.step(event);
         }
         broken.is_some()
     }
 
     // Makes an event happen, and appends what it changed.
-    fn play_one(&mut self, out: &mut Page, event: &Event) {
+    fn play_one(&mut self, names: Option<&Names>, out: &mut Page, event: &Event) {
         let old = stood_before(&self.state, event);
         if self.state.step(event).is_err() {
             out.add("an event that can't happen: ");
         }
-        show_event(out, &self.state, event, old, &self.runners);
+        show_event(out, names, &self.state, event, old, &self.runners);
     }
 
     // Notes the thread that a message is sent to.

@@ -28,6 +28,25 @@ pub(crate) fn digits(number: u64) -> usize {
     count
 }
 
+// The first bytes, so many; all if there are fewer.
+fn front_of(bytes: &[u8], count: usize) -> &[u8] {
+    if count > bytes.len() {
+        return bytes;
+    }
+    &bytes[..count]
+}
+
+/// Appends a text of ASCII in at most so many letters.
+pub(crate) fn show_cut(out: &mut Page, text: &str, room: usize) {
+    if text.len() <= room {
+        return out.add(text);
+    }
+    for byte in front_of(text.as_bytes(), room.saturating_sub(2)) {
+        out.letter(*byte as char);
+    }
+    out.add("..")
+}
+
 /// A place in a picture, in pixels from the left and from above.
 #[derive(Clone, Copy)]
 pub(crate) struct Point {

@@ -15,6 +15,7 @@ use lwkt_run::{
     End, ThreadRecord, TurnsRun, end_of_closing, order_run_of, record_threads, turns_run_of,
 };
 use lwkt_script::Script;
+use lwkt_text::Names;
 use lwkt_trace::trace_text;
 use std::alloc::Global;
 use std::thread::Threads;
@@ -53,12 +54,13 @@ fn ends_before(script: &Script, options: Options, order: Option<&[u8]>, run: &Tu
 // The text that shows a run, in rounds or along an order.
 fn text_of(
     alloc: Global,
+    names: Option<&Names>,
     script: &Script,
     options: Options,
     order: Option<&[u8]>,
     run: &TurnsRun,
 ) -> Result<String, Fault>
-    ensures shows { IfOk result (λ text. ShowsAs options (option_copied order.entry) script.now run.now (string_bytes text)) }
+    ensures shows { IfOk result (λ text. ShowsAs (option_copied names.entry) options (option_copied order.entry) script.now run.now (string_bytes text)) }
     ensures refused { IfErr result (MayBeRefused script.now) }
 {
     let events = run.trace.whole(alloc)?;
@@ -71,25 +73,27 @@ fn text_of(
         closing: &run.closing,
     };
     match options.rendering {
-        Rendering::Lines => lines_of(alloc, &reel, options),
+        Rendering::Lines => lines_of(alloc, names, &reel, options),
         Rendering::Trace => Ok(trace_text(alloc, script, &events, &run.closing)?),
-        Rendering::Picture => picture_of(alloc, &reel, options),
-        Rendering::Chains => Ok(chains_of(alloc, &reel)?),
+        Rendering::Picture => picture_of(alloc, names, &reel, options),
+        Rendering::Chains => Ok(chains_of(alloc, names, &reel)?),
     }
 }
 
-/// Runs a script on one thread, in rounds or along an order of its processors, and shows the run as the options say. `None` if the
+/// Runs a script on one thread, in rounds or along an order of its processors, and shows the run as the options say, in the names of a
+/// text, if these are given, or else in numbers. `None` if the
 /// run ended before the first turn that was chosen; along an order that isn't said of the first turn of all.
 ///
 /// Refused with `NoPort` if the order names a processor that isn't there, with `Limits` or `LawBroken` for the script's opening, and
 /// with `Memory` if memory is refused.
 pub fn show_script(
     alloc: Global,
+    names: Option<&Names>,
     script: &Script,
     options: Options,
     order: Option<&[u8]>,
 ) -> Result<Option<Shown>, Fault>
-    ensures shown { IfOk result (λ found. IfSome found (λ shown. IsShown options (option_copied order.entry) script.now shown.end (string_bytes shown.text))) }
+    ensures shown { IfOk result (λ found. IfSome found (λ shown. IsShown (option_copied names.entry) options (option_copied order.entry) script.now shown.end (string_bytes shown.text))) }
     ensures none { IfOk result (λ found. IsNone found → EndsBeforeChosen options (option_copied order.entry) script.now) }
     ensures refused { IfErr result (λ fault. DeclinesShow script.now (option_copied order.entry) fault) }
 {
@@ -98,18 +102,20 @@ pub fn show_script(
         return Ok(None);
     }
     let end = end_of_closing(&run.closing);
-    match text_of(alloc, script, options, order, &run) {
+    match text_of(alloc, names, script, options, order, &run) {
         Ok(text) => Ok(Some(Shown { text, end })),
         Err(fault) => Err(fault),
     }
 }
 
-/// Runs a script on threads, as `close_threads` of lwkt_run does, and shows the written sections of each token.
+/// Runs a script on threads, as `close_threads` of lwkt_run does, and shows the written sections of each token, in names if some are
+/// given.
 ///
 /// Refused with `Limits` or `LawBroken` for the script's opening, and with `Memory` if memory is refused.
 pub fn show_threads<R: Threads + Sync>(
     rt: &R,
     alloc: Global,
+    names: Option<&Names>,
     script: &Script,
 ) -> Result<Shown, Fault>
     ensures shown { IfOk result (λ shown. IsShownOnThreads script.now shown.end (string_bytes shown.text)) }
@@ -121,6 +127,6 @@ pub fn show_threads<R: Threads + Sync>(
         givers,
     } = record_threads(rt, alloc, script)?;
     let end = end_of_closing(&closing);
-    let text = chains_of_sections(alloc, script, &sections, &givers, &closing)?;
+    let text = chains_of_sections(alloc, names, script, &sections, &givers, &closing)?;
     Ok(Shown { text, end })
 }

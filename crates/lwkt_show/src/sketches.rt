@@ -6,9 +6,10 @@ use crate::replays::Replay;
 use crate::shapes::Look;
 use lwkt_base::limits::{CPU_LIMIT, MESSAGE_LIMIT, TOKEN_LIMIT};
 use lwkt_base::memory::push;
-use lwkt_base::{Mode, MsgId, OutOfMemory};
+use lwkt_base::{Mode, MsgId, OutOfMemory, TokId};
 use lwkt_core::Event;
 use lwkt_refusals::Page;
+use lwkt_text::Names;
 use lwkt_trace::words::{Subject, subject_of};
 use std::alloc::Global;
 
@@ -21,6 +22,8 @@ pub(crate) struct TurnBox {
     pub cpu: usize,
     /// What stands in it.
     pub content: Content,
+    /// What it says, but for a plus.
+    pub label: String,
     /// Whether a thread ended faulted in it.
     pub crossed: bool,
     /// The turn's line.
@@ -46,6 +49,8 @@ pub(crate) struct Bar {
 pub(crate) struct Stored {
     /// The token, and the round in which it was stored.
     pub spot: Spot,
+    /// The token.
+    pub tok: TokId,
     /// The cell, 0 to 3.
     pub cell: u8,
     /// The value.
@@ -131,11 +136,18 @@ impl Sketch {
     }
 
     /// Adds a label above a turn that is shown.
-    pub(crate) fn tag(&mut self, round: usize, cpu: usize, tag: Tag) -> Result<(), OutOfMemory> {
+    pub(crate) fn tag(
+        &mut self,
+        alloc: Global,
+        names: Option<&Names>,
+        round: usize,
+        cpu: usize,
+        tag: Tag,
+    ) -> Result<(), OutOfMemory> {
         if round < self.grid.first {
             return Ok(());
         }
-        self.labels.add(round, cpu, tag)
+        self.labels.add(alloc, names, round, cpu, tag)
     }
 
     // The bar of a token that a processor holds.
@@ -209,7 +221,7 @@ impl Sketch {
     }
 
     // Adds a value that a processor stored, if it is shown.
-    fn store(&mut self, spot: Spot, cell: u8, value: u64) -> Result<(), OutOfMemory> {
+    fn store(&mut self, spot: Spot, tok: TokId, cell: u8, value: u64) -> Result<(), OutOfMemory> {
         let Some(bar) = self.bar(spot.cpu, spot.tok) else {
             return Ok(());
         };
@@ -224,6 +236,7 @@ impl Sketch {
         self.set_bar(spot.cpu, spot.tok, Some(bar));
         let stored = Stored {
             spot,
+            tok,
             cell,
             value,
             more: false,
@@ -241,11 +254,12 @@ impl Sketch {
     }
 
     // A message or a reply leaves a processor.
-    fn leave(&mut self, way: Way) -> Result<(), OutOfMemory> {
+    fn leave(&mut self, alloc: Global, names: Option<&Names>, way: Way) -> Result<(), OutOfMemory> {
         if let Some(slot) = self.away.get_mut(usize::from(way.msg.0)) {
             *slot = Some(way);
         }
-        self.tag(way.since, way.cpu, Tag::Mail(way.msg, way.round))
+        let tag = Tag::Mail(way.msg, way.round);
+        self.tag(alloc, names, way.since, way.cpu, tag)
     }
 
     // The way of a message that arrives, or is taken back.
@@ -254,7 +268,14 @@ impl Sketch {
     }
 
     // A message or a reply arrives at a processor, or is taken back.
-    fn arrive(&mut self, msg: MsgId, cpu: usize, round: usize) -> Result<(), OutOfMemory> {
+    fn arrive(
+        &mut self,
+        alloc: Global,
+        names: Option<&Names>,
+        msg: MsgId,
+        cpu: usize,
+        round: usize,
+    ) -> Result<(), OutOfMemory> {
         let Some(way) = self.take_way(msg) else {
             return Ok(());
         };
@@ -262,7 +283,7 @@ impl Sketch {
             return Ok(());
         }
         if way.since < self.grid.first || self.grid.band(way.since) != self.grid.band(round) {
-            self.tag(round, cpu, Tag::Mail(msg, way.round))?;
+            self.tag(alloc, names, round, cpu, Tag::Mail(msg, way.round))?;
         }
         let end = Some((cpu, round));
         push(&mut self.ways, Way { end, ..way })
@@ -271,6 +292,8 @@ impl Sketch {
     // Notes an event of a message.
     fn note_mail(
         &mut self,
+        alloc: Global,
+        names: Option<&Names>,
         replay: &Replay,
         event: &Event,
         msg: MsgId,
@@ -283,19 +306,20 @@ impl Sketch {
                     is_reply: matches!(event, Event::Reply { .. }),
                     is_urgent: replay.is_urgent(msg),
                 };
-                self.leave(Way {
+                let way = Way {
                     msg,
                     round: replay.round_of(event, msg),
                     look,
                     cpu,
                     since,
                     end: None,
-                })
+                };
+                self.leave(alloc, names, way)
             }
             Event::TakeMsg { .. } | Event::Reap { .. } | Event::DropMsg { .. } => {
-                self.arrive(msg, cpu, since)
+                self.arrive(alloc, names, msg, cpu, since)
             }
-            Event::Abort { .. } => self.tag(since, cpu, Tag::Abort(msg)),
+            Event::Abort { .. } => self.tag(alloc, names, since, cpu, Tag::Abort(msg)),
             _ => Ok(()),
         }
     }
@@ -309,7 +333,12 @@ impl Sketch {
             Event::GiveOne { .. } | Event::GiveClean { .. } | Event::GiveWritten { .. } => {
                 return self.give(spot);
             }
-            Event::Write { cell, value, .. } => return self.store(spot, cell, value),
+            Event::Write {
+                tok,
+                cell,
+                value,
+                ..
+            } => return self.store(spot, tok, cell, value),
             _ => {}
         }
         Ok(())
@@ -318,12 +347,14 @@ impl Sketch {
     /// Notes an event of a round, whose turn has been made.
     pub(crate) fn note(
         &mut self,
+        alloc: Global,
+        names: Option<&Names>,
         replay: &Replay,
         event: &Event,
         round: usize,
     ) -> Result<(), OutOfMemory> {
         match subject_of(event) {
-            Subject::Message(msg) => self.note_mail(replay, event, msg, round),
+            Subject::Message(msg) => self.note_mail(alloc, names, replay, event, msg, round),
             Subject::Token(tok) => {
                 let cpu = usize::from(event.cpu().0);
                 let tok = usize::from(tok.0);

@@ -1,7 +1,7 @@
 use crate::events::show_owner;
 use crate::tokens::{Runners, excludes, show_holders, show_word};
 use crate::walks::{Walk, Way};
-use crate::words::{mode_word, show_thread};
+use crate::words::{mode_word, show_message, show_thread, show_token};
 use lwkt_base::limits::{LAST_GENERATION, LOG_LIMIT};
 use lwkt_base::memory::push;
 use lwkt_base::{
@@ -10,6 +10,7 @@ use lwkt_base::{
 use lwkt_core::{Event, State, Token};
 use lwkt_refusals::Page;
 use lwkt_script::{entry_of, failure_of};
+use lwkt_text::Names;
 use lwkt_verdict::Poll;
 use std::alloc::Global;
 
@@ -354,16 +355,17 @@ impl Story {
     }
 
     // Appends which token of its list a thread can't have.
-    fn show_want(&self, out: &mut Page, state: &State, runners: &Runners) {
+    fn show_want(&self, out: &mut Page, names: Option<&Names>, state: &State, runners: &Runners) {
         let Some(wanted) = self.lacks(state) else {
             out.add("is ready");
             return;
         };
-        out.number("waits for token ", u64::from(wanted.tok.0));
+        out.add("waits for token ");
+        show_token(out, names, wanted.tok);
         out.add(" ");
         out.add(mode_word(wanted.mode));
         match state.token(wanted.tok) {
-            Some(token) => show_hindrance(out, token, runners),
+            Some(token) => show_hindrance(out, names, token, runners),
             None => {}
         }
     }
@@ -380,33 +382,40 @@ impl Story {
         None
     }
 
-    /// Appends why a thread doesn't run, or that it does.
-    pub(crate) fn show_why(&self, out: &mut Page, state: &State, runners: &Runners) {
-        show_thread(out, self.id);
+    // Appends for which reply a thread waits, and where the message is.
+    fn show_awaited(&self, out: &mut Page, names: Option<&Names>, state: &State, msg: MsgId) {
+        out.add("waits for the reply to message ");
+        show_message(out, names, msg);
+        if let Some(message) = state.message(msg) {
+            out.add(", which is ");
+            show_owner(out, message.owner)
+        }
+    }
+
+    /// Appends why a thread doesn't run, or that it does; in names if some are given.
+    pub(crate) fn show_why(
+        &self,
+        out: &mut Page,
+        names: Option<&Names>,
+        state: &State,
+        runners: &Runners,
+    ) {
+        show_thread(out, names, self.id);
         out.add(" ");
         match self.doing {
             Doing::Runs => out.add("runs"),
-            Doing::WantsList => self.show_want(out, state, runners),
+            Doing::WantsList => self.show_want(out, names, state, runners),
             Doing::WaitsForPort => out.add("waits for its port, which has nothing"),
-            Doing::WaitsForReply(msg) => {
-                out.number("waits for the reply to message ", u64::from(msg.0));
-                match state.message(msg) {
-                    Some(message) => {
-                        out.add(", which is ");
-                        show_owner(out, message.owner)
-                    }
-                    None => {}
-                }
-            }
+            Doing::WaitsForReply(msg) => self.show_awaited(out, names, state, msg),
             Doing::Ended => out.add("has ended"),
         }
     }
 }
 
 // Appends what keeps a token from a thread: its word in parts, and who holds it.
-fn show_hindrance(out: &mut Page, token: &Token, runners: &Runners) {
+fn show_hindrance(out: &mut Page, names: Option<&Names>, token: &Token, runners: &Runners) {
     out.add(", ");
     show_word(out, token);
     out.add(", ");
-    show_holders(out, token, runners);
+    show_holders(out, names, token, runners);
 }

@@ -3,6 +3,7 @@ use lwkt_base::limits::LAST_GENERATION;
 use lwkt_base::{CpuId, Held, Mode, Ref, ThreadId};
 use lwkt_core::Token;
 use lwkt_refusals::Page;
+use lwkt_text::Names;
 
 /// Of each processor the thread that it runs between two turns, which holds what the processor holds.
 pub(crate) type Runners = [Option<ThreadId>; 8];
@@ -46,15 +47,20 @@ pub(crate) fn show_word(out: &mut Page, token: &Token) {
 }
 
 // Appends who holds for a processor: the thread that it runs, if that is known.
-fn show_runner(out: &mut Page, cpu: u8, runners: &Runners) {
+fn show_runner(out: &mut Page, names: Option<&Names>, cpu: u8, runners: &Runners) {
     match runners.get(usize::from(cpu)) {
-        Some(Some(id)) => show_thread(out, *id),
+        Some(Some(id)) => show_thread(out, names, *id),
         _ => out.number("processor ", u64::from(cpu)),
     }
 }
 
 /// Appends who holds a token: `held shared by 0.0, 1.2`, or `free`.
-pub(crate) fn show_holders(out: &mut Page, token: &Token, runners: &Runners) {
+pub(crate) fn show_holders(
+    out: &mut Page,
+    names: Option<&Names>,
+    token: &Token,
+    runners: &Runners,
+) {
     let mut some = false;
     for cpu in 0..8u8 {
         if let Held::Holds(mode, _) = token.held_by(CpuId(cpu)) {
@@ -65,7 +71,7 @@ pub(crate) fn show_holders(out: &mut Page, token: &Token, runners: &Runners) {
                 out.add(mode_word(mode));
                 out.add(" by ");
             }
-            show_runner(out, cpu, runners);
+            show_runner(out, names, cpu, runners);
             some = true;
         }
     }

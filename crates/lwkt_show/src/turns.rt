@@ -1,4 +1,5 @@
 ghost use Rattle.std.specs.Prelude.{◌≡◌, ◌/◌, ◌<◌};
+ghost use Rattle.std.specs.Option.{option_copied};
 ghost use Rattle.lwkt_refusals.specs.Pages.{GrowsBy};
 ghost use Rattle.lwkt_show.specs.Lines.{late_text, faulted_text, answered_text, unanswered_text, came_text, time_text, step_text, poll_text, turn_text, IsIdle, IsDoing, IsLine, AddsWords};
 
@@ -10,15 +11,16 @@ use crate::ways::show_way;
 use crate::words::{show_answer, show_ask, show_fault, show_thread};
 use lwkt_base::{Answer, Fault, ThreadId, ThreadState};
 use lwkt_refusals::Page;
+use lwkt_text::Names;
 use lwkt_verdict::Poll;
 use std::alloc::Global;
 
 // Appends the answer to an ask whose thread waits before it has it.
-fn show_late(out: &mut Page, answer: Answer)
-    ensures { GrowsBy out.old out.new (late_text answer) }
+fn show_late(out: &mut Page, names: Option<&Names>, answer: Answer)
+    ensures { GrowsBy out.old out.new (late_text (option_copied names.entry) answer) }
 {
     out.add("waits, then ");
-    show_answer(out, answer)
+    show_answer(out, names, answer)
 }
 
 // Appends that a thread ends by a fault.
@@ -30,12 +32,12 @@ fn show_faulted(out: &mut Page, fault: Fault)
 }
 
 // Appends the answer to an ask, and whether its thread waits before it has it.
-fn show_answered(out: &mut Page, came: Came, answer: Answer)
-    ensures { GrowsBy out.old out.new (answered_text came answer) }
+fn show_answered(out: &mut Page, names: Option<&Names>, came: Came, answer: Answer)
+    ensures { GrowsBy out.old out.new (answered_text (option_copied names.entry) came answer) }
 {
     match came {
-        Came::Waits => show_late(out, answer),
-        _ => show_answer(out, answer),
+        Came::Waits => show_late(out, names, answer),
+        _ => show_answer(out, names, answer),
     }
 }
 
@@ -52,11 +54,11 @@ fn show_unanswered(out: &mut Page, came: Came)
 }
 
 // Appends what came of a step: the answer, if its thread is asked again.
-fn show_came(out: &mut Page, came: Came, answer: Option<Answer>)
-    ensures { GrowsBy out.old out.new (came_text came answer) }
+fn show_came(out: &mut Page, names: Option<&Names>, came: Came, answer: Option<Answer>)
+    ensures { GrowsBy out.old out.new (came_text (option_copied names.entry) came answer) }
 {
     match answer {
-        Some(answer) => show_answered(out, came, answer),
+        Some(answer) => show_answered(out, names, came, answer),
         None => show_unanswered(out, came),
     }
 }
@@ -89,18 +91,18 @@ pub(crate) fn show_step(out: &mut Page, step: Step)
 }
 
 // Appends a poll: thread, what it computed on its way, step, ask and what came of it.
-fn show_poll(out: &mut Page, poll: &Poll, way: &Way, step: Step, came: Came)
-    ensures { GrowsBy out.old out.new (poll_text poll.now way.now step came) }
+fn show_poll(out: &mut Page, names: Option<&Names>, poll: &Poll, way: &Way, step: Step, came: Came)
+    ensures { GrowsBy out.old out.new (poll_text (option_copied names.entry) poll.now way.now step came) }
 {
     out.add(", thread ");
-    show_thread(out, poll.thread);
+    show_thread(out, names, poll.thread);
     out.add(", ");
     show_way(out, way);
     show_step(out, step);
     out.add(": ");
-    show_ask(out, &poll.ask);
+    show_ask(out, names, &poll.ask);
     out.add(": ");
-    show_came(out, came, poll.answer)
+    show_came(out, names, came, poll.answer)
 }
 
 // What a thread computed since its last ask.
@@ -146,24 +148,24 @@ fn show_ended(out: &mut Page, story: &Story) {
 }
 
 // Appends why a thread doesn't run in a turn, or that it ends in it.
-fn show_rest(out: &mut Page, replay: &Replay, story: &Story, turn: usize) {
+fn show_rest(out: &mut Page, names: Option<&Names>, replay: &Replay, story: &Story, turn: usize) {
     if story.ended_in == Some(turn) {
-        show_thread(out, story.id);
+        show_thread(out, names, story.id);
         out.add(" ");
         show_ended(out, story);
     } else {
-        story.show_why(out, &replay.state, &replay.runners);
+        story.show_why(out, names, &replay.state, &replay.runners);
     }
 }
 
 // Appends what each thread of a turn's processor waits for, and answers whether there is such a thread.
-fn show_waits(out: &mut Page, replay: &Replay, scene: &Scene) -> bool {
+fn show_waits(out: &mut Page, names: Option<&Names>, replay: &Replay, scene: &Scene) -> bool {
     let mut some = false;
     for story in &replay.stories {
         let is_here = story.id.cpu.0 == scene.cpu;
         if is_here && (story.doing != Doing::Ended || story.ended_in == Some(scene.number)) {
             out.add(if some { "; " } else { "" });
-            show_rest(out, replay, story, scene.number);
+            show_rest(out, names, replay, story, scene.number);
             some = true;
         }
     }
@@ -171,11 +173,11 @@ fn show_waits(out: &mut Page, replay: &Replay, scene: &Scene) -> bool {
 }
 
 // Appends that a turn's processor runs no thread, and why.
-fn show_idle(alloc: Global, out: &mut Page, replay: &Replay, scene: &Scene)
+fn show_idle(alloc: Global, out: &mut Page, names: Option<&Names>, replay: &Replay, scene: &Scene)
     ensures { AddsWords IsIdle out.old out.new }
 {
     let mut why = Page::new(alloc);
-    if show_waits(&mut why, replay, scene) {
+    if show_waits(&mut why, names, replay, scene) {
         out.add(": no thread runs: ");
         out.add_page(&why)
     } else {
@@ -187,20 +189,21 @@ fn show_idle(alloc: Global, out: &mut Page, replay: &Replay, scene: &Scene)
 fn show_doing(
     alloc: Global,
     out: &mut Page,
+    names: Option<&Names>,
     replay: &Replay,
     scene: &Scene,
     outcome: Option<Outcome>,
 )
-    ensures { AddsWords (IsDoing scene.now.poll) out.old out.new }
+    ensures { AddsWords (IsDoing (option_copied names.entry) scene.now.poll) out.old out.new }
 {
     match scene.poll {
         Some(poll) => {
             let way = way_of(replay, poll.thread);
             let step = step_of(replay, poll.thread);
             let came = came_of(replay, poll.thread, outcome);
-            show_poll(out, &poll, &way, step, came)
+            show_poll(out, names, &poll, &way, step, came)
         }
-        None => show_idle(alloc, out, replay, scene),
+        None => show_idle(alloc, out, names, replay, scene),
     }
 }
 
@@ -213,27 +216,33 @@ fn show_head(out: &mut Page, scene: &Scene)
     out.number(", processor ", u64::from(scene.cpu))
 }
 
-/// Makes a turn happen, and appends its line.
-pub(crate) fn show_turn(alloc: Global, replay: &mut Replay, out: &mut Page, scene: &Scene)
-    ensures { AddsWords (IsLine scene.now.number scene.now.round scene.now.cpu scene.now.poll) out.old out.new }
+/// Makes a turn happen, and appends its line, in names if some are given.
+pub(crate) fn show_turn(
+    alloc: Global,
+    names: Option<&Names>,
+    replay: &mut Replay,
+    out: &mut Page,
+    scene: &Scene,
+)
+    ensures { AddsWords (IsLine (option_copied names.entry) scene.now.number scene.now.round scene.now.cpu scene.now.poll) out.old out.new }
 {
     let mail = replay.take_mail(scene.part);
     let mut events = Page::new(alloc);
     let mut why = Page::new(alloc);
-    let broken = replay.play(&mut events, &mut why, scene.part, Some(scene));
+    let broken = replay.play(names, &mut events, &mut why, scene.part, Some(scene));
     let outcome = replay.outcome(scene, mail, broken);
     show_head(out, scene);
-    show_doing(alloc, out, replay, scene, outcome);
+    show_doing(alloc, out, names, replay, scene, outcome);
     out.add_page(&events);
     out.add("\n");
     replay.note(scene, outcome, why);
 }
 
 /// Makes a turn happen that isn't shown.
-pub(crate) fn pass_turn(alloc: Global, replay: &mut Replay, scene: &Scene) {
+pub(crate) fn pass_turn(alloc: Global, names: Option<&Names>, replay: &mut Replay, scene: &Scene) {
     let mail = replay.take_mail(scene.part);
     let mut why = Page::new(alloc);
-    let broken = replay.pass(&mut why, scene);
+    let broken = replay.pass(names, &mut why, scene);
     let outcome = replay.outcome(scene, mail, broken);
     replay.note(scene, outcome, why);
 }

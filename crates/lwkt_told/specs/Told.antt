@@ -22,7 +22,7 @@ use Rattle.lwkt_report.specs.declared.closings.Closing.{Closing}
 use Rattle.lwkt_report.specs.declared.closings.TokenLine.{TokenLine}
 use Rattle.lwkt_report.specs.declared.closings.Verdict.{Verdict}
 use Rattle.lwkt_report.specs.declared.closings.Verdict.TheVariants.{Closed, Lawful, Unlawful}
-use Rattle.lwkt_report.specs.Report.{line_feed, numbered_lines, record_text}
+use Rattle.lwkt_report.specs.Report.{line_feed, numbered_lines, record_text, report_text}
 use Rattle.lwkt_script.specs.declared.scripts.Script.{Script}
 use Rattle.lwkt_text.specs.declared.tables.Names.{Names}
 use Rattle.lwkt_text.specs.Naming.{cells_of}
@@ -175,3 +175,8 @@ told_front names script closing =
 -- the same, what the check of the run came to, and, if the run is stuck, why
 unfoldable pub told_text : Names → Script → Closing → List ℕ
 told_text names script closing = told_front names script closing ++ verdict_told closing.verdict ++ stuck_lines names script closing.threads.items
+
+-- the report in these names, or in numbers
+abbrev pub named_report : Option Names → Script → Closing → List ℕ
+named_report None script closing = report_text closing
+named_report (Some names) script closing = told_text names script closing

@@ -4,11 +4,64 @@ ghost use Rattle.lwkt_report.specs.Report.{numbered_lines};
 ghost use Rattle.lwkt_told.specs.Called.{called, cell_called, is_thread, place_of, program_of, thread_number, thread_name, thread_called, comma, mode_told, ref_part, longest, width_of};
 ghost use Rattle.lwkt_text.specs.Naming.{cells_of};
 
-use lwkt_base::memory::{push_str, put};
+use lwkt_base::memory::{Piece, push_str, put};
 use lwkt_base::{Mode, OutOfMemory, Ref, ThreadId, TokId};
 use lwkt_code::Step;
 use lwkt_script::Script;
 use lwkt_text::{Name, Names};
+
+/// What the thing of a number is called in a list of names, as a piece of a text.
+#[derive(Clone, Copy)]
+pub struct Called<'a> {
+    /// The names.
+    pub names: &'a [Name],
+    /// The number.
+    pub number: usize,
+}
+
+/// What a thread is called, as a piece of a text.
+#[derive(Clone, Copy)]
+pub struct ThreadCalled<'a> {
+    /// The names of the text.
+    pub names: &'a Names,
+    /// The thread.
+    pub id: ThreadId,
+}
+
+/// What a cell is called, with its token, as a piece of a text.
+#[derive(Clone, Copy)]
+pub struct CellCalled<'a> {
+    /// The names of the text.
+    pub names: &'a Names,
+    /// The token.
+    pub tok: TokId,
+    /// The number of the cell there.
+    pub cell: u8,
+}
+
+impl<'a> Piece for Called<'a> {
+    ghost text = { λ c. called c.names.now c.number };
+
+    fn put_on(self, out: &mut String) -> Result<(), OutOfMemory> {
+        show_called(self.names, self.number, out)
+    }
+}
+
+impl<'a> Piece for ThreadCalled<'a> {
+    ghost text = { λ c. thread_called c.names.now c.id };
+
+    fn put_on(self, out: &mut String) -> Result<(), OutOfMemory> {
+        show_thread_called(self.names, self.id, out)
+    }
+}
+
+impl<'a> Piece for CellCalled<'a> {
+    ghost text = { λ c. cell_called c.names.now c.tok c.cell };
+
+    fn put_on(self, out: &mut String) -> Result<(), OutOfMemory> {
+        show_cell(self.names, self.tok, self.cell, out)
+    }
+}
 
 /// Appends what the thing of a number is called in a list of names.
 pub fn show_called(names: &[Name], n: usize, out: &mut String) -> Result<(), OutOfMemory>
@@ -21,7 +74,7 @@ pub fn show_called(names: &[Name], n: usize, out: &mut String) -> Result<(), Out
 }
 
 /// The names of a token's cells.
-pub(crate) fn cells_of(names: &Names, tok: usize) -> &[Name]
+pub fn cells_of(names: &Names, tok: usize) -> &[Name]
     ensures { result.now ≡ cells_of names.now (record { 0 = tok }) }
 {
     match names.cells.as_slice().get(tok) {
@@ -145,7 +198,7 @@ fn longest(names: &[Name]) -> usize
 }
 
 /// How wide the column of names is.
-pub(crate) fn width_of(names: &Names) -> usize
+pub fn width_of(names: &Names) -> usize
     ensures { result ≡ width_of names.now }
 {
     let tokens = longest(names.tokens.as_slice());

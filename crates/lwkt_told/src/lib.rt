@@ -11,6 +11,7 @@ mod logs;
 mod tellings;
 mod verdicts;
 
-pub use called::show_called;
+pub use called::{Called, CellCalled, ThreadCalled, cells_of, show_called, width_of};
 pub use circles::show_stuck;
-pub use tellings::{show_front, told};
+pub use logs::{EntryTold, RecordTold};
+pub use tellings::{report_in, show_front, told};

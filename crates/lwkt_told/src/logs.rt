@@ -1,5 +1,5 @@
 //! The log of a thread, told.
-ghost use Rattle.std.specs.Prelude.{◌≡◌, ◌++◌, OnOk, string_bytes};
+ghost use Rattle.std.specs.Prelude.{◌≡◌, ◌++◌, OnOk, None, string_bytes};
 ghost use Rattle.std.specs.Option.{option_copied};
 ghost use Rattle.lwkt_report.specs.Report.{numbered_lines, record_text};
 ghost use Rattle.lwkt_told.specs.Told.{lead, label_part, call_told, reply_told, refusal_numbered, refusal_told, entry_told, before_entry, entry_part, log_part};
@@ -7,7 +7,7 @@ ghost use Rattle.lwkt_told.specs.Told.{lead, label_part, call_told, reply_told, 
 use crate::called::{show_called, show_cell};
 use crate::labels::{Cell, label_of};
 use lwkt_base::hexes::show_hex_or_none;
-use lwkt_base::memory::{push_str, put};
+use lwkt_base::memory::{Piece, push_str, put};
 use lwkt_base::{Blob, Call, Entry, Fault, MsgId, OutOfMemory};
 use lwkt_code::Step;
 use lwkt_text::Names;
@@ -41,6 +41,38 @@ pub const REFUSALS: [Fault; 26] = [
     Fault::SharedRecord,
     Fault::RecordLong,
 ];
+
+/// The bytes of a record, two digits for each, or `-` for none, as a piece of a text.
+#[derive(Clone, Copy)]
+pub struct RecordTold<'a> {
+    /// The record.
+    pub blob: &'a Blob,
+}
+
+impl<'a> Piece for RecordTold<'a> {
+    ghost text = { λ r. record_text r.blob.now };
+
+    fn put_on(self, out: &mut String) -> Result<(), OutOfMemory> {
+        show_record(self.blob, out)
+    }
+}
+
+/// An entry of a log by itself, as a piece of a text.
+#[derive(Clone, Copy)]
+pub struct EntryTold<'a> {
+    /// The names of the text.
+    pub names: &'a Names,
+    /// The entry.
+    pub entry: &'a Entry,
+}
+
+impl<'a> Piece for EntryTold<'a> {
+    ghost text = { λ e. entry_told e.names.now None e.entry.now };
+
+    fn put_on(self, out: &mut String) -> Result<(), OutOfMemory> {
+        show_entry(self.names, None, self.entry, out)
+    }
+}
 
 // What stands before an entry, by the entry before it.
 fn lead(before: Option<&Entry>, entry: &Entry) -> &'static str

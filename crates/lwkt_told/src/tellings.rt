@@ -5,7 +5,7 @@ ghost use Rattle.std.specs.Option.{option_copied};
 ghost use Rattle.lwkt_report.specs.Report.{numbered_lines};
 ghost use Rattle.lwkt_text.specs.Naming.{cells_of};
 ghost use Rattle.lwkt_told.specs.Called.{called, in_column, program_of, ref_part, thread_called, width_of};
-ghost use Rattle.lwkt_told.specs.Told.{cell_part, cells_part, sum_part, tallies_part, record_part, token_told, owner_told, message_told, state_told, service_told, list_part, log_part, thread_told, told_front, told_text};
+ghost use Rattle.lwkt_told.specs.Told.{cell_part, cells_part, sum_part, tallies_part, record_part, token_told, owner_told, message_told, state_told, service_told, list_part, log_part, thread_told, told_front, told_text, named_report};
 
 use crate::called::{
     cells_of, program_of, show_blanks, show_called, show_refs, show_thread_called, width_of,
@@ -15,7 +15,7 @@ use crate::logs::{show_log, show_record};
 use crate::verdicts::show_verdict;
 use lwkt_base::memory::{push_str, put};
 use lwkt_base::{Blob, Cells, MsgEnd, OutOfMemory, Owner, Ref, ThreadId, ThreadLine, ThreadState};
-use lwkt_report::{Closing, TokenLine};
+use lwkt_report::{Closing, TokenLine, report};
 use lwkt_script::Script;
 use lwkt_text::{Name, Names};
 use std::alloc::Global;
@@ -345,4 +345,21 @@ pub fn told(
     show_verdict(closing.verdict, &mut out)?;
     show_stuck(names, script, closing.threads.as_slice(), &mut out)?;
     Ok(out)
+}
+
+/// The report of a run in these names; without names in numbers.
+///
+/// Refused if memory is.
+pub fn report_in(
+    alloc: Global,
+    names: Option<&Names>,
+    script: &Script,
+    closing: &Closing,
+) -> Result<String, OutOfMemory>
+    ensures { IfOk result (λ text. string_bytes text ≡ named_report (option_copied names.entry) script.now closing.now) }
+{
+    match names {
+        Some(names) => told(alloc, names, script, closing),
+        None => report(alloc, closing),
+    }
 }

@@ -206,7 +206,7 @@ pub fn check_trace(trace: &[u8]) -> Result<Finding, Refusal> {
 }
 
 /// Runs a script in either form, in rounds or along an order, and shows the run, as `lwkt_show` with these arguments does: words with
-/// one blank between each two, as `turns --svg` or `turns --order 0110`.
+/// one blank between each two, as `turns --svg` or `turns --order 0110`. If `--names` stands behind `turns`, a text is shown in its names.
 ///
 /// # Errors
 ///

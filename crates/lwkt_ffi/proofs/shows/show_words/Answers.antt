@@ -8,7 +8,7 @@ use Rattle.lwkt_ffi.proofs.shows.show_words.Goals as goal
 
 pub returns-in-Some-clause-shows : goal.returns-in-Some-clause-shows
 returns-in-Some-clause-shows c = λ options are.
-    let F : Option Options → Type 0 = λ o. IfSome o (λ x. Displays x None c.args.script.now c.show_asked.result c.show_asked.new.page.text.items) in
+    let F : Option Options → Type 0 = λ o. IfSome o (λ x. Displays c.args.named x None c.args.script.now c.show_asked.result c.show_asked.new.page.text.items) in
     subst F (c.in-Some.ensures.only options are) c.show_asked.ensures
 
 pub returns-in-Some-clause-along : goal.returns-in-Some-clause-along
@@ -19,8 +19,8 @@ pub returns-in-Ok-Some-clause-along : goal.returns-in-Ok-Some-clause-along
 returns-in-Ok-Some-clause-along c = λ options order are.
     let along = c.in-Ok-Some.along in
     let some = subst (λ o. IsSomeAnd o (λ a. (a.options ≡ options) × (a.order.items ≡ order))) c.in-Ok-Some.field-0-is (c.in-Ok-Some.ensures.only options order are) in
-    let F : Options → Type 0 = λ x. Displays x (Some order) c.args.script.now c.show_asked-in-Ok-Some.result c.show_asked-in-Ok-Some.new.page.text.items in
-    let G : List ℕ → Type 0 = λ x. Displays along.options (Some x) c.args.script.now c.show_asked-in-Ok-Some.result c.show_asked-in-Ok-Some.new.page.text.items in
+    let F : Options → Type 0 = λ x. Displays c.args.named x (Some order) c.args.script.now c.show_asked-in-Ok-Some.result c.show_asked-in-Ok-Some.new.page.text.items in
+    let G : List ℕ → Type 0 = λ x. Displays c.args.named along.options (Some x) c.args.script.now c.show_asked-in-Ok-Some.result c.show_asked-in-Ok-Some.new.page.text.items in
     subst F some.0 (subst G (c.as_slice.ensures.value ∙ some.1) c.show_asked-in-Ok-Some.ensures)
 
 pub returns-in-Ok-None-clause-shows : goal.returns-in-Ok-None-clause-shows
@@ -35,8 +35,8 @@ returns-in-Ok-None-clause-along c = λ options order are.
 
 pub returns-in-Err-clause-shows : goal.returns-in-Err-clause-shows
 returns-in-Err-clause-shows c = λ options are.
-    unread_displays options None c.args.script.now c.unread.new.page.text.items c.unread.result c.unread.ensures
+    unread_displays c.args.named options None c.args.script.now c.unread.new.page.text.items c.unread.result c.unread.ensures
 
 pub returns-in-Err-clause-along : goal.returns-in-Err-clause-along
 returns-in-Err-clause-along c = λ options order are.
-    unread_displays options (Some order) c.args.script.now c.unread.new.page.text.items c.unread.result c.unread.ensures
+    unread_displays c.args.named options (Some order) c.args.script.now c.unread.new.page.text.items c.unread.result c.unread.ensures
