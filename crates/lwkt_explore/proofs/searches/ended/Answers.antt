@@ -20,7 +20,7 @@ pub returns-in-Some-clause-once : goal.returns-in-Some-clause-once
 returns-in-Some-clause-once g c =
     let N : List Outcome → Type 0 = λ xs. AllPairs (λ one other. AreAlike one other → ⊥) xs in
     let F : Outcomes → Type 0 = AreOnce in
-    subst F (sym c.part_of.ensures.outcomes) (c.compared.ensures.once (c.told_of.ensures.once (subst N (sym c.new.ensures.none) none_twice)))
+    subst F (sym c.part_of.ensures.outcomes) (c.compared.ensures.once (c.told_of.ensures.once (subst N (sym c.new-outcomes.ensures.none) none_twice)))
 
 pub returns-in-Some-bound_of-clause-found : goal.returns-in-Some-bound_of-clause-found
 returns-in-Some-bound_of-clause-found g c = let F : Outcomes → Type 0 = AreOutcomes c.args.script.now in subst F (sym c.part_of-in-Some-bound_of.ensures.outcomes) c.compared.ensures.found
@@ -29,7 +29,7 @@ pub returns-in-Some-bound_of-clause-once : goal.returns-in-Some-bound_of-clause-
 returns-in-Some-bound_of-clause-once g c =
     let N : List Outcome → Type 0 = λ xs. AllPairs (λ one other. AreAlike one other → ⊥) xs in
     let F : Outcomes → Type 0 = AreOnce in
-    subst F (sym c.part_of-in-Some-bound_of.ensures.outcomes) (c.compared.ensures.once (c.told_of.ensures.once (subst N (sym c.new.ensures.none) none_twice)))
+    subst F (sym c.part_of-in-Some-bound_of.ensures.outcomes) (c.compared.ensures.once (c.told_of.ensures.once (subst N (sym c.new-outcomes.ensures.none) none_twice)))
 
 pub returns-in-Some-told-clause-found : goal.returns-in-Some-told-clause-found
 returns-in-Some-told-clause-found g c = let F : Outcomes → Type 0 = AreOutcomes c.args.script.now in subst F (sym c.part_of-in-Some-told.ensures.outcomes) c.compared.ensures.found
@@ -38,7 +38,7 @@ pub returns-in-Some-told-clause-once : goal.returns-in-Some-told-clause-once
 returns-in-Some-told-clause-once g c =
     let N : List Outcome → Type 0 = λ xs. AllPairs (λ one other. AreAlike one other → ⊥) xs in
     let F : Outcomes → Type 0 = AreOnce in
-    subst F (sym c.part_of-in-Some-told.ensures.outcomes) (c.compared.ensures.once (c.told_of.ensures.once (subst N (sym c.new.ensures.none) none_twice)))
+    subst F (sym c.part_of-in-Some-told.ensures.outcomes) (c.compared.ensures.once (c.told_of.ensures.once (subst N (sym c.new-outcomes.ensures.none) none_twice)))
 
 pub returns-in-None-clause-found : goal.returns-in-None-clause-found
 returns-in-None-clause-found g c = let F : Outcomes → Type 0 = AreOutcomes c.args.script.now in subst F (sym c.whole_of.ensures.outcomes) c.compared.ensures.found
@@ -47,7 +47,7 @@ pub returns-in-None-clause-once : goal.returns-in-None-clause-once
 returns-in-None-clause-once g c =
     let N : List Outcome → Type 0 = λ xs. AllPairs (λ one other. AreAlike one other → ⊥) xs in
     let F : Outcomes → Type 0 = AreOnce in
-    subst F (sym c.whole_of.ensures.outcomes) (c.compared.ensures.once (c.told_of.ensures.once (subst N (sym c.new.ensures.none) none_twice)))
+    subst F (sym c.whole_of.ensures.outcomes) (c.compared.ensures.once (c.told_of.ensures.once (subst N (sym c.new-outcomes.ensures.none) none_twice)))
 
 pub returns-in-None-clause-ended : goal.returns-in-None-clause-ended
 returns-in-None-clause-ended g c = λ complete none. let F : Outcomes → Type 0 = HasEnded in subst F (sym c.whole_of.ensures.outcomes) (c.whole_of.ensures.ended complete none)
