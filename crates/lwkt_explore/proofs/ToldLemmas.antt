@@ -98,5 +98,5 @@ all_are_shortest script cpus turns bound found is same whole = λ k one less.
     let outcome : O (tell (get_or ones k one)) = subst O at (is.sound k (tell one) below) in
     let best : B (tell (get_or ones k one)) = subst B at (is.shortest whole k (tell one) below) in
     λ other order leads.
-        let C : ℕ → Type 0 = λ n. IsOrder n other in
-        best other (subst C (sym same) order) (leads ∙ outcome.leads)
+    let C : ℕ → Type 0 = λ n. IsOrder n other in
+    best other (subst C (sym same) order) (leads ∙ outcome.leads)

@@ -48,9 +48,9 @@ loop-outcome-preserved-then-is_none c =
           let F : List Outcome → Type 0 = λ xs. AllPairs R xs in
           let room = c.make_room.new.self.all.items in
           subst F (sym c.keep.ensures.all) (all_pairs_push R room one (subst F (sym c.make_room.ensures.all) (l.invariant.once mine))
-            (λ k d less.
-              let A : List Outcome → Type 0 = λ xs. (j : ℕ) (e : Outcome) → j < length xs → AreAlike (get_or xs j e) one → ⊥ in
-              subst A (sym c.make_room.ensures.all) fresh k d less));
+          (λ k d less.
+          let A : List Outcome → Type 0 = λ xs. (j : ℕ) (e : Outcome) → j < length xs → AreAlike (get_or xs j e) one → ⊥ in
+          subst A (sym c.make_room.ensures.all) fresh k d less));
       found = λ script mine theirs. all_with (IsOutcome script) l.self.all.items news one same (l.invariant.found script mine theirs) (of_next (IsOutcome script) left rest one steps (l.invariant.rest script theirs));
       rest = λ script theirs. All-rest (IsOutcome script) one rest left steps (l.invariant.rest script theirs);
       short = λ turns mine theirs. all_with (S turns) l.self.all.items news one same (l.invariant.short turns mine theirs) (of_next (S turns) left rest one steps (l.invariant.few turns theirs));
