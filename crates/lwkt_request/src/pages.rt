@@ -165,8 +165,8 @@ the first, and a shortest order to it.
 
 The last line ends with `complete` if every order was tried. Else it ends with
 `a part` and what ended the search: (states) or (turns) for the bound that
---states or --turns sets, (memory) for a failed allocation, and (stopped) for
---seconds.
+--states or --turns sets, (memory) for a failed allocation, (stopped) for
+--seconds, and (differs) if the real machine differs from the plain one.
 
 If a text has expectations, standard error quotes each, and says whether it
 holds in all orders, with a shortest order that breaks it or shows it. An expectation is
