@@ -52,7 +52,13 @@ fn named<'a>(alloc: Global, sub: &'a str, words: &'a [String]) -> Result<Vec<&'a
     ensures { IfOk result (λ new. texts new.items ≡ named sub.entry.now (map string_bytes words.entry.now)) }
 {
     match words.first() {
-        Some(word) if word.as_str() == "help" => behind(alloc, Some(sub), Some("--help"), None, &[]),
+        Some(word) if word.as_str() == "help" => behind(
+            alloc,
+            Some(sub),
+            Some("--help"),
+            None,
+            &[],
+        ),
         Some(word) if word.as_str() == "--version" => {
             behind(alloc, Some("--version"), None, None, &[])
         }
