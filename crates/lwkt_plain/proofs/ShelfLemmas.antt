@@ -8,7 +8,7 @@ use Rattle.lwkt_plain.specs.declared.shelves.Shelf.{Shelf}
 use Rattle.lwkt_plain.specs.declared.tables.Table.{Table}
 use Rattle.lwkt_plain.specs.Shelves.{list_of, lists_in, numbers_of, AreLists, IsShelf, HasLists}
 use Rattle.lwkt_plain.specs.Tables.{named, IsTable, AreNamed, Extends}
-use Rattle.lwkt_plain.proofs.TableLemmas.{all_up, extends_long, named_by, named_count, named_known, named_left, number_cases, numbers_same}
+use Rattle.lwkt_plain.proofs.TableLemmas.{named_by, named_count, named_known, named_left, number_cases, numbers_same}
 
 -- a code is as long as it is wide
 pub code_long : (width count k : ℕ) (flat : List ℕ) → length flat ≡ count * width → k < count → length (code_at width flat k) ≡ width
@@ -95,26 +95,7 @@ lists_more a b c one other =
       same = λ k h. let low : k < lists_in b = omega (arith, h, up) in other.same k low ∙ one.same k h;
     }
 
--- other parts are worked on: those of the list of a number
-pub shelf_went : {P : Type 0} (hash : P → ℕ) (s : Shelf P) (parts : List P) (numbers : Vec ℕ Global) (number : ℕ) → AreLists hash s → number < lists_in s → numbers.items ≡ numbers_of s number → AreNamed s.table.parts.items parts numbers.items → IsShelf hash (record s { numbers = numbers; list = number }) parts
-shelf_went hash s parts numbers number are there is names = record {
-  lists = record { table = are.table; codes = are.codes; known = are.known; there = there };
-  numbers = is;
-  names = names;
-}
-
-pub went_lists : {P : Type 0} (s : Shelf P) (numbers : Vec ℕ Global) (number : ℕ) → HasLists s (record s { numbers = numbers; list = number })
-went_lists s numbers number = record { longer = omega arith; same = λ k h. refl }
-
--- a table with more parts
-pub lists_grown : {P : Type 0} (hash : P → ℕ) (s : Shelf P) (table : Table P) (numbers : Vec ℕ Global) → AreLists hash s → IsTable hash table.parts.items table.index.heads.items table.index.links.items → Extends s.table.parts.items table.parts.items → AreLists hash (record s { table = table; numbers = numbers })
-lists_grown hash s table numbers are is more = record {
-  table = is;
-  codes = are.codes;
-  known = λ k h. all_up (length s.table.parts.items) (length table.parts.items) (numbers_of s k) (extends_long s.table.parts.items table.parts.items more) (are.known k h);
-  there = are.there;
-}
-
+-- the lists stay, where the table has more parts
 pub grown_lists : {P : Type 0} (hash : P → ℕ) (s : Shelf P) (table : Table P) (numbers : Vec ℕ Global) → AreLists hash s → Extends s.table.parts.items table.parts.items → HasLists s (record s { table = table; numbers = numbers })
 grown_lists {P} hash s table numbers are more = record {
   longer = omega arith;

@@ -1,16 +1,14 @@
-use Rattle.std.proofs.Common.{◌≡◌, ℕ, ◌+◌, ◌<◌, ◌≤◌, List, [], ◌∷◌, ◌++◌, zero, suc, length, arith, ap, subst, sym, refl, ◌∙◌, below_more, slice_index_or, length-append}
+use Rattle.std.proofs.Common.{◌≡◌, ℕ, ◌+◌, ◌<◌, List, [], ◌∷◌, ◌++◌, zero, suc, length, arith, ap, subst, sym, refl, ◌∙◌, below_more, slice_index_or, length-append}
 use Rattle.std.proofs.lemmas.List.{get_or_append_left}
 use Rattle.std.proofs.Math.Seq.{get_or-append_seam}
 use Rattle.lwkt_core.specs.declared.tokens.Token.{Token}
 use Rattle.lwkt_search.specs.Codes.{code_at}
 use Rattle.lwkt_plain.specs.declared.letters.Letter.{Letter}
-use Rattle.lwkt_plain.specs.declared.shelves.Shelf.{Shelf}
 use Rattle.lwkt_plain.specs.declared.states.Mail.{Mail}
 use Rattle.lwkt_plain.specs.declared.states.Plain.{Plain}
 use Rattle.lwkt_plain.specs.declared.states.Processor.{Processor}
 use Rattle.lwkt_plain.specs.declared.stores.Store.{Store}
 use Rattle.lwkt_plain.specs.Hashes.{token_key, letter_key, mail_key, processor_key}
-use Rattle.lwkt_plain.specs.Shelves.{list_of, lists_in, HasLists}
 use Rattle.lwkt_plain.specs.Stores.{first, decoded, state_of, kept, IsKnown, IsStore}
 use Rattle.lwkt_plain.proofs.ShelfLemmas.{code_long, list_long, list_same, shelf_parts, shelf_wide}
 

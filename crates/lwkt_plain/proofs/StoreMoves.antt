@@ -1,4 +1,4 @@
-use Rattle.std.proofs.Common.{◌≡◌, ℕ, ◌+◌, ◌<◌, ◌≤◌, ◌⊎◌, inl, inr, List, [], ◌∷◌, ◌++◌, suc, length, arith, ap, subst, sym, refl, ◌∙◌, add-one, slice_index_or, Bool}
+use Rattle.std.proofs.Common.{◌≡◌, ℕ, ◌+◌, ◌<◌, ◌≤◌, inl, inr, List, [], ◌∷◌, ◌++◌, suc, length, arith, ap, subst, sym, ◌∙◌, add-one, slice_index_or, Bool}
 use Rattle.std.specs.Bool.{if◌then◌else◌}
 use Rattle.std.proofs.lemmas.Bool.{le-ltb, lt-ltb}
 use Rattle.lwkt_core.specs.declared.tokens.Token.{Token}
@@ -15,9 +15,9 @@ use Rattle.lwkt_plain.specs.declared.states.Plain.{Plain}
 use Rattle.lwkt_plain.specs.declared.states.Processor.{Processor}
 use Rattle.lwkt_plain.specs.declared.stores.Store.{Store}
 use Rattle.lwkt_plain.specs.Hashes.{token_key, letter_key, mail_key, processor_key}
-use Rattle.lwkt_plain.specs.Shelves.{list_of, lists_in, HasLists, IsShelf, IsBaseShelf}
+use Rattle.lwkt_plain.specs.Shelves.{lists_in, HasLists, IsShelf}
 use Rattle.lwkt_plain.specs.Sound.{IsSound}
-use Rattle.lwkt_plain.specs.Stores.{form_turn, first, decoded, state_of, kept, AreStates, IsKnown, IsStore, IsBase, IsKept, WasKept, IsKeptNow}
+use Rattle.lwkt_plain.specs.Stores.{form_turn, first, decoded, state_of, kept, AreStates, IsKnown, IsStore, IsBase, IsKept}
 use Rattle.lwkt_plain.proofs.ShelfLemmas.{HasCoded, coded_by, lists_still}
 use Rattle.lwkt_plain.proofs.StoreLemmas.{code_now, code_same, first_at, first_long, first_same, plain_of, work_decoded}
 

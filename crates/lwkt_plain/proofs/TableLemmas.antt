@@ -252,9 +252,6 @@ named_known {P} table parts numbers are = λ k d h.
     let B : ℕ → Type 0 = λ n. n < length table in
     subst B (get_or_default numbers k none d h) (at_least table parts numbers k are h)
 
-pub all_up : (m n : ℕ) (numbers : List ℕ) → m ≤ n → All (λ k. k < m) numbers → All (λ k. k < n) numbers
-all_up m n numbers up all = λ k d h. let low : slice_index_or numbers k d < m = all k d h in omega arith
-
 -- one of the parts of numbers
 pub named_get : {P : Type 0} (table : List P) (numbers : List ℕ) (k : ℕ) (p : P) → All (λ n. n < length table) numbers → k < length numbers → IsNamed table (slice_index_or numbers k 0) p → slice_get (named table numbers) k ≡ Some p
 named_get table [] k p known there is = absurd (omega arith)

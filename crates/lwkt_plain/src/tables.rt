@@ -37,11 +37,6 @@ impl<P: Part> Table<P> {
         &self.parts[number as usize]
     }
 
-    /// The part of a number, if it is there.
-    pub fn get(&self, number: u32) -> Option<&P> {
-        self.parts.get(number as usize)
-    }
-
     /// Whether the part of a number is this one.
     pub fn is_at(&self, number: u32, part: &P) -> bool
         requires { number < length self.now.parts.items }

@@ -1,4 +1,4 @@
-use Rattle.std.proofs.Common.{◌≡◌, ℕ, ◌<◌, List, length, ap, subst, sym, ◌∙◌, slice_set, slice_index_or, arith}
+use Rattle.std.proofs.Common.{◌≡◌, List, subst, sym, ◌∙◌, slice_set, slice_index_or}
 use Rattle.std.proofs.lemmas.List.{get_or_read}
 use Rattle.lwkt_plain.specs.Tables.{IsNamed, AreNamed}
 use Rattle.lwkt_plain.proofs.TableLemmas.{set_again, set_named}

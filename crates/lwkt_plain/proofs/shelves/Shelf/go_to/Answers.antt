@@ -1,4 +1,4 @@
-use Rattle.std.proofs.Common.{◌≡◌, ℕ, List, ap, sym, ◌∙◌}
+use Rattle.std.proofs.Common.{ℕ, List, ap, sym, ◌∙◌}
 use Rattle.lwkt_plain.specs.Shelves.{list_of}
 use Rattle.lwkt_plain.specs.Tables.{named}
 use Rattle.lwkt_plain.proofs.ShelfLemmas.{shelf_parts}

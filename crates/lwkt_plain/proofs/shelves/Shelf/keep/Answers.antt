@@ -1,4 +1,4 @@
-use Rattle.std.proofs.Common.{◌≡◌, ℕ, List, length, subst, sym, ◌∙◌}
+use Rattle.std.proofs.Common.{ℕ, List, length, subst}
 use Rattle.lwkt_search.specs.Codes.{IsNumbered}
 use Rattle.lwkt_plain.proofs.ShelfLemmas.{HasCoded, coded_by, kept_lists, lists_kept}
 use Rattle.lwkt_plain.proofs.shelves.Shelf.keep.Goals as goal

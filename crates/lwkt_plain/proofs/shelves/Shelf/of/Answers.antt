@@ -1,4 +1,4 @@
-use Rattle.std.proofs.Common.{◌≡◌, ℕ, List, [], length, arith, subst, ◌∙◌}
+use Rattle.std.proofs.Common.{◌≡◌, ℕ, List, length, arith, subst, ◌∙◌}
 use Rattle.lwkt_search.specs.Codes.{IsNumbered}
 use Rattle.lwkt_plain.proofs.ShelfLemmas.{shelf_none}
 use Rattle.lwkt_plain.proofs.shelves.Shelf.of.Goals as goal

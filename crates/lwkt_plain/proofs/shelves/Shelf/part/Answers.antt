@@ -1,6 +1,6 @@
-use Rattle.std.proofs.Common.{◌≡◌, ℕ, ◌<◌, List, length, arith, subst, sym, ◌∙◌, All, Some, slice_get, slice_index_or}
-use Rattle.lwkt_plain.specs.Shelves.{list_of, numbers_of}
-use Rattle.lwkt_plain.specs.Tables.{named, IsNamed}
+use Rattle.std.proofs.Common.{ℕ, ◌<◌, List, length, arith, subst, sym, slice_index_or}
+use Rattle.lwkt_plain.specs.Shelves.{numbers_of}
+use Rattle.lwkt_plain.specs.Tables.{IsNamed}
 use Rattle.lwkt_plain.proofs.ShelfLemmas.{numbers_long}
 use Rattle.lwkt_plain.proofs.TableLemmas.{named_get}
 use Rattle.lwkt_plain.proofs.shelves.Shelf.part.Goals as goal

@@ -1,4 +1,3 @@
-use Rattle.std.proofs.Common.{◌≡◌}
 use Rattle.lwkt_plain.proofs.ShelfLemmas.{grown_lists, lists_more}
 use Rattle.lwkt_plain.proofs.TableLemmas.{named_known}
 use Rattle.lwkt_plain.proofs.shelves.Shelf.renumber.Goals as goal

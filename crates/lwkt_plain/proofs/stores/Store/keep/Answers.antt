@@ -1,4 +1,4 @@
-use Rattle.std.proofs.Common.{◌≡◌, ◌∙◌, refl}
+use Rattle.std.proofs.Common.{refl}
 use Rattle.lwkt_plain.proofs.StoreMoves.{store_kept}
 use Rattle.lwkt_plain.proofs.stores.Store.keep.Goals as goal
 

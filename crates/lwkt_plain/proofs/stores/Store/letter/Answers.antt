@@ -1,4 +1,4 @@
-use Rattle.std.proofs.Common.{◌<◌, ◌≤◌, ◌≡◌, length, arith}
+use Rattle.std.proofs.Common.{◌≡◌, length, arith}
 use Rattle.lwkt_plain.specs.Stores.{state_of}
 use Rattle.lwkt_plain.proofs.StoreLemmas.{code_of, kept_there, letters_kept}
 use Rattle.lwkt_plain.proofs.stores.Store.letter.Goals as goal

@@ -1,4 +1,4 @@
-use Rattle.std.proofs.Common.{◌≡◌, subst, sym, ◌∙◌}
+use Rattle.std.proofs.Common.{subst, sym}
 use Rattle.lwkt_plain.proofs.Alikes.{form_sound}
 use Rattle.lwkt_plain.specs.Sound.{IsSound}
 use Rattle.lwkt_plain.proofs.StoreMoves.{store_working}

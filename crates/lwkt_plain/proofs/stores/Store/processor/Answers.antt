@@ -1,4 +1,4 @@
-use Rattle.std.proofs.Common.{◌<◌, ◌≡◌, length, arith}
+use Rattle.std.proofs.Common.{◌≡◌, length, arith}
 use Rattle.lwkt_plain.proofs.StoreLemmas.{code_of, kept_there}
 use Rattle.lwkt_plain.proofs.stores.Store.processor.Goals as goal
 

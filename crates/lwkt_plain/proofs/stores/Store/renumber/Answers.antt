@@ -1,4 +1,3 @@
-use Rattle.std.proofs.Common.{◌≡◌}
 use Rattle.lwkt_plain.specs.declared.states.Plain.{Plain}
 use Rattle.lwkt_plain.proofs.StoreMoves.{AreMoved, AreShelves, store_moved}
 use Rattle.lwkt_plain.proofs.stores.Store.renumber.Goals as goal
