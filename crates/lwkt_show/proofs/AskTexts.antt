@@ -1,9 +1,10 @@
 -- Characters that the texts of asks and steps don't have.
-use Rattle.std.proofs.Common.{◌≡◌, ◌≢◌, ◌+◌, ◌/◌, ◌%◌, ◌==◌, ℕ, true, not, List, [], ◌∷◌, ◌++◌, refl, arith, length, take, codes, if◌then◌else◌, nat_lt, nat_le}
+use Rattle.std.proofs.Common.{◌≡◌, ◌≢◌, ◌+◌, ◌/◌, ◌%◌, ◌==◌, ℕ, None, true, not, List, [], ◌∷◌, ◌++◌, refl, arith, length, take, codes, if◌then◌else◌, nat_lt, nat_le}
 use Rattle.std.specs.Fmt.{decimal}
 use Rattle.std.specs.List.{list_all}
 use Rattle.lwkt_base.specs.Hex.{digit_text, byte_text, hex_text}
 use Rattle.lwkt_base.specs.declared.asks.Ask.{Ask}
+use Rattle.lwkt_base.specs.declared.names.ThreadId.{ThreadId}
 use Rattle.lwkt_base.specs.declared.steps.Part.{Part}
 use Rattle.lwkt_base.specs.declared.steps.Part.TheVariants as parts
 use Rattle.lwkt_base.specs.declared.steps.Verb.{Verb}
@@ -129,8 +130,8 @@ step_before step =
     (each_append Before (codes "step " ++ decimal number) (time_text step) (each_append Before (codes "step ") (decimal number) (none_of 58 refl (codes "step ") refl) (decimal_before number)) (time_before step)))
 
 -- all words before an ask: what its thread computed, and its step
-abbrev pub ask_before : Way → Step → List ℕ
-ask_before way step = way_text way ++ step_text step
+abbrev pub ask_before : ThreadId → Way → Step → List ℕ
+ask_before id way step = way_text None id way ++ step_text step
 
-pub before_ask : (way : Way) (step : Step) → Each Before (ask_before way step)
-before_ask way step = each_append Before (way_text way) (step_text step) (way_before way) (step_before step)
+pub before_ask : (id : ThreadId) (way : Way) (step : Step) → Each Before (ask_before id way step)
+before_ask id way step = each_append Before (way_text None id way) (step_text step) (way_before id way) (step_before step)

@@ -26,7 +26,7 @@ head_is number round cpu doing events = grouped (codes "turn ") (decimal number)
 
 -- a poll, from its front on
 poll_is : (poll : Poll) (way : Way) (step : Step) (came : Came) (rest : List ℕ)
-    → poll_text None poll way step came ++ rest ≡ codes ", thread " ++ (decimal poll.thread.cpu.0 ++ (codes "." ++ (decimal poll.thread.thread ++ (codes ", " ++ (ask_before way step ++ (codes ": " ++ (ask_front poll.ask ++ (codes "]" ++ (codes ": " ++ (came_text None came poll.answer ++ rest))))))))))
+    → poll_text None poll way step came ++ rest ≡ codes ", thread " ++ (decimal poll.thread.cpu.0 ++ (codes "." ++ (decimal poll.thread.thread ++ (codes ", " ++ (ask_before poll.thread way step ++ (codes ": " ++ (ask_front poll.ask ++ (codes "]" ++ (codes ": " ++ (came_text None came poll.answer ++ rest))))))))))
 poll_is poll way step came rest = simp append_assoc
 
 -- the front of an ask, from its front on
@@ -61,7 +61,7 @@ polls_alike a b way way' step step' came came' rest rest' small small' e =
     let cpu = same_number a.thread.cpu.0 b.thread.cpu.0 46 46 _ _ small.0 small'.0 stop stop whole in
     let thread = same_number a.thread.thread b.thread.thread 44 44 _ _ small.1 small'.1 comma comma (append_cancel_left (codes ".") _ _ cpu.1) in
     let colon : Before 58 → ⊥ = λ before. before refl in
-    let steps = same_split Before (ask_before way step) (ask_before way' step') 58 58 _ _ (before_ask way step) (before_ask way' step') colon colon (append_cancel_left (codes ", ") _ _ thread.1) in
+    let steps = same_split Before (ask_before a.thread way step) (ask_before b.thread way' step') 58 58 _ _ (before_ask a.thread way step) (before_ask b.thread way' step') colon colon (append_cancel_left (codes ", ") _ _ thread.1) in
     let end : Inside 93 → ⊥ = λ inside. inside refl in
     let asks = same_split Inside (ask_front a.ask) (ask_front b.ask) 93 93 _ _ (front_inside a.ask) (front_inside b.ask) end end (append_cancel_left (codes ": ") _ _ steps.1) in
     record {

@@ -1,7 +1,8 @@
 -- Words before an ask have no character that ends them: what a thread computed.
-use Rattle.std.proofs.Common.{◌≡◌, ◌≢◌, ◌==◌, ℕ, Bool, true, false, nat_lt, not, List, [], ◌∷◌, ◌++◌, Option, Some, length, refl, arith, take, codes, slice_get}
+use Rattle.std.proofs.Common.{◌≡◌, ◌≢◌, ◌==◌, ℕ, Bool, true, false, nat_lt, not, List, [], ◌∷◌, ◌++◌, Option, Some, None, length, refl, arith, take, codes, slice_get}
 use Rattle.std.specs.Fmt.{decimal}
 use Rattle.std.specs.List.{list_all}
+use Rattle.lwkt_base.specs.declared.names.ThreadId.{ThreadId}
 use Rattle.lwkt_code.specs.declared.exprs.Comparison.{Comparison}
 use Rattle.lwkt_code.specs.declared.exprs.Comparison.TheVariants.{Equal, Unequal, Less, AtMost, More, AtLeast}
 use Rattle.lwkt_code.specs.declared.exprs.Operator.{Operator}
@@ -60,47 +61,47 @@ opening_before inner = each_if Before inner (codes "(") [] (words_before (codes 
 closing_before : (inner : Bool) → Each Before (closing_text inner)
 closing_before inner = each_if Before inner (codes ")") [] (words_before (codes ")") refl) tt
 
-term_before : (inner : Bool) (term : Term) → Each Before (term_text inner term)
-term_before inner (number n) = decimal_before n
-term_before inner (variable v) = then_before (codes "v") (decimal v) (words_before (codes "v") refl) (decimal_before v)
-term_before inner (both op a b) =
-    both_before (opening_text inner) (term_text true a) (operator_text op) (term_text true b) (closing_text inner)
-    (opening_before inner) (term_before true a) (operator_before op) (term_before true b) (closing_before inner)
+term_before : (id : ThreadId) (inner : Bool) (term : Term) → Each Before (term_text None id inner term)
+term_before id inner (number n) = decimal_before n
+term_before id inner (variable v) = then_before (codes "v") (decimal v) (words_before (codes "v") refl) (decimal_before v)
+term_before id inner (both op a b) =
+    both_before (opening_text inner) (term_text None id true a) (operator_text op) (term_text None id true b) (closing_text inner)
+    (opening_before inner) (term_before id true a) (operator_before op) (term_before id true b) (closing_before inner)
 
-formula_before : (inner : Bool) (formula : Formula) → Each Before (formula_text inner formula)
-formula_before inner (compare by a b) =
-    between_before (term_text false a) (comparison_text by) (term_text false b) (term_before false a) (comparison_before by) (term_before false b)
-formula_before inner (each_of a b) =
-    both_before (opening_text inner) (formula_text true a) (codes " and ") (formula_text true b) (closing_text inner)
-    (opening_before inner) (formula_before true a) (words_before (codes " and ") refl) (formula_before true b) (closing_before inner)
-formula_before inner (one_of a b) =
-    both_before (opening_text inner) (formula_text true a) (codes " or ") (formula_text true b) (closing_text inner)
-    (opening_before inner) (formula_before true a) (words_before (codes " or ") refl) (formula_before true b) (closing_before inner)
-formula_before inner (none_of a) =
-    between_before (codes "not (") (formula_text false a) (codes ")") (words_before (codes "not (") refl) (formula_before false a) (words_before (codes ")") refl)
+formula_before : (id : ThreadId) (inner : Bool) (formula : Formula) → Each Before (formula_text None id inner formula)
+formula_before id inner (compare by a b) =
+    between_before (term_text None id false a) (comparison_text by) (term_text None id false b) (term_before id false a) (comparison_before by) (term_before id false b)
+formula_before id inner (each_of a b) =
+    both_before (opening_text inner) (formula_text None id true a) (codes " and ") (formula_text None id true b) (closing_text inner)
+    (opening_before inner) (formula_before id true a) (words_before (codes " and ") refl) (formula_before id true b) (closing_before inner)
+formula_before id inner (one_of a b) =
+    both_before (opening_text inner) (formula_text None id true a) (codes " or ") (formula_text None id true b) (closing_text inner)
+    (opening_before inner) (formula_before id true a) (words_before (codes " or ") refl) (formula_before id true b) (closing_before inner)
+formula_before id inner (none_of a) =
+    between_before (codes "not (") (formula_text None id false a) (codes ")") (words_before (codes "not (") refl) (formula_before id false a) (words_before (codes ")") refl)
 
-decision_before : (step : Option Step) → Each Before (decision_text step)
-decision_before (Some (Unless test c to)) = formula_before false c
-decision_before (Some (Assert c n)) = formula_before false c
-decision_before _ = tt
+decision_before : (id : ThreadId) (step : Option Step) → Each Before (decision_text None id step)
+decision_before id (Some (Unless test c to)) = formula_before id false c
+decision_before id (Some (Assert c n)) = formula_before id false c
+decision_before id _ = tt
 
 outcome_before : (holds : Bool) → Each Before (outcome_text holds)
 outcome_before holds = each_if Before holds (codes "? yes; ") (codes "? no; ") (words_before (codes "? yes; ") refl) (words_before (codes "? no; ") refl)
 
-made_before : (steps : List Step) (made : Made) → Each Before (made_text steps made)
-made_before steps (Assigned v n) =
+made_before : (id : ThreadId) (steps : List Step) (made : Made) → Each Before (made_text None id steps made)
+made_before id steps (Assigned v n) =
     between_before (codes "v" ++ decimal v) (codes " = " ++ decimal n) (codes "; ")
     (then_before (codes "v") (decimal v) (words_before (codes "v") refl) (decimal_before v))
     (then_before (codes " = ") (decimal n) (words_before (codes " = ") refl) (decimal_before n)) (words_before (codes "; ") refl)
-made_before steps (Decided at holds) =
-    then_before (decision_text (slice_get steps at)) (outcome_text holds) (decision_before (slice_get steps at)) (outcome_before holds)
+made_before id steps (Decided at holds) =
+    then_before (decision_text None id (slice_get steps at)) (outcome_text holds) (decision_before id (slice_get steps at)) (outcome_before holds)
 
-all_before : (steps : List Step) (made : List Made) → Each Before (all_text steps made)
-all_before steps [] = tt
-all_before steps (one ∷ more) = then_before (made_text steps one) (all_text steps more) (made_before steps one) (all_before steps more)
+all_before : (id : ThreadId) (steps : List Step) (made : List Made) → Each Before (all_text None id steps made)
+all_before id steps [] = tt
+all_before id steps (one ∷ more) = then_before (made_text None id steps one) (all_text None id steps more) (made_before id steps one) (all_before id steps more)
 
 cut_before : (made : List Made) → Each Before (cut_text made)
 cut_before made = each_if Before (nat_lt 32 (length made)) (codes "...; ") [] (words_before (codes "...; ") refl) tt
 
-pub way_before : (way : Way) → Each Before (way_text way)
-way_before way = then_before (all_text way.steps.now (take 32 way.made.now)) (cut_text way.made.now) (all_before way.steps.now (take 32 way.made.now)) (cut_before way.made.now)
+pub way_before : (id : ThreadId) (way : Way) → Each Before (way_text None id way)
+way_before id way = then_before (all_text None id way.steps.now (take 32 way.made.now)) (cut_text way.made.now) (all_before id way.steps.now (take 32 way.made.now)) (cut_before way.made.now)

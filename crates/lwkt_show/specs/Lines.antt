@@ -62,7 +62,7 @@ step_text step =
 -- a poll: its thread, what that computed on its way, which of its steps it made, what it asked, and what came of it
 abbrev pub poll_text : Option Names → Poll → Way → Step → Came → List ℕ
 poll_text names poll way step came =
-    codes ", thread " ++ thread_said names poll.thread ++ codes ", " ++ way_text way ++ step_text step ++ codes ": " ++ ask_said names poll.ask ++ codes ": " ++ came_text names came poll.answer
+    codes ", thread " ++ thread_said names poll.thread ++ codes ", " ++ way_text names poll.thread way ++ step_text step ++ codes ": " ++ ask_said names poll.ask ++ codes ": " ++ came_text names came poll.answer
 
 -- a turn: its number, its round and its processor
 abbrev pub turn_text : ℕ → ℕ → ℕ → List ℕ

@@ -97,7 +97,7 @@ fn show_poll(out: &mut Page, names: Option<&Names>, poll: &Poll, way: &Way, step
     out.add(", thread ");
     show_thread(out, names, poll.thread);
     out.add(", ");
-    show_way(out, way);
+    show_way(out, names, poll.thread, way);
     show_step(out, step);
     out.add(": ");
     show_ask(out, names, &poll.ask);

@@ -1,5 +1,5 @@
 -- The names that a text gives, and how many processors it has (own).
-use Rattle.std.specs.Prelude.{ℕ, ◌+◌, ◌<◌, ◌≤◌, ◌==◌, not, nat_le, List, [], ◌∷◌, ◌++◌, codes, true, false, if◌then◌else◌, count_by, is_some, ⊤, Result, Ok, Err}
+use Rattle.std.specs.Prelude.{ℕ, ◌+◌, ◌-◌, ◌<◌, ◌≤◌, ◌==◌, not, nat_le, List, [], ◌∷◌, ◌++◌, length, codes, true, false, if◌then◌else◌, count_by, is_some, ⊤, Result, Ok, Err}
 use Rattle.lwkt_base.specs.declared.names.ThreadId.{ThreadId}
 use Rattle.lwkt_base.specs.declared.limits.TheConstants.{CPU_LIMIT, MOST_CPUS}
 use Rattle.lwkt_text.specs.declared.listings.Listing.{Listing}
@@ -16,7 +16,7 @@ use Rattle.lwkt_text.specs.Parting.{cells_in}
 
 -- before the first sentence: one processor
 abbrev pub no_names : Names
-no_names = record { tokens = []; cells = []; messages = []; threads = []; ids = []; cpus = 1 }
+no_names = record { tokens = []; cells = []; messages = []; threads = []; ids = []; vars = []; cpus = 1 }
 
 abbrev pub no_listing : Listing
 no_listing = record { names = no_names; is_said = false; faults = [] }
@@ -50,6 +50,10 @@ next_thread cpu ids = let count = count_by (λ id. id.cpu.0 == cpu) ids in if na
 
 abbrev pub thread_added : List Word → ℕ → Names → Names
 thread_added ws cpu n = record n { threads = n.threads ++ (text_at ws 1) ∷ []; ids = n.ids ++ (record { cpu = record { 0 = cpu }; thread = next_thread cpu n.ids }) ∷ [] }
+
+-- a variable of the thread that was named last
+abbrev pub var_added : List Word → Names → Names
+var_added ws n = record n { vars = n.vars ++ (record { thread = length n.threads - 1; name = text_at ws 1 }) ∷ [] }
 
 -- the processor that a thread's sentence names, 0 where it names none
 abbrev pub cpu_read : Result ℕ Wrong → ℕ
@@ -90,7 +94,8 @@ sentence_listed ws l =
     if is_at ws 0 (codes "token") then token_listed (new_name l.names.tokens ws) ws l else (
     if is_at ws 0 (codes "message") then message_listed (new_name l.names.messages ws) ws l else (
     if is_at ws 0 (codes "thread") then thread_listed (new_name l.names.threads ws) ws l else (
-    if is_at ws 0 (codes "cpus") then cpus_listed (number_at ws 1 1 MOST_CPUS) l else l)))
+    if is_at ws 0 (codes "cpus") then cpus_listed (number_at ws 1 1 MOST_CPUS) l else (
+    if is_at ws 0 (codes "var") then record l { names = var_added ws l.names } else l))))
 
 abbrev pub all_listed : List Sentence → Listing → Listing
 all_listed [] l = l

@@ -46,7 +46,7 @@ pub use lwkt_code::Flaw;
 pub use many::Many;
 pub use names::Name;
 pub use readers::{Reading, Refusal, read_text};
-pub use tables::Names;
+pub use tables::{Names, Variable};
 pub use unsaid::Unsaid;
 pub use words::Word;
 pub use writers::text_of;

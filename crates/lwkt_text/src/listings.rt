@@ -1,5 +1,5 @@
 ghost use Rattle.std.specs.Prelude.{◌≡◌, ◌≤◌, ◌<◌, OnOk, IfOk};
-ghost use Rattle.lwkt_text.specs.Listing.{no_names, no_listing, new_name, names_read, token_added, message_added, next_thread, thread_added, cpu_named, cpu_used, thread_used, HasCpus, token_listed, message_listed, thread_listed, cpus_listed, sentence_listed, all_listed};
+ghost use Rattle.lwkt_text.specs.Listing.{no_names, no_listing, new_name, names_read, token_added, message_added, next_thread, thread_added, var_added, cpu_named, cpu_used, thread_used, HasCpus, token_listed, message_listed, thread_listed, cpus_listed, sentence_listed, all_listed};
 ghost use Rattle.lwkt_text.specs.Expanding.{names_of};
 ghost use Rattle.lwkt_text.specs.Looking.{number_at};
 ghost use Rattle.lwkt_text.specs.Parting.{cells_in};
@@ -10,7 +10,7 @@ use crate::looks::{demand_at, name_at, number_at, text_at};
 use crate::many::Many;
 use crate::names::Name;
 use crate::scans::sentences_of;
-use crate::tables::{Names, position};
+use crate::tables::{Names, Variable, position};
 use crate::words::{Sentence, Word};
 use crate::wrongs::{Slip, What, Wrong};
 use lwkt_base::limits::MOST_CPUS;
@@ -77,6 +77,7 @@ impl Names {
             messages: Many::new(alloc),
             threads: Many::new(alloc),
             ids: Many::new(alloc),
+            vars: Many::new(alloc),
             cpus: 1,
         }
     }
@@ -104,6 +105,14 @@ impl Names {
             cpu: CpuId(cpu),
             thread,
         })
+    }
+
+    fn add_var(&mut self, alloc: Global, words: &[Word]) -> Result<(), OutOfMemory>
+        ensures { OnOk result (self.new ≡ var_added words.now self.old) }
+    {
+        let thread = self.threads.len().saturating_sub(1);
+        let name = Name::of(alloc, text_at(words, 1))?;
+        self.vars.push(Variable { thread, name })
     }
 }
 
@@ -194,6 +203,7 @@ impl Listing {
                 self.list_cpus(words);
                 Ok(())
             }
+            "var" => self.names.add_var(alloc, words),
             _ => Ok(()),
         }
     }

@@ -8,6 +8,15 @@ use crate::words::Word;
 use crate::wrongs::{Wanted, What, Wrong};
 use lwkt_base::{CpuId, MsgId, ThreadId, TokId};
 
+/// A variable of a thread.
+#[derive(Drop)]
+pub struct Variable {
+    /// The place of its thread, which is the last that the text names before it.
+    pub thread: usize,
+    /// Its name.
+    pub name: Name,
+}
+
 /// The names of a text, each by the number of what it names.
 #[derive(Drop)]
 pub struct Names {
@@ -21,6 +30,8 @@ pub struct Names {
     pub threads: Many<Name>,
     /// Of each thread's name the thread.
     pub ids: Many<ThreadId>,
+    /// The variables of the threads, in the order in which the text gives them.
+    pub vars: Many<Variable>,
     /// How many processors there are, 1 to 8.
     pub cpus: u8,
 }

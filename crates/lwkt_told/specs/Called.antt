@@ -1,6 +1,7 @@
 -- What things are called by a text: their names there, or their numbers where they have none (own).
-use Rattle.std.specs.Prelude.{ℕ, ◌+◌, ◌-◌, ◌==◌, ◌&&◌, Bool, if◌then◌else◌, List, [], ◌∷◌, ◌++◌, length, max, replicate, slice_get, codes, Option, Some, None, unwrap_or, option_and_then}
+use Rattle.std.specs.Prelude.{ℕ, ◌+◌, ◌-◌, ◌==◌, ◌&&◌, Bool, if◌then◌else◌, List, [], ◌∷◌, ◌++◌, filter, length, max, replicate, slice_get, codes, Option, Some, None, unwrap_or, option_and_then}
 use Rattle.std.specs.Fmt.{decimal}
+use Rattle.std.specs.Option.{option_map_or}
 use Rattle.lwkt_base.specs.declared.names.Mode.{Mode}
 use Rattle.lwkt_base.specs.declared.names.Mode.TheVariants.{Exclusive, Shared}
 use Rattle.lwkt_base.specs.declared.names.Ref.{Ref}
@@ -10,6 +11,7 @@ use Rattle.lwkt_code.specs.declared.steps.Step.{Step}
 use Rattle.lwkt_script.specs.declared.scripts.Script.{Script}
 use Rattle.lwkt_script.specs.declared.scripts.ThreadSpec.{ThreadSpec}
 use Rattle.lwkt_text.specs.declared.tables.Names.{Names}
+use Rattle.lwkt_text.specs.declared.tables.Variable.{Variable}
 use Rattle.lwkt_text.specs.Naming.{cells_of}
 
 -- a name, or a number where there is none
@@ -47,6 +49,18 @@ thread_name names id = option_and_then (λ i. slice_get names.threads i) (place_
 
 abbrev pub thread_called : Names → ThreadId → List ℕ
 thread_called names id = unwrap_or (thread_name names id) (thread_number id)
+
+-- the variables of the thread of a place
+abbrev pub variables_of : ℕ → List Variable → List Variable
+variables_of i vars = filter (λ v. v.thread == i) vars
+
+-- the variable of a number of a thread, if it has a name
+abbrev pub variable_of : Names → ThreadId → ℕ → Option Variable
+variable_of names id n = option_and_then (λ i. slice_get (variables_of i names.vars) n) (place_of id names.ids)
+
+-- a variable of a thread: its name, or `v` and its number
+abbrev pub variable_called : Names → ThreadId → ℕ → List ℕ
+variable_called names id n = option_map_or (λ v. v.name) (variable_of names id n) (codes "v" ++ decimal n)
 
 -- what stands before item i of a list
 abbrev pub comma : ℕ → List ℕ

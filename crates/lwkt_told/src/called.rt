@@ -1,14 +1,14 @@
-ghost use Rattle.std.specs.Prelude.{◌≡◌, ◌++◌, OnOk, replicate, string_bytes};
+ghost use Rattle.std.specs.Prelude.{◌≡◌, ◌++◌, OnOk, replicate, slice_get, string_bytes};
 ghost use Rattle.std.specs.Option.{option_copied};
 ghost use Rattle.lwkt_report.specs.Report.{numbered_lines};
-ghost use Rattle.lwkt_told.specs.Called.{called, cell_called, is_thread, place_of, program_of, thread_number, thread_name, thread_called, comma, mode_told, ref_part, longest, width_of};
+ghost use Rattle.lwkt_told.specs.Called.{called, cell_called, is_thread, place_of, program_of, thread_number, thread_name, thread_called, variables_of, variable_of, variable_called, comma, mode_told, ref_part, longest, width_of};
 ghost use Rattle.lwkt_text.specs.Naming.{cells_of};
 
 use lwkt_base::memory::{Piece, push_str, put};
 use lwkt_base::{Mode, OutOfMemory, Ref, ThreadId, TokId};
 use lwkt_code::Step;
 use lwkt_script::Script;
-use lwkt_text::{Name, Names};
+use lwkt_text::{Name, Names, Variable};
 
 /// What the thing of a number is called in a list of names, as a piece of a text.
 #[derive(Clone, Copy)]
@@ -39,6 +39,17 @@ pub struct CellCalled<'a> {
     pub cell: u8,
 }
 
+/// What a variable of a thread is called, as a piece of a text.
+#[derive(Clone, Copy)]
+pub struct VariableCalled<'a> {
+    /// The names of the text.
+    pub names: &'a Names,
+    /// The thread.
+    pub id: ThreadId,
+    /// The number of the variable there.
+    pub number: u8,
+}
+
 impl<'a> Piece for Called<'a> {
     ghost text = { λ c. called c.names.now c.number };
 
@@ -52,6 +63,14 @@ impl<'a> Piece for ThreadCalled<'a> {
 
     fn put_on(self, out: &mut String) -> Result<(), OutOfMemory> {
         show_thread_called(self.names, self.id, out)
+    }
+}
+
+impl<'a> Piece for VariableCalled<'a> {
+    ghost text = { λ c. variable_called c.names.now c.id c.number };
+
+    fn put_on(self, out: &mut String) -> Result<(), OutOfMemory> {
+        show_variable(self.names, self.id, self.number, out)
     }
 }
 
@@ -148,6 +167,45 @@ pub(crate) fn show_thread_called(
     match thread_name(names, id) {
         Some(name) => push_str(out, name.as_str()),
         None => put(out, (id.cpu.0, ".", id.thread)),
+    }
+}
+
+// The variable of a number of the thread of a place.
+fn variable_at(vars: &[Variable], i: usize, n: usize) -> Option<&Variable>
+    ensures { option_copied result ≡ slice_get (variables_of i vars.now) n }
+{
+    let mut left = n;
+    for variable in vars {
+        if variable.thread == i {
+            if left == 0 {
+                return Some(variable);
+            }
+            left -= 1;
+        }
+    }
+    None
+}
+
+// The variable of a number of a thread, if it has a name.
+fn variable_of(names: &Names, id: ThreadId, n: usize) -> Option<&Variable>
+    ensures { option_copied result ≡ variable_of names.now id n }
+{
+    let i = place_of(id, names.ids.as_slice())?;
+    variable_at(names.vars.as_slice(), i, n)
+}
+
+// Appends what a variable of a thread is called.
+fn show_variable(
+    names: &Names,
+    id: ThreadId,
+    number: u8,
+    out: &mut String,
+) -> Result<(), OutOfMemory>
+    ensures { OnOk result (string_bytes out.new ≡ string_bytes out.old ++ variable_called names.now id number) }
+{
+    match variable_of(names, id, usize::from(number)) {
+        Some(variable) => push_str(out, variable.name.as_str()),
+        None => put(out, ("v", number)),
     }
 }
 

@@ -11,7 +11,9 @@ mod logs;
 mod tellings;
 mod verdicts;
 
-pub use called::{Called, CellCalled, ThreadCalled, cells_of, show_called, width_of};
+pub use called::{
+    Called, CellCalled, ThreadCalled, VariableCalled, cells_of, show_called, width_of,
+};
 pub use circles::show_stuck;
 pub use logs::{EntryTold, RecordTold};
 pub use tellings::{report_in, show_front, told};
