@@ -3,11 +3,11 @@ ghost use Rattle.std.specs.Prelude.{◌<◌, length};
 ghost use Rattle.lwkt_plain.specs.Stores.{kept, IsStore};
 
 use crate::mails::Mails;
-use crate::touches::{NOTHING, Touch, bit, disturb, listed, touched_by, touched_by_all};
-use lwkt_base::{Ask, MsgState};
-use lwkt_code::{Code, Local, Step};
+use crate::outlooks::{Outlook, Outlooks};
+use crate::touches::{NOTHING, Touch, bit, disturb, listed};
+use lwkt_base::MsgState;
 use lwkt_plain::{Processor, Store};
-use lwkt_script::{Script, ThreadSpec};
+use lwkt_script::Script;
 
 /// What a processor may touch.
 #[derive(Clone, Copy, PartialEq, Eq)]
@@ -33,87 +33,10 @@ const IDLE: Doing = Doing {
     may_end: false,
 };
 
-// An opening generation from which a search doesn't come to the last one.
-const LOW: u64 = 35184372088832;
-
 /// What each processor may touch.
 #[derive(Clone, Copy)]
 pub(crate) struct Doings {
     all: [Doing; 8],
-}
-
-// Whether each step of a program is an ask that is the same each time.
-fn is_list(code: &Code) -> bool {
-    code.steps()
-        .iter()
-        .all(|step| matches!(step, Step::Fixed(_)))
-}
-
-// The ask that stands there, if one does that is the same each time.
-fn fixed_at(code: &Code, at: usize) -> Option<&Ask> {
-    match code.steps().get(at) {
-        Some(Step::Fixed(ask)) => Some(ask),
-        _ => None,
-    }
-}
-
-// What a thread whose steps are a list asks next; `None` where it has made them all, and exits.
-fn next_step<'c>(code: &'c Code, local: &Local) -> Option<&'c Ask> {
-    if local.at < code.steps().len() {
-        return fixed_at(code, local.at);
-    }
-    if local.left > 0 && local.asked {
-        fixed_at(code, 0)
-    } else {
-        None
-    }
-}
-
-// Whether a thread that asks this may not run any more then: it ends, or gives its tokens up, and a broken law ends it there.
-fn may_leave(ask: &Ask) -> bool {
-    matches!(
-        ask,
-        Ask::Exit
-            | Ask::Fail(_)
-            | Ask::Yield
-            | Ask::WaitPort
-            | Ask::Do(..)
-            | Ask::Get(_)
-            | Ask::GetShared(_)
-    )
-}
-
-// What the next ask of a thread may touch, and whether the thread may not run any more then. Of one that decides it may be any ask of its
-// program.
-fn step_of(code: &Code, local: &Local) -> (Touch, bool) {
-    if !is_list(code) {
-        return (touched_by_all(code.steps()), true);
-    }
-    match next_step(code, local) {
-        Some(ask) => (touched_by(*ask), may_leave(ask)),
-        None => (NOTHING, true),
-    }
-}
-
-// Whether a token of a script may come to its last generation, at which a search for a thread ends more than one.
-fn may_wear(script: &Script) -> bool {
-    script
-        .tokens
-        .as_slice()
-        .iter()
-        .any(|token| token.generation >= LOW)
-}
-
-// The steps that a thread may still come to.
-fn steps_left<'c>(code: &'c Code, local: &Local) -> &'c [Step] {
-    let steps = code.steps();
-    if local.left > 0 || !is_list(code) {
-        return steps;
-    }
-    match steps.get(local.at..) {
-        Some(rest) => rest,
-        None => &[],
-    }
 }
 
 impl Doing {
@@ -133,7 +56,7 @@ impl Doing {
     }
 
     // Notes a thread of a processor, by where it stands in its program.
-    fn note_thread(&mut self, cpu: &Processor, place: usize, spec: &ThreadSpec) {
+    fn note_thread(&mut self, cpu: &Processor, place: usize, service: bool, outlook: &Outlook) {
         let Some(thread) = cpu.threads.as_slice().get(place) else {
             return;
         };
@@ -141,10 +64,10 @@ impl Doing {
             return;
         }
         let list = listed(thread.list.refs());
-        let (step, leaves) = step_of(&spec.code, &thread.local);
-        let later = list.and(touched_by_all(steps_left(&spec.code, &thread.local)));
+        let (step, leaves) = outlook.next(&thread.local);
+        let later = list.and(outlook.later(&thread.local));
         self.note(cpu.running == Some(place), leaves, list.and(step), later);
-        if !spec.service {
+        if !service {
             self.pending = self.pending.saturating_add(1);
         }
     }
@@ -186,14 +109,17 @@ impl Doing {
 }
 
 // What a processor may touch, mail aside.
-fn doing_of(script: &Script, c: usize, cpu: &Processor) -> Doing {
+fn doing_of(script: &Script, outlooks: &Outlooks, c: usize, cpu: &Processor) -> Doing {
     let mut doing = IDLE;
     let mut count = 0usize;
-    for spec in script.threads.as_slice() {
-        if usize::from(spec.cpu.0) == c {
-            doing.note_thread(cpu, count, spec);
-            count = count.saturating_add(1);
+    for (number, spec) in script.threads.as_slice().iter().enumerate() {
+        if usize::from(spec.cpu.0) != c {
+            continue;
         }
+        if let Some(outlook) = outlooks.get(number) {
+            doing.note_thread(cpu, count, spec.service, outlook);
+        }
+        count = count.saturating_add(1);
     }
     doing
 }
@@ -216,14 +142,21 @@ fn unrested(script: &Script, store: &Store, at: usize) -> u64
 
 impl Doings {
     /// What each processor may touch at a state.
-    pub(crate) fn at(script: &Script, mails: &Mails, store: &Store, at: usize) -> Doings
+    pub(crate) fn at(
+        script: &Script,
+        outlooks: &Outlooks,
+        mails: &Mails,
+        store: &Store,
+        at: usize,
+    ) -> Doings
         requires store { IsStore store.now }
         requires there { at < length (kept store.now) }
     {
-        let wears = may_wear(script);
         let mut doings = Doings { all: [IDLE; 8] };
         for c in 0..store.cpus().min(8) {
-            doings.all[c] = doing_of(script, c, store.processor(at, c)).bounded(wears);
+            doings.all[c] = doing_of(script, outlooks, c, store.processor(at, c)).bounded(
+                outlooks.wears,
+            );
         }
         doings.add_mail(mails, mails.away(unrested(script, store, at)));
         doings

@@ -6,6 +6,7 @@ ghost use Rattle.lwkt_plain.specs.Stores.{form_turn, kept, IsStore};
 use crate::choices::{all_of, sets_of};
 use crate::doings::Doings;
 use crate::mails::Mails;
+use crate::outlooks::Outlooks;
 use crate::searches::Method;
 use lwkt_plain::{Plain, Store};
 use lwkt_script::Script;
@@ -16,6 +17,7 @@ use lwkt_search::{Machine, Refusal};
 pub(crate) struct Explorer<'s> {
     pub script: &'s Script,
     pub method: Method,
+    pub outlooks: Outlooks,
     pub mails: Mails,
 }
 
@@ -46,7 +48,7 @@ impl<'s> Machine for Explorer<'s> {
         match self.method {
             Method::Plain => all_of(store.cpus()),
             Method::Reduced => sets_of(
-                &Doings::at(self.script, &self.mails, store, at),
+                &Doings::at(self.script, &self.outlooks, &self.mails, store, at),
                 store.cpus(),
             ),
         }

@@ -28,6 +28,7 @@ mod losses;
 mod mails;
 mod mirrors;
 mod outcomes;
+mod outlooks;
 mod quotes;
 mod readings;
 mod samples;

@@ -16,6 +16,7 @@ use crate::losses::Lost;
 use crate::mails::Mails;
 use crate::mirrors::stands_as;
 use crate::outcomes::{Kind, LastState, Outcomes};
+use crate::outlooks::Outlooks;
 use crate::watches::Watch;
 use lwkt_base::memory::from_slice;
 use lwkt_base::{Fault, OutOfMemory};
@@ -565,6 +566,7 @@ fn searched<W: Watch>(
         machine: Explorer {
             script,
             method,
+            outlooks: Outlooks::of(alloc, script)?,
             mails: Mails::of(alloc, script)?,
         },
         cpus: script.cpus,

@@ -81,8 +81,8 @@ fn named_by(part: &Part) -> Touch {
     }
 }
 
-/// What a step touches by itself: its tokens, its message, and the processor that it sends to.
-pub(crate) fn touched_by(ask: Ask) -> Touch {
+// What a step touches by itself: its tokens, its message, and the processor that it sends to.
+fn touched_by(ask: Ask) -> Touch {
     let (_, parts) = step_of(&ask);
     let mut touch = NOTHING;
     for part in parts.as_slice() {
@@ -155,15 +155,6 @@ pub(crate) fn touched_by_step(step: &Step) -> Touch {
         Step::Make(wish, _) => touched_by_wish(wish),
         _ => NOTHING,
     }
-}
-
-/// What steps may touch.
-pub(crate) fn touched_by_all(steps: &[Step]) -> Touch {
-    let mut touch = NOTHING;
-    for step in steps {
-        touch = touch.and(touched_by_step(step));
-    }
-    touch
 }
 
 /// The tokens of a list.
