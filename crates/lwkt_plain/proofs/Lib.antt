@@ -7,6 +7,7 @@ pub mod AskSound
 pub mod Changes
 pub mod ChosenSound
 pub mod Folds
+pub mod Follows
 pub mod FormLaws
 pub mod FormMail
 pub mod Frames
@@ -19,6 +20,8 @@ pub mod MailSound
 pub mod OldWords
 pub mod OneFault
 pub mod OpenedSound
+pub mod OtherMail
+pub mod OtherTurns
 pub mod PollSound
 pub mod Receipts
 pub mod Risings

@@ -6,6 +6,7 @@ pub mod Intakes
 pub mod Letters
 pub mod Mailing
 pub mod Openings
+pub mod Others
 pub mod Places
 pub mod Shelves
 pub mod Sound
