@@ -16,6 +16,7 @@ pub mod Holdings
 pub mod Keys
 pub mod LawTests
 pub mod MailSound
+pub mod MarkFalls
 pub mod OldWords
 pub mod OneFault
 pub mod OpenedSound
@@ -28,9 +29,11 @@ pub mod StoreLemmas
 pub mod StoreMoves
 pub mod TableLemmas
 pub mod Takings
+pub mod TokenRelations
 pub mod TokenSteps
 pub mod TryForms
 pub mod TryWords
 pub mod TurnForms
 pub mod TurnMoves
 pub mod TurnSound
+pub mod Waitings

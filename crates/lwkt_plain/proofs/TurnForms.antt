@@ -209,7 +209,7 @@ opened_reached script limits lawful = record {
   cpus = length-map (below script.cpus) (opened_cpu script) ∙ length-range_with_len 0 script.cpus;
 }
 
-turn_reached : (script : Script) (c : ℕ) (p : Plain) → c < script.cpus → Reached script p → Reached script (turn script p c)
+pub turn_reached : (script : Script) (c : ℕ) (p : Plain) → c < script.cpus → Reached script p → Reached script (turn script p c)
 turn_reached script c p below_count r =
     let same = r.cpus in
     let inside : c < length p.cpus = omega (arith, same, below_count) in

@@ -6,6 +6,7 @@
 //! its list last; a *form* is a state in which only such words are kept as can refuse a list again.
 #![tactic(auto)]
 
+mod deadlocks;
 mod endings;
 pub mod forms;
 mod hashes;
@@ -28,6 +29,7 @@ mod token_asks;
 pub mod tokens;
 mod turns;
 
+pub use deadlocks::standstills_are_waits;
 pub use items::Items;
 pub use letters::{Hands, Lane, Letter, Note, NoteKind, Port};
 pub use nexts::{Miss, Missed, Next};
