@@ -17,6 +17,7 @@ pub mod Keys
 pub mod LawTests
 pub mod MailSound
 pub mod MarkFalls
+pub mod Markers
 pub mod OldWords
 pub mod OneFault
 pub mod OpenedSound
@@ -25,6 +26,7 @@ pub mod Receipts
 pub mod Risings
 pub mod ShelfLemmas
 pub mod Soundness
+pub mod SteadyThreads
 pub mod StoreLemmas
 pub mod StoreMoves
 pub mod TableLemmas

@@ -28,7 +28,7 @@ use Rattle.lwkt_plain.specs.declared.states.BusyAt.{BusyAt}
 use Rattle.lwkt_plain.specs.Sound.{AreSoundTokens, AreHeld, KeepsTokens, IsSoundList, holding_in}
 use Rattle.lwkt_plain.specs.Tokens.{stepped, miss_of, ends_section, is_clean, is_broken, mended, giving_event, given, gives, Tried, tried, takes, resume}
 use Rattle.lwkt_plain.specs.Turns.{is_still}
-use Rattle.lwkt_plain.proofs.TokenRelations.{Relates, relates_same, relates_both, step_relates, takes_relates}
+use Rattle.lwkt_plain.proofs.TokenRelations.{Relates, relates_same, relates_both, step_relates, gives_relates, takes_relates}
 use Rattle.lwkt_plain.proofs.TokenSteps.{take_keeps, keeps_both}
 use Rattle.lwkt_plain.proofs.Takings.{after_miss, takes_none, takes_more, fits_as, front_of}
 use Rattle.lwkt_plain.proofs.OldWords.{may_be}
@@ -41,10 +41,10 @@ Unmarks old new = new.mark ≡ true → old.mark ≡ true
 abbrev pub Falls : List Token → List Token → Type 0
 Falls old new = Relates Unmarks old new
 
-falls_self : (tok : Token) → Unmarks tok tok
+pub falls_self : (tok : Token) → Unmarks tok tok
 falls_self tok is = is
 
-falls_through : (a b c : Token) → Unmarks a b → Unmarks b c → Unmarks a c
+pub falls_through : (a b c : Token) → Unmarks a b → Unmarks b c → Unmarks a c
 falls_through a b c one other is = one (other is)
 
 pub falls_same : (tokens : List Token) → Falls tokens tokens
@@ -58,7 +58,7 @@ first_falls : (cpu : CpuId) (t : TokId) (mode : Mode) (tok : Token) → Unmarks 
 first_falls cpu t Exclusive tok is = absurd (false≢true is)
 first_falls cpu t Shared tok is = is
 
-taking_falls : (cpu : CpuId) (front : List Ref) (r : Ref) (tok : Token) → Unmarks tok (token_after tok (taking_event cpu front r))
+pub taking_falls : (cpu : CpuId) (front : List Ref) (r : Ref) (tok : Token) → Unmarks tok (token_after tok (taking_event cpu front r))
 taking_falls cpu front r tok = go (names front r.tok.0)
   where
     go : (b : Bool) → Unmarks tok (token_after tok (if b then Again cpu r.tok else taking cpu r.tok r.mode))
@@ -75,10 +75,13 @@ giving_falls cpu t tok true b is = is
 giving_falls cpu t tok false true is = is
 giving_falls cpu t tok false false is = is
 
-given_falls : (cpu : CpuId) (t : TokId) (tok : Token) → Unmarks tok (given cpu t tok)
+pub given_falls : (cpu : CpuId) (t : TokId) (tok : Token) → Unmarks tok (given cpu t tok)
 given_falls cpu t tok is =
     let m = mended cpu tok in
     sym (mended_mark tok (is_broken cpu tok)) ∙ giving_falls cpu t m (not (ends_section (held_by m cpu.0))) (is_clean m) is
+
+pub gives_fall : (cpu : CpuId) (tokens : List Token) (refs : List Ref) → Falls tokens (gives cpu tokens refs).tokens
+gives_fall cpu tokens refs = gives_relates Unmarks falls_self falls_through given_falls cpu tokens refs
 
 pub takes_fall : (cpu : CpuId) (refs rest : List Ref) (tokens : List Token) (front : List Ref) → Falls tokens (takes cpu refs tokens front rest).tokens
 takes_fall cpu refs rest tokens front = takes_relates Unmarks falls_self falls_through given_falls taking_falls cpu refs rest tokens front

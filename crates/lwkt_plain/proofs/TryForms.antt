@@ -164,7 +164,7 @@ module _ (c k : ℕ) (p q : Plain) (a : Alike p q) (sound : IsSound q) (s t : Th
       })
 
 -- whether a thread is tried
-tried_is : (phase : Phase) (tokens : List Token) (t : Thread) → may_try_in phase tokens t ≡ true → (phase ≡ Live) × (is_still_busy tokens t ≡ false)
+pub tried_is : (phase : Phase) (tokens : List Token) (t : Thread) → may_try_in phase tokens t ≡ true → (phase ≡ Live) × (is_still_busy tokens t ≡ false)
 tried_is Live tokens t is = (refl, off (is_still_busy tokens t) is)
   where
     off : (b : Bool) → not b ≡ true → b ≡ false

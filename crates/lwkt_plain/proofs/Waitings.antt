@@ -42,7 +42,7 @@ use Rattle.lwkt_plain.specs.declared.states.Phase.TheVariants.{Live, AwaitsItem,
 use Rattle.lwkt_plain.specs.declared.states.Plain.{Plain}
 use Rattle.lwkt_plain.specs.declared.states.Processor.{Processor}
 use Rattle.lwkt_plain.specs.declared.states.Thread.{Thread}
-use Rattle.lwkt_plain.specs.Deadlocks.{IsStandstill, PollsNone, NonePolls, IsReady, WaitsForRunning, WaitsAtMark, ReadyThreadsWait, StandstillsAreWaits}
+use Rattle.lwkt_plain.specs.Deadlocks.{IsStandstill, PollsNone, NonePolls, IsReady, WaitsForRunning, WaitsAtMark}
 use Rattle.lwkt_plain.specs.Forms.{kept_word, thread_by, cpu_by, form}
 use Rattle.lwkt_plain.specs.Intakes.{below, has_ended, takes_mail}
 use Rattle.lwkt_plain.specs.Openings.{opened_cpu, opened}
@@ -170,7 +170,7 @@ runner p c tok sound here held = go (cpu_at p c).running refl
 first_here : (r : Ref) (rest : List Ref) → first_mode (r ∷ rest) r.tok.0 ≡ Some r.mode
 first_here r rest = ap (λ (b : Bool). option_map (λ (q : Ref). q.mode) (if b then Some r else find (is_to r.tok.0) rest)) (eq-eqb r.tok.0 r.tok.0 refl)
 
-first_behind : (front : List Ref) (r : Ref) (rest : List Ref) → names front r.tok.0 ≡ false → first_mode (front ++ (r ∷ rest)) r.tok.0 ≡ Some r.mode
+pub first_behind : (front : List Ref) (r : Ref) (rest : List Ref) → names front r.tok.0 ≡ false → first_mode (front ++ (r ∷ rest)) r.tok.0 ≡ Some r.mode
 first_behind [] r rest none = first_here r rest
 first_behind (q ∷ front) r rest none =
     let parts = or_parts (is_to r.tok.0 q) (names front r.tok.0) none in
@@ -264,33 +264,33 @@ in_round cursor count k inside =
     list_any-append (λ (j : ℕ). j == k) front back ∙ one
 
 -- a search of which this state is on the way: its processor runs nothing, words are old, others hold what they held, and no mark is new
-record OnTheWay (c : ℕ) (p q : Plain) : Type 0 where
-  rests : Rests c q
-  old : AreOld q
-  keeps : KeepsTokens c p.tokens q.tokens
-  falls : Falls p.tokens q.tokens
+pub record OnTheWay (c : ℕ) (p q : Plain) : Type 0 where
+  pub rests : Rests c q
+  pub old : AreOld q
+  pub keeps : KeepsTokens c p.tokens q.tokens
+  pub falls : Falls p.tokens q.tokens
 
 -- a try that found no thread: none was made, or it was missed
-abbrev trial : ℕ → ℕ → Plain → Tried
+abbrev pub trial : ℕ → ℕ → Plain → Tried
 trial c j q = resume (record { 0 = c }) q.tokens (list_at q c j)
 
-record IsMissed (c j : ℕ) (q : Plain) : Type 0 where
-  may : may_try q c j ≡ true
-  missed : Missed
-  is : (trial c j q).missed ≡ Some missed
-  leads : (tries c j q).plain ≡ missed_by c j (with_tokens (trial c j q).tokens q) missed.at missed.why
+pub record IsMissed (c j : ℕ) (q : Plain) : Type 0 where
+  pub may : may_try q c j ≡ true
+  pub missed : Missed
+  pub is : (trial c j q).missed ≡ Some missed
+  pub leads : (tries c j q).plain ≡ missed_by c j (with_tokens (trial c j q).tokens q) missed.at missed.why
 
-record IsUntried (c j : ℕ) (q : Plain) : Type 0 where
-  may_not : may_try q c j ≡ false
-  leads : (tries c j q).plain ≡ q
+pub record IsUntried (c j : ℕ) (q : Plain) : Type 0 where
+  pub may_not : may_try q c j ≡ false
+  pub leads : (tries c j q).plain ≡ q
 
-abbrev either : ℕ → ℕ → Plain → Bool → Found
+abbrev pub either : ℕ → ℕ → Plain → Bool → Found
 either c j q b = if b then after_try c j q (trial c j q) else found q None
 
-abbrev left : ℕ → ℕ → Plain → Option Missed → Found
+abbrev pub left : ℕ → ℕ → Plain → Option Missed → Found
 left c j q o = option_map_or (λ (m : Missed). found (missed_by c j (with_tokens (trial c j q).tokens q) m.at m.why) None) o (found (with_tokens (trial c j q).tokens q) (Some j))
 
-no_place : (c j : ℕ) (q : Plain) → (tries c j q).place ≡ None → IsUntried c j q ⊎ IsMissed c j q
+pub no_place : (c j : ℕ) (q : Plain) → (tries c j q).place ≡ None → IsUntried c j q ⊎ IsMissed c j q
 no_place c j q none = go (may_try q c j) refl none
   where
     tried : may_try q c j ≡ true → (o : Option Missed) → (trial c j q).missed ≡ o → (left c j q o).place ≡ None → IsUntried c j q ⊎ IsMissed c j q
@@ -327,7 +327,7 @@ missed_tokens c j q at (Busy word) = refl
 missed_tokens c j q at Worn = leaves_tokens c j q
 
 -- a try leads on
-on_the_way : (c j : ℕ) (p q : Plain) → OnTheWay c p q → (tries c j q).place ≡ None → OnTheWay c p (tries c j q).plain
+pub on_the_way : (c j : ℕ) (p q : Plain) → OnTheWay c p q → (tries c j q).place ≡ None → OnTheWay c p (tries c j q).plain
 on_the_way c j p q w none =
     let y = (tries c j q).plain in
     let comes = try_comes c j q w.rests.inside w.rests.sound w.rests.idle w.rests.here in
@@ -351,11 +351,14 @@ on_the_way c j p q w none =
         subst (λ (tokens : List Token). KeepsTokens c p.tokens tokens × Falls p.tokens tokens) (sym same)
         (keeps_both c p.tokens q.tokens x.tokens w.keeps r.keeps, falls_both p.tokens q.tokens x.tokens w.falls (takes_fall cpu (list_at q c j) (list_at q c j) q.tokens []))
 
+pub way_self : (c : ℕ) (p q : Plain) → OnTheWay c p q → OnTheWay c q q
+way_self c p q w = record { rests = w.rests; old = w.old; keeps = keeps_same c q.tokens w.rests.sound.tokens; falls = falls_same q.tokens }
+
 -- a search that found no thread went on
-abbrev on_if : ℕ → List ℕ → Found → Bool → Found
+abbrev pub on_if : ℕ → List ℕ → Found → Bool → Found
 on_if c ks y b = if b then y else finds c y.plain ks
 
-none_on : (c : ℕ) (ks : List ℕ) (y : Found) → (find_on c ks y).place ≡ None → (y.place ≡ None) × (find_on c ks y ≡ finds c y.plain ks)
+pub none_on : (c : ℕ) (ks : List ℕ) (y : Found) → (find_on c ks y).place ≡ None → (y.place ≡ None) × (find_on c ks y ≡ finds c y.plain ks)
 none_on c ks y none = go y.place refl
   where
     go : (o : Option ℕ) → y.place ≡ o → (y.place ≡ None) × (find_on c ks y ≡ finds c y.plain ks)
@@ -485,11 +488,11 @@ refused_in c k p (j ∷ js) q t w none there at live =
         subst F same own none' way rest
 
 -- the states that orders of turns lead to, by their forms
-record ReachedForm (script : Script) (p : Plain) : Type 0 where
-  state : Reached script p
-  own : form p ≡ p
+pub record ReachedForm (script : Script) (p : Plain) : Type 0 where
+  pub state : Reached script p
+  pub own : form p ≡ p
 
-opened_form_reached : (script : Script) → IsSound (opened script) → ReachedForm script (opened script)
+pub opened_form_reached : (script : Script) → IsSound (opened script) → ReachedForm script (opened script)
 unfolding below
 opened_form_reached script sound = record {
   state = record {
@@ -506,7 +509,7 @@ form_reached script p r = record {
   own = own_form p;
 }
 
-turned_reached : (script : Script) (c : ℕ) (p : Plain) → c < script.cpus → ReachedForm script p → ReachedForm script (form_turn script p c)
+pub turned_reached : (script : Script) (c : ℕ) (p : Plain) → c < script.cpus → ReachedForm script p → ReachedForm script (form_turn script p c)
 turned_reached script c p below_count r = go (nat_lt c (length p.cpus))
   where
     go : (b : Bool) → ReachedForm script (if b then form (turn script p c) else p)
@@ -518,7 +521,7 @@ run_form_reached script [] p there r = r
 run_form_reached script (c ∷ rest) p there r =
     run_form_reached script rest (form_turn script p c) (λ k d inside. there (suc k) d (omega (arith, inside))) (turned_reached script c p (there 0 c (omega arith)) r)
 
-reached_form : (script : Script) (p : Plain) → IsSound (opened script) → CanReach (form_turn script) script.cpus (opened script) p → ReachedForm script p
+pub reached_form : (script : Script) (p : Plain) → IsSound (opened script) → CanReach (form_turn script) script.cpus (opened script) p → ReachedForm script p
 reached_form script p sound can = subst (ReachedForm script) can.leads (run_form_reached script can.order (opened script) can.below (opened_form_reached script sound))
 
 -- a processor whose turn polls no thread runs none, and its search finds none
@@ -636,7 +639,7 @@ module _ (script : Script) (p : Plain) (sound : IsSound (opened script)) (still 
   state : ReachedForm script p
   state = reached_form script p sound still.reached
 
-  each_waits : (c : ℕ) (refs : List Ref) → c < script.cpus → PollsNone p c → IsReady p c refs → WaitsForRunning p c refs ⊎ WaitsAtMark p refs
+  pub each_waits : (c : ℕ) (refs : List Ref) → c < script.cpus → PollsNone p c → IsReady p c refs → WaitsForRunning p c refs ⊎ WaitsAtMark p refs
   each_waits c refs below_count none ready =
       subst (λ (xs : List Ref). WaitsForRunning p c xs ⊎ WaitsAtMark p xs) ready.list
       (waits p c ready.thread.list state.state.sound (is_refused script p c state below_count (still.quiet c below_count) none ready.number ready.thread ready.there ready.live))
@@ -649,7 +652,7 @@ module _ (script : Script) (p : Plain) (sound : IsSound (opened script)) (still 
       | inr past ↦ ap (λ (cpu : Processor). cpu.running) (get_or_past p.cpus c no_processor (let same = state.state.cpus in omega (arith, same, past)))
     ]
 
-    none_held : All IsFree p.tokens
+    pub none_held : All IsFree p.tokens
     none_held i d within =
         λ c. elim (cases_lt c CPU_LIMIT) [
           | inl here ↦ sym (held_at p.tokens i (get_or p.tokens i d) c (slice_get-get_or p.tokens i d within)) ∙ held_idle p c state.state.sound here (idle c) i
@@ -658,15 +661,8 @@ module _ (script : Script) (p : Plain) (sound : IsSound (opened script)) (still 
               get_or_past (get_or p.tokens i d).holders c Nothing (omega (arith, eight, past)))
         ]
 
-    at_marks : (c : ℕ) (refs : List Ref) → c < script.cpus → IsReady p c refs → WaitsAtMark p refs
+    pub at_marks : (c : ℕ) (refs : List Ref) → c < script.cpus → IsReady p c refs → WaitsAtMark p refs
     at_marks c refs below_count ready = elim (each_waits c refs below_count (none c below_count) ready) [
       | inl w ↦ absurd (none-some w.number (sym (idle w.cpu) ∙ w.runs))
       | inr mark ↦ mark
     ]
-
-pub standstills : StandstillsAreWaits
-standstills script p sound still = record {
-  each = each_waits script p sound still;
-  free = λ none. none_held script p sound still none;
-  marks = λ none. at_marks script p sound still none;
-}

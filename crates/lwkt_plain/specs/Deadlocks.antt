@@ -4,6 +4,7 @@
 -- state. It may keep tokens from others, and its processor from the threads behind it. So the laws speak of processors whose turn polls no
 -- thread, and of states in which none does.
 use Rattle.std.specs.Prelude.{◌≡◌, ◌≢◌, ◌⊎◌, ℕ, ◌<◌, List, [], All, Option, Some, None}
+use Rattle.lwkt_base.specs.declared.faults.Fault.TheVariants.{Broken, Worn}
 use Rattle.lwkt_base.specs.declared.limits.TheConstants.{CPU_LIMIT}
 use Rattle.lwkt_base.specs.declared.names.Mode.{Mode}
 use Rattle.lwkt_base.specs.declared.names.Mode.TheVariants.{Exclusive}
@@ -14,7 +15,7 @@ use Rattle.lwkt_core.specs.Machine.{machine}
 use Rattle.lwkt_core.specs.Tokens.{IsFree}
 use Rattle.lwkt_script.specs.declared.scripts.Script.{Script}
 use Rattle.lwkt_search.specs.Runs.{CanReach, IsQuiet}
-use Rattle.lwkt_plain.specs.declared.states.Phase.TheVariants.{Live}
+use Rattle.lwkt_plain.specs.declared.states.Phase.TheVariants.{Live, Faulted}
 use Rattle.lwkt_plain.specs.declared.states.Plain.{Plain}
 use Rattle.lwkt_plain.specs.declared.states.Thread.{Thread}
 use Rattle.lwkt_plain.specs.Intakes.{takes_mail}
@@ -67,12 +68,21 @@ pub record WaitsForRunning (p : Plain) (c : ℕ) (refs : List Ref) : Type 0 wher
 abbrev pub WaitsAtMark : Plain → List Ref → Type 0
 WaitsAtMark p refs = IsLoneReaderAtMark (machine CPU_LIMIT p.tokens []) refs
 
+-- a thread was ended by fault 19, as its section broke its law, or by 20, as a token of its list came to its last generation (token(9); own)
+pub record HasFaulted (p : Plain) : Type 0 where
+  pub cpu : ℕ
+  pub number : ℕ
+  pub thread : Thread
+  pub there : thread_at p cpu number ≡ Some thread
+  pub fault : (thread.phase ≡ Faulted Broken) ⊎ (thread.phase ≡ Faulted Worn)
+
 -- what ready threads wait for in a state: each one of a processor whose turn polls none for one that runs, or at a mark, as a lone reader; and
--- where no turn polls a thread each at a mark, while nobody holds a token
+-- where no turn polls a thread each at a mark, while nobody holds a token, and then some thread was ended by 19 or 20
 pub record ReadyThreadsWait (script : Script) (p : Plain) : Type 0 where
   pub each : (c : ℕ) (refs : List Ref) → c < script.cpus → PollsNone p c → IsReady p c refs → WaitsForRunning p c refs ⊎ WaitsAtMark p refs
   pub free : NonePolls script p → All IsFree p.tokens
   pub marks : NonePolls script p → (c : ℕ) (refs : List Ref) → c < script.cpus → IsReady p c refs → WaitsAtMark p refs
+  pub faults : NonePolls script p → (c : ℕ) (refs : List Ref) → c < script.cpus → IsReady p c refs → HasFaulted p
 
 -- a law: so it is at each standstill
 abbrev pub StandstillsAreWaits : Type 0

@@ -1,4 +1,4 @@
-use Rattle.lwkt_plain.proofs.Waitings.{standstills}
+use Rattle.lwkt_plain.proofs.Markers.{standstills}
 use Rattle.lwkt_plain.proofs.deadlocks.standstills_are_waits.Goals as goal
 
 pub returns : goal.returns
