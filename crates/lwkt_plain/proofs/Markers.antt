@@ -199,10 +199,10 @@ running_kept f same c d p = elim (cases_eq d c) [
   ]
 ]
 
-abbrev Leaves_it : (Thread → Thread) → Type 0
-Leaves_it f = (t : Thread) → (((f t).phase ≡ t.phase) × ((f t).list ≡ t.list)) ⊎ ((f t).phase ≡ Faulted WornOut)
+abbrev LeavesOrWears : (Thread → Thread) → Type 0
+LeavesOrWears f = (t : Thread) → (((f t).phase ≡ t.phase) × ((f t).list ≡ t.list)) ⊎ ((f t).phase ≡ Faulted WornOut)
 
-thread_settles : (f : Thread → Thread) → Leaves_it f → (c j : ℕ) (p : Plain) → Settles p (with_thread f c j p)
+thread_settles : (f : Thread → Thread) → LeavesOrWears f → (c j : ℕ) (p : Plain) → Settles p (with_thread f c j p)
 thread_settles f leaves' c j p d n t at rest settled = elim (cases_eq d c) [
   | inr differ ↦ other (λ e e'. differ e)
   | inl is ↦ elim (cases_eq n j) [
@@ -835,7 +835,7 @@ alone_to (r ∷ refs) i j mode alone is =
       | inr not_here ↦ alone_to refs i j mode parts.1 (sym (ap (λ (b : Bool). option_map (λ (x : Ref). x.mode) (if b then Some r else find (is_to i) refs)) not_here) ∙ is)
     ]
 
-is_shared : Option Mode → Bool
+abbrev is_shared : Option Mode → Bool
 is_shared (Some Shared) = true
 is_shared o = false
 
