@@ -1,10 +1,8 @@
 -- A marked token has a ready thread that waits for it exclusively, or a thread was ended by a fault that left its mark.
-use Rattle.std.proofs.Common.{◌≡◌, ◌≢◌, ◌⊎◌, ◌<◌, ◌≤◌, ◌+◌, ◌-◌, ℕ, zero, suc, List, [], ◌∷◌, ◌++◌, length, get_or, map, refl, ap, sym, ◌∙◌, subst, arith, inl, inr, Option, Some, None, Bool, true, false, All}
-use Rattle.std.specs.Prelude.{slice_get, slice_set, if◌then◌else◌, ◌==◌, ◌&&◌, ◌||◌, not, nat_lt, option_map, find, is_some, IfSome, unwrap_or, take}
-use Rattle.std.specs.List.{list_any, list_all}
+use Rattle.std.proofs.Common.{◌≡◌, ◌≢◌, ◌⊎◌, ◌<◌, ◌+◌, ◌-◌, ℕ, suc, List, [], ◌∷◌, ◌++◌, length, get_or, refl, ap, sym, ◌∙◌, subst, arith, inl, inr, Option, Some, None, Bool, true, false, All}
+use Rattle.std.specs.Prelude.{slice_get, slice_set, if◌then◌else◌, ◌==◌, not, nat_lt, option_map, find, is_some, IfSome, unwrap_or, take}
 use Rattle.std.specs.Option.{option_map_or}
-use Rattle.std.proofs.lemmas.Bool.{false≢true, cases_Bool, cases_eq, cases_lt, and_parts, eqb-true, or_parts, or_from}
-use Rattle.std.proofs.lemmas.List.{get_or_past}
+use Rattle.std.proofs.lemmas.Bool.{false≢true, cases_Bool, cases_eq, cases_lt, and_parts, eqb-true, or_from}
 use Rattle.std.proofs.lemmas.List.Folds.{list_any-append}
 use Rattle.std.proofs.lemmas.Option.{none-some, same_Some, slice_get_within, slice_get-map}
 use Rattle.lwkt_base.specs.declared.asks.Ask.{Ask}
@@ -22,7 +20,7 @@ use Rattle.lwkt_base.specs.declared.opening_specs.TokSpec.{TokSpec}
 use Rattle.lwkt_base.specs.Refs.{is_to, names, is_alone, first_mode}
 use Rattle.lwkt_core.specs.declared.tokens.Token.{Token}
 use Rattle.lwkt_core.specs.declared.events.Event.{Event}
-use Rattle.lwkt_core.specs.declared.events.Event.TheVariants.{Take, Share, Again, Mark, Write, WriteBlob}
+use Rattle.lwkt_core.specs.declared.events.Event.TheVariants.{Take, Again, Mark, Write, WriteBlob}
 use Rattle.lwkt_core.specs.Machine.{changed}
 use Rattle.lwkt_core.specs.Opening.{opened_token}
 use Rattle.lwkt_core.specs.Takings.{taking, taking_event}
@@ -35,24 +33,23 @@ use Rattle.lwkt_plain.specs.declared.nexts.Miss.TheVariants.{Busy, Worn}
 use Rattle.lwkt_plain.specs.declared.nexts.Missed.{Missed}
 use Rattle.lwkt_plain.specs.declared.nexts.Next.{Next}
 use Rattle.lwkt_plain.specs.declared.nexts.Next.TheVariants.{Runs, Leaves}
-use Rattle.lwkt_plain.specs.declared.states.BusyAt.{BusyAt}
 use Rattle.lwkt_plain.specs.declared.states.Phase.{Phase}
-use Rattle.lwkt_plain.specs.declared.states.Phase.TheVariants.{Live, AwaitsItem, AwaitsReply, Exited, Faulted}
+use Rattle.lwkt_plain.specs.declared.states.Phase.TheVariants.{Live, Faulted}
 use Rattle.lwkt_plain.specs.declared.states.Plain.{Plain}
 use Rattle.lwkt_plain.specs.declared.states.Processor.{Processor}
 use Rattle.lwkt_plain.specs.declared.states.Thread.{Thread}
 use Rattle.lwkt_search.specs.Runs.{run, CanReach}
-use Rattle.lwkt_plain.specs.Deadlocks.{IsStandstill, NonePolls, IsReady, HasFaulted, WaitsAtMark, ReadyThreadsWait, StandstillsAreWaits}
+use Rattle.lwkt_plain.specs.Deadlocks.{IsStandstill, NonePolls, IsReady, HasFaulted, WaitsAtMark, StandstillsAreWaits}
 use Rattle.lwkt_plain.specs.Openings.{opened}
 use Rattle.lwkt_plain.specs.Stores.{form_turn}
-use Rattle.lwkt_plain.specs.Forms.{kept_word, thread_by, cpu_by, form}
+use Rattle.lwkt_plain.specs.Forms.{kept_word, thread_by, form}
 use Rattle.lwkt_plain.specs.Intakes.{has_ended, takes_mail}
 use Rattle.lwkt_plain.specs.Mailing.{Mailed}
 use Rattle.lwkt_plain.specs.Places.{cpu_at, thread_at, no_processor, with_cpu, with_thread, with_tokens}
-use Rattle.lwkt_plain.specs.Sound.{Frame, Lists, lists_of, no_lists, IsSound}
-use Rattle.lwkt_plain.specs.TokenAsks.{Asked, asked, refused, unless, get_refusal, had, must_switch, get, try_missed, try_get, last_of, front_of, released, rel, swapped, tok_at, are_same, unless_cell, unless_exclusive, value_of, add_refusal, record_refusal}
-use Rattle.lwkt_plain.specs.Tokens.{stepped, miss_of, gave, give, gives, Tried, takes, resume}
-use Rattle.lwkt_plain.specs.Turns.{list_at, ended_by, leaves, ends, may_try_in, may_try, Found, found, missed_by, after_try, tries, finds, round_from, runs_at, chooses, token_ask, mail_ask, ref_to, polled, next_of, Performed, performed, with_list, of_tokens, of_mail, phase_for, performs, rests, becomes, gives_up, breaks, goes_on, makes, polls_thread, polls_at, spec_at, turn, IsRunning, IsIdle}
+use Rattle.lwkt_plain.specs.Sound.{Frame, Lists, no_lists, IsSound}
+use Rattle.lwkt_plain.specs.TokenAsks.{Asked, asked, refused, unless, get_refusal, had, must_switch, get, try_missed, try_get, last_of, front_of, released, rel, swapped, tok_at, are_same, value_of}
+use Rattle.lwkt_plain.specs.Tokens.{stepped, miss_of, gave, gives, Tried, takes}
+use Rattle.lwkt_plain.specs.Turns.{list_at, ended_by, leaves, ends, may_try_in, may_try, Found, found, missed_by, tries, finds, round_from, runs_at, chooses, token_ask, mail_ask, ref_to, polled, next_of, Performed, performed, with_list, of_tokens, of_mail, phase_for, performs, rests, becomes, gives_up, breaks, goes_on, polls_thread, polls_at, spec_at, turn, IsRunning}
 use Rattle.lwkt_plain.proofs.Changes.{get_or_changed, changed_out}
 use Rattle.lwkt_plain.proofs.Alikes.{alike_self, alike_mail}
 use Rattle.lwkt_plain.proofs.ChosenSound.{chosen}
@@ -64,10 +61,10 @@ use Rattle.lwkt_plain.proofs.TurnForms.{Ready, ready_by, ready_polled, Reached}
 use Rattle.lwkt_plain.proofs.FormMail.{cpu_at_by, thread_at_by}
 use Rattle.lwkt_plain.proofs.GoOnSound.{get_changed}
 use Rattle.lwkt_plain.proofs.Soundness.{few_cpus, lists_at, on_thread}
-use Rattle.lwkt_plain.proofs.Takings.{after_miss, takes_none, takes_more}
-use Rattle.lwkt_plain.proofs.TokenRelations.{RelatesAt, Relates, step_relates, give_relates}
-use Rattle.lwkt_plain.proofs.TryForms.{Rests, tried_is}
-use Rattle.lwkt_plain.proofs.TryWords.{MissFacts, miss_facts}
+use Rattle.lwkt_plain.proofs.Takings.{after_miss, takes_more}
+use Rattle.lwkt_plain.proofs.TokenRelations.{RelatesAt, step_relates, give_relates}
+use Rattle.lwkt_plain.proofs.TryForms.{tried_is}
+use Rattle.lwkt_plain.proofs.TryWords.{miss_facts}
 use Rattle.lwkt_plain.proofs.TurnSound.{find_on, finds_none, finds_more, leaves_cpus, leaves_tokens}
 use Rattle.lwkt_plain.proofs.TurnMoves.{mail_inside, thread_there}
 use Rattle.lwkt_plain.proofs.MarkFalls.{Unmarks, Falls, falls_self, falls_through, falls_same, falls_both, taking_falls, given_falls, gives_fall, takes_fall}
