@@ -17,6 +17,8 @@ pub mod Holdings
 pub mod Keys
 pub mod LawTests
 pub mod MailSound
+pub mod MarkFalls
+pub mod Markers
 pub mod OldWords
 pub mod OneFault
 pub mod OpenedSound
@@ -27,13 +29,16 @@ pub mod Receipts
 pub mod Risings
 pub mod ShelfLemmas
 pub mod Soundness
+pub mod SteadyThreads
 pub mod StoreLemmas
 pub mod StoreMoves
 pub mod TableLemmas
 pub mod Takings
+pub mod TokenRelations
 pub mod TokenSteps
 pub mod TryForms
 pub mod TryWords
 pub mod TurnForms
 pub mod TurnMoves
 pub mod TurnSound
+pub mod Waitings

@@ -1,4 +1,5 @@
 pub mod Faults
+pub mod Deadlocks
 pub mod Endings
 pub mod Forms
 pub mod Hashes
