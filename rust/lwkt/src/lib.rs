@@ -29,8 +29,8 @@ mod word;
 pub use bank::{Bank, Closing, Held, Missed, NotClosed, Reference, Resumed, RowLaw, Seat, Token};
 #[cfg(feature = "std")]
 pub use calls::{
-    check_trace, explore_orders, is_text, run_text, run_turns, show_turns, text_json, End, Finding, Judgement, Orders, Refusal,
-    Run, TextRun, Tried,
+    check_trace, explore_orders, is_text, run_text, run_turns, show_turns, text_json, version, End, Finding, Judgement, Orders,
+    Refusal, Run, TextRun, Tried,
 };
 #[cfg(feature = "std")]
 pub use fault::SeatFault;
