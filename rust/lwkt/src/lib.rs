@@ -23,6 +23,8 @@ mod bank;
 mod calls;
 #[cfg(feature = "std")]
 mod fault;
+#[cfg(feature = "std")]
+mod guard;
 mod word;
 
 #[cfg(feature = "std")]
@@ -34,4 +36,6 @@ pub use calls::{
 };
 #[cfg(feature = "std")]
 pub use fault::SeatFault;
+#[cfg(feature = "std")]
+pub use guard::{Guard, Guarded, ReadGuard};
 pub use word::{StepFault, Word};
