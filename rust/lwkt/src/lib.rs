@@ -1,5 +1,6 @@
 //! The threading layer of DragonFly BSD on modelled processors: scripts run to their reports, traces judged, runs shown, the
-//! steps on a token's word, and banks of tokens for the caller's own threads. This crate is safe Rust over a library that is proved in
+//! steps on a token's word, and banks of tokens for the caller's own threads. With the feature `record` it also records what threads do with
+//! tokens of their own. This crate is safe Rust over a library that is proved in
 //! Rattle; it adds no logic of its own. Without the feature `std`, which is on unless turned off, it is the steps on words alone, and needs
 //! no standard library.
 //!
@@ -25,6 +26,8 @@ mod calls;
 mod fault;
 #[cfg(feature = "std")]
 mod guard;
+#[cfg(feature = "record")]
+mod record;
 mod word;
 
 #[cfg(feature = "std")]
@@ -38,4 +41,6 @@ pub use calls::{
 pub use fault::SeatFault;
 #[cfg(feature = "std")]
 pub use guard::{Guard, Guarded, ReadGuard};
+#[cfg(feature = "record")]
+pub use record::{RecordFault, Recorder};
 pub use word::{StepFault, Word};
