@@ -1,4 +1,4 @@
-//! Links liblwkt.a: of the folder that LWKT_LIBRARY names, or the shipped one of this tree, or the one that pkg-config knows. With the
+//! Links liblwkt.a, unless the feature `std` is turned off: of the folder that LWKT_LIBRARY names, or the shipped one of this tree, or the one that pkg-config knows. With the
 //! feature `record` it compiles the recorder, by the C compiler that CC names, or cc.
 use std::env;
 use std::path::{Path, PathBuf};
@@ -48,6 +48,9 @@ fn compile_recorder(tree: &Path) {
 }
 
 fn main() {
+    if env::var_os("CARGO_FEATURE_STD").is_none() {
+        return;
+    }
     println!("cargo:rerun-if-env-changed=LWKT_LIBRARY");
     println!("cargo:rerun-if-env-changed=PKG_CONFIG_PATH");
     let tree = PathBuf::from(env::var_os("CARGO_MANIFEST_DIR").expect("cargo sets it"));

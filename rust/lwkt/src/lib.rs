@@ -1,8 +1,8 @@
 //! The threading layer of DragonFly BSD on modelled processors: scripts run to their reports, traces judged, runs shown, the
 //! steps on a token's word, and banks of tokens for the caller's own threads. With the feature `record` it also records what threads do with
 //! tokens of their own. This crate is safe Rust over a library that is proved in
-//! Rattle; it adds no logic of its own. Without the feature `std`, which is on unless turned off, it is the steps on words alone, and needs
-//! no standard library.
+//! Rattle; it adds no logic of its own. Without the feature `std`, which is on unless turned off, it is the steps on words alone, for any
+//! processor: it needs no standard library, and links nothing.
 //!
 //! ```
 //! let script = r#"{"version":1,"turns":50,"idle":100000000,"cpus":1,
@@ -28,6 +28,8 @@ mod fault;
 mod guard;
 #[cfg(feature = "record")]
 mod record;
+#[cfg(any(test, not(feature = "std")))]
+mod steps;
 mod word;
 
 #[cfg(feature = "std")]
