@@ -21,17 +21,16 @@ fn run(command: &mut Command) {
     }
 }
 
-// Compiles src/record.c over the header of this tree, or over the installed one.
+// Compiles src/record.c over the header of this tree, or over the installed one: beside this crate, or where pkg-config says.
 fn compile_recorder(tree: &Path) {
     let (source, out) = (
         tree.join("src/record.c"),
         PathBuf::from(env::var_os("OUT_DIR").expect("cargo sets it")),
     );
     let (object, archive) = (out.join("record.o"), out.join("liblwkt_record_calls.a"));
-    let mut headers = tree.join("../../include");
-    if !headers.join("lwkt_record.h").is_file() {
-        headers = installed("includedir").unwrap_or(headers);
-    }
+    let places = [tree.join("../../include"), tree.join("../../../../include")];
+    let beside = places.iter().find(|folder| folder.join("lwkt_record.h").is_file());
+    let headers = beside.cloned().or_else(|| installed("includedir")).unwrap_or_default();
     println!("cargo:rerun-if-env-changed=CC");
     println!("cargo:rerun-if-changed={}", source.display());
     println!("cargo:rerun-if-changed={}", headers.join("lwkt_record.h").display());
