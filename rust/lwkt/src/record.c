@@ -40,6 +40,11 @@ CALL(to_sink, (lwkt_record *recorder, lwkt_record_sink sink, void *context), (re
 CALL(drain, (lwkt_record *recorder, lwkt_record_sink sink, void *context), (recorder, sink, context))
 CALL(lost, (const lwkt_record *recorder), (recorder))
 
+CALL(where_to, (lwkt_record *recorder, lwkt_record_sink sink, void *context), (recorder, sink, context))
+
+void lwkt_rust_record_at(lwkt_record *recorder, uint32_t processor, const char *text);
+void lwkt_rust_record_at(lwkt_record *recorder, uint32_t processor, const char *text) { lwkt_record_at(recorder, processor, text); }
+
 void lwkt_rust_record_close(lwkt_record *recorder);
 void lwkt_rust_record_close(lwkt_record *recorder) { lwkt_record_close(recorder); }
 

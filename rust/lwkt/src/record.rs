@@ -1,7 +1,7 @@
 use crate::RowLaw;
 use std::cell::UnsafeCell;
 use std::error::Error;
-use std::ffi::{c_char, c_int, c_void};
+use std::ffi::{c_char, c_int, c_void, CStr};
 use std::fmt;
 use std::io::{self, Write};
 
@@ -47,6 +47,8 @@ extern "C" {
     fn lwkt_rust_record_to_sink(recorder: Place, sink: Sink, context: *mut c_void) -> c_int;
     fn lwkt_rust_record_drain(recorder: Place, sink: Sink, context: *mut c_void) -> c_int;
     fn lwkt_rust_record_lost(recorder: Place) -> c_int;
+    fn lwkt_rust_record_at(recorder: Place, processor: u32, text: *const c_char);
+    fn lwkt_rust_record_where_to(recorder: Place, sink: Option<Sink>, context: *mut c_void) -> c_int;
     fn lwkt_rust_record_room(recorder: Place, processor: u32) -> usize;
 }
 
@@ -112,6 +114,15 @@ fn done(number: c_int) -> Result<(), RecordFault> {
     }
 }
 
+/// The file and line of where it stands, for [`Recorder::at`].
+#[macro_export]
+macro_rules! here {
+    () => {
+        ::std::ffi::CStr::from_bytes_with_nul(::std::concat!(::std::file!(), ":", ::std::line!(), "\0").as_bytes())
+            .unwrap_or_default()
+    };
+}
+
 /// Records what threads do with tokens and messages of their own, for [`check_trace`](crate::check_trace). Each call is the one of its
 /// name of include/lwkt_record.h, which says where it stands, what it does and which faults it answers; docs/RECORDING.md says how to
 /// begin. Threads record at once; a processor's number is one thread's at a time.
@@ -157,7 +168,7 @@ impl fmt::Debug for Recorder {
 impl Drop for Recorder {
     fn drop(&mut self) {
         // SAFETY: nobody records any more.
-        unsafe { lwkt_rust_record_close(self.at()) }
+        unsafe { lwkt_rust_record_close(self.pointer()) }
     }
 }
 
@@ -194,7 +205,7 @@ macro_rules! events {
             $($(#[doc = $said])*
             pub fn $name(&self, $($part: $kind),*) -> Result<(), RecordFault> {
                 // SAFETY: the recorder is open, and any thread may make the call at any time.
-                done(unsafe { $call(self.at(), $($part),*) })
+                done(unsafe { $call(self.pointer(), $($part),*) })
             })*
         }
     };
@@ -240,70 +251,70 @@ impl Recorder {
             place: (0..words).map(|_| UnsafeCell::new(0)).collect(),
         };
         // SAFETY: a recorder of zeros isn't open.
-        done(unsafe { lwkt_rust_record_open(recorder.at(), processors, tokens, messages, room) })?;
+        done(unsafe { lwkt_rust_record_open(recorder.pointer(), processors, tokens, messages, room) })?;
         Ok(recorder)
     }
 
-    fn at(&self) -> Place {
+    fn pointer(&self) -> Place {
         self.place.as_ptr().cast_mut().cast()
     }
 
     /// Has each processor keep its last events only.
     pub fn keep_last(&mut self) -> Result<(), RecordFault> {
         // SAFETY: nobody else has the recorder.
-        done(unsafe { lwkt_rust_record_keep_last(self.at()) })
+        done(unsafe { lwkt_rust_record_keep_last(self.pointer()) })
     }
 
     /// Declares a token with its cells. Refused with [`RecordFault::Limit`] for [`RowLaw::Len`].
     pub fn token(&mut self, token: u32, law: RowLaw, param: u64, generation: u64, cells: &[u64]) -> Result<(), RecordFault> {
         let count = u32::try_from(cells.len()).unwrap_or(u32::MAX);
         // SAFETY: as in `keep_last`, and there are so many cells.
-        done(unsafe { lwkt_rust_record_token(self.at(), token, law as u32, param, generation, cells.as_ptr(), count) })
+        done(unsafe { lwkt_rust_record_token(self.pointer(), token, law as u32, param, generation, cells.as_ptr(), count) })
     }
 
     /// Declares a message: the processor that sends it, its thread there, and its round.
     pub fn message(&mut self, message: u32, processor: u32, thread: u32, round: u64) -> Result<(), RecordFault> {
         // SAFETY: as in `keep_last`.
-        done(unsafe { lwkt_rust_record_message(self.at(), message, processor, thread, round) })
+        done(unsafe { lwkt_rust_record_message(self.pointer(), message, processor, thread, round) })
     }
 
     /// Lends the calling thread a processor's number, where there are more threads than numbers.
     pub fn enter(&self) -> Result<u32, RecordFault> {
         let mut number = 0;
         // SAFETY: the recorder is open, and the number is borrowed alone.
-        done(unsafe { lwkt_rust_record_enter(self.at(), &mut number) })?;
+        done(unsafe { lwkt_rust_record_enter(self.pointer(), &mut number) })?;
         Ok(number)
     }
 
     /// Ends the recording: nobody holds a token.
     pub fn end(&mut self) -> Result<(), RecordFault> {
         // SAFETY: as in `keep_last`.
-        done(unsafe { lwkt_rust_record_end(self.at()) })
+        done(unsafe { lwkt_rust_record_end(self.pointer()) })
     }
 
     /// The same, with a token's cells as they are now.
     pub fn end_cells(&mut self, token: u32, cells: &[u64]) -> Result<(), RecordFault> {
         let count = u32::try_from(cells.len()).unwrap_or(u32::MAX);
         // SAFETY: as in `token`.
-        done(unsafe { lwkt_rust_record_end_cells(self.at(), token, cells.as_ptr(), count) })
+        done(unsafe { lwkt_rust_record_end_cells(self.pointer(), token, cells.as_ptr(), count) })
     }
 
     /// The same, with a token's generation as it is now.
     pub fn end_generation(&mut self, token: u32, generation: u64) -> Result<(), RecordFault> {
         // SAFETY: as in `keep_last`.
-        done(unsafe { lwkt_rust_record_end_generation(self.at(), token, generation) })
+        done(unsafe { lwkt_rust_record_end_generation(self.pointer(), token, generation) })
     }
 
     /// The same, with how many references there are to a token, by its own word.
     pub fn end_references(&mut self, token: u32, references: u64) -> Result<(), RecordFault> {
         // SAFETY: as in `keep_last`.
-        done(unsafe { lwkt_rust_record_end_references(self.at(), token, references) })
+        done(unsafe { lwkt_rust_record_end_references(self.pointer(), token, references) })
     }
 
     /// Has the trace written in lines, or not.
     pub fn in_lines(&mut self, in_lines: bool) -> Result<(), RecordFault> {
         // SAFETY: as in `keep_last`.
-        done(unsafe { lwkt_rust_record_in_lines(self.at(), in_lines) })
+        done(unsafe { lwkt_rust_record_in_lines(self.pointer(), in_lines) })
     }
 
     /// The trace, as far as it is complete.
@@ -323,6 +334,39 @@ impl Recorder {
         }
     }
 
+    /// The processor's next event stands in this line of the program, as [`here!`](crate::here) names it.
+    ///
+    /// ```
+    /// use lwkt::{here, Recorder};
+    ///
+    /// let mut recorder = Recorder::open(1, 1, 0, 9)?;
+    /// recorder.take(0, 0)?;
+    /// recorder.at(0, here!());
+    /// recorder.give(0, 0)?;
+    /// let (_, lines) = recorder.trace_and_lines()?;
+    /// assert!(lines.starts_with("1 ") && lines.contains("record.rs:"));
+    /// # Ok::<(), lwkt::RecordFault>(())
+    /// ```
+    pub fn at(&self, processor: u32, line: &'static CStr) {
+        // SAFETY: the recorder is open, and the text is there for good.
+        unsafe { lwkt_rust_record_at(self.pointer(), processor, line.as_ptr()) }
+    }
+
+    /// The trace, and a line for each event of which it was said where it stands: its number in the trace, and that.
+    pub fn trace_and_lines(&mut self) -> Result<(Vec<u8>, String), RecordFault> {
+        let mut lines = Vec::new();
+        let mut writing = Writing {
+            to: &mut lines,
+            failed: None,
+        };
+        // SAFETY: nobody else has the recorder, and the sink is none any more when this ends.
+        done(unsafe { lwkt_rust_record_where_to(self.pointer(), Some(take_bytes), (&mut writing as *mut Writing).cast()) })?;
+        let trace = self.trace();
+        // SAFETY: as above.
+        done(unsafe { lwkt_rust_record_where_to(self.pointer(), None, std::ptr::null_mut()) })?;
+        Ok((trace?, String::from_utf8_lossy(&lines).into_owned()))
+    }
+
     fn written(
         &self,
         to: &mut dyn Write,
@@ -330,19 +374,19 @@ impl Recorder {
     ) -> Result<(), (RecordFault, Option<io::Error>)> {
         let mut writing = Writing { to, failed: None };
         // SAFETY: the recorder is open, and the sink is called within the call alone, with this context.
-        let number = unsafe { call(self.at(), take_bytes, (&mut writing as *mut Writing).cast()) };
+        let number = unsafe { call(self.pointer(), take_bytes, (&mut writing as *mut Writing).cast()) };
         done(number).map_err(|fault| (fault, writing.failed))
     }
 
     /// How many events the processor can record before its buffer is full.
     pub fn room(&self, processor: u32) -> usize {
         // SAFETY: the recorder is open.
-        unsafe { lwkt_rust_record_room(self.at(), processor) }
+        unsafe { lwkt_rust_record_room(self.pointer(), processor) }
     }
 
     /// Why the first event that was lost couldn't be recorded, if one was.
     pub fn lost(&self) -> Option<RecordFault> {
         // SAFETY: the recorder is open.
-        done(unsafe { lwkt_rust_record_lost(self.at()) }).err()
+        done(unsafe { lwkt_rust_record_lost(self.pointer()) }).err()
     }
 }

@@ -143,6 +143,22 @@ fn what_is_no_recording_is_refused() {
 }
 
 #[test]
+fn lines_of_events_are_told() {
+    let mut recorder = Recorder::open(2, 1, 0, 20).unwrap();
+    let line = line!() + 2;
+    for number in [0, 1] {
+        recorder.at(number, lwkt::here!());
+        recorder.take(number, 0).unwrap();
+        recorder.give(number, 0).unwrap();
+    }
+    let (trace, lines) = recorder.trace_and_lines().unwrap();
+    assert_eq!(lines, format!("0 {0}:{line}\n2 {0}:{line}\n", file!()));
+    assert_eq!(recorder.trace(), Ok(trace));
+    assert!(recorder.drain(&mut Vec::new()).unwrap());
+    assert_eq!(recorder.trace_and_lines(), Err(RecordFault::Late));
+}
+
+#[test]
 fn messages_are_recorded() {
     let mut recorder = Recorder::open(2, 0, 1, 20).unwrap();
     for _ in 0..2 {
