@@ -51,7 +51,7 @@ loop-at-preserved g c =
       stuck = λ mine.
           let L : Last → Type 0 = IsLastAt script (kept c.args.store.now) in
           let last : L one = subst L (sym c.index-told-at.is) (c.requires.ends at one below) in
-          c.in_ok-kind.ensures.stuck (λ quiet. still_at script (kept c.args.store.now) one c.in_ok-order.order.items last order (c.last_state_of.ensures quiet)) (c.loop-at.invariant.stuck mine);
+          c.in_ok-kind.ensures.stuck (λ quiet. still_at script (kept c.args.store.now) one c.in_ok-order.order.items last order (c.last_state_of-last_state.ensures quiet)) (c.loop-at.invariant.stuck mine);
       told = λ k d less. below_more P at all here k less d;
     }
 
@@ -78,4 +78,4 @@ returns-then-eq-clause-stuck g c = λ mine.
     let order : c.in_ok-order.order.items ≡ one.order.items = c.in_ok-order.ensures.items ∙ c.as_slice.ensures.value in
     let L : Last → Type 0 = IsLastAt script (kept c.args.store.now) in
     let last : L one = subst L (sym c.index-told-at.is) (c.requires.ends c.loop-at.at one below) in
-    c.add.ensures.stuck (λ quiet. still_at script (kept c.args.store.now) one c.in_ok-order.order.items last order (c.last_state_of.ensures quiet)) (c.loop-at.invariant.stuck mine)
+    c.add.ensures.stuck (λ quiet. still_at script (kept c.args.store.now) one c.in_ok-order.order.items last order (c.last_state_of-last_state.ensures quiet)) (c.loop-at.invariant.stuck mine)
